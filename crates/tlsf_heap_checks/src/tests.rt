@@ -1,13 +1,12 @@
 //! Tests of public calls: what no contract says, and no stored case shows.
 
-mod blocks;
+mod calls;
 mod classes;
 mod heaps;
 mod images;
 mod in_place;
 mod lane_threads;
 mod lanes;
-mod lists;
 mod locked_heaps;
 mod mailbox_threads;
 mod mailboxes;

@@ -1,6 +1,5 @@
 //! Tests of public calls: what no contract says, and no stored case shows.
 
-mod levels;
 mod queue_races;
 mod queue_workers;
 mod races;

@@ -1,108 +1,106 @@
+use crate::tests::calls::{Ask, Reply, check_heap, free, live};
 use std::alloc::Global;
-use std::process::Abort;
 use std::test::Fail;
 use tlsf_fixtures::{name, same};
-use tlsf_heap::{Heap, Name, OpenFault, Refusal, want};
+use tlsf_heap::{Heap, OpenFault, Refusal, want};
 
-/// What a heap is asked for.
-#[derive(Clone, Copy)]
-pub enum Ask {
-    Allocate(u32),
-    Release(Name),
-    Resize(Name, u32),
-}
-
-/// The name that was given, if any.
-pub type Answer = Result<Option<Name>, Refusal>;
-
-/// What an allocate answered.
-pub fn given(answer: Result<Name, Refusal>) -> Answer {
-    match answer {
-        Ok(name) => Ok(Some(name)),
-        Err(why) => Err(why),
-    }
-}
-
-/// What a release or a resize answered.
-pub fn returned(answer: Result<(), Refusal>) -> Answer {
-    match answer {
-        Ok(()) => Ok(None),
-        Err(why) => Err(why),
-    }
-}
-
-/// Asks a new heap, and holds each answer to the one that is wanted.
-fn check_asks(
-    rt: &impl Abort,
-    alloc: Global,
-    first: u64,
-    rows: &[(Ask, Answer)],
-) -> Result<(), OpenFault> {
-    let mut heap = Heap::<4>::open(alloc, 0, 64, first)?;
-    for (i, (ask, wanted)) in rows.iter().enumerate() {
-        let answer = match *ask {
-            Ask::Allocate(len) => given(heap.allocate(len)),
-            Ask::Release(name) => returned(heap.release(name)),
-            Ask::Resize(name, len) => returned(heap.resize(name, len)),
-        };
-        same((i, answer), (i, *wanted)).expect(rt, "differ");
-    }
-    Ok(())
-}
-
+// Of another heap, of a place where no block begins, of one behind the region, and of another serial. No sum of an offset
+// and a length wraps.
 #[test]
-fn forged_names_are_stale(rt: HostRuntime) -> Result<(), Fail> {
+fn names_and_places(rt: HostRuntime) -> Result<(), Fail> {
+    let first = name(0, 0, 1);
+    let second = name(0, 4, 2);
+    let stale = Reply::Refused(Refusal::Stale);
+    let foreign = Reply::Refused(Refusal::Foreign);
+    let range = Reply::Refused(Refusal::Range);
     let rows = [
-        (Ask::Allocate(8), Ok(Some(name(0, 0, 1)))),
-        (Ask::Allocate(100), Ok(Some(name(0, 4, 2)))),
-        (Ask::Release(name(0, 5, 2)), Err(Refusal::Stale)),
-        (Ask::Release(name(0, 64, 1)), Err(Refusal::Stale)),
-        (Ask::Release(name(0, 20, 2)), Err(Refusal::Stale)),
-        (Ask::Release(name(0, 4, 1)), Err(Refusal::Stale)),
-        (Ask::Release(name(0, u32::MAX, 0)), Err(Refusal::Stale)),
-        (Ask::Release(name(1, 4, 2)), Err(Refusal::Foreign)),
-        (Ask::Release(name(0, 4, 2)), Ok(None)),
-        (Ask::Release(name(0, 4, 2)), Err(Refusal::Stale)),
+        (Ask::Allocate(8), Reply::Made(first)),
+        (Ask::Allocate(100), Reply::Made(second)),
+        (Ask::Release(name(0, 5, 2)), stale),
+        (Ask::Release(name(0, 64, 1)), stale),
+        (Ask::Release(name(0, 20, 2)), stale),
+        (Ask::Release(name(0, 4, 1)), stale),
+        (Ask::Release(name(0, u32::MAX, 0)), stale),
+        (Ask::Release(name(1, 4, 2)), foreign),
+        (Ask::Write(name(1, 0, 2), 0, b"123456789"), foreign),
+        (Ask::Read(name(1, 0, 2), 0, 9), foreign),
+        (Ask::Write(name(0, 0, 2), 0, b"123456789"), stale),
+        (Ask::Read(name(0, 0, 2), 0, 9), stale),
+        (Ask::Write(first, 0, b"123456789"), range),
+        (Ask::Read(first, 0, 9), range),
+        (Ask::Write(first, 8, b"123456789"), range),
+        (Ask::Read(first, 8, 9), range),
+        (Ask::Write(first, u32::MAX, b"123456789"), range),
+        (Ask::Read(first, u32::MAX, 9), range),
+        (Ask::Write(first, 9, b""), range),
+        (Ask::Read(first, 9, 0), range),
+        (Ask::Write(first, 8, b""), Reply::Done),
+        (Ask::Read(first, 8, 0), Reply::Bytes([0xee; 16])),
+        (
+            Ask::Read(first, 0, 8),
+            Reply::Bytes(*b"\0\0\0\0\0\0\0\0\xee\xee\xee\xee\xee\xee\xee\xee"),
+        ),
+        (Ask::Release(first), Reply::Done),
+        (Ask::Release(first), stale),
+        (Ask::BlockAt(0), free(0, 4, 3)),
+        (Ask::BlockAt(4), live(4, 16, 2, 100)),
+        (Ask::BlockAt(20), free(20, 44, 2)),
+        (Ask::BlockAt(5), Reply::NoBlock),
+        (Ask::BlockAt(63), Reply::NoBlock),
+        (Ask::BlockAt(64), Reply::NoBlock),
+        (Ask::BlockAt(u32::MAX), Reply::NoBlock),
     ];
-    check_asks(&rt, rt.alloc(), 0, &rows)?;
+    check_heap::<4>(&rt, rt.alloc(), 64, 0, &rows)?;
     Ok(())
 }
 
+// A block of the last serial can't be released, and stays a block: its bytes are written and read. A move takes two ticks.
 #[test]
-fn worn_at_the_last_tick(rt: HostRuntime) -> Result<(), Fail> {
+fn heaps_wear_out(rt: HostRuntime) -> Result<(), Fail> {
     let last = name(0, 0, u64::MAX - 1);
-    let worn = [
-        (Ask::Allocate(8), Err(Refusal::Worn)),
-        (Ask::Allocate(4000), Err(Refusal::NoFit)),
+    let worn = Reply::Refused(Refusal::Worn);
+    let no_tick = [
+        (Ask::Allocate(8), worn),
+        (Ask::Allocate(4000), Reply::Refused(Refusal::NoFit)),
     ];
-    let wears = [
-        (Ask::Allocate(8), Ok(Some(last))),
-        (Ask::Release(last), Err(Refusal::Worn)),
-        (Ask::Allocate(8), Err(Refusal::Worn)),
+    check_heap::<4>(&rt, rt.alloc(), 64, u64::MAX - 1, &no_tick)?;
+    let one_tick = [
+        (Ask::Allocate(8), Reply::Made(last)),
+        (Ask::Release(last), worn),
+        (Ask::Allocate(8), worn),
+        (Ask::Write(last, 6, b"Hi"), Reply::Done),
+        (
+            Ask::Read(last, 5, 3),
+            Reply::Bytes(*b"\0Hi\xee\xee\xee\xee\xee\xee\xee\xee\xee\xee\xee\xee\xee"),
+        ),
+        // The refusals of a resize in their order.
+        (
+            Ask::Resize(name(1, 0, u64::MAX - 1), 1000),
+            Reply::Refused(Refusal::Foreign),
+        ),
+        (
+            Ask::Resize(name(0, 0, 0), 1000),
+            Reply::Refused(Refusal::Stale),
+        ),
+        (Ask::Resize(last, 1000), Reply::Refused(Refusal::NoRoom)),
+        (Ask::Resize(last, 8), worn),
+        (Ask::Tick, Reply::Tick(u64::MAX)),
     ];
-    check_asks(&rt, rt.alloc(), u64::MAX - 1, &worn)?;
-    check_asks(&rt, rt.alloc(), u64::MAX - 2, &wears)?;
-    Ok(())
-}
-
-// A block of the last serial can't be released, and stays a block: its bytes are written and read.
-#[test]
-fn worn_block_keeps_its_bytes(rt: HostRuntime) -> Result<(), Fail> {
-    let mut heap = Heap::<4>::open(rt.alloc(), 0, 64, u64::MAX - 2)?;
-    let last = heap.allocate(8)?;
-    let refused = heap.release(last);
-    let written = heap.write(last, 6, &[0x48, 0x69]);
-    let mut out = [0xee; 3];
-    let read = heap.read(last, 5, &mut out);
-    let found = (last, refused, written, read, out);
-    let wanted = (
-        name(0, 0, u64::MAX - 1),
-        Err(Refusal::Worn),
-        Ok(()),
-        Ok(()),
-        [0, 0x48, 0x69],
-    );
-    same(found, wanted).expect(&rt, "differ");
+    check_heap::<4>(&rt, rt.alloc(), 64, u64::MAX - 2, &one_tick)?;
+    let first = name(0, 0, u64::MAX - 3);
+    let three_ticks = [
+        (Ask::Allocate(8), Reply::Made(first)),
+        (Ask::Allocate(8), Reply::Made(name(0, 4, u64::MAX - 2))),
+        (Ask::Move(first, 100), worn),
+    ];
+    check_heap::<4>(&rt, rt.alloc(), 64, u64::MAX - 4, &three_ticks)?;
+    let first = name(0, 0, u64::MAX - 4);
+    let four_ticks = [
+        (Ask::Allocate(8), Reply::Made(first)),
+        (Ask::Allocate(8), Reply::Made(name(0, 4, u64::MAX - 3))),
+        (Ask::Move(first, 100), Reply::Made(name(0, 8, u64::MAX - 2))),
+    ];
+    check_heap::<4>(&rt, rt.alloc(), 64, u64::MAX - 5, &four_ticks)?;
     Ok(())
 }
 
@@ -119,10 +117,6 @@ fn open_refuses_in_order(rt: HostRuntime) {
         let refused = Heap::<4>::open(rt.alloc(), 0, words, first).err();
         same((words, first, refused), (words, first, fault)).expect(&rt, "differ");
     }
-}
-
-#[test]
-fn open_at_level_5_takes_greater_regions(rt: HostRuntime) {
     for (words, first, fault) in [
         (3, 0, Some(OpenFault::BadSize)),
         ((1 << 24) + 1, u64::MAX, Some(OpenFault::BadSize)),
@@ -135,46 +129,33 @@ fn open_at_level_5_takes_greater_regions(rt: HostRuntime) {
     }
 }
 
-// 63 words are a class of their own at level 5, and at level 4 one with 62 words, which doesn't serve a request for 63.
-#[test]
-fn sixty_three_words_at_both_levels(rt: HostRuntime) -> Result<(), Fail> {
-    let mut coarse = Heap::<4>::open(rt.alloc(), 0, 63, 0)?;
-    let mut fine = Heap::<5>::open(rt.alloc(), 0, 63, 0)?;
-    let grants = (coarse.report().grant, fine.report().grant);
-    let found = (grants, coarse.allocate(480), fine.allocate(480));
-    let wanted = ((472, 480), Err(Refusal::NoFit), Ok(name(0, 0, 1)));
-    same(found, wanted).expect(&rt, "differ");
-    Ok(())
-}
-
 // A thousand times the greatest block is past 32 bits.
 #[test]
 fn report_on_the_greatest_region(rt: HostRuntime) -> Result<(), Fail> {
-    let mut heap = Heap::<5>::open(rt.alloc(), 0, 1 << 24, 0)?;
-    let half = heap.allocate(1 << 26)?;
-    heap.allocate(8)?;
-    heap.release(half)?;
-    let report = heap.report();
-    let found = (report.free_words, report.largest, report.fragmentation);
-    same(found, (16_777_212, 8_388_611, 500)).expect(&rt, "differ");
+    let half = name(0, 0, 1);
+    let rows = [
+        (Ask::Allocate(1 << 26), Reply::Made(half)),
+        (Ask::Allocate(8), Reply::Made(name(0, 8_388_611, 2))),
+        (Ask::Release(half), Reply::Done),
+        (Ask::Report, Reply::Report(16_777_212, 8_388_611, 500)),
+    ];
+    check_heap::<5>(&rt, rt.alloc(), 1 << 24, 0, &rows)?;
     Ok(())
 }
 
 #[test]
 fn refusals_have_their_numbers(rt: HostRuntime) -> Result<(), Fail> {
-    let refusals = [
-        Refusal::NoFit,
-        Refusal::Worn,
-        Refusal::Foreign,
-        Refusal::Stale,
-        Refusal::Range,
+    let found = [
+        Refusal::NoFit.number(),
+        Refusal::Worn.number(),
+        Refusal::Foreign.number(),
+        Refusal::Stale.number(),
+        Refusal::Range.number(),
+        OpenFault::BadSize.number(),
+        OpenFault::Worn.number(),
+        OpenFault::NoMemory.number(),
     ];
-    let faults = [OpenFault::BadSize, OpenFault::Worn, OpenFault::NoMemory];
-    let found = (
-        refusals.map(|refusal| refusal.number()),
-        faults.map(|fault| fault.number()),
-    );
-    same(found, ([1, 2, 3, 4, 7], [5, 2, 6])).expect(&rt, "differ");
+    same(found, [1, 2, 3, 4, 7, 5, 2, 6]).expect(&rt, "differ");
     let text = Refusal::NoFit.to_string(rt.alloc())?;
     same(text.as_str(), "no free block fits").expect(&rt, "differ");
     Ok(())
@@ -193,12 +174,8 @@ fn first_block(alloc: Global) -> Result<u64, OpenFault> {
 }
 
 #[test]
-fn example_of_the_readme(rt: HostRuntime) {
+fn words_wanted_and_the_example_of_the_readme(rt: HostRuntime) {
     same(first_block(rt.alloc()), Ok(1)).expect(&rt, "differ");
-}
-
-#[test]
-fn words_wanted(rt: HostRuntime) {
     let found = [want(0), want(8), want(9), want(100), want(u32::MAX)];
     same(found, [4, 4, 5, 16, 536_870_915]).expect(&rt, "differ");
 }

@@ -22,52 +22,50 @@ fn last_word(words: &[u64]) -> Option<u64> {
     words.last().copied()
 }
 
-/// The bytes of a block of 13.
-fn thirteen(rt: &impl Abort, heap: &mut Heap<4>, block: Name) -> [u8; 13] {
-    let mut out = [0xee; 13];
-    same(heap.read(block, 0, &mut out), Ok(())).expect(rt, "not read");
-    out
+/// What is handed out under a name to be altered, and then the last word.
+type Handed = (Result<usize, Refusal>, Result<Option<u64>, Refusal>);
+
+fn handed_out(heap: &mut Heap<4>, block: Name) -> Handed {
+    let altered = heap.alter(block, |words| mark_ends(words));
+    (altered, heap.inspect(block, |words| last_word(words)))
+}
+
+/// The names that are refused are of another heap, of a serial that is none, of a place where no block begins, and of one behind
+/// the region. They are handed nothing, and nor is a block of no bytes.
+fn check_handed_out(rt: &impl Abort, heap: &mut Heap<4>) {
+    let last = 0x1817_1615_1413_1211;
+    let rows: [(Name, Handed); 7] = [
+        (name(7, 0, 1), (Ok(2), Ok(Some(last)))),
+        (name(7, 9, 3), (Ok(0), Ok(None))),
+        (name(7, 5, 2), (Ok(1), Ok(Some(last)))),
+        (
+            name(6, 0, 1),
+            (Err(Refusal::Foreign), Err(Refusal::Foreign)),
+        ),
+        (name(7, 0, 2), (Err(Refusal::Stale), Err(Refusal::Stale))),
+        (name(7, 1, 1), (Err(Refusal::Stale), Err(Refusal::Stale))),
+        (name(7, 64, 1), (Err(Refusal::Stale), Err(Refusal::Stale))),
+    ];
+    for (i, (block, wanted)) in rows.iter().enumerate() {
+        same((i, handed_out(heap, *block)), (i, *wanted)).expect(rt, "differ");
+    }
 }
 
 #[test]
 fn payload_is_altered_where_it_stands(rt: HostRuntime) -> Result<(), Fail> {
     let mut heap = Heap::<4>::open(rt.alloc(), 7, 64, 0)?;
     let block = heap.allocate(13)?;
-    let behind = heap.allocate(8)?;
-    same(heap.alter(block, |words| mark_ends(words)), Ok(2)).expect(&rt, "not two words");
+    heap.allocate(8)?;
+    heap.allocate(0)?;
+    check_handed_out(&rt, &mut heap);
+    let mut out = [0xee; 13];
+    heap.read(block, 0, &mut out)?;
     let wanted = [1, 2, 3, 4, 5, 6, 7, 8, 0x11, 0x12, 0x13, 0x14, 0x15];
-    same(thirteen(&rt, &mut heap, block), wanted).expect(&rt, "differ");
-    same(heap.write(block, 12, &[0x99]), Ok(())).expect(&rt, "not written");
+    same(out, wanted).expect(&rt, "differ");
+    heap.write(block, 12, &[0x99])?;
     let last = heap.inspect(block, |words| last_word(words));
-    same(last, Ok(Some(0x1817_1699_1413_1211))).expect(&rt, "differ");
-    same(heap.inspect(behind, |words| last_word(words)), Ok(Some(0))).expect(&rt, "changed");
-    same((heap.tick(), heap.report().live_bytes), (3, 21)).expect(&rt, "differ");
-    Ok(())
-}
-
-#[test]
-fn empty_payload_has_no_word(rt: HostRuntime) -> Result<(), Fail> {
-    let mut heap = Heap::<4>::open(rt.alloc(), 0, 64, 0)?;
-    let block = heap.allocate(0)?;
-    same(heap.alter(block, |words| mark_ends(words)), Ok(0)).expect(&rt, "some words");
-    same(heap.inspect(block, |words| last_word(words)), Ok(None)).expect(&rt, "a word");
-    Ok(())
-}
-
-#[test]
-fn other_names_are_handed_nothing(rt: HostRuntime) -> Result<(), Fail> {
-    let mut heap = Heap::<4>::open(rt.alloc(), 7, 64, 0)?;
-    let block = heap.allocate(8)?;
-    for (other, why) in [
-        (name(6, 0, 1), Refusal::Foreign),
-        (name(7, 0, 2), Refusal::Stale),
-        (name(7, 1, 1), Refusal::Stale),
-        (name(7, 64, 1), Refusal::Stale),
-    ] {
-        same(heap.alter(other, |words| mark_ends(words)), Err(why)).expect(&rt, "altered");
-        same(heap.inspect(other, |words| last_word(words)), Err(why)).expect(&rt, "inspected");
-    }
-    same(heap.inspect(block, |words| last_word(words)), Ok(Some(0))).expect(&rt, "changed");
+    let found = (last, heap.tick(), heap.report().live_bytes);
+    same(found, (Ok(Some(0x1817_1699_1413_1211)), 4, 21)).expect(&rt, "differ");
     Ok(())
 }
 

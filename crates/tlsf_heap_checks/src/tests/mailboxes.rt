@@ -120,19 +120,32 @@ fn filled<R: Wait>(rt: &R, end: &mut PosterEnd) -> u64 {
     2_000
 }
 
+/// A mailbox of one poster takes as many posts as it holds, and one more for each that was taken.
+fn check_capacity<R: Abort + Wait>(
+    rt: &R,
+    owner_end: &mut OwnerEnd,
+    end: &mut PosterEnd,
+    capacity: u32,
+) {
+    same(filled(rt, end), u64::from(capacity)).expect(rt, "differ");
+    let first = Post {
+        from: 1,
+        name: block(0),
+    };
+    let found = (
+        owner_end.take(rt),
+        end.put(rt, block(3)),
+        end.put(rt, block(4)),
+    );
+    same(found, (Some(first), Ok(()), Err(block(4)))).expect(rt, "differ");
+}
+
 #[test]
 fn mailbox_holds_its_capacity(rt: HostRuntime) -> Result<(), Fail> {
     for capacity in [1, 2, 3, 1024] {
         let (mut owner_end, mut posters) = mailbox(rt.alloc(), 0, 2, capacity)?;
         let mut end = posters.pop().expect(&rt, "no end");
-        same(filled(&rt, &mut end), u64::from(capacity)).expect(&rt, "differ");
-        let first = Post {
-            from: 1,
-            name: block(0),
-        };
-        same(owner_end.take(&rt), Some(first)).expect(&rt, "differ");
-        let found = (end.put(&rt, block(3)), end.put(&rt, block(4)));
-        same(found, (Ok(()), Err(block(4)))).expect(&rt, "differ");
+        check_capacity(&rt, &mut owner_end, &mut end, capacity);
     }
     Ok(())
 }

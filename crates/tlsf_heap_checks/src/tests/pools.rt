@@ -1,8 +1,8 @@
 //! Pools, and the words of tables of kinds.
-
+use crate::tests::calls::{Ask, Reply, bytes, done, given};
 use std::test::Fail;
 use tlsf_fixtures::{name, same};
-use tlsf_heap::{Name, OpenFault, Refusal};
+use tlsf_heap::{OpenFault, Refusal};
 use tlsf_pool::{
     Kind, Pool, PoolRefusal, cheapest_split, kinds_words, longest_request, most_blocks, most_bytes,
     pool_region,
@@ -11,34 +11,50 @@ use tlsf_pool::{
 /// The most bytes of a request that some region of level 4 serves.
 const LONGEST: u32 = 8_388_584;
 
-/// What the last two of the first eight bytes of a block are, once they were written.
-fn two_bytes(pool: &mut Pool<4>, block: Name) -> Result<[u8; 2], Refusal> {
-    let mut out = [0; 2];
-    pool.write(block, 6, &[0x48, 0x69])?;
-    pool.read(block, 6, &mut out)?;
-    Ok(out)
+/// What a pool replies, and how many blocks it has given then.
+fn answer(pool: &mut Pool<4>, ask: Ask) -> (Reply, u32) {
+    let reply = match ask {
+        Ask::Allocate(len) => given(pool.allocate(len)),
+        Ask::Release(name) => done(pool.release(name)),
+        Ask::Write(name, at, bytes) => done(pool.write(name, at, bytes)),
+        Ask::Read(name, at, n) => {
+            let mut out = [0xee; 16];
+            let answer = pool.read(name, at, &mut out[..n.min(16)]);
+            bytes(answer, out)
+        }
+        _ => Reply::NoBlock,
+    };
+    (reply, pool.held())
 }
 
 #[test]
 fn pool_is_filled_and_emptied(rt: HostRuntime) -> Result<(), Fail> {
     let mut pool = Pool::<4>::open(rt.alloc(), 3, 2, 8, 0)?;
     let first = name(3, 0, 1);
-    for (len, wanted) in [
-        (8, Ok(first)),
-        (0, Ok(name(3, 4, 2))),
-        (8, Err(PoolRefusal::Full)),
-        (9, Err(PoolRefusal::TooLong)),
-    ] {
-        same(pool.allocate(len), wanted).expect(&rt, "differ");
+    let rows = [
+        (Ask::Allocate(8), (Reply::Made(first), 1)),
+        (Ask::Allocate(0), (Reply::Made(name(3, 4, 2)), 2)),
+        (Ask::Allocate(8), (Reply::NotGiven(PoolRefusal::Full), 2)),
+        (Ask::Allocate(9), (Reply::NotGiven(PoolRefusal::TooLong), 2)),
+        (Ask::Write(first, 6, b"Hi"), (Reply::Done, 2)),
+        (
+            Ask::Read(first, 6, 2),
+            (
+                Reply::Bytes(*b"Hi\xee\xee\xee\xee\xee\xee\xee\xee\xee\xee\xee\xee\xee\xee"),
+                2,
+            ),
+        ),
+        (Ask::Release(first), (Reply::Done, 1)),
+        (Ask::Release(first), (Reply::Refused(Refusal::Stale), 1)),
+        (Ask::Allocate(8), (Reply::Made(name(3, 0, 4)), 2)),
+    ];
+    for (i, (ask, wanted)) in rows.iter().enumerate() {
+        same((i, answer(&mut pool, *ask)), (i, *wanted)).expect(&rt, "differ");
     }
-    same(two_bytes(&mut pool, first), Ok([0x48, 0x69])).expect(&rt, "differ");
-    for (wanted, held) in [(Ok(()), 1), (Err(Refusal::Stale), 1)] {
-        same((pool.release(first), pool.held()), (wanted, held)).expect(&rt, "differ");
-    }
-    same(pool.allocate(8), Ok(name(3, 0, 4))).expect(&rt, "differ");
     Ok(())
 }
 
+// A request of 480 bytes wants 63 words, which have a class of their own at level 5: at level 4 the region has one word more.
 #[test]
 fn pools_open_by_their_words(rt: HostRuntime) -> Result<(), Fail> {
     for (most, longest, wanted) in [
@@ -51,6 +67,10 @@ fn pools_open_by_their_words(rt: HostRuntime) -> Result<(), Fail> {
         let found = Pool::<4>::open(rt.alloc(), 0, most, longest, 0).err();
         same((most, longest, found), (most, longest, wanted)).expect(&rt, "differ");
     }
+    let regions = [pool_region::<4>(1, 480), pool_region::<5>(1, 480)];
+    same(regions, [Some(64), Some(63)]).expect(&rt, "differ");
+    let answer = Pool::<5>::open(rt.alloc(), 0, 1, 480, 0)?.allocate(480);
+    same(given(answer), Reply::Made(name(0, 0, 1))).expect(&rt, "differ");
     Ok(())
 }
 
@@ -67,6 +87,10 @@ fn words_of_tables(rt: HostRuntime) {
         len: LONGEST,
     };
     let tiny = Kind { most: 3, len: 8 };
+    let unreached = Kind {
+        most: u32::MAX,
+        len: 4096,
+    };
     let found = [
         kinds_words::<4>(&[]),
         kinds_words::<4>(&[hundred]),
@@ -76,17 +100,6 @@ fn words_of_tables(rt: HostRuntime) {
         kinds_words::<4>(&[tiny, none]),
     ];
     same(found, [4, 13_631, 59_427, 59_427, 59_427, 12]).expect(&rt, "differ");
-}
-
-#[test]
-fn cheapest_split_of_two_kinds(rt: HostRuntime) {
-    let small = Kind { most: 100, len: 64 };
-    let large = Kind { most: 4, len: 4096 };
-    let unreached = Kind {
-        most: u32::MAX,
-        len: 4096,
-    };
-    let one = kinds_words::<4>(&[small, large]);
     let two = kinds_words::<4>(&[small]).wrapping_add(kinds_words::<4>(&[large]));
     let found = [
         cheapest_split::<4>(&[small, large], 8).map(|split| split.words),
@@ -94,30 +107,25 @@ fn cheapest_split_of_two_kinds(rt: HostRuntime) {
         cheapest_split::<4>(&[small, unreached], 8).map(|split| split.words),
         cheapest_split::<4>(&[small], 0).map(|split| split.words),
     ];
-    same(found, [Some(one.min(two)), Some(one), None, None]).expect(&rt, "differ");
+    let wanted = [Some(two.min(59_427)), Some(59_427), None, None];
+    same(found, wanted).expect(&rt, "differ");
 }
 
 #[test]
 fn how_far_the_greatest_region_goes(rt: HostRuntime) {
-    let blocks = [most_blocks::<4>(512), most_blocks::<4>(LONGEST)];
-    same(blocks, [7654, 1]).expect(&rt, "differ");
+    let found = [
+        most_blocks::<4>(512),
+        most_blocks::<4>(LONGEST),
+        most_bytes::<4>(),
+        most_bytes::<5>(),
+    ];
+    same(found, [7654, 1, LONGEST, 134_217_704]).expect(&rt, "differ");
     let lengths = [
         longest_request::<4>(1),
         longest_request::<4>(100),
         longest_request::<4>(u32::MAX),
+        longest_request::<5>(1),
     ];
-    same(lengths, [Some(LONGEST), Some(41_248), None]).expect(&rt, "differ");
-}
-
-// A request of 480 bytes wants 63 words, which have a class of their own at level 5: at level 4 the region has one word more.
-#[test]
-fn pool_of_one_block_at_level_5(rt: HostRuntime) -> Result<(), Fail> {
-    let regions = [pool_region::<4>(1, 480), pool_region::<5>(1, 480)];
-    same(regions, [Some(64), Some(63)]).expect(&rt, "differ");
-    let mut pool = Pool::<5>::open(rt.alloc(), 0, 1, 480, 0)?;
-    same(pool.allocate(480), Ok(name(0, 0, 1))).expect(&rt, "differ");
-    let lengths = [most_bytes::<4>(), most_bytes::<5>()];
-    same(lengths, [LONGEST, 134_217_704]).expect(&rt, "differ");
-    same(longest_request::<5>(1), Some(134_217_704)).expect(&rt, "differ");
-    Ok(())
+    let wanted = [Some(LONGEST), Some(41_248), None, Some(134_217_704)];
+    same(lengths, wanted).expect(&rt, "differ");
 }

@@ -1,9 +1,10 @@
 //! Heaps for tables of kinds: one for a whole table, and one for each of its parts.
-
+use crate::tests::calls::{Ask, Reply, bytes, done, given, live};
 use std::alloc::Global;
+use std::process::Abort;
 use std::test::Fail;
 use tlsf_fixtures::{name, same};
-use tlsf_heap::{Content, Name, OpenFault, PlacedBlock, Refusal};
+use tlsf_heap::{OpenFault, Refusal};
 use tlsf_pools::{Kind, PoolRefusal, Pools, TablePool};
 
 const SHORT: Kind = Kind { most: 2, len: 16 };
@@ -21,192 +22,114 @@ const LARGE: Kind = Kind {
     len: 65_536,
 };
 
-/// Two heaps, of numbers 5 and 6, for the two kinds.
-fn opened(alloc: Global, first: u64) -> Result<Pools<4>, OpenFault> {
-    Pools::open(alloc, 5, &[MANY, LARGE], first)
+const FULL: Reply = Reply::NotGiven(PoolRefusal::Full);
+
+const TOO_LONG: Reply = Reply::NotGiven(PoolRefusal::TooLong);
+
+const FOREIGN: Reply = Reply::Refused(Refusal::Foreign);
+
+const STALE: Reply = Reply::Refused(Refusal::Stale);
+
+const RANGE: Reply = Reply::Refused(Refusal::Range);
+
+/// `Hi`, and what a read of it leaves behind it.
+const HI: Reply = Reply::Bytes(*b"Hi\xee\xee\xee\xee\xee\xee\xee\xee\xee\xee\xee\xee\xee\xee");
+
+/// What the heap of a table replies.
+fn table_answer(pool: &mut TablePool<4>, ask: Ask) -> Reply {
+    match ask {
+        Ask::Allocate(len) => given(pool.allocate(len)),
+        Ask::Release(name) => done(pool.release(name)),
+        Ask::Write(name, at, bytes) => done(pool.write(name, at, bytes)),
+        Ask::Read(name, at, n) => {
+            let mut out = [0xee; 16];
+            let answer = pool.read(name, at, &mut out[..n.min(16)]);
+            bytes(answer, out)
+        }
+        Ask::BlockAt(at) => pool.block_at(at).map_or(Reply::NoBlock, Reply::Block),
+        Ask::Tick => Reply::Tick(pool.tick()),
+        _ => Reply::NoBlock,
+    }
 }
 
-/// What the last two of the first eight bytes of a block are, once they were written.
-fn two_bytes(pool: &mut TablePool<4>, block: Name) -> Result<[u8; 2], Refusal> {
-    let mut out = [0; 2];
-    pool.write(block, 6, &[0x48, 0x69])?;
-    pool.read(block, 6, &mut out)?;
-    Ok(out)
+/// Asks heap 3 of a table of two kinds, and holds each reply to the one that is wanted. Then how many blocks it has given of
+/// each row, and how many blocks are live.
+fn check_table(
+    rt: &impl Abort,
+    alloc: Global,
+    first: u64,
+    rows: &[(Ask, Reply)],
+    held: [u32; 4],
+) -> Result<(), OpenFault> {
+    let mut pool = TablePool::<4>::open(alloc, 3, &[SHORT, LONG], first)?;
+    for (i, (ask, wanted)) in rows.iter().enumerate() {
+        same((i, table_answer(&mut pool, *ask)), (i, *wanted)).expect(rt, "differ");
+    }
+    let live = pool.report().live_blocks;
+    let found = [pool.held(0), pool.held(1), pool.held(2), live];
+    same(found, held).expect(rt, "differ");
+    Ok(())
 }
 
-/// The same in one of several heaps.
-fn two_bytes_of(pools: &mut Pools<4>, block: Name) -> Result<[u8; 2], Refusal> {
-    let mut out = [0; 2];
-    pools.write(block, 6, &[0x48, 0x69])?;
-    pools.read(block, 6, &mut out)?;
-    Ok(out)
-}
-
+// The forged names are of another heap, of a place where no block begins, of one behind the region, and of another serial.
+// At the end the tick is at its last value but one.
 #[test]
 fn table_is_filled_and_emptied(rt: HostRuntime) -> Result<(), Fail> {
-    let mut pool = TablePool::<4>::open(rt.alloc(), 3, &[SHORT, LONG], 0)?;
     let first = name(3, 0, 1);
-    for (len, wanted) in [
-        (16, Ok(first)),
-        (400, Ok(name(3, 5, 2))),
-        (17, Err(PoolRefusal::Full)),
-        (401, Err(PoolRefusal::TooLong)),
-    ] {
-        same(pool.allocate(len), wanted).expect(&rt, "differ");
-    }
-    same((pool.held(0), pool.held(1), pool.held(2)), (1, 1, 0)).expect(&rt, "differ");
-    same(two_bytes(&mut pool, first), Ok([0x48, 0x69])).expect(&rt, "differ");
-    let live = Content::Live {
-        serial: 2,
-        length: 400,
-    };
-    let long = PlacedBlock {
-        at: 5,
-        size: 53,
-        content: live,
-    };
-    same(pool.block_at(5), Some(long)).expect(&rt, "differ");
-    for wanted in [Ok(()), Err(Refusal::Stale)] {
-        same((pool.release(first), pool.held(0)), (wanted, 0)).expect(&rt, "differ");
-    }
-    same((pool.report().live_blocks, pool.tick()), (1, 4)).expect(&rt, "differ");
-    Ok(())
-}
-
-// Of another heap, of a place where no block begins, of one behind the region, and of another serial.
-#[test]
-fn table_follows_no_forged_name(rt: HostRuntime) -> Result<(), Fail> {
-    let mut pool = TablePool::<4>::open(rt.alloc(), 3, &[SHORT, LONG], 0)?;
-    same(pool.allocate(16), Ok(name(3, 0, 1))).expect(&rt, "differ");
-    for (block, wanted) in [
-        (name(2, 0, 1), Refusal::Foreign),
-        (name(3, 1, 1), Refusal::Stale),
-        (name(3, u32::MAX, 1), Refusal::Stale),
-        (name(3, 0, 2), Refusal::Stale),
-    ] {
-        let mut out = [7];
-        let found = [
-            pool.release(block),
-            pool.write(block, 0, &[1]),
-            pool.read(block, 0, &mut out),
-        ];
-        same((found, out), ([Err(wanted); 3], [7])).expect(&rt, "differ");
-    }
-    let mut out = [7; 2];
-    let block = name(3, 0, 1);
-    let found = [
-        pool.write(block, 15, &[1; 2]),
-        pool.read(block, 15, &mut out),
+    let rows = [
+        (Ask::Allocate(16), Reply::Made(first)),
+        (Ask::Allocate(400), Reply::Made(name(3, 5, 2))),
+        (Ask::Allocate(17), FULL),
+        (Ask::Allocate(401), TOO_LONG),
+        (Ask::Write(first, 6, b"Hi"), Reply::Done),
+        (Ask::Read(first, 6, 2), HI),
+        (Ask::Write(first, 15, b"Hi"), RANGE),
+        (Ask::Read(first, 15, 2), RANGE),
+        (Ask::BlockAt(5), live(5, 53, 2, 400)),
+        (Ask::Release(name(2, 0, 1)), FOREIGN),
+        (Ask::Write(name(2, 0, 1), 0, b"Hi"), FOREIGN),
+        (Ask::Read(name(2, 0, 1), 0, 1), FOREIGN),
+        (Ask::Release(name(3, 1, 1)), STALE),
+        (Ask::Release(name(3, u32::MAX, 1)), STALE),
+        (Ask::Write(name(3, u32::MAX, 1), 0, b"Hi"), STALE),
+        (Ask::Read(name(3, u32::MAX, 1), 0, 1), STALE),
+        (Ask::Release(name(3, 0, 2)), STALE),
+        (Ask::Release(first), Reply::Done),
+        (Ask::Release(first), STALE),
+        (Ask::Tick, Reply::Tick(4)),
     ];
-    same((found, out), ([Err(Refusal::Range); 2], [7; 2])).expect(&rt, "differ");
+    check_table(&rt, rt.alloc(), 0, &rows, [0, 1, 0, 1])?;
+    let block = name(3, 0, u64::MAX - 1);
+    let rows = [
+        (Ask::Allocate(16), Reply::Made(block)),
+        (Ask::Allocate(16), Reply::NotGiven(PoolRefusal::Worn)),
+        (Ask::Release(block), Reply::Refused(Refusal::Worn)),
+        (Ask::Tick, Reply::Tick(u64::MAX)),
+    ];
+    check_table(&rt, rt.alloc(), u64::MAX - 2, &rows, [1, 0, 0, 1])?;
     Ok(())
 }
 
+// A table of 2,000 short blocks and a long one has a heap for each: in one they would need more words than any region has.
 #[test]
 fn tables_open_by_their_words(rt: HostRuntime) {
     let most = Kind {
         most: 7655,
         len: 512,
     };
-    for (kind, first, wanted) in [
-        (most, 0, Some(OpenFault::BadSize)),
-        (SHORT, u64::MAX, Some(OpenFault::Worn)),
-        (SHORT, u64::MAX - 1, None),
-    ] {
-        let found = TablePool::<4>::open(rt.alloc(), 0, &[kind], first).err();
-        same(found, wanted).expect(&rt, "differ");
-    }
-}
-
-// The tick is then at its last value but one.
-#[test]
-fn table_wears_out(rt: HostRuntime) -> Result<(), Fail> {
-    let mut pool = TablePool::<4>::open(rt.alloc(), 0, &[SHORT], u64::MAX - 2)?;
-    let block = name(0, 0, u64::MAX - 1);
-    same(pool.allocate(16), Ok(block)).expect(&rt, "differ");
-    same(pool.allocate(16), Err(PoolRefusal::Worn)).expect(&rt, "differ");
-    same(pool.release(block), Err(Refusal::Worn)).expect(&rt, "differ");
-    same((pool.held(0), pool.tick()), (1, u64::MAX)).expect(&rt, "differ");
-    Ok(())
-}
-
-// Of 2,000 short blocks and a long one each has a heap of its own: in one they would need more words than any region has.
-#[test]
-fn parts_are_filled_and_emptied(rt: HostRuntime) -> Result<(), Fail> {
-    let mut pools = opened(rt.alloc(), 0)?;
-    let large = name(6, 0, 1);
-    for (len, wanted) in [
-        (64, Ok(name(5, 0, 1))),
-        (65, Ok(large)),
-        (65_536, Err(PoolRefusal::Full)),
-        (65_537, Err(PoolRefusal::TooLong)),
-    ] {
-        same(pools.allocate(len), wanted).expect(&rt, "differ");
-    }
-    same(two_bytes_of(&mut pools, large), Ok([0x48, 0x69])).expect(&rt, "differ");
-    for wanted in [Ok(()), Err(Refusal::Stale)] {
-        same(pools.release(large), wanted).expect(&rt, "differ");
-    }
-    same(pools.allocate(65_536), Ok(name(6, 0, 3))).expect(&rt, "differ");
-    Ok(())
-}
-
-#[test]
-fn parts_are_told_of(rt: HostRuntime) -> Result<(), Fail> {
-    let mut pools = opened(rt.alloc(), 0)?;
-    same(pools.allocate(64), Ok(name(5, 0, 1))).expect(&rt, "differ");
-    for (part, words, blocks, size, tick) in [(0, 47_976, 1, 11, 2), (1, 8_704, 0, 8_704, 1)] {
-        let told = pools
-            .report(part)
-            .map(|report| (report.free_words, report.live_blocks));
-        same(told, Some((words, blocks))).expect(&rt, "differ");
-        let first = pools.block_at(part, 0).map(|block| block.size);
-        same((first, pools.tick(part)), (Some(size), Some(tick))).expect(&rt, "differ");
-        same(pools.block_at(part, 1), None).expect(&rt, "differ");
-    }
-    same(pools.report(2).is_none(), true).expect(&rt, "differ");
-    same((pools.block_at(2, 0), pools.tick(2)), (None, None)).expect(&rt, "differ");
-    Ok(())
-}
-
-// Of heaps that aren't there, of a place where no block begins, of one behind the region, and of another serial.
-#[test]
-fn parts_follow_no_forged_name(rt: HostRuntime) -> Result<(), Fail> {
-    let mut pools = opened(rt.alloc(), 0)?;
-    same(pools.allocate(64), Ok(name(5, 0, 1))).expect(&rt, "differ");
-    for (block, wanted) in [
-        (name(4, 0, 1), Refusal::Foreign),
-        (name(7, 0, 1), Refusal::Foreign),
-        (name(u32::MAX, 0, 1), Refusal::Foreign),
-        (name(6, 0, 1), Refusal::Stale),
-        (name(5, 1, 1), Refusal::Stale),
-        (name(5, u32::MAX, 1), Refusal::Stale),
-        (name(5, 0, 2), Refusal::Stale),
-    ] {
-        let mut out = [7];
-        let found = [
-            pools.release(block),
-            pools.write(block, 0, &[1]),
-            pools.read(block, 0, &mut out),
-        ];
-        same((found, out), ([Err(wanted); 3], [7])).expect(&rt, "differ");
-    }
-    let mut out = [7; 2];
-    let block = name(5, 0, 1);
-    let found = [
-        pools.write(block, 63, &[1; 2]),
-        pools.read(block, 63, &mut out),
-    ];
-    same((found, out), ([Err(Refusal::Range); 2], [7; 2])).expect(&rt, "differ");
-    Ok(())
-}
-
-#[test]
-fn parts_open_by_their_words(rt: HostRuntime) {
     let unreached = Kind {
         most: u32::MAX,
         len: 4096,
     };
+    for (kinds, first, wanted) in [
+        ([most, SHORT], 0, Some(OpenFault::BadSize)),
+        ([SHORT, LONG], u64::MAX, Some(OpenFault::Worn)),
+        ([SHORT, LONG], u64::MAX - 1, None),
+        ([MANY, LARGE], 0, Some(OpenFault::BadSize)),
+    ] {
+        let found = TablePool::<4>::open(rt.alloc(), 0, &kinds, first).err();
+        same(found, wanted).expect(&rt, "differ");
+    }
     for (kinds, first, wanted) in [
         ([MANY, unreached], 0, Some(OpenFault::BadSize)),
         ([MANY, LARGE], u64::MAX, Some(OpenFault::Worn)),
@@ -217,17 +140,99 @@ fn parts_open_by_their_words(rt: HostRuntime) {
     }
 }
 
-#[test]
-fn parts_wear_out_each_by_itself(rt: HostRuntime) -> Result<(), Fail> {
-    let mut pools = opened(rt.alloc(), u64::MAX - 2)?;
-    let block = name(5, 0, u64::MAX - 1);
-    for (len, wanted) in [
-        (64, Ok(block)),
-        (64, Err(PoolRefusal::Worn)),
-        (65, Ok(name(6, 0, u64::MAX - 1))),
-    ] {
-        same(pools.allocate(len), wanted).expect(&rt, "differ");
+/// What several heaps reply. Of each part the first block is shown.
+fn parts_answer(pools: &mut Pools<4>, ask: Ask) -> Reply {
+    match ask {
+        Ask::Allocate(len) => given(pools.allocate(len)),
+        Ask::Release(name) => done(pools.release(name)),
+        Ask::Write(name, at, bytes) => done(pools.write(name, at, bytes)),
+        Ask::Read(name, at, n) => {
+            let mut out = [0xee; 16];
+            let answer = pools.read(name, at, &mut out[..n.min(16)]);
+            bytes(answer, out)
+        }
+        _ => Reply::NoBlock,
     }
-    same(pools.release(block), Err(Refusal::Worn)).expect(&rt, "differ");
+}
+
+/// Of a part its words that are free, its live blocks, the size of the block at 0 and at 1, and its tick.
+type Told = (Option<(u32, u32)>, Option<u32>, bool, Option<u64>);
+
+fn told_of(pools: &mut Pools<4>, part: usize) -> Told {
+    let report = pools.report(part);
+    let words = report.map(|report| (report.free_words, report.live_blocks));
+    let first = pools.block_at(part, 0).map(|block| block.size);
+    let is_second = pools.block_at(part, 1).is_some();
+    (words, first, is_second, pools.tick(part))
+}
+
+/// Asks heaps 5 and 6 of the two parts of a table, and holds each reply to the one that is wanted. Then what is told of three parts.
+fn check_parts(
+    rt: &impl Abort,
+    alloc: Global,
+    first: u64,
+    rows: &[(Ask, Reply)],
+    told: [Told; 3],
+) -> Result<(), OpenFault> {
+    let mut pools = Pools::<4>::open(alloc, 5, &[MANY, LARGE], first)?;
+    for (i, (ask, wanted)) in rows.iter().enumerate() {
+        same((i, parts_answer(&mut pools, *ask)), (i, *wanted)).expect(rt, "differ");
+    }
+    for (part, wanted) in told.iter().enumerate() {
+        same((part, told_of(&mut pools, part)), (part, *wanted)).expect(rt, "differ");
+    }
+    Ok(())
+}
+
+// The forged names are of heaps that aren't there, of a place where no block begins, of one behind the region, and of another
+// serial.
+#[test]
+fn parts_are_filled_and_emptied(rt: HostRuntime) -> Result<(), Fail> {
+    let small = name(5, 0, 1);
+    let large = name(6, 0, 1);
+    let rows = [
+        (Ask::Allocate(64), Reply::Made(small)),
+        (Ask::Release(large), STALE),
+        (Ask::Allocate(65), Reply::Made(large)),
+        (Ask::Allocate(65_536), FULL),
+        (Ask::Allocate(65_537), TOO_LONG),
+        (Ask::Write(large, 6, b"Hi"), Reply::Done),
+        (Ask::Read(large, 6, 2), HI),
+        (Ask::Release(name(4, 0, 1)), FOREIGN),
+        (Ask::Write(name(4, 0, 1), 0, b"Hi"), FOREIGN),
+        (Ask::Read(name(4, 0, 1), 0, 1), FOREIGN),
+        (Ask::Release(name(7, 0, 1)), FOREIGN),
+        (Ask::Write(name(7, 0, 1), 0, b"Hi"), FOREIGN),
+        (Ask::Read(name(7, 0, 1), 0, 1), FOREIGN),
+        (Ask::Release(name(u32::MAX, 0, 1)), FOREIGN),
+        (Ask::Release(name(5, 1, 1)), STALE),
+        (Ask::Release(name(5, u32::MAX, 1)), STALE),
+        (Ask::Write(name(5, u32::MAX, 1), 0, b"Hi"), STALE),
+        (Ask::Read(name(5, u32::MAX, 1), 0, 1), STALE),
+        (Ask::Release(name(5, 0, 2)), STALE),
+        (Ask::Write(small, 63, b"Hi"), RANGE),
+        (Ask::Read(small, 63, 2), RANGE),
+        (Ask::Release(large), Reply::Done),
+        (Ask::Release(large), STALE),
+    ];
+    let told = [
+        (Some((47_976, 1)), Some(11), false, Some(2)),
+        (Some((8_704, 0)), Some(8_704), false, Some(3)),
+        (None, None, false, None),
+    ];
+    check_parts(&rt, rt.alloc(), 0, &rows, told)?;
+    let block = name(5, 0, u64::MAX - 1);
+    let rows = [
+        (Ask::Allocate(64), Reply::Made(block)),
+        (Ask::Allocate(64), Reply::NotGiven(PoolRefusal::Worn)),
+        (Ask::Allocate(65), Reply::Made(name(6, 0, u64::MAX - 1))),
+        (Ask::Release(block), Reply::Refused(Refusal::Worn)),
+    ];
+    let told = [
+        (Some((47_976, 1)), Some(11), false, Some(u64::MAX)),
+        (Some((8_692, 1)), Some(12), false, Some(u64::MAX)),
+        (None, None, false, None),
+    ];
+    check_parts(&rt, rt.alloc(), u64::MAX - 2, &rows, told)?;
     Ok(())
 }

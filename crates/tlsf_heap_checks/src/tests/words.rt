@@ -153,16 +153,19 @@ fn switches(words: &mut Words, at: u32) -> bool {
     !was_set && is_set && !words.starts(at)
 }
 
+/// The start bits at these places can be switched.
+fn check_switches(rt: &impl Abort, words: &mut Words, places: &[u32]) {
+    for at in places {
+        same((*at, switches(words, *at)), (*at, true)).expect(rt, "differ");
+    }
+}
+
 #[test]
 fn start_bits_of_the_least_and_the_largest_region(rt: HostRuntime) -> Result<(), Fail> {
     let mut least = Words::open(rt.alloc(), 4)?;
-    for at in [0, 1, 3] {
-        same((at, switches(&mut least, at)), (at, true)).expect(&rt, "differ");
-    }
+    check_switches(&rt, &mut least, &[0, 1, 3]);
     let mut largest = Words::open(rt.alloc(), 1048576)?;
-    for at in [0, 62, 63, 64, 65, 1048575] {
-        same((at, switches(&mut largest, at)), (at, true)).expect(&rt, "differ");
-    }
+    check_switches(&rt, &mut largest, &[0, 62, 63, 64, 65, 1048575]);
     Ok(())
 }
 

@@ -101,81 +101,80 @@ fn settled_queues_are_taken_from(rt: HostRuntime) -> Result<(), Fail> {
     Ok(())
 }
 
-/// Two workers run a script each over queues, and their records are those that are wanted.
-fn check_race<R: Threads + Wait + Abort + Sync, G: Gate>(
+/// The records of two workers that run a script each over queues: of so many places, with a block of each owner that is named,
+/// and where worker 1 has posted the first block of worker 0 so many times.
+fn raced<R: Threads + Wait + Abort + Sync, G: Gate>(
     rt: &R,
     alloc: Global,
-    workers: Vec<QueueWorker<4>>,
+    start: (u32, &[usize], u32),
     first: &[Call],
     second: &[Call],
     gate: &G,
-    wanted: [&[Entry]; 2],
-) -> Result<(), Fail>
-    requires yard { IsQueueYard workers.items }
+) -> Result<Vec<Vec<Entry>>, Fail>
     requires first_short { length first.now < 2 ^ 32 }
     requires second_short { length second.now < 2 ^ 32 }
 {
+    let (capacity, owners, posts) = start;
+    let workers = yard_with_blocks(rt, alloc, 2, capacity, owners)?;
+    let workers = post_often(rt, workers, name(0, 0, 1), posts)?;
     assert!(rt; workers.len() == 2);
     let scripts = two_scripts(alloc, first, second)?;
     let outcome = race_queues(rt, alloc, workers, scripts, gate)?;
-    check_records(rt, &outcome.records, wanted);
-    Ok(())
-}
-
-#[test]
-fn each_posts_to_the_other_over_queues(rt: HostRuntime) -> Result<(), Fail> {
-    let own = [name(0, 0, 1), name(1, 0, 1)];
-    let workers = yard_with_blocks(&rt, rt.alloc(), 2, 4, &[0, 1])?;
-    check_race(
-        &rt,
-        rt.alloc(),
-        workers,
-        &[release(own[1])],
-        &[release(own[0])],
-        &OpenGate,
-        [
-            &[posted(0, own[1]), taken(0, 1, own[0]), last(0, 1)],
-            &[posted(1, own[0]), taken(1, 0, own[1]), last(1, 1)],
-        ],
-    )
+    Ok(outcome.records)
 }
 
 // A queue has no single poster to take from.
 #[test]
-fn take_is_a_stranger_over_queues(rt: HostRuntime) -> Result<(), Fail> {
-    let block = name(0, 0, 1);
-    let workers = yard_with_blocks(&rt, rt.alloc(), 2, 4, &[0])?;
-    let workers = post_often(&rt, workers, block, 1)?;
-    let take = Call::Take { from: 1 };
-    let stranger = Reply::Refused(CrewRefusal::Stranger);
-    check_race(
+fn two_queue_workers_race(rt: HostRuntime) -> Result<(), Fail> {
+    let own = [name(0, 0, 1), name(1, 0, 1)];
+    let scripts = [[release(own[1])], [release(own[0])]];
+    let records = raced(
         &rt,
         rt.alloc(),
-        workers,
-        &[take],
-        &[],
+        (4, &[0, 1], 0),
+        &scripts[0],
+        &scripts[1],
         &OpenGate,
+    )?;
+    check_records(
+        &rt,
+        &records,
         [
-            &[entry(0, take, stranger), taken(0, 1, block), last(0, 1)],
+            &[posted(0, own[1]), taken(0, 1, own[0]), last(0, 1)],
+            &[posted(1, own[0]), taken(1, 0, own[1]), last(1, 1)],
+        ],
+    );
+    let take = Call::Take { from: 1 };
+    let stranger = Reply::Refused(CrewRefusal::Stranger);
+    let records = raced(&rt, rt.alloc(), (4, &[0], 1), &[take], &[], &OpenGate)?;
+    check_records(
+        &rt,
+        &records,
+        [
+            &[entry(0, take, stranger), taken(0, 1, own[0]), last(0, 1)],
             &[last(1, 0)],
         ],
-    )
+    );
+    Ok(())
 }
 
 // The post is seen while the workers run: one that is kept back until the last drain would come out there.
 #[test]
 fn drained_while_workers_run(rt: HostRuntime) -> Result<(), Fail> {
     let block = name(0, 0, 1);
-    let workers = yard_with_blocks(&rt, rt.alloc(), 2, 1, &[0])?;
     let gate = InTurn::new();
     let drain = Call::Drain { most: 1 };
-    check_race(
+    let records = raced(
         &rt,
         rt.alloc(),
-        workers,
+        (1, &[0], 0),
         &[drain],
         &[release(block)],
         &gate,
+    )?;
+    check_records(
+        &rt,
+        &records,
         [
             &[
                 taken(0, 1, block),
@@ -184,7 +183,7 @@ fn drained_while_workers_run(rt: HostRuntime) -> Result<(), Fail> {
             ],
             &[posted(1, block), last(1, 0)],
         ],
-    )?;
+    );
     same(gate.all_met(), true).expect(&rt, "differ");
     Ok(())
 }
@@ -253,36 +252,36 @@ fn threads_over_queues_run_at_once(rt: HostRuntime) -> Result<(), Fail> {
     Ok(())
 }
 
+/// The record of worker 0 has so many entries, and these at their places.
+fn check_first(rt: &impl Abort, records: &[Vec<Entry>], len: usize, wanted: &[(usize, Entry)]) {
+    let record = match records.first() {
+        Some(record) => record.as_slice(),
+        None => &[],
+    };
+    same(record.len(), len).expect(rt, "differ");
+    for (at, entry) in wanted {
+        same((*at, record.get(*at).copied()), (*at, Some(*entry))).expect(rt, "differ");
+    }
+}
+
+/// A take of the block that the first take freed.
+fn stale() -> Entry {
+    let took = took(1, name(0, 0, 1), Err(Refusal::Stale));
+    entry(0, Call::Take { from: 1 }, took)
+}
+
 // As many posts wait as any queue holds, and all are taken. A drain that might take fewer would wait for ever.
 #[test]
 fn full_queue_is_drained(rt: HostRuntime) -> Result<(), Fail> {
-    let block = name(0, 0, 1);
-    let workers = yard_with_blocks(&rt, rt.alloc(), 2, 1024, &[0])?;
-    let workers = post_often(&rt, workers, block, 1024)?;
-    assert!(rt; workers.len() == 2);
-    let scripts = two_scripts(rt.alloc(), &[Call::Drain { most: 8192 }], &[])?;
-    let outcome = race_queues(&rt, rt.alloc(), workers, scripts, &OpenGate)?;
-    let record = outcome.records.first().ok_or("two records")?;
-    let stale = entry(
-        0,
-        Call::Take { from: 1 },
-        took(1, block, Err(Refusal::Stale)),
-    );
-    let found = (
-        record.len(),
-        record.first().copied(),
-        record.get(1023).copied(),
-        record.get(1024).copied(),
-        record.get(1025).copied(),
-    );
-    let wanted = (
-        1026,
-        Some(taken(0, 1, block)),
-        Some(stale),
-        Some(last(0, 1024)),
-        Some(last(0, 0)),
-    );
-    same(found, wanted).expect(&rt, "differ");
+    let drains = [Call::Drain { most: 8192 }];
+    let records = raced(&rt, rt.alloc(), (1024, &[0], 1024), &drains, &[], &OpenGate)?;
+    let wanted = [
+        (0, taken(0, 1, name(0, 0, 1))),
+        (1023, stale()),
+        (1024, last(0, 1024)),
+        (1025, last(0, 0)),
+    ];
+    check_first(&rt, &records, 1026, &wanted);
     Ok(())
 }
 
@@ -312,37 +311,25 @@ impl Gate for PostBetween {
 // A script takes one post more than a queue holds. Where its limit were that, its second drain would wait for ever.
 #[test]
 fn script_takes_more_than_a_queue_holds(rt: HostRuntime) -> Result<(), Fail> {
-    let block = name(0, 0, 1);
-    let workers = yard_with_blocks(&rt, rt.alloc(), 2, 1024, &[0])?;
-    let workers = post_often(&rt, workers, block, 1024)?;
-    assert!(rt; workers.len() == 2);
     let drains = [Call::Drain { most: 1024 }, Call::Drain { most: 8192 }];
-    let scripts = two_scripts(rt.alloc(), &drains, &[release(block)])?;
     let gate = PostBetween {
         drained: AtomicU64::new(0),
         posted: AtomicU64::new(0),
     };
-    let outcome = race_queues(&rt, rt.alloc(), workers, scripts, &gate)?;
-    let record = outcome.records.first().ok_or("two records")?;
-    let stale = entry(
-        0,
-        Call::Take { from: 1 },
-        took(1, block, Err(Refusal::Stale)),
-    );
-    let found = (
-        record.len(),
-        record.get(1024).copied(),
-        record.get(1025).copied(),
-        record.get(1026).copied(),
-        record.get(1027).copied(),
-    );
-    let wanted = (
-        1028,
-        Some(entry(0, drains[0], Reply::Drained(1024))),
-        Some(stale),
-        Some(entry(0, drains[1], Reply::Drained(1))),
-        Some(last(0, 0)),
-    );
-    same(found, wanted).expect(&rt, "differ");
+    let records = raced(
+        &rt,
+        rt.alloc(),
+        (1024, &[0], 1024),
+        &drains,
+        &[release(name(0, 0, 1))],
+        &gate,
+    )?;
+    let wanted = [
+        (1024, entry(0, drains[0], Reply::Drained(1024))),
+        (1025, stale()),
+        (1026, entry(0, drains[1], Reply::Drained(1))),
+        (1027, last(0, 0)),
+    ];
+    check_first(&rt, &records, 1028, &wanted);
     Ok(())
 }

@@ -11,7 +11,7 @@ use std::thread;
 use std::thread::Threads;
 use tlsf_crew::{Call, Chunk, CrewRefusal, Event, QueueWorker, Reply, Target, open_queue_yard};
 use tlsf_fixtures::{name, same};
-use tlsf_heap::{Name, OpenFault, Refusal};
+use tlsf_heap::{Name, Refusal};
 
 /// The answer to a read of up to 64 bytes.
 fn read(worker: &mut QueueWorker<4>, name: Name, at: u32, n: u32) -> Result<Reply, CrewRefusal> {
@@ -88,10 +88,10 @@ fn check_calls<R: Abort + Wait>(rt: &R, workers: &mut [QueueWorker<4>], rows: &[
 // Workers 1 and 2 share the one place of worker 0's queue.
 #[test]
 fn calls_of_a_queue_worker(rt: HostRuntime) -> Result<(), Fail> {
-    let mut workers = open_queue_yard::<4>(rt.alloc(), 3, 64, 1)?;
-    let block = name(0, 0, 1);
     let bytes = Chunk::new(b"ab").ok_or("up to 64 bytes")?;
     let read = Chunk::new(b"\0ab").ok_or("up to 64 bytes")?;
+    let mut workers = open_queue_yard::<4>(rt.alloc(), 3, 64, 1)?;
+    let block = name(0, 0, 1);
     let rows = [
         (allocate(0, 8), Reply::Made(block)),
         (write(0, block, 1, bytes), Reply::Wrote(2)),
@@ -118,50 +118,39 @@ fn calls_of_a_queue_worker(rt: HostRuntime) -> Result<(), Fail> {
     Ok(())
 }
 
+/// What a worker answers where its own block is altered and read where it stands, where it posts that block, and where it frees
+/// another's; and then its live blocks and bytes.
+type Told = (
+    [Result<Option<u64>, CrewRefusal>; 2],
+    [Result<(), CrewRefusal>; 2],
+    (u32, u32),
+);
+
+fn own_calls<R: Wait>(rt: &R, worker: &mut QueueWorker<4>, block: Name) -> Told {
+    let altered = worker.alter(block, |words| doubled(words));
+    let inspected = worker.inspect(block, |words| words.first().copied());
+    let refused = [worker.post(rt, block), worker.free(name(1, 0, 1))];
+    let report = worker.report();
+    let live = (report.live_blocks, report.live_bytes);
+    ([altered, inspected], refused, live)
+}
+
 // A worker frees its own names alone, and posts those of others alone.
 #[test]
-fn payloads_of_a_queue_worker(rt: HostRuntime) -> Result<(), Fail> {
+fn own_calls_of_a_queue_worker(rt: HostRuntime) -> Result<(), Fail> {
+    let bytes = Chunk::new(b"ab").ok_or("up to 64 bytes")?;
     let mut workers = open_queue_yard::<4>(rt.alloc(), 2, 64, 4)?;
+    let block = name(0, 0, 1);
+    let rows = [
+        (allocate(0, 8), Reply::Made(block)),
+        (write(0, block, 0, bytes), Reply::Wrote(2)),
+    ];
+    check_calls(&rt, &mut workers, &rows);
     let worker = workers.first_mut().ok_or("two workers")?;
-    let block = worker.allocate(8)?;
-    worker.write(block, 0, b"ab")?;
-    same(
-        worker.alter(block, |words| doubled(words)),
-        Ok(Some(0xc4c2)),
-    )
-    .expect(&rt, "differ");
-    let found = worker.inspect(block, |words| words.first().copied());
-    same(found, Ok(Some(0xc4c2))).expect(&rt, "differ");
-    Ok(())
-}
-
-#[test]
-fn names_of_the_wrong_heap(rt: HostRuntime) -> Result<(), Fail> {
-    let mut workers = open_queue_yard::<4>(rt.alloc(), 2, 64, 4)?;
-    let worker = workers.first_mut().ok_or("two workers")?;
-    let block = worker.allocate(8)?;
-    let found = (worker.post(&rt, block), worker.free(name(1, 0, 1)));
     let foreign = Err(CrewRefusal::Heap(Refusal::Foreign));
-    same(found, (foreign, foreign)).expect(&rt, "differ");
-    let report = worker.report();
-    same((report.live_blocks, report.live_bytes), (1, 8)).expect(&rt, "differ");
+    let wanted = ([Ok(Some(0xc4c2)); 2], [foreign; 2], (1, 8));
+    same(own_calls(&rt, worker, block), wanted).expect(&rt, "differ");
     Ok(())
-}
-
-#[test]
-fn sizes_out_of_range_of_queues(rt: HostRuntime) {
-    for (n, words, capacity, fault) in [
-        (0, 64, 4, Some(OpenFault::BadSize)),
-        (9, 64, 4, Some(OpenFault::BadSize)),
-        (2, 3, 4, Some(OpenFault::BadSize)),
-        (2, (1 << 20) + 1, 4, Some(OpenFault::BadSize)),
-        (2, 64, 0, Some(OpenFault::BadSize)),
-        (2, 64, 1025, Some(OpenFault::BadSize)),
-        (8, 4, 1024, None),
-    ] {
-        let refused = open_queue_yard::<4>(rt.alloc(), n, words, capacity).err();
-        same((n, words, capacity, refused), (n, words, capacity, fault)).expect(&rt, "differ");
-    }
 }
 
 /// Moves two workers into threads of their own, where each posts the name of a block, and takes them back.

@@ -78,20 +78,21 @@ pub(crate) fn check_records(rt: &impl Abort, records: &[Vec<Entry>], wanted: [&[
     }
 }
 
-/// Two workers run a script each, and their records are those that are wanted.
+/// Two workers run a script each behind some events, and their records are those that are wanted.
 fn check_race<R: Threads + Wait + Abort + Sync, G: Gate>(
     rt: &R,
     alloc: Global,
-    workers: Vec<Worker<4>>,
+    start: (u32, &[Event]),
     first: &[Call],
     second: &[Call],
     gate: &G,
     wanted: [&[Entry]; 2],
 ) -> Result<(), Fail>
-    requires yard { IsYard workers.items }
     requires first_short { length first.now < 2 ^ 32 }
     requires second_short { length second.now < 2 ^ 32 }
 {
+    let (capacity, events) = start;
+    let workers = two_workers(alloc, capacity, events)?;
     assert!(rt; workers.len() == 2);
     let scripts = two_scripts(alloc, first, second)?;
     let outcome = race(rt, alloc, workers, scripts, gate)?;
@@ -99,14 +100,14 @@ fn check_race<R: Threads + Wait + Abort + Sync, G: Gate>(
     Ok(())
 }
 
+// The lane of one slot is full. A worker resizes its own blocks, and not another's, whatever that one does meanwhile.
 #[test]
-fn each_posts_to_the_other(rt: HostRuntime) -> Result<(), Fail> {
+fn two_workers_race(rt: HostRuntime) -> Result<(), Fail> {
     let own = [name(0, 0, 1), name(1, 0, 1)];
-    let workers = two_workers(rt.alloc(), 4, &[allocate(0, 8), allocate(1, 8)])?;
     check_race(
         &rt,
         rt.alloc(),
-        workers,
+        (4, &[allocate(0, 8), allocate(1, 8)]),
         &[release(own[1])],
         &[release(own[0])],
         &OpenGate,
@@ -114,18 +115,13 @@ fn each_posts_to_the_other(rt: HostRuntime) -> Result<(), Fail> {
             &[posted(0, own[1]), taken(0, 1, own[0]), last(0, 1)],
             &[posted(1, own[0]), taken(1, 0, own[1]), last(1, 1)],
         ],
-    )
-}
-
-#[test]
-fn lane_of_one_is_full(rt: HostRuntime) -> Result<(), Fail> {
+    )?;
     let blocks = [name(0, 0, 1), name(0, 4, 2)];
-    let workers = two_workers(rt.alloc(), 1, &[allocate(0, 8), allocate(0, 8)])?;
     let full = Reply::Refused(CrewRefusal::Full(blocks[1]));
     check_race(
         &rt,
         rt.alloc(),
-        workers,
+        (1, &[allocate(0, 8), allocate(0, 8)]),
         &[],
         &[release(blocks[0]), release(blocks[1])],
         &OpenGate,
@@ -137,23 +133,16 @@ fn lane_of_one_is_full(rt: HostRuntime) -> Result<(), Fail> {
                 last(1, 0),
             ],
         ],
-    )
-}
-
-// A worker resizes its own blocks, and not another's, whatever that one does meanwhile.
-#[test]
-fn each_resizes_its_own(rt: HostRuntime) -> Result<(), Fail> {
-    let block = name(0, 0, 1);
-    let workers = two_workers(rt.alloc(), 4, &[allocate(0, 8)])?;
+    )?;
     let longer = Call::Resize {
-        target: Target::Named(block),
+        target: Target::Named(own[0]),
         len: 100,
     };
     let foreign = Reply::Refused(CrewRefusal::Heap(Refusal::Foreign));
     check_race(
         &rt,
         rt.alloc(),
-        workers,
+        (4, &[allocate(0, 8)]),
         &[longer],
         &[longer],
         &OpenGate,
@@ -324,12 +313,11 @@ impl Gate for InTurn {
 #[test]
 fn slot_comes_back_while_workers_run(rt: HostRuntime) -> Result<(), Fail> {
     let blocks = [name(0, 0, 1), name(0, 4, 2)];
-    let workers = two_workers(rt.alloc(), 1, &[allocate(0, 8), allocate(0, 8)])?;
     let gate = InTurn::new();
     check_race(
         &rt,
         rt.alloc(),
-        workers,
+        (1, &[allocate(0, 8), allocate(0, 8)]),
         &[Call::Take { from: 1 }],
         &[release(blocks[0]), release(blocks[1])],
         &gate,

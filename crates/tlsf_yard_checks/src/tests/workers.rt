@@ -108,17 +108,24 @@ pub fn heap_refuses(why: Refusal) -> Reply {
 
 pub const STRANGER: Reply = Reply::Refused(CrewRefusal::Stranger);
 
+// A block grows into the free words behind it, up to the next live block, and other workers don't resize it.
 #[test]
 fn calls_of_a_worker(rt: HostRuntime) -> Result<(), Fail> {
+    let bytes = Chunk::new(b"ab").ok_or("up to 64 bytes")?;
+    let read = Chunk::new(b"ab\0").ok_or("up to 64 bytes")?;
     let mut workers = open_yard::<4>(rt.alloc(), 2, 64, 1)?;
     let block = name(0, 0, 1);
-    let bytes = Chunk::new(b"ab").ok_or("up to 64 bytes")?;
-    let read = Chunk::new(b"\0ab").ok_or("up to 64 bytes")?;
     let rows = [
-        (allocate(0, 8), Reply::Made(block)),
-        (write(0, block, 1, bytes), Reply::Wrote(2)),
+        (allocate(0, 2), Reply::Made(block)),
+        (write(0, block, 0, bytes), Reply::Wrote(2)),
+        (write(1, block, 0, bytes), heap_refuses(Refusal::Foreign)),
+        (resize_of(1, block, 3), heap_refuses(Refusal::Foreign)),
+        (resize_of(0, block, 100), Reply::Resized),
         (read_of(0, block, 0, 3), Reply::Got(read)),
-        (write(1, block, 1, bytes), heap_refuses(Refusal::Foreign)),
+        (allocate(0, 8), Reply::Made(name(0, 16, 3))),
+        (resize_of(0, block, 105), heap_refuses(Refusal::NoRoom)),
+        (resize_of(0, block, 1), Reply::Resized),
+        (read_of(0, block, 0, 2), heap_refuses(Refusal::Range)),
         (release_of(1, block), Reply::Posted),
         (
             release_of(1, block),
@@ -126,6 +133,7 @@ fn calls_of_a_worker(rt: HostRuntime) -> Result<(), Fail> {
         ),
         (release_of(1, name(2, 0, 1)), STRANGER),
         (release_of(0, block), Reply::Freed),
+        (resize_of(0, block, 1), heap_refuses(Refusal::Stale)),
         (take(0, 1), took(1, block, Err(Refusal::Stale))),
         (take(0, 1), Reply::Empty),
         (take(0, 0), STRANGER),
@@ -135,7 +143,6 @@ fn calls_of_a_worker(rt: HostRuntime) -> Result<(), Fail> {
     Ok(())
 }
 
-// A block grows into the free words behind it, up to the next live block, and other workers don't resize it.
 /// Doubles each word of a payload, and tells the first.
 pub fn doubled(words: &mut [u64]) -> Option<u64> {
     for i in 0..words.len() {
@@ -144,48 +151,39 @@ pub fn doubled(words: &mut [u64]) -> Option<u64> {
     words.first().copied()
 }
 
-#[test]
-fn payloads_of_a_worker(rt: HostRuntime) -> Result<(), Fail> {
-    let mut workers = open_yard::<4>(rt.alloc(), 2, 64, 1)?;
-    let worker = workers.first_mut().ok_or("two workers")?;
-    let block = worker.allocate(8)?;
-    worker.write(block, 0, b"ab")?;
-    same(
-        worker.alter(block, |words| doubled(words)),
-        Ok(Some(0xc4c2)),
+/// What a worker hands out under a name to be doubled, and then the first word.
+type Handed = (
+    Result<Option<u64>, CrewRefusal>,
+    Result<Option<u64>, CrewRefusal>,
+);
+
+fn handed_out(worker: &mut Worker<4>, block: Name) -> Handed {
+    let altered = worker.alter(block, |words| doubled(words));
+    (
+        altered,
+        worker.inspect(block, |words| words.first().copied()),
     )
-    .expect(&rt, "differ");
-    let found = worker.inspect(block, |words| words.first().copied());
-    same(found, Ok(Some(0xc4c2))).expect(&rt, "differ");
-    let foreign = Err(CrewRefusal::Heap(Refusal::Foreign));
-    let other = name(1, 0, 1);
-    same(worker.alter(other, |words| doubled(words)), foreign).expect(&rt, "altered");
-    let stale = Err(CrewRefusal::Heap(Refusal::Stale));
-    let gone = name(0, 0, 2);
-    same(worker.inspect(gone, |words| words.len()), stale).expect(&rt, "inspected");
-    Ok(())
 }
 
 #[test]
-fn resizes_of_a_worker(rt: HostRuntime) -> Result<(), Fail> {
+fn payloads_of_a_worker(rt: HostRuntime) -> Result<(), Fail> {
+    let bytes = Chunk::new(b"ab").ok_or("up to 64 bytes")?;
     let mut workers = open_yard::<4>(rt.alloc(), 2, 64, 1)?;
     let block = name(0, 0, 1);
-    let bytes = Chunk::new(b"ab").ok_or("up to 64 bytes")?;
-    let read = Chunk::new(b"ab\0").ok_or("up to 64 bytes")?;
     let rows = [
-        (allocate(0, 2), Reply::Made(block)),
+        (allocate(0, 8), Reply::Made(block)),
         (write(0, block, 0, bytes), Reply::Wrote(2)),
-        (resize_of(1, block, 3), heap_refuses(Refusal::Foreign)),
-        (resize_of(0, block, 100), Reply::Resized),
-        (read_of(0, block, 0, 3), Reply::Got(read)),
-        (allocate(0, 8), Reply::Made(name(0, 16, 3))),
-        (resize_of(0, block, 105), heap_refuses(Refusal::NoRoom)),
-        (resize_of(0, block, 1), Reply::Resized),
-        (read_of(0, block, 0, 2), heap_refuses(Refusal::Range)),
-        (release_of(0, block), Reply::Freed),
-        (resize_of(0, block, 1), heap_refuses(Refusal::Stale)),
     ];
     check_calls(&rt, &mut workers, &rows);
+    let worker = workers.first_mut().ok_or("two workers")?;
+    let own = handed_out(worker, block);
+    let other = handed_out(worker, name(1, 0, 1));
+    let gone = handed_out(worker, name(0, 0, 2));
+    let foreign = Err(CrewRefusal::Heap(Refusal::Foreign));
+    let stale = Err(CrewRefusal::Heap(Refusal::Stale));
+    let first = Ok(Some(0xc4c2));
+    let wanted = [(first, first), (foreign, foreign), (stale, stale)];
+    same([own, other, gone], wanted).expect(&rt, "differ");
     Ok(())
 }
 

@@ -1,8 +1,12 @@
 //! Events on a whole yard, one after another.
+ghost use Rattle.tlsf_class.specs.Classes.{IsLevel};
+
 use std::alloc::Global;
 use std::process::Abort;
 use std::test::Fail;
-use tlsf_crew::{Call, Chunk, CrewRefusal, Event, Reply, Target, Took, open_yard, replay_events};
+use tlsf_crew::{
+    Call, Chunk, CrewRefusal, Event, Reply, Target, Took, open_queue_yard, open_yard, replay_events,
+};
 use tlsf_fixtures::{name, same};
 use tlsf_heap::{Name, OpenFault, Refusal};
 
@@ -45,64 +49,84 @@ pub fn took(from: u32, name: Name, answer: Result<(), Refusal>) -> Reply {
     Reply::Took(Took { from, name, answer })
 }
 
-/// The replies of a new yard of two workers, whose heaps have 64 words and whose lanes have one slot, are those that are
-/// wanted.
-fn check_replies(rt: &impl Abort, alloc: Global, rows: &[(Event, Reply)]) -> Result<(), Fail> {
-    let mut workers = open_yard::<4>(alloc, 2, 64, 1)?;
-    let mut events = Vec::new(alloc);
-    for (event, _) in rows {
-        events.push(*event)?;
-    }
-    let entries = replay_events(alloc, &mut workers, &events)?;
-    same(entries.len(), rows.len()).expect(rt, "differ");
-    for (entry, (event, reply)) in entries.iter().zip(rows) {
-        same((*event, entry.reply), (*event, *reply)).expect(rt, "differ");
+/// A new yard of two workers, whose lanes have one slot, replies so to these events: a drain with a line for each post that
+/// it takes, and one behind them.
+fn check_replies<const SLI: u32>(
+    rt: &impl Abort,
+    alloc: Global,
+    words: u32,
+    events: &[Event],
+    wanted: &[Reply],
+) -> Result<(), Fail>
+    requires { IsLevel SLI }
+{
+    let mut workers = open_yard::<SLI>(alloc, 2, words, 1)?;
+    let entries = replay_events(alloc, &mut workers, events)?;
+    same(entries.len(), wanted.len()).expect(rt, "differ");
+    for (i, (entry, reply)) in entries.iter().zip(wanted).enumerate() {
+        same((i, entry.reply), (i, *reply)).expect(rt, "differ");
     }
     Ok(())
 }
 
+const STRANGER: Reply = Reply::Refused(CrewRefusal::Stranger);
+
+const UNMADE: Reply = Reply::Refused(CrewRefusal::Unmade);
+
 #[test]
 fn events_that_a_worker_refuses_change_nothing(rt: HostRuntime) -> Result<(), Fail> {
-    let stranger = Reply::Refused(CrewRefusal::Stranger);
-    let unmade = Reply::Refused(CrewRefusal::Unmade);
     let waits = name(1, 0, 7);
     let given_back = name(1, 0, 8);
-    let rows = [
-        (allocate(2, 8), stranger),
-        (drain(2, 1), stranger),
-        (take(0, 0), stranger),
-        (take(0, 2), stranger),
-        (release(0, Target::Named(name(2, 0, 1))), stranger),
-        (release(0, Target::Made(0)), unmade),
-        (release(0, Target::Made(99)), unmade),
-        (release(0, Target::Absent), unmade),
-        (resize(0, Target::Absent, 8), unmade),
-        (resize(2, Target::Absent, 8), stranger),
-        (release(0, Target::Named(waits)), Reply::Posted),
-        (
-            release(0, Target::Named(given_back)),
-            Reply::Refused(CrewRefusal::Full(given_back)),
-        ),
-        (take(1, 0), took(0, waits, Err(Refusal::Stale))),
-        (take(1, 0), Reply::Empty),
-        (allocate(0, 8), Reply::Made(name(0, 0, 1))),
-        (allocate(1, 8), Reply::Made(name(1, 0, 1))),
+    let events = [
+        allocate(2, 8),
+        drain(2, 1),
+        take(0, 0),
+        take(0, 2),
+        release(0, Target::Named(name(2, 0, 1))),
+        release(0, Target::Made(0)),
+        release(0, Target::Made(99)),
+        release(0, Target::Absent),
+        resize(0, Target::Absent, 8),
+        resize(2, Target::Absent, 8),
+        release(0, Target::Named(waits)),
+        release(0, Target::Named(given_back)),
+        take(1, 0),
+        take(1, 0),
+        allocate(0, 8),
+        allocate(1, 8),
     ];
-    check_replies(&rt, rt.alloc(), &rows)
+    let wanted = [
+        STRANGER,
+        STRANGER,
+        STRANGER,
+        STRANGER,
+        STRANGER,
+        UNMADE,
+        UNMADE,
+        UNMADE,
+        UNMADE,
+        STRANGER,
+        Reply::Posted,
+        Reply::Refused(CrewRefusal::Full(given_back)),
+        took(0, waits, Err(Refusal::Stale)),
+        Reply::Empty,
+        Reply::Made(name(0, 0, 1)),
+        Reply::Made(name(1, 0, 1)),
+    ];
+    check_replies::<4>(&rt, rt.alloc(), 64, &events, &wanted)
 }
 
-// A name that worker 1 made up is posted unread. Where worker 0 drains it, no block has it.
+// A name that worker 1 made up is posted unread. Where worker 0 drains it, no block has it. Then a block of 8 MiB and a word, which
+// no region of level 4 has: its search class begins at 2^20 + 2^15 words.
 #[test]
-fn forged_post_is_stale(rt: HostRuntime) -> Result<(), Fail> {
+fn posts_are_drained(rt: HostRuntime) -> Result<(), Fail> {
     let forged = name(0, 5, 2);
-    let mut workers = open_yard::<4>(rt.alloc(), 2, 64, 4)?;
     let events = [
         allocate(0, 8),
         allocate(0, 100),
         release(1, Target::Named(forged)),
         drain(0, 8),
     ];
-    let entries = replay_events(rt.alloc(), &mut workers, &events)?;
     let wanted = [
         Reply::Made(name(0, 0, 1)),
         Reply::Made(name(0, 4, 2)),
@@ -110,11 +134,21 @@ fn forged_post_is_stale(rt: HostRuntime) -> Result<(), Fail> {
         took(1, forged, Err(Refusal::Stale)),
         Reply::Drained(1),
     ];
-    same(entries.len(), wanted.len()).expect(&rt, "differ");
-    for (entry, reply) in entries.iter().zip(wanted) {
-        same(entry.reply, reply).expect(&rt, "differ");
-    }
-    Ok(())
+    check_replies::<4>(&rt, rt.alloc(), 64, &events, &wanted)?;
+    let block = name(0, 0, 1);
+    let events = [
+        allocate(0, (8 << 20) + 8),
+        release(1, Target::Named(block)),
+        drain(0, 8),
+    ];
+    let wanted = [
+        Reply::Made(block),
+        Reply::Posted,
+        took(1, block, Ok(())),
+        Reply::Drained(1),
+    ];
+    let words = (1 << 20) + (1 << 15);
+    check_replies::<5>(&rt, rt.alloc(), words, &events, &wanted)
 }
 
 #[test]
@@ -128,8 +162,19 @@ fn sizes_out_of_range(rt: HostRuntime) {
         (2, 64, 1025, Some(OpenFault::BadSize)),
         (8, 4, 1024, None),
     ] {
-        let refused = open_yard::<4>(rt.alloc(), n, words, capacity).err();
-        same((n, words, capacity, refused), (n, words, capacity, fault)).expect(&rt, "differ");
+        let lanes = open_yard::<4>(rt.alloc(), n, words, capacity).err();
+        let queues = open_queue_yard::<4>(rt.alloc(), n, words, capacity).err();
+        let refused = (n, words, capacity, lanes, queues);
+        same(refused, (n, words, capacity, fault, fault)).expect(&rt, "differ");
+    }
+    for (words, fault) in [
+        (3, Some(OpenFault::BadSize)),
+        ((1 << 24) + 1, Some(OpenFault::BadSize)),
+        ((1 << 20) + 1, None),
+    ] {
+        let lanes = open_yard::<5>(rt.alloc(), 2, words, 4).err();
+        let queues = open_queue_yard::<5>(rt.alloc(), 2, words, 4).err();
+        same((words, lanes, queues), (words, fault, fault)).expect(&rt, "differ");
     }
 }
 
