@@ -29,7 +29,8 @@ impl<'a, const UNIT: usize> RemoteBlock<'a, UNIT> {
     /// let (ptr, size, block) = block.with_parts();     // of 100 bytes in units of 16: 112
     /// ```
     pub fn with_parts(self) -> (*mut u8, usize, RemoteBlock<'a, UNIT>)
-        ensures { (result.1 ≡ self.entry.parcel.block.piece.size) × (result.2.parcel.block.name ≡ self.entry.parcel.block.name) × (result.2.parcel.block.piece ≡ self.entry.parcel.block.piece) }
+        ensures bytes { (result.0 ≡ self.entry.parcel.block.piece.ptr) × (result.1 ≡ self.entry.parcel.block.piece.size) }
+        ensures same { (result.2.parcel.block.name ≡ self.entry.parcel.block.name) × (result.2.parcel.block.piece ≡ self.entry.parcel.block.piece) }
     {
         let RemoteBlock {
             parcel,
