@@ -4,7 +4,7 @@
 
 use anyhow::Error;
 use std::sync::Wait;
-use std::thread::join;
+use std::thread::{Threads, join};
 use tlsf_heap::{Name, Refusal};
 use tlsf_lock::LockedHeap;
 
@@ -43,17 +43,21 @@ fn pass_all<R: Wait>(rt: &R, heap: &LockedHeap<4>) -> Result<bool, Refusal> {
     Ok(all)
 }
 
-fn main(rt: HostRuntime) -> Result<(), Error> {
-    let heap = LockedHeap::<4>::new(rt.alloc(), 0, 64, 0)?;
-    let (first, second) = join(&rt, || pass_all(&rt, &heap), || pass_all(&rt, &heap));
+/// Has two threads pass on all messages, and says what came of it.
+fn run<R: Print + Threads + Wait + Sync>(rt: &R, heap: &LockedHeap<4>) -> Result<(), Error> {
+    let (first, second) = join(rt, || pass_all(rt, heap), || pass_all(rt, heap));
     let both = first? && second?;
-    let mut guard = heap.lock(&rt);
-    println!(rt; "each message came back: {both}")?;
+    let mut guard = heap.lock(rt);
+    let (grants, returns) = (guard.grants(), guard.returns());
+    let live = guard.report().live_blocks;
+    drop(guard);
     println!(rt;
-        "{} grants, {} returns, {} live blocks",
-        guard.grants(),
-        guard.returns(),
-        guard.report().live_blocks
+        "each message came back: {both}\n{grants} grants, {returns} returns, {live} live blocks"
     )?;
     Ok(())
+}
+
+fn main(rt: HostRuntime) -> Result<(), Error> {
+    let heap = LockedHeap::<4>::new(rt.alloc(), 0, 64, 0)?;
+    run(&rt, &heap)
 }
