@@ -4,7 +4,7 @@
 
 use anyhow::Error;
 use std::sync::Wait;
-use std::thread::{Threads, join};
+use std::thread::join;
 use tlsf_heap::{Name, Refusal};
 use tlsf_lock::LockedHeap;
 
@@ -43,11 +43,11 @@ fn pass_all<R: Wait>(rt: &R, heap: &LockedHeap<4>) -> Result<bool, Refusal> {
     Ok(all)
 }
 
-/// Has two threads pass on all messages, and says what came of it.
-fn run<R: Print + Threads + Wait + Sync>(rt: &R, heap: &LockedHeap<4>) -> Result<(), Error> {
-    let (first, second) = join(rt, || pass_all(rt, heap), || pass_all(rt, heap));
+fn main(rt: HostRuntime) -> Result<(), Error> {
+    let heap = LockedHeap::<4>::new(rt.alloc(), 0, 64, 0)?;
+    let (first, second) = join(&rt, || pass_all(&rt, &heap), || pass_all(&rt, &heap));
     let both = first? && second?;
-    let mut guard = heap.lock(rt);
+    let mut guard = heap.lock(&rt);
     let (grants, returns) = (guard.grants(), guard.returns());
     let live = guard.report().live_blocks;
     drop(guard);
@@ -55,9 +55,4 @@ fn run<R: Print + Threads + Wait + Sync>(rt: &R, heap: &LockedHeap<4>) -> Result
         "each message came back: {both}\n{grants} grants, {returns} returns, {live} live blocks"
     )?;
     Ok(())
-}
-
-fn main(rt: HostRuntime) -> Result<(), Error> {
-    let heap = LockedHeap::<4>::new(rt.alloc(), 0, 64, 0)?;
-    run(&rt, &heap)
 }
