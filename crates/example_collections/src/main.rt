@@ -28,26 +28,28 @@ impl<'a> Echo<'a> {
     }
 }
 
-fn main(rt: HostRuntime) -> Result<(), Error> {
-    let memory = DefaultArena::open(rt.alloc(), 0, UNITS)?;
-    let mut samples: Vec<f32, &DefaultArena> = Vec::with_capacity(&memory, 256)?;
+/// Holds a box, a map, a vector and an echo at once. At the end all of them go back.
+fn play(rt: &impl Print, memory: &DefaultArena) -> Result<(), Error> {
+    let pitch = Box::new(memory, 440u64)?;
+    let mut notes = BTreeMap::new(memory);
+    notes.insert(60u8, *pitch)?;
+    let mut samples: Vec<f32, &DefaultArena> = Vec::with_capacity(memory, 256)?;
     samples.push(0.5)?;
-    let echo = Echo::new(&memory, "hall", 256)?;
-    let mut notes = BTreeMap::new(&memory);
-    notes.insert(60u8, Box::new(&memory, 440u64)?)?;
-    println!(rt; "{} units free", memory.free_units())?;
-    if Echo::new(&memory, "valley", 4096).is_err() {
-        println!(rt; "no room for a valley")?;
-    }
+    let echo = Echo::new(memory, "hall", 256)?;
+    let fits = Echo::new(memory, "valley", 4096).is_ok();
     println!(rt;
-        "{}: {} samples from {}",
+        "{}: {} samples from {}, {} units free\nroom for a valley: {fits}",
         echo.name,
         echo.line.len(),
-        echo.at
+        echo.at,
+        memory.free_units()
     )?;
-    drop(notes);
-    drop(echo);
-    drop(samples);
+    Ok(())
+}
+
+fn main(rt: HostRuntime) -> Result<(), Error> {
+    let memory = DefaultArena::open(rt.alloc(), 0, UNITS)?;
+    play(&rt, &memory)?;
     println!(rt; "{} units free", memory.free_units())?;
     Ok(())
 }

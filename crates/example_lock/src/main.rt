@@ -48,12 +48,11 @@ fn main(rt: HostRuntime) -> Result<(), Error> {
     let (first, second) = join(&rt, || pass_all(&rt, &heap), || pass_all(&rt, &heap));
     let both = first? && second?;
     let mut guard = heap.lock(&rt);
-    println!(rt; "each message came back: {both}")?;
+    let (grants, returns) = (guard.grants(), guard.returns());
+    let live = guard.report().live_blocks;
+    drop(guard);
     println!(rt;
-        "{} grants, {} returns, {} live blocks",
-        guard.grants(),
-        guard.returns(),
-        guard.report().live_blocks
+        "each message came back: {both}\n{grants} grants, {returns} returns, {live} live blocks"
     )?;
     Ok(())
 }

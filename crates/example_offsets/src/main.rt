@@ -3,44 +3,32 @@
 #![tactic(auto)]
 
 use anyhow::Error;
-use tlsf_offsets::{OffsetArena, Span};
+use tlsf_offsets::OffsetArena;
 
 /// The card's memory: 4,096 pages of 64 KiB.
 const PAGE: u32 = 65_536;
 
 const PAGES: u32 = 4_096;
 
-/// A buffer that the card reads: what it is for, and where it lies.
-#[derive(Clone, Copy)]
-struct Buffer {
-    label: &'static str,
-    span: Span,
-}
-
-/// A buffer of at least so many bytes.
-fn create(memory: &mut OffsetArena<4>, label: &'static str, len: u64) -> Result<Buffer, Error> {
-    let span = memory.allocate(len)?;
-    Ok(Buffer { label, span })
-}
-
-fn main(rt: HostRuntime) -> Result<(), Error> {
-    let mut memory = OffsetArena::<4>::open(rt.alloc(), 0, PAGE, PAGES)?;
-    let vertices = create(&mut memory, "vertices", 3_000_000)?;
-    let texture = create(&mut memory, "texture", 16_777_216)?;
-    let mut lights = create(&mut memory, "lights", 4_096)?;
+/// Makes the buffers of a scene, and releases one of them.
+fn run(rt: &impl Print, memory: &mut OffsetArena<4>) -> Result<(), Error> {
+    let vertices = memory.allocate(3_000_000)?;
+    let texture = memory.allocate(16_777_216)?;
+    let small = memory.allocate(4_096)?;
 
     // The scene gets more lights: the buffer grows where it lies.
-    lights.span = memory.resize(lights.span.name, 500_000)?;
-    for buffer in &[vertices, texture, lights] {
-        println!(rt;
-            "{} at {}, {} bytes",
-            buffer.label, buffer.span.offset, buffer.span.size
-        )?;
+    let lights = memory.resize(small.name, 500_000)?;
+    for (label, span) in &[
+        ("vertices", vertices),
+        ("texture", texture),
+        ("lights", lights),
+    ] {
+        println!(rt; "{label} at {}, {} bytes", span.offset, span.size)?;
     }
 
     // A name that was released is stale, whatever lies there by then.
-    memory.release(texture.span.name)?;
-    if let Err(why) = memory.release(texture.span.name) {
+    memory.release(texture.name)?;
+    if let Err(why) = memory.release(texture.name) {
         println!(rt; "texture: {why}")?;
     }
     let usage = memory.usage();
@@ -49,4 +37,9 @@ fn main(rt: HostRuntime) -> Result<(), Error> {
         usage.spans, usage.held, usage.free, usage.largest
     )?;
     Ok(())
+}
+
+fn main(rt: HostRuntime) -> Result<(), Error> {
+    let mut memory = OffsetArena::<4>::open(rt.alloc(), 0, PAGE, PAGES)?;
+    run(&rt, &mut memory)
 }

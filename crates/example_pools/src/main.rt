@@ -34,12 +34,11 @@ fn take_in(pool: &mut TablePool<4>, len: u32) -> Result<Name, Error> {
     Ok(block)
 }
 
-fn main(rt: HostRuntime) -> Result<(), Error> {
-    let mut pool = TablePool::<4>::open(rt.alloc(), 0, &TABLE, 0)?;
-    let mut queue: Vec<Name> = Vec::new(rt.alloc());
+/// Serves the events in turn, and says which message is refused and why.
+fn serve(rt: &impl Print, pool: &mut TablePool<4>, queue: &mut Vec<Name>) -> Result<(), Error> {
     for event in &EVENTS {
         match *event {
-            Event::In(len) => match take_in(&mut pool, len) {
+            Event::In(len) => match take_in(pool, len) {
                 Ok(block) => queue.push(block)?,
                 Err(why) => println!(rt; "{len} bytes: {why}")?,
             },
@@ -50,7 +49,12 @@ fn main(rt: HostRuntime) -> Result<(), Error> {
             }
         }
     }
-    let (short, long) = (pool.held(0), pool.held(1));
-    println!(rt; "{short} short and {long} long wait")?;
+    println!(rt; "{} short and {} long wait", pool.held(0), pool.held(1))?;
     Ok(())
+}
+
+fn main(rt: HostRuntime) -> Result<(), Error> {
+    let mut pool = TablePool::<4>::open(rt.alloc(), 0, &TABLE, 0)?;
+    let mut queue: Vec<Name> = Vec::new(rt.alloc());
+    serve(&rt, &mut pool, &mut queue)
 }

@@ -35,19 +35,23 @@ fn is_home(owner: &mut OwnerEnd<Table>, places: &Places<Table>, at: usize) -> bo
 
 fn main(rt: HostRuntime) -> Result<(), Error> {
     let (places, mut owner) = open_places(rt.alloc(), 2)?;
-    let (low, first) = owner.send_out(&places, 0, vec![in rt.alloc(); 1, 2, 3]?);
-    let (high, second) = owner.send_out(&places, 1, vec![in rt.alloc(); 400, 500]?);
+    let small = vec![in rt.alloc(); 1, 2, 3]?;
+    let large = vec![in rt.alloc(); 400, 500]?;
+    let (low, first) = owner.send_out(&places, 0, small);
+    let (high, second) = owner.send_out(&places, 1, large);
     let early = is_home(&mut owner, &places, 0);
-    println!(rt; "the first is home before the workers ran: {early}")?;
     let shared = &places;
     let (one, two) = join(
         &rt,
         move || sum_up(shared, low, first),
         move || sum_up(shared, high, second),
     );
-    println!(rt; "the sums are {one} and {two}")?;
     let first_home = is_home(&mut owner, &places, 0);
     let second_home = is_home(&mut owner, &places, 1);
-    println!(rt; "the first is home: {first_home}, the second: {second_home}")?;
+    println!(rt;
+        "the first is home before the workers ran: {early}\n\
+         the sums are {one} and {two}\n\
+         the first is home: {first_home}, the second: {second_home}"
+    )?;
     Ok(())
 }

@@ -11,20 +11,15 @@ const VOICES: u32 = 3;
 
 const VOICE_BYTES: u32 = 48;
 
-/// What a keyboard sends: a note is struck so hard, or let go.
-enum Key {
-    On(u8, u8),
-    Off(u8),
-}
-
-const SCORE: [Key; 7] = [
-    Key::On(60, 90),
-    Key::On(64, 80),
-    Key::On(67, 85),
-    Key::On(72, 99),
-    Key::Off(64),
-    Key::Off(64),
-    Key::On(48, 70),
+/// What a keyboard sends: a note and how hard it is struck. With no force the note is let go, as in MIDI.
+const SCORE: [[u8; 2]; 7] = [
+    [60, 90],
+    [64, 80],
+    [67, 85],
+    [72, 99],
+    [64, 0],
+    [64, 0],
+    [48, 70],
 ];
 
 /// A voice that sounds: its note, and the name of its block.
@@ -41,32 +36,44 @@ fn start(pool: &mut Pool<4>, note: u8, force: u8) -> Result<Voice, Error> {
     Ok(Voice { note, block })
 }
 
-fn main(rt: HostRuntime) -> Result<(), Error> {
-    let mut pool = Pool::<4>::open(rt.alloc(), 0, VOICES, VOICE_BYTES, 0)?;
-    let mut voices: Vec<Voice> = Vec::new(rt.alloc());
-    for key in &SCORE {
-        match *key {
-            Key::On(note, force) => match start(&mut pool, note, force) {
-                Ok(voice) => voices.push(voice)?,
-                Err(why) => println!(rt; "{note} does not sound: {why}")?,
-            },
-            Key::Off(note) => match voices.iter().position(|voice| voice.note == note) {
-                Some(at) => pool.release(voices.remove(at).block)?,
-                None => println!(rt; "{note} sounds no more")?,
-            },
+/// Lets a note go. Answers whether it sounded.
+fn stop(pool: &mut Pool<4>, voices: &mut Vec<Voice>, note: u8) -> Result<bool, Error> {
+    for at in 0..voices.len() {
+        if voices[at].note == note {
+            pool.release(voices.remove(at).block)?;
+            return Ok(true);
         }
     }
-    for voice in &voices {
+    Ok(false)
+}
+
+/// Plays the score, says which key changes nothing, and prints what sounds at the end, as the pool's blocks have it.
+fn play(rt: &impl Print, pool: &mut Pool<4>, voices: &mut Vec<Voice>) -> Result<(), Error> {
+    for key in &SCORE {
+        let [note, force] = *key;
+        if force > 0 {
+            match start(pool, note, force) {
+                Ok(voice) => voices.push(voice)?,
+                Err(why) => println!(rt; "{note} does not sound: {why}")?,
+            }
+        } else if !stop(pool, voices, note)? {
+            println!(rt; "{note} sounds no more")?;
+        }
+    }
+    for voice in &*voices {
         let mut state = [0; 2];
         pool.read(voice.block, 0, &mut state)?;
         let [note, force] = state;
         println!(rt; "{note} sounds, force {force}, at word {}", voice.block.at)?;
     }
     let report = pool.report();
-    let sounding = report.live_blocks;
-    println!(rt;
-        "{sounding} of {VOICES} voices, {} words free",
-        report.free_words
-    )?;
+    let (sounding, free) = (report.live_blocks, report.free_words);
+    println!(rt; "{sounding} of {VOICES} voices, {free} words free")?;
     Ok(())
+}
+
+fn main(rt: HostRuntime) -> Result<(), Error> {
+    let mut pool = Pool::<4>::open(rt.alloc(), 0, VOICES, VOICE_BYTES, 0)?;
+    let mut voices: Vec<Voice> = Vec::new(rt.alloc());
+    play(&rt, &mut pool, &mut voices)
 }

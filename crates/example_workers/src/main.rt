@@ -6,7 +6,7 @@
 //! part of something that both threads reach in other ways, as a device's memory, a file or a shared buffer.
 #![tactic(auto)]
 
-use anyhow::{Error, bail};
+use anyhow::Error;
 use rtrb::{Consumer, Producer, RingBuffer};
 use std::sync::Wait;
 use std::thread::{join, yield_now};
@@ -16,8 +16,8 @@ use tlsf_heap::Name;
 /// How many frames are made.
 const FRAMES: u32 = 500;
 
-/// Makes all frames, and ends once their blocks came back.
-fn make<R: Wait>(rt: &R, mut worker: Worker<4>, mut ring: Producer<Name>) -> Worker<4> {
+/// Makes all frames, and ends once their blocks came back. Answers how many words of its heap are free then.
+fn make<R: Wait>(rt: &R, mut worker: Worker<4>, mut ring: Producer<Name>) -> u32 {
     let mut made = 0;
     let mut back = 0;
     for _ in rt.forever() {
@@ -36,7 +36,7 @@ fn make<R: Wait>(rt: &R, mut worker: Worker<4>, mut ring: Producer<Name>) -> Wor
         }
         yield_now();
     }
-    worker
+    worker.report().free_words
 }
 
 /// Shows all frames, and gives each back. Answers how many.
@@ -67,13 +67,11 @@ fn give_back<R: Wait>(rt: &R, worker: &mut Worker<4>, name: Name) {
 
 fn main(rt: HostRuntime) -> Result<(), Error> {
     let rt = &rt;
-    let mut workers = open_yard::<4>(rt.alloc(), 2, 1024, 8)?;
-    let (Some(two), Some(one)) = (workers.pop(), workers.pop()) else {
-        bail!("a yard of two has two workers");
-    };
     let (to, from) = RingBuffer::new(rt.alloc(), 4)?;
-    let (mut one, shown) = join(rt, move || make(rt, one, to), move || show(rt, two, from));
-    let free = one.report().free_words;
-    println!(rt; "{shown} frames shown, {free} words free")?;
+    let mut workers = open_yard::<4>(rt.alloc(), 2, 1024, 8)?;
+    if let (Some(two), Some(one)) = (workers.pop(), workers.pop()) {
+        let (free, shown) = join(rt, move || make(rt, one, to), move || show(rt, two, from));
+        println!(rt; "{shown} frames shown, {free} words free")?;
+    }
     Ok(())
 }
