@@ -21,7 +21,6 @@ pub enum Ask {
     BlockAt(u32),
     Tick,
     Report,
-    Grant,
 }
 
 /// What a heap or a pool replies.
@@ -36,9 +35,8 @@ pub enum Reply {
     Block(PlacedBlock),
     NoBlock,
     Tick(u64),
-    /// The free words, the size of the largest free block, and the fragmentation in thousandths.
-    Report(u32, u32, u32),
-    Grant(u32),
+    /// The free words, the size of the largest free block, the fragmentation in thousandths, and the grant.
+    Report([u32; 4]),
 }
 
 /// A live block with that serial, and its size and length.
@@ -111,9 +109,13 @@ pub fn answer<const SLI: u32>(heap: &mut Heap<SLI>, ask: Ask) -> Reply {
         Ask::Tick => Reply::Tick(heap.tick()),
         Ask::Report => {
             let report = heap.report();
-            Reply::Report(report.free_words, report.largest, report.fragmentation)
+            Reply::Report([
+                report.free_words,
+                report.largest,
+                report.fragmentation,
+                report.grant,
+            ])
         }
-        Ask::Grant => Reply::Grant(heap.report().grant),
     }
 }
 

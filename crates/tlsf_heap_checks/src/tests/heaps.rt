@@ -138,7 +138,8 @@ fn open_refuses_in_order(rt: HostRuntime) {
     }
 }
 
-// A thousand times the greatest block is past 32 bits.
+// A thousand times the greatest block is past 32 bits. The class of its size begins with 2^23 words, so the grant is
+// 8 * (2^23 - 3).
 #[test]
 fn report_on_the_greatest_region(rt: HostRuntime) {
     let half = name(0, 0, 1);
@@ -146,7 +147,10 @@ fn report_on_the_greatest_region(rt: HostRuntime) {
         (Ask::Allocate(1 << 26), Reply::Made(half)),
         (Ask::Allocate(8), Reply::Made(name(0, 8_388_611, 2))),
         (Ask::Release(half), Reply::Done),
-        (Ask::Report, Reply::Report(16_777_212, 8_388_611, 500)),
+        (
+            Ask::Report,
+            Reply::Report([16_777_212, 8_388_611, 500, 67_108_840]),
+        ),
     ];
     check_heap::<5>(&rt, rt.alloc(), 1 << 24, 0, &rows);
 }

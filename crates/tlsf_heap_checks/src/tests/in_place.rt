@@ -50,7 +50,7 @@ fn check_handed_out(rt: &impl Abort, heap: &mut Heap<4>) {
     }
 }
 
-/// What was written at both ends of a block of 13 bytes at first, and then one byte more. No tick and no length changed.
+/// What was written at both ends of a block of 13 bytes, and then one byte more. No tick and no length changed.
 fn check_bytes(rt: &impl Abort, heap: &mut Heap<4>, block: Name) {
     let mut out = [0xee; 13];
     let read = heap.read(block, 0, &mut out);

@@ -118,12 +118,12 @@ fn blocks_of_level_5(rt: HostRuntime) {
     ];
     check_heap::<5>(&rt, rt.alloc(), 1 << 21, 0, &large);
     let coarse = [
-        (Ask::Grant, Reply::Grant(472)),
+        (Ask::Report, Reply::Report([63, 63, 0, 472])),
         (Ask::Allocate(480), NO_FIT),
     ];
     check_heap::<4>(&rt, rt.alloc(), 63, 0, &coarse);
     let fine = [
-        (Ask::Grant, Reply::Grant(480)),
+        (Ask::Report, Reply::Report([63, 63, 0, 480])),
         (Ask::Allocate(480), Reply::Made(block)),
     ];
     check_heap::<5>(&rt, rt.alloc(), 63, 0, &fine);
