@@ -1,79 +1,84 @@
-ghost use Rattle.std.specs.Prelude.{◌≡◌, ◌<◌};
+ghost use Rattle.std.specs.Prelude.{◌≡◌, ◌+◌, ◌*◌, ◌<◌};
 ghost use Rattle.tlsf_arena.specs.Places.{piece_size};
 
 use std::mem::ManuallyDrop;
-use std::test::Fail;
 use tlsf_arena::{Arena, Block, Piece};
 use tlsf_heap::{Name, Refusal};
 
+// The second block comes back by its address alone, once with a guess of its place, and once with none that is near.
 #[test]
-fn blocks_go_out_and_come_back(rt: HostRuntime) -> Result<(), Fail> {
+fn blocks_go_out_and_come_back(rt: HostRuntime) {
     let mut arena = Arena::<4, 16>::open(rt.alloc(), 7, 64).expect(&rt, "open");
-    assert_eq!(rt; arena.report().free_words, 64);
-    let a = arena.allocate(100).expect(&rt, "a");
-    let b = arena.allocate(1).expect(&rt, "b");
-    assert_eq!(rt;
-        (a.name.at, b.name.at, arena.report().free_words),
-        (0, 7, 53)
-    );
-    assert_eq!(rt; arena.free_units(), 53);
-    assert!(rt; is_back(&mut arena, a));
-    assert!(rt; is_back(&mut arena, b));
-    assert_eq!(rt; arena.free_units(), 64);
-    Ok(())
+    let first = arena.allocate(100).expect(&rt, "100 bytes");
+    let Block { name, piece } = arena.allocate(1).expect(&rt, "a byte");
+    let places = (first.name.at, name.at, arena.free_units());
+    let by_guess = is_home(&mut arena, piece, (0, name.at));
+    let Block { name: _, piece } = arena.allocate(1).expect(&rt, "a byte again");
+    let by_address = is_home(&mut arena, piece, (1, 63));
+    let back = is_back(&mut arena, first);
+    let found = (places, by_guess, by_address, back, arena.free_units());
+    assert_eq!(rt; found, ((0, 7, 53), true, true, true, 64));
+}
+
+/// Whether a block was resized to each of three lengths, and the free words behind each.
+fn resized_thrice(arena: &mut Arena<4, 32>, block: Block<32>) -> (Block<32>, [(bool, u32); 3])
+    requires { block.piece.region ≡ arena.old.region }
+    ensures { (result.0.piece.region ≡ arena.new.region) × (arena.new.region ≡ arena.old.region) }
+{
+    let (block, is_grown) = resized(arena, block, 1000);
+    let grown = (is_grown, arena.report().free_words);
+    let (block, is_fit) = resized(arena, block, 2049);
+    let fit = (is_fit, arena.report().free_words);
+    let (block, is_shrunk) = resized(arena, block, 1);
+    (block, [grown, fit, (is_shrunk, arena.report().free_words)])
 }
 
 #[test]
-fn a_block_is_resized_where_it_stands(rt: HostRuntime) -> Result<(), Fail> {
+fn a_block_is_resized_where_it_stands(rt: HostRuntime) {
     let mut arena = Arena::<4, 32>::open(rt.alloc(), 7, 64).expect(&rt, "open");
     let block = arena.allocate(100).expect(&rt, "100 bytes");
     let name = block.name;
-    let (block, grown) = resized(&mut arena, block, 1000);
-    assert_eq!(rt; (grown, arena.report().free_words), (true, 32));
-    let (block, fits) = resized(&mut arena, block, 2049);
-    assert_eq!(rt; (fits, arena.report().free_words), (false, 32));
-    let (block, shrunk) = resized(&mut arena, block, 1);
-    assert_eq!(rt; (shrunk, arena.report().free_words), (true, 60));
-    assert_eq!(rt; block.name, name);
-    assert!(rt; is_back(&mut arena, block));
+    let (block, told) = resized_thrice(&mut arena, block);
+    let found = (block.name, told, is_back(&mut arena, block));
+    assert_eq!(rt; found, (name, [(true, 32), (false, 32), (true, 60)], true));
     assert_eq!(rt; arena.report().free_words, 64);
-    Ok(())
+}
+
+/// Whether the tail of a block of 100 bytes, and of 96 more, came back.
+fn is_trimmed(arena: &mut Arena<4, 16>, name: Name, tail: Piece) -> bool
+    requires region { tail.region ≡ arena.old.region }
+    requires place { tail.at ≡ tail.region.start + 16 * name.at + piece_size 16 100 }
+    ensures { arena.new.region ≡ arena.old.region }
+{
+    match arena.trim(name, tail, 100) {
+        Ok(()) => true,
+        Err((_, back)) => {
+            let _lost = unsafe { ManuallyDrop::new_unchecked(back) };
+            false
+        }
+    }
 }
 
 #[test]
-fn units_behind_a_block_are_lent_and_come_back(rt: HostRuntime) -> Result<(), Fail> {
+fn units_behind_a_block_are_lent_and_come_back(rt: HostRuntime) {
     let mut arena = Arena::<4, 16>::open(rt.alloc(), 7, 64).expect(&rt, "open");
     let block = arena.allocate(100).expect(&rt, "100 bytes");
     let name = block.name;
     let rest = arena.extend(name, 112, 200).expect(&rt, "100 more");
-    assert_eq!(rt; arena.report().free_words, 51);
-    assert_eq!(rt; why_not(&mut arena, name, 112, 300), Some(Refusal::Stale));
-    assert_eq!(rt; why_not(&mut arena, name, 208, 2000), Some(Refusal::NoRoom));
+    let lent = (
+        arena.free_units(),
+        why_not(&mut arena, name, 112, 300),
+        why_not(&mut arena, name, 208, 2000),
+    );
     let (size, rest) = rest.with_size();
-    assert_eq!(rt; size, 96);
-    let (left, trimmed) = match arena.trim(name, rest, 100) {
-        Ok(()) => (None, true),
-        Err((_, rest)) => (Some(rest), false),
-    };
-    let _none = unsafe { ManuallyDrop::new_unchecked(left) };
-    assert!(rt; trimmed);
-    assert_eq!(rt; arena.report().free_words, 57);
-    assert!(rt; is_back(&mut arena, block));
-    assert_eq!(rt; arena.report().free_words, 64);
-    Ok(())
-}
-
-#[test]
-fn a_piece_comes_back_by_its_address(rt: HostRuntime) -> Result<(), Fail> {
-    let mut arena = Arena::<4, 16>::open(rt.alloc(), 7, 64).expect(&rt, "open");
-    let first = arena.allocate(100).expect(&rt, "100 bytes");
-    let Block { name, piece } = arena.allocate(1).expect(&rt, "a byte");
-    assert!(rt; is_home(&mut arena, piece, (0, name.at)));
-    let Block { name: _, piece } = arena.allocate(1).expect(&rt, "a byte again");
-    assert!(rt; is_home(&mut arena, piece, (1, 63)));
-    assert!(rt; is_back(&mut arena, first));
-    assert_eq!(rt; arena.report().free_words, 64);
-    Ok(())
+    let trim = is_trimmed(&mut arena, name, rest);
+    let trimmed = (size, trim, arena.free_units());
+    let back = (is_back(&mut arena, block), arena.free_units());
+    let refused = (51, Some(Refusal::Stale), Some(Refusal::NoRoom));
+    assert_eq!(rt;
+        (lent, trimmed, back),
+        (refused, (96, true, 57), (true, 64))
+    );
 }
 
 fn is_home(arena: &mut Arena<4, 16>, piece: Piece, guesses: (u32, u32)) -> bool

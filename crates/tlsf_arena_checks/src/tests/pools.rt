@@ -1,60 +1,76 @@
 ghost use Rattle.std.specs.Prelude.{◌≡◌};
 
 use std::mem::ManuallyDrop;
-use std::test::Fail;
 use tlsf_arena::Block;
 use tlsf_pool_arena::{PoolArena, PoolRefusal, pool_units};
 
 #[test]
-fn as_many_blocks_as_may_be_are_given(rt: HostRuntime) -> Result<(), Fail> {
+fn as_many_blocks_as_may_be_are_given(rt: HostRuntime) {
     let mut arena = PoolArena::<4, 16>::open(rt.alloc(), 7, 2, 100).expect(&rt, "open");
-    assert_eq!(rt; why(&mut arena, 101), Some(PoolRefusal::TooLong));
+    let too_long = why(&mut arena, 101);
     let a = arena.allocate(100).expect(&rt, "a");
     let b = arena.allocate(1).expect(&rt, "b");
-    assert_eq!(rt;
-        (arena.held(), why(&mut arena, 1)),
-        (2, Some(PoolRefusal::Full))
-    );
-    assert!(rt; is_back(&mut arena, a));
+    let full = (arena.held(), why(&mut arena, 1), is_back(&mut arena, a));
     let again = arena.allocate(100).expect(&rt, "again");
-    assert!(rt; is_back(&mut arena, again));
-    assert!(rt; is_back(&mut arena, b));
-    assert_eq!(rt; arena.held(), 0);
-    Ok(())
+    let back = (
+        is_back(&mut arena, again),
+        is_back(&mut arena, b),
+        arena.held(),
+    );
+    let refused = (2, Some(PoolRefusal::Full), true);
+    let wanted = (Some(PoolRefusal::TooLong), refused, (true, true, 0));
+    assert_eq!(rt; (too_long, full, back), wanted);
 }
 
 #[test]
-fn an_arena_of_a_pool_has_so_many_units(rt: HostRuntime) -> Result<(), Fail> {
-    assert_eq!(rt; pool_units::<4, 16>(100, 512), Some(6566));
-    assert_eq!(rt; pool_units::<4, 64>(3, 4096), Some(324));
-    assert_eq!(rt; pool_units::<4, 16>(0, 0), Some(4));
-    assert_eq!(rt; pool_units::<4, 16>(100_000, 512), None);
-    assert_eq!(rt; pool_units::<4, 16>(1, u32::MAX), None);
-    Ok(())
+fn an_arena_of_a_pool_has_so_many_units(rt: HostRuntime) {
+    let found = [
+        pool_units::<4, 16>(100, 512),
+        pool_units::<4, 64>(3, 4096),
+        pool_units::<4, 16>(0, 0),
+        pool_units::<4, 16>(100_000, 512),
+        pool_units::<4, 16>(1, u32::MAX),
+    ];
+    assert_eq!(rt; found, [Some(6566), Some(324), Some(4), None, None]);
+}
+
+/// What a block of 100 bytes does in an arena where none stands behind it: whether it grew to 200 bytes, and its words;
+/// whether it grew to 201, and how many blocks are held; and whether it shrank to 100.
+type Resized = ((bool, u32), (bool, u32), bool);
+
+fn resized_thrice(arena: &mut PoolArena<4, 16>, block: Block<16>) -> (Block<16>, Resized)
+    requires { block.piece.region ≡ arena.old.region }
+    ensures { (result.0.piece.region ≡ arena.new.region) × (arena.new.region ≡ arena.old.region) }
+{
+    let (block, is_grown) = resized(arena, block, 200);
+    let grown = (is_grown, arena.report().live_words);
+    let (block, is_above) = resized(arena, block, 201);
+    let above = (is_above, arena.held());
+    let (block, is_shrunk) = resized(arena, block, 100);
+    (block, (grown, above, is_shrunk))
 }
 
 #[test]
-fn a_block_grows_where_it_stands_or_moves(rt: HostRuntime) -> Result<(), Fail> {
+fn a_block_grows_where_it_stands_or_moves(rt: HostRuntime) {
     let mut arena = PoolArena::<4, 16>::open(rt.alloc(), 7, 2, 200).expect(&rt, "open");
     let units = arena.free_units();
     let block = arena.allocate(100).expect(&rt, "100 bytes");
-    assert_eq!(rt; (arena.tick(), arena.free_units()), (2, units - 7));
-    let (block, grown) = resized(&mut arena, block, 200);
-    assert_eq!(rt; (grown, arena.report().live_words), (true, 13));
-    let (block, above) = resized(&mut arena, block, 201);
-    assert_eq!(rt; (above, arena.held()), (false, 1));
-    let (block, shrunk) = resized(&mut arena, block, 100);
+    let given = (arena.tick(), arena.free_units());
+    let (block, told) = resized_thrice(&mut arena, block);
     let behind = arena.allocate(100).expect(&rt, "a block behind");
-    assert_eq!(rt; (shrunk, behind.name.at), (true, 7));
+    let place = behind.name.at;
     let (block, fits) = resized(&mut arena, block, 200);
-    assert!(rt; !fits);
-    assert!(rt; is_back(&mut arena, behind));
+    let is_gone = is_back(&mut arena, behind);
     let second = arena.allocate(200).expect(&rt, "where it moves");
-    assert!(rt; is_back(&mut arena, block));
-    assert!(rt; is_back(&mut arena, second));
-    assert_eq!(rt; arena.block_at(0).map(|free| free.size), Some(units));
-    assert_eq!(rt; (arena.held(), arena.free_units()), (0, units));
-    Ok(())
+    let back = (is_back(&mut arena, block), is_back(&mut arena, second));
+    let resizes = (told, place, fits, is_gone, back);
+    let wanted = (((true, 13), (false, 1), true), 7, false, true, (true, true));
+    assert_eq!(rt; (given, resizes), ((2, units - 7), wanted));
+    let free = arena.block_at(0).map(|free| free.size);
+    assert_eq!(rt;
+        (free, arena.held(), arena.free_units()),
+        (Some(units), 0, units)
+    );
 }
 
 fn resized(arena: &mut PoolArena<4, 16>, block: Block<16>, len: u32) -> (Block<16>, bool)

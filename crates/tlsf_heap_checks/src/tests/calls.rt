@@ -4,7 +4,7 @@ ghost use Rattle.tlsf_class.specs.Classes.{IsLevel};
 use std::alloc::Global;
 use std::process::Abort;
 use tlsf_fixtures::same;
-use tlsf_heap::{Content, Heap, Name, OpenFault, PlacedBlock, Refusal};
+use tlsf_heap::{Content, Heap, Name, PlacedBlock, Refusal};
 use tlsf_pool::PoolRefusal;
 
 /// What a heap is asked for.
@@ -21,7 +21,6 @@ pub enum Ask {
     BlockAt(u32),
     Tick,
     Report,
-    Grant,
 }
 
 /// What a heap or a pool replies.
@@ -36,9 +35,8 @@ pub enum Reply {
     Block(PlacedBlock),
     NoBlock,
     Tick(u64),
-    /// The free words, the size of the largest free block, and the fragmentation in thousandths.
-    Report(u32, u32, u32),
-    Grant(u32),
+    /// The free words, the size of the largest free block, the fragmentation in thousandths, and the grant.
+    Report([u32; 4]),
 }
 
 /// A live block with that serial, and its size and length.
@@ -104,13 +102,20 @@ pub fn answer<const SLI: u32>(heap: &mut Heap<SLI>, ask: Ask) -> Reply {
             let answer = heap.read(name, at, &mut out[..n.min(16)]);
             bytes(answer, out)
         }
-        Ask::BlockAt(at) => heap.block_at(at).map_or(Reply::NoBlock, Reply::Block),
+        Ask::BlockAt(at) => match heap.block_at(at) {
+            Some(block) => Reply::Block(block),
+            None => Reply::NoBlock,
+        },
         Ask::Tick => Reply::Tick(heap.tick()),
         Ask::Report => {
             let report = heap.report();
-            Reply::Report(report.free_words, report.largest, report.fragmentation)
+            Reply::Report([
+                report.free_words,
+                report.largest,
+                report.fragmentation,
+                report.grant,
+            ])
         }
-        Ask::Grant => Reply::Grant(heap.report().grant),
     }
 }
 
@@ -121,12 +126,11 @@ pub fn check_heap<const SLI: u32>(
     words: u32,
     first: u64,
     rows: &[(Ask, Reply)],
-) -> Result<(), OpenFault>
+)
     requires { IsLevel SLI }
 {
-    let mut heap = Heap::<SLI>::open(alloc, 0, words, first)?;
+    let mut heap = Heap::<SLI>::open(alloc, 0, words, first).expect(rt, "open");
     for (i, (ask, wanted)) in rows.iter().enumerate() {
         same((i, answer(&mut heap, *ask)), (i, *wanted)).expect(rt, "differ");
     }
-    Ok(())
 }

@@ -2,7 +2,7 @@ ghost use Rattle.std.specs.Prelude.{◌≤◌};
 ghost use Rattle.tlsf_class.specs.Classes.{IsLevel, most_words};
 
 use std::process::Abort;
-use tlsf_class::{Bitmaps, class_of, low, most_words, search_of};
+use tlsf_class::{Bitmaps, Class, class_of, low, most_words, search_of};
 use tlsf_fixtures::same;
 
 /// Sizes, each with the number of its class, the least size of that, the number of the search class and the least size of that.
@@ -65,90 +65,91 @@ fn classes_of_sizes(rt: HostRuntime) {
 enum Step {
     Set,
     Clear,
-    /// The number of the least member at or above it is this, 0 where there is none.
-    Next(u32),
-    /// It is a member or not.
-    Holds(bool),
+    /// Asks for the least member at or above it.
+    Next,
+    /// Asks whether it is a member.
+    Holds,
+}
+
+/// The number of the member that is found, and 1 for a class that is one. Else 0.
+fn step_found<const SLI: u32>(bitmaps: &mut Bitmaps<SLI>, class: Class<SLI>, step: Step) -> u32 {
+    match step {
+        Step::Set => bitmaps.set(class),
+        Step::Clear => bitmaps.clear(class),
+        Step::Next => match bitmaps.next_from(class) {
+            Some(member) => return member.number(),
+            None => {}
+        },
+        Step::Holds => return u32::from(bitmaps.holds(class)),
+    }
+    0
 }
 
 /// New bitmaps of a level answer each step so.
-fn check_steps<const SLI: u32>(rt: &impl Abort, rows: &[(u32, Step)])
+fn check_steps<const SLI: u32>(rt: &impl Abort, rows: &[(u32, Step, u32)])
     requires { IsLevel SLI }
 {
     let mut bitmaps = Bitmaps::<SLI>::new();
-    for (words, step) in rows {
+    for (words, step, wanted) in rows {
         assert!(rt; 4 <= *words && *words <= most_words::<SLI>());
-        let class = class_of::<SLI>(*words);
-        match *step {
-            Step::Set => bitmaps.set(class),
-            Step::Clear => bitmaps.clear(class),
-            Step::Next(wanted) => {
-                let found = match bitmaps.next_from(class) {
-                    Some(member) => member.number(),
-                    None => 0,
-                };
-                same((*words, found), (*words, wanted)).expect(rt, "differ");
-            }
-            Step::Holds(wanted) => {
-                same((*words, bitmaps.holds(class)), (*words, wanted)).expect(rt, "differ")
-            }
-        }
+        let found = step_found(&mut bitmaps, class_of::<SLI>(*words), *step);
+        same((*words, found), (*words, *wanted)).expect(rt, "differ");
     }
 }
 
 #[test]
 fn next_members_across_first_levels(rt: HostRuntime) {
     let rows = [
-        (4, Step::Next(0)),
-        (1048576, Step::Next(0)),
-        (4, Step::Set),
-        (20, Step::Set),
-        (21, Step::Set),
-        (63, Step::Set),
-        (1048576, Step::Set),
-        (4, Step::Next(4)),
-        (5, Step::Next(20)),
-        (20, Step::Next(20)),
-        (21, Step::Next(21)),
-        (22, Step::Next(47)),
-        (63, Step::Next(47)),
-        (64, Step::Next(272)),
-        (1048576, Step::Next(272)),
-        (20, Step::Clear),
-        (5, Step::Next(21)),
-        (20, Step::Next(21)),
-        (21, Step::Clear),
-        (1048576, Step::Clear),
-        (4, Step::Next(4)),
-        (5, Step::Next(47)),
-        (22, Step::Next(47)),
-        (64, Step::Next(0)),
-        (1048576, Step::Next(0)),
-        (63, Step::Holds(true)),
-        (21, Step::Holds(false)),
+        (4, Step::Next, 0),
+        (1048576, Step::Next, 0),
+        (4, Step::Set, 0),
+        (20, Step::Set, 0),
+        (21, Step::Set, 0),
+        (63, Step::Set, 0),
+        (1048576, Step::Set, 0),
+        (4, Step::Next, 4),
+        (5, Step::Next, 20),
+        (20, Step::Next, 20),
+        (21, Step::Next, 21),
+        (22, Step::Next, 47),
+        (63, Step::Next, 47),
+        (64, Step::Next, 272),
+        (1048576, Step::Next, 272),
+        (20, Step::Clear, 0),
+        (5, Step::Next, 21),
+        (20, Step::Next, 21),
+        (21, Step::Clear, 0),
+        (1048576, Step::Clear, 0),
+        (4, Step::Next, 4),
+        (5, Step::Next, 47),
+        (22, Step::Next, 47),
+        (64, Step::Next, 0),
+        (1048576, Step::Next, 0),
+        (63, Step::Holds, 1),
+        (21, Step::Holds, 0),
     ];
     check_steps::<4>(&rt, &rows);
     let fine_rows = [
-        (4, Step::Next(0)),
-        (16777216, Step::Next(0)),
-        (4, Step::Set),
-        (31, Step::Set),
-        (65, Step::Set),
-        (16777216, Step::Set),
-        (4, Step::Next(4)),
-        (5, Step::Next(31)),
-        (31, Step::Next(31)),
-        (32, Step::Next(64)),
-        (65, Step::Next(64)),
-        (66, Step::Next(640)),
-        (1048576, Step::Next(640)),
-        (16777216, Step::Next(640)),
-        (31, Step::Clear),
-        (16777216, Step::Clear),
-        (5, Step::Next(64)),
-        (65, Step::Next(64)),
-        (66, Step::Next(0)),
-        (16777216, Step::Next(0)),
+        (4, Step::Next, 0),
+        (16777216, Step::Next, 0),
+        (4, Step::Set, 0),
+        (31, Step::Set, 0),
+        (65, Step::Set, 0),
+        (16777216, Step::Set, 0),
+        (4, Step::Next, 4),
+        (5, Step::Next, 31),
+        (31, Step::Next, 31),
+        (32, Step::Next, 64),
+        (65, Step::Next, 64),
+        (66, Step::Next, 640),
+        (1048576, Step::Next, 640),
+        (16777216, Step::Next, 640),
+        (31, Step::Clear, 0),
+        (16777216, Step::Clear, 0),
+        (5, Step::Next, 64),
+        (65, Step::Next, 64),
+        (66, Step::Next, 0),
+        (16777216, Step::Next, 0),
     ];
     check_steps::<5>(&rt, &fine_rows);
     let defaults = [

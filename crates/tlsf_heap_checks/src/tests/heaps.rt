@@ -1,13 +1,14 @@
+ghost use Rattle.tlsf_class.specs.Classes.{IsLevel};
+
 use crate::tests::calls::{Ask, Reply, check_heap, free, live};
 use std::alloc::Global;
-use std::test::Fail;
 use tlsf_fixtures::{name, same};
 use tlsf_heap::{Heap, OpenFault, Refusal, want};
 
 // Of another heap, of a place where no block begins, of one behind the region, and of another serial. No sum of an offset
 // and a length wraps.
 #[test]
-fn names_and_places(rt: HostRuntime) -> Result<(), Fail> {
+fn names_and_places(rt: HostRuntime) {
     let first = name(0, 0, 1);
     let second = name(0, 4, 2);
     let stale = Reply::Refused(Refusal::Stale);
@@ -50,20 +51,19 @@ fn names_and_places(rt: HostRuntime) -> Result<(), Fail> {
         (Ask::BlockAt(64), Reply::NoBlock),
         (Ask::BlockAt(u32::MAX), Reply::NoBlock),
     ];
-    check_heap::<4>(&rt, rt.alloc(), 64, 0, &rows)?;
-    Ok(())
+    check_heap::<4>(&rt, rt.alloc(), 64, 0, &rows);
 }
 
 // A block of the last serial can't be released, and stays a block: its bytes are written and read. A move takes two ticks.
 #[test]
-fn heaps_wear_out(rt: HostRuntime) -> Result<(), Fail> {
+fn heaps_wear_out(rt: HostRuntime) {
     let last = name(0, 0, u64::MAX - 1);
     let worn = Reply::Refused(Refusal::Worn);
     let no_tick = [
         (Ask::Allocate(8), worn),
         (Ask::Allocate(4000), Reply::Refused(Refusal::NoFit)),
     ];
-    check_heap::<4>(&rt, rt.alloc(), 64, u64::MAX - 1, &no_tick)?;
+    check_heap::<4>(&rt, rt.alloc(), 64, u64::MAX - 1, &no_tick);
     let one_tick = [
         (Ask::Allocate(8), Reply::Made(last)),
         (Ask::Release(last), worn),
@@ -86,22 +86,31 @@ fn heaps_wear_out(rt: HostRuntime) -> Result<(), Fail> {
         (Ask::Resize(last, 8), worn),
         (Ask::Tick, Reply::Tick(u64::MAX)),
     ];
-    check_heap::<4>(&rt, rt.alloc(), 64, u64::MAX - 2, &one_tick)?;
+    check_heap::<4>(&rt, rt.alloc(), 64, u64::MAX - 2, &one_tick);
     let first = name(0, 0, u64::MAX - 3);
     let three_ticks = [
         (Ask::Allocate(8), Reply::Made(first)),
         (Ask::Allocate(8), Reply::Made(name(0, 4, u64::MAX - 2))),
         (Ask::Move(first, 100), worn),
     ];
-    check_heap::<4>(&rt, rt.alloc(), 64, u64::MAX - 4, &three_ticks)?;
+    check_heap::<4>(&rt, rt.alloc(), 64, u64::MAX - 4, &three_ticks);
     let first = name(0, 0, u64::MAX - 4);
     let four_ticks = [
         (Ask::Allocate(8), Reply::Made(first)),
         (Ask::Allocate(8), Reply::Made(name(0, 4, u64::MAX - 3))),
         (Ask::Move(first, 100), Reply::Made(name(0, 8, u64::MAX - 2))),
     ];
-    check_heap::<4>(&rt, rt.alloc(), 64, u64::MAX - 5, &four_ticks)?;
-    Ok(())
+    check_heap::<4>(&rt, rt.alloc(), 64, u64::MAX - 5, &four_ticks);
+}
+
+/// Why a heap isn't opened.
+fn fault_of<const SLI: u32>(alloc: Global, words: u32, first: u64) -> Option<OpenFault>
+    requires { IsLevel SLI }
+{
+    match Heap::<SLI>::open(alloc, 0, words, first) {
+        Ok(_) => None,
+        Err(fault) => Some(fault),
+    }
 }
 
 #[test]
@@ -114,7 +123,7 @@ fn open_refuses_in_order(rt: HostRuntime) {
         (4, 0, None),
         (1 << 20, 0, None),
     ] {
-        let refused = Heap::<4>::open(rt.alloc(), 0, words, first).err();
+        let refused = fault_of::<4>(rt.alloc(), words, first);
         same((words, first, refused), (words, first, fault)).expect(&rt, "differ");
     }
     for (words, first, fault) in [
@@ -124,27 +133,30 @@ fn open_refuses_in_order(rt: HostRuntime) {
         ((1 << 20) + 1, 0, None),
         (1 << 24, 0, None),
     ] {
-        let refused = Heap::<5>::open(rt.alloc(), 0, words, first).err();
+        let refused = fault_of::<5>(rt.alloc(), words, first);
         same((words, first, refused), (words, first, fault)).expect(&rt, "differ");
     }
 }
 
-// A thousand times the greatest block is past 32 bits.
+// A thousand times the greatest block is past 32 bits. The class of its size begins with 2^23 words, so the grant is
+// 8 * (2^23 - 3).
 #[test]
-fn report_on_the_greatest_region(rt: HostRuntime) -> Result<(), Fail> {
+fn report_on_the_greatest_region(rt: HostRuntime) {
     let half = name(0, 0, 1);
     let rows = [
         (Ask::Allocate(1 << 26), Reply::Made(half)),
         (Ask::Allocate(8), Reply::Made(name(0, 8_388_611, 2))),
         (Ask::Release(half), Reply::Done),
-        (Ask::Report, Reply::Report(16_777_212, 8_388_611, 500)),
+        (
+            Ask::Report,
+            Reply::Report([16_777_212, 8_388_611, 500, 67_108_840]),
+        ),
     ];
-    check_heap::<5>(&rt, rt.alloc(), 1 << 24, 0, &rows)?;
-    Ok(())
+    check_heap::<5>(&rt, rt.alloc(), 1 << 24, 0, &rows);
 }
 
 #[test]
-fn refusals_have_their_numbers(rt: HostRuntime) -> Result<(), Fail> {
+fn refusals_have_their_numbers(rt: HostRuntime) {
     let found = [
         Refusal::NoFit.number(),
         Refusal::Worn.number(),
@@ -156,9 +168,8 @@ fn refusals_have_their_numbers(rt: HostRuntime) -> Result<(), Fail> {
         OpenFault::NoMemory.number(),
     ];
     same(found, [1, 2, 3, 4, 7, 5, 2, 6]).expect(&rt, "differ");
-    let text = Refusal::NoFit.to_string(rt.alloc())?;
+    let text = Refusal::NoFit.to_string(rt.alloc()).expect(&rt, "text");
     same(text.as_str(), "no free block fits").expect(&rt, "differ");
-    Ok(())
 }
 
 /// The example of the README.

@@ -1,7 +1,6 @@
 //! Payloads that are read and written where they stand.
 
 use std::process::Abort;
-use std::test::Fail;
 use tlsf_fixtures::{name, same};
 use tlsf_heap::{Heap, Name, Refusal};
 use tlsf_lock::LockedHeap;
@@ -51,42 +50,44 @@ fn check_handed_out(rt: &impl Abort, heap: &mut Heap<4>) {
     }
 }
 
-#[test]
-fn payload_is_altered_where_it_stands(rt: HostRuntime) -> Result<(), Fail> {
-    let mut heap = Heap::<4>::open(rt.alloc(), 7, 64, 0)?;
-    let block = heap.allocate(13)?;
-    heap.allocate(8)?;
-    heap.allocate(0)?;
-    check_handed_out(&rt, &mut heap);
+/// What was written at both ends of a block of 13 bytes, and then one byte more. No tick and no length changed.
+fn check_bytes(rt: &impl Abort, heap: &mut Heap<4>, block: Name) {
     let mut out = [0xee; 13];
-    heap.read(block, 0, &mut out)?;
+    let read = heap.read(block, 0, &mut out);
     let wanted = [1, 2, 3, 4, 5, 6, 7, 8, 0x11, 0x12, 0x13, 0x14, 0x15];
-    same(out, wanted).expect(&rt, "differ");
-    heap.write(block, 12, &[0x99])?;
+    let written = heap.write(block, 12, &[0x99]);
+    same((read, out, written), (Ok(()), wanted, Ok(()))).expect(rt, "differ");
     let last = heap.inspect(block, |words| last_word(words));
     let found = (last, heap.tick(), heap.report().live_bytes);
-    same(found, (Ok(Some(0x1817_1699_1413_1211)), 4, 21)).expect(&rt, "differ");
-    Ok(())
+    same(found, (Ok(Some(0x1817_1699_1413_1211)), 4, 21)).expect(rt, "differ");
 }
 
 #[test]
-fn pools_and_locked_heaps_hand_out_payloads(rt: HostRuntime) -> Result<(), Fail> {
+fn payload_is_altered_where_it_stands(rt: HostRuntime) {
+    let mut heap = Heap::<4>::open(rt.alloc(), 7, 64, 0).expect(&rt, "open");
+    let made = [heap.allocate(13), heap.allocate(8), heap.allocate(0)];
+    let block = name(7, 0, 1);
+    let wanted = [Ok(block), Ok(name(7, 5, 2)), Ok(name(7, 9, 3))];
+    same(made, wanted).expect(&rt, "differ");
+    check_handed_out(&rt, &mut heap);
+    check_bytes(&rt, &mut heap, block);
+}
+
+#[test]
+fn pools_and_locked_heaps_hand_out_payloads(rt: HostRuntime) {
     let wanted = (Ok(2), Ok(Some(0x1817_1615_1413_1211)));
-    let mut pool = Pool::<4>::open(rt.alloc(), 0, 1, 16, 0)?;
-    let block = pool.allocate(16)?;
+    let mut pool = Pool::<4>::open(rt.alloc(), 0, 1, 16, 0).expect(&rt, "open");
+    let block = pool.allocate(16).expect(&rt, "16 bytes");
     let found = (
         pool.alter(block, |words| mark_ends(words)),
         pool.inspect(block, |words| last_word(words)),
     );
     same(found, wanted).expect(&rt, "differ");
-    let heap = LockedHeap::<4>::new(rt.alloc(), 0, 64, 0)?;
+    let heap = LockedHeap::<4>::new(rt.alloc(), 0, 64, 0).expect(&rt, "open");
     let mut guard = heap.lock(&rt);
-    let block = guard.allocate(16)?;
-    let found = (
-        guard.alter(block, |words| mark_ends(words)),
-        guard.inspect(block, |words| last_word(words)),
-    );
+    let block = guard.allocate(16).expect(&rt, "16 bytes");
+    let altered = guard.alter(block, |words| mark_ends(words));
+    let found = (altered, guard.inspect(block, |words| last_word(words)));
     same(found, wanted).expect(&rt, "differ");
     same((guard.grants(), guard.returns()), (1, 0)).expect(&rt, "counted");
-    Ok(())
 }

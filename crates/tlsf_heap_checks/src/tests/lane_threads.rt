@@ -2,7 +2,6 @@ use crate::tests::lanes::post;
 use std::alloc::AllocError;
 use std::sync::Wait;
 use std::sync::atomic::{AtomicU64, Ordering};
-use std::test::Fail;
 use std::thread;
 use std::thread::{Threads, yield_now};
 use tlsf_fixtures::same;
@@ -65,9 +64,8 @@ fn pass_two<R: Threads + Wait + Sync>(
 }
 
 #[test]
-fn posts_pass_and_slots_come_back_between_threads(rt: HostRuntime) -> Result<(), Fail> {
-    let (post_end, take_end) = lane(rt.alloc(), 1)?;
-    let passed = pass_two(&rt, post_end, take_end)?;
+fn posts_pass_and_slots_come_back_between_threads(rt: HostRuntime) {
+    let (post_end, take_end) = lane(rt.alloc(), 1).expect(&rt, "lane");
+    let passed = pass_two(&rt, post_end, take_end).expect(&rt, "thread");
     same(passed, (true, (Some(post(1)), Some(post(2))))).expect(&rt, "differ");
-    Ok(())
 }

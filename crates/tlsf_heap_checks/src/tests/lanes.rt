@@ -3,9 +3,8 @@ ghost use Rattle.tlsf_post.specs.Lanes.{IsLane};
 
 use std::alloc::Global;
 use std::process::Abort;
-use std::test::Fail;
 use tlsf_fixtures::{name, same};
-use tlsf_post::{NoMemory, Post, PostEnd, TakeEnd, beside, lane};
+use tlsf_post::{Post, PostEnd, TakeEnd, beside, lane};
 
 /// A post of worker 1 that names the block with a serial.
 pub fn post(serial: u64) -> Post {
@@ -43,7 +42,7 @@ fn answer(post_end: &mut PostEnd, take_end: &mut TakeEnd, ask: Ask) -> (Option<u
 }
 
 #[test]
-fn first_sent_first_taken(rt: HostRuntime) -> Result<(), Fail> {
+fn first_sent_first_taken(rt: HostRuntime) {
     let rows = [
         (Ask::Put(1), (None, 0)),
         (Ask::Put(2), (None, 0)),
@@ -59,25 +58,18 @@ fn first_sent_first_taken(rt: HostRuntime) -> Result<(), Fail> {
         (Ask::Beside, (None, 0)),
         (Ask::Take, (None, 0)),
     ];
-    check_asks(&rt, rt.alloc(), 4, &rows)?;
-    Ok(())
+    check_asks(&rt, rt.alloc(), 4, &rows);
 }
 
 /// Asks a new lane, and holds each answer to the one that is wanted.
-fn check_asks(
-    rt: &impl Abort,
-    alloc: Global,
-    capacity: u32,
-    rows: &[(Ask, (Option<u64>, u32))],
-) -> Result<(), NoMemory>
+fn check_asks(rt: &impl Abort, alloc: Global, capacity: u32, rows: &[(Ask, (Option<u64>, u32))])
     requires { (0 < capacity) × (capacity ≤ 1024) }
 {
-    let (mut post_end, mut take_end) = lane(alloc, capacity)?;
+    let (mut post_end, mut take_end) = lane(alloc, capacity).expect(rt, "lane");
     for (i, (ask, wanted)) in rows.iter().enumerate() {
         let found = answer(&mut post_end, &mut take_end, *ask);
         same((i, found), (i, *wanted)).expect(rt, "differ");
     }
-    Ok(())
 }
 
 /// How many posts a lane takes before it gives one back, by their serials from 0 on.
@@ -101,10 +93,10 @@ fn emptied(take_end: &mut TakeEnd, first: u64) -> u64 {
 }
 
 /// What is put once a lane is full, and what is taken: one post for a place that was taken, and no more.
-fn check_full(rt: &impl Abort, alloc: Global, capacity: u32) -> Result<(), NoMemory>
+fn check_full(rt: &impl Abort, alloc: Global, capacity: u32)
     requires { (0 < capacity) × (capacity ≤ 1024) }
 {
-    let (mut post_end, mut take_end) = lane(alloc, capacity)?;
+    let (mut post_end, mut take_end) = lane(alloc, capacity).expect(rt, "lane");
     let count = u64::from(capacity);
     let next = post(count);
     let found = (filled(&mut post_end), take_end.take());
@@ -113,14 +105,12 @@ fn check_full(rt: &impl Abort, alloc: Global, capacity: u32) -> Result<(), NoMem
     same(found, (Ok(()), Err(next))).expect(rt, "differ");
     same(emptied(&mut take_end, 1), count + 1).expect(rt, "differ");
     same(take_end.take(), None).expect(rt, "differ");
-    Ok(())
 }
 
 // The ends are never beside each other.
 #[test]
-fn new_lane_holds_its_capacity(rt: HostRuntime) -> Result<(), Fail> {
+fn new_lane_holds_its_capacity(rt: HostRuntime) {
     for capacity in [1, 2, 3, 5, 1024] {
-        check_full(&rt, rt.alloc(), capacity)?;
+        check_full(&rt, rt.alloc(), capacity);
     }
-    Ok(())
 }

@@ -2,7 +2,6 @@ use crate::tests::calls::{Ask, Reply, bytes, done, made};
 use std::alloc::Global;
 use std::process::Abort;
 use std::sync::Wait;
-use std::test::Fail;
 use std::thread::join;
 use tlsf_fixtures::{name, same};
 use tlsf_heap::{OpenFault, Refusal};
@@ -33,13 +32,12 @@ fn check_asks<R: Wait + Abort>(
     (words, first): (u32, u64),
     rows: &[(Ask, Reply)],
     counts: (u64, u64, u32),
-) -> Result<(), OpenFault> {
-    let heap = LockedHeap::<4>::new(alloc, 7, words, first)?;
+) {
+    let heap = LockedHeap::<4>::new(alloc, 7, words, first).expect(rt, "open");
     for (i, (ask, wanted)) in rows.iter().enumerate() {
         same((i, answer(rt, &heap, *ask)), (i, *wanted)).expect(rt, "differ");
     }
     same(counts_of(rt, &heap), counts).expect(rt, "differ");
-    Ok(())
 }
 
 /// Its grants, its returns and its live blocks.
@@ -51,7 +49,7 @@ fn counts_of<R: Wait>(rt: &R, heap: &LockedHeap<4>) -> (u64, u64, u32) {
 // A resize is neither a grant nor a return, and nor is what is refused. Where a resize is accepted the tick rises by one, as
 // the serial of the next block shows.
 #[test]
-fn calls_behind_a_lock(rt: HostRuntime) -> Result<(), Fail> {
+fn calls_behind_a_lock(rt: HostRuntime) {
     let block = name(7, 0, 1);
     let rows = [
         (Ask::Allocate(4), Reply::Made(block)),
@@ -74,7 +72,7 @@ fn calls_behind_a_lock(rt: HostRuntime) -> Result<(), Fail> {
         (Ask::Release(block), Reply::Refused(Refusal::Stale)),
         (Ask::Resize(block, 8), Reply::Refused(Refusal::Stale)),
     ];
-    check_asks(&rt, rt.alloc(), (64, 0), &rows, (2, 1, 1))?;
+    check_asks(&rt, rt.alloc(), (64, 0), &rows, (2, 1, 1));
     let last = name(7, 0, u64::MAX - 1);
     let worn = Reply::Refused(Refusal::Worn);
     let rows = [
@@ -83,22 +81,20 @@ fn calls_behind_a_lock(rt: HostRuntime) -> Result<(), Fail> {
         (Ask::Release(last), worn),
         (Ask::Resize(last, 8), worn),
     ];
-    check_asks(&rt, rt.alloc(), (64, u64::MAX - 2), &rows, (1, 0, 1))?;
-    Ok(())
+    check_asks(&rt, rt.alloc(), (64, u64::MAX - 2), &rows, (1, 0, 1));
 }
 
 // At level 4 a region of 63 words doesn't serve a request that wants them all.
 #[test]
-fn locked_heaps_open_by_their_words(rt: HostRuntime) -> Result<(), Fail> {
+fn locked_heaps_open_by_their_words(rt: HostRuntime) {
     let found = [
         LockedHeap::<4>::new(rt.alloc(), 0, 3, u64::MAX).err(),
         LockedHeap::<4>::new(rt.alloc(), 0, 4, u64::MAX).err(),
     ];
     same(found, [Some(OpenFault::BadSize), Some(OpenFault::Worn)]).expect(&rt, "differ");
-    let heap = LockedHeap::<5>::new(rt.alloc(), 0, 63, 0)?;
+    let heap = LockedHeap::<5>::new(rt.alloc(), 0, 63, 0).expect(&rt, "open");
     let answer = heap.lock(&rt).allocate(480);
     same(made(answer), Reply::Made(name(0, 0, 1))).expect(&rt, "differ");
-    Ok(())
 }
 
 /// Allocates 8 bytes 100 times, and releases each of the first 60 blocks. Tells whether all of it was accepted.
@@ -115,8 +111,8 @@ fn hundred_grants(rt: &impl Wait, heap: &LockedHeap<4>) -> bool {
 }
 
 #[test]
-fn two_threads_share_a_heap(rt: HostRuntime) -> Result<(), Fail> {
-    let heap = LockedHeap::<4>::new(rt.alloc(), 0, 1024, 0)?;
+fn two_threads_share_a_heap(rt: HostRuntime) {
+    let heap = LockedHeap::<4>::new(rt.alloc(), 0, 1024, 0).expect(&rt, "open");
     let accepted = join(
         &rt,
         || hundred_grants(&rt, &heap),
@@ -124,5 +120,4 @@ fn two_threads_share_a_heap(rt: HostRuntime) -> Result<(), Fail> {
     );
     let found = (accepted, counts_of(&rt, &heap));
     same(found, ((true, true), (200, 120, 80))).expect(&rt, "differ");
-    Ok(())
 }

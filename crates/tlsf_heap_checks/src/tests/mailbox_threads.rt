@@ -1,7 +1,6 @@
 use crate::tests::mailboxes::block;
 use std::alloc::AllocError;
 use std::sync::Wait;
-use std::test::Fail;
 use std::thread;
 use std::thread::{Threads, yield_now};
 use tlsf_fixtures::same;
@@ -28,39 +27,35 @@ fn put_all<R: Wait>(rt: &R, mut end: PosterEnd) -> u64 {
     done
 }
 
-/// How many posts of the posters 1 and 2 came, and whether those of each came in the order of their serials.
-#[derive(Debug, PartialEq, Eq, Clone, Copy)]
-struct Came {
-    first: u64,
-    second: u64,
-    in_order: bool,
+/// How many posts of each poster came, and whether those of each came in the order of their serials.
+type Came = ([u64; 3], bool);
+
+/// Counts a post. Tells whether its serial is how many of its poster came before.
+fn is_next(came: &mut [u64; 3], post: Post) -> bool {
+    match came.get_mut(post.from as usize) {
+        Some(count) => {
+            let is_next = post.name == block(*count);
+            *count = count.wrapping_add(1);
+            is_next
+        }
+        None => false,
+    }
 }
 
-/// Takes until all posts of both came.
+/// Takes until all posts of the posters 1 and 2 came.
 fn take_all<R: Wait>(rt: &R, mut end: OwnerEnd) -> Came {
-    let mut came = Came {
-        first: 0,
-        second: 0,
-        in_order: true,
-    };
+    let mut came = [0; 3];
+    let mut in_order = true;
     for _ in 0..TURNS {
-        if came.first >= EACH && came.second >= EACH {
+        if came[1] >= EACH && came[2] >= EACH {
             break;
         }
         match end.take(rt) {
-            Some(Post { from: 1, name }) => {
-                came.in_order = came.in_order && name == block(came.first);
-                came.first = came.first.wrapping_add(1);
-            }
-            Some(Post { from: 2, name }) => {
-                came.in_order = came.in_order && name == block(came.second);
-                came.second = came.second.wrapping_add(1);
-            }
-            Some(_) => came.in_order = false,
+            Some(post) => in_order = is_next(&mut came, post) && in_order,
             None => yield_now(),
         }
     }
-    came
+    (came, in_order)
 }
 
 /// Two posters put in threads of their own what this one takes. The mailbox holds two posts, so each place is used again
@@ -80,16 +75,10 @@ fn pass_all<R: Threads + Wait + Sync>(
 }
 
 #[test]
-fn posts_pass_between_threads_in_each_posters_order(rt: HostRuntime) -> Result<(), Fail> {
-    let (owner_end, mut posters) = mailbox(rt.alloc(), 0, 3, 2)?;
+fn posts_pass_between_threads_in_each_posters_order(rt: HostRuntime) {
+    let (owner_end, mut posters) = mailbox(rt.alloc(), 0, 3, 2).expect(&rt, "mailbox");
     let two = posters.pop().expect(&rt, "no end");
     let one = posters.pop().expect(&rt, "no end");
-    let passed = pass_all(&rt, owner_end, one, two)?;
-    let all = Came {
-        first: EACH,
-        second: EACH,
-        in_order: true,
-    };
-    same(passed, (all, EACH, EACH)).expect(&rt, "differ");
-    Ok(())
+    let passed = pass_all(&rt, owner_end, one, two).expect(&rt, "threads");
+    same(passed, (([0, EACH, EACH], true), EACH, EACH)).expect(&rt, "differ");
 }

@@ -1,6 +1,5 @@
 use std::process::Abort;
 use std::sync::Wait;
-use std::test::Fail;
 use tlsf_fixtures::{name, same};
 use tlsf_heap::Name;
 use tlsf_post::{OwnerEnd, Post, PosterEnd, mailbox};
@@ -19,18 +18,12 @@ enum Ask {
     Count,
 }
 
-/// What they answer.
-#[derive(Debug, PartialEq, Eq, Clone, Copy)]
-enum Answer {
-    Done,
-    /// The serial of a name that was given back.
-    Back(u64),
-    /// The number of a poster and a serial.
-    Took(u32, u64),
-    Nothing,
-    /// How many posts wait.
-    Waiting(usize),
-}
+/// What they answer: what came of it, the number of a poster, and the serial of a name or how many posts wait.
+type Answer = (&'static str, u32, u64);
+
+const DONE: Answer = ("done", 0, 0);
+
+const NOTHING: Answer = ("nothing", 0, 0);
 
 fn ask_ends<R: Wait>(
     rt: &R,
@@ -41,16 +34,16 @@ fn ask_ends<R: Wait>(
     match ask {
         Ask::Put(place, serial) => match posters.get_mut(place) {
             Some(end) => match end.put(rt, block(serial)) {
-                Ok(()) => Answer::Done,
-                Err(back) => Answer::Back(back.serial),
+                Ok(()) => DONE,
+                Err(back) => ("back", 0, back.serial),
             },
-            None => Answer::Nothing,
+            None => NOTHING,
         },
         Ask::Take => match owner_end.take(rt) {
-            Some(post) => Answer::Took(post.from, post.name.serial),
-            None => Answer::Nothing,
+            Some(post) => ("took", post.from, post.name.serial),
+            None => NOTHING,
         },
-        Ask::Count => Answer::Waiting(owner_end.count(rt)),
+        Ask::Count => ("waiting", 0, owner_end.count(rt) as u64),
     }
 }
 
@@ -69,45 +62,43 @@ fn check_ends<R: Abort + Wait>(
 
 // The mailbox of worker 1 of three holds two posts: posters 0 and 2 share its places.
 #[test]
-fn posters_share_a_mailbox(rt: HostRuntime) -> Result<(), Fail> {
+fn posters_share_a_mailbox(rt: HostRuntime) {
     let rows = [
-        (Ask::Take, Answer::Nothing),
-        (Ask::Put(0, 5), Answer::Done),
-        (Ask::Put(1, 6), Answer::Done),
-        (Ask::Put(0, 7), Answer::Back(7)),
-        (Ask::Put(1, 8), Answer::Back(8)),
-        (Ask::Count, Answer::Waiting(2)),
-        (Ask::Take, Answer::Took(0, 5)),
-        (Ask::Put(1, 8), Answer::Done),
-        (Ask::Put(0, 7), Answer::Back(7)),
-        (Ask::Take, Answer::Took(2, 6)),
-        (Ask::Take, Answer::Took(2, 8)),
-        (Ask::Count, Answer::Waiting(0)),
-        (Ask::Take, Answer::Nothing),
+        (Ask::Take, NOTHING),
+        (Ask::Put(0, 5), DONE),
+        (Ask::Put(1, 6), DONE),
+        (Ask::Put(0, 7), ("back", 0, 7)),
+        (Ask::Put(1, 8), ("back", 0, 8)),
+        (Ask::Count, ("waiting", 0, 2)),
+        (Ask::Take, ("took", 0, 5)),
+        (Ask::Put(1, 8), DONE),
+        (Ask::Put(0, 7), ("back", 0, 7)),
+        (Ask::Take, ("took", 2, 6)),
+        (Ask::Take, ("took", 2, 8)),
+        (Ask::Count, ("waiting", 0, 0)),
+        (Ask::Take, NOTHING),
     ];
-    let (mut owner_end, mut posters) = mailbox(rt.alloc(), 1, 3, 2)?;
+    let (mut owner_end, mut posters) = mailbox(rt.alloc(), 1, 3, 2).expect(&rt, "mailbox");
     check_ends(&rt, &mut owner_end, &mut posters, &rows);
-    Ok(())
 }
 
 // Each end goes on with its number once all ends were side by side.
 #[test]
-fn ends_go_on_once_side_by_side(rt: HostRuntime) -> Result<(), Fail> {
+fn ends_go_on_once_side_by_side(rt: HostRuntime) {
     let rows = [
-        (Ask::Put(1, 5), Answer::Done),
-        (Ask::Put(0, 6), Answer::Done),
-        (Ask::Put(0, 7), Answer::Done),
-        (Ask::Put(1, 8), Answer::Back(8)),
-        (Ask::Count, Answer::Waiting(3)),
-        (Ask::Take, Answer::Took(2, 5)),
-        (Ask::Take, Answer::Took(0, 6)),
-        (Ask::Take, Answer::Took(0, 7)),
-        (Ask::Take, Answer::Nothing),
+        (Ask::Put(1, 5), DONE),
+        (Ask::Put(0, 6), DONE),
+        (Ask::Put(0, 7), DONE),
+        (Ask::Put(1, 8), ("back", 0, 8)),
+        (Ask::Count, ("waiting", 0, 3)),
+        (Ask::Take, ("took", 2, 5)),
+        (Ask::Take, ("took", 0, 6)),
+        (Ask::Take, ("took", 0, 7)),
+        (Ask::Take, NOTHING),
     ];
-    let (mut owner_end, mut posters) = mailbox(rt.alloc(), 1, 3, 3)?;
+    let (mut owner_end, mut posters) = mailbox(rt.alloc(), 1, 3, 3).expect(&rt, "mailbox");
     owner_end.beside(&mut posters);
     check_ends(&rt, &mut owner_end, &mut posters, &rows);
-    Ok(())
 }
 
 /// How many posts a mailbox takes before it gives a name back, by their serials from 0 on.
@@ -141,21 +132,21 @@ fn check_capacity<R: Abort + Wait>(
 }
 
 #[test]
-fn mailbox_holds_its_capacity(rt: HostRuntime) -> Result<(), Fail> {
+fn mailbox_holds_its_capacity(rt: HostRuntime) {
     for capacity in [1, 2, 3, 1024] {
-        let (mut owner_end, mut posters) = mailbox(rt.alloc(), 0, 2, capacity)?;
+        let (mut owner_end, mut posters) = mailbox(rt.alloc(), 0, 2, capacity).expect(
+            &rt, "mailbox",
+        );
         let mut end = posters.pop().expect(&rt, "no end");
         check_capacity(&rt, &mut owner_end, &mut end, capacity);
     }
-    Ok(())
 }
 
 #[test]
-fn mailbox_of_one_has_no_posters(rt: HostRuntime) -> Result<(), Fail> {
-    let (mut owner_end, mut posters) = mailbox(rt.alloc(), 0, 1, 1)?;
+fn mailbox_of_one_has_no_posters(rt: HostRuntime) {
+    let (mut owner_end, mut posters) = mailbox(rt.alloc(), 0, 1, 1).expect(&rt, "mailbox");
     owner_end.beside(&mut posters);
     owner_end.wait_empty(&rt);
     let found = (posters.len(), owner_end.is_empty(), owner_end.take(&rt));
     same(found, (0, true, None)).expect(&rt, "differ");
-    Ok(())
 }

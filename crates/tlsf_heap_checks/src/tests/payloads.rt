@@ -2,7 +2,6 @@
 ghost use Rattle.std.specs.Prelude.{◌+◌, ◌≤◌};
 
 use std::process::Abort;
-use std::test::Fail;
 use tlsf_fixtures::{name, same};
 use tlsf_heap::{Heap, Name};
 
@@ -37,15 +36,15 @@ fn check_runs(rt: &impl Abort, heap: &mut Heap<4>, block: Name) {
 
 // Each run of bytes of a payload, up to its last byte. The block behind it keeps its own.
 #[test]
-fn runs_of_each_length_at_each_offset(rt: HostRuntime) -> Result<(), Fail> {
-    let mut heap = Heap::<4>::open(rt.alloc(), 0, 64, 0)?;
-    let asked = (heap.allocate(45), heap.allocate(8));
+fn runs_of_each_length_at_each_offset(rt: HostRuntime) {
+    let mut heap = Heap::<4>::open(rt.alloc(), 0, 64, 0).expect(&rt, "open");
     let behind = name(0, 9, 2);
-    same(asked, (Ok(name(0, 0, 1)), Ok(behind))).expect(&rt, "differ");
-    heap.write(behind, 0, &[0xdd; 8])?;
+    let asked = (heap.allocate(45), heap.allocate(8));
+    let written = heap.write(behind, 0, &[0xdd; 8]);
+    let wanted = ((Ok(name(0, 0, 1)), Ok(behind)), Ok(()));
+    same((asked, written), wanted).expect(&rt, "differ");
     check_runs(&rt, &mut heap, name(0, 0, 1));
     let mut out = [0; 8];
-    heap.read(behind, 0, &mut out)?;
-    same(out, [0xdd; 8]).expect(&rt, "changed");
-    Ok(())
+    let read = heap.read(behind, 0, &mut out);
+    same((read, out), (Ok(()), [0xdd; 8])).expect(&rt, "changed");
 }

@@ -1,6 +1,6 @@
 //! Pools, and the words of tables of kinds.
 use crate::tests::calls::{Ask, Reply, bytes, done, given};
-use std::test::Fail;
+use std::process::Abort;
 use tlsf_fixtures::{name, same};
 use tlsf_heap::{OpenFault, Refusal};
 use tlsf_pool::{
@@ -27,9 +27,16 @@ fn answer(pool: &mut Pool<4>, ask: Ask) -> (Reply, u32) {
     (reply, pool.held())
 }
 
+/// Holds each reply to the one that is wanted.
+fn check_rows(rt: &impl Abort, pool: &mut Pool<4>, rows: &[(Ask, (Reply, u32))]) {
+    for (i, (ask, wanted)) in rows.iter().enumerate() {
+        same((i, answer(pool, *ask)), (i, *wanted)).expect(rt, "differ");
+    }
+}
+
 #[test]
-fn pool_is_filled_and_emptied(rt: HostRuntime) -> Result<(), Fail> {
-    let mut pool = Pool::<4>::open(rt.alloc(), 3, 2, 8, 0)?;
+fn pool_is_filled_and_emptied(rt: HostRuntime) {
+    let mut pool = Pool::<4>::open(rt.alloc(), 3, 2, 8, 0).expect(&rt, "open");
     let first = name(3, 0, 1);
     let rows = [
         (Ask::Allocate(8), (Reply::Made(first), 1)),
@@ -48,15 +55,12 @@ fn pool_is_filled_and_emptied(rt: HostRuntime) -> Result<(), Fail> {
         (Ask::Release(first), (Reply::Refused(Refusal::Stale), 1)),
         (Ask::Allocate(8), (Reply::Made(name(3, 0, 4)), 2)),
     ];
-    for (i, (ask, wanted)) in rows.iter().enumerate() {
-        same((i, answer(&mut pool, *ask)), (i, *wanted)).expect(&rt, "differ");
-    }
-    Ok(())
+    check_rows(&rt, &mut pool, &rows);
 }
 
 // A request of 480 bytes wants 63 words, which have a class of their own at level 5: at level 4 the region has one word more.
 #[test]
-fn pools_open_by_their_words(rt: HostRuntime) -> Result<(), Fail> {
+fn pools_open_by_their_words(rt: HostRuntime) {
     for (most, longest, wanted) in [
         (0, 8, None),
         (1, LONGEST + 1, Some(OpenFault::BadSize)),
@@ -69,9 +73,8 @@ fn pools_open_by_their_words(rt: HostRuntime) -> Result<(), Fail> {
     }
     let regions = [pool_region::<4>(1, 480), pool_region::<5>(1, 480)];
     same(regions, [Some(64), Some(63)]).expect(&rt, "differ");
-    let answer = Pool::<5>::open(rt.alloc(), 0, 1, 480, 0)?.allocate(480);
-    same(given(answer), Reply::Made(name(0, 0, 1))).expect(&rt, "differ");
-    Ok(())
+    let mut pool = Pool::<5>::open(rt.alloc(), 0, 1, 480, 0).expect(&rt, "open");
+    same(given(pool.allocate(480)), Reply::Made(name(0, 0, 1))).expect(&rt, "differ");
 }
 
 #[test]

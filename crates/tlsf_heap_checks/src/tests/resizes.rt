@@ -1,6 +1,5 @@
 //! Blocks that grow and shrink where they stand, and that move.
 use crate::tests::calls::{Ask, Reply, check_heap, free, live};
-use std::test::Fail;
 use tlsf_fixtures::name;
 use tlsf_heap::Refusal;
 
@@ -9,7 +8,7 @@ const NO_ROOM: Reply = Reply::Refused(Refusal::NoRoom);
 const NO_FIT: Reply = Reply::Refused(Refusal::NoFit);
 
 #[test]
-fn tail_and_next_free_block_are_one(rt: HostRuntime) -> Result<(), Fail> {
+fn tail_and_next_free_block_are_one(rt: HostRuntime) {
     let block = name(0, 0, 1);
     let rows = [
         (Ask::Allocate(8), Reply::Made(block)),
@@ -28,7 +27,7 @@ fn tail_and_next_free_block_are_one(rt: HostRuntime) -> Result<(), Fail> {
         (Ask::BlockAt(4), live(4, 4, 4, 8)),
         (Ask::Tick, Reply::Tick(5)),
     ];
-    check_heap::<4>(&rt, rt.alloc(), 64, 0, &rows)?;
+    check_heap::<4>(&rt, rt.alloc(), 64, 0, &rows);
     // A rest of less than four words goes with the block.
     let short = [
         (Ask::Allocate(8), Reply::Made(block)),
@@ -42,12 +41,11 @@ fn tail_and_next_free_block_are_one(rt: HostRuntime) -> Result<(), Fail> {
         (Ask::BlockAt(0), live(0, 4, 1, 0)),
         (Ask::BlockAt(4), free(4, 4, 4)),
     ];
-    check_heap::<4>(&rt, rt.alloc(), 8, 0, &short)?;
-    Ok(())
+    check_heap::<4>(&rt, rt.alloc(), 8, 0, &short);
 }
 
 #[test]
-fn new_bytes_are_zero(rt: HostRuntime) -> Result<(), Fail> {
+fn new_bytes_are_zero(rt: HostRuntime) {
     let block = name(0, 0, 1);
     let rest = Reply::Bytes(*b"\xff\xff\xff\xff\xff\xff\xff\0\0\0\0\0\0\0\0\0");
     let rows = [
@@ -72,12 +70,11 @@ fn new_bytes_are_zero(rt: HostRuntime) -> Result<(), Fail> {
         (Ask::Resize(block, 16), Reply::Done),
         (Ask::Read(block, 0, 16), rest),
     ];
-    check_heap::<4>(&rt, rt.alloc(), 64, 0, &rows)?;
-    Ok(())
+    check_heap::<4>(&rt, rt.alloc(), 64, 0, &rows);
 }
 
 #[test]
-fn block_moves_where_it_has_no_room(rt: HostRuntime) -> Result<(), Fail> {
+fn block_moves_where_it_has_no_room(rt: HostRuntime) {
     let block = name(0, 0, 1);
     let wall = name(0, 5, 2);
     let moved = name(0, 9, 3);
@@ -99,14 +96,13 @@ fn block_moves_where_it_has_no_room(rt: HostRuntime) -> Result<(), Fail> {
         (Ask::Move(wall, 400), NO_FIT),
         (Ask::Tick, Reply::Tick(6)),
     ];
-    check_heap::<4>(&rt, rt.alloc(), 64, 0, &rows)?;
-    Ok(())
+    check_heap::<4>(&rt, rt.alloc(), 64, 0, &rows);
 }
 
 // 8 MiB of payload want 2^20 words and three, more than a region of level 4 has. 63 words, and 66, are each a class's least
 // size at level 5, and no class's at level 4.
 #[test]
-fn blocks_of_level_5(rt: HostRuntime) -> Result<(), Fail> {
+fn blocks_of_level_5(rt: HostRuntime) {
     let block = name(0, 0, 1);
     let large = [
         (Ask::Allocate(8), Reply::Made(block)),
@@ -120,24 +116,23 @@ fn blocks_of_level_5(rt: HostRuntime) -> Result<(), Fail> {
         (Ask::BlockAt(4), free(4, 2_097_148, 3)),
         (Ask::Tick, Reply::Tick(4)),
     ];
-    check_heap::<5>(&rt, rt.alloc(), 1 << 21, 0, &large)?;
+    check_heap::<5>(&rt, rt.alloc(), 1 << 21, 0, &large);
     let coarse = [
-        (Ask::Grant, Reply::Grant(472)),
+        (Ask::Report, Reply::Report([63, 63, 0, 472])),
         (Ask::Allocate(480), NO_FIT),
     ];
-    check_heap::<4>(&rt, rt.alloc(), 63, 0, &coarse)?;
+    check_heap::<4>(&rt, rt.alloc(), 63, 0, &coarse);
     let fine = [
-        (Ask::Grant, Reply::Grant(480)),
+        (Ask::Report, Reply::Report([63, 63, 0, 480])),
         (Ask::Allocate(480), Reply::Made(block)),
     ];
-    check_heap::<5>(&rt, rt.alloc(), 63, 0, &fine)?;
+    check_heap::<5>(&rt, rt.alloc(), 63, 0, &fine);
     let mut rows = [
         (Ask::Allocate(8), Reply::Made(block)),
         (Ask::Allocate(8), Reply::Made(name(0, 4, 2))),
         (Ask::Move(block, 504), NO_FIT),
     ];
-    check_heap::<4>(&rt, rt.alloc(), 74, 0, &rows)?;
+    check_heap::<4>(&rt, rt.alloc(), 74, 0, &rows);
     rows[2].1 = Reply::Made(name(0, 8, 3));
-    check_heap::<5>(&rt, rt.alloc(), 74, 0, &rows)?;
-    Ok(())
+    check_heap::<5>(&rt, rt.alloc(), 74, 0, &rows);
 }

@@ -2,7 +2,6 @@
 use crate::tests::calls::{Ask, Reply, bytes, done, given, live};
 use std::alloc::Global;
 use std::process::Abort;
-use std::test::Fail;
 use tlsf_fixtures::{name, same};
 use tlsf_heap::{OpenFault, Refusal};
 use tlsf_pools::{Kind, PoolRefusal, Pools, TablePool};
@@ -46,35 +45,39 @@ fn table_answer(pool: &mut TablePool<4>, ask: Ask) -> Reply {
             let answer = pool.read(name, at, &mut out[..n.min(16)]);
             bytes(answer, out)
         }
-        Ask::BlockAt(at) => pool.block_at(at).map_or(Reply::NoBlock, Reply::Block),
+        Ask::BlockAt(at) => match pool.block_at(at) {
+            Some(block) => Reply::Block(block),
+            None => Reply::NoBlock,
+        },
         Ask::Tick => Reply::Tick(pool.tick()),
         _ => Reply::NoBlock,
     }
 }
 
-/// Asks heap 3 of a table of two kinds, and holds each reply to the one that is wanted. Then how many blocks it has given of
-/// each row, and how many blocks are live.
-fn check_table(
-    rt: &impl Abort,
-    alloc: Global,
-    first: u64,
-    rows: &[(Ask, Reply)],
-    held: [u32; 4],
-) -> Result<(), OpenFault> {
-    let mut pool = TablePool::<4>::open(alloc, 3, &[SHORT, LONG], first)?;
-    for (i, (ask, wanted)) in rows.iter().enumerate() {
-        same((i, table_answer(&mut pool, *ask)), (i, *wanted)).expect(rt, "differ");
-    }
+/// How many blocks the heap of a table has given of each row, and how many are live.
+fn held_of(pool: &mut TablePool<4>) -> [u32; 4] {
     let live = pool.report().live_blocks;
-    let found = [pool.held(0), pool.held(1), pool.held(2), live];
-    same(found, held).expect(rt, "differ");
-    Ok(())
+    [pool.held(0), pool.held(1), pool.held(2), live]
+}
+
+/// Holds each reply to the one that is wanted.
+fn check_rows(rt: &impl Abort, pool: &mut TablePool<4>, rows: &[(Ask, Reply)]) {
+    for (i, (ask, wanted)) in rows.iter().enumerate() {
+        same((i, table_answer(pool, *ask)), (i, *wanted)).expect(rt, "differ");
+    }
+}
+
+/// Asks heap 3 of a table of two kinds. Then how many blocks it has given of each row, and how many blocks are live.
+fn check_table(rt: &impl Abort, alloc: Global, first: u64, rows: &[(Ask, Reply)], held: [u32; 4]) {
+    let mut pool = TablePool::<4>::open(alloc, 3, &[SHORT, LONG], first).expect(rt, "open");
+    check_rows(rt, &mut pool, rows);
+    same(held_of(&mut pool), held).expect(rt, "differ");
 }
 
 // The forged names are of another heap, of a place where no block begins, of one behind the region, and of another serial.
 // At the end the tick is at its last value but one.
 #[test]
-fn table_is_filled_and_emptied(rt: HostRuntime) -> Result<(), Fail> {
+fn table_is_filled_and_emptied(rt: HostRuntime) {
     let first = name(3, 0, 1);
     let rows = [
         (Ask::Allocate(16), Reply::Made(first)),
@@ -98,7 +101,7 @@ fn table_is_filled_and_emptied(rt: HostRuntime) -> Result<(), Fail> {
         (Ask::Release(first), STALE),
         (Ask::Tick, Reply::Tick(4)),
     ];
-    check_table(&rt, rt.alloc(), 0, &rows, [0, 1, 0, 1])?;
+    check_table(&rt, rt.alloc(), 0, &rows, [0, 1, 0, 1]);
     let block = name(3, 0, u64::MAX - 1);
     let rows = [
         (Ask::Allocate(16), Reply::Made(block)),
@@ -106,8 +109,7 @@ fn table_is_filled_and_emptied(rt: HostRuntime) -> Result<(), Fail> {
         (Ask::Release(block), Reply::Refused(Refusal::Worn)),
         (Ask::Tick, Reply::Tick(u64::MAX)),
     ];
-    check_table(&rt, rt.alloc(), u64::MAX - 2, &rows, [1, 0, 0, 1])?;
-    Ok(())
+    check_table(&rt, rt.alloc(), u64::MAX - 2, &rows, [1, 0, 0, 1]);
 }
 
 // A table of 2,000 short blocks and a long one has a heap for each: in one they would need more words than any region has.
@@ -159,35 +161,33 @@ fn parts_answer(pools: &mut Pools<4>, ask: Ask) -> Reply {
 type Told = (Option<(u32, u32)>, Option<u32>, bool, Option<u64>);
 
 fn told_of(pools: &mut Pools<4>, part: usize) -> Told {
-    let report = pools.report(part);
-    let words = report.map(|report| (report.free_words, report.live_blocks));
-    let first = pools.block_at(part, 0).map(|block| block.size);
+    let words = match pools.report(part) {
+        Some(report) => Some((report.free_words, report.live_blocks)),
+        None => None,
+    };
+    let first = match pools.block_at(part, 0) {
+        Some(block) => Some(block.size),
+        None => None,
+    };
     let is_second = pools.block_at(part, 1).is_some();
     (words, first, is_second, pools.tick(part))
 }
 
 /// Asks heaps 5 and 6 of the two parts of a table, and holds each reply to the one that is wanted. Then what is told of three parts.
-fn check_parts(
-    rt: &impl Abort,
-    alloc: Global,
-    first: u64,
-    rows: &[(Ask, Reply)],
-    told: [Told; 3],
-) -> Result<(), OpenFault> {
-    let mut pools = Pools::<4>::open(alloc, 5, &[MANY, LARGE], first)?;
+fn check_parts(rt: &impl Abort, alloc: Global, first: u64, rows: &[(Ask, Reply)], told: [Told; 3]) {
+    let mut pools = Pools::<4>::open(alloc, 5, &[MANY, LARGE], first).expect(rt, "open");
     for (i, (ask, wanted)) in rows.iter().enumerate() {
         same((i, parts_answer(&mut pools, *ask)), (i, *wanted)).expect(rt, "differ");
     }
     for (part, wanted) in told.iter().enumerate() {
         same((part, told_of(&mut pools, part)), (part, *wanted)).expect(rt, "differ");
     }
-    Ok(())
 }
 
 // The forged names are of heaps that aren't there, of a place where no block begins, of one behind the region, and of another
 // serial.
 #[test]
-fn parts_are_filled_and_emptied(rt: HostRuntime) -> Result<(), Fail> {
+fn parts_are_filled_and_emptied(rt: HostRuntime) {
     let small = name(5, 0, 1);
     let large = name(6, 0, 1);
     let rows = [
@@ -220,7 +220,7 @@ fn parts_are_filled_and_emptied(rt: HostRuntime) -> Result<(), Fail> {
         (Some((8_704, 0)), Some(8_704), false, Some(3)),
         (None, None, false, None),
     ];
-    check_parts(&rt, rt.alloc(), 0, &rows, told)?;
+    check_parts(&rt, rt.alloc(), 0, &rows, told);
     let block = name(5, 0, u64::MAX - 1);
     let rows = [
         (Ask::Allocate(64), Reply::Made(block)),
@@ -233,6 +233,5 @@ fn parts_are_filled_and_emptied(rt: HostRuntime) -> Result<(), Fail> {
         (Some((8_692, 1)), Some(12), false, Some(u64::MAX)),
         (None, None, false, None),
     ];
-    check_parts(&rt, rt.alloc(), u64::MAX - 2, &rows, told)?;
-    Ok(())
+    check_parts(&rt, rt.alloc(), u64::MAX - 2, &rows, told);
 }

@@ -2,7 +2,6 @@ ghost use Rattle.std.specs.Prelude.{◌≡◌, ◌+◌, ◌<◌, ◌≤◌, leng
 
 use byteorder::{ByteOrder, LittleEndian};
 use std::process::Abort;
-use std::test::Fail;
 use tlsf_fixtures::same;
 use tlsf_words::{Links, NoMemory, Tag, Words};
 
@@ -23,9 +22,9 @@ fn fill(rt: &impl Abort, words: &mut Words)
 /// The words of a region of 16.
 fn image(words: &mut Words) -> [u64; 16] {
     let mut image = [0; 16];
-    for (word, at) in image.iter_mut().zip(0..16) {
+    for at in 0..16 {
         if at < words.len() {
-            *word = words.word(at);
+            image[at as usize] = words.word(at);
         }
     }
     image
@@ -74,8 +73,8 @@ fn live_header(words: &mut Words, at: u32) -> (Tag, u64, u32)
 }
 
 #[test]
-fn words_of_headers(rt: HostRuntime) -> Result<(), Fail> {
-    let mut words = Words::open(rt.alloc(), 16)?;
+fn words_of_headers(rt: HostRuntime) {
+    let mut words = Words::open(rt.alloc(), 16).expect(&rt, "open");
     let found = (
         free_header(&mut words, 1),
         free_header(&mut words, 4),
@@ -92,7 +91,6 @@ fn words_of_headers(rt: HostRuntime) -> Result<(), Fail> {
     wanted[9] = 3;
     wanted[10] = 7;
     same(image(&mut words), wanted).expect(&rt, "differ");
-    Ok(())
 }
 
 /// The words that hold these bytes, by `byteorder`.
@@ -128,8 +126,8 @@ fn check_copies(rt: &impl Abort, words: &mut Words, offset: u32, len: usize)
 
 // The last bytes of all, 40 from the offset 48 on, end with the region.
 #[test]
-fn bytes_and_their_neighbours(rt: HostRuntime) -> Result<(), Fail> {
-    let mut words = Words::open(rt.alloc(), 16)?;
+fn bytes_and_their_neighbours(rt: HostRuntime) {
+    let mut words = Words::open(rt.alloc(), 16).expect(&rt, "open");
     for offset in 0..=16 {
         for len in 0..=40 {
             check_copies(&rt, &mut words, offset, len);
@@ -138,7 +136,6 @@ fn bytes_and_their_neighbours(rt: HostRuntime) -> Result<(), Fail> {
     for len in 0..=40 {
         check_copies(&rt, &mut words, 48, len);
     }
-    Ok(())
 }
 
 /// Whether a start bit is clear, can be set and can be cleared again.
@@ -161,17 +158,15 @@ fn check_switches(rt: &impl Abort, words: &mut Words, places: &[u32]) {
 }
 
 #[test]
-fn start_bits_of_the_least_and_the_largest_region(rt: HostRuntime) -> Result<(), Fail> {
-    let mut least = Words::open(rt.alloc(), 4)?;
+fn start_bits_of_the_least_and_the_largest_region(rt: HostRuntime) {
+    let mut least = Words::open(rt.alloc(), 4).expect(&rt, "open");
     check_switches(&rt, &mut least, &[0, 1, 3]);
-    let mut largest = Words::open(rt.alloc(), 1048576)?;
+    let mut largest = Words::open(rt.alloc(), 1048576).expect(&rt, "open");
     check_switches(&rt, &mut largest, &[0, 62, 63, 64, 65, 1048575]);
-    Ok(())
 }
 
 #[test]
-fn want_of_memory_has_words(rt: HostRuntime) -> Result<(), Fail> {
-    let text = NoMemory.to_string(rt.alloc())?;
+fn want_of_memory_has_words(rt: HostRuntime) {
+    let text = NoMemory.to_string(rt.alloc()).expect(&rt, "text");
     same(text.as_str(), "out of memory").expect(&rt, "differ");
-    Ok(())
 }
