@@ -20,10 +20,12 @@ pub fn check_lines<R: Threads + Wait + Abort + Sync>(
     rows: &[(&str, u8, &str)],
 ) {
     for (words, status, line) in rows {
-        let mut streams = Streams::new(alloc, TRACE);
-        let found = streams.run(rt, alloc, words);
-        let told = streams.told(found);
-        same((*words, found, told), (*words, *status, (*line, ""))).expect(rt, "differ");
+        let ending = if *status == 0 {
+            (0, *line, "")
+        } else {
+            (*status, "", *line)
+        };
+        check_run(rt, alloc, words, TRACE, ending);
     }
 }
 
@@ -132,47 +134,66 @@ fn reports_a_fault_of_the_trace(rt: HostRuntime) -> Result<(), Fail> {
     Ok(())
 }
 
-// A read fails, and so may the errors: the run keeps its status, and reports what there is room for.
+/// A read fails, and so may the errors, which take so many bytes: the run keeps its status, and reports what there is room for.
+fn check_failing_read<R: Threads + Wait + Abort + Sync>(
+    rt: &R,
+    alloc: Global,
+    words: &str,
+    room: usize,
+    ending: (u8, &str),
+) {
+    let mut streams = Streams::new(alloc, TRACE);
+    streams.reader.fails_at = 0;
+    streams.errors.room = room;
+    streams.errors.flush_fails = true;
+    let status = streams.run(rt, alloc, words);
+    let found = (status, streams.writer.text(), streams.errors.text());
+    same((words, found), (words, (ending.0, "", ending.1))).expect(rt, "differ");
+}
+
 #[test]
 fn reports_a_read_that_fails(rt: HostRuntime) {
-    let rows = [
-        ("tlsf,replay", usize::MAX, 1, "tlsf: read failed (16)\n"),
-        ("tlsf,replay", 0, 1, ""),
-        ("tlsf,replay", 4, 1, "tlsf"),
-        ("tlsf,replay,--held", 4, 1, "tlsf"),
-        ("tlsf,race", usize::MAX, 1, "tlsf: read failed (16)\n"),
-        ("tlsf,race,--queues", 4, 1, "tlsf"),
-        ("tlsf,check", 4, 1, "tlsf"),
-        ("tlsf,nothing", 0, 2, ""),
-        ("tlsf,nothing", 4, 2, "erro"),
-    ];
-    for (words, room, status, reported) in rows {
-        let mut streams = Streams::new(rt.alloc(), TRACE);
-        streams.reader.fails_at = 0;
-        streams.errors.room = room;
-        streams.errors.flush_fails = true;
-        let found = streams.run(&rt, rt.alloc(), words);
-        let texts = (streams.writer.text(), streams.errors.text());
-        same((words, found, texts), (words, status, ("", reported))).expect(&rt, "differ");
+    for (words, room, ending) in [
+        ("tlsf,replay", usize::MAX, (1, "tlsf: read failed (16)\n")),
+        ("tlsf,replay", 0, (1, "")),
+        ("tlsf,replay", 4, (1, "tlsf")),
+        ("tlsf,replay,--held", 4, (1, "tlsf")),
+        ("tlsf,race", usize::MAX, (1, "tlsf: read failed (16)\n")),
+        ("tlsf,race,--queues", 4, (1, "tlsf")),
+        ("tlsf,check", 4, (1, "tlsf")),
+        ("tlsf,nothing", 0, (2, "")),
+        ("tlsf,nothing", 4, (2, "erro")),
+    ] {
+        check_failing_read(&rt, rt.alloc(), words, room, ending);
     }
 }
 
-// Of a good trace `tlsf check` writes a line. Of a faulty one it reports the fault, and what is noted of it behind that; where the errors
-// take a part alone, that is a prefix of both, and the status is the same.
+const FAULTY: &[u8] = b"tlsf 1 1 64 1\nf 0 9\n";
+
+const FAULTY_TOLD: &str =
+    "tlsf: line 2: label out of order (14)\n  f 0 9\n      ^\n  field 3, the label: one that a line before made; found `9`, which none made\n";
+
+/// Where the errors take so many bytes of what is told of that trace, these are a prefix of it, and the status is the same.
+fn check_short_errors<R: Threads + Wait + Abort + Sync>(rt: &R, alloc: Global, room: usize) {
+    let mut streams = Streams::new(alloc, FAULTY);
+    streams.errors.room = room;
+    let status = streams.run(rt, alloc, "tlsf,check");
+    let errors = streams.errors.text();
+    let is_front = errors.len() == room && FAULTY_TOLD.starts_with(errors);
+    let front = if is_front { errors } else { "no prefix" };
+    let found = (status, streams.writer.text(), front);
+    same(("tlsf,check", found), ("tlsf,check", (1, "", errors))).expect(rt, "differ");
+}
+
+// Of a good trace `tlsf check` writes a line. Of a faulty one it reports the fault, and what is noted of it behind that.
 #[test]
 fn checks_a_trace(rt: HostRuntime) {
     let good = "trace of version 1: 1 worker of 64 words, 0 calls, 1 phase\n";
     check_run(&rt, rt.alloc(), "tlsf,check", TRACE, (0, good, ""));
-    let faulty = b"tlsf 1 1 64 1\nf 0 9\n";
-    let told =
-        "tlsf: line 2: label out of order (14)\n  f 0 9\n      ^\n  field 3, the label: one that a line before made; found `9`, which none made\n";
-    check_run(&rt, rt.alloc(), "tlsf,check", faulty, (1, "", told));
+    let told = (1, "", FAULTY_TOLD);
+    check_run(&rt, rt.alloc(), "tlsf,check", FAULTY, told);
     for room in [10, 37, 38, 50] {
-        let mut streams = Streams::new(rt.alloc(), faulty);
-        streams.errors.room = room;
-        let status = streams.run(&rt, rt.alloc(), "tlsf,check");
-        let found = (status, streams.writer.text(), streams.errors.text());
-        same((room, found), (room, (1, "", &told[..room]))).expect(&rt, "differ");
+        check_short_errors(&rt, rt.alloc(), room);
     }
 }
 
@@ -192,8 +213,13 @@ fn check_unwritten<R: Threads + Wait + Abort + Sync>(
     let status = streams.run(rt, alloc, words);
     let written = streams.writer.text();
     let is_front = written.starts_with(front) && (written.len() > 5) == (room > 5);
-    let found = (words, status, streams.errors.text(), is_front);
-    same(found, (words, 1, "tlsf: write failed (17)\n", true)).expect(rt, "differ");
+    let found = (
+        status,
+        if is_front { front } else { "no such front" },
+        streams.errors.text(),
+    );
+    let wanted = (1, front, "tlsf: write failed (17)\n");
+    same((words, found), (words, wanted)).expect(rt, "differ");
 }
 
 // Be the fault an error of a write, a write that takes no byte, or an error of the flush.
@@ -227,8 +253,13 @@ pub fn check_told<R: Threads + Wait + Abort + Sync>(
         let mut streams = Streams::new(alloc, TRACE);
         let found = streams.run(rt, alloc, words);
         let (told, silent) = streams.told(found);
-        let found = (found, told.contains(*text), silent, streams.reader.reads);
-        same((*words, found), (*words, (*status, true, "", 0))).expect(rt, "differ");
+        let part = if told.contains(*text) { *text } else { told };
+        same(
+            (*words, (found, part, silent)),
+            (*words, (*status, *text, "")),
+        )
+        .expect(rt, "differ");
+        same(streams.reader.reads, 0).expect(rt, "reads");
     }
 }
 
@@ -345,10 +376,21 @@ fn refuses_other_words(rt: HostRuntime) {
     );
 }
 
+/// A run on these words tells how the call reads a trace, and reads none.
+fn check_tip<R: Threads + Wait + Abort + Sync>(rt: &R, alloc: Global, words: &str, call: &str) {
+    let mut streams = Streams::new(alloc, TRACE);
+    let status = streams.run(rt, alloc, words);
+    let told = "tlsf: a trace is read from standard input: tlsf";
+    let tail = streams.errors.text().strip_prefix(told).unwrap_or("");
+    let written = streams.writer.text();
+    let found = (status, written, tail.trim());
+    same((words, found), (words, (2, "", call))).expect(rt, "differ");
+    same(streams.reader.reads, 0).expect(rt, "reads");
+}
+
 // A word behind a command that reads a trace is no file that it opens. The tip has the flag and the first of such words, as they stand.
 #[test]
 fn tells_how_a_file_is_read(rt: HostRuntime) {
-    let told = "tlsf: a trace is read from standard input: tlsf";
     for (words, call) in [
         ("tlsf,replay,first.trace", "replay < first.trace"),
         ("other,replay,--held,a b.trace", "replay --held < a b.trace"),
@@ -361,17 +403,7 @@ fn tells_how_a_file_is_read(rt: HostRuntime) {
         ("tlsf,map,--text,--,-x", "map --text < -x"),
         ("tlsf,map,--at,5,x", "map < x"),
     ] {
-        let mut streams = Streams::new(rt.alloc(), TRACE);
-        let status = streams.run(&rt, rt.alloc(), words);
-        let errors = streams.errors.text();
-        let tail = errors.strip_prefix(told).unwrap_or("");
-        let found = (
-            status,
-            tail.trim(),
-            streams.writer.text(),
-            streams.reader.reads,
-        );
-        same((words, found), (words, (2, call, "", 0))).expect(&rt, "differ");
+        check_tip(&rt, rt.alloc(), words, call);
     }
 }
 
@@ -395,7 +427,8 @@ fn faults_with_their_lines(rt: HostRuntime) -> Result<(), Fail> {
         (17, 0, "write failed (17)", 1),
     ] {
         let found = reported(rt.alloc(), no, line)?;
-        same((found.0.as_str(), found.1), (text, status)).expect(&rt, "differ");
+        let found = (found.1, found.0.as_str(), "");
+        same((text, found), (text, (status, text, ""))).expect(&rt, "differ");
     }
     Ok(())
 }

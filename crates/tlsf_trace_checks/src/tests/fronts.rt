@@ -113,9 +113,13 @@ fn check_front<R: Threads + Wait + Abort + Sync>(
 ) {
     let mut streams = Streams::new(alloc, text);
     let answer = streams.answer(rt, alloc, mode);
-    let behind = streams.writer.text().strip_prefix(replies);
-    let found = (mode, text.len(), answer, behind);
-    same(found, (mode, text.len(), wanted, Some(reports))).expect(rt, "differ");
+    let text = streams.writer.text();
+    let found = (
+        mode.name(),
+        answer,
+        text.strip_prefix(replies).unwrap_or("no such replies"),
+    );
+    same(found, (mode.name(), wanted, reports)).expect(rt, "differ");
 }
 
 /// A text that ends inside a line ends in this fault, and nothing is written.

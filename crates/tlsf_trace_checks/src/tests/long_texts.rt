@@ -30,7 +30,7 @@ fn ending<R: Threads + Wait + Sync>(
     mode: Mode,
     text: Text,
     most: usize,
-) -> (u32, u64) {
+) -> (u32, usize) {
     let Ok(bytes) = bytes_of(alloc, text) else {
         return (TraceFault::NO_MEMORY.no, 0);
     };
@@ -38,7 +38,7 @@ fn ending<R: Threads + Wait + Sync>(
     streams.reader.most = most;
     let answer = streams.answer(rt, alloc, mode);
     let no = answer.err().map_or(0, |fault| fault.no);
-    (no, streams.reader.reads)
+    (no, streams.reader.reads as usize)
 }
 
 const HEADER: &[u8] = b"tlsf 1 1 64 1\n";
@@ -95,7 +95,7 @@ const ROWS: [Row; 21] = [
 fn check_rows<R: Threads + Wait + Abort + Sync>(rt: &R, alloc: Global, mode: Mode, rows: &[Row]) {
     for (i, (text, most, fault)) in rows.iter().enumerate() {
         let (found, _) = ending(rt, alloc, mode, *text, *most);
-        same((mode, i, found), (mode, i, *fault)).expect(rt, "differ");
+        same((mode.name(), i, found), (mode.name(), i, *fault)).expect(rt, "differ");
     }
 }
 
@@ -113,8 +113,8 @@ fn gives_up_on_an_endless_reader(rt: HostRuntime) {
     let endless: Text = (b"", b"a", 2_000_000, b"");
     for mode in MODES {
         for (most, reads) in [(1, 65_536), (4096, 257)] {
-            let found = ending(&rt, rt.alloc(), mode, endless, most);
-            same((mode, found), (mode, (15, reads))).expect(&rt, "differ");
+            let (no, found) = ending(&rt, rt.alloc(), mode, endless, most);
+            same((mode.name(), found, no), (mode.name(), reads, 15)).expect(&rt, "differ");
         }
     }
 }

@@ -1,5 +1,10 @@
 //! Pictures of the heaps of a trace as they stand behind one of its lines.
 use crate::tests::streams::Streams;
+use std::alloc::Global;
+use std::marker::Sync;
+use std::process::Abort;
+use std::sync::Wait;
+use std::thread::Threads;
 use tlsf_fixtures::same;
 
 const TRACE: &[u8] = b"tlsf 1 1 64 1\na 0 1 8\na 0 2 100\nphase\nf 0 1\n";
@@ -22,14 +27,19 @@ const ROWS: [(&str, &[u8]); 7] = [
     ("tlsf,map,--text,--at,4294967295", TRACE),
 ];
 
+/// The picture that the words ask for is the whole picture of the lines up to there.
+fn check_row<R: Threads + Wait + Abort + Sync>(rt: &R, alloc: Global, words: &str, front: &[u8]) {
+    let mut at = Streams::new(alloc, TRACE);
+    let mut alone = Streams::new(alloc, front);
+    let status = at.run(rt, alloc, words);
+    let wanted = alone.run(rt, alloc, "tlsf,map,--text");
+    let drawn = (status, at.writer.text(), at.errors.text());
+    same((words, drawn), (words, (wanted, alone.writer.text(), ""))).expect(rt, "differ");
+}
+
 #[test]
 fn heaps_behind_a_line_are_those_that_the_lines_up_to_it_leave(rt: HostRuntime) {
-    for (words, front) in ROWS {
-        let mut at = Streams::new(rt.alloc(), TRACE);
-        let mut alone = Streams::new(rt.alloc(), front);
-        let status = at.run(&rt, rt.alloc(), words);
-        let wanted = alone.run(&rt, rt.alloc(), "tlsf,map,--text");
-        let drawn = (status, at.writer.text(), at.errors.text());
-        same((words, drawn), (words, (wanted, alone.writer.text(), ""))).expect(&rt, "differ");
+    for (words, front) in &ROWS {
+        check_row(&rt, rt.alloc(), words, front);
     }
 }

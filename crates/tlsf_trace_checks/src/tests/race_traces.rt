@@ -35,7 +35,8 @@ fn check_raced<T: Threads + Wait + Abort + Sync>(
         let mut streams = Streams::new(alloc, text);
         streams.writer.room = room;
         let answer = streams.answer(rt, alloc, mode);
-        same((answer, streams.writer.text()), wanted).expect(rt, "differ");
+        let found = (mode.name(), answer, streams.writer.text());
+        same(found, (mode.name(), wanted.0, wanted.1)).expect(rt, "differ");
     }
 }
 

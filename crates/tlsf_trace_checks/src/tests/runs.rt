@@ -2,6 +2,7 @@
 use crate::tests::streams::{MODES, Mode, Streams};
 use std::alloc::Global;
 use std::marker::Sync;
+use std::process::Abort;
 use std::sync::Wait;
 use std::thread::Threads;
 use tlsf_fixtures::same;
@@ -43,7 +44,8 @@ fn first_trace(rt: HostRuntime) {
     for mode in MODES {
         for most in [1, 7, 4096] {
             let found = ending(&rt, rt.alloc(), mode, most, usize::MAX, true, false);
-            same((mode, found), (mode, (Ok(done), Some(150)))).expect(&rt, "differ");
+            let name = mode.name();
+            same((name, found), (name, (Ok(done), Some(150)))).expect(&rt, "differ");
         }
     }
 }
@@ -53,29 +55,28 @@ fn first_trace(rt: HostRuntime) {
 fn a_front_is_written(rt: HostRuntime) {
     let unwritten = Err(TraceFault::WRITE);
     for mode in MODES {
+        let name = mode.name();
         for room in 0..150 {
             for fails_when_full in [true, false] {
                 let found = ending(&rt, rt.alloc(), mode, 16, room, fails_when_full, false);
-                same((mode, found), (mode, (unwritten, Some(room)))).expect(&rt, "differ");
+                same((name, found), (name, (unwritten, Some(room)))).expect(&rt, "differ");
             }
         }
         let flushed = ending(&rt, rt.alloc(), mode, 16, usize::MAX, true, true);
-        same((mode, flushed), (mode, (unwritten, Some(150)))).expect(&rt, "differ");
+        same((name, flushed), (name, (unwritten, Some(150)))).expect(&rt, "differ");
     }
 }
 
-/// What a run answers where a read of one byte fails, how many reads there were, and how many bytes were written.
-fn failing_read<R: Threads + Wait + Sync>(
-    rt: &R,
-    alloc: Global,
-    mode: Mode,
-    fails_at: u64,
-) -> (Result<Summary, TraceFault>, u64, usize) {
+/// A run ends where a read of one byte fails, and nothing is written.
+fn check_stop<R: Threads + Wait + Abort + Sync>(rt: &R, alloc: Global, mode: Mode, fails_at: u64) {
     let mut streams = Streams::new(alloc, FIRST_TRACE);
     streams.reader.most = 1;
     streams.reader.fails_at = fails_at;
     let answer = streams.answer(rt, alloc, mode);
-    (answer, streams.reader.reads, streams.writer.held.len())
+    let found = (answer, Some(streams.writer.held.len()));
+    let (name, failed) = (mode.name(), Err(TraceFault::READ));
+    same((name, found), (name, (failed, Some(0)))).expect(rt, "differ");
+    same(streams.reader.reads, fails_at.saturating_add(1)).expect(rt, "reads");
 }
 
 // The last of them would show the end.
@@ -83,9 +84,7 @@ fn failing_read<R: Threads + Wait + Sync>(
 fn stops_at_a_read_that_fails(rt: HostRuntime) {
     for mode in MODES {
         for fails_at in 0..39 {
-            let found = failing_read(&rt, rt.alloc(), mode, fails_at);
-            let wanted = (Err(TraceFault::READ), fails_at.saturating_add(1), 0);
-            same((mode, found), (mode, wanted)).expect(&rt, "differ");
+            check_stop(&rt, rt.alloc(), mode, fails_at);
         }
     }
 }
@@ -96,16 +95,21 @@ const RESIZES: &[u8] = b"tlsf 1 1 64 1\na 0 1 8\nr 0 1 100\nr 0 1 1000\nf 0 1\nr
 const RESIZES_TEXT: &str =
     "0 a 1 at 0 serial 1\n0 r 1 resized\n0 r 1 refused 10\n0 f 1 freed\n0 r 1 refused 4\n0 d drained 0\nheap 0 live 0 0 0 free 1 64 largest 64 grant 488 fragmentation 0 waste 0 age 1\n";
 
-#[test]
-fn resizes_are_calls(rt: HostRuntime) {
+/// What a run of that trace answers and writes.
+fn check_resizes<R: Threads + Wait + Abort + Sync>(rt: &R, alloc: Global, mode: Mode) {
     let done = Ok(Summary {
         calls: 5,
         bytes: 172,
     });
+    let mut streams = Streams::new(alloc, RESIZES);
+    let answer = streams.answer(rt, alloc, mode);
+    let found = (mode.name(), answer, streams.writer.text());
+    same(found, (mode.name(), done, RESIZES_TEXT)).expect(rt, "differ");
+}
+
+#[test]
+fn resizes_are_calls(rt: HostRuntime) {
     for mode in MODES {
-        let mut streams = Streams::new(rt.alloc(), RESIZES);
-        let answer = streams.answer(&rt, rt.alloc(), mode);
-        let found = (mode, answer, streams.writer.text());
-        same(found, (mode, done, RESIZES_TEXT)).expect(&rt, "differ");
+        check_resizes(&rt, rt.alloc(), mode);
     }
 }

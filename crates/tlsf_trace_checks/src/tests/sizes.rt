@@ -2,6 +2,11 @@
 
 use crate::tests::commands::{check_lines, check_told};
 use crate::tests::streams::Streams;
+use std::alloc::Global;
+use std::marker::Sync;
+use std::process::Abort;
+use std::sync::Wait;
+use std::thread::Threads;
 use tlsf_fixtures::same;
 
 #[test]
@@ -144,10 +149,26 @@ fn tells_what_a_size_is(rt: HostRuntime) {
     );
 }
 
+/// A run on these words ends with status 2, and with the tip on plain digits or without.
+fn check_digits<R: Threads + Wait + Abort + Sync>(
+    rt: &R,
+    alloc: Global,
+    words: &str,
+    tipped: bool,
+) {
+    let tip = "tip: numbers are plain digits, as 65536 for 64 KiB\n";
+    let mut streams = Streams::new(alloc, b"");
+    let status = streams.run(rt, alloc, words);
+    let errors = streams.errors.text();
+    let end = if errors.ends_with(tip) { tip } else { "" };
+    let found = (status, streams.writer.text(), end);
+    let wanted = if tipped { tip } else { "" };
+    same((words, found), (words, (2, "", wanted))).expect(rt, "differ");
+}
+
 // A number with more in it than digits is refused with a tip, one way for every number of the command line, and no other word is.
 #[test]
 fn tells_how_numbers_are_written(rt: HostRuntime) {
-    let tip = "tip: numbers are plain digits, as 65536 for 64 KiB\n";
     for (words, tipped) in [
         ("tlsf,classes,1k", true),
         ("tlsf,classes,460,--sli,5x", true),
@@ -159,10 +180,6 @@ fn tells_how_numbers_are_written(rt: HostRuntime) {
         ("tlsf,size,--blocks,0,--bytes,64", false),
         ("tlsf,2nd", false),
     ] {
-        let mut streams = Streams::new(rt.alloc(), b"");
-        let status = streams.run(&rt, rt.alloc(), words);
-        let errors = streams.errors.text();
-        let found = (status, errors.ends_with(tip), streams.writer.text());
-        same((words, found), (words, (2, tipped, ""))).expect(&rt, "differ");
+        check_digits(&rt, rt.alloc(), words, tipped);
     }
 }

@@ -10,11 +10,22 @@ use tlsf_crew::OpenGate;
 use tlsf_trace::{Summary, TraceFault, race_trace, race_trace_over_queues, replay};
 
 /// How a trace is run.
-#[derive(Clone, Copy, Debug, PartialEq, Eq)]
+#[derive(Clone, Copy)]
 pub enum Mode {
     Replay,
     Race,
     RaceQueues,
+}
+
+impl Mode {
+    /// What a failed check calls it.
+    pub fn name(self) -> &'static str {
+        match self {
+            Mode::Replay => "replay",
+            Mode::Race => "race",
+            Mode::RaceQueues => "race over queues",
+        }
+    }
 }
 
 pub const MODES: [Mode; 3] = [Mode::Replay, Mode::Race, Mode::RaceQueues];

@@ -20,7 +20,10 @@ fn read(worker: &mut QueueWorker<4>, name: Name, at: u32, n: u32) -> Result<Repl
         return Err(CrewRefusal::Unmade);
     };
     worker.read(name, at, part)?;
-    Ok(Chunk::new(part).map_or(Reply::Empty, Reply::Got))
+    match Chunk::new(part) {
+        Some(chunk) => Ok(Reply::Got(chunk)),
+        None => Ok(Reply::Empty),
+    }
 }
 
 /// Frees a name of the own heap, and posts another's.
@@ -32,10 +35,11 @@ fn let_go<R: Wait>(
 ) -> Result<Reply, CrewRefusal> {
     if name.heap == at {
         worker.free(name)?;
-        return Ok(Reply::Freed);
+        Ok(Reply::Freed)
+    } else {
+        worker.post(rt, name)?;
+        Ok(Reply::Posted)
     }
-    worker.post(rt, name)?;
-    Ok(Reply::Posted)
 }
 
 /// What a worker answers to one of its calls, as a reply of an event would say it.
@@ -69,7 +73,10 @@ fn reply<R: Wait>(
             worker.resize(name, len)?;
             Ok(Reply::Resized)
         }
-        Call::Take { .. } => Ok(worker.take(rt).map_or(Reply::Empty, Reply::Took)),
+        Call::Take { .. } => match worker.take(rt) {
+            Some(took) => Ok(Reply::Took(took)),
+            None => Ok(Reply::Empty),
+        },
         Call::Drain { most } => Ok(Reply::Drained(worker.drain(rt, most).taken)),
         _ => Err(CrewRefusal::Unmade),
     }
@@ -79,7 +86,10 @@ fn reply<R: Wait>(
 fn check_calls<R: Abort + Wait>(rt: &R, workers: &mut [QueueWorker<4>], rows: &[(Event, Reply)]) {
     for (i, (event, wanted)) in rows.iter().enumerate() {
         if let Some(worker) = workers.get_mut(event.worker as usize) {
-            let found = reply(rt, worker, event).unwrap_or_else(Reply::Refused);
+            let found = match reply(rt, worker, event) {
+                Ok(found) => found,
+                Err(why) => Reply::Refused(why),
+            };
             same((i, found), (i, *wanted)).expect(rt, "differ");
         }
     }
@@ -146,59 +156,64 @@ fn own_calls_of_a_queue_worker(rt: HostRuntime) -> Result<(), Fail> {
         (write(0, block, 0, bytes), Reply::Wrote(2)),
     ];
     check_calls(&rt, &mut workers, &rows);
-    let worker = workers.first_mut().ok_or("two workers")?;
+    assert!(rt; workers.len() == 2);
     let foreign = Err(CrewRefusal::Heap(Refusal::Foreign));
     let wanted = ([Ok(Some(0xc4c2)); 2], [foreign; 2], (1, 8));
-    same(own_calls(&rt, worker, block), wanted).expect(&rt, "differ");
+    same(own_calls(&rt, &mut workers[0], block), wanted).expect(&rt, "differ");
     Ok(())
 }
 
-/// Moves two workers into threads of their own, where each posts the name of a block, and takes them back.
+/// Moves a worker into a thread, where it posts the name of a block while another worker posts one here, and takes it back.
 fn post_away<R: Threads + Wait + Sync>(
     rt: &R,
-    one: QueueWorker<4>,
-    two: QueueWorker<4>,
-    blocks: (Name, Name),
-) -> Result<(QueueWorker<4>, QueueWorker<4>), AllocError> {
+    moved: QueueWorker<4>,
+    here: &mut QueueWorker<4>,
+    blocks: [Name; 2],
+) -> Result<QueueWorker<4>, AllocError> {
     thread::scope(thread::scope_env(), rt, move |scope| {
-        let first = scope.spawn(move || {
-            let mut worker = one;
-            let _ = worker.post(rt, blocks.0);
+        let child = scope.spawn(move || {
+            let mut worker = moved;
+            let _ = worker.post(rt, blocks[0]);
             worker
         })?;
-        let second = scope.spawn(move || {
-            let mut worker = two;
-            let _ = worker.post(rt, blocks.1);
-            worker
-        })?;
-        Ok((first.join(rt), second.join(rt)))
+        let _ = here.post(rt, blocks[1]);
+        Ok(child.join(rt))
     })
 }
 
+/// The last worker posts from a thread of its own, and the one before it posts here.
+fn post_at_once<R: Threads + Wait + Sync>(
+    rt: &R,
+    workers: &mut Vec<QueueWorker<4>>,
+    blocks: [Name; 2],
+) -> Result<(), Fail> {
+    let moved = workers.pop().ok_or("the last worker")?;
+    let here = workers.last_mut().ok_or("one before it")?;
+    let moved = post_away(rt, moved, here, blocks)?;
+    workers.push(moved)?;
+    Ok(())
+}
+
 #[test]
-fn queue_workers_come_back_from_threads(rt: HostRuntime) -> Result<(), Fail> {
+fn queue_worker_comes_back_from_a_thread(rt: HostRuntime) -> Result<(), Fail> {
     let mut workers = open_queue_yard::<4>(rt.alloc(), 3, 64, 2)?;
-    let blocks = (name(0, 0, 1), name(0, 4, 2));
+    let blocks = [name(0, 0, 1), name(0, 4, 2)];
     let rows = [
-        (allocate(0, 8), Reply::Made(blocks.0)),
-        (allocate(0, 8), Reply::Made(blocks.1)),
+        (allocate(0, 8), Reply::Made(blocks[0])),
+        (allocate(0, 8), Reply::Made(blocks[1])),
     ];
     check_calls(&rt, &mut workers, &rows);
-    let two = workers.pop().ok_or("the third of three workers")?;
-    let one = workers.pop().ok_or("the second of three workers")?;
-    let (one, two) = post_away(&rt, one, two, blocks)?;
-    workers.push(one)?;
-    workers.push(two)?;
+    post_at_once(&rt, &mut workers, blocks)?;
+    let full = Reply::Refused(CrewRefusal::Full(blocks[0]));
     let rows = [
-        (
-            release_of(1, blocks.0),
-            Reply::Refused(CrewRefusal::Full(blocks.0)),
-        ),
+        (release_of(1, blocks[0]), full),
+        (release_of(2, blocks[0]), full),
         (drain(0, 8), Reply::Drained(2)),
         (drain(0, 8), Reply::Drained(0)),
     ];
     check_calls(&rt, &mut workers, &rows);
-    let report = workers.first_mut().ok_or("three workers")?.report();
+    assert!(rt; workers.len() == 3);
+    let report = workers[0].report();
     same((report.live_blocks, report.free_blocks), (0, 1)).expect(&rt, "differ");
     Ok(())
 }

@@ -10,8 +10,8 @@ use std::sync::atomic::{AtomicU64, Ordering};
 use std::test::Fail;
 use std::thread::{Threads, join_mut};
 use tlsf_crew::{
-    Call, CrewRefusal, Entry, Event, Gate, OpenGate, Released, Reply, Target, Worker, open_yard,
-    race, replay_events, settle,
+    Call, CrewRefusal, Entry, Event, Gate, Released, Reply, Target, Worker, open_yard, race,
+    replay_events, settle,
 };
 use tlsf_fixtures::{name, same};
 use tlsf_heap::{Name, Refusal};
@@ -45,73 +45,149 @@ pub(crate) fn last(worker: u32, taken: u32) -> Entry {
     entry(worker, Call::Drain { most: 8192 }, Reply::Drained(taken))
 }
 
-/// A yard of two workers whose heaps have 64 words, after some events.
-fn two_workers(alloc: Global, capacity: u32, events: &[Event]) -> Result<Vec<Worker<4>>, Fail>
+/// A gate that counts, so that one type has all plans of a race. Each step of a plan has a worker and the index of a pass, how
+/// much it adds to the count there, and the count that it then waits for.
+#[derive(Drop)]
+pub(crate) struct Steps<'a> {
+    plan: &'a [[u64; 4]],
+    count: AtomicU64,
+    missed: AtomicU64,
+}
+
+impl<'a> Steps<'a> {
+    pub(crate) fn new(plan: &'a [[u64; 4]]) -> Steps<'a> {
+        Steps {
+            plan,
+            count: AtomicU64::new(0),
+            missed: AtomicU64::new(0),
+        }
+    }
+
+    /// The count in the end, and how many waited in vain.
+    pub(crate) fn met(&self) -> (u64, u64) {
+        let count = self.count.load(Ordering::SeqCst);
+        (count, self.missed.load(Ordering::SeqCst))
+    }
+
+    /// Turns until the count is reached.
+    fn wait_for(&self, count: u64) {
+        for _ in 0..TURNS {
+            if self.count.load(Ordering::SeqCst) >= count {
+                return;
+            }
+        }
+        self.missed.fetch_add(1, Ordering::SeqCst);
+    }
+}
+
+impl Gate for Steps<'_> {
+    fn pass(&self, worker: u32, index: u32) {
+        for step in self.plan {
+            if step[0] == u64::from(worker) && step[1] == u64::from(index) {
+                self.count.fetch_add(step[2], Ordering::SeqCst);
+                self.wait_for(step[3]);
+            }
+        }
+    }
+}
+
+/// A plan by which so many workers wait for all of them before their first call.
+pub(crate) fn all_here(count: u64) -> [[u64; 4]; 8] {
+    [
+        [0, 0, 1, count],
+        [1, 0, 1, count],
+        [2, 0, 1, count],
+        [3, 0, 1, count],
+        [4, 0, 1, count],
+        [5, 0, 1, count],
+        [6, 0, 1, count],
+        [7, 0, 1, count],
+    ]
+}
+
+/// The scripts of a race.
+pub(crate) fn scripts_of(
+    rt: &impl Abort,
+    alloc: Global,
+    scripts: &[&[Call]],
+) -> Result<Vec<Vec<Call>>, AllocError>
+    ensures short { IfOk result (λ scripts. All (λ s. vec_len s < 2 ^ 32) scripts.items) }
+{
+    let mut all = Vec::new(alloc);
+    for script in scripts {
+        assert!(rt; script.len() < 1 << 32);
+        all.push(script.to_vec(alloc)?)?;
+    }
+    Ok(all)
+}
+
+/// The record of a worker.
+pub(crate) fn record_of(records: &[Vec<Entry>], worker: usize) -> &[Entry] {
+    match records.get(worker) {
+        Some(record) => record.as_slice(),
+        None => &[],
+    }
+}
+
+/// The records are those that are wanted.
+pub(crate) fn check_records(rt: &impl Abort, records: &[Vec<Entry>], wanted: &[&[Entry]]) {
+    for i in 0..wanted.len() {
+        same(record_of(records, i), wanted[i]).expect(rt, "differ");
+    }
+}
+
+/// A yard of so many workers whose heaps have 64 words, after some events.
+fn opened(alloc: Global, n: u32, capacity: u32, events: &[Event]) -> Result<Vec<Worker<4>>, Fail>
     ensures { IfOk result (λ workers. IsYard workers.items) }
 {
-    let mut workers = open_yard::<4>(alloc, 2, 64, capacity)?;
+    let mut workers = open_yard::<4>(alloc, n, 64, capacity)?;
     let _ = replay_events(alloc, &mut workers, events)?;
     Ok(workers)
 }
 
-/// A script for each of two workers.
-pub(crate) fn two_scripts(
+/// The records of so many workers that run a script each behind some events.
+fn raced<R: Threads + Wait + Abort + Sync>(
+    rt: &R,
     alloc: Global,
-    first: &[Call],
-    second: &[Call],
-) -> Result<Vec<Vec<Call>>, AllocError>
-    requires first_short { length first.now < 2 ^ 32 }
-    requires second_short { length second.now < 2 ^ 32 }
-    ensures two { IfOk result (λ scripts. vec_len scripts ≡ 2) }
-    ensures short { IfOk result (λ scripts. All (λ s. vec_len s < 2 ^ 32) scripts.items) }
-{
-    let first = first.to_vec(alloc)?;
-    let second = second.to_vec(alloc)?;
-    Ok(vec![in alloc; first, second]?)
-}
-
-/// The records are those that are wanted.
-pub(crate) fn check_records(rt: &impl Abort, records: &[Vec<Entry>], wanted: [&[Entry]; 2]) {
-    for (i, wanted) in wanted.iter().enumerate() {
-        let found = records.get(i).map(Vec::as_slice);
-        same(found, Some(*wanted)).expect(rt, "differ");
-    }
+    start: (u32, u32, &[Event]),
+    scripts: &[&[Call]],
+    gate: &Steps,
+) -> Result<Vec<Vec<Entry>>, Fail> {
+    let (n, capacity, events) = start;
+    let workers = opened(alloc, n, capacity, events)?;
+    let scripts = scripts_of(rt, alloc, scripts)?;
+    assert!(rt; scripts.len() == workers.len());
+    let outcome = race(rt, alloc, workers, scripts, gate)?;
+    Ok(outcome.records)
 }
 
 /// Two workers run a script each behind some events, and their records are those that are wanted.
-fn check_race<R: Threads + Wait + Abort + Sync, G: Gate>(
+fn check_race<R: Threads + Wait + Abort + Sync>(
     rt: &R,
     alloc: Global,
     start: (u32, &[Event]),
-    first: &[Call],
-    second: &[Call],
-    gate: &G,
-    wanted: [&[Entry]; 2],
-) -> Result<(), Fail>
-    requires first_short { length first.now < 2 ^ 32 }
-    requires second_short { length second.now < 2 ^ 32 }
-{
+    scripts: &[&[Call]],
+    gate: &Steps,
+    wanted: &[&[Entry]],
+) -> Result<(), Fail> {
     let (capacity, events) = start;
-    let workers = two_workers(alloc, capacity, events)?;
-    assert!(rt; workers.len() == 2);
-    let scripts = two_scripts(alloc, first, second)?;
-    let outcome = race(rt, alloc, workers, scripts, gate)?;
-    check_records(rt, &outcome.records, wanted);
+    let records = raced(rt, alloc, (2, capacity, events), scripts, gate)?;
+    check_records(rt, &records, wanted);
     Ok(())
 }
 
 // The lane of one slot is full. A worker resizes its own blocks, and not another's, whatever that one does meanwhile.
 #[test]
 fn two_workers_race(rt: HostRuntime) -> Result<(), Fail> {
+    let open = Steps::new(&[]);
     let own = [name(0, 0, 1), name(1, 0, 1)];
     check_race(
         &rt,
         rt.alloc(),
         (4, &[allocate(0, 8), allocate(1, 8)]),
-        &[release(own[1])],
-        &[release(own[0])],
-        &OpenGate,
-        [
+        &[&[release(own[1])], &[release(own[0])]],
+        &open,
+        &[
             &[posted(0, own[1]), taken(0, 1, own[0]), last(0, 1)],
             &[posted(1, own[0]), taken(1, 0, own[1]), last(1, 1)],
         ],
@@ -122,10 +198,9 @@ fn two_workers_race(rt: HostRuntime) -> Result<(), Fail> {
         &rt,
         rt.alloc(),
         (1, &[allocate(0, 8), allocate(0, 8)]),
-        &[],
-        &[release(blocks[0]), release(blocks[1])],
-        &OpenGate,
-        [
+        &[&[], &[release(blocks[0]), release(blocks[1])]],
+        &open,
+        &[
             &[taken(0, 1, blocks[0]), last(0, 1)],
             &[
                 posted(1, blocks[0]),
@@ -143,88 +218,13 @@ fn two_workers_race(rt: HostRuntime) -> Result<(), Fail> {
         &rt,
         rt.alloc(),
         (4, &[allocate(0, 8)]),
-        &[longer],
-        &[longer],
-        &OpenGate,
-        [
+        &[&[longer], &[longer]],
+        &open,
+        &[
             &[entry(0, longer, Reply::Resized), last(0, 0)],
             &[entry(1, longer, foreign), last(1, 0)],
         ],
     )
-}
-
-/// A gate at which all wait for all before their first call.
-#[derive(Drop)]
-pub(crate) struct AllHere {
-    flags: [AtomicU64; 8],
-    count: usize,
-    missed: AtomicU64,
-}
-
-fn flags() -> [AtomicU64; 8] {
-    [
-        AtomicU64::new(0),
-        AtomicU64::new(0),
-        AtomicU64::new(0),
-        AtomicU64::new(0),
-        AtomicU64::new(0),
-        AtomicU64::new(0),
-        AtomicU64::new(0),
-        AtomicU64::new(0),
-    ]
-}
-
-impl AllHere {
-    pub(crate) fn new(count: usize) -> AllHere {
-        AllHere {
-            flags: flags(),
-            count,
-            missed: AtomicU64::new(0),
-        }
-    }
-
-    /// Whether all came, and none of them waited in vain.
-    pub(crate) fn all_met(&self) -> bool {
-        self.all_set() && self.missed.load(Ordering::SeqCst) == 0
-    }
-
-    fn all_set(&self) -> bool {
-        for flag in self.flags.iter().take(self.count) {
-            if flag.load(Ordering::SeqCst) == 0 {
-                return false;
-            }
-        }
-        true
-    }
-}
-
-impl Gate for AllHere {
-    fn pass(&self, worker: u32, index: u32) {
-        if index > 0 {
-            return;
-        }
-        if let Some(flag) = self.flags.get(worker as usize) {
-            flag.store(1, Ordering::SeqCst);
-        }
-        for _ in 0..TURNS {
-            if self.all_set() {
-                return;
-            }
-        }
-        self.missed.store(1, Ordering::SeqCst);
-    }
-}
-
-/// One allocate for each of so many workers.
-pub(crate) fn one_call_each(alloc: Global, count: usize) -> Result<Vec<Vec<Call>>, AllocError>
-    ensures count { IfOk result (λ scripts. vec_len scripts ≡ count) }
-    ensures short { IfOk result (λ scripts. All (λ s. vec_len s < 2 ^ 32) scripts.items) }
-{
-    let mut scripts = Vec::new(alloc);
-    for _ in 0..count {
-        scripts.push(vec![in alloc; Call::Allocate { len: 8 }]?)?;
-    }
-    Ok(scripts)
 }
 
 /// Whether each of the records has two entries.
@@ -237,75 +237,32 @@ pub(crate) fn have_two(records: &[Vec<Entry>]) -> bool {
     true
 }
 
-/// Whether all of so many workers met at the gate, and each has a record of its one call and its last drain.
-fn all_meet<R: Threads + Wait + Sync>(rt: &R, alloc: Global, count: u32) -> Result<bool, Fail> {
-    let workers = open_yard::<4>(alloc, count, 64, 1)?;
-    let scripts = one_call_each(alloc, workers.len())?;
-    let gate = AllHere::new(workers.len());
-    let outcome = race(rt, alloc, workers, scripts, &gate)?;
-    Ok(have_two(&outcome.records) && gate.all_met())
+/// An allocate for each of the workers.
+pub(crate) const ALLOCATES: [&[Call]; 8] = [&[Call::Allocate { len: 8 }]; 8];
+
+/// So many workers all meet at the gate, and each has a record of its one call and its last drain.
+fn check_meeting<R: Threads + Wait + Abort + Sync>(
+    rt: &R,
+    alloc: Global,
+    count: u32,
+) -> Result<(), Fail> {
+    let plan = all_here(u64::from(count));
+    let gate = Steps::new(&plan);
+    let here = count as usize;
+    assert!(rt; here <= ALLOCATES.len());
+    let scripts = &ALLOCATES[..here];
+    let records = raced(rt, alloc, (count, 1, &[]), scripts, &gate)?;
+    let found = (gate.met(), records.len(), have_two(&records));
+    let wanted = ((u64::from(count), 0), here, true);
+    same(found, wanted).expect(rt, "differ");
+    Ok(())
 }
 
 // A race on one thread gives the same records. There the first worker would wait at the gate for the others.
 #[test]
 fn threads_run_at_once(rt: HostRuntime) -> Result<(), Fail> {
-    let met = [all_meet(&rt, rt.alloc(), 2)?, all_meet(&rt, rt.alloc(), 8)?];
-    same(met, [true; 2]).expect(&rt, "differ");
-    Ok(())
-}
-
-/// A gate at which the worker that takes waits for the first post, and the one that posts waits for its slot.
-#[derive(Drop)]
-pub(crate) struct InTurn {
-    posted: AtomicU64,
-    taken: AtomicU64,
-    missed: AtomicU64,
-}
-
-impl InTurn {
-    pub(crate) fn new() -> InTurn {
-        InTurn {
-            posted: AtomicU64::new(0),
-            taken: AtomicU64::new(0),
-            missed: AtomicU64::new(0),
-        }
-    }
-
-    /// Whether nobody waited in vain.
-    pub(crate) fn all_met(&self) -> bool {
-        self.missed.load(Ordering::SeqCst) == 0
-    }
-
-    /// Turns until a flag is set.
-    fn wait_for(&self, flag: &AtomicU64) {
-        if !is_set_in_time(flag) {
-            self.missed.store(1, Ordering::SeqCst);
-        }
-    }
-}
-
-/// Turns until a flag is set, and says whether it was.
-pub(crate) fn is_set_in_time(flag: &AtomicU64) -> bool {
-    for _ in 0..TURNS {
-        if flag.load(Ordering::SeqCst) == 1 {
-            return true;
-        }
-    }
-    false
-}
-
-impl Gate for InTurn {
-    fn pass(&self, worker: u32, index: u32) {
-        match (worker, index) {
-            (0, 0) => self.wait_for(&self.posted),
-            (1, 1) => {
-                self.posted.store(1, Ordering::SeqCst);
-                self.wait_for(&self.taken);
-            }
-            (0, 1) => self.taken.store(1, Ordering::SeqCst),
-            _ => {}
-        }
-    }
+    check_meeting(&rt, rt.alloc(), 2)?;
+    check_meeting(&rt, rt.alloc(), 8)
 }
 
 // The lane has one slot. A lane whose posts pass, or whose slots come back, only once both ends are in one thread again
@@ -313,20 +270,23 @@ impl Gate for InTurn {
 #[test]
 fn slot_comes_back_while_workers_run(rt: HostRuntime) -> Result<(), Fail> {
     let blocks = [name(0, 0, 1), name(0, 4, 2)];
-    let gate = InTurn::new();
+    // The take waits for the first post, and the second release for its slot.
+    let gate = Steps::new(&[[0, 0, 0, 1], [1, 1, 1, 2], [0, 1, 1, 0]]);
     check_race(
         &rt,
         rt.alloc(),
         (1, &[allocate(0, 8), allocate(0, 8)]),
-        &[Call::Take { from: 1 }],
-        &[release(blocks[0]), release(blocks[1])],
+        &[
+            &[Call::Take { from: 1 }],
+            &[release(blocks[0]), release(blocks[1])],
+        ],
         &gate,
-        [
+        &[
             &[taken(0, 1, blocks[0]), taken(0, 1, blocks[1]), last(0, 1)],
             &[posted(1, blocks[0]), posted(1, blocks[1]), last(1, 0)],
         ],
     )?;
-    same(gate.all_met(), true).expect(&rt, "differ");
+    same(gate.met(), (2, 0)).expect(&rt, "differ");
     Ok(())
 }
 
@@ -354,7 +314,7 @@ fn release_at_once<R: Threads>(
 #[test]
 fn settled_after_own_threads(rt: HostRuntime) -> Result<(), Fail> {
     let own = [name(0, 0, 1), name(1, 0, 1)];
-    let mut workers = two_workers(rt.alloc(), 4, &[allocate(0, 8), allocate(1, 8)])?;
+    let mut workers = opened(rt.alloc(), 2, 4, &[allocate(0, 8), allocate(1, 8)])?;
     assert!(rt; workers.len() == 2);
     let answers = release_at_once(&rt, &mut workers, [own[1], own[0]]);
     same(answers, (Ok(Released::Posted), Ok(Released::Posted))).expect(&rt, "differ");

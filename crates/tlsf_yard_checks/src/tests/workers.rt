@@ -8,7 +8,6 @@ use std::thread;
 use std::thread::Threads;
 use tlsf_crew::{
     Call, Chunk, CrewRefusal, Drained, Event, Released, Reply, Target, Worker, open_yard,
-    replay_events, settle,
 };
 use tlsf_fixtures::{name, same};
 use tlsf_heap::{Name, Refusal};
@@ -20,7 +19,10 @@ fn read(worker: &mut Worker<4>, name: Name, at: u32, n: u32) -> Result<Reply, Cr
         return Err(CrewRefusal::Unmade);
     };
     worker.read(name, at, part)?;
-    Ok(Chunk::new(part).map_or(Reply::Empty, Reply::Got))
+    match Chunk::new(part) {
+        Some(chunk) => Ok(Reply::Got(chunk)),
+        None => Ok(Reply::Empty),
+    }
 }
 
 /// What a worker answers to one of its calls, as a reply of an event would say it.
@@ -66,10 +68,24 @@ fn reply(worker: &mut Worker<4>, call: &Call) -> Result<Reply, CrewRefusal> {
 fn check_calls(rt: &impl Abort, workers: &mut [Worker<4>], rows: &[(Event, Reply)]) {
     for (i, (event, wanted)) in rows.iter().enumerate() {
         if let Some(worker) = workers.get_mut(event.worker as usize) {
-            let found = reply(worker, &event.call).unwrap_or_else(Reply::Refused);
+            let found = match reply(worker, &event.call) {
+                Ok(found) => found,
+                Err(why) => Reply::Refused(why),
+            };
             same((i, found), (i, *wanted)).expect(rt, "differ");
         }
     }
+}
+
+/// Two workers whose lanes have one slot, behind calls that are answered so.
+fn after_calls(
+    rt: &impl Abort,
+    alloc: Global,
+    rows: &[(Event, Reply)],
+) -> Result<Vec<Worker<4>>, Fail> {
+    let mut workers = open_yard::<4>(alloc, 2, 64, 1)?;
+    check_calls(rt, &mut workers, rows);
+    Ok(workers)
 }
 
 pub fn release_of(worker: u32, name: Name) -> Event {
@@ -113,7 +129,6 @@ pub const STRANGER: Reply = Reply::Refused(CrewRefusal::Stranger);
 fn calls_of_a_worker(rt: HostRuntime) -> Result<(), Fail> {
     let bytes = Chunk::new(b"ab").ok_or("up to 64 bytes")?;
     let read = Chunk::new(b"ab\0").ok_or("up to 64 bytes")?;
-    let mut workers = open_yard::<4>(rt.alloc(), 2, 64, 1)?;
     let block = name(0, 0, 1);
     let rows = [
         (allocate(0, 2), Reply::Made(block)),
@@ -139,7 +154,7 @@ fn calls_of_a_worker(rt: HostRuntime) -> Result<(), Fail> {
         (take(0, 0), STRANGER),
         (drain(0, 8), Reply::Drained(0)),
     ];
-    check_calls(&rt, &mut workers, &rows);
+    let _ = after_calls(&rt, rt.alloc(), &rows)?;
     Ok(())
 }
 
@@ -168,17 +183,16 @@ fn handed_out(worker: &mut Worker<4>, block: Name) -> Handed {
 #[test]
 fn payloads_of_a_worker(rt: HostRuntime) -> Result<(), Fail> {
     let bytes = Chunk::new(b"ab").ok_or("up to 64 bytes")?;
-    let mut workers = open_yard::<4>(rt.alloc(), 2, 64, 1)?;
     let block = name(0, 0, 1);
     let rows = [
         (allocate(0, 8), Reply::Made(block)),
         (write(0, block, 0, bytes), Reply::Wrote(2)),
     ];
-    check_calls(&rt, &mut workers, &rows);
-    let worker = workers.first_mut().ok_or("two workers")?;
-    let own = handed_out(worker, block);
-    let other = handed_out(worker, name(1, 0, 1));
-    let gone = handed_out(worker, name(0, 0, 2));
+    let mut workers = after_calls(&rt, rt.alloc(), &rows)?;
+    assert!(rt; workers.len() == 2);
+    let own = handed_out(&mut workers[0], block);
+    let other = handed_out(&mut workers[0], name(1, 0, 1));
+    let gone = handed_out(&mut workers[0], name(0, 0, 2));
     let foreign = Err(CrewRefusal::Heap(Refusal::Foreign));
     let stale = Err(CrewRefusal::Heap(Refusal::Stale));
     let first = Ok(Some(0xc4c2));
@@ -188,17 +202,16 @@ fn payloads_of_a_worker(rt: HostRuntime) -> Result<(), Fail> {
 }
 
 /// What the first of two workers answers to a drain of no post and to one of up to 8, once the second has posted a name.
-fn drained(alloc: Global, posted: Name) -> Result<[Drained; 2], Fail> {
-    let mut workers = open_yard::<4>(alloc, 2, 64, 4)?;
-    let _ = replay_events(alloc, &mut workers, &[release_of(1, posted)])?;
-    settle(&mut workers);
-    let first = workers.first_mut().ok_or("two workers")?;
-    Ok([first.drain(0), first.drain(8)])
+fn drained(rt: &impl Abort, alloc: Global, posted: Name) -> Result<[Drained; 2], Fail> {
+    let rows = [(release_of(1, posted), Reply::Posted)];
+    let mut workers = after_calls(rt, alloc, &rows)?;
+    assert!(rt; workers.len() == 2);
+    Ok([workers[0].drain(0), workers[0].drain(8)])
 }
 
 #[test]
 fn drain_counts_a_forged_name_as_taken(rt: HostRuntime) -> Result<(), Fail> {
-    let found = drained(rt.alloc(), name(0, 5, 2))?;
+    let found = drained(&rt, rt.alloc(), name(0, 5, 2))?;
     let none = Drained { taken: 0, freed: 0 };
     same(found, [none, Drained { taken: 1, freed: 0 }]).expect(&rt, "differ");
     Ok(())
@@ -222,9 +235,9 @@ fn release_away<R: Threads + Wait + Sync>(
 
 #[test]
 fn worker_comes_back_from_a_thread(rt: HostRuntime) -> Result<(), Fail> {
-    let mut workers = open_yard::<4>(rt.alloc(), 2, 64, 1)?;
     let block = name(0, 0, 1);
-    check_calls(&rt, &mut workers, &[(allocate(0, 8), Reply::Made(block))]);
+    let rows = [(allocate(0, 8), Reply::Made(block))];
+    let mut workers = after_calls(&rt, rt.alloc(), &rows)?;
     let second = workers.pop().ok_or("the second of two workers")?;
     workers.push(release_away(&rt, second, block)?)?;
     let rows = [

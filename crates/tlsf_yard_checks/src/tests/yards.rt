@@ -63,8 +63,10 @@ fn check_replies<const SLI: u32>(
     let mut workers = open_yard::<SLI>(alloc, 2, words, 1)?;
     let entries = replay_events(alloc, &mut workers, events)?;
     same(entries.len(), wanted.len()).expect(rt, "differ");
-    for (i, (entry, reply)) in entries.iter().zip(wanted).enumerate() {
-        same((i, entry.reply), (i, *reply)).expect(rt, "differ");
+    for i in 0..wanted.len() {
+        if let Some(entry) = entries.get(i) {
+            same((i, entry.reply), (i, wanted[i])).expect(rt, "differ");
+        }
     }
     Ok(())
 }
