@@ -68,7 +68,7 @@ if command -v apt-get > /dev/null; then (
     only="-o Dir::Etc::SourceList=$PWD/list -o Dir::Etc::SourceParts=/dev/null"
     fetch sources "$only" update
     fetch sources "$only" source --download-only supercollider
-    tar xf ./*.orig.tar.* --wildcards '*/TLSF*/src/tlsf.*' --strip-components 4
+    tar xf ./*.orig.tar.* --wildcards '*/TLSF*/src/*.[ch]' --strip-components 4
 ) > "$work/log" 2>&1 || :; fi
 [ -n "$authors" ] || authors=$work/apt/tlsf.c
 
