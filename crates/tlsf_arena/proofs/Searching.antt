@@ -32,10 +32,6 @@ module _ (u b p g m j : ℕ) (unit : IsUnit u) (starts : 16 * g ≡ u * m) (here
 pub none_left : (start m : ℕ) → 0 < m → 2 ^ (start - start) * (m - 1) < m
 none_left start m some = let none : start - start ≡ 0 = omega arith in subst (λ (k : ℕ). 2 ^ k * (m - 1) < m) (sym none) (omega (arith, some))
 
--- few were
-pub few_made : (start now m : ℕ) → now ≤ start → 0 < m → 2 ^ (now - start) < 2 * m
-few_made start now m few some = let none : now - start ≡ 0 = omega (arith, few) in subst (λ (k : ℕ). 2 ^ k < 2 * m) (sym none) (omega (arith, some))
-
 -- those that were made left c of m; one more leaves d, half of them
 module _ (start now next c d m : ℕ) (begun : start ≤ now) (one : next ≡ now + 1) (lt : 2 ^ (now - start) * c < m) where
   more : next - start ≡ (now - start) + 1
@@ -65,16 +61,6 @@ pub record Halves (start now units u b p at count : ℕ) : Type 0 where
   pub left : 2 ^ (now - start) * (count - 1) < units
   pub made : 2 ^ (now - start) < 2 * units
 
-pub all_units : (start units u b p : ℕ) → 0 < units → Halves start start units u b p 0 units
-all_units start units u b p some = record {
-  some = some;
-  inside = omega arith;
-  holds = λ j lt e. (omega arith, omega (arith, lt));
-  begun = omega arith;
-  left = none_left start units some;
-  made = few_made start start units (omega arith) some;
-}
-
 module _ (start now next units u b p at count g : ℕ) (kept : Halves start now units u b p at count) (many : 1 < count) (one : next ≡ now + 1) (unit : IsUnit u)
     (starts : 16 * g ≡ u * (at + count / 2)) where
   fewer : 2 ^ (next - start) * (count - count / 2 - 1) < units
@@ -102,10 +88,6 @@ module _ (start now next units u b p at count g : ℕ) (kept : Halves start now 
     left = fewer;
     made = once_more;
   }
-
--- where one is left, it is the one
-pub last_one : (start now units u b p at count : ℕ) → Halves start now units u b p at count → count ≤ 1 → (j : ℕ) → j < units → p ≡ b + u * j → j ≡ at
-last_one start now units u b p at count kept one j small here = let old = kept.holds j small here in omega (arith, old.0, old.1, one)
 
 -- ---- so many comparisons in all
 

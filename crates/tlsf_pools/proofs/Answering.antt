@@ -64,15 +64,6 @@ same_but_one (x ∷ xs) (y ∷ ys) (suc i) same =
     let rest : xs ≡ ys = same_but_one xs ys i cc in
     cc
 
--- down and up again
-pub down_up : (xs : List ℕ) (i : ℕ) → i < length xs → 0 < get_or xs i 0 → xs ≡ set (set xs i (get_or xs i 0 - 1)) i (get_or (set xs i (get_or xs i 0 - 1)) i 0 + 1)
-down_up [] i within some = absurd (omega (arith, within))
-down_up (x ∷ xs) zero within some = let up : x ≡ x - 1 + 1 = omega (arith, some) in ap (λ (n : ℕ). n ∷ xs) up
-down_up (x ∷ xs) (suc i) within some = ap (λ (rest : List ℕ). x ∷ rest) (down_up xs i (lower _ _ within) some)
-  where
-    lower : (a b : ℕ) → suc a < suc b → a < b
-    lower a b h = omega (arith, h)
-
 module _ (sli : ℕ) (t : TableState) (is : IsTable sli t) where
   -- a request has a place just where the law lets a program make it
   pub planned : (len : ℕ) → HasPlace t len → AreOfKinds t.kinds (len ∷ lengths_in t.heap.blocks)

@@ -110,12 +110,6 @@ if_part P o i is here = subst (λ (o : Option ℕ). IfSome o P) (sym is) here
 pub iff_part : {A : Type 0} (P : ℕ → Type 0) (o : Option ℕ) (i : ℕ) → o ≡ Some i → A ↔ P i → A ↔ IsSomeAnd o P
 iff_part {A} P o i is both = subst (λ (o : Option ℕ). A ↔ IsSomeAnd o P) (sym is) both
 
-pub if_none : (P : ℕ → Type 0) (o : Option ℕ) → o ≡ None → IfSome o P
-if_none P o is = subst (λ (o : Option ℕ). IfSome o P) (sym is) tt
-
-pub none_not : (P : ℕ → Type 0) (o : Option ℕ) → o ≡ None → IsSomeAnd o P → ⊥
-none_not P o is here = subst (λ (o : Option ℕ). IsSomeAnd o P) is here
-
 pub not_none : (o : Option ℕ) (i : ℕ) → o ≡ Some i → o ≢ None
 not_none o i is = λ e. cc
 

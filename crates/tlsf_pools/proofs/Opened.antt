@@ -1,12 +1,11 @@
 -- New heaps for the parts of a table, one behind the other.
 use Rattle.std.proofs.Common.{◌≡◌, ℕ, zero, suc, ◌+◌, ◌-◌, ◌<◌, ◌≤◌, List, [], ◌∷◌, ◌++◌, length, replicate, get_or, take, drop, min, refl, sym, ap, ◌∙◌, subst, arith, append_assoc, add-zero, length-append, length-drop}
 use Rattle.std.specs.List.{AllByRecursion}
-use Rattle.std.proofs.lemmas.List.{append-nil}
 use Rattle.tlsf_heap.specs.Blocks.{HeapState}
 use Rattle.tlsf_heap.specs.Calls.{opened}
 use Rattle.tlsf_laws.specs.Kinds.{kinds_words}
 use Rattle.tlsf_laws.specs.declared.kind.Kind.{Kind}
-use Rattle.tlsf_pool.specs.Splits.{IsLeast, IsPart, HasNoCut, HasWords, cut_by, parts_of}
+use Rattle.tlsf_pool.specs.Splits.{IsLeast, IsPart, HasWords, cut_by, parts_of}
 use Rattle.tlsf_pool.specs.declared.split.Split.{Split}
 use Rattle.tlsf_pools.specs.Tables.{IsTable, TableState}
 use Rattle.tlsf_pools.specs.Parts.{AreNew, ArePools, IsNew, no_part}
@@ -63,9 +62,6 @@ pub record OpenedSoFar (sli id first : ℕ) (all : List (List Kind)) (left : ℕ
   pub few : length rest ≤ 64
   pub cut : AllByRecursion (IsPart sli) (cut_by left lens rest)
 
-pub opened_none : (sli id first heaps : ℕ) (lens : List ℕ) (kinds : List Kind) → AllByRecursion (IsPart sli) (cut_by heaps lens kinds) → length kinds ≤ 64 → OpenedSoFar sli id first (cut_by heaps lens kinds) heaps lens kinds []
-opened_none sli id first heaps lens kinds cut few = record { done = []; whole = refl; are = tt; tables = tt; few = few; cut = cut }
-
 module _ (sli id first : ℕ) (all : List (List Kind)) (lens : List ℕ) (rest : List Kind) (parts : List TableState) (k : ℕ) (so_far : OpenedSoFar sli id first all (suc k) lens rest parts) where
   -- the next part, as its length is taken
   pub next_part : IsPart sli (take (min (get_or lens k 0) (length rest)) rest)
@@ -112,21 +108,6 @@ module _ (sli id first : ℕ) (all : List (List Kind)) (lens : List ℕ) (rest :
       let here = subst (λ (n : ℕ). OpenedSoFar sli id first all n lens (drop len rest) (parts ++ t ∷ [])) fewer shorter in
       subst (λ (ks : List Kind). OpenedSoFar sli id first all (heaps - (at + 1)) lens ks now) (sym is_left)
       (subst (λ (ts : List TableState). OpenedSoFar sli id first all (heaps - (at + 1)) lens (drop len rest) ts) (sym is_now) here)
-
--- where none is left, all are opened
-pub opened_all : (sli id first : ℕ) (all : List (List Kind)) (lens : List ℕ) (rest : List Kind) (parts : List TableState) → OpenedSoFar sli id first all 0 lens rest parts → AreNew sli id first all parts
-opened_all sli id first all lens rest parts so_far = subst (λ (tables : List (List Kind)). AreNew sli id first tables parts) (sym (so_far.whole ∙ append-nil so_far.done)) so_far.are
-
--- a way to cut has as many parts as it has numbers
-pub length_cut : (heaps : ℕ) (lens : List ℕ) (kinds : List Kind) → length (cut_by heaps lens kinds) ≡ heaps
-length_cut zero lens kinds = refl
-length_cut (suc heaps) lens kinds = ap suc (length_cut heaps lens (drop (get_or lens heaps 0) kinds))
-
-pub few_heaps : (sli : ℕ) (kinds : List Kind) (split : Split) → IsLeast sli 8 kinds split → split.heaps ≤ 8
-few_heaps sli kinds split is = omega (arith, is.sought, length_cut split.heaps split.lens kinds)
-
-pub has_cut : (sli : ℕ) (kinds : List Kind) (split : Split) → IsLeast sli 8 kinds split → ¬ (HasNoCut sli 8 kinds)
-has_cut sli kinds split is = λ none. none (parts_of split kinds) is.cut is.sought
 
 -- new heaps are those of a table
 pub new_pools : (sli id first : ℕ) (kinds : List Kind) (split : Split) (parts : List TableState) → IsLeast sli 8 kinds split → AreNew sli id first (parts_of split kinds) parts → AllByRecursion (IsTable sli) parts

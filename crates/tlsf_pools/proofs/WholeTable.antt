@@ -36,9 +36,6 @@ before_more t parts i row = omega (arith, length-append t.kinds (rows_in (take i
 
 -- ---- the row for which a length counts
 
-no_kind : Kind
-no_kind = record { most = 0; len = 0 }
-
 module _ (len : ℕ) where
   abbrev Enough : List Kind → ℕ → Bool → Type 0
   Enough rows k c = nat_le len (get_or rows k (record { most = 0; len = 0 })).len ≡ c
