@@ -10,6 +10,7 @@ mod lanes;
 mod locked_heaps;
 mod mailbox_threads;
 mod mailboxes;
+mod memory;
 mod payloads;
 mod pools;
 mod resizes;
