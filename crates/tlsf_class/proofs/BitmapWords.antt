@@ -202,8 +202,8 @@ module _ (sli : ℕ) (level : IsLevel sli) where
       next_member-filter sli level (is_set sli second) c (level_classes sli * first_level + second_level) least most next.above passes
       (λ d _ l h. ap (λ b. eqb b 1) (next.before d l h))
 
-  -- n + 1 classes further on the first level of b, by its two levels
-  pub further : (b first_level from n : ℕ) → first_level ≡ b / level_classes sli → from ≡ b % level_classes sli → level_classes sli * first_level + (from + 1 + n) ≡ b + 1 + n
+  -- n classes further on the first level of b, by its two levels
+  pub further : (b first_level from n : ℕ) → first_level ≡ b / level_classes sli → from ≡ b % level_classes sli → level_classes sli * first_level + (from + n) ≡ b + n
   further b first_level from n first_is from_is = let s = split sli b in rw (first_is, from_is) (omega arith)
 
   -- a class above b on its first level is above it on the second
@@ -215,17 +215,17 @@ module _ (sli : ℕ) (level : IsLevel sli) where
   above_first b first_level d first_is l = let rises = first_rises sli level b d (omega arith) in omega arith
 
   -- it is in the first level of the number below
-  pub next-same_level : (first : ℕ) (second : List ℕ) (b first_level from n : ℕ) → AreLevels sli first second → first_level ≡ b / level_classes sli → from ≡ b % level_classes sli → bit_at (get_or second first_level 0) (from + 1 + n) ≡ 1 → ((k : ℕ) → from < k → k < from + 1 + n → bit_at (get_or second first_level 0) k ≡ 0) → next_member (members_of sli second) (b + 1) ≡ Some (b + 1 + n)
-  next-same_level first second b first_level from n levels first_is from_is here lowest =
-      let inside = (levels.in_use first_level (from + 1 + n) here).0 in
-      next_is first second (b + 1) first_level (from + 1 + n) levels record {
-        above = omega (arith, further b first_level from n first_is from_is);
+  pub next-same_level : (first : ℕ) (second : List ℕ) (b first_level from n : ℕ) → AreLevels sli first second → first_level ≡ b / level_classes sli → from ≡ b % level_classes sli → 0 < n → bit_at (get_or second first_level 0) (from + n) ≡ 1 → ((k : ℕ) → from < k → k < from + n → bit_at (get_or second first_level 0) k ≡ 0) → next_member (members_of sli second) (b + 1) ≡ Some (b + n)
+  next-same_level first second b first_level from n levels first_is from_is some here lowest =
+      let inside = (levels.in_use first_level (from + n) here).0 in
+      next_is first second (b + 1) first_level (from + n) levels record {
+        above = omega (arith, some, further b first_level from n first_is from_is);
         here = here;
         before = λ d l h.
             let rises = above_first b first_level d first_is l in
-            let under = first_below sli level d first_level (from + 1 + n) inside h in
+            let under = first_below sli level d first_level (from + n) inside h in
             let e : d / level_classes sli ≡ first_level = omega arith in
-            rw e (lowest (d % level_classes sli) (above_from b first_level from d first_is from_is l e) (second_less sli d first_level (from + 1 + n) h e));
+            rw e (lowest (d % level_classes sli) (above_from b first_level from d first_is from_is l e) (second_less sli d first_level (from + n) h e));
       } ∙ ap Some (further b first_level from n first_is from_is)
 
   -- it is the least of the next first level that has a member

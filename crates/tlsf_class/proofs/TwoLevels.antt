@@ -60,10 +60,6 @@ second_below sli level c = mod_below c (level_classes sli) (omega (arith, (bound
 pub first_rises : (sli : ℕ) → IsLevel sli → (c d : ℕ) → c ≤ d → c / level_classes sli ≤ d / level_classes sli
 first_rises = by_level (λ sli. (c d : ℕ) → c ≤ d → c / level_classes sli ≤ d / level_classes sli) (λ c d h. omega arith) (λ c d h. omega arith)
 
--- and on one first level at no lower second level
-pub second_rises : (sli : ℕ) → (c d first_level : ℕ) → c ≤ d → c / level_classes sli ≡ first_level → d / level_classes sli ≡ first_level → c % level_classes sli ≤ d % level_classes sli
-second_rises sli c d first_level h e f = let a = rw e at (split sli c) in let b = rw f at (split sli d) in omega arith
-
 -- and a greater class on one first level at a greater second level
 pub second_more : (sli : ℕ) → (c d first_level : ℕ) → c < d → c / level_classes sli ≡ first_level → d / level_classes sli ≡ first_level → c % level_classes sli < d % level_classes sli
 second_more sli c d first_level h e f = let a = rw e at (split sli c) in let b = rw f at (split sli d) in omega arith

@@ -120,12 +120,11 @@ impl<const SLI: u32> Bitmaps<SLI> {
         ensures touches { self.new.touches ≤ self.old.touches + 3 }
         ensures rise { self.old.touches ≤ self.new.touches }
     {
-        // From the number below on, and then one above: a search class is one above a number that is at hand, and a shift by a constant
-        // tells that nothing is left.
+        // From the number below on, and then one above: a search class is one above a number that is at hand.
         let first_level = class.first_level_below();
         let word = self.levels.second_word(first_level);
         if let Some(n) = steps_above_bit(word, class.second_level_below()) {
-            return Some(class.plus(n));
+            return Some(class.below_plus(n));
         }
         let first_word = self.levels.first_word();
         let first_level = lowest_bit_from(first_word, first_level + 1)?;

@@ -13,7 +13,8 @@ use std::marker::Model;
 /// ```
 #[derive(Clone, Copy, Debug, PartialEq, Eq, PartialOrd, Ord)]
 pub struct Class<const SLI: u32> {
-    number: u32,
+    // As wide as an index, so that the head of its list is found without widening.
+    number: usize,
 }
 
 impl<const SLI: u32> Model for Class<SLI> {
@@ -39,18 +40,35 @@ impl<const SLI: u32> Class<SLI> {
         ensures { result ≡ level_classes SLI * first_level + second_level }
     {
         Class {
-            number: (first_level << SLI) + second_level,
+            number: ((first_level << SLI) + second_level) as usize,
         }
     }
 
-    /// The class whose number is `n` greater.
-    pub(crate) fn plus(self, n: u32) -> Class<SLI>
-        requires { self + n ≤ last_class SLI }
-        ensures { result ≡ self.entry + n }
+    /// The class whose number is `n` greater than the number below that of the class.
+    pub(crate) fn below_plus(self, n: u32) -> Class<SLI>
+        requires least { 0 < n }
+        requires most { self - 1 + n ≤ last_class SLI }
+        ensures { result ≡ self.entry - 1 + n }
     {
         Class {
-            number: self.number + n,
+            number: self.number - 1 + n as usize,
         }
+    }
+
+    /// The number of the class as an index: see [`Class::number`].
+    ///
+    /// ```
+    /// let head = heads[class.index()];
+    /// ```
+    pub fn index(self) -> usize
+        ensures value { result ≡ self.entry }
+        ensures level { IsLevel SLI }
+        ensures least { 4 ≤ self.entry }
+        ensures most { self.entry ≤ last_class SLI }
+    {
+        // Taken apart, so that the proof has the range of the field.
+        let Class { number } = self;
+        number
     }
 
     /// The number of the class, from 4 on: 16 times its first level, or 32 times at level 5, and its second level.
@@ -64,9 +82,7 @@ impl<const SLI: u32> Class<SLI> {
         ensures least { 4 ≤ self.entry }
         ensures most { self.entry ≤ last_class SLI }
     {
-        // Taken apart, so that the proof has the range of the field.
-        let Class { number } = self;
-        number
+        self.index() as u32
     }
 
     /// The first level of the class, 0 to 17, or to 20 at level 5: which two powers of two its sizes lie between. Its clauses say
@@ -78,7 +94,7 @@ impl<const SLI: u32> Class<SLI> {
         ensures least { 4 ≤ self.entry }
         ensures most { self.entry ≤ last_class SLI }
     {
-        self.number >> SLI
+        (self.number as u32) >> SLI
     }
 
     /// The second level of the class, 0 to 15, or to 31 at level 5: which sixteenth of its first level, or which 32nd.
@@ -86,7 +102,7 @@ impl<const SLI: u32> Class<SLI> {
         ensures value { result ≡ self.entry % level_classes SLI }
         ensures bound { result < 32 }
     {
-        self.number % (1 << SLI)
+        (self.number as u32) % (1 << SLI)
     }
 
     /// The first level of the number below that of the class, 0 to 17, or to 20 at level 5.
@@ -97,7 +113,7 @@ impl<const SLI: u32> Class<SLI> {
         ensures least { 4 ≤ self.entry }
         ensures most { self.entry ≤ last_class SLI }
     {
-        (self.number - 1) >> SLI
+        (self.number as u32 - 1) >> SLI
     }
 
     /// The second level of the number below that of the class, 0 to 15, or to 31 at level 5.
@@ -105,7 +121,7 @@ impl<const SLI: u32> Class<SLI> {
         ensures value { result ≡ (self.entry - 1) % level_classes SLI }
         ensures bound { result < 32 }
     {
-        (self.number - 1) % (1 << SLI)
+        (self.number as u32 - 1) % (1 << SLI)
     }
 }
 
@@ -140,7 +156,7 @@ pub fn class_of<const SLI: u32>(words: u32) -> Class<SLI>
 {
     let step = step_of::<SLI>(words);
     Class {
-        number: (words >> step) + (step << SLI),
+        number: ((words >> step) + (step << SLI)) as usize,
     }
 }
 
@@ -161,7 +177,7 @@ pub fn search_of<const SLI: u32>(words: u32) -> Class<SLI>
     let step = step_of::<SLI>(words);
     // The steps are rounded up: one more than a size of one word less has.
     Class {
-        number: ((words - 1) >> step) + 1 + (step << SLI),
+        number: (((words - 1) >> step) + 1 + (step << SLI)) as usize,
     }
 }
 

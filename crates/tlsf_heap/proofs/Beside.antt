@@ -1,19 +1,19 @@
 -- The blocks on either side of one, and what their tags say of them.
-use Rattle.std.proofs.Common.{◌≡◌, ◌≢◌, ℕ, zero, suc, ◌+◌, ◌^◌, ◌-◌, ◌<◌, ◌≤◌, inl, inr, true, false, eqb, List, [], ◌∷◌, ◌++◌, length, take, drop, refl, sym, ap, ◌∙◌, subst, arith, eq-eqb}
+use Rattle.std.proofs.Common.{◌≡◌, ◌≢◌, ℕ, zero, suc, ◌+◌, ◌^◌, ◌<◌, ◌≤◌, inl, inr, true, false, eqb, List, [], ◌∷◌, ◌++◌, length, take, drop, refl, sym, ap, ◌∙◌, subst, arith, eq-eqb}
 use Rattle.std.proofs.lemmas.List.{drop_more, take_all, take_more}
 use Rattle.std.proofs.lemmas.Bool.{false≢true, cases_lt, cases_eq, eqb-true, ne_eqb}
 use Rattle.tlsf_words.specs.Lists.{nowhere}
 use Rattle.tlsf_words.specs.declared.tag.Tag.{Tag}
 use Rattle.tlsf_heap.specs.Blocks.{Block, Live, Free, size_of, words_in, is_free, StandsAt, IsPlace}
-use Rattle.tlsf_heap.specs.Calls.{first_free, last_free, before_free}
+use Rattle.tlsf_heap.specs.Calls.{first_free, last_free}
 use Rattle.tlsf_heap.specs.GoodFit.{Site, block_at, site_at, place_of}
 use Rattle.tlsf_heap.specs.Image.{back_behind}
 use Rattle.tlsf_heap.specs.Regions.{AreRegions, EachAt, IsTagOf, IsNextTag, IsPreviousTag, IsTagBehind}
 use Rattle.tlsf_heap.proofs.Edits.{first_free-words}
 use Rattle.tlsf_heap.proofs.Ends.{ends_free, ends_live}
 use Rattle.tlsf_heap.proofs.Lawfulness.{words_in-append}
-use Rattle.tlsf_heap.proofs.Sizes.{around, one_index, region_around, words_around, last_is, last_words}
-use Rattle.tlsf_heap.proofs.Standing.{words_up_to, stands_next, back_next, back_behind-last}
+use Rattle.tlsf_heap.proofs.Sizes.{around, one_index, region_around, words_around, last_words}
+use Rattle.tlsf_heap.proofs.Standing.{words_up_to, stands_next, back_next}
 
 -- where no two blocks begin at one place, a tag of the block there is that of each
 pub tag_at : (sli : ℕ) {bs : List Block} {words at i : ℕ} (own : Tag) → AreRegions sli bs → (has : (j : ℕ) × StandsAt bs at j × IsTagOf words (site_at bs j) own) → StandsAt bs at i → IsTagOf words (site_at bs i) own
@@ -68,12 +68,6 @@ says_previous before (Free m s) block blocks tag some size free last back =
       last = λ e. last;
       back = λ e. back ∙ ap (back_behind 0 nowhere) (sym ends.1);
     }
-
--- where the free block before a block begins
-pub back_free : {bs : List Block} {at i : ℕ} → StandsAt bs at i → 0 < last_free (take i bs) → back_behind 0 nowhere (take i bs) ≡ at - last_free (take i bs)
-back_free {bs = bs} {at = at} {i = i} stands some =
-    let ends = last_is (take i bs) some in
-    ap (back_behind 0 nowhere) ends.1 ∙ back_behind-last 0 nowhere (before_free (take i bs)) (Free (last_free (take i bs)) ends.0) ∙ omega (arith, last_words (take i bs), stands.place)
 
 module _ {bs : List Block} {words : ℕ} (whole : words_in bs ≡ words) where
   module _ {at i : ℕ} (stands : StandsAt bs at i) where

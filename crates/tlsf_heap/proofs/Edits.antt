@@ -1,8 +1,9 @@
 -- Edits of the list of blocks.
-use Rattle.std.proofs.Common.{◌≡◌, ℕ, ◌+◌, ◌-◌, Bool, true, false, cond, nat_le, replicate, ◌<◌, ◌≤◌, List, [], ◌∷◌, take, drop, ap, arith}
+use Rattle.std.proofs.Common.{◌≡◌, ℕ, ◌+◌, ◌-◌, inl, inr, Bool, true, false, cond, nat_le, replicate, ◌<◌, ◌≤◌, List, [], ◌∷◌, take, drop, ap, arith}
 use Rattle.std.proofs.lemmas.List.{take-append-drop}
 use Rattle.tlsf_heap.specs.Calls.{carved, first_free}
 use Rattle.tlsf_heap.specs.Regions.{rest_of}
+use Rattle.std.proofs.lemmas.Bool.{cases_lt}
 use Rattle.std.proofs.lemmas.Bool.Decides.{nat_tests}
 use Rattle.tlsf_heap.specs.Blocks.{Block, Live, Free, words_in}
 use Rattle.tlsf_heap.proofs.Lawfulness.{words_in-append}
@@ -26,9 +27,19 @@ first_free-words [] = omega arith
 first_free-words (Live m s xs ∷ bs) = omega arith
 first_free-words (Free m s ∷ bs) = omega arith
 
--- what is split off
-pub rest_small : (size n : ℕ) → size < n + 4 → rest_of size n ≡ 0
-rest_small size n h = let t : nat_le (n + 4) size ≡ false = grind (arith, nat_tests) in ap (λ (b : Bool). cond b (size - n) 0) t
+-- a rest is split off exactly where it has four words
+pub rest_some : (size n : ℕ) → 0 < rest_of size n → (n + 4 ≤ size) × (rest_of size n ≡ size - n)
+rest_some size n some = elim (cases_lt size (n + 4)) [
+  | inl small ↦
+      let t : nat_le (n + 4) size ≡ false = grind (arith, nat_tests) in
+      let none : rest_of size n ≡ 0 = ap (λ (b : Bool). cond b (size - n) 0) t in absurd (omega (arith, none))
+  | inr large ↦ (large, let t : nat_le (n + 4) size ≡ true = grind (arith, nat_tests) in ap (λ (b : Bool). cond b (size - n) 0) t)
+]
 
-pub rest_large : (size n : ℕ) → n + 4 ≤ size → rest_of size n ≡ size - n
-rest_large size n h = let t : nat_le (n + 4) size ≡ true = grind (arith, nat_tests) in ap (λ (b : Bool). cond b (size - n) 0) t
+pub rest_none : (size n : ℕ) → rest_of size n ≡ 0 → size < n + 4
+rest_none size n none = elim (cases_lt size (n + 4)) [
+  | inl small ↦ small
+  | inr large ↦
+      let t : nat_le (n + 4) size ≡ true = grind (arith, nat_tests) in
+      let some : rest_of size n ≡ size - n = ap (λ (b : Bool). cond b (size - n) 0) t in absurd (omega (arith, some, large))
+]

@@ -6,6 +6,7 @@ pub mod Permuting
 pub mod Listing
 pub mod LastFreed
 pub mod Choosing
+pub mod Clearing
 pub mod Lawfulness
 pub mod Ends
 pub mod Edits

@@ -56,10 +56,6 @@ pub has_serial-live : (b : Block) (serial : ℕ) → is_free b ≡ false → has
 has_serial-live (Live size own bytes) serial live = refl
 has_serial-live (Free size stamp) serial live = absurd (false≢true (sym live))
 
-pub has_serial-free : (b : Block) (serial : ℕ) → is_free b ≡ true → has_serial serial b ≡ false
-has_serial-free (Live size own bytes) serial free = absurd (false≢true free)
-has_serial-free (Free size stamp) serial free = refl
-
 module _ {m : Image} {bs : List Block} (shows : Shows m bs) where
   module _ {at i : ℕ} (stands : StandsAt bs at i) where
     pub says_here : Says m at (back_behind 0 nowhere (take i bs)) (block_at bs i)

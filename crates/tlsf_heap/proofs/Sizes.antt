@@ -3,7 +3,7 @@ use Rattle.std.proofs.Common.{inl, inr, ◌≡◌, ℕ, zero, suc, ◌+◌, ◌-
 use Rattle.std.specs.Prelude.{Contains}
 use Rattle.std.specs.List.{AllByRecursion}
 use Rattle.std.proofs.lemmas.List.Elements.{Contains-append_cases}
-use Rattle.std.proofs.lemmas.List.{take_at, get_or_at, append-nil}
+use Rattle.std.proofs.lemmas.List.{take_at, drop_at, get_or_at, append-nil}
 use Rattle.std.proofs.lemmas.Bool.{false≢true}
 use Rattle.tlsf_class.specs.Classes.{class_of}
 use Rattle.tlsf_heap.specs.Blocks.{Block, Live, Free, size_of, words_in, is_free, stamp_of, stamps, StandsAt}
@@ -48,6 +48,9 @@ module _ {bs : List Block} {at i : ℕ} {front : List Block} {b : Block} {back :
 
   pub block_around : block_at bs i ≡ b
   block_around = ap (λ (l : List Block). get_or l i (Free 0 0)) a.is ∙ get_or_at front b back (Free 0 0) i a.before
+
+  pub drop_around : drop (suc i) bs ≡ back
+  drop_around = ap (drop (suc i)) (a.is ∙ sym (append_assoc front (b ∷ []) back)) ∙ drop_at (front ++ b ∷ []) back (suc i) (omega (arith, length-append front (b ∷ []), a.before))
 
   pub stands_around : StandsAt bs at i
   stands_around = record {

@@ -1,5 +1,5 @@
 -- Bytes of words that are made zero.
-use Rattle.std.proofs.Common.{◌≡◌, ℕ, ◌+◌, ◌*◌, ◌/◌, ◌%◌, ◌^◌, ◌<◌, ◌≤◌, List, ◌++◌, length, get_or, set, take, drop, replicate, ap, ◌∙◌, inl, inr, arith}
+use Rattle.std.proofs.Common.{◌≡◌, ℕ, ◌+◌, ◌*◌, ◌/◌, ◌%◌, ◌^◌, ◌<◌, ◌≤◌, List, ◌++◌, length, get_or, take, drop, replicate, ap, ◌∙◌, inl, inr, arith}
 use Rattle.std.proofs.Math.Nat.{zero-div}
 use Rattle.std.proofs.lemmas.Bool.{cases_lt}
 use Rattle.std.proofs.lemmas.Grind.{elements}
@@ -29,43 +29,6 @@ module _ (words : List ℕ) (at n : ℕ) (inside : at + n ≤ length words) wher
 
   pub length-zeroed : length zeroed ≡ length words
   length-zeroed = grind (arith, elements)
-
--- a header is written, its fourth word zero, and the n words behind it are made zero
-module _ (words : List ℕ) (at tag mark length_word n : ℕ) where
-  abbrev headed : List ℕ
-  headed = set (set (set (set words at tag) (at + 1) mark) (at + 2) length_word) (at + 3) 0
-
-  abbrev pub written : List ℕ
-  written = take (at + 4) headed ++ replicate n 0 ++ drop (at + 4 + n) headed
-
-  module _ (inside : at + 4 + n ≤ length words) where
-    long : length headed ≡ length words
-    long = grind (arith, elements)
-
-    first : (k : ℕ) → k < at + 4 → get_or written k 0 ≡ get_or headed k 0
-    first k h = zeroed_before headed (at + 4) n k h (omega (arith, long, inside))
-
-    pub written_tag : get_or written at 0 ≡ tag
-    written_tag = first at (omega arith) ∙ grind (arith, elements)
-
-    pub written_mark : get_or written (at + 1) 0 ≡ mark
-    written_mark = first (at + 1) (omega arith) ∙ grind (arith, elements)
-
-    pub written_length : get_or written (at + 2) 0 ≡ length_word
-    written_length = first (at + 2) (omega arith) ∙ grind (arith, elements)
-
-    pub written_payload : (k : ℕ) → at + 3 ≤ k → k < at + 4 + n → get_or written k 0 ≡ 0
-    written_payload k low high = elim (cases_lt k (at + 4)) [
-      | inl h ↦ let here : k ≡ at + 3 = omega arith in first k h ∙ ap (λ (j : ℕ). get_or headed j 0) here ∙ grind (arith, elements)
-      | inr h ↦ zeroed_among headed (at + 4) n (omega (arith, long, inside)) k h high
-    ]
-
-    pub written_only : OnlyFrom words written at (at + 4 + n)
-    written_only = record {
-      before = λ k h. first k (omega arith) ∙ grind (arith, elements);
-      behind = λ k h. zeroed_behind headed (at + 4) n (omega (arith, long, inside)) k h ∙ grind (arith, elements);
-      length = length-zeroed headed (at + 4) n (omega (arith, long, inside)) ∙ long;
-    }
 
 -- bytes of the words from a place on are zero from one on, up to a word, and earlier ones stay
 pub record Clears (old new : List ℕ) (place from word end : ℕ) : Type 0 where

@@ -1,23 +1,23 @@
 -- Headers, as the words of a region have them, and what the writes of one leave.
 use Rattle.std.specs.Prelude.{◌≡◌, ℕ, ◌+◌, ◌-◌, ◌<◌, ◌≤◌, ◌==◌, List, Bool, true, false, if◌then◌else◌, length, slice_index, slice_set}
-use Rattle.tlsf_words.specs.Fields.{tag_word, length_word, size_in, last_in, free_in, back_in}
+use Rattle.tlsf_words.specs.Fields.{tag_word, length_word, size_in, last_in, free_in}
 use Rattle.tlsf_words.specs.declared.tag.Tag.{Tag}
-use Rattle.tlsf_heap.specs.Blocks.{words_for}
 use Rattle.tlsf_heap.specs.Image.{Image}
 
 -- the first word of a header with another place before
 unfoldable pub with_back : ℕ → ℕ → ℕ
 with_back word back = tag_word (size_in word) (last_in word) (free_in word) back
 
--- the first word of a header says this size, whether its block is the last, and the place before
-pub record IsTagIn (word : ℕ) (tag : Tag) : Type 0 where
-  pub size : tag.size ≡ size_in word
-  pub last : tag.last ≡ last_in word
-  pub back : tag.back ≡ back_in word
-
 -- the start map once a block of so many words and the one that begins at this place are one; where there is none, as it was
 unfoldable pub without_start : List Bool → ℕ → ℕ → List Bool
 without_start starts at size = if size == 0 then starts else slice_set starts at false
+
+-- the tag of what is left behind the first n words of the block of a tag at a place
+pub record IsRest (tag : Tag) (at n : ℕ) (rest : Tag) : Type 0 where
+  pub size : rest.size ≡ tag.size - n
+  pub free : rest.free ≡ tag.free
+  pub last : rest.last ≡ tag.last
+  pub back : rest.back ≡ at
 
 -- ---- a header at a place
 
@@ -26,12 +26,12 @@ pub record HasFree (words : List ℕ) (at size : ℕ) (last : Bool) (back stamp 
   pub tag : slice_index words at ≡ tag_word size last true back
   pub mark : slice_index words (at + 1) ≡ stamp
 
--- that of a live block with `len` bytes of payload, and behind it zeros to the end of the payload
+-- that of a live block with `len` bytes of payload, of which the first word is zero
 pub record HasLive (words : List ℕ) (at size : ℕ) (last : Bool) (back serial len : ℕ) : Type 0 where
   pub tag : slice_index words at ≡ tag_word size last false back
   pub mark : slice_index words (at + 1) ≡ serial
   pub bytes : slice_index words (at + 2) ≡ length_word len
-  pub payload : (k : ℕ) → at + 3 ≤ k → k < at + words_for len → slice_index words k ≡ 0
+  pub first : slice_index words (at + 3) ≡ 0
 
 -- the header at a place names this one before it, unless the region ends there
 abbrev pub NamesBefore : List ℕ → List ℕ → ℕ → ℕ → Type 0

@@ -1,10 +1,10 @@
 -- A region as its blocks and the lists of its free blocks.
-use Rattle.std.specs.Prelude.{◌≡◌, ◌≢◌, ℕ, ◌+◌, ◌-◌, ◌<◌, ◌≤◌, ◌==◌, List, [], ◌∷◌, ◌++◌, nat_le, if◌then◌else◌, slice_index_or, true, false}
+use Rattle.std.specs.Prelude.{◌≡◌, ◌≢◌, ℕ, ◌+◌, ◌-◌, ◌<◌, ◌≤◌, ◌==◌, List, [], ◌∷◌, ◌++◌, nat_le, if◌then◌else◌, length, slice_index, slice_index_or, true, false}
 use Rattle.std.specs.List.{AllByRecursion}
 use Rattle.tlsf_words.specs.Memory.{Memory}
 use Rattle.tlsf_words.specs.Lists.{nowhere, without_place, LinkedFrom, IsUnlisted}
 use Rattle.tlsf_words.specs.declared.tag.Tag.{Tag}
-use Rattle.tlsf_heap.specs.Blocks.{Block, Live, Free, size_of, is_free, StandsAt}
+use Rattle.tlsf_heap.specs.Blocks.{Block, Live, Free, size_of, is_free, bytes_of, words_for, StandsAt}
 use Rattle.tlsf_heap.specs.Calls.{first_free, past_free, last_free, before_free}
 use Rattle.tlsf_heap.specs.GoodFit.{Site, site_at, place_of}
 use Rattle.tlsf_heap.specs.Image.{Image, back_behind, Shows}
@@ -79,6 +79,17 @@ withheld s = before_free s.before ++ Live (last_free s.before + size_of s.block 
 pub record IsTagBehind (words : ℕ) (s : Site) (tag : Tag) : Type 0 where
   pub size : tag.size ≡ first_free s.after
   pub last : tag.last ≡ (place_of s + size_of s.block + first_free s.after == words)
+
+-- the first word of a payload is zero
+abbrev pub BeginsZero : List ℕ → Type 0
+BeginsZero bytes = (k : ℕ) → k < 8 → slice_index bytes k ≡ 0
+
+-- a live block whose payload begins with a zero word, and ends within `n` words behind that
+pub record IsCleared (block : Block) (n : ℕ) : Type 0 where
+  pub live : is_free block ≡ false
+  pub first : BeginsZero (bytes_of block)
+  pub payload : words_for (length (bytes_of block)) ≤ 4 + n
+  pub within : 4 + n ≤ size_of block
 
 -- of the lists of all classes, that of one
 abbrev pub list_in : List (List ℕ) → ℕ → List ℕ

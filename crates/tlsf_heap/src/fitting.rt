@@ -35,7 +35,7 @@ pub fn carve<const SLI: u32>(
     region: &mut Region<SLI>,
     class: Class<SLI>,
     words: u32,
-    tick: u64,
+    tick: &mut u64,
     len: u32,
     spare: u32,
 ) -> u32
@@ -45,17 +45,26 @@ pub fn carve<const SLI: u32>(
     requires sized { AreRegions SLI region.old.blocks }
     requires small { words_in region.old.blocks ≤ most_words SLI }
     requires listed { AreFreeLists SLI region.old.blocks (list_in region.old.lists) }
-    requires stamped { AllByRecursion (λ s. s < tick) (stamps region.old.blocks) }
+    requires stamped { AllByRecursion (λ s. s < tick.old) (stamps region.old.blocks) }
     ensures place { slice_get (list_in region.old.lists class.entry) 0 ≡ Some result }
-    ensures blocks { EachAt region.old.blocks result (λ s. region.new.blocks ≡ s.before ++ carved (size_of s.block) words tick len ++ s.after) }
+    ensures blocks { EachAt region.old.blocks result (λ s. region.new.blocks ≡ s.before ++ carved (size_of s.block) words tick.old len ++ s.after) }
     ensures listed { AreFreeLists SLI region.new.blocks (list_in region.new.lists) }
+    ensures tick { tick.new ≡ tick.old }
     ensures edits { (i : ℕ) → StandsAt region.old.blocks result i → Edits region.old region.new (23 + (payload_words (block_at region.new.blocks i) - spare)) }
 {
     let at = region.pop_first(class);
-    let rest = region.carve(at, words, tick, len, spare);
-    if rest > 0 {
-        region.push(class_of(rest), at + words);
-    }
+    let own = region.tag(at);
+    let rest = own.rest(words, at);
+    let serial = *tick;
+    // The zeros last, and both headers before the rest is listed, so that few registers are wanted at once: three are saved.
+    let size = if rest.size() < 4 {
+        region.grant(at, own, serial, len)
+    } else {
+        region.split(at, own, rest, words, serial, len);
+        region.push(class_of(rest.size()), at + words);
+        words
+    };
+    region.zero(at, size - 4 - spare);
     at
 }
 

@@ -1,8 +1,7 @@
 //! The words of headers: what is written where a block is given or taken back. Each word is written once. Sizes and places are in
 //! words.
 ghost use Rattle.std.specs.Prelude.{◌≡◌, ℕ, ◌+◌, ◌-◌, ◌<◌, ◌≤◌, ◌==◌, ◌^◌, false, true, length, slice_set};
-ghost use Rattle.tlsf_heap.specs.Blocks.{want};
-ghost use Rattle.tlsf_heap.specs.Headers.{HasFree, HasLive, NamesBefore, OnlyFrom, RisesBy, Wholes, Splits, Merges, Widens, Recuts, without_start};
+ghost use Rattle.tlsf_heap.specs.Headers.{HasFree, HasLive, IsRest, NamesBefore, OnlyFrom, RisesBy, Wholes, Splits, Merges, Widens, Recuts, without_start};
 ghost use Rattle.tlsf_heap.specs.Regions.{image_of};
 ghost use Rattle.tlsf_words.specs.Lists.{nowhere};
 
@@ -49,53 +48,42 @@ pub fn first_header(words: &mut Words, stamp: u64)
     words.set_start(0, true);
 }
 
-/// Writes the header of a live block of this tag and `size` words, with `len` bytes of payload, and makes its words behind the header
-/// zero, but for the last `spare`, which aren't of the payload.
-pub fn live_header(
-    words: &mut Words,
-    at: u32,
-    tag: Tag,
-    size: u32,
-    serial: u64,
-    len: u32,
-    spare: u32,
-)
+/// Writes the header of a live block of this tag, with `len` bytes of payload, and makes its first payload word zero.
+pub fn live_header(words: &mut Words, at: u32, tag: Tag, serial: u64, len: u32)
     requires live { tag.free ≡ false }
-    requires size { size ≡ tag.size }
-    requires payload { want len + spare ≤ size }
-    requires within { at + size ≤ length words.old.words }
-    requires small { length words.old.words ≤ 2 ^ 24 }
+    requires least { 4 ≤ tag.size }
+    requires within { at + tag.size ≤ length words.old.words }
     ensures change { Wholes (image_of words.old) (image_of words.new) at tag serial len }
-    ensures touches { words.new.touches ≡ words.old.touches + 3 + (size - 3 - spare) }
+    ensures touches { words.new.touches ≡ words.old.touches + 4 }
 {
-    words.set_header(at, tag, serial, len, size - 4 - spare);
+    words.set_header(at, tag, serial, len);
 }
 
-/// Makes the free block at a place, of this tag, a live one of `size` words with `len` bytes of payload, all zero, and a free rest.
-/// The serial of the first is the stamp of the rest. The last `spare` words of the first aren't of its payload.
+/// Makes the free block at a place, of this tag, a live one of `size` words with `len` bytes of payload, of which the first word is zero,
+/// and a free rest of its tag. The serial of the first is the stamp of the rest.
 pub fn split_header(
     words: &mut Words,
     at: u32,
     tag: Tag,
+    rest: Tag,
     size: u32,
     serial: u64,
     len: u32,
-    spare: u32,
 )
     requires free { tag.free ≡ true }
-    requires payload { want len + spare ≤ size }
+    requires rest { IsRest tag at size rest }
+    requires least { 4 ≤ size }
     requires room { size + 4 ≤ tag.size }
     requires within { at + tag.size ≤ length words.old.words }
     requires last { tag.last ≡ (at + tag.size == length words.old.words) }
     requires small { length words.old.words ≤ 2 ^ 24 }
     ensures change { Splits (image_of words.old) (image_of words.new) at tag size serial len }
-    ensures touches { RisesBy words.old.touches words.new.touches (8 + (size - 3 - spare)) }
+    ensures touches { RisesBy words.old.touches words.new.touches 9 }
 {
-    let rest = tag.rest(size, at);
-    free_header(words, at + size, rest, serial);
-    words.set_start(at + size, true);
-    set_back(words, tag, at + tag.size(), at + size);
-    live_header(words, at, tag.without(rest), size, serial, len, spare);
+    let place = at + size;
+    words.set_headers(at, tag.without(rest), serial, len, place, rest);
+    words.set_start(place, true);
+    set_back(words, rest, place + rest.size(), place);
 }
 
 /// Writes the header of the free block of this tag that a block at a place becomes with the free one of `before` words before it and

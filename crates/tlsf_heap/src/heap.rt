@@ -200,8 +200,9 @@ impl<const SLI: u32> Heap<SLI> {
         if self.tick == u64::MAX {
             return Err(Refusal::Worn);
         }
+        let at = carve(&mut self.region, class, words, &mut self.tick, len, spare);
+        // Read again: a register that outlives the zeroing costs more.
         let serial = self.tick;
-        let at = carve(&mut self.region, class, words, serial, len, spare);
         self.tick += 1;
         Ok(Name {
             heap: self.id,

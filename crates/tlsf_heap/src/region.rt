@@ -1,20 +1,21 @@
 ghost use Rattle.std.specs.Fn.{FnOnceReturnsAt, FnOnceReturnsAtMut, FnOnceTakesAt, FnOnceTakesAtMut};
-ghost use Rattle.std.specs.Prelude.{◌≡◌, ℕ, ◌+◌, ◌*◌, ◌/◌, ◌-◌, ◌<◌, ◌≤◌, ◌^◌, [], ◌∷◌, ◌++◌, false, true, length, take, drop, Some, slice_get, Contains, IfOk};
+ghost use Rattle.std.specs.Prelude.{◌≡◌, ℕ, ◌+◌, ◌*◌, ◌/◌, ◌-◌, ◌<◌, ◌≤◌, ◌^◌, [], ◌∷◌, ◌++◌, false, true, length, take, drop, replicate, Some, slice_get, Contains, IfOk};
 ghost use Rattle.std.specs.List.{AllByRecursion};
 ghost use Rattle.tlsf_class.specs.Classes.{IsLevel, most_words, class_of};
 ghost use Rattle.tlsf_class.specs.Members.{next_member};
 ghost use Rattle.tlsf_words.specs.Bytes.{bytes_in, payload_byte};
 ghost use Rattle.tlsf_words.specs.Lists.{listed_classes, IsUnlisted};
-ghost use Rattle.tlsf_heap.specs.Blocks.{size_of, is_free, bytes_of, words_for, want, StandsAt, IsPlace};
+ghost use Rattle.tlsf_heap.specs.Blocks.{Live, Free, size_of, is_free, bytes_of, words_for, want, StandsAt, IsPlace};
 ghost use Rattle.tlsf_heap.specs.GoodFit.{block_at};
 ghost use Rattle.tlsf_heap.specs.Calls;
 ghost use Rattle.tlsf_heap.specs.Calls.{first_free, last_free};
+ghost use Rattle.tlsf_heap.specs.Headers.{IsRest};
 ghost use Rattle.tlsf_heap.specs.Image.{mark_of};
 ghost use Rattle.tlsf_heap.specs.InPlace.{payload_at};
 ghost use Rattle.tlsf_heap.specs.Lawful.{HasRoom};
 ghost use Rattle.tlsf_heap.specs.Named.{IsNameTest};
 ghost use Rattle.tlsf_heap.specs.Placed.{placed_at};
-ghost use Rattle.tlsf_heap.specs.Regions.{list_in, AreUnlisted, EachAt, HasAt, IsTagOf, IsTagBehind, AreNeighbours, rest_of, image_of, OnlyReads, Rewrites, PutInFront, TakenOut, IsOpened};
+ghost use Rattle.tlsf_heap.specs.Regions.{list_in, AreUnlisted, EachAt, HasAt, IsTagOf, IsTagBehind, AreNeighbours, rest_of, BeginsZero, IsCleared, image_of, OnlyReads, Rewrites, PutInFront, TakenOut, IsOpened};
 
 use crate::headers::{
     first_header, free_header, live_header, merge_headers, recut_header, split_header, widen_header,
@@ -251,26 +252,46 @@ impl<const SLI: u32> Region<SLI> {
         both - size
     }
 
-    /// Makes the free block at a place, which is in no list, a live one of `size` words with `len` bytes of payload, all zero, and a
-    /// free rest; all of it where the rest would have fewer than four words. Answers the size of the rest, or 0. The last `spare` words
-    /// of the block aren't of its payload, and aren't made zero.
-    pub fn carve(&mut self, at: u32, size: u32, serial: u64, len: u32, spare: u32) -> u32
-        requires payload { want len + spare ≤ size }
-        requires room { HasAt self.old.blocks at (λ s. (is_free s.block ≡ true) × (size ≤ size_of s.block)) }
+    /// Makes the free block at a place, of this tag, which is in no list, a live one of all its words with `len` bytes of payload, and
+    /// answers how many words it has. Its payload begins with a zero word, and is else as it stood: `zero` comes last.
+    pub fn grant(&mut self, at: u32, own: Tag, serial: u64, len: u32) -> u32
+        requires own { HasAt self.old.blocks at (λ s. IsTagOf self.old.words s own) }
+        requires free { own.free ≡ true }
+        requires payload { words_for len ≤ own.size }
         requires unlisted { EachAt self.old.blocks at (λ s. AreUnlisted (list_in self.old.lists) at (at + size_of s.block)) }
-        ensures rest { EachAt self.old.blocks at (λ s. result ≡ rest_of (size_of s.block) size) }
+        ensures size { result ≡ own.size }
+        ensures first { BeginsZero (bytes_in self.new.stored.words (payload_byte at 0) len) }
         ensures change { EachAt self.old.blocks at (λ s. Rewrites self.old self.new
-            (s.before ++ Calls.carved (size_of s.block) size serial len ++ s.after) (9 + (size_of s.block - result - 3 - spare))) }
+            (s.before ++ (Live (size_of s.block) serial (bytes_in self.new.stored.words (payload_byte at 0) len) ∷ []) ++ s.after) 4) }
     {
-        let tag = self.words.tag(at);
-        let all = tag.size();
-        if all < size + 4 {
-            live_header(&mut self.words, at, tag.as_live(), all, serial, len, spare);
-            return 0;
-        }
-        let rest = all - size;
-        split_header(&mut self.words, at, tag, size, serial, len, spare);
-        rest
+        let live = own.granted();
+        live_header(&mut self.words, at, live, serial, len);
+        live.size()
+    }
+
+    /// Makes the free block at a place, of this tag, which is in no list, a live one of `size` words with `len` bytes of payload, and a free
+    /// rest of its tag. The payload begins with a zero word, and is else as it stood: `zero` comes last.
+    pub fn split(&mut self, at: u32, own: Tag, rest: Tag, size: u32, serial: u64, len: u32)
+        requires own { HasAt self.old.blocks at (λ s. IsTagOf self.old.words s own) }
+        requires free { own.free ≡ true }
+        requires rest { IsRest own at size rest }
+        requires payload { want len ≤ size }
+        requires room { size + 4 ≤ own.size }
+        requires unlisted { EachAt self.old.blocks at (λ s. AreUnlisted (list_in self.old.lists) at (at + size_of s.block)) }
+        ensures first { BeginsZero (bytes_in self.new.stored.words (payload_byte at 0) len) }
+        ensures change { EachAt self.old.blocks at (λ s. Rewrites self.old self.new
+            (s.before ++ (Live size serial (bytes_in self.new.stored.words (payload_byte at 0) len) ∷ Free (size_of s.block - size) serial ∷ []) ++ s.after) 9) }
+    {
+        split_header(&mut self.words, at, own, rest, size, serial, len);
+    }
+
+    /// Makes the payload of the live block at a place zero, whose first word is: `n` words behind that one.
+    pub fn zero(&mut self, at: u32, n: u32)
+        requires { HasAt self.old.blocks at (λ s. IsCleared s.block n) }
+        ensures { EachAt self.old.blocks at (λ s. Rewrites self.old self.new
+            (s.before ++ (Calls.with_bytes s.block (replicate (length (bytes_of s.block)) 0) ∷ []) ++ s.after) n) }
+    {
+        self.words.zero(at + 4, n);
     }
 
     /// Makes the live block at a place, of this tag, neither of whose neighbours is free, a free one.

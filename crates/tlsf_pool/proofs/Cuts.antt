@@ -156,23 +156,9 @@ longer_first sli heaps n kinds best rest words inside are is behind small =
     cheaper_best sli (HasFirst heaps n) (HasJust heaps (n + 1)) (HasFirst heaps (n + 1)) kinds (either_first heaps n) (fewer_first heaps n) (just_first heaps (n + 1))
     best (with_first (n + 1) words rest) is (with_first_best sli heaps (n + 1) kinds (omega arith) (omega arith) words rest are behind small)
 
--- no kind for the first heap is none
-pub no_first : (sli heaps : ℕ) (kinds : List Kind) → IsBestAmong sli (HasFirst heaps 0) kinds None
-no_first sli heaps kinds [] cut first = first
-no_first sli heaps kinds (part ∷ parts) cut first = omega (arith, first.0, cut.1.0.0)
-
--- any number is
-any_first : (sli heaps : ℕ) (kinds : List Kind) → 0 < length kinds → (parts : List (List Kind)) → IsCut sli kinds parts → HasAtMost (heaps + 1) parts → HasFirst heaps (length kinds) parts
-any_first sli heaps kinds some [] cut few = absurd (omega (arith, some, ap length cut.0))
-any_first sli heaps kinds some (part ∷ parts) cut few = (omega (arith, ap length cut.0, length-append part (joined parts)), omega (arith, few))
-
 of_first : (heaps n : ℕ) (parts : List (List Kind)) → HasFirst heaps n parts → HasAtMost (heaps + 1) parts
 of_first heaps n [] first = absurd first
 of_first heaps n (part ∷ parts) first = omega (arith, first.1)
-
-pub whole_first : (sli heaps : ℕ) (kinds : List Kind) (best : Option Split) → 0 < length kinds → IsBestAmong sli (HasFirst heaps (length kinds)) kinds best → IsBest sli (heaps + 1) kinds best
-whole_first sli heaps kinds best some is =
-    same_best sli (HasFirst heaps (length kinds)) (HasAtMost (heaps + 1)) kinds best (any_first sli heaps kinds some) (of_first heaps (length kinds)) is
 
 -- ---- of no kinds, and into no heap
 

@@ -64,6 +64,9 @@ says_live w = record {
   back = omega arith;
 }
 
+pub says_granted : (w : ℕ) → free_in w ≡ true → Says (w - 1) (size_in w) false (last_in w) (back_in w)
+says_granted w free = let same : w - w % 2 ≡ w - 1 = omega (arith, free_bit w free) in rw same at (says_live w)
+
 pub says_back : (w back : ℕ) → Says (low_half w + back * 2 ^ 32) (size_in w) (free_in w) (last_in w) back
 unfolding size_in last_in free_in back_in low_half high_half
 says_back w back = record {

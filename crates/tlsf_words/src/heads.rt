@@ -52,7 +52,7 @@ impl<const SLI: u32> Heads<SLI> {
         ensures touches { self.new.touches ≡ self.old.touches + 1 }
     {
         self.touches.add_one();
-        self.places[class.number() as usize]
+        self.places[class.index()]
     }
 
     /// Makes the list of a class begin at a place. Each write of a head is here. The clauses say the range of the class's
@@ -67,6 +67,6 @@ impl<const SLI: u32> Heads<SLI> {
         ensures touches { self.new.touches ≡ self.old.touches + 1 }
     {
         self.touches.add_one();
-        self.places[class.number() as usize] = at;
+        self.places[class.index()] = at;
     }
 }

@@ -143,21 +143,6 @@ impl Words {
         self.read(at as usize + 1)
     }
 
-    /// Writes the mark of the header at a place.
-    ///
-    /// ```
-    /// words.set_mark(at, tick);
-    /// ```
-    #[inline]
-    pub fn set_mark(&mut self, at: u32, mark: u64)
-        requires { at + 1 < length self.old.words }
-        ensures words { self.new.words ≡ slice_set self.old.words (at + 1) mark }
-        ensures starts { self.new.starts ≡ self.old.starts }
-        ensures touches { self.new.touches ≡ self.old.touches + 1 }
-    {
-        self.write(at as usize + 1, mark);
-    }
-
     /// Writes the tag and the mark of the header at a place, at once. Two touches.
     ///
     /// ```
@@ -174,26 +159,45 @@ impl Words {
     }
 
     /// Writes the header of a live block at a place, its tag, its mark and its payload length in bytes, and makes its first payload
-    /// word zero, which each block has, and `n` more behind it. Four touches, and one for each of these.
+    /// word zero, which each block has. Four touches.
     ///
     /// ```
-    /// words.set_header(at, tag.as_live(), serial, 8, 0);     // of a block of 4 words: its payload is zero
+    /// words.set_header(at, tag.as_live(), serial, 8);     // of a block of 4 words: its payload is zero
     /// ```
     #[inline]
     #[tactic(auto, unfolding(crate::specs::Fields::length_word))]
-    pub fn set_header(&mut self, at: u32, tag: Tag, mark: u64, bytes: u32, n: u32)
-        requires { at + 4 + n ≤ length self.old.words }
-        ensures words { self.new.words ≡ take (at + 4) (slice_set (slice_set (slice_set (slice_set self.old.words at (tag_word tag.size tag.last tag.free tag.back)) (at + 1) mark) (at + 2) (length_word bytes)) (at + 3) 0)
-            ++ replicate n 0 ++ drop (at + 4 + n) (slice_set (slice_set (slice_set (slice_set self.old.words at (tag_word tag.size tag.last tag.free tag.back)) (at + 1) mark) (at + 2) (length_word bytes)) (at + 3) 0) }
+    pub fn set_header(&mut self, at: u32, tag: Tag, mark: u64, bytes: u32)
+        requires { at + 3 < length self.old.words }
+        ensures words { self.new.words ≡ slice_set (slice_set (slice_set (slice_set self.old.words at (tag_word tag.size tag.last tag.free tag.back)) (at + 1) mark) (at + 2) (length_word bytes)) (at + 3) 0 }
         ensures starts { self.new.starts ≡ self.old.starts }
-        ensures touches { self.new.touches ≡ self.old.touches + 4 + n }
+        ensures touches { self.new.touches ≡ self.old.touches + 4 }
     {
-        self.words.write_and_zero(
+        self.words
+            .write_four(at as usize, tag.to_word(), mark, u64::from(bytes));
+    }
+
+    /// Writes the header of a live block at a place and makes its first payload word zero, as [`Words::set_header`] does, and the tag and
+    /// the mark, the same one, of a free block at another place. Six touches. The address of the words is read once.
+    ///
+    /// ```
+    /// words.set_headers(at, tag.without(rest), serial, 8, at + 4, rest);     // a block of 4 words, cut off its front
+    /// ```
+    #[inline]
+    #[tactic(auto, unfolding(crate::specs::Fields::length_word))]
+    pub fn set_headers(&mut self, at: u32, tag: Tag, mark: u64, bytes: u32, place: u32, rest: Tag)
+        requires at { at + 3 < length self.old.words }
+        requires place { place + 1 < length self.old.words }
+        ensures words { self.new.words ≡ slice_set (slice_set (slice_set (slice_set (slice_set (slice_set self.old.words at (tag_word tag.size tag.last tag.free tag.back)) (at + 1) mark) (at + 2) (length_word bytes)) (at + 3) 0) place (tag_word rest.size rest.last rest.free rest.back)) (place + 1) mark }
+        ensures starts { self.new.starts ≡ self.old.starts }
+        ensures touches { self.new.touches ≡ self.old.touches + 6 }
+    {
+        self.words.write_both(
             at as usize,
             tag.to_word(),
             mark,
             u64::from(bytes),
-            n as usize,
+            place as usize,
+            rest.to_word(),
         );
     }
 
@@ -271,8 +275,7 @@ impl Words {
         requires at { at + 2 < length self.old.words }
         requires next { links.next + 2 < length self.old.words }
         ensures small { length self.old.words ≤ 2 ^ 24 }
-        ensures words { self.new.words ≡ slice_set (slice_set self.old.words (at + 2) (links_word links.next links.previous)) (links.next + 2)
-            (links_word (low_half (slice_index (slice_set self.old.words (at + 2) (links_word links.next links.previous)) (links.next + 2))) at) }
+        ensures words { self.new.words ≡ slice_set (slice_set self.old.words (at + 2) (links_word links.next links.previous)) (links.next + 2) (links_word (low_half (slice_index (slice_set self.old.words (at + 2) (links_word links.next links.previous)) (links.next + 2))) at) }
         ensures starts { self.new.starts ≡ self.old.starts }
         ensures touches { self.new.touches ≡ self.old.touches + 3 }
     {

@@ -8,13 +8,13 @@ use tlsf_words::{Links, NoMemory, Tag, Words};
 /// What a word holds that no setter has written.
 const KEPT: u64 = 0xa5a5_a5a5_a5a5_a5a5;
 
-/// Each of 16 words is `KEPT`, but for word 0, which no mark can reach.
+/// Each of 16 words is `KEPT`, but for word 0, which no mark can reach: that has the tag of a live block.
 fn fill(rt: &impl Abort, words: &mut Words)
     ensures { length words.new.words ≡ 16 }
 {
     for at in 0..15 {
         assert!(rt; words.len() == 16);
-        words.set_mark(at, KEPT);
+        words.set_tag_and_mark(14 - at, live(), KEPT);
     }
     assert!(rt; words.len() == 16);
 }
@@ -55,19 +55,18 @@ fn free_header(words: &mut Words, at: u32) -> (Tag, u64, Links)
     requires { at + 2 < length words.old.words }
     ensures { length words.new.words ≡ length words.old.words }
 {
-    words.set_tag(at, free());
-    words.set_mark(at, u64::MAX);
+    words.set_tag_and_mark(at, free(), u64::MAX);
     words.set_links(at, LINKS);
     (words.tag(at), words.mark(at), words.links(at))
 }
 
 /// Writes the header of a live block, and reads it.
 fn live_header(words: &mut Words, at: u32) -> (Tag, u64, u32)
-    requires { at + 2 < length words.old.words }
+    requires { at + 3 < length words.old.words }
     ensures { length words.new.words ≡ length words.old.words }
 {
-    words.set_tag(at, live());
-    words.set_mark(at, 3);
+    words.set_tag(at + 1, free());
+    words.set_header(at, live(), 3, 100);
     words.set_length(at, 7);
     (words.tag(at), words.mark(at), words.length(at))
 }
@@ -113,7 +112,7 @@ fn check_copies(rt: &impl Abort, words: &mut Words, offset: u32, len: usize)
     }
     let start = 40 + offset as usize;
     let mut plain = [0xa5; 128];
-    plain[..8].fill(0);
+    plain[..8].copy_from_slice(&[0x10, 0, 0, 0, 0xff, 0xff, 0xff, 0xff]);
     plain[start..start + len].copy_from_slice(&bytes[..len]);
     let mut copy = [0; 40];
     copy[..len].copy_from_slice(&bytes[..len]);

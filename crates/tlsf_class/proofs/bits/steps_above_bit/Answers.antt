@@ -1,24 +1,37 @@
-use Rattle.std.proofs.Common.{◌≡◌, ℕ, ◌+◌, ◌-◌, ◌/◌, ◌^◌, ◌<◌, sym, ap, ◌∙◌, arith}
+use Rattle.std.proofs.Common.{◌≡◌, ℕ, ◌+◌, ◌-◌, ◌/◌, ◌^◌, ◌<◌, inl, inr, sym, ap, ◌∙◌, arith, bit_and}
 use Rattle.std.specs.Int.{bit_at}
+use Rattle.std.proofs.Math.Nat.{div-le_self}
+use Rattle.std.proofs.lemmas.Bool.{cases_lt}
 use Rattle.std.proofs.lemmas.Nat.Bits.{bit_at-zero}
-use Rattle.tlsf_class.proofs.OneBit.{shifted_bit}
+use Rattle.tlsf_class.proofs.OneBit.{masked_from, masked_below, shifted_from}
 use Rattle.tlsf_class.proofs.bits.steps_above_bit.Goals as goal
 
--- a bit of the word that is shifted twice
-shifted_above : (n from k : ℕ) → bit_at (n / 2 ^ from / 2 ^ 1) k ≡ bit_at n (from + 1 + k)
-shifted_above n from k = shifted_bit (n / 2 ^ from) 1 k ∙ shifted_bit n from (1 + k) ∙ ap (bit_at n) (omega arith)
+-- the shifted word without its lowest bit
+abbrev left : ℕ → ℕ → ℕ
+left word from = bit_and (word / 2 ^ from) 4294967294
 
--- and the other way
-shifted_back : (n from k : ℕ) → from < k → bit_at (n / 2 ^ from / 2 ^ 1) (k - from - 1) ≡ bit_at n k
-shifted_back n from k above = shifted_above n from (k - from - 1) ∙ ap (bit_at n) (omega arith)
+-- what is above bit `from` stays
+above_stays : (word from k : ℕ) → word < 2 ^ 32 → from < k → bit_at (left word from) (k - from) ≡ bit_at word k
+above_stays word from k fits above = masked_from (word / 2 ^ from) 1 (k - from) (omega (arith, div-le_self word (2 ^ from))) (omega arith) (omega arith) ∙ shifted_from word from k (omega arith)
+
+-- the bit that is found is above
+is_above : goal.returns-else-shifted-eq0-clause-above
+is_above c = elim (cases_lt c.lowest_bit.result 1) [
+  | inl below ↦ absurd (omega (arith, masked_below (c.args.word / 2 ^ c.args.from) 1 c.lowest_bit.result (omega arith) below, c.lowest_bit.ensures.set))
+  | inr above ↦ above
+]
 
 pub returns-then-shifted-eq0-clause-none : goal.returns-then-shifted-eq0-clause-none
 returns-then-shifted-eq0-clause-none c = λ k above.
-    sym (shifted_back c.args.word c.args.from k above) ∙ ap (λ n. bit_at n (k - c.args.from - 1)) c.if-shifted-eq0.true ∙ bit_at-zero (k - c.args.from - 1)
+    sym (above_stays c.args.word c.args.from k (omega arith) above) ∙ ap (λ n. bit_at n (k - c.args.from)) c.if-shifted-eq0.true ∙ bit_at-zero (k - c.args.from)
+
+pub returns-else-shifted-eq0-clause-above : goal.returns-else-shifted-eq0-clause-above
+returns-else-shifted-eq0-clause-above c = is_above c
 
 pub returns-else-shifted-eq0-clause-set : goal.returns-else-shifted-eq0-clause-set
-returns-else-shifted-eq0-clause-set c = sym (shifted_above c.args.word c.args.from c.lowest_bit.result) ∙ c.lowest_bit.ensures.set
+returns-else-shifted-eq0-clause-set c =
+    sym (above_stays c.args.word c.args.from (c.args.from + c.lowest_bit.result) (omega arith) (omega (arith, is_above c))) ∙ ap (bit_at (left c.args.word c.args.from)) (omega arith) ∙ c.lowest_bit.ensures.set
 
 pub returns-else-shifted-eq0-clause-lowest : goal.returns-else-shifted-eq0-clause-lowest
 returns-else-shifted-eq0-clause-lowest c = λ k above below.
-    sym (shifted_back c.args.word c.args.from k above) ∙ c.lowest_bit.ensures.lowest (k - c.args.from - 1) (omega arith)
+    sym (above_stays c.args.word c.args.from k (omega arith) above) ∙ c.lowest_bit.ensures.lowest (k - c.args.from) (omega arith)

@@ -1,122 +1,149 @@
-use Rattle.std.proofs.Common.{ap, ◌∙◌, arith}
+use Rattle.std.proofs.Common.{◌≡◌, ℕ, ◌+◌, ◌-◌, ◌<◌, ◌≤◌, suc, List, [], ◌∷◌, ◌++◌, take, drop, ap, ◌∙◌, sym, subst, refl, arith}
 use Rattle.tlsf_class.proofs.TwoLevels.{most_words_any}
 use Rattle.tlsf_class.specs.Classes.{class_of}
-use Rattle.tlsf_heap.specs.Blocks.{size_of}
+use Rattle.tlsf_words.specs.Bytes.{bytes_in, payload_byte}
+use Rattle.tlsf_heap.specs.Blocks.{size_of, StandsAt}
+use Rattle.tlsf_heap.specs.Calls.{carved}
 use Rattle.tlsf_heap.specs.GoodFit.{block_at}
-use Rattle.tlsf_heap.specs.Regions.{list_in}
-use Rattle.tlsf_heap.proofs.Carving.{is_listed, head_some, rest_some, rest_none, end_within, given_size, left_unlisted_each, whole_listed, rest_free, rest_unlisted, rest_listed}
+use Rattle.tlsf_heap.proofs.Clearing.{zeroed_block}
+use Rattle.tlsf_heap.specs.Regions.{Rewrites, list_in}
+use Rattle.tlsf_heap.proofs.Carving.{IsReady, head_stands, is_taken, taken_stands, taken_unlisted, end_within, by_grant, by_split, split_rest_free, split_rest_unlisted, zeroed_around, zeroed_carved, zeroed_listed}
+use Rattle.tlsf_heap.proofs.Payloads.{length-bytes_in}
+use Rattle.tlsf_heap.proofs.Sizes.{block_around, stands_around, one_index}
+use Rattle.tlsf_heap.proofs.fitting.carve.Given.{Over}
+use Rattle.tlsf_heap.proofs.fitting.carve.Goals.{then-size-lt4, else-size-lt4}
 use Rattle.tlsf_heap.proofs.fitting.carve.Goals as goal
 
-pub pop_first-at-requires : goal.pop_first-at-requires
-pop_first-at-requires g c = (omega arith, (omega arith, head_some g.row.SLI c.requires.fits.2))
-
-pub carve-rest-requires : goal.carve-rest-requires
-carve-rest-requires g c =
-    let f = is_listed g.row.SLI c.requires.fits c.pop_first-at.ensures.place c.requires.sized c.requires.stamped c.requires.listed in
-    let pop = c.pop_first-at.ensures.change in (
+pub grant-size-requires : goal.grant-size-requires
+grant-size-requires g c =
+    let t = is_taken g.row.SLI c.requires.fits c.pop_first-at.ensures.place c.requires.sized c.requires.stamped c.requires.listed c.pop_first-at.ensures.change c.tag-own.ensures.value c.tag-own.ensures.reads in (
       omega arith,
       (
-        c.requires.payload,
+        (c.requires.fits.1, taken_stands g.row.SLI t, t.is_own),
+        (t.free, (omega (arith, c.requires.payload, c.requires.fits.4, t.size), taken_unlisted g.row.SLI t)),
+      ),
+    )
+
+pub split-requires : goal.split-requires
+split-requires g c =
+    let t = is_taken g.row.SLI c.requires.fits c.pop_first-at.ensures.place c.requires.sized c.requires.stamped c.requires.listed c.pop_first-at.ensures.change c.tag-own.ensures.value c.tag-own.ensures.reads in
+    let rest = c.rest-rest.ensures in (
+      omega arith,
+      (
+        (c.requires.fits.1, taken_stands g.row.SLI t, t.is_own),
         (
-          rw pop.blocks (c.requires.fits.1, f.stands, (c.requires.fits.3, c.requires.fits.4)),
-          rw pop.blocks (left_unlisted_each g.row.SLI f (list_in c.pop_first-at.new.self.lists) pop.list pop.others),
+          t.free,
+          (
+            record { size = rest.size; free = rest.free; last = rest.last; back = rest.back },
+            (
+              omega (arith, c.requires.payload),
+              (omega (arith, c.if-size-lt4.false, c.size.ensures.value, rest.size), taken_unlisted g.row.SLI t),
+            ),
+          ),
         ),
       ),
     )
 
 pub overflow_add-at : goal.overflow_add-at
 overflow_add-at g c =
-    let f = is_listed g.row.SLI c.requires.fits c.pop_first-at.ensures.place c.requires.sized c.requires.stamped c.requires.listed in
-    let pop = c.pop_first-at.ensures.change in
-    let is_rest = (rw pop.blocks at c.carve-rest.ensures.rest) c.requires.fits.1 f.stands in
-    let change = (rw pop.blocks at c.carve-rest.ensures.change) c.requires.fits.1 f.stands in
-    let some = rest_some (size_of (block_at c.args.region.now.blocks c.requires.fits.1)) c.args.words (omega (arith, c.if-rest-gt0.true, is_rest)) in
-    omega (arith, c.requires.small, most_words_any g.row.SLI, end_within g.row.SLI f, some.0)
+    let t = is_taken g.row.SLI c.requires.fits c.pop_first-at.ensures.place c.requires.sized c.requires.stamped c.requires.listed c.pop_first-at.ensures.change c.tag-own.ensures.value c.tag-own.ensures.reads in
+    omega (arith, c.requires.small, most_words_any g.row.SLI, end_within g.row.SLI t.listed, c.requires.fits.4)
 
-pub class_of-requires : goal.class_of-requires
-class_of-requires g c =
-    let f = is_listed g.row.SLI c.requires.fits c.pop_first-at.ensures.place c.requires.sized c.requires.stamped c.requires.listed in
-    let pop = c.pop_first-at.ensures.change in
-    let is_rest = (rw pop.blocks at c.carve-rest.ensures.rest) c.requires.fits.1 f.stands in
-    let change = (rw pop.blocks at c.carve-rest.ensures.change) c.requires.fits.1 f.stands in
-    let some = rest_some (size_of (block_at c.args.region.now.blocks c.requires.fits.1)) c.args.words (omega (arith, c.if-rest-gt0.true, is_rest)) in (
-      omega arith,
-      (
-        c.requires.level,
-        (
-          omega (arith, is_rest, some.0, some.1),
-          omega (arith, is_rest, some.1, c.requires.small, end_within g.row.SLI f),
-        ),
-      ),
-    )
+-- the bytes of the block that is split
+abbrev bytes : (g : Over) → goal.After-class_of g → List ℕ
+bytes g c = bytes_in c.split.new.self.stored.words (payload_byte c.pop_first-at.result 0) c.args.len
 
 pub push-requires : goal.push-requires
 push-requires g c =
-    let f = is_listed g.row.SLI c.requires.fits c.pop_first-at.ensures.place c.requires.sized c.requires.stamped c.requires.listed in
-    let pop = c.pop_first-at.ensures.change in
-    let is_rest = (rw pop.blocks at c.carve-rest.ensures.rest) c.requires.fits.1 f.stands in
-    let change = (rw pop.blocks at c.carve-rest.ensures.change) c.requires.fits.1 f.stands in
-    let some = rest_some (size_of (block_at c.args.region.now.blocks c.requires.fits.1)) c.args.words (omega (arith, c.if-rest-gt0.true, is_rest)) in (
+    let t = is_taken g.row.SLI c.requires.fits c.pop_first-at.ensures.place c.requires.sized c.requires.stamped c.requires.listed c.pop_first-at.ensures.change c.tag-own.ensures.value c.tag-own.ensures.reads in
+    let many = length-bytes_in c.split.new.self.stored.words (payload_byte c.pop_first-at.result 0) c.args.len in
+    let fits : c.args.words ≤ c.tag-own.result.size = omega (arith, c.requires.fits.4, t.size) in
+    let large : c.args.words + 4 ≤ c.tag-own.result.size = omega (arith, c.if-size-lt4.false, c.size.ensures.value, c.rest-rest.ensures.size) in (
       omega arith,
       (
         omega arith,
         (
-          rest_free g.row.SLI f (list_in c.pop_first-at.new.self.lists) pop.list pop.others c.args.words c.args.len c.carve-rest.new.self.blocks change.blocks (list_in c.carve-rest.new.self.lists) change.lists some.0,
-          rest_unlisted g.row.SLI f (list_in c.pop_first-at.new.self.lists) pop.list pop.others c.args.words c.args.len c.carve-rest.new.self.blocks change.blocks (list_in c.carve-rest.new.self.lists) change.lists some.0,
+          split_rest_free g.row.SLI t c.args.words c.args.len (bytes g c) many c.split.ensures.first fits large c.split.ensures.change,
+          split_rest_unlisted g.row.SLI t c.args.words c.args.len (bytes g c) many c.split.ensures.first fits large c.split.ensures.change,
         ),
       ),
     )
 
-pub returns-then-rest-gt0-clause-listed : goal.returns-then-rest-gt0-clause-listed
-returns-then-rest-gt0-clause-listed g c =
-    let f = is_listed g.row.SLI c.requires.fits c.pop_first-at.ensures.place c.requires.sized c.requires.stamped c.requires.listed in
-    let pop = c.pop_first-at.ensures.change in
-    let is_rest = (rw pop.blocks at c.carve-rest.ensures.rest) c.requires.fits.1 f.stands in
-    let change = (rw pop.blocks at c.carve-rest.ensures.change) c.requires.fits.1 f.stands in
-    let some = rest_some (size_of (block_at c.args.region.now.blocks c.requires.fits.1)) c.args.words (omega (arith, c.if-rest-gt0.true, is_rest)) in
-    rest_listed g.row.SLI f (list_in c.pop_first-at.new.self.lists) pop.list pop.others c.args.words c.args.len c.carve-rest.new.self.blocks change.blocks (list_in c.carve-rest.new.self.lists) change.lists some.0
-    c.push.new.self.blocks c.push.ensures.blocks c.class_of.result (list_in c.push.new.self.lists) (c.class_of.ensures ∙ ap (class_of g.row.SLI) (is_rest ∙ some.1)) c.push.ensures.list c.push.ensures.others
+-- the block has its header, and its rest is listed
+ready : (g : Over) (c : goal.After-row_known-2-1 g)
+    → IsReady g.row.SLI c.args.region.now c.pop_first-at.result c.requires.fits.1 c.args.words c.args.tick.now c.args.len c.if-size-lt4.size c.if-size-lt4.region
+ready g c =
+    let t = is_taken g.row.SLI c.requires.fits c.pop_first-at.ensures.place c.requires.sized c.requires.stamped c.requires.listed c.pop_first-at.ensures.change c.tag-own.ensures.value c.tag-own.ensures.reads in
+    let fits : c.args.words ≤ c.tag-own.result.size = omega (arith, c.requires.fits.4, t.size) in
+    let rest : c.size.result ≡ c.tag-own.result.size - c.args.words = c.size.ensures.value ∙ c.rest-rest.ensures.size in
+    let many = λ (words : List ℕ). length-bytes_in words (payload_byte c.pop_first-at.result 0) c.args.len in
+    elim c.if-size-lt4.branch [
+      | then-size-lt4 w ↦ let new = w.grant-size.new.self.stored.words in
+          let small : c.tag-own.result.size < c.args.words + 4 = omega (arith, w.if-size-lt4.true, rest) in
+          by_grant g.row.SLI t c.args.words c.args.len (bytes_in new (payload_byte c.pop_first-at.result 0) c.args.len) (many new) w.grant-size.ensures.first fits small w.grant-size.ensures.change w.region-is (w.size-is ∙ w.grant-size.ensures.size)
+      | else-size-lt4 w ↦ let new = w.split.new.self.stored.words in
+          let large : c.args.words + 4 ≤ c.tag-own.result.size = omega (arith, w.if-size-lt4.false, rest) in
+          by_split g.row.SLI t c.args.words c.args.len (bytes_in new (payload_byte c.pop_first-at.result 0) c.args.len) (many new) w.split.ensures.first fits large w.split.ensures.change
+          (w.class_of.ensures ∙ ap (class_of g.row.SLI) (w.size-else-size-lt4.ensures.value ∙ c.rest-rest.ensures.size)) w.push.ensures w.region-is w.size-is
+    ]
 
-pub returns-else-rest-gt0-clause-listed : goal.returns-else-rest-gt0-clause-listed
-returns-else-rest-gt0-clause-listed g c =
-    let f = is_listed g.row.SLI c.requires.fits c.pop_first-at.ensures.place c.requires.sized c.requires.stamped c.requires.listed in
-    let pop = c.pop_first-at.ensures.change in
-    let is_rest = (rw pop.blocks at c.carve-rest.ensures.rest) c.requires.fits.1 f.stands in
-    let change = (rw pop.blocks at c.carve-rest.ensures.change) c.requires.fits.1 f.stands in
-    whole_listed g.row.SLI f (list_in c.pop_first-at.new.self.lists) pop.list pop.others c.args.words c.args.len c.carve-rest.new.self.blocks change.blocks (list_in c.carve-rest.new.self.lists) change.lists
-    (rest_none (size_of (block_at c.args.region.now.blocks c.requires.fits.1)) c.args.words (omega (arith, c.if-rest-gt0.false, is_rest)))
+pub zero-requires : goal.zero-requires
+zero-requires g c =
+    let given = (ready g c).given in
+    let here = block_around given.around in (
+      omega arith,
+      (
+        c.requires.fits.1,
+        stands_around given.around,
+        rw here (record { live = refl; first = given.first; payload = omega (arith, given.many, given.room, c.requires.payload); within = omega (arith, given.room, c.requires.payload) }),
+      ),
+    )
 
--- the touches: seven to take the head out, those of the block, and seven to list its rest
-pub returns-then-rest-gt0-clause-edits : goal.returns-then-rest-gt0-clause-edits
-returns-then-rest-gt0-clause-edits g c i stands =
-    let f = is_listed g.row.SLI c.requires.fits c.pop_first-at.ensures.place c.requires.sized c.requires.stamped c.requires.listed in
-    let pop = c.pop_first-at.ensures.change in
-    let is_rest = (rw pop.blocks at c.carve-rest.ensures.rest) c.requires.fits.1 f.stands in
-    let change = (rw pop.blocks at c.carve-rest.ensures.change) c.requires.fits.1 f.stands in
-    let here = (rw pop.blocks at c.carve-rest.ensures.change) i stands in
-    let push = c.push.ensures in
-    let given = given_size g.row.SLI f c.args.words c.args.len c.carve-rest.result c.carve-rest.new.self.blocks is_rest change.blocks i stands in
-    let same = ap (λ bs. size_of (block_at bs i)) push.blocks in
+-- so it is behind the zeros
+was_ready : (g : Over) (c : goal.After-zero g)
+    → IsReady g.row.SLI c.args.region.now c.pop_first-at.result c.requires.fits.1 c.args.words c.args.tick.now c.args.len c.if-size-lt4.size c.if-size-lt4.region
+was_ready g c =
+    let t = is_taken g.row.SLI c.requires.fits c.pop_first-at.ensures.place c.requires.sized c.requires.stamped c.requires.listed c.pop_first-at.ensures.change c.tag-own.ensures.value c.tag-own.ensures.reads in
+    let fits : c.args.words ≤ c.tag-own.result.size = omega (arith, c.requires.fits.4, t.size) in
+    let rest : c.size.result ≡ c.tag-own.result.size - c.args.words = c.size.ensures.value ∙ c.rest-rest.ensures.size in
+    let many = λ (words : List ℕ). length-bytes_in words (payload_byte c.pop_first-at.result 0) c.args.len in
+    elim c.if-size-lt4.branch [
+      | then-size-lt4 w ↦ let new = w.grant-size.new.self.stored.words in
+          let small : c.tag-own.result.size < c.args.words + 4 = omega (arith, w.if-size-lt4.true, rest) in
+          by_grant g.row.SLI t c.args.words c.args.len (bytes_in new (payload_byte c.pop_first-at.result 0) c.args.len) (many new) w.grant-size.ensures.first fits small w.grant-size.ensures.change w.region-is (w.size-is ∙ w.grant-size.ensures.size)
+      | else-size-lt4 w ↦ let new = w.split.new.self.stored.words in
+          let large : c.args.words + 4 ≤ c.tag-own.result.size = omega (arith, w.if-size-lt4.false, rest) in
+          by_split g.row.SLI t c.args.words c.args.len (bytes_in new (payload_byte c.pop_first-at.result 0) c.args.len) (many new) w.split.ensures.first fits large w.split.ensures.change
+          (w.class_of.ensures ∙ ap (class_of g.row.SLI) (w.size-else-size-lt4.ensures.value ∙ c.rest-rest.ensures.size)) w.push.ensures w.region-is w.size-is
+    ]
+
+-- what the zeros leave
+zeroed : (g : Over) (c : goal.After-zero g) → Rewrites c.if-size-lt4.region c.zero.new.self (take c.requires.fits.1 c.if-size-lt4.region.blocks ++ (zeroed_block (block_at c.if-size-lt4.region.blocks c.requires.fits.1) ∷ []) ++ drop (suc c.requires.fits.1) c.if-size-lt4.region.blocks) (c.if-size-lt4.size - 4 - c.args.spare)
+zeroed g c = c.zero.ensures c.requires.fits.1 (stands_around (was_ready g c).given.around)
+
+-- the block begins at one place
+one : (g : Over) (c : goal.After-zero g) (i : ℕ) → StandsAt c.args.region.now.blocks c.pop_first-at.result i → c.requires.fits.1 ≡ i
+one g c i stands = one_index g.row.SLI c.args.region.now.blocks c.pop_first-at.result c.requires.fits.1 i c.requires.sized (head_stands g.row.SLI c.requires.fits.2 c.pop_first-at.ensures.place) stands
+
+pub returns-clause-blocks : goal.returns-clause-blocks
+returns-clause-blocks g c i stands =
+    let old = c.args.region.now.blocks in
+    subst (λ (j : ℕ). c.zero.new.self.blocks ≡ take j old ++ carved (size_of (block_at old j)) c.args.words c.args.tick.now c.args.len ++ drop (suc j) old) (one g c i stands)
+    (zeroed_carved g.row.SLI (was_ready g c).given (zeroed g c).blocks)
+
+pub returns-clause-listed : goal.returns-clause-listed
+returns-clause-listed g c = zeroed_listed g.row.SLI (was_ready g c).given (zeroed g c).blocks (list_in c.zero.new.self.lists) (zeroed g c).lists
+
+pub returns-clause-edits : goal.returns-clause-edits
+returns-clause-edits g c i stands =
+    let ready = was_ready g c in
+    let zeros = zeroed g c in
+    let a = zeroed_around g.row.SLI ready.given zeros.blocks in
+    let size : size_of (block_at c.zero.new.self.blocks i) ≡ c.if-size-lt4.size = ap (λ (j : ℕ). size_of (block_at c.zero.new.self.blocks j)) (sym (one g c i stands)) ∙ ap size_of (block_around a) in
     record {
-      words = push.edits.words ∙ here.edits.words ∙ pop.edits.words;
-      shows = push.edits.shows;
-      linked = push.edits.linked;
-      touches = omega (arith, push.edits.touches, here.edits.touches, pop.edits.touches, given, same);
-      rise = omega (arith, push.edits.rise, here.edits.rise, pop.edits.rise);
-    }
-
-pub returns-else-rest-gt0-clause-edits : goal.returns-else-rest-gt0-clause-edits
-returns-else-rest-gt0-clause-edits g c i stands =
-    let f = is_listed g.row.SLI c.requires.fits c.pop_first-at.ensures.place c.requires.sized c.requires.stamped c.requires.listed in
-    let pop = c.pop_first-at.ensures.change in
-    let is_rest = (rw pop.blocks at c.carve-rest.ensures.rest) c.requires.fits.1 f.stands in
-    let change = (rw pop.blocks at c.carve-rest.ensures.change) c.requires.fits.1 f.stands in
-    let here = (rw pop.blocks at c.carve-rest.ensures.change) i stands in
-    let given = given_size g.row.SLI f c.args.words c.args.len c.carve-rest.result c.carve-rest.new.self.blocks is_rest change.blocks i stands in
-    record {
-      words = here.edits.words ∙ pop.edits.words;
-      shows = here.edits.shows;
-      linked = here.edits.linked;
-      touches = omega (arith, here.edits.touches, pop.edits.touches, given);
-      rise = omega (arith, here.edits.rise, pop.edits.rise);
+      words = zeros.edits.words ∙ ready.edits.words;
+      shows = zeros.edits.shows;
+      linked = zeros.edits.linked;
+      touches = omega (arith, zeros.edits.touches, ready.edits.touches, size, ready.given.room, c.requires.payload);
+      rise = omega (arith, zeros.edits.rise, ready.edits.rise);
     }

@@ -3,12 +3,17 @@ use Rattle.std.specs.Int.{bit_at}
 use Rattle.tlsf_class.proofs.BitmapWords.{further, next-same_level, next-later_level, next-none}
 use Rattle.tlsf_class.proofs.bitmaps.Bitmaps.next_from.Goals as goal
 
-pub plus-requires : goal.plus-requires
-plus-requires g c =
+pub below_plus-requires : goal.below_plus-requires
+below_plus-requires g c =
     let e = c.first_level_below-first_level.ensures in
-    let below : c.args.class - 1 + 1 ≡ c.args.class = omega (arith, e.least) in
-    let used = c.self.invariant.in_use c.first_level_below-first_level.result (c.second_level_below.result + 1 + c.in-Some.n) (ap (λ w. bit_at w (c.second_level_below.result + 1 + c.in-Some.n)) (sym c.second_word-word.ensures.value) ∙ c.in-Some.ensures.set) in
-    omega (arith, used.2, below, further g.row.SLI c.self.invariant.level (c.args.class - 1) c.first_level_below-first_level.result c.second_level_below.result c.in-Some.n e.value c.second_level_below.ensures.value)
+    let found = c.in-Some.ensures in
+    let used = c.self.invariant.in_use c.first_level_below-first_level.result (c.second_level_below.result + c.in-Some.n) (ap (λ w. bit_at w (c.second_level_below.result + c.in-Some.n)) (sym c.second_word-word.ensures.value) ∙ found.set) in (
+      omega arith,
+      (
+        found.above,
+        omega (arith, used.2, further g.row.SLI c.self.invariant.level (c.args.class - 1) c.first_level_below-first_level.result c.second_level_below.result c.in-Some.n e.value c.second_level_below.ensures.value),
+      ),
+    )
 
 pub returns-in-Some-clause-least : goal.returns-in-Some-clause-least
 returns-in-Some-clause-least g c =
@@ -16,10 +21,10 @@ returns-in-Some-clause-least g c =
     let below : c.args.class - 1 + 1 ≡ c.args.class = omega (arith, e.least) in
     let word = sym c.second_word-word.ensures.value in
     let found = c.in-Some.ensures in
-    rw (c.plus.ensures, ← c.self.view_is)
+    rw (c.below_plus.ensures, ← c.self.view_is)
     (sym (rw below at (next-same_level g.row.SLI c.self.invariant.level _ _ (c.args.class - 1) c.first_level_below-first_level.result c.second_level_below.result c.in-Some.n c.self.invariant
-    e.value c.second_level_below.ensures.value
-    (ap (λ w. bit_at w (c.second_level_below.result + 1 + c.in-Some.n)) word ∙ found.set)
+    e.value c.second_level_below.ensures.value found.above
+    (ap (λ w. bit_at w (c.second_level_below.result + c.in-Some.n)) word ∙ found.set)
     (λ k above under. ap (λ w. bit_at w k) word ∙ found.lowest k above under))))
 
 pub returns-in_err-first_level-clause-least : goal.returns-in_err-first_level-clause-least

@@ -109,12 +109,12 @@ stands g c = head_stands g.row.SLI c.in-Some.ensures.best.2 ((rw c.choose.ensure
 carved : (g : Over) (c : goal.After-self-1 g) → Edits c.choose.new.region c.carve-at.new.region (23 + (payload_words (block_at c.carve-at.new.region.blocks c.in-Some.ensures.best.1) - (c.args.words - c.want.result)))
 carved g c = c.carve-at.ensures.edits c.in-Some.ensures.best.1 (rw c.choose.ensures.reads.blocks (stands g c))
 
-given : (g : Over) (c : goal.After-self-1 g) → Allocates g.row.SLI c.args.self.now.heap c.args.words c.args.len (Ok (record { heap = c.self.inside.id; at = c.carve-at.result; serial = c.self.inside.tick }))
-    (with_region (state_of g.row.SLI c.self.inside) (c.self.inside.tick + 1) c.carve-at.new.region)
+given : (g : Over) (c : goal.After-self-1 g) → Allocates g.row.SLI c.args.self.now.heap c.args.words c.args.len (Ok (record { heap = c.self.inside.id; at = c.carve-at.result; serial = c.carve-at.new.tick }))
+    (with_region (state_of g.row.SLI c.self.inside) (c.carve-at.new.tick + 1) c.carve-at.new.region)
 given g c =
     let best = c.in-Some.ensures.best in
-    allocates_some g.row.SLI c.self.invariant.level (state_of g.row.SLI c.self.inside) c.args.self.now.heap c.args.words c.args.len c.requires c.self.invariant.lawful (ap (λ (s : Shown). s.heap) c.self.view_is)
-    c.carve-at.new.region ((carved g c).words ∙ c.choose.ensures.reads.words) best.1 best.3 c.carve-at.result (stands g c).place ((rw c.choose.ensures.reads.blocks at c.carve-at.ensures.blocks) best.1 (stands g c)) c.if-self.false
+    rw c.carve-at.ensures.tick (allocates_some g.row.SLI c.self.invariant.level (state_of g.row.SLI c.self.inside) c.args.self.now.heap c.args.words c.args.len c.requires c.self.invariant.lawful (ap (λ (s : Shown). s.heap) c.self.view_is)
+    c.carve-at.new.region ((carved g c).words ∙ c.choose.ensures.reads.words) best.1 best.3 c.carve-at.result (stands g c).place ((rw c.choose.ensures.reads.blocks at c.carve-at.ensures.blocks) best.1 (stands g c)) c.if-self.false)
 
 pub returns-clause-answer : goal.returns-clause-answer
 returns-clause-answer g c = (given g c).is_answer
@@ -150,13 +150,13 @@ few g c =
     omega (arith, (carved g c).touches, c.choose.ensures.reads.touches, now.1, c.requires, c.want.ensures)
 
 -- the name that is given names the block at its place, whose payload was made zero
-touched : (g : Over) (c : goal.After-self-1 g) → c.carve-at.new.region.touches ≤ c.self.inside.region.touches + 26 + payload_words_given {E = Refusal} (Ok (record { heap = c.self.inside.id; at = c.carve-at.result; serial = c.self.inside.tick }))
-    (with_region (state_of g.row.SLI c.self.inside) (c.self.inside.tick + 1) c.carve-at.new.region)
+touched : (g : Over) (c : goal.After-self-1 g) → c.carve-at.new.region.touches ≤ c.self.inside.region.touches + 26 + payload_words_given {E = Refusal} (Ok (record { heap = c.self.inside.id; at = c.carve-at.result; serial = c.carve-at.new.tick }))
+    (with_region (state_of g.row.SLI c.self.inside) (c.carve-at.new.tick + 1) c.carve-at.new.region)
 touched g c =
     let best = c.in-Some.ensures.best in
     let old = c.self.inside.region.blocks in
-    let heap : HeapState = with_region (state_of g.row.SLI c.self.inside) (c.self.inside.tick + 1) c.carve-at.new.region in
-    let name : Name = record { heap = c.self.inside.id; at = c.carve-at.result; serial = c.self.inside.tick } in
+    let heap : HeapState = with_region (state_of g.row.SLI c.self.inside) (c.carve-at.new.tick + 1) c.carve-at.new.region in
+    let name : Name = record { heap = c.self.inside.id; at = c.carve-at.result; serial = c.carve-at.new.tick } in
     let live : IsLive heap name = subst (λ (h : HeapState). IsLive h name) (sym (given g c).is_heap) (living.given_words g.row.SLI c.args.self.now.heap c.args.words c.args.len name (sym (given g c).is_answer)) in
     let now = carved_stands old heap.blocks name.at best.1 (size_of (block_at old best.1)) c.args.words c.self.inside.tick c.args.len (stands g c)
     ((rw c.choose.ensures.reads.blocks at c.carve-at.ensures.blocks) best.1 (stands g c)) in

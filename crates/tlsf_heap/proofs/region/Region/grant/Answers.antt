@@ -1,0 +1,46 @@
+-- A block that is made a live one whole: the words show it, and leave the lists.
+use Rattle.std.proofs.Common.{ℕ, [], ◌∷◌, ◌++◌, take, drop, suc, ap, ◌∙◌, arith}
+use Rattle.tlsf_heap.specs.Blocks.{Live, size_of, StandsAt}
+use Rattle.tlsf_heap.specs.GoodFit.{block_at, site_at}
+use Rattle.tlsf_heap.specs.Regions.{RegionState, IsTagOf, image_of}
+use Rattle.tlsf_heap.proofs.Reading.{shows_state, says_here, at_index}
+use Rattle.tlsf_heap.proofs.Linking.{linked_lists, Reshapes, holds_state}
+use Rattle.tlsf_heap.proofs.Splitting.{stored_bytes, begins_zero, tag_here, left_whole}
+use Rattle.tlsf_heap.proofs.region.Region.grant.Given.{Over}
+use Rattle.tlsf_heap.proofs.region.Region.grant.Goals as goal
+
+pub live_header-requires-clause-within : goal.live_header-requires-clause-within
+live_header-requires-clause-within g c =
+    let says = says_here (shows_state g.row.SLI c.self.invariant c.self.view_is) c.requires.own.1 in omega (arith, c.granted-live.ensures.size, c.requires.own.2.size, says.ends)
+
+reshapes : (g : Over) (c : goal.After-size g) → (i : ℕ) → StandsAt c.args.self.now.blocks c.args.at i
+    → Reshapes g.row.SLI (image_of c.live_header.new.words) c.self.inside.lists (take i c.args.self.now.blocks ++ (Live (size_of (block_at c.args.self.now.blocks i)) c.args.serial (stored_bytes (image_of c.live_header.new.words) c.args.at c.args.len) ∷ []) ++ drop (suc i) c.args.self.now.blocks) c.args.self.now.lists
+reshapes g c i stands =
+    let state = holds_state g.row.SLI c.self.invariant c.self.view_is in
+    let own = at_index state.shows (λ j. IsTagOf c.args.self.now.words (site_at c.args.self.now.blocks j) c.args.own) c.requires.own stands in
+    let live = c.granted-live.ensures in
+    left_whole g.row.SLI state stands (tag_here c.granted-live.result stands (ap (λ (r : RegionState). r.words) c.self.view_is) own live.size live.last live.back) 0 c.args.serial c.args.len (c.requires.unlisted i stands)
+    c.live_header.ensures.change (omega (arith, c.requires.payload, live.size))
+
+pub invariant_of-self : goal.invariant_of-self
+invariant_of-self g c = (reshapes g c c.requires.own.0 c.requires.own.1).holds
+
+pub returns-clause-first : goal.returns-clause-first
+returns-clause-first g c = begins_zero c.live_header.new.words.words c.args.at c.args.len c.live_header.ensures.change.live.first
+
+pub returns-clause-change : goal.returns-clause-change
+returns-clause-change g c i stands =
+    let left = reshapes g c i stands in
+    let touches = ap (λ (r : RegionState). r.touches) c.self.view_is in
+    let words = ap (λ (r : RegionState). r.words) c.self.view_is in
+    record {
+      blocks = left.blocks;
+      lists = left.same;
+      edits = record {
+        words = c.live_header.ensures.change.only.length ∙ words;
+        shows = left.holds.shows;
+        linked = linked_lists g.row.SLI _ _ left.holds;
+        touches = omega (arith, c.live_header.ensures.touches, touches);
+        rise = omega (arith, c.live_header.ensures.touches, touches);
+      };
+    }

@@ -1,0 +1,56 @@
+-- A block that is split into a live one and a free rest: the words show them, and leave the lists.
+use Rattle.std.proofs.Common.{ℕ, ◌+◌, ◌-◌, eqb, [], ◌∷◌, ◌++◌, take, drop, length, suc, sym, ap, ◌∙◌, refl, arith}
+use Rattle.tlsf_heap.specs.Blocks.{Live, Free, size_of, StandsAt}
+use Rattle.tlsf_heap.specs.GoodFit.{block_at, site_at}
+use Rattle.tlsf_heap.specs.Regions.{RegionState, IsTagOf, image_of}
+use Rattle.tlsf_heap.proofs.Reading.{shows_state, says_here, at_index}
+use Rattle.tlsf_heap.proofs.Linking.{linked_lists, Reshapes, holds_state}
+use Rattle.tlsf_heap.proofs.Splitting.{stored_bytes, begins_zero, tag_here, left_split}
+use Rattle.tlsf_heap.proofs.region.Region.split.Given.{Over}
+use Rattle.tlsf_heap.proofs.region.Region.split.Goals as goal
+
+pub split_header-requires : goal.split_header-requires
+split_header-requires g c =
+    let shows = shows_state g.row.SLI c.self.invariant c.self.view_is in
+    let own = c.requires.own.2 in
+    let is = tag_here {m = image_of c.self.inside.words} c.args.own c.requires.own.1 (ap (λ (r : RegionState). r.words) c.self.view_is) own refl refl refl in
+    record {
+      free = c.requires.free;
+      rest = c.requires.rest;
+      least = omega (arith, c.requires.payload);
+      room = c.requires.room;
+      within = omega (arith, own.size, (says_here shows c.requires.own.1).ends);
+      last = is.last ∙ ap (λ (n : ℕ). eqb (c.args.at + n) (length c.self.inside.words.words)) (sym is.size);
+      small = shows.small;
+    }
+
+reshapes : (g : Over) (c : goal.After-split_header g) → (i : ℕ) → StandsAt c.args.self.now.blocks c.args.at i
+    → Reshapes g.row.SLI (image_of c.split_header.new.words) c.self.inside.lists (take i c.args.self.now.blocks ++ (Live c.args.size c.args.serial (stored_bytes (image_of c.split_header.new.words) c.args.at c.args.len) ∷ Free (size_of (block_at c.args.self.now.blocks i) - c.args.size) c.args.serial ∷ []) ++ drop (suc i) c.args.self.now.blocks) c.args.self.now.lists
+reshapes g c i stands =
+    let state = holds_state g.row.SLI c.self.invariant c.self.view_is in
+    let own = at_index state.shows (λ j. IsTagOf c.args.self.now.words (site_at c.args.self.now.blocks j) c.args.own) c.requires.own stands in
+    left_split g.row.SLI state stands (tag_here c.args.own stands (ap (λ (r : RegionState). r.words) c.self.view_is) own refl refl refl) c.args.size c.args.serial c.args.len (c.requires.unlisted i stands)
+    c.split_header.ensures.change (omega (arith, c.requires.payload)) c.requires.room (omega (arith, c.requires.payload))
+
+pub invariant_of-self : goal.invariant_of-self
+invariant_of-self g c = (reshapes g c c.requires.own.0 c.requires.own.1).holds
+
+pub returns-clause-first : goal.returns-clause-first
+returns-clause-first g c = begins_zero c.split_header.new.words.words c.args.at c.args.len c.split_header.ensures.change.live.first
+
+pub returns-clause-change : goal.returns-clause-change
+returns-clause-change g c i stands =
+    let left = reshapes g c i stands in
+    let touches = ap (λ (r : RegionState). r.touches) c.self.view_is in
+    let words = ap (λ (r : RegionState). r.words) c.self.view_is in
+    record {
+      blocks = left.blocks;
+      lists = left.same;
+      edits = record {
+        words = c.split_header.ensures.change.only.length ∙ words;
+        shows = left.holds.shows;
+        linked = linked_lists g.row.SLI _ _ left.holds;
+        touches = omega (arith, c.split_header.ensures.touches.within, touches);
+        rise = omega (arith, c.split_header.ensures.touches.rise, touches);
+      };
+    }

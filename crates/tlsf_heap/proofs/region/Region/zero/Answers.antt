@@ -1,0 +1,50 @@
+use Rattle.std.proofs.Common.{◌+◌, [], ◌∷◌, ◌++◌, take, drop, ap, ◌∙◌, arith}
+use Rattle.tlsf_heap.specs.GoodFit.{block_at}
+use Rattle.tlsf_heap.specs.Regions.{RegionState, image_of}
+use Rattle.tlsf_heap.proofs.Clearing.{ClearsBehind, clears_length, zeroed_block, cleared_payload, relisted_payload}
+use Rattle.tlsf_heap.proofs.Edited.{Leaves}
+use Rattle.tlsf_heap.proofs.Linking.{linked_lists, Relists, holds_state}
+use Rattle.tlsf_heap.proofs.Reading.{shows_state, says_here}
+use Rattle.tlsf_heap.proofs.Standing.{behind_one}
+use Rattle.tlsf_heap.proofs.region.Region.zero.Given.{Over}
+use Rattle.tlsf_heap.proofs.region.Region.zero.Goals as goal
+
+pub overflow_add-at : goal.overflow_add-at
+overflow_add-at g c =
+    let shows = shows_state g.row.SLI c.self.invariant c.self.view_is in omega (arith, (says_here shows c.requires.1).ends, c.requires.2.within, shows.small)
+
+pub zero-requires : goal.zero-requires
+zero-requires g c = omega (arith, (says_here (shows_state g.row.SLI c.self.invariant c.self.view_is) c.requires.1).ends, c.requires.2.within)
+
+clears : (g : Over) (c : goal.After-zero g) → ClearsBehind (image_of c.self.inside.words) (image_of c.zero.new.self) c.args.at c.args.n
+clears g c = record {
+  inside = omega (arith, (says_here (shows_state g.row.SLI c.self.invariant c.self.view_is) c.requires.1).ends, c.requires.2.within);
+  words = c.zero.ensures.words;
+  starts = c.zero.ensures.starts;
+}
+
+left : (g : Over) (c : goal.After-zero g)
+    → Leaves (image_of c.zero.new.self) c.args.self.now.blocks c.args.at (λ i. take i c.args.self.now.blocks ++ (zeroed_block (block_at c.args.self.now.blocks i) ∷ []) ++ drop (i + 1) c.args.self.now.blocks)
+left g c = cleared_payload (shows_state g.row.SLI c.self.invariant c.self.view_is) c.requires (clears g c)
+
+relists : (g : Over) (c : goal.After-zero g) → Relists g.row.SLI (image_of c.zero.new.self) c.self.inside.lists c.args.self.now.lists
+relists g c = relisted_payload g.row.SLI (holds_state g.row.SLI c.self.invariant c.self.view_is) c.requires (clears g c) (left g c)
+
+pub invariant_of-self : goal.invariant_of-self
+invariant_of-self g c = (relists g c).holds
+
+pub returns : goal.returns
+returns g c i stands =
+    let touches = ap (λ (r : RegionState). r.touches) c.self.view_is in
+    let words = ap (λ (r : RegionState). r.words) c.self.view_is in
+    record {
+      blocks = (left g c).blocks i stands ∙ behind_one i _ c.args.self.now.blocks;
+      lists = (relists g c).same;
+      edits = record {
+        words = clears_length (clears g c) ∙ words;
+        shows = (relists g c).holds.shows;
+        linked = linked_lists g.row.SLI _ _ (relists g c).holds;
+        touches = omega (arith, c.zero.ensures.touches, touches);
+        rise = omega (arith, c.zero.ensures.touches, touches);
+      };
+    }
