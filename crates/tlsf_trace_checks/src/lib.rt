@@ -1,4 +1,4 @@
-//! Tests of the public calls of traces and of the commands.
+//! Tests of the public calls of yards (workers, lists of events and races), of traces and of the commands.
 #![tactic(auto)]
 
 #[cfg(test)]

@@ -1,7 +1,7 @@
 use Rattle.std.proofs.Common.{◌≡◌, ◌<◌, ◌∙◌, Some, length, ap, arith, sym}
 use Rattle.std.specs.List.{slice_get}
 use Rattle.std.proofs.lemmas.Option.{slice_get-get_or}
-use Rattle.tlsf_yard_checks.proofs.tests.queue_races.post_often.Goals as goal
+use Rattle.tlsf_trace_checks.proofs.tests.queue_races.post_often.Goals as goal
 
 pub loop-preserved : goal.loop-preserved
 loop-preserved g c =

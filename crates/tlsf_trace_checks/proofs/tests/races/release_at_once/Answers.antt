@@ -7,7 +7,7 @@ use Rattle.tlsf_crew.specs.lanes.LaneCalls.{KeepsYards}
 use Rattle.tlsf_crew.specs.lanes.Yard.{IsYard}
 use Rattle.tlsf_crew.proofs.lemmas.worker.Halves.{low_is, high_is, low_first}
 use Rattle.tlsf_crew.proofs.lemmas.worker.Slots.{get_set_other}
-use Rattle.tlsf_yard_checks.proofs.tests.races.release_at_once.Goals as goal
+use Rattle.tlsf_trace_checks.proofs.tests.races.release_at_once.Goals as goal
 
 first_in : (n : ℕ) → n ≡ 2 → 0 < n
 first_in n two = omega (arith, two)

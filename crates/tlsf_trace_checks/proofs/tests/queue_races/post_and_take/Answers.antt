@@ -19,7 +19,7 @@ use Rattle.tlsf_crew.specs.queues.QueueYard.{IsQueueYard, queue_waits_in, queue_
 use Rattle.tlsf_crew.specs.worker.Calls.{AfterTake, PostedThere, put_answer}
 use Rattle.tlsf_crew.specs.worker.Workers.{id_of}
 use Rattle.tlsf_crew.proofs.lemmas.worker.Slots.{get_set_other, get_set_same}
-use Rattle.tlsf_yard_checks.proofs.tests.queue_races.post_and_take.Goals as goal
+use Rattle.tlsf_trace_checks.proofs.tests.queue_races.post_and_take.Goals as goal
 
 -- ---- what was posted waits
 

@@ -1,7 +1,0 @@
-//! Tests of public calls: what no contract says, and no stored case shows.
-
-mod queue_races;
-mod queue_workers;
-mod races;
-mod workers;
-mod yards;
