@@ -3,10 +3,12 @@ use crate::tests::workers::{
     STRANGER, doubled, heap_refuses, read_of, release_of, resize_of, write,
 };
 use crate::tests::yards::{allocate, drain, take, took};
+use std::alloc::AllocError;
 use std::process::Abort;
 use std::sync::Wait;
 use std::test::Fail;
-use std::thread::{Threads, join};
+use std::thread;
+use std::thread::Threads;
 use tlsf_crew::{Call, Chunk, CrewRefusal, Event, QueueWorker, Reply, Target, open_queue_yard};
 use tlsf_fixtures::{name, same};
 use tlsf_heap::{Name, Refusal};
@@ -161,26 +163,22 @@ fn own_calls_of_a_queue_worker(rt: HostRuntime) -> Result<(), Fail> {
     Ok(())
 }
 
-/// Posts a name as a worker that was moved here, and gives the worker back.
-fn posted_by<R: Wait>(rt: &R, moved: QueueWorker<4>, block: Name) -> QueueWorker<4> {
-    let mut worker = moved;
-    let _ = worker.post(rt, block);
-    worker
-}
-
 /// Moves a worker into a thread, where it posts the name of a block while another worker posts one here, and takes it back.
 fn post_away<R: Threads + Wait + Sync>(
     rt: &R,
     moved: QueueWorker<4>,
     here: &mut QueueWorker<4>,
     blocks: [Name; 2],
-) -> QueueWorker<4> {
-    let (moved, _) = join(
-        rt,
-        move || posted_by(rt, moved, blocks[0]),
-        || here.post(rt, blocks[1]),
-    );
-    moved
+) -> Result<QueueWorker<4>, AllocError> {
+    thread::scope(thread::scope_env(), rt, move |scope| {
+        let child = scope.spawn(move || {
+            let mut worker = moved;
+            let _ = worker.post(rt, blocks[0]);
+            worker
+        })?;
+        let _ = here.post(rt, blocks[1]);
+        Ok(child.join(rt))
+    })
 }
 
 /// The last worker posts from a thread of its own, and the one before it posts here.
@@ -191,7 +189,7 @@ fn post_at_once<R: Threads + Wait + Sync>(
 ) -> Result<(), Fail> {
     let moved = workers.pop().ok_or("the last worker")?;
     let here = workers.last_mut().ok_or("one before it")?;
-    let moved = post_away(rt, moved, here, blocks);
+    let moved = post_away(rt, moved, here, blocks)?;
     workers.push(moved)?;
     Ok(())
 }
