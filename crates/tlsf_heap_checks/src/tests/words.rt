@@ -65,7 +65,6 @@ fn live_header(words: &mut Words, at: u32) -> (Tag, u64, u32)
     requires { at + 3 < length words.old.words }
     ensures { length words.new.words ≡ length words.old.words }
 {
-    words.set_tag(at + 1, free());
     words.set_header(at, live(), 3, 100);
     words.set_length(at, 7);
     (words.tag(at), words.mark(at), words.length(at))
