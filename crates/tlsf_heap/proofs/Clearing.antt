@@ -10,7 +10,7 @@ use Rattle.tlsf_heap.specs.Blocks.{Block, bytes_of, StandsAt}
 use Rattle.tlsf_heap.specs.Calls.{with_bytes}
 use Rattle.tlsf_heap.specs.GoodFit.{block_at}
 use Rattle.tlsf_heap.specs.Image.{Image, Shows}
-use Rattle.tlsf_heap.specs.Regions.{RegionState, IsCleared}
+use Rattle.tlsf_heap.specs.Regions.{RegionState, AwaitsZeros}
 use Rattle.tlsf_heap.proofs.Edited.{Leaves, leaves, one_changed}
 use Rattle.tlsf_heap.proofs.Linking.{HoldsState, Relists}
 use Rattle.tlsf_heap.proofs.Payloads.{length-bytes_in, get_or-bytes_in, held_bytes, size_of-with_bytes, is_free-with_bytes, mark_of-with_bytes, room-with_bytes, holds-with_bytes}
@@ -60,10 +60,10 @@ module _ {m v : Image} {at n : ℕ} (clears : ClearsBehind m v at n) where
 abbrev pub zeroed_block : Block → Block
 zeroed_block block = with_bytes block (replicate (length (bytes_of block)) 0)
 
-pub cleared_payload : {m v : Image} {bs : List Block} {at n : ℕ} → Shows m bs → (i : ℕ) × StandsAt bs at i × IsCleared (block_at bs i) n → ClearsBehind m v at n
+pub cleared_payload : {m v : Image} {bs : List Block} {at n : ℕ} → Shows m bs → (i : ℕ) × StandsAt bs at i × AwaitsZeros (block_at bs i) n → ClearsBehind m v at n
     → Leaves v bs at (λ i. take i bs ++ (zeroed_block (block_at bs i) ∷ []) ++ drop (i + 1) bs)
 cleared_payload {m = m} {v = v} {bs = bs} {at = at} {n = n} shows found clears =
-    leaves shows (λ i. IsCleared (block_at bs i) n) found
+    leaves shows (λ i. AwaitsZeros (block_at bs i) n) found
     (λ i stands is.
     let b = block_at bs i in
     let new : List ℕ = replicate (length (bytes_of b)) 0 in
@@ -85,7 +85,7 @@ cleared_payload {m = m} {v = v} {bs = bs} {at = at} {n = n} shows found clears =
     }))
 
 -- and the lists stay
-pub relisted_payload : (sli : ℕ) {m v : Image} {l : ListHeads} {r : RegionState} {at n : ℕ} → HoldsState sli m l r → (i : ℕ) × StandsAt r.blocks at i × IsCleared (block_at r.blocks i) n → ClearsBehind m v at n
+pub relisted_payload : (sli : ℕ) {m v : Image} {l : ListHeads} {r : RegionState} {at n : ℕ} → HoldsState sli m l r → (i : ℕ) × StandsAt r.blocks at i × AwaitsZeros (block_at r.blocks i) n → ClearsBehind m v at n
     → Leaves v r.blocks at (λ i. take i r.blocks ++ (zeroed_block (block_at r.blocks i) ∷ []) ++ drop (i + 1) r.blocks) → Relists sli v l r.lists
 relisted_payload sli {r = r} state (i, stands, is) clears left =
     one_relisted sli state stands (λ j. zeroed_block (block_at r.blocks j)) left (clears_length clears) (size_of-with_bytes (block_at r.blocks i) (replicate (length (bytes_of (block_at r.blocks i))) 0))

@@ -84,8 +84,8 @@ pub record IsTagBehind (words : ℕ) (s : Site) (tag : Tag) : Type 0 where
 abbrev pub BeginsZero : List ℕ → Type 0
 BeginsZero bytes = (k : ℕ) → k < 8 → slice_index bytes k ≡ 0
 
--- a live block whose payload begins with a zero word, and ends within `n` words behind that
-pub record IsCleared (block : Block) (n : ℕ) : Type 0 where
+-- a live block whose payload begins with a zero word, and ends within `n` words behind that, which are its own
+pub record AwaitsZeros (block : Block) (n : ℕ) : Type 0 where
   pub live : is_free block ≡ false
   pub first : BeginsZero (bytes_of block)
   pub payload : words_for (length (bytes_of block)) ≤ 4 + n

@@ -15,7 +15,7 @@ ghost use Rattle.tlsf_heap.specs.InPlace.{payload_at};
 ghost use Rattle.tlsf_heap.specs.Lawful.{HasRoom};
 ghost use Rattle.tlsf_heap.specs.Named.{IsNameTest};
 ghost use Rattle.tlsf_heap.specs.Placed.{placed_at};
-ghost use Rattle.tlsf_heap.specs.Regions.{list_in, AreUnlisted, EachAt, HasAt, IsTagOf, IsTagBehind, AreNeighbours, rest_of, BeginsZero, IsCleared, image_of, OnlyReads, Rewrites, PutInFront, TakenOut, IsOpened};
+ghost use Rattle.tlsf_heap.specs.Regions.{list_in, AreUnlisted, EachAt, HasAt, IsTagOf, IsTagBehind, AreNeighbours, rest_of, BeginsZero, AwaitsZeros, image_of, OnlyReads, Rewrites, PutInFront, TakenOut, IsOpened};
 
 use crate::headers::{
     first_header, free_header, live_header, merge_headers, recut_header, split_header, widen_header,
@@ -287,7 +287,7 @@ impl<const SLI: u32> Region<SLI> {
 
     /// Makes the payload of the live block at a place zero, whose first word is: `n` words behind that one.
     pub fn zero(&mut self, at: u32, n: u32)
-        requires { HasAt self.old.blocks at (λ s. IsCleared s.block n) }
+        requires { HasAt self.old.blocks at (λ s. AwaitsZeros s.block n) }
         ensures { EachAt self.old.blocks at (λ s. Rewrites self.old self.new
             (s.before ++ (Calls.with_bytes s.block (replicate (length (bytes_of s.block)) 0) ∷ []) ++ s.after) n) }
     {

@@ -1,6 +1,9 @@
-use Rattle.std.proofs.Common.{arith}
-use Rattle.tlsf_words.proofs.Bytes.{byte_in-packed}
+use Rattle.std.proofs.Common.{arith, ◌∙◌, inl, inr, ◌*◌}
+use Rattle.std.proofs.lemmas.Bool.{cases_lt}
 use Rattle.tlsf_words.proofs.cells.pack_each.Goals as goal
 
 pub loop-i-preserved : goal.loop-i-preserved
-loop-i-preserved c = byte_in-packed c.loop-i.words c.args.bytes.now _ c.loop-i.i (omega arith) (omega arith) c.first_word.ensures c.loop-i.invariant
+loop-i-preserved c k h = elim (cases_lt k (8 * c.loop-i.i)) [
+  | inl low ↦ c.pack_one.ensures.before k low ∙ c.loop-i.invariant k low
+  | inr from ↦ c.pack_one.ensures.filled k from (omega arith)
+]
