@@ -34,7 +34,8 @@ fn run_at<const SLI: u32>(
     else {
         return Err(AllocError);
     };
-    let Ok(entries) = replay_behind(alloc, &mut workers, made, &script.events) else {
+    let events = script.events.all(alloc)?;
+    let Ok(entries) = replay_behind(alloc, &mut workers, made, &events) else {
         return Err(AllocError);
     };
     Ok(entries)

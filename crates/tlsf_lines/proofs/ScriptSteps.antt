@@ -18,7 +18,7 @@ module _ (workers : ℕ) (before lines : List Line) (line : Line) (old new : Scr
   -- what a script has behind one line more
   pub holds_more : Holds workers (line ∷ before) (lines ++ line ∷ []) new
   holds_more = record {
-    events = λ more. rw (adds.events, append_assoc old.events.items (events_in workers before line) (events_from workers (line ∷ before) more))
+    events = λ more. rw (adds.events, append_assoc old.events (events_in workers before line) (events_from workers (line ∷ before) more))
         (held.events (line ∷ more) ∙ ap (λ ls. events_from workers [] ls) (sym (append_assoc lines (line ∷ []) more)));
     labels = λ more. rw (adds.labels, append_assoc old.labels.items (labels_in workers line) (labels_from workers more))
         (held.labels (line ∷ more) ∙ ap (λ ls. labels_from workers ls) (sym (append_assoc lines (line ∷ []) more)));
@@ -38,7 +38,7 @@ add_holds header before lines line old new has adds =
 
 -- the script of a trace: what its lines stand for, and the drains at the end
 pub script_ends : (header : Header) (before lines : List Line) (old new : Script) → (old.header ≡ header) × Holds header.workers before lines old → new.header ≡ old.header
-    → new.events.items ≡ old.events.items ++ last_drains old.header.workers → new.labels.items ≡ old.labels.items ++ replicate old.header.workers None → new.calls ≡ old.calls
+    → new.events ≡ old.events ++ last_drains old.header.workers → new.labels.items ≡ old.labels.items ++ replicate old.header.workers None → new.calls ≡ old.calls
     → IsScript new (record { header = header; lines = lines })
 script_ends header before lines old new has same events labels calls =
     let workers : old.header.workers ≡ header.workers = ap (λ (h : Header). h.workers) has.0 in

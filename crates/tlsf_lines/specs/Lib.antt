@@ -30,3 +30,4 @@ pub mod CutFields
 pub mod LabelMemory
 pub mod CallMemory
 pub mod OpenLines
+pub mod KeptEvents

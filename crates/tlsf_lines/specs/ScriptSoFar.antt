@@ -9,20 +9,20 @@ use Rattle.tlsf_lines.specs.Trace.{Trace, calls_of, trace_of}
 -- a script with the events and the labels of one line more
 pub record Adds (workers : ℕ) (before : List Line) (line : Line) (old new : Script) : Type 0 where
   pub header : new.header ≡ old.header
-  pub events : new.events.items ≡ old.events.items ++ events_in workers before line
+  pub events : new.events ≡ old.events ++ events_in workers before line
   pub labels : new.labels.items ≡ old.labels.items ++ labels_in workers line
   pub calls : new.calls ≡ old.calls + (if is_call line then 1 else 0)
 
 -- a script has what these lines stand for; they are those before, the newest of which stands first there
 pub record Holds (workers : ℕ) (before lines : List Line) (script : Script) : Type 0 where
-  pub events : (more : List Line) → script.events.items ++ events_from workers before more ≡ events_from workers [] (lines ++ more)
+  pub events : (more : List Line) → script.events ++ events_from workers before more ≡ events_from workers [] (lines ++ more)
   pub labels : (more : List Line) → script.labels.items ++ labels_from workers more ≡ labels_from workers (lines ++ more)
   pub calls : script.calls ≡ count_by is_call lines
 
 -- the script of a trace
 pub record IsScript (script : Script) (trace : Trace) : Type 0 where
   pub header : script.header ≡ trace.header
-  pub events : script.events.items ≡ events_of trace
+  pub events : script.events ≡ events_of trace
   pub labels : script.labels.items ≡ labels_of trace
   pub calls : script.calls ≡ calls_of trace
 

@@ -21,6 +21,7 @@ use tlsf_calls::Target;
 pub trait FromLines {
     ghost use Rattle.std.specs.Prelude.{◌≡◌, ◌+◌, ◌<◌, ◌^◌, ◌∷◌, ◌++◌, List, [], length, IfOk, OnOk};
     ghost use Rattle.tlsf_lines.specs.Events.{target_used};
+    ghost use Rattle.tlsf_lines.specs.KeptEvents.{IsMade};
     ghost use Rattle.tlsf_lines.specs.Trace as spelled;
     ghost use Rattle.tlsf_lines.specs.declared.header.Header.{Header as AHeader};
     ghost use Rattle.tlsf_lines.specs.declared.line.Line.{Line as ALine};
@@ -37,7 +38,8 @@ pub trait FromLines {
 
     /// One line more. The target is what the label stands for that the line uses.
     fn add(&mut self, line: &Line, target: Target) -> Result<(), AllocError>
-        requires { (header : AHeader) × (before : List ALine) × (lines : List ALine) × has self.old header before lines × (length lines < 2 ^ 20) }
+        requires few { (header : AHeader) × (before : List ALine) × (lines : List ALine) × has self.old header before lines × (length lines < 2 ^ 20) }
+        requires target { IsMade target }
         ensures { (header : AHeader) (before lines : List ALine) → has self.old header before lines
             → target ≡ target_used header.workers before line.now
             → OnOk result (has self.new header (line.now ∷ before) (lines ++ line.now ∷ [])) };

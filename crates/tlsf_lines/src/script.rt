@@ -1,13 +1,15 @@
 ghost use Rattle.std.specs.Prelude.{◌≡◌, ◌+◌, ◌^◌, ◌<◌, List, [], ◌∷◌, ◌++◌, replicate, None, OnOk};
 ghost use Rattle.tlsf_lines.specs.Events.{last_drains, target_used};
+ghost use Rattle.tlsf_lines.specs.KeptEvents.{CanBeKept, IsMade};
 ghost use Rattle.tlsf_lines.specs.ScriptSoFar.{Adds};
 ghost use Rattle.tlsf_lines.specs.declared.line.Line.{Line as ALine};
 
 use crate::header::Header;
+use crate::kept_events::KeptEvents;
 use crate::line::Line;
 use crate::parsing::FromLines;
 use std::alloc::{AllocError, Global};
-use tlsf_calls::{Call, Event, MOST_DRAINED, Target};
+use tlsf_calls::{Call, MOST_DRAINED, Target};
 
 /// What a trace asks for: its header, the events that its lines stand for, and the label of each, where it has one.
 ///
@@ -15,14 +17,14 @@ use tlsf_calls::{Call, Event, MOST_DRAINED, Target};
 ///
 /// ```
 /// let script = script_in(alloc, b"tlsf 1 1 64 4\na 0 7 8\n")?;
-/// // script.events: worker 0 allocates 8 bytes, and drains; script.labels: Some(7), None; script.calls: 1
+/// // script.events.all(alloc)?: worker 0 allocates 8 bytes, and drains; script.labels: Some(7), None; script.calls: 1
 /// ```
 #[derive(Drop)]
 pub struct Script {
     /// What the first line says.
     pub header: Header,
     /// The calls of the lines, in their order; where a phase ends, and at the end, a drain of each worker.
-    pub events: Vec<Event>,
+    pub events: KeptEvents,
     /// The label of each event, 0 to 65535; a drain has none.
     pub labels: Vec<Option<u32>>,
     /// How many lines are calls of a worker, 0 to 32,767.
@@ -32,7 +34,8 @@ pub struct Script {
 impl Script {
     // Adds the events of a line. The target is what the label stands for that it uses.
     fn add_events(&mut self, line: &Line, target: Target) -> Result<(), AllocError>
-        requires { self.old.calls + 1 < 2 ^ 32 }
+        requires calls { self.old.calls + 1 < 2 ^ 32 }
+        requires target { IsMade target }
         ensures { (before : List ALine) → target ≡ target_used self.old.header.workers before line.now
             → OnOk result (Adds self.old.header.workers before line.now self.old self.new) }
     {
@@ -68,7 +71,7 @@ impl Script {
 
     // Adds a drain of each worker.
     fn drain_all(&mut self) -> Result<(), AllocError>
-        ensures events { OnOk result (self.new.events.items ≡ self.old.events.items ++ last_drains self.old.header.workers) }
+        ensures events { OnOk result (self.new.events ≡ self.old.events ++ last_drains self.old.header.workers) }
         ensures labels { OnOk result (self.new.labels.items ≡ self.old.labels.items ++ replicate self.old.header.workers None) }
         ensures same { (self.new.header ≡ self.old.header) × (self.new.calls ≡ self.old.calls) }
     {
@@ -81,11 +84,12 @@ impl Script {
     // Adds an event and its label.
     #[inline(always)]
     fn push(&mut self, worker: u32, call: Call, label: Option<u32>) -> Result<(), AllocError>
-        ensures events { OnOk result (self.new.events.items ≡ self.old.events.items ++ record { worker = worker; call = call } ∷ []) }
+        requires { CanBeKept call }
+        ensures events { OnOk result (self.new.events ≡ self.old.events ++ record { worker = worker; call = call } ∷ []) }
         ensures labels { OnOk result (self.new.labels.items ≡ self.old.labels.items ++ label ∷ []) }
         ensures same { (self.new.header ≡ self.old.header) × (self.new.calls ≡ self.old.calls) }
     {
-        self.events.push(Event { worker, call })?;
+        self.events.push(worker, call)?;
         self.labels.push(label)?;
         Ok(())
     }
@@ -102,7 +106,7 @@ impl FromLines for Script {
     fn begin(alloc: Global, header: Header, room: usize) -> Result<Script, AllocError> {
         Ok(Script {
             header,
-            events: Vec::with_capacity(alloc, room)?,
+            events: KeptEvents::with_capacity(alloc, room)?,
             labels: Vec::with_capacity(alloc, room)?,
             calls: 0,
         })

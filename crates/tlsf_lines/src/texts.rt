@@ -42,7 +42,7 @@ pub fn trace_in(alloc: Global, text: &[u8]) -> Result<Trace, TraceFault>
 ///
 /// ```
 /// let script = script_in(alloc, b"tlsf 1 2 64 4\na 0 1 8\n")?;
-/// // script.events has the allocate, and at the end a drain of each of the two workers
+/// // script.events are the allocate, and at the end a drain of each of the two workers
 /// ```
 ///
 /// # Errors

@@ -52,11 +52,11 @@ moment_is line trace header w made events header_is yard none events_are = rw (y
 -- maps of the heaps of a moment are maps of the heaps of its world
 pub maps_of_moment : {sli : ℕ} (line : ℕ) (trace : Trace) (recording : Recording) (stage : Stage sli) (maps : List MappedHeap) → level_in trace.header ≡ sli
     → IsRecording recording trace → IsAtMoment line trace stage
-    → AreMaps sli stage.made.items recording.script.labels.items (map heap_of stage.workers.items) maps
+    → AreMaps sli stage.made.items recording.labels.items (map heap_of stage.workers.items) maps
     → AreMaps (level_in trace.header) (moment_of line trace).made (labels_of trace) (moment_of line trace).world.heaps maps
 maps_of_moment {sli} line trace recording stage maps level is at mapped =
     let heaps = map heap_of stage.workers.items in
     subst (λ (n : ℕ). AreMaps n (moment_at n line trace).made (labels_of trace) (moment_at n line trace).world.heaps maps) (sym level)
     (subst (λ (hs : List HeapState). AreMaps sli (moment_at sli line trace).made (labels_of trace) hs maps) (heaps_in stage.workers.items _ at.world)
-    (subst (λ (ls : List (Option ℕ)). AreMaps sli (moment_at sli line trace).made ls heaps maps) is.script.labels
-    (subst (λ (names : List (Option Name)). AreMaps sli names recording.script.labels.items heaps maps) at.made mapped)))
+    (subst (λ (ls : List (Option ℕ)). AreMaps sli (moment_at sli line trace).made ls heaps maps) is.labels
+    (subst (λ (names : List (Option Name)). AreMaps sli names recording.labels.items heaps maps) at.made mapped)))

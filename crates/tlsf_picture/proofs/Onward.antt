@@ -74,14 +74,14 @@ run_on {sli} a b trace w made part le world_is made_is part_is =
 -- maps of the heaps of a yard that stands behind a line are maps of the heaps of its moment
 pub maps_behind : {sli : ℕ} (line : ℕ) (trace : Trace) (recording : Recording) (workers : List (Worker sli Lanes)) (made : List (Option Name)) (maps : List MappedHeap)
     → level_in trace.header ≡ sli → IsRecording recording trace → StandsBehind line trace workers made
-    → AreMaps sli made recording.script.labels.items (map heap_of workers) maps
+    → AreMaps sli made recording.labels.items (map heap_of workers) maps
     → AreMaps (level_in trace.header) (moment_of line trace).made (labels_of trace) (moment_of line trace).world.heaps maps
 maps_behind {sli} line trace recording workers made maps level is stands mapped =
     let heaps = map heap_of workers in
     subst (λ (n : ℕ). AreMaps n (moment_at n line trace).made (labels_of trace) (moment_at n line trace).world.heaps maps) (sym level)
     (subst (λ (hs : List HeapState). AreMaps sli (moment_at sli line trace).made (labels_of trace) hs maps) (heaps_in workers _ stands.world)
-    (subst (λ (ls : List (Option ℕ)). AreMaps sli (moment_at sli line trace).made ls heaps maps) is.script.labels
-    (subst (λ (names : List (Option Name)). AreMaps sli names recording.script.labels.items heaps maps) stands.names mapped)))
+    (subst (λ (ls : List (Option ℕ)). AreMaps sli (moment_at sli line trace).made ls heaps maps) is.labels
+    (subst (λ (names : List (Option Name)). AreMaps sli names recording.labels.items heaps maps) stands.names mapped)))
 
 -- ---- the moments of a page
 

@@ -2,10 +2,9 @@
 use Rattle.std.specs.Prelude.{◌≡◌, ℕ, ◌+◌, ◌-◌, ◌≤◌, List, Option, Result, Ok, Err, length, nat_lt, take, if◌then◌else◌}
 use Rattle.tlsf_crew.specs.model.World.{Replayed, replies}
 use Rattle.tlsf_crew.specs.lanes.Yard.{world_of}
-use Rattle.tlsf_lines.specs.Events.{events_of, width_in}
+use Rattle.tlsf_lines.specs.Events.{events_of, labels_of, width_in}
 use Rattle.tlsf_lines.specs.Ranges.{IsHeaderInRange}
-use Rattle.tlsf_lines.specs.ScriptSoFar.{IsScript}
-use Rattle.tlsf_lines.specs.Trace.{Trace, trace_of}
+use Rattle.tlsf_lines.specs.Trace.{Trace, calls_of, trace_of}
 use Rattle.tlsf_lines.specs.declared.trace_fault.TraceFault.{TraceFault}
 use Rattle.tlsf_picture.specs.declared.recording.Recording.{Recording}
 use Rattle.tlsf_picture.specs.declared.stage.Stage.{Stage}
@@ -25,9 +24,12 @@ moment_at sli line trace = replies (yard_of trace.header) (take (events_by line 
 abbrev pub moment_of : ℕ → (trace : Trace) → Replayed (level_in trace.header)
 moment_of line trace = moment_at (level_in trace.header) line trace
 
--- the lines and the events of a trace
+-- the header, the events and the lines of a trace
 pub record IsRecording (recording : Recording) (trace : Trace) : Type 0 where
-  pub script : IsScript recording.script trace
+  pub header : recording.header ≡ trace.header
+  pub events : recording.events.items ≡ events_of trace
+  pub labels : recording.labels.items ≡ labels_of trace
+  pub calls : recording.calls ≡ calls_of trace
   pub lines : recording.lines.items ≡ trace.lines
 
 -- the text that was read spells a trace, and this is its recording
@@ -36,7 +38,7 @@ pub record HasRecording (recording : Recording) (left left' : Option (List ℕ))
   pub read : IsReadWhole text left left'
   pub trace : Trace
   pub spelled : trace_of text ≡ Ok trace
-  pub header : IsHeaderInRange recording.script.header
+  pub header : IsHeaderInRange recording.header
   pub few : length recording.lines.items ≤ 32768
   pub recorded : IsRecording recording trace
 

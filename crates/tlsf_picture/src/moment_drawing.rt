@@ -25,16 +25,15 @@ fn picture_behind<const SLI: u32>(
     line: u32,
 ) -> Result<String, AllocError>
     requires level { IsLevel SLI }
-    requires header { IsHeaderInRange recording.now.script.header }
+    requires header { IsHeaderInRange recording.now.header }
     requires lines { length recording.now.lines.items ≤ 32768 }
     ensures { (trace : Trace) → level_in trace.header ≡ SLI → IsRecording recording.now trace
         → IfOk result (λ text. DrawsAt form line trace (string_bytes text)) }
 {
     let mut stage = run_up_to::<SLI>(alloc, recording, line)?;
-    let script = &recording.script;
-    let maps = map_heaps(alloc, &mut stage.workers, &stage.made, &script.labels)?;
+    let maps = map_heaps(alloc, &mut stage.workers, &stage.made, &recording.labels)?;
     let mut text = String::new(alloc);
-    form.write(&mut text, script.header.words, &maps)?;
+    form.write(&mut text, recording.header.words, &maps)?;
     Ok(text)
 }
 
@@ -54,11 +53,11 @@ pub fn picture_by(
     form: Form,
     line: u32,
 ) -> Result<String, AllocError>
-    requires header { IsHeaderInRange recording.now.script.header }
+    requires header { IsHeaderInRange recording.now.header }
     requires lines { length recording.now.lines.items ≤ 32768 }
     ensures { (trace : Trace) → IsRecording recording.now trace → IfOk result (λ text. DrawsAt form line trace (string_bytes text)) }
 {
-    match recording.script.header.version {
+    match recording.header.version {
         Version::One => picture_behind::<4>(alloc, recording, form, line),
         Version::Two => picture_behind::<5>(alloc, recording, form, line),
     }
@@ -91,5 +90,5 @@ pub fn draw_trace_at<R: Read, W: Write>(
 {
     let recording = record_trace(alloc, reader)?;
     let picture = picture_by(alloc, &recording, form, line)?;
-    finish(writer, recording.script.calls, &picture)
+    finish(writer, recording.calls, &picture)
 }

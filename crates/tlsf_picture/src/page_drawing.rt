@@ -52,7 +52,7 @@ fn run_between<const SLI: u32>(
     to: u32,
 ) -> Result<(), AllocError>
     requires yard { IsYard workers.old }
-    requires header { IsHeaderInRange recording.now.script.header }
+    requires header { IsHeaderInRange recording.now.header }
     requires lines { length recording.now.lines.items ≤ 32768 }
     requires onward { from ≤ to }
     ensures yard { IsYard workers.new }
@@ -84,9 +84,8 @@ fn add_moment<const SLI: u32>(
     ensures added { (trace : Trace) → level_in trace.header ≡ SLI → IsRecording recording.now trace → StandsBehind line trace workers.old made.now
         → OnOk result (AddsMoment line trace (string_bytes text.old) (string_bytes text.new)) }
 {
-    let script = &recording.script;
-    let maps = map_heaps(alloc, workers, made, &script.labels)?;
-    write_moment(text, script.header.words, line, &maps)
+    let maps = map_heaps(alloc, workers, made, &recording.labels)?;
+    write_moment(text, recording.header.words, line, &maps)
 }
 
 // Adds to the page each of its moments, from a new yard on.
@@ -97,14 +96,14 @@ fn add_moments<const SLI: u32>(
     recording: &Recording,
 ) -> Result<(), AllocError>
     requires yard { IsYard workers.old }
-    requires new { world_of workers.old ≡ yard_of recording.now.script.header }
-    requires header { IsHeaderInRange recording.now.script.header }
+    requires new { world_of workers.old ≡ yard_of recording.now.header }
+    requires header { IsHeaderInRange recording.now.header }
     requires lines { length recording.now.lines.items ≤ 32768 }
     ensures { (trace : Trace) → level_in trace.header ≡ SLI → IsRecording recording.now trace → HasShown [] trace (string_bytes text.old)
         → OnOk result (HasShown (pages.lines_shown (length trace.lines)) trace (string_bytes text.new)) }
 {
     let lines = recording.lines.len();
-    let mut made = Vec::with_capacity(alloc, recording.script.events.len())?;
+    let mut made = Vec::with_capacity(alloc, recording.events.len())?;
     let mut line = 1;
     for number in 0..moments_in(lines) {
         let next = line_of(lines, number);
@@ -118,12 +117,12 @@ fn add_moments<const SLI: u32>(
 // The page of a trace, at its level.
 fn page_behind<const SLI: u32>(alloc: Global, recording: &Recording) -> Result<String, AllocError>
     requires level { IsLevel SLI }
-    requires header { IsHeaderInRange recording.now.script.header }
+    requires header { IsHeaderInRange recording.now.header }
     requires lines { length recording.now.lines.items ≤ 32768 }
     ensures { (trace : Trace) → level_in trace.header ≡ SLI → IsRecording recording.now trace
         → IfOk result (λ text. DrawsPage trace (string_bytes text)) }
 {
-    let header = recording.script.header;
+    let header = recording.header;
     // A header in its ranges is not of a bad size, so what is refused here is memory.
     let Ok(mut workers) = open_yard::<SLI>(alloc, header.workers, header.words, header.capacity)
     else {
@@ -138,11 +137,11 @@ fn page_behind<const SLI: u32>(alloc: Global, recording: &Recording) -> Result<S
 
 // The page of a trace.
 fn page_of(alloc: Global, recording: &Recording) -> Result<String, AllocError>
-    requires header { IsHeaderInRange recording.now.script.header }
+    requires header { IsHeaderInRange recording.now.header }
     requires lines { length recording.now.lines.items ≤ 32768 }
     ensures { (trace : Trace) → IsRecording recording.now trace → IfOk result (λ text. DrawsPage trace (string_bytes text)) }
 {
-    match recording.script.header.version {
+    match recording.header.version {
         Version::One => page_behind::<4>(alloc, recording),
         Version::Two => page_behind::<5>(alloc, recording),
     }
@@ -176,5 +175,5 @@ pub fn draw_trace_as_page<R: Read, W: Write>(
 {
     let recording = record_trace(alloc, reader)?;
     let page = page_of(alloc, &recording)?;
-    finish(writer, recording.script.calls, &page)
+    finish(writer, recording.calls, &page)
 }

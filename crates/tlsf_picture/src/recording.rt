@@ -7,14 +7,20 @@ ghost use Rattle.tlsf_picture.specs.Moments.{IsRecording, Records, events_by};
 use std::alloc::Global;
 use std::io::Read;
 use tlsf_crew::Event;
-use tlsf_lines::{Line, Script, read_all, script_in, trace_in};
+use tlsf_lines::{Header, Line, read_all, script_in, trace_in};
 use tlsf_trace::TraceFault;
 
 /// A trace that was read, to be run up to one of its lines.
 #[derive(Drop)]
 pub struct Recording {
-    /// Its events and their labels.
-    pub script: Script,
+    /// What its first line says.
+    pub header: Header,
+    /// Its events, with the drains at its end.
+    pub events: Vec<Event>,
+    /// The label of each event, None for a drain.
+    pub labels: Vec<Option<u32>>,
+    /// How many lines are calls, 0 to 32,767.
+    pub calls: u32,
     /// Its lines behind the header.
     pub lines: Vec<Line>,
 }
@@ -26,8 +32,12 @@ pub fn record_trace<R: Read>(alloc: Global, reader: &mut R) -> Result<Recording,
     let text = read_all(alloc, reader)?;
     let script = script_in(alloc, &text)?;
     let trace = trace_in(alloc, &text)?;
+    let events = script.events.all(alloc)?;
     Ok(Recording {
-        script,
+        header: script.header,
+        events,
+        labels: script.labels,
+        calls: script.calls,
         lines: trace.lines,
     })
 }
@@ -64,19 +74,16 @@ fn count_events(workers: u32, lines: &[Line], first: usize) -> usize
 impl Recording {
     /// The events up to a line, whose header is line 1; behind the last line all, with the drains at the end.
     pub fn events_by(&self, line: u32) -> &[Event]
-        requires header { IsHeaderInRange self.now.script.header }
+        requires header { IsHeaderInRange self.now.header }
         requires lines { length self.now.lines.items ≤ 32768 }
         ensures { (trace : ATrace) → IsRecording self.now trace → result.now ≡ take (events_by line trace) (events_of trace) }
     {
         let before = (line as usize).saturating_sub(1);
         if before > self.lines.len() {
-            return &self.script.events;
+            return &self.events;
         }
-        let count = count_events(self.script.header.workers, &self.lines, before);
-        let (events, _) = self
-            .script
-            .events
-            .split_at(count.min(self.script.events.len()));
+        let count = count_events(self.header.workers, &self.lines, before);
+        let (events, _) = self.events.split_at(count.min(self.events.len()));
         events
     }
 }

@@ -27,12 +27,12 @@ pub fn run_up_to<const SLI: u32>(
     line: u32,
 ) -> Result<Stage<SLI>, AllocError>
     requires level { IsLevel SLI }
-    requires header { IsHeaderInRange recording.now.script.header }
+    requires header { IsHeaderInRange recording.now.header }
     requires lines { length recording.now.lines.items ≤ 32768 }
     ensures yard { IfOk result (λ stage. IsYard stage.workers.items) }
     ensures moment { (trace : Trace) → IsRecording recording.now trace → IfOk result (λ stage. IsAtMoment line trace stage) }
 {
-    let header = recording.script.header;
+    let header = recording.header;
     // A header in its ranges is not of a bad size, so what is refused here is memory.
     let Ok(mut workers) = open_yard::<SLI>(alloc, header.workers, header.words, header.capacity)
     else {

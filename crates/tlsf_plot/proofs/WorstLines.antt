@@ -1,9 +1,9 @@
 -- The line to look at, one heap after another.
-use Rattle.std.proofs.Common.{◌≡◌, ℕ, ◌+◌, ◌-◌, ◌<◌, ◌≤◌, length, Option, Some, None, inl, inr, ap, sym, subst, ◌∙◌, arith}
+use Rattle.std.proofs.Common.{◌≡◌, ℕ, ◌+◌, ◌-◌, ◌<◌, ◌≤◌, length, Option, Some, None, inl, inr, sym, subst, arith}
 use Rattle.std.proofs.lemmas.Bool.{cases_eq}
 use Rattle.tlsf_lines.specs.Trace.{Trace}
 use Rattle.tlsf_plot.specs.Steps.{HasNamed, HasWorst}
-use Rattle.tlsf_plot.specs.Worst.{IsNamed, IsWorstHeap, LacksAt, free_in}
+use Rattle.tlsf_plot.specs.Worst.{IsNamed, LacksAt, free_in}
 use Rattle.tlsf_plot.specs.declared.worst.Named.{Named}
 
 -- at each point of a heap where its longest request finds no room, there are at most as many words free as behind the line that is named

@@ -1,5 +1,5 @@
 -- The plot of some heaps, as the text of an SVG file.
-use Rattle.std.specs.Prelude.{ℕ, ◌+◌, ◌*◌, ◌==◌, List, [], ◌∷◌, ◌++◌, Option, Some, None, codes, fold, length, map, max, if◌then◌else◌}
+use Rattle.std.specs.Prelude.{ℕ, ◌+◌, ◌*◌, ◌==◌, List, [], ◌∷◌, ◌++◌, Option, Some, None, codes, fold, length, max, if◌then◌else◌}
 use Rattle.std.specs.Fmt.{decimal}
 use Rattle.tlsf_plot.specs.declared.chart.Chart.{Chart}
 use Rattle.tlsf_plot.specs.declared.point.Point.{Point}

@@ -1,5 +1,5 @@
 -- The line of a trace to look at, and the picture of its heaps behind that.
-use Rattle.std.specs.Prelude.{◌≡◌, ℕ, ◌+◌, ◌-◌, ◌<◌, ◌≤◌, IsTrue, List, length, Option, Some, None}
+use Rattle.std.specs.Prelude.{ℕ, ◌+◌, ◌-◌, ◌<◌, ◌≤◌, IsTrue, List, length, Option, Some, None}
 use Rattle.tlsf_lines.specs.Trace.{Trace}
 use Rattle.tlsf_picture.specs.Drawn.{DrawsAt}
 use Rattle.tlsf_picture.specs.declared.form.Form.{Form}

@@ -26,14 +26,14 @@ fn chart_of<const SLI: u32>(
     most: usize,
 ) -> Result<Chart, AllocError>
     requires level { IsLevel SLI }
-    requires header { IsHeaderInRange recording.now.script.header }
+    requires header { IsHeaderInRange recording.now.header }
     requires lines { length recording.now.lines.items ≤ 32768 }
-    requires heap { heap < recording.now.script.header.workers }
+    requires heap { heap < recording.now.header.workers }
     requires most { 0 < most }
     requires few { most ≤ 2 ^ 16 }
     ensures { (trace : Trace) → level_in trace.header ≡ SLI → IsRecording recording.now trace → IfOk result (IsChart most trace heap) }
 {
-    let words = recording.script.header.words;
+    let words = recording.header.words;
     let points = points_of::<SLI>(alloc, recording, heap)?;
     let span = span_for(most, points.len());
     let longest = longest_of(heap, &recording.lines);
@@ -56,15 +56,15 @@ fn charts_at<const SLI: u32>(
     most: usize,
 ) -> Result<Vec<Chart>, AllocError>
     requires level { IsLevel SLI }
-    requires header { IsHeaderInRange recording.now.script.header }
+    requires header { IsHeaderInRange recording.now.header }
     requires lines { length recording.now.lines.items ≤ 32768 }
     requires most { 0 < most }
     requires few { most ≤ 2 ^ 16 }
     ensures charts { (trace : Trace) → level_in trace.header ≡ SLI → IsRecording recording.now trace → IfOk result (λ charts. AreCharts most trace charts.items) }
-    ensures count { IfOk result (λ charts. vec_len charts ≡ recording.now.script.header.workers) }
+    ensures count { IfOk result (λ charts. vec_len charts ≡ recording.now.header.workers) }
 {
     let mut charts = Vec::new(alloc);
-    for heap in 0..recording.script.header.workers {
+    for heap in 0..recording.header.workers {
         charts.push(chart_of::<SLI>(alloc, recording, heap, most)?)?;
     }
     Ok(charts)
@@ -76,14 +76,14 @@ pub fn charts_of(
     recording: &Recording,
     most: usize,
 ) -> Result<Vec<Chart>, AllocError>
-    requires header { IsHeaderInRange recording.now.script.header }
+    requires header { IsHeaderInRange recording.now.header }
     requires lines { length recording.now.lines.items ≤ 32768 }
     requires most { 0 < most }
     requires few { most ≤ 2 ^ 16 }
     ensures charts { (trace : Trace) → IsRecording recording.now trace → IfOk result (λ charts. AreCharts most trace charts.items) }
-    ensures count { IfOk result (λ charts. vec_len charts ≡ recording.now.script.header.workers) }
+    ensures count { IfOk result (λ charts. vec_len charts ≡ recording.now.header.workers) }
 {
-    match recording.script.header.version {
+    match recording.header.version {
         Version::One => charts_at::<4>(alloc, recording, most),
         Version::Two => charts_at::<5>(alloc, recording, most),
     }
@@ -91,7 +91,7 @@ pub fn charts_of(
 
 // The plot of a trace in a form.
 fn plot_of(alloc: Global, recording: &Recording, form: Form) -> Result<String, AllocError>
-    requires header { IsHeaderInRange recording.now.script.header }
+    requires header { IsHeaderInRange recording.now.header }
     requires lines { length recording.now.lines.items ≤ 32768 }
     ensures { (trace : Trace) → IsRecording recording.now trace → IfOk result (λ text. Plots form trace (string_bytes text)) }
 {
@@ -131,5 +131,5 @@ pub fn plot_trace<R: Read, W: Write>(
 {
     let recording = record_trace(alloc, reader)?;
     let plot = plot_of(alloc, &recording, form)?;
-    finish(writer, recording.script.calls, &plot)
+    finish(writer, recording.calls, &plot)
 }

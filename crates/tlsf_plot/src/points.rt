@@ -135,17 +135,17 @@ fn points_on<const SLI: u32>(
     heap: u32,
 ) -> Result<Vec<Point>, AllocError>
     requires yard { IsYard workers.old }
-    requires new { world_of workers.old ≡ yard_of recording.now.script.header }
+    requires new { world_of workers.old ≡ yard_of recording.now.header }
     requires heap { heap < length workers.old }
     requires lines { length recording.now.lines.items ≤ 32768 }
     ensures points { (trace : Trace) → IsRecording recording.now trace → IfOk result (λ points. points.items ≡ told.points_of SLI trace heap) }
     ensures count { IfOk result (λ points. vec_len points ≡ length recording.now.lines.items + 2) }
 {
-    let count = recording.script.header.workers;
-    let mut made = Vec::with_capacity(alloc, recording.script.events.len())?;
+    let count = recording.header.workers;
+    let mut made = Vec::with_capacity(alloc, recording.events.len())?;
     let mut points = Vec::with_capacity(alloc, recording.lines.len() + 2)?;
     points.push(Point::of(report_on(workers, heap), 0, false))?;
-    let mut events: &[Event] = &recording.script.events;
+    let mut events: &[Event] = &recording.events;
     for line in &recording.lines {
         let width = event_count(count, line);
         let (part, rest) = events.split_at(width.min(events.len()));
@@ -164,13 +164,13 @@ pub fn points_of<const SLI: u32>(
     heap: u32,
 ) -> Result<Vec<Point>, AllocError>
     requires level { IsLevel SLI }
-    requires header { IsHeaderInRange recording.now.script.header }
+    requires header { IsHeaderInRange recording.now.header }
     requires lines { length recording.now.lines.items ≤ 32768 }
-    requires heap { heap < recording.now.script.header.workers }
+    requires heap { heap < recording.now.header.workers }
     ensures points { (trace : Trace) → IsRecording recording.now trace → IfOk result (λ points. points.items ≡ told.points_of SLI trace heap) }
     ensures count { IfOk result (λ points. vec_len points ≡ length recording.now.lines.items + 2) }
 {
-    let header = recording.script.header;
+    let header = recording.header;
     // A header in its ranges is not of a bad size, so what is refused here is memory.
     let Ok(mut workers) = open_yard::<SLI>(alloc, header.workers, header.words, header.capacity)
     else {

@@ -32,9 +32,9 @@ fn named_above<const SLI: u32>(
     heap: u32,
 ) -> Result<Option<Named>, AllocError>
     requires level { IsLevel SLI }
-    requires header { IsHeaderInRange recording.now.script.header }
+    requires header { IsHeaderInRange recording.now.header }
     requires lines { length recording.now.lines.items ≤ 32768 }
-    requires heap { heap < recording.now.script.header.workers }
+    requires heap { heap < recording.now.header.workers }
     ensures { (trace : Trace) → level_in trace.header ≡ SLI → IsRecording recording.now trace → IfOk result (HasNamed trace heap) }
 {
     let points = points_of::<SLI>(alloc, recording, heap)?;
@@ -65,12 +65,12 @@ fn worst_on<const SLI: u32>(
     recording: &Recording,
 ) -> Result<Option<Named>, AllocError>
     requires level { IsLevel SLI }
-    requires header { IsHeaderInRange recording.now.script.header }
+    requires header { IsHeaderInRange recording.now.header }
     requires lines { length recording.now.lines.items ≤ 32768 }
     ensures { (trace : Trace) → level_in trace.header ≡ SLI → IsRecording recording.now trace → IfOk result (HasWorst trace trace.header.workers) }
 {
     let mut worst = None;
-    for heap in 0..recording.script.header.workers {
+    for heap in 0..recording.header.workers {
         worst = worse_named(worst, named_above::<SLI>(alloc, recording, heap)?);
     }
     Ok(worst)
@@ -78,11 +78,11 @@ fn worst_on<const SLI: u32>(
 
 // The line to look at of a trace.
 fn worst_of(alloc: Global, recording: &Recording) -> Result<Option<Named>, AllocError>
-    requires header { IsHeaderInRange recording.now.script.header }
+    requires header { IsHeaderInRange recording.now.header }
     requires lines { length recording.now.lines.items ≤ 32768 }
     ensures { (trace : Trace) → IsRecording recording.now trace → IfOk result (HasWorst trace trace.header.workers) }
 {
-    match recording.script.header.version {
+    match recording.header.version {
         Version::One => worst_on::<4>(alloc, recording),
         Version::Two => worst_on::<5>(alloc, recording),
     }
@@ -90,7 +90,7 @@ fn worst_of(alloc: Global, recording: &Recording) -> Result<Option<Named>, Alloc
 
 // The picture of the heaps behind the line to look at.
 fn picture_of_worst(alloc: Global, recording: &Recording, form: Form) -> Result<String, AllocError>
-    requires header { IsHeaderInRange recording.now.script.header }
+    requires header { IsHeaderInRange recording.now.header }
     requires lines { length recording.now.lines.items ≤ 32768 }
     ensures { (trace : Trace) → IsRecording recording.now trace → IfOk result (λ text. DrawsWorst form trace (string_bytes text)) }
 {
@@ -128,5 +128,5 @@ pub fn draw_trace_at_worst<R: Read, W: Write>(
 {
     let recording = record_trace(alloc, reader)?;
     let picture = picture_of_worst(alloc, &recording, form)?;
-    finish(writer, recording.script.calls, &picture)
+    finish(writer, recording.calls, &picture)
 }

@@ -1,5 +1,6 @@
 -- A replay whose lines are written part by part.
-use Rattle.std.proofs.Common.{◌≡◌, ◌++◌, ℕ, List, [], Option, ap, sym, refl, ◌∙◌, append-nil}
+use Rattle.std.proofs.Common.{◌≡◌, ◌+◌, ◌++◌, ℕ, List, [], Option, ap, drop, sym, take, refl, ◌∙◌, append-nil}
+use Rattle.std.proofs.lemmas.List.{drop-drop, take-append-drop}
 use Rattle.tlsf_heap.specs.declared.name.Name.{Name}
 use Rattle.tlsf_calls.specs.declared.entry.Entry.{Entry}
 use Rattle.tlsf_calls.specs.declared.event.Event.{Event}
@@ -7,6 +8,12 @@ use Rattle.tlsf_crew.specs.model.World.{World, replies_behind}
 use Rattle.tlsf_crew.proofs.lemmas.model.InParts.{replies_in_parts, replies_of_nothing}
 use Rattle.tlsf_lines.specs.ReplyLines.{labels_left, reply_text}
 use Rattle.tlsf_lines.proofs.ReplySteps.{reply_text-append}
+
+-- the events from one on are a part of them and those behind it
+pub part_and_rest : (first n : ℕ) (events : List Event) → drop first events ≡ take n (drop first events) ++ drop (first + n) events
+part_and_rest first n events =
+    let part = take n (drop first events) in
+    sym (take-append-drop n (drop first events)) ∙ ap (λ (rest : List Event). part ++ rest) (drop-drop n first events)
 
 -- what events in two parts tell and leave is what the first does, and the second behind it
 module _ {sli : ℕ} (w : World sli) (made : List (Option Name)) (part rest : List Event) where

@@ -10,11 +10,11 @@ ghost use Rattle.tlsf_lines.specs.Trace.{Trace};
 
 use crate::report_lines::write_reports;
 use std::alloc::{AllocError, Global};
-use tlsf_crew::{Event, Worker, open_yard, replay_behind};
+use tlsf_crew::{Worker, open_yard, replay_behind};
 use tlsf_heap::Name;
 use tlsf_lines::{Script, Version, write_replies};
 
-/// How many events run before their lines are written. An entry has 200 bytes, so few are held at a time.
+/// How many events are made and run before their lines are written. An event has 120 bytes and an entry 200, so few are held at a time.
 const PART: usize = 1024;
 
 /// How many bytes of text are made ready for each event: most reply lines have fewer.
@@ -29,22 +29,25 @@ pub(crate) fn write_run<const SLI: u32>(
 ) -> Result<Vec<Option<Name>>, AllocError>
     requires { IsYard workers.old }
     ensures yard { IsYard workers.new }
-    ensures made { IfOk result (λ made. made.items ≡ (replies (world_of workers.old) script.now.events.items).made) }
+    ensures made { IfOk result (λ made. made.items ≡ (replies (world_of workers.old) script.now.events).made) }
     ensures text { OnOk result (string_bytes text.new ≡ string_bytes text.old
-        ++ reply_text (replies (world_of workers.old) script.now.events.items).entries script.now.labels.items) }
-    ensures world { OnOk result (world_of workers.new ≡ (replies (world_of workers.old) script.now.events.items).world) }
+        ++ reply_text (replies (world_of workers.old) script.now.events).entries script.now.labels.items) }
+    ensures world { OnOk result (world_of workers.new ≡ (replies (world_of workers.old) script.now.events).world) }
 {
     let mut made = Vec::with_capacity(alloc, script.events.len())?;
-    let mut events: &[Event] = &script.events;
     let mut labels: &[Option<u32>] = &script.labels;
-    while !events.is_empty() {
-        let (part, rest) = events.split_at(events.len().min(PART));
+    let mut part = Vec::with_capacity(alloc, PART)?;
+    let mut first = 0;
+    while first < script.events.len() {
+        let n = (script.events.len() - first).min(PART);
+        part.clear();
+        script.events.add_part(first, n, &mut part)?;
         // Each target was made by an event before, and there are few events: what is refused here is memory.
-        let Ok(entries) = replay_behind(alloc, workers, &mut made, part) else {
+        let Ok(entries) = replay_behind(alloc, workers, &mut made, &part) else {
             return Err(AllocError);
         };
         labels = write_replies(text, &entries, labels)?;
-        events = rest;
+        first += n;
     }
     Ok(made)
 }

@@ -1,6 +1,7 @@
 use Rattle.std.proofs.Common.{◌≡◌, ◌+◌, ◌++◌, ◌∷◌, [], rules, refl, ap, arith, length}
 use Rattle.std.proofs.lemmas.List.{length_push, nil_from_length}
 use Rattle.tlsf_lines.specs.Pieces.{pieces_of}
+use Rattle.tlsf_lines.proofs.KeptSteps.{used_is_made}
 use Rattle.tlsf_lines.proofs.LineSteps.{ends, few_more, goes_on, is_done, with_none}
 use Rattle.tlsf_lines.proofs.parsing.add_lines.Goals as goal
 
@@ -29,7 +30,10 @@ returns-in-Err-clause-err g c =
 pub add-requires : goal.add-requires
 add-requires g c =
     let inv = c.loop-rest.invariant in
-    (c.args.header, inv.before, inv.lines, inv.held, omega (arith, inv.behind, inv.numbers, c.requires.short, c.cut_piece.ensures.shorter))
+    record {
+      few = (c.args.header, inv.before, inv.lines, inv.held, omega (arith, inv.behind, inv.numbers, c.requires.short, c.cut_piece.ensures.shorter));
+      target = used_is_made c.args.header.workers inv.before c.in-Ok.judged.0 c.in-Ok.judged.1 (c.in-Ok.ensures.target inv.before inv.recalls);
+    }
 
 pub loop-rest-preserved : goal.loop-rest-preserved
 loop-rest-preserved g c =

@@ -11,7 +11,7 @@ pub write-requires : goal.write-requires
 write-requires g c =
     let workers = c.in_ok-stage.stage.workers.items in
     let mapped = rw (c.deref.ensures.value, c.deref-2.ensures.value, c.deref_mut.ensures.value) at c.in_ok-maps.ensures.maps in
-    let many = as_many (IsMap g.row.SLI c.in_ok-stage.stage.made.items c.args.recording.now.script.labels.items) (map heap_of workers) c.in_ok-maps.maps.items mapped in
+    let many = as_many (IsMap g.row.SLI c.in_ok-stage.stage.made.items c.args.recording.now.labels.items) (map heap_of workers) c.in_ok-maps.maps.items mapped in
     let heaps = length-map workers heap_of in
     let shown = ap length c.deref-3.ensures.value in
     omega (arith, many, heaps, shown, c.in_ok-stage.ensures.yard.few)
@@ -23,5 +23,5 @@ returns g c = λ trace level is.
       maps = c.in_ok-maps.maps.items;
       mapped = maps_of_moment c.args.line trace c.args.recording.now c.in_ok-stage.stage c.in_ok-maps.maps.items level is (c.in_ok-stage.ensures.moment trace is) mapped;
       drawn = (rw (c.deref-3.ensures.value, c.new-text.ensures.bytes) at c.in_ok-write.ensures)
-          ∙ ap (λ (header : Header). picture_in c.args.form header.words c.in_ok-maps.maps.items) is.script.header;
+          ∙ ap (λ (header : Header). picture_in c.args.form header.words c.in_ok-maps.maps.items) is.header;
     }

@@ -13,5 +13,5 @@ returns-clause-added g c = λ trace level is stands.
     on_ok_weaker c.write_moment.result (λ added. record {
       moment = moment;
       is = record { line_is = refl; mapped = maps_behind c.args.line trace c.args.recording.now c.args.workers.now c.args.made.now c.in_ok-maps.maps.items level is stands mapped };
-      added = added ∙ ap (λ (header : Header). string_bytes c.args.text.now ++ moment_data header.words moment) is.script.header;
+      added = added ∙ ap (λ (header : Header). string_bytes c.args.text.now ++ moment_data header.words moment) is.header;
     }) wrote

@@ -13,7 +13,7 @@ loop-number-init g c = record {
   yard = c.requires.yard;
   onward = omega arith;
   stands = λ trace is.
-      let new = begins trace (world_of c.args.workers.now) c.in_ok-made.made.items (c.requires.new ∙ ap yard_of is.script.header) c.in_ok-made.ensures.items in
+      let new = begins trace (world_of c.args.workers.now) c.in_ok-made.made.items (c.requires.new ∙ ap yard_of is.header) c.in_ok-made.ensures.items in
       record { world = new.0; names = new.1 };
   shown = λ trace level is none. none;
 }

@@ -1,8 +1,7 @@
-use Rattle.std.proofs.Common.{◌≡◌, ℕ, ◌+◌, ◌*◌, take, drop, ap, sym, ◌∙◌, arith}
+use Rattle.std.proofs.Common.{◌≡◌, ℕ, take, ap, sym, ◌∙◌, arith}
 use Rattle.std.proofs.lemmas.List.{take_min}
 use Rattle.std.proofs.lemmas.List.FromFn.{map-range_with_len_more}
 use Rattle.tlsf_plot.specs.Curves.{bucket, worst_of}
-use Rattle.tlsf_plot.specs.declared.point.Point.{Point}
 use Rattle.tlsf_plot.proofs.curve.curve_of.Goals as goal
 
 pub loop-number-preserved : goal.loop-number-preserved

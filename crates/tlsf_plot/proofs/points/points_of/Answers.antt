@@ -9,7 +9,7 @@ use Rattle.tlsf_plot.proofs.points.points_of.Goals as goal
 pub points_on-requires : goal.points_on-requires
 points_on-requires g c =
     let ws = c.in-Ok.workers.items in
-    let header = c.args.recording.now.script.header in
+    let header = c.args.recording.now.header in
     let shown = c.deref_mut.ensures.value in
     let many : length ws ≡ header.workers =
     sym (heaps_count ws) ∙ (ap (λ (w : World g.row.SLI). length w.heaps) c.in-Ok.ensures.world

@@ -13,7 +13,7 @@ loop-line-init g c = record {
   yard = c.report_on.ensures.yard;
   count = omega (arith, c.in_ok-push.ensures.len, c.in_ok-points.ensures.len);
   behind = λ trace is. begins trace c.args.heap (world_of c.args.workers.now) _ _ _ _ c.of.result c.report_on.result
-      (c.requires.new ∙ ap yard_of is.script.header) c.report_on.ensures.world c.in_ok-made.ensures.items (c.deref-events.ensures.value ∙ is.script.events)
+      (c.requires.new ∙ ap yard_of is.header) c.report_on.ensures.world c.in_ok-made.ensures.items (c.deref-events.ensures.value ∙ is.events)
       (c.in_ok-push.ensures.items ∙ ap (λ (l : List Point). l ++ c.of.result ∷ []) c.in_ok-points.ensures.items) c.of.ensures c.report_on.ensures.report;
 }
 
@@ -27,8 +27,8 @@ loop-line-preserved g c =
     record {
       yard = c.run_line.ensures.yard;
       count = omega (arith, c.in_ok-push-2.ensures.len, inv.count);
-      behind = λ trace is. one_line trace c.args.heap c.loop-line.line-index _ _ _ _ events _ _ _ _ c.deref-line-items.result.now _ c.args.recording.now.script.header.workers wide c.words_asked-asked.result
-          c.in_ok-run_line.field-0 (inv.behind trace is) c.loop-line-test.true (c.deref-line-items.ensures.value ∙ is.lines) (ap (λ (h : Header). h.workers) is.script.header)
+      behind = λ trace is. one_line trace c.args.heap c.loop-line.line-index _ _ _ _ events _ _ _ _ c.deref-line-items.result.now _ c.args.recording.now.header.workers wide c.words_asked-asked.result
+          c.in_ok-run_line.field-0 (inv.behind trace is) c.loop-line-test.true (c.deref-line-items.ensures.value ∙ is.lines) (ap (λ (h : Header). h.workers) is.header)
           c.event_count-width.ensures part rest c.in_ok-run_line.ensures.world c.in_ok-run_line.ensures.made
           (c.words_asked-asked.ensures ∙ ap words_asked c.request_by.ensures) c.in_ok-run_line.ensures.point c.in_ok-push-2.ensures.items;
     }

@@ -5,6 +5,6 @@ use Rattle.tlsf_plot.proofs.worst.draw_trace_at_worst.Goals as goal
 pub returns : goal.returns
 returns g c =
     let recording = c.in_ok-recording.ensures in
-    run_is_done recording.text (string_bytes c.in_ok-picture.picture) c.in_ok-recording.recording.script.calls recording.read
-    (record { trace = recording.trace; spelled = recording.spelled; puts = c.in_ok-picture.ensures recording.trace recording.recorded; calls_are = recording.recorded.script.calls })
+    run_is_done recording.text (string_bytes c.in_ok-picture.picture) c.in_ok-recording.recording.calls recording.read
+    (record { trace = recording.trace; spelled = recording.spelled; puts = c.in_ok-picture.ensures recording.trace recording.recorded; calls_are = recording.recorded.calls })
     c.finish.result (rw c.deref.ensures at c.finish.ensures)

@@ -10,7 +10,7 @@ loop-worker-preserved c =
     let inv = c.loop-worker.invariant in
     let next : 0 + w ≡ w = omega arith in
     record {
-      events = rw (map-range_with_len_more last_drain 0 w w next) (c.in_ok-push.ensures.events ∙ (ap (λ l. l ++ last_drain w ∷ []) inv.events ∙ append_assoc c.args.self.now.events.items _ _));
+      events = rw (map-range_with_len_more last_drain 0 w w next) (c.in_ok-push.ensures.events ∙ (ap (λ l. l ++ last_drain w ∷ []) inv.events ∙ append_assoc c.args.self.now.events _ _));
       labels = rw (← replicate_more {X = Option ℕ} w None) (c.in_ok-push.ensures.labels ∙ (ap (λ l. l ++ None ∷ []) inv.labels ∙ append_assoc c.args.self.now.labels.items _ _));
       header = c.in_ok-push.ensures.same.0 ∙ inv.header;
       calls = c.in_ok-push.ensures.same.1 ∙ inv.calls;

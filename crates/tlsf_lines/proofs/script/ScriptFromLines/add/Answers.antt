@@ -4,7 +4,12 @@ use Rattle.tlsf_lines.proofs.ScriptSteps.{add_holds, calls_few}
 use Rattle.tlsf_lines.proofs.script.ScriptFromLines.add.Goals as goal
 
 pub add_events-requires : goal.add_events-requires
-add_events-requires c = omega (arith, calls_few c.requires.0.workers c.requires.1 c.requires.2 c.args.self.now c.requires.3.1, c.requires.4)
+add_events-requires c =
+    let few = c.requires.few in
+    record {
+      calls = omega (arith, calls_few few.0.workers few.1 few.2 c.args.self.now few.3.1, few.4);
+      target = c.requires.target;
+    }
 
 pub returns : goal.returns
 returns c = λ header before lines has target.

@@ -1,0 +1,58 @@
+-- Events that are kept in little memory: which can be, and what is kept of each. Contracts of public functions see the events alone.
+use Rattle.std.specs.Prelude.{ℕ, ◌≡◌, ◌<◌, List, [], ◌++◌, get_or}
+use Rattle.tlsf_calls.specs.Bytes.{chunk_of}
+use Rattle.tlsf_calls.specs.declared.call.Call.{Call}
+use Rattle.tlsf_calls.specs.declared.call.Call.TheVariants as call
+use Rattle.tlsf_calls.specs.declared.chunk.Chunk.{Chunk}
+use Rattle.tlsf_calls.specs.declared.event.Event.{Event}
+use Rattle.tlsf_calls.specs.declared.target.Target.{Target}
+use Rattle.tlsf_calls.specs.declared.target.Target.TheVariants.{Named, Made, Absent}
+use Rattle.tlsf_lines.specs.declared.kept_event.KeptCall.{KeptCall}
+use Rattle.tlsf_lines.specs.declared.kept_event.KeptCall.TheVariants.{Allocate, Release, Write, Read, Resize, Drain}
+use Rattle.tlsf_lines.specs.declared.kept_event.KeptEvent.{KeptEvent}
+use Rattle.tlsf_lines.specs.Events.{made_by}
+
+-- a target that a label stands for has no name
+abbrev pub IsMade : Target → Type 0
+IsMade (Named name) = ⊥
+IsMade (Made event) = Unit {0}
+IsMade Absent = Unit {0}
+
+-- a call that a line says
+abbrev pub CanBeKept : Call → Type 0
+CanBeKept (call.Allocate len) = Unit {0}
+CanBeKept (call.Release target) = IsMade target
+CanBeKept (call.Write target at bytes) = IsMade target
+CanBeKept (call.Read target at n) = IsMade target
+CanBeKept (call.Resize target len) = IsMade target
+CanBeKept (call.Take from) = ⊥
+CanBeKept (call.Drain most) = Unit {0}
+
+-- the call that is kept so, where the bytes of writes are these
+abbrev pub call_kept : List Chunk → KeptCall → Call
+call_kept chunks (Allocate len) = call.Allocate len
+call_kept chunks (Release made) = call.Release (made_by made)
+call_kept chunks (Write made at place) = call.Write (made_by made) at (get_or chunks place (chunk_of []))
+call_kept chunks (Read made at n) = call.Read (made_by made) at n
+call_kept chunks (Resize made len) = call.Resize (made_by made) len
+call_kept chunks (Drain most) = call.Drain most
+
+abbrev pub event_kept : List Chunk → KeptEvent → Event
+event_kept chunks kept = record { worker = kept.worker; call = call_kept chunks kept.call }
+
+-- the bytes of a write are among so many
+abbrev pub IsCallWithin : ℕ → KeptCall → Type 0
+IsCallWithin count (Allocate len) = Unit {0}
+IsCallWithin count (Release made) = Unit {0}
+IsCallWithin count (Write made at place) = place < count
+IsCallWithin count (Read made at n) = Unit {0}
+IsCallWithin count (Resize made len) = Unit {0}
+IsCallWithin count (Drain most) = Unit {0}
+
+abbrev pub IsWithin : ℕ → KeptEvent → Type 0
+IsWithin count kept = IsCallWithin count kept.call
+
+-- the bytes of more writes stand behind those so far
+pub record Grows (old new : List Chunk) : Type 0 where
+  pub more : List Chunk
+  pub is : new ≡ old ++ more
