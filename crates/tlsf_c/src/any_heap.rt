@@ -7,6 +7,7 @@ ghost use Rattle.tlsf_heap.specs.Calls.{opened, allocated, released, resized, wr
 ghost use Rattle.tlsf_heap.specs.InPlace.{IsPayloadCheck};
 ghost use Rattle.tlsf_heap.specs.Given.{payload_words_given, payload_words_left};
 ghost use Rattle.tlsf_heap.specs.Reports.{report_of};
+ghost use Rattle.tlsf_heap.specs.Touched.{FollowsNoForgery};
 
 use std::alloc::Global;
 use std::marker::Model;
@@ -78,6 +79,7 @@ impl AnyHeap {
         ensures heap { self.new.heap ≡ (released self.old.heap name).heap }
         ensures level { self.new.level ≡ self.old.level }
         ensures touches { self.new.touches ≤ self.old.touches + 64 }
+        ensures forged { FollowsNoForgery self.old.heap name self.old.touches self.new.touches }
     {
         match &mut self.of_level {
             OfLevel::Four(heap) => heap.release(name),
@@ -91,6 +93,7 @@ impl AnyHeap {
         ensures heap { self.new.heap ≡ (resized self.old.heap name len).heap }
         ensures level { self.new.level ≡ self.old.level }
         ensures touches { self.new.touches ≤ self.old.touches + 64 + payload_words_left result self.new.heap name }
+        ensures forged { FollowsNoForgery self.old.heap name self.old.touches self.new.touches }
     {
         match &mut self.of_level {
             OfLevel::Four(heap) => heap.resize(name, len),
@@ -104,6 +107,7 @@ impl AnyHeap {
         ensures heap { self.new.heap ≡ (written self.old.heap name at bytes.now).heap }
         ensures level { self.new.level ≡ self.old.level }
         ensures touches { self.new.touches ≤ self.old.touches + 4 + 2 * (length bytes.now / 8 + 2) }
+        ensures forged { FollowsNoForgery self.old.heap name self.old.touches self.new.touches }
     {
         match &mut self.of_level {
             OfLevel::Four(heap) => heap.write(name, at, bytes),
@@ -118,6 +122,7 @@ impl AnyHeap {
         ensures heap { self.new.heap ≡ self.old.heap }
         ensures level { self.new.level ≡ self.old.level }
         ensures touches { self.new.touches ≤ self.old.touches + 4 + (length out.old / 8 + 2) }
+        ensures forged { FollowsNoForgery self.old.heap name self.old.touches self.new.touches }
     {
         match &mut self.of_level {
             OfLevel::Four(heap) => heap.read(name, at, out),
@@ -130,7 +135,8 @@ impl AnyHeap {
         ensures payload { MatchResult result (λ p. IsPayloadCheck self.old.heap name (Ok p.1)) (λ why. IsPayloadCheck self.old.heap name (Err why)) }
         ensures heap { self.new.heap ≡ self.old.heap }
         ensures level { self.new.level ≡ self.old.level }
-        ensures touches { self.new.touches ≤ self.old.touches + 5 }
+        ensures touches { self.new.touches ≤ self.old.touches + 4 }
+        ensures forged { FollowsNoForgery self.old.heap name self.old.touches self.new.touches }
     {
         match &mut self.of_level {
             OfLevel::Four(heap) => heap.payload(name),

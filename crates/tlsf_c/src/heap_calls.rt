@@ -8,6 +8,7 @@ ghost use Rattle.tlsf_heap.specs.InPlace.{IsPayloadCheck};
 ghost use Rattle.tlsf_heap.specs.Given.{payload_words_given, payload_words_left};
 ghost use Rattle.tlsf_heap.specs.Numbers.{number_of};
 ghost use Rattle.tlsf_heap.specs.Reports.{report_of};
+ghost use Rattle.tlsf_heap.specs.Touched.{FollowsNoForgery};
 ghost use Rattle.tlsf_heap.specs.declared.refusal.Refusal.{Refusal};
 ghost use Rattle.tlsf_c.specs.Names.{name_of, report_in};
 ghost use Rattle.tlsf_c.specs.Handles.{heap_in, level_in, touches_in, StaysOpen};
@@ -166,6 +167,7 @@ pub extern "C" fn tlsf_release(alloc: Global, heap: &mut HeapSlot, name: &BlockN
     ensures open { heap.old.is_open ≡ true → StaysOpen heap.old heap.new }
     ensures status { heap.old.is_open ≡ true → result ≡ status_of (released (heap_in heap.old) (name_of name.now)).answer }
     ensures heap { heap.old.is_open ≡ true → heap_in heap.new ≡ (released (heap_in heap.old) (name_of name.now)).heap }
+    ensures forged { heap.old.is_open ≡ true → FollowsNoForgery (heap_in heap.old) (name_of name.now) (touches_in heap.old) (touches_in heap.new) }
     ensures touches { heap.old.is_open ≡ true → touches_in heap.new ≤ touches_in heap.old + 64 }
 {
     let Some(mut owned) = heap.take_out(alloc) else {
@@ -189,6 +191,7 @@ pub extern "C" fn tlsf_resize(alloc: Global, heap: &mut HeapSlot, name: &BlockNa
     ensures open { heap.old.is_open ≡ true → StaysOpen heap.old heap.new }
     ensures status { heap.old.is_open ≡ true → result ≡ status_of (resized (heap_in heap.old) (name_of name.now) len).answer }
     ensures heap { heap.old.is_open ≡ true → heap_in heap.new ≡ (resized (heap_in heap.old) (name_of name.now) len).heap }
+    ensures forged { heap.old.is_open ≡ true → FollowsNoForgery (heap_in heap.old) (name_of name.now) (touches_in heap.old) (touches_in heap.new) }
     ensures touches { heap.old.is_open ≡ true → touches_in heap.new ≤ touches_in heap.old + 64 + payload_words_left (resized (heap_in heap.old) (name_of name.now) len).answer (heap_in heap.new) (name_of name.now) }
 {
     let Some(mut owned) = heap.take_out(alloc) else {
@@ -219,6 +222,7 @@ pub extern "C" fn tlsf_write(
     ensures open { heap.old.is_open ≡ true → StaysOpen heap.old heap.new }
     ensures status { heap.old.is_open ≡ true → result ≡ status_of (written (heap_in heap.old) (name_of name.now) at bytes.now).answer }
     ensures heap { heap.old.is_open ≡ true → heap_in heap.new ≡ (written (heap_in heap.old) (name_of name.now) at bytes.now).heap }
+    ensures forged { heap.old.is_open ≡ true → FollowsNoForgery (heap_in heap.old) (name_of name.now) (touches_in heap.old) (touches_in heap.new) }
     ensures touches { heap.old.is_open ≡ true → touches_in heap.new ≤ touches_in heap.old + 4 + 2 * (length bytes.now / 8 + 2) }
 {
     let Some(mut owned) = heap.take_out(alloc) else {
@@ -249,6 +253,7 @@ pub extern "C" fn tlsf_read(
     ensures status { heap.old.is_open ≡ true → result ≡ status_of (read_answer (read_of (heap_in heap.old) (name_of name.now) at (length out.old))) }
     ensures bytes { heap.old.is_open ≡ true → out.new ≡ result_unwrap_or (read_of (heap_in heap.old) (name_of name.now) at (length out.old)) out.old }
     ensures heap { heap.old.is_open ≡ true → heap_in heap.new ≡ heap_in heap.old }
+    ensures forged { heap.old.is_open ≡ true → FollowsNoForgery (heap_in heap.old) (name_of name.now) (touches_in heap.old) (touches_in heap.new) }
     ensures touches { heap.old.is_open ≡ true → touches_in heap.new ≤ touches_in heap.old + 4 + (length out.old / 8 + 2) }
 {
     let Some(mut owned) = heap.take_out(alloc) else {
@@ -283,7 +288,8 @@ pub extern "C" fn tlsf_locate(
         × IsPayloadCheck (heap_in heap.old) (name_of name.now) (Err why) × (result ≡ number_of why) }
     ensures heap { heap.old.is_open ≡ true → heap_in heap.new ≡ heap_in heap.old }
     ensures kept { ¬ (result ≡ 0) → (base.new ≡ base.old) × (len.new ≡ len.old) }
-    ensures touches { heap.old.is_open ≡ true → touches_in heap.new ≤ touches_in heap.old + 5 }
+    ensures forged { heap.old.is_open ≡ true → FollowsNoForgery (heap_in heap.old) (name_of name.now) (touches_in heap.old) (touches_in heap.new) }
+    ensures touches { heap.old.is_open ≡ true → touches_in heap.new ≤ touches_in heap.old + 4 }
 {
     let Some(mut owned) = heap.take_out(alloc) else {
         return CallFault::Closed.number();
