@@ -9,7 +9,9 @@ use std::sync::Wait;
 use std::test::Fail;
 use std::thread;
 use std::thread::Threads;
-use tlsf_crew::{Call, Chunk, CrewRefusal, Event, QueueWorker, Reply, Target, open_queue_yard};
+use tlsf_crew::{
+    Call, Chunk, CrewRefusal, Drained, Event, QueueWorker, Reply, Target, open_queue_yard,
+};
 use tlsf_fixtures::{name, same};
 use tlsf_heap::{Name, Refusal};
 
@@ -160,6 +162,18 @@ fn own_calls_of_a_queue_worker(rt: HostRuntime) -> Result<(), Fail> {
     let foreign = Err(CrewRefusal::Heap(Refusal::Foreign));
     let wanted = ([Ok(Some(0xc4c2)); 2], [foreign; 2], (1, 8));
     same(own_calls(&rt, &mut workers[0], block), wanted).expect(&rt, "differ");
+    Ok(())
+}
+
+#[test]
+fn queue_drain_counts_a_forged_name_as_taken(rt: HostRuntime) -> Result<(), Fail> {
+    let mut workers = open_queue_yard::<4>(rt.alloc(), 2, 64, 1)?;
+    let rows = [(release_of(1, name(0, 5, 2)), Reply::Posted)];
+    check_calls(&rt, &mut workers, &rows);
+    assert!(rt; workers.len() == 2);
+    let found = [workers[0].drain(&rt, 0), workers[0].drain(&rt, 8)];
+    let none = Drained { taken: 0, freed: 0 };
+    same(found, [none, Drained { taken: 1, freed: 0 }]).expect(&rt, "differ");
     Ok(())
 }
 
