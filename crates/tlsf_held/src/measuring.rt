@@ -20,13 +20,13 @@ use tlsf_trace::{Summary, TraceFault, finish};
 // Runs a script on a new yard of this level, that of its version. Gives the entries, and adds the names that its events made.
 fn run_at<const SLI: u32>(
     alloc: Global,
-    script: &Script,
+    script: Script,
     made: &mut Vec<Option<Name>>,
 ) -> Result<Vec<Entry>, AllocError>
     requires level { IsLevel SLI }
-    requires header { IsHeaderInRange script.now.header }
+    requires header { IsHeaderInRange script.header }
     requires new { made.old.items ≡ [] }
-    ensures { (trace : Trace) → level_in trace.header ≡ SLI → IsScript script.now trace → IfOk result (λ entries. IsRunOf trace made.new.items entries.items) }
+    ensures { (trace : Trace) → level_in trace.header ≡ SLI → IsScript script trace → IfOk result (λ entries. IsRunOf trace made.new.items entries.items) }
 {
     let header = script.header;
     // A header in its ranges is not of a bad size, so what is refused here is memory.
@@ -35,6 +35,8 @@ fn run_at<const SLI: u32>(
         return Err(AllocError);
     };
     let events = script.events.all(alloc)?;
+    // What it keeps of them would stand beside the entries.
+    drop(script);
     let Ok(entries) = replay_behind(alloc, &mut workers, made, &events) else {
         return Err(AllocError);
     };
@@ -42,10 +44,10 @@ fn run_at<const SLI: u32>(
 }
 
 // The lines on what the workers of a script ask of their heaps, at this level, that of its version.
-fn lines_at<const SLI: u32>(alloc: Global, script: &Script) -> Result<String, AllocError>
+fn lines_at<const SLI: u32>(alloc: Global, script: Script) -> Result<String, AllocError>
     requires level { IsLevel SLI }
-    requires header { IsHeaderInRange script.now.header }
-    ensures { (trace : Trace) → level_in trace.header ≡ SLI → IsScript script.now trace → IfOk result (λ text. Measures trace (string_bytes text)) }
+    requires header { IsHeaderInRange script.header }
+    ensures { (trace : Trace) → level_in trace.header ≡ SLI → IsScript script trace → IfOk result (λ text. Measures trace (string_bytes text)) }
 {
     let header = script.header;
     let mut made = Vec::new(alloc);
@@ -63,9 +65,9 @@ fn lines_at<const SLI: u32>(alloc: Global, script: &Script) -> Result<String, Al
 }
 
 // Those at the level of its version.
-fn lines_of(alloc: Global, script: &Script) -> Result<String, AllocError>
-    requires { IsHeaderInRange script.now.header }
-    ensures { (trace : Trace) → IsScript script.now trace → IfOk result (λ text. Measures trace (string_bytes text)) }
+fn lines_of(alloc: Global, script: Script) -> Result<String, AllocError>
+    requires { IsHeaderInRange script.header }
+    ensures { (trace : Trace) → IsScript script trace → IfOk result (λ text. Measures trace (string_bytes text)) }
 {
     match script.header.version {
         Version::One => lines_at::<4>(alloc, script),
@@ -74,10 +76,10 @@ fn lines_of(alloc: Global, script: &Script) -> Result<String, AllocError>
 }
 
 // The lines on the kinds of blocks that the workers of a script hold, at this level, that of its version.
-fn kinds_at<const SLI: u32>(alloc: Global, script: &Script) -> Result<String, AllocError>
+fn kinds_at<const SLI: u32>(alloc: Global, script: Script) -> Result<String, AllocError>
     requires level { IsLevel SLI }
-    requires header { IsHeaderInRange script.now.header }
-    ensures { (trace : Trace) → level_in trace.header ≡ SLI → IsScript script.now trace → IfOk result (λ text. TellsKinds trace (string_bytes text)) }
+    requires header { IsHeaderInRange script.header }
+    ensures { (trace : Trace) → level_in trace.header ≡ SLI → IsScript script trace → IfOk result (λ text. TellsKinds trace (string_bytes text)) }
 {
     let workers = script.header.workers;
     let mut made = Vec::new(alloc);
@@ -88,9 +90,9 @@ fn kinds_at<const SLI: u32>(alloc: Global, script: &Script) -> Result<String, Al
 }
 
 // Those at the level of its version.
-fn kinds_of(alloc: Global, script: &Script) -> Result<String, AllocError>
-    requires { IsHeaderInRange script.now.header }
-    ensures { (trace : Trace) → IsScript script.now trace → IfOk result (λ text. TellsKinds trace (string_bytes text)) }
+fn kinds_of(alloc: Global, script: Script) -> Result<String, AllocError>
+    requires { IsHeaderInRange script.header }
+    ensures { (trace : Trace) → IsScript script trace → IfOk result (λ text. TellsKinds trace (string_bytes text)) }
 {
     match script.header.version {
         Version::One => kinds_at::<4>(alloc, script),
@@ -127,8 +129,9 @@ pub fn measure_trace<R: Read, W: Write>(
     let text = read_all(alloc, reader)?;
     let script = script_in(alloc, &text)?;
     drop(text);
-    let lines = lines_of(alloc, &script)?;
-    finish(writer, script.calls, &lines)
+    let calls = script.calls;
+    let lines = lines_of(alloc, script)?;
+    finish(writer, calls, &lines)
 }
 
 /// Reads a whole trace, runs it on a new yard of workers, and writes for each worker a table of the kinds of blocks that it holds, as
@@ -159,6 +162,7 @@ pub fn measure_kinds<R: Read, W: Write>(
     let text = read_all(alloc, reader)?;
     let script = script_in(alloc, &text)?;
     drop(text);
-    let kinds = kinds_of(alloc, &script)?;
-    finish(writer, script.calls, &kinds)
+    let calls = script.calls;
+    let kinds = kinds_of(alloc, script)?;
+    finish(writer, calls, &kinds)
 }

@@ -8,5 +8,5 @@ unfolding replies replies_behind
 returns g c = λ trace level is.
     let entries = rw (c.deref_mut.ensures.value, c.deref.ensures.value, c.in_ok-events.ensures, c.requires.new) at c.in-Ok-replay_behind.ensures.entries in
     let made = rw (c.deref_mut.ensures.value, c.deref.ensures.value, c.in_ok-events.ensures, c.requires.new) at c.in-Ok-replay_behind.ensures.made in
-    run_told trace c.args.script.now.header (world_of c.in-Ok.workers.items) c.args.script.now.events c.in-Ok-replay_behind.entries.items c.replay_behind.new.made.items
+    run_told trace c.args.script.header (world_of c.in-Ok.workers.items) c.args.script.events c.in-Ok-replay_behind.entries.items c.replay_behind.new.made.items
     level is.header c.in-Ok.ensures.world is.events entries made
