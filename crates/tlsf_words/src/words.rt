@@ -355,8 +355,7 @@ impl Words {
         self.words.alter(at as usize + 3, n as usize, f)
     }
 
-    /// Shows `n` words behind the header at a place to `f`, as one slice, and answers what it answers. What it reads there makes no
-    /// touch.
+    /// Shows `n` words behind the header at a place to `f`, as one slice, and answers what it answers. Its reads make no touch.
     ///
     /// ```
     /// let first = words.inspect(at, 2, |payload| payload[0]);
@@ -387,6 +386,8 @@ impl Words {
     /// ```
     /// words.copy_in(at, 6, b"abcd");     // bytes 6 to 9 of the payload: the last two of one word, the first two of the next
     /// ```
+    // Always inline, as `copy_out`: a call and the registers that it takes cost as much as a word.
+    #[inline(always)]
     pub fn copy_in(&mut self, at: u32, offset: u32, bytes: &[u8])
         requires { payload_byte at offset + length bytes.now ≤ 8 * length self.old.words }
         ensures bytes { bytes_in self.new.words (payload_byte at offset) (length bytes.now) ≡ bytes.now }
@@ -434,9 +435,9 @@ impl Words {
     /// has one of them is read once.
     ///
     /// ```
-    /// let mut bytes = [0; 4];
-    /// words.copy_out(at, 6, &mut bytes);
+    /// words.copy_out(at, 6, &mut bytes);     // bytes 6 to 9 of the payload, where `bytes` has four
     /// ```
+    #[inline(always)]
     pub fn copy_out(&mut self, at: u32, offset: u32, out: &mut [u8])
         requires { payload_byte at offset + length out.old ≤ 8 * length self.old.words }
         ensures bytes { out.new ≡ bytes_in self.old.words (payload_byte at offset) (length out.old) }
@@ -612,8 +613,7 @@ impl Words {
         self.read_edge(start / 8 + 1, 0, &mut out[first..]);
     }
 
-    /// Writes eight bytes or more, from a byte of the words on. Apart, so that whole words alone, the most of what is written, take none of
-    /// its registers.
+    /// Writes eight bytes or more, from a byte of the words on. Apart, so that whole words alone, as most are, take none of its registers.
     #[inline(never)]
     fn write_run(&mut self, start: usize, bytes: &[u8])
         requires near { start < 2 ^ 36 }
