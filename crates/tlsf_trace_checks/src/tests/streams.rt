@@ -105,14 +105,4 @@ impl<'a> Streams<'a> {
             &OpenGate,
         )
     }
-
-    /// What stands in the stream that this status calls for, and in the other: a run writes where it is done, else it reports.
-    pub fn told(&self, status: u8) -> (&str, &str) {
-        let (written, reported) = (self.writer.text(), self.errors.text());
-        if status == 0 {
-            (written, reported)
-        } else {
-            (reported, written)
-        }
-    }
 }
