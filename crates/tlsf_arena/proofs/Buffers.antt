@@ -19,14 +19,14 @@ use denote.Steps.{only}
 use Rattle.std.specs.Allocator.{array_of, block_with_items}
 use Rattle.core.proofs.ptr.Rows.{El, room_split, glued, add_times}
 use Rattle.core.specs.contracts.result.Result as result
-use Rattle.linked_list_allocator.specs.Region.{Region}
 use Rattle.linked_list_allocator.specs.Ownership.{bytes_at, units_of}
 use Rattle.linked_list_allocator.proofs.Values.{plainly}
-use Rattle.tlsf_arena.specs.Ownership.{ints, ways, behind, block_token}
+use Rattle.tlsf_arena.specs.Ownership.{Home, ints, ways, behind, whole_token}
 use Rattle.tlsf_arena.proofs.Taken.{even, as_ints, from_ints}
 use Rattle.tlsf_arena.proofs.Ways.{ints_cut, ints_glue, left_even, opens, closes, ways_cut, ways_glue}
 use prog.Align.{align_w}
 use Rattle.tlsf_arena.specs.contracts.buffer.Buffer as buffer
+use Rattle.tlsf_arena.specs.contracts.buffer_grant.BufferGrant as grant
 
 -- ---- the machine value of a `Buffer`
 
@@ -177,23 +177,29 @@ module _ (R : RattleType) where
   pub same_buffer : (x y : Buf.Denot) → x.ptr ≡ y.ptr → (x.unit ≡ y.unit) × (x.region ≡ y.region) × (x.len ≡ y.len) × (x.cap ≡ y.cap) × (x.items ≡ y.items) → x ≡ y
   same_buffer x y at e = λ i. record { ptr = at i; marker = x.marker; unit = e.0 i; region = e.1 i; len = e.2 i; cap = e.3 i; items = e.4 i }
 
-  abbrev pub Moved : RattleType
-  Moved = result.the_row Buf Buf
+  abbrev BufGrant : RattleType
+  BufGrant = grant.the_row R
 
-  abbrev pub MovedTold : Buf.Denot → ℕ → ℕ → Moved.Denot → Type 0
-  MovedTold x len cap r = MatchResult r (λ b. (b.unit ≡ x.unit) × (b.region ≡ x.region) × (b.len ≡ len) × (b.cap ≡ cap) × (b.items ≡ x.items)) (λ b. b ≡ x)
+  pub same_grant : (x y : BufGrant.Denot) → x.ptr ≡ y.ptr → (x.unit ≡ y.unit) × (x.home ≡ y.home) × (x.len ≡ y.len) × (x.cap ≡ y.cap) × (x.items ≡ y.items) → x ≡ y
+  same_grant x y at e = λ i. record { ptr = at i; marker = x.marker; unit = e.0 i; home = e.1 i; len = e.2 i; cap = e.3 i; items = e.4 i }
+
+  abbrev pub Moved : RattleType
+  Moved = result.the_row BufGrant BufGrant
+
+  abbrev pub MovedTold : BufGrant.Denot → ℕ → ℕ → Moved.Denot → Type 0
+  MovedTold x len cap r = MatchResult r (λ b. (b.unit ≡ x.unit) × (b.home ≡ x.home) × (b.len ≡ len) × (b.cap ≡ cap) × (b.items ≡ x.items)) (λ b. b ≡ x)
 
   module _ {M : Type 1} {𝓤 : Ura M} {𝓛 : Logic 𝓤} {K : Type 0} {Γ : List (Item 𝓤)} {G : Goal 𝓤 𝓛.H} where
-    pub moved : K → (x : Buf.Denot) (len cap : ℕ) (r : Moved.Denot) (v : Val) → MovedTold x len cap r
-        → ((b o : ℕ) → v ≡ live 0 (vcons (buffer_val (block_ptr b o)) vnil) → Seq K 𝓛 (‵ (block_with_items (block_token x.unit x.region) R (block_ptr b o) len cap x.items) ∷ Γ) G)
-        → (v ≡ live 1 (vcons (buffer_val x.ptr) vnil) → Seq K 𝓛 (‵ (block_with_items (block_token x.unit x.region) R x.ptr x.len x.cap x.items) ∷ Γ) G)
+    pub moved : K → (x : BufGrant.Denot) (len cap : ℕ) (r : Moved.Denot) (v : Val) → MovedTold x len cap r
+        → ((b o : ℕ) → v ≡ live 0 (vcons (buffer_val (block_ptr b o)) vnil) → Seq K 𝓛 (‵ (block_with_items (whole_token x.unit x.home) R (block_ptr b o) len cap x.items) ∷ Γ) G)
+        → (v ≡ live 1 (vcons (buffer_val x.ptr) vnil) → Seq K 𝓛 (‵ (block_with_items (whole_token x.unit x.home) R x.ptr x.len x.cap x.items) ∷ Γ) G)
         → Seq K 𝓛 (‵ (Moved.own_val r (v ∷ [])) ∷ Γ) G
     moved t x len cap (Ok w) v told there kept =
         fpick t (λ us. fsplit t $ feq_l t (λ is. fpick t (λ vss. fsplit t $ feq_l t (λ is'. fsplit t $ move t (1 ∷ []) $ drop t $ fsplit t $ pure_l t (buffer_own w.ptr vss.0) (λ s.
-        rewrite t 0 (λ (u : ℕ × Region × ℕ × ℕ × List R.Denot). ‵ (block_with_items (block_token u.0 u.1) R w.ptr u.2 u.3 u.4)) (λ i. (told.0 i, told.1 i, told.2 i, told.3 i, told.4 i)) refl $
-        in_a_block t w.ptr (λ p. block_with_items (block_token x.unit x.region) R p len cap x.items) (fst∗ 𝓤 (never 𝓤) (sem 𝓛 (fsep ffalse (block_token x.unit x.region (array_of R cap) null_ptr)))) (λ b o at.
+        rewrite t 0 (λ (u : ℕ × Home × ℕ × ℕ × List R.Denot). ‵ (block_with_items (whole_token u.0 u.1) R w.ptr u.2 u.3 u.4)) (λ i. (told.0 i, told.1 i, told.2 i, told.3 i, told.4 i)) refl $
+        in_a_block t w.ptr (λ p. block_with_items (whole_token x.unit x.home) R p len cap x.items) (fst∗ 𝓤 (never 𝓤) (sem 𝓛 (fsep ffalse (whole_token x.unit x.home (array_of R cap) null_ptr)))) (λ b o at.
         there b o (ap only is ∙ ap (λ (xs : List Val). live 0 (of_list xs)) (is' ∙ ap (λ (xs : List Val). xs ++ []) (buffer_told w.ptr vss.0 s).0) ∙ ap (λ (p : Ptr). live 0 (vcons (buffer_val p) vnil)) at)))))))
     moved t x len cap (Err w) v told there kept =
         fpick t (λ us. fsplit t $ feq_l t (λ is. fpick t (λ vss. fsplit t $ feq_l t (λ is'. fsplit t $ move t (1 ∷ []) $ drop t $ fsplit t $ pure_l t (buffer_own w.ptr vss.0) (λ s.
-        rewrite t 0 (λ (u : Buf.Denot). ‵ (block_with_items (block_token u.unit u.region) R u.ptr u.len u.cap u.items)) told refl $
-        kept (ap only is ∙ ap (λ (xs : List Val). live 1 (of_list xs)) (is' ∙ ap (λ (xs : List Val). xs ++ []) (buffer_told w.ptr vss.0 s).0) ∙ ap (λ (u : Buf.Denot). live 1 (vcons (buffer_val u.ptr) vnil)) told))))))
+        rewrite t 0 (λ (u : BufGrant.Denot). ‵ (block_with_items (whole_token u.unit u.home) R u.ptr u.len u.cap u.items)) told refl $
+        kept (ap only is ∙ ap (λ (xs : List Val). live 1 (of_list xs)) (is' ∙ ap (λ (xs : List Val). xs ++ []) (buffer_told w.ptr vss.0 s).0) ∙ ap (λ (u : BufGrant.Denot). live 1 (vcons (buffer_val u.ptr) vnil)) told))))))

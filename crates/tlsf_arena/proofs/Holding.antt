@@ -1,19 +1,18 @@
 -- Blocks that are held stay held through calls on others.
-use Rattle.std.proofs.Common.{◌≡◌, ◌≢◌, ℕ, ◌+◌, Bool, true, false, cond, List, [], ◌∷◌, ◌++◌, length, Some, refl, sym, ap, subst, ◌∙◌, arith, append_assoc, inl, inr}
+use Rattle.std.proofs.Common.{◌≡◌, ◌≢◌, ℕ, ◌+◌, true, List, [], ◌∷◌, ◌++◌, length, Some, refl, sym, ap, subst, ◌∙◌, arith, append_assoc, inl, inr}
 use Rattle.std.proofs.lemmas.Bool.{eqb-true, false≢true}
 use Rattle.tlsf_heap.specs.Blocks.{Block, Live, Free, HeapState, size_of, bytes_of, words_in}
 use Rattle.tlsf_heap.specs.GoodFit.{Site, place_of}
-use Rattle.tlsf_heap.specs.Calls.{Outcome, allocated_words, carved, has_serial, is_named, refitted, refused, released, resized_words}
+use Rattle.tlsf_heap.specs.Calls.{allocated_words, carved, has_serial, is_named, refitted, released, resized_words}
 use Rattle.tlsf_heap.specs.Lawful.{IsLawful}
 use Rattle.tlsf_heap.specs.Laws.{IsLive}
 use Rattle.tlsf_heap.specs.declared.name.Name.{Name}
-use Rattle.tlsf_heap.specs.declared.refusal.Refusal.TheVariants.{Stale}
 use Rattle.tlsf_heap.proofs.Finding.{and_left, and_right}
 use Rattle.tlsf_heap.proofs.Lasting.{HasFrom, in_left, in_right, in_either, edited, released_lasts, refitted_lasts}
 use Rattle.tlsf_heap.proofs.Living.{shown, one_serial, same_name, words_carved, no_serial}
 use Rattle.tlsf_heap.proofs.Outcomes.{by_allocated_words, by_released, by_resized_words, named_site}
-use Rattle.tlsf_arena.specs.Arenas.{Holds, if_held, released_block, resized_block}
-use Rattle.tlsf_arena.specs.Places.{held_at, held_units, is_held, lacking, units_for}
+use Rattle.tlsf_arena.specs.Arenas.{Holds}
+use Rattle.tlsf_arena.specs.Places.{held_at, held_units}
 use Rattle.tlsf_arena.proofs.Maps.{holds_live, stands_held}
 
 -- the live block of that serial, of which n units are held
@@ -41,7 +40,7 @@ by_name h name n holds =
     let place : place_of s ≡ name.at = eqb-true (place_of s) name.at (and_right (has_serial name.serial s.block) _ site.1) in
     subst (HasFrom P name.at 0) site.0 (in_right P name.at 0 s.before (s.block ∷ s.after) (inl ((and_left (has_serial name.serial s.block) _ site.1, holds.3), omega (arith, place))))
 
-by_place : (h : HeapState) (name : Name) (n : ℕ) → IsLawful h → name.heap ≡ h.id → HasFrom (IsBlockOf name.serial n) name.at 0 h.blocks → Holds h name n
+pub by_place : (h : HeapState) (name : Name) (n : ℕ) → IsLawful h → name.heap ≡ h.id → HasFrom (IsBlockOf name.serial n) name.at 0 h.blocks → Holds h name n
 by_place h name n lawful own there = on s.1 refl
   where
     s : Split (IsBlockOf name.serial n) name.at 0 h.blocks
@@ -128,21 +127,11 @@ released_id h name = by_released (λ o. o.heap.id ≡ h.id) h name (λ why. refl
 pub resized_id : (h : HeapState) (name : Name) (n len : ℕ) → (resized_words h name n len).heap.id ≡ h.id
 resized_id h name n len = by_resized_words (λ o. o.heap.id ≡ h.id) h name n len (λ why. refl) (λ s mine site is room. refl)
 
--- also where the arena refuses what comes back
-pub held_keeps : (u n : ℕ) (h : HeapState) (name other : Name) (o : Outcome (Unit {0})) → Keeps name h o.heap → Keeps name h (if_held u h other n o).heap
-held_keeps u n h name other o keeps = by_bool (is_held u n (held_at h.blocks other.at))
-  where
-    by_bool : (b : Bool) → Keeps name h (cond b o (refused h Stale)).heap
-    by_bool true = keeps
-    by_bool false = same name h
-
 -- ---- so of an arena's calls on other blocks
 
-module _ (u n : ℕ) (old new : HeapState) (name other : Name) (units : ℕ) (lawful : IsLawful new) (apart : name ≢ other) (holds : Holds old name units) where
-  pub stays_released : new ≡ (released_block u old other n).heap → Holds new name units
-  stays_released is = kept name old new units (subst (Keeps name old) (sym is) (held_keeps u n old name other (released old other) (released_keeps old name other holds.1 apart))) lawful holds
+module _ (old new : HeapState) (name other : Name) (units : ℕ) (lawful : IsLawful new) (apart : name ≢ other) (holds : Holds old name units) where
+  pub stays_released : new ≡ (released old other).heap → Holds new name units
+  stays_released is = kept name old new units (subst (Keeps name old) (sym is) (released_keeps old name other holds.1 apart)) lawful holds
 
-  pub stays_resized : (len : ℕ) → new ≡ (resized_block u old other n len).heap → Holds new name units
-  stays_resized len is =
-      kept name old new units
-      (subst (Keeps name old) (sym is) (held_keeps u n old name other (resized_words old other (units_for u len) (lacking (units_for u len))) (resized_keeps old name other (units_for u len) (lacking (units_for u len)) holds.1 apart))) lawful holds
+  pub stays_resized : (n len : ℕ) → new ≡ (resized_words old other n len).heap → Holds new name units
+  stays_resized n len is = kept name old new units (subst (Keeps name old) (sym is) (resized_keeps old name other n len holds.1 apart)) lawful holds

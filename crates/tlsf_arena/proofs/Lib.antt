@@ -1,4 +1,4 @@
-pub mod Apart
+pub mod Books
 pub mod Buffers
 pub mod Cell
 pub mod Holding
@@ -7,6 +7,7 @@ pub mod Maps
 pub mod Named
 pub mod Resizes
 pub mod Results
+pub mod Rights
 pub mod Rooms
 pub mod SameBlock
 pub mod Searching

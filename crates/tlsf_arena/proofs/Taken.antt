@@ -1,15 +1,15 @@
--- The two cases of what `take` gave, and a block as room for a type. Assumes `Logic`.
+-- The two cases of what `take` gave, and a piece as room for a type. Assumes `Logic`.
 use Rattle.std.proofs.Common.{◌+◌, ◌-◌, ◌*◌, ◌/◌, ◌%◌, ◌≡◌, ℕ, ◌^◌, ◌<◌, ◌≤◌, List, [], ◌∷◌, ◌++◌, IfSome, None, Some, refl, sym, ap, subst, ◌∙◌, arith}
 use seplogic.Ra.Ura.{Ura}
 use mir.Syntax.{Ty}
 use mir.Val.{Val, vcons, vnil, of_list, bytes}
 use base.Logic.{ent, sep}
-use base.Fml.{fex, fwand, froom}
+use base.Fml.{GName, fex, fwand, froom}
 use prog.Memory.{size, capped}
 use prog.Align.{Dv, dv→, dv_self, align_w, align-bytes, align_size}
 use prog.Capped.{capped_is, capped_small}
 use types.Logic.{Logic, sem}
-use types.Kit.{Item, Goal, Seq, ‵, ◌⊛◌, ◌$◌, ◌∵◌, !, qed, by, move, drop, use1, use2, split, frame, rewrite, fsplit, fjoin, fpick, fpack, feq_l, done}
+use types.Kit.{Item, Goal, Seq, ‵, ◌⊛◌, ◌$◌, ◌∵◌, !, qed, move, drop, use1, use2, split, frame, rewrite, fsplit, fjoin, fpick, fpack, feq_l, done}
 use types.Match.{live}
 use denote.RattleType.{RattleType}
 use denote.RawPtr.{Ptr, block_ptr}
@@ -17,19 +17,20 @@ use denote.Shadow.{pure_l}
 use denote.Steps.{only}
 use Rattle.core.specs.contracts.option.Option as option
 use Rattle.linked_list_allocator.specs.Region.{Region}
-use Rattle.tlsf_arena.specs.Places.{IsUnit, piece_size, IsPiece}
+use Rattle.tlsf_arena.specs.Places.{IsUnit, piece_size, units_for, IsPiece}
+use Rattle.tlsf_arena.specs.Loans.{Loan, name_of, units_of as units_in, right}
 use Rattle.linked_list_allocator.specs.Ownership.{bytes_at, units_of}
-use Rattle.tlsf_arena.specs.Ownership.{ints, ways, behind, block_token}
-use Rattle.tlsf_arena.specs.contracts.piece.Piece as block
+use Rattle.tlsf_arena.specs.Ownership.{Home, IsLoanAt, ints, ways, behind, block_token, whole_token}
+use Rattle.tlsf_arena.specs.contracts.grant.Grant as grant
 use Rattle.linked_list_allocator.proofs.Values.{sized_val, sized_own, sized_told}
 use Rattle.tlsf_arena.proofs.UnitCases.{piece_holds}
 use Rattle.tlsf_arena.proofs.Ways.{exact, opens, closes, ints_cut, ints_glue}
 
 abbrev pub Taken : RattleType
-Taken = option.the_row block.the_row
+Taken = option.the_row grant.the_row
 
-abbrev pub Told : ℕ → Region → ℕ → ℕ → Taken.Denot → Type 0
-Told u r n a x = IfSome x (λ b. (b.region ≡ r) × (b.size ≡ piece_size u n) × (n < 2 ^ 63) × (a ≤ 16))
+abbrev pub Told : ℕ → Home → ℕ → ℕ → Taken.Denot → Type 0
+Told u h n a x = IfSome x (λ g. (g.region ≡ h.0) × (g.book ≡ h.1) × (g.size ≡ piece_size u n) × (g.at ≡ g.region.start + u * (name_of g.loan).at) × (units_in g.loan ≡ units_for u n) × (n < 2 ^ 63) × (a ≤ 16))
 
 pub even : (τ : Ty) → size τ % bytes (align_w τ) ≡ 0
 even τ = dv→ (bytes (align_w τ)) (size τ) (subst (λ (k : ℕ). Dv k (size τ)) (align-bytes τ) (align_size τ))
@@ -45,7 +46,7 @@ from_ints 𝓛 τ b o = let w = align_w τ in
     qed 𝓛 (‵ (froom (ints w (size τ)) b o) ∷ []) ∵ use1 𝓛 (‵ (froom τ b o) ⊛ ‵ (fwand (froom τ b o) (froom (ints w (size τ)) b o)))
     (𝓛.laws.room_as (ints w (size τ)) τ b o (sym (exact w (size τ) (even τ))) (subst (λ (j : ℕ). Dv j (bytes w)) (sym (align-bytes τ)) (dv_self (bytes w)))) $ split ! $ move ! (1 ∷ []) $ drop ! $ done !
 
--- a piece is room for a type that fits, and the right to give it back
+-- a piece is room for a type that fits, and the way back
 pub fits_out : {M : Type 1} {𝓤 : Ura M} (𝓛 : Logic 𝓤) (u : ℕ) → IsUnit u → (r : Region) (τ : Ty) (at : ℕ) → IsPiece r (block_ptr r.block at) at (piece_size u (size τ))
     → ent 𝓤 (sem 𝓛 (bytes_at (block_ptr r.block at) (piece_size u (size τ)))) (sep 𝓤 (𝓛.H.room τ r.block at) (sem 𝓛 (block_token u r τ (block_ptr r.block at))))
 fits_out {𝓤 = 𝓤} 𝓛 u unit r τ at is =
@@ -80,26 +81,33 @@ takes_in {𝓤 = 𝓤} 𝓛 u unit r τ at grains =
     rewrite ! 0 (λ (n : ℕ). ‵ (froom (ints w n) r.block at)) (sym parts) refl $
     use2 𝓛 (‵ (froom (units_of (16 * k)) r.block at)) (closes 𝓛 w r.block at k) $ rewrite ! 0 (λ (n : ℕ). ‵ (froom (units_of n) r.block at)) (sym whole) refl $ done !
 
-pub hands_out : {M : Type 1} {𝓤 : Ura M} (𝓛 : Logic 𝓤) (u : ℕ) → IsUnit u → (r : Region) (τ : Ty) (at n : ℕ) → capped (size τ) ≡ n → IsPiece r (block_ptr r.block at) at (piece_size u n) → n < 2 ^ 63
-    → ent 𝓤 (sem 𝓛 (bytes_at (block_ptr r.block at) (piece_size u n))) (sep 𝓤 (𝓛.H.room τ r.block at) (sem 𝓛 (block_token u r τ (block_ptr r.block at))))
-hands_out {𝓤 = 𝓤} 𝓛 u unit r τ at n sized placed small =
+-- the same, with the right of its block, is what std's token stands for
+pub hands_out : {M : Type 1} {𝓤 : Ura M} (𝓛 : Logic 𝓤) (u : ℕ) → IsUnit u → (h : Home) (τ : Ty) (at n : ℕ) (t : Loan) → capped (size τ) ≡ n → IsPiece h.0 (block_ptr h.0.block at) at (piece_size u n) → IsLoanAt u h.0 (block_ptr h.0.block at) n t → n < 2 ^ 63
+    → ent 𝓤 (sep 𝓤 (sem 𝓛 (bytes_at (block_ptr h.0.block at) (piece_size u n))) (sem 𝓛 (right h.1 t))) (sep 𝓤 (𝓛.H.room τ h.0.block at) (sem 𝓛 (whole_token u h τ (block_ptr h.0.block at))))
+hands_out {𝓤 = 𝓤} 𝓛 u unit h τ at n t sized placed lent small =
+    let r : Region = h.0 in
     let p : Ptr = block_ptr r.block at in
     let short : size τ < 2 ^ 63 = capped_small (size τ) (omega arith) in
     let same : n ≡ size τ = sym sized ∙ capped_is (size τ) (omega arith) in
-    qed 𝓛 (‵ (bytes_at p (piece_size u n)) ∷ []) ∵ rewrite ! 0 (λ (k : ℕ). ‵ (bytes_at p (piece_size u k))) same refl $
-    by ! (fits_out 𝓛 u unit r τ at (subst (λ (k : ℕ). IsPiece r p at (piece_size u k)) same placed))
+    qed 𝓛 (‵ (bytes_at p (piece_size u n)) ∷ ‵ (right h.1 t) ∷ []) ∵ rewrite ! 0 (λ (k : ℕ). ‵ (bytes_at p (piece_size u k))) same refl $
+    use1 𝓛 (‵ (froom τ r.block at) ⊛ ‵ (block_token u r τ p)) (fits_out 𝓛 u unit r τ at (subst (λ (k : ℕ). IsPiece r p at (piece_size u k)) same placed)) $ split ! $ frame ! $ move ! (1 ∷ []) $
+    fpack ! (IsLoanAt u r p (size τ) t) (λ _. right h.1 t) (subst (λ (k : ℕ). IsLoanAt u r p k t) same lent) $ fpack ! Loan (λ s. fex (IsLoanAt u r p (size τ) s) (λ _. right h.1 s)) t $ move ! (1 ∷ 0 ∷ []) $ fjoin ! $ done !
 
 module _ {M : Type 1} {𝓤 : Ura M} {𝓛 : Logic 𝓤} {K : Type 0} {Γ : List (Item 𝓤)} {G : Goal 𝓤 𝓛.H} where
-  pub taken : K → (u : ℕ) (r : Region) (n a : ℕ) (x : Taken.Denot) (v : Val) → Told u r n a x
-      → ((at : ℕ) → IsPiece r (block_ptr r.block at) at (piece_size u n) → piece_size u n < 2 ^ 64 → n < 2 ^ 63 → a ≤ 16 → v ≡ live 1 (vcons (sized_val (block_ptr r.block at) (piece_size u n)) vnil)
-      → Seq K 𝓛 (‵ (bytes_at (block_ptr r.block at) (piece_size u n)) ∷ Γ) G) → (v ≡ live 0 vnil → Seq K 𝓛 Γ G) → Seq K 𝓛 (‵ (Taken.own_val x (v ∷ [])) ∷ Γ) G
-  taken t u r n a None v told some none =
+  pub taken : K → (u : ℕ) (h : Home) (n a : ℕ) (x : Taken.Denot) (v : Val) → Told u h n a x
+      → ((at : ℕ) (l : Loan) → IsPiece h.0 (block_ptr h.0.block at) at (piece_size u n) → IsLoanAt u h.0 (block_ptr h.0.block at) n l → piece_size u n < 2 ^ 64 → n < 2 ^ 63 → a ≤ 16 → v ≡ live 1 (vcons (sized_val (block_ptr h.0.block at) (piece_size u n)) vnil)
+      → Seq K 𝓛 (‵ (bytes_at (block_ptr h.0.block at) (piece_size u n)) ∷ ‵ (right h.1 l) ∷ Γ) G) → (v ≡ live 0 vnil → Seq K 𝓛 Γ G) → Seq K 𝓛 (‵ (Taken.own_val x (v ∷ [])) ∷ Γ) G
+  taken t u h n a None v told some none =
       fpick t (λ us. fsplit t $ feq_l t (λ is. fpick t (λ vss. fsplit t $ feq_l t (λ is'. drop t $ none (ap only is ∙ ap (λ (ws : List Val). live 0 (of_list ws)) is')))))
-  taken t u r n a (Some w) v told some none =
+  taken t u h n a (Some w) v told some none =
       fpick t (λ us. fsplit t $ feq_l t (λ is. fpick t (λ vss. fsplit t $ feq_l t (λ is'. fsplit t $ move t (1 ∷ []) $ drop t $ fsplit t $ pure_l t (sized_own w.ptr w.size vss.0) (λ s.
       let parts = sized_told w.ptr w.size vss.0 s in
+      let r : Region = h.0 in
+      let long : w.size ≡ piece_size u n = told.2 in
       let lies : w.ptr ≡ block_ptr r.block w.at = w.placed.0 ∙ ap (λ (g : Region). block_ptr g.block w.at) told.0 in
-      let placed : IsPiece r (block_ptr r.block w.at) w.at (piece_size u n) = subst (λ (g : Region × Ptr × ℕ). IsPiece g.0 g.1 w.at g.2) (λ i. (told.0 i, lies i, told.1 i)) w.placed in
-      rewrite t 0 (λ (g : Ptr × ℕ). ‵ (bytes_at g.0 g.1)) (λ i. (lies i, told.1 i)) refl $
-      some w.at placed (subst (λ (k : ℕ). k < 2 ^ 64) told.1 parts.1) told.2 told.3
-      (ap only is ∙ ap (λ (xs : List Val). live 1 (of_list xs)) (is' ∙ ap (λ (xs : List Val). xs ++ []) parts.0) ∙ (λ i. live 1 (vcons (sized_val (lies i) (told.1 i)) vnil))))))))
+      let placed : IsPiece r (block_ptr r.block w.at) w.at (piece_size u n) = subst (λ (g : Region × Ptr × ℕ). IsPiece g.0 g.1 w.at g.2) (λ i. (told.0 i, lies i, long i)) w.placed in
+      let begins : w.at ≡ r.start + u * (name_of w.loan).at = told.3 ∙ ap (λ (g : Region). g.start + u * (name_of w.loan).at) told.0 in
+      let lent : IsLoanAt u r (block_ptr r.block w.at) n w.loan = (ap (block_ptr r.block) begins, told.4) in
+      fsplit t $ rewrite t 0 (λ (g : Ptr × ℕ). ‵ (bytes_at g.0 g.1)) (λ i. (lies i, long i)) refl $ rewrite t 1 (λ (γ : GName). ‵ (right γ w.loan)) told.1 refl $
+      some w.at w.loan placed lent (subst (λ (k : ℕ). k < 2 ^ 64) long parts.1) told.5 told.6
+      (ap only is ∙ ap (λ (xs : List Val). live 1 (of_list xs)) (is' ∙ ap (λ (xs : List Val). xs ++ []) parts.0) ∙ (λ i. live 1 (vcons (sized_val (lies i) (long i)) vnil))))))))

@@ -95,11 +95,6 @@ serial_in (Some block) = serial_by block.content
 abbrev pub serial_at : List Block → ℕ → Option ℕ
 serial_at blocks at = serial_in (placed_at blocks at)
 
--- whether these are units of u bytes each, n bytes in all
-abbrev pub is_held : ℕ → ℕ → Option ℕ → Bool
-is_held u n None = false
-is_held u n (Some units) = u * units == n
-
 -- the size of a free block, or 0
 abbrev pub free_size : ℕ → Content → ℕ
 free_size size (content.Live serial len) = 0

@@ -3,18 +3,21 @@ ghost use denote.RawPtr.{block_of, count_of, InBlock};
 ghost use Rattle.linked_list_allocator.specs.Region.{region_of};
 ghost use Rattle.tlsf_class.specs.Classes.{IsLevel};
 ghost use Rattle.tlsf_heap.specs.Blocks.{HeapState};
-ghost use Rattle.tlsf_heap.specs.Calls.{last_tick, opened, resized_words};
+ghost use Rattle.tlsf_heap.specs.Calls.{last_tick, opened, released, resized_words};
 ghost use Rattle.tlsf_heap.specs.GoodFit.{fits};
 ghost use Rattle.tlsf_heap.specs.Lawful.{IsLawful, IsRegion};
 ghost use Rattle.tlsf_heap.specs.Placed.{placed_at};
 ghost use Rattle.tlsf_heap.specs.Reports.{report_of};
 ghost use Rattle.tlsf_heap.specs.declared.name.Name.{Name};
-ghost use Rattle.tlsf_arena.specs.Arenas.{Holds, SameArena, if_held, released_block, requested, resized_block};
-ghost use Rattle.tlsf_arena.specs.Places.{IsPiece, IsRun, IsUnit, lacking, units_for, piece_size, held_at, serial_at, free_in, free_map, grain_of, spread};
+ghost use Rattle.tlsf_arena.specs.Arenas.{Holds, SameArena, SameHome, refitted, requested};
+ghost use Rattle.tlsf_arena.specs.Loans.{IsLoan, loan_of, name_of, units_of};
+ghost use Rattle.tlsf_arena.specs.Places.{IsPiece, IsUnit, lacking, units_for, piece_size, held_at, serial_at, free_in};
 
 use crate::block::Block;
+use crate::book::{Book, Entry, Refit, lend_entry, refit_entry};
 use crate::memory::{GRAIN, Lease, Memory};
 use crate::piece::Piece;
+use crate::right::Right;
 use crate::search::unit_at;
 use crate::space::{Run, Space, lend_run};
 use crate::units::{bytes_of, grains_before, held_units, lacking, units_of};
@@ -31,11 +34,13 @@ use tlsf_heap::{Content, Heap, Name, OpenFault, PlacedBlock, Refusal, Report};
 /// The level is the heap's, 4 or 5, and a unit has 16, 32 or 64 bytes. The heap's words hold its headers and no payload, and the memory
 /// holds payload and no headers.
 ///
-/// Contracts see it as its heap, the region of its memory, the heap's touches, and how often an address was compared with that of a unit.
+/// Contracts see it as its heap, the region of its memory, the book in which its blocks stand, the heap's touches, and how often an address
+/// was compared with that of a unit.
 /// The bytes of the units that no live block holds are the arena's; those of a block are its holder's alone.
 pub struct Arena<const SLI: u32, const UNIT: usize> {
     heap: Box<Heap<SLI>, Global>,
     space: Space,
+    book: Book,
     base: *mut u8,
     id: u32,
     units: u32,
@@ -48,12 +53,13 @@ pub struct Arena<const SLI: u32, const UNIT: usize> {
 impl<const SLI: u32, const UNIT: usize> Model for Arena<SLI, UNIT> {
     ghost use Rattle.std.specs.Prelude.{◌≡◌, ◌*◌, IfSome};
     ghost use Rattle.tlsf_arena.specs.Arenas.{ArenaState, IsMapped};
+    ghost use Rattle.tlsf_arena.specs.Loans.{IsBook};
 
     ghost Value = { ArenaState };
 
-    ghost view = { λ a. record { heap = a.heap.value.heap; region = a.space.region; touches = a.heap.value.touches; compared = a.compared.count } };
+    ghost view = { λ a. record { heap = a.heap.value.heap; region = a.space.region; book = a.book.name; touches = a.heap.value.touches; compared = a.compared.count } };
 
-    ghost invariant = { λ a. IsMapped SLI UNIT a.units a.heap.value.heap a.space.free × ((a.space.base ≡ a.base) × IfSome a.lease (λ l. (l.alloc ≡ a.alloc) × ((l.ptr ≡ a.base) × (l.size ≡ UNIT * a.units)))) × (a.id ≡ a.heap.value.heap.id) };
+    ghost invariant = { λ a. IsMapped SLI UNIT a.units a.heap.value.heap a.space.free × ((a.space.base ≡ a.base) × IfSome a.lease (λ l. (l.alloc ≡ a.alloc) × ((l.ptr ≡ a.base) × (l.size ≡ UNIT * a.units)))) × (a.id ≡ a.heap.value.heap.id) × IsBook a.book.out a.heap.value.heap };
 }
 
 impl<const SLI: u32, const UNIT: usize> Arena<SLI, UNIT> {
@@ -89,6 +95,7 @@ impl<const SLI: u32, const UNIT: usize> Arena<SLI, UNIT> {
         Ok(Arena {
             heap,
             space,
+            book: Book::new(),
             base,
             id,
             units,
@@ -133,6 +140,7 @@ impl<const SLI: u32, const UNIT: usize> Arena<SLI, UNIT> {
         Ok(Arena {
             heap,
             space,
+            book: Book::new(),
             base,
             id,
             units,
@@ -153,6 +161,7 @@ impl<const SLI: u32, const UNIT: usize> Arena<SLI, UNIT> {
         let Arena {
             heap,
             space,
+            book,
             base,
             id,
             units,
@@ -171,6 +180,7 @@ impl<const SLI: u32, const UNIT: usize> Arena<SLI, UNIT> {
         Err(Arena {
             heap,
             space,
+            book,
             base,
             id,
             units,
@@ -200,10 +210,10 @@ impl<const SLI: u32, const UNIT: usize> Arena<SLI, UNIT> {
         ensures no_fit { IsErrOf result Refusal.NoFit ↔ (fits SLI (units_for UNIT len) self.old.heap.blocks ≡ []) }
         ensures accepted { IsOk result ↔ (¬ (fits SLI (units_for UNIT len) self.old.heap.blocks ≡ []) × ¬ (self.old.heap.tick ≡ last_tick)) }
         ensures err { OnErr result (self.new.heap ≡ self.old.heap) }
-        ensures block { IfOk result (λ b. (b.piece.region ≡ self.old.region) × (b.piece.size ≡ piece_size UNIT len)) }
+        ensures block { IfOk result (λ b. (b.piece.region ≡ self.old.region) × (b.right.book ≡ self.old.book) × (b.piece.size ≡ piece_size UNIT len)) }
         ensures holds { IfOk result (λ b. Holds self.new.heap b.name (units_for UNIT len)) }
         ensures others { (other : Name) (units : ℕ) → Holds self.old.heap other units → Holds self.new.heap other units }
-        ensures region { self.new.region ≡ self.old.region }
+        ensures home { SameHome self.old self.new }
 
         // Accepted or refused, whatever the length: at most 64 touches.
         ensures touches { self.new.touches ≤ self.old.touches + 64 }
@@ -217,140 +227,150 @@ impl<const SLI: u32, const UNIT: usize> Arena<SLI, UNIT> {
             size: bytes_of(units, UNIT),
         };
         let piece = replace_with(&mut self.space, run, lend_run);
-        Ok(Block { name, piece })
+        let right = replace_with(&mut self.book, Entry { name, units }, lend_entry);
+        Ok(Block { name, piece, right })
     }
 
     /// Takes a block back, and merges its units with the free ones beside them.
     ///
-    /// Refused, with the block, as `Stale` where no live block of so many units begins at its place, else as `Foreign` where its name is
-    /// of another heap, else as `Stale` where its serial isn't that of the live block, else as `Worn` where the tick is at its last value.
-    /// So a block that an arena gave is refused for nothing but Worn. Takes no memory.
+    /// A block that is out is live, as its right shows (`live`): so it is refused, and comes back, for nothing but `Worn`, where the tick is at
+    /// its last value. Takes no memory.
     ///
     /// ```text
     /// let block = arena.allocate(100)?;
     /// arena.release(block).is_ok()
     /// ```
     pub fn release(&mut self, block: Block<UNIT>) -> Result<(), (Refusal, Block<UNIT>)>
-        requires { block.piece.region ≡ self.old.region }
-        ensures answer { MatchResult result (λ _. (released_block UNIT self.old.heap block.entry.name block.entry.piece.size).answer ≡ Ok tt) (λ e. (released_block UNIT self.old.heap block.entry.name block.entry.piece.size).answer ≡ Err e.0) }
-        ensures heap { self.new.heap ≡ (released_block UNIT self.old.heap block.entry.name block.entry.piece.size).heap }
+        requires region { block.piece.region ≡ self.old.region }
+        requires book { block.right.book ≡ self.old.book }
+        ensures answer { MatchResult result (λ _. (released self.old.heap block.entry.name).answer ≡ Ok tt) (λ e. (released self.old.heap block.entry.name).answer ≡ Err e.0) }
+        ensures heap { self.new.heap ≡ (released self.old.heap block.entry.name).heap }
 
-        // What that comes to: a refusal changes nothing and gives the block back, and a block that is held is refused at the last tick alone.
+        // What that comes to: a block that is out is live, and a refusal, which comes at the last tick alone, changes nothing and gives it back.
+        ensures live { Holds self.old.heap block.entry.name (units_of block.entry.right.loan) }
+        ensures worn { IfErr result (λ e. e.0 ≡ Refusal.Worn) }
         ensures err { IfErr result (λ e. (self.new.heap ≡ self.old.heap) × (e.1 ≡ block.entry)) }
-        ensures held { IfErr result (λ e. (units : ℕ) → block.entry.piece.size ≡ UNIT * units → Holds self.old.heap block.entry.name units → e.0 ≡ Refusal.Worn) }
         ensures others { (other : Name) (units : ℕ) → other ≢ block.entry.name → Holds self.old.heap other units → Holds self.new.heap other units }
-        ensures region { self.new.region ≡ self.old.region }
-        ensures touches { self.new.touches ≤ self.old.touches + 64 }
+        ensures home { SameHome self.old self.new }
+        ensures touches { self.new.touches ≤ self.old.touches + 60 }
         ensures touches_rise { self.old.touches ≤ self.new.touches }
     {
-        let Block { name, piece } = block;
-        match self.give(name, piece) {
+        let Block { name, piece, right } = block;
+        match self.give(name, piece, right) {
             Ok(()) => Ok(()),
-            Err((why, piece)) => Err((why, Block { name, piece })),
+            Err((why, piece, right)) => Err((why, Block { name, piece, right })),
         }
     }
 
     /// Takes a piece back under the name of its block.
-    fn give(&mut self, name: Name, piece: Piece) -> Result<(), (Refusal, Piece)>
+    fn give(
+        &mut self,
+        name: Name,
+        piece: Piece,
+        right: Right,
+    ) -> Result<(), (Refusal, Piece, Right)>
         requires region { piece.region ≡ self.old.region }
+        requires book { right.book ≡ self.old.book }
+        requires loan { IsLoan UNIT right.loan name piece.size }
         requires place { piece.at ≡ piece.region.start + UNIT * name.at }
-        ensures answer { MatchResult result (λ _. (released_block UNIT self.old.heap name piece.size).answer ≡ Ok tt) (λ e. (released_block UNIT self.old.heap name piece.size).answer ≡ Err e.0) }
-        ensures heap { self.new.heap ≡ (released_block UNIT self.old.heap name piece.size).heap }
-        ensures err { IfErr result (λ e. (self.new.heap ≡ self.old.heap) × (e.1 ≡ piece)) }
-        ensures held { IfErr result (λ e. (units : ℕ) → piece.size ≡ UNIT * units → Holds self.old.heap name units → e.0 ≡ Refusal.Worn) }
+        ensures answer { MatchResult result (λ _. (released self.old.heap name).answer ≡ Ok tt) (λ e. (released self.old.heap name).answer ≡ Err e.0) }
+        ensures heap { self.new.heap ≡ (released self.old.heap name).heap }
+        ensures live { Holds self.old.heap name (units_of right.loan) }
+        ensures worn { IfErr result (λ e. e.0 ≡ Refusal.Worn) }
+        ensures err { IfErr result (λ e. (self.new.heap ≡ self.old.heap) × (e.1 ≡ piece) × (e.2 ≡ right)) }
         ensures lawful { IsLawful self.new.heap }
-        ensures region { self.new.region ≡ self.old.region }
-        ensures touches { self.new.touches ≤ self.old.touches + 64 }
-        ensures touches_rise { self.old.touches ≤ self.new.touches }
-    {
-        let Some((_, units)) = self.held_block(name.at) else {
-            return Err((Refusal::Stale, piece));
-        };
-        self.give_held(name, units, piece)
-    }
-
-    /// Takes a piece back, of which the live block at its place holds so many units.
-    fn give_held(&mut self, name: Name, units: u32, piece: Piece) -> Result<(), (Refusal, Piece)>
-        requires region { piece.region ≡ self.old.region }
-        requires place { piece.at ≡ piece.region.start + UNIT * name.at }
-        requires units { held_at self.old.heap.blocks name.at ≡ Some units }
-        requires lawful { IsLawful self.old.heap }
-        requires unit { IsUnit UNIT }
-        ensures answer { MatchResult result (λ _. (released_block UNIT self.old.heap name piece.size).answer ≡ Ok tt) (λ e. (released_block UNIT self.old.heap name piece.size).answer ≡ Err e.0) }
-        ensures heap { self.new.heap ≡ (released_block UNIT self.old.heap name piece.size).heap }
-        ensures err { IfErr result (λ e. (self.new.heap ≡ self.old.heap) × (e.1 ≡ piece)) }
-        ensures held { IfErr result (λ e. (units : ℕ) → piece.size ≡ UNIT * units → Holds self.old.heap name units → e.0 ≡ Refusal.Worn) }
-        ensures lawful { IsLawful self.new.heap }
-        ensures region { self.new.region ≡ self.old.region }
+        ensures home { SameHome self.old self.new }
         ensures compared { self.new.compared ≡ self.old.compared }
         ensures touches { self.new.touches ≤ self.old.touches + 60 }
         ensures touches_rise { self.old.touches ≤ self.new.touches }
     {
-        let (size, piece) = piece.with_size();
-        if bytes_of(units, UNIT) != size {
-            return Err((Refusal::Stale, piece));
-        }
+        let right = replace_with(&mut self.book, right, Book::beside);
         match self.heap.release(name) {
             Ok(()) => {
                 replace_with(&mut self.space, piece, Space::take_back);
+                replace_with(&mut self.book, right, Book::take_back);
                 Ok(())
             }
-            Err(why) => Err((why, piece)),
+            Err(why) => Err((why, piece, right)),
         }
     }
 
-    /// Takes a piece back that has lost its name: its address tells the place. Two places are tried first, as those of blocks that went out
-    /// last, else the place is sought by halves. At most 27 comparisons of addresses, whatever the arena holds.
+    /// Takes a block back that has lost its name: the address of its piece tells the place. Two places are tried first, as those of blocks
+    /// that went out last, else the place is sought by halves. At most 27 comparisons of addresses, whatever the arena holds.
     ///
-    /// It goes as [`Arena::release`] of the block that begins at that place, with the name that the heap has for it: so a piece of a block
-    /// that is held is refused for nothing but Worn. Refused, with the piece, as `Stale` where no live block of so many units begins there.
+    /// It goes as [`Arena::release`] of the block: so it is refused, and comes back, for nothing but `Worn`.
     ///
     /// ```text
-    /// let Block { name, piece } = arena.allocate(100)?;
-    /// arena.release_at(piece, (name.at, 0)).is_ok()
+    /// let Block { name, piece, right } = arena.allocate(100)?;
+    /// arena.release_at(piece, right, (name.at, 0)).is_ok()
     /// ```
-    pub fn release_at(&mut self, piece: Piece, guesses: (u32, u32)) -> Result<(), (Refusal, Piece)>
-        requires { piece.region ≡ self.old.region }
-        ensures answer { (name : Name) (units : ℕ) → piece.at ≡ piece.region.start + UNIT * name.at → Holds self.old.heap name units → MatchResult result (λ _. (released_block UNIT self.old.heap name piece.size).answer ≡ Ok tt) (λ e. (released_block UNIT self.old.heap name piece.size).answer ≡ Err e.0) }
-        ensures heap { (name : Name) (units : ℕ) → piece.at ≡ piece.region.start + UNIT * name.at → Holds self.old.heap name units → self.new.heap ≡ (released_block UNIT self.old.heap name piece.size).heap }
+    pub fn release_at(
+        &mut self,
+        piece: Piece,
+        right: Right,
+        guesses: (u32, u32),
+    ) -> Result<(), (Refusal, Piece, Right)>
+        requires region { piece.region ≡ self.old.region }
+        requires book { right.book ≡ self.old.book }
+        requires loan { piece.size ≡ UNIT * units_of right.loan }
+        requires place { piece.at ≡ piece.region.start + UNIT * (name_of right.loan).at }
+        ensures answer { MatchResult result (λ _. (released self.old.heap (name_of right.loan)).answer ≡ Ok tt) (λ e. (released self.old.heap (name_of right.loan)).answer ≡ Err e.0) }
+        ensures heap { self.new.heap ≡ (released self.old.heap (name_of right.loan)).heap }
 
-        // What that comes to: a refusal changes nothing and gives the piece back, and that of a block that is held is refused at the last
-        // tick alone. Live blocks hold all that a piece has, so it never comes back a second time.
-        ensures err { IfErr result (λ e. (self.new.heap ≡ self.old.heap) × (e.1 ≡ piece)) }
-        ensures held { IfErr result (λ e. (name : Name) (units : ℕ) → piece.at ≡ piece.region.start + UNIT * name.at → piece.size ≡ UNIT * units → Holds self.old.heap name units → e.0 ≡ Refusal.Worn) }
-        ensures lent { IsRun (spread (UNIT / 16) (free_map self.old.heap.blocks)) (grain_of self.old.region piece.at) (piece.size / 16) false }
-        ensures region { self.new.region ≡ self.old.region }
+        // What that comes to: a block that is out is live, and a refusal, which comes at the last tick alone, changes nothing and gives it back.
+        ensures live { Holds self.old.heap (name_of right.loan) (units_of right.loan) }
+        ensures worn { IfErr result (λ e. e.0 ≡ Refusal.Worn) }
+        ensures err { IfErr result (λ e. (self.new.heap ≡ self.old.heap) × (e.1 ≡ piece) × (e.2 ≡ right)) }
+        ensures home { SameHome self.old self.new }
 
         // However many units there are: at most 27 comparisons, and 64 touches.
         ensures compared { self.new.compared ≤ self.old.compared + 27 }
         ensures touches { self.new.touches ≤ self.old.touches + 64 }
         ensures touches_rise { self.old.touches ≤ self.new.touches }
     {
-        let (ptr, piece) = self.lent(piece).with_ptr();
-        let Some((name, held)) = self.live_at(ptr, guesses) else {
-            return Err((Refusal::Stale, piece));
-        };
-        self.give_held(name, held, piece)
+        let (ptr, piece) = piece.with_ptr();
+        let (name, right) = self.found(ptr, right, guesses);
+        self.give(name, piece, right)
     }
 
-    /// Nothing is done: whoever has a piece knows that live blocks hold all of it.
+    /// The name of a block that is out, by its address, and its right again. The place is sought where neither of two guesses is it.
+    fn found(&mut self, ptr: *mut u8, right: Right, guesses: (u32, u32)) -> (Name, Right)
+        requires pointer { InBlock ptr × (block_of ptr ≡ self.old.region.block) × (count_of ptr < 2 ^ 63) }
+        requires book { right.book ≡ self.old.book }
+        requires place { count_of ptr ≡ self.old.region.start + UNIT * (name_of right.loan).at }
+        ensures name { result.0 ≡ name_of right.loan }
+        ensures right { result.1 ≡ right }
+        ensures live { Holds self.old.heap (name_of right.loan) (units_of right.loan) }
+        ensures same { SameArena self.old self.new }
+        ensures compared { self.new.compared ≤ self.old.compared + 27 }
+        ensures touches { self.new.touches ≤ self.old.touches + 4 }
+        ensures touches_rise { self.old.touches ≤ self.new.touches }
+    {
+        let right = self.known(right);
+        let Some((name, _)) = self.live_at(ptr, guesses) else {
+            unreachable!();
+        };
+        (name, right)
+    }
+
+    /// Nothing is done: whoever has a right knows that its block is live.
     #[inline(always)]
-    fn lent(&mut self, piece: Piece) -> Piece
-        requires { piece.region ≡ self.old.region }
-        ensures lent { IsRun (spread (UNIT / 16) (free_map self.old.heap.blocks)) (grain_of self.old.region piece.at) (piece.size / 16) false }
-        ensures piece { result ≡ piece }
+    fn known(&mut self, right: Right) -> Right
+        requires { right.book ≡ self.old.book }
+        ensures live { Holds self.old.heap (name_of right.loan) (units_of right.loan) }
+        ensures right { result ≡ right }
         ensures same { SameArena self.old self.new }
         ensures compared { self.new.compared ≡ self.old.compared }
         ensures touches { self.new.touches ≡ self.old.touches }
     {
-        replace_with(&mut self.space, piece, Space::beside)
+        replace_with(&mut self.book, right, Book::beside)
     }
 
     /// Makes a block `len` bytes long or more where it stands: its name and its address stay, and no byte is moved. It then has as many whole
     /// units as hold `len` bytes, and no fewer than four.
     ///
-    /// Refused, with the block, as `Stale` or `Foreign` where [`Arena::release`] refuses it so, else as `NoRoom` where the block and the free
-    /// units behind it are fewer than wanted, else as `Worn` where the tick is at its last value. Takes no memory.
+    /// A block that is out is live (`live`). Refused, with the block, as `NoRoom` where it and the free units behind it are fewer than
+    /// wanted, else as `Worn` where the tick is at its last value. Takes no memory.
     ///
     /// ```text
     /// let block = arena.allocate(100)?;        // of a new arena of 64 units of 16 bytes: 7 of them
@@ -361,254 +381,209 @@ impl<const SLI: u32, const UNIT: usize> Arena<SLI, UNIT> {
         block: Block<UNIT>,
         len: u32,
     ) -> Result<Block<UNIT>, (Refusal, Block<UNIT>)>
-        requires { block.piece.region ≡ self.old.region }
-        ensures answer { MatchResult result (λ _. (resized_block UNIT self.old.heap block.entry.name block.entry.piece.size len).answer ≡ Ok tt) (λ e. (resized_block UNIT self.old.heap block.entry.name block.entry.piece.size len).answer ≡ Err e.0) }
-        ensures heap { self.new.heap ≡ (resized_block UNIT self.old.heap block.entry.name block.entry.piece.size len).heap }
+        requires region { block.piece.region ≡ self.old.region }
+        requires book { block.right.book ≡ self.old.book }
+        ensures answer { MatchResult result (λ _. (refitted UNIT self.old.heap block.entry.name len).answer ≡ Ok tt) (λ e. (refitted UNIT self.old.heap block.entry.name len).answer ≡ Err e.0) }
+        ensures heap { self.new.heap ≡ (refitted UNIT self.old.heap block.entry.name len).heap }
 
         // What that comes to.
-        ensures block { IfOk result (λ b. (b.name ≡ block.entry.name) × (b.piece.region ≡ self.old.region) × (b.piece.at ≡ block.entry.piece.at) × (b.piece.size ≡ piece_size UNIT len)) }
+        ensures block { IfOk result (λ b. (b.name ≡ block.entry.name) × (b.piece.region ≡ self.old.region) × (b.right.book ≡ self.old.book) × (b.piece.at ≡ block.entry.piece.at) × (b.piece.size ≡ piece_size UNIT len)) }
+        ensures live { Holds self.old.heap block.entry.name (units_of block.entry.right.loan) }
+        ensures named { IfErr result (λ e. (e.0 ≢ Refusal.Stale) × (e.0 ≢ Refusal.Foreign)) }
         ensures err { IfErr result (λ e. (self.new.heap ≡ self.old.heap) × (e.1 ≡ block.entry)) }
-        ensures held { IfErr result (λ e. (units : ℕ) → block.entry.piece.size ≡ UNIT * units → Holds self.old.heap block.entry.name units → (e.0 ≢ Refusal.Stale) × (e.0 ≢ Refusal.Foreign)) }
         ensures others { (other : Name) (units : ℕ) → other ≢ block.entry.name → Holds self.old.heap other units → Holds self.new.heap other units }
-        ensures region { self.new.region ≡ self.old.region }
-        ensures touches { self.new.touches ≤ self.old.touches + 68 }
+        ensures home { SameHome self.old self.new }
+        ensures touches { self.new.touches ≤ self.old.touches + 64 }
         ensures touches_rise { self.old.touches ≤ self.new.touches }
     {
-        let Block { name, piece } = block;
-        match self.refit(name, piece, len) {
-            Ok(piece) => Ok(Block { name, piece }),
-            Err((why, piece)) => Err((why, Block { name, piece })),
+        let Block { name, piece, right } = block;
+        match self.refit(name, len, piece, right) {
+            Ok((piece, right)) => Ok(Block { name, piece, right }),
+            Err((why, piece, right)) => Err((why, Block { name, piece, right })),
         }
     }
 
     /// Lends the units for `len` bytes from the place of a piece on, under the name of its block.
-    fn refit(&mut self, name: Name, piece: Piece, len: u32) -> Result<Piece, (Refusal, Piece)>
-        requires region { piece.region ≡ self.old.region }
-        requires place { piece.at ≡ piece.region.start + UNIT * name.at }
-        ensures answer { MatchResult result (λ _. (resized_block UNIT self.old.heap name piece.size len).answer ≡ Ok tt) (λ e. (resized_block UNIT self.old.heap name piece.size len).answer ≡ Err e.0) }
-        ensures heap { self.new.heap ≡ (resized_block UNIT self.old.heap name piece.size len).heap }
-        ensures piece { IfOk result (λ p. (p.region ≡ self.old.region) × (p.at ≡ piece.at) × (p.size ≡ piece_size UNIT len)) }
-        ensures err { IfErr result (λ e. (self.new.heap ≡ self.old.heap) × (e.1 ≡ piece)) }
-        ensures held { IfErr result (λ e. (units : ℕ) → piece.size ≡ UNIT * units → Holds self.old.heap name units → (e.0 ≢ Refusal.Stale) × (e.0 ≢ Refusal.Foreign)) }
-        ensures lawful { IsLawful self.new.heap }
-        ensures region { self.new.region ≡ self.old.region }
-        ensures touches { self.new.touches ≤ self.old.touches + 68 }
-        ensures touches_rise { self.old.touches ≤ self.new.touches }
-    {
-        let Some((_, held)) = self.held_block(name.at) else {
-            return Err((Refusal::Stale, piece));
-        };
-        let units = units_of(len as usize, UNIT) as u32;
-        self.refit_held(name, held, units, piece)
-    }
-
-    /// Lends so many units from the place of a piece on, of which the live block there holds `held`.
-    fn refit_held(
+    fn refit(
         &mut self,
         name: Name,
-        held: u32,
-        units: u32,
+        len: u32,
         piece: Piece,
-    ) -> Result<Piece, (Refusal, Piece)>
+        right: Right,
+    ) -> Result<(Piece, Right), (Refusal, Piece, Right)>
         requires region { piece.region ≡ self.old.region }
+        requires book { right.book ≡ self.old.book }
+        requires loan { IsLoan UNIT right.loan name piece.size }
         requires place { piece.at ≡ piece.region.start + UNIT * name.at }
-        requires held { held_at self.old.heap.blocks name.at ≡ Some held }
-        requires least { 4 ≤ units }
-        requires lawful { IsLawful self.old.heap }
-        requires unit { IsUnit UNIT }
-        ensures answer { MatchResult result (λ _. (if_held UNIT self.old.heap name piece.size (resized_words self.old.heap name units (lacking units))).answer ≡ Ok tt) (λ e. (if_held UNIT self.old.heap name piece.size (resized_words self.old.heap name units (lacking units))).answer ≡ Err e.0) }
-        ensures heap { self.new.heap ≡ (if_held UNIT self.old.heap name piece.size (resized_words self.old.heap name units (lacking units))).heap }
-        ensures piece { IfOk result (λ p. (p.region ≡ self.old.region) × (p.at ≡ piece.at) × (p.size ≡ UNIT * units)) }
-        ensures err { IfErr result (λ e. (self.new.heap ≡ self.old.heap) × (e.1 ≡ piece)) }
-        ensures named { IfErr result (λ e. (units : ℕ) → piece.size ≡ UNIT * units → Holds self.old.heap name units → (e.0 ≢ Refusal.Stale) × (e.0 ≢ Refusal.Foreign)) }
+        ensures answer { MatchResult result (λ _. (refitted UNIT self.old.heap name len).answer ≡ Ok tt) (λ e. (refitted UNIT self.old.heap name len).answer ≡ Err e.0) }
+        ensures heap { self.new.heap ≡ (refitted UNIT self.old.heap name len).heap }
+        ensures piece { IfOk result (λ r. (r.0.region ≡ self.old.region) × (r.0.at ≡ piece.at) × (r.0.size ≡ piece_size UNIT len)) }
+        ensures right { IfOk result (λ r. (r.1.book ≡ self.old.book) × (r.1.loan ≡ loan_of name (units_for UNIT len))) }
+        ensures live { Holds self.old.heap name (units_of right.loan) }
+        ensures named { IfErr result (λ e. (e.0 ≢ Refusal.Stale) × (e.0 ≢ Refusal.Foreign)) }
+        ensures err { IfErr result (λ e. (self.new.heap ≡ self.old.heap) × (e.1 ≡ piece) × (e.2 ≡ right)) }
         ensures lawful { IsLawful self.new.heap }
-        ensures region { self.new.region ≡ self.old.region }
+        ensures home { SameHome self.old self.new }
         ensures touches { self.new.touches ≤ self.old.touches + 64 }
         ensures touches_rise { self.old.touches ≤ self.new.touches }
     {
-        let (size, piece) = piece.with_size();
-        if bytes_of(held, UNIT) != size {
-            return Err((Refusal::Stale, piece));
-        }
+        let right = replace_with(&mut self.book, right, Book::beside);
+        let units = units_of(len as usize, UNIT) as u32;
         match self.heap.resize_words(name, units, lacking(units)) {
             Ok(()) => {
                 replace_with(&mut self.space, piece, Space::take_back);
                 let at = grains_before(name.at, UNIT);
                 let size = bytes_of(units, UNIT);
-                Ok(replace_with(&mut self.space, Run { at, size }, lend_run))
+                let piece = replace_with(&mut self.space, Run { at, size }, lend_run);
+                let entry = Entry { name, units };
+                let right = replace_with(&mut self.book, Refit { right, entry }, refit_entry);
+                Ok((piece, right))
             }
-            Err(why) => Err((why, piece)),
+            Err(why) => Err((why, piece, right)),
         }
     }
 
     /// Makes a block `len` bytes long or more where it stands, and lends the units that it is to have besides: the `size` bytes before them stay
-    /// their owner's, with all that lies in them. It then has as many whole units as hold `len` bytes, more than before.
+    /// their owner's, with all that lies in them. It then has as many whole units as hold `len` bytes, more than before. Its right comes
+    /// back with them.
     ///
-    /// Refused as [`Arena::resize`] refuses a block of that name and of `size` bytes. Takes no memory.
+    /// Refused, with the right, as [`Arena::resize`] refuses a block of that name. Takes no memory.
     ///
     /// ```text
-    /// let block = arena.allocate(100)?;        // of a new arena of 64 units of 16 bytes: 7 of them
-    /// let (ptr, size) = block.piece.into_raw_parts();
-    /// let rest = arena.extend(block.name, size, 200)?;     // 6 more, at ptr + size
+    /// let Block { name, piece, right } = arena.allocate(100)?;     // of a new arena of 64 units of 16 bytes: 7 of them
+    /// let (ptr, size) = piece.into_raw_parts();
+    /// let (rest, right) = arena.extend(name, right, size, 200)?;   // 6 more, at ptr + size
     /// ```
-    pub fn extend(&mut self, name: Name, size: usize, len: u32) -> Result<Piece, Refusal>
-        requires longer { size < piece_size UNIT len }
-        ensures answer { MatchResult result (λ _. (resized_block UNIT self.old.heap name size len).answer ≡ Ok tt) (λ why. (resized_block UNIT self.old.heap name size len).answer ≡ Err why) }
-        ensures heap { self.new.heap ≡ (resized_block UNIT self.old.heap name size len).heap }
-
-        // What that comes to.
-        ensures rest { IfOk result (λ p. (p.region ≡ self.old.region) × (p.at ≡ self.old.region.start + UNIT * name.at + size) × (size + p.size ≡ piece_size UNIT len)) }
-        ensures err { OnErr result (self.new.heap ≡ self.old.heap) }
-        ensures held { IfErr result (λ why. (units : ℕ) → size ≡ UNIT * units → Holds self.old.heap name units → (why ≢ Refusal.Stale) × (why ≢ Refusal.Foreign)) }
-        ensures others { (other : Name) (units : ℕ) → other ≢ name → Holds self.old.heap other units → Holds self.new.heap other units }
-        ensures region { self.new.region ≡ self.old.region }
-        ensures touches { self.new.touches ≤ self.old.touches + 68 }
-        ensures touches_rise { self.old.touches ≤ self.new.touches }
-    {
-        let Some((_, held)) = self.held_block(name.at) else {
-            return Err(Refusal::Stale);
-        };
-        self.extend_held(name, held, size, units_of(len as usize, UNIT) as u32)
-    }
-
-    /// Lends the units behind a block that holds `held`, so that it has so many.
-    fn extend_held(
+    pub fn extend(
         &mut self,
         name: Name,
-        held: u32,
+        right: Right,
         size: usize,
-        units: u32,
-    ) -> Result<Piece, Refusal>
-        requires held { held_at self.old.heap.blocks name.at ≡ Some held }
-        requires least { 4 ≤ units }
-        requires longer { size < UNIT * units }
-        requires lawful { IsLawful self.old.heap }
-        requires unit { IsUnit UNIT }
-        ensures answer { MatchResult result (λ _. (if_held UNIT self.old.heap name size (resized_words self.old.heap name units (lacking units))).answer ≡ Ok tt) (λ why. (if_held UNIT self.old.heap name size (resized_words self.old.heap name units (lacking units))).answer ≡ Err why) }
-        ensures heap { self.new.heap ≡ (if_held UNIT self.old.heap name size (resized_words self.old.heap name units (lacking units))).heap }
-        ensures rest { IfOk result (λ p. (p.region ≡ self.old.region) × (p.at ≡ self.old.region.start + UNIT * name.at + size) × (size + p.size ≡ UNIT * units)) }
-        ensures err { OnErr result (self.new.heap ≡ self.old.heap) }
-        ensures named { IfErr result (λ why. (units : ℕ) → size ≡ UNIT * units → Holds self.old.heap name units → (why ≢ Refusal.Stale) × (why ≢ Refusal.Foreign)) }
-        ensures lawful { IsLawful self.new.heap }
-        ensures region { self.new.region ≡ self.old.region }
+        len: u32,
+    ) -> Result<(Piece, Right), (Refusal, Right)>
+        requires book { right.book ≡ self.old.book }
+        requires loan { IsLoan UNIT right.loan name size }
+        requires longer { size < piece_size UNIT len }
+        ensures answer { MatchResult result (λ _. (refitted UNIT self.old.heap name len).answer ≡ Ok tt) (λ e. (refitted UNIT self.old.heap name len).answer ≡ Err e.0) }
+        ensures heap { self.new.heap ≡ (refitted UNIT self.old.heap name len).heap }
+
+        // What that comes to.
+        ensures rest { IfOk result (λ r. (r.0.region ≡ self.old.region) × (r.0.at ≡ self.old.region.start + UNIT * name.at + size) × (size + r.0.size ≡ piece_size UNIT len)) }
+        ensures right { IfOk result (λ r. (r.1.book ≡ self.old.book) × (r.1.loan ≡ loan_of name (units_for UNIT len))) }
+        ensures live { Holds self.old.heap name (units_of right.loan) }
+        ensures named { IfErr result (λ e. (e.0 ≢ Refusal.Stale) × (e.0 ≢ Refusal.Foreign)) }
+        ensures err { IfErr result (λ e. (self.new.heap ≡ self.old.heap) × (e.1 ≡ right)) }
+        ensures others { (other : Name) (units : ℕ) → other ≢ name → Holds self.old.heap other units → Holds self.new.heap other units }
+        ensures home { SameHome self.old self.new }
         ensures compared { self.new.compared ≡ self.old.compared }
         ensures touches { self.new.touches ≤ self.old.touches + 64 }
         ensures touches_rise { self.old.touches ≤ self.new.touches }
     {
-        if bytes_of(held, UNIT) != size {
-            return Err(Refusal::Stale);
+        let right = replace_with(&mut self.book, right, Book::beside);
+        let units = units_of(len as usize, UNIT) as u32;
+        if let Err(why) = self.heap.resize_words(name, units, lacking(units)) {
+            return Err((why, right));
         }
-        self.heap.resize_words(name, units, lacking(units))?;
-        let at = grains_before(name.at, UNIT) + size / GRAIN;
-        let size = bytes_of(units, UNIT) - size;
-        Ok(replace_with(&mut self.space, Run { at, size }, lend_run))
+        let run = Run {
+            at: grains_before(name.at, UNIT) + size / GRAIN,
+            size: bytes_of(units, UNIT) - size,
+        };
+        let rest = replace_with(&mut self.space, run, lend_run);
+        let entry = Entry { name, units };
+        let right = replace_with(&mut self.book, Refit { right, entry }, refit_entry);
+        Ok((rest, right))
     }
 
     /// [`Arena::extend`] of a block that has lost its name: its address tells the place.
     pub(crate) fn extend_at(
         &mut self,
         ptr: *mut u8,
+        right: Right,
         size: usize,
         len: u32,
         guesses: (u32, u32),
-    ) -> Result<Piece, Refusal>
+    ) -> Result<(Piece, Right), (Refusal, Right)>
         requires place { IsPiece self.old.region ptr (count_of ptr) size }
+        requires book { right.book ≡ self.old.book }
+        requires loan { (count_of ptr ≡ self.old.region.start + UNIT * (name_of right.loan).at) × (size ≡ UNIT * units_of right.loan) }
         requires longer { size < piece_size UNIT len }
-        ensures rest { IfOk result (λ p. (p.region ≡ self.old.region) × (p.at ≡ count_of ptr + size) × (size + p.size ≡ piece_size UNIT len)) }
-        ensures held { IfErr result (λ why. (name : Name) (units : ℕ) → count_of ptr ≡ self.old.region.start + UNIT * name.at → size ≡ UNIT * units → Holds self.old.heap name units → (why ≢ Refusal.Stale) × (why ≢ Refusal.Foreign)) }
-        ensures region { self.new.region ≡ self.old.region }
+        ensures rest { IfOk result (λ r. (r.0.region ≡ self.old.region) × (r.0.at ≡ count_of ptr + size) × (size + r.0.size ≡ piece_size UNIT len)) }
+        ensures right { IfOk result (λ r. (r.1.book ≡ self.old.book) × (r.1.loan ≡ loan_of (name_of right.loan) (units_for UNIT len))) }
+        ensures named { IfErr result (λ e. (e.0 ≢ Refusal.Stale) × (e.0 ≢ Refusal.Foreign)) }
+        ensures err { IfErr result (λ e. e.1 ≡ right) }
+        ensures home { SameHome self.old self.new }
         ensures compared { self.new.compared ≤ self.old.compared + 27 }
         ensures touches { self.new.touches ≤ self.old.touches + 68 }
     {
-        let Some((name, held)) = self.live_at(ptr, guesses) else {
-            return Err(Refusal::Stale);
-        };
-        self.extend_held(name, held, size, units_of(len as usize, UNIT) as u32)
+        let (name, right) = self.found(ptr, right, guesses);
+        self.extend(name, right, size, len)
     }
 
     /// Takes the units at a block's end back, so that it has as many whole units as hold `len` bytes. The bytes before them stay their owner's,
-    /// with all that lies in them.
+    /// with all that lies in them, and the block's right comes back.
     ///
-    /// Refused, with the units, as [`Arena::resize`] refuses a block of that name, whose bytes end with theirs. Takes no memory.
+    /// Refused, with the units and the right, as [`Arena::resize`] refuses a block of that name. Takes no memory.
     ///
     /// ```text
-    /// arena.trim(block.name, rest, 100)?;      // what `Arena::extend` lent
+    /// let right = arena.trim(name, right, rest, 100)?;     // what `Arena::extend` lent
     /// ```
-    pub fn trim(&mut self, name: Name, tail: Piece, len: u32) -> Result<(), (Refusal, Piece)>
-        requires region { tail.region ≡ self.old.region }
-        requires place { tail.at ≡ tail.region.start + UNIT * name.at + piece_size UNIT len }
-        ensures answer { MatchResult result (λ _. (resized_block UNIT self.old.heap name (piece_size UNIT len + tail.size) len).answer ≡ Ok tt) (λ e. (resized_block UNIT self.old.heap name (piece_size UNIT len + tail.size) len).answer ≡ Err e.0) }
-        ensures heap { self.new.heap ≡ (resized_block UNIT self.old.heap name (piece_size UNIT len + tail.size) len).heap }
-
-        // What that comes to.
-        ensures err { IfErr result (λ e. (self.new.heap ≡ self.old.heap) × (e.1 ≡ tail)) }
-        ensures held { IfErr result (λ e. (units : ℕ) → piece_size UNIT len + tail.size ≡ UNIT * units → Holds self.old.heap name units → (e.0 ≢ Refusal.Stale) × (e.0 ≢ Refusal.Foreign)) }
-        ensures others { (other : Name) (units : ℕ) → other ≢ name → Holds self.old.heap other units → Holds self.new.heap other units }
-        ensures region { self.new.region ≡ self.old.region }
-        ensures touches { self.new.touches ≤ self.old.touches + 68 }
-        ensures touches_rise { self.old.touches ≤ self.new.touches }
-    {
-        let Some((_, held)) = self.held_block(name.at) else {
-            return Err((Refusal::Stale, tail));
-        };
-        self.trim_held(name, held, units_of(len as usize, UNIT) as u32, tail)
-    }
-
-    /// Takes the units at the end of a block that holds `held` back, so that it has so many.
-    fn trim_held(
+    pub fn trim(
         &mut self,
         name: Name,
-        held: u32,
-        units: u32,
+        right: Right,
         tail: Piece,
-    ) -> Result<(), (Refusal, Piece)>
+        len: u32,
+    ) -> Result<Right, (Refusal, Piece, Right)>
         requires region { tail.region ≡ self.old.region }
-        requires place { tail.at ≡ tail.region.start + UNIT * name.at + UNIT * units }
-        requires held { held_at self.old.heap.blocks name.at ≡ Some held }
-        requires least { 4 ≤ units }
-        requires lawful { IsLawful self.old.heap }
-        requires unit { IsUnit UNIT }
-        ensures answer { MatchResult result (λ _. (if_held UNIT self.old.heap name (UNIT * units + tail.size) (resized_words self.old.heap name units (lacking units))).answer ≡ Ok tt) (λ e. (if_held UNIT self.old.heap name (UNIT * units + tail.size) (resized_words self.old.heap name units (lacking units))).answer ≡ Err e.0) }
-        ensures heap { self.new.heap ≡ (if_held UNIT self.old.heap name (UNIT * units + tail.size) (resized_words self.old.heap name units (lacking units))).heap }
-        ensures err { IfErr result (λ e. (self.new.heap ≡ self.old.heap) × (e.1 ≡ tail)) }
-        ensures named { IfErr result (λ e. (k : ℕ) → UNIT * units + tail.size ≡ UNIT * k → Holds self.old.heap name k → (e.0 ≢ Refusal.Stale) × (e.0 ≢ Refusal.Foreign)) }
-        ensures lawful { IsLawful self.new.heap }
-        ensures region { self.new.region ≡ self.old.region }
+        requires book { right.book ≡ self.old.book }
+        requires loan { IsLoan UNIT right.loan name (piece_size UNIT len + tail.size) }
+        requires place { tail.at ≡ tail.region.start + UNIT * name.at + piece_size UNIT len }
+        ensures answer { MatchResult result (λ _. (refitted UNIT self.old.heap name len).answer ≡ Ok tt) (λ e. (refitted UNIT self.old.heap name len).answer ≡ Err e.0) }
+        ensures heap { self.new.heap ≡ (refitted UNIT self.old.heap name len).heap }
+
+        // What that comes to.
+        ensures right { IfOk result (λ r. (r.book ≡ self.old.book) × (r.loan ≡ loan_of name (units_for UNIT len))) }
+        ensures live { Holds self.old.heap name (units_of right.loan) }
+        ensures named { IfErr result (λ e. (e.0 ≢ Refusal.Stale) × (e.0 ≢ Refusal.Foreign)) }
+        ensures err { IfErr result (λ e. (self.new.heap ≡ self.old.heap) × (e.1 ≡ tail) × (e.2 ≡ right)) }
+        ensures others { (other : Name) (units : ℕ) → other ≢ name → Holds self.old.heap other units → Holds self.new.heap other units }
+        ensures home { SameHome self.old self.new }
         ensures compared { self.new.compared ≡ self.old.compared }
         ensures touches { self.new.touches ≤ self.old.touches + 64 }
         ensures touches_rise { self.old.touches ≤ self.new.touches }
     {
-        let (size, tail) = tail.with_size();
-        if bytes_of(held, UNIT) != bytes_of(units, UNIT) + size {
-            return Err((Refusal::Stale, tail));
-        }
+        let right = replace_with(&mut self.book, right, Book::beside);
+        let units = units_of(len as usize, UNIT) as u32;
         if let Err(why) = self.heap.resize_words(name, units, lacking(units)) {
-            return Err((why, tail));
+            return Err((why, tail, right));
         }
         replace_with(&mut self.space, tail, Space::take_back);
-        Ok(())
+        let entry = Entry { name, units };
+        Ok(replace_with(&mut self.book, Refit { right, entry }, refit_entry))
     }
 
     /// [`Arena::trim`] of a block that has lost its name: its address tells the place.
     pub(crate) fn trim_at(
         &mut self,
         ptr: *mut u8,
+        right: Right,
         tail: Piece,
         len: u32,
         guesses: (u32, u32),
-    ) -> Result<(), (Refusal, Piece)>
+    ) -> Result<Right, (Refusal, Piece, Right)>
         requires place { IsPiece self.old.region ptr (count_of ptr) (piece_size UNIT len + tail.size) }
         requires tail { (tail.region ≡ self.old.region) × (tail.at ≡ count_of ptr + piece_size UNIT len) }
-        ensures err { IfErr result (λ e. e.1 ≡ tail) }
-        ensures held { IfErr result (λ e. (name : Name) (units : ℕ) → count_of ptr ≡ self.old.region.start + UNIT * name.at → piece_size UNIT len + tail.size ≡ UNIT * units → Holds self.old.heap name units → (e.0 ≢ Refusal.Stale) × (e.0 ≢ Refusal.Foreign)) }
-        ensures region { self.new.region ≡ self.old.region }
+        requires book { right.book ≡ self.old.book }
+        requires loan { (count_of ptr ≡ self.old.region.start + UNIT * (name_of right.loan).at) × (piece_size UNIT len + tail.size ≡ UNIT * units_of right.loan) }
+        ensures right { IfOk result (λ r. (r.book ≡ self.old.book) × (r.loan ≡ loan_of (name_of right.loan) (units_for UNIT len))) }
+        ensures named { IfErr result (λ e. (e.0 ≢ Refusal.Stale) × (e.0 ≢ Refusal.Foreign)) }
+        ensures err { IfErr result (λ e. (e.1 ≡ tail) × (e.2 ≡ right)) }
+        ensures home { SameHome self.old self.new }
         ensures compared { self.new.compared ≤ self.old.compared + 27 }
         ensures touches { self.new.touches ≤ self.old.touches + 68 }
     {
-        let Some((name, held)) = self.live_at(ptr, guesses) else {
-            return Err((Refusal::Stale, tail));
-        };
-        self.trim_held(name, held, units_of(len as usize, UNIT) as u32, tail)
+        let (name, right) = self.found(ptr, right, guesses);
+        self.trim(name, right, tail, len)
     }
 
     /// The units of the arena: 4 to 2^20, or to 2^24 at level 5.
@@ -750,6 +725,7 @@ impl<const SLI: u32, const UNIT: usize> Drop for Arena<SLI, UNIT> {
         let Arena {
             heap,
             space,
+            book: _,
             base: _,
             id: _,
             units,

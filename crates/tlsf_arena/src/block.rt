@@ -1,6 +1,8 @@
 ghost use Rattle.std.specs.Prelude.{◌≡◌, ◌+◌, ◌*◌};
+ghost use Rattle.tlsf_arena.specs.Loans.{IsLoan};
 
 use crate::piece::Piece;
+use crate::right::Right;
 use std::fmt;
 use tlsf_heap::Name;
 
@@ -13,7 +15,10 @@ pub struct Block<const UNIT: usize> {
     pub name: Name,
     /// The bytes, which the block owns.
     pub piece: Piece,
+    /// The right to give it back.
+    pub right: Right,
     pub ghost matched: { piece.at ≡ piece.region.start + UNIT * name.at },
+    pub ghost entered: { IsLoan UNIT right.loan name piece.size },
 }
 
 impl<const UNIT: usize> fmt::Debug for Block<UNIT> {

@@ -32,7 +32,7 @@ impl<T> Buffer<T> {
         requires unit { IsUnit self.unit }
         requires size { piece_size self.unit (_cap * type_size T.row) ≡ piece_size self.unit (self.cap * type_size T.row) }
         requires counts { (self.len ≤ _cap) × (self.len ≤ self.cap) }
-        ensures { (result.unit ≡ self.unit) × (result.region ≡ self.region) × (result.len ≡ self.len) × (result.cap ≡ _cap) × (result.items ≡ self.items) }
+        ensures { (result.ptr ≡ self.ptr) × (result.unit ≡ self.unit) × (result.region ≡ self.region) × (result.len ≡ self.len) × (result.cap ≡ _cap) × (result.items ≡ self.items) }
     {
         let Buffer { ptr, marker } = self;
         Buffer { ptr, marker }
@@ -91,8 +91,8 @@ impl<T> Buffer<T> {
         requires new { (piece.size ≡ piece_size self.unit (cap * type_size T.row)) × (cap * type_size T.row < 2 ^ 63) }
         requires old { old_size ≡ piece_size self.unit (self.cap * type_size T.row) }
         requires counts { (len ≡ self.len) × (len ≤ cap) × (len ≤ self.cap) }
-        ensures moved { (result.0.unit ≡ self.unit) × (result.0.region ≡ self.region) × (result.0.len ≡ len) × (result.0.cap ≡ cap) × (result.0.items ≡ self.items) }
-        ensures back { (result.1.region ≡ self.region) × (result.1.size ≡ old_size) }
+        ensures moved { (result.0.ptr ≡ piece.ptr) × (result.0.unit ≡ self.unit) × (result.0.region ≡ self.region) × (result.0.len ≡ len) × (result.0.cap ≡ cap) × (result.0.items ≡ self.items) }
+        ensures back { (result.1.region ≡ self.region) × (result.1.at ≡ count_of self.ptr) × (result.1.size ≡ old_size) }
     {
         let Buffer { ptr: old, marker } = self;
         let Piece { ptr, size: _ } = piece;

@@ -20,11 +20,15 @@
 
 mod arena;
 mod block;
+mod book;
 mod boxed;
 mod buffer;
+mod buffer_grant;
+mod grant;
 mod local;
 mod memory;
 mod piece;
+mod right;
 mod search;
 mod slot;
 mod space;
@@ -35,3 +39,4 @@ pub use block::Block;
 pub use local::{DefaultArena, LocalArena};
 pub use memory::Memory;
 pub use piece::Piece;
+pub use right::Right;

@@ -1,16 +1,20 @@
-ghost use Rattle.std.specs.Prelude.{◌≡◌, ◌*◌, ◌^◌, ◌<◌, ◌≤◌, IfSome, IsErrOf, ◌↔◌, MatchResult};
+ghost use Rattle.std.specs.Prelude.{◌≡◌, ◌+◌, ◌*◌, ◌^◌, ◌<◌, ◌≤◌, IfSome, IsErrOf, ◌↔◌, MatchResult};
 ghost use Rattle.std.specs.Mem.{type_size};
 ghost use Rattle.tlsf_class.specs.Classes.{IsLevel};
 ghost use Rattle.tlsf_heap.specs.Lawful.{IsRegion};
-ghost use Rattle.tlsf_arena.specs.Places.{IsUnit, piece_size};
-ghost use Rattle.tlsf_arena.specs.Ownership.{block_token};
+ghost use Rattle.tlsf_arena.specs.Places.{IsUnit, piece_size, units_for};
+ghost use Rattle.tlsf_arena.specs.Loans.{name_of, units_of as units_in};
+ghost use Rattle.tlsf_arena.specs.Ownership.{IsLoanAt, whole_token};
 
 use crate::arena::Arena;
 use crate::block::Block;
 use crate::boxed::BoxedArena;
 use crate::buffer::Buffer;
+use crate::buffer_grant::BufferGrant;
+use crate::grant::Grant;
 use crate::memory::GRAIN;
 use crate::piece::Piece;
+use crate::right::Right;
 use crate::slot::Slot;
 use crate::units::units_of;
 use std::alloc::{AllocError, Allocator, Global};
@@ -74,8 +78,8 @@ impl<const SLI: u32, const UNIT: usize> LocalArena<SLI, UNIT> {
 
     // The slot is empty only while one of the functions here runs, and they call nothing that
     // could come back here.
-    fn take(&self, size: usize, align: usize) -> Option<Piece>
-        ensures { IfSome result (λ b. (b.region ≡ self.now.slot) × (b.size ≡ piece_size UNIT size) × (size < 2 ^ 63) × (align ≤ 16)) }
+    fn take(&self, size: usize, align: usize) -> Option<Grant>
+        ensures { IfSome result (λ g. (g.region ≡ self.now.slot.0) × (g.book ≡ self.now.slot.1) × (g.size ≡ piece_size UNIT size) × (g.at ≡ g.region.start + UNIT * (name_of g.loan).at) × (units_in g.loan ≡ units_for UNIT size) × (size < 2 ^ 63) × (align ≤ 16)) }
     {
         if align > GRAIN || size > u32::MAX as usize {
             return None;
@@ -84,28 +88,30 @@ impl<const SLI: u32, const UNIT: usize> LocalArena<SLI, UNIT> {
         let answer = boxed.arena.allocate(size as u32);
         self.slot.replace(Some(boxed));
         match answer {
-            Ok(Block { name, piece }) => {
+            Ok(Block { name, piece, right }) => {
                 self.before_last.set(self.last.get());
                 self.last.set(name.at);
-                Some(piece)
+                Some(Grant::new(piece, right))
             }
             Err(_) => None,
         }
     }
 
-    fn give(&self, piece: Piece)
-        requires { piece.region ≡ self.now.slot }
+    fn give(&self, piece: Piece, right: Right)
+        requires home { (piece.region ≡ self.now.slot.0) × (right.book ≡ self.now.slot.1) }
+        requires loan { (piece.at ≡ piece.region.start + UNIT * (name_of right.loan).at) × (piece.size ≡ UNIT * units_in right.loan) }
     {
         match self.slot.replace(None) {
             Some(mut boxed) => {
-                let answer = boxed.arena.release_at(piece, self.guesses());
+                let answer = boxed.arena.release_at(piece, right, self.guesses());
                 self.slot.replace(Some(boxed));
-                if let Err((_, piece)) = answer {
-                    let _lost = unsafe { ManuallyDrop::new_unchecked(piece) };
+                // At the last tick alone.
+                if let Err((_, piece, right)) = answer {
+                    let _lost = unsafe { ManuallyDrop::new_unchecked((piece, right)) };
                 }
             }
             None => {
-                let _lost = unsafe { ManuallyDrop::new_unchecked(piece) };
+                let _lost = unsafe { ManuallyDrop::new_unchecked((piece, right)) };
             }
         }
     }
@@ -119,63 +125,68 @@ impl<const SLI: u32, const UNIT: usize> LocalArena<SLI, UNIT> {
     // a new block, which is aligned enough for every type.
     fn moved<T>(
         &self,
-        buffer: Buffer<T>,
+        grant: BufferGrant<T>,
         len: usize,
         old_cap: usize,
         new_cap: usize,
-    ) -> Result<Buffer<T>, Buffer<T>>
-        requires buffer { (buffer.unit ≡ UNIT) × (buffer.region ≡ self.now.slot) × (buffer.len ≡ len) × (buffer.cap ≡ old_cap) }
+    ) -> Result<BufferGrant<T>, BufferGrant<T>>
+        requires grant { (grant.unit ≡ UNIT) × (grant.home ≡ self.now.slot) × (grant.len ≡ len) × (grant.cap ≡ old_cap) }
         requires sizes { (len ≤ old_cap) × (len ≤ new_cap) × (old_cap * type_size T.row < 2 ^ 63) × (new_cap * type_size T.row < 2 ^ 63) }
-        ensures { MatchResult result (λ b. (b.unit ≡ buffer.unit) × (b.region ≡ buffer.region) × (b.len ≡ len) × (b.cap ≡ new_cap) × (b.items ≡ buffer.items)) (λ b. b ≡ buffer) }
+        ensures { MatchResult result (λ b. (b.unit ≡ grant.unit) × (b.home ≡ grant.home) × (b.len ≡ len) × (b.cap ≡ new_cap) × (b.items ≡ grant.items)) (λ b. b ≡ grant) }
     {
+        let (buffer, right) = grant.into_parts();
         let old_size = piece_bytes(old_cap * size_of::<T>(), UNIT);
         let new_size = piece_bytes(new_cap * size_of::<T>(), UNIT);
         if new_size == old_size {
-            return Ok(buffer.refitted(new_cap));
+            return Ok(BufferGrant::of_parts(buffer.refitted(new_cap), right));
         }
         let in_place = if old_size < new_size {
-            self.extended(buffer, old_size, new_cap)
+            self.extended(buffer, right, old_size, new_cap)
         } else {
-            self.trimmed(buffer, old_size, old_cap, new_cap)
+            self.trimmed(buffer, right, old_size, old_cap, new_cap)
         };
-        let buffer = match in_place {
-            Ok(buffer) => return Ok(buffer),
-            Err(buffer) => buffer,
+        let (buffer, right) = match in_place {
+            Ok((buffer, right)) => return Ok(BufferGrant::of_parts(buffer, right)),
+            Err(parts) => parts,
         };
-        let Some(piece) = self.take(new_cap * size_of::<T>(), GRAIN) else {
-            return Err(buffer);
+        let Some(grant) = self.take(new_cap * size_of::<T>(), GRAIN) else {
+            return Err(BufferGrant::of_parts(buffer, right));
         };
+        let (piece, new_right) = grant.into_parts();
         let (buffer, old) = buffer.move_to(piece, len, new_cap, old_size);
-        self.give(old);
-        Ok(buffer)
+        self.give(old, right);
+        Ok(BufferGrant::of_parts(buffer, new_right))
     }
 
     // The arena lends the units behind the values' piece.
     fn extended<T>(
         &self,
         buffer: Buffer<T>,
+        right: Right,
         old_size: usize,
         new_cap: usize,
-    ) -> Result<Buffer<T>, Buffer<T>>
-        requires buffer { (buffer.unit ≡ UNIT) × (buffer.region ≡ self.now.slot) × (buffer.len ≤ buffer.cap) × (buffer.len ≤ new_cap) }
+    ) -> Result<(Buffer<T>, Right), (Buffer<T>, Right)>
+        requires buffer { (buffer.unit ≡ UNIT) × (buffer.region ≡ self.now.slot.0) × (buffer.len ≤ buffer.cap) × (buffer.len ≤ new_cap) }
+        requires right { (right.book ≡ self.now.slot.1) × IsLoanAt UNIT buffer.region buffer.ptr (buffer.cap * type_size T.row) right.loan }
         requires sizes { (old_size ≡ piece_size UNIT (buffer.cap * type_size T.row)) × (new_cap * type_size T.row < 2 ^ 63) × (old_size < piece_size UNIT (new_cap * type_size T.row)) }
-        ensures { MatchResult result (λ b. (b.ptr ≡ buffer.ptr) × (b.unit ≡ buffer.unit) × (b.region ≡ buffer.region) × (b.len ≡ buffer.len) × (b.cap ≡ new_cap) × (b.items ≡ buffer.items)) (λ b. b ≡ buffer) }
+        ensures buffer { MatchResult result (λ r. (r.0.ptr ≡ buffer.ptr) × (r.0.unit ≡ buffer.unit) × (r.0.region ≡ buffer.region) × (r.0.len ≡ buffer.len) × (r.0.cap ≡ new_cap) × (r.0.items ≡ buffer.items)) (λ r. r.0 ≡ buffer) }
+        ensures right { MatchResult result (λ r. (r.1.book ≡ right.book) × IsLoanAt UNIT buffer.region buffer.ptr (new_cap * type_size T.row) r.1.loan) (λ r. r.1 ≡ right) }
     {
         let size = new_cap * size_of::<T>();
         if size > u32::MAX as usize {
-            return Err(buffer);
+            return Err((buffer, right));
         }
         let Some(mut boxed) = self.slot.replace(None) else {
-            return Err(buffer);
+            return Err((buffer, right));
         };
         let (ptr, buffer) = buffer.with_ptr();
         let answer = boxed
             .arena
-            .extend_at(ptr, old_size, size as u32, self.guesses());
+            .extend_at(ptr, right, old_size, size as u32, self.guesses());
         self.slot.replace(Some(boxed));
         match answer {
-            Ok(rest) => Ok(buffer.extended(rest, new_cap)),
-            Err(_) => Err(buffer),
+            Ok((rest, right)) => Ok((buffer.extended(rest, new_cap), right)),
+            Err((_, right)) => Err((buffer, right)),
         }
     }
 
@@ -183,29 +194,34 @@ impl<const SLI: u32, const UNIT: usize> LocalArena<SLI, UNIT> {
     fn trimmed<T>(
         &self,
         buffer: Buffer<T>,
+        right: Right,
         old_size: usize,
         old_cap: usize,
         new_cap: usize,
-    ) -> Result<Buffer<T>, Buffer<T>>
-        requires buffer { (buffer.unit ≡ UNIT) × (buffer.region ≡ self.now.slot) × (buffer.len ≤ buffer.cap) × (buffer.len ≤ new_cap) × (buffer.cap ≡ old_cap) }
+    ) -> Result<(Buffer<T>, Right), (Buffer<T>, Right)>
+        requires buffer { (buffer.unit ≡ UNIT) × (buffer.region ≡ self.now.slot.0) × (buffer.len ≤ buffer.cap) × (buffer.len ≤ new_cap) × (buffer.cap ≡ old_cap) }
+        requires right { (right.book ≡ self.now.slot.1) × IsLoanAt UNIT buffer.region buffer.ptr (buffer.cap * type_size T.row) right.loan }
         requires sizes { (old_size ≡ piece_size UNIT (buffer.cap * type_size T.row)) × (new_cap * type_size T.row < 2 ^ 63) × (piece_size UNIT (new_cap * type_size T.row) < old_size) }
-        ensures { MatchResult result (λ b. (b.ptr ≡ buffer.ptr) × (b.unit ≡ buffer.unit) × (b.region ≡ buffer.region) × (b.len ≡ buffer.len) × (b.cap ≡ new_cap) × (b.items ≡ buffer.items)) (λ b. b ≡ buffer) }
+        ensures buffer { MatchResult result (λ r. (r.0.ptr ≡ buffer.ptr) × (r.0.unit ≡ buffer.unit) × (r.0.region ≡ buffer.region) × (r.0.len ≡ buffer.len) × (r.0.cap ≡ new_cap) × (r.0.items ≡ buffer.items)) (λ r. r.0 ≡ buffer) }
+        ensures right { MatchResult result (λ r. (r.1.book ≡ right.book) × IsLoanAt UNIT buffer.region buffer.ptr (new_cap * type_size T.row) r.1.loan) (λ r. r.1 ≡ right) }
     {
         let size = new_cap * size_of::<T>();
         if size > u32::MAX as usize {
-            return Err(buffer);
+            return Err((buffer, right));
         }
         let Some(mut boxed) = self.slot.replace(None) else {
-            return Err(buffer);
+            return Err((buffer, right));
         };
         let new_size = piece_bytes(size, UNIT);
         let (ptr, buffer) = buffer.with_ptr();
         let (buffer, tail) = buffer.trimmed(new_cap, new_size, old_size - new_size);
-        let answer = boxed.arena.trim_at(ptr, tail, size as u32, self.guesses());
+        let answer = boxed
+            .arena
+            .trim_at(ptr, right, tail, size as u32, self.guesses());
         self.slot.replace(Some(boxed));
         match answer {
-            Ok(()) => Ok(buffer),
-            Err((_, tail)) => Err(buffer.extended(tail, old_cap)),
+            Ok(right) => Ok((buffer, right)),
+            Err((_, tail, right)) => Err((buffer.extended(tail, old_cap), right)),
         }
     }
 }
@@ -219,18 +235,19 @@ fn piece_bytes(size: usize, unit: usize) -> usize
 }
 
 unsafe impl<const SLI: u32, const UNIT: usize> Allocator for LocalArena<SLI, UNIT> {
-    ghost dealloc_token = { λ arena. block_token UNIT arena.slot };
+    ghost dealloc_token = { λ arena. whole_token UNIT arena.slot };
 
     fn allocate(&self, size: usize, align: usize) -> Result<*mut u8, AllocError> {
         match self.take(size, align) {
-            Some(Piece { ptr, size: _ }) => Ok(ptr),
+            Some(Grant { ptr, size: _ }) => Ok(ptr),
             None => Err(AllocError),
         }
     }
 
     unsafe fn deallocate(&self, ptr: *mut u8, size: usize, _align: usize) {
         let size = piece_bytes(size, UNIT);
-        self.give(Piece { ptr, size });
+        let marker = PhantomData;
+        self.give(Piece { ptr, size }, Right { marker });
     }
 
     unsafe fn grow<T>(
@@ -241,9 +258,9 @@ unsafe impl<const SLI: u32, const UNIT: usize> Allocator for LocalArena<SLI, UNI
         new_cap: usize,
     ) -> Result<*mut T, AllocError> {
         let marker = PhantomData;
-        match self.moved(Buffer { ptr, marker }, len, old_cap, new_cap) {
-            Ok(Buffer { ptr, marker: _ }) => Ok(ptr),
-            Err(Buffer { ptr: _, marker: _ }) => Err(AllocError),
+        match self.moved(BufferGrant { ptr, marker }, len, old_cap, new_cap) {
+            Ok(BufferGrant { ptr, marker: _ }) => Ok(ptr),
+            Err(BufferGrant { ptr: _, marker: _ }) => Err(AllocError),
         }
     }
 
@@ -255,9 +272,9 @@ unsafe impl<const SLI: u32, const UNIT: usize> Allocator for LocalArena<SLI, UNI
         new_cap: usize,
     ) -> Result<*mut T, AllocError> {
         let marker = PhantomData;
-        match self.moved(Buffer { ptr, marker }, len, old_cap, new_cap) {
-            Ok(Buffer { ptr, marker: _ }) => Ok(ptr),
-            Err(Buffer { ptr: _, marker: _ }) => Err(AllocError),
+        match self.moved(BufferGrant { ptr, marker }, len, old_cap, new_cap) {
+            Ok(BufferGrant { ptr, marker: _ }) => Ok(ptr),
+            Err(BufferGrant { ptr: _, marker: _ }) => Err(AllocError),
         }
     }
 }

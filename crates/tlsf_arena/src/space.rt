@@ -55,16 +55,6 @@ impl Space {
         (Space { base }, Piece { ptr, size })
     }
 
-    // Nothing is done: whoever has a piece knows that none of its grains is free.
-    pub(crate) fn beside(self, piece: Piece) -> (Space, Piece)
-        requires { piece.region ≡ self.region }
-        ensures { (result.0 ≡ self) × (result.1 ≡ piece) × IsRun self.free (grain_of self.region piece.at) (piece.size / 16) false }
-    {
-        let Space { base } = self;
-        let Piece { ptr, size } = piece;
-        (Space { base }, Piece { ptr, size })
-    }
-
     // Takes them back.
     pub(crate) fn take_back(self, piece: Piece) -> (Space, ())
         requires { (piece.region ≡ self.region) × IsRun self.free (grain_of self.region piece.at) (piece.size / 16) false }

@@ -1,6 +1,7 @@
 -- An arena keeps to its bounds through its calls.
 use Rattle.std.specs.Prelude.{IsSome}
-use Rattle.std.proofs.Common.{◌≡◌, ◌≢◌, ℕ, ◌+◌, ◌-◌, ◌*◌, ◌<◌, ◌≤◌, Bool, true, false, cond, List, [], ◌∷◌, ◌++◌, length, Option, Result, Ok, refl, sym, ap, ◌∙◌, subst, inl, inr, arith}
+use base.Fml.{GName}
+use Rattle.std.proofs.Common.{◌≡◌, ◌≢◌, ℕ, ◌+◌, ◌-◌, ◌*◌, ◌<◌, ◌≤◌, true, false, List, [], ◌∷◌, ◌++◌, length, Option, Result, Ok, refl, sym, ap, ◌∙◌, subst, inl, inr, arith}
 use Rattle.std.proofs.lemmas.Bool.{false≢true, cases_lt}
 use Rattle.linked_list_allocator.specs.Region.{Region}
 use Rattle.tlsf_class.specs.Classes.{most_words}
@@ -9,10 +10,9 @@ use Rattle.tlsf_heap.specs.GoodFit.{Site, fits, is_fit}
 use Rattle.tlsf_heap.specs.Lawful.{IsLawful}
 use Rattle.tlsf_heap.specs.Laws.{IsLive}
 use Rattle.tlsf_heap.specs.Reports.{live_among}
-use Rattle.tlsf_heap.specs.Calls.{Outcome, Release, Released, carved, has_serial, last_tick, past_free, refitted, refused, released, resized_words}
+use Rattle.tlsf_heap.specs.Calls.{Outcome, Release, Released, carved, has_serial, last_tick, past_free, refitted, released, resized_words}
 use Rattle.tlsf_heap.specs.declared.name.Name.{Name}
 use Rattle.tlsf_heap.specs.declared.refusal.Refusal.{Refusal}
-use Rattle.tlsf_heap.specs.declared.refusal.Refusal.TheVariants.{Stale}
 use Rattle.tlsf_heap.proofs.Edits.{carved_small, carved_large}
 use Rattle.tlsf_heap.proofs.Finding.{and_left}
 use Rattle.tlsf_heap.proofs.Lawfulness.{all_append}
@@ -27,8 +27,8 @@ use Rattle.tlsf_laws.proofs.Fours.{fours_given, fours_resized}
 use Rattle.tlsf_laws.proofs.Held.{held_is}
 use Rattle.tlsf_laws.proofs.ModestCalls.{AreSmall, InPool, has_room, kept, small_carved, small_refitted}
 use Rattle.tlsf_laws.proofs.Refits.{by_refit}
-use Rattle.tlsf_arena.specs.Arenas.{Holds, released_block, requested, resized_block}
-use Rattle.tlsf_arena.specs.Places.{IsUnit, held_at, is_held, lacking, units_for}
+use Rattle.tlsf_arena.specs.Arenas.{Holds, requested, refitted as refitted_to}
+use Rattle.tlsf_arena.specs.Places.{IsUnit, lacking, units_for}
 use Rattle.tlsf_arena.proofs.UnitCases.{by_unit}
 use Rattle.tlsf_pool_arena.specs.PoolArenas.{IsPoolArena, PoolArenaState, length_for}
 
@@ -107,21 +107,6 @@ count_resized h n len serial s site e =
       count_refitted h.tick n len serial s.block s.after e,
     )
 
--- ---- what comes back under a name is looked at first
-
-by_held : (P : Outcome (Unit {0}) → Type 0) (held : Bool) (h : HeapState) (o : Outcome (Unit {0})) → P o → P (refused h Stale) → P (cond held o (refused h Stale))
-by_held P true h o done not = done
-by_held P false h o done not = not
-
--- ---- a release that is done is the heap's
-
-released_is : (u : ℕ) (h : HeapState) (name : Name) (n : ℕ) → (released_block u h name n).answer ≡ Ok tt → released_block u h name n ≡ released h name
-released_is u h name n = by_bool (is_held u n (held_at h.blocks name.at))
-  where
-    by_bool : (b : Bool) → (cond b (released h name) (refused h Stale)).answer ≡ Ok tt → cond b (released h name) (refused h Stale) ≡ released h name
-    by_bool true e = refl
-    by_bool false e = absurd (let no : ⊥ = cc in no)
-
 -- ---- the bounds
 
 module _ (sli u : ℕ) where
@@ -143,9 +128,9 @@ module _ (sli u : ℕ) where
       ((no_fit sli p.heap (length_for u len)).1 (subst (λ (k : ℕ). fits sli k p.heap.blocks ≡ []) (sym (wants_units u len)) none))
 
   -- after an allocate that gave a name
-  pub given : (p : PoolArenaState) (len : ℕ) (name : Name) (left : HeapState) (region : Region) (touches : ℕ) → IsPoolArena sli u p → len ≤ p.longest → p.held < p.most → (requested sli u p.heap len).answer ≡ Ok name → left ≡ (requested sli u p.heap len).heap
-      → IsPoolArena sli u (record { heap = left; region = region; most = p.most; longest = p.longest; held = p.held + 1; touches = touches })
-  given p len name left region touches is short few answer heap =
+  pub given : (p : PoolArenaState) (len : ℕ) (name : Name) (left : HeapState) (region : Region) (book : GName) (touches : ℕ) → IsPoolArena sli u p → len ≤ p.longest → p.held < p.most → (requested sli u p.heap len).answer ≡ Ok name → left ≡ (requested sli u p.heap len).heap
+      → IsPoolArena sli u (record { heap = left; region = region; book = book; most = p.most; longest = p.longest; held = p.held + 1; touches = touches })
+  given p len name left region book touches is short few answer heap =
       let n : ℕ = units_for u len in
       let k : ℕ = units_for u p.longest + 3 in
       let fits : n + 3 ≤ k = omega (arith, units_rise u len p.longest is.unit short) in
@@ -178,12 +163,9 @@ module _ (sli u : ℕ) where
       (subst (IsLive p.heap) same (holds.1, subst (λ (o : Option Site). IsSome o) (sym holds.2) refl))
 
   -- after a release that was done
-  pub taken : (p : PoolArenaState) (name : Name) (n : ℕ) (left : HeapState) (region : Region) (touches : ℕ) → IsPoolArena sli u p → (released_block u p.heap name n).answer ≡ Ok tt → left ≡ (released_block u p.heap name n).heap
-      → IsPoolArena sli u (record { heap = left; region = region; most = p.most; longest = p.longest; held = p.held - 1; touches = touches })
-  taken p name n left region touches is done left_is =
-      let same = released_is u p.heap name n done in
-      let answer : (released p.heap name).answer ≡ Ok tt = ap (λ (o : Outcome (Unit {0})). o.answer) (sym same) ∙ done in
-      let heap : left ≡ (released p.heap name).heap = left_is ∙ ap (λ (o : Outcome (Unit {0})). o.heap) same in
+  pub taken : (p : PoolArenaState) (name : Name) (left : HeapState) (region : Region) (book : GName) (touches : ℕ) → IsPoolArena sli u p → (released p.heap name).answer ≡ Ok tt → left ≡ (released p.heap name).heap
+      → IsPoolArena sli u (record { heap = left; region = region; book = book; most = p.most; longest = p.longest; held = p.held - 1; touches = touches })
+  taken p name left region book touches is answer heap =
       let after = kept sli is.level p.heap.words p.most (length_for u p.longest) (in_class p is) is.words p.heap (Release name) (in_pool p is) tt in
       let counts = held_is sli p.heap (Release name) ∙ ap (λ (r : Result (Unit {0}) Refusal). held_after (live_count p.heap) (Release name) (Released r)) answer in
       record {
@@ -199,36 +181,32 @@ module _ (sli u : ℕ) where
       }
 
   -- after a resize, done or refused
-  pub refit : (p : PoolArenaState) (name : Name) (n len : ℕ) (left : HeapState) (region : Region) (touches : ℕ) → IsPoolArena sli u p → len ≤ p.longest → left ≡ (resized_block u p.heap name n len).heap
-      → IsPoolArena sli u (record { heap = left; region = region; most = p.most; longest = p.longest; held = p.held; touches = touches })
-  refit p name n len left region touches is short left_is =
+  pub refit : (p : PoolArenaState) (name : Name) (len : ℕ) (left : HeapState) (region : Region) (book : GName) (touches : ℕ) → IsPoolArena sli u p → len ≤ p.longest → left ≡ (refitted_to u p.heap name len).heap
+      → IsPoolArena sli u (record { heap = left; region = region; book = book; most = p.most; longest = p.longest; held = p.held; touches = touches })
+  refit p name len left region book touches is short left_is =
       let units : ℕ = units_for u len in
       let k : ℕ = units_for u p.longest + 3 in
       let fits : units + 3 ≤ k = omega (arith, units_rise u len p.longest is.unit short) in
-      let Left : Outcome (Unit {0}) → Type 0 = λ o. (live_count o.heap ≡ live_count p.heap) × (o.heap.words ≡ p.heap.words) × IsLawful o.heap × AreSmall k o.heap.blocks × (units_for u p.longest ≤ 4 → BeginAtFours 0 o.heap.blocks) in
-      let was : Left (refused p.heap Stale) = (refl, refl, is.lawful, is.small, is.fours) in
-      let lawful = lawful_resized_words p.heap name units (lacking units) (lacks_few u len) is.lawful in
+      let Left : Outcome (Unit {0}) → Type 0 = λ o. (live_count o.heap ≡ live_count p.heap) × (o.heap.words ≡ p.heap.words) × AreSmall k o.heap.blocks × (units_for u p.longest ≤ 4 → BeginAtFours 0 o.heap.blocks) in
       let now : Left (resized_words p.heap name units (lacking units)) = (
         by_resized_words (λ o. live_count o.heap ≡ live_count p.heap) p.heap name units (lacking units) (λ why. refl) (λ s own site has room. count_resized p.heap units (lacking units) name.serial s site (and_left _ _ has)),
         by_resized_words (λ o. o.heap.words ≡ p.heap.words) p.heap name units (lacking units) (λ why. refl) (λ s own site has room. refl),
-        lawful,
         by_resized_words (λ o. AreSmall k o.heap.blocks) p.heap name units (lacking units) (λ why. is.small) (λ s own site has room.
             let a = around_site (IsSmall k) p.heap s site is.small in
             all_append (IsSmall k) s.before _ a.0 (small_refitted k p.heap.tick units (lacking units) name.serial s.block s.after fits (and_left _ _ has) a.2)),
         λ four. by_resized_words (λ o. BeginAtFours 0 o.heap.blocks) p.heap name units (lacking units) (λ why. is.fours four) (λ s own site has room.
             fours_resized units p.heap.tick (lacking units) name.serial p.heap s (omega (arith, four, fits, least_units u len)) (and_left _ _ has) site (is.fours four)),
       ) in
-      let all = by_held Left (is_held u n (held_at p.heap.blocks name.at)) p.heap (resized_words p.heap name units (lacking units)) now was in
       record {
         level = is.level;
         unit = is.unit;
-        lawful = subst IsLawful (sym left_is) all.2;
-        words = omega (arith, is.words, all.1, ap (λ (h : HeapState). h.words) left_is);
+        lawful = subst IsLawful (sym left_is) (lawful_resized_words p.heap name units (lacking units) (lacks_few u len) is.lawful);
+        words = omega (arith, is.words, now.1, ap (λ (h : HeapState). h.words) left_is);
         class = is.class;
-        live = ap live_count left_is ∙ all.0 ∙ is.live;
+        live = ap live_count left_is ∙ now.0 ∙ is.live;
         few = is.few;
-        small = subst (λ (h : HeapState). AreSmall k h.blocks) (sym left_is) all.3;
-        fours = λ four. subst (λ (h : HeapState). BeginAtFours 0 h.blocks) (sym left_is) (all.4 four);
+        small = subst (λ (h : HeapState). AreSmall k h.blocks) (sym left_is) now.2;
+        fours = λ four. subst (λ (h : HeapState). BeginAtFours 0 h.blocks) (sym left_is) (now.3 four);
       }
 
   -- an arena that refuses within the bounds is at its last tick

@@ -1,12 +1,13 @@
 ghost use Rattle.std.specs.Prelude.{◌≡◌, ◌≢◌, ◌↔◌, ℕ, ◌+◌, ◌*◌, ◌<◌, ◌≤◌, [], length, None, Some, IfOk, IfErr, OnOk, OnErr, IsOk, IsErrOf, MatchResult, Ok, Err};
 ghost use Rattle.std.specs.Option.{option_map_or};
 ghost use Rattle.tlsf_class.specs.Classes.{IsLevel};
-ghost use Rattle.tlsf_heap.specs.Calls.{last_tick, opened};
+ghost use Rattle.tlsf_heap.specs.Calls.{last_tick, opened, released};
 ghost use Rattle.tlsf_heap.specs.GoodFit.{fits};
 ghost use Rattle.tlsf_heap.specs.Placed.{placed_at};
 ghost use Rattle.tlsf_heap.specs.Reports.{report_of};
 ghost use Rattle.tlsf_heap.specs.declared.name.Name.{Name};
-ghost use Rattle.tlsf_arena.specs.Arenas.{Holds, released_block, requested};
+ghost use Rattle.tlsf_arena.specs.Arenas.{Holds, requested};
+ghost use Rattle.tlsf_arena.specs.Loans.{units_of};
 ghost use Rattle.tlsf_arena.specs.Places.{IsUnit, piece_size, units_for};
 ghost use Rattle.tlsf_pool_arena.specs.PoolArenas.{IsPoolArena, SamePlan, SamePoolArena, resized_in_pool, units_of_pool};
 
@@ -19,8 +20,8 @@ use tlsf_pool::{PoolRefusal, pool_region};
 /// An arena that never refuses for want of room: it is opened by the most blocks that are held at once and the longest request. Its level
 /// is that of its heap, 4 or 5, and a unit has 16, 32 or 64 bytes.
 ///
-/// Contracts see it as its heap, the region of its memory, the two bounds, how many blocks are held, and the heap's touches. Lengths are
-/// in bytes.
+/// Contracts see it as its heap, the region of its memory, the book in which its blocks stand, the two bounds, how many blocks are held, and
+/// the heap's touches. Lengths are in bytes.
 #[derive(Drop)]
 pub struct PoolArena<const SLI: u32, const UNIT: usize> {
     arena: Arena<SLI, UNIT>,
@@ -34,9 +35,9 @@ impl<const SLI: u32, const UNIT: usize> Model for PoolArena<SLI, UNIT> {
 
     ghost Value = { PoolArenaState };
 
-    ghost view = { λ p. record { heap = p.arena.heap; region = p.arena.region; most = p.most; longest = p.longest; held = p.held; touches = p.arena.touches } };
+    ghost view = { λ p. record { heap = p.arena.heap; region = p.arena.region; book = p.arena.book; most = p.most; longest = p.longest; held = p.held; touches = p.arena.touches } };
 
-    ghost invariant = { λ p. IsPoolArena SLI UNIT (record { heap = p.arena.heap; region = p.arena.region; most = p.most; longest = p.longest; held = p.held; touches = p.arena.touches }) };
+    ghost invariant = { λ p. IsPoolArena SLI UNIT (record { heap = p.arena.heap; region = p.arena.region; book = p.arena.book; most = p.most; longest = p.longest; held = p.held; touches = p.arena.touches }) };
 }
 
 /// The units of an arena in which a program of at most `most` blocks at once, of at most `longest` bytes each, is never refused for
@@ -116,7 +117,7 @@ impl<const SLI: u32, const UNIT: usize> PoolArena<SLI, UNIT> {
         // An accepted request is the arena's, and one block more is held. A refusal changes nothing.
         ensures answer { IfOk result (λ b. (requested SLI UNIT self.old.heap len).answer ≡ Ok b.name) }
         ensures heap { OnOk result (self.new.heap ≡ (requested SLI UNIT self.old.heap len).heap) }
-        ensures block { IfOk result (λ b. (b.piece.region ≡ self.old.region) × (b.piece.size ≡ piece_size UNIT len)) }
+        ensures block { IfOk result (λ b. (b.piece.region ≡ self.old.region) × (b.right.book ≡ self.old.book) × (b.piece.size ≡ piece_size UNIT len)) }
         ensures holds { IfOk result (λ b. Holds self.new.heap b.name (units_for UNIT len)) }
         ensures new { IfOk result (λ b. (other : Name) (units : ℕ) → Holds self.old.heap other units → other ≢ b.name) }
         ensures others { (other : Name) (units : ℕ) → Holds self.old.heap other units → Holds self.new.heap other units }
@@ -146,25 +147,27 @@ impl<const SLI: u32, const UNIT: usize> PoolArena<SLI, UNIT> {
 
     /// Takes a block back, and merges its units with the free ones beside them. One block fewer is held.
     ///
-    /// Refused, with the block, as [`Arena::release`] refuses it: a block that this arena gave for nothing but `Worn`, where the tick is at
-    /// its last value. Takes no memory.
+    /// A block that is out is live (`live`): so it is refused, and comes back, for nothing but `Worn`, where the tick is at its last value.
+    /// Takes no memory.
     ///
     /// ```text
     /// let block = arena.allocate(100)?;
     /// arena.release(block).is_ok()
     /// ```
     pub fn release(&mut self, block: Block<UNIT>) -> Result<(), (Refusal, Block<UNIT>)>
-        requires { block.piece.region ≡ self.old.region }
-        ensures answer { MatchResult result (λ _. (released_block UNIT self.old.heap block.entry.name block.entry.piece.size).answer ≡ Ok tt) (λ e. (released_block UNIT self.old.heap block.entry.name block.entry.piece.size).answer ≡ Err e.0) }
-        ensures heap { self.new.heap ≡ (released_block UNIT self.old.heap block.entry.name block.entry.piece.size).heap }
+        requires region { block.piece.region ≡ self.old.region }
+        requires book { block.right.book ≡ self.old.book }
+        ensures answer { MatchResult result (λ _. (released self.old.heap block.entry.name).answer ≡ Ok tt) (λ e. (released self.old.heap block.entry.name).answer ≡ Err e.0) }
+        ensures heap { self.new.heap ≡ (released self.old.heap block.entry.name).heap }
         ensures held { OnOk result (self.new.held + 1 ≡ self.old.held) }
 
-        // A refusal changes nothing and gives the block back, and a block that is held is refused at the last tick alone.
+        // A block that is out is live, and a refusal, which comes at the last tick alone, changes nothing and gives it back.
+        ensures live { Holds self.old.heap block.entry.name (units_of block.entry.right.loan) }
+        ensures worn { IfErr result (λ e. e.0 ≡ Refusal.Worn) }
         ensures err { IfErr result (λ e. SamePoolArena self.old self.new × (e.1 ≡ block.entry)) }
-        ensures worn { IfErr result (λ e. (units : ℕ) → block.entry.piece.size ≡ UNIT * units → Holds self.old.heap block.entry.name units → e.0 ≡ Refusal.Worn) }
         ensures others { (other : Name) (units : ℕ) → other ≢ block.entry.name → Holds self.old.heap other units → Holds self.new.heap other units }
         ensures plan { SamePlan self.old self.new }
-        ensures touches { self.new.touches ≤ self.old.touches + 64 }
+        ensures touches { self.new.touches ≤ self.old.touches + 60 }
         ensures touches_rise { self.old.touches ≤ self.new.touches }
     {
         match self.arena.release(block) {
@@ -179,9 +182,8 @@ impl<const SLI: u32, const UNIT: usize> PoolArena<SLI, UNIT> {
     /// Makes a block `len` bytes long or more where it stands, as [`Arena::resize`] does: its name and its address stay, and as many blocks are
     /// held as before.
     ///
-    /// Refused, with the block, as `NoRoom` where `len` is above the longest request, else as [`Arena::resize`] refuses it: a block that this
-    /// arena gave as `NoRoom` where it and the free units behind it are fewer than wanted, else as `Worn` where the tick is at its last value.
-    /// Takes no memory.
+    /// Refused, with the block, as `NoRoom` where `len` is above the longest request, or where it and the free units behind it are fewer than
+    /// wanted, else as `Worn` where the tick is at its last value. Takes no memory.
     ///
     /// What doesn't grow where it stands moves: allocate a second block, copy, and release the first. While fewer blocks are held than may be,
     /// that [`allocate`](PoolArena::allocate) isn't refused for want of room.
@@ -196,18 +198,20 @@ impl<const SLI: u32, const UNIT: usize> PoolArena<SLI, UNIT> {
         block: Block<UNIT>,
         len: u32,
     ) -> Result<Block<UNIT>, (Refusal, Block<UNIT>)>
-        requires { block.piece.region ≡ self.old.region }
-        ensures answer { MatchResult result (λ _. (resized_in_pool UNIT self.old block.entry.name block.entry.piece.size len).answer ≡ Ok tt) (λ e. (resized_in_pool UNIT self.old block.entry.name block.entry.piece.size len).answer ≡ Err e.0) }
-        ensures heap { self.new.heap ≡ (resized_in_pool UNIT self.old block.entry.name block.entry.piece.size len).heap }
+        requires region { block.piece.region ≡ self.old.region }
+        requires book { block.right.book ≡ self.old.book }
+        ensures answer { MatchResult result (λ _. (resized_in_pool UNIT self.old block.entry.name len).answer ≡ Ok tt) (λ e. (resized_in_pool UNIT self.old block.entry.name len).answer ≡ Err e.0) }
+        ensures heap { self.new.heap ≡ (resized_in_pool UNIT self.old block.entry.name len).heap }
 
         // What that comes to: the same block with as many units as hold `len` bytes, or the very block with nothing changed.
-        ensures block { IfOk result (λ b. (b.name ≡ block.entry.name) × (b.piece.region ≡ self.old.region) × (b.piece.at ≡ block.entry.piece.at) × (b.piece.size ≡ piece_size UNIT len)) }
+        ensures block { IfOk result (λ b. (b.name ≡ block.entry.name) × (b.piece.region ≡ self.old.region) × (b.right.book ≡ self.old.book) × (b.piece.at ≡ block.entry.piece.at) × (b.piece.size ≡ piece_size UNIT len)) }
         ensures held { self.new.held ≡ self.old.held }
+        ensures live { len ≤ self.old.longest → Holds self.old.heap block.entry.name (units_of block.entry.right.loan) }
         ensures err { IfErr result (λ e. SamePoolArena self.old self.new × (e.1 ≡ block.entry)) }
-        ensures named { IfErr result (λ e. (units : ℕ) → block.entry.piece.size ≡ UNIT * units → Holds self.old.heap block.entry.name units → (e.0 ≢ Refusal.Stale) × (e.0 ≢ Refusal.Foreign)) }
+        ensures named { IfErr result (λ e. (e.0 ≢ Refusal.Stale) × (e.0 ≢ Refusal.Foreign)) }
         ensures others { (other : Name) (units : ℕ) → other ≢ block.entry.name → Holds self.old.heap other units → Holds self.new.heap other units }
         ensures plan { SamePlan self.old self.new }
-        ensures touches { self.new.touches ≤ self.old.touches + 68 }
+        ensures touches { self.new.touches ≤ self.old.touches + 64 }
         ensures touches_rise { self.old.touches ≤ self.new.touches }
     {
         if self.longest >= len {

@@ -3,8 +3,7 @@ use Rattle.std.proofs.Common.{◌≡◌, ℕ, zero, suc, ◌+◌, ◌*◌, ◌�
 use Rattle.std.specs.List.{range_with_len}
 use Rattle.std.proofs.lemmas.Bool.{false≢true}
 use Rattle.tlsf_heap.specs.Blocks.{HeapState}
-use Rattle.tlsf_heap.specs.Calls.{last_tick}
-use Rattle.tlsf_arena.specs.Arenas.{released_block}
+use Rattle.tlsf_heap.specs.Calls.{last_tick, released}
 use Rattle.tlsf_pool_arena.specs.PoolArenas.{SamePlan}
 use Rattle.tlsf_remote.specs.Remotes.{RemoteState}
 use Rattle.tlsf_remote.specs.declared.parcel.Parcel.{Parcel}
@@ -17,7 +16,7 @@ pub record Drained {u : ℕ} (first now : RemoteState u) (n : ℕ) : Type 0 wher
   pub looks : ¬ (now.arena.heap.tick ≡ last_tick) → now.looks ≡ first.looks ++ range_with_len 0 n
   pub plan : SamePlan first.arena now.arena
   pub long : length now.away ≡ length first.away
-  pub touches : now.arena.touches ≤ first.arena.touches + 64 * n
+  pub touches : now.arena.touches ≤ first.arena.touches + 60 * n
 
 -- an entry that changed, or another
 either_way : {A : Type 0} (l : List A) (at k : ℕ) (a : A) → (slice_get (set l at a) k ≡ slice_get l k) ⊎ (slice_get (set l at a) k ≡ Some a)
@@ -35,16 +34,16 @@ pub next_range : (at : ℕ) → range_with_len 0 at ++ at ∷ [] ≡ range_with_
 next_range at =
     sym (one_more 0 at ∙ ap (λ (j : ℕ). range_with_len 0 at ++ j ∷ []) (let e : 0 + at ≡ at = omega arith in e)) ∙ ap (λ (j : ℕ). range_with_len 0 j) (let e : suc at ≡ at + 1 = omega arith in e)
 
-module _ {u : ℕ} (first old new : RemoteState u) (at : ℕ) (was : Drained first old at) (own : new.places ≡ old.places) (plan : SamePlan old.arena new.arena) (touches : new.arena.touches ≤ old.arena.touches + 64) where
+module _ {u : ℕ} (first old new : RemoteState u) (at : ℕ) (was : Drained first old at) (own : new.places ≡ old.places) (plan : SamePlan old.arena new.arena) (touches : new.arena.touches ≤ old.arena.touches + 60) where
   plans : SamePlan first.arena new.arena
-  plans = record { region = plan.region ∙ was.plan.region; most = plan.most ∙ was.plan.most; longest = plan.longest ∙ was.plan.longest }
+  plans = record { region = plan.region ∙ was.plan.region; book = plan.book ∙ was.plan.book; most = plan.most ∙ was.plan.most; longest = plan.longest ∙ was.plan.longest }
 
   seen : (¬ (old.arena.heap.tick ≡ last_tick) → new.looks ≡ old.looks ++ at ∷ []) → ¬ (old.arena.heap.tick ≡ last_tick) → new.looks ≡ first.looks ++ range_with_len 0 (at + 1)
   seen looks fresh =
       looks fresh ∙ ap (λ (l : List ℕ). l ++ at ∷ []) (was.looks fresh) ∙ append_assoc first.looks (range_with_len 0 at) (at ∷ []) ∙ ap (λ (l : List ℕ). first.looks ++ l) (next_range at)
 
   pub one_drained : (result : Bool)
-      → (result ≡ true → (b : Parcel u) × (slice_get old.away at ≡ Some (Some b)) × (new.away ≡ set old.away at None) × (new.arena.heap ≡ (released_block u old.arena.heap b.block.name b.block.piece.size).heap) × (new.arena.held + 1 ≡ old.arena.held))
+      → (result ≡ true → (b : Parcel u) × (slice_get old.away at ≡ Some (Some b)) × (new.away ≡ set old.away at None) × (new.arena.heap ≡ (released old.arena.heap b.block.name).heap) × (new.arena.held + 1 ≡ old.arena.held))
       → (result ≡ false → (new.away ≡ old.away) × (new.arena.heap ≡ old.arena.heap) × (new.arena.held ≡ old.arena.held))
       → (¬ (old.arena.heap.tick ≡ last_tick) → new.looks ≡ old.looks ++ at ∷ []) → (old.arena.heap.tick ≡ last_tick → result ≡ false) → Drained first new (at + 1)
   one_drained true home none looks worn =

@@ -1,9 +1,8 @@
 -- An arena whose blocks are away by places.
-use Rattle.std.specs.Prelude.{◌≡◌, ℕ, ◌+◌, ◌*◌, ◌<◌, List, length, count_by, Option, Some, None, is_none, slice_get, slice_set}
+use Rattle.std.specs.Prelude.{◌≡◌, ℕ, ◌+◌, ◌<◌, List, length, count_by, Option, Some, None, is_none, slice_get, slice_set}
+use base.Fml.{GName}
 use Rattle.linked_list_allocator.specs.Region.{Region}
 use Rattle.atomic_table.specs.Seated.{TableId}
-use Rattle.tlsf_heap.specs.Blocks.{HeapState}
-use Rattle.tlsf_arena.specs.Arenas.{Holds}
 use Rattle.tlsf_pool_arena.specs.PoolArenas.{PoolArenaState}
 use Rattle.tlsf_remote.specs.declared.parcel.Parcel.{Parcel}
 
@@ -14,10 +13,13 @@ pub record RemoteState (u : ℕ) : Type 0 where
   pub looks : List ℕ
   pub places : TableId
 
--- each block that is away is one that the heap holds, and none is away by two places
-pub record AreAway (u : ℕ) (h : HeapState) (region : Region) (away : List (Option (Parcel u))) : Type 0 where
-  pub held : (k : ℕ) (b : Parcel u) → slice_get away k ≡ Some (Some b) → (b.block.piece.region ≡ region) × ((units : ℕ) × (b.block.piece.size ≡ u * units) × Holds h b.block.name units)
-  pub apart : (j k : ℕ) (b c : Parcel u) → slice_get away j ≡ Some (Some b) → slice_get away k ≡ Some (Some c) → b.block.name ≡ c.block.name → j ≡ k
+-- a block of this memory, whose right is of this book
+abbrev pub IsFrom : {u : ℕ} → Region → GName → Parcel u → Type 0
+IsFrom region book b = (b.block.piece.region ≡ region) × (b.block.right.book ≡ book)
+
+-- each block that is away is one of this memory and this book
+pub record AreAway (u : ℕ) (region : Region) (book : GName) (away : List (Option (Parcel u))) : Type 0 where
+  pub from : (k : ℕ) (b : Parcel u) → slice_get away k ≡ Some (Some b) → IsFrom region book b
 
 -- a block is away from now on by a place by which none was
 abbrev pub IsAwayBy : {u : ℕ} → List (Option (Parcel u)) → List (Option (Parcel u)) → ℕ → Parcel u → Type 0

@@ -1,8 +1,8 @@
 ghost use Rattle.std.specs.Prelude.{◌≡◌, ◌↔◌, ◌⊎◌, ℕ, ◌+◌, ◌*◌, ◌<◌, ◌≤◌, [], ◌∷◌, ◌++◌, length, true, false, Some, None, IfOk, IsOk, IsErrOf, OnOk, OnErr, Ok, replicate, slice_get, slice_set};
 ghost use Rattle.std.specs.List.{range_with_len};
 ghost use Rattle.tlsf_class.specs.Classes.{IsLevel};
-ghost use Rattle.tlsf_heap.specs.Calls.{last_tick, opened};
-ghost use Rattle.tlsf_arena.specs.Arenas.{Holds, released_block, requested};
+ghost use Rattle.tlsf_heap.specs.Calls.{last_tick, opened, released};
+ghost use Rattle.tlsf_arena.specs.Arenas.{Holds, requested};
 ghost use Rattle.tlsf_arena.specs.Places.{IsUnit, piece_size, units_for};
 ghost use Rattle.tlsf_pool_arena.specs.PoolArenas.{SamePlan, SamePoolArena, units_of_pool};
 ghost use Rattle.tlsf_remote.specs.Remotes.{IsAwayBy, NoneLost, idle_places};
@@ -38,7 +38,7 @@ impl<const SLI: u32, const UNIT: usize> Model for RemoteArena<SLI, UNIT> {
 
     ghost view = { λ r. record { arena = r.arena; away = away_by r.owner; looks = looks_of r.owner; places = owner_id r.owner } };
 
-    ghost invariant = { λ r. AreAway UNIT r.arena.heap r.arena.region (away_by r.owner) × (r.count ≡ length (away_by r.owner)) × (r.count ≡ r.arena.most) × AreIdle UNIT r.count (r.count - r.arena.held) r.idle.items (away_by r.owner) × (r.arena.held ≤ r.count) };
+    ghost invariant = { λ r. AreAway UNIT r.arena.region r.arena.book (away_by r.owner) × (r.count ≡ length (away_by r.owner)) × (r.count ≡ r.arena.most) × AreIdle UNIT r.count (r.count - r.arena.held) r.idle.items (away_by r.owner) × (r.arena.held ≤ r.count) };
 }
 
 impl<const SLI: u32, const UNIT: usize> RemoteArena<SLI, UNIT> {
@@ -102,7 +102,7 @@ impl<const SLI: u32, const UNIT: usize> RemoteArena<SLI, UNIT> {
         // The block is the arena's, and is away by one of the places by which none was.
         ensures answer { IfOk result (λ b. (requested SLI UNIT self.old.arena.heap len).answer ≡ Ok b.parcel.block.name) }
         ensures heap { OnOk result (self.new.arena.heap ≡ (requested SLI UNIT self.old.arena.heap len).heap) }
-        ensures block { IfOk result (λ b. (b.parcel.block.piece.region ≡ self.old.arena.region) × (b.parcel.block.piece.size ≡ piece_size UNIT len)) }
+        ensures block { IfOk result (λ b. (b.parcel.block.piece.region ≡ self.old.arena.region) × (b.parcel.block.right.book ≡ self.old.arena.book) × (b.parcel.block.piece.size ≡ piece_size UNIT len)) }
         ensures holds { IfOk result (λ b. Holds self.new.arena.heap b.parcel.block.name (units_for UNIT len)) }
         ensures away { IfOk result (λ b. IsAwayBy self.old.away self.new.away (place_by b.ticket) b.parcel) }
         ensures place { IfOk result (λ b. place_by b.ticket < self.new.arena.most) }
@@ -136,13 +136,13 @@ impl<const SLI: u32, const UNIT: usize> RemoteArena<SLI, UNIT> {
         requires own { self.old.places ≡ id_of places.now }
         requires place { at < self.old.arena.most }
         ensures own { self.new.places ≡ self.old.places }
-        ensures home { result ≡ true → (b : parcel.Parcel UNIT) × (slice_get self.old.away at ≡ Some (Some b)) × (self.new.away ≡ slice_set self.old.away at None) × (self.new.arena.heap ≡ (released_block UNIT self.old.arena.heap b.block.name b.block.piece.size).heap) × (self.new.arena.held + 1 ≡ self.old.arena.held) }
+        ensures home { result ≡ true → (b : parcel.Parcel UNIT) × (slice_get self.old.away at ≡ Some (Some b)) × (self.new.away ≡ slice_set self.old.away at None) × (self.new.arena.heap ≡ (released self.old.arena.heap b.block.name).heap) × (self.new.arena.held + 1 ≡ self.old.arena.held) }
         ensures none { result ≡ false → (self.new.away ≡ self.old.away) × (self.new.arena.heap ≡ self.old.arena.heap) × (self.new.arena.held ≡ self.old.arena.held) }
         ensures plan { SamePlan self.old.arena self.new.arena }
         ensures looks { ¬ (self.old.arena.heap.tick ≡ last_tick) → self.new.looks ≡ self.old.looks ++ at ∷ [] }
         ensures worn { self.old.arena.heap.tick ≡ last_tick → result ≡ false }
         ensures idle { NoneLost self.new }
-        ensures touches { self.new.arena.touches ≤ self.old.arena.touches + 64 }
+        ensures touches { self.new.arena.touches ≤ self.old.arena.touches + 60 }
     {
         if self.arena.tick() == u64::MAX {
             return false;
@@ -174,8 +174,8 @@ impl<const SLI: u32, const UNIT: usize> RemoteArena<SLI, UNIT> {
         ensures idle { NoneLost self.new }
         ensures plan { SamePlan self.old.arena self.new.arena }
 
-        // At most 64 touches for each place.
-        ensures touches { self.new.arena.touches ≤ self.old.arena.touches + 64 * self.old.arena.most }
+        // At most 60 touches for each place.
+        ensures touches { self.new.arena.touches ≤ self.old.arena.touches + 60 * self.old.arena.most }
     {
         let before = self.arena.held();
         for at in 0..self.count {

@@ -30,17 +30,17 @@ impl<'a, const UNIT: usize> RemoteBlock<'a, UNIT> {
     /// ```
     pub fn with_parts(self) -> (*mut u8, usize, RemoteBlock<'a, UNIT>)
         ensures bytes { (result.0 ≡ self.entry.parcel.block.piece.ptr) × (result.1 ≡ self.entry.parcel.block.piece.size) }
-        ensures same { (result.2.parcel.block.name ≡ self.entry.parcel.block.name) × (result.2.parcel.block.piece ≡ self.entry.parcel.block.piece) }
+        ensures same { (result.2.parcel.block.name ≡ self.entry.parcel.block.name) × (result.2.parcel.block.piece ≡ self.entry.parcel.block.piece) × (result.2.parcel.block.right ≡ self.entry.parcel.block.right) }
     {
         let RemoteBlock {
             parcel,
             ticket,
             places,
         } = self;
-        let Block { name, piece } = parcel.into_block();
+        let Block { name, piece, right } = parcel.into_block();
         let (ptr, piece) = piece.with_ptr();
         let (size, piece) = piece.with_size();
-        let block = Block { name, piece };
+        let block = Block { name, piece, right };
         let parcel = Parcel { block };
         (
             ptr,

@@ -1,4 +1,5 @@
 ghost use Rattle.std.specs.Prelude.{◌≡◌};
+ghost use Rattle.tlsf_arena.specs.Arenas.{SameHome};
 
 use std::mem::ManuallyDrop;
 use std::test::Fail;
@@ -31,8 +32,9 @@ fn memory_goes_from_arena_to_arena(rt: HostRuntime) -> Result<(), Fail> {
 }
 
 fn is_back(arena: &mut Arena<4, 64>, block: Block<64>) -> bool
-    requires { block.piece.region ≡ arena.old.region }
-    ensures { arena.new.region ≡ arena.old.region }
+    requires region { block.piece.region ≡ arena.old.region }
+    requires book { block.right.book ≡ arena.old.book }
+    ensures { SameHome arena.old arena.new }
 {
     match arena.release(block) {
         Ok(()) => true,

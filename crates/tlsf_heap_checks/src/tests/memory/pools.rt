@@ -39,8 +39,10 @@ fn an_arena_of_a_pool_has_so_many_units(rt: HostRuntime) {
 type Resized = ((bool, u32), (bool, u32), bool);
 
 fn resized_thrice(arena: &mut PoolArena<4, 16>, block: Block<16>) -> (Block<16>, Resized)
-    requires { block.piece.region ≡ arena.old.region }
-    ensures { (result.0.piece.region ≡ arena.new.region) × (arena.new.region ≡ arena.old.region) }
+    requires region { block.piece.region ≡ arena.old.region }
+    requires book { block.right.book ≡ arena.old.book }
+    ensures block { (result.0.piece.region ≡ arena.old.region) × (result.0.right.book ≡ arena.old.book) }
+    ensures home { (arena.new.region ≡ arena.old.region) × (arena.new.book ≡ arena.old.book) }
 {
     let (block, is_grown) = resized(arena, block, 200);
     let grown = (is_grown, arena.report().live_words);
@@ -74,8 +76,10 @@ fn a_block_grows_where_it_stands_or_moves(rt: HostRuntime) {
 }
 
 fn resized(arena: &mut PoolArena<4, 16>, block: Block<16>, len: u32) -> (Block<16>, bool)
-    requires { block.piece.region ≡ arena.old.region }
-    ensures { (result.0.piece.region ≡ arena.new.region) × (arena.new.region ≡ arena.old.region) }
+    requires region { block.piece.region ≡ arena.old.region }
+    requires book { block.right.book ≡ arena.old.book }
+    ensures block { (result.0.piece.region ≡ arena.old.region) × (result.0.right.book ≡ arena.old.book) }
+    ensures home { (arena.new.region ≡ arena.old.region) × (arena.new.book ≡ arena.old.book) }
 {
     match arena.resize(block, len) {
         Ok(block) => (block, true),
@@ -85,7 +89,7 @@ fn resized(arena: &mut PoolArena<4, 16>, block: Block<16>, len: u32) -> (Block<1
 
 /// Why a request is refused. A block that is given all the same is lost.
 fn why(arena: &mut PoolArena<4, 16>, len: u32) -> Option<PoolRefusal>
-    ensures { arena.new.region ≡ arena.old.region }
+    ensures { (arena.new.region ≡ arena.old.region) × (arena.new.book ≡ arena.old.book) }
 {
     match arena.allocate(len) {
         Ok(block) => {
@@ -97,8 +101,9 @@ fn why(arena: &mut PoolArena<4, 16>, len: u32) -> Option<PoolRefusal>
 }
 
 fn is_back(arena: &mut PoolArena<4, 16>, block: Block<16>) -> bool
-    requires { block.piece.region ≡ arena.old.region }
-    ensures { arena.new.region ≡ arena.old.region }
+    requires region { block.piece.region ≡ arena.old.region }
+    requires book { block.right.book ≡ arena.old.book }
+    ensures { (arena.new.region ≡ arena.old.region) × (arena.new.book ≡ arena.old.book) }
 {
     match arena.release(block) {
         Ok(()) => true,

@@ -3,7 +3,9 @@ use Rattle.tlsf_heap.specs.Calls.{allocated_words}
 use Rattle.tlsf_heap.specs.Blocks.{HeapState}
 use Rattle.tlsf_heap.specs.Lawful.{IsLawful}
 use Rattle.tlsf_arena.specs.Arenas.{Holds, IsMapped}
+use Rattle.tlsf_arena.specs.Loans.{IsBook}
 use Rattle.tlsf_arena.specs.Places.{lacking}
+use Rattle.tlsf_arena.proofs.Books.{after_allocate, fresh_loan}
 use Rattle.tlsf_arena.proofs.Holding.{Keeps, allocated_id, allocated_keeps, kept}
 use Rattle.tlsf_arena.proofs.Mapped.{carves, lacks}
 use Rattle.tlsf_arena.proofs.Maps.{holds_given}
@@ -32,7 +34,19 @@ invariant_of-self-2 g c =
     mapped e.was_lawful c.grains_before.ensures.grains c.bytes_of.ensures.grains (sym c.in_ok-name.was ∙ e.answer ∙ ap (λ (j : ℕ). (allocated_words g.row.SLI c.deref_mut.result.now.heap k j).answer) c.lacking.ensures)
     (e.heap ∙ ap (λ (j : ℕ). (allocated_words g.row.SLI c.deref_mut.result.now.heap k j).heap) c.lacking.ensures) in
     let lent = c.replace_with-piece.ensures in
-    (got.1 c.replace_with-piece.new.dest.free lent.2, (lent.0 ∙ c.self.invariant.1.0, c.self.invariant.1.1), c.self.invariant.2 ∙ ap (λ s. s.heap.id) (sym c.deref_mut.ensures.value) ∙ sym (ap (λ (h : HeapState). h.id) e.heap ∙ allocated_id g.row.SLI k c.lacking.result c.deref_mut.result.now.heap))
+    let book = subst (λ s. IsBook a.book.out s.heap) (sym c.deref_mut.ensures.value) c.self.invariant.3 in (
+      got.1 c.replace_with-piece.new.dest.free lent.2,
+      (lent.0 ∙ c.self.invariant.1.0, c.self.invariant.1.1),
+      c.self.invariant.2 ∙ ap (λ s. s.heap.id) (sym c.deref_mut.ensures.value) ∙ sym (ap (λ (h : HeapState). h.id) e.heap ∙ allocated_id g.row.SLI k c.lacking.result c.deref_mut.result.now.heap),
+      after_allocate g.row.SLI mapped.level c.deref_mut.result.now.heap c.allocate_words.new.self.heap k c.lacking.result c.in_ok-name.name a.book.out c.replace_with-right.new.dest.out book c.lacking.ensures (sym e.answer ∙ c.in_ok-name.was) e.heap e.lawful c.replace_with-right.ensures.1,
+    )
+
+pub replace_with-right-requires : goal.replace_with-right-requires
+replace_with-right-requires g c =
+    let a = c.self.inside in
+    let e = c.allocate_words.ensures in
+    let book = subst (λ s. IsBook a.book.out s.heap) (sym c.deref_mut.ensures.value) c.self.invariant.3 in
+    fresh_loan g.row.SLI c.deref_mut.result.now.heap c.units_of-units.result c.lacking.result c.in_ok-name.name a.book.out c.units_of-units.result e.was_lawful book (sym e.answer ∙ c.in_ok-name.was)
 
 pub returns-clause-holds : goal.returns-clause-holds
 returns-clause-holds g c =

@@ -1,24 +1,78 @@
-use Rattle.std.proofs.Common.{◌≡◌, ℕ, Some, None, sym, ap, ◌∙◌}
-use Rattle.std.specs.Prelude.{option_map}
+use Rattle.std.proofs.Common.{◌≡◌, ℕ, ◌*◌, ◌<◌, ◌∷◌, sym, ap, subst, ◌∙◌}
 use Rattle.tlsf_heap.specs.Blocks.{HeapState}
 use Rattle.tlsf_heap.specs.Calls.{resized_words}
-use Rattle.tlsf_arena.specs.Arenas.{if_held}
-use Rattle.tlsf_arena.specs.Places.{held_at, lacking}
-use Rattle.tlsf_arena.proofs.Holding.{stays_resized}
+use Rattle.tlsf_heap.specs.declared.name.Name.{Name}
+use Rattle.tlsf_arena.specs.Arenas.{Holds, IsMapped}
+use Rattle.tlsf_arena.specs.Loans.{is_out, loan_of, units_of, without, IsBook}
+use Rattle.tlsf_arena.proofs.Books.{after_resize, no_second}
+use Rattle.tlsf_arena.proofs.Holding.{resized_id, stays_resized}
+use Rattle.tlsf_arena.proofs.Mapped.{extends}
 use Rattle.tlsf_arena.proofs.Maps.{held_of}
 use Rattle.tlsf_arena.proofs.arena.Arena.extend.Goals as goal
 
-pub returns-in_default-clause-held : goal.returns-in_default-clause-held
-returns-in_default-clause-held g c = λ units size holds.
-    let heap = c.args.self.now.heap in
-    let is : held_at heap.blocks c.args.name.at ≡ Some units = held_of heap c.args.name units holds.0 c.held_block.ensures.lawful holds.2 holds.3 in
-    let none : None ≡ Some units = sym (ap (option_map (λ p. p.1)) c.in_default.is) ∙ sym c.held_block.ensures.held ∙ is in
-    absurd (let no : ⊥ = cc in no)
+pub replace_with-rest-requires : goal.replace_with-rest-requires
+replace_with-rest-requires g c =
+    let a = c.self.inside in
+    let u = g.row.UNIT in
+    let name = c.args.name in
+    let n = c.units_of-units.result in
+    let t = c.args.right.loan in
+    let known = c.replace_with-right.ensures in
+    let value = c.deref_mut.ensures.value in
+    let heap = c.deref_mut.result.now.heap in
+    let book = subst (λ s. IsBook a.book.out s.heap) (sym value) c.self.invariant.3 in
+    let mapped = subst (λ s. IsMapped g.row.SLI u a.units s.heap a.space.free) (sym value) c.self.invariant.0 in
+    let live = subst (λ (m : Name). Holds heap m (units_of t)) c.requires.loan.0 (book t known.2) in
+    let e = c.resize_words.ensures in
+    let got = extends g.row.SLI u a.units heap c.resize_words.new.self.heap a.space.free name (units_of t) n mapped e.was_lawful (held_of heap name (units_of t) live.0 e.was_lawful live.2 live.3)
+    (sym c.in_default.is ∙ e.answer ∙ ap (λ (j : ℕ). (resized_words heap name n j).answer) c.lacking.ensures) (e.heap ∙ ap (λ (j : ℕ). (resized_words heap name n j).heap) c.lacking.ensures)
+    c.grains_before.result c.bytes_of.result c.args.size c.grains_before.ensures.grains c.bytes_of.ensures.bytes c.requires.loan.1
+    (subst (λ (j : ℕ). c.args.size < j) (ap (λ (j : ℕ). u * j) (sym c.units_of-units.ensures.units) ∙ sym c.bytes_of.ensures.bytes) c.requires.longer) in
+    got.0
+
+pub replace_with-right-requires-2 : goal.replace_with-right-requires-2
+replace_with-right-requires-2 g c =
+    let a = c.self.inside in
+    let u = g.row.UNIT in
+    let name = c.args.name in
+    let n = c.units_of-units.result in
+    let t = c.args.right.loan in
+    let known = c.replace_with-right.ensures in
+    let value = c.deref_mut.ensures.value in
+    let heap = c.deref_mut.result.now.heap in
+    let book = subst (λ s. IsBook a.book.out s.heap) (sym value) c.self.invariant.3 in
+    let ours = ap (λ r. r.book) known.1 ∙ c.requires.book ∙ sym (ap (λ s. s.book) c.self.view_is) ∙ sym (ap (λ b. b.name) known.0) in
+    (ours, (λ i. is_out (without (known.1 i).loan (known.0 i).out) (loan_of (sym c.requires.loan.0 i) n)) ∙ no_second a.book.out heap t n book known.2)
+
+pub invariant_of-self-2 : goal.invariant_of-self-2
+invariant_of-self-2 g c =
+    let a = c.self.inside in
+    let u = g.row.UNIT in
+    let name = c.args.name in
+    let n = c.units_of-units.result in
+    let t = c.args.right.loan in
+    let known = c.replace_with-right.ensures in
+    let value = c.deref_mut.ensures.value in
+    let heap = c.deref_mut.result.now.heap in
+    let book = subst (λ s. IsBook a.book.out s.heap) (sym value) c.self.invariant.3 in
+    let mapped = subst (λ s. IsMapped g.row.SLI u a.units s.heap a.space.free) (sym value) c.self.invariant.0 in
+    let live = subst (λ (m : Name). Holds heap m (units_of t)) c.requires.loan.0 (book t known.2) in
+    let e = c.resize_words.ensures in
+    let got = extends g.row.SLI u a.units heap c.resize_words.new.self.heap a.space.free name (units_of t) n mapped e.was_lawful (held_of heap name (units_of t) live.0 e.was_lawful live.2 live.3)
+    (sym c.in_default.is ∙ e.answer ∙ ap (λ (j : ℕ). (resized_words heap name n j).answer) c.lacking.ensures) (e.heap ∙ ap (λ (j : ℕ). (resized_words heap name n j).heap) c.lacking.ensures)
+    c.grains_before.result c.bytes_of.result c.args.size c.grains_before.ensures.grains c.bytes_of.ensures.bytes c.requires.loan.1
+    (subst (λ (j : ℕ). c.args.size < j) (ap (λ (j : ℕ). u * j) (sym c.units_of-units.ensures.units) ∙ sym c.bytes_of.ensures.bytes) c.requires.longer) in
+    let lent = c.replace_with-rest.ensures in
+    let left = c.replace_with-right-2.ensures.0.1 ∙ (λ i. loan_of name n ∷ without (known.1 i).loan (known.0 i).out) in (
+      got.1 c.replace_with-rest.new.dest.free lent.2,
+      (lent.0 ∙ c.self.invariant.1.0, c.self.invariant.1.1),
+      c.self.invariant.2 ∙ ap (λ s. s.heap.id) (sym value) ∙ sym (ap (λ (h : HeapState). h.id) e.heap ∙ resized_id heap name n c.lacking.result),
+      after_resize heap c.resize_words.new.self.heap name t n c.lacking.result a.book.out c.replace_with-right-2.new.dest.out book known.2 c.requires.loan.0 c.lacking.ensures (sym (sym c.in_default.is ∙ e.answer)) e.heap e.lawful left,
+    )
 
 pub returns-clause-others : goal.returns-clause-others
 returns-clause-others g c = λ other units apart holds.
-    let u = g.row.UNIT in
-    let name = c.args.name in
-    let e = c.extend_held.ensures in
-    let left = e.heap ∙ (λ i. (let h : HeapState = c.held_block.ensures.same.0 i in let k : ℕ = c.units_of.ensures.units i in if_held u h name c.args.size (resized_words h name k (lacking k))).heap) in
-    stays_resized u c.args.size c.args.self.now.heap c.extend_held.new.self.heap other name units e.lawful apart holds c.args.len left
+    let heap = c.deref_mut.result.now.heap in
+    let same : heap ≡ c.args.self.now.heap = ap (λ s. s.heap) c.deref_mut.ensures.value ∙ ap (λ s. s.heap) c.self.view_is in
+    let e = c.resize_words.ensures in
+    stays_resized heap c.resize_words.new.self.heap other c.args.name units e.lawful apart (subst (λ (h : HeapState). Holds h other units) (sym same) holds) c.units_of-units.result c.lacking.result e.heap

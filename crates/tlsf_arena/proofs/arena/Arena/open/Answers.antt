@@ -1,7 +1,9 @@
-use Rattle.std.proofs.Common.{◌≡◌, ℕ, ◌/◌, true, replicate, sym, ap, subst, ◌∙◌}
+use Rattle.std.proofs.Common.{◌≡◌, ℕ, List, ◌/◌, true, replicate, sym, ap, subst, ◌∙◌}
 use Rattle.std.specs.List.{AllByRecursion}
 use Rattle.tlsf_heap.specs.Blocks.{HeapState}
 use Rattle.tlsf_heap.specs.Lawful.{HasRoom}
+use Rattle.tlsf_arena.specs.Loans.{Loan, IsBook}
+use Rattle.tlsf_arena.proofs.Books.{no_loans}
 use Rattle.tlsf_arena.proofs.Mapped.{few_units, opens}
 use Rattle.tlsf_arena.proofs.arena.Arena.open.Goals as goal
 
@@ -20,4 +22,5 @@ invariant_of-result g c =
           (space.2 ∙ ap (λ (m : ℕ). replicate (m / 16) true) (ap (λ m. m.size) same ∙ memory.0)),
       (space.1 ∙ ap (λ m. m.ptr) same ∙ sym c.with_ptr-base.ensures.0, (ap (λ l. l.alloc) lease ∙ memory.1, (ap (λ l. l.ptr) lease ∙ memory.2 ∙ sym c.with_ptr-base.ensures.0, ap (λ l. l.size) lease ∙ memory.3 ∙ c.bytes_of.ensures.bytes))),
       sym (ap (λ (h : HeapState). h.id) (is ∙ opened.heap)),
+      subst (λ (l : List Loan). IsBook l c.in-Ok.heap.value.heap) (sym c.new-3.ensures) (no_loans c.in-Ok.heap.value.heap),
     )

@@ -1,7 +1,9 @@
-use Rattle.std.proofs.Common.{◌≡◌, ℕ, ◌*◌, ◌/◌, true, replicate, sym, ap, subst, ◌∙◌, arith}
+use Rattle.std.proofs.Common.{◌≡◌, ℕ, List, ◌*◌, ◌/◌, true, replicate, sym, ap, subst, ◌∙◌, arith}
 use Rattle.std.specs.List.{AllByRecursion}
 use Rattle.tlsf_heap.specs.Blocks.{HeapState}
 use Rattle.tlsf_heap.specs.Lawful.{HasRoom}
+use Rattle.tlsf_arena.specs.Loans.{Loan, IsBook}
+use Rattle.tlsf_arena.proofs.Books.{no_loans}
 use Rattle.tlsf_arena.proofs.Mapped.{few_units, opens}
 use Rattle.tlsf_arena.proofs.UnitCases.{grains_of}
 use Rattle.tlsf_arena.proofs.arena.Arena.open_in.Goals as goal
@@ -20,4 +22,5 @@ invariant_of-result g c =
           (space.2 ∙ ap (λ (m : ℕ). replicate (m / 16) true) (ap (λ m. m.size) same)),
       (space.1 ∙ ap (λ m. m.ptr) same ∙ sym c.with_ptr-base.ensures.0, tt),
       sym (ap (λ (h : HeapState). h.id) (is ∙ opened.heap)),
+      subst (λ (l : List Loan). IsBook l c.in-Ok-new.heap.value.heap) (sym c.new-2.ensures) (no_loans c.in-Ok-new.heap.value.heap),
     )

@@ -4,11 +4,11 @@ use Rattle.tlsf_arena.proofs.arena.Arena.release.Goals as goal
 
 pub returns-in-Ok-clause-others : goal.returns-in-Ok-clause-others
 returns-in-Ok-clause-others g c = λ other units apart holds.
-    let e = c.give.ensures in stays_released g.row.UNIT c.args.block.piece.size c.args.self.now.heap c.give.new.self.heap other c.args.block.name units e.lawful apart holds e.heap
+    let e = c.give.ensures in stays_released c.args.self.now.heap c.give.new.self.heap other c.args.block.name units e.lawful apart holds e.heap
 
 pub returns-in-Err-clause-others : goal.returns-in-Err-clause-others
 returns-in-Err-clause-others g c = λ other units apart holds.
-    let e = c.give.ensures in stays_released g.row.UNIT c.args.block.piece.size c.args.self.now.heap c.give.new.self.heap other c.args.block.name units e.lawful apart holds e.heap
+    let e = c.give.ensures in stays_released c.args.self.now.heap c.give.new.self.heap other c.args.block.name units e.lawful apart holds e.heap
 
 pub returns-in-Err-clause-err : goal.returns-in-Err-clause-err
-returns-in-Err-clause-err g c = (c.in-Err.ensures.err.0, same_block g.row.UNIT c.in-Err.piece c.args.block _ c.in-Err.ensures.err.1)
+returns-in-Err-clause-err g c = (c.in-Err.ensures.err.0, same_block g.row.UNIT c.in-Err.piece c.in-Err.right c.args.block _ _ c.in-Err.ensures.err.1 c.in-Err.ensures.err.2)

@@ -16,7 +16,7 @@ use types.Part.{whole, sub, agg}
 use types.Run.{stop, fld, of_opd, no_more, and_then, first, blocks, exec, returns, enter}
 use types.ByLocal.{alloc_all, pass_all, free_all, look_at, get, get_in, sets, lands_last, env}
 use denote.RattleType.{RattleType, owns}
-use denote.RawPtr.{Ptr, block_ptr}
+use denote.RawPtr.{Ptr, block_ptr, count_of}
 use denote.Memory.{part_at}
 use denote.Param.{param, layout, layouts}
 use denote.Signature.{types_at}
@@ -129,10 +129,10 @@ move_to_spec 𝓤 𝓛 𝓜 𝓡 wired T L =
     returns ! (look_at ! 0 refl) $ free_all ! refl $
     let there : (buffer.the_row R).Denot = record { ptr = new; marker = record {}; unit = u; region = r; len = len; cap = cap'; items = xs } in
     let back : (piece.the_row).Denot = record { ptr = old; size = m; region = r; at = at; placed = subst (λ (j : ℕ). IsPiece r old at j) owed' (refl, lies.1, lies.2, lies.3, lies.4) } in
-    let v : Val = pair_val (buffer_val new) (sized_val old m) in let Moved : Type 0 = (u ≡ u) × (r ≡ r) × (len ≡ len) × (cap' ≡ cap') × (xs ≡ xs) in let Back : Type 0 = (r ≡ r) × (m ≡ m) in
+    let v : Val = pair_val (buffer_val new) (sized_val old m) in let Moved : Type 0 = (new ≡ w.ptr) × (u ≡ u) × (r ≡ r) × (len ≡ len) × (cap' ≡ cap') × (xs ≡ xs) in let Back : Type 0 = (r ≡ r) × (at ≡ count_of x.ptr) × (m ≡ m) in
     use0 𝓛 (‵ (sized_own old m (sized_val old m ∷ []))) (sized_made 𝓛 old m fits) $ fjoin ! $
     move ! (1 ∷ 3 ∷ 4 ∷ []) $ fjoin3 ! $ use0 𝓛 (‵ (buffer_own new (buffer_val new ∷ []))) (buffer_made 𝓛 new tt) $ fjoin ! $
     use2 𝓛 (‵ ((Tuple (buffer.the_row R ∷ piece.the_row ∷ [])).own_val (there, back) (v ∷ []))) (pair_of 𝓛 (buffer.the_row R) piece.the_row there back (buffer_val new) (sized_val old m)) $
-    use0 𝓛 (raw (fact 𝓤 Back)) (fact_i 𝓤 Back (emp 𝓤) (refl, refl)) $ use0 𝓛 (raw (fact 𝓤 Moved)) (fact_i 𝓤 Moved (emp 𝓤) (refl, refl, refl, refl, refl)) $ join ! $
+    use0 𝓛 (raw (fact 𝓤 Back)) (fact_i 𝓤 Back (emp 𝓤) (refl, sym (ap count_of lies.0), refl)) $ use0 𝓛 (raw (fact 𝓤 Moved)) (fact_i 𝓤 Moved (emp 𝓤) (sym lies', refl, refl, refl, refl, refl)) $ join ! $
     nothing ! $ nothing ! $ fjoin ! $ nothing ! $ fjoin ! $ nothing ! $ fjoin ! $ nothing ! $ fjoin ! $ nothing ! $ fjoin ! $ nothing ! $ move ! (4 ∷ 0 ∷ []) $ join ! $ move ! (0 ∷ 1 ∷ 3 ∷ []) $
     by ! (leaves 𝓛 En₀ stays c z v (there, back) (tt, (tt, (tt, (tt, (tt, tt))))) (tt, (tt, (tt, (tt, (tt, tt))))))))))))))))))

@@ -86,8 +86,8 @@ refitted_spec 𝓤 𝓛 𝓜 𝓡 wired T L =
     sets ! (agg ! (and_then ! (get ! refl) (and_then ! (get ! refl) (no_more !)))) refl (tt, (tt, (tt, tt))) $
     returns ! (look_at ! 0 refl) $ free_all ! refl $
     let there : (buffer.the_row R).Denot = record { ptr = p; marker = record {}; unit = u; region = r; len = len; cap = cap'; items = xs } in
-    let Out : Type 0 = (u ≡ u) × (r ≡ r) × (len ≡ len) × (cap' ≡ cap') × (xs ≡ xs) in
+    let Out : Type 0 = (p ≡ x.ptr) × (u ≡ u) × (r ≡ r) × (len ≡ len) × (cap' ≡ cap') × (xs ≡ xs) in
     use0 𝓛 (‵ (buffer_own p (buffer_val p ∷ []))) (buffer_made 𝓛 p tt) $ fjoin ! $
-    use0 𝓛 (raw (fact 𝓤 Out)) (fact_i 𝓤 Out (emp 𝓤) (refl, refl, refl, refl, refl)) $
+    use0 𝓛 (raw (fact 𝓤 Out)) (fact_i 𝓤 Out (emp 𝓤) (sym lies.0, refl, refl, refl, refl, refl)) $
     nothing ! $ nothing ! $ fjoin ! $ nothing ! $ fjoin ! $ nothing ! $ move ! (4 ∷ 0 ∷ []) $ join ! $ move ! (0 ∷ 1 ∷ 3 ∷ []) $
     by ! (leaves 𝓛 En₀ stays c z (buffer_val p) there (tt, (tt, tt)) (tt, (tt, tt)))))))))))

@@ -2,8 +2,8 @@ use Rattle.std.proofs.Common.{sym, ap, ◌∙◌}
 use Rattle.tlsf_arena.proofs.Buffers.{same_buffer}
 use Rattle.tlsf_arena.proofs.local.LocalArena.trimmed.Goals as goal
 
-pub returns-in-Err : goal.returns-in-Err
-returns-in-Err g c =
+pub returns-in-Err-clause-buffer : goal.returns-in-Err-clause-buffer
+returns-in-Err-clause-buffer g c =
     let again = c.extended.ensures in
     let cut = c.trimmed-buffer.ensures.stays in
     let seen = c.with_ptr-ptr.ensures.same.1 in

@@ -10,7 +10,7 @@ use prog.Wp.{Env, WpFn}
 use contract.Monad.{fact, fact_i}
 use contract.BorrowLft.{◌⊑◌}
 use contract.Running.{tables}
-use types.Kit.{‵, raw, ◌⊛◌, some, later, prop, at_ret, ◌$◌, ◌∵◌, !, qed, by, move, drop, use0, use1, split, split3, join, pick, regoal, fjoin, await}
+use types.Kit.{‵, raw, ◌⊛◌, some, later, prop, at_ret, ◌$◌, ◌∵◌, !, qed, by, move, drop, use0, use1, use2, split, split3, join, pick, regoal, fjoin, await}
 use types.Part.{whole, sub, agg}
 use types.Match.{vrt, in_variant}
 use types.Run.{stop, fld, lit, of_opd, no_more, and_then, first, switches_on, exec, returns, enter}
@@ -30,7 +30,7 @@ use Rattle.core.proofs.atomic.Steps.{fm}
 use Rattle.std.proofs.raw_atomic.Walks.{proved_at, leaves}
 use Rattle.linked_list_allocator.proofs.Walks.{slot_at, then_runs}
 use Rattle.linked_list_allocator.specs.Region.{Region}
-use Rattle.tlsf_arena.specs.Ownership.{block_token}
+use Rattle.tlsf_arena.specs.Ownership.{Home, whole_token}
 use denote.Triple.Call.{calls_from}
 use Rattle.tlsf_arena.specs.contracts.local.LocalArena.take as callee
 use Rattle.tlsf_arena.specs.contracts.local.LocalArena.take.Key as take_key
@@ -60,7 +60,8 @@ allocate_spec 𝓤 𝓛 𝓜 𝓡 wired S U fS fU =
     let InS : Type 0 = z.0.0.1.0 ⊑ (number S).lives in
     let InU : Type 0 = z.0.0.1.1.0 ⊑ (number U).lives in
     let Fits : Type 0 = size (layout (local.the_row (param 0 (number S)) (param 1 (number U)))) < 2 ^ 63 in
-    let r : Region = a.0.now.slot in
+    let h : Home = a.0.now.slot in
+    let r : Region = h.0 in
     let τ : Ty = z.1 in
     let n = a.1.0 in
     let al = a.1.1.0 in
@@ -75,11 +76,11 @@ allocate_spec 𝓤 𝓛 𝓜 𝓡 wired S U fS fU =
     enter ! C Λ fn vs Post $
     alloc_all ! (λ l. pass_all ! refl ((tt, tt), ((tt, record { fits = are.1.0.1 }), ((tt, record { fits = are.1.1.0.1 }), tt))) $ let En : Env 𝓤 𝓛.H = env fn.locals l in
     calls_from ! (fm 𝓛 𝓜 𝓡) (raw (k.pre y)) vs (k.post y) (subst (λ (us : List Val). ent 𝓤 (k.pre y) (C (take_key.name args) us (k.post y))) told (takes 𝓤 𝓛 𝓜 𝓡 (compiled.calls-tlsf_arena::local::LocalArena::take 𝓡.env wired) S U fS fU y)) (and_then ! (get ! refl) (and_then ! (get ! refl) (and_then ! (get ! refl) (no_more !)))) (λ v.
-    use1 𝓛 (later (some (λ (x : Taken.Denot). (raw (alive 𝓛 En₀.signature z.0.0 z.0.1) ⊛ ‵ (Taken.own_val x (v ∷ []))) ⊛ some (λ (ls : Lasts (callee.ended (number S) (number U)) z.0.0 a). ‵ (lasts (callee.ended (number S) (number U)) z.0.0 a ls) ⊛ raw (fact 𝓤 (Told U r n al x)))))) (id⊢ 𝓤 (k.post y v)) $
-    await ! tt $ pick ! (λ x. split ! $ move ! (1 ∷ []) $ pick ! (λ _. split ! $ drop ! $ heard ! (Told U r n al x) (λ said. split ! $ move ! (1 ∷ []) $
-    taken ! U r n al x v said
-    (λ at placed fits small slim e. let p : Ptr = block_ptr r.block at in
-    use1 𝓛 (‵ (froom τ r.block at) ⊛ ‵ (block_token U r τ p)) (hands_out 𝓛 U a.0.now.unit r τ at n asked.0 placed small) $ lands_as ! (e) refl (tt, (record { fits = lit< tt }, ((tt, (record { fits = fits }, tt)), tt))) $
+    use1 𝓛 (later (some (λ (x : Taken.Denot). (raw (alive 𝓛 En₀.signature z.0.0 z.0.1) ⊛ ‵ (Taken.own_val x (v ∷ []))) ⊛ some (λ (ls : Lasts (callee.ended (number S) (number U)) z.0.0 a). ‵ (lasts (callee.ended (number S) (number U)) z.0.0 a ls) ⊛ raw (fact 𝓤 (Told U h n al x)))))) (id⊢ 𝓤 (k.post y v)) $
+    await ! tt $ pick ! (λ x. split ! $ move ! (1 ∷ []) $ pick ! (λ _. split ! $ drop ! $ heard ! (Told U h n al x) (λ said. split ! $ move ! (1 ∷ []) $
+    taken ! U h n al x v said
+    (λ at t placed lent fits small slim e. let p : Ptr = block_ptr r.block at in
+    use2 𝓛 (‵ (froom τ r.block at) ⊛ ‵ (whole_token U h τ p)) (hands_out 𝓛 U a.0.now.unit h τ at n t asked.0 placed lent small) $ lands_as ! (e) refl (tt, (record { fits = lit< tt }, ((tt, (record { fits = fits }, tt)), tt))) $
     first ! $ switches_on ! (get_tag ! (vrt ! refl (fld ! refl (stop !))) (whole !)) $ exec ! C Λ En (arm_body 0 (head (after 1 fn.body))) (then_runs 𝓛 C Λ En (after 2 fn.body) (at_ret En Post)) $
     sets ! (of_opd ! (get_in ! (vrt ! refl (fld ! refl (fld ! refl (stop !)))) (sub ! 0 refl (in_variant ! 1 0 refl refl (whole !))))) refl (tt, tt) $
     sets_last ! (agg ! (and_then ! (lit ! tt) (and_then ! (get ! refl) (no_more !)))) refl (tt, (record { fits = lit< tt }, (tt, tt))) $

@@ -33,12 +33,11 @@ use Rattle.core.proofs.ptr.Rows.{times_below}
 use Rattle.std.proofs.raw_atomic.Walks.{proved_at, leaves}
 use Rattle.std.specs.Allocator.{array_of, block_with_items, FitsBlock}
 use Rattle.linked_list_allocator.proofs.Walks.{slot_at, then_runs}
-use Rattle.linked_list_allocator.specs.Region.{Region}
-use Rattle.tlsf_arena.specs.Ownership.{block_token}
+use Rattle.tlsf_arena.specs.Ownership.{Home, whole_token}
 use Rattle.tlsf_arena.specs.contracts.local.LocalArena as local
 use Rattle.tlsf_arena.specs.contracts.local.LocalArena.moved as callee
 use Rattle.tlsf_arena.proofs.local.LocalArena.moved.Met.{met as moves}
-use Rattle.tlsf_arena.specs.contracts.buffer.Buffer as buffer
+use Rattle.tlsf_arena.specs.contracts.buffer_grant.BufferGrant as grant
 use Rattle.tlsf_arena.proofs.Buffers.{buffer_val, buffer_own, buffer_made, Moved, MovedTold, moved}
 use Rattle.tlsf_arena.specs.contracts.local.LocalArenaAllocator.grow.{ended, clauses}
 use Rattle.tlsf_arena.specs.contracts.local.LocalArenaAllocator.grow.Key.{name as #self}
@@ -62,7 +61,7 @@ grow_spec 𝓤 𝓛 𝓜 𝓡 wired S U T fS fU LT =
     let vss = z.0.4 in
     let R : RattleType = param 2 T in
     let s = size (layout T) in
-    let r : Region = a.0.now.slot in
+    let h : Home = a.0.now.slot in
     let from = a.1.0 in
     let len = a.1.1.0 in
     let old = a.1.1.1.0 in
@@ -75,13 +74,13 @@ grow_spec 𝓤 𝓛 𝓜 𝓡 wired S U T fS fU LT =
     let Fits : Type 0 = size (layout (local.the_row (param 0 (number S)) (param 1 (number U)))) < 2 ^ 63 in
     let k = triple_of 𝓛 (callee.signature (number S) (number U) T) (callee.spec (number S) (number U) T 𝓛 𝓜.mem 𝓡.returns) in
     let Asked : Type 0 = (len ≤ old) × (old ≤ new) × FitsBlock R new in
-    qed 𝓛 ((raw (alive 𝓛 En₀.signature z.0.0 z.0.1) ⊛ ‵ (owns (types_at En₀.signature.params z.0.0) a vss)) ∷ (raw (fact 𝓤 InS) ⊛ raw (fact 𝓤 InU) ⊛ raw (fact 𝓤 InT) ⊛ raw (fact 𝓤 Fits) ⊛ raw (fact 𝓤 Asked) ⊛ ‵ (block_with_items (block_token U r) R from len old xs)) ∷ []) ∵
+    qed 𝓛 ((raw (alive 𝓛 En₀.signature z.0.0 z.0.1) ⊛ ‵ (owns (types_at En₀.signature.params z.0.0) a vss)) ∷ (raw (fact 𝓤 InS) ⊛ raw (fact 𝓤 InU) ⊛ raw (fact 𝓤 InT) ⊛ raw (fact 𝓤 Fits) ⊛ raw (fact 𝓤 Asked) ⊛ ‵ (block_with_items (whole_token U h) R from len old xs)) ∷ []) ∵
     move ! (1 ∷ []) $ split3 ! $ heard ! InS (λ inS. heard ! InU (λ inU. split3 ! $ heard ! InT (λ inT. heard ! Fits (λ small. split ! $ heard ! Asked (λ asked.
-    in_a_block ! from (λ p. block_with_items (block_token U r) R p len old xs) (fst∗ 𝓤 (never 𝓤) (sem 𝓛 (fsep ffalse (block_token U r (array_of R old) null_ptr)))) (λ b o lies.
+    in_a_block ! from (λ p. block_with_items (whole_token U h) R p len old xs) (fst∗ 𝓤 (never 𝓤) (sem 𝓛 (fsep ffalse (whole_token U h (array_of R old) null_ptr)))) (λ b o lies.
     let p : Ptr = block_ptr b o in
-    let x : (buffer.the_row R).Denot = record { ptr = p; marker = record {}; unit = U; region = r; len = len; cap = old; items = xs } in
+    let x : (grant.the_row R).Denot = record { ptr = p; marker = record {}; unit = U; home = h; len = len; cap = old; items = xs } in
     let y : k.Ghost = ((z.0.0, z.0.1, z.0.2, (a.0, (x, (len, (old, (new, tt))))), (me ∷ [], (buffer_val p ∷ [], (vint w64 len ∷ [], (vint w64 old ∷ [], (vint w64 new ∷ [], tt)))))), tt) in
-    let First : Type 0 = (U ≡ U) × (r ≡ r) × (len ≡ len) × (old ≡ old) in let Second : Type 0 = (len ≤ old) × (len ≤ new) × (old * s < 2 ^ 63) × (new * s < 2 ^ 63) in
+    let First : Type 0 = (U ≡ U) × (h ≡ h) × (len ≡ len) × (old ≡ old) in let Second : Type 0 = (len ≤ old) × (len ≤ new) × (old * s < 2 ^ 63) × (new * s < 2 ^ 63) in
     use0 𝓛 (‵ (buffer_own p (buffer_val p ∷ []))) (buffer_made 𝓛 p tt) $ fjoin ! $
     nothing ! $ flt_i ! new (2 ^ 64) are.1.1.1.1.0.1 $ feq_i ! (List Val) (vint w64 new ∷ []) (vint w64 new ∷ []) refl $ fjoin ! $ fjoin ! $ flt_i ! old (2 ^ 64) are.1.1.1.0.1 $ feq_i ! (List Val) (vint w64 old ∷ []) (vint w64 old ∷ []) refl $ fjoin ! $ fjoin ! $ flt_i ! len (2 ^ 64) are.1.1.0.1 $ feq_i ! (List Val) (vint w64 len ∷ []) (vint w64 len ∷ []) refl $ fjoin ! $ fjoin ! $ move ! (1 ∷ 0 ∷ []) $ fjoin ! $
     move ! (1 ∷ []) $ split ! $ move ! (1 ∷ []) $ fsplit ! $ fsplit ! $ keep ! (1 ∷ 4 ∷ 3 ∷ []) $ feq_i ! (List Val) (me ∷ []) (me ∷ []) refl $ fjoin ! $ fjoin ! $ move ! (1 ∷ 0 ∷ []) $ join ! $
@@ -106,7 +105,7 @@ grow_spec 𝓤 𝓛 𝓜 𝓡 wired S U T fS fU LT =
     returns ! (look_at ! 0 refl) $ free_all ! refl $
     use0 𝓛 (‵ (Answer.own_val (Ok p') (answer_val true b' o' ∷ []))) (Answer-Ok 𝓛 b' o') $ nothing ! $ nothing ! $ fjoin ! $ nothing ! $ fjoin ! $ nothing ! $ fjoin ! $ nothing ! $ fjoin ! $ nothing ! $ fjoin ! $ move ! (3 ∷ 0 ∷ 1 ∷ 2 ∷ []) $
     by ! (leaves 𝓛 En₀ stays c z (answer_val true b' o') (Ok p') (tt, (tt, (tt, (tt, (tt, tt))))) (tt, (tt, (tt, (tt, (tt, tt)))))))
-    (λ is'. rewrite ! 0 (λ (u : Ptr). ‵ (block_with_items (block_token U r) R u len old xs)) (sym lies) refl $ lands_as ! (is') refl (tt, (record { fits = lit< tt }, ((tt, (tt, tt)), tt))) $
+    (λ is'. rewrite ! 0 (λ (u : Ptr). ‵ (block_with_items (whole_token U h) R u len old xs)) (sym lies) refl $ lands_as ! (is') refl (tt, (record { fits = lit< tt }, ((tt, (tt, tt)), tt))) $
     first ! $ switches_on ! (get_tag ! (vrt ! refl (fld ! refl (stop !))) (whole !)) $ exec ! C Λ En (arm_body 1 (head (after 3 fn.body))) (then_runs 𝓛 C Λ En (after 4 fn.body) (at_ret En Post)) $
     sets ! (agg ! (no_more !)) refl (tt, tt) $
     sets_last ! (agg ! (and_then ! (lit ! tt) (and_then ! (get ! refl) (no_more !)))) refl (tt, (record { fits = lit< tt }, (tt, tt))) $

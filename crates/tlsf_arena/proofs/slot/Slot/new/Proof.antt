@@ -27,7 +27,7 @@ use Rattle.core.proofs.cell.Inside.{one, round}
 use Rattle.core.proofs.option.Made.{Some-of}
 use Rattle.std_alloc.proofs.ResultValues.{and_tt}
 use Rattle.std.proofs.raw_atomic.Walks.{proved_at, leaves}
-use Rattle.linked_list_allocator.specs.Region.{Region}
+use Rattle.tlsf_arena.specs.Ownership.{Home}
 use Rattle.tlsf_arena.specs.contracts.slot.Slot as slot
 use Rattle.tlsf_arena.proofs.Cell.{Level, Unit_bytes, Held_arena, Held, Fields, contents_in}
 use denote.Laws.{Typed}
@@ -58,7 +58,7 @@ new_spec 𝓤 𝓛 𝓜 𝓡 wired S U fS fU =
     let SlotFits : Type 0 = size (layout (slot.the_row (Level S U) (Unit_bytes S U))) < 2 ^ 63 in
     let ArenaFits : Type 0 = size (layout (Held_arena S U)) < 2 ^ 63 in
     let x = a.0 in
-    let r : Region = x.region in
+    let h : Home = (x.region, x.book) in
     let got = one (layout (Held_arena S U)) vss.0 (((arena_laws.the_row_laws (Level S U) (Unit_bytes S U) refl refl).lawful 𝓛).typed x vss.0 are.0) in
     let w : Val = got.0 in
     let good = got.2 in
@@ -72,5 +72,5 @@ new_spec 𝓤 𝓛 𝓜 𝓡 wired S U fS fU =
     sets ! (agg ! (and_then ! (lit ! tt) (and_then ! (get ! refl) (no_more !)))) refl (and_tt _ ((good).0), (record { fits = lit< tt }, ((good).1, tt))) $
     sets ! (agg ! (and_then ! (get ! refl) (no_more !))) refl (and_tt _ (and_tt _ ((good).0)), ((record { fits = lit< tt }, ((good).1, tt)), tt)) $
     returns ! (look_at ! 0 refl) $ free_all ! refl $
-    use1 𝓛 (‵ ((Held S U).own_val (Some x) (v ∷ []))) (Some-of 𝓛 (Held_arena S U) x w) $ contents_in S U r ! (Some x) v refl $ nothing ! $ fpack ! (Typed (Fields S U).mir (round v ∷ [])) (λ _. ftrue) ((and_tt _ (and_tt _ ((good).0)), ((record { fits = lit< tt }, ((good).1, tt)), tt)), tt) $ fjoin ! $ use0 𝓛 (raw (fact 𝓤 (r ≡ r))) (fact_i 𝓤 (r ≡ r) (emp 𝓤) (refl)) $ nothing ! $ nothing ! $ fjoin ! $ move ! (3 ∷ 0 ∷ 2 ∷ 1 ∷ []) $
-    by ! (leaves 𝓛 En₀ stays c z (round v) r (rest ((Held_arena S U).exit yes) x, tt) (tt, tt))))
+    use1 𝓛 (‵ ((Held S U).own_val (Some x) (v ∷ []))) (Some-of 𝓛 (Held_arena S U) x w) $ contents_in S U h ! (Some x) v (refl, refl) $ nothing ! $ fpack ! (Typed (Fields S U).mir (round v ∷ [])) (λ _. ftrue) ((and_tt _ (and_tt _ ((good).0)), ((record { fits = lit< tt }, ((good).1, tt)), tt)), tt) $ fjoin ! $ use0 𝓛 (raw (fact 𝓤 (h ≡ h))) (fact_i 𝓤 (h ≡ h) (emp 𝓤) (refl)) $ nothing ! $ nothing ! $ fjoin ! $ move ! (3 ∷ 0 ∷ 2 ∷ 1 ∷ []) $
+    by ! (leaves 𝓛 En₀ stays c z (round v) h (rest ((Held_arena S U).exit yes) x, tt) (tt, tt))))

@@ -7,7 +7,7 @@ use Rattle.tlsf_pool_arena.proofs.pool_arena.PoolArena.allocate.Goals as goal
 
 pub invariant_of-self : goal.invariant_of-self
 invariant_of-self g c =
-    given g.row.SLI g.row.UNIT _ c.args.len c.in-Ok.block.name _ c.allocate.new.self.region _ c.self.invariant c.if-len-self.false c.if-self.false c.in-Ok.ensures.answer c.in-Ok.ensures.heap
+    given g.row.SLI g.row.UNIT _ c.args.len c.in-Ok.block.name _ c.allocate.new.self.region c.allocate.new.self.book _ c.self.invariant c.if-len-self.false c.if-self.false c.in-Ok.ensures.answer c.in-Ok.ensures.heap
 
 pub returns-in-Err-clause-ok : goal.returns-in-Err-clause-ok
 returns-in-Err-clause-ok g c = (λ e. absurd (false≢true e), worn g.row.SLI g.row.UNIT _ c.args.self.now c.args.len (sym c.self.view_is) c.self.invariant c.in-Err.ensures.accepted.1)

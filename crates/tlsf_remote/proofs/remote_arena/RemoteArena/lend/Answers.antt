@@ -1,6 +1,5 @@
 use Rattle.std.proofs.Common.{ℕ, ◌≡◌, ◌-◌, List, Option, Some, length, length-set, refl, sym, ap, subst, ◌∙◌, arith}
 use Rattle.std.proofs.lemmas.Result.{err_from_is_err_and}
-use Rattle.tlsf_arena.specs.Places.{units_for}
 use Rattle.tlsf_remote.specs.declared.parcel.Parcel.{Parcel}
 use Rattle.tlsf_remote.specs.Remotes.{NoneLost, RemoteState}
 use Rattle.tlsf_returns.specs.Ends.{away_by, looks_of, owner_id}
@@ -17,8 +16,7 @@ invariant_of-self-2 g c =
     let at = c.index-at.result.now in
     let held = c.held.ensures in
     let left = lent_idle a.count c.allocate.new.self.most a.arena.held c.held.result at a.idle.items (away_by a.owner) c.self.invariant.3 (c.self.invariant.2 ∙ sym e.plan.most) (held.held ∙ e.held) held.few c.index-at.ensures (away_by c.send_out-parcel.new.self) parcel now in (
-      lent a.arena.heap c.allocate.new.self.heap a.arena.region c.allocate.new.self.region (away_by a.owner) (away_by c.send_out-parcel.new.self) at parcel c.self.invariant.0 e.plan.region now e.block.0
-          (units_for g.row.UNIT c.args.len, e.block.1, e.holds) (λ other units h. (e.others other units h, e.new other units h)),
+      lent a.arena.region c.allocate.new.self.region a.arena.book c.allocate.new.self.book (away_by a.owner) (away_by c.send_out-parcel.new.self) at c.self.invariant.0 e.plan.region e.plan.book parcel now (e.block.0, e.block.1),
       c.self.invariant.1 ∙ sym (ap (λ (l : List (Option (Parcel g.row.UNIT))). length l) now ∙ length-set (away_by a.owner) at (Some parcel)),
       c.self.invariant.2 ∙ sym e.plan.most,
       as_many a.count (a.count - c.held.result) (a.count - c.allocate.new.self.held) a.idle.items (away_by c.send_out-parcel.new.self) (ap (λ (j : ℕ). a.count - j) held.held) left,

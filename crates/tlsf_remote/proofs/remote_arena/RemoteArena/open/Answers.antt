@@ -10,7 +10,7 @@ pub invariant_of-result : goal.invariant_of-result
 invariant_of-result g c =
     let arena = c.in_ok-arena.arena in
     let most = c.args.most in (
-      subst (λ (away : List (Option (Parcel g.row.UNIT))). AreAway g.row.UNIT arena.heap arena.region away) (sym c.requires.fresh) (fresh arena.heap arena.region most),
+      subst (λ (away : List (Option (Parcel g.row.UNIT))). AreAway g.row.UNIT arena.region arena.book away) (sym c.requires.fresh) (fresh arena.region arena.book most),
       sym (ap (λ (away : List (Option (Parcel g.row.UNIT))). length away) c.requires.fresh ∙ copies_long most None),
       sym c.in_ok-arena.ensures.most,
       all_idle most (most - arena.held) c.in-Ok.idle.items (away_by c.args.owner) c.in-Ok.ensures c.requires.fresh (omega (arith, c.in_ok-arena.ensures.none)),

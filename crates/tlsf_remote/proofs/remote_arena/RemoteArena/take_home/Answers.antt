@@ -1,5 +1,5 @@
 use Rattle.std.proofs.Common.{◌≡◌, ◌+◌, ◌-◌, ℕ, List, Option, Some, None, ap, length, length-set, set, slice_get, subst, sym, ◌∙◌, arith}
-use Rattle.tlsf_arena.specs.Arenas.{released_block}
+use Rattle.tlsf_heap.specs.Calls.{released}
 use Rattle.tlsf_arena.specs.declared.block.Block.{Block}
 use Rattle.tlsf_returns.specs.Ends.{away_by, looks_of, owner_id}
 use Rattle.tlsf_remote.specs.Remotes.{NoneLost, RemoteState, idle_places}
@@ -12,16 +12,15 @@ pub returns-clause-home : goal.returns-clause-home
 returns-clause-home g c =
     let b = c.in-Some.parcel in
     let some = c.in-Some.ensures.some in
-    let heap = c.in-Ok.ensures.heap ∙ ap (λ (x : Block g.row.UNIT). (released_block g.row.UNIT c.self.inside.arena.heap x.name x.piece.size).heap) c.into_block.ensures in
+    let heap = c.in-Ok.ensures.heap ∙ ap (λ (x : Block g.row.UNIT). (released c.self.inside.arena.heap x.name).heap) c.into_block.ensures in
     let all = subst (λ (v : RemoteState g.row.UNIT). (slice_get v.away c.args.at ≡ Some (Some b)) × (away_by c.take.new.self ≡ set v.away c.args.at None)
-    × (c.release.new.self.heap ≡ (released_block g.row.UNIT v.arena.heap b.block.name b.block.piece.size).heap) × (c.release.new.self.held + 1 ≡ v.arena.held)) c.self.view_is (some.0, some.1, heap, c.in-Ok.ensures.held) in
+    × (c.release.new.self.heap ≡ (released v.arena.heap b.block.name).heap) × (c.release.new.self.held + 1 ≡ v.arena.held)) c.self.view_is (some.0, some.1, heap, c.in-Ok.ensures.held) in
     λ yes. (b, all.0, all.1, all.2, all.3)
 
 pub unreachable-requires : goal.unreachable-requires
 unreachable-requires g c =
-    let a = c.self.inside in
     let e = c.in-Err.ensures in
-    never_refused a.arena.heap a.arena.region (away_by a.owner) c.args.at c.in-Some.parcel c.into_block.result c.in-Err.field-0.0 c.self.invariant.0 c.in-Some.ensures.some.0 c.into_block.ensures (λ last. c.if-tick.false (c.tick.ensures.tick ∙ last)) e.worn e.answer
+    never_refused c.self.inside.arena.heap c.into_block.result.name c.in-Err.field-0.0 (λ last. c.if-tick.false (c.tick.ensures.tick ∙ last)) e.worn e.answer
 
 pub invariant_of-self-in-Ok : goal.invariant_of-self-in-Ok
 invariant_of-self-in-Ok g c =
@@ -31,8 +30,7 @@ invariant_of-self-in-Ok g c =
     let now = away_by c.take.new.self in
     let some = c.in-Some.ensures.some in
     let held = c.held.ensures in (
-      home a.arena.heap c.release.new.self.heap a.arena.region c.release.new.self.region away now c.args.at c.in-Some.parcel c.self.invariant.0 e.plan.region some.1 some.0
-          (λ other units differs h. e.others other units (λ same. differs (same ∙ ap (λ (b : Block g.row.UNIT). b.name) c.into_block.ensures)) h),
+      home a.arena.region c.release.new.self.region a.arena.book c.release.new.self.book away now c.args.at c.self.invariant.0 e.plan.region e.plan.book some.1,
       c.self.invariant.1 ∙ sym (ap (λ (l : List (Option (Parcel g.row.UNIT))). length l) some.1 ∙ length-set away c.args.at None),
       c.self.invariant.2 ∙ sym e.plan.most,
       home_idle a.count a.arena.most c.held.result c.release.new.self.held c.args.at a.idle.items away now c.in-Some.parcel

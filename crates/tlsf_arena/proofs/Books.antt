@@ -1,0 +1,155 @@
+-- The book of an arena, under the calls of its heap.
+use Rattle.std.proofs.Common.{◌≡◌, ◌≢◌, ℕ, ◌+◌, ◌<◌, ◌≤◌, Bool, true, false, cond, eqb, nat_le, nat_lt, ◌||◌, List, [], ◌∷◌, ◌++◌, length, Option, Some, Ok, refl, sym, ap, subst, ◌∙◌, arith, inl, inr}
+use Rattle.std.specs.Prelude.{IsSome}
+use Rattle.std.proofs.lemmas.Bool.{eq-eqb, eqb-true, false≢true, cases_lt}
+use Rattle.std.proofs.lemmas.Bool.Decides.{nat_tests}
+use Rattle.tlsf_heap.specs.Blocks.{Block, Live, Free, HeapState, size_of, bytes_of, words_in}
+use Rattle.tlsf_heap.specs.GoodFit.{Site, place_of}
+use Rattle.tlsf_heap.specs.Lawful.{IsLawful}
+use Rattle.tlsf_heap.specs.Laws.{IsLive}
+use Rattle.tlsf_heap.specs.Calls.{allocated_words, fitted, first_free, has_serial, is_sized, past_free, recut, refitted, released, resized_words, room_of}
+use Rattle.tlsf_heap.specs.declared.name.Name.{Name}
+use Rattle.tlsf_heap.proofs.Finding.{and_left, and_right}
+use Rattle.tlsf_heap.proofs.Fitted.{length-fitted}
+use Rattle.tlsf_heap.proofs.Lasting.{HasFrom, in_right}
+use Rattle.tlsf_heap.proofs.Living.{new_words}
+use Rattle.tlsf_heap.proofs.Outcomes.{by_resized_words, resizes}
+use Rattle.tlsf_heap.proofs.Recutting.{cut_small, cut_large}
+use Rattle.tlsf_arena.specs.Arenas.{Holds}
+use Rattle.tlsf_arena.specs.Loans.{Loan, loan_of, name_of, units_of, is_out, same_loan, without, IsBook}
+use Rattle.tlsf_arena.specs.Places.{held_units, lacking}
+use Rattle.tlsf_arena.proofs.Holding.{IsBlockOf, Keeps, allocated_keeps, by_place, kept, stays_released, stays_resized}
+use Rattle.tlsf_arena.proofs.Mapped.{lacks}
+use Rattle.tlsf_arena.proofs.Maps.{Tells, holds_given}
+use Rattle.tlsf_arena.proofs.Rights.{is_same, was_out, out_no_more}
+use Rattle.tlsf_class.specs.Classes.{IsLevel}
+
+-- ---- a block that is held
+
+-- as many units under one name
+pub one_count : (h : HeapState) (name : Name) (j k : ℕ) → Holds h name j → Holds h name k → j ≡ k
+one_count h name j k a b =
+    let both : ◌≡◌ {A = Option Site} (Some a.0) (Some b.0) = sym a.2 ∙ b.2 in
+    let same : a.0 ≡ b.0 = cc in
+    sym a.3 ∙ ap (λ (s : Site). held_units (size_of s.block) (length (bytes_of s.block))) same ∙ b.3
+
+alive : (h : HeapState) (name : Name) (k : ℕ) → Holds h name k → IsLive h name
+alive h name k holds = (holds.1, subst (λ (o : Option Site). IsSome o) (sym holds.2) refl)
+
+-- what is refitted begins with the block, for which n units were wanted
+refitted_holds : (tick n len m serial : ℕ) (bytes : List ℕ) (after : List Block) (at : ℕ) → Tells n len → n ≤ m + first_free after → HasFrom (IsBlockOf serial n) at at (refitted tick n len (Live m serial bytes) after)
+refitted_holds tick n len m serial bytes after at tells fits = by_bool (is_sized n (Live m serial bytes)) refl
+  where
+    new : List ℕ
+    new = fitted bytes len
+
+    told : Tells n (length new)
+    told size least most = ap (held_units size) (length-fitted bytes len) ∙ tells size least most
+
+    own : eqb serial serial ≡ true
+    own = eq-eqb serial serial refl
+
+    by_bool : (b : Bool) → is_sized n (Live m serial bytes) ≡ b → HasFrom (IsBlockOf serial n) at at (cond b (Live m serial new ∷ after) (recut tick n (Live m serial new) after))
+    by_bool true e =
+        let least : n ≤ m = grind (arith, nat_tests, and_left (nat_le n m) (nat_lt m (n + 4)) e) in
+        let most : m < n + 4 = grind (arith, nat_tests, and_right (nat_le n m) (nat_lt m (n + 4)) e) in
+        inl ((own, told m least most), refl)
+    by_bool false e =
+        let room = m + first_free after in
+        let There : List Block → Type 0 = HasFrom (IsBlockOf serial n) at at in
+        elim (cases_lt room (n + 4)) [
+          | inl small ↦ subst (λ (l : List Block). There (l ++ past_free after)) (sym (cut_small room n tick serial new small)) (inl ((own, told room fits small), refl))
+          | inr large ↦ subst (λ (l : List Block). There (l ++ past_free after)) (sym (cut_large room n tick serial new large)) (inl ((own, told n (omega arith) (omega arith)), refl))
+        ]
+
+-- a block that was resized is held with as many units as were wanted
+pub holds_resized : (h : HeapState) (name : Name) (n len : ℕ) → Tells n len → (resized_words h name n len).answer ≡ Ok tt → IsLawful (resized_words h name n len).heap → Holds (resized_words h name n len).heap name n
+holds_resized h name n len tells = by_resized_words (λ o. o.answer ≡ Ok tt → IsLawful o.heap → Holds o.heap name n) h name n len (λ why e. cc) (λ s own site is room done lawful.
+    let P : Block → Type 0 = IsBlockOf name.serial n in
+    let place : place_of s ≡ name.at = eqb-true (place_of s) name.at (and_right (has_serial name.serial s.block) (eqb (place_of s) name.at) is) in
+    let there = on s s.block refl (and_left (has_serial name.serial s.block) (eqb (place_of s) name.at) is) room in
+    by_place (resizes h n len s).heap name n lawful own
+    (in_right P name.at 0 s.before (refitted h.tick n len s.block s.after) (subst (λ (p : ℕ). HasFrom P name.at p (refitted h.tick n len s.block s.after)) (let z : name.at ≡ 0 + words_in s.before = omega (arith, place) in z) there)))
+  where
+    on : (s : Site) (b : Block) → s.block ≡ b → has_serial name.serial b ≡ true → n ≤ room_of s.block s.after → HasFrom (IsBlockOf name.serial n) name.at name.at (refitted h.tick n len s.block s.after)
+    on s (Free m t) same has room = absurd (false≢true has)
+    on s (Live m t xs) same has room =
+        let its : t ≡ name.serial = eqb-true t name.serial has in
+        subst (λ (b : Block). HasFrom (IsBlockOf name.serial n) name.at name.at (refitted h.tick n len b s.after)) (sym same)
+        (subst (λ (k : ℕ). HasFrom (IsBlockOf k n) name.at name.at (refitted h.tick n len (Live m t xs) s.after)) its
+        (refitted_holds h.tick n len m t xs s.after name.at tells (omega (arith, room, ap (λ (b : Block). size_of b) same))))
+
+-- ---- the book
+
+-- none is out of a new arena
+pub no_loans : (h : HeapState) → IsBook [] h
+no_loans h t e = absurd (false≢true e)
+
+-- a name that is given is no loan's
+pub fresh_loan : (sli : ℕ) (h : HeapState) (n len : ℕ) (name : Name) (out : List Loan) (k : ℕ) → IsLawful h → IsBook out h → (allocated_words sli h n len).answer ≡ Ok name → is_out out (loan_of name k) ≡ false
+fresh_loan sli h n len name out k lawful book answer = by_bool (is_out out (loan_of name k)) refl
+  where
+    by_bool : (b : Bool) → is_out out (loan_of name k) ≡ b → b ≡ false
+    by_bool true e = absurd (new_words sli h n len name lawful answer (alive h name k (book (loan_of name k) e)))
+    by_bool false e = refl
+
+-- a block goes out, and the others stay
+pub lends_one : (out : List Loan) (old new : HeapState) (name : Name) (k : ℕ) → IsBook out old → Holds new name k → ((other : Name) (units : ℕ) → Holds old other units → Holds new other units) → IsBook (loan_of name k ∷ out) new
+lends_one out old new name k book holds others t = by_bool (same_loan (loan_of name k) t) refl
+  where
+    by_bool : (b : Bool) → same_loan (loan_of name k) t ≡ b → (b || is_out out t) ≡ true → Holds new (name_of t) (units_of t)
+    by_bool true e any = subst (λ (s : Loan). Holds new (name_of s) (units_of s)) (is_same (loan_of name k) t e) holds
+    by_bool false e out_is = others (name_of t) (units_of t) (book t out_is)
+
+-- another loan than that of a block that is out has another name
+apart : (out : List Loan) (h : HeapState) (t s : Loan) → IsBook out h → is_out out t ≡ true → is_out (without t out) s ≡ true → name_of s ≢ name_of t
+apart out h t s book there left same =
+    let units : units_of s ≡ units_of t = one_count h (name_of t) (units_of s) (units_of t) (subst (λ (n : Name). Holds h n (units_of s)) same (book s (was_out t s out left))) (book t there) in
+    let is : s ≡ t = λ i. ((same i).heap, ((same i).at, ((same i).serial, units i))) in
+    false≢true (sym (out_no_more t out) ∙ subst (λ (u : Loan). is_out (without t out) u ≡ true) is left)
+
+-- a block comes back, and the others stay
+pub takes_one : (out : List Loan) (old new : HeapState) (t : Loan) → IsBook out old → is_out out t ≡ true → ((other : Name) (units : ℕ) → other ≢ name_of t → Holds old other units → Holds new other units) → IsBook (without t out) new
+takes_one out old new t book there others s left = others (name_of s) (units_of s) (apart out old t s book there left) (book s (was_out t s out left))
+
+-- a block that is out has one loan
+pub no_second : (out : List Loan) (h : HeapState) (t : Loan) (k : ℕ) → IsBook out h → is_out out t ≡ true → is_out (without t out) (loan_of (name_of t) k) ≡ false
+no_second out h t k book there = by_bool (is_out (without t out) (loan_of (name_of t) k)) refl
+  where
+    by_bool : (b : Bool) → is_out (without t out) (loan_of (name_of t) k) ≡ b → b ≡ false
+    by_bool true e = absurd (apart out h t (loan_of (name_of t) k) book there e refl)
+    by_bool false e = refl
+
+-- a block has so many units from now on, and the others stay
+pub refits_one : (out : List Loan) (old new : HeapState) (t : Loan) (k : ℕ) → IsBook out old → is_out out t ≡ true → Holds new (name_of t) k → ((other : Name) (units : ℕ) → other ≢ name_of t → Holds old other units → Holds new other units)
+    → IsBook (loan_of (name_of t) k ∷ without t out) new
+refits_one out old new t k book there holds others s = by_bool (same_loan (loan_of (name_of t) k) s) refl
+  where
+    by_bool : (b : Bool) → same_loan (loan_of (name_of t) k) s ≡ b → (b || is_out (without t out) s) ≡ true → Holds new (name_of s) (units_of s)
+    by_bool true e any = subst (λ (u : Loan). Holds new (name_of u) (units_of u)) (is_same (loan_of (name_of t) k) s e) holds
+    by_bool false e left = takes_one out old new t book there others s left
+
+-- ---- under the heap's calls
+
+-- an allocate that gave a name
+pub after_allocate : (sli : ℕ) → IsLevel sli → (old new : HeapState) (k len : ℕ) (name : Name) (out after : List Loan) → IsBook out old → len ≡ lacking k
+    → (allocated_words sli old k len).answer ≡ Ok name → new ≡ (allocated_words sli old k len).heap → IsLawful new → after ≡ loan_of name k ∷ out → IsBook after new
+after_allocate sli level old new k len name out after book lack answer heap lawful is =
+    let holds = holds_given sli level old k len name (subst (Tells k) (sym lack) (lacks k)) answer (subst IsLawful heap lawful) in
+    subst (λ (l : List Loan). IsBook l new) (sym is) (lends_one out old new name k book (subst (λ (h : HeapState). Holds h name k) (sym heap) holds)
+    (λ other units its. kept other old new units (subst (Keeps other old) (sym heap) (allocated_keeps sli k len old other)) lawful its))
+
+-- a release that was done
+pub after_release : (old new : HeapState) (name : Name) (t : Loan) (out after : List Loan) → IsBook out old → is_out out t ≡ true → name_of t ≡ name → new ≡ (released old name).heap → IsLawful new → after ≡ without t out → IsBook after new
+after_release old new name t out after book there own heap lawful is =
+    let same = heap ∙ ap (λ (n : Name). (released old n).heap) (sym own) in
+    subst (λ (l : List Loan). IsBook l new) (sym is) (takes_one out old new t book there (λ other units apart holds. stays_released old new other (name_of t) units lawful apart holds same))
+
+-- a resize that was done
+pub after_resize : (old new : HeapState) (name : Name) (t : Loan) (k len : ℕ) (out after : List Loan) → IsBook out old → is_out out t ≡ true → name_of t ≡ name → len ≡ lacking k
+    → (resized_words old name k len).answer ≡ Ok tt → new ≡ (resized_words old name k len).heap → IsLawful new → after ≡ loan_of name k ∷ without t out → IsBook after new
+after_resize old new name t k len out after book there own lack answer heap lawful is =
+    let holds = subst (λ (h : HeapState). Holds h name k) (sym heap) (holds_resized old name k len (subst (Tells k) (sym lack) (lacks k)) answer (subst IsLawful heap lawful)) in
+    subst (λ (l : List Loan). IsBook l new) (sym (is ∙ ap (λ (n : Name). loan_of n k ∷ without t out) (sym own)))
+    (refits_one out old new t k book there (subst (λ (n : Name). Holds new n k) (sym own) holds)
+    (λ other units apart its. stays_resized old new other (name_of t) units lawful apart its k len (heap ∙ ap (λ (n : Name). (resized_words old n k len).heap) (sym own))))
