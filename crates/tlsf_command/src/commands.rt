@@ -216,7 +216,7 @@ fn act<T: Threads + Wait + Sync, R: Read, W: Write, E: Write, G: Gate>(
 
 /// Runs the program on the words of its command line, its name first, and gives the exit status.
 /// Only `tlsf race` starts threads, by `rt`; they pass `gate` before each call and once after the
-/// last one of a phase, where a [`RaceNotice`](crate::RaceNotice) shows that the race is alive.
+/// last one of a phase, where a [`RaceNotice`](tlsf_trace::RaceNotice) shows that the race is alive.
 ///
 /// The status is 0 where the run is done, 1 where a fault ended it, 2 where the words are refused,
 /// and 3 where memory ran out. A fault's line and the text on refused words go to `errors`, where

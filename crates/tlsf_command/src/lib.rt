@@ -9,7 +9,7 @@
 //! line tells how it is given as standard input. `classes N` writes the size class and the search class of N words, and
 //! `size --blocks B --bytes N ..` the words of a region that never refuses B blocks of N bytes, for each pair, with `--split` those of the
 //! heaps to which the pairs are given for the fewest words; all at level 4 or, with `--sli 5`, at level 5. Help and version texts are written, and words that are refused are answered on the error
-//! stream. A [`RaceNotice`] shows that a long race is alive.
+//! stream.
 //!
 //! | Exit status | When |
 //! |---|---|
@@ -31,7 +31,6 @@ mod fault_report;
 mod finer_hint;
 mod help;
 mod number_tip;
-mod race_notice;
 mod region_size;
 mod size_line;
 mod size_question;
@@ -42,7 +41,6 @@ mod unreached_table;
 
 pub use commands::run;
 pub use fault_report::FaultReport;
-pub use race_notice::RaceNotice;
 
 /// The version of the program, which `tlsf --version` writes.
 pub const VERSION: &str = "0.1.0";

@@ -22,8 +22,8 @@
 
 use std::process::ExitCode;
 use std::{env, io};
-use tlsf_command::{FaultReport, RaceNotice, run};
-use tlsf_trace::TraceFault;
+use tlsf_command::{FaultReport, run};
+use tlsf_trace::{RaceNotice, TraceFault};
 
 // Reports that the words of the command line can't be had: memory ran out, or one is no text.
 fn refuse(rt: &impl Eprint, error: &io::Error) -> u8 {

@@ -1,0 +1,230 @@
+//! What stands in the words of a region, word for word.
+use crate::tests::different::same;
+use crate::tests::heap::calls::{Ask, answer};
+use crate::tests::names::name;
+use std::alloc::Global;
+use std::process::Abort;
+use tlsf_heap::Heap;
+use tlsf_words::Words;
+
+/// Neither next nor previous in a list.
+const ALONE: u64 = u64::MAX;
+
+/// The word at a place of the region, and whether a block starts there; None outside the region.
+fn found_at(words: &mut Words, at: u32) -> Option<(u64, bool)> {
+    if at < words.len() {
+        Some((words.word(at), words.starts(at)))
+    } else {
+        None
+    }
+}
+
+/// What stands at a place of an image, which has four words in a row; None outside the image.
+fn wanted_at(rows: &[[u64; 4]], starts: &[u32], at: u32) -> Option<(u64, bool)> {
+    match rows.get(at as usize / 4) {
+        Some(row) => Some((row[at as usize % 4], starts.contains(&at))),
+        None => None,
+    }
+}
+
+/// Behind these calls the region of a new heap, of as many words as the image, has the words of the image, four in a row,
+/// and blocks start at these places and at no other. The regions of these tests have at most 32 words.
+fn check_image(rt: &impl Abort, alloc: Global, calls: &[Ask], rows: &[[u64; 4]], starts: &[u32]) {
+    let words = u32::try_from(rows.as_flattened().len()).unwrap_or(0);
+    let mut heap = Heap::<4>::open(alloc, 0, words, 0).expect(rt, "open");
+    for call in calls {
+        let _ = answer(&mut heap, *call);
+    }
+    let mut words = heap.into_words();
+    for at in 0..=32 {
+        let wanted = wanted_at(rows, starts, at);
+        same((at, found_at(&mut words, at)), (at, wanted)).expect(rt, "differ");
+    }
+}
+
+/// Allocates a block of 4 words. One behind the other from place 0 on they have the serials 1, 2, 3 ..
+const FOUR: Ask = Ask::Allocate(8);
+
+/// Releases one of these.
+fn let_go(at: u32) -> Ask {
+    Ask::Release(name(0, at, u64::from(at / 4) + 1))
+}
+
+#[test]
+fn images_of_live_blocks(rt: HostRuntime) {
+    let opened = [
+        [0xffff_ffff_0000_0043, 0, ALONE, 0],
+        [0, 0, 0, 0],
+        [0, 0, 0, 0],
+        [0, 0, 0, 0],
+    ];
+    check_image(&rt, rt.alloc(), &[], &opened, &[0]);
+    let written = [
+        [0xffff_ffff_0000_0010, 1, 8, 0x6948],
+        [0x0000_0000_0000_0033, 1, ALONE, 0],
+        [0, 0, 0, 0],
+        [0, 0, 0, 0],
+    ];
+    let block = name(0, 0, 1);
+    let calls = [FOUR, Ask::Write(block, 0, b"Hi")];
+    check_image(&rt, rt.alloc(), &calls, &written, &[0, 4]);
+    // Bytes in their words.
+    let words = [
+        [0xffff_ffff_0000_0022, 1, 16, 0x8007_0605_0403_0201],
+        [0x90, 0, 0, 0],
+    ];
+    let calls = [
+        Ask::Allocate(16),
+        Ask::Write(block, 0, b"\x01\x02\x03\x04\x05\x06\x07\x08"),
+        Ask::Write(block, 7, b"\x80\x90"),
+    ];
+    check_image(&rt, rt.alloc(), &calls, &words, &[0]);
+    // The payload is zero where headers were.
+    let whole = [
+        [0xffff_ffff_0000_0042, 9, 104, 0],
+        [0, 0, 0, 0],
+        [0, 0, 0, 0],
+        [0, 0, 0, 0],
+    ];
+    let calls = [
+        FOUR,
+        FOUR,
+        FOUR,
+        FOUR,
+        let_go(0),
+        let_go(4),
+        let_go(8),
+        let_go(12),
+        Ask::Allocate(104),
+    ];
+    check_image(&rt, rt.alloc(), &calls, &whole, &[0]);
+}
+
+#[test]
+fn tags_name_the_block_before(rt: HostRuntime) {
+    // Four live blocks of 4 words, and a free one of 8.
+    let allocated = [
+        [0xffff_ffff_0000_0010, 1, 8, 0],
+        [0x0000_0000_0000_0010, 2, 8, 0],
+        [0x0000_0004_0000_0010, 3, 8, 0],
+        [0x0000_0008_0000_0010, 4, 8, 0],
+        [0x0000_000c_0000_0023, 4, ALONE, 0],
+        [0, 0, 0, 0],
+    ];
+    let calls = [FOUR, FOUR, FOUR, FOUR, let_go(4), let_go(0), let_go(12)];
+    check_image(&rt, rt.alloc(), &calls[..4], &allocated, &[0, 4, 8, 12, 16]);
+    // The first two are one free block now, and the third names it. It is the head of the list of eight words.
+    let first_two = [
+        [0xffff_ffff_0000_0021, 6, 0xffff_ffff_0000_0010, 0],
+        [0x0000_0000_0000_0011, 5, ALONE, 0],
+        [0x0000_0000_0000_0010, 3, 8, 0],
+        [0x0000_0008_0000_0010, 4, 8, 0],
+        [0x0000_000c_0000_0023, 4, 0x0000_0000_ffff_ffff, 0],
+        [0, 0, 0, 0],
+    ];
+    check_image(&rt, rt.alloc(), &calls[..6], &first_two, &[0, 8, 12, 16]);
+    // The fourth and the last are one too.
+    let last_two = [
+        [0xffff_ffff_0000_0021, 6, ALONE, 0],
+        [0x0000_0000_0000_0011, 5, ALONE, 0],
+        [0x0000_0000_0000_0010, 3, 8, 0],
+        [0x0000_0008_0000_0033, 7, ALONE, 0],
+        [0x0000_000c_0000_0023, 4, 0x0000_0000_ffff_ffff, 0],
+        [0, 0, 0, 0],
+    ];
+    check_image(&rt, rt.alloc(), &calls, &last_two, &[0, 8, 12]);
+}
+
+#[test]
+fn links_name_the_neighbours_in_a_list(rt: HostRuntime) {
+    // The block at 8 became free last: it is the head, and the one at 0 is behind it.
+    let two = [
+        [0xffff_ffff_0000_0011, 5, 0x0000_0008_ffff_ffff, 0],
+        [0x0000_0000_0000_0010, 2, 8, 0],
+        [0x0000_0004_0000_0011, 6, 0xffff_ffff_0000_0000, 0],
+        [0x0000_0008_0000_0010, 4, 8, 0],
+        [0x0000_000c_0000_0023, 4, ALONE, 0],
+        [0, 0, 0, 0],
+    ];
+    let calls = [FOUR, FOUR, FOUR, FOUR, let_go(0), let_go(8), let_go(4)];
+    check_image(&rt, rt.alloc(), &calls[..6], &two, &[0, 4, 8, 12, 16]);
+    // All three are one free block now, alone in the list of its class. The words of the second and third header are no block's now,
+    // and stay.
+    let merged = [
+        [0xffff_ffff_0000_0031, 7, ALONE, 0],
+        [0x0000_0000_0000_0010, 2, 8, 0],
+        [0x0000_0004_0000_0011, 6, 0xffff_ffff_0000_0000, 0],
+        [0x0000_0000_0000_0010, 4, 8, 0],
+        [0x0000_000c_0000_0023, 4, ALONE, 0],
+        [0, 0, 0, 0],
+    ];
+    check_image(&rt, rt.alloc(), &calls, &merged, &[0, 12, 16]);
+    // The list was 16, 8, 0. The blocks at 8 and at 0 went into the one that was merged, and the one at 16 is alone.
+    let middle = [
+        [0xffff_ffff_0000_0031, 10, ALONE, 0],
+        [0x0000_0000_0000_0010, 2, 8, 0],
+        [0x0000_0004_0000_0011, 8, 0x0000_0010_0000_0000, 0],
+        [0x0000_0000_0000_0010, 4, 8, 0],
+        [0x0000_000c_0000_0011, 9, ALONE, 0],
+        [0x0000_0010_0000_0010, 6, 8, 0],
+        [0x0000_0014_0000_0023, 6, ALONE, 0],
+        [0, 0, 0, 0],
+    ];
+    let calls = [
+        FOUR,
+        FOUR,
+        FOUR,
+        FOUR,
+        FOUR,
+        FOUR,
+        let_go(0),
+        let_go(8),
+        let_go(16),
+        let_go(4),
+    ];
+    check_image(&rt, rt.alloc(), &calls, &middle, &[0, 12, 16, 20, 24]);
+}
+
+// Of three blocks in a list the head goes to a request, or the middle one into the block before it.
+#[test]
+fn head_and_middle_of_three_leave_their_list(rt: HostRuntime) {
+    let head = [
+        [0xffff_ffff_0000_0011, 9, 0x0000_000c_ffff_ffff, 0],
+        [0x0000_0000_0000_0010, 2, 8, 0],
+        [0x0000_0004_0000_0010, 3, 8, 0],
+        [0x0000_0008_0000_0011, 10, 0xffff_ffff_0000_0000, 0],
+        [0x0000_000c_0000_0010, 5, 8, 0],
+        [0x0000_0010_0000_0010, 6, 8, 0],
+        [0x0000_0014_0000_0010, 12, 8, 0],
+        [0x0000_0018_0000_0012, 8, 8, 0],
+    ];
+    let mut calls = [
+        FOUR,
+        FOUR,
+        FOUR,
+        FOUR,
+        FOUR,
+        FOUR,
+        FOUR,
+        FOUR,
+        let_go(0),
+        let_go(12),
+        let_go(24),
+        FOUR,
+    ];
+    let starts = [0, 4, 8, 12, 16, 20, 24, 28];
+    check_image(&rt, rt.alloc(), &calls, &head, &starts);
+    let middle = [
+        [0xffff_ffff_0000_0011, 9, 0x0000_0018_ffff_ffff, 0],
+        [0x0000_0000_0000_0010, 2, 8, 0],
+        [0x0000_0004_0000_0021, 12, ALONE, 0],
+        [0x0000_0008_0000_0011, 10, 0x0000_0018_0000_0000, 0],
+        [0x0000_0008_0000_0010, 5, 8, 0],
+        [0x0000_0010_0000_0010, 6, 8, 0],
+        [0x0000_0014_0000_0011, 11, 0xffff_ffff_0000_0000, 0],
+        [0x0000_0018_0000_0012, 8, 8, 0],
+    ];
+    calls[11] = let_go(8);
+    let starts = [0, 4, 8, 16, 20, 24, 28];
+    check_image(&rt, rt.alloc(), &calls, &middle, &starts);
+}

@@ -1,0 +1,135 @@
+//! Pools, and the words of tables of kinds.
+use crate::tests::different::same;
+use crate::tests::heap::calls::{Ask, Reply, bytes, done, given};
+use crate::tests::names::name;
+use std::process::Abort;
+use tlsf_heap::{OpenFault, Refusal};
+use tlsf_pool::{
+    Kind, Pool, PoolRefusal, cheapest_split, kinds_words, longest_request, most_blocks, most_bytes,
+    pool_region,
+};
+
+/// The most bytes of a request that some region of level 4 serves.
+const LONGEST: u32 = 8_388_584;
+
+/// What a pool replies, and how many blocks it has given then.
+fn answer(pool: &mut Pool<4>, ask: Ask) -> (Reply, u32) {
+    let reply = match ask {
+        Ask::Allocate(len) => given(pool.allocate(len)),
+        Ask::Release(name) => done(pool.release(name)),
+        Ask::Write(name, at, bytes) => done(pool.write(name, at, bytes)),
+        Ask::Read(name, at, n) => {
+            let mut out = [0xee; 16];
+            let answer = pool.read(name, at, &mut out[..n.min(16)]);
+            bytes(answer, out)
+        }
+        _ => Reply::NoBlock,
+    };
+    (reply, pool.held())
+}
+
+/// Holds each reply to the one that is wanted.
+fn check_rows(rt: &impl Abort, pool: &mut Pool<4>, rows: &[(Ask, (Reply, u32))]) {
+    for (i, (ask, wanted)) in rows.iter().enumerate() {
+        same((i, answer(pool, *ask)), (i, *wanted)).expect(rt, "differ");
+    }
+}
+
+#[test]
+fn pool_is_filled_and_emptied(rt: HostRuntime) {
+    let mut pool = Pool::<4>::open(rt.alloc(), 3, 2, 8, 0).expect(&rt, "open");
+    let first = name(3, 0, 1);
+    let rows = [
+        (Ask::Allocate(8), (Reply::Made(first), 1)),
+        (Ask::Allocate(0), (Reply::Made(name(3, 4, 2)), 2)),
+        (Ask::Allocate(8), (Reply::NotGiven(PoolRefusal::Full), 2)),
+        (Ask::Allocate(9), (Reply::NotGiven(PoolRefusal::TooLong), 2)),
+        (Ask::Write(first, 6, b"Hi"), (Reply::Done, 2)),
+        (
+            Ask::Read(first, 6, 2),
+            (
+                Reply::Bytes(*b"Hi\xee\xee\xee\xee\xee\xee\xee\xee\xee\xee\xee\xee\xee\xee"),
+                2,
+            ),
+        ),
+        (Ask::Release(first), (Reply::Done, 1)),
+        (Ask::Release(first), (Reply::Refused(Refusal::Stale), 1)),
+        (Ask::Allocate(8), (Reply::Made(name(3, 0, 4)), 2)),
+    ];
+    check_rows(&rt, &mut pool, &rows);
+}
+
+// A request of 480 bytes wants 63 words, which have a class of their own at level 5: at level 4 the region has one word more.
+#[test]
+fn pools_open_by_their_words(rt: HostRuntime) {
+    for (most, longest, wanted) in [
+        (0, 8, None),
+        (1, LONGEST + 1, Some(OpenFault::BadSize)),
+        (1, LONGEST, None),
+        (7655, 512, Some(OpenFault::BadSize)),
+        (7654, 512, None),
+    ] {
+        let found = Pool::<4>::open(rt.alloc(), 0, most, longest, 0).err();
+        same((most, longest, found), (most, longest, wanted)).expect(&rt, "differ");
+    }
+    let regions = [pool_region::<4>(1, 480), pool_region::<5>(1, 480)];
+    same(regions, [Some(64), Some(63)]).expect(&rt, "differ");
+    let mut pool = Pool::<5>::open(rt.alloc(), 0, 1, 480, 0).expect(&rt, "open");
+    same(given(pool.allocate(480)), Reply::Made(name(0, 0, 1))).expect(&rt, "differ");
+}
+
+#[test]
+fn words_of_tables(rt: HostRuntime) {
+    let hundred = Kind {
+        most: 100,
+        len: 512,
+    };
+    let small = Kind { most: 100, len: 64 };
+    let large = Kind { most: 4, len: 4096 };
+    let none = Kind {
+        most: 0,
+        len: LONGEST,
+    };
+    let tiny = Kind { most: 3, len: 8 };
+    let unreached = Kind {
+        most: u32::MAX,
+        len: 4096,
+    };
+    let found = [
+        kinds_words::<4>(&[]),
+        kinds_words::<4>(&[hundred]),
+        kinds_words::<4>(&[small, large]),
+        kinds_words::<4>(&[large, small]),
+        kinds_words::<4>(&[none, small, large]),
+        kinds_words::<4>(&[tiny, none]),
+    ];
+    same(found, [4, 13_631, 59_427, 59_427, 59_427, 12]).expect(&rt, "differ");
+    let two = kinds_words::<4>(&[small]).wrapping_add(kinds_words::<4>(&[large]));
+    let found = [
+        cheapest_split::<4>(&[small, large], 8).map(|split| split.words),
+        cheapest_split::<4>(&[small, large], 1).map(|split| split.words),
+        cheapest_split::<4>(&[small, unreached], 8).map(|split| split.words),
+        cheapest_split::<4>(&[small], 0).map(|split| split.words),
+    ];
+    let wanted = [Some(two.min(59_427)), Some(59_427), None, None];
+    same(found, wanted).expect(&rt, "differ");
+}
+
+#[test]
+fn how_far_the_greatest_region_goes(rt: HostRuntime) {
+    let found = [
+        most_blocks::<4>(512),
+        most_blocks::<4>(LONGEST),
+        most_bytes::<4>(),
+        most_bytes::<5>(),
+    ];
+    same(found, [7654, 1, LONGEST, 134_217_704]).expect(&rt, "differ");
+    let lengths = [
+        longest_request::<4>(1),
+        longest_request::<4>(100),
+        longest_request::<4>(u32::MAX),
+        longest_request::<5>(1),
+    ];
+    let wanted = [Some(LONGEST), Some(41_248), None, Some(134_217_704)];
+    same(lengths, wanted).expect(&rt, "differ");
+}

@@ -1,0 +1,238 @@
+//! Heaps for tables of kinds: one for a whole table, and one for each of its parts.
+use crate::tests::different::same;
+use crate::tests::heap::calls::{Ask, Reply, bytes, done, given, live};
+use crate::tests::names::name;
+use std::alloc::Global;
+use std::process::Abort;
+use tlsf_heap::{OpenFault, Refusal};
+use tlsf_pools::{Kind, PoolRefusal, Pools, TablePool};
+
+const SHORT: Kind = Kind { most: 2, len: 16 };
+
+const LONG: Kind = Kind { most: 1, len: 400 };
+
+/// The numbers of the heaps of this table have the words that SIZING gives.
+const MANY: Kind = Kind {
+    most: 2000,
+    len: 64,
+};
+
+const LARGE: Kind = Kind {
+    most: 1,
+    len: 65_536,
+};
+
+const FULL: Reply = Reply::NotGiven(PoolRefusal::Full);
+
+const TOO_LONG: Reply = Reply::NotGiven(PoolRefusal::TooLong);
+
+const FOREIGN: Reply = Reply::Refused(Refusal::Foreign);
+
+const STALE: Reply = Reply::Refused(Refusal::Stale);
+
+const RANGE: Reply = Reply::Refused(Refusal::Range);
+
+/// `Hi`, and what a read of it leaves behind it.
+const HI: Reply = Reply::Bytes(*b"Hi\xee\xee\xee\xee\xee\xee\xee\xee\xee\xee\xee\xee\xee\xee");
+
+/// What the heap of a table replies.
+fn table_answer(pool: &mut TablePool<4>, ask: Ask) -> Reply {
+    match ask {
+        Ask::Allocate(len) => given(pool.allocate(len)),
+        Ask::Release(name) => done(pool.release(name)),
+        Ask::Write(name, at, bytes) => done(pool.write(name, at, bytes)),
+        Ask::Read(name, at, n) => {
+            let mut out = [0xee; 16];
+            let answer = pool.read(name, at, &mut out[..n.min(16)]);
+            bytes(answer, out)
+        }
+        Ask::BlockAt(at) => match pool.block_at(at) {
+            Some(block) => Reply::Block(block),
+            None => Reply::NoBlock,
+        },
+        Ask::Tick => Reply::Tick(pool.tick()),
+        _ => Reply::NoBlock,
+    }
+}
+
+/// How many blocks the heap of a table has given of each row, and how many are live.
+fn held_of(pool: &mut TablePool<4>) -> [u32; 4] {
+    let live = pool.report().live_blocks;
+    [pool.held(0), pool.held(1), pool.held(2), live]
+}
+
+/// Holds each reply to the one that is wanted.
+fn check_rows(rt: &impl Abort, pool: &mut TablePool<4>, rows: &[(Ask, Reply)]) {
+    for (i, (ask, wanted)) in rows.iter().enumerate() {
+        same((i, table_answer(pool, *ask)), (i, *wanted)).expect(rt, "differ");
+    }
+}
+
+/// Asks heap 3 of a table of two kinds. Then how many blocks it has given of each row, and how many blocks are live.
+fn check_table(rt: &impl Abort, alloc: Global, first: u64, rows: &[(Ask, Reply)], held: [u32; 4]) {
+    let mut pool = TablePool::<4>::open(alloc, 3, &[SHORT, LONG], first).expect(rt, "open");
+    check_rows(rt, &mut pool, rows);
+    same(held_of(&mut pool), held).expect(rt, "differ");
+}
+
+// The forged names are of another heap, of a place where no block begins, of one behind the region, and of another serial.
+// At the end the tick is at its last value but one.
+#[test]
+fn table_is_filled_and_emptied(rt: HostRuntime) {
+    let first = name(3, 0, 1);
+    let rows = [
+        (Ask::Allocate(16), Reply::Made(first)),
+        (Ask::Allocate(400), Reply::Made(name(3, 5, 2))),
+        (Ask::Allocate(17), FULL),
+        (Ask::Allocate(401), TOO_LONG),
+        (Ask::Write(first, 6, b"Hi"), Reply::Done),
+        (Ask::Read(first, 6, 2), HI),
+        (Ask::Write(first, 15, b"Hi"), RANGE),
+        (Ask::Read(first, 15, 2), RANGE),
+        (Ask::BlockAt(5), live(5, 53, 2, 400)),
+        (Ask::Release(name(2, 0, 1)), FOREIGN),
+        (Ask::Write(name(2, 0, 1), 0, b"Hi"), FOREIGN),
+        (Ask::Read(name(2, 0, 1), 0, 1), FOREIGN),
+        (Ask::Release(name(3, 1, 1)), STALE),
+        (Ask::Release(name(3, u32::MAX, 1)), STALE),
+        (Ask::Write(name(3, u32::MAX, 1), 0, b"Hi"), STALE),
+        (Ask::Read(name(3, u32::MAX, 1), 0, 1), STALE),
+        (Ask::Release(name(3, 0, 2)), STALE),
+        (Ask::Release(first), Reply::Done),
+        (Ask::Release(first), STALE),
+        (Ask::Tick, Reply::Tick(4)),
+    ];
+    check_table(&rt, rt.alloc(), 0, &rows, [0, 1, 0, 1]);
+    let block = name(3, 0, u64::MAX - 1);
+    let rows = [
+        (Ask::Allocate(16), Reply::Made(block)),
+        (Ask::Allocate(16), Reply::NotGiven(PoolRefusal::Worn)),
+        (Ask::Release(block), Reply::Refused(Refusal::Worn)),
+        (Ask::Tick, Reply::Tick(u64::MAX)),
+    ];
+    check_table(&rt, rt.alloc(), u64::MAX - 2, &rows, [1, 0, 0, 1]);
+}
+
+// A table of 2,000 short blocks and a long one has a heap for each: in one they would need more words than any region has.
+#[test]
+fn tables_open_by_their_words(rt: HostRuntime) {
+    let most = Kind {
+        most: 7655,
+        len: 512,
+    };
+    let unreached = Kind {
+        most: u32::MAX,
+        len: 4096,
+    };
+    for (kinds, first, wanted) in [
+        ([most, SHORT], 0, Some(OpenFault::BadSize)),
+        ([SHORT, LONG], u64::MAX, Some(OpenFault::Worn)),
+        ([SHORT, LONG], u64::MAX - 1, None),
+        ([MANY, LARGE], 0, Some(OpenFault::BadSize)),
+    ] {
+        let found = TablePool::<4>::open(rt.alloc(), 0, &kinds, first).err();
+        same(found, wanted).expect(&rt, "differ");
+    }
+    for (kinds, first, wanted) in [
+        ([MANY, unreached], 0, Some(OpenFault::BadSize)),
+        ([MANY, LARGE], u64::MAX, Some(OpenFault::Worn)),
+        ([MANY, LARGE], u64::MAX - 1, None),
+    ] {
+        let found = Pools::<4>::open(rt.alloc(), 5, &kinds, first).err();
+        same(found, wanted).expect(&rt, "differ");
+    }
+}
+
+/// What several heaps reply. Of each part the first block is shown.
+fn parts_answer(pools: &mut Pools<4>, ask: Ask) -> Reply {
+    match ask {
+        Ask::Allocate(len) => given(pools.allocate(len)),
+        Ask::Release(name) => done(pools.release(name)),
+        Ask::Write(name, at, bytes) => done(pools.write(name, at, bytes)),
+        Ask::Read(name, at, n) => {
+            let mut out = [0xee; 16];
+            let answer = pools.read(name, at, &mut out[..n.min(16)]);
+            bytes(answer, out)
+        }
+        _ => Reply::NoBlock,
+    }
+}
+
+/// Of a part its words that are free, its live blocks, the size of the block at 0 and at 1, and its tick.
+type Told = (Option<(u32, u32)>, Option<u32>, bool, Option<u64>);
+
+fn told_of(pools: &mut Pools<4>, part: usize) -> Told {
+    let words = match pools.report(part) {
+        Some(report) => Some((report.free_words, report.live_blocks)),
+        None => None,
+    };
+    let first = match pools.block_at(part, 0) {
+        Some(block) => Some(block.size),
+        None => None,
+    };
+    let is_second = pools.block_at(part, 1).is_some();
+    (words, first, is_second, pools.tick(part))
+}
+
+/// Asks heaps 5 and 6 of the two parts of a table, and holds each reply to the one that is wanted. Then what is told of three parts.
+fn check_parts(rt: &impl Abort, alloc: Global, first: u64, rows: &[(Ask, Reply)], told: [Told; 3]) {
+    let mut pools = Pools::<4>::open(alloc, 5, &[MANY, LARGE], first).expect(rt, "open");
+    for (i, (ask, wanted)) in rows.iter().enumerate() {
+        same((i, parts_answer(&mut pools, *ask)), (i, *wanted)).expect(rt, "differ");
+    }
+    for (part, wanted) in told.iter().enumerate() {
+        same((part, told_of(&mut pools, part)), (part, *wanted)).expect(rt, "differ");
+    }
+}
+
+// The forged names are of heaps that aren't there, of a place where no block begins, of one behind the region, and of another
+// serial.
+#[test]
+fn parts_are_filled_and_emptied(rt: HostRuntime) {
+    let small = name(5, 0, 1);
+    let large = name(6, 0, 1);
+    let rows = [
+        (Ask::Allocate(64), Reply::Made(small)),
+        (Ask::Release(large), STALE),
+        (Ask::Allocate(65), Reply::Made(large)),
+        (Ask::Allocate(65_536), FULL),
+        (Ask::Allocate(65_537), TOO_LONG),
+        (Ask::Write(large, 6, b"Hi"), Reply::Done),
+        (Ask::Read(large, 6, 2), HI),
+        (Ask::Release(name(4, 0, 1)), FOREIGN),
+        (Ask::Write(name(4, 0, 1), 0, b"Hi"), FOREIGN),
+        (Ask::Read(name(4, 0, 1), 0, 1), FOREIGN),
+        (Ask::Release(name(7, 0, 1)), FOREIGN),
+        (Ask::Write(name(7, 0, 1), 0, b"Hi"), FOREIGN),
+        (Ask::Read(name(7, 0, 1), 0, 1), FOREIGN),
+        (Ask::Release(name(u32::MAX, 0, 1)), FOREIGN),
+        (Ask::Release(name(5, 1, 1)), STALE),
+        (Ask::Release(name(5, u32::MAX, 1)), STALE),
+        (Ask::Write(name(5, u32::MAX, 1), 0, b"Hi"), STALE),
+        (Ask::Read(name(5, u32::MAX, 1), 0, 1), STALE),
+        (Ask::Release(name(5, 0, 2)), STALE),
+        (Ask::Write(small, 63, b"Hi"), RANGE),
+        (Ask::Read(small, 63, 2), RANGE),
+        (Ask::Release(large), Reply::Done),
+        (Ask::Release(large), STALE),
+    ];
+    let told = [
+        (Some((47_976, 1)), Some(11), false, Some(2)),
+        (Some((8_704, 0)), Some(8_704), false, Some(3)),
+        (None, None, false, None),
+    ];
+    check_parts(&rt, rt.alloc(), 0, &rows, told);
+    let block = name(5, 0, u64::MAX - 1);
+    let rows = [
+        (Ask::Allocate(64), Reply::Made(block)),
+        (Ask::Allocate(64), Reply::NotGiven(PoolRefusal::Worn)),
+        (Ask::Allocate(65), Reply::Made(name(6, 0, u64::MAX - 1))),
+        (Ask::Release(block), Reply::Refused(Refusal::Worn)),
+    ];
+    let told = [
+        (Some((47_976, 1)), Some(11), false, Some(u64::MAX)),
+        (Some((8_692, 1)), Some(12), false, Some(u64::MAX)),
+        (None, None, false, None),
+    ];
+    check_parts(&rt, rt.alloc(), u64::MAX - 2, &rows, told);
+}

@@ -1,0 +1,7 @@
+//! Workers over lanes and over queues, lists of events, and races.
+
+mod events;
+mod queue_races;
+mod queue_workers;
+mod races;
+mod workers;

@@ -1,0 +1,61 @@
+use std::rt::Clock;
+use std::sync::atomic::{AtomicU64, Ordering};
+use tlsf_crew::Gate;
+
+// The milliseconds from the first pass to the first line, and from one line to the next.
+const EVERY: u64 = 10_000;
+
+/// A gate that says on standard error, by `rt`, that a race still runs: a line about every ten seconds, as
+/// `tlsf: still racing, after 10 seconds`. They are counted from the first pass, so a race that ends sooner writes none.
+///
+/// Nothing waits for it: where the clock can't be read, or the line can't be written, there is none.
+///
+/// ```
+/// let notice = RaceNotice::new(&rt);
+/// let summary = race_trace(&rt, alloc, &mut reader, &mut writer, &notice)?;
+/// ```
+#[derive(Drop)]
+pub struct RaceNotice<'a, R> {
+    rt: &'a R,
+    // The time of the first pass, in milliseconds of the clock.
+    first: AtomicU64,
+    // The time from which on a line is due; 0 before the first pass.
+    due: AtomicU64,
+}
+
+impl<'a, R> RaceNotice<'a, R> {
+    /// A gate that no thread has passed.
+    pub fn new(rt: &'a R) -> RaceNotice<'a, R> {
+        RaceNotice {
+            rt,
+            first: AtomicU64::new(0),
+            due: AtomicU64::new(0),
+        }
+    }
+}
+
+impl<R: Clock + Eprint + Sync> Gate for RaceNotice<'_, R> {
+    fn pass(&self, _worker: u32, _index: u32) {
+        let Ok(time) = self.rt.monotonic() else {
+            return;
+        };
+        let whole = time.as_secs().saturating_mul(1_000);
+        let now = whole.saturating_add(u64::from(time.subsec_millis()));
+        let due = self.due.load(Ordering::SeqCst);
+        if now < due {
+            return;
+        }
+        if due == 0 {
+            self.first.store(now, Ordering::SeqCst);
+        }
+        // Of the threads that see the same line due, one writes it.
+        let next = now.saturating_add(EVERY);
+        let claimed = self
+            .due
+            .compare_exchange(due, next, Ordering::SeqCst, Ordering::SeqCst);
+        if due > 0 && claimed.is_ok() {
+            let seconds = now.saturating_sub(self.first.load(Ordering::SeqCst)) / 1_000;
+            let _ = eprintln!(self.rt; "tlsf: still racing, after {seconds} seconds");
+        }
+    }
+}
