@@ -8,12 +8,13 @@ and below the processor seconds of each crate, by samples of a second: of its
 proof, its tests and its wrong bodies. Takes half an hour for each on a machine
 that does nothing else; on one that does the ratio says little. Behind the
 others run the first revision once more to see whether the machine has slowed
-down. The exit status is 0 where each gate passed, and 2 where one couldn't be
-run.
+down. The exit status is 0 where each gate passed, 1 where one didn't, and 2
+where one couldn't be run.
 """
 import collections
 import os
 import pathlib
+import signal
 import subprocess
 import sys
 import tempfile
@@ -75,12 +76,17 @@ def run_gate(clone):
     reader = threading.Thread(target=lambda: lines.extend(gate.stdout.read().decode(errors="replace").splitlines()))
     reader.start()
     samples = Samples(gate.pid)
-    while True:
-        samples.take()
-        ended, status, used = os.wait4(gate.pid, os.WNOHANG)
-        if ended:
-            break
-        time.sleep(1)
+    try:
+        while True:
+            samples.take()
+            ended, status, used = os.wait4(gate.pid, os.WNOHANG)
+            if ended:
+                break
+            time.sleep(1)
+    except KeyboardInterrupt:
+        # The gate has a session of its own, so it wasn't told.
+        os.killpg(gate.pid, signal.SIGTERM)
+        raise
     reader.join()
     status = os.waitstatus_to_exitcode(status)
     told = f"{lines[-1] if lines else 'nothing said'}, status {status}"
@@ -108,6 +114,7 @@ def main(revisions):
                 if subprocess.run(words, stdin=subprocess.DEVNULL).returncode:
                     print(f"gate.py: there is no clone of {revision}", file=sys.stderr)
                     return 2
+            print(f"gate.py: the gate of {revision} runs", file=sys.stderr)
             status, told, minutes, seconds, samples = run_gate(clone)
         well = well and status == 0
         first = first or seconds
@@ -117,4 +124,7 @@ def main(revisions):
 
 
 if __name__ == "__main__":
-    sys.exit(main(sys.argv[1:]))
+    try:
+        sys.exit(main(sys.argv[1:]))
+    except KeyboardInterrupt:
+        sys.exit(130)

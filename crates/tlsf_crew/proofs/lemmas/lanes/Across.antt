@@ -1,4 +1,4 @@
--- Settling a lane leaves the world as it is, and a post or a take over a step_change lane changes that lane alone.
+-- Settling a lane leaves the world as it is, and a post or a take over a settled lane changes that lane alone.
 use Rattle.std.proofs.Common.{◌≡◌, ◌≢◌, ℕ, List, Some, length, sym, ◌∙◌, refl, subst}
 use Rattle.std.proofs.lemmas.List.{drop_at, append-nil}
 use Rattle.tlsf_post.specs.declared.post_end.PostEnd.{PostEnd}
@@ -13,7 +13,7 @@ use Rattle.tlsf_crew.proofs.lemmas.model.Edits.{with_same}
 use Rattle.tlsf_crew.proofs.lemmas.lanes.LaneChanges.{changed_world, waits_between, changed_yard}
 use Rattle.tlsf_crew.proofs.lemmas.lanes.Signed.{AreFrom}
 
--- what waits in a lane that was just step_change
+-- what waits in a lane that was just settled
 pub waits_after : (p : PostEnd) (t : TakeEnd) (q : PostEnd) (u : TakeEnd) → BothBeside p t q u → lane_waits (Some q) (Some u) ≡ waited u
 waits_after p t q u m = rw (m.fresh.0, m.fresh.1) (append-nil (waited u))
 

@@ -1,4 +1,4 @@
--- Where the lanes of a column, and then the columns, were step_change one after another, all lanes were.
+-- Where the lanes of a column, and then the columns, were settled one after another, all lanes were.
 use Rattle.std.proofs.Common.{◌≡◌, ◌≢◌, ℕ, ◌+◌, ◌<◌, ◌≤◌, List, length, sym, ◌∙◌, arith, refl, inl, inr}
 use Rattle.std.proofs.lemmas.Bool.{cases_eq}
 use Rattle.tlsf_crew.specs.declared.worker.worker.Worker.{Worker}
