@@ -179,7 +179,7 @@ fn first_block(alloc: Global) -> Result<u64, OpenFault> {
     let mut heap = Heap::<4>::open(alloc, 0, 64, 0)?;
     match heap.allocate(100) {
         Ok(name) => {
-            // Merged with its free neighbours at once. A second release of the name would be `Err(Refusal::Stale)`.
+            // Merged with its free neighbours at once. A second release would be `Err(Refusal::Stale)`.
             let _ = heap.release(name);
             Ok(name.serial)
         }
