@@ -15,7 +15,7 @@ const SAMPLES: u32 = 1_024;
 
 const NOTES: u32 = 50;
 
-/// The blocks that it holds at once: a box for each voice and the list of them, the map's, the line, and one more while it grows.
+/// The blocks that it holds at once: a box per voice and their list, those of the map, the line, one while it grows.
 const MOST: u32 = (VOICES + 1) + (1 + (NOTES - 1) / 7) + 1 + 1;
 
 /// The longest of them is the line, with 4 bytes for each sample.

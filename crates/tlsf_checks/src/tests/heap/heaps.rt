@@ -175,12 +175,15 @@ fn refusals_have_their_numbers(rt: HostRuntime) {
 
 /// The example of the README.
 fn first_block(alloc: Global) -> Result<u64, OpenFault> {
+    // Level 4, heap number 0, 64 words of 8 bytes, first tick 0.
     let mut heap = Heap::<4>::open(alloc, 0, 64, 0)?;
     match heap.allocate(100) {
         Ok(name) => {
+            // Merged with its free neighbours at once. A second release would be `Err(Refusal::Stale)`.
             let _ = heap.release(name);
             Ok(name.serial)
         }
+        // No free block fits, or the tick counter is used up.
         Err(_) => Ok(0),
     }
 }
