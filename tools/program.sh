@@ -2,8 +2,8 @@
 # $goal names the crate that it is built of: tlsf_tool, the program, if nothing else was set, or tlsf_c, C's library.
 #
 # Builds lie outside the repository, in a folder of this user's own, $builds: `rt ci` reads the whole checkout, and
-# refuses a builder's tree there. Each text of the sources has a folder, named by the checksum of all that the goal
-# is proved from:
+# refuses a builder's tree there. What is proved is taken from any such folder, also from one that can't be written. Each
+# text of the sources has a folder, named by the checksum of all that the goal is proved from:
 #
 #     KEY/tlsf       the proved program, there once it is whole; or KEY/libtlsf.a, the library
 #     KEY/log        what the last build said
@@ -24,15 +24,51 @@ tlsf_c) product=libtlsf.a what="the library" caller=library waits="./library PRE
 *) product=tlsf what="the program" caller=tlsf waits="./tlsf --prove" no_answer=70 ;;
 esac
 
-# Sets $builds, and makes that folder. One that is another user's, or can't be written, is passed over.
-find_builds() {
-    for builds in "${XDG_CACHE_HOME:+$XDG_CACHE_HOME/peachanchor}" "${HOME:+$HOME/.cache/peachanchor}" \
-        "${TMPDIR:-/tmp}/peachanchor-$(id -u)"; do
-        case $builds in /*) ;; *) continue ;; esac
-        [ -d "$builds" ] || (umask 077 && mkdir -p "$builds") 2>/dev/null
-        [ ! -O "$builds" ] || [ ! -w "$builds" ] || return 0
+# The folder for builds that no other one takes.
+temporary=${TMPDIR:-/tmp}/peachanchor-$(id -u)
+
+# in_folders HOME CALL..: runs CALL.. FOLDER for each folder that builds can lie in, until that ends well for one.
+in_folders() {
+    home=$1
+    shift
+    for folder in "${XDG_CACHE_HOME:+$XDG_CACHE_HOME/peachanchor}" "${home:+$home/.cache/peachanchor}" "$temporary"; do
+        case $folder in /*) ;; *) continue ;; esac
+        "$@" "$folder" && return
     done
     return 1
+}
+
+# Whether a folder is this user's own. Among temporary files another user can leave a link to any folder.
+is_own() {
+    [ -d "$1" ] && [ -O "$1" ] && { [ "$1" != "$temporary" ] || [ ! -L "$1" ]; }
+}
+
+# The home of this user, which the system knows where the environment names none: there builds are looked for, not made.
+own_home() {
+    if [ -n "${HOME-}" ]; then echo "$HOME"; else getent passwd "$(id -u)" 2>/dev/null | cut -d : -f 6; fi
+}
+
+# Sets $builds to the first folder of this user's own that can be written, and makes it; $build and $program lie there.
+find_builds() { in_folders "${HOME-}" takes_builds; }
+
+takes_builds() {
+    [ -d "$1" ] || (umask 077 && mkdir -p "$1") 2>/dev/null
+    is_own "$1" && [ -w "$1" ] && lie_in "$1"
+}
+
+# Sets the same to the folder where the text is proved and built, also one that can't be written; fails where it isn't.
+find_product() { in_folders "$(own_home)" has_product; }
+
+has_product() {
+    lie_in "$1"
+    is_own "$1" && [ -s "$program" ] && { [ -x "$program" ] || [ "$goal" = tlsf_c ]; }
+}
+
+# lie_in FOLDER: sets $builds, $build, the folder of the text there, and $program, what is proved and built of it.
+lie_in() {
+    builds=$1
+    build=$builds/$key
+    program=$build/$product
 }
 
 # text_sum TREE: prints the checksum of all that the goal is proved from in a tree.
@@ -59,23 +95,27 @@ places_sum() {
         ! -type d -printf '%p %i %s %T@ %C@\n' 2>/dev/null) && echo "$listed" | sha256sum | cut -c 1-40
 }
 
-# Sets $key, the checksum of the text in the repository, $build, its folder, and $program, what is proved and built.
+# Sets $key, the checksum of the text in the repository, and writes nothing.
 find_key() {
-    key=
+    recalled=
     places=$(places_sum "$top")
-    seen=$builds/seen/$goal-$places
-    [ -z "$places" ] || [ ! -f "$seen" ] || read -r key < "$seen"
-    if [ -z "$key" ]; then
+    if [ -n "$places" ] && in_folders "$(own_home)" recalls_key; then
+        recalled=1
+    else
         key=$(text_sum "$top")
-        [ -n "$key" ] || return 1
-        # Only what nobody wrote to meanwhile is known again by its places.
-        if [ -n "$places" ] && [ "$places" = "$(places_sum "$top")" ] && mkdir -p "$builds/seen"; then
-            echo "$key" > "$seen"
-        fi 2>/dev/null
+        [ -n "$key" ]
     fi
-    build=$builds/$key
-    program=$build/$product
 }
+
+recalls_key() {
+    is_own "$1" && [ -f "$1/seen/$goal-$places" ] && read -r key < "$1/seen/$goal-$places" && [ -n "$key" ]
+}
+
+# Notes the key in $builds, by the places of the sources: only what nobody wrote to meanwhile is known again by these.
+note_key() {
+    [ -z "$recalled" ] && [ -n "$places" ] && [ -w "$builds" ] && [ "$places" = "$(places_sum "$top")" ] || return 0
+    mkdir -p "$builds/seen" && echo "$key" > "$builds/seen/$goal-$places" || return 0
+} 2>/dev/null
 
 # Whether a process that builds in this folder, or begins to, lives; those whose leader was killed don't count.
 is_building() {
