@@ -3,7 +3,7 @@
 #
 # Races COUNT traces by chance, or 100,000, over lanes and over queues, and judges
 # each text from the trace and the text alone, by a model of its own that is made
-# of docs/FORMATS.md and docs/MODEL.md (bench/races/judge.py). Traces have 1 to 8
+# of docs/TRACE.md and docs/MODEL.md (bench/races/judge.py). Traces have 1 to 8
 # workers, lanes and queues of 1 to 8 posts, small heaps, and `d` lines; what they
 # are answered depends on the schedule.
 #

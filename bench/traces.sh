@@ -1,7 +1,7 @@
 #!/bin/sh
 # usage: bench/traces.sh [COUNT [SEED [JOBS [PROGRAM]]]]
 #
-# Compares the program with a second reading of docs/FORMATS.md and docs/MODEL.md
+# Compares the program with a second reading of docs/TRACE.md and docs/MODEL.md
 # on generated traces, a third of them damaged: status, standard output and
 # standard error, byte for byte. The second reading is tools/second_reading, in
 # C++, and shares nothing with the program: its heap is a plain list of blocks.

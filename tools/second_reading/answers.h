@@ -1,4 +1,4 @@
-// What `tlsf replay`, `tlsf replay --held` and `tlsf race` answer to a trace: docs/FORMATS.md, "Reply lines", "Report lines", "Held lines"
+// What `tlsf replay`, `tlsf replay --held` and `tlsf race` answer to a trace: docs/TRACE.md and docs/COMMANDS.md
 // and "Faults".
 #pragma once
 #include <deque>

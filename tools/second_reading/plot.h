@@ -1,4 +1,4 @@
-// What `tlsf plot --text` answers to a trace, and the paths in the SVG file of `tlsf plot`: docs/FORMATS.md, "Plots".
+// What `tlsf plot --text` answers to a trace, and the paths in the SVG file of `tlsf plot`: docs/COMMANDS.md, "tlsf plot".
 #pragma once
 #include "answers.h"
 

@@ -1,4 +1,4 @@
-// What a trace says, or its first fault: docs/FORMATS.md, "Trace" and "Faults", read a second time. It knows nothing of the program.
+// What a trace says, or its first fault: docs/TRACE.md, read a second time. It knows nothing of the program.
 #pragma once
 #include <cctype>
 #include <cstdint>
