@@ -44,14 +44,19 @@ static uint32_t below(struct side *it, uint32_t n) {
 
 /* --- One call, by the program or by the handler --------------------------------------------------------------------- */
 
-/* The trap flag: a signal after each instruction. The bytes below the stack pointer are the compiler's. */
-static void step(void) { __asm__ volatile("lea -128(%%rsp), %%rsp\n pushfq\n orq $256, (%%rsp)\n popfq\n lea 128(%%rsp), %%rsp" ::: "memory", "cc"); }
-static void stop_steps(void) { __asm__ volatile("lea -128(%%rsp), %%rsp\n pushfq\n andq $-257, (%%rsp)\n popfq\n lea 128(%%rsp), %%rsp" ::: "memory", "cc"); }
+/* They set and clear the trap flag: a signal comes after each instruction. The stack can be walked from within them too. */
+void start_steps(void);
+void stop_steps(void);
+#define OF_FLAGS(name, change) \
+    __asm__(".text\n" name ":\n .cfi_startproc\n pushfq\n .cfi_adjust_cfa_offset 8\n " change ", (%rsp)\n popfq\n" \
+            " .cfi_adjust_cfa_offset -8\n ret\n .cfi_endproc\n")
+OF_FLAGS("start_steps", "orq $256");
+OF_FLAGS("stop_steps", "andq $-257");
 
 static void begins(const struct side *it) {
     if (it != &program) return;
     is_in_call = 1;
-    if (is_stepped) step();
+    if (is_stepped) start_steps();
 }
 
 static uint32_t ended(const struct side *it, uint32_t answer) {
