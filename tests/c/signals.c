@@ -134,7 +134,10 @@ static void report(struct side *it) {
 static void over_lane(struct side *it) {
     const struct tlsf_name sent = {5, 6, 7};
     struct tlsf_name got = {5, 6, 7};
-    if (below(it, 2)) (void)is_served(it, ANSWER(it, tlsf_put(&post, &sent)), TLSF_FULL);
+    uint32_t came = 0;
+    const uint32_t kind = below(it, 5);
+    if (kind < 3) (void)is_served(it, ANSWER(it, tlsf_put(&post, &sent)), TLSF_FULL);
+    else if (kind == 3) (void)is_served(it, ANSWER(it, tlsf_drain(&heap, &take, 2, &came)), TLSF_OK);
     else if (is_served(it, ANSWER(it, tlsf_take(&take, &got)), TLSF_EMPTY) && memcmp(&sent, &got, sizeof got)) wrong++;
 }
 
