@@ -129,9 +129,9 @@ inline void take_back(heap_state &heap, void *p, std::size_t align) noexcept {
 
 class block;
 
-// A heap that is closed at the end of its life, by `close`, and where another is moved into it. It can be moved, and not
-// copied: blocks, resources and allocators then refer to the same heap. They may outlive the heap. Once it is closed they refuse
-// as a closed handle does, and touch none of its memory. One that isn't open, or was moved from, refuses as TLSF_IS_CLOSED.
+// A heap that is closed at the end of its life, by `close`, and where another heap is moved into it. It can be moved, and not
+// copied: blocks, resources and allocators then refer to the same heap. They may outlive it. Once it is closed they refuse as
+// a closed handle does, and touch none of its memory. One that isn't open, or was moved from, refuses as TLSF_IS_CLOSED.
 class heap {
     detail::heap_reference state_;
     friend class block;
@@ -158,9 +158,9 @@ public:
     heap &operator=(const heap &) = delete;
     ~heap() { close(); }
 
-    // A heap that never lacks room for at most `blocks` blocks at once of at most `len` bytes each, by tlsf_words. They may be
-    // asked for by any call: of this class, or of a resource or an allocator, for objects aligned to at most `align` bytes. With
-    // `align` 0 the heap has the fewest words, and room for the calls of this class alone.
+    // A heap that never lacks room for at most `blocks` blocks at once of at most `len` bytes each, by tlsf_words. Any call may
+    // ask for them: of this class, or of a resource or an allocator, for objects aligned to at most `align` bytes. With `align`
+    // 0 the heap has the fewest words, and room for the calls of this class alone.
     static heap for_blocks(level l, std::uint32_t number, std::uint32_t blocks, std::uint32_t len,
                            std::size_t align = alignof(std::max_align_t)) {
         const std::size_t more = align == 0 ? 0 : detail::added_for(align);

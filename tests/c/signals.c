@@ -2,8 +2,8 @@
  * walks the stack in a handler, as a crash reporter does, finds the way through the library.
  *
  * The program makes calls by chance on a heap and a lane, and knows what each of its blocks holds. So does the handler, with
- * blocks of its own. SIGNALS step CALLS interrupts each call at each of its instructions, the handler makes a call. SIGNALS
- * timer SIGNALS interrupts by a timer, so often. SIGNALS walk CALLS interrupts at each instruction, the handler walks the stack. */
+ * blocks of its own. SIGNALS step CALLS: each call is interrupted at each instruction, and the handler makes a call. SIGNALS
+ * timer COUNT: a timer interrupts COUNT times. SIGNALS walk CALLS: at each instruction the handler walks the stack. */
 #define _GNU_SOURCE
 #include "tlsf.h"
 
