@@ -2,13 +2,14 @@
 // under the containers of std, as a std::pmr::memory_resource and as an allocator.
 //
 // Header-only; libtlsf.a is all that is linked. What the caller owes is said in tlsf.h. Constructors throw std::bad_alloc
-// where malloc says no, std::invalid_argument where no region or lane is of that size; resource and allocator throw
-// std::bad_alloc where there is no room. All else is noexcept. Where exceptions are off, what would throw aborts.
+// where malloc says no, and std::invalid_argument where no region or lane is of that size. resource and allocator throw
+// std::bad_alloc where there is no room. Everything else is noexcept. Where exceptions are off, what would throw aborts.
 #ifndef TLSF_HPP
 #define TLSF_HPP
 
 #include "tlsf.h"
 
+#include <atomic>
 #include <cstddef>
 #include <cstdint>
 #include <cstdlib>
@@ -34,22 +35,45 @@ namespace detail {
 [[noreturn]] inline void bad_size(const char *) { std::abort(); }
 #endif
 
-// What a heap is to those who refer to it: its handle, its number, and where its region begins, once that is known.
+// What a heap is to those who refer to it: its handle, its number, and where its region begins, once that is known. It
+// outlives the heap as long as somebody refers to it, and its handle refuses then.
 struct heap_state {
     tlsf_heap raw = TLSF_CLOSED;
     std::uint32_t number = 0;
     std::uint64_t *base = nullptr;
+    std::atomic<std::size_t> references{1};
+};
 
-    heap_state() noexcept = default;
-    heap_state(const heap_state &) = delete;
-    heap_state &operator=(const heap_state &) = delete;
-    ~heap_state() { tlsf_close(&raw); }
+// One of those who refer to a heap, or none. The heap is closed by its owner alone.
+class heap_reference {
+    heap_state *state_ = nullptr;
+
+public:
+    heap_reference() noexcept = default;
+    // Takes over the reference that a new state counts.
+    explicit heap_reference(heap_state *fresh) noexcept : state_(fresh) {}
+    heap_reference(const heap_reference &other) noexcept : state_(other.state_) {
+        if (state_) state_->references.fetch_add(1, std::memory_order_relaxed);
+    }
+    heap_reference(heap_reference &&other) noexcept : state_(std::exchange(other.state_, nullptr)) {}
+    heap_reference &operator=(heap_reference other) noexcept {
+        std::swap(state_, other.state_);
+        return *this;
+    }
+    ~heap_reference() {
+        if (state_ && state_->references.fetch_sub(1, std::memory_order_acq_rel) == 1) delete state_;
+    }
+
+    explicit operator bool() const noexcept { return state_ != nullptr; }
+    heap_state *operator->() const noexcept { return state_; }
+    heap_state &operator*() const noexcept { return *state_; }
+    friend bool operator==(const heap_reference &a, const heap_reference &b) noexcept { return a.state_ == b.state_; }
 };
 
 // The end of a lane that is closed at the end of its life. It lies still, whoever holds it.
 template <typename End, std::uint32_t (*Close)(End *)>
 struct end_state {
-    End raw = TLSF_CLOSED;
+    End raw{};
 
     end_state() noexcept = default;
     end_state(const end_state &) = delete;
@@ -64,11 +88,16 @@ constexpr std::size_t word = sizeof(std::uint64_t);
 constexpr std::size_t header = 3;
 constexpr std::size_t most_bytes = std::numeric_limits<std::uint32_t>::max();
 
+// The bytes that `give` asks for besides those of an object: the word in front of it, and what aligning may take.
+constexpr std::size_t added_for(std::size_t align) noexcept {
+    return align <= word ? word : align > most_bytes ? align : word + align;
+}
+
 // A block for objects of any alignment, or null where there is no room. A payload is aligned to 8 bytes. The word in front
-// of what is given holds the block's serial, by which it is released; where more alignment is asked for, the two words in
+// of what is given holds the block's serial, by which it is released. Where more alignment is asked for, the two words in
 // front hold its place and its serial, and the block is longer by what aligning may take.
 inline void *give(heap_state &heap, std::size_t bytes, std::size_t align) noexcept {
-    const std::size_t more = align <= word ? word : word + align;
+    const std::size_t more = added_for(align);
     if (more > most_bytes || bytes > most_bytes - more) return nullptr;
     tlsf_name name{};
     std::uint32_t len = 0;
@@ -87,11 +116,12 @@ inline void *give(heap_state &heap, std::size_t bytes, std::size_t align) noexce
     return at;
 }
 
-// Releases what `give` gave for that alignment.
+// Releases what `give` gave for that alignment. Where the heap is closed, that is gone, with the words in front of it.
 inline void take_back(heap_state &heap, void *p, std::size_t align) noexcept {
-    auto *at = static_cast<std::uint64_t *>(p);
-    tlsf_name name{heap.number, 0, at[-1]};
-    name.at = static_cast<std::uint32_t>(align <= word ? static_cast<std::size_t>(at - 1 - heap.base) - header : at[-2]);
+    if (!heap.raw.is_open) return;
+    const auto *at = static_cast<std::uint64_t *>(p);
+    const std::uint64_t place = align <= word ? static_cast<std::uint64_t>(at - 1 - heap.base) - header : at[-2];
+    const tlsf_name name{heap.number, static_cast<std::uint32_t>(place), at[-1]};
     tlsf_release(&heap.raw, &name);
 }
 
@@ -99,10 +129,11 @@ inline void take_back(heap_state &heap, void *p, std::size_t align) noexcept {
 
 class block;
 
-// A heap that is closed at the end of its life. It can be moved, and not copied; blocks, resources and allocators refer to
-// the same heap afterwards, and must not outlive it. One that isn't open, or was moved from, refuses as TLSF_IS_CLOSED.
+// A heap that is closed at the end of its life, by `close`, and where another heap is moved into it. It can be moved, and not
+// copied: blocks, resources and allocators then refer to the same heap. They may outlive it. Once it is closed they refuse as
+// a closed handle does, and touch none of its memory. One that isn't open, or was moved from, refuses as TLSF_IS_CLOSED.
 class heap {
-    std::unique_ptr<detail::heap_state> state_;
+    detail::heap_reference state_;
     friend class block;
     friend class resource;
     template <typename T>
@@ -115,11 +146,27 @@ public:
         if (answer == TLSF_NO_MEMORY) detail::no_room();
         if (answer != TLSF_OK) detail::bad_size("tlsf: no region has so many words");
     }
+    heap(heap &&other) noexcept = default;
+    heap &operator=(heap &&other) noexcept {
+        if (this != &other) {
+            close();
+            state_ = std::move(other.state_);
+        }
+        return *this;
+    }
+    heap(const heap &) = delete;
+    heap &operator=(const heap &) = delete;
+    ~heap() { close(); }
 
-    // A heap that never lacks room for at most `blocks` blocks at once of at most `len` bytes each, by tlsf_words.
-    static heap for_blocks(level l, std::uint32_t number, std::uint32_t blocks, std::uint32_t len) {
+    // A heap that never lacks room for at most `blocks` blocks at once of at most `len` bytes each, by tlsf_words. Any call may
+    // ask for them: of this class, or of a resource or an allocator, for objects aligned to at most `align` bytes. With `align`
+    // 0 the heap has the fewest words, and room for the calls of this class alone.
+    static heap for_blocks(level l, std::uint32_t number, std::uint32_t blocks, std::uint32_t len,
+                           std::size_t align = alignof(std::max_align_t)) {
+        const std::size_t more = align == 0 ? 0 : detail::added_for(align);
         std::uint32_t words = 0;
-        if (tlsf_words(static_cast<std::uint32_t>(l), blocks, len, &words) != TLSF_OK)
+        if (more > detail::most_bytes - len ||
+            tlsf_words(static_cast<std::uint32_t>(l), blocks, static_cast<std::uint32_t>(len + more), &words) != TLSF_OK)
             detail::bad_size("tlsf: no region serves so many blocks of so many bytes");
         return heap(l, number, words);
     }
@@ -127,7 +174,7 @@ public:
     // As tlsf_open, for a heap that isn't open; nothing is thrown.
     [[nodiscard]] std::uint32_t open(level l, std::uint32_t number, std::uint32_t words) noexcept {
         if (is_open()) return TLSF_IN_USE;
-        std::unique_ptr<detail::heap_state> state(new (std::nothrow) detail::heap_state);
+        detail::heap_reference state(new (std::nothrow) detail::heap_state);
         if (!state) return TLSF_NO_MEMORY;
         const std::uint32_t answer = tlsf_open(&state->raw, static_cast<std::uint32_t>(l), number, words);
         if (answer != TLSF_OK) return answer;
@@ -135,8 +182,11 @@ public:
         state_ = std::move(state);
         return TLSF_OK;
     }
-    void close() noexcept { state_.reset(); }
-    bool is_open() const noexcept { return state_ != nullptr; }
+    void close() noexcept {
+        if (state_) tlsf_close(&state_->raw);
+        state_ = {};
+    }
+    bool is_open() const noexcept { return static_cast<bool>(state_); }
 
     // The handle for the calls of tlsf.h, or null where it isn't open. It is closed by this object alone.
     tlsf_heap *get() noexcept { return state_ ? &state_->raw : nullptr; }
@@ -158,7 +208,7 @@ public:
     }
     tlsf_heap_report report() noexcept {
         tlsf_heap_report sums{};
-        if (state_) tlsf_report(get(), &sums);
+        if (state_) (void)tlsf_report(get(), &sums);
         return sums;
     }
 
@@ -167,18 +217,19 @@ public:
 };
 
 // A live block, which is released at the end of its life; or none. It can be moved, and not copied. It stays in the thread
-// of its heap: to another thread goes its name, by `detach` and a lane.
+// of its heap: to another thread goes its name, by `detach` and a lane. Once its heap is closed there is no block.
 class block {
-    detail::heap_state *heap_ = nullptr;
+    detail::heap_reference heap_;
     tlsf_name name_{};
 
 public:
     block() noexcept = default;
     // Takes over a live block of that heap.
-    block(heap &owner, const tlsf_name &name) noexcept : heap_(owner.state_.get()), name_(name) {}
-    block(block &&other) noexcept : heap_(std::exchange(other.heap_, nullptr)), name_(other.name_) {}
+    block(heap &owner, const tlsf_name &name) noexcept : heap_(owner.state_), name_(name) {}
+    block(block &&other) noexcept = default;
     block &operator=(block &&other) noexcept {
-        block(std::move(other)).swap(*this);
+        block taken(std::move(other));
+        swap(taken);
         return *this;
     }
     block(const block &) = delete;
@@ -189,7 +240,7 @@ public:
         std::swap(heap_, other.heap_);
         std::swap(name_, other.name_);
     }
-    explicit operator bool() const noexcept { return heap_ != nullptr; }
+    explicit operator bool() const noexcept { return heap_ && heap_->raw.is_open; }
     const tlsf_name &name() const noexcept { return name_; }
 
     // Its payload, aligned to 8 bytes, and the bytes of it; null and 0 where there is no block.
@@ -207,11 +258,11 @@ public:
     }
     void reset() noexcept {
         if (heap_) tlsf_release(&heap_->raw, &name_);
-        heap_ = nullptr;
+        heap_ = {};
     }
     // Gives the name out of its hands: the block stays live until somebody releases it.
     tlsf_name detach() noexcept {
-        heap_ = nullptr;
+        heap_ = {};
         return name_;
     }
 };
@@ -255,7 +306,7 @@ public:
     // Releases the blocks whose names came, at most `most`, and says how many came.
     std::uint32_t drain(heap &owner, std::uint32_t most) noexcept {
         std::uint32_t came = 0;
-        if (state_ && owner.is_open()) (void)tlsf_drain(owner.get(), get(), most, &came);
+        if (state_ && owner.is_open()) tlsf_drain(owner.get(), get(), most, &came);
         return came;
     }
 };
@@ -276,9 +327,10 @@ struct lane {
 };
 
 // The heap under what takes a std::pmr::memory_resource, in one thread at a time. Any alignment; std::bad_alloc where there
-// is no room. Two resources over one heap are equal.
+// is no room. Two resources over one heap are equal. A container that still holds objects goes before its heap does, since they
+// lie in the heap's memory.
 class resource : public std::pmr::memory_resource {
-    detail::heap_state *heap_;
+    detail::heap_reference heap_;
 
     void *do_allocate(std::size_t bytes, std::size_t align) override {
         void *p = heap_ ? detail::give(*heap_, bytes, align) : nullptr;
@@ -298,20 +350,20 @@ class resource : public std::pmr::memory_resource {
     }
 
 public:
-    explicit resource(heap &owner) noexcept : heap_(owner.state_.get()) {}
+    explicit resource(heap &owner) noexcept : heap_(owner.state_) {}
 };
 
 // The heap under a container's own allocator: std::vector<float, tlsf::allocator<float>> samples(heap);
 template <typename T>
 class allocator {
-    detail::heap_state *heap_;
+    detail::heap_reference heap_;
     template <typename U>
     friend class allocator;
 
 public:
     using value_type = T;
 
-    allocator(heap &owner) noexcept : heap_(owner.state_.get()) {}
+    allocator(heap &owner) noexcept : heap_(owner.state_) {}
     template <typename U>
     allocator(const allocator<U> &other) noexcept : heap_(other.heap_) {}
 
@@ -330,7 +382,7 @@ public:
     }
     template <typename U>
     bool operator!=(const allocator<U> &other) const noexcept {
-        return heap_ != other.heap_;
+        return !(heap_ == other.heap_);
     }
 };
 

@@ -20,7 +20,38 @@ run_rattle() (
             --antt-project "$kit/rattle/logic/antt-project.json" --logic-built "$kit/logic_built"
 )
 
-# build_archive TREE PROCESSES ARCHIVE: proves tlsf_c over its libraries, and builds what C links.
+# build_archive TREE PROCESSES ARCHIVE: proves tlsf_c over its libraries, and builds what C links, for the least x86-64, where
+# `rt lib` takes x86-64-v2. ARCHIVE.toolchain stays, with the LLVM module that it was compiled from.
 build_archive() {
-    run_rattle "$1" tlsf_c "$2" lib --crate-type staticlib --toolchain "$kit/toolchain" --backend llvm -o "$3"
+    rm -rf "$3.toolchain"
+    framed_toolchain "$3.toolchain" &&
+        run_rattle "$1" tlsf_c "$2" lib --crate-type staticlib --toolchain "$3.toolchain" --cpu x86-64 --backend llvm -o "$3"
+}
+
+# framed_toolchain FOLDER: makes a toolchain by links whose clang writes into .eh_frame how each function's frame is left:
+# debuggers and crash reporters walk the stack by that. An attribute of LLVM's asks for it, and changes no instruction.
+framed_toolchain() {
+    mkdir -p "$1/bin" && ln -s "$kit/toolchain/lib" "$1/lib" && ln -s "$kit"/toolchain/bin/* "$1/bin/" && rm "$1/bin/clang" || return 1
+    cat > "$1/bin/clang" <<CLANG
+#!/bin/sh
+for word; do
+    case \$word in
+    *.bc)
+        '$kit/toolchain/bin/clang' --target=x86_64-unknown-linux-gnu -O3 -Xclang -disable-llvm-passes -S -emit-llvm \
+            -x ir "\$word" -o '$1/whole.ll' &&
+            sed '/^attributes .*"target-cpu"/ s/{/{ uwtable/' '$1/whole.ll' > '$1/module.ll' && cp '$1/module.ll' "\$word" || exit 1
+        ;;
+    esac
+done
+exec '$kit/toolchain/bin/clang' "\$@"
+CLANG
+    chmod +x "$1/bin/clang"
+}
+
+# prove_archive TREE ARCHIVE: as build_archive, in a tree where `rt lib` proves and builds the libraries below.
+prove_archive() {
+    for low in $(crates_below "$1" tlsf_c); do
+        [ "$low" = tlsf_c ] || (cd "$1/crates/$low" && rt lib) || return 1
+    done
+    build_archive "$1" "$(jobs_for 5 2500)" "$2"
 }

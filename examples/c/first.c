@@ -12,9 +12,9 @@ int main(void) {
         fprintf(stderr, "first: %s\n", tlsf_text_of(answer));
         return 1;
     }
-    if (tlsf_allocate(&heap, 100, &name) == TLSF_OK) { /* 100 bytes, all zero */
+    if (tlsf_allocate(&heap, 100, &name) == TLSF_OK && /* 100 bytes, all zero */
+        tlsf_write(&heap, &name, 0, (const uint8_t *)"copied in", 9) == TLSF_OK) {
         uint32_t len = 0;
-        tlsf_write(&heap, &name, 0, (const uint8_t *)"copied in", 9);
         char *payload = tlsf_payload(&heap, &name, &len); /* good until it is released or resized */
         strcpy(payload + 9, ", and written in place");
         printf("block %u:%u:%u of %u bytes: %s\n", (unsigned)name.heap, (unsigned)name.at, (unsigned)name.serial, (unsigned)len, payload);

@@ -31,6 +31,7 @@ struct engine {
     struct voice voices[AT_ONCE];
     uint32_t live, refused, late;
     atomic_int is_over;
+    atomic_int lost; /* names that found a lane full: none, since each lane has room for AT_ONCE of them */
     uint32_t allocate[STARTED], release[STARTED]; /* nanoseconds of each call */
 };
 
@@ -74,7 +75,7 @@ static void start_voice(struct engine *it, uint32_t started) {
     v->count = len / sizeof *v->samples;
     v->samples[0] = 1.0f;
     it->live++;
-    (void)tlsf_put(&it->to_second, &v->name); /* it has room for AT_ONCE names */
+    if (tlsf_put(&it->to_second, &v->name) != TLSF_OK) atomic_fetch_add(&it->lost, 1);
 }
 
 static void end_voices(struct engine *it, uint32_t *ended) {
@@ -123,7 +124,8 @@ static void *end_them(void *given) {
     struct engine *it = given;
     struct tlsf_name name;
     while (!atomic_load(&it->is_over)) {
-        for (int n = 0; n < 8 && tlsf_take(&it->at_second, &name) == TLSF_OK; n++) (void)tlsf_put(&it->from_second, &name);
+        for (int n = 0; n < 8 && tlsf_take(&it->at_second, &name) == TLSF_OK; n++)
+            if (tlsf_put(&it->from_second, &name) != TLSF_OK) atomic_fetch_add(&it->lost, 1);
         sleep_until(now() + 5 * PERIOD);
     }
     return NULL;
@@ -165,7 +167,7 @@ static int run(int by_heap) {
     tlsf_post_close(&engine.from_second);
     tlsf_take_close(&engine.at_callback);
     tlsf_close(&engine.heap);
-    return engine.refused != 0;
+    return engine.refused != 0 || atomic_load(&engine.lost) != 0;
 }
 
 int main(void) { return run(1) + run(0); }

@@ -71,6 +71,31 @@ static void open_heap(uint32_t level) {
     said("close", tlsf_close(&heap));
 }
 
+/* How long the block that is free longest is free: the tick of opening counts too. */
+static void ages(void) {
+    struct tlsf_heap heap = TLSF_CLOSED;
+    struct tlsf_name names[3] = {{0, 0, 0}, {0, 0, 0}, {0, 0, 0}};
+    struct tlsf_heap_report report = {0, 0, 0, 0, 0, 0, 0, 0, 0, 0};
+    printf("ages\n");
+    said("open", tlsf_open(&heap, 4, 0, 16));
+    said("report", tlsf_report(&heap, &report));
+    printf("  %u in a new heap\n", (unsigned)report.age);
+    for (int k = 0; k < 3; k++) said("allocate", tlsf_allocate(&heap, 8, &names[k]));
+    said("report", tlsf_report(&heap, &report));
+    printf("  %u of what the last allocate left\n", (unsigned)report.age);
+    said("allocate the rest", tlsf_allocate(&heap, 8, &names[2]));
+    said("report", tlsf_report(&heap, &report));
+    printf("  %u where nothing is free\n", (unsigned)report.age);
+    said("release", tlsf_release(&heap, &names[0]));
+    said("report", tlsf_report(&heap, &report));
+    printf("  %u right after a release\n", (unsigned)report.age);
+    said("resize", tlsf_resize(&heap, &names[1], 4));
+    said("release", tlsf_release(&heap, &names[2]));
+    said("report", tlsf_report(&heap, &report));
+    printf("  %u after a resize and a release more\n", (unsigned)report.age);
+    said("close", tlsf_close(&heap));
+}
+
 static void sizes(void) {
     struct tlsf_heap heap = TLSF_CLOSED;
     uint32_t words = 0;
@@ -87,12 +112,17 @@ static void sizes(void) {
     said("words, too many", tlsf_words(4, 100000, 512, &words));
     said("words, level 3", tlsf_words(3, 100, 512, &words));
     printf("  words as before %d\n", words == 13631);
+    said("words, no blocks", tlsf_words(4, 0, UINT32_MAX, &words));
+    printf("  no blocks take %u words\n", (unsigned)words);
+    said("words, no blocks", tlsf_words(5, 0, 0, &words));
+    printf("  no blocks take %u words\n", (unsigned)words);
+    said("words, level 6", tlsf_words(6, 0, 8, &words));
 }
 
 static void lanes(void) {
     struct tlsf_heap heap = TLSF_CLOSED;
-    struct tlsf_post_end post = TLSF_CLOSED, other = TLSF_CLOSED;
-    struct tlsf_take_end take = TLSF_CLOSED;
+    struct tlsf_post_end post = TLSF_POST_CLOSED, other = TLSF_POST_CLOSED;
+    struct tlsf_take_end take = TLSF_TAKE_CLOSED;
     struct tlsf_name name = {1, 2, 3}, got = {0, 0, 0};
     uint32_t came = 77;
     printf("a lane\n");
@@ -126,14 +156,41 @@ static void lanes(void) {
     said("close the heap", tlsf_close(&heap));
 }
 
+/* Closed handles as those of a struct, static or not, and as values that are assigned. */
+static void closed_values(void) {
+    struct all {
+        struct tlsf_heap heap;
+        struct tlsf_post_end post;
+        struct tlsf_take_end take;
+    };
+    static struct all kept = {TLSF_CLOSED, TLSF_POST_CLOSED, TLSF_TAKE_CLOSED};
+    struct all now = {TLSF_CLOSED, TLSF_POST_CLOSED, TLSF_TAKE_CLOSED};
+    const struct tlsf_name name = {0, 0, 0};
+    memset(&now, 0xff, sizeof now);
+    now.heap = TLSF_CLOSED;
+    now.post = TLSF_POST_CLOSED;
+    now.take = TLSF_TAKE_CLOSED;
+    printf("closed values\n");
+    said("release", tlsf_release(&kept.heap, &name));
+    said("put", tlsf_put(&kept.post, &name));
+    said("close", tlsf_take_close(&kept.take));
+    said("release", tlsf_release(&now.heap, &name));
+    said("put", tlsf_put(&now.post, &name));
+    said("close", tlsf_take_close(&now.take));
+    said("open", tlsf_open(&now.heap, 4, 0, 4));
+    said("close", tlsf_close(&now.heap));
+}
+
 int main(void) {
     struct tlsf_heap zeroed;
     memset(&zeroed, 0, sizeof zeroed);
     printf("zeroed\n");
     closed_heap(&zeroed);
+    closed_values();
     open_heap(4);
     open_heap(5);
     sizes();
+    ages();
     lanes();
     return 0;
 }

@@ -210,8 +210,8 @@ int main(int argc, char **argv) {
     static const char *const kinds[] = {"allocate", "allocate", "release", "resize", "reallocate", "write", "in place", "forged", "lane"};
     enum { KINDS = sizeof kinds / sizeof *kinds };
     long done[KINDS] = {0}, refused[KINDS] = {0};
-    struct tlsf_post_end post = TLSF_CLOSED;
-    struct tlsf_take_end take = TLSF_CLOSED;
+    struct tlsf_post_end post = TLSF_POST_CLOSED;
+    struct tlsf_take_end take = TLSF_TAKE_CLOSED;
     state = seed * 2654435761u + 88172645463325252ull;
     for (uint32_t j = 0; j < HEAPS; j++) {
         models[j].number = FIRST_NUMBER + j;

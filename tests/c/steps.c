@@ -53,8 +53,8 @@ static uint32_t below(uint32_t n) {
 static int make_calls(long calls) {
     static struct tlsf_name names[MOST];
     struct tlsf_heap heap = TLSF_CLOSED;
-    struct tlsf_post_end post = TLSF_CLOSED;
-    struct tlsf_take_end take = TLSF_CLOSED;
+    struct tlsf_post_end post = TLSF_POST_CLOSED;
+    struct tlsf_take_end take = TLSF_TAKE_CLOSED;
     struct tlsf_name name = {0, 0, 0};
     uint64_t *base = NULL;
     uint32_t len = 0, live = 0;
@@ -67,7 +67,7 @@ static int make_calls(long calls) {
         } else if (kind < 7 && live) {
             if (!tlsf_release(&heap, &names[k])) names[k] = names[--live];
         } else if (kind == 7 && live) {
-            (void)tlsf_resize(&heap, &names[k], size);
+            if (tlsf_resize(&heap, &names[k], size)) continue;
         } else if (kind == 8) {
             name.serial = (uint64_t)below(1000);
             (void)(below(2) ? tlsf_release(&heap, &name) : tlsf_locate(&heap, live ? &names[k] : &name, &base, &len));

@@ -48,9 +48,9 @@ static uint64_t *base_of(struct tlsf_heap *heap) {
 int main(int argc, char **argv) {
     static struct tlsf_name sent[UNDER_WAY]; /* in their order */
     struct tlsf_heap heap = TLSF_CLOSED;
-    struct tlsf_post_end post = TLSF_CLOSED;
-    struct tlsf_take_end take = TLSF_CLOSED;
-    struct other other = {TLSF_CLOSED, TLSF_CLOSED, NULL, 0};
+    struct tlsf_post_end post = TLSF_POST_CLOSED;
+    struct tlsf_take_end take = TLSF_TAKE_CLOSED;
+    struct other other = {TLSF_TAKE_CLOSED, TLSF_POST_CLOSED, NULL, 0};
     struct tlsf_heap_report report = {0, 0, 0, 0, 0, 0, 0, 0, 0, 0};
     struct tlsf_name name;
     pthread_t thread;

@@ -74,7 +74,7 @@ static void own_allocator(tlsf::heap &heap) {
     std::vector<lanes64, tlsf::allocator<lanes64>> wide(7, heap);
     holds("an allocator's alignment", is_aligned(wide.data(), 64));
     holds("containers over the allocator", samples[999] == 0.5f && list.front() == 99 && map[9] == 540);
-    holds("allocators over one heap are equal", samples.get_allocator() == tlsf::allocator<int>(list.get_allocator()));
+    holds("allocators over one heap are equal", samples.get_allocator() == list.get_allocator());
     tlsf::heap other(tlsf::level::four, 99, 64);
     holds("over two they aren't", tlsf::allocator<int>(heap) != tlsf::allocator<int>(other));
     auto copy = samples;
@@ -136,6 +136,97 @@ static bool throws(Call call) {
     return false;
 }
 
+// What refers to a heap that was closed, or assigned over, refuses, and reads nothing of it: seen with ASan or valgrind.
+static void closed_heaps(bool is_assigned) {
+    tlsf::heap heap(tlsf::level::four, 5, 1024), next(tlsf::level::four, 6, 1024);
+    tlsf::resource resource(heap);
+    tlsf::allocator<long> allocator(heap);
+    tlsf::block block = heap.make(100), other = next.make(8);
+    void *small = resource.allocate(8, 8), *wide = resource.allocate(64, 64);
+    long *longs = allocator.allocate(3);
+    auto [post, take] = tlsf::lane(2);
+    if (is_assigned) heap = std::move(next);
+    else heap.close();
+    holds("no block of a closed heap", !block && block.data() == nullptr && block.size() == 0);
+    holds("nor can it be had", block.resize(8) == TLSF_IS_CLOSED && block.reallocate(200) == TLSF_IS_CLOSED && !post.put(std::move(block)));
+    holds("its resource", throws<std::bad_alloc>([&] { (void)resource.allocate(8, 8); }));
+    holds("its allocator", throws<std::bad_alloc>([&] { (void)allocator.allocate(1); }));
+    resource.deallocate(small, 8, 8);
+    resource.deallocate(wide, 64, 64);
+    allocator.deallocate(longs, 3);
+    tlsf::block kept = std::move(block);
+    kept.reset();
+    if (!is_assigned) holds("opened anew", heap.open(tlsf::level::four, 6, 1024) == TLSF_OK);
+    holds("not of the heap that is open now", tlsf::resource(heap) != resource && tlsf::allocator<long>(heap) != allocator);
+    const auto live = heap.report().live_blocks;
+    holds("the other heap's block", is_assigned ? other.size() == 8 && live == 1 : other.size() == 8 && live == 0);
+}
+
+static void outlived_heaps() {
+    tlsf::block block;
+    {
+        tlsf::heap heap(tlsf::level::five, 7, 1024);
+        block = heap.make(8);
+        std::list<int, tlsf::allocator<int>> list(heap);
+        list.push_back(1);
+        holds("live", block && list.front() == 1);
+    }
+    holds("a block that outlived its heap", !block && block.size() == 0);
+}
+
+// A heap that was sized for so many blocks of so many bytes serves so many, whoever asks.
+static void fills(tlsf::level level, std::uint32_t count, std::uint32_t len, std::size_t align) {
+    auto heap = align > alignof(std::max_align_t) ? tlsf::heap::for_blocks(level, 2, count, len, align) : tlsf::heap::for_blocks(level, 2, count, len);
+    tlsf::resource resource(heap);
+    std::vector<void *> given(count);
+    for (std::uint32_t turn = 0; turn < 3; turn++) {
+        try {
+            for (void *&p : given) p = p ? p : resource.allocate(len, align);
+        } catch (const std::bad_alloc &) {
+            std::printf("level %u, %u of %u bytes aligned to %zu: refused\n", static_cast<unsigned>(level), count, len, align);
+            wrong++;
+            return;
+        }
+        for (std::uint32_t k = turn; k < count; k += 2) resource.deallocate(given[k], len, align), given[k] = nullptr;
+    }
+    for (void *p : given)
+        if (p) resource.deallocate(p, len, align);
+    holds("none is live", heap.report().live_blocks == 0);
+}
+
+template <std::size_t Align, std::size_t Len>
+static void fills_by_allocator(tlsf::level level, std::uint32_t count) {
+    struct alignas(Align) object {
+        unsigned char bytes[Len];
+    };
+    auto heap = tlsf::heap::for_blocks(level, 2, count, sizeof(object), alignof(object));
+    tlsf::allocator<object> allocator(heap);
+    std::vector<object *> given(count);
+    holds("an allocator's objects", !throws<std::bad_alloc>([&] {
+              for (object *&p : given) p = allocator.allocate(1);
+          }));
+    for (object *p : given)
+        if (p) allocator.deallocate(p, 1);
+}
+
+static void sized_heaps(tlsf::level level) {
+    for (std::uint32_t count : {1u, 2u, 17u})
+        for (std::uint32_t len : {0u, 1u, 8u, 9u, 24u, 100u, 512u, 1000u, 4096u})
+            for (std::size_t align = 1; align <= 1024; align *= 2) fills(level, count, len, align);
+    for (std::uint32_t count : {1u, 17u}) {
+        fills_by_allocator<1, 1>(level, count);
+        fills_by_allocator<8, 8>(level, count);
+        fills_by_allocator<16, 100>(level, count);
+        fills_by_allocator<64, 512>(level, count);
+    }
+    auto exact = tlsf::heap::for_blocks(level, 2, 100, 512, 0);
+    std::uint32_t words = 0;
+    holds("the fewest words", tlsf_words(static_cast<std::uint32_t>(level), 100, 512, &words) == TLSF_OK && exact.report().free_words == words);
+    holds("past 32 bits", throws<std::invalid_argument>([&] { (void)tlsf::heap::for_blocks(level, 2, 1, ~0u, 64); }));
+    holds("no such alignment", throws<std::invalid_argument>([&] { (void)tlsf::heap::for_blocks(level, 2, 1, 8, ~std::size_t(0)); }));
+    holds("no blocks", tlsf::heap::for_blocks(level, 2, 0, 1u << 30).report().free_words == 4);
+}
+
 static void refusals(tlsf::heap &heap) {
     tlsf::resource resource(heap);
     holds("no room", throws<std::bad_alloc>([&] { (void)resource.allocate(std::size_t(1) << 30, 8); }));
@@ -167,10 +258,14 @@ int main() {
         own_allocator(heap);
         blocks(heap);
         refusals(heap);
+        sized_heaps(level);
         const tlsf_heap_report after = heap.report();
         holds("nothing is live afterwards", after.live_blocks == 0 && after.free_blocks == 1 && after.largest == 1 << 16);
     }
     moved_heaps();
+    closed_heaps(false);
+    closed_heaps(true);
+    outlived_heaps();
     std::printf("containers, alignments, allocators, blocks, lanes, moves and refusals: %d wrong\n", wrong);
     return wrong != 0;
 }

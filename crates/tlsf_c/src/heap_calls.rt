@@ -66,7 +66,7 @@ pub extern "C" fn tlsf_open(
 }
 
 /// The words of a region in which a program of at most `most` blocks at once, of at most `len` bytes each, is never refused for want
-/// of room. They go to `words`.
+/// of room. They go to `words`. No blocks need the least region, 4 words, whatever `len` is.
 ///
 /// Refused as BadLevel where `level` is neither 4 nor 5, else as BadSize where no region of that level is so large.
 ///
@@ -76,11 +76,13 @@ pub extern "C" fn tlsf_open(
 #[unsafe(no_mangle)]
 pub extern "C" fn tlsf_words(level: u32, most: u32, len: u32, words: &mut u32) -> u32
     ensures bad_level { ¬ (level ≡ 4) → ¬ (level ≡ 5) → result ≡ bad_level }
-    ensures words { result ≡ 0 → pool_region level most len ≡ Some words.new }
+    ensures no_blocks { 4 ≤ level → level ≤ 5 → most ≡ 0 → (result ≡ 0) × (words.new ≡ 4) }
+    ensures words { result ≡ 0 → 0 < most → pool_region level most len ≡ Some words.new }
     ensures none { 4 ≤ level → level ≤ 5 → ¬ (result ≡ 0) → (result ≡ bad_size) × (pool_region level most len ≡ None) }
     ensures no_words { ¬ (result ≡ 0) → words.new ≡ words.old }
 {
     let found = match level {
+        4 | 5 if most == 0 => Some(4),
         4 => tlsf_pool::pool_region::<4>(most, len),
         5 => tlsf_pool::pool_region::<5>(most, len),
         _ => return CallFault::BadLevel.number(),
@@ -105,7 +107,7 @@ pub extern "C" fn tlsf_words(level: u32, most: u32, len: u32, words: &mut u32) -
 #[unsafe(no_mangle)]
 pub extern "C" fn tlsf_close(alloc: Global, heap: &mut HeapSlot) -> u32
     ensures after { heap.new.is_open ≡ false }
-    ensures closed { heap.old.is_open ≡ false → result ≡ closed }
+    ensures closed { heap.old.is_open ≡ false → (result ≡ closed) × (heap.new ≡ heap.old) }
     ensures open { heap.old.is_open ≡ true → result ≡ 0 }
 {
     match heap.take_out(alloc) {
@@ -131,7 +133,7 @@ pub extern "C" fn tlsf_allocate(
     len: u32,
     name: &mut BlockName,
 ) -> u32
-    ensures closed { heap.old.is_open ≡ false → (result ≡ closed) × (heap.new.is_open ≡ false) }
+    ensures closed { heap.old.is_open ≡ false → (result ≡ closed) × (heap.new ≡ heap.old) }
     ensures open { heap.old.is_open ≡ true → StaysOpen heap.old heap.new }
     ensures status { heap.old.is_open ≡ true → result ≡ status_of (allocated (level_in heap.old) (heap_in heap.old) len).answer }
     ensures name { heap.old.is_open ≡ true → result ≡ 0 → (allocated (level_in heap.old) (heap_in heap.old) len).answer ≡ Ok (name_of name.new) }
@@ -163,7 +165,7 @@ pub extern "C" fn tlsf_allocate(
 /// ```
 #[unsafe(no_mangle)]
 pub extern "C" fn tlsf_release(alloc: Global, heap: &mut HeapSlot, name: &BlockName) -> u32
-    ensures closed { heap.old.is_open ≡ false → (result ≡ closed) × (heap.new.is_open ≡ false) }
+    ensures closed { heap.old.is_open ≡ false → (result ≡ closed) × (heap.new ≡ heap.old) }
     ensures open { heap.old.is_open ≡ true → StaysOpen heap.old heap.new }
     ensures status { heap.old.is_open ≡ true → result ≡ status_of (released (heap_in heap.old) (name_of name.now)).answer }
     ensures heap { heap.old.is_open ≡ true → heap_in heap.new ≡ (released (heap_in heap.old) (name_of name.now)).heap }
@@ -187,7 +189,7 @@ pub extern "C" fn tlsf_release(alloc: Global, heap: &mut HeapSlot, name: &BlockN
 /// ```
 #[unsafe(no_mangle)]
 pub extern "C" fn tlsf_resize(alloc: Global, heap: &mut HeapSlot, name: &BlockName, len: u32) -> u32
-    ensures closed { heap.old.is_open ≡ false → (result ≡ closed) × (heap.new.is_open ≡ false) }
+    ensures closed { heap.old.is_open ≡ false → (result ≡ closed) × (heap.new ≡ heap.old) }
     ensures open { heap.old.is_open ≡ true → StaysOpen heap.old heap.new }
     ensures status { heap.old.is_open ≡ true → result ≡ status_of (resized (heap_in heap.old) (name_of name.now) len).answer }
     ensures heap { heap.old.is_open ≡ true → heap_in heap.new ≡ (resized (heap_in heap.old) (name_of name.now) len).heap }
@@ -218,7 +220,7 @@ pub extern "C" fn tlsf_write(
     at: u32,
     bytes: &[u8],
 ) -> u32
-    ensures closed { heap.old.is_open ≡ false → (result ≡ closed) × (heap.new.is_open ≡ false) }
+    ensures closed { heap.old.is_open ≡ false → (result ≡ closed) × (heap.new ≡ heap.old) }
     ensures open { heap.old.is_open ≡ true → StaysOpen heap.old heap.new }
     ensures status { heap.old.is_open ≡ true → result ≡ status_of (written (heap_in heap.old) (name_of name.now) at bytes.now).answer }
     ensures heap { heap.old.is_open ≡ true → heap_in heap.new ≡ (written (heap_in heap.old) (name_of name.now) at bytes.now).heap }
@@ -248,7 +250,7 @@ pub extern "C" fn tlsf_read(
     at: u32,
     out: &mut [u8],
 ) -> u32
-    ensures closed { heap.old.is_open ≡ false → (result ≡ closed) × (heap.new.is_open ≡ false) × (out.new ≡ out.old) }
+    ensures closed { heap.old.is_open ≡ false → (result ≡ closed) × (heap.new ≡ heap.old) × (out.new ≡ out.old) }
     ensures open { heap.old.is_open ≡ true → StaysOpen heap.old heap.new }
     ensures status { heap.old.is_open ≡ true → result ≡ status_of (read_answer (read_of (heap_in heap.old) (name_of name.now) at (length out.old))) }
     ensures bytes { heap.old.is_open ≡ true → out.new ≡ result_unwrap_or (read_of (heap_in heap.old) (name_of name.now) at (length out.old)) out.old }
@@ -281,7 +283,7 @@ pub extern "C" fn tlsf_locate(
     base: &mut *mut u64,
     len: &mut u32,
 ) -> u32
-    ensures closed { heap.old.is_open ≡ false → (result ≡ closed) × (heap.new.is_open ≡ false) }
+    ensures closed { heap.old.is_open ≡ false → (result ≡ closed) × (heap.new ≡ heap.old) }
     ensures open { heap.old.is_open ≡ true → StaysOpen heap.old heap.new }
     ensures len { heap.old.is_open ≡ true → result ≡ 0 → IsPayloadCheck (heap_in heap.old) (name_of name.now) (Ok len.new) }
     ensures refused { heap.old.is_open ≡ true → ¬ (result ≡ 0) → (why : Refusal)
@@ -315,7 +317,7 @@ pub extern "C" fn tlsf_locate(
 /// ```
 #[unsafe(no_mangle)]
 pub extern "C" fn tlsf_report(alloc: Global, heap: &mut HeapSlot, report: &mut HeapReport) -> u32
-    ensures closed { heap.old.is_open ≡ false → (result ≡ closed) × (heap.new.is_open ≡ false) × (report.new ≡ report.old) }
+    ensures closed { heap.old.is_open ≡ false → (result ≡ closed) × (heap.new ≡ heap.old) × (report.new ≡ report.old) }
     ensures open { heap.old.is_open ≡ true → (result ≡ 0) × StaysOpen heap.old heap.new }
     ensures report { heap.old.is_open ≡ true → report_in report.new ≡ report_of (level_in heap.old) (heap_in heap.old) }
     ensures heap { heap.old.is_open ≡ true → heap_in heap.new ≡ heap_in heap.old }

@@ -72,7 +72,7 @@ pub extern "C" fn tlsf_lane_open(
 #[unsafe(no_mangle)]
 pub extern "C" fn tlsf_post_close(alloc: Global, post: &mut PostSlot) -> u32
     ensures after { post.new.is_open ≡ false }
-    ensures closed { post.old.is_open ≡ false → result ≡ closed }
+    ensures closed { post.old.is_open ≡ false → (result ≡ closed) × (post.new ≡ post.old) }
     ensures open { post.old.is_open ≡ true → result ≡ 0 }
 {
     match post.take_out(alloc) {
@@ -94,7 +94,7 @@ pub extern "C" fn tlsf_post_close(alloc: Global, post: &mut PostSlot) -> u32
 #[unsafe(no_mangle)]
 pub extern "C" fn tlsf_take_close(alloc: Global, take: &mut TakeSlot) -> u32
     ensures after { take.new.is_open ≡ false }
-    ensures closed { take.old.is_open ≡ false → result ≡ closed }
+    ensures closed { take.old.is_open ≡ false → (result ≡ closed) × (take.new ≡ take.old) }
     ensures open { take.old.is_open ≡ true → result ≡ 0 }
 {
     match take.take_out(alloc) {
@@ -115,7 +115,7 @@ pub extern "C" fn tlsf_take_close(alloc: Global, take: &mut TakeSlot) -> u32
 /// ```
 #[unsafe(no_mangle)]
 pub extern "C" fn tlsf_put(alloc: Global, post: &mut PostSlot, name: &BlockName) -> u32
-    ensures closed { post.old.is_open ≡ false → (result ≡ closed) × (post.new.is_open ≡ false) }
+    ensures closed { post.old.is_open ≡ false → (result ≡ closed) × (post.new ≡ post.old) }
     ensures open { post.old.is_open ≡ true → post.new.is_open ≡ true }
     ensures lane { (t : Option TakeEnd) → AreEnds post.old.held.value t → AreEnds post.new.held.value t }
     ensures sent { post.old.is_open ≡ true → result ≡ 0 → sent_in post.new ≡ sent_in post.old ++ post_of (name_of name.now) ∷ [] }
@@ -147,7 +147,7 @@ pub extern "C" fn tlsf_put(alloc: Global, post: &mut PostSlot, name: &BlockName)
 /// ```
 #[unsafe(no_mangle)]
 pub extern "C" fn tlsf_take(alloc: Global, take: &mut TakeSlot, name: &mut BlockName) -> u32
-    ensures closed { take.old.is_open ≡ false → (result ≡ closed) × (take.new.is_open ≡ false) }
+    ensures closed { take.old.is_open ≡ false → (result ≡ closed) × (take.new ≡ take.old) }
     ensures open { take.old.is_open ≡ true → take.new.is_open ≡ true }
     ensures lane { (p : Option PostEnd) → AreEnds p take.old.held.value → AreEnds p take.new.held.value }
     ensures taken { take.old.is_open ≡ true → result ≡ 0 → (from : ℕ)

@@ -16,22 +16,25 @@ pub struct TakeSlot {
 }
 
 impl TakeSlot {
-    /// Takes out what is there, and leaves the place closed.
+    /// Takes out what is there, and leaves the place closed. A closed place is not written to: what was there may be in use by the call that a
+    /// signal handler interrupts.
     pub fn take_out(&mut self, alloc: Global) -> Option<Box<TakeEnd, Global>>
         ensures closed { self.new.is_open ≡ false }
-        ensures none { result ≡ None → self.old.is_open ≡ false }
+        ensures none { result ≡ None → (self.old.is_open ≡ false) × (self.new ≡ self.old) }
         ensures some { (b : _) → result ≡ Some b → (self.old.is_open ≡ true) × (self.old.held.value ≡ Some b.value) }
     {
+        if !self.is_open {
+            return None;
+        }
         let nowhere: *mut u8 = ptr::null_mut();
-        let held = HeldTakeEnd::empty(alloc, nowhere);
-        let TakeSlot { held, is_open } = mem::replace(
+        let TakeSlot { held, .. } = mem::replace(
             self,
             TakeSlot {
-                held,
+                held: HeldTakeEnd::empty(alloc, nowhere),
                 is_open: false,
             },
         );
-        if is_open { Some(held.into_box()) } else { None }
+        Some(held.into_box())
     }
 
     /// Puts something into a closed place.

@@ -1,0 +1,216 @@
+/* Calls from a signal handler: those on a handle that the interrupted call is using are refused, and harm nothing. And whoever
+ * walks the stack in a handler, as a crash reporter does, finds the way through the library.
+ *
+ * The program makes calls by chance on a heap and a lane, and knows what each of its blocks holds. So does the handler, with
+ * blocks of its own. SIGNALS step CALLS: each call is interrupted at each instruction, and the handler makes a call. SIGNALS
+ * timer COUNT: a timer interrupts COUNT times. SIGNALS walk CALLS: at each instruction the handler walks the stack. */
+#define _GNU_SOURCE
+#include "tlsf.h"
+
+#include <execinfo.h>
+#include <signal.h>
+#include <stdio.h>
+#include <stdlib.h>
+#include <string.h>
+#include <sys/time.h>
+
+enum { MOST = 40, WORDS = 4096, LONGEST = 300, CAPACITY = 16, FRAMES = 32, MAKE_CALLS = 1024 };
+
+struct block {
+    struct tlsf_name name;
+    uint32_t len;
+    uint8_t byte;
+};
+
+/* The program, or the handler: its blocks, and where its chance comes from. */
+struct side {
+    uint64_t state;
+    uint32_t live;
+    uint8_t byte;
+    struct block blocks[MOST];
+};
+
+static struct tlsf_heap heap = TLSF_CLOSED;
+static struct tlsf_post_end post = TLSF_POST_CLOSED;
+static struct tlsf_take_end take = TLSF_TAKE_CLOSED;
+static struct side program = {1, 0, 0, {{{0, 0, 0}, 0, 0}}}, handler = {2, 0, 0, {{{0, 0, 0}, 0, 0}}};
+static volatile sig_atomic_t is_in_call, is_stepped, is_walked;
+static volatile long signals, served, refused, wrong;
+
+static uint32_t below(struct side *it, uint32_t n) {
+    it->state = it->state * 6364136223846793005u + 1442695040888963407u;
+    return (uint32_t)((it->state >> 33) % n);
+}
+
+/* --- One call, by the program or by the handler --------------------------------------------------------------------- */
+
+/* They set and clear the trap flag: a signal comes after each instruction. The stack can be walked from within them too. */
+void start_steps(void);
+void stop_steps(void);
+#define OF_FLAGS(name, change) \
+    __asm__(".text\n" name ":\n .cfi_startproc\n pushfq\n .cfi_adjust_cfa_offset 8\n " change ", (%rsp)\n popfq\n" \
+            " .cfi_adjust_cfa_offset -8\n ret\n .cfi_endproc\n")
+OF_FLAGS("start_steps", "orq $256");
+OF_FLAGS("stop_steps", "andq $-257");
+
+static void begins(const struct side *it) {
+    if (it != &program) return;
+    is_in_call = 1;
+    if (is_stepped) start_steps();
+}
+
+static uint32_t ended(const struct side *it, uint32_t answer) {
+    if (it != &program) return answer;
+    if (is_stepped) stop_steps();
+    is_in_call = 0;
+    return answer;
+}
+
+#define ANSWER(it, call) (begins(it), ended(it, (call)))
+
+/* Whether a call was served: with TLSF_OK, or with the one refusal that it may have. The handler's is refused where the program
+ * is in a call, and nowhere else. */
+static bool is_served(struct side *it, uint32_t answer, uint32_t refusal) {
+    if (answer == TLSF_IS_CLOSED && it == &handler && is_in_call) {
+        refused++;
+        return false;
+    }
+    if (it == &handler) served++;
+    if (answer != TLSF_OK && answer != refusal) wrong++;
+    return answer == TLSF_OK;
+}
+
+static void must(struct side *it, uint32_t answer) {
+    (void)it;
+    if (answer != TLSF_OK) wrong++;
+}
+
+/* --- What they do, and what they know ------------------------------------------------------------------------------- */
+
+static void check(struct side *it, const struct block *b) {
+    uint8_t bytes[LONGEST];
+    if (!is_served(it, ANSWER(it, tlsf_read(&heap, &b->name, 0, bytes, b->len)), TLSF_OK)) return;
+    for (uint32_t k = 0; k < b->len; k++)
+        if (bytes[k] != b->byte) wrong++;
+}
+
+static void fill(struct side *it, const struct block *b, uint32_t from) {
+    uint8_t bytes[LONGEST];
+    memset(bytes, b->byte, sizeof bytes);
+    must(it, ANSWER(it, tlsf_write(&heap, &b->name, from, bytes, b->len - from)));
+}
+
+static void allocate(struct side *it) {
+    struct block b = {{0, 0, 0}, below(it, LONGEST), 0};
+    if (it->live == MOST || !is_served(it, ANSWER(it, tlsf_allocate(&heap, b.len, &b.name)), TLSF_NO_FIT)) return;
+    check(it, &b); /* zeros */
+    b.byte = ++it->byte;
+    fill(it, &b, 0);
+    it->blocks[it->live++] = b;
+}
+
+static void release(struct side *it, struct block *b) {
+    if (is_served(it, ANSWER(it, tlsf_release(&heap, &b->name)), TLSF_OK)) *b = it->blocks[--it->live];
+}
+
+static void resize(struct side *it, struct block *b) {
+    const uint32_t len = below(it, LONGEST), before = b->len;
+    if (!is_served(it, ANSWER(it, tlsf_resize(&heap, &b->name, len)), TLSF_NO_ROOM)) return;
+    b->len = len;
+    if (len > before) fill(it, b, before);
+}
+
+static void locate(struct side *it, const struct block *b) {
+    uint64_t *base = NULL;
+    uint32_t len = 0;
+    if (is_served(it, ANSWER(it, tlsf_locate(&heap, &b->name, &base, &len)), TLSF_OK) && len != b->len) wrong++;
+}
+
+static void report(struct side *it) {
+    struct tlsf_heap_report sums;
+    if (is_served(it, ANSWER(it, tlsf_report(&heap, &sums)), TLSF_OK) && sums.live_words + sums.free_words != WORDS) wrong++;
+}
+
+static void over_lane(struct side *it) {
+    const struct tlsf_name sent = {5, 6, 7};
+    struct tlsf_name got = {5, 6, 7};
+    uint32_t came = 0;
+    const uint32_t kind = below(it, 5);
+    if (kind < 3) (void)is_served(it, ANSWER(it, tlsf_put(&post, &sent)), TLSF_FULL);
+    else if (kind == 3) (void)is_served(it, ANSWER(it, tlsf_drain(&heap, &take, 2, &came)), TLSF_OK);
+    else if (is_served(it, ANSWER(it, tlsf_take(&take, &got)), TLSF_EMPTY) && memcmp(&sent, &got, sizeof got)) wrong++;
+}
+
+__attribute__((noinline)) static void do_one(struct side *it) {
+    const uint32_t kind = below(it, 9);
+    struct block *b = it->live ? &it->blocks[below(it, it->live)] : NULL;
+    if (kind < 3 || !b) allocate(it);
+    else if (kind < 5) release(it, b);
+    else if (kind == 5) resize(it, b);
+    else if (kind == 6) check(it, b), locate(it, b);
+    else if (kind == 7) over_lane(it);
+    else report(it);
+}
+
+__attribute__((noinline)) static void make_calls(long calls, long enough) {
+    for (long k = 0; k < calls && signals < enough; k++) do_one(&program);
+}
+
+/* --- Signals -------------------------------------------------------------------------------------------------------- */
+
+/* Whether the frames of the stack lead back to make_calls. */
+static void walk(void) {
+    void *frames[FRAMES];
+    const int count = backtrace(frames, FRAMES);
+    for (int k = 0; k < count; k++)
+        if ((uintptr_t)frames[k] - (uintptr_t)make_calls < MAKE_CALLS) return;
+    wrong++;
+}
+
+static void handle(int signal) {
+    (void)signal;
+    signals++;
+    if (is_walked) walk();
+    else do_one(&handler);
+}
+
+static int end(void) {
+    struct tlsf_heap_report sums;
+    for (struct side *it = &program; it; it = it == &program ? &handler : NULL)
+        while (it->live) {
+            check(it, &it->blocks[it->live - 1]);
+            release(it, &it->blocks[it->live - 1]);
+        }
+    must(&program, tlsf_report(&heap, &sums));
+    if (sums.live_blocks || sums.free_blocks != 1 || sums.free_words != WORDS) wrong++;
+    must(&program, tlsf_post_close(&post));
+    must(&program, tlsf_take_close(&take));
+    must(&program, tlsf_close(&heap));
+    printf("%ld signals, %ld calls of the handler served and %ld refused, %ld wrong\n", signals, served, refused, wrong);
+    return wrong || !signals || (!is_walked && (!served || !refused));
+}
+
+int main(int argc, char **argv) {
+    const char *kind = argc > 1 ? argv[1] : "step";
+    const long count = argc > 2 ? atol(argv[2]) : 1000;
+    void *frames[FRAMES];
+    const struct itimerval often = {{0, 40}, {0, 40}}, never = {{0, 0}, {0, 0}};
+    struct sigaction action;
+    memset(&action, 0, sizeof action);
+    action.sa_handler = handle;
+    action.sa_flags = SA_RESTART;
+    (void)backtrace(frames, FRAMES); /* the first one takes memory */
+    if (sigaction(SIGTRAP, &action, NULL) || sigaction(SIGALRM, &action, NULL)) return 2;
+    if (tlsf_open(&heap, 4, 1, WORDS) || tlsf_lane_open(&post, &take, CAPACITY)) return 2;
+    is_walked = !strcmp(kind, "walk");
+    if (!strcmp(kind, "timer")) {
+        if (setitimer(ITIMER_REAL, &often, NULL)) return 2;
+        make_calls(1000000000, count);
+        if (setitimer(ITIMER_REAL, &never, NULL)) return 2;
+    } else {
+        is_stepped = 1;
+        make_calls(count, 1000000000);
+        is_stepped = 0;
+    }
+    return end();
+}
