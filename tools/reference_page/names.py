@@ -114,6 +114,11 @@ def bound_in(text):
     return set(WORD.findall(" ".join(found)))
 
 
+def shown(path):
+    """A link of docs as readers of any crate see it."""
+    return path.removeprefix("crate::")
+
+
 def outside_code(docs, change):
     """Docs with what stands outside their blocks of code changed."""
     parts = re.split(r"(^```.*?^```$)", docs, flags=re.M | re.S)
@@ -299,6 +304,11 @@ class Tree:
             target = re.search(r"= (?:\w+::)*(\w+)", owner.item.head)
             return self.find(owner.crate, [target[1], last]) if target else None
         return self.index.get((owner.crate, f"{owner.path}::{last}")) if owner else None
+
+    def only(self, path):
+        """The one public item of a path in any crate, None where there are more or none."""
+        found = {id(it): it for (_, name), it in self.index.items() if name == path}
+        return next(iter(found.values())) if len(found) == 1 else None
 
     def behind(self, path):
         """What an import of the logic stands for: a definition, a type, a module as a tuple, OUTSIDE, or None where it leads nowhere."""

@@ -5,7 +5,7 @@ import re
 import subprocess
 import urllib.parse
 
-from names import DOC_LINK, WORD, Public, outside_code
+from names import DOC_LINK, WORD, Public, outside_code, shown
 from sources import Definition
 from text import derives
 
@@ -107,10 +107,10 @@ class Page:
                 at = end
         return "".join(made) + quoted(text[at:])
 
-    def code(self, text, scope):
-        """Code of Rust, in which the types of this page are links."""
+    def code(self, text, scope, own=None):
+        """Code of Rust, in which the types of this page are links, but for the own one."""
         found = ((it.start(), it.end(), scope.type_named(it[0])) for it in WORD.finditer(text) if it[0][0].isupper())
-        return self.linked(text, found)
+        return self.linked(text, (it for it in found if it[2] is not own))
 
     # ---- Markdown
 
@@ -118,12 +118,12 @@ class Page:
         """A place that is filled with the HTML of a text, once all texts are known."""
 
         def linked(one):
-            shown, path = one[1], one[2] or one[1]
+            name, path = shown(one[1]), one[2] or one[1]
             target = scope.in_doc(path)
             anchor = self.anchor_of(target)
             if isinstance(target, Public) and anchor:
                 anchor = self.part_anchor(target, path.rpartition("::")[2])
-            return f"[`{shown}`](#{urllib.parse.quote(anchor)})" if anchor else f"`{shown}`"
+            return f"[`{name}`](#{urllib.parse.quote(anchor)})" if anchor else f"`{name}`"
 
         def plain(part):
             pieces = CODE_SPAN.split(DOC_LINK.sub(linked, part))
@@ -143,7 +143,8 @@ class Page:
         return re.sub("\0(\\d+)\0", text, page)
 
     def path_link(self, path, scope):
-        target = scope.in_doc(path)
+        """A path that docs name without a link, as one where it is clear what it leads to."""
+        target = scope.in_doc(path) or self.tree.only(path)
         anchor = self.part_anchor(target, path.rpartition("::")[2]) if isinstance(target, Public) else None
         code = f"<code>{path}</code>"
         return self.link(anchor, code) if anchor else code
@@ -172,13 +173,14 @@ class Page:
         made = []
         for part in public.item.parts:
             docs = self.md(part.docs, public.scope) if part.docs else ""
+            docs += f"<p>Its text: <code>{quoted(part.shown[len('#[error(') : -len(')]')])}</code></p>" if part.shown else ""
             text = self.code(part.text, public.scope) if not part.ghost else quoted(part.text)
             made.append(f'<dt id="{public.anchor}.{part.name}"><code>{text}</code></dt><dd>{docs}</dd>')
         kind = {"enum": "Variants", "trait": "Ghost members"}.get(public.item.kind, "Fields")
         return f'<h4>{kind}</h4><dl class="parts">{"".join(made)}</dl>' if made else ""
 
     def model(self, public):
-        rows = [f'<tr><th scope="row">{name}</th><td><code>{self.linked(text, scope.cited(text))}</code></td></tr>' for name, text, scope in public.model]
+        rows = [f'<tr><th scope="row"><span class="name">{name}</span></th><td><code>{self.linked(text, scope.cited(text))}</code></td></tr>' for name, text, scope in public.model]
         return f'<h4>What contracts see of it</h4><table class="clauses"><tbody>{"".join(rows)}</tbody></table>' if rows else ""
 
     def signature(self, public):
@@ -186,7 +188,7 @@ class Page:
         text = "\n".join([*derives(item), item.head])
         if item.hides and not item.head.endswith(";"):
             text += " { /* private fields */ }" if not item.parts else " { /* the fields below, and private ones */ }"
-        return f'<pre class="signature"><code>{self.code(text, public.scope)}</code></pre>'
+        return f'<pre class="signature"><code>{self.code(text, public.scope, public)}</code></pre>'
 
     def article(self, public):
         docs = f'<div class="docs">{self.md(public.item.docs, public.scope)}</div>' if public.item.docs else ""

@@ -39,6 +39,7 @@ class Part:
     docs: str
     text: str
     ghost: bool = False
+    shown: str = ""  # the text of an error
 
 
 @dataclasses.dataclass
@@ -104,10 +105,17 @@ class Reader:
 
     def until(self, at, is_done):
         """The number of the line at which the text that begins at a line is done."""
-        last = at
-        while not is_done("\n".join(self.lines[at : last + 1])):
-            last += 1
-        return last
+        for last in range(at, len(self.lines)):
+            if is_done("\n".join(self.lines[at : last + 1])):
+                return last
+        raise ValueError(f"{self.file}:{at + 1}: what begins here has no end")
+
+    def closed(self, at, indent):
+        """The number of the line that closes a block which is open at a line."""
+        for last in range(at, len(self.lines)):
+            if self.lines[last] == indent + "}":
+                return last
+        raise ValueError(f"{self.file}:{at + 1}: the block that is open here has no end")
 
     def item(self, found, at, indent, docs, attributes):
         """The item that begins at a line, and its last line."""
@@ -125,9 +133,7 @@ class Reader:
         if not item.head.endswith("{"):
             return item, opens
         item.head = item.head.removesuffix(" {").removesuffix("\n{")
-        last = opens
-        while self.lines[last] != indent + "}":
-            last += 1
+        last = self.closed(opens, indent)
         if kind in ("struct", "enum"):
             self.read_parts(item, opens + 1, last, indent + "    ")
         else:
@@ -152,7 +158,7 @@ class Reader:
                 name = field[3] if field else re.match(r"\w+", text)[0]
                 if item.kind == "enum" or field and field[1] == "pub ":
                     shown = [it for it in attributes if it.startswith("#[error(")]
-                    item.parts.append(Part(name, plain(docs, "///"), "\n".join([*shown, text]), bool(field and field[2])))
+                    item.parts.append(Part(name, plain(docs, "///"), text, bool(field and field[2]), *shown))
                 else:
                     item.hides = True
                 docs, attributes, at = [], [], last
@@ -179,14 +185,12 @@ class Reader:
             if self.lines[last].endswith((";", "{}")):
                 return last
         item.head = item.head.removesuffix(" {")
-        while self.lines[last] != indent + "}":
-            last += 1
-        return last
+        return self.closed(last, indent)
 
     def contract(self, item, at, indent):
         """Reads clauses up to the line that opens the body, or to the end of a trait's function; its number."""
         comment, fresh = [], True
-        while self.lines[at] not in (indent + "{", indent + "{}"):
+        while at < len(self.lines) and self.lines[at] not in (indent + "{", indent + "{}"):
             text = self.lines[at].strip()
             if not text:
                 comment, fresh = [], True

@@ -2,7 +2,7 @@
 import re
 import textwrap
 
-from names import DOC_LINK, outside_code
+from names import DOC_LINK, outside_code, shown
 
 WIDTH = 80
 
@@ -22,7 +22,7 @@ def wrapped(docs):
             lines.extend(textwrap.wrap(text, WIDTH, subsequent_indent=" " * hang.end(), break_long_words=False, break_on_hyphens=False))
             paragraph.clear()
 
-    for line in outside_code(docs, lambda it: DOC_LINK.sub(r"`\1`", it)).split("\n"):
+    for line in outside_code(docs, lambda it: DOC_LINK.sub(lambda one: f"`{shown(one[1])}`", it)).split("\n"):
         if line.startswith("```"):
             fence = not fence
         if fence or line.startswith(("```", "|", "#", "    ")) or not line.strip():
@@ -69,11 +69,15 @@ def declaration(public):
     inside = []
     for part in item.parts:
         inside += [f"{mark} {it}" for it in part.docs.split("\n") if it]
+        inside += [part.shown] if part.shown else []
         inside.append(part.text + ("" if item.kind == "trait" else ","))
+    if item.kind == "trait":
+        inside.append("// and the functions below" if inside else "// the functions below")
     if item.hides:
         inside.append("// and private fields" if inside else "// private fields")
-    lines[-1] += " {" if inside else " {}"
-    return "\n".join([*lines, *([indented("\n".join(inside)), "}"] if inside else [])])
+    if not inside:
+        return "\n".join(lines) + " {}"
+    return "\n".join([*lines[:-1], lines[-1] + " {", indented("\n".join(inside)), "}"])
 
 
 def parts_of(public):
