@@ -42,13 +42,13 @@ class Public:
 class Scope:
     """What names stand for in one file, or in one block of it."""
 
-    def __init__(self, tree, crate, uses=(), ghosts=(), local=(), bound=()):
+    def __init__(self, tree, crate, uses=(), ghosts=(), local=(), bound=(), modules=()):
         self.tree, self.crate, self.bound = tree, crate, set(bound)
         self.rust = {it: (crate, it) for it in local}
         self.ghost = {}
         for line in uses:
             for path, name in flatten(line, "::"):
-                self.rust[name] = (crate if path[0] == "crate" else path[0], path[-1])
+                self.rust[name] = (crate if path[0] in ("crate", "self", "super", *modules) else path[0], path[-1])
         for line in ghosts:
             for path, name in flatten(line, "."):
                 self.ghost[name] = path
@@ -171,12 +171,14 @@ class Crate:
         self.docs = self.files[self.root].docs()
         self.found = {file: list(reader.items()) for file, reader in self.files.items()}
         self.scopes = {file: self.scope_of(items) for file, items in self.found.items()}
-        self.items, self.passed_on = [], []  # public items, and (name, crate, name there) of another crate's
+        self.items, self.lost = [], []  # public items, and names of the root that weren't found
+        self.passed_on = []  # (name, crate, name there) of another crate's items
 
     def scope_of(self, items):
         heads = lambda kind: [it.head for it in items if it.kind == kind]
         local = [it.name for it in items if it.kind in ("struct", "enum", "trait", "const", "static", "type", "fn")]
-        return Scope(self.tree, self.name, heads("use"), heads("ghost use"), local)
+        modules = [it.name for it in items if it.kind == "mod"]
+        return Scope(self.tree, self.name, heads("use"), heads("ghost use"), local, (), modules)
 
     def collect(self):
         """Finds what the crate shows: what its root has or hands on, and what it exports to C."""
@@ -201,9 +203,11 @@ class Crate:
         if file not in self.found:
             self.passed_on.append((name, path[0], path[-1]))
             return
-        for item in self.found[file]:
-            if item.name == path[-1] and item.kind not in ("mod", "use", "impl"):
-                self.show(item)
+        found = [it for it in self.found[file] if it.name == path[-1] and it.kind not in ("mod", "use", "impl")]
+        for item in found:
+            self.show(item)
+        if not found:
+            self.lost.append("::".join(path))
 
     def show(self, item):
         scope = self.scopes[item.file].inside(item.uses, generics(item.head) | {it.name for it in item.parts if item.kind == "trait"})
