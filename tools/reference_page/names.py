@@ -9,8 +9,10 @@ from sources import IMPL, Definition, Item, Reader, Specs
 NO_LIBRARY = re.compile(r"tlsf_checks|example_\w+")
 WORD = re.compile(r"[^\W\d][\w']*")
 # Words of the logic and of Rust, which no line brings in.
-BUILT_IN = set("_ λ let in do record data Type if then else pub abbrev unfoldable where Unit tt absurd 𝓛 row result self Self crate true false usize".split())
-BUILT_IN |= set("u8 u16 u32 u64 i32 i64 bool char str Some None Ok Err Option Result Vec Box String Sized".split())
+BUILT_IN = set(
+    "_ λ let in do record data Type if then else pub abbrev unfoldable where Unit tt absurd 𝓛 row result self Self true false "
+    "u8 u16 u32 u64 usize i32 i64 bool char str Some None Ok Err".split()
+)
 DOC_LINK = re.compile(r"\[`([^`\n]+)`\](?:\(([\w:]+)\)|(?!\())")
 OUTSIDE = "outside"
 PRIVATE = "private"
@@ -227,7 +229,8 @@ class Crate:
         trait = found["trait"]
         scope = self.scopes[block.file].inside(block.uses, generics(block.head))
         if trait == "Model":
-            owner.model += [(it.name, it.head.partition("= {")[2].rstrip(";").removesuffix("}").strip(), scope) for it in block.items if it.kind == "ghost"]
+            ghosts = [it for it in block.items if it.kind == "ghost"]
+            owner.model += [(it.name, it.head.partition("= {")[2].removesuffix("};").strip(), scope) for it in ghosts]
         elif trait:
             known = self.scopes[block.file].type_named(WORD.search(trait.rpartition("::")[2])[0])
             if known != PRIVATE and trait not in owner.traits:
@@ -320,12 +323,12 @@ class Tree:
             return OUTSIDE
         crate, rest = path[1], list(path[3:])
         if rest[:1] == ["declared"]:
-            return self.declared(crate, rest[1:], path)
+            return self.declared(crate, rest[1:])
         if (crate, ".".join(rest)) in self.specs:
             return tuple(path)
         *module, name = rest
         if not module:
-            return tuple(path) if any(key[0] == crate and key[1].startswith(f"{name}.") for key in self.specs) else self.passed(crate, "Lib", name)
+            return self.passed(crate, "Lib", name)
         specs = self.specs.get((crate, ".".join(module)))
         if not specs:
             other = self.passed(crate, "Lib", module[-1])
@@ -367,17 +370,12 @@ class Tree:
                     return self.behind(path)
         return None
 
-    def declared(self, crate, rest, path):
-        """A type of Rust, one of its variants or a constant, as the logic sees it."""
-        if "TheVariants" in rest:
-            at = rest.index("TheVariants")
-            name = [rest[at - 1], *rest[at + 1 :]]
-        else:
-            name = rest[-1:]
+    def declared(self, crate, rest):
+        """A type of Rust, or its inside, one of its variants or a constant, as the logic sees it."""
+        if "TheInside" in rest:
+            rest = rest[: rest.index("TheInside")]
+        at = rest.index("TheVariants") if "TheVariants" in rest else len(rest)
+        name = [rest[at - 1], *rest[at + 1 :]]
         found = self.find(crate, name)
-        if found is None and crate in self.crates:
-            kinds = {it.name for items in self.crates[crate].found.values() for it in items}
-            found = PRIVATE if name[0] in kinds else None
-            if found is None:
-                return tuple(path)
-        return found
+        items = self.crates[crate].found.values() if crate in self.crates else ()
+        return found or (PRIVATE if any(it.name == name[0] for some in items for it in some) else None)

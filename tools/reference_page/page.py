@@ -14,6 +14,7 @@ PANDOC = ["pandoc", "-f", "commonmark+pipe_tables", "-t", "html5", "--wrap=none"
 # A paragraph of its own between two texts, which no text of a crate has.
 MARK = "reference-text-{}"
 CODE_SPAN = re.compile(r"(`+[^`]+`+)")
+CODE_POINT = re.compile(r"(<li>(?:<p>)?)(?=<code>(\w+)</code>)(<code>\w+</code>)")
 CODE_PATH = re.compile(r"<code>(\w+(?:::\w+)+)</code>(?!</a>)")
 
 # How to read a clause: what is written, and what it says.
@@ -26,10 +27,10 @@ NOTATION = [
     ("x.entry", "The parameter x as it was passed."),
     ("f a b", "The definition f of the arguments a and b."),
     ("p → q, p ↔ q", "If p then q; p exactly where q."),
-    ("p × q, p ⊎ q, ¬ p", "Both; one of them; not p."),
+    ("p × q, p ⊎ q, ¬ p", "Both p and q; p or q; not p."),
     ("a ≡ b, a ≢ b, a ≤ b", "a equals b; a differs from b; a is at most b."),
     ("(k : ℕ) → p, (k : ℕ) × p", "p for each natural number k; p for some k."),
-    ("IfOk result (λ v. p)", "If the result is <code>Ok</code>, p holds of its value v. <code>IfSome</code> says it of a <code>Some</code>."),
+    ("IfOk result (λ v. p)", "If the result is <code>Ok</code>, p holds of its value v. <code>IfSome</code> is for a <code>Some</code>."),
     ("OnOk result p, OnErr result p", "If the result is <code>Ok</code>, or an <code>Err</code>, then p."),
     ("IsOk result, IsErrOf result e", "The result is <code>Ok</code>; it is the error e."),
     ("MatchResult result (λ v. p) (λ e. q)", "p of the value if the result is <code>Ok</code>, otherwise q of the error."),
@@ -68,8 +69,7 @@ class Page:
         self.files = tree.definitions(crates)
         self.publics = {id(it) for crate in crates for it in crate.publics()}
         self.defined = {id(it) for _, some in self.files for it in some}
-        self.texts = []  # (the Markdown, the scope of its links)
-        self.made = []
+        self.texts = []  # (the Markdown, the scope of its links, the item whose docs it is)
 
     # ---- links
 
@@ -114,7 +114,7 @@ class Page:
 
     # ---- Markdown
 
-    def md(self, text, scope):
+    def md(self, text, scope, public=None):
         """A place that is filled with the HTML of a text, once all texts are known."""
 
         def linked(one):
@@ -129,15 +129,17 @@ class Page:
             pieces = CODE_SPAN.split(DOC_LINK.sub(linked, part))
             return "".join(it if it.startswith("`") else it.replace("<", "\\<") for it in pieces)
 
-        self.texts.append((outside_code(text, plain), scope))
+        self.texts.append((outside_code(text, plain), scope, public))
         return f"\0{len(self.texts) - 1}\0"
 
     def fill(self, page):
-        made = markdown([text for text, _ in self.texts])
+        made = markdown([text for text, _, _ in self.texts])
 
         def text(found):
-            scope = self.texts[int(found[1])][1]
+            _, scope, public = self.texts[int(found[1])]
             one = CODE_PATH.sub(lambda it: self.path_link(it[1], scope), made[int(found[1])])
+            if public:
+                one = CODE_POINT.sub(lambda it: self.clause_link(it, public), one)
             return re.sub(r"<table>.*?</table>", r'<div class="wide">\g<0></div>', one, flags=re.S)
 
         return re.sub("\0(\\d+)\0", text, page)
@@ -148,6 +150,11 @@ class Page:
         anchor = self.part_anchor(target, path.rpartition("::")[2]) if isinstance(target, Public) else None
         code = f"<code>{path}</code>"
         return self.link(anchor, code) if anchor else code
+
+    def clause_link(self, found, public):
+        """A point of docs on a clause begins with its name."""
+        clauses = [it for it in public.item.clauses() if it.name == found[2]]
+        return found[1] + self.link(clause_anchor(public, clauses[0]), found[3]) if clauses else found[0]
 
     # ---- parts of the page
 
@@ -164,7 +171,7 @@ class Page:
 
     def clause(self, public, clause):
         text = self.linked(clause.text, public.scope.cited(clause.text))
-        anchor = f"{public.anchor}.{clause.kind.rstrip('*')}.{clause.name}"
+        anchor = clause_anchor(public, clause)
         name = f'<a class="name" href="#{anchor}">{clause.name}</a> ' if clause.name else ""
         own = f' id="{anchor}"' if clause.name else ""
         return f'<tr{own}><th scope="row">{name}<span class="kind">{clause.kind}</span></th><td><code>{text}</code></td></tr>'
@@ -180,7 +187,10 @@ class Page:
         return f'<h4>{kind}</h4><dl class="parts">{"".join(made)}</dl>' if made else ""
 
     def model(self, public):
-        rows = [f'<tr><th scope="row"><span class="name">{name}</span></th><td><code>{self.linked(text, scope.cited(text))}</code></td></tr>' for name, text, scope in public.model]
+        rows = []
+        for name, text, scope in public.model:
+            code = self.linked(text, scope.cited(text))
+            rows.append(f'<tr><th scope="row"><span class="name">{name}</span></th><td><code>{code}</code></td></tr>')
         return f'<h4>What contracts see of it</h4><table class="clauses"><tbody>{"".join(rows)}</tbody></table>' if rows else ""
 
     def signature(self, public):
@@ -191,7 +201,7 @@ class Page:
         return f'<pre class="signature"><code>{self.code(text, public.scope, public)}</code></pre>'
 
     def article(self, public):
-        docs = f'<div class="docs">{self.md(public.item.docs, public.scope)}</div>' if public.item.docs else ""
+        docs = f'<div class="docs">{self.md(public.item.docs, public.scope, public)}</div>' if public.item.docs else ""
         traits = ", ".join(f"<code>{self.code(it, public.scope)}</code>" for it in public.traits)
         implements = f'<p class="traits">Implements {traits}.</p>' if traits else ""
         member = " member" if public.owner else ""
@@ -215,12 +225,14 @@ class Page:
             f"<h4>The lines of crates.txt that it needs</h4><pre><code>{lines}</code></pre>{hands}</article>"
         )
         items = "".join(self.article(it) for it in crate.publics())
-        return f'<section class="crate" id="{crate.name}"><h2><a href="#{crate.name}">{crate.name}</a></h2>{head}{items}{self.definitions(crate.name)}</section>'
+        title = f'<h2><a href="#{crate.name}">{crate.name}</a></h2>'
+        return f'<section class="crate" id="{crate.name}">{title}{head}{items}{self.definitions(crate.name)}</section>'
 
     def definitions(self, crate):
         files = [it for it in self.files if it[0].crate == crate]
         made = "".join(self.definition_file(specs, some) for specs, some in files)
-        return f'<section class="definitions" id="{crate}.specs"><h3><a href="#{crate}.specs">Definitions of {crate}</a></h3>{made}</section>' if made else ""
+        title = f'<h3><a href="#{crate}.specs">Definitions of {crate}</a></h3>'
+        return f'<section class="definitions" id="{crate}.specs">{title}{made}</section>' if made else ""
 
     def definition_file(self, specs, some):
         comment = f'<p>{inline_code(specs.comment)}</p>' if specs.comment else ""
@@ -243,8 +255,10 @@ class Page:
         made = []
         for crate in self.crates:
             items = "".join(self.side_item(it) for it in crate.items)
-            last = f'<li><a href="#{crate.name}.specs">Definitions</a></li>' if any(it[0].crate == crate.name for it in self.files) else ""
-            made.append(f'<details data-crate="{crate.name}"><summary>{crate.name}</summary><ul><li><a href="#{crate.name}">Overview</a></li>{items}{last}</ul></details>')
+            first = f'<li><a href="#{crate.name}">Overview</a></li>'
+            last = f'<li><a href="#{crate.name}.specs">Definitions</a></li>'
+            rows = first + items + (last if any(it[0].crate == crate.name for it in self.files) else "")
+            made.append(f'<details data-crate="{crate.name}"><summary>{crate.name}</summary><ul>{rows}</ul></details>')
         made += [f'<p><a href="#{it}.specs">Definitions of {it}</a></p>' for it in self.below()]
         return "".join(made)
 
@@ -259,8 +273,10 @@ class Page:
 
     def intro(self):
         rows = "".join(f'<tr><th scope="row"><code>{html.escape(a)}</code></th><td>{b}</td></tr>' for a, b in NOTATION)
-        scopes = {it.name: it.scopes[it.root] for it in self.crates}
-        crates = "".join(f'<tr><th scope="row"><a href="#{it.name}">{it.name}</a></th><td>{self.md(first_sentence(it.docs), scopes[it.name])}</td></tr>' for it in self.crates)
+        crates = ""
+        for crate in self.crates:
+            told = self.md(first_sentence(crate.docs), crate.scopes[crate.root])
+            crates += f'<tr><th scope="row"><a href="#{crate.name}">{crate.name}</a></th><td>{told}</td></tr>'
         return (
             '<section class="intro" id="top"><h1>Peachanchor: the calls and their contracts</h1>'
             "<p>Each public item of these crates, with its docs and the clauses that are proved of it, as the sources have them. "
@@ -278,6 +294,10 @@ class Page:
         whole = self.fill(re.sub(r"\{\{(\w+)\}\}", lambda it: parts[it[1]], page))
         check_links(whole)
         return whole
+
+
+def clause_anchor(public, clause):
+    return f"{public.anchor}.{clause.kind.rstrip('*')}.{clause.name}"
 
 
 def definition_anchor(one):

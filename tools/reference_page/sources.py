@@ -3,6 +3,7 @@
 It reads by lines and indentation, as `rt fmt` sets them.
 """
 import dataclasses
+import itertools
 import pathlib
 import re
 
@@ -244,7 +245,8 @@ class Specs:
         self.definitions = {it.name: it for it in self.read(lines)}
         # What an import may name: a definition, or a way to make a value of one.
         self.names = {made: it for it in self.definitions.values() for made in makers(it.text)} | self.definitions
-        self.comment = " ".join(it.removeprefix("--").strip() for it in lines[: next(n for n, it in enumerate(lines) if not it.startswith("--"))])
+        head = itertools.takewhile(lambda it: it.startswith("--"), lines)
+        self.comment = " ".join(it.removeprefix("--").strip() for it in head)
 
     def read(self, lines):
         for at, line in enumerate(lines):
@@ -273,7 +275,9 @@ def makers(text):
 def ends_definition(line, indent):
     """Whether a line belongs to what comes after a definition at that indentation."""
     begun = DEFINITION.match(line)
-    return line.startswith((f"{indent}--", "use ", "pub use ", "infix")) or not line.startswith(indent) or bool(begun and begun[1] == indent)
+    if not line.startswith(indent) or begun and begun[1] == indent:
+        return True
+    return line.startswith((f"{indent}--", "use ", "pub use ", "infix"))
 
 
 def joined(lines):
