@@ -105,7 +105,7 @@ class Scope:
         if isinstance(target, tuple):
             return self.tree.behind([*target, name])
         if isinstance(target, Public) and target.item.kind in ("enum", "struct", "type"):
-            return self.tree.find(target.crate, [target.path, name]) or ""
+            return target if name == target.item.name else self.tree.find(target.crate, [target.path, name])
         return ""
 
 
