@@ -21,6 +21,8 @@ CODE_PATH = re.compile(r"<code>(\w+(?:::\w+)+)</code>(?!</a>)")
 NOTATION = [
     ("requires name { p }", "The caller has to know p before the call."),
     ("ensures name { p }", "p holds when the call returns. The name tells the clause from the others of its function."),
+    ("requires*, ensures*", "The same of memory: who owns which bytes."),
+    ("ghost x: { T }", "x is any value of T, which no code holds: the contract holds for each."),
     ("result", "The value that the function returns."),
     ("x.old, x.new", "What a <code>&amp;mut</code> parameter x points to when the call begins, and when it returns."),
     ("x.now", "What a <code>&amp;</code> parameter x points to."),
@@ -258,7 +260,8 @@ class Page:
             first = f'<li><a href="#{crate.name}">Overview</a></li>'
             last = f'<li><a href="#{crate.name}.specs">Definitions</a></li>'
             rows = first + items + (last if any(it[0].crate == crate.name for it in self.files) else "")
-            made.append(f'<details data-crate="{crate.name}"><summary>{crate.name}</summary><ul>{rows}</ul></details>')
+            opened = " open" if len(self.crates) == 1 else ""
+            made.append(f'<details data-crate="{crate.name}"{opened}><summary>{crate.name}</summary><ul>{rows}</ul></details>')
         made += [f'<p><a href="#{it}.specs">Definitions of {it}</a></p>' for it in self.below()]
         return "".join(made)
 
