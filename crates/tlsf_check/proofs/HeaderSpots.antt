@@ -1,22 +1,25 @@
 -- The field by which a first line is no header.
-use Rattle.std.proofs.Common.{◌≡◌, inl, inr, ℕ, suc, ◌+◌, ◌==◌, ◌&&◌, Bool, true, false, cond, is_some, List, [], ◌∷◌, ◌++◌, length, take, drop, map, codes, Option, Some, None, refl, sym, ap, ◌∙◌, arith}
+use Rattle.std.proofs.Common.{◌≡◌, inl, inr, ℕ, suc, ◌+◌, ◌==◌, ◌&&◌, Bool, true, false, cond, is_some, List, [], ◌∷◌, ◌++◌, length, take, drop, map, codes, count_by, Option, Some, None, unwrap_or, refl, ap, ◌∙◌, arith}
 use Rattle.std.proofs.lemmas.Bool.{ne_eqb}
 use Rattle.std.specs.Str.{bytes_eq}
+use Rattle.tlsf_lines.specs.CutFields.{fields_of}
 use Rattle.tlsf_lines.specs.Fields.{◌>>=◌, field, fields_in}
 use Rattle.tlsf_lines.specs.Header.{header_from, header_in, header_of, number_in}
 use Rattle.tlsf_lines.specs.Versions.{most_words_of, version_in}
 use Rattle.tlsf_lines.specs.declared.header.Header.{Header}
+use Rattle.tlsf_lines.specs.declared.line_fault.LineFault.TheVariants.{BadHeader}
 use Rattle.tlsf_lines.specs.declared.version.Version.{Version}
 use Rattle.tlsf_lines.specs.declared.version.Version.TheVariants.{One, Two}
 use Rattle.hex.proofs.OnLiterals.{hex_on_literals}
-use Rattle.tlsf_check.specs.FieldFaults.{CanBegin, GoAstrayAt, is_header}
+use Rattle.tlsf_check.specs.FieldFaults.{CanBegin, GoAstrayAt, IsFieldOf, is_header}
 use Rattle.tlsf_check.specs.Kinds.{header_kinds, passes}
-use Rattle.tlsf_check.specs.Passing.{passing_count}
+use Rattle.tlsf_check.specs.Passing.{FindsWrong, IsFirstFailing, all_pass, passing_count}
 use Rattle.tlsf_check.specs.declared.judge.Judge.TheVariants as judge
 use Rattle.tlsf_check.specs.declared.kind.Kind.{Kind}
 use Rattle.tlsf_check.specs.declared.kind.Kind.TheVariants.{Worker, Label, Length, Offset, Payload, Count, Most, Workers, Words, Capacity}
 use Rattle.tlsf_check.proofs.Astray.{astray_at, never}
-use Rattle.tlsf_check.proofs.PassingSteps.{all_pass, front_passes, next_fails}
+use Rattle.tlsf_check.proofs.LineSpots.{last_of, wrong_or_last}
+use Rattle.tlsf_check.proofs.PassingSteps.{front_passes, next_fails}
 
 abbrev pub good : Kind → List ℕ → Bool
 good kind field = passes (judge.Number 0) kind field
@@ -110,11 +113,13 @@ module _ (name second : List ℕ) (version : Version) where
 -- ---- the field by which they are none
 
 -- another name
-pub bad_name : (name : List ℕ) (fields : List (List ℕ)) → bytes_eq name (codes "tlsf") ≡ false → GoAstrayAt is_header (name ∷ fields) 1
+pub bad_name : (name : List ℕ) (fields : List (List ℕ)) → bytes_eq name (codes "tlsf") ≡ false → FindsWrong is_header (GoAstrayAt is_header) (name ∷ fields) (Some 1)
 unfolding header_from
-bad_name name fields other =
-    astray_at is_header (name ∷ fields) 0 1 refl (codes "tlsf" ∷ codes "1" ∷ codes "1" ∷ codes "4" ∷ codes "1" ∷ [], refl)
-    (inl (never is_header (name ∷ []) (λ more. guarded (length (name ∷ more) == 5) (bytes_eq name (codes "tlsf")) _ other)))
+bad_name name fields other = (
+  guarded (length (name ∷ fields) == 5) (bytes_eq name (codes "tlsf")) _ other,
+  astray_at is_header (name ∷ fields) 0 1 refl (codes "tlsf" ∷ codes "1" ∷ codes "1" ∷ codes "4" ∷ codes "1" ∷ [], refl)
+      (inl (never is_header (name ∷ []) (λ more. guarded (length (name ∷ more) == 5) (bytes_eq name (codes "tlsf")) _ other))),
+)
 
 -- the name can begin a header
 named_begins : (name : List ℕ) → bytes_eq name (codes "tlsf") ≡ true → CanBegin is_header (name ∷ [])
@@ -122,31 +127,57 @@ unfolding header_from
 named_begins name named = (codes "1" ∷ codes "1" ∷ codes "4" ∷ codes "1" ∷ [], rw named refl)
 
 -- no version, and none that is known
-pub no_version : (name : List ℕ) → bytes_eq name (codes "tlsf") ≡ true → GoAstrayAt is_header (name ∷ []) 2
-no_version name named = astray_at is_header (name ∷ []) 1 2 refl (named_begins name named) (inr refl)
+pub no_version : (name : List ℕ) → bytes_eq name (codes "tlsf") ≡ true → FindsWrong is_header (GoAstrayAt is_header) (name ∷ []) (Some 2)
+no_version name named = (refl, astray_at is_header (name ∷ []) 1 2 refl (named_begins name named) (inr refl))
 
 pub bad_version : (name second : List ℕ) (fields : List (List ℕ)) → bytes_eq name (codes "tlsf") ≡ true → version_in second ≡ None
-    → GoAstrayAt is_header (name ∷ second ∷ fields) 2
-bad_version name second fields named none =
-    astray_at is_header (name ∷ second ∷ fields) 1 2 refl (named_begins name named)
-    (inl (never is_header (name ∷ second ∷ []) (λ more. unknown (length (name ∷ second ∷ more) == 5 && bytes_eq name (codes "tlsf")) (version_in second) _ none)))
+    → FindsWrong is_header (GoAstrayAt is_header) (name ∷ second ∷ fields) (Some 2)
+bad_version name second fields named none = (
+  unknown (length (name ∷ second ∷ fields) == 5 && bytes_eq name (codes "tlsf")) (version_in second) _ none,
+  astray_at is_header (name ∷ second ∷ fields) 1 2 refl (named_begins name named)
+      (inl (never is_header (name ∷ second ∷ []) (λ more. unknown (length (name ∷ second ∷ more) == 5 && bytes_eq name (codes "tlsf")) (version_in second) _ none))),
+)
 
--- a number behind the version
-pub bad_number : (name second : List ℕ) (version : Version) (fields : List (List ℕ)) (n : ℕ) → bytes_eq name (codes "tlsf") ≡ true → version_in second ≡ Some version
-    → is_header (name ∷ second ∷ fields) ≡ false → n ≡ passing_count good (header_kinds version) fields + 3 → GoAstrayAt is_header (name ∷ second ∷ fields) n
-bad_number name second version fields n named is none at =
-    let kinds = header_kinds version in
-    let count = passing_count good kinds fields in
-    let fails : all_pass good kinds fields ≡ false = sym (header_told name second version fields named is) ∙ none in
-    let begun = header_told name second version (take count fields ++ map sample (drop count kinds)) named is ∙ front_passes good sample sample_passes kinds fields in
-    astray_at is_header (name ∷ second ∷ fields) (suc (suc count)) n (omega (arith, at)) (map sample (drop count kinds), begun)
-    (elim (next_fails good kinds fields fails) [
-      | inl refused ↦ inl (never is_header (name ∷ second ∷ take (suc count) fields)
-          (λ more. header_told name second version (take (suc count) fields ++ more) named is ∙ refused more))
-      | inr ends ↦ inr (ap (λ k. suc (suc k)) ends)
-    ])
+module _ (name second : List ℕ) (version : Version) (fields : List (List ℕ)) (named : bytes_eq name (codes "tlsf") ≡ true) (is : version_in second ≡ Some version) where
+  -- a number behind the version
+  pub bad_number : (m : ℕ) → IsFirstFailing good (header_kinds version) fields (Some m) → FindsWrong is_header (GoAstrayAt is_header) (name ∷ second ∷ fields) (Some (m + 3))
+  bad_number m found =
+      let kinds = header_kinds version in
+      let count = passing_count good kinds fields in
+      let begun = header_told name second version (take count fields ++ map sample (drop count kinds)) named is ∙ front_passes good sample sample_passes kinds fields in (
+        header_told name second version fields named is ∙ found.0,
+        astray_at is_header (name ∷ second ∷ fields) (suc (suc count)) (m + 3) (omega (arith, found.1)) (map sample (drop count kinds), begun)
+            (elim (next_fails good kinds fields found.0) [
+              | inl refused ↦ inl (never is_header (name ∷ second ∷ take (suc count) fields)
+                  (λ more. header_told name second version (take (suc count) fields ++ more) named is ∙ refused more))
+              | inr ends ↦ inr (ap (λ k. suc (suc k)) ends)
+            ]),
+      )
+
+  -- nothing
+  pub no_wrong : all_pass good (header_kinds version) fields ≡ true → FindsWrong is_header (GoAstrayAt is_header) (name ∷ second ∷ fields) None
+  no_wrong all = header_told name second version fields named is ∙ all
+
+-- ---- the field of a first line as it stands
 
 -- the fields of a piece that is no header are none
-pub fields_are_none : (piece : List ℕ) (fields : List (List ℕ)) → fields_in piece ≡ Some fields → header_in piece ≡ None → is_header fields ≡ false
+fields_are_none : (piece : List ℕ) (fields : List (List ℕ)) → fields_in piece ≡ Some fields → header_in piece ≡ None → is_header fields ≡ false
 unfolding header_in
 fields_are_none piece fields are none = let none_is : header_of fields ≡ None = rw are at none in ap (λ (h : Option Header). is_some h) none_is
+
+found_astray : (fields : List (List ℕ)) (found : Option ℕ) → FindsWrong is_header (GoAstrayAt is_header) fields found → is_header fields ≡ false → GoAstrayAt is_header fields (unwrap_or found 1)
+found_astray fields None whole none = absurd cc
+found_astray fields (Some n) wrong none = wrong.1
+
+module _ (piece : List ℕ) (found : Option ℕ) where
+  -- one that ends with a line feed
+  pub ended : (fields : List (List ℕ)) → fields_in piece ≡ Some fields → FindsWrong is_header (GoAstrayAt is_header) fields found → header_in piece ≡ None
+      → (workers : ℕ) → IsFieldOf workers BadHeader piece (unwrap_or found 1)
+  ended fields are finds none workers = let field = found_astray fields found finds (fields_are_none piece fields are none) in rw are field
+
+  -- and one that doesn't
+  pub unended : (last : ℕ) → fields_in piece ≡ None → FindsWrong is_header (GoAstrayAt is_header) (fields_of piece) found → last ≡ count_by (λ byte. byte == 32) piece + 1
+      → (workers : ℕ) → IsFieldOf workers BadHeader piece (unwrap_or found last)
+  unended last none finds at workers =
+      let field = wrong_or_last is_header (GoAstrayAt is_header) (fields_of piece) found last finds (last_of piece last at) in
+      rw none field

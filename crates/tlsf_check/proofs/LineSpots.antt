@@ -1,8 +1,9 @@
 -- The field of a line's fault.
-use Rattle.std.proofs.Common.{◌≡◌, ◌≢◌, ◌⊎◌, inl, inr, ℕ, zero, suc, ◌+◌, ◌-◌, ◌<◌, ◌==◌, count_by, Bool, true, false, cond, is_some, List, [], ◌∷◌, ◌++◌, take, drop, map, codes, slice_get, Option, Some, None, option_map, Err, refl, sym, ap, subst, ◌∙◌, arith}
+use Rattle.std.proofs.Common.{◌≡◌, ◌≢◌, ◌⊎◌, inl, inr, ℕ, zero, suc, ◌+◌, ◌-◌, ◌<◌, ◌==◌, count_by, Bool, true, false, cond, is_some, List, [], ◌∷◌, ◌++◌, length, take, drop, map, codes, slice_get, Option, Some, None, option_map, unwrap_or, Err, refl, sym, ap, subst, ◌∙◌, arith}
+use Rattle.std.specs.Prelude.{MatchBool}
 use Rattle.hex.proofs.OnLiterals.{hex_on_literals}
 use Rattle.tlsf_calls.specs.declared.chunk.Chunk.{Chunk}
-use Rattle.tlsf_lines.specs.CutFields.{line_behind}
+use Rattle.tlsf_lines.specs.CutFields.{fields_of}
 use Rattle.tlsf_lines.specs.Fields.{◌>>=◌, fields_in, is_digits, value_in, values_in}
 use Rattle.tlsf_lines.specs.Header.{number_of_value}
 use Rattle.tlsf_lines.specs.Lines.{kinds_of, line_from, word_of, words}
@@ -11,20 +12,21 @@ use Rattle.tlsf_lines.specs.Trace.{judged_line}
 use Rattle.tlsf_lines.specs.Values.{Value, Number, BadNumber, Bytes}
 use Rattle.tlsf_lines.specs.Values as spelled
 use Rattle.tlsf_lines.specs.declared.line.Line.{Line}
+use Rattle.tlsf_lines.specs.declared.line_fault.LineFault.{LineFault}
 use Rattle.tlsf_lines.specs.declared.line_fault.LineFault.TheVariants as fault
 use Rattle.tlsf_lines.specs.declared.word.Word.{Word}
 use Rattle.tlsf_lines.specs.declared.word.Word.TheVariants as word
 use Rattle.tlsf_lines.proofs.CutSteps.{fields_count}
-use Rattle.tlsf_lines.proofs.LineJudged.{with_word, without_feed, without_word}
-use Rattle.tlsf_check.specs.FieldFaults.{GoAstrayAt, GoesAstrayAt, HasFirstBadNumberAt, IsFieldOf, IsFirstBad, is_shaped}
+use Rattle.tlsf_lines.proofs.LineJudged.{without_feed}
+use Rattle.tlsf_check.specs.FieldFaults.{GoAstrayAt, HasFirstBadNumberAt, IsFieldOf, IsFirstBad, IsFirstWrong, IsWrongOrLast, is_line, is_shaped}
 use Rattle.tlsf_check.specs.Kinds.{kinds_behind, passes}
-use Rattle.tlsf_check.specs.Passing.{passing_count}
+use Rattle.tlsf_check.specs.Passing.{FindsWrong, IsFirstFailing, all_pass, passing_count}
 use Rattle.tlsf_check.specs.declared.judge.Judge.TheVariants as judge
 use Rattle.tlsf_check.specs.declared.kind.Kind.{Kind}
 use Rattle.tlsf_check.specs.declared.kind.Kind.TheVariants.{Worker, Label, Length, Offset, Payload, Count, Most, Workers, Words, Capacity}
 use Rattle.tlsf_check.proofs.Astray.{astray_at, never}
-use Rattle.tlsf_check.proofs.Refusals.{bad_values, no_values}
-use Rattle.tlsf_check.proofs.PassingSteps.{all_pass, front_passes, next_fails}
+use Rattle.tlsf_check.proofs.Refusals.{Tells, line_is_shaped, told, unshaped_is_no_line}
+use Rattle.tlsf_check.proofs.PassingSteps.{front_passes, next_fails}
 
 -- ---- the kinds of a line's fields, as `tlsf_lines` has them
 
@@ -49,7 +51,7 @@ kinds_told word.Phase = refl
 
 -- ---- shapes
 
-abbrev shape : Kind → List ℕ → Bool
+abbrev pub shape : Kind → List ℕ → Bool
 shape kind field = passes judge.Shape kind field
 
 digits_shown : (b : Bool) (value : Value) → is_some (cond b (Some value) None) ≡ b
@@ -111,10 +113,39 @@ shaped_line workers first w fields is =
     ap (λ kinds. is_some (values_in workers kinds fields)) (sym (kinds_told w)) ∙ shapes_told workers (kinds_behind w) fields in
     rw is as_kinds
 
+-- ---- a choice between two facts, by what is chosen
+
+if_true : (b : Bool) (P Q : Type 0) → b ≡ true → P → MatchBool b P Q
+if_true true P Q is p = p
+if_true false P Q is p = cc
+
+if_false : (b : Bool) (P Q : Type 0) → b ≡ false → Q → MatchBool b P Q
+if_false true P Q is q = cc
+if_false false P Q is q = q
+
+chosen_true : (b : Bool) (P Q : Type 0) → b ≡ true → MatchBool b P Q → P
+chosen_true true P Q is p = p
+chosen_true false P Q is q = cc
+
+chosen_false : (b : Bool) (P Q : Type 0) → b ≡ false → MatchBool b P Q → Q
+chosen_false true P Q is p = cc
+chosen_false false P Q is q = q
+
+-- ---- a line that has not its shape
+
+module _ (workers : ℕ) (fields : List (List ℕ)) where
+  unshaped : (n : ℕ) → is_shaped workers fields ≡ false → GoAstrayAt (is_shaped workers) fields n → FindsWrong (is_line workers) (IsFirstWrong workers) fields (Some n)
+  unshaped n not_shaped astray = (
+    unshaped_is_no_line workers fields not_shaped,
+    if_false (is_shaped workers fields) (HasFirstBadNumberAt workers fields n) (GoAstrayAt (is_shaped workers) fields n) not_shaped astray,
+  )
+
 module _ (workers : ℕ) (first : List ℕ) (fields : List (List ℕ)) where
   -- no word
-  pub no_word : word_of words first ≡ None → GoAstrayAt (is_shaped workers) (first ∷ fields) 1
-  no_word none = astray_at (is_shaped workers) (first ∷ fields) 0 1 refl (codes "phase" ∷ [], refl) (inl (never (is_shaped workers) (first ∷ []) (λ more. rw none refl)))
+  pub no_word : word_of words first ≡ None → FindsWrong (is_line workers) (IsFirstWrong workers) (first ∷ fields) (Some 1)
+  no_word none =
+      unshaped workers (first ∷ fields) 1 (rw none refl)
+      (astray_at (is_shaped workers) (first ∷ fields) 0 1 refl (codes "phase" ∷ [], refl) (inl (never (is_shaped workers) (first ∷ []) (λ more. rw none refl))))
 
   -- a word, and fields behind it that have not its shape
   module _ (w : Word) (is : word_of words first ≡ Some w) where
@@ -131,15 +162,13 @@ module _ (workers : ℕ) (first : List ℕ) (fields : List (List ℕ)) where
           | inr ends ↦ inr (ap (λ k. suc k) ends)
         ])
 
-    pub no_shape : (n : ℕ) → values_in workers (kinds_of w) fields ≡ None → n ≡ passing_count shape (kinds_behind w) fields + 2 → GoAstrayAt (is_shaped workers) (first ∷ fields) n
-    no_shape n none at =
-        let fails : all_pass shape (kinds_behind w) fields ≡ false =
-        sym (shapes_told workers (kinds_behind w) fields) ∙ (ap (λ kinds. is_some (values_in workers kinds fields)) (kinds_told w) ∙ ap (λ (o : Option (List Value)). is_some o) none) in
-        astray_behind n _ refl fails at
+    pub no_shape : (m : ℕ) → IsFirstFailing shape (kinds_behind w) fields (Some m) → FindsWrong (is_line workers) (IsFirstWrong workers) (first ∷ fields) (Some (m + 2))
+    no_shape m fails =
+        unshaped workers (first ∷ fields) (m + 2) (shaped_line workers first w fields is ∙ fails.0) (astray_behind (m + 2) m fails.1 fails.0 refl)
 
 -- ---- numbers
 
-abbrev good : ℕ → Kind → List ℕ → Bool
+abbrev pub good : ℕ → Kind → List ℕ → Bool
 good workers kind field = passes (judge.Number workers) kind field
 
 -- a value of its kind that is no bad number
@@ -272,52 +301,131 @@ good_line word.Drain (Number a ∷ Number b ∷ []) is none = cc
 good_line word.Phase [] is none = cc
 good_line w values is none = cc
 
--- so where they make none, one is bad
-pub first_bad : (workers : ℕ) (w : Word) (fields : List (List ℕ)) (values : List Value) → values_in workers (kinds_of w) fields ≡ Some values → line_from w values ≡ None
-    → IsFirstBad values (passing_count (λ k f. good workers k f) (kinds_behind w) fields)
-first_bad workers w fields values say none =
-    let by_kinds : values_in workers (map kind_of (kinds_behind w)) fields ≡ Some values = rw (kinds_told w) say in
-    elim (values_judged workers (kinds_behind w) fields values (are_of_line w) by_kinds) [
+-- and where one isn't, none
+bad_line : (w : Word) (values : List Value) → are_good (kinds_of w) values ≡ false → line_from w values ≡ None
+unfolding line_from
+bad_line word.Allocate (Number a ∷ Number b ∷ Number c ∷ []) is = cc
+bad_line word.Release (Number a ∷ Number b ∷ []) is = cc
+bad_line word.Write (Number a ∷ Number b ∷ Number c ∷ Bytes d ∷ []) is = cc
+bad_line word.Read (Number a ∷ Number b ∷ Number c ∷ Number d ∷ []) is = cc
+bad_line word.Resize (Number a ∷ Number b ∷ Number c ∷ []) is = cc
+bad_line word.Drain (Number a ∷ Number b ∷ []) is = cc
+bad_line word.Phase [] is = cc
+bad_line w values is = refl
+
+-- the values are good where the fields pass
+good_step : (kind : spelled.Kind) (passed : Bool) (value : Value) (goods passes : Bool) → IsTold passed kind value → goods ≡ passes → cond (is_good kind value) goods false ≡ cond passed passes false
+good_step kind passed value goods passes (inl is) same = rw (is.0, is.1) same
+good_step kind passed value goods passes (inr is) same =
+    let no : is_good kind value ≡ false = ap (λ v. is_good kind v) is.1 ∙ not_good kind in
+    rw (is.0, no) refl
+
+good_told : (workers : ℕ) (kinds : List Kind) (fields : List (List ℕ)) (values : List Value) → AreOfLine kinds → values_in workers (map kind_of kinds) fields ≡ Some values
+    → are_good (map kind_of kinds) values ≡ all_pass (good workers) kinds fields
+good_told workers [] [] [] of is = refl
+good_told workers [] [] (value ∷ values) of is = cc
+good_told workers [] (field ∷ fields) values of is = cc
+good_told workers (kind ∷ kinds) [] values of is = cc
+good_told workers (kind ∷ kinds) (field ∷ fields) values of is =
+    parted (value_in workers (kind_of kind) field) (values_in workers (map kind_of kinds) fields) values is
+    (λ v vs first rest same. subst (λ (made : List Value). are_good (map kind_of (kind ∷ kinds)) made ≡ all_pass (good workers) (kind ∷ kinds) (field ∷ fields)) same
+    (good_step (kind_of kind) (good workers kind field) v (are_good (map kind_of kinds) vs) (all_pass (good workers) kinds fields) (value_told workers kind field v of.0 first)
+    (good_told workers kinds fields vs of.1 rest)))
+
+some_line : (said : Option Line) → (said ≡ None → ⊥) → is_some said ≡ true
+some_line None none = absurd (none refl)
+some_line (Some line) none = refl
+
+-- ---- a line that has its shape
+
+module _ (workers : ℕ) (first : List ℕ) (fields : List (List ℕ)) (w : Word) (is : word_of words first ≡ Some w) (shaped : all_pass shape (kinds_behind w) fields ≡ true) where
+  has_shape : is_shaped workers (first ∷ fields) ≡ true
+  has_shape = shaped_line workers first w fields is ∙ shaped
+
+  shown : (said : Option (List Value)) → values_in workers (kinds_of w) fields ≡ said → (values : List Value) × (values_in workers (kinds_of w) fields ≡ Some values)
+  shown None say =
+      let none : is_shaped workers (first ∷ fields) ≡ false = rw (is, say) refl in
+      absurd (let some = has_shape in cc)
+  shown (Some values) say = (values, say)
+
+  module _ (values : List Value) (say : values_in workers (kinds_of w) fields ≡ Some values) where
+    by_kinds : values_in workers (map kind_of (kinds_behind w)) fields ≡ Some values
+    by_kinds = rw (kinds_told w) say
+
+    line_told : is_line workers (first ∷ fields) ≡ is_some (line_from w values)
+    line_told = rw (is, say) refl
+
+    goods : are_good (kinds_of w) values ≡ all_pass (good workers) (kinds_behind w) fields
+    goods = rw (kinds_told w) at (good_told workers (kinds_behind w) fields values (are_of_line w) by_kinds)
+
+    -- where not all numbers pass, one is bad
+    first_bad : all_pass (good workers) (kinds_behind w) fields ≡ false → IsFirstBad values (passing_count (λ k f. good workers k f) (kinds_behind w) fields)
+    first_bad fails = elim (values_judged workers (kinds_behind w) fields values (are_of_line w) by_kinds) [
       | inl bad ↦ bad
-      | inr goods ↦ absurd (good_line w values (rw (kinds_told w) at goods) none)
+      | inr all ↦ absurd (let all_good : are_good (kinds_of w) values ≡ true = rw (kinds_told w) at all in let same = goods in cc)
     ]
+
+    bad_here : (m : ℕ) → IsFirstFailing (good workers) (kinds_behind w) fields (Some m) → FindsWrong (is_line workers) (IsFirstWrong workers) (first ∷ fields) (Some (m + 2))
+    bad_here m fails =
+        let behind : passing_count (λ k f. good workers k f) (kinds_behind w) fields ≡ m + 2 - 2 = omega (arith, fails.1) in
+        let none : line_from w values ≡ None = bad_line w values (goods ∙ fails.0) in
+        let found : HasFirstBadNumberAt workers (first ∷ fields) (m + 2) = record {
+          word = w;
+          values = values;
+          word_is = is;
+          say = say;
+          first = subst (λ (i : ℕ). IsFirstBad values i) behind (first_bad fails.0);
+        } in (
+          line_told ∙ ap (λ (said : Option Line). is_some said) none,
+          if_true (is_shaped workers (first ∷ fields)) (HasFirstBadNumberAt workers (first ∷ fields) (m + 2)) (GoAstrayAt (is_shaped workers) (first ∷ fields) (m + 2)) has_shape found,
+        )
+
+    all_good : all_pass (good workers) (kinds_behind w) fields ≡ true → is_line workers (first ∷ fields) ≡ true
+    all_good all = line_told ∙ some_line (line_from w values) (good_line w values (goods ∙ all))
+
+  pub bad_number : (m : ℕ) → IsFirstFailing (good workers) (kinds_behind w) fields (Some m) → FindsWrong (is_line workers) (IsFirstWrong workers) (first ∷ fields) (Some (m + 2))
+  bad_number m fails = let say = shown (values_in workers (kinds_of w) fields) refl in bad_here say.0 say.1 m fails
+
+  pub no_wrong : all_pass (good workers) (kinds_behind w) fields ≡ true → FindsWrong (is_line workers) (IsFirstWrong workers) (first ∷ fields) None
+  no_wrong all = let say = shown (values_in workers (kinds_of w) fields) refl in all_good say.0 say.1 all
 
 -- ---- the field of a line as it stands
 
-pub without_feed_at : (is_whole : List (List ℕ) → Bool) (piece : List ℕ) (n : ℕ) → fields_in piece ≡ None → n ≡ count_by (λ byte. byte == 32) piece + 1
-    → GoesAstrayAt is_whole piece n
-without_feed_at is_whole piece n none at = rw none (at ∙ sym (fields_count piece))
+-- the first wrong field, or the last
+pub wrong_or_last : (is_whole : List (List ℕ) → Bool) (IsWrong : List (List ℕ) → ℕ → Type 0) (fields : List (List ℕ)) (found : Option ℕ) (last : ℕ)
+    → FindsWrong is_whole IsWrong fields found → last ≡ length fields → IsWrongOrLast is_whole IsWrong fields (unwrap_or found last)
+wrong_or_last is_whole IsWrong fields None last whole at = if_true (is_whole fields) (last ≡ length fields) (IsWrong fields last) whole at
+wrong_or_last is_whole IsWrong fields (Some n) last wrong at = if_false (is_whole fields) (n ≡ length fields) (IsWrong fields n) wrong.0 wrong.1
 
-pub with_fields_at : (is_whole : List (List ℕ) → Bool) (piece : List ℕ) (fields : List (List ℕ)) (n : ℕ) → fields_in piece ≡ Some fields → GoAstrayAt is_whole fields n
-    → GoesAstrayAt is_whole piece n
-with_fields_at is_whole piece fields n are at = rw are at
+pub last_of : (piece : List ℕ) (last : ℕ) → last ≡ count_by (λ byte. byte == 32) piece + 1 → last ≡ length (fields_of piece)
+last_of piece last at = at ∙ sym (fields_count piece)
 
-module _ (workers : ℕ) (before : List Line) (piece first : List ℕ) (fields : List (List ℕ)) (w : Word) (are : fields_in piece ≡ Some (first ∷ fields)) (is : word_of words first ≡ Some w) where
-  pub shape_at : (n : ℕ) → judged_line workers before piece ≡ Err fault.BadLine → n ≡ passing_count shape (kinds_behind w) fields + 2 → IsFieldOf workers fault.BadLine piece n
-  shape_at n refused at =
-      let by_values = sym (with_word workers before piece first fields w (line_behind workers w fields) are is refl) ∙ refused in
-      with_fields_at (is_shaped workers) piece (first ∷ fields) n are
-      (no_shape workers first fields w is n (no_values before w (values_in workers (kinds_of w) fields) by_values) at)
+module _ (workers : ℕ) (before : List Line) (piece : List ℕ) where
+  by_fault : (why : LineFault) (fields : List (List ℕ)) (found : Option ℕ) → fields_in piece ≡ Some fields → FindsWrong (is_line workers) (IsFirstWrong workers) fields found
+      → Tells (is_shaped workers fields) (is_line workers fields) why → IsFieldOf workers why piece (unwrap_or found 3)
+  by_fault fault.BadHeader fields found are finds tells = absurd tells
+  by_fault fault.BadLine fields None are finds tells = absurd (let shaped = line_is_shaped workers fields finds in cc)
+  by_fault fault.BadLine fields (Some n) are finds tells =
+      let astray = chosen_false (is_shaped workers fields) (HasFirstBadNumberAt workers fields n) (GoAstrayAt (is_shaped workers) fields n) tells finds.1 in
+      rw are astray
+  by_fault fault.BadNumber fields None are finds tells = absurd (let not_line = tells.1 in cc)
+  by_fault fault.BadNumber fields (Some n) are finds tells =
+      let bad = chosen_true (is_shaped workers fields) (HasFirstBadNumberAt workers fields n) (GoAstrayAt (is_shaped workers) fields n) tells.0 finds.1 in
+      rw are bad
+  by_fault fault.LabelOrder fields None are finds tells = refl
+  by_fault fault.LabelOrder fields (Some n) are finds tells = absurd (let not_line = finds.0 in cc)
 
-  pub number_at : (n : ℕ) → judged_line workers before piece ≡ Err fault.BadNumber → n ≡ passing_count (λ k f. good workers k f) (kinds_behind w) fields + 2
-      → IsFieldOf workers fault.BadNumber piece n
-  number_at n refused at =
-      let by_values = sym (with_word workers before piece first fields w (line_behind workers w fields) are is refl) ∙ refused in
-      let bad = bad_values before w (values_in workers (kinds_of w) fields) by_values in
-      let behind : passing_count (λ k f. good workers k f) (kinds_behind w) fields ≡ n - 2 = omega (arith, at) in
-      let found : HasFirstBadNumberAt workers (first ∷ fields) n = record {
-        word = w;
-        values = bad.0;
-        word_is = is;
-        say = bad.1;
-        first = subst (λ (i : ℕ). IsFirstBad bad.0 i) behind (first_bad workers w fields bad.0 bad.1 bad.2);
-      } in
-      rw are found
+  -- one that ends with a line feed
+  pub ended : (why : LineFault) (fields : List (List ℕ)) (found : Option ℕ) → fields_in piece ≡ Some fields → FindsWrong (is_line workers) (IsFirstWrong workers) fields found
+      → judged_line workers before piece ≡ Err why → IsFieldOf workers why piece (unwrap_or found 3)
+  ended why fields found are finds refused = by_fault why fields found are finds (told before workers piece fields why are refused)
 
--- a line without a line feed, or with an unknown word, has no bad number
-pub number_without_feed : (workers : ℕ) (before : List Line) (piece : List ℕ) → fields_in piece ≡ None → judged_line workers before piece ≡ Err fault.BadNumber → ⊥
-number_without_feed workers before piece none refused = let bad = without_feed workers before piece none in cc (bad, refused)
-
-pub number_without_word : (workers : ℕ) (before : List Line) (piece first : List ℕ) (fields : List (List ℕ)) → fields_in piece ≡ Some (first ∷ fields) → word_of words first ≡ None
-    → judged_line workers before piece ≡ Err fault.BadNumber → ⊥
-number_without_word workers before piece first fields are none refused = let bad = without_word workers before piece first fields are none in cc (bad, refused)
+  -- and one that doesn't
+  pub unended : (why : LineFault) (found : Option ℕ) (last : ℕ) → fields_in piece ≡ None → FindsWrong (is_line workers) (IsFirstWrong workers) (fields_of piece) found
+      → last ≡ count_by (λ byte. byte == 32) piece + 1 → judged_line workers before piece ≡ Err why → IsFieldOf workers why piece (unwrap_or found last)
+  unended why found last none finds at refused =
+      let bad = without_feed workers before piece none in
+      let is : fault.BadLine ≡ why = cc in
+      let field = wrong_or_last (is_line workers) (IsFirstWrong workers) (fields_of piece) found last finds (last_of piece last at) in
+      let here : IsFieldOf workers fault.BadLine piece (unwrap_or found last) = rw none field in
+      subst (λ (w : LineFault). IsFieldOf workers w piece (unwrap_or found last)) is here

@@ -1,12 +1,6 @@
 -- Fields that pass as those of their kinds, one after another.
-use Rattle.std.proofs.Common.{◌≡◌, ◌⊎◌, inl, inr, ℕ, suc, Bool, true, false, cond, List, [], ◌∷◌, ◌++◌, length, take, drop, map, refl, ap}
-use Rattle.tlsf_check.specs.Passing.{passing_count}
-
--- each field passes as one of its kind, and there are as many
-abbrev pub all_pass : {A : Type 0} → (A → List ℕ → Bool) → List A → List (List ℕ) → Bool
-all_pass pass [] [] = true
-all_pass pass (kind ∷ kinds) (field ∷ fields) = cond (pass kind field) (all_pass pass kinds fields) false
-all_pass pass _ _ = false
+use Rattle.std.proofs.Common.{◌≡◌, ◌⊎◌, inl, inr, ℕ, zero, suc, ◌<◌, ◌≤◌, Bool, true, false, cond, List, [], ◌∷◌, ◌++◌, length, take, drop, map, refl, ap, arith}
+use Rattle.tlsf_check.specs.Passing.{all_pass, passing_count}
 
 -- the fields that pass, and then samples for the kinds that are left
 module _ {A : Type 0} (pass : A → List ℕ → Bool) (sample : A → List ℕ) (good : (kind : A) → pass kind (sample kind) ≡ true) where
@@ -55,3 +49,20 @@ module _ {A : Type 0} (pass : A → List ℕ → Bool) where
   pub none_left : (kinds : List A) → passing_count pass kinds [] ≡ 0
   none_left [] = refl
   none_left (kind ∷ kinds) = refl
+
+  -- and a kind that is left has none
+  pub none_for : (kinds : List A) → 0 < length kinds → all_pass pass kinds [] ≡ false
+  none_for [] some = absurd (omega (arith, some))
+  none_for (kind ∷ kinds) some = refl
+
+  -- a field that is left has no kind
+  pub left_over : (fields : List (List ℕ)) → 0 < length fields → all_pass pass [] fields ≡ false
+  left_over [] some = absurd (omega (arith, some))
+  left_over (field ∷ fields) some = refl
+
+-- no kind is left behind all
+pub drop_all : {A : Type 0} (kinds : List A) (n : ℕ) → length kinds ≤ n → drop n kinds ≡ []
+drop_all [] zero all = refl
+drop_all [] (suc n) all = refl
+drop_all (kind ∷ kinds) zero all = absurd (omega (arith, all))
+drop_all (kind ∷ kinds) (suc n) all = drop_all kinds n (omega (arith, all))

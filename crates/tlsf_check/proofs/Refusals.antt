@@ -1,5 +1,5 @@
--- What a fault tells of a line whose first field is a word.
-use Rattle.std.proofs.Common.{◌≡◌, ℕ, Bool, true, false, List, drop, Option, Some, None, option_map, Ok, Err, refl}
+-- What a fault tells of the fields of a line.
+use Rattle.std.proofs.Common.{◌≡◌, ℕ, Bool, true, false, is_some, List, drop, Option, Some, None, option_and_then, Ok, Err, refl, sym, subst}
 use Rattle.tlsf_lines.specs.Fields.{field, fields_in, values_in}
 use Rattle.tlsf_lines.specs.Labels.{is_in_order}
 use Rattle.tlsf_lines.specs.Lines.{kinds_of, line_from, word_of, words}
@@ -9,56 +9,72 @@ use Rattle.tlsf_lines.specs.declared.line.Line.{Line}
 use Rattle.tlsf_lines.specs.declared.line_fault.LineFault.{LineFault}
 use Rattle.tlsf_lines.specs.declared.line_fault.LineFault.TheVariants as fault
 use Rattle.tlsf_lines.specs.declared.word.Word.{Word}
-use Rattle.tlsf_lines.proofs.LineJudged.{judged}
+use Rattle.tlsf_check.specs.FieldFaults.{is_line, is_shaped}
 
-not_ordered : (before : List Line) (line : Line) (ordered : Bool) (why : LineFault) → (unless ordered fault.LabelOrder >>= λ _. Ok line) ≡ Err why → why ≡ fault.LabelOrder
-not_ordered before line true why is = cc
-not_ordered before line false why is = cc
+-- whether the fields have the shape of a line, and whether they are one, by the fault
+abbrev pub Tells : Bool → Bool → LineFault → Type 0
+Tells shaped whole fault.BadHeader = ⊥
+Tells shaped whole fault.BadLine = shaped ≡ false
+Tells shaped whole fault.BadNumber = (shaped ≡ true) × (whole ≡ false)
+Tells shaped whole fault.LabelOrder = whole ≡ true
 
-no_line_bad : (before : List Line) (said : Option Line) → judged before (Some said) ≡ Err fault.BadLine → ⊥
-no_line_bad before None is = cc
-no_line_bad before (Some line) is = let why = not_ordered before line (is_in_order before line) fault.BadLine is in cc
+not_ordered : (line : Line) (ordered : Bool) (why : LineFault) → (unless ordered fault.LabelOrder >>= λ _. Ok line) ≡ Err why → why ≡ fault.LabelOrder
+not_ordered line true why is = cc
+not_ordered line false why is = cc
 
-bad_line : (before : List Line) (said : Option Line) → judged before (Some said) ≡ Err fault.BadNumber → said ≡ None
-bad_line before None is = refl
-bad_line before (Some line) is = let why = not_ordered before line (is_in_order before line) fault.BadNumber is in cc
+module _ (before : List Line) where
+  by_line : (said : Option Line) (why : LineFault) → (some_or said fault.BadNumber >>= λ line. (unless (is_in_order before line) fault.LabelOrder >>= λ _. Ok line)) ≡ Err why
+      → Tells true (is_some said) why
+  by_line None fault.BadHeader refused = cc
+  by_line None fault.BadLine refused = cc
+  by_line None fault.BadNumber refused = (refl, refl)
+  by_line None fault.LabelOrder refused = cc
+  by_line (Some line) why refused =
+      subst (λ (w : LineFault). Tells true true w) (sym (not_ordered line (is_in_order before line) why refused)) refl
 
-pub bad_values : (before : List Line) (w : Word) (values : Option (List Value)) → judged before (option_map (λ vs. line_from w vs) values) ≡ Err fault.BadNumber
-    → (vs : List Value) × (values ≡ Some vs) × (line_from w vs ≡ None)
-bad_values before w None is = cc
-bad_values before w (Some vs) is = (vs, refl, bad_line before (line_from w vs) is)
+  by_values : (w : Word) (values : Option (List Value)) (why : LineFault) → (some_or values fault.BadLine >>= λ vs. (some_or (line_from w vs) fault.BadNumber
+      >>= λ line. (unless (is_in_order before line) fault.LabelOrder >>= λ _. Ok line))) ≡ Err why
+      → Tells (is_some values) (is_some (option_and_then (λ vs. line_from w vs) values)) why
+  by_values w None fault.BadHeader refused = cc
+  by_values w None fault.BadLine refused = refl
+  by_values w None fault.BadNumber refused = cc
+  by_values w None fault.LabelOrder refused = cc
+  by_values w (Some vs) why refused = by_line (line_from w vs) why refused
 
-pub no_values : (before : List Line) (w : Word) (values : Option (List Value)) → judged before (option_map (λ vs. line_from w vs) values) ≡ Err fault.BadLine → values ≡ None
-no_values before w None is = refl
-no_values before w (Some vs) is = absurd (no_line_bad before (line_from w vs) is)
+  by_word : (workers : ℕ) (fields : List (List ℕ)) (w : Option Word) (why : LineFault)
+      → (some_or w fault.BadLine >>= λ v. (some_or (values_in workers (kinds_of v) (drop 1 fields)) fault.BadLine
+      >>= λ vs. (some_or (line_from v vs) fault.BadNumber >>= λ line. (unless (is_in_order before line) fault.LabelOrder >>= λ _. Ok line)))) ≡ Err why
+      → Tells (is_some (option_and_then (λ v. values_in workers (kinds_of v) (drop 1 fields)) w))
+      (is_some (option_and_then (λ v. option_and_then (λ vs. line_from v vs) (values_in workers (kinds_of v) (drop 1 fields))) w)) why
+  by_word workers fields None fault.BadHeader refused = cc
+  by_word workers fields None fault.BadLine refused = refl
+  by_word workers fields None fault.BadNumber refused = cc
+  by_word workers fields None fault.LabelOrder refused = cc
+  by_word workers fields (Some w) why refused = by_values w (values_in workers (kinds_of w) (drop 1 fields)) why refused
 
--- ---- a line behind the header is no bad header
-
-module _ (workers : ℕ) (before : List Line) where
-  by_order : (line : Line) (ordered : Bool) → (unless ordered fault.LabelOrder >>= λ _. Ok line) ≡ Err fault.BadHeader → ⊥
-  by_order line true refused = cc
-  by_order line false refused = cc
-
-  by_line : (said : Option Line) → (some_or said fault.BadNumber >>= λ line. (unless (is_in_order before line) fault.LabelOrder >>= λ _. Ok line)) ≡ Err fault.BadHeader → ⊥
-  by_line None refused = cc
-  by_line (Some line) refused = by_order line (is_in_order before line) refused
-
-  by_values : (w : Word) (values : Option (List Value)) → (some_or values fault.BadLine >>= λ vs. (some_or (line_from w vs) fault.BadNumber
-      >>= λ line. (unless (is_in_order before line) fault.LabelOrder >>= λ _. Ok line))) ≡ Err fault.BadHeader → ⊥
-  by_values w None refused = cc
-  by_values w (Some vs) refused = by_line (line_from w vs) refused
-
-  by_word : (fields : List (List ℕ)) (w : Option Word) → (some_or w fault.BadLine >>= λ v. (some_or (values_in workers (kinds_of v) (drop 1 fields)) fault.BadLine
-      >>= λ vs. (some_or (line_from v vs) fault.BadNumber >>= λ line. (unless (is_in_order before line) fault.LabelOrder >>= λ _. Ok line)))) ≡ Err fault.BadHeader → ⊥
-  by_word fields None refused = cc
-  by_word fields (Some w) refused = by_values w (values_in workers (kinds_of w) (drop 1 fields)) refused
-
-  by_fields : (fields : Option (List (List ℕ))) → (some_or fields fault.BadLine >>= λ fs. (some_or (word_of words (field fs 0)) fault.BadLine
-      >>= λ v. (some_or (values_in workers (kinds_of v) (drop 1 fs)) fault.BadLine
-      >>= λ vs. (some_or (line_from v vs) fault.BadNumber >>= λ line. (unless (is_in_order before line) fault.LabelOrder >>= λ _. Ok line))))) ≡ Err fault.BadHeader → ⊥
-  by_fields None refused = cc
-  by_fields (Some fields) refused = by_word fields (word_of words (field fields 0)) refused
-
-  pub no_bad_header : (piece : List ℕ) → judged_line workers before piece ≡ Err fault.BadHeader → ⊥
+  pub told : (workers : ℕ) (piece : List ℕ) (fields : List (List ℕ)) (why : LineFault) → fields_in piece ≡ Some fields → judged_line workers before piece ≡ Err why
+      → Tells (is_shaped workers fields) (is_line workers fields) why
   unfolding judged_line
-  no_bad_header piece refused = by_fields (fields_in piece) refused
+  told workers piece fields why are refused = by_word workers fields (word_of words (field fields 0)) why (rw are at refused)
+
+-- ---- a line has its shape
+
+of_values : (w : Word) (values : Option (List Value)) → is_some (option_and_then (λ vs. line_from w vs) values) ≡ true → is_some values ≡ true
+of_values w None is = is
+of_values w (Some vs) is = refl
+
+of_word : (workers : ℕ) (fields : List (List ℕ)) (w : Option Word) → is_some (option_and_then (λ v. option_and_then (λ vs. line_from v vs) (values_in workers (kinds_of v) (drop 1 fields))) w) ≡ true
+    → is_some (option_and_then (λ v. values_in workers (kinds_of v) (drop 1 fields)) w) ≡ true
+of_word workers fields None is = is
+of_word workers fields (Some w) is = of_values w (values_in workers (kinds_of w) (drop 1 fields)) is
+
+pub line_is_shaped : (workers : ℕ) (fields : List (List ℕ)) → is_line workers fields ≡ true → is_shaped workers fields ≡ true
+line_is_shaped workers fields is = of_word workers fields (word_of words (field fields 0)) is
+
+-- so what has not its shape is none
+by_value : (shaped whole : Bool) → (whole ≡ true → shaped ≡ true) → shaped ≡ false → whole ≡ false
+by_value shaped true then not_shaped = let is = then refl in cc
+by_value shaped false then not_shaped = refl
+
+pub unshaped_is_no_line : (workers : ℕ) (fields : List (List ℕ)) → is_shaped workers fields ≡ false → is_line workers fields ≡ false
+unshaped_is_no_line workers fields not_shaped = by_value (is_shaped workers fields) (is_line workers fields) (line_is_shaped workers fields) not_shaped

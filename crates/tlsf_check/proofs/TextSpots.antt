@@ -2,7 +2,6 @@
 use Rattle.std.proofs.Common.{◌≡◌, inl, inr, ℕ, suc, ◌-◌, List, [], ◌∷◌, drop, Some, None, Result, Ok, Err, refl, sym, ap, subst, ◌∙◌, arith}
 use Rattle.tlsf_lines.specs.Fields.{field}
 use Rattle.tlsf_lines.specs.Header.{header_in}
-use Rattle.tlsf_lines.specs.LineFaults.{number_of_fault}
 use Rattle.tlsf_lines.specs.Laws.{FailsAtHeader, FailsAtLine, after}
 use Rattle.tlsf_lines.specs.Pieces.{pieces_of}
 use Rattle.tlsf_lines.specs.Trace.{Trace, judged_line, trace_of}
@@ -43,7 +42,7 @@ module _ (text : List ℕ) (fault : TraceFault) (n : ℕ) where
 
   -- a line behind it is at fault
   at_line : (why : LineFault) (at : ℕ) → fault ≡ fault_in why at → trace_of text ≡ Err (why, at) → (failed : FailsAtLine text why at)
-      → ((before : List Line) (w : LineFault) → judged_line failed.header.workers before (field (pieces_of text) (fault.line - 1)) ≡ Err w → fault.no ≡ number_of_fault w
+      → ((before : List Line) (w : LineFault) → judged_line failed.header.workers before (field (pieces_of text) (fault.line - 1)) ≡ Err w
       → IsFieldOf failed.header.workers w (field (pieces_of text) (fault.line - 1)) n)
       → IsFoundIn text fault n
   at_line why at is refused failed found =
@@ -61,7 +60,7 @@ module _ (text : List ℕ) (fault : TraceFault) (n : ℕ) where
         refused = refused;
         field_is = subst (λ (k : ℕ). IsFieldOf (workers_in text) why (field (pieces_of text) (k - 1)) n) line
             (subst (λ (w : ℕ). IsFieldOf w why (field (pieces_of text) (fault.line - 1)) n) named
-            (found (after failed.lines []) why bad (ap (λ (f : TraceFault). f.no) is)));
+            (found (after failed.lines []) why bad));
       }
 
 -- a first line has one header or none
@@ -83,7 +82,7 @@ found_in_header text fault n same none found =
 
 -- a text with one, by what was found in the faulty line
 pub found_in_line : (text : List ℕ) (fault : TraceFault) (n : ℕ) (header : Header) → fault_of text ≡ Some fault → header_in (field (pieces_of text) 0) ≡ Some header
-    → ((before : List Line) (w : LineFault) → judged_line header.workers before (field (pieces_of text) (fault.line - 1)) ≡ Err w → fault.no ≡ number_of_fault w
+    → ((before : List Line) (w : LineFault) → judged_line header.workers before (field (pieces_of text) (fault.line - 1)) ≡ Err w
     → IsFieldOf header.workers w (field (pieces_of text) (fault.line - 1)) n)
     → IsFoundIn text fault n
 found_in_line text fault n header same some found =
@@ -91,6 +90,6 @@ found_in_line text fault n header same some found =
     elim (is_first text e.0 e.1 e.3) [
       | inl failed ↦ absurd (no_header (field (pieces_of text) 0) header failed.none some)
       | inr failed ↦ at_line text fault n e.0 e.1 e.2 e.3 failed
-          (subst (λ (h : Header). (before : List Line) (w : LineFault) → judged_line h.workers before (field (pieces_of text) (fault.line - 1)) ≡ Err w → fault.no ≡ number_of_fault w
+          (subst (λ (h : Header). (before : List Line) (w : LineFault) → judged_line h.workers before (field (pieces_of text) (fault.line - 1)) ≡ Err w
           → IsFieldOf h.workers w (field (pieces_of text) (fault.line - 1)) n) (one_header (field (pieces_of text) 0) header failed.header some failed.headed) found)
     ]

@@ -1,11 +1,12 @@
 -- What a check of a trace writes and notes.
 use Rattle.std.specs.Prelude.{◌≡◌, ℕ, List, ◌++◌, codes}
 use Rattle.std.specs.Fmt.{decimal}
-use Rattle.tlsf_lines.specs.TraceFaults.{IsLineFault}
+use Rattle.tlsf_lines.specs.TraceFaults.{IsLineFault, too_long_fault}
 use Rattle.tlsf_lines.specs.declared.trace_fault.TraceFault.{TraceFault}
 use Rattle.tlsf_trace.specs.Replay.{Outputs}
 use Rattle.tlsf_check.specs.CheckLines.{check_line}
 use Rattle.tlsf_check.specs.FieldFaults.{IsFoundIn}
+use Rattle.tlsf_check.specs.PassedLimits.{NotesLimit}
 
 -- of a good trace one line is put out
 abbrev pub Checks : Outputs
@@ -29,7 +30,8 @@ pub record NotesField (text : List ℕ) (fault : TraceFault) (old new : List ℕ
   pub named : NamesField n note
   pub added : new ≡ old ++ note
 
--- so where a line is at fault; else nothing was added
+-- so where a line is at fault, and where the trace is too long the limit that it passes; else nothing was added
 pub record Notes (text : List ℕ) (fault : TraceFault) (old new : List ℕ) : Type 0 where
   pub line : IsLineFault fault → NotesField text fault old new
-  pub else : (IsLineFault fault → ⊥) → new ≡ old
+  pub limit : fault ≡ too_long_fault → NotesLimit text old new
+  pub else : (IsLineFault fault → ⊥) → (fault ≡ too_long_fault → ⊥) → new ≡ old

@@ -1,9 +1,9 @@
 -- The field in which a fault is found. Fields are counted from 1.
-use Rattle.std.specs.Prelude.{◌≡◌, ◌≢◌, ◌⊎◌, ℕ, ◌+◌, ◌-◌, ◌<◌, Bool, IsTrue, is_some, List, ◌++◌, drop, length, slice_get, take, MatchOption, Some, Err}
+use Rattle.std.specs.Prelude.{◌≡◌, ◌≢◌, ◌⊎◌, ℕ, ◌+◌, ◌-◌, ◌<◌, Bool, IsTrue, is_some, List, ◌++◌, drop, length, slice_get, take, MatchBool, MatchOption, Some, Err}
 use Rattle.tlsf_lines.specs.CutFields.{fields_of}
 use Rattle.tlsf_lines.specs.Fields.{◌>>=◌, field, fields_in, values_in}
 use Rattle.tlsf_lines.specs.Header.{header_of}
-use Rattle.tlsf_lines.specs.Lines.{kinds_of, word_of, words}
+use Rattle.tlsf_lines.specs.Lines.{kinds_of, line_from, word_of, words}
 use Rattle.tlsf_lines.specs.Pieces.{pieces_of}
 use Rattle.tlsf_lines.specs.Trace.{trace_of}
 use Rattle.tlsf_lines.specs.TraceFaults.{fault_in}
@@ -16,12 +16,15 @@ use Rattle.tlsf_check.specs.Kinds.{workers_in}
 
 -- ---- the first field by which fields go astray
 
--- whether these fields are a header, and whether they have the shape of a line
+-- whether these fields are a header; whether they have the shape of a line; and whether they are one, with each number in its range
 abbrev pub is_header : List (List ℕ) → Bool
 is_header fields = is_some (header_of fields)
 
 abbrev pub is_shaped : ℕ → List (List ℕ) → Bool
 is_shaped workers fields = is_some (word_of words (field fields 0) >>= λ word. values_in workers (kinds_of word) (drop 1 fields))
+
+abbrev pub is_line : ℕ → List (List ℕ) → Bool
+is_line workers fields = is_some (word_of words (field fields 0) >>= λ word. (values_in workers (kinds_of word) (drop 1 fields) >>= λ values. line_from word values))
 
 -- others may follow these fields, so that they are whole
 abbrev pub CanBegin : (List (List ℕ) → Bool) → List (List ℕ) → Type 0
@@ -31,10 +34,6 @@ CanBegin is_whole front = (more : List (List ℕ)) × IsTrue (is_whole (front ++
 pub record GoAstrayAt (is_whole : List (List ℕ) → Bool) (fields : List (List ℕ)) (n : ℕ) : Type 0 where
   pub before : CanBegin is_whole (take (n - 1) fields)
   pub here : ¬ (CanBegin is_whole (take n fields)) ⊎ (n ≡ length fields + 1)
-
--- the same of a line as it stands. Where it has no line feed, its last field isn't ended
-abbrev pub GoesAstrayAt : (List (List ℕ) → Bool) → List ℕ → ℕ → Type 0
-GoesAstrayAt is_whole piece n = MatchOption (fields_in piece) (n ≡ length (fields_of piece)) (λ fields. GoAstrayAt is_whole fields n)
 
 -- ---- the first bad number
 
@@ -51,12 +50,24 @@ pub record HasFirstBadNumberAt (workers : ℕ) (fields : List (List ℕ)) (n : �
   pub say : values_in workers (kinds_of word) (drop 1 fields) ≡ Some values
   pub first : IsFirstBad values (n - 2)
 
+-- ---- a line without its line feed
+
+-- the first wrong field of a line: that by which it goes astray, or where it has its shape that of the first bad number
+abbrev pub IsFirstWrong : ℕ → List (List ℕ) → ℕ → Type 0
+IsFirstWrong workers fields n = MatchBool (is_shaped workers fields) (HasFirstBadNumberAt workers fields n) (GoAstrayAt (is_shaped workers) fields n)
+
+-- where the fields are whole, the line feed alone is missing, behind the last; else the first wrong one comes before it
+abbrev pub IsWrongOrLast : (List (List ℕ) → Bool) → (List (List ℕ) → ℕ → Type 0) → List (List ℕ) → ℕ → Type 0
+IsWrongOrLast is_whole IsWrong fields n = MatchBool (is_whole fields) (n ≡ length fields) (IsWrong fields n)
+
 -- ---- the field of a fault
 
 -- the field of a line's fault, where there are so many workers; that of a label is the third in each line that has one
 abbrev pub IsFieldOf : ℕ → LineFault → List ℕ → ℕ → Type 0
-IsFieldOf workers line.BadHeader piece n = GoesAstrayAt is_header piece n
-IsFieldOf workers line.BadLine piece n = GoesAstrayAt (is_shaped workers) piece n
+IsFieldOf workers line.BadHeader piece n =
+    MatchOption (fields_in piece) (IsWrongOrLast is_header (GoAstrayAt is_header) (fields_of piece) n) (λ fields. GoAstrayAt is_header fields n)
+IsFieldOf workers line.BadLine piece n =
+    MatchOption (fields_in piece) (IsWrongOrLast (is_line workers) (IsFirstWrong workers) (fields_of piece) n) (λ fields. GoAstrayAt (is_shaped workers) fields n)
 IsFieldOf workers line.BadNumber piece n = MatchOption (fields_in piece) ⊥ (λ fields. HasFirstBadNumberAt workers fields n)
 IsFieldOf workers line.LabelOrder piece n = n ≡ 3
 

@@ -1,16 +1,33 @@
 //! A trace that is checked.
 ghost use Rattle.std.specs.Prelude.{◌≡◌, ◌⊎◌, IfErr, IfSome, OnErr, OnOk, Some, string_bytes};
 ghost use Rattle.tlsf_check.specs.Checks.{Checks, Notes, NotesField};
+ghost use Rattle.tlsf_check.specs.PassedLimits.{NotesUnread};
 ghost use Rattle.tlsf_lines.specs.TraceFaults.{IsLineFault, fault_of, no_memory_fault};
 ghost use Rattle.tlsf_trace.specs.Replay.{IsRun};
 
 use crate::count_line::line_on;
 use crate::field_spots::field_of_fault;
 use crate::notes::explain;
+use crate::reading::read_within;
+use crate::unread::Unread;
 use std::alloc::{AllocError, Global};
 use std::io::{Read, Write};
-use tlsf_lines::{TraceFault, read_all, trace_in};
+use tlsf_lines::{TraceFault, trace_in};
 use tlsf_trace::{Summary, finish};
+
+// The fault of a trace that was not read whole. Adds the note on a limit that it passes.
+fn note_unread(unread: Unread, note: &mut String) -> TraceFault
+    ensures { NotesUnread unread result (string_bytes note.old) (string_bytes note.new) }
+{
+    match unread {
+        Unread::NoMemory => TraceFault::NO_MEMORY,
+        Unread::Passed(limit) => match note.push_str(limit.note()) {
+            Ok(()) => TraceFault::TOO_LONG,
+            Err(_) => TraceFault::NO_MEMORY,
+        },
+        Unread::Failed => TraceFault::READ,
+    }
+}
 
 // Adds the note on the fault of a text.
 fn note_fault(
@@ -50,8 +67,9 @@ fn note_line(
 ///
 /// The line tells the version, the workers with their words, the calls and the phases; the end of a trace ends a phase too. A note has
 /// three lines: the faulty line as it stands, cut where it is long, with what isn't printable escaped; a mark under a byte of it; and
-/// the number of the field, what it is, what was expected there and what was found. Faults other than those of a line have no note.
-/// The limits are those of [`replay`](tlsf_trace::replay).
+/// the number of the field, what it is, what was expected there and what was found; a tip on numbers may follow. Of a trace that is too
+/// long the note is one line, which says the limit that it passes. The other faults have no note. The limits are those of
+/// [`replay`](tlsf_trace::replay).
 ///
 /// ```
 /// // reader gives "tlsf 1 1 64 1\na 0 1 x\n"
@@ -75,7 +93,10 @@ pub fn check_trace<R: Read, W: Write>(
         (λ text. Notes text fault (string_bytes note.old) (string_bytes note.new))) }
     ensures kept { OnOk result (string_bytes note.new ≡ string_bytes note.old) }
 {
-    let text = read_all(alloc, reader)?;
+    let text = match read_within(alloc, reader) {
+        Ok(text) => text,
+        Err(unread) => return Err(note_unread(unread, note)),
+    };
     let trace = match trace_in(alloc, &text) {
         Ok(trace) => trace,
         Err(fault) => {

@@ -1,10 +1,10 @@
 //! The field of a fault.
-ghost use Rattle.std.specs.Prelude.{ℕ, codes, ◌≡◌, ◌+◌, ◌-◌, ◌≤◌, None, Some, Err, count_by, length, ◌==◌, List};
+ghost use Rattle.std.specs.Prelude.{ℕ, codes, ◌≡◌, ◌+◌, ◌-◌, ◌≤◌, None, Some, Err, IfSome, count_by, length, ◌==◌, List};
 ghost use Rattle.std.specs.Str.{bytes_eq};
-ghost use Rattle.tlsf_check.specs.FieldFaults.{IsFieldOf, IsFoundIn};
+ghost use Rattle.tlsf_check.specs.FieldFaults.{GoAstrayAt, IsFieldOf, IsFirstWrong, IsFoundIn, is_header, is_line};
 ghost use Rattle.tlsf_check.specs.Kinds;
-ghost use Rattle.tlsf_check.specs.Passing as counted;
-ghost use Rattle.tlsf_lines.specs.CutFields.{fields_left};
+ghost use Rattle.tlsf_check.specs.Passing.{FindsWrong, IsFirstFailing};
+ghost use Rattle.tlsf_lines.specs.CutFields.{fields_left, fields_of};
 ghost use Rattle.tlsf_lines.specs.Fields.{field};
 ghost use Rattle.tlsf_lines.specs.Header as spelled;
 ghost use Rattle.tlsf_lines.specs.Pieces.{pieces_of};
@@ -12,30 +12,35 @@ ghost use Rattle.tlsf_lines.specs.Trace.{judged_line};
 ghost use Rattle.tlsf_lines.specs.TraceFaults.{fault_of};
 ghost use Rattle.tlsf_lines.specs.declared.line.Line.{Line};
 ghost use Rattle.tlsf_lines.specs.declared.line_fault.LineFault.{LineFault};
-ghost use Rattle.tlsf_lines.specs.declared.line_fault.LineFault.TheVariants.{BadHeader, BadLine, BadNumber};
-ghost use Rattle.tlsf_lines.specs.LineFaults.{number_of_fault};
+ghost use Rattle.tlsf_lines.specs.declared.line_fault.LineFault.TheVariants.{BadHeader};
 
 use crate::judge::{Judge, passes};
 use crate::kind::{Kind, kinds_behind};
 use tlsf_lines::{TraceFault, Version, cut_feed, cut_field, cut_piece, header_in, word_of};
 
-/// How many fields pass before the first that doesn't, or that has no kind.
-fn passing_count(judge: Judge, kinds: &[Kind], fields: Option<&[u8]>) -> usize
-    ensures count { result ≡ counted.passing_count (λ k f. Kinds.passes judge k f) kinds.now (fields_left fields.entry) }
-    ensures few { result ≤ length kinds.now }
+/// The field that has the label, in each line that has one.
+const LABEL_FIELD: usize = 3;
+
+/// How many fields pass before the first that doesn't, that is missing or that has no kind; `None` where all pass.
+fn first_failing(judge: Judge, kinds: &[Kind], fields: Option<&[u8]>) -> Option<usize>
+    ensures first { IsFirstFailing (λ k f. Kinds.passes judge k f) kinds.now (fields_left fields.entry) result }
+    ensures few { IfSome result (λ n. n ≤ length kinds.now) }
 {
     let mut left = fields;
     for (i, kind) in kinds.iter().enumerate() {
         let Some(line) = left else {
-            return i;
+            return Some(i);
         };
         let (first, rest) = cut_field(line);
         if !passes(judge, *kind, first) {
-            return i;
+            return Some(i);
         }
         left = rest;
     }
-    kinds.len()
+    match left {
+        Some(_) => Some(kinds.len()),
+        None => None,
+    }
 }
 
 /// How many spaces a line has.
@@ -46,55 +51,43 @@ fn count_spaces(line: &[u8]) -> usize
     line.iter().filter(|byte| **byte == b' ').count()
 }
 
-/// The field by which a line has not its shape.
-fn shape_spot(piece: &[u8]) -> usize
-    ensures { (workers : ℕ) (before : List Line) → judged_line workers before piece.now ≡ Err BadLine
-        → IsFieldOf workers BadLine piece.now result }
+/// The first wrong field of a line, where there are so many workers: by its shape, and then by its numbers.
+fn wrong_in_line(workers: u32, line: &[u8]) -> Option<usize>
+    ensures { FindsWrong (is_line workers) (IsFirstWrong workers) (fields_of line.now) result }
 {
-    let Some(line) = cut_feed(piece) else {
-        return count_spaces(piece) + 1;
-    };
     let (first, fields) = cut_field(line);
     let Some(word) = word_of(first) else {
-        return 1;
+        return Some(1);
     };
-    passing_count(Judge::Shape, kinds_behind(word), fields) + 2
-}
-
-/// The field of the first bad number of a line, where there are so many workers.
-fn number_spot(workers: u32, piece: &[u8]) -> usize
-    ensures { (before : List Line) → judged_line workers before piece.now ≡ Err BadNumber
-        → IsFieldOf workers BadNumber piece.now result }
-{
-    // A line with a bad number has its shape.
-    let Some(line) = cut_feed(piece) else {
-        return 1;
-    };
-    let (first, fields) = cut_field(line);
-    let Some(word) = word_of(first) else {
-        return 1;
-    };
-    passing_count(Judge::Number { workers }, kinds_behind(word), fields) + 2
-}
-
-/// The field by which a line is faulty, where there are so many workers, by the number of its fault.
-fn line_spot(workers: u32, piece: &[u8], no: u32) -> usize
-    ensures { (before : List Line) (fault : LineFault) → judged_line workers before piece.now ≡ Err fault
-        → no ≡ number_of_fault fault → IsFieldOf workers fault piece.now result }
-{
-    match no {
-        12 => shape_spot(piece),
-        13 => number_spot(workers, piece),
-        _ => 3,
+    let kinds = kinds_behind(word);
+    if let Some(passed) = first_failing(Judge::Shape, kinds, fields) {
+        return Some(passed + 2);
+    }
+    match first_failing(Judge::Number { workers }, kinds, fields) {
+        Some(passed) => Some(passed + 2),
+        None => None,
     }
 }
 
-/// The field by which a header with this version is faulty, behind it.
-fn version_spot(version: Version, fields: Option<&[u8]>) -> usize
-    ensures count { result ≡ counted.passing_count (λ k f. Kinds.passes (Judge.Number 0) k f) (Kinds.header_kinds version) (fields_left fields.entry) + 3 }
+/// The field by which a line is faulty, where there are so many workers: the first wrong one, and where none is wrong the label. Of
+/// a line without its line feed that is the last one.
+fn line_spot(workers: u32, piece: &[u8]) -> usize
+    ensures { (before : List Line) (fault : LineFault) → judged_line workers before piece.now ≡ Err fault
+        → IsFieldOf workers fault piece.now result }
+{
+    match cut_feed(piece) {
+        Some(line) => wrong_in_line(workers, line).unwrap_or(LABEL_FIELD),
+        None => wrong_in_line(workers, piece).unwrap_or(count_spaces(piece) + 1),
+    }
+}
+
+/// How many fields behind the version pass before the first that is wrong; `None` where they are those of a header.
+fn version_failing(version: Version, fields: Option<&[u8]>) -> Option<usize>
+    ensures first { IsFirstFailing (λ k f. Kinds.passes (Judge.Number 0) k f) (Kinds.header_kinds version) (fields_left fields.entry) result }
+    ensures few { IfSome result (λ n. n ≤ 3) }
 {
     let kinds = [Kind::Workers, Kind::Words(version), Kind::Capacity];
-    passing_count(Judge::Number { workers: 0 }, &kinds, fields) + 3
+    first_failing(Judge::Number { workers: 0 }, &kinds, fields)
 }
 
 /// Whether a field is the name that a header begins with.
@@ -104,25 +97,36 @@ fn is_name(field: &[u8]) -> bool
     field == b"tlsf".as_slice()
 }
 
-/// The field by which a first line is no header.
-fn header_spot(piece: &[u8]) -> usize
-    ensures { spelled.header_in piece.now ≡ None → (workers : ℕ) → IsFieldOf workers BadHeader piece.now result }
+/// The first wrong field of a header.
+fn wrong_in_header(line: &[u8]) -> Option<usize>
+    ensures { FindsWrong is_header (GoAstrayAt is_header) (fields_of line.now) result }
 {
-    let Some(line) = cut_feed(piece) else {
-        return count_spaces(piece) + 1;
-    };
     let (name, rest) = cut_field(line);
     if !is_name(name) {
-        return 1;
+        return Some(1);
     }
     let Some(rest) = rest else {
-        return 2;
+        return Some(2);
     };
     let (second, rest) = cut_field(rest);
     let Some(version) = Version::spelled_by(second) else {
-        return 2;
+        return Some(2);
     };
-    version_spot(version, rest)
+    match version_failing(version, rest) {
+        Some(passed) => Some(passed + 3),
+        None => None,
+    }
+}
+
+/// The field by which a first line is no header: the first wrong one, and where none is wrong the last, which has no line feed
+/// behind it.
+fn header_spot(piece: &[u8]) -> usize
+    ensures { spelled.header_in piece.now ≡ None → (workers : ℕ) → IsFieldOf workers BadHeader piece.now result }
+{
+    match cut_feed(piece) {
+        Some(line) => wrong_in_header(line).unwrap_or(1),
+        None => wrong_in_header(piece).unwrap_or(count_spaces(piece) + 1),
+    }
 }
 
 /// Line number `line` of a text as it stands, counted from 1, with its line feed if it has one. Without bytes where there is none.
@@ -146,8 +150,9 @@ pub fn piece_at(text: &[u8], line: u32) -> &[u8]
 /// The field in which the fault of a text is found, counted from 1.
 ///
 /// It is the first field by which the line can't be a line: none that begins so has its shape, or in the first line none is a header. Where a
-/// field is missing it is the field that had to stand behind the last one. Where the line feed is missing it is the last field.
-/// Of a bad number it is the first field with one, and of a label out of order the label.
+/// field is missing it is the field that had to stand behind the last one. Of a bad number it is the first field with one, and of a label
+/// out of order the label. Where the last line has no line feed it is the first field that is wrong besides, by the shape of a line and then
+/// by its numbers; the last one where no other is.
 ///
 /// ```
 /// // "tlsf 1 2 64 4\na 0 1 x\n" has fault 12 in line 2
@@ -161,6 +166,6 @@ pub fn field_of_fault(text: &[u8], fault: TraceFault) -> usize
     let first = piece_at(text, 1);
     match header_in(first) {
         None => header_spot(first),
-        Some(header) => line_spot(header.workers, piece_at(text, fault.line), fault.no),
+        Some(header) => line_spot(header.workers, piece_at(text, fault.line)),
     }
 }

@@ -1,7 +1,8 @@
 //! What was wanted in a field, and what stands there.
-use crate::judge::is_all_digits;
+use crate::judge::{Judge, is_all_digits, passes};
 use crate::kind::{Kind, kinds_behind};
 use crate::line_view::push_bytes;
+use crate::number_tip::{NUMBER_TIP, is_marked_number};
 use crate::places::{Spot, field_in};
 use std::alloc::AllocError;
 use tlsf_lines::{Version, word_of};
@@ -100,15 +101,36 @@ fn unwanted_in(field: &[u8], wanted: Wanted) -> usize {
     place.unwrap_or(0)
 }
 
-/// The byte of the line that is marked.
-pub fn mark_at(spot: Spot, wanted: Wanted) -> usize {
-    if !spot.is_ended {
-        return spot.line.len();
+// Whether the field says what it should, where there are so many workers.
+fn is_as_wanted(field: &[u8], wanted: Wanted, workers: u32) -> bool {
+    match wanted {
+        Wanted::Value(kind) => passes(Judge::Number { workers }, kind, field),
+        Wanted::Word => word_of(field).is_some(),
+        // These are named where they are wrong alone.
+        Wanted::Name | Wanted::Version | Wanted::Nothing(_) => false,
     }
+}
+
+/// Whether nothing is wrong but that the line feed is missing behind the field.
+pub fn lacks_feed_alone(spot: Spot, wanted: Wanted, workers: u32) -> bool {
+    !spot.is_ended
+        && spot
+            .field
+            .is_some_and(|field| is_as_wanted(field, wanted, workers))
+}
+
+/// The byte of the field that is marked.
+pub fn mark_at(spot: Spot, wanted: Wanted) -> usize {
     let within = spot.field.map_or(0, |field| {
         unprintable_in(field).unwrap_or(unwanted_in(field, wanted))
     });
     spot.start.saturating_add(within)
+}
+
+// Whether there is more than one such number: a worker may be the only one.
+fn has_range(kind: Kind, workers: u32) -> bool {
+    let (least, most) = kind.range(workers);
+    least < most
 }
 
 /// Adds what the field is, and what was expected there.
@@ -122,6 +144,9 @@ pub fn push_wanted(text: &mut String, wanted: Wanted, workers: u32) -> Result<()
         Wanted::Value(Kind::Payload) => text.push_str(
             ", the bytes to write: 2 to 128 hexadecimal digits, an even number of them",
         ),
+        Wanted::Value(kind) if !has_range(kind, workers) => {
+            text.push_str(", the worker: 0, the only worker")
+        }
         Wanted::Value(kind) => {
             let name = kind.name();
             let (least, most) = kind.range(workers);
@@ -137,6 +162,13 @@ pub fn push_wanted(text: &mut String, wanted: Wanted, workers: u32) -> Result<()
     }
 }
 
+// Whether the tip on numbers helps: no other word is said of the field.
+fn is_tipped(field: &[u8]) -> bool {
+    is_marked_number(field)
+        && unprintable_in(field).is_none()
+        && number_note(field, true).is_empty()
+}
+
 // Adds the field in quotes, cut where it is long.
 fn push_quoted(text: &mut String, field: &[u8]) -> Result<(), AllocError> {
     text.push_str("found `")?;
@@ -149,12 +181,12 @@ fn push_quoted(text: &mut String, field: &[u8]) -> Result<(), AllocError> {
 }
 
 // What more is to say of a field in the place of a number.
-fn number_note(field: &[u8]) -> &'static str {
+fn number_note(field: &[u8], has_range: bool) -> &'static str {
     match field {
         [b'-', ..] | [b'+', ..] => ": numbers have no sign",
         [b'0', b'x' | b'X', ..] => ": numbers are decimal",
         [b'0', _, ..] if is_all_digits(field) => ": a leading zero",
-        _ if is_all_digits(field) => ": out of that range",
+        _ if has_range && is_all_digits(field) => ": out of that range",
         _ => "",
     }
 }
@@ -174,12 +206,27 @@ fn payload_note(field: &[u8]) -> &'static str {
 
 // Adds what more is to say of a field in the place of a word.
 fn push_word_note(text: &mut String, field: &[u8]) -> Result<(), AllocError> {
-    if let [b'#' | b'/' | b';', ..] = field {
-        return text.push_str(": a trace has no comments");
-    }
     match word_meant(field) {
         Some(word) => write!(text, ": did you mean `{word}`?"),
         None => Ok(()),
+    }
+}
+
+// Adds what more is to say of a field, by what was expected there.
+fn push_field_note(
+    text: &mut String,
+    field: &[u8],
+    wanted: Wanted,
+    workers: u32,
+) -> Result<(), AllocError> {
+    if let [b'#' | b'/' | b';', ..] = field {
+        return text.push_str(": a trace has no comments");
+    }
+    match wanted {
+        Wanted::Word => push_word_note(text, field),
+        Wanted::Value(Kind::Payload) => text.push_str(payload_note(field)),
+        Wanted::Value(kind) => text.push_str(number_note(field, has_range(kind, workers))),
+        Wanted::Name | Wanted::Version | Wanted::Nothing(_) => Ok(()),
     }
 }
 
@@ -216,11 +263,14 @@ fn push_unprintable(
     }
 }
 
-/// Adds what stands in the field.
-pub fn push_found(text: &mut String, spot: Spot, wanted: Wanted) -> Result<(), AllocError> {
-    let Some(field) = spot.field else {
-        return text.push_str("found the end of the line");
-    };
+// Adds what stands in the field, and what more is to say of it.
+fn push_contents(
+    text: &mut String,
+    spot: Spot,
+    field: &[u8],
+    wanted: Wanted,
+    workers: u32,
+) -> Result<(), AllocError> {
     if let Some(place) = unprintable_in(field) {
         return push_unprintable(text, spot, field, place);
     }
@@ -228,10 +278,34 @@ pub fn push_found(text: &mut String, spot: Spot, wanted: Wanted) -> Result<(), A
         return push_empty(text, spot);
     }
     push_quoted(text, field)?;
-    match wanted {
-        Wanted::Word => push_word_note(text, field),
-        Wanted::Value(Kind::Payload) => text.push_str(payload_note(field)),
-        Wanted::Value(_) => text.push_str(number_note(field)),
-        Wanted::Name | Wanted::Version | Wanted::Nothing(_) => Ok(()),
+    push_field_note(text, field, wanted, workers)
+}
+
+/// Adds what was found in the place of the field. Where the line feed is missing too it says so, behind that.
+pub fn push_found(
+    text: &mut String,
+    spot: Spot,
+    wanted: Wanted,
+    workers: u32,
+) -> Result<(), AllocError> {
+    match (spot.field, spot.is_ended) {
+        (Some(field), true) => push_contents(text, spot, field, wanted, workers),
+        (Some(field), false) => {
+            push_contents(text, spot, field, wanted, workers)?;
+            text.push_str("; the line feed is missing too")
+        }
+        (None, true) => text.push_str("found the end of the line"),
+        (None, false) => text.push_str("found the end of the trace"),
+    }
+}
+
+/// Adds a line with the tip on numbers, where the field is a number with more in it than digits.
+pub fn push_tip(text: &mut String, spot: Spot, wanted: Wanted) -> Result<(), AllocError> {
+    match (spot.field, wanted) {
+        (Some(field), Wanted::Value(kind)) if kind.is_number() && is_tipped(field) => {
+            text.push_str("\n  ")?;
+            text.push_str(NUMBER_TIP.trim_end())
+        }
+        _ => Ok(()),
     }
 }

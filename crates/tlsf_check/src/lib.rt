@@ -18,10 +18,15 @@ mod findings;
 mod judge;
 mod kind;
 mod labels;
+mod limit;
 mod line_view;
 mod notes;
+mod number_tip;
 mod places;
+mod reading;
+mod unread;
 
 pub use checking::check_trace;
 pub use field_spots::field_of_fault;
 pub use notes::explain;
+pub use number_tip::{NUMBER_TIP, have_marked_number};

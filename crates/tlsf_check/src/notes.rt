@@ -3,7 +3,10 @@ ghost use Rattle.std.specs.Prelude.{◌≡◌, ◌++◌, IfOk, OnOk, string_byte
 ghost use Rattle.tlsf_check.specs.Checks.{NamesField, field_text};
 
 use crate::field_spots::piece_at;
-use crate::findings::{Wanted, mark_at, push_found, push_wanted, wanted_in_header, wanted_in_line};
+use crate::findings::{
+    Wanted, lacks_feed_alone, mark_at, push_found, push_tip, push_wanted, wanted_in_header,
+    wanted_in_line,
+};
 use crate::labels::making_of;
 use crate::line_view::{push_bytes, view};
 use crate::places::{Spot, field_in};
@@ -47,7 +50,7 @@ fn push_label(words: &mut String, text: &[u8], line: u32) -> Result<(), AllocErr
     }
 }
 
-// What is wrong with a field of a line, in words, and the byte of the line to mark.
+// What is wrong with a field of a line, in words.
 fn words_on(
     alloc: Global,
     text: &[u8],
@@ -56,18 +59,29 @@ fn words_on(
     wanted: Wanted,
 ) -> Result<String, AllocError> {
     let mut words = String::new(alloc);
+    let workers = workers_of(text);
     if text.is_empty() {
         words.push_str(", the name: `tlsf`; found an empty trace")?;
-    } else if !spot.is_ended {
+    } else if lacks_feed_alone(spot, wanted, workers) {
         words.push_str(", the last one: a line feed behind it; found the end of the trace")?;
     } else if fault.no == LABEL_ORDER {
         push_label(&mut words, text, fault.line)?;
     } else {
-        push_wanted(&mut words, wanted, workers_of(text))?;
+        push_wanted(&mut words, wanted, workers)?;
         words.push_str("; ")?;
-        push_found(&mut words, spot, wanted)?;
+        push_found(&mut words, spot, wanted, workers)?;
+        push_tip(&mut words, spot, wanted)?;
     }
     Ok(words)
+}
+
+// The byte of the line that is marked: one of the field, or where the line feed alone is missing the end of the line.
+fn marked(text: &[u8], spot: Spot, wanted: Wanted) -> usize {
+    if lacks_feed_alone(spot, wanted, workers_of(text)) {
+        spot.line.len()
+    } else {
+        mark_at(spot, wanted)
+    }
 }
 
 // Adds the number of a field and the words on it.
@@ -108,7 +122,7 @@ pub fn explain(
         wanted_in_line(piece, field)
     };
     let words = words_on(alloc, text, fault, spot, wanted)?;
-    let mut note = view(alloc, spot.line, mark_at(spot, wanted))?;
+    let mut note = view(alloc, spot.line, marked(text, spot, wanted))?;
     push_field(&mut note, field, &words)?;
     Ok(note)
 }

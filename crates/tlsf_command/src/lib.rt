@@ -30,7 +30,6 @@ mod counted;
 mod fault_report;
 mod finer_hint;
 mod help;
-mod number_tip;
 mod region_size;
 mod size_line;
 mod size_question;

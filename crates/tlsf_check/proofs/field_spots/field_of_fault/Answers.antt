@@ -1,7 +1,6 @@
 use Rattle.std.proofs.Common.{◌≡◌, ℕ, List, Err, sym, ap, subst, ◌∙◌}
 use Rattle.tlsf_lines.specs.Fields.{field}
 use Rattle.tlsf_lines.specs.Header.{header_in}
-use Rattle.tlsf_lines.specs.LineFaults.{number_of_fault}
 use Rattle.tlsf_lines.specs.Pieces.{pieces_of}
 use Rattle.tlsf_lines.specs.Trace.{judged_line}
 use Rattle.tlsf_lines.specs.declared.line.Line.{Line}
@@ -22,8 +21,7 @@ pub returns-in-Some : goal.returns-in-Some
 returns-in-Some c =
     let n = c.line_spot.result in
     let workers = c.in-Some.header.workers in
-    let no = c.args.fault.no in
     let first : c.piece_at-first.result.now ≡ field (pieces_of c.args.text.now) 0 = c.piece_at-first.ensures in
     found_in_line c.args.text.now c.args.fault n c.in-Some.header c.requires (ap (λ (p : List ℕ). header_in p) (sym first) ∙ sym c.in-Some.ensures.header)
-    (subst (λ (p : List ℕ). (before : List Line) (w : LineFault) → judged_line workers before p ≡ Err w → no ≡ number_of_fault w → IsFieldOf workers w p n)
+    (subst (λ (p : List ℕ). (before : List Line) (w : LineFault) → judged_line workers before p ≡ Err w → IsFieldOf workers w p n)
     c.piece_at.ensures c.line_spot.ensures)

@@ -1,21 +1,16 @@
-use Rattle.std.proofs.Common.{◌≡◌, ℕ, List, Err, refl, arith}
-use Rattle.tlsf_lines.specs.LineFaults.{number_of_fault}
-use Rattle.tlsf_lines.specs.Trace.{judged_line}
-use Rattle.tlsf_lines.specs.declared.line.Line.{Line}
-use Rattle.tlsf_lines.specs.declared.line_fault.LineFault.{LineFault}
-use Rattle.tlsf_lines.specs.declared.line_fault.LineFault.TheVariants.{BadHeader, BadLine, BadNumber, LabelOrder}
+use Rattle.std.proofs.Common.{◌+◌, ℕ, ap, sym, subst}
+use Rattle.tlsf_lines.specs.CutFields.{fields_of}
 use Rattle.tlsf_check.specs.FieldFaults.{IsFieldOf}
-use Rattle.tlsf_check.proofs.Refusals.{no_bad_header}
+use Rattle.tlsf_check.proofs.LineSpots.{ended, unended}
 use Rattle.tlsf_check.proofs.field_spots.line_spot.Goals as goal
 
--- a fault that is none of those before is that of a label
-third : (workers number : ℕ) (before : List Line) (piece : List ℕ) (why : LineFault) → judged_line workers before piece ≡ Err why → number ≡ number_of_fault why
-    → (number ≡ 12 → ⊥) → (number ≡ 13 → ⊥) → IsFieldOf workers why piece 3
-third workers number before piece BadHeader refused is other12 other13 = absurd (no_bad_header workers before piece refused)
-third workers number before piece BadLine refused is other12 other13 = absurd (other12 is)
-third workers number before piece BadNumber refused is other12 other13 = absurd (other13 is)
-third workers number before piece LabelOrder refused is other12 other13 = refl
+pub returns-in-Some : goal.returns-in-Some
+returns-in-Some c = λ before why refused.
+    subst (λ (n : ℕ). IsFieldOf c.args.workers why c.args.piece.now n) (sym c.unwrap_or.ensures)
+    (ended c.args.workers before c.args.piece.now why (fields_of c.in-Some.line.now) c.wrong_in_line.result (sym c.in-Some.ensures) c.wrong_in_line.ensures refused)
 
-pub returns-in_default : goal.returns-in_default
-returns-in_default c = λ before why refused is.
-    third c.args.workers c.args.no before c.args.piece.now why refused is (λ same. omega (arith, same)) (λ same. omega (arith, same))
+pub returns-in-None : goal.returns-in-None
+returns-in-None c = λ before why refused.
+    subst (λ (n : ℕ). IsFieldOf c.args.workers why c.args.piece.now n) (sym c.unwrap_or-in-None.ensures)
+    (unended c.args.workers before c.args.piece.now why c.wrong_in_line-in-None.result (c.count_spaces.result + 1) (sym c.in-None.ensures) c.wrong_in_line-in-None.ensures
+    (ap (λ (n : ℕ). n + 1) c.count_spaces.ensures.count) refused)

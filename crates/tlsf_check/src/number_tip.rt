@@ -1,14 +1,13 @@
-//! A tip for who writes a number with a suffix or with separators.
+//! A tip for who writes a number with a suffix or with separators, on the command line or in a trace.
 use std::convert::AsStr;
 
-/// The line behind what `clap` says of such a number.
+/// The line that tells how numbers are written.
 pub const NUMBER_TIP: &str = "tip: numbers are plain digits, as 65536 for 64 KiB\n";
 
-// Whether a text is a number with more in it than digits, as `64KiB`, `1k` and `1,000`.
-fn is_marked(text: &str) -> bool {
-    let bytes = text.as_bytes();
-    match bytes.first() {
-        Some(first) => first.is_ascii_digit() && !bytes.iter().all(|byte| byte.is_ascii_digit()),
+/// Whether a field is a number with more in it than digits, as `64KiB`, `1k` and `1,000`.
+pub fn is_marked_number(field: &[u8]) -> bool {
+    match field.first() {
+        Some(first) => first.is_ascii_digit() && !field.iter().all(|byte| byte.is_ascii_digit()),
         None => false,
     }
 }
@@ -28,7 +27,7 @@ fn value_in(word: &str) -> &str {
 /// ```
 pub fn have_marked_number<S: AsStr>(words: &[S]) -> bool {
     for word in words {
-        if is_marked(value_in(word.as_str())) {
+        if is_marked_number(value_in(word.as_str()).as_bytes()) {
             return true;
         }
     }

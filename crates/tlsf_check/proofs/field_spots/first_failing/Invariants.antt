@@ -1,0 +1,14 @@
+use Rattle.std.proofs.Common.{◌≡◌, ◌+◌, drop}
+use Rattle.tlsf_check.specs.Kinds.{passes}
+use Rattle.tlsf_check.specs.Passing.{all_pass, passing_count}
+use Rattle.tlsf_lines.specs.CutFields.{fields_left}
+use Rattle.tlsf_check.proofs.field_spots.first_failing.Given as goal
+
+-- those before pass
+abbrev pub invariant-loop-i : goal.invariant-loop-i
+invariant-loop-i l = record {
+  count : passing_count (λ k f. passes l.judge k f) l.kinds (fields_left l.fields)
+      ≡ l.i + passing_count (λ k f. passes l.judge k f) (drop l.i l.kinds) (fields_left l.left);
+  all : all_pass (λ k f. passes l.judge k f) l.kinds (fields_left l.fields)
+      ≡ all_pass (λ k f. passes l.judge k f) (drop l.i l.kinds) (fields_left l.left);
+}

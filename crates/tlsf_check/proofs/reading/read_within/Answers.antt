@@ -1,0 +1,55 @@
+use Rattle.std.proofs.Common.{◌≡◌, ◌<◌, ◌^◌, ◌++◌, length, take, arith, length-append, length-take, count_by, eqb}
+use Rattle.std.proofs.KnownBytes.{Consumes-trans}
+use Rattle.std.proofs.lemmas.Grind.{common_steps}
+use Rattle.tlsf_lines.proofs.PieceCounts.{length-pieces_of-append, feeds_of_both}
+use Rattle.tlsf_lines.specs.Pieces.{pieces_of}
+use Rattle.tlsf_check.specs.declared.limit.Limit.TheVariants.{Bytes, Lines}
+use Rattle.tlsf_check.proofs.UnreadRuns.{named, passes_by}
+use Rattle.tlsf_check.proofs.reading.read_within.Goals as goal
+
+pub returns-then-len-piece-clause-passed : goal.returns-then-len-piece-clause-passed
+returns-then-len-piece-clause-passed g c =
+    let old = c.loop-text.text.items in
+    let piece = take c.in_ok-taken.taken c.read.new.buffer in
+    let given = Consumes-trans _ _ _ _ _ c.loop-text.invariant.consumed c.in_ok-taken.ensures.bytes.0 in
+    let many : 2 ^ 20 < length (old ++ piece) = omega (arith, length-append old piece, c.len.ensures, c.if-len-piece.true) in
+    λ limit is. named Bytes limit _ is (passes_by Bytes _ _ (old ++ piece) given many)
+
+pub returns-then-line_feeds-count_open_lines-gt-MOST_LINES-clause-passed :
+    goal.returns-then-line_feeds-count_open_lines-gt-MOST_LINES-clause-passed
+returns-then-line_feeds-count_open_lines-gt-MOST_LINES-clause-passed g c =
+    let old = c.loop-text.text.items in
+    let piece = take c.in_ok-taken.taken c.read.new.buffer in
+    let given = Consumes-trans _ _ _ _ _ c.loop-text.invariant.consumed c.in_ok-taken.ensures.bytes.0 in
+    let some : 0 < length piece = omega (arith, length-take c.in_ok-taken.taken c.read.new.buffer, c.in_ok-taken.ensures.bound, c.if-taken-eq0.false) in
+    let many : 32768 < length (pieces_of (old ++ piece)) = omega (
+      arith,
+      length-pieces_of-append old piece some,
+      c.count_line_feeds-line_feeds.ensures.count,
+      c.count_open_lines.ensures,
+      c.loop-text.invariant.feeds,
+      c.if-line_feeds-count_open_lines-gt-MOST_LINES.true,
+    ) in
+    λ limit is. named Lines limit _ is (passes_by Lines _ _ (old ++ piece) given many)
+
+pub loop-text-preserved : goal.loop-text-preserved
+loop-text-preserved g c =
+    let old = c.loop-text.text.items in
+    let piece = take c.in_ok-taken.taken c.read.new.buffer in
+    let added : c.extend_from_slice.new.self.items ≡ old ++ piece = grind (arith, common_steps) in
+    let given = Consumes-trans _ _ _ _ _ c.loop-text.invariant.consumed c.in_ok-taken.ensures.bytes.0 in
+    let some : 0 < length piece = omega (arith, length-take c.in_ok-taken.taken c.read.new.buffer, c.in_ok-taken.ensures.bound, c.if-taken-eq0.false) in
+    let pieces = length-pieces_of-append old piece some in
+    let joined = length-append old piece in
+    let feeds : c.count_line_feeds-line_feeds.result ≡ count_by (λ b. eqb b 10) piece = c.count_line_feeds-line_feeds.ensures.count in
+    let next = c.in_ok-taken.ensures.next in
+    record {
+      consumed = rw added given;
+      feeds = rw added (omega (arith, feeds_of_both old piece, c.loop-text.invariant.feeds, feeds));
+      limits = record {
+        bytes = rw added (omega (arith, joined, c.len.ensures, c.if-len-piece.false, c.loop-text.invariant.limits.bytes));
+        lines = rw added (omega (arith, pieces, feeds, c.count_open_lines.ensures, c.loop-text.invariant.feeds, c.if-line_feeds-count_open_lines-gt-MOST_LINES.false));
+      };
+      buffer = grind (arith, common_steps);
+      reads = rw added (omega (arith, joined, some, c.loop-text.invariant.reads, next.was_left, next.left));
+    }
