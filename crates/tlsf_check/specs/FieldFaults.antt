@@ -56,7 +56,7 @@ pub record HasFirstBadNumberAt (workers : ℕ) (fields : List (List ℕ)) (n : �
 abbrev pub IsFirstWrong : ℕ → List (List ℕ) → ℕ → Type 0
 IsFirstWrong workers fields n = MatchBool (is_shaped workers fields) (HasFirstBadNumberAt workers fields n) (GoAstrayAt (is_shaped workers) fields n)
 
--- where the fields are whole, the line feed alone is missing, behind the last; else the first wrong one comes before it
+-- the field of a line that lacks its line feed: where nothing else is wrong it is the last, and otherwise the first wrong one
 abbrev pub IsWrongOrLast : (List (List ℕ) → Bool) → (List (List ℕ) → ℕ → Type 0) → List (List ℕ) → ℕ → Type 0
 IsWrongOrLast is_whole IsWrong fields n = MatchBool (is_whole fields) (n ≡ length fields) (IsWrong fields n)
 

@@ -69,8 +69,8 @@ fn wrong_in_line(workers: u32, line: &[u8]) -> Option<usize>
     }
 }
 
-/// The field by which a line is faulty, where there are so many workers: the first wrong one, and where none is wrong the label. Of
-/// a line without its line feed that is the last one.
+/// The field by which a line is faulty, where there are so many workers: the first wrong one. Where none is wrong it is the label, and of
+/// a line without its line feed the last one.
 fn line_spot(workers: u32, piece: &[u8]) -> usize
     ensures { (before : List Line) (fault : LineFault) → judged_line workers before piece.now ≡ Err fault
         → IsFieldOf workers fault piece.now result }
@@ -118,12 +118,13 @@ fn wrong_in_header(line: &[u8]) -> Option<usize>
     }
 }
 
-/// The field by which a first line is no header: the first wrong one, and where none is wrong the last, which has no line feed
+/// The field by which a first line is no header: the first wrong one. Where none is wrong it is the last one, which has no line feed
 /// behind it.
 fn header_spot(piece: &[u8]) -> usize
     ensures { spelled.header_in piece.now ≡ None → (workers : ℕ) → IsFieldOf workers BadHeader piece.now result }
 {
     match cut_feed(piece) {
+        // One that ends with a line feed has a wrong field.
         Some(line) => wrong_in_header(line).unwrap_or(1),
         None => wrong_in_header(piece).unwrap_or(count_spaces(piece) + 1),
     }
@@ -157,7 +158,7 @@ pub fn piece_at(text: &[u8], line: u32) -> &[u8]
 /// ```
 /// // "tlsf 1 2 64 4\na 0 1 x\n" has fault 12 in line 2
 /// let field = field_of_fault(text, TraceFault { no: 12, line: 2 });
-/// // field is 4
+/// // field is 4; of "tlsf 1 2 64 4\na 2 1 8", whose last line has no line feed, it is 2
 /// ```
 pub fn field_of_fault(text: &[u8], fault: TraceFault) -> usize
     requires { fault_of text.now ≡ Some fault }

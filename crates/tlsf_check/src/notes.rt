@@ -92,7 +92,8 @@ fn push_field(note: &mut String, field: usize, words: &str) -> Result<(), AllocE
 }
 
 /// Explains the fault of a text in a field of its line, in three lines: the line as it stands, a mark under the byte, and in words which
-/// field it is, what was expected there and what was found.
+/// field it is, what was expected there and what was found. Where the line feed is missing too it says so. Behind a number with more in it
+/// than digits, as `8KiB`, a fourth line has the tip on numbers.
 ///
 /// A long line is cut on both sides of the mark. A tab is shown as `\t`, a carriage return as `\r`, and another byte that isn't printable
 /// as `\x07`, so nothing reaches a terminal but printable ASCII and line feeds.
