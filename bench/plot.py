@@ -1,6 +1,6 @@
 #!/usr/bin/env python3
 """usage: bench/plot.py peers < TABLE > PICTURE
-       bench/plot.py soak < LINES > PICTURE
+       bench/plot.py soak OF < LINES > PICTURE
 
 Draws what bench/peers.sh or bench/soak.sh printed as an SVG file, light or dark
 as the reader's screen is:
@@ -9,11 +9,13 @@ as the reader's screen is:
              instructions, both by powers of ten
     soak     over the minutes, the worst allocate, release and resize, in
              instructions, and the mean and the most fragmentation of a heap, in
-             thousandths, over lanes and over queues
+             thousandths, over lanes and over queues; OF says of what below each
+             title, as 'the heap of 9dd60e1, 2026-11-26, 60 minutes'
 
 The exit status is 0 where it is drawn, 1 where the input has none of it, and 2
 where the command line is refused.
 """
+import html
 import math
 import re
 import sys
@@ -47,10 +49,10 @@ class Axis:
 
 
 class Plot:
-    """One panel: a title, lines by name, and what its axes are called. Its place is the pixels above it."""
+    """One panel: a title and what it is of, lines by name, and what its axes are called. Its place is the pixels above it."""
 
-    def __init__(self, title, across, lines, above=0, by_powers=False, least=None):
-        self.title, self.across, self.lines, self.above, self.by_powers = title, across, lines, above, by_powers
+    def __init__(self, title, across, lines, above=0, by_powers=False, least=None, of=""):
+        self.title, self.across, self.lines, self.above, self.by_powers, self.of = title, across, lines, above, by_powers, of
         values = [y for points in lines.values() for _, y in points]
         places = [x for points in lines.values() for x, _ in points]
         if by_powers:
@@ -74,7 +76,9 @@ class Plot:
         return across, [it * step for it in range(int(self.bounds[1] / step) + 1)]
 
     def draw(self):
-        yield f'<text class="title" x="{LEFT}" y="{self.above + 24}">{self.title}</text>'
+        yield f'<text class="title" x="{LEFT}" y="{self.above + (20 if self.of else 24)}">{self.title}</text>'
+        if self.of:
+            yield f'<text x="{LEFT}" y="{self.above + 36}">{html.escape(self.of)}</text>'
         across, up = self.marks()
         low, high = self.y.at(self.bounds[0]), self.y.at(self.bounds[1])
         for it in up:
@@ -114,7 +118,7 @@ def peers(text):
     return [Plot(title, across, lines, by_powers=True)] if lines else []
 
 
-def soak(text):
+def soak(text, of):
     parts = [[list(map(float, line.split("\t"))) for line in part.split("\n") if line.count("\t") in (8, 11)] for part in text.split("\n\n")]
     lanes = next((part for part in parts if part and len(part[0]) == 12), [])
     queues = [part for part in parts if part and len(part[0]) == 9]
@@ -125,18 +129,18 @@ def soak(text):
     plots = []
     if lanes:
         calls = {name: line(lanes, column) for name, column in (("resize", 11), ("release", 10), ("allocate", 9))}
-        plots.append(Plot("The worst call of each minute, in instructions but those of memset and memcpy", "minutes", calls))
+        plots.append(Plot("The worst call of each minute, in instructions but those of memset and memcpy", "minutes", calls, of=of))
         both = {"the most": line(lanes, 7), "the mean": line(lanes, 6)}
-        plots.append(Plot("Fragmentation, in thousandths", "minutes", both, above=HEIGHT))
+        plots.append(Plot("Fragmentation, in thousandths", "minutes", both, above=HEIGHT, of=of))
     if queues:
         names = (("most", 7), ("mean", 6))
         each = {f"{name}, {level}": line(rows, column) for level, rows in zip((4, 5), queues) for name, column in names}
-        plots.append(Plot("Fragmentation over queues by level, in thousandths", "minutes", each, above=HEIGHT * len(plots)))
+        plots.append(Plot("Fragmentation over queues by level, in thousandths", "minutes", each, above=HEIGHT * len(plots), of=of))
     return plots
 
 
-def main(kind):
-    plots = kind(sys.stdin.read())
+def main(kind, of):
+    plots = kind(sys.stdin.read(), *of)
     if not plots:
         print("plot.py: there is nothing to draw", file=sys.stderr)
         return 1
@@ -150,9 +154,10 @@ def main(kind):
 
 
 if __name__ == "__main__":
-    kinds = {"peers": peers, "soak": soak}
-    if len(sys.argv) == 2 and sys.argv[1] in kinds:
-        sys.exit(main(kinds[sys.argv[1]]))
+    kinds = {"peers": (peers, 0), "soak": (soak, 1)}
+    kind, count = kinds.get(sys.argv[1] if sys.argv[1:] else "", (None, 0))
+    if kind and len(sys.argv) == 2 + count:
+        sys.exit(main(kind, sys.argv[2:]))
     asked = sys.argv[1:] in (["-h"], ["--help"])
     print(__doc__.strip(), file=sys.stdout if asked else sys.stderr)
     sys.exit(0 if asked else 2)

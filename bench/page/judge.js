@@ -24,10 +24,21 @@ const judgeBlock = (canvas, heap, block) => {
     want(!tip.hidden && tip.textContent === told(block), 'tip at place ' + block.place + ': ' + tip.textContent);
     if (wide < 6) return;
     const pixel = canvas.getContext('2d').getImageData(x * scale, y * scale, 1, 1).data;
-    const free = rgb('free'), page = rgb('page');
     if (block.live) want(near(pixel, rgb('head')), 'colour at place ' + block.place + ': ' + pixel);
-    else want(free.every((part, at) => pixel[at] >= Math.min(part, page[at]) - 6 && pixel[at] <= Math.max(part, page[at]) + 6), 'colour of a free block: ' + pixel);
+    else want(near(pixel, rgb('free')) && Math.abs(pixel[3] / 2.55 - shade(heap, block.numbers[1])) < 1, 'colour of a free block: ' + pixel);
 };
+
+// The report above a picture: no line of it wraps, and each fits into the window, so that no picture jumps as the moments go by.
+const heights = [];
+const judgeReport = (canvas, number) => {
+    const lines = [...canvas.parentNode.querySelectorAll('p')], height = canvas.offsetTop - canvas.parentNode.offsetTop;
+    want(lines.length > 0 && lines.every(line => line.offsetHeight < 24), 'report wraps: ' + lines.map(line => line.textContent).join(' / '));
+    want(lines.every(line => line.scrollWidth <= innerWidth - 16), 'report wider than the window');
+    heights[number] ??= height;
+    want(heights[number] === height, 'picture ' + number + ' jumps from ' + heights[number] + ' to ' + height + ' pixels');
+};
+// What is told of a block: of a free one its shade too.
+const toldOf = (heap, block) => told(block) + (block.live ? '' : ', ' + shade(heap, block.numbers[1]) + ' hundredths');
 const judgeMoment = (at, telling) => {
     want(moment === at && Number(slider.value) === at, 'moment ' + moment + ' for ' + at);
     want(element('moment').textContent.startsWith('Moment ' + (at + 1) + ' of ' + begins.length), 'text ' + element('moment').textContent);
@@ -39,8 +50,9 @@ const judgeMoment = (at, telling) => {
         want(heap.name.startsWith('heap ' + number + ':'), 'name ' + heap.name);
         const report = heap.report.match(/live (\d+) blocks?.*free (\d+) blocks?/), live = heap.blocks.filter(block => block.live).length;
         want(Number(report[1]) === live && Number(report[2]) === heap.blocks.length - live, 'blocks of ' + heap.report);
+        judgeReport(canvases[number], number);
         heap.blocks.slice(0, 200).forEach(block => judgeBlock(canvases[number], heap, block));
-        if (telling) heap.blocks.forEach(block => found.push(told(block)));
+        if (telling) heap.blocks.forEach(block => found.push(toldOf(heap, block)));
     });
 };
 const telling = new URLSearchParams(location.search).has('told');

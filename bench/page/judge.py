@@ -36,6 +36,7 @@ TRACES = [
     ("header_alone", "tlsf 1 1 64 1\n", True),
     ("one_line", "tlsf 1 1 64 1\na 0 7 8\n", True),
     ("labels", case("map_labels"), True),
+    ("free_by_age", case("map_free_by_age"), True),
     ("fragmented", case("plot_fragmented"), True),
     ("level_5", case("version_2_map_text"), True),
     ("eight_heaps", limits(1024, 8, 24, 400), True),
@@ -64,8 +65,10 @@ def pictures(page, name):
 
 
 def titles(text, line):
+    """What `tlsf map --at` tells of each block, and how dark a free one is."""
     drawn = run([program, "map", "--at", str(line)], text)
-    return re.findall(r"<title>(.*?)</title>", drawn)
+    found = re.findall(r"<g class='(?:live|free(?: largest)?' fill-opacity='\.(\d+))'><title>(.*?)</title>", drawn)
+    return [f"{title}, {shade} hundredths" if shade else title for shade, title in found]
 
 
 def wrong_in(text, told):

@@ -66,16 +66,23 @@ inline Points curve_of(const Points& points, size_t span) {
     return curve;
 }
 
-// Where to look: of the lines behind which the longest request finds no room the first with the most free words.
-inline std::string look_text(const Points& points, uint64_t longest) {
+// Where to look: of the lines after which the longest request finds no room the first with the most free words; or, where there is none, of
+// those with the most live words the first with the most fragmentation.
+inline std::string look_text(const Points& points, const std::string& longest, uint64_t len) {
     std::optional<size_t> worst;
+    size_t fullest = 0;
     for (size_t i = 0; i < points.size(); i++) {
-        const bool lacks = points[i].free == 0 || points[i].grant < longest;
-        if (lacks && (!worst || points[i].free > points[*worst].free)) worst = i;
+        const Point &one = points[i], &full = points[fullest];
+        const bool lacks = one.free == 0 || one.grant < len;
+        if (lacks && (!worst || one.free > points[*worst].free)) worst = i;
+        if (std::make_pair(one.live, one.fragmentation) > std::make_pair(full.live, full.fragmentation)) fullest = i;
     }
-    const std::string bytes = "the longest request, of " + std::to_string(longest) + " bytes";
-    if (!worst) return bytes + ", finds room behind each line\n";
-    return "most words free without room for " + bytes + ":\n  tlsf map --at " + std::to_string(*worst + 1) + "\n";
+    const std::string line = std::to_string(worst.value_or(fullest) + 1);
+    if (worst)
+        return "worst moment, after line " + line + ": " + std::to_string(points[*worst].free) + " words free, no room for " + longest + "\n  tlsf map --at " + line + "\n";
+    const Point& full = points[fullest];
+    return "fullest moment, after line " + line + ": " + std::to_string(full.live) + " words live, fragmentation " + std::to_string(full.fragmentation) + "/1000\n  always room for "
+        + longest + ": tlsf map --at " + line + "\n";
 }
 
 inline std::string heap_plot(uint64_t heap, uint64_t words, const Points& points, uint64_t longest) {
@@ -83,7 +90,8 @@ inline std::string heap_plot(uint64_t heap, uint64_t words, const Points& points
     const Points curve = curve_of(points, span);
     uint64_t top = 1;
     for (const Point& point : curve) top = std::max({top, point.live, point.asked});
-    std::string text = "\nheap " + std::to_string(heap) + ": " + std::to_string(words) + " words; lines a column: " + std::to_string(span) + "\n" + look_text(points, longest);
+    const std::string bytes = std::to_string(longest) + (longest == 1 ? " byte" : " bytes");
+    std::string text = "\nheap " + std::to_string(heap) + ": " + std::to_string(words) + " words, longest request " + bytes + "; lines a column: " + std::to_string(span) + "\n" + look_text(points, bytes, longest);
     const auto row = [&](const char* title, uint64_t full, uint64_t Point::* number) {
         static const char* const bars[] = {" ", "▁", "▂", "▃", "▄", "▅", "▆", "▇", "█"};
         text += title;

@@ -138,11 +138,11 @@ Standard output is an SVG file, for a browser: each heap as rows of words, read
 as a text is. A block is a rectangle in each row that it touches, as wide as its
 words there. A live block shows its header and what its payload leaves empty,
 and where there is room its label and its bytes. The green of a free block is
-the stronger, the longer it is free, and the largest ones are framed. Above each
-heap stand the numbers of its report, and each block tells its own where the
-pointer rests on it. Neighbours under 4 pixels wide are drawn as one, in a
-violet that is the stronger, the more of their words are live, and the heap says
-how many there are.
+the stronger, the longer it is free: the newest is the faintest, the oldest the
+strongest. The largest ones are framed. Above each heap stand the numbers of its
+report, and each block tells its own where the pointer rests on it. Neighbours
+under 4 pixels wide are drawn as one, in a violet that is the stronger, the more
+of their words are live, and the heap says how many there are.
 
   tlsf map < two_workers.trace > heaps.svg
 
@@ -153,16 +153,19 @@ so many words, 1 where a heap has at most 1024:
   [ and a label   a live block        (   a free block
   #   its header                      *   one of the largest free blocks
   =   its payload                     .   words freed lately
-  -   words that it leaves empty      :   words free for longer than half as
-                                          long as the oldest
+  -   words that it leaves empty      :   words at least as near in age to the
+                                          oldest free block as to the newest
 
-With '--at K' the heaps are drawn as they stand behind line K of the trace, its
+With '--at K' the heaps are drawn as they stand after line K of the trace, its
 header being line 1, and before the drains at its end. Where it has less than K
-lines they are drawn as it leaves them. With --worst K is the line to look at,
-which 'tlsf plot' names; of several that with the most free words, and where it
-names none, the end. With --html, which goes before --text, --at and --worst, it
-is a page for a browser that shows the heaps behind each line, or at 200 such
-moments: the slider or the arrow keys choose one.
+lines they are drawn as it leaves them. With --worst K is a line that 'tlsf
+plot' names. If the longest request of a worker ever finds no room, it is the
+line with the most free words without that room. Otherwise it is the line with
+the most live words; of several, the one with the most fragmentation.
+
+With --html, which goes before --text, --at and --worst, it is a page for a
+browser that shows the heaps after each line, or at 200 such moments: the slider
+or the arrow keys choose one.
 
   tlsf map --html < two_workers.trace > heaps.html
 
@@ -178,16 +181,18 @@ with the drains there, and no reply is written.
 Standard output is an SVG file, for a browser: for each heap, over the lines of
 the trace, the words that are live and those that each line asks for; the free
 words and those of the largest free block; the fragmentation; and where a call
-of its worker was refused. A point is the report on the heap behind a line.
+of its worker was refused. A point is the report on the heap after a line.
 Where there are more than 2000 lines, several are drawn as one point, which
 shows the worst of each number: the most live words, the fewest free ones, the
 smallest of the largest free blocks, the most fragmentation.
 
   tlsf plot < two_workers.trace > heaps.svg
 
-Above each heap stands the line to look at by 'tlsf map --at K': of all lines
-behind which the longest request of its worker would find no room, the first
-behind which the most words are free. A line behind the last is the end.
+Above each heap stands the line to look at by 'tlsf map --at K'. Of the lines
+after which the longest request of its worker would find no room, it is the
+first with the most free words, the worst moment. Where that request finds room
+after each line, it is the fullest moment: of the lines with the most live
+words, the first with the most fragmentation. A line after the last is the end.
 
 With --text it is rows of 56 columns for a terminal of 80 columns, with bars of
 block characters (UTF-8), and '!' where a call was refused.

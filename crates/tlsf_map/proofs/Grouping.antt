@@ -7,17 +7,17 @@ use Rattle.std.proofs.lemmas.List.Folds.{list_all-append}
 use Rattle.std.proofs.lemmas.List.Sums.{sum_by_push}
 use Rattle.tlsf_map.specs.Grids.{IsGrid}
 use Rattle.tlsf_map.specs.Groups.{AreApart, CannotJoin, IsAloneOrNarrow, IsGroup, below_group, blocks_in, group_text, groups_from, groups_of, groups_text, is_narrow, joined_in, joined_of, joins, live_size, words_of_all}
+use Rattle.tlsf_map.specs.declared.free_blocks.FreeBlocks.{FreeBlocks}
 use Rattle.tlsf_map.specs.declared.grid.Grid.{Grid}
 use Rattle.tlsf_map.specs.declared.group.Group.{Group}
 use Rattle.tlsf_map.specs.declared.mapped_heap.LabelledBlock.{LabelledBlock}
-use Rattle.tlsf_map.specs.declared.mapped_heap.MappedHeap.{MappedHeap}
 
 -- all groups before this one are written and counted, and the blocks of this one end before the block of this number
-pub record HasWritten (grid here : Grid) (heap : MappedHeap) (blocks : List LabelledBlock) (begun text : List ℕ) (index : ℕ) (group : Group) (joined : ℕ) : Type 0 where
+pub record HasWritten (grid here : Grid) (free : FreeBlocks) (blocks : List LabelledBlock) (begun text : List ℕ) (index : ℕ) (group : Group) (joined : ℕ) : Type 0 where
   pub before : List LabelledBlock
   pub is : IsGroup grid before group
   pub sane : IsGrid here
-  pub so_far : text ++ groups_text here heap (groups_from grid before (drop index blocks)) ≡ begun ++ groups_text grid heap (groups_of grid blocks)
+  pub so_far : text ++ groups_text here free (groups_from grid before (drop index blocks)) ≡ begun ++ groups_text grid free (groups_of grid blocks)
   pub counted : joined + joined_of (groups_from grid before (drop index blocks)) ≡ joined_of (groups_of grid blocks)
   pub few : joined + group.count ≤ index
 
@@ -26,7 +26,7 @@ both true true c is = (refl, refl)
 both true false c is = absurd (true≢false (sym is))
 both false b c is = absurd (true≢false (sym is))
 
-module _ (grid here : Grid) (heap : MappedHeap) (blocks : List LabelledBlock) (begun text : List ℕ) (index : ℕ) (group : Group) (joined : ℕ) (w : HasWritten grid here heap blocks begun text index group joined) where
+module _ (grid here : Grid) (free : FreeBlocks) (blocks : List LabelledBlock) (begun text : List ℕ) (index : ℕ) (group : Group) (joined : ℕ) (w : HasWritten grid here free blocks begun text index group joined) where
   -- whether the next block joins, by the numbers of the group
   pub joins_by : (next : LabelledBlock) → (group.narrow && is_narrow grid next && nat_lt (group.words * 64) grid.row) ≡ joins grid w.before next
   joins_by next = rw (w.is.narrow, w.is.words) refl
@@ -56,22 +56,22 @@ module _ (grid here : Grid) (heap : MappedHeap) (blocks : List LabelledBlock) (b
       }
 
   pub written_joined : (d next : LabelledBlock) (new : Group) → index < length blocks → get_or blocks index d ≡ next → joins grid w.before next ≡ true
-      → IsGroup grid (w.before ++ next ∷ []) new → new.count ≡ group.count + 1 → HasWritten grid here heap blocks begun text (index + 1) new joined
+      → IsGroup grid (w.before ++ next ∷ []) new → new.count ≡ group.count + 1 → HasWritten grid here free blocks begun text (index + 1) new joined
   written_joined d next new lt found does is more =
       let on = at_next d next lt found ∙ ap (λ (b : Bool). cond b (groups_from grid (w.before ++ next ∷ []) (drop (index + 1) blocks)) (w.before ∷ groups_from grid (next ∷ []) (drop (index + 1) blocks))) does in
       record {
         before = w.before ++ next ∷ [];
         is = is;
         sane = w.sane;
-        so_far = ap (λ (gs : List (List LabelledBlock)). text ++ groups_text here heap gs) (sym on) ∙ w.so_far;
+        so_far = ap (λ (gs : List (List LabelledBlock)). text ++ groups_text here free gs) (sym on) ∙ w.so_far;
         counted = ap (λ (gs : List (List LabelledBlock)). joined + joined_of gs) (sym on) ∙ w.counted;
         few = omega (arith, more, w.few);
       }
 
   -- with the group written, and a new one begun
   pub written_apart : (d next : LabelledBlock) (new : Group) (further : Grid) (longer : List ℕ) (more : ℕ) → index < length blocks → get_or blocks index d ≡ next → joins grid w.before next ≡ false
-      → IsGroup grid (next ∷ []) new → IsGrid further → further ≡ below_group here w.before → longer ≡ text ++ group_text here heap w.before → more ≡ joined_in w.before → more ≤ group.count
-      → HasWritten grid further heap blocks begun longer (index + 1) new (joined + more)
+      → IsGroup grid (next ∷ []) new → IsGrid further → further ≡ below_group here w.before → longer ≡ text ++ group_text here free w.before → more ≡ joined_in w.before → more ≤ group.count
+      → HasWritten grid further free blocks begun longer (index + 1) new (joined + more)
   written_apart d next new further longer more lt found does is sane goes writes counts least =
       let on = at_next d next lt found ∙ ap (λ (b : Bool). cond b (groups_from grid (w.before ++ next ∷ []) (drop (index + 1) blocks)) (w.before ∷ groups_from grid (next ∷ []) (drop (index + 1) blocks))) does in
       let left = groups_from grid (next ∷ []) (drop (index + 1) blocks) in
@@ -80,19 +80,19 @@ module _ (grid here : Grid) (heap : MappedHeap) (blocks : List LabelledBlock) (b
         before = next ∷ [];
         is = is;
         sane = sane;
-        so_far = ap (λ (t : List ℕ). t ++ groups_text further heap left) writes
-            ∙ (append_assoc text (group_text here heap w.before) _
-            ∙ (ap (λ (g : Grid). text ++ (group_text here heap w.before ++ groups_text g heap left)) goes
-            ∙ (ap (λ (gs : List (List LabelledBlock)). text ++ groups_text here heap gs) (sym on) ∙ w.so_far)));
+        so_far = ap (λ (t : List ℕ). t ++ groups_text further free left) writes
+            ∙ (append_assoc text (group_text here free w.before) _
+            ∙ (ap (λ (g : Grid). text ++ (group_text here free w.before ++ groups_text g free left)) goes
+            ∙ (ap (λ (gs : List (List LabelledBlock)). text ++ groups_text here free gs) (sym on) ∙ w.so_far)));
         counted = both_counts ∙ (ap (λ (gs : List (List LabelledBlock)). joined + joined_of gs) (sym on) ∙ w.counted);
         few = omega (arith, is.count, least, w.few);
       }
 
   -- behind the last block the last group is written
-  pub written_all : (longer : List ℕ) → length blocks ≤ index → longer ≡ text ++ group_text here heap w.before → longer ≡ begun ++ groups_text grid heap (groups_of grid blocks)
+  pub written_all : (longer : List ℕ) → length blocks ≤ index → longer ≡ text ++ group_text here free w.before → longer ≡ begun ++ groups_text grid free (groups_of grid blocks)
   written_all longer all writes =
-      writes ∙ (ap (λ (t : List ℕ). text ++ t) (sym (append-nil (group_text here heap w.before)))
-      ∙ (sym (at_drop_all (λ (l : List LabelledBlock). text ++ groups_text here heap (groups_from grid w.before l)) blocks index all) ∙ w.so_far))
+      writes ∙ (ap (λ (t : List ℕ). text ++ t) (sym (append-nil (group_text here free w.before)))
+      ∙ (sym (at_drop_all (λ (l : List LabelledBlock). text ++ groups_text here free (groups_from grid w.before l)) blocks index all) ∙ w.so_far))
 
   pub counted_all : (more : ℕ) → length blocks ≤ index → more ≡ joined_in w.before → joined + more ≡ joined_of (groups_of grid blocks)
   counted_all more all counts =

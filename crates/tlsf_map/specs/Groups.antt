@@ -6,10 +6,10 @@ use Rattle.tlsf_heap.specs.declared.placed_block.Content.{Content}
 use Rattle.tlsf_heap.specs.declared.placed_block.Content.TheVariants.{Free, Live}
 use Rattle.tlsf_map.specs.Grids.{below_block}
 use Rattle.tlsf_map.specs.Svg.{block_text, spread_text}
+use Rattle.tlsf_map.specs.declared.free_blocks.FreeBlocks.{FreeBlocks}
 use Rattle.tlsf_map.specs.declared.grid.Grid.{Grid}
 use Rattle.tlsf_map.specs.declared.group.Group.{Group}
 use Rattle.tlsf_map.specs.declared.mapped_heap.LabelledBlock.{LabelledBlock}
-use Rattle.tlsf_map.specs.declared.mapped_heap.MappedHeap.{MappedHeap}
 
 -- whether a block is less than 4 of the 1,024 pixels of a row wide
 abbrev pub is_narrow : Grid → LabelledBlock → Bool
@@ -94,10 +94,10 @@ unfoldable pub joined_text : Grid → ℕ → ℕ → ℕ → ℕ → List ℕ
 joined_text grid count at words live = joined_title count at words live ++ spread_text grid true at words ++ codes "</g>\n"
 
 -- a group: its block where it has one, and else all as one, from the place of the first on
-abbrev pub group_text : Grid → MappedHeap → List LabelledBlock → List ℕ
-group_text grid heap [] = []
-group_text grid heap (drawn ∷ []) = block_text grid heap drawn
-group_text grid heap (drawn ∷ next ∷ others) =
+abbrev pub group_text : Grid → FreeBlocks → List LabelledBlock → List ℕ
+group_text grid free [] = []
+group_text grid free (drawn ∷ []) = block_text grid free drawn
+group_text grid free (drawn ∷ next ∷ others) =
     joined_text grid (length (drawn ∷ next ∷ others)) drawn.block.at (words_of_all (drawn ∷ next ∷ others)) (words_of_live (drawn ∷ next ∷ others))
 
 -- the grid below a group: narrow blocks alone have no row of their own
@@ -107,9 +107,9 @@ below_group grid (drawn ∷ []) = below_block grid drawn
 below_group grid (drawn ∷ next ∷ others) = grid
 
 -- groups, in their order
-abbrev pub groups_text : Grid → MappedHeap → List (List LabelledBlock) → List ℕ
-groups_text grid heap [] = []
-groups_text grid heap (group ∷ groups) = group_text grid heap group ++ groups_text (below_group grid group) heap groups
+abbrev pub groups_text : Grid → FreeBlocks → List (List LabelledBlock) → List ℕ
+groups_text grid free [] = []
+groups_text grid free (group ∷ groups) = group_text grid free group ++ groups_text (below_group grid group) free groups
 
 -- the legend's line on so many blocks that are drawn as one with others, where there are any
 unfoldable pub note_line : ℕ → List ℕ

@@ -73,7 +73,7 @@ moments_data words (moment ∷ moments) = moment_data words moment ++ moments_da
 
 -- the colours
 unfoldable pub style_part : List ℕ
-style_part = codes "<!doctype html>\n<html lang='en'><head><meta charset='utf-8'><meta name='viewport' content='width=device-width'><title>tlsf: heaps over time</title>\n<style>:root{color-scheme:light dark;--page:#fff;--ink:#1f2328;--live:#4f83cc;--head:#2b4f86;--slack:#e3a04f;--free:#2e9e6b;--largest:#b4232a;--on-live:#fff}@media(prefers-color-scheme:dark){:root{--page:#0d1117;--ink:#e6edf3;--live:#3f6fb5;--head:#1d3c6b;--slack:#b97a2e;--largest:#ff7b72;--on-live:#e6edf3}}body{margin:16px;background:var(--page);color:var(--ink);font:13px ui-monospace,Menlo,Consolas,monospace}nav{position:sticky;top:0;padding:8px 0;background:var(--page);z-index:1}#slider{width:1088px;max-width:100%}h2{font-size:13px;margin:16px 0 4px}p{margin:4px 0}canvas{display:block;width:1088px}b{display:inline-block;width:16px;height:12px;margin:0 6px 0 16px;vertical-align:-1px}#tip{position:fixed;left:0;top:0;padding:4px 8px;background:var(--ink);color:var(--page);pointer-events:none;z-index:2}</style></head>\n"
+style_part = codes "<!doctype html>\n<html lang='en'><head><meta charset='utf-8'><meta name='viewport' content='width=device-width'><title>tlsf: heaps over time</title>\n<style>:root{color-scheme:light dark;--page:#fff;--ink:#1f2328;--live:#4f83cc;--head:#2b4f86;--slack:#e3a04f;--free:#2e9e6b;--largest:#b4232a;--on-live:#fff}@media(prefers-color-scheme:dark){:root{--page:#0d1117;--ink:#e6edf3;--live:#3f6fb5;--head:#1d3c6b;--slack:#b97a2e;--largest:#ff7b72;--on-live:#e6edf3}}body{margin:16px;background:var(--page);color:var(--ink);font:13px ui-monospace,Menlo,Consolas,monospace}nav{position:sticky;top:0;padding:8px 0;background:var(--page);z-index:1}#slider{width:1088px;max-width:100%}h2{font-size:13px;margin:16px 0 4px}p{margin:4px 0}section p{white-space:pre}canvas{display:block;width:1088px}b{display:inline-block;width:16px;height:12px;margin:0 6px 0 16px;vertical-align:-1px}#tip{position:fixed;left:0;top:0;padding:4px 8px;background:var(--ink);color:var(--page);pointer-events:none;z-index:2}</style></head>\n"
 
 -- the slider, what each colour is, and where the heaps are drawn
 unfoldable pub slider_part : List ℕ
@@ -81,15 +81,15 @@ slider_part = codes "<body><nav><input id='slider' type='range' min='0' value='0
 
 -- the script: it reads the data
 unfoldable pub reading_part : List ℕ
-reading_part = codes "</script><script>'use strict';\nconst element=id=>document.getElementById(id),lines=element('moments').textContent.split(String.fromCharCode(10)),begins=lines.flatMap((line,at)=>line.startsWith('line ')?[at]:[]),last=begins.length-1;\nconst most=numbers=>numbers.reduce((one,other)=>Math.max(one,other),0),lineOf=moment=>Number(lines[begins[moment]].slice(5));\nconst blocksIn=text=>{let place=0;return text.split(';').slice(0,-1).map(item=>{const numbers=item.slice(1).split(',').map(Number),block={live:item[0]=='l',place,size:numbers[0],numbers};place+=block.size;return block})};\nconst heapsIn=moment=>{const heaps=[];for(let at=begins[moment]+1;at+2<lines.length&&!lines[at].startsWith('line ');at+=3){const blocks=blocksIn(lines[at+2]),free=blocks.filter(block=>!block.live),tick=Number(lines[at].split('tick ')[1]);heaps.push({name:lines[at],report:lines[at+1],blocks,words:blocks.reduce((sum,block)=>sum+block.size,0),tick,largest:most(free.map(block=>block.size)),oldest:most(free.map(block=>tick-block.numbers[1]))})}return heaps};\nconst used=block=>Math.min(block.size,3+Math.ceil(block.numbers[1]/8)),bytes=count=>count+(count==1?' byte':' bytes');\nconst caption=block=>block.live?[block.numbers.length>3?'label '+block.numbers[3]:'live',bytes(block.numbers[1])]:['free',block.size+' words'];\nconst told=block=>block.live?caption(block)[0]+', place '+block.place+', '+block.size+' words, '+bytes(block.numbers[1])+', serial '+block.numbers[2]:'free since tick '+block.numbers[1]+', place '+block.place+', '+block.size+' words';\n"
+reading_part = codes "</script><script>'use strict';\nconst element=id=>document.getElementById(id),lines=element('moments').textContent.split(String.fromCharCode(10)),begins=lines.flatMap((line,at)=>line.startsWith('line ')?[at]:[]),last=begins.length-1;\nconst most=numbers=>numbers.reduce((one,other)=>Math.max(one,other),0),least=numbers=>numbers.reduce((one,other)=>Math.min(one,other),Infinity),lineOf=moment=>Number(lines[begins[moment]].slice(5));\nconst blocksIn=text=>{let place=0;return text.split(';').slice(0,-1).map(item=>{const numbers=item.slice(1).split(',').map(Number),block={live:item[0]=='l',place,size:numbers[0],numbers};place+=block.size;return block})};\nconst heapsIn=moment=>{const heaps=[];for(let at=begins[moment]+1;at+2<lines.length&&!lines[at].startsWith('line ');at+=3){const blocks=blocksIn(lines[at+2]),free=blocks.filter(block=>!block.live),stamps=free.map(block=>block.numbers[1]);heaps.push({name:lines[at],report:lines[at+1],blocks,words:blocks.reduce((sum,block)=>sum+block.size,0),largest:most(free.map(block=>block.size)),oldest:least(stamps),newest:most(stamps)})}return heaps};\nconst shade=(heap,stamp)=>heap.newest<=heap.oldest?85:15+Math.floor(70*(heap.newest-stamp)/(heap.newest-heap.oldest));\nconst used=block=>Math.min(block.size,3+Math.ceil(block.numbers[1]/8)),bytes=count=>count+(count==1?' byte':' bytes');\nconst caption=block=>block.live?[block.numbers.length>3?'label '+block.numbers[3]:'live',bytes(block.numbers[1])]:['free',block.size+' words'];\nconst told=block=>block.live?caption(block)[0]+', place '+block.place+', '+block.size+' words, '+bytes(block.numbers[1])+', serial '+block.numbers[2]:'free since tick '+block.numbers[1]+', place '+block.place+', '+block.size+' words';\n"
 
 -- it draws a heap
 unfoldable pub drawing_part : List ℕ
-drawing_part = codes "const grid=words=>{let row=64;while(words/row>64)row*=2;const rows=Math.ceil(words/row),high=rows>24?14:36;return{row,rows,high,pitch:high+4}};\nconst draw=(canvas,heap)=>{const {row,rows,high,pitch}=grid(heap.words),scale=devicePixelRatio||1,wide=1024/row,colors=getComputedStyle(document.documentElement),color=name=>colors.getPropertyValue('--'+name),ink=canvas.getContext('2d');canvas.width=1088*scale;canvas.height=rows*pitch*scale;ink.scale(scale,scale);ink.translate(64,0);\nconst spread=(place,words,paint)=>{for(let left=words,at=place;left>0;){const here=Math.min(left,row-at%row);paint(at%row*wide,Math.floor(at/row)*pitch,here*wide,here==left);at+=here;left-=here}};\nconst fill=(place,words,name,alpha)=>{ink.fillStyle=color(name);ink.globalAlpha=alpha;spread(place,words,(x,y,width)=>ink.fillRect(x,y,width,high));ink.globalAlpha=1};\nconst frame=(block,name,width)=>{ink.strokeStyle=color(name);ink.lineWidth=width;spread(block.place,block.size,(x,y,across)=>ink.strokeRect(x+width/2,y+width/2,Math.max(0,across-width),high-width))};\nink.font='10px ui-monospace,Menlo,Consolas,monospace';ink.textAlign='right';ink.fillStyle=color('ink');for(let at=0;at<rows;at++)ink.fillText(at*row,-8,at*pitch+high/2+4);ink.textAlign='left';ink.font='11px ui-monospace,Menlo,Consolas,monospace';\nfor(const block of heap.blocks){if(block.live){fill(block.place,block.size,'live',1);fill(block.place,3,'head',1);fill(block.place+used(block),block.size-used(block),'slack',1)}else fill(block.place,block.size,'free',(15+Math.min((heap.tick-block.numbers[1])/(heap.oldest/70+1),70))/100);\nconst width=Math.min(block.size,row-block.place%row)*wide;if(block.size*wide>=4)frame(block,'page',1);if(width>=80&&high>24){const x=block.place%row*wide+4,y=Math.floor(block.place/row)*pitch;ink.fillStyle=color(block.live?'on-live':'ink');caption(block).forEach((text,line)=>ink.fillText(text,x,y+14+14*line))}}\nfor(const block of heap.blocks)if(!block.live&&block.size==heap.largest)frame(block,'largest',2)};\n"
+drawing_part = codes "const grid=words=>{let row=64;while(words/row>64)row*=2;const rows=Math.ceil(words/row),high=rows>24?14:36;return{row,rows,high,pitch:high+4}};\nconst draw=(canvas,heap)=>{const {row,rows,high,pitch}=grid(heap.words),scale=devicePixelRatio||1,wide=1024/row,colors=getComputedStyle(document.documentElement),color=name=>colors.getPropertyValue('--'+name),ink=canvas.getContext('2d');canvas.width=1088*scale;canvas.height=rows*pitch*scale;ink.scale(scale,scale);ink.translate(64,0);\nconst spread=(place,words,paint)=>{for(let left=words,at=place;left>0;){const here=Math.min(left,row-at%row);paint(at%row*wide,Math.floor(at/row)*pitch,here*wide,here==left);at+=here;left-=here}};\nconst fill=(place,words,name,alpha)=>{ink.fillStyle=color(name);ink.globalAlpha=alpha;spread(place,words,(x,y,width)=>ink.fillRect(x,y,width,high));ink.globalAlpha=1};\nconst frame=(block,name,width)=>{ink.strokeStyle=color(name);ink.lineWidth=width;spread(block.place,block.size,(x,y,across)=>ink.strokeRect(x+width/2,y+width/2,Math.max(0,across-width),high-width))};\nink.font='10px ui-monospace,Menlo,Consolas,monospace';ink.textAlign='right';ink.fillStyle=color('ink');for(let at=0;at<rows;at++)ink.fillText(at*row,-8,at*pitch+high/2+4);ink.textAlign='left';ink.font='11px ui-monospace,Menlo,Consolas,monospace';\nfor(const block of heap.blocks){if(block.live){fill(block.place,block.size,'live',1);fill(block.place,3,'head',1);fill(block.place+used(block),block.size-used(block),'slack',1)}else fill(block.place,block.size,'free',shade(heap,block.numbers[1])/100);\nconst width=Math.min(block.size,row-block.place%row)*wide;if(block.size*wide>=4)frame(block,'page',1);if(width>=80&&high>24){const x=block.place%row*wide+4,y=Math.floor(block.place/row)*pitch;ink.fillStyle=color(block.live?'on-live':'ink');caption(block).forEach((text,line)=>ink.fillText(text,x,y+14+14*line))}}\nfor(const block of heap.blocks)if(!block.live&&block.size==heap.largest)frame(block,'largest',2)};\n"
 
 -- and it shows the moment that is chosen, and the block under the pointer
 unfoldable pub showing_part : List ℕ
-showing_part = codes "const slider=element('slider'),tip=element('tip');let moment=0,heaps=[];\nconst atPointer=(event,canvas,heap)=>{const {row,high,pitch}=grid(heap.words),box=canvas.getBoundingClientRect(),across=event.clientX-box.left-64,down=event.clientY-box.top;if(across<0||across>=1024||down%pitch>=high)return;const place=Math.floor(down/pitch)*row+Math.floor(across*row/1024);return heap.blocks.find(block=>block.place<=place&&place<block.place+block.size)};\nconst point=(event,canvas,heap)=>{const block=atPointer(event,canvas,heap);tip.hidden=!block;if(block){tip.textContent=told(block);tip.style.transform='translate('+Math.max(0,Math.min(event.clientX+12,innerWidth-tip.offsetWidth-8))+'px,'+(event.clientY+16)+'px)'}};\nconst redraw=()=>document.querySelectorAll('canvas').forEach((canvas,at)=>draw(canvas,heaps[at]));\nconst section=heap=>{const part=document.createElement('section');[['h2',heap.name],['p',heap.report],['canvas','']].forEach(([kind,text])=>{const child=document.createElement(kind);child.textContent=text;part.append(child)});const canvas=part.lastChild;canvas.setAttribute('role','img');canvas.setAttribute('aria-label',heap.blocks.length+' blocks');canvas.onpointermove=canvas.onpointerdown=event=>point(event,canvas,heap);canvas.onpointerleave=()=>{tip.hidden=true};return part};\nconst show=wanted=>{moment=Math.max(0,Math.min(last,wanted));slider.value=moment;heaps=heapsIn(moment);tip.hidden=true;element('moment').textContent='Moment '+(moment+1)+' of '+(last+1)+(moment==last?', at the end':', behind line '+lineOf(moment)+' of '+(lineOf(last)-1));element('heaps').replaceChildren(...heaps.map(section));redraw()};\nconst steps={ArrowLeft:-1,ArrowRight:1,Home:-Infinity,End:Infinity};\nslider.max=last;slider.oninput=()=>show(Number(slider.value));addEventListener('keydown',event=>{const step=steps[event.key];if(step&&!event.altKey&&!event.ctrlKey&&!event.metaKey){event.preventDefault();show(moment+(event.shiftKey?10:1)*step)}});\nmatchMedia('(prefers-color-scheme: dark)').addEventListener('change',redraw);addEventListener('resize',redraw);\nconst opened=()=>{const line=Number(location.hash.slice(1));show(line>0?begins.findLastIndex((begin,at)=>lineOf(at)<=line):0)};\naddEventListener('hashchange',opened);opened();</script></body></html>\n"
+showing_part = codes "const slider=element('slider'),tip=element('tip');let moment=0,heaps=[];\nconst atPointer=(event,canvas,heap)=>{const {row,high,pitch}=grid(heap.words),box=canvas.getBoundingClientRect(),across=event.clientX-box.left-64,down=event.clientY-box.top;if(across<0||across>=1024||down%pitch>=high)return;const place=Math.floor(down/pitch)*row+Math.floor(across*row/1024);return heap.blocks.find(block=>block.place<=place&&place<block.place+block.size)};\nconst point=(event,canvas,heap)=>{const block=atPointer(event,canvas,heap);tip.hidden=!block;if(block){tip.textContent=told(block);tip.style.transform='translate('+Math.max(0,Math.min(event.clientX+12,innerWidth-tip.offsetWidth-8))+'px,'+(event.clientY+16)+'px)'}};\nconst redraw=()=>document.querySelectorAll('canvas').forEach((canvas,at)=>draw(canvas,heaps[at]));\nconst section=heap=>{const part=document.createElement('section');[['h2',heap.name],...heap.report.split(/; (?=free )/).map(part=>['p',part]),['canvas','']].forEach(([kind,text])=>{const child=document.createElement(kind);child.textContent=text;part.append(child)});const canvas=part.lastChild;canvas.setAttribute('role','img');canvas.setAttribute('aria-label',heap.blocks.length+' blocks');canvas.onpointermove=canvas.onpointerdown=event=>point(event,canvas,heap);canvas.onpointerleave=()=>{tip.hidden=true};return part};\nconst show=wanted=>{moment=Math.max(0,Math.min(last,wanted));slider.value=moment;heaps=heapsIn(moment);tip.hidden=true;element('moment').textContent='Moment '+(moment+1)+' of '+(last+1)+(moment==last?', at the end':', after line '+lineOf(moment)+' of '+(lineOf(last)-1));element('heaps').replaceChildren(...heaps.map(section));redraw()};\nconst steps={ArrowLeft:-1,ArrowRight:1,Home:-Infinity,End:Infinity};\nslider.max=last;slider.oninput=()=>show(Number(slider.value));addEventListener('keydown',event=>{const step=steps[event.key];if(step&&!event.altKey&&!event.ctrlKey&&!event.metaKey){event.preventDefault();show(moment+(event.shiftKey?10:1)*step)}});\nmatchMedia('(prefers-color-scheme: dark)').addEventListener('change',redraw);addEventListener('resize',redraw);\nconst opened=()=>{const line=Number(location.hash.slice(1));show(line>0?begins.findLastIndex((begin,at)=>lineOf(at)<=line):0)};\naddEventListener('hashchange',opened);opened();</script></body></html>\n"
 
 unfoldable pub page_head : List ℕ
 page_head = style_part ++ slider_part

@@ -1,6 +1,7 @@
 pub mod Folds
 pub mod Grids
 pub mod Numbers
+pub mod Ages
 pub mod Svg
 pub mod Groups
 pub mod Page

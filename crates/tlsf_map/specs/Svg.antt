@@ -1,16 +1,17 @@
 -- The picture of some heaps, as the text of an SVG file. Lengths are in sixteenths of a pixel.
-use Rattle.std.specs.Prelude.{ℕ, ◌+◌, ◌-◌, ◌/◌, ◌%◌, ◌==◌, ◌&&◌, Bool, true, false, List, [], ◌∷◌, ◌++◌, Option, Some, None, min, nat_lt, length, codes, if◌then◌else◌}
+use Rattle.std.specs.Prelude.{ℕ, ◌+◌, ◌-◌, ◌%◌, ◌==◌, ◌&&◌, Bool, true, false, List, [], ◌∷◌, ◌++◌, Option, Some, None, nat_lt, length, codes, if◌then◌else◌}
 use Rattle.std.specs.Fmt.{decimal}
 use Rattle.tlsf_heap.specs.declared.placed_block.PlacedBlock.{PlacedBlock}
 use Rattle.tlsf_heap.specs.declared.placed_block.Content.{Content}
 use Rattle.tlsf_heap.specs.declared.placed_block.Content.TheVariants.{Free, Live}
+use Rattle.tlsf_map.specs.Ages.{shade_by}
 use Rattle.tlsf_map.specs.Folds.{fold_of, hidden_in, used_words}
 use Rattle.tlsf_map.specs.Grids.{Piece, below, left_of, pieces, top_of, width_of, words_here}
 use Rattle.tlsf_map.specs.Numbers.{plural_of}
 use Rattle.tlsf_map.specs.declared.fold.Fold.{Fold}
+use Rattle.tlsf_map.specs.declared.free_blocks.FreeBlocks.{FreeBlocks}
 use Rattle.tlsf_map.specs.declared.grid.Grid.{Grid}
 use Rattle.tlsf_map.specs.declared.mapped_heap.LabelledBlock.{LabelledBlock}
-use Rattle.tlsf_map.specs.declared.mapped_heap.MappedHeap.{MappedHeap}
 
 -- the place of the first word of a row, left of it
 unfoldable pub place_text : Grid → ℕ → List ℕ
@@ -77,10 +78,6 @@ caption_text grid at words label name amount unit =
     else upper_text (left_of grid at + 64) (top_of grid at + 240) ++ label_text label name
     ++ lower_text (left_of grid at + 64) (top_of grid at + 240 + 224) amount unit
 
--- how dark a free block is, in hundredths: 15 to 85, by its age and that of the oldest
-abbrev pub shade_of : ℕ → ℕ → ℕ
-shade_of age oldest = 15 + min (age / (oldest / 70 + 1)) 70
-
 unfoldable pub free_title : PlacedBlock → ℕ → List ℕ → ℕ → List ℕ
 free_title block stamp class shade =
     codes "<g class='" ++ (class ++ (codes "' fill-opacity='." ++ (decimal shade ++ (codes "'><title>free since tick " ++ (decimal stamp
@@ -94,10 +91,10 @@ end_text grid block label name amount unit = caption_text grid block.at block.si
 abbrev pub class_of_free : ℕ → ℕ → List ℕ
 class_of_free size largest = if size == largest then codes "free largest" else codes "free"
 
--- a free block of a heap: as dark as its age says, framed where none is greater
-unfoldable pub free_text : Grid → MappedHeap → PlacedBlock → ℕ → List ℕ
-free_text grid heap block stamp =
-    free_title block stamp (class_of_free block.size heap.report.largest) (shade_of (heap.tick - stamp) heap.report.age)
+-- a free block among those of its heap: as dark as its age says, framed where none is greater
+unfoldable pub free_text : Grid → FreeBlocks → PlacedBlock → ℕ → List ℕ
+free_text grid free block stamp =
+    free_title block stamp (class_of_free block.size free.largest) (shade_by free stamp)
     ++ block_rows grid block ++ end_text grid block None (codes "free") block.size (codes "words")
 
 unfoldable pub live_title : PlacedBlock → ℕ → ℕ → List ℕ
@@ -126,9 +123,9 @@ live_text grid block label serial length =
     ++ end_text grid block label (codes "live") length (plural_of length (codes "byte") (codes "bytes"))
 
 -- a block of a heap
-abbrev pub content_text : Grid → MappedHeap → PlacedBlock → Option ℕ → Content → List ℕ
-content_text grid heap block label (Free stamp) = free_text grid heap block stamp
-content_text grid heap block label (Live serial length) = live_text grid block label serial length
+abbrev pub content_text : Grid → FreeBlocks → PlacedBlock → Option ℕ → Content → List ℕ
+content_text grid free block label (Free stamp) = free_text grid free block stamp
+content_text grid free block label (Live serial length) = live_text grid block label serial length
 
-abbrev pub block_text : Grid → MappedHeap → LabelledBlock → List ℕ
-block_text grid heap drawn = content_text grid heap drawn.block drawn.label drawn.block.content
+abbrev pub block_text : Grid → FreeBlocks → LabelledBlock → List ℕ
+block_text grid free drawn = content_text grid free drawn.block drawn.label drawn.block.content

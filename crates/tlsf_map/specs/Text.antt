@@ -1,13 +1,15 @@
 -- The picture of some heaps in the characters of a terminal, 80 columns wide.
-use Rattle.std.specs.Prelude.{ℕ, zero, suc, ◌+◌, ◌*◌, ◌-◌, ◌/◌, ◌%◌, ◌==◌, ◌&&◌, Bool, List, [], ◌∷◌, ◌++◌, Option, Some, None, max, nat_le, nat_lt, length, codes, count_by, if◌then◌else◌}
+use Rattle.std.specs.Prelude.{ℕ, zero, suc, ◌+◌, ◌*◌, ◌-◌, ◌%◌, ◌==◌, ◌&&◌, Bool, List, [], ◌∷◌, ◌++◌, Option, Some, None, max, nat_le, nat_lt, length, codes, count_by, if◌then◌else◌}
 use Rattle.std.specs.Fmt.{decimal}
 use Rattle.tlsf_heap.specs.declared.placed_block.PlacedBlock.{PlacedBlock}
 use Rattle.tlsf_heap.specs.declared.placed_block.Content.{Content}
 use Rattle.tlsf_heap.specs.declared.placed_block.Content.TheVariants.{Free, Live}
+use Rattle.tlsf_map.specs.Ages.{free_blocks_of, shade_by}
 use Rattle.tlsf_map.specs.Columns.{columns_before, gap_of, space_of, span_of}
 use Rattle.tlsf_map.specs.Folds.{fold_between, hidden_in, used_words}
 use Rattle.tlsf_map.specs.Numbers.{age_numbers, free_numbers, live_numbers, plural_of}
 use Rattle.tlsf_map.specs.declared.fold.Fold.{Fold}
+use Rattle.tlsf_map.specs.declared.free_blocks.FreeBlocks.{FreeBlocks}
 use Rattle.tlsf_map.specs.declared.mapped_heap.LabelledBlock.{LabelledBlock}
 use Rattle.tlsf_map.specs.declared.mapped_heap.MappedHeap.{MappedHeap}
 
@@ -70,32 +72,32 @@ live_marks span block label length_in first end =
 abbrev pub free_mark : ℕ → ℕ → List ℕ
 free_mark size largest = if size == largest then codes "*" else codes "("
 
--- all others: whether it is free for more than half as long as the oldest
-abbrev pub age_mark : ℕ → ℕ → List ℕ
-age_mark age oldest = if nat_lt (oldest / 2) age then codes ":" else codes "."
+-- all others: whether it is drawn at 50 hundredths or more, as it is where it is as near in age to the oldest as to the newest, or nearer
+abbrev pub age_mark : ℕ → List ℕ
+age_mark shade = if nat_lt shade 50 then codes "." else codes ":"
 
-unfoldable pub free_marks : ℕ → MappedHeap → PlacedBlock → ℕ → ℕ → ℕ → List ℕ
-free_marks span heap block stamp first end =
-    up_to span first (first + 1) (free_mark block.size heap.report.largest) ++ alike_text span (first + 1) end (age_mark (heap.tick - stamp) heap.report.age)
+unfoldable pub free_marks : ℕ → FreeBlocks → PlacedBlock → ℕ → ℕ → ℕ → List ℕ
+free_marks span free block stamp first end =
+    up_to span first (first + 1) (free_mark block.size free.largest) ++ alike_text span (first + 1) end (age_mark (shade_by free stamp))
 
-abbrev pub content_marks : ℕ → MappedHeap → PlacedBlock → Option ℕ → ℕ → ℕ → Content → List ℕ
-content_marks span heap block label first end (Free stamp) = free_marks span heap block stamp first end
-content_marks span heap block label first end (Live serial length_in) = live_marks span block label length_in first end
+abbrev pub content_marks : ℕ → FreeBlocks → PlacedBlock → Option ℕ → ℕ → ℕ → Content → List ℕ
+content_marks span free block label first end (Free stamp) = free_marks span free block stamp first end
+content_marks span free block label first end (Live serial length_in) = live_marks span block label length_in first end
 
 -- whether no character begins in a block
 abbrev pub is_unseen : ℕ → LabelledBlock → Bool
 is_unseen span drawn = columns_before span drawn.block.at == columns_before span (drawn.block.at + drawn.block.size)
 
 -- a block: the characters that begin in it
-unfoldable pub block_marks : ℕ → MappedHeap → LabelledBlock → List ℕ
-block_marks span heap drawn =
+unfoldable pub block_marks : ℕ → FreeBlocks → LabelledBlock → List ℕ
+block_marks span free drawn =
     if is_unseen span drawn then []
-    else content_marks span heap drawn.block drawn.label (columns_before span drawn.block.at) (columns_before span (drawn.block.at + drawn.block.size)) drawn.block.content
+    else content_marks span free drawn.block drawn.label (columns_before span drawn.block.at) (columns_before span (drawn.block.at + drawn.block.size)) drawn.block.content
 
 -- blocks of a heap, in their order
-abbrev pub blocks_marks : ℕ → MappedHeap → List LabelledBlock → List ℕ
-blocks_marks span heap [] = []
-blocks_marks span heap (drawn ∷ others) = block_marks span heap drawn ++ blocks_marks span heap others
+abbrev pub blocks_marks : ℕ → FreeBlocks → List LabelledBlock → List ℕ
+blocks_marks span free [] = []
+blocks_marks span free (drawn ∷ others) = block_marks span free drawn ++ blocks_marks span free others
 
 -- the lines above the rows of a heap
 unfoldable pub name_line : ℕ → ℕ → MappedHeap → List ℕ
@@ -118,7 +120,7 @@ unseen_text count = if count == 0 then [] else unseen_line count
 -- a heap, with so many words a character
 unfoldable pub heap_with : ℕ → ℕ → MappedHeap → List ℕ
 heap_with span words heap =
-    head_lines span words heap ++ blocks_marks span heap heap.blocks.items ++ unseen_text (count_by (is_unseen span) heap.blocks.items) ++ codes "\n"
+    head_lines span words heap ++ blocks_marks span (free_blocks_of heap) heap.blocks.items ++ unseen_text (count_by (is_unseen span) heap.blocks.items) ++ codes "\n"
 
 unfoldable pub heap_lines : ℕ → MappedHeap → List ℕ
 heap_lines words heap = heap_with (span_of words heap.blocks.items) words heap

@@ -1,22 +1,16 @@
 //! The parts of a picture that show a block.
 ghost use Rattle.std.specs.Prelude.{◌≡◌, ◌++◌, ◌≤◌, ◌^◌, OnOk, string_bytes};
 ghost use Rattle.tlsf_map.specs.Grids.{IsGrid};
-ghost use Rattle.tlsf_map.specs.Svg.{block_rows, shade_of, free_title, class_of_free, end_text, free_text, live_title, live_begin, part_text, fill_text, live_text, block_text};
+ghost use Rattle.tlsf_map.specs.Svg.{block_rows, free_title, class_of_free, end_text, free_text, live_title, live_begin, part_text, fill_text, live_text, block_text};
 
 use crate::fold::{Fold, used_words};
+use crate::free_blocks::FreeBlocks;
 use crate::grid::Grid;
-use crate::mapped_heap::{LabelledBlock, MappedHeap};
+use crate::mapped_heap::LabelledBlock;
 use crate::numbers::plural;
 use crate::rectangles::{Caption, write_caption, write_label, write_rows, write_spread};
 use std::alloc::AllocError;
 use tlsf_heap::{Content, PlacedBlock};
-
-// How dark a free block is, in hundredths: 15 to 85, by its age and that of the oldest.
-fn shade(age: u64, oldest: u64) -> u64
-    ensures { result ≡ shade_of age oldest }
-{
-    15 + (age / (oldest / 70 + 1)).min(70)
-}
 
 fn write_free_title(
     text: &mut String,
@@ -87,15 +81,15 @@ fn write_block_rows(text: &mut String, grid: Grid, block: PlacedBlock) -> Result
 fn write_free(
     text: &mut String,
     grid: Grid,
-    heap: &MappedHeap,
+    free: FreeBlocks,
     block: PlacedBlock,
     stamp: u64,
 ) -> Result<(), AllocError>
     requires { IsGrid grid }
-    ensures { OnOk result (string_bytes text.new ≡ string_bytes text.old ++ free_text grid heap.now block stamp) }
+    ensures { OnOk result (string_bytes text.new ≡ string_bytes text.old ++ free_text grid free block stamp) }
 {
-    let class = free_class(block.size, heap.report.largest);
-    let shade = shade(heap.tick.saturating_sub(stamp), heap.report.age);
+    let class = free_class(block.size, free.largest);
+    let shade = free.shade(stamp);
     let caption = Caption {
         label: None,
         name: "free",
@@ -216,18 +210,18 @@ fn write_live(
     write_end(text, grid, block, &caption)
 }
 
-/// Adds a block of a heap.
+/// Adds a block of a heap, whose free ones these tell apart.
 pub fn write_block(
     text: &mut String,
     grid: Grid,
-    heap: &MappedHeap,
+    free: FreeBlocks,
     drawn: LabelledBlock,
 ) -> Result<(), AllocError>
     requires { IsGrid grid }
-    ensures { OnOk result (string_bytes text.new ≡ string_bytes text.old ++ block_text grid heap.now drawn) }
+    ensures { OnOk result (string_bytes text.new ≡ string_bytes text.old ++ block_text grid free drawn) }
 {
     match drawn.block.content {
-        Content::Free { stamp } => write_free(text, grid, heap, drawn.block, stamp),
+        Content::Free { stamp } => write_free(text, grid, free, drawn.block, stamp),
         Content::Live { serial, length } => {
             write_live(text, grid, drawn.block, drawn.label, serial, length)
         }

@@ -4,8 +4,9 @@ ghost use Rattle.tlsf_map.specs.Groups.{below_group, is_narrow, live_size, joine
 ghost use Rattle.tlsf_map.specs.declared.mapped_heap.LabelledBlock.{LabelledBlock};
 
 use crate::drawn_blocks::write_block;
+use crate::free_blocks::FreeBlocks;
 use crate::grid::Grid;
-use crate::mapped_heap::{LabelledBlock, MappedHeap};
+use crate::mapped_heap::LabelledBlock;
 use crate::rectangles::write_spread;
 use std::alloc::AllocError;
 use tlsf_heap::Content;
@@ -150,16 +151,16 @@ impl Group {
         }
     }
 
-    /// Adds the group to a picture.
-    pub fn write(self, text: &mut String, grid: Grid, heap: &MappedHeap) -> Result<(), AllocError>
+    /// Adds the group to a picture of a heap, whose free blocks these tell apart.
+    pub fn write(self, text: &mut String, grid: Grid, free: FreeBlocks) -> Result<(), AllocError>
         requires grid { IsGrid grid }
         requires few { self.words ≤ 2 ^ 33 }
         requires live { self.live ≤ 2 ^ 33 }
         ensures { (base : Grid) (blocks : List LabelledBlock) → IsGroup base blocks self
-            → OnOk result (string_bytes text.new ≡ string_bytes text.old ++ group_text grid heap.now blocks) }
+            → OnOk result (string_bytes text.new ≡ string_bytes text.old ++ group_text grid free blocks) }
     {
         if self.count == 1 {
-            write_block(text, grid, heap, self.first)
+            write_block(text, grid, free, self.first)
         } else {
             write_joined(text, grid, self)
         }

@@ -19,6 +19,7 @@
 mod columns;
 mod drawn_blocks;
 mod fold;
+mod free_blocks;
 mod grid;
 mod group;
 mod html;
@@ -31,7 +32,7 @@ mod rectangles;
 mod text_page;
 
 pub use html::{write_moment, write_page_foot, write_page_head};
-pub use laws::{groups_are_the_blocks, pieces_are_the_block};
+pub use laws::{free_blocks_are_drawn_by_age, groups_are_the_blocks, pieces_are_the_block};
 pub use mapped_heap::{LabelledBlock, MappedHeap};
 pub use page::write_svg;
 pub use text_page::write_text;

@@ -6,7 +6,8 @@ ghost use Rattle.tlsf_map.specs.Text.{age_mark, alike_text, block_marks, content
 
 use crate::columns::{columns, gap, space};
 use crate::fold::{Fold, used_words};
-use crate::mapped_heap::{LabelledBlock, MappedHeap};
+use crate::free_blocks::FreeBlocks;
+use crate::mapped_heap::LabelledBlock;
 use std::alloc::AllocError;
 use tlsf_heap::{Content, PlacedBlock};
 
@@ -243,11 +244,11 @@ fn free_mark(size: u32, largest: u32) -> &'static str
     if size == largest { "*" } else { "(" }
 }
 
-// The other characters of a free block of this age.
-fn mark_of_age(age: u64, oldest: u64) -> &'static str
-    ensures { result.now ≡ age_mark age oldest }
+// The other characters of a free block that a picture would draw at so many hundredths.
+fn mark_of_age(shade: u64) -> &'static str
+    ensures { result.now ≡ age_mark shade }
 {
-    if oldest / 2 < age { ":" } else { "." }
+    if shade < 50 { "." } else { ":" }
 }
 
 // Adds a free block of a heap with characters from this one up to that.
@@ -255,7 +256,7 @@ fn mark_of_age(age: u64, oldest: u64) -> &'static str
 fn write_free_marks(
     text: &mut String,
     span: u64,
-    heap: &MappedHeap,
+    free: FreeBlocks,
     block: PlacedBlock,
     stamp: u64,
     first: u64,
@@ -264,10 +265,10 @@ fn write_free_marks(
     requires span { IsSpan span }
     requires first { first ≤ 2 ^ 35 }
     requires end { end ≤ 2 ^ 35 }
-    ensures { OnOk result (string_bytes text.new ≡ string_bytes text.old ++ free_marks span heap.now block stamp first end) }
+    ensures { OnOk result (string_bytes text.new ≡ string_bytes text.old ++ free_marks span free block stamp first end) }
 {
-    let mark = free_mark(block.size, heap.report.largest);
-    let age = mark_of_age(heap.tick.saturating_sub(stamp), heap.report.age);
+    let mark = free_mark(block.size, free.largest);
+    let age = mark_of_age(free.shade(stamp));
     write_up_to(text, span, first, first + 1, mark)?;
     write_alike(text, span, first + 1, end, age)
 }
@@ -276,7 +277,7 @@ fn write_free_marks(
 fn write_content_marks(
     text: &mut String,
     span: u64,
-    heap: &MappedHeap,
+    free: FreeBlocks,
     drawn: LabelledBlock,
     first: u64,
     end: u64,
@@ -284,11 +285,11 @@ fn write_content_marks(
     requires span { IsSpan span }
     requires first { first ≤ 2 ^ 35 }
     requires end { end ≤ 2 ^ 35 }
-    ensures { OnOk result (string_bytes text.new ≡ string_bytes text.old ++ content_marks span heap.now drawn.block drawn.label first end drawn.block.content) }
+    ensures { OnOk result (string_bytes text.new ≡ string_bytes text.old ++ content_marks span free drawn.block drawn.label first end drawn.block.content) }
 {
     match drawn.block.content {
         Content::Free { stamp } => {
-            write_free_marks(text, span, heap, drawn.block, stamp, first, end)
+            write_free_marks(text, span, free, drawn.block, stamp, first, end)
         }
         Content::Live { length, .. } => {
             write_live_marks(text, span, drawn.block, drawn.label, length, first, end)
@@ -296,16 +297,16 @@ fn write_content_marks(
     }
 }
 
-/// Adds the characters that begin in a block, and says whether none does.
+/// Adds the characters that begin in a block of a heap, whose free ones these tell apart, and says whether none does.
 #[tactic(auto, unfolding(crate::specs::Text::block_marks))]
 pub fn write_block_marks(
     text: &mut String,
     span: u64,
-    heap: &MappedHeap,
+    free: FreeBlocks,
     drawn: LabelledBlock,
 ) -> Result<bool, AllocError>
     requires { IsSpan span }
-    ensures text { OnOk result (string_bytes text.new ≡ string_bytes text.old ++ block_marks span heap.now drawn) }
+    ensures text { OnOk result (string_bytes text.new ≡ string_bytes text.old ++ block_marks span free drawn) }
     ensures unseen { IfOk result (λ unseen. unseen ≡ is_unseen span drawn) }
 {
     let at = u64::from(drawn.block.at);
@@ -314,6 +315,6 @@ pub fn write_block_marks(
     if first == end {
         return Ok(true);
     }
-    write_content_marks(text, span, heap, drawn, first, end)?;
+    write_content_marks(text, span, free, drawn, first, end)?;
     Ok(false)
 }

@@ -4,6 +4,7 @@ ghost use Rattle.tlsf_map.specs.Grids.{IsGrid};
 ghost use Rattle.tlsf_map.specs.Groups.{groups_of, groups_text, joined_of, note_line, note_text};
 ghost use Rattle.tlsf_map.specs.Page.{begin_text, blocks_text, heap_head, heap_in, heap_text, heaps_end, heaps_text, height_of, key_text, numbers_text, page_begin, svg_text};
 
+use crate::free_blocks::FreeBlocks;
 use crate::grid::Grid;
 use crate::group::Group;
 use crate::mapped_heap::MappedHeap;
@@ -18,7 +19,7 @@ const STYLE: &str =
 
 // What each colour is.
 const KEY: &str =
-    "<g transform='translate(1024 128)'><rect class='head' width='256' height='256'/><text x='352' y='200'>header</text><rect class='live' x='2048' width='256' height='256'/><text x='2400' y='200'>payload</text><rect class='slack' x='4096' width='256' height='256'/><text x='4448' y='200'>left empty</text><g class='largest'><rect class='free' x='6656' width='256' height='256' fill-opacity='.50'/></g><text x='7008' y='200'>largest free</text><rect class='live fold' x='9728' width='1024' height='256'/><text x='10848' y='200'>one row for many alike</text><rect class='free' y='384' width='256' height='256' fill-opacity='.15'/><rect class='free' x='256' y='384' width='256' height='256' fill-opacity='.33'/><rect class='free' x='512' y='384' width='256' height='256' fill-opacity='.50'/><rect class='free' x='768' y='384' width='256' height='256' fill-opacity='.67'/><rect class='free' x='1024' y='384' width='256' height='256' fill-opacity='.85'/><text x='1376' y='584'>free: just now to longest</text><rect class='joined' x='6656' y='384' width='256' height='256' fill-opacity='.15'/><rect class='joined' x='6912' y='384' width='256' height='256' fill-opacity='.33'/><rect class='joined' x='7168' y='384' width='256' height='256' fill-opacity='.50'/><rect class='joined' x='7424' y='384' width='256' height='256' fill-opacity='.67'/><rect class='joined' x='7680' y='384' width='256' height='256' fill-opacity='.85'/><text x='8032' y='584'>drawn as one: all free to all live</text></g>\n";
+    "<g transform='translate(1024 128)'><rect class='head' width='256' height='256'/><text x='352' y='200'>header</text><rect class='live' x='2048' width='256' height='256'/><text x='2400' y='200'>payload</text><rect class='slack' x='4096' width='256' height='256'/><text x='4448' y='200'>left empty</text><g class='largest'><rect class='free' x='6656' width='256' height='256' fill-opacity='.50'/></g><text x='7008' y='200'>largest free</text><rect class='live fold' x='9728' width='1024' height='256'/><text x='10848' y='200'>one row for many alike</text><rect class='free' y='384' width='256' height='256' fill-opacity='.15'/><rect class='free' x='256' y='384' width='256' height='256' fill-opacity='.33'/><rect class='free' x='512' y='384' width='256' height='256' fill-opacity='.50'/><rect class='free' x='768' y='384' width='256' height='256' fill-opacity='.67'/><rect class='free' x='1024' y='384' width='256' height='256' fill-opacity='.85'/><text x='1376' y='584'>free: newest to oldest</text><rect class='joined' x='6656' y='384' width='256' height='256' fill-opacity='.15'/><rect class='joined' x='6912' y='384' width='256' height='256' fill-opacity='.33'/><rect class='joined' x='7168' y='384' width='256' height='256' fill-opacity='.50'/><rect class='joined' x='7424' y='384' width='256' height='256' fill-opacity='.67'/><rect class='joined' x='7680' y='384' width='256' height='256' fill-opacity='.85'/><text x='8032' y='584'>drawn as one: all free to all live</text></g>\n";
 
 // The height at which the first heap begins, below the key.
 const TOP: u64 = 1088;
@@ -67,10 +68,15 @@ fn write_head(
     write_numbers(text, &heap.report)
 }
 
-// Adds the groups of a heap's blocks, and says how many blocks are drawn as one with others.
-fn write_groups(text: &mut String, grid: Grid, heap: &MappedHeap) -> Result<u64, AllocError>
+// Adds the groups of a heap's blocks, whose free ones these tell apart, and says how many blocks are drawn as one with others.
+fn write_groups(
+    text: &mut String,
+    grid: Grid,
+    free: FreeBlocks,
+    heap: &MappedHeap,
+) -> Result<u64, AllocError>
     requires { IsGrid grid }
-    ensures text { OnOk result (string_bytes text.new ≡ string_bytes text.old ++ groups_text grid heap.now (groups_of grid heap.now.blocks.items)) }
+    ensures text { OnOk result (string_bytes text.new ≡ string_bytes text.old ++ groups_text grid free (groups_of grid heap.now.blocks.items)) }
     ensures joined { IfOk result (λ joined. joined ≡ joined_of (groups_of grid heap.now.blocks.items)) }
 {
     if heap.blocks.is_empty() {
@@ -85,12 +91,12 @@ fn write_groups(text: &mut String, grid: Grid, heap: &MappedHeap) -> Result<u64,
             group = group.with(next);
         } else {
             joined += group.joined();
-            group.write(text, here, heap)?;
+            group.write(text, here, free)?;
             here = group.below(here);
             group = Group::of(grid, next);
         }
     }
-    group.write(text, here, heap)?;
+    group.write(text, here, free)?;
     Ok(joined + group.joined())
 }
 
@@ -119,7 +125,7 @@ fn write_blocks(text: &mut String, grid: Grid, heap: &MappedHeap) -> Result<(), 
     requires { IsGrid grid }
     ensures { OnOk result (string_bytes text.new ≡ string_bytes text.old ++ blocks_text grid heap.now) }
 {
-    let joined = write_groups(text, grid, heap)?;
+    let joined = write_groups(text, grid, FreeBlocks::of(heap), heap)?;
     write_note(text, joined)
 }
 

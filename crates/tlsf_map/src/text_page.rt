@@ -5,7 +5,8 @@ ghost use Rattle.tlsf_map.specs.Text as lines;
 ghost use Rattle.tlsf_map.specs.Text.{blocks_marks, head_lines, heap_lines, heap_with, heaps_lines, is_unseen, key_line, name_line, text_of, unseen_text};
 
 use crate::columns::span;
-use crate::mapped_heap::MappedHeap;
+use crate::free_blocks::FreeBlocks;
+use crate::mapped_heap::{LabelledBlock, MappedHeap};
 use crate::marks::write_block_marks;
 use crate::numbers::{plural, write_age_numbers, write_free_numbers, write_live_numbers};
 use std::alloc::AllocError;
@@ -46,15 +47,20 @@ fn write_head_lines(
     write_age_numbers(text, &heap.report)
 }
 
-// Adds the blocks of a heap, and says in how many no character begins.
-fn write_rows(text: &mut String, span: u64, heap: &MappedHeap) -> Result<u64, AllocError>
+// Adds the blocks of a heap, whose free ones these tell apart, and says in how many no character begins.
+fn write_rows(
+    text: &mut String,
+    span: u64,
+    free: FreeBlocks,
+    blocks: &[LabelledBlock],
+) -> Result<u64, AllocError>
     requires { IsSpan span }
-    ensures text { OnOk result (string_bytes text.new ≡ string_bytes text.old ++ blocks_marks span heap.now heap.now.blocks.items) }
-    ensures unseen { IfOk result (λ unseen. unseen ≡ count_by (is_unseen span) heap.now.blocks.items) }
+    ensures text { OnOk result (string_bytes text.new ≡ string_bytes text.old ++ blocks_marks span free blocks.now) }
+    ensures unseen { IfOk result (λ unseen. unseen ≡ count_by (is_unseen span) blocks.now) }
 {
     let mut unseen = 0;
-    for index in 0..heap.blocks.len() {
-        if write_block_marks(text, span, heap, heap.blocks[index])? {
+    for index in 0..blocks.len() {
+        if write_block_marks(text, span, free, blocks[index])? {
             unseen += 1;
         }
     }
@@ -95,7 +101,7 @@ fn write_heap_with(
     ensures { OnOk result (string_bytes text.new ≡ string_bytes text.old ++ heap_with span words heap.now) }
 {
     write_head_lines(text, span, words, heap)?;
-    let unseen = write_rows(text, span, heap)?;
+    let unseen = write_rows(text, span, FreeBlocks::of(heap), &heap.blocks)?;
     write_unseen(text, unseen)?;
     text.push_str("\n")
 }

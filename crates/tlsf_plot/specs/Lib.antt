@@ -1,6 +1,7 @@
 -- What the clauses of public functions cite.
 pub mod Points
 pub mod Curves
+pub mod Standings
 pub mod Svg
 pub mod Rows
 pub mod Plots

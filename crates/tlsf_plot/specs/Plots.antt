@@ -2,11 +2,12 @@
 use Rattle.std.specs.Prelude.{◌≡◌, ℕ, ◌+◌, List, length}
 use Rattle.std.specs.List.{AllZip, range_with_len}
 use Rattle.tlsf_lines.specs.Trace.{Trace}
-use Rattle.tlsf_plot.specs.Curves.{curve_of, span_for, IsWorstAmong}
+use Rattle.tlsf_plot.specs.Curves.{curve_of, span_for}
 use Rattle.tlsf_plot.specs.Points.{longest_of, points_of}
 use Rattle.tlsf_picture.specs.declared.form.Form.{Form}
 use Rattle.tlsf_picture.specs.declared.form.Form.TheVariants.{Svg, Text}
 use Rattle.tlsf_plot.specs.Rows.{text_of}
+use Rattle.tlsf_plot.specs.Standings.{IsLook}
 use Rattle.tlsf_plot.specs.Svg.{svg_text}
 use Rattle.tlsf_plot.specs.declared.chart.Chart.{Chart}
 use Rattle.tlsf_plot.specs.declared.point.Point.{Point}
@@ -22,7 +23,7 @@ pub record IsChart (most : ℕ) (trace : Trace) (j : ℕ) (chart : Chart) : Type
   pub words : chart.words ≡ trace.header.words
   pub span : chart.span ≡ span_for most (length trace.lines + 2)
   pub longest : chart.longest ≡ longest_of j trace.lines
-  pub worst : IsWorstAmong chart.longest (heap_points trace j) (length trace.lines + 2) chart.worst
+  pub look : IsLook chart.longest (heap_points trace j) (length trace.lines + 2) chart.look
   pub curve : chart.curve.items ≡ curve_of trace.header.words chart.span (heap_points trace j)
 
 -- a chart for each heap, in rising number

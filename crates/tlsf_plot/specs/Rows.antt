@@ -1,11 +1,14 @@
 -- The plot of some heaps in the characters of a terminal, 80 columns wide.
-use Rattle.std.specs.Prelude.{ℕ, ◌+◌, ◌-◌, ◌*◌, ◌/◌, ◌==◌, List, [], ◌∷◌, ◌++◌, Option, Some, None, codes, max, if◌then◌else◌}
+use Rattle.std.specs.Prelude.{ℕ, ◌+◌, ◌-◌, ◌*◌, ◌/◌, ◌==◌, List, [], ◌∷◌, ◌++◌, codes, max, if◌then◌else◌}
 use Rattle.std.specs.Fmt.{decimal}
-use Rattle.tlsf_plot.specs.Svg.{number_of, top_of}
+use Rattle.tlsf_plot.specs.Svg.{bytes_of, number_of, top_of}
 use Rattle.tlsf_plot.specs.declared.chart.Chart.{Chart}
+use Rattle.tlsf_plot.specs.declared.look.Look.{Look}
 use Rattle.tlsf_plot.specs.declared.point.Point.{Point}
 use Rattle.tlsf_plot.specs.declared.series.Series.{Series}
 use Rattle.tlsf_plot.specs.declared.series.Series.TheVariants.{Live, Asked, Free, Largest, Fragmentation}
+use Rattle.tlsf_plot.specs.declared.standing.Standing.{Standing}
+use Rattle.tlsf_plot.specs.declared.standing.Standing.TheVariants.{NoRoom, Room}
 
 -- how many eighths a number is of `top`, rounded up
 abbrev pub eighths_of : ℕ → ℕ → ℕ
@@ -62,22 +65,35 @@ rows_text words curve =
 
 unfoldable pub title_line : Chart → List ℕ
 title_line chart =
-    codes "\nheap " ++ (decimal chart.heap ++ (codes ": " ++ (decimal chart.words ++ (codes " words; lines a column: " ++ (decimal chart.span ++ codes "\n")))))
+    codes "\nheap " ++ (decimal chart.heap ++ (codes ": " ++ (decimal chart.words ++ (codes " words, longest request " ++ (decimal chart.longest
+    ++ (codes " " ++ (bytes_of chart.longest ++ (codes "; lines a column: " ++ (decimal chart.span ++ codes "\n")))))))))
 
-unfoldable pub room_row : ℕ → List ℕ
-room_row longest = codes "the longest request, of " ++ (decimal longest ++ codes " bytes, finds room behind each line\n")
+-- where to look: without room for the longest request, or where there is always room
+unfoldable pub worst_row : (line free longest : ℕ) → List ℕ
+worst_row line free longest =
+    codes "worst moment, after line " ++ (decimal line ++ (codes ": " ++ (decimal free ++ (codes " words free, no room for " ++ (decimal longest
+    ++ (codes " " ++ (bytes_of longest ++ (codes "\n  tlsf map --at " ++ (decimal line ++ codes "\n")))))))))
 
-unfoldable pub worst_row : ℕ → ℕ → List ℕ
-worst_row longest line =
-    codes "most words free without room for the longest request, of " ++ (decimal longest ++ (codes " bytes:\n  tlsf map --at " ++ (decimal line ++ codes "\n")))
+unfoldable pub full_row : (line live fragmentation : ℕ) → List ℕ
+full_row line live fragmentation =
+    codes "fullest moment, after line " ++ (decimal line ++ (codes ": " ++ (decimal live ++ (codes " words live, fragmentation " ++ (decimal fragmentation ++ codes "/1000\n")))))
 
--- where to look
-abbrev pub look_text : ℕ → Option ℕ → List ℕ
-look_text longest None = room_row longest
-look_text longest (Some line) = worst_row longest line
+unfoldable pub always_row : (line longest : ℕ) → List ℕ
+always_row line longest =
+    codes "  always room for " ++ (decimal longest ++ (codes " " ++ (bytes_of longest ++ (codes ": tlsf map --at " ++ (decimal line ++ codes "\n")))))
+
+unfoldable pub fullest_row : (line live fragmentation longest : ℕ) → List ℕ
+fullest_row line live fragmentation longest = full_row line live fragmentation ++ always_row line longest
+
+abbrev pub standing_rows : ℕ → ℕ → Standing → List ℕ
+standing_rows longest line (NoRoom free) = worst_row line free longest
+standing_rows longest line (Room live fragmentation) = fullest_row line live fragmentation longest
+
+abbrev pub look_rows : ℕ → Look → List ℕ
+look_rows longest look = standing_rows longest look.line look.standing
 
 unfoldable pub heap_rows : Chart → List ℕ
-heap_rows chart = title_line chart ++ look_text chart.longest chart.worst ++ rows_text chart.words chart.curve.items
+heap_rows chart = title_line chart ++ look_rows chart.longest chart.look ++ rows_text chart.words chart.curve.items
 
 abbrev pub heaps_rows : List Chart → List ℕ
 heaps_rows [] = []

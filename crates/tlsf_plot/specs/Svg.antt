@@ -1,10 +1,13 @@
 -- The plot of some heaps, as the text of an SVG file.
-use Rattle.std.specs.Prelude.{ℕ, ◌+◌, ◌*◌, ◌==◌, List, [], ◌∷◌, ◌++◌, Option, Some, None, codes, fold, length, max, if◌then◌else◌}
+use Rattle.std.specs.Prelude.{ℕ, ◌+◌, ◌*◌, ◌==◌, List, [], ◌∷◌, ◌++◌, codes, fold, length, max, if◌then◌else◌}
 use Rattle.std.specs.Fmt.{decimal}
 use Rattle.tlsf_plot.specs.declared.chart.Chart.{Chart}
+use Rattle.tlsf_plot.specs.declared.look.Look.{Look}
 use Rattle.tlsf_plot.specs.declared.point.Point.{Point}
 use Rattle.tlsf_plot.specs.declared.series.Series.{Series}
 use Rattle.tlsf_plot.specs.declared.series.Series.TheVariants.{Live, Asked, Free, Largest, Fragmentation}
+use Rattle.tlsf_plot.specs.declared.standing.Standing.{Standing}
+use Rattle.tlsf_plot.specs.declared.standing.Standing.TheVariants.{NoRoom, Room}
 
 -- ---- lines
 
@@ -109,33 +112,55 @@ frames_text words curve =
 
 -- ---- heaps
 
--- how a point is told to stand for so many lines
-unfoldable pub lines_of : ℕ → List ℕ
-lines_of span = if span == 1 then codes "line" else codes "lines"
+-- the name of one, or that of many
+unfoldable pub plural_of : ℕ → List ℕ → List ℕ → List ℕ
+plural_of count one many = if count == 1 then one else many
+
+abbrev pub bytes_of : ℕ → List ℕ
+bytes_of count = plural_of count (codes "byte") (codes "bytes")
+
+-- the name of a heap, and how its plot is to be read
+unfoldable pub heap_text : ℕ → Chart → List ℕ
+heap_text y chart =
+    codes "<g transform='translate(0 " ++ (decimal y ++ (codes ")'><text class='name' x='80' y='24'>heap " ++ (decimal chart.heap ++ (codes ": " ++ (decimal chart.words
+    ++ codes " words, longest request ")))))
+
+unfoldable pub points_text : (longest span : ℕ) → List ℕ
+points_text longest span =
+    decimal longest ++ (codes " " ++ (bytes_of longest ++ (codes ", " ++ (decimal span ++ (codes " " ++ (plural_of span (codes "line") (codes "lines") ++ codes " a point</text>\n"))))))
 
 unfoldable pub name_text : ℕ → Chart → List ℕ
-name_text y chart =
-    codes "<g transform='translate(0 " ++ (decimal y ++ (codes ")'><text class='name' x='80' y='24'>heap " ++ (decimal chart.heap ++ (codes ": " ++ (decimal chart.words
-    ++ (codes " words, " ++ (decimal chart.span ++ (codes " " ++ (lines_of chart.span ++ codes " a point</text>\n")))))))))
+name_text y chart = heap_text y chart ++ points_text chart.longest chart.span
 
-unfoldable pub room_line : ℕ → List ℕ
-room_line longest = codes "<text x='80' y='48'>the longest request, of " ++ (decimal longest ++ codes " bytes, finds room behind each line</text>\n")
+-- where to look: without room for the longest request, or where there is always room
+unfoldable pub worst_line : (line free longest : ℕ) → List ℕ
+worst_line line free longest =
+    codes "<text x='80' y='48'>worst moment, after line " ++ (decimal line ++ (codes ": " ++ (decimal free ++ (codes " words free, no room for " ++ (decimal longest
+    ++ (codes " " ++ (bytes_of longest ++ (codes ": tlsf map --at " ++ (decimal line ++ codes "</text>\n")))))))))
 
-unfoldable pub worst_line : ℕ → ℕ → List ℕ
-worst_line longest line =
-    codes "<text x='80' y='48'>the most words are free without room for the longest request, of " ++ (decimal longest ++ (codes " bytes, behind line " ++ (decimal line
-    ++ (codes ": tlsf map --at " ++ (decimal line ++ codes "</text>\n")))))
+unfoldable pub full_text : (line live fragmentation : ℕ) → List ℕ
+full_text line live fragmentation =
+    codes "<text x='80' y='48'>fullest moment, after line " ++ (decimal line ++ (codes ": " ++ (decimal live ++ (codes " words live, fragmentation " ++ (decimal fragmentation ++ codes "/1000, ")))))
 
--- where to look: the line, and the longest request
-abbrev pub worst_text : ℕ → Option ℕ → List ℕ
-worst_text longest None = room_line longest
-worst_text longest (Some line) = worst_line longest line
+unfoldable pub always_text : (line longest : ℕ) → List ℕ
+always_text line longest =
+    codes "always room for " ++ (decimal longest ++ (codes " " ++ (bytes_of longest ++ (codes ": tlsf map --at " ++ (decimal line ++ codes "</text>\n")))))
+
+unfoldable pub fullest_line : (line live fragmentation longest : ℕ) → List ℕ
+fullest_line line live fragmentation longest = full_text line live fragmentation ++ always_text line longest
+
+abbrev pub standing_text : ℕ → ℕ → Standing → List ℕ
+standing_text longest line (NoRoom free) = worst_line line free longest
+standing_text longest line (Room live fragmentation) = fullest_line line live fragmentation longest
+
+abbrev pub look_text : ℕ → Look → List ℕ
+look_text longest look = standing_text longest look.line look.standing
 
 abbrev pub ends_text : List ℕ
 ends_text = codes "<text x='80' y='622'>line 1</text><text class='scale' x='1040' y='622'>the end</text></g>\n"
 
 unfoldable pub chart_head : ℕ → Chart → List ℕ
-chart_head y chart = name_text y chart ++ worst_text chart.longest chart.worst
+chart_head y chart = name_text y chart ++ look_text chart.longest chart.look
 
 unfoldable pub chart_frames : Chart → List ℕ
 chart_frames chart = frames_text chart.words chart.curve.items ++ ends_text

@@ -1,3 +1,4 @@
+use crate::look::Look;
 use crate::point::Point;
 
 /// What the plot of a heap is made of.
@@ -11,8 +12,8 @@ pub struct Chart {
     pub span: usize,
     /// The bytes of the longest request of its worker.
     pub longest: u32,
-    /// The line behind which that finds no room and the most words are free, if it ever finds none.
-    pub worst: Option<u32>,
+    /// The line to look at.
+    pub look: Look,
     /// The points that are drawn, each the worst of its lines.
     pub curve: Vec<Point>,
 }

@@ -1,9 +1,11 @@
 //! The curve of a heap: as many of its points as one as it takes.
 ghost use Rattle.std.specs.Prelude.{◌≡◌, ◌+◌, ◌<◌, ◌≤◌, ◌^◌, length, IfOk};
 ghost use Rattle.tlsf_plot.specs.Curves as drawn;
-ghost use Rattle.tlsf_plot.specs.Curves.{IsWorstAmong};
+ghost use Rattle.tlsf_plot.specs.Standings.{IsLook, standing_in};
 
+use crate::look::Look;
 use crate::point::Point;
+use crate::standing::Standing;
 use std::alloc::{AllocError, Global};
 
 /// How many points are drawn as one, so that at most so many are drawn.
@@ -52,35 +54,39 @@ pub fn curve_of(
     Ok(curve)
 }
 
-// The worst line among one point more than the first of these points.
-fn worse_line(len: u32, points: &[Point], number: usize, worst: Option<u32>) -> Option<u32>
-    requires within { number < length points.now }
-    requires few { length points.now ≤ 2 ^ 16 }
-    requires worst { IsWorstAmong len points.now number worst }
-    ensures { IsWorstAmong len points.now (number + 1) result }
+// How a heap stands at the point of a number.
+fn standing_at(len: u32, points: &[Point], number: usize) -> Standing
+    requires { number < length points.now }
+    ensures { result ≡ standing_in len points.now number }
 {
-    let point = points[number];
-    if !point.lacks(len) {
-        return worst;
-    }
-    let own = number as u32 + 1;
-    let Some(line) = worst else {
-        return Some(own);
-    };
-    if point.free > points[line as usize - 1].free {
-        return Some(own);
-    }
-    Some(line)
+    Standing::of(len, &points[number])
 }
 
-/// The line behind which a request of so many bytes finds no room and the most words are free, the first of these; None where it
-/// finds room behind each line.
-pub fn worst_line(len: u32, points: &[Point]) -> Option<u32>
-    requires { length points.now ≤ 2 ^ 16 }
-    ensures { IsWorstAmong len points.now (length points.now) result }
+// The line to look at among one point more than the first of these points.
+fn worse_line(len: u32, points: &[Point], number: usize, worst: Look) -> Look
+    requires within { number < length points.now }
+    requires few { length points.now ≤ 2 ^ 16 }
+    requires worst { IsLook len points.now number worst }
+    ensures { IsLook len points.now (number + 1) result }
 {
-    let mut worst = None;
-    for number in 0..points.len() {
+    let standing = standing_at(len, points, number);
+    if standing.is_worse(worst.standing) {
+        let line = number as u32 + 1;
+        Look { line, standing }
+    } else {
+        worst
+    }
+}
+
+/// The line to look at of a heap whose worker's longest request is of so many bytes: the first of those behind which it stands worst.
+pub fn worst_line(len: u32, points: &[Point]) -> Look
+    requires some { 0 < length points.now }
+    requires few { length points.now ≤ 2 ^ 16 }
+    ensures { IsLook len points.now (length points.now) result }
+{
+    let standing = standing_at(len, points, 0);
+    let mut worst = Look { line: 1, standing };
+    for number in 1..points.len() {
         worst = worse_line(len, points, number, worst);
     }
     worst

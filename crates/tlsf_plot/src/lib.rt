@@ -11,12 +11,14 @@
 
 mod chart;
 mod curve;
+mod look;
 mod plot_form;
 mod plotting;
 mod point;
 mod points;
 mod rows;
 mod series;
+mod standing;
 mod svg;
 mod worst;
 

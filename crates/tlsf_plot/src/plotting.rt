@@ -37,14 +37,14 @@ fn chart_of<const SLI: u32>(
     let points = points_of::<SLI>(alloc, recording, heap)?;
     let span = span_for(most, points.len());
     let longest = longest_of(heap, &recording.lines);
-    let worst = worst_line(longest, &points);
+    let look = worst_line(longest, &points);
     let curve = curve_of(alloc, words, span, &points)?;
     Ok(Chart {
         heap,
         words,
         span,
         longest,
-        worst,
+        look,
         curve,
     })
 }
@@ -105,8 +105,11 @@ fn plot_of(alloc: Global, recording: &Recording, form: Form) -> Result<String, A
 ///
 /// A point is the report on the heap behind a line, which [`draw_trace_at`](tlsf_picture::draw_trace_at) draws: words live and free, the
 /// greatest free block, fragmentation, the words that the line asks for, and whether a call was refused. Of a long trace several lines are
-/// one point, which shows the worst of each number, so that no line has more than 2,000 in an SVG file, and 56 in characters. Above a heap stands the line to look at: behind it
-/// the longest request of its worker would find no room, with the most words free.
+/// one point, which shows the worst of each number, so that no line has more than 2,000 in an SVG file, and 56 in characters.
+///
+/// Above a heap stands the line to look at: of those after which the longest request of its worker would find no room, the first with
+/// the most words free. Where it finds room after each line, it is the first of those with the most live words that has the most
+/// fragmentation among them.
 ///
 /// The trace is read to its end and checked before a line runs, it is run once for each heap, and the whole text is made before a byte is
 /// written. The limits are those of [`replay`](tlsf_trace::replay).

@@ -1,12 +1,14 @@
 //! The plot of some heaps in the characters of a terminal.
 ghost use Rattle.std.specs.Prelude.{◌≡◌, ◌<◌, ◌++◌, OnOk, string_bytes};
 ghost use Rattle.tlsf_plot.specs.Rows as drawn;
-ghost use Rattle.tlsf_plot.specs.Rows.{bars_text, flags_row, flags_text, heap_rows, heaps_rows, key_row, look_text, room_row, row_end, row_text, rows_text, text_of, title_line, worst_row};
+ghost use Rattle.tlsf_plot.specs.Rows.{always_row, bars_text, flags_row, flags_text, full_row, fullest_row, heap_rows, heaps_rows, key_row, look_rows, row_end, row_text, rows_text, text_of, title_line, worst_row};
 
 use crate::chart::Chart;
+use crate::look::Look;
 use crate::point::Point;
 use crate::series::Series;
-use crate::svg::top_of;
+use crate::standing::Standing;
+use crate::svg::{bytes, top_of};
 use std::alloc::AllocError;
 
 // What the rows are.
@@ -132,38 +134,78 @@ fn write_title_line(text: &mut String, chart: &Chart) -> Result<(), AllocError>
 {
     let heap = chart.heap;
     let words = chart.words;
+    let longest = chart.longest;
+    let bytes = bytes(longest);
     let span = chart.span;
     write!(
         text,
-        "\nheap {heap}: {words} words; lines a column: {span}\n"
+        "\nheap {heap}: {words} words, longest request {longest} {bytes}; lines a column: {span}\n"
     )
 }
 
-fn write_room_row(text: &mut String, longest: u32) -> Result<(), AllocError>
-    ensures { OnOk result (string_bytes text.new ≡ string_bytes text.old ++ room_row longest) }
+fn write_worst_row(
+    text: &mut String,
+    line: u32,
+    free: u32,
+    longest: u32,
+) -> Result<(), AllocError>
+    ensures { OnOk result (string_bytes text.new ≡ string_bytes text.old ++ worst_row line free longest) }
 {
+    let bytes = bytes(longest);
     write!(
         text,
-        "the longest request, of {longest} bytes, finds room behind each line\n"
+        "worst moment, after line {line}: {free} words free, no room for {longest} {bytes}\n  tlsf map --at {line}\n"
     )
 }
 
-fn write_worst_row(text: &mut String, longest: u32, line: u32) -> Result<(), AllocError>
-    ensures { OnOk result (string_bytes text.new ≡ string_bytes text.old ++ worst_row longest line) }
+fn write_full(
+    text: &mut String,
+    line: u32,
+    live: u32,
+    fragmentation: u32,
+) -> Result<(), AllocError>
+    ensures { OnOk result (string_bytes text.new ≡ string_bytes text.old ++ full_row line live fragmentation) }
 {
     write!(
         text,
-        "most words free without room for the longest request, of {longest} bytes:\n  tlsf map --at {line}\n"
+        "fullest moment, after line {line}: {live} words live, fragmentation {fragmentation}/1000\n"
     )
+}
+
+fn write_always(text: &mut String, line: u32, longest: u32) -> Result<(), AllocError>
+    ensures { OnOk result (string_bytes text.new ≡ string_bytes text.old ++ always_row line longest) }
+{
+    let bytes = bytes(longest);
+    write!(
+        text,
+        "  always room for {longest} {bytes}: tlsf map --at {line}\n"
+    )
+}
+
+#[tactic(auto, unfolding(crate::specs::Rows::fullest_row))]
+fn write_fullest_row(
+    text: &mut String,
+    line: u32,
+    live: u32,
+    fragmentation: u32,
+    longest: u32,
+) -> Result<(), AllocError>
+    ensures { OnOk result (string_bytes text.new ≡ string_bytes text.old ++ fullest_row line live fragmentation longest) }
+{
+    write_full(text, line, live, fragmentation)?;
+    write_always(text, line, longest)
 }
 
 // Says where to look.
-fn write_look(text: &mut String, longest: u32, worst: Option<u32>) -> Result<(), AllocError>
-    ensures { OnOk result (string_bytes text.new ≡ string_bytes text.old ++ look_text longest worst) }
+fn write_look(text: &mut String, longest: u32, look: Look) -> Result<(), AllocError>
+    ensures { OnOk result (string_bytes text.new ≡ string_bytes text.old ++ look_rows longest look) }
 {
-    match worst {
-        None => write_room_row(text, longest),
-        Some(line) => write_worst_row(text, longest, line),
+    match look.standing {
+        Standing::NoRoom { free } => write_worst_row(text, look.line, free, longest),
+        Standing::Room {
+            live,
+            fragmentation,
+        } => write_fullest_row(text, look.line, live, fragmentation, longest),
     }
 }
 
@@ -172,7 +214,7 @@ fn write_heap_rows(text: &mut String, chart: &Chart) -> Result<(), AllocError>
     ensures { OnOk result (string_bytes text.new ≡ string_bytes text.old ++ heap_rows chart.now) }
 {
     write_title_line(text, chart)?;
-    write_look(text, chart.longest, chart.worst)?;
+    write_look(text, chart.longest, chart.look)?;
     write_rows(text, chart.words, &chart.curve)
 }
 

@@ -1,11 +1,13 @@
 //! The plot of some heaps as an SVG file.
 ghost use Rattle.std.specs.Prelude.{◌≡◌, ◌++◌, ◌+◌, ◌≤◌, ◌^◌, ◌*◌, length, OnOk, string_bytes};
 ghost use Rattle.tlsf_plot.specs.Svg as drawn;
-ghost use Rattle.tlsf_plot.specs.Svg.{chart_frames, chart_head, chart_text, charts_text, frame_begin, frame_box, frame_place, frame_text, frame_turn, framed_text, frames_text, key_text, line_text, lines_text, mark_of, mark_text, marks_text, name_text, page_begin, path_begin, refused_text, room_line, scale_text, step_text, steps_text, strip_text, svg_text, worst_line, worst_text};
+ghost use Rattle.tlsf_plot.specs.Svg.{always_text, bytes_of, chart_frames, chart_head, chart_text, charts_text, frame_begin, frame_box, frame_place, frame_text, frame_turn, framed_text, frames_text, full_text, fullest_line, heap_text, key_text, line_text, lines_text, look_text, mark_of, mark_text, marks_text, name_text, page_begin, path_begin, plural_of, points_text, refused_text, scale_text, step_text, steps_text, strip_text, svg_text, worst_line};
 
 use crate::chart::Chart;
+use crate::look::Look;
 use crate::point::Point;
 use crate::series::Series;
+use crate::standing::Standing;
 use std::alloc::AllocError;
 
 // Colours by the reader's scheme.
@@ -212,51 +214,110 @@ fn write_frames(text: &mut String, words: u32, curve: &[Point]) -> Result<(), Al
 }
 
 // The name of one, or that of many.
-#[tactic(auto, unfolding(crate::specs::Svg::lines_of))]
-fn lines_of(span: usize) -> &'static str
-    ensures { result.now ≡ drawn.lines_of span }
+#[tactic(auto, unfolding(crate::specs::Svg::plural_of))]
+fn plural(count: usize, one: &'static str, many: &'static str) -> &'static str
+    ensures { result.now ≡ plural_of count one.now many.now }
 {
-    if span == 1 { "line" } else { "lines" }
+    if count == 1 { one } else { many }
 }
 
-fn write_name(text: &mut String, y: usize, chart: &Chart) -> Result<(), AllocError>
-    ensures { OnOk result (string_bytes text.new ≡ string_bytes text.old ++ name_text y chart.now) }
+/// The unit of so many bytes.
+pub fn bytes(count: u32) -> &'static str
+    ensures { result.now ≡ bytes_of count }
+{
+    plural(count as usize, "byte", "bytes")
+}
+
+fn write_heap(text: &mut String, y: usize, chart: &Chart) -> Result<(), AllocError>
+    ensures { OnOk result (string_bytes text.new ≡ string_bytes text.old ++ heap_text y chart.now) }
 {
     let heap = chart.heap;
     let words = chart.words;
-    let span = chart.span;
-    let lines = lines_of(span);
     write!(
         text,
-        "<g transform='translate(0 {y})'><text class='name' x='80' y='24'>heap {heap}: {words} words, {span} {lines} a point</text>\n"
+        "<g transform='translate(0 {y})'><text class='name' x='80' y='24'>heap {heap}: {words} words, longest request "
     )
 }
 
-fn write_room_line(text: &mut String, longest: u32) -> Result<(), AllocError>
-    ensures { OnOk result (string_bytes text.new ≡ string_bytes text.old ++ room_line longest) }
+fn write_points(text: &mut String, longest: u32, span: usize) -> Result<(), AllocError>
+    ensures { OnOk result (string_bytes text.new ≡ string_bytes text.old ++ points_text longest span) }
 {
+    let bytes = bytes(longest);
+    let lines = plural(span, "line", "lines");
+    write!(text, "{longest} {bytes}, {span} {lines} a point</text>\n")
+}
+
+#[tactic(auto, unfolding(crate::specs::Svg::name_text))]
+fn write_name(text: &mut String, y: usize, chart: &Chart) -> Result<(), AllocError>
+    ensures { OnOk result (string_bytes text.new ≡ string_bytes text.old ++ name_text y chart.now) }
+{
+    write_heap(text, y, chart)?;
+    write_points(text, chart.longest, chart.span)
+}
+
+fn write_worst_line(
+    text: &mut String,
+    line: u32,
+    free: u32,
+    longest: u32,
+) -> Result<(), AllocError>
+    ensures { OnOk result (string_bytes text.new ≡ string_bytes text.old ++ worst_line line free longest) }
+{
+    let bytes = bytes(longest);
     write!(
         text,
-        "<text x='80' y='48'>the longest request, of {longest} bytes, finds room behind each line</text>\n"
+        "<text x='80' y='48'>worst moment, after line {line}: {free} words free, no room for {longest} {bytes}: tlsf map --at {line}</text>\n"
     )
 }
 
-fn write_worst_line(text: &mut String, longest: u32, line: u32) -> Result<(), AllocError>
-    ensures { OnOk result (string_bytes text.new ≡ string_bytes text.old ++ worst_line longest line) }
+fn write_full(
+    text: &mut String,
+    line: u32,
+    live: u32,
+    fragmentation: u32,
+) -> Result<(), AllocError>
+    ensures { OnOk result (string_bytes text.new ≡ string_bytes text.old ++ full_text line live fragmentation) }
 {
     write!(
         text,
-        "<text x='80' y='48'>the most words are free without room for the longest request, of {longest} bytes, behind line {line}: tlsf map --at {line}</text>\n"
+        "<text x='80' y='48'>fullest moment, after line {line}: {live} words live, fragmentation {fragmentation}/1000, "
     )
+}
+
+fn write_always(text: &mut String, line: u32, longest: u32) -> Result<(), AllocError>
+    ensures { OnOk result (string_bytes text.new ≡ string_bytes text.old ++ always_text line longest) }
+{
+    let bytes = bytes(longest);
+    write!(
+        text,
+        "always room for {longest} {bytes}: tlsf map --at {line}</text>\n"
+    )
+}
+
+#[tactic(auto, unfolding(crate::specs::Svg::fullest_line))]
+fn write_fullest_line(
+    text: &mut String,
+    line: u32,
+    live: u32,
+    fragmentation: u32,
+    longest: u32,
+) -> Result<(), AllocError>
+    ensures { OnOk result (string_bytes text.new ≡ string_bytes text.old ++ fullest_line line live fragmentation longest) }
+{
+    write_full(text, line, live, fragmentation)?;
+    write_always(text, line, longest)
 }
 
 // Says where to look.
-fn write_worst(text: &mut String, longest: u32, worst: Option<u32>) -> Result<(), AllocError>
-    ensures { OnOk result (string_bytes text.new ≡ string_bytes text.old ++ worst_text longest worst) }
+fn write_look(text: &mut String, longest: u32, look: Look) -> Result<(), AllocError>
+    ensures { OnOk result (string_bytes text.new ≡ string_bytes text.old ++ look_text longest look) }
 {
-    match worst {
-        None => write_room_line(text, longest),
-        Some(line) => write_worst_line(text, longest, line),
+    match look.standing {
+        Standing::NoRoom { free } => write_worst_line(text, look.line, free, longest),
+        Standing::Room {
+            live,
+            fragmentation,
+        } => write_fullest_line(text, look.line, live, fragmentation, longest),
     }
 }
 
@@ -265,7 +326,7 @@ fn write_head(text: &mut String, y: usize, chart: &Chart) -> Result<(), AllocErr
     ensures { OnOk result (string_bytes text.new ≡ string_bytes text.old ++ chart_head y chart.now) }
 {
     write_name(text, y, chart)?;
-    write_worst(text, chart.longest, chart.worst)
+    write_look(text, chart.longest, chart.look)
 }
 
 #[tactic(auto, unfolding(crate::specs::Svg::chart_frames))]

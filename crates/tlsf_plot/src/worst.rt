@@ -4,12 +4,12 @@ ghost use Rattle.tlsf_class.specs.Classes.{IsLevel};
 ghost use Rattle.tlsf_lines.specs.Ranges.{IsHeaderInRange};
 ghost use Rattle.tlsf_lines.specs.Trace.{Trace};
 ghost use Rattle.tlsf_picture.specs.Moments.{IsRecording};
-ghost use Rattle.tlsf_plot.specs.Steps.{HasNamed, HasWorst};
-ghost use Rattle.tlsf_plot.specs.Worst.{DrawsWorst};
+ghost use Rattle.tlsf_plot.specs.Worst.{DrawsWorst, IsNamed, IsWorstOf};
 ghost use Rattle.tlsf_trace.specs.Output.{level_in};
 ghost use Rattle.tlsf_trace.specs.Replay.{IsRun};
 
 use crate::curve::worst_line;
+use crate::look::Look;
 use crate::points::{longest_of, points_of};
 use std::alloc::{AllocError, Global};
 use std::io::{Read, Write};
@@ -17,70 +17,53 @@ use tlsf_lines::Version;
 use tlsf_picture::{Form, Recording, picture_by, record_trace};
 use tlsf_trace::{Summary, TraceFault, finish};
 
-// A line that the plot names above a heap.
-#[derive(Clone, Copy)]
-struct Named {
-    line: u32,
-    // The heap's free words behind it.
-    free: u32,
-}
-
-// What the plot names above a heap, None where the longest request finds room behind each line.
+// What the plot names above a heap.
 fn named_above<const SLI: u32>(
     alloc: Global,
     recording: &Recording,
     heap: u32,
-) -> Result<Option<Named>, AllocError>
+) -> Result<Look, AllocError>
     requires level { IsLevel SLI }
     requires header { IsHeaderInRange recording.now.header }
     requires lines { length recording.now.lines.items ≤ 32768 }
     requires heap { heap < recording.now.header.workers }
-    ensures { (trace : Trace) → level_in trace.header ≡ SLI → IsRecording recording.now trace → IfOk result (HasNamed trace heap) }
+    ensures { (trace : Trace) → level_in trace.header ≡ SLI → IsRecording recording.now trace → IfOk result (IsNamed trace heap) }
 {
     let points = points_of::<SLI>(alloc, recording, heap)?;
     let longest = longest_of(heap, &recording.lines);
-    let Some(line) = worst_line(longest, &points) else {
-        return Ok(None);
-    };
-    let free = points[line as usize - 1].free;
-    Ok(Some(Named { line, free }))
+    Ok(worst_line(longest, &points))
 }
 
-// The one of two with more free words, the first where they have equally many.
-fn worse_named(worst: Option<Named>, next: Option<Named>) -> Option<Named>
-    ensures { (trace : Trace) (heap : ℕ) → HasWorst trace heap worst → HasNamed trace heap next → HasWorst trace (heap + 1) result }
+// The worse of two, the first where neither is.
+fn worse_named(worst: Look, next: Look) -> Look
+    ensures { (trace : Trace) (heap : ℕ) → IsWorstOf trace heap worst → IsNamed trace heap next → IsWorstOf trace (heap + 1) result }
 {
-    let Some(own) = next else {
-        return worst;
-    };
-    let Some(other) = worst else {
-        return next;
-    };
-    if own.free > other.free { next } else { worst }
+    if next.standing.is_worse(worst.standing) {
+        next
+    } else {
+        worst
+    }
 }
 
 // The line to look at of a trace, at its level.
-fn worst_on<const SLI: u32>(
-    alloc: Global,
-    recording: &Recording,
-) -> Result<Option<Named>, AllocError>
+fn worst_on<const SLI: u32>(alloc: Global, recording: &Recording) -> Result<Look, AllocError>
     requires level { IsLevel SLI }
     requires header { IsHeaderInRange recording.now.header }
     requires lines { length recording.now.lines.items ≤ 32768 }
-    ensures { (trace : Trace) → level_in trace.header ≡ SLI → IsRecording recording.now trace → IfOk result (HasWorst trace trace.header.workers) }
+    ensures { (trace : Trace) → level_in trace.header ≡ SLI → IsRecording recording.now trace → IfOk result (IsWorstOf trace trace.header.workers) }
 {
-    let mut worst = None;
-    for heap in 0..recording.header.workers {
+    let mut worst = named_above::<SLI>(alloc, recording, 0)?;
+    for heap in 1..recording.header.workers {
         worst = worse_named(worst, named_above::<SLI>(alloc, recording, heap)?);
     }
     Ok(worst)
 }
 
 // The line to look at of a trace.
-fn worst_of(alloc: Global, recording: &Recording) -> Result<Option<Named>, AllocError>
+fn worst_of(alloc: Global, recording: &Recording) -> Result<Look, AllocError>
     requires header { IsHeaderInRange recording.now.header }
     requires lines { length recording.now.lines.items ≤ 32768 }
-    ensures { (trace : Trace) → IsRecording recording.now trace → IfOk result (HasWorst trace trace.header.workers) }
+    ensures { (trace : Trace) → IsRecording recording.now trace → IfOk result (IsWorstOf trace trace.header.workers) }
 {
     match recording.header.version {
         Version::One => worst_on::<4>(alloc, recording),
@@ -94,18 +77,15 @@ fn picture_of_worst(alloc: Global, recording: &Recording, form: Form) -> Result<
     requires lines { length recording.now.lines.items ≤ 32768 }
     ensures { (trace : Trace) → IsRecording recording.now trace → IfOk result (λ text. DrawsWorst form trace (string_bytes text)) }
 {
-    let worst = worst_of(alloc, recording)?;
-    match worst {
-        Some(named) => picture_by(alloc, recording, form, named.line),
-        None => picture_by(alloc, recording, form, recording.lines.len() as u32 + 2),
-    }
+    let look = worst_of(alloc, recording)?;
+    picture_by(alloc, recording, form, look.line)
 }
 
 /// Reads a whole trace, and writes a picture of each heap as it stands behind the line to look at.
 ///
-/// That is the line that [`plot_trace`](crate::plot_trace) names: behind it the longest request of a heap's worker would find no room,
-/// with the most of that heap's words free. Where the plot names lines above several heaps, it is that with the most free words, and of
-/// equal ones that of the first heap. Where it names none the heaps are drawn as they stand at the end. All else is as at
+/// [`plot_trace`](crate::plot_trace) names a line above each heap. Of these it is the one after which a heap stands worst: without room
+/// for the longest request of its worker, with the most free words; or, where each finds room after each line, with the most live words
+/// and of equally many with the most fragmentation. Of equal ones it is that of the first heap. All else is as at
 /// [`draw_trace_at`](tlsf_picture::draw_trace_at); to find the line, the trace is run once for each heap.
 ///
 /// ```

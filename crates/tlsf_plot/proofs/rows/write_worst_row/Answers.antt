@@ -1,6 +1,7 @@
+use Rattle.std.proofs.Common.{sym}
 use Rattle.tlsf_plot.specs.Rows.{worst_row}
 use Rattle.tlsf_plot.proofs.rows.write_worst_row.Goals as goal
 
 pub returns : goal.returns
 unfolding worst_row
-returns c = c.write.ensures.bytes
+returns c = rw (sym c.bytes-bytes.ensures) c.write.ensures.bytes

@@ -1,10 +1,10 @@
 use Rattle.std.proofs.Common.{◌≡◌}
 use Rattle.tlsf_lines.specs.Trace.{Trace}
 use Rattle.tlsf_picture.specs.Moments.{IsRecording}
-use Rattle.tlsf_plot.specs.Steps.{HasWorst}
+use Rattle.tlsf_plot.specs.Worst.{IsWorstOf}
 use Rattle.tlsf_plot.proofs.worst.worst_on.Given as goal
 use Rattle.tlsf_trace.specs.Output.{level_in}
 
 -- the line to look at of the heaps below this number
 abbrev pub invariant-loop-heap : goal.invariant-loop-heap
-invariant-loop-heap g l = (trace : Trace) → level_in trace.header ≡ g.row.SLI → IsRecording l.recording trace → HasWorst trace l.heap l.worst
+invariant-loop-heap g l = (trace : Trace) → level_in trace.header ≡ g.row.SLI → IsRecording l.recording trace → IsWorstOf trace l.heap l.worst
