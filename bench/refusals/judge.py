@@ -14,7 +14,7 @@ COUNTS = os.path.join(WORK, "counts")
 
 NO_MEMORY = (3, b"", b"tlsf: out of memory (6)\n")
 READ_FAILED = (1, b"", b"tlsf: read failed (16)\n")
-TOO_LONG = (1, b"", b"tlsf: trace too long (15)\n")
+TOO_LONG = (1, b"", b"tlsf: trace too long (15)\ntip: 'tlsf check < TRACE' says more\n")
 WRITE_FAILED = b"tlsf: write failed (17)\n"
 
 # Two workers, labels that go abroad, payloads, phases and drains: what a trace can ask for.

@@ -9,14 +9,14 @@ use Rattle.clap.specs.Walk.{Row, Text, all_of, one_of, rows_of}
 use Rattle.clap.specs.Words.{subcommand_of, subcommand_rows_of}
 use Rattle.clap.specs.declared.parser.matches.ArgMatches.{ArgMatches}
 use Rattle.clap.proofs.WalkLemmas.{one_text-rows, raw_values-rows}
-use Rattle.tlsf_command.specs.CommandLine.{Answers, Asks, HasFlag, HasForm, IsAnswerable, IsFormOf, IsMapOn, IsRunOn, IsTip, LacksFlag, NamesNoLine, command_in, command_of, flag_given, line_given, name_of, replay_by, run_in, texts_given, tip_line, tlsf_app, worst_in}
+use Rattle.tlsf_command.specs.CommandLine.{Answers, Asks, HasFlag, HasForm, IsAnswerable, IsFormOf, IsMapOn, IsRunOn, IsTip, LacksFlag, command_in, command_of, flag_given, line_for, line_given, name_of, replay_by, run_in, texts_given, tip_line, tlsf_app, worst_in}
 use Rattle.tlsf_command.specs.ClassQuestions.{HasClasses, IsClassQuestion}
 use Rattle.tlsf_command.specs.SizeQuestions.{IsQuestion, first_number}
 use Rattle.tlsf_command.specs.declared.class_question.ClassQuestion.{ClassQuestion}
 use Rattle.tlsf_command.specs.declared.class_question.ClassQuestion.TheVariants.{Coarse, Fine, NoClass}
 use Rattle.tlsf_command.specs.declared.size_question.SizeQuestion.{SizeQuestion}
 use Rattle.tlsf_command.specs.declared.command_line.Choice.{Choice}
-use Rattle.tlsf_command.specs.declared.command_line.Choice.TheVariants.{Trace, File, Classes, Size, At}
+use Rattle.tlsf_command.specs.declared.command_line.Choice.TheVariants.{Trace, File, Classes, Size, At, TwoLines}
 use Rattle.tlsf_picture.specs.declared.form.Form.{Form}
 use Rattle.tlsf_picture.specs.declared.form.Form.TheVariants.{Svg, Text as Characters}
 use Rattle.tlsf_command.specs.declared.trace_run.TraceRun.{TraceRun}
@@ -141,25 +141,45 @@ same_run words run other is gives has = absurd (no_other (command_of other) (com
 pub only_run : (words : List Text) (run : TraceRun) (choice : Choice) → command_in words ≡ Some (command_of run) → GivesForm run words
     → texts_given (codes "FILE") words ≡ [] → line_given words ≡ 0 → Asks words choice → choice ≡ Trace run
 only_run words run (Trace other) is gives none no_line asks = ap (λ (r : TraceRun). Trace r) (same_run words run other (same_name words (Trace other) _ asks is) gives asks.parts.0)
-only_run words run (File other tip) is gives none no_line asks = absurd (subst (λ (files : List Text). IsTip other files (string_bytes tip)) none asks.parts.1)
+only_run words run (File other tip) is gives none no_line asks = absurd (subst (λ (files : List Text). IsTip other (line_for other words) files (string_bytes tip)) none asks.parts.1)
 only_run words run (Classes question) is gives none no_line asks = absurd (no_other _ _ (same_name words (Classes question) _ asks is) (no_classes run) (itself run))
 only_run words run (Size question) is gives none no_line asks = absurd (no_other _ _ (same_name words (Size question) _ asks is) (no_size run) (itself run))
 only_run words run (At form line) is gives none no_line asks = absurd (asks.parts.2 (asks.parts.3 ∙ no_line))
+only_run words run TwoLines is gives none no_line asks = absurd (asks.parts.2 no_line)
 
 some_file : (file : Text) → file ∷ [] ≡ [] → ⊥
 some_file file is = let count : 1 ≡ 0 = ap (λ (files : List Text). length files) is in absurd (omega (arith, count))
 
--- and where they give a file, what they ask for is its tip
+-- where the words give no line, no run has one
+no_line_for : (run : TraceRun) (words : List Text) → line_given words ≡ 0 → line_for run words ≡ 0
+no_line_for Replay words none = refl
+no_line_for Held words none = refl
+no_line_for HeldKinds words none = refl
+no_line_for Race words none = refl
+no_line_for RaceQueues words none = refl
+no_line_for Map words none = none
+no_line_for MapText words none = none
+no_line_for MapHtml words none = refl
+no_line_for MapWorst words none = none
+no_line_for MapWorstText words none = none
+no_line_for Plot words none = refl
+no_line_for PlotText words none = refl
+no_line_for Check words none = refl
+
+-- and where they give a file and no line, what they ask for is its tip
 pub only_tip : (words : List Text) (run : TraceRun) (file : Text) (choice : Choice) (status : ℕ) (old new : Streams) → command_in words ≡ Some (command_of run) → GivesForm run words
-    → texts_given (codes "FILE") words ≡ file ∷ [] → Asks words choice → Does choice status old new → Refuses (tip_line run file) status old new
-only_tip words run file (Trace other) status old new is gives given asks done = absurd (some_file file (sym given ∙ asks.parts.1))
-only_tip words run file (File other tip) status old new is gives given asks done =
-    let tips : string_bytes tip ≡ tip_line other file = subst (λ (files : List Text). IsTip other files (string_bytes tip)) given asks.parts.1 in
+    → texts_given (codes "FILE") words ≡ file ∷ [] → line_given words ≡ 0 → Asks words choice → Does choice status old new → Refuses (tip_line run 0 file) status old new
+only_tip words run file (Trace other) status old new is gives given no_line asks done = absurd (some_file file (sym given ∙ asks.parts.1))
+only_tip words run file (File other tip) status old new is gives given no_line asks done =
+    let tips : string_bytes tip ≡ tip_line other (line_for other words) file =
+    subst (λ (files : List Text). IsTip other (line_for other words) files (string_bytes tip)) given asks.parts.1 in
+    let none : tip_line other (line_for other words) file ≡ tip_line other 0 file = ap (λ (line : ℕ). tip_line other line file) (no_line_for other words no_line) in
     let same = same_run words run other (same_name words (File other tip) _ asks is) gives asks.parts.0 in
-    subst (λ (line : Text). Refuses line status old new) (tips ∙ ap (λ (r : TraceRun). tip_line r file) same) done
-only_tip words run file (Classes question) status old new is gives given asks done = absurd (no_other _ _ (same_name words (Classes question) _ asks is) (no_classes run) (itself run))
-only_tip words run file (Size question) status old new is gives given asks done = absurd (no_other _ _ (same_name words (Size question) _ asks is) (no_size run) (itself run))
-only_tip words run file (At form line) status old new is gives given asks done = absurd (some_file file (sym given ∙ asks.parts.1))
+    subst (λ (line : Text). Refuses line status old new) (tips ∙ (none ∙ ap (λ (r : TraceRun). tip_line r 0 file) same)) done
+only_tip words run file (Classes question) status old new is gives given no_line asks done = absurd (no_other _ _ (same_name words (Classes question) _ asks is) (no_classes run) (itself run))
+only_tip words run file (Size question) status old new is gives given no_line asks done = absurd (no_other _ _ (same_name words (Size question) _ asks is) (no_size run) (itself run))
+only_tip words run file (At form line) status old new is gives given no_line asks done = absurd (some_file file (sym given ∙ asks.parts.1))
+only_tip words run file TwoLines status old new is gives given no_line asks done = absurd (asks.parts.2 no_line)
 
 pub only_size : (words : List Text) (choice : Choice) → command_in words ≡ Some (codes "size") → Asks words choice → (question : SizeQuestion) × (choice ≡ Size question)
 only_size words (Trace run) is asks = absurd (no_other _ _ (sym (same_name words (Trace run) _ asks is)) (no_size run) (itself run))
@@ -167,6 +187,7 @@ only_size words (File run tip) is asks = absurd (no_other _ _ (sym (same_name wo
 only_size words (Classes question) is asks = absurd (no_other _ _ (same_name words (Classes question) _ asks is) refl refl)
 only_size words (Size question) is asks = (question, refl)
 only_size words (At form line) is asks = absurd (no_other _ _ (same_name words (At form line) _ asks is) refl refl)
+only_size words TwoLines is asks = absurd (no_other _ _ (same_name words TwoLines _ asks is) refl refl)
 
 -- a size that is asked about has a class
 has_classes : (sizes levels : List Text) (question : ClassQuestion) → IsClassQuestion sizes levels question → HasClasses question
@@ -179,6 +200,7 @@ pub answerable : (words : List Text) (choice : Choice) → Asks words choice →
 answerable words (Trace run) asks = tt
 answerable words (File run tip) asks = tt
 answerable words (At form line) asks = tt
+answerable words TwoLines asks = tt
 answerable words (Classes question) asks = has_classes (texts_given (codes "N") words) (texts_given (codes "sli") words) question asks.parts
 answerable words (Size question) asks = has_table (texts_given (codes "B") words) (texts_given (codes "N") words) (texts_given (codes "sli") words) (texts_given (codes "split") words) question asks.parts
 
@@ -243,34 +265,45 @@ texts_entered words matches given id answers entered =
 abbrev texts_read : Text → ArgMatches → List Text
 texts_read id given = unwrap_or (option_map raw_values (matched_of (found_of given) id)) []
 
--- where the command is that of a run, whose flag the words give, they ask for what the words behind it make of it
-pub asks_run : (words : List Text) (matches given : ArgMatches) (run : TraceRun) (choice : Choice) → Answers words matches
+-- where the command is that of a run, whose flag and line the words give, they ask for what the words behind it make of it
+asks_lined : (words : List Text) (matches given : ArgMatches) (run : TraceRun) (line : ℕ) (choice : Choice) → Answers words matches
     → subcommand_name_of matches ≡ Some (command_of run)
     → option_map (λ (entered : Text × List Row). entered.1) (subcommand_rows_of matches) ≡ Some (rows_of (found_of given))
-    → HasForm run words → (texts_read (codes "FILE") given ≡ [] → NamesNoLine run words) → IsRunOn run (texts_read (codes "FILE") given) choice → Asks words choice
-asks_run words matches given run (Trace other) answers called entered form no_line on =
+    → HasForm run words → line ≡ line_for run words → (texts_read (codes "FILE") given ≡ [] → line ≡ 0)
+    → IsRunOn run line (texts_read (codes "FILE") given) choice → Asks words choice
+asks_lined words matches given run line (Trace other) answers called entered form line_is no_line on =
     let same = sym on.0 in record {
       faultless = answers.0;
       named = sym (label_of_words words matches answers) ∙ (called ∙ ap (λ (r : TraceRun). Some (command_of r)) same);
       parts = (
         subst (λ (r : TraceRun). HasForm r words) same form,
         sym (texts_entered words matches given (codes "FILE") answers entered) ∙ on.1,
-        subst (λ (r : TraceRun). NamesNoLine r words) same (no_line on.1),
+        subst (λ (r : TraceRun). line_for r words ≡ 0) same (sym line_is ∙ no_line on.1),
       );
     }
-asks_run words matches given run (File other tip) answers called entered form no_line on =
+asks_lined words matches given run line (File other tip) answers called entered form line_is no_line on =
     let same = sym on.0 in record {
       faultless = answers.0;
       named = sym (label_of_words words matches answers) ∙ (called ∙ ap (λ (r : TraceRun). Some (command_of r)) same);
       parts = (
         subst (λ (r : TraceRun). HasForm r words) same form,
-        subst (λ (r : TraceRun). IsTip r (texts_given (codes "FILE") words) (string_bytes tip)) same
-            (subst (λ (files : List Text). IsTip run files (string_bytes tip)) (texts_entered words matches given (codes "FILE") answers entered) on.1),
+        subst (λ (r : TraceRun). IsTip r (line_for r words) (texts_given (codes "FILE") words) (string_bytes tip)) same
+            (subst (λ (n : ℕ). IsTip run n (texts_given (codes "FILE") words) (string_bytes tip)) line_is
+            (subst (λ (files : List Text). IsTip run line files (string_bytes tip)) (texts_entered words matches given (codes "FILE") answers entered) on.1)),
       );
     }
-asks_run words matches given run (Classes question) answers called entered form no_line on = absurd on
-asks_run words matches given run (Size question) answers called entered form no_line on = absurd on
-asks_run words matches given run (At form line) answers called entered has no_line on = absurd on
+asks_lined words matches given run line (Classes question) answers called entered form line_is no_line on = absurd on
+asks_lined words matches given run line (Size question) answers called entered form line_is no_line on = absurd on
+asks_lined words matches given run line (At form k) answers called entered has line_is no_line on = absurd on
+asks_lined words matches given run line TwoLines answers called entered has line_is no_line on = absurd on
+
+-- of a run that has no line
+pub asks_run : (words : List Text) (matches given : ArgMatches) (run : TraceRun) (choice : Choice) → Answers words matches
+    → subcommand_name_of matches ≡ Some (command_of run)
+    → option_map (λ (entered : Text × List Row). entered.1) (subcommand_rows_of matches) ≡ Some (rows_of (found_of given))
+    → HasForm run words → 0 ≡ line_for run words → IsRunOn run 0 (texts_read (codes "FILE") given) choice → Asks words choice
+asks_run words matches given run choice answers called entered form no_line on =
+    asks_lined words matches given run 0 choice answers called entered form no_line (λ _. refl) on
 
 -- the run of `replay` by its flags
 pub replay_called : (kinds held : Bool) → codes "replay" ≡ command_of (replay_by kinds held)
@@ -278,10 +311,10 @@ replay_called true held = refl
 replay_called false true = refl
 replay_called false false = refl
 
-pub no_line_in_replay : (kinds held : Bool) (words : List Text) → NamesNoLine (replay_by kinds held) words
-no_line_in_replay true held words = tt
-no_line_in_replay false true words = tt
-no_line_in_replay false false words = tt
+pub no_line_in_replay : (kinds held : Bool) (words : List Text) → 0 ≡ line_for (replay_by kinds held) words
+no_line_in_replay true held words = refl
+no_line_in_replay false true words = refl
+no_line_in_replay false false words = refl
 
 -- a flag is given as its test says
 abbrev pub IsGiven : Text → Bool → List Text → Type 0
@@ -306,9 +339,9 @@ worst_by : (form : Form) → codes "map" ≡ command_of (worst_in form)
 worst_by Svg = refl
 worst_by Characters = refl
 
-worst_has_no_line : (form : Form) (words : List Text) → NamesNoLine (worst_in form) words
-worst_has_no_line Svg words = tt
-worst_has_no_line Characters words = tt
+worst_line : (form : Form) (words : List Text) → line_given words ≡ line_for (worst_in form) words
+worst_line Svg words = refl
+worst_line Characters words = refl
 
 -- the flags of a picture that isn't a page, behind the line to look at and elsewhere
 pub map_form : (form : Form) (words : List Text) → LacksFlag (codes "html") words → LacksFlag (codes "worst") words → IsFormOf form words → HasForm (run_in form) words
@@ -319,27 +352,45 @@ worst_form : (form : Form) (words : List Text) → LacksFlag (codes "html") word
 worst_form Svg words html worst text = (html, worst, text)
 worst_form Characters words html worst text = (html, worst, text)
 
--- where the command is `map` and the words give its flag of the line to look at
+-- the line that the words give, by the matches of the command that was entered
+line_entered : (words : List Text) (matches given : ArgMatches) → Answers words matches
+    → option_map (λ (entered : Text × List Row). entered.1) (subcommand_rows_of matches) ≡ Some (rows_of (found_of given))
+    → first_number 0 (texts_read (codes "K") given) ≡ line_given words
+line_entered words matches given answers entered = ap (first_number 0) (texts_entered words matches given (codes "K") answers entered)
+
+-- where the command is `map` and the words give its flag of the line to look at, and no line
 pub asks_worst : (words : List Text) (matches given : ArgMatches) (form : Form) (choice : Choice) → Answers words matches
     → subcommand_name_of matches ≡ Some (codes "map")
     → option_map (λ (entered : Text × List Row). entered.1) (subcommand_rows_of matches) ≡ Some (rows_of (found_of given))
-    → LacksFlag (codes "html") words → HasFlag (codes "worst") words → IsFormOf form words
-    → IsRunOn (worst_in form) (texts_read (codes "FILE") given) choice → Asks words choice
-asks_worst words matches given form choice answers called entered html worst text on =
+    → LacksFlag (codes "html") words → HasFlag (codes "worst") words → IsFormOf form words → first_number 0 (texts_read (codes "K") given) ≡ 0
+    → IsRunOn (worst_in form) 0 (texts_read (codes "FILE") given) choice → Asks words choice
+asks_worst words matches given form choice answers called entered html worst text none on =
     asks_run words matches given (worst_in form) choice answers (called ∙ ap (λ (name : Text). Some name) (worst_by form)) entered
-    (worst_form form words html worst text) (λ none. worst_has_no_line form words) on
+    (worst_form form words html worst text) (sym none ∙ (line_entered words matches given answers entered ∙ worst_line form words)) on
 
-no_line_in : (form : Form) (words : List Text) → line_given words ≡ 0 → NamesNoLine (run_in form) words
-no_line_in Svg words none = none
-no_line_in Characters words none = none
+-- and where they give a line too, these are two
+pub asks_two_lines : (words : List Text) (matches given : ArgMatches) → Answers words matches
+    → subcommand_name_of matches ≡ Some (codes "map")
+    → option_map (λ (entered : Text × List Row). entered.1) (subcommand_rows_of matches) ≡ Some (rows_of (found_of given))
+    → LacksFlag (codes "html") words → HasFlag (codes "worst") words → (first_number 0 (texts_read (codes "K") given) ≡ 0 → ⊥) → Asks words TwoLines
+asks_two_lines words matches given answers called entered html worst some = record {
+  faultless = answers.0;
+  named = sym (label_of_words words matches answers) ∙ called;
+  parts = (html, worst, λ none. some (line_entered words matches given answers entered ∙ none));
+}
+
+line_in : (form : Form) (words : List Text) → line_given words ≡ line_for (run_in form) words
+line_in Svg words = refl
+line_in Characters words = refl
 
 -- what the words behind `map` make of its run, where they name a file or no line is given
-pub on_map : (form : Form) (line : ℕ) (files : List Text) (choice : Choice) → IsRunOn (run_in form) files choice → (files ≡ [] → line ≡ 0) → IsMapOn form line files choice
+pub on_map : (form : Form) (line : ℕ) (files : List Text) (choice : Choice) → IsRunOn (run_in form) line files choice → (files ≡ [] → line ≡ 0) → IsMapOn form line files choice
 on_map form line files (Trace run) on none = (on, none)
 on_map form line files (File run tip) on none = (on, none)
 on_map form line files (Classes question) on none = (on, none)
 on_map form line files (Size question) on none = (on, none)
 on_map form line files (At other k) on none = absurd on
+on_map form line files TwoLines on none = absurd on
 
 -- where the command is `map`, whose form the words give, they ask for what the line and the words behind it make of it
 pub asks_map : (words : List Text) (matches given : ArgMatches) (form : Form) (choice : Choice) → Answers words matches
@@ -353,17 +404,18 @@ asks_map words matches given form (At other line) answers called entered has on 
     subst (λ (f : Form). HasForm (run_in f) words) (sym on.0) has,
     sym (texts_entered words matches given (codes "FILE") answers entered) ∙ on.1,
     on.2,
-    on.3 ∙ ap (first_number 0) (texts_entered words matches given (codes "K") answers entered),
+    on.3 ∙ line_entered words matches given answers entered,
   );
 }
 asks_map words matches given form (Trace run) answers called entered has on =
-    asks_run words matches given (run_in form) (Trace run) answers (called ∙ ap (λ (name : Text). Some name) (drawn_by form)) entered has
-    (λ none. no_line_in form words (sym (ap (first_number 0) (texts_entered words matches given (codes "K") answers entered)) ∙ on.1 none)) on.0
+    asks_lined words matches given (run_in form) _ (Trace run) answers (called ∙ ap (λ (name : Text). Some name) (drawn_by form)) entered has
+    (line_entered words matches given answers entered ∙ line_in form words) on.1 on.0
 asks_map words matches given form (File run tip) answers called entered has on =
-    asks_run words matches given (run_in form) (File run tip) answers (called ∙ ap (λ (name : Text). Some name) (drawn_by form)) entered has
-    (λ none. no_line_in form words (sym (ap (first_number 0) (texts_entered words matches given (codes "K") answers entered)) ∙ on.1 none)) on.0
+    asks_lined words matches given (run_in form) _ (File run tip) answers (called ∙ ap (λ (name : Text). Some name) (drawn_by form)) entered has
+    (line_entered words matches given answers entered ∙ line_in form words) on.1 on.0
 asks_map words matches given form (Classes question) answers called entered has on = absurd on.0
 asks_map words matches given form (Size question) answers called entered has on = absurd on.0
+asks_map words matches given form TwoLines answers called entered has on = absurd on.0
 
 -- where the command is `size` the words ask the question that is made of the matches
 pub asks_size : (words : List Text) (matches given : ArgMatches) (question : SizeQuestion) → Answers words matches

@@ -4,6 +4,7 @@ pub mod NamedCommands  -- a command line that comes to no fault names a command 
 pub mod NamedRuns  -- words that are written out, and name a run of a trace
 pub mod Faultless  -- steps in a row that come to no fault
 pub mod ChosenCommands  -- what the words ask for, by what `clap` answers of them
+pub mod Quoting  -- a name between quotes, up to each quote of its own
 pub mod Fronts  -- a front of two texts in a row
 pub mod Notes  -- what is noted of a fault
 pub mod RunEnds  -- how a run ends, by what its words name

@@ -1,14 +1,32 @@
 -- What is noted of a fault.
-use Rattle.std.proofs.Common.{◌≡◌, ◌∙◌, ℕ, List, [], Option, Result, Ok, Err, subst}
+use Rattle.std.proofs.Common.{◌≡◌, ◌∙◌, ℕ, List, [], Option, Result, Ok, Err, refl, subst}
 use Rattle.std.specs.Prelude.{IfErr, IfSome, OnOk}
 use Rattle.tlsf_check.specs.Checks.{Notes}
 use Rattle.tlsf_lines.specs.declared.trace_fault.TraceFault.{TraceFault}
 use Rattle.tlsf_trace.specs.declared.summary.Summary.{Summary}
-use Rattle.tlsf_command.specs.Runs.{IsNote}
-use Rattle.tlsf_command.specs.declared.trace_run.TraceRun.TheVariants.{Check}
+use Rattle.tlsf_command.specs.Runs.{tip_on, ChecksNote, IsNote}
+use Rattle.tlsf_command.specs.declared.trace_run.TraceRun.{TraceRun}
+use Rattle.tlsf_command.specs.declared.trace_run.TraceRun.TheVariants.{Replay, Held, HeldKinds, Race, RaceQueues, Map, MapText, MapHtml, MapWorst, MapWorstText, Plot, PlotText, Check}
 
 -- what a check adds to no note is the note
 pub check_notes : (answer : Result Summary TraceFault) (text : Option (List ℕ)) (old new : List ℕ) → old ≡ []
-    → IfErr answer (λ fault. IfSome text (λ bytes. Notes bytes fault old new)) → OnOk answer (new ≡ old) → IsNote Check text answer new
+    → IfErr answer (λ fault. IfSome text (λ bytes. Notes bytes fault old new)) → OnOk answer (new ≡ old) → ChecksNote Check text answer new
 check_notes (Ok summary) text old new none noted kept = kept ∙ none
 check_notes (Err fault) text old new none noted kept = subst (λ (front : List ℕ). IfSome text (λ bytes. Notes bytes fault front new)) none noted
+
+-- a run that isn't a check notes the tip
+pub other_note : (run : TraceRun) (answer : Result Summary TraceFault) (text : Option (List ℕ)) (note : List ℕ) → (run ≡ Check → ⊥)
+    → note ≡ tip_on answer → IsNote run text answer note
+other_note Replay answer text note other is = is
+other_note Held answer text note other is = is
+other_note HeldKinds answer text note other is = is
+other_note Race answer text note other is = is
+other_note RaceQueues answer text note other is = is
+other_note Map answer text note other is = is
+other_note MapText answer text note other is = is
+other_note MapHtml answer text note other is = is
+other_note MapWorst answer text note other is = is
+other_note MapWorstText answer text note other is = is
+other_note Plot answer text note other is = is
+other_note PlotText answer text note other is = is
+other_note Check answer text note other is = absurd (other refl)

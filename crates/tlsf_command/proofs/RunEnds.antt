@@ -46,7 +46,7 @@ module _ (words : List Text) (called : Text) (status : ℕ) (old new : Streams) 
   by_file : (wanted : TraceRun) (file : Text) → IsPlainWord file → words ≡ called ∷ (words_of wanted ++ file ∷ []) → Run words status old new → TipsOrLacksMemory wanted file status old new
   by_file wanted file plain is (does choice asks done) =
       let names = subst (λ (given : List Text). NameRun given wanted (file ∷ [])) (sym is) (file_named called wanted file plain) in
-      inl (only_tip words wanted file choice status old new names.named names.form names.given asks done)
+      inl (only_tip words wanted file choice status old new names.named names.form names.given names.no_line asks done)
   by_file wanted file plain is (fails kind among shows) = inr (answer_lacks words _ kind status old new shows among is (file_named called wanted file plain).faultless)
 
   pub ends_file : (wanted : TraceRun) (file : Text) → IsPlainWord file → words ≡ called ∷ (words_of wanted ++ file ∷ []) → TipsOrLacksMemory wanted file status old new

@@ -1,5 +1,5 @@
 -- Tables of kinds, and the numbers of texts.
-use Rattle.std.proofs.Common.{◌≡◌, ◌≤◌, ◌<◌, ◌+◌, ◌*◌, ◌^◌, ℕ, zero, suc, Bool, true, false, cond, List, [], ◌∷◌, Option, Some, None, Result, Ok, Err, fold, map, max, nat_le, nat_lt, get_or, ◌∙◌, length, drop, refl, sym, ap, arith}
+use Rattle.std.proofs.Common.{◌≡◌, ◌≤◌, ◌<◌, ◌+◌, ◌*◌, ◌^◌, ℕ, suc, Bool, true, false, cond, List, [], ◌∷◌, Option, Some, None, Result, Ok, Err, fold, map, max, nat_le, nat_lt, ◌∙◌, length, refl, sym, ap, arith}
 use Rattle.std.proofs.Math.Nat.{mul-le-mul}
 use Rattle.std.specs.Prelude.{IfSome}
 use Rattle.std.specs.List.{AllByRecursion, list_all}
@@ -10,7 +10,7 @@ use Rattle.std.specs.Str.Parse.{ParsesUnsigned, digits_value, without_leading_pl
 use Rattle.clap.specs.ValueTests.{accepts}
 use Rattle.clap.specs.declared.builder.value_parser.ValueParser.TheVariants.{Unsigned}
 use Rattle.clap.proofs.ValueTestLemmas.{accepts-Accepts, Accepts-accepts}
-use Rattle.tlsf_command.specs.SizeLines.{asked_bytes, AreReached, IsFiner, IsServable}
+use Rattle.tlsf_command.specs.SizeLines.{asked_bytes, AreReached, HasNoSplit, IsCheapest, IsFiner, IsServable, IsSplitOf}
 use Rattle.clap.specs.Words.{Text}
 use Rattle.tlsf_command.specs.SizeQuestions.{kinds_in, number_of, AreOfTexts, HasKinds, HasTable, IsQuestion}
 use Rattle.tlsf_command.specs.declared.size_question.SizeQuestion.{SizeQuestion}
@@ -21,6 +21,7 @@ use Rattle.tlsf_heap.specs.Blocks.{want}
 use Rattle.tlsf_heap.proofs.Finding.{and_left, and_right}
 use Rattle.tlsf_laws.specs.Kinds.{are_fours, count_in, kinds_words, resized_words, table_words, used, words_with, HasClass}
 use Rattle.tlsf_laws.specs.declared.kind.Kind.{Kind}
+use Rattle.tlsf_pool.specs.declared.split.Split.{Split as Way}
 
 -- ---- numbers
 
@@ -129,6 +130,12 @@ pub finer_of : (kinds : List Kind) (found : Option ℕ) → IfSome found (λ wor
     → (found ≡ None → ¬ (AreReached 5 kinds)) → IsFiner kinds found
 finer_of kinds None some none = none refl
 finer_of kinds (Some words) some none = some
+
+-- and of a split
+pub split_told : (sli : ℕ) (kinds : List Kind) (found : Option Way) → IfSome found (IsCheapest sli kinds)
+    → (found ≡ None → HasNoSplit sli kinds) → IsSplitOf sli kinds found
+split_told sli kinds None some none = none refl
+split_told sli kinds (Some split) some none = some
 
 -- as many kinds as pairs
 kinds_count : (blocks bytes : List Text) → length blocks ≡ length bytes → length (kinds_in blocks bytes) ≡ length blocks

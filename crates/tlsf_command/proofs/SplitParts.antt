@@ -2,9 +2,7 @@
 use Rattle.std.proofs.Common.{◌≡◌, ◌≤◌, ◌<◌, ◌+◌, ◌-◌, ◌*◌, ◌^◌, ℕ, zero, suc, List, [], ◌∷◌, ◌++◌, length, get_or, take, drop, min, refl, sym, ap, ap₂, ◌∙◌, subst, inl, inr, arith, append_assoc, append-nil, length-take, take-append-drop, drop_of_length-le, take_all}
 use Rattle.std.specs.List.{AllByRecursion}
 use Rattle.std.proofs.lemmas.Bool.{cases_lt}
-use Rattle.tlsf_class.specs.Classes.{IsLevel, most_words}
 use Rattle.tlsf_class.proofs.TwoLevels.{most_words_any}
-use Rattle.tlsf_laws.specs.Kinds.{kinds_words}
 use Rattle.tlsf_laws.specs.declared.kind.Kind.{Kind}
 use Rattle.tlsf_pool.specs.Splits.{cut_by, joined, parts_of, words_together, IsCut, IsPart}
 use Rattle.tlsf_pool.specs.declared.split.Split.{Split}

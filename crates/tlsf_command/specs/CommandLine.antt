@@ -1,15 +1,18 @@
 -- The command line, by the definitions of `clap`.
-use Rattle.std.specs.Prelude.{◌≡◌, ◌≢◌, ◌^◌, ⊤, ℕ, Bool, false, true, pos, List, [], ◌∷◌, ◌++◌, Option, Some, None, codes, option_and_then, option_map, string_bytes, unwrap_or}
+use Rattle.std.specs.Prelude.{◌≡◌, ◌≢◌, ◌==◌, ◌^◌, ⊤, ℕ, Bool, false, true, pos, List, [], ◌∷◌, ◌++◌, Option, Some, None, codes, option_and_then, option_map, string_bytes, unwrap_or, if◌then◌else◌}
 use Rattle.clap.specs.Matches.{found_of, subcommand_name_of}
 use Rattle.clap.specs.Walk.{Row, rows_of}
 use Rattle.clap.specs.Words.{App, Kinds, Rule, Text, all_of, fault_of, new_app, new_rule, one_of, subcommand_of, subcommand_rows_of, with_rule, with_subcommand}
 use Rattle.clap.specs.declared.builder.action.ArgAction.TheVariants.{Append, Set, SetTrue}
 use Rattle.clap.specs.declared.builder.value_parser.ValueParser.TheVariants.{Signed}
 use Rattle.clap.specs.declared.parser.matches.ArgMatches.{ArgMatches}
+use Rattle.std.specs.Fmt.{decimal}
+use Rattle.std.specs.Str.{bytes_eq}
+use Rattle.tlsf_command.specs.Quotes.{quoted}
 use Rattle.tlsf_command.specs.ClassQuestions.{HasClasses, IsClassQuestion}
 use Rattle.tlsf_command.specs.SizeQuestions.{HasTable, IsQuestion, first_number}
 use Rattle.tlsf_command.specs.declared.command_line.Choice.{Choice}
-use Rattle.tlsf_command.specs.declared.command_line.Choice.TheVariants.{Trace, File, Classes, Size, At}
+use Rattle.tlsf_command.specs.declared.command_line.Choice.TheVariants.{Trace, File, Classes, Size, At, TwoLines}
 use Rattle.tlsf_picture.specs.declared.form.Form.{Form}
 use Rattle.tlsf_picture.specs.declared.form.Form.TheVariants.{Svg, Text as Characters}
 use Rattle.tlsf_command.specs.declared.trace_run.TraceRun.{TraceRun}
@@ -182,14 +185,24 @@ spelled Plot = codes "plot"
 spelled PlotText = codes "plot --text"
 spelled Check = codes "check"
 
--- how a trace is read from this file, as `tlsf: a trace is read from standard input: tlsf replay < first.trace`
-abbrev pub tip_line : TraceRun → Text → Text
-tip_line run file = codes "tlsf: a trace is read from standard input: tlsf " ++ (spelled run ++ (codes " < " ++ (file ++ codes "\n")))
+-- the option that gives a line of the trace, behind these words; 0 is none
+abbrev pub at_text : ℕ → Text
+at_text line = if line == 0 then [] else codes " --at " ++ decimal line
+
+-- how a trace is read from this file, as `tlsf: a trace is read from standard input: tlsf map --at 2 < 'my file.trace'`; the word `-` is no file
+abbrev pub tip_line : TraceRun → (line : ℕ) → Text → Text
+tip_line run line file =
+    if bytes_eq file (codes "-") then codes "tlsf: standard input is read without '-': tlsf " ++ (spelled run ++ (at_text line ++ codes "\n"))
+    else codes "tlsf: a trace is read from standard input: tlsf " ++ (spelled run ++ (at_text line ++ (codes " < " ++ (quoted file ++ codes "\n"))))
 
 -- a text is that line, about the first of these words
-abbrev pub IsTip : TraceRun → (files : List Text) → Text → Type 0
-IsTip run [] text = ⊥
-IsTip run (file ∷ files) text = text ≡ tip_line run file
+abbrev pub IsTip : TraceRun → (line : ℕ) → (files : List Text) → Text → Type 0
+IsTip run line [] text = ⊥
+IsTip run line (file ∷ files) text = text ≡ tip_line run line file
+
+-- the refusal of both `--at` and `--worst`
+abbrev pub two_lines_line : Text
+two_lines_line = codes "tlsf: --at and --worst each choose a line of the trace: give one of them\n"
 
 -- how a command line names the choice
 abbrev pub name_of : Choice → Text
@@ -198,6 +211,7 @@ name_of (File run tip) = command_of run
 name_of (Classes question) = codes "classes"
 name_of (Size question) = codes "size"
 name_of (At form line) = codes "map"
+name_of TwoLines = codes "map"
 
 -- the words give this flag, as far as `clap` tells it; and they don't
 abbrev pub HasFlag : Text → List Text → Type 0
@@ -243,20 +257,23 @@ abbrev pub worst_in : Form → TraceRun
 worst_in Svg = MapWorst
 worst_in Characters = MapWorstText
 
--- where the heaps are drawn at the end, the words give no line
-abbrev pub NamesNoLine : TraceRun → List Text → Type 0
-NamesNoLine Map words = line_given words ≡ 0
-NamesNoLine MapText words = line_given words ≡ 0
-NamesNoLine run words = ⊤
+-- the line that the words give to a run, 0 where they give none: a page shows each one, and takes none
+abbrev pub line_for : TraceRun → List Text → ℕ
+line_for Map words = line_given words
+line_for MapText words = line_given words
+line_for MapWorst words = line_given words
+line_for MapWorstText words = line_given words
+line_for run words = 0
 
 -- what the choice holds is of the flags and the texts that the words give: a run is asked for where no file is named, and else its tip is due
 abbrev pub HasParts : List Text → Choice → Type 0
-HasParts words (Trace run) = HasForm run words × (texts_given (codes "FILE") words ≡ []) × NamesNoLine run words
-HasParts words (File run tip) = HasForm run words × IsTip run (texts_given (codes "FILE") words) (string_bytes tip)
+HasParts words (Trace run) = HasForm run words × (texts_given (codes "FILE") words ≡ []) × (line_for run words ≡ 0)
+HasParts words (File run tip) = HasForm run words × IsTip run (line_for run words) (texts_given (codes "FILE") words) (string_bytes tip)
 HasParts words (Classes question) = IsClassQuestion (texts_given (codes "N") words) (texts_given (codes "sli") words) question
 HasParts words (Size question) =
     IsQuestion (texts_given (codes "B") words) (texts_given (codes "N") words) (texts_given (codes "sli") words) (texts_given (codes "split") words) question
 HasParts words (At form line) = HasForm (run_in form) words × (texts_given (codes "FILE") words ≡ []) × (line ≢ 0) × (line ≡ line_given words)
+HasParts words TwoLines = LacksFlag (codes "html") words × HasFlag (codes "worst") words × (line_given words ≢ 0)
 
 -- the size of the choice, where it has one, has a class, and a table has 1 to 64 kinds
 abbrev pub IsAnswerable : Choice → Type 0
@@ -264,16 +281,16 @@ IsAnswerable (Classes question) = HasClasses question
 IsAnswerable (Size question) = HasTable question
 IsAnswerable choice = ⊤
 
--- the choice of a run, where these words stand behind its command
-abbrev pub IsRunOn : TraceRun → (files : List Text) → Choice → Type 0
-IsRunOn run files (Trace other) = (other ≡ run) × (files ≡ [])
-IsRunOn run files (File other tip) = (other ≡ run) × IsTip run files (string_bytes tip)
-IsRunOn run files choice = ⊥
+-- the choice of a run, where these words stand behind its command, and this line behind `--at`
+abbrev pub IsRunOn : TraceRun → (line : ℕ) → (files : List Text) → Choice → Type 0
+IsRunOn run line files (Trace other) = (other ≡ run) × (files ≡ [])
+IsRunOn run line files (File other tip) = (other ≡ run) × IsTip run line files (string_bytes tip)
+IsRunOn run line files choice = ⊥
 
 -- the choice of a picture in this form, where these words stand behind `map`, and this line behind `--at`
 abbrev pub IsMapOn : Form → (line : ℕ) → (files : List Text) → Choice → Type 0
 IsMapOn form line files (At other k) = (other ≡ form) × (files ≡ []) × (k ≢ 0) × (k ≡ line)
-IsMapOn form line files choice = IsRunOn (run_in form) files choice × (files ≡ [] → line ≡ 0)
+IsMapOn form line files choice = IsRunOn (run_in form) line files choice × (files ≡ [] → line ≡ 0)
 
 -- the words ask for this and nothing else
 pub record Asks (words : List Text) (choice : Choice) : Type 0 where

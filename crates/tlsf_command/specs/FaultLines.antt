@@ -1,5 +1,5 @@
 -- The line that the program reports a fault by, and its exit status.
-use Rattle.std.specs.Prelude.{ℕ, List, [], ◌++◌, ◌==◌, codes, if◌then◌else◌}
+use Rattle.std.specs.Prelude.{ℕ, Bool, List, [], ◌++◌, ◌==◌, ◌&&◌, codes, nat_le, if◌then◌else◌}
 use Rattle.std.specs.Fmt.{decimal}
 use Rattle.tlsf_lines.specs.declared.trace_fault.TraceFault.{TraceFault}
 
@@ -27,6 +27,14 @@ fault_text fault =
 -- the line that the program reports a fault by
 abbrev pub fault_line : TraceFault → List ℕ
 fault_line fault = codes "tlsf: " ++ (fault_text fault ++ codes "\n")
+
+-- a fault in the trace itself: of its header, of a line, or of its length
+abbrev pub is_of_trace : TraceFault → Bool
+is_of_trace fault = nat_le 11 fault.no && nat_le fault.no 15
+
+-- the tip to check a trace that has a fault
+abbrev pub check_tip : TraceFault → List ℕ
+check_tip fault = if is_of_trace fault then codes "tip: 'tlsf check < TRACE' says more\n" else []
 
 -- the exit status of a run that ends by the fault
 abbrev pub status_of_fault : TraceFault → ℕ

@@ -1,13 +1,13 @@
 -- What a run of the program does.
-use Rattle.std.specs.Prelude.{◌≡◌, ◌⊎◌, ◌++◌, ℕ, List, [], ◌∷◌, Option, Result, Ok, Err, IfSome, codes, string_bytes}
+use Rattle.std.specs.Prelude.{◌≡◌, ◌⊎◌, ◌++◌, ⊤, ℕ, List, [], ◌∷◌, Option, Result, Ok, Err, IfSome, codes, string_bytes}
 use Rattle.std.specs.Io.KnownBytes.{Appends, Keeps}
 use Rattle.clap.specs.Words.{IsAmong, Text}
 use Rattle.clap.specs.declared.error.kind.ErrorKind.{ErrorKind}
 use Rattle.clap.specs.declared.error.kind.ErrorKind.TheVariants.{DisplayHelp, DisplayVersion, OutOfMemory}
 use Rattle.tlsf_command.specs.ClassLines.{class_line, no_class_line}
-use Rattle.tlsf_command.specs.CommandLine.{Asks, faults_of, tip_line}
-use Rattle.tlsf_command.specs.FaultLines.{fault_line, status_of_fault}
-use Rattle.tlsf_command.specs.SizeLines.{no_split_line, size_line, split_lines, unpaired_line, unreached_line, unreached_table_line, AreReached, HasNoSplit, IsCheapest, IsFiner, IsFirstUnreached, IsGreatest, IsReached}
+use Rattle.tlsf_command.specs.CommandLine.{Asks, faults_of, tip_line, two_lines_line}
+use Rattle.tlsf_command.specs.FaultLines.{check_tip, fault_line, status_of_fault}
+use Rattle.tlsf_command.specs.SizeLines.{no_split_line, size_line, split_lines, unpaired_line, unreached_line, unreached_table_line, AreReached, HasNoSplit, IsCheapest, IsFiner, IsFirstUnreached, IsGreatest, IsReached, IsSplitOf}
 use Rattle.tlsf_command.specs.SizeQuestions.{blocks_in, blocks_of, bytes_in, bytes_of, IsQuestion, Pair, SizeOption}
 use Rattle.tlsf_command.specs.declared.class_question.ClassQuestion.{ClassQuestion}
 use Rattle.tlsf_command.specs.declared.class_question.ClassQuestion.TheVariants.{Coarse, Fine, NoClass}
@@ -17,7 +17,7 @@ use Rattle.tlsf_laws.specs.declared.kind.Kind.{Kind}
 use Rattle.tlsf_pool.specs.Splits.{parts_of}
 use Rattle.tlsf_pool.specs.declared.split.Split.{Split}
 use Rattle.tlsf_command.specs.declared.command_line.Choice.{Choice}
-use Rattle.tlsf_command.specs.declared.command_line.Choice.TheVariants.{Trace, File, Classes, Size, At}
+use Rattle.tlsf_command.specs.declared.command_line.Choice.TheVariants.{Trace, File, Classes, Size, At, TwoLines}
 use Rattle.tlsf_command.specs.declared.trace_run.TraceRun.{TraceRun}
 use Rattle.tlsf_command.specs.declared.trace_run.TraceRun.TheVariants.{Replay, Held, HeldKinds, Race, RaceQueues, Map, MapText, MapHtml, MapWorst, MapWorstText, Plot, PlotText, Check}
 use Rattle.tlsf_check.specs.Checks.{Checks, Notes}
@@ -52,10 +52,21 @@ abbrev pub Reports : Result Summary TraceFault → (note : List ℕ) → Option 
 Reports (Ok summary) note old new = Keeps old new
 Reports (Err fault) note old new = AppendsFront old new (fault_line fault ++ note)
 
--- what is noted of a fault in a text: by a check, where it is and what was expected there, and else nothing
+-- what a check notes of a fault in a text: where it is and what was expected there. Other runs note nothing of their own
+abbrev pub ChecksNote : TraceRun → (text : Option (List ℕ)) → Result Summary TraceFault → (note : List ℕ) → Type 0
+ChecksNote Check text (Ok summary) note = note ≡ []
+ChecksNote Check text (Err fault) note = IfSome text (λ bytes. Notes bytes fault [] note)
+ChecksNote run text answer note = ⊤
+
+-- where a fault in the trace ends a run, the tip to check it
+abbrev pub tip_on : Result Summary TraceFault → List ℕ
+tip_on (Ok summary) = []
+tip_on (Err fault) = check_tip fault
+
+-- what is noted of an answer: by a check its note, by another run the tip
 abbrev pub IsNote : TraceRun → (text : Option (List ℕ)) → Result Summary TraceFault → (note : List ℕ) → Type 0
-IsNote Check text (Err fault) note = IfSome text (λ bytes. Notes bytes fault [] note)
-IsNote run text answer note = note ≡ []
+IsNote Check text answer note = ChecksNote Check text answer note
+IsNote run text answer note = note ≡ tip_on answer
 
 -- what a run may put out: what a replay does, or what its workers asked of their heaps, or the kinds of blocks that these held; what a race does, each phase in threads, over lanes or over
 -- queues; the heaps that the trace leaves, those behind the line to look at, or these over its lines, as an SVG file or in the characters of a terminal, and on a page; or what a check says of it
@@ -88,7 +99,7 @@ pub record RunsBy (Puts : Outputs) (status : ℕ) (old new : Streams) : Type 0 w
   pub answer : Result Summary TraceFault
   pub ran : IsRun Puts answer old.left new.left old.written new.written
   pub status_is : status ≡ status_of answer
-  pub reported : Reports answer [] old.errors new.errors
+  pub reported : Reports answer (tip_on answer) old.errors new.errors
 
 -- memory ran out before anything was read or written
 pub record LacksMemory (status : ℕ) (old new : Streams) : Type 0 where
@@ -129,14 +140,15 @@ pub record ShowsWords (sli : ℕ) (kinds : List Kind) (status : ℕ) (old new : 
   pub lines : ShowsLines (size_line sli kinds) status old new
 
 -- the line that says how far a region does reach was reported: of one kind, the most blocks and the most bytes; of several, how
--- many of the table a region has room for, and the next one; and the hint at level 5 exactly where a region of it has the words
+-- many of the table a region has room for, and the next one, and the hint at several heaps exactly where these are large enough; and the
+-- hint at level 5 exactly where a region of it has the words
 abbrev pub ReportsUnreached : ℕ → List Kind → Option (List ℕ) → Option (List ℕ) → Type 0
 ReportsUnreached sli (kind ∷ []) old new = (blocks : ℕ) × IsGreatest (λ most. IsReached sli most kind.len) blocks
     × ((bytes : ℕ) × IsGreatest (λ len. IsReached sli kind.most len) bytes
     × ((finer : Option ℕ) × IsFiner (kind ∷ []) finer
     × AppendsFront old new (unreached_line kind.most kind.len blocks bytes finer)))
-ReportsUnreached sli kinds old new = (n : ℕ) × (next : Kind) × (finer : Option ℕ) × IsFirstUnreached sli kinds n next × IsFiner kinds finer
-    × AppendsFront old new (unreached_table_line n next finer)
+ReportsUnreached sli kinds old new = (n : ℕ) × (next : Kind) × (split : Option Split) × (finer : Option ℕ) × IsFirstUnreached sli kinds n next
+    × IsSplitOf sli kinds split × IsFiner kinds finer × AppendsFront old new (unreached_table_line n next split finer)
 
 -- no region reaches so far: nothing was written, and the status is 2
 pub record ShowsUnreached (sli : ℕ) (kinds : List Kind) (status : ℕ) (old new : Streams) : Type 0 where
@@ -194,13 +206,14 @@ ShowsAnswer OutOfMemory status old new = LacksMemory status old new
 ShowsAnswer _ status old new = ShowsUsage status old new
 
 -- what was chosen is done: a run of a trace, or its tip where a file is named, the classes of a size, the words of a region, or a picture
--- behind a line
+-- behind a line; two lines are refused
 abbrev pub Does : Choice → ℕ → Streams → Streams → Type 0
 Does (Trace run) = RunsAs run
 Does (File run tip) = Refuses (string_bytes tip)
 Does (Classes question) = AnswersClasses question
 Does (Size question) = ShowsSize question
 Does (At form line) = RunsBy (DrawsAt form line)
+Does TwoLines = Refuses two_lines_line
 
 -- how a run ends, by its words: it does what they ask for, it answers by one of their faults, or it lacks memory
 abbrev pub Ends : List Text → ℕ → Streams → Streams → Type 0
@@ -214,7 +227,7 @@ RunsOrLacksMemory run status old new = RunsAs run status old new ⊎ LacksMemory
 
 -- the tip about this file was reported, unless memory ran out before
 abbrev pub TipsOrLacksMemory : TraceRun → Text → ℕ → Streams → Streams → Type 0
-TipsOrLacksMemory run file status old new = Refuses (tip_line run file) status old new ⊎ LacksMemory status old new
+TipsOrLacksMemory run file status old new = Refuses (tip_line run 0 file) status old new ⊎ LacksMemory status old new
 
 -- what `clap` gives for a flag that isn't among the words
 abbrev pub unset : List Text

@@ -55,11 +55,11 @@ words_line words asked = words_text words (hundredths (8 * words) asked) ++ code
 abbrev pub size_line : ℕ → List Kind → List ℕ
 size_line sli kinds = words_line (kinds_words sli kinds) (asked_bytes kinds)
 
--- the line on a heap of a split: its number, its pairs by their places in the table, from 1 on, and its region, as
--- `heap 0 pairs 1 to 2 words 13631 bytes 109048 ratio 2.13`
+-- the line on a heap of a split: its number, its kinds by their places in the table, from 1 on, and its region, as
+-- `heap 0 kinds 1 to 2 words 13631 bytes 109048 ratio 2.13`
 abbrev pub heap_line : ℕ → (heap before : ℕ) → List Kind → List ℕ
 heap_line sli heap before part =
-    codes "heap " ++ (decimal heap ++ (codes " pairs " ++ (decimal (before + 1) ++ (codes " to " ++ (decimal (before + length part)
+    codes "heap " ++ (decimal heap ++ (codes " kinds " ++ (decimal (before + 1) ++ (codes " to " ++ (decimal (before + length part)
     ++ (codes " " ++ size_line sli part))))))
 
 -- those on the heaps of these tables, from a number and a place on
@@ -83,11 +83,22 @@ HasNoSplit sli kinds = AllByRecursion (IsServable sli) kinds → HasNoCut sli 8 
 
 -- the refusal of such a table
 abbrev pub no_split_line : List ℕ
-no_split_line = codes "tlsf: no region has so many words, however the pairs are given to 8 heaps in their order\n"
+no_split_line = codes "tlsf: no region has so many words, however the kinds are given to 8 heaps in their order\n"
 
 -- so many of them, as `1 block` and `2 blocks`
 abbrev pub counted : ℕ → List ℕ → List ℕ
 counted n name = decimal n ++ (codes " " ++ (name ++ (if n == 1 then [] else codes "s")))
+
+-- the cheapest split of such a table, if it has one
+abbrev pub IsSplitOf : ℕ → List Kind → Option Split → Type 0
+IsSplitOf sli kinds None = HasNoSplit sli kinds
+IsSplitOf sli kinds (Some split) = IsCheapest sli kinds split
+
+-- the hint at several heaps, where they help
+abbrev pub split_hint_text : Option Split → List ℕ
+split_hint_text None = []
+split_hint_text (Some split) =
+    codes "; with --split " ++ (decimal split.heaps ++ (codes " heaps of " ++ (decimal split.words ++ codes " words together are enough")))
 
 -- the words of a region of level 5 for such a table, if one has so many
 abbrev pub IsFiner : List Kind → Option ℕ → Type 0
@@ -107,15 +118,15 @@ unreached_line most len blocks bytes finer =
     ++ (codes ", or " ++ (counted most (codes "block")
     ++ (codes " of at most " ++ (counted bytes (codes "byte") ++ (hint_text finer ++ codes "\n"))))))))
 
--- the refusal of a table, with the number of pairs for which a region has room, the kind of the next one, and that hint
-abbrev pub unreached_table_line : ℕ → Kind → (finer : Option ℕ) → List ℕ
-unreached_table_line n kind finer =
-    codes "tlsf: no region has so many words: one has room for " ++ (counted n (codes "leading pair")
+-- the refusal of a table, with the number of kinds for which a region has room, the next one, and both hints
+abbrev pub unreached_table_line : ℕ → Kind → Option Split → (finer : Option ℕ) → List ℕ
+unreached_table_line n kind split finer =
+    codes "tlsf: no region has so many words: one has room for " ++ (counted n (codes "leading kind")
     ++ (codes ", but not for " ++ (counted kind.most (codes "block")
-    ++ (codes " of " ++ (counted kind.len (codes "byte") ++ (codes " besides" ++ (hint_text finer ++ codes "\n")))))))
+    ++ (codes " of " ++ (counted kind.len (codes "byte") ++ (codes " besides" ++ (split_hint_text split ++ (hint_text finer ++ codes "\n"))))))))
 
 -- the refusal of options that are no pairs
 abbrev pub unpaired_line : (blocks bytes : ℕ) → List ℕ
 unpaired_line blocks bytes =
     codes "tlsf: --blocks is given " ++ (counted blocks (codes "time")
-    ++ (codes " and --bytes " ++ (counted bytes (codes "time") ++ codes ": give 1 to 64 pairs of both\n")))
+    ++ (codes " and --bytes " ++ (counted bytes (codes "time") ++ codes ": give one of each for every kind, 64 kinds at most\n")))

@@ -35,6 +35,8 @@ pub enum Choice {
     Size(SizeQuestion),
     /// `tlsf map --at K`: write a picture of the heaps of a trace as they stand behind its line K, 1 to 2^32 - 1, in this form.
     At(Form, u32),
+    /// `tlsf map --at K --worst`: say that these are two lines. Nothing is read.
+    TwoLines,
 }
 
 // A command of this name with its texts: one line, and the whole help.
@@ -227,7 +229,7 @@ fn size_command<'a>(alloc: Global) -> Result<Command<'a>, AllocError>
         blocks_help,
     ))?;
     let paired = command.arg(count_option(alloc, "N", "bytes", bytes_help))?;
-    let split_help = "Give the pairs to several heaps, for the fewest words";
+    let split_help = "Give the kinds to several heaps, for the fewest words";
     let fine = paired.arg(level_argument(alloc))?;
     fine.arg(flag(alloc, "split", split_help))
 }
@@ -276,24 +278,24 @@ fn parse<'a, S: AsStr>(alloc: Global, words: &'a [S]) -> Result<ArgMatches<'a>, 
     tlsf_command(alloc)?.try_get_matches_from(words)
 }
 
-// The choice of a run, where these words stand behind its command.
-fn run_on(alloc: Global, run: TraceRun, files: &[&str]) -> Result<Choice, AllocError>
-    ensures { IfOk result (IsRunOn run (map (λ text. text.now) files.now)) }
+// The choice of a run, where these words stand behind its command, and this line behind `--at`, 0 for none.
+fn run_on(alloc: Global, run: TraceRun, line: u32, files: &[&str]) -> Result<Choice, AllocError>
+    ensures { IfOk result (IsRunOn run line (map (λ text. text.now) files.now)) }
 {
     match files.first() {
-        Some(file) => Ok(Choice::File(run, run.tip(alloc, file)?)),
+        Some(file) => Ok(Choice::File(run, run.tip(alloc, line, file)?)),
         None => Ok(Choice::Trace(run)),
     }
 }
 
-// The choice of a run by the matches of its command.
+// The choice of a run by the matches of its command, of which no option gives a line.
 fn run_given(alloc: Global, run: TraceRun, given: &ArgMatches<'_>) -> Result<Choice, AllocError>
-    ensures { IfOk result (IsRunOn run
+    ensures { IfOk result (IsRunOn run 0
         (unwrap_or (option_map raw_values (matched_of (found_of given.now) (codes "FILE"))) [])) }
 {
     match given.get_raw("FILE") {
-        Some(files) => run_on(alloc, run, files),
-        None => run_on(alloc, run, &[]),
+        Some(files) => run_on(alloc, run, 0, files),
+        None => run_on(alloc, run, 0, &[]),
     }
 }
 
@@ -333,12 +335,12 @@ fn map_on(alloc: Global, form: Form, line: u32, files: &[&str]) -> Result<Choice
     ensures { IfOk result (IsMapOn form line (map (λ text. text.now) files.now)) }
 {
     if line == 0 {
-        return run_on(alloc, run_of(form), files);
+        return run_on(alloc, run_of(form), line, files);
     }
     if files.is_empty() {
         return Ok(Choice::At(form, line));
     }
-    run_on(alloc, run_of(form), files)
+    run_on(alloc, run_of(form), line, files)
 }
 
 // The choice of a picture in a form by the matches of `map`.
@@ -360,6 +362,9 @@ fn drawing_given(alloc: Global, form: Form, given: &ArgMatches<'_>) -> Result<Ch
         → LacksFlag (codes "html") words → IsFormOf form words → IfOk result (Asks words) }
 {
     if given.get_flag("worst") {
+        if line_given(given) != 0 {
+            return Ok(Choice::TwoLines);
+        }
         return run_given(alloc, worst_run_of(form), given);
     }
     map_given(alloc, form, given)

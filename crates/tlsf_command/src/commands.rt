@@ -2,7 +2,8 @@ ghost use Rattle.std.specs.Prelude.{◌≡◌, ◌++◌, ℕ, List, [], ◌∷�
 ghost use Rattle.clap.specs.Words.{kind_of};
 ghost use Rattle.tlsf_command.specs.FaultLines.{fault_line, status_of_fault};
 ghost use Rattle.tlsf_command.specs.CommandLine.{words_of, IsAnswerable, IsPlainWord};
-ghost use Rattle.tlsf_command.specs.Runs.{puts_of, streams, status_of, Does, Ends, IsNote, Reports, RunsAs, RunsBy, RunsOrLacksMemory, ShowsAnswer, ShowsOptionsOrLacksMemory, ShowsPairsOrLacksMemory, TipsOrLacksMemory};
+ghost use Rattle.tlsf_command.specs.Runs as told;
+ghost use Rattle.tlsf_command.specs.Runs.{puts_of, streams, status_of, ChecksNote, Does, Ends, IsNote, Reports, RunsAs, RunsBy, RunsOrLacksMemory, ShowsAnswer, ShowsOptionsOrLacksMemory, ShowsPairsOrLacksMemory, TipsOrLacksMemory};
 ghost use Rattle.tlsf_command.specs.SizeQuestions.{option_words, pair_words, AreOptions, ArePairs, Pair, SizeOption};
 ghost use Rattle.tlsf_command.specs.declared.trace_run.TraceRun.{TraceRun};
 ghost use Rattle.tlsf_lines.specs.Prefixes.{AppendsFront};
@@ -14,6 +15,7 @@ use crate::command_line::{Choice, choose};
 use crate::fault_report::FaultReport;
 use crate::size_run::run_size;
 use crate::trace_run::TraceRun;
+use crate::usage::{TABLES_TIP, give_tables, without_passing_tip};
 use clap::error::ErrorKind;
 use std::alloc::Global;
 use std::convert::AsStr;
@@ -29,6 +31,10 @@ use tlsf_plot::{draw_trace_at_worst, plot_trace};
 use tlsf_trace::{
     Summary, TraceFault, WriteError, race_trace, race_trace_over_queues, replay, write_out,
 };
+
+// The refusal of both `--at` and `--worst`.
+const TWO_LINES: &str =
+    "tlsf: --at and --worst each choose a line of the trace: give one of them\n";
 
 // Reports the fault, and gives its exit status, which a fault in writing does not change.
 pub(crate) fn report<E: Write>(fault: TraceFault, errors: &mut E) -> u8
@@ -69,6 +75,26 @@ fn ended<E: Write>(answer: Result<Summary, TraceFault>, note: &str, errors: &mut
     }
 }
 
+// What is noted of an answer by a run that doesn't check the trace: where that has a fault, the tip to check it.
+fn tip_on(answer: &Result<Summary, TraceFault>) -> &'static str
+    ensures { result.now ≡ told.tip_on answer.now }
+{
+    match answer {
+        Ok(_) => "",
+        Err(fault) => FaultReport { fault: *fault }.check_tip(),
+    }
+}
+
+// What is noted of an answer by a run, where a check noted this.
+fn note_on<'a>(ran: TraceRun, answer: &Result<Summary, TraceFault>, note: &'a str) -> &'a str
+    ensures { (text : Option (List ℕ)) → ChecksNote ran text answer.now note.entry.now → IsNote ran text answer.now result.now }
+{
+    match ran {
+        TraceRun::Check => note,
+        _ => tip_on(answer),
+    }
+}
+
 // Runs the trace that the reader gives. Where that is to check it, what explains a fault is noted.
 fn traced<T: Threads + Wait + Sync, R: Read, W: Write, G: Gate>(
     rt: &T,
@@ -82,7 +108,7 @@ fn traced<T: Threads + Wait + Sync, R: Read, W: Write, G: Gate>(
     requires { string_bytes note.old ≡ [] }
     ensures ran { IsRun (puts_of run) result (R.remaining reader.old) (R.remaining reader.new)
         (W.contents writer.old) (W.contents writer.new) }
-    ensures noted { IsNote run (R.remaining reader.old) result (string_bytes note.new) }
+    ensures noted { ChecksNote run (R.remaining reader.old) result (string_bytes note.new) }
 {
     match run {
         TraceRun::Replay => replay(alloc, reader, writer),
@@ -117,7 +143,8 @@ fn run_trace<T: Threads + Wait + Sync, R: Read, W: Write, E: Write, G: Gate>(
 {
     let mut note = String::new(alloc);
     let answer = traced(rt, alloc, run, reader, writer, gate, &mut note);
-    ended(answer, &note, errors)
+    let noted = note_on(run, &answer, &note);
+    ended(answer, noted, errors)
 }
 
 // Draws the heaps of the trace behind a line, and reports the fault that ended it.
@@ -134,10 +161,11 @@ fn run_at<R: Read, W: Write, E: Write>(
         (streams (R.remaining reader.new) (W.contents writer.new) (E.contents errors.new)) }
 {
     let answer = draw_trace_at(alloc, form, line, reader, writer);
-    ended(answer, "", errors)
+    let tip = tip_on(&answer);
+    ended(answer, tip, errors)
 }
 
-// Says how a trace is read from a file that was named. A write that fails changes nothing.
+// Refuses the words by this line, as that which says how a trace is read from a file. A write that fails changes nothing.
 fn tell<E: Write>(tip: &str, errors: &mut E) -> u8
     ensures status { result ≡ 2 }
     ensures line { AppendsFront (E.contents errors.old) (E.contents errors.new) tip.now }
@@ -152,21 +180,42 @@ fn show<W: Write>(error: &clap::Error, writer: &mut W) -> Result<(), WriteError>
     written.map_err(|_| WriteError)
 }
 
-// Says why `clap` refuses the words. Where that is a number with a suffix or separators, a tip says how numbers are written.
+// Writes what `clap` says of the words that it refuses, without its tip to pass an option as a value.
+fn show_usage<E: Write>(
+    alloc: Global,
+    error: &clap::Error,
+    errors: &mut E,
+) -> Result<(), WriteError> {
+    let usage = format!(in alloc; "{error}").and_then(|text| without_passing_tip(alloc, &text));
+    match usage {
+        Ok(text) => write_out(errors, text.as_bytes()),
+        Err(_) => show(error, errors),
+    }
+}
+
+// Says why `clap` refuses the words. A tip says how numbers are written, where that is one with a suffix or separators, and how the
+// lines of several workers are given to `size`, where these are given at once.
 fn refuse<S: AsStr, E: Write>(
+    alloc: Global,
     error: &clap::Error,
     words: &[S],
     errors: &mut E,
 ) -> Result<(), WriteError> {
-    show(error, errors)?;
-    if matches!(error.kind(), ErrorKind::ValueValidation) && have_marked_number(words) {
-        write_out(errors, NUMBER_TIP.as_bytes())?;
+    show_usage(alloc, error, errors)?;
+    match error.kind() {
+        ErrorKind::ValueValidation if have_marked_number(words) => {
+            write_out(errors, NUMBER_TIP.as_bytes())
+        }
+        ErrorKind::ArgumentConflict if give_tables(words) => {
+            write_out(errors, TABLES_TIP.as_bytes())
+        }
+        _ => Ok(()),
     }
-    Ok(())
 }
 
 // Shows what `clap` has to say of these words, and gives the exit status.
 fn answer<S: AsStr, W: Write, E: Write>(
+    alloc: Global,
     error: &clap::Error,
     words: &[S],
     writer: &mut W,
@@ -183,7 +232,7 @@ fn answer<S: AsStr, W: Write, E: Write>(
             Err(fault) => report(TraceFault::from(fault), errors),
         },
         _ => {
-            let _ = refuse(error, words, errors);
+            let _ = refuse(alloc, error, words, errors);
             2
         }
     }
@@ -210,6 +259,7 @@ fn act<T: Threads + Wait + Sync, R: Read, W: Write, E: Write, G: Gate>(
         Choice::Classes(question) => run_classes(question, writer, errors),
         Choice::Size(question) => run_size(question, writer, errors),
         Choice::At(form, line) => run_at(alloc, form, line, reader, writer, errors),
+        Choice::TwoLines => tell(TWO_LINES, errors),
     }
 }
 
@@ -219,8 +269,9 @@ fn act<T: Threads + Wait + Sync, R: Read, W: Write, E: Write, G: Gate>(
 ///
 /// The status is 0 where the run is done, 1 where a fault ended it, 2 where the words are refused,
 /// and 3 where memory ran out. A fault's line and the text on refused words go to `errors`, where
-/// a write that fails changes nothing. Help and version texts go to `writer`. Behind a refused number with a suffix or separators,
-/// as `64KiB` or `1,000`, a tip says that numbers are plain digits.
+/// a write that fails changes nothing. Help and version texts go to `writer`. Where the trace itself is faulty, a tip behind the
+/// line names `tlsf check`. Behind a refused number with a suffix or separators, as `64KiB` or `1,000`, a tip says that numbers are
+/// plain digits, and behind the lines of several workers, given to `size` at once, how they are given one at a time.
 ///
 /// ```
 /// // words are "tlsf", "classes" and "460"
@@ -269,6 +320,6 @@ pub fn run<T: Threads + Wait + Sync, S: AsStr, R: Read, W: Write, E: Write, G: G
 {
     match choose(alloc, words) {
         Ok(choice) => act(rt, alloc, choice, reader, writer, errors, gate),
-        Err(error) => answer(&error, words, writer, errors),
+        Err(error) => answer(alloc, &error, words, writer, errors),
     }
 }

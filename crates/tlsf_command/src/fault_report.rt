@@ -18,7 +18,7 @@ pub struct FaultReport {
 impl FaultReport {
     ghost use Rattle.std.specs.Prelude.{◌≡◌, IfOk, OnOk};
     ghost use Rattle.std.specs.Io.KnownBytes.{Appends};
-    ghost use Rattle.tlsf_command.specs.FaultLines.{fault_line, reason_of, status_of_fault};
+    ghost use Rattle.tlsf_command.specs.FaultLines.{check_tip, fault_line, reason_of, status_of_fault};
     ghost use Rattle.tlsf_lines.specs.Prefixes.{AppendsFront};
 
     /// The exit status of a run that ends by this fault: 3 for want of memory, else 1.
@@ -56,6 +56,22 @@ impl FaultReport {
             Ok(line) => write_out(stream, line.as_bytes()),
             // No fault's line is longer than the 64 bytes it has room in, but no clause of the line says so.
             Err(_) => Err(WriteError),
+        }
+    }
+
+    /// The line behind that one where the trace itself has the fault, as `tip: 'tlsf check < TRACE' says more`. Nothing where a read,
+    /// a write or memory has it.
+    ///
+    /// ```
+    /// let tip = report.check_tip();       // "tip: 'tlsf check < TRACE' says more\n"
+    /// ```
+    pub fn check_tip(&self) -> &'static str
+        ensures { result.now ≡ check_tip self.now.fault }
+    {
+        if self.fault.no >= 11 && self.fault.no <= 15 {
+            "tip: 'tlsf check < TRACE' says more\n"
+        } else {
+            ""
         }
     }
 

@@ -15,7 +15,7 @@ and frees the first block:
 In a file, as first.trace, it is run by 'tlsf replay < first.trace'.
 
 'tlsf replay --held' writes how large the heaps must be for a trace's calls, and
-with '--kinds' the blocks that these hold, as options of 'tlsf size'.
+with '--kinds' the kinds of blocks that these hold, as options of 'tlsf size'.
 'tlsf race' replays with the workers of each phase in threads of their own;
 'tlsf race --queues' does so with one queue for the posts to each worker.
 'tlsf map' draws the heaps that a trace leaves, as an SVG file, and
@@ -83,16 +83,20 @@ With --held --kinds it is one line for each worker, with options of 'tlsf size':
   --sli 4 --blocks 100 --bytes 64 --blocks 4 --bytes 4096
 
 At most 100 blocks of one size class were held at once, of at most 64 bytes, and
-4 of another. Where there are more than 64 classes, a few make a pair. So
+4 of another. Each class is a kind; where there would be more than 64 kinds, a
+few classes make one. A worker that asked for no block gets the kind of the
+least heap, 1 block of 1 byte. So
 
-  tlsf size $(tlsf replay --held --kinds < TRACE)
+  tlsf replay --held --kinds < TRACE | xargs -L 1 tlsf size
 
-writes the words of a heap for the blocks of one worker.
+writes for each worker the words of a heap for its blocks. Where no heap is
+large enough, a line on standard error says how many are, and of how many words;
+with '--split' at its end the command writes these heaps.
 
 The exit status is 0 where the lines are written, 1 where a fault of the
 trace, of a read or of a write ends the run, and 3 where memory runs out. A
-fault is one line on standard error, as 'tlsf: line 2: bad number (13)'; for
-a trace that is refused 'tlsf check < TRACE' says more.";
+fault is a line on standard error, as 'tlsf: line 2: bad number (13)'. Where the
+trace is refused, a second line names 'tlsf check < TRACE', which says more.";
 
 /// What `tlsf race --help` says behind its options.
 pub const RACE_HELP: &str = "\
@@ -252,14 +256,15 @@ that are asked for. A program that never holds more than 100 blocks, of at most
 allocates and frees. The block that is being asked for counts as held, and so
 does one whose name waits in a lane until its owner takes it.
 
-Several kinds of request are given as pairs, 64 at most: the first --blocks
-belongs to the first --bytes, and so on. For '--blocks 100 --bytes 64 --blocks
-4 --bytes 4096' the line is
+Several kinds of blocks are given one after the other, 64 at most: the first
+--blocks belongs to the first --bytes, and so on. For '--blocks 100 --bytes 64
+--blocks 4 --bytes 4096' the line is
 
   words 59427 bytes 475416 ratio 20.87
 
-A block counts for the first pair that is long enough for it, so short ones
-come first.
+A block counts for the first kind that is long enough for it, so short ones come
+first. 'tlsf replay --held --kinds' writes the kinds of each worker of a trace,
+and 'tlsf replay --help' has the command that gives them to 'tlsf size'.
 
 With --sli 5 the heap is one of level 5: it has 32 classes between two powers of
 two, in place of 16, and 16777216 words at most. For '--blocks 100 --bytes 600
@@ -271,13 +276,13 @@ where at level 4 it is
 
   words 15920 bytes 127360 ratio 2.12
 
-With --split the pairs are given to several heaps, 8 at most, in their order, so
-that all take the fewest words; the law holds for each heap and its own pairs.
+With --split the kinds are given to several heaps, 8 at most, in their order, so
+that all take the fewest words; the law holds for each heap and its own kinds.
 For '--blocks 2000 --bytes 64 --blocks 1 --bytes 65536 --split', for which one
 heap is too small, there is a line for each heap and one for all:
 
-  heap 0 pairs 1 to 1 words 47987 bytes 383896 ratio 3.00
-  heap 1 pairs 2 to 2 words 8704 bytes 69632 ratio 1.06
+  heap 0 kinds 1 to 1 words 47987 bytes 383896 ratio 3.00
+  heap 1 kinds 2 to 2 words 8704 bytes 69632 ratio 1.06
   heaps 2 words 56691 bytes 453528 ratio 2.34
 
 Not promised: an allocate or a free is refused as Worn (2) once the ticks of the
@@ -287,8 +292,9 @@ heap has words of its own.
 The exit status is 0 where the line is written, 1 where a write fails, and 2
 where no region, of 1048576 words at most, or 16777216 with --sli 5, is large
 enough. Standard error then has the most blocks of N bytes, and the most bytes
-for each of B blocks; 0 says that there is none. Of several pairs it has how
-many a region has room for, and the next one. Where a region of level 5 is large
-enough, it has the words of that one too. Where --blocks and --bytes are not
-given as often as each other, the status is 2, and standard error has how often
-each is given.";
+for each of B blocks; 0 says that there is none. Of several kinds it has how
+many a region has room for, and the next one; and how many heaps are large
+enough with --split, and their words. Where a region of level 5 is large enough,
+it has the words of that one too. Where --blocks and --bytes are not given as
+often as each other, the status is 2, and standard error has how often each is
+given.";

@@ -7,18 +7,19 @@
 //! phase run in threads, one for each worker. `map` writes a picture of the heaps that a trace leaves. `check` says what a
 //! trace is, or where its first fault is and what was expected there. A file that is named behind one of these isn't read: a
 //! line tells how it is given as standard input. `classes N` writes the size class and the search class of N words, and
-//! `size --blocks B --bytes N ..` the words of a region that never refuses B blocks of N bytes, for each pair, with `--split` those of the
-//! heaps to which the pairs are given for the fewest words; all at level 4 or, with `--sli 5`, at level 5. Help and version texts are written, and words that are refused are answered on the error
+//! `size --blocks B --bytes N ..` the words of a region that never refuses B blocks of N bytes, for each of several kinds, with `--split` those of the
+//! heaps to which the kinds are given for the fewest words; all at level 4 or, with `--sli 5`, at level 5. Help and version texts are written, and words that are refused are answered on the error
 //! stream.
 //!
 //! | Exit status | When |
 //! |---|---|
 //! | 0 | the run is done, or the class line, the size line, the picture, the help or the version text is written |
 //! | 1 | a fault of the trace, a read or a write ended the run; its line is on the error stream |
-//! | 2 | the words of the command line are refused, and the usage is on the error stream; or a file is named, a size has no class of its level, no region is large enough or the options are no pairs, and that line is there |
+//! | 2 | the words of the command line are refused, and the usage is on the error stream; or a file is named, two lines of a trace are chosen, a size has no class of its level, no region is large enough or the options make no kinds, and that line is there |
 //! | 3 | memory ran out; the line `tlsf: out of memory (6)` is on the error stream |
 //!
-//! Behind a number with a suffix or separators a tip says how numbers are written. A write to the error stream that fails changes nothing. [`FaultReport`] is the line of a fault, and its status.
+//! Behind the line of a fault in the trace itself a tip names `tlsf check`, and behind a number with a suffix or separators one says
+//! how numbers are written. A write to the error stream that fails changes nothing. [`FaultReport`] is the line of a fault, and its status.
 #![tactic(auto)]
 
 mod class_line;
@@ -30,16 +31,20 @@ mod counted;
 mod fault_report;
 mod finer_hint;
 mod help;
+mod line_option;
+mod quotes;
 mod region_size;
 mod size_line;
 mod size_question;
 mod size_run;
+mod split_hint;
 mod split_lines;
 mod trace_run;
 mod unreached_table;
+mod usage;
 
 pub use commands::run;
 pub use fault_report::FaultReport;
 
 /// The version of the program, which `tlsf --version` writes.
-pub const VERSION: &str = "0.1.0";
+pub const VERSION: &str = "0.2.0";

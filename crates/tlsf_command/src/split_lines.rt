@@ -17,7 +17,7 @@ use tlsf_pool::{Kind, MOST_HEAPS, Split, cheapest_split, kinds_words};
 use tlsf_trace::{WriteError, write_out};
 
 const NO_SPLIT: &str =
-    "tlsf: no region has so many words, however the pairs are given to 8 heaps in their order\n";
+    "tlsf: no region has so many words, however the kinds are given to 8 heaps in their order\n";
 
 // Lines for eight heaps and for all, of 96 bytes each at most.
 type Lines = ArrayString<1024>;
@@ -58,7 +58,7 @@ fn add_heap_line<const SLI: u32>(
     let first = before + 1;
     let last = before + part.len();
     let sized = RegionSize::new(kinds_words::<SLI>(part) as u32, asked_bytes(part));
-    writeln!(lines, "heap {heap} pairs {first} to {last} {sized}")?;
+    writeln!(lines, "heap {heap} kinds {first} to {last} {sized}")?;
     Ok(())
 }
 
@@ -101,13 +101,13 @@ fn lines_of<const SLI: u32>(kinds: &[Kind], split: &Split) -> Result<Lines, fmt:
     Ok(lines)
 }
 
-/// Writes the lines on the cheapest split of a table, 1 to 64 kinds, and flushes: for each heap its number, its pairs by their places
+/// Writes the lines on the cheapest split of a table, 1 to 64 kinds, and flushes: for each heap its number, its kinds by their places
 /// in the table, its words, its bytes, and how many times the bytes asked for these are; and these three numbers of all heaps. After an `Err` a
 /// prefix of the lines was written.
 ///
 /// ```
 /// write_split_lines::<4, _>(&kinds, &split, &mut writer)?;
-/// // writer holds "heap 0 pairs 1 to 1 words 47987 bytes 383896 ratio 3.00\n" more, and two lines behind it
+/// // writer holds "heap 0 kinds 1 to 1 words 47987 bytes 383896 ratio 3.00\n" more, and two lines behind it
 /// ```
 pub fn write_split_lines<const SLI: u32, W: Write>(
     kinds: &[Kind],

@@ -1,3 +1,5 @@
+use crate::line_option::LineOption;
+use crate::quotes::quoted;
 use std::alloc::{AllocError, Global};
 
 /// What a command does with the trace that it reads from standard input.
@@ -56,16 +58,24 @@ impl TraceRun {
         }
     }
 
-    /// The line that says how a trace is read from this file. An `Err` says that memory ran out.
+    /// The line that says how a trace is read from this file, with the option that gives a line of the trace, where that isn't 0.
+    /// The word `-` is no file: it says that standard input is read without it. An `Err` says that memory ran out.
     ///
     /// ```
-    /// let line = TraceRun::Replay.tip(alloc, "first.trace")?;
-    /// // line is "tlsf: a trace is read from standard input: tlsf replay < first.trace\n"
+    /// let tip = TraceRun::Map.tip(alloc, 2, "my file.trace")?;
+    /// // tip is "tlsf: a trace is read from standard input: tlsf map --at 2 < 'my file.trace'\n"
     /// ```
-    pub fn tip(self, alloc: Global, file: &str) -> Result<String, AllocError>
-        ensures { IfOk result (λ line. string_bytes line ≡ asked.tip_line self file.now) }
+    pub fn tip(self, alloc: Global, line: u32, file: &str) -> Result<String, AllocError>
+        ensures { IfOk result (λ tip. string_bytes tip ≡ asked.tip_line self line file.now) }
     {
         let words = self.spelled();
-        format!(in alloc; "tlsf: a trace is read from standard input: tlsf {words} < {file}\n")
+        let at = LineOption { line };
+        if file == "-" {
+            return format!(in alloc;
+                "tlsf: standard input is read without '-': tlsf {words}{at}\n"
+            );
+        }
+        let name = quoted(alloc, file)?;
+        format!(in alloc; "tlsf: a trace is read from standard input: tlsf {words}{at} < {name}\n")
     }
 }

@@ -1,18 +1,21 @@
 ghost use Rattle.std.specs.Prelude.{◌≡◌, ◌≤◌, ◌<◌, ℕ, Option, Some, length, slice_get, IfOk};
 ghost use Rattle.tlsf_class.specs.Classes.{IsLevel};
-ghost use Rattle.tlsf_command.specs.SizeLines.{unpaired_line, unreached_table_line, AreReached, IsFiner, IsFirstUnreached};
+ghost use Rattle.tlsf_command.specs.SizeLines.{unpaired_line, unreached_table_line, AreReached, IsFiner, IsFirstUnreached, IsSplitOf};
 ghost use Rattle.tlsf_laws.specs.declared.kind.Kind.{Kind};
 ghost use Rattle.tlsf_pool.specs.Pools.{most_kinds};
+ghost use Rattle.tlsf_pool.specs.declared.split.Split.{Split};
 ghost use Rattle.tlsf_lines.specs.Prefixes.{AppendsFront};
 
 use crate::counted::Counted;
 use crate::finer_hint::FinerHint;
 use crate::size_line::words_for;
+use crate::split_hint::SplitHint;
+use crate::split_lines::split_of;
 use arrayvec::ArrayString;
 use std::fmt;
 use std::fmt::Write as _;
 use std::io::Write;
-use tlsf_pool::Kind;
+use tlsf_pool::{Kind, Split};
 use tlsf_trace::{WriteError, write_out};
 
 // How many kinds at the front of the table are reached, where the table is not.
@@ -38,29 +41,31 @@ fn kind_at(kinds: &[Kind], place: usize) -> Kind
     kinds[place]
 }
 
-// The line that says for how many pairs a region has room, and for which one no more.
+// The line that says for how many kinds a region has room, and for which one no more.
 fn table_line_of(
-    pairs: usize,
+    reached: usize,
     next: Kind,
+    split: Option<Split>,
     finer: Option<u32>,
-) -> Result<ArrayString<256>, fmt::Error>
-    ensures { IfOk result (λ line. line.bytes ≡ unreached_table_line pairs next finer) }
+) -> Result<ArrayString<384>, fmt::Error>
+    ensures { IfOk result (λ line. line.bytes ≡ unreached_table_line reached next split finer) }
 {
-    let reached = Counted::new(pairs, "leading pair");
+    let front = Counted::new(reached, "leading kind");
     let most = Counted::new(next.most as usize, "block");
     let len = Counted::new(next.len as usize, "byte");
+    let heaps = SplitHint { split };
     let hint = FinerHint { words: finer };
     let mut line = ArrayString::new();
     writeln!(
         line,
-        "tlsf: no region has so many words: one has room for {reached}, but not for {most} of {len} besides{hint}"
+        "tlsf: no region has so many words: one has room for {front}, but not for {most} of {len} besides{heaps}{hint}"
     )?;
     Ok(line)
 }
 
-/// Writes the line that refuses a table of kinds, 64 at most, and flushes: how many pairs at its front a region has room for,
-/// and the next one; and the words of a region of level 5 that is large enough for all, where there is one. After an `Err` a prefix
-/// of the line was written.
+/// Writes the line that refuses a table of kinds, 64 at most, and flushes: how many kinds at its front a region has room for,
+/// and the next one; the heaps that are large enough, and their words together, where there are some; and the words of a region of
+/// level 5 that is large enough for all, where there is one. After an `Err` a prefix of the line was written.
 ///
 /// ```
 /// let _ = write_unreached_table_line::<4, _>(&[Kind { most: 1, len: 8 }, Kind { most: 7655, len: 512 }], &mut errors);
@@ -73,15 +78,17 @@ pub fn write_unreached_table_line<const SLI: u32, E: Write>(
     requires few { length kinds.now ≤ most_kinds SLI }
     requires pairs { length kinds.now ≤ most_kinds 5 }
     requires unreached { ¬ (AreReached SLI kinds.now) }
-    ensures { (pairs : ℕ) × (next : Kind) × (finer : Option ℕ) × IsFirstUnreached SLI kinds.now pairs next × IsFiner kinds.now finer
-        × AppendsFront (E.contents errors.old) (E.contents errors.new) (unreached_table_line pairs next finer) }
+    ensures { (reached : ℕ) × (next : Kind) × (split : Option Split) × (finer : Option ℕ) × IsFirstUnreached SLI kinds.now reached next
+        × IsSplitOf SLI kinds.now split × IsFiner kinds.now finer
+        × AppendsFront (E.contents errors.old) (E.contents errors.new) (unreached_table_line reached next split finer) }
 {
-    let pairs = reached_kinds::<SLI>(kinds);
+    let reached = reached_kinds::<SLI>(kinds);
+    let next = kind_at(kinds, reached);
+    let split = split_of::<SLI>(kinds);
     let finer = words_for::<5>(kinds);
-    let next = kind_at(kinds, pairs);
-    match table_line_of(pairs, next, finer) {
+    match table_line_of(reached, next, split, finer) {
         Ok(line) => write_out(errors, line.as_bytes()),
-        // The line has at most 180 bytes and 256 have room, but no clause of the line says so.
+        // The line has at most 250 bytes and 384 have room, but no clause of the line says so.
         Err(_) => Err(WriteError),
     }
 }
@@ -95,7 +102,7 @@ fn unpaired_line_of(blocks: usize, bytes: usize) -> Result<ArrayString<160>, fmt
     let mut line = ArrayString::new();
     writeln!(
         line,
-        "tlsf: --blocks is given {blocks_given} and --bytes {bytes_given}: give 1 to 64 pairs of both"
+        "tlsf: --blocks is given {blocks_given} and --bytes {bytes_given}: give one of each for every kind, 64 kinds at most"
     )?;
     Ok(line)
 }
@@ -115,7 +122,7 @@ pub fn write_unpaired_line<E: Write>(
 {
     match unpaired_line_of(blocks, bytes) {
         Ok(line) => write_out(errors, line.as_bytes()),
-        // The line has at most 120 bytes and 160 have room, but no clause of the line says so.
+        // The line has at most 140 bytes and 160 have room, but no clause of the line says so.
         Err(_) => Err(WriteError),
     }
 }

@@ -11,9 +11,18 @@ abbrev pub pairs_text : List Row → List ℕ
 pairs_text [] = []
 pairs_text (row ∷ rows) = pair_text row ++ pairs_text rows
 
--- --sli S --blocks B --bytes N .., with a pair for each row
+-- that of the least heap, for a worker that asks for no block: `tlsf size` takes one pair at least
+abbrev pub least_row : Row
+least_row = record { most = 1; longest = 1 }
+
+-- the rows that are written of a table
+abbrev pub rows_written : List Row → List Row
+rows_written [] = least_row ∷ []
+rows_written (row ∷ rows) = row ∷ rows
+
+-- --sli S --blocks B --bytes N .., with a pair for each row that is written
 abbrev pub kinds_line : ℕ → List Row → List ℕ
-kinds_line sli rows = codes "--sli " ++ decimal sli ++ pairs_text rows ++ codes "\n"
+kinds_line sli rows = codes "--sli " ++ decimal sli ++ pairs_text (rows_written rows) ++ codes "\n"
 
 -- the lines of the workers below a number
 abbrev pub kinds_text : ℕ → (ℕ → List Row) → ℕ → List ℕ

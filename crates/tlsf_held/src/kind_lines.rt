@@ -1,7 +1,7 @@
 //! The lines on the kinds of blocks that the entries of a run tell of each heap.
 ghost use Rattle.std.specs.Prelude.{◌≡◌, ◌++◌, OnOk, string_bytes};
 ghost use Rattle.tlsf_class.specs.Classes.{IsLevel};
-ghost use Rattle.tlsf_held.specs.KindLines.{kinds_line, kinds_text, pair_text, pairs_text};
+ghost use Rattle.tlsf_held.specs.KindLines.{kinds_line, kinds_text, pair_text, pairs_text, rows_written};
 ghost use Rattle.tlsf_held.specs.RowTallies as told;
 
 use crate::row::Row;
@@ -29,12 +29,28 @@ fn write_pairs(text: &mut String, rows: &[Row]) -> Result<(), AllocError>
     Ok(())
 }
 
+// The pair of a worker that asks for no block: that of the least heap, since `tlsf size` takes one pair at least.
+const LEAST: Row = Row {
+    most: 1,
+    longest: 1,
+};
+
+// Adds the pairs of a table.
+fn write_table(text: &mut String, rows: &[Row]) -> Result<(), AllocError>
+    ensures { OnOk result (string_bytes text.new ≡ string_bytes text.old ++ pairs_text (rows_written rows.now)) }
+{
+    if rows.is_empty() {
+        return write_pair(text, LEAST);
+    }
+    write_pairs(text, rows)
+}
+
 // Adds the line of a table, with its line feed.
 fn write_kinds_line<const SLI: u32>(text: &mut String, rows: &[Row]) -> Result<(), AllocError>
     ensures { OnOk result (string_bytes text.new ≡ string_bytes text.old ++ kinds_line SLI rows.now) }
 {
     write!(text, "--sli {SLI}")?;
-    write_pairs(text, rows)?;
+    write_table(text, rows)?;
     text.push_str("\n")
 }
 

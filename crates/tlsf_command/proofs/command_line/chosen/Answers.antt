@@ -17,9 +17,9 @@ returns-in-Some-subcommand_matches c = λ words answers.
     let flag = c.get_flag in
     IfOk-weaker c.run_given.result _ _ (λ choice on. elim c.if-get_flag.branch [
       | then-get_flag w ↦ asks_run words c.args.matches.now race.given.now RaceQueues choice answers (race.ensures.found.0 refl) race.ensures.rows
-          (flag_has words c.args.matches.now race.given.now (codes "queues") flag.result answers race.ensures.rows flag.ensures.other flag.ensures.none w.if-get_flag.true) (λ _. tt) (rw w.run-is at on)
+          (flag_has words c.args.matches.now race.given.now (codes "queues") flag.result answers race.ensures.rows flag.ensures.other flag.ensures.none w.if-get_flag.true) refl (rw w.run-is at on)
       | else-get_flag w ↦ asks_run words c.args.matches.now race.given.now Race choice answers (race.ensures.found.0 refl) race.ensures.rows
-          (flag_lacks words c.args.matches.now race.given.now (codes "queues") flag.result answers race.ensures.rows flag.ensures.value w.if-get_flag.false) (λ _. tt) (rw w.run-is at on)
+          (flag_lacks words c.args.matches.now race.given.now (codes "queues") flag.result answers race.ensures.rows flag.ensures.value w.if-get_flag.false) refl (rw w.run-is at on)
     ]) c.run_given.ensures
 
 pub returns-in-Some-subcommand_matches-2 : goal.returns-in-Some-subcommand_matches-2
@@ -41,7 +41,7 @@ returns-in-Some-subcommand_matches-4 c = λ words answers.
 pub returns-in-Some-subcommand_matches-5 : goal.returns-in-Some-subcommand_matches-5
 returns-in-Some-subcommand_matches-5 c = λ words answers.
     let check = c.in-Some-subcommand_matches-5 in
-    IfOk-weaker c.run_given-in-Some-subcommand_matches-5.result _ _ (λ choice on. asks_run words c.args.matches.now check.given.now Check choice answers (check.ensures.found.0 refl) check.ensures.rows tt (λ _. tt) on)
+    IfOk-weaker c.run_given-in-Some-subcommand_matches-5.result _ _ (λ choice on. asks_run words c.args.matches.now check.given.now Check choice answers (check.ensures.found.0 refl) check.ensures.rows tt refl on)
     c.run_given-in-Some-subcommand_matches-5.ensures
 
 -- a value that is no `Some` is none

@@ -1,4 +1,4 @@
-use Rattle.std.proofs.Common.{codes}
+use Rattle.std.proofs.Common.{codes, refl}
 use Rattle.std.proofs.lemmas.Result.{IfOk-weaker}
 use Rattle.tlsf_command.specs.declared.trace_run.TraceRun.TheVariants.{MapHtml}
 use Rattle.tlsf_command.proofs.ChosenCommands.{asks_run, flag_has, flag_lacks}
@@ -8,7 +8,7 @@ pub returns-then-get_flag : goal.returns-then-get_flag
 returns-then-get_flag c = λ words matches answers enters.
     let flag = c.get_flag in
     IfOk-weaker c.run_given.result _ _ (λ choice on. asks_run words matches c.args.given.now MapHtml choice answers enters.0 enters.1
-    (flag_has words matches c.args.given.now (codes "html") flag.result answers enters.1 flag.ensures.other flag.ensures.none c.if-get_flag.true) (λ _. tt) on) c.run_given.ensures
+    (flag_has words matches c.args.given.now (codes "html") flag.result answers enters.1 flag.ensures.other flag.ensures.none c.if-get_flag.true) refl on) c.run_given.ensures
 
 pub returns-then-get_flag-2 : goal.returns-then-get_flag-2
 returns-then-get_flag-2 c = λ words matches answers enters.

@@ -1,4 +1,4 @@
-use Rattle.std.proofs.Common.{◌∙◌, codes, Some, ap, List}
+use Rattle.std.proofs.Common.{◌∙◌, codes, Some, ap}
 use Rattle.std.proofs.lemmas.Result.{IfOk-weaker}
 use Rattle.clap.specs.Words.{Text}
 use Rattle.tlsf_command.specs.CommandLine.{replay_by}
@@ -17,4 +17,4 @@ returns c = λ words matches answers enters.
     (flag_lacks words matches c.args.given.now (codes "held") held.result answers enters.1 held.ensures.value) in
     IfOk-weaker c.run_given.result _ _ (λ choice on.
     asks_run words matches c.args.given.now (replay_by kinds.result held.result) choice answers (enters.0 ∙ ap (λ (name : Text). Some name) (replay_called kinds.result held.result)) enters.1
-    (replay_form kinds.result held.result words kinds_told held_told) (λ none. no_line_in_replay kinds.result held.result words) (rw c.replay_of.ensures at on)) c.run_given.ensures
+    (replay_form kinds.result held.result words kinds_told held_told) (no_line_in_replay kinds.result held.result words) (rw c.replay_of.ensures at on)) c.run_given.ensures

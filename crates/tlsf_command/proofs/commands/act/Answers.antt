@@ -16,3 +16,7 @@ returns-in-At g c = rw c.in-At.is c.run_at.ensures
 
 pub returns-in-Size : goal.returns-in-Size
 returns-in-Size g c = rw c.in-Size.is (c.run_size.ensures (g.R.Read.remaining c.args.reader.now))
+
+pub returns-in-TwoLines : goal.returns-in-TwoLines
+returns-in-TwoLines g c =
+    rw c.in-TwoLines.is (record { left = refl; written = refl; status_is = c.tell-in-TwoLines.ensures.status; reported = c.tell-in-TwoLines.ensures.line })

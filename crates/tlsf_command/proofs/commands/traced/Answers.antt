@@ -6,73 +6,73 @@ pub returns-in-Replay-clause-ran : goal.returns-in-Replay-clause-ran
 returns-in-Replay-clause-ran g c = rw c.in-Replay.is c.replay.ensures
 
 pub returns-in-Replay-clause-noted : goal.returns-in-Replay-clause-noted
-returns-in-Replay-clause-noted g c = rw c.in-Replay.is c.requires
+returns-in-Replay-clause-noted g c = rw c.in-Replay.is tt
 
 pub returns-in-Held-clause-ran : goal.returns-in-Held-clause-ran
 returns-in-Held-clause-ran g c = rw c.in-Held.is c.measure_trace.ensures
 
 pub returns-in-Held-clause-noted : goal.returns-in-Held-clause-noted
-returns-in-Held-clause-noted g c = rw c.in-Held.is c.requires
+returns-in-Held-clause-noted g c = rw c.in-Held.is tt
 
 pub returns-in-HeldKinds-clause-ran : goal.returns-in-HeldKinds-clause-ran
 returns-in-HeldKinds-clause-ran g c = rw c.in-HeldKinds.is c.measure_kinds.ensures
 
 pub returns-in-HeldKinds-clause-noted : goal.returns-in-HeldKinds-clause-noted
-returns-in-HeldKinds-clause-noted g c = rw c.in-HeldKinds.is c.requires
+returns-in-HeldKinds-clause-noted g c = rw c.in-HeldKinds.is tt
 
 pub returns-in-Race-clause-ran : goal.returns-in-Race-clause-ran
 returns-in-Race-clause-ran g c = rw c.in-Race.is c.race_trace.ensures
 
 pub returns-in-Race-clause-noted : goal.returns-in-Race-clause-noted
-returns-in-Race-clause-noted g c = rw c.in-Race.is c.requires
+returns-in-Race-clause-noted g c = rw c.in-Race.is tt
 
 pub returns-in-RaceQueues-clause-ran : goal.returns-in-RaceQueues-clause-ran
 returns-in-RaceQueues-clause-ran g c = rw c.in-RaceQueues.is c.race_trace_over_queues.ensures
 
 pub returns-in-RaceQueues-clause-noted : goal.returns-in-RaceQueues-clause-noted
-returns-in-RaceQueues-clause-noted g c = rw c.in-RaceQueues.is c.requires
+returns-in-RaceQueues-clause-noted g c = rw c.in-RaceQueues.is tt
 
 pub returns-in-Map-clause-ran : goal.returns-in-Map-clause-ran
 returns-in-Map-clause-ran g c = rw c.in-Map.is c.draw_trace.ensures
 
 pub returns-in-Map-clause-noted : goal.returns-in-Map-clause-noted
-returns-in-Map-clause-noted g c = rw c.in-Map.is c.requires
+returns-in-Map-clause-noted g c = rw c.in-Map.is tt
 
 pub returns-in-MapText-clause-ran : goal.returns-in-MapText-clause-ran
 returns-in-MapText-clause-ran g c = rw c.in-MapText.is c.draw_trace_as_text.ensures
 
 pub returns-in-MapText-clause-noted : goal.returns-in-MapText-clause-noted
-returns-in-MapText-clause-noted g c = rw c.in-MapText.is c.requires
+returns-in-MapText-clause-noted g c = rw c.in-MapText.is tt
 
 pub returns-in-MapHtml-clause-ran : goal.returns-in-MapHtml-clause-ran
 returns-in-MapHtml-clause-ran g c = rw c.in-MapHtml.is c.draw_trace_as_page.ensures
 
 pub returns-in-MapHtml-clause-noted : goal.returns-in-MapHtml-clause-noted
-returns-in-MapHtml-clause-noted g c = rw c.in-MapHtml.is c.requires
+returns-in-MapHtml-clause-noted g c = rw c.in-MapHtml.is tt
 
 pub returns-in-MapWorst-clause-ran : goal.returns-in-MapWorst-clause-ran
 returns-in-MapWorst-clause-ran g c = rw c.in-MapWorst.is c.draw_trace_at_worst.ensures
 
 pub returns-in-MapWorst-clause-noted : goal.returns-in-MapWorst-clause-noted
-returns-in-MapWorst-clause-noted g c = rw c.in-MapWorst.is c.requires
+returns-in-MapWorst-clause-noted g c = rw c.in-MapWorst.is tt
 
 pub returns-in-MapWorstText-clause-ran : goal.returns-in-MapWorstText-clause-ran
 returns-in-MapWorstText-clause-ran g c = rw c.in-MapWorstText.is c.draw_trace_at_worst-in-MapWorstText.ensures
 
 pub returns-in-MapWorstText-clause-noted : goal.returns-in-MapWorstText-clause-noted
-returns-in-MapWorstText-clause-noted g c = rw c.in-MapWorstText.is c.requires
+returns-in-MapWorstText-clause-noted g c = rw c.in-MapWorstText.is tt
 
 pub returns-in-Plot-clause-ran : goal.returns-in-Plot-clause-ran
 returns-in-Plot-clause-ran g c = rw c.in-Plot.is c.plot_trace.ensures
 
 pub returns-in-Plot-clause-noted : goal.returns-in-Plot-clause-noted
-returns-in-Plot-clause-noted g c = rw c.in-Plot.is c.requires
+returns-in-Plot-clause-noted g c = rw c.in-Plot.is tt
 
 pub returns-in-PlotText-clause-ran : goal.returns-in-PlotText-clause-ran
 returns-in-PlotText-clause-ran g c = rw c.in-PlotText.is c.plot_trace-in-PlotText.ensures
 
 pub returns-in-PlotText-clause-noted : goal.returns-in-PlotText-clause-noted
-returns-in-PlotText-clause-noted g c = rw c.in-PlotText.is c.requires
+returns-in-PlotText-clause-noted g c = rw c.in-PlotText.is tt
 
 pub returns-in-Check-clause-ran : goal.returns-in-Check-clause-ran
 returns-in-Check-clause-ran g c = rw c.in-Check.is c.check_trace.ensures.run

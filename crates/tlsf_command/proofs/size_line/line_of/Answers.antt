@@ -1,7 +1,6 @@
-use Rattle.std.proofs.Common.{◌≤◌, ◌^◌, arith}
+use Rattle.std.proofs.Common.{arith}
 use Rattle.std.proofs.lemmas.Fmt.{contents_after_writes}
 use Rattle.tlsf_class.proofs.TwoLevels.{most_words_any}
-use Rattle.tlsf_command.specs.SizeLines.{asked_bytes}
 use Rattle.tlsf_command.proofs.SizeTables.{few_bytes, some_byte}
 use Rattle.tlsf_command.proofs.size_line.line_of.Goals as goal
 

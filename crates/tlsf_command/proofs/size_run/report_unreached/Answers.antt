@@ -1,14 +1,15 @@
 use Rattle.std.proofs.Common.{◌≡◌, ℕ, List, [], ◌∷◌, Option, length, refl, arith}
 use Rattle.tlsf_command.specs.Runs.{ReportsUnreached}
-use Rattle.tlsf_command.specs.SizeLines.{unreached_table_line, IsFiner, IsFirstUnreached}
+use Rattle.tlsf_command.specs.SizeLines.{unreached_table_line, IsFiner, IsFirstUnreached, IsSplitOf}
 use Rattle.tlsf_laws.specs.declared.kind.Kind.{Kind}
+use Rattle.tlsf_pool.specs.declared.split.Split.{Split}
 use Rattle.tlsf_lines.specs.Prefixes.{AppendsFront}
 use Rattle.tlsf_command.proofs.size_run.report_unreached.Goals as goal
 
 -- what is reported of a table that isn't of one kind
 reported : (sli : ℕ) (kinds : List Kind) (old new : Option (List ℕ)) → (length kinds ≡ 1 → ⊥)
-    → (n : ℕ) × (next : Kind) × (finer : Option ℕ) × IsFirstUnreached sli kinds n next × IsFiner kinds finer
-    × AppendsFront old new (unreached_table_line n next finer)
+    → (n : ℕ) × (next : Kind) × (split : Option Split) × (finer : Option ℕ) × IsFirstUnreached sli kinds n next × IsSplitOf sli kinds split
+    × IsFiner kinds finer × AppendsFront old new (unreached_table_line n next split finer)
     → ReportsUnreached sli kinds old new
 reported sli [] old new many is = is
 reported sli (kind ∷ []) old new many is = absurd (many refl)

@@ -1,0 +1,30 @@
+use std::fmt;
+use tlsf_pool::Split;
+
+/// What a refusal says of several heaps: how many, and of how many words together, where there are some that are large enough.
+#[derive(Clone, Copy)]
+pub struct SplitHint {
+    /// The cheapest way to give the kinds to them.
+    pub split: Option<Split>,
+}
+
+impl fmt::Display for SplitHint {
+    ghost use Rattle.std.specs.Prelude.{Some};
+    ghost use Rattle.tlsf_command.specs.SizeLines.{split_hint_text};
+
+    ghost output = { λ it. Some (split_hint_text it.split) };
+
+    fn fmt<W: fmt::Write>(&self, f: &mut fmt::Formatter<W>) -> fmt::Result {
+        match self.split {
+            Some(split) => {
+                let heaps = split.heaps;
+                let words = split.words;
+                write!(
+                    f,
+                    "; with --split {heaps} heaps of {words} words together are enough"
+                )
+            }
+            None => Ok(()),
+        }
+    }
+}

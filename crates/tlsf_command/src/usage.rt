@@ -1,0 +1,45 @@
+//! What `clap` says of words that it refuses, where a tip of it misleads or one of ours serves.
+use std::alloc::{AllocError, Global};
+use std::convert::AsStr;
+
+/// The line behind what `clap` says of the lines of several workers, given to `tlsf size` at once.
+pub const TABLES_TIP: &str =
+    "tip: a line at a time: tlsf replay --held --kinds < TRACE | xargs -L 1 tlsf size\n";
+
+// How `clap` begins its tip to pass an option as a value. No command takes a value that begins with a hyphen.
+const PASSING: &str = "\n  tip: to pass '";
+
+/// The text of `clap` without its tip to pass an option as a value. An `Err` says that memory ran out.
+///
+/// ```
+/// let text = without_passing_tip(alloc, "error: '-x'\n\n  tip: to pass '-x' ..\n\nUsage: ..\n")?;
+/// // text is "error: '-x'\n\nUsage: ..\n"
+/// ```
+pub fn without_passing_tip(alloc: Global, text: &str) -> Result<String, AllocError> {
+    let (front, behind) = match text.split_once(PASSING) {
+        Some((front, tip)) => (front.trim_end(), tip.split_once('\n')),
+        None => (text, None),
+    };
+    match behind {
+        Some((_, usage)) => format!(in alloc; "{front}\n{usage}"),
+        None => format!(in alloc; "{front}"),
+    }
+}
+
+/// Whether the words give `tlsf size` the level more than once, as the lines of several workers do.
+///
+/// ```
+/// let several = give_tables(&["tlsf", "size", "--sli", "4", "--sli", "4"]);      // true
+/// ```
+pub fn give_tables<S: AsStr>(words: &[S]) -> bool {
+    let mut levels = 0u64;
+    let mut is_size = false;
+    for word in words {
+        let text = word.as_str();
+        is_size |= text == "size";
+        if text == "--sli" {
+            levels = levels.saturating_add(1);
+        }
+    }
+    is_size && levels > 1
+}
