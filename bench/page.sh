@@ -13,8 +13,8 @@
 # the blocks fill each heap, that the report above it doesn't wrap and the picture
 # stays where it is, the colour of each block wide enough, what stands under the
 # pointer and, where `tlsf map --at` draws each block alone, that it tells the
-# same of each, how dark a free one is drawn among it. The last line is 'N pages, M wrong'; the exit status
-# is 0 where M is 0.
+# same of each, how dark a free one is drawn among it. The last line is 'N pages,
+# M wrong'; the exit status is 0 where M is 0.
 set -eu
 most_words=2
 . "$(dirname "$0")/help.sh"
