@@ -2,13 +2,14 @@
 //!
 //! [`check_trace`] reads a trace and checks it. Of a good one it writes a line that counts its workers, calls and phases; of a faulty
 //! one it answers the fault of a replay, and notes the line as it stands with a mark under the byte, which field it is, and what was
-//! expected there.
+//! expected there. Of a trace that is too long it notes the limit that it passes.
 //!
 //! [`field_of_fault`] finds the field of a text's fault, and [`explain`] makes the note. Both read a line by the steps of `tlsf_lines`: what a
-//! word, a number and payload bytes are is told there alone.
+//! word, a number and payload bytes are is told there alone. [`have_marked_number`] says whether the words of a command line want the tip
+//! on numbers, [`NUMBER_TIP`], which a note has too.
 //!
-//! Contracts see the fault of a text as `fault_of` of `tlsf_lines`, and its field as `IsFoundIn` of `specs/FieldFaults.antt`. The words of a
-//! note, and where its mark stands, are shown by tests.
+//! Contracts see the fault of a text as `fault_of` of `tlsf_lines`, its field as `IsFoundIn` of `specs/FieldFaults.antt`, and the limit as
+//! `NotesLimit` of `specs/PassedLimits.antt`. The words of a note, and where its mark stands, are shown by tests.
 #![tactic(auto)]
 
 mod checking;
