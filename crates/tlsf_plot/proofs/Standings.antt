@@ -130,30 +130,39 @@ none_worse_than_named : (trace : Trace) (j number : ℕ) (look : Look) → IsNam
 none_worse_than_named trace j number look named lt = subst (λ (s : Standing). is_worse (standing_at trace j number) s ≡ false) (sym named.standing) (named.worst.most number lt)
 
 pub first_heap : (trace : Trace) (look : Look) → IsNamed trace 0 look → IsWorstOf trace 1 look
-first_heap trace look named = (0, record {
-  within = omega arith;
-  named = named;
-  most = λ i number lt within. let here : i ≡ 0 = omega (arith, lt) in subst (λ (k : ℕ). is_worse (standing_at trace k number) look.standing ≡ false) (sym here) (none_worse_than_named trace 0 number look named within);
-  first = λ i number lt within. absurd (omega (arith, lt));
-})
+first_heap trace look named = (
+  0,
+  record {
+    within = omega arith;
+    named = named;
+    most = λ i number lt within. let here : i ≡ 0 = omega (arith, lt) in subst (λ (k : ℕ). is_worse (standing_at trace k number) look.standing ≡ false) (sym here) (none_worse_than_named trace 0 number look named within);
+    first = λ i number lt within. absurd (omega (arith, lt));
+  },
+)
 
 module _ (trace : Trace) (n : ℕ) (worst own : Look) (has : IsWorstOf trace n worst) (named : IsNamed trace n own) where
   pub worse_heap : is_worse own.standing worst.standing ≡ true → IsWorstOf trace (n + 1) own
-  worse_heap more = let so_far = has.1 in (n, record {
-    within = omega arith;
-    named = named;
-    most = λ i number lt within. last_or i n (λ (k : ℕ). is_worse (standing_at trace k number) own.standing ≡ false) lt
-        (λ below. none_worse_than own.standing worst.standing (standing_at trace i number) more (so_far.most i number below within))
-        (none_worse_than_named trace n number own named within);
-    first = λ i number lt within. worse_than own.standing worst.standing (standing_at trace i number) more (so_far.most i number lt within);
-  })
+  worse_heap more = let so_far = has.1 in (
+    n,
+    record {
+      within = omega arith;
+      named = named;
+      most = λ i number lt within. last_or i n (λ (k : ℕ). is_worse (standing_at trace k number) own.standing ≡ false) lt
+          (λ below. none_worse_than own.standing worst.standing (standing_at trace i number) more (so_far.most i number below within))
+          (none_worse_than_named trace n number own named within);
+      first = λ i number lt within. worse_than own.standing worst.standing (standing_at trace i number) more (so_far.most i number lt within);
+    },
+  )
 
   pub same_heap : is_worse own.standing worst.standing ≡ false → IsWorstOf trace (n + 1) worst
-  same_heap none = let so_far = has.1 in (has.0, record {
-    within = omega (arith, so_far.within);
-    named = so_far.named;
-    most = λ i number lt within. last_or i n (λ (k : ℕ). is_worse (standing_at trace k number) worst.standing ≡ false) lt
-        (λ below. so_far.most i number below within)
-        (not_worse_over (standing_at trace n number) own.standing worst.standing (none_worse_than_named trace n number own named within) none);
-    first = so_far.first;
-  })
+  same_heap none = let so_far = has.1 in (
+    has.0,
+    record {
+      within = omega (arith, so_far.within);
+      named = so_far.named;
+      most = λ i number lt within. last_or i n (λ (k : ℕ). is_worse (standing_at trace k number) worst.standing ≡ false) lt
+          (λ below. so_far.most i number below within)
+          (not_worse_over (standing_at trace n number) own.standing worst.standing (none_worse_than_named trace n number own named within) none);
+      first = so_far.first;
+    },
+  )

@@ -143,12 +143,7 @@ fn write_title_line(text: &mut String, chart: &Chart) -> Result<(), AllocError>
     )
 }
 
-fn write_worst_row(
-    text: &mut String,
-    line: u32,
-    free: u32,
-    longest: u32,
-) -> Result<(), AllocError>
+fn write_worst_row(text: &mut String, line: u32, free: u32, longest: u32) -> Result<(), AllocError>
     ensures { OnOk result (string_bytes text.new ≡ string_bytes text.old ++ worst_row line free longest) }
 {
     let bytes = bytes(longest);
@@ -158,12 +153,7 @@ fn write_worst_row(
     )
 }
 
-fn write_full(
-    text: &mut String,
-    line: u32,
-    live: u32,
-    fragmentation: u32,
-) -> Result<(), AllocError>
+fn write_full(text: &mut String, line: u32, live: u32, fragmentation: u32) -> Result<(), AllocError>
     ensures { OnOk result (string_bytes text.new ≡ string_bytes text.old ++ full_row line live fragmentation) }
 {
     write!(

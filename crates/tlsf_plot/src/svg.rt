@@ -255,12 +255,7 @@ fn write_name(text: &mut String, y: usize, chart: &Chart) -> Result<(), AllocErr
     write_points(text, chart.longest, chart.span)
 }
 
-fn write_worst_line(
-    text: &mut String,
-    line: u32,
-    free: u32,
-    longest: u32,
-) -> Result<(), AllocError>
+fn write_worst_line(text: &mut String, line: u32, free: u32, longest: u32) -> Result<(), AllocError>
     ensures { OnOk result (string_bytes text.new ≡ string_bytes text.old ++ worst_line line free longest) }
 {
     let bytes = bytes(longest);
@@ -270,12 +265,7 @@ fn write_worst_line(
     )
 }
 
-fn write_full(
-    text: &mut String,
-    line: u32,
-    live: u32,
-    fragmentation: u32,
-) -> Result<(), AllocError>
+fn write_full(text: &mut String, line: u32, live: u32, fragmentation: u32) -> Result<(), AllocError>
     ensures { OnOk result (string_bytes text.new ≡ string_bytes text.old ++ full_text line live fragmentation) }
 {
     write!(
