@@ -20,7 +20,7 @@ run_rattle() (
             --antt-project "$kit/rattle/logic/antt-project.json" --logic-built "$kit/logic_built"
 )
 
-# build_archive TREE PROCESSES ARCHIVE: proves tlsf_c over its libraries, and builds what C links, for the least x86-64, where
+# build_archive TREE PROCESSES ARCHIVE: proves tlsf_c over its libraries, and builds what C links, for baseline x86-64, where
 # `rt lib` takes x86-64-v2. ARCHIVE.toolchain stays, with the LLVM module that it was compiled from.
 build_archive() {
     rm -rf "$3.toolchain"
