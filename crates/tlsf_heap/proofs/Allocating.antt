@@ -6,7 +6,7 @@ use Rattle.std.proofs.lemmas.List.{drop_more, take-append-drop}
 use Rattle.std.proofs.lemmas.Bool.{false≢true, cases_lt}
 use Rattle.std.proofs.lemmas.Bool.Decides.{nat_tests}
 use Rattle.tlsf_class.specs.Classes.{IsLevel, most_words}
-use Rattle.tlsf_heap.specs.Blocks.{Block, Live, Free, HeapState, size_of, words_in, want}
+use Rattle.tlsf_heap.specs.Blocks.{Block, Live, Free, HeapState, size_of, words_in, is_free, want}
 use Rattle.tlsf_heap.specs.Lawful.{IsLawful, HasRoom}
 use Rattle.tlsf_heap.specs.Regions.{AreRegions, RegionState}
 use Rattle.tlsf_heap.specs.GoodFit.{Site, is_fit, fits, is_as_good, choice, block_at, site_at}
@@ -15,7 +15,7 @@ use Rattle.tlsf_heap.specs.Calls.{with_blocks, carved, ticked, allocated_words, 
 use Rattle.tlsf_heap.specs.declared.name.Name.{Name}
 use Rattle.tlsf_heap.specs.declared.refusal.Refusal.{Refusal}
 use Rattle.tlsf_heap.specs.declared.refusal.Refusal.TheVariants.{NoFit, Worn}
-use Rattle.tlsf_heap.proofs.Finding.{not_true}
+use Rattle.tlsf_heap.proofs.Finding.{and_left, not_true}
 use Rattle.tlsf_class.proofs.ClassOfSize.{le_from_serves}
 use Rattle.tlsf_heap.proofs.Sites.{choice_none, choice_is, fits_nothing}
 use Rattle.tlsf_heap.proofs.Edits.{carved_small, carved_large}
@@ -29,14 +29,18 @@ fits_size sli level n (Free m s) h = le_from_serves sli level n m h
 pub split_at : (bs : List Block) (i : ℕ) → i < length bs → bs ≡ take i bs ++ block_at bs i ∷ drop (suc i) bs
 split_at bs i h = sym (take-append-drop i bs) ∙ ap (λ (l : List Block). take i bs ++ l) (drop_more bs i (Free 0 0) h) ∙ ap (λ (n : ℕ). take i bs ++ block_at bs i ∷ drop n bs) (add-one i)
 
-pub lawful_carved : (sli : ℕ) (level : IsLevel sli) (h : HeapState) (front back : List Block) (b : Block) (n len : ℕ) → want len ≤ n → is_fit sli n b ≡ true → IsLawful (with_blocks h (front ++ b ∷ back)) → IsLawful (ticked h (front ++ carved (size_of b) n h.tick len ++ back))
-lawful_carved sli level h front back (Live m s xs) n len wanted f lawful = absurd (false≢true f)
-lawful_carved sli level h front back (Free m s) n len wanted f lawful =
+-- a free block of n words or more may be given
+pub lawful_given : (h : HeapState) (front back : List Block) (b : Block) (n len : ℕ) → want len ≤ n → is_free b ≡ true → n ≤ size_of b → IsLawful (with_blocks h (front ++ b ∷ back)) → IsLawful (ticked h (front ++ carved (size_of b) n h.tick len ++ back))
+lawful_given h front back (Live m s xs) n len wanted free room lawful = absurd (false≢true free)
+lawful_given h front back (Free m s) n len wanted free room lawful =
     let P : List Block → Type 0 = λ l. IsLawful (ticked h (front ++ l ++ back)) in
     elim (cases_lt m (n + 4)) [
-      | inl small ↦ subst P (sym (carved_small m n h.tick len small)) (lawful_whole h front back m s n len wanted lawful (fits_size sli level n (Free m s) f))
+      | inl small ↦ subst P (sym (carved_small m n h.tick len small)) (lawful_whole h front back m s n len wanted lawful room)
       | inr large ↦ subst P (sym (carved_large m n h.tick len large)) (lawful_split h front back m s n len wanted lawful large)
     ]
+
+pub lawful_carved : (sli : ℕ) (level : IsLevel sli) (h : HeapState) (front back : List Block) (b : Block) (n len : ℕ) → want len ≤ n → is_fit sli n b ≡ true → IsLawful (with_blocks h (front ++ b ∷ back)) → IsLawful (ticked h (front ++ carved (size_of b) n h.tick len ++ back))
+lawful_carved sli level h front back b n len wanted f = lawful_given h front back b n len wanted (and_left _ _ f) (fits_size sli level n b f)
 
 module _ (sli : ℕ) (level : IsLevel sli) (h : HeapState) (n len : ℕ) (wanted : want len ≤ n) (lawful : IsLawful h) where
   allocated_none : NoneFits sli n h.blocks → allocated_words sli h n len ≡ refused h NoFit

@@ -1,10 +1,11 @@
 -- A free block that becomes a live one, and the lists of the free blocks.
 use Rattle.std.proofs.Common.{◌≡◌, ◌≢◌, ℕ, suc, ◌+◌, ◌-◌, ◌<◌, ◌≤◌, true, List, [], ◌∷◌, ◌++◌, length, take, drop, replicate, Option, Some, None, sym, ap, ◌∙◌, subst, arith, append_assoc}
-use Rattle.std.specs.Prelude.{slice_get}
+use Rattle.std.specs.Prelude.{slice_get, Contains}
 use Rattle.tlsf_class.specs.Classes.{class_of}
 use Rattle.tlsf_heap.specs.Blocks.{Block, Live, Free, size_of, words_in, is_free, stamp_of, StandsAt}
 use Rattle.tlsf_heap.specs.Chosen.{IsHead}
-use Rattle.tlsf_heap.specs.Regions.{RegionState, AreRegions, AreUnlisted, SameLists, BeginsZero, EachAt, IsTagOf, OnlyReads, Edits, Rewrites, PutInFront, TakenOut, list_in}
+use Rattle.tlsf_heap.specs.Lawful.{IsRegion}
+use Rattle.tlsf_heap.specs.Regions.{RegionState, AreRegions, AreUnlisted, SameLists, BeginsZero, EachAt, HasAt, IsTagOf, Edits, Rewrites, PutInFront, TakenOut, list_in, withheld_alone}
 use Rattle.tlsf_heap.specs.GoodFit.{block_at, site_at}
 use Rattle.tlsf_heap.specs.Calls.{carved}
 use Rattle.tlsf_heap.specs.FreePlaces.{FreePlace, free_places, AreFreeLists}
@@ -12,18 +13,15 @@ use Rattle.tlsf_words.specs.Lists.{IsUnlisted, without_place}
 use Rattle.tlsf_words.specs.declared.tag.Tag.{Tag}
 use Rattle.tlsf_heap.proofs.Clearing.{zeroed_block}
 use Rattle.tlsf_heap.proofs.Edits.{carved_small, carved_large}
-use Rattle.tlsf_heap.proofs.Listing.{AreListed, IsFresh, fresh_both, not_listed, same_lists, unlisted_same, taken, given}
+use Rattle.tlsf_heap.proofs.Listing.{AreListed, IsFresh, fresh_both, contains_own, not_listed, same_lists, unlisted_same, taken, given}
 use Rattle.tlsf_heap.proofs.Writing.{places_bytes}
-use Rattle.tlsf_heap.proofs.Sizes.{Around, around, around_next, take_around, drop_around, block_around, stands_around, words_around, regions_front, regions_back, region_around, one_index, free_as, places_behind, fresh_front, fresh_back, ArePast, past_around, newest}
+use Rattle.tlsf_heap.proofs.Sizes.{Around, around, around_next, take_around, drop_around, block_around, stands_around, words_around, regions_front, regions_back, region_around, one_index, free_as, places_behind, fresh_front, fresh_back, ArePast, past_around, newest, place}
 
--- a free block of this class begins at a place, and these are the lists of the free blocks, all past
-pub record IsListed (sli : ℕ) (bs : List Block) (at i class tick : ℕ) (lists : ℕ → List ℕ) : Type 0 where
+-- a free block begins at a place, among blocks of sizes that a region may have
+pub record IsFreeHere (sli : ℕ) (bs : List Block) (at i : ℕ) : Type 0 where
   pub stands : StandsAt bs at i
   pub free : is_free (block_at bs i) ≡ true
-  pub classed : class ≡ class_of sli (size_of (block_at bs i))
   pub regions : AreRegions sli bs
-  pub past : ArePast tick bs
-  pub listed : AreFreeLists sli bs lists
 
 -- the head of a list is one place
 pub head_stands : (sli : ℕ) {bs : List Block} {lists : ℕ → List ℕ} {class at result i : ℕ} → IsHead sli bs lists class at i → slice_get (lists class) 0 ≡ Some result → StandsAt bs result i
@@ -32,11 +30,6 @@ head_stands sli {bs = bs} {i = i} head is = subst (λ (k : ℕ). StandsAt bs k i
     place : Option ℕ → ℕ
     place None = 0
     place (Some at) = at
-
--- the head that is taken out is such a block
-pub is_listed : (sli : ℕ) {bs : List Block} {class tick words result : ℕ} {lists : ℕ → List ℕ} → (fits : (at : ℕ) × (i : ℕ) × IsHead sli bs lists class at i × (is_free (block_at bs i) ≡ true) × (words ≤ size_of (block_at bs i)))
-    → slice_get (lists class) 0 ≡ Some result → AreRegions sli bs → ArePast tick bs → AreFreeLists sli bs lists → IsListed sli bs result fits.1 class tick lists
-is_listed sli fits is regions past listed = record { stands = head_stands sli fits.2 is; free = fits.3; classed = fits.2.classed; regions = regions; past = past; listed = listed }
 
 -- the region where the block that is given has its header and its rest is listed: the payload begins with a zero word
 pub record IsGiven (sli : ℕ) (bs : List Block) (at i words tick len size : ℕ) (r : RegionState) : Type 0 where
@@ -75,7 +68,7 @@ module _ (sli : ℕ) {bs : List Block} {at i words tick len size : ℕ} {r : Reg
       ap (free_places sli 0) zeroed_is ∙ places_bytes sli (take i bs) given.more old (replicate len 0) ∙ ap (free_places sli 0) (sym given.around.is) in
       subst (λ (l : List FreePlace). AreListed l lists) (sym places) (same_lists (free_places sli 0 r.blocks) (list_in r.lists) lists same given.listed)
 
-module _ (sli : ℕ) {bs : List Block} {at i class tick : ℕ} {lists : ℕ → List ℕ} (f : IsListed sli bs at i class tick lists) where
+module _ (sli : ℕ) {bs : List Block} {at i : ℕ} (f : IsFreeHere sli bs at i) where
   abbrev size : ℕ
   size = size_of (block_at bs i)
 
@@ -83,7 +76,7 @@ module _ (sli : ℕ) {bs : List Block} {at i class tick : ℕ} {lists : ℕ → 
   stamp = stamp_of (block_at bs i)
 
   abbrev entry : FreePlace
-  entry = record { class = class; at = at; stamp = stamp }
+  entry = place sli size at stamp
 
   abbrev before : List FreePlace
   before = free_places sli 0 (take i bs)
@@ -94,11 +87,14 @@ module _ (sli : ℕ) {bs : List Block} {at i class tick : ℕ} {lists : ℕ → 
   around_free : Around bs at i (take i bs) (Free size stamp) (drop (suc i) bs)
   around_free = subst (λ (b : Block). Around bs at i (take i bs) b (drop (suc i) bs)) (free_as (block_at bs i) f.free) (around bs at i f.stands)
 
-  listed_free : AreListed (before ++ entry ∷ behind) lists
-  listed_free =
+  listed_free : {lists : ℕ → List ℕ} → AreFreeLists sli bs lists → AreListed (before ++ entry ∷ behind) lists
+  listed_free {lists = lists} listed =
       let a = around_free in
-      let e = ap (λ (n : ℕ). before ++ record { class = n; at = at; stamp = stamp } ∷ behind) (sym f.classed) in
-      subst (λ (l : List FreePlace). AreListed l lists) (ap (free_places sli 0) a.is ∙ places_behind sli (take i bs) (Free size stamp ∷ drop (suc i) bs) at a.place ∙ e) f.listed
+      subst (λ (l : List FreePlace). AreListed l lists) (ap (free_places sli 0) a.is ∙ places_behind sli (take i bs) (Free size stamp ∷ drop (suc i) bs) at a.place) listed
+
+  -- it is in the list of its class
+  pub contains_here : {lists : ℕ → List ℕ} → AreFreeLists sli bs lists → Contains (lists (class_of sli size)) at
+  contains_here {lists = lists} listed = contains_own entry before behind (lists (class_of sli size)) (listed_free listed (class_of sli size))
 
   pub end_within : at + size ≤ words_in bs
   end_within = omega (arith, words_around around_free)
@@ -112,10 +108,23 @@ module _ (sli : ℕ) {bs : List Block} {at i class tick : ℕ} {lists : ℕ → 
   some_size : 4 ≤ size
   some_size = (region_around sli around_free f.regions).0
 
+  pub region_here : IsRegion sli size
+  region_here = region_around sli around_free f.regions
+
+  -- the free blocks, while it is in no list
+  withheld_places : free_places sli 0 (withheld_alone (site_at bs i)) ≡ before ++ behind
+  withheld_places = places_behind sli (take i bs) (Live size 0 [] ∷ drop (suc i) bs) at f.stands.place
+
   -- once it is out of the list of its class
-  module _ (left : ℕ → List ℕ) (out : left class ≡ without_place at (lists class)) (others : (other : ℕ) → other ≢ class → left other ≡ lists other) where
+  pub taken_listed : {class : ℕ} {lists left : ℕ → List ℕ} → class ≡ class_of sli size → AreFreeLists sli bs lists → left class ≡ without_place at (lists class) → ((other : ℕ) → other ≢ class → left other ≡ lists other)
+      → AreFreeLists sli (withheld_alone (site_at bs i)) left
+  taken_listed {class = class} {lists = lists} {left = left} is_class listed out others =
+      subst (λ (l : List FreePlace). AreListed l left) (sym withheld_places)
+      (taken entry before behind lists left (rw (sym is_class) others) (fresh_here at (omega arith) (omega (arith, some_size))) (rw (sym is_class) out) (listed_free listed))
+
+  module _ (tick : ℕ) (past_all : ArePast tick bs) (left : ℕ → List ℕ) (withheld : AreFreeLists sli (withheld_alone (site_at bs i)) left) where
     left_listed : AreListed (before ++ behind) left
-    left_listed = taken entry before behind lists left others (fresh_here at (omega arith) (omega (arith, some_size))) out listed_free
+    left_listed = subst (λ (l : List FreePlace). AreListed l left) withheld_places withheld
 
     -- no place in its words is listed
     pub left_unlisted : AreUnlisted left at (at + size)
@@ -158,7 +167,7 @@ module _ (sli : ℕ) {bs : List Block} {at i class tick : ℕ} {lists : ℕ → 
           → AreFreeLists sli new more
       rest_listed came more is_class is_more rest_stays =
           let split_off : FreePlace = record { class = came; at = at + words; stamp = tick } in
-          let past = past_around around_free tick f.past in
+          let past = past_around around_free tick past_all in
           let listed : AreListed (before ++ split_off ∷ behind) more =
           given split_off before behind kept more rest_stays (newest sli tick (at + size) (take i bs) (drop (suc i) bs) past.0 past.1) is_more (same_lists (before ++ behind) left kept stay left_listed) in
           let rest : at + words + (size - words) ≡ at + size = omega (arith, large) in
@@ -182,77 +191,53 @@ module _ (sli : ℕ) {bs : List Block} {at i class tick : ℕ} {lists : ℕ → 
             room = omega arith;
           }
 
--- ---- a carve, step by step
+-- ---- a block that is given, step by step
 
--- the head of a list was taken out, and its tag was read
-pub record IsTaken (sli : ℕ) (old r : RegionState) (at i class tick : ℕ) (own : Tag) : Type 0 where
-  pub listed : IsListed sli old.blocks at i class tick (list_in old.lists)
-  pub blocks : r.blocks ≡ old.blocks
-  pub list : list_in r.lists class ≡ without_place at (list_in old.lists class)
-  pub others : (other : ℕ) → other ≢ class → list_in r.lists other ≡ list_in old.lists other
-  pub is_own : IsTagOf r.words (site_at r.blocks i) own
-  pub size : own.size ≡ size_of (block_at old.blocks i)
-  pub free : own.free ≡ true
-  pub words : r.words ≡ old.words
-  pub touches : r.touches ≤ old.touches + 8
-  pub rise : old.touches ≤ r.touches
+-- the free block at a place is in no list, and has this tag
+pub record IsOut (sli : ℕ) (old : RegionState) (at i tick : ℕ) (own : Tag) : Type 0 where
+  pub here : IsFreeHere sli old.blocks at i
+  pub past : ArePast tick old.blocks
+  pub withheld : AreFreeLists sli (withheld_alone (site_at old.blocks i)) (list_in old.lists)
+  pub is_own : IsTagOf old.words (site_at old.blocks i) own
 
-pub is_taken : (sli : ℕ) {old p r : RegionState} {class tick words at : ℕ} {own : Tag} → (fits : (at : ℕ) × (i : ℕ) × IsHead sli old.blocks (list_in old.lists) class at i × (is_free (block_at old.blocks i) ≡ true) × (words ≤ size_of (block_at old.blocks i)))
-    → slice_get (list_in old.lists class) 0 ≡ Some at → AreRegions sli old.blocks → ArePast tick old.blocks → AreFreeLists sli old.blocks (list_in old.lists)
-    → TakenOut old p class at 7 → EachAt p.blocks at (λ s. IsTagOf p.words s own) → OnlyReads p r 1 → IsTaken sli old r at fits.1 class tick own
-is_taken sli {old = old} {p = p} {r = r} {class = class} {at = at} {own = own} fits is regions past listed out tag reads =
-    let f = is_listed sli fits is regions past listed in
-    let own_is = tag fits.1 (subst (λ (bs : List Block). StandsAt bs at fits.1) (sym out.blocks) f.stands) in
-    record {
-      listed = f;
-      blocks = reads.blocks ∙ out.blocks;
-      list = ap (λ (l : List (List ℕ)). list_in l class) reads.lists ∙ out.list;
-      others = λ other differs. ap (λ (l : List (List ℕ)). list_in l other) reads.lists ∙ out.others other differs;
-      is_own = subst (λ (bs : List Block). IsTagOf r.words (site_at bs fits.1) own) (sym reads.blocks) (subst (λ (n : ℕ). IsTagOf n (site_at p.blocks fits.1) own) (sym reads.words) own_is);
-      size = own_is.size ∙ ap (λ (bs : List Block). size_of (block_at bs fits.1)) out.blocks;
-      free = own_is.free ∙ ap (λ (bs : List Block). is_free (block_at bs fits.1)) out.blocks ∙ f.free;
-      words = reads.words ∙ out.edits.words;
-      touches = omega (arith, reads.touches, out.edits.touches);
-      rise = omega (arith, reads.rise, out.edits.rise);
-    }
+pub is_out : (sli : ℕ) {old : RegionState} {at tick words : ℕ} {own : Tag} → (free : HasAt old.blocks at (λ s. (is_free s.block ≡ true) × (words ≤ size_of s.block))) → EachAt old.blocks at (λ s. IsTagOf old.words s own)
+    → AreRegions sli old.blocks → EachAt old.blocks at (λ s. AreFreeLists sli (withheld_alone s) (list_in old.lists)) → ArePast tick old.blocks → IsOut sli old at free.0 tick own
+is_out sli free own regions listed past = record { here = record { stands = free.1; free = free.2.0; regions = regions }; past = past; withheld = listed free.0 free.1; is_own = own free.0 free.1 }
 
 -- the block has its header, its rest is listed, and its payload is left
 pub record IsReady (sli : ℕ) (old : RegionState) (at i words tick len size : ℕ) (now : RegionState) : Type 0 where
   pub given : IsGiven sli old.blocks at i words tick len size now
-  pub edits : Edits old now 24
+  pub edits : Edits old now 16
 
-module _ (sli : ℕ) {old r : RegionState} {at i class tick : ℕ} {own : Tag} (t : IsTaken sli old r at i class tick own) where
-  pub taken_stands : StandsAt r.blocks at i
-  taken_stands = subst (λ (bs : List Block). StandsAt bs at i) (sym t.blocks) t.listed.stands
-
-  pub taken_unlisted : (j : ℕ) → StandsAt r.blocks at j → AreUnlisted (list_in r.lists) at (at + size_of (block_at r.blocks j))
-  taken_unlisted = subst (λ (bs : List Block). (j : ℕ) → StandsAt bs at j → AreUnlisted (list_in r.lists) at (at + size_of (block_at bs j))) (sym t.blocks) (left_unlisted_each sli t.listed (list_in r.lists) t.list t.others)
+module _ (sli : ℕ) {old : RegionState} {at i tick : ℕ} {own : Tag} (t : IsOut sli old at i tick own) where
+  pub out_unlisted : (j : ℕ) → StandsAt old.blocks at j → AreUnlisted (list_in old.lists) at (at + size_of (block_at old.blocks j))
+  out_unlisted = left_unlisted_each sli t.here tick t.past (list_in old.lists) t.withheld
 
   module _ (words len : ℕ) (bytes : List ℕ) (many : length bytes ≡ len) (first : BeginsZero bytes) (fits : words ≤ own.size) where
     -- it was given whole
-    pub by_grant : {v now : RegionState} {n : ℕ} → own.size < words + 4 → EachAt r.blocks at (λ s. Rewrites r v (s.before ++ (Live (size_of s.block) tick bytes ∷ []) ++ s.after) 4) → now ≡ v → n ≡ own.size
+    pub by_grant : {v now : RegionState} {n : ℕ} → own.size < words + 4 → EachAt old.blocks at (λ s. Rewrites old v (s.before ++ (Live (size_of s.block) tick bytes ∷ []) ++ s.after) 4) → now ≡ v → n ≡ own.size
         → IsReady sli old at i words tick len n now
     by_grant {v = v} {now = now} {n = n} small each joined sized =
-        let w = subst (λ (bs : List Block). Rewrites r v (take i bs ++ (Live (size_of (block_at bs i)) tick bytes ∷ []) ++ drop (suc i) bs) 4) t.blocks (each i taken_stands) in
+        let w = each i t.here.stands in
         subst (λ (s : RegionState). IsReady sli old at i words tick len n s) (sym joined)
-        (subst (λ (k : ℕ). IsReady sli old at i words tick len k v) (sym (sized ∙ t.size)) (record {
-          given = given_whole sli t.listed (list_in r.lists) t.list t.others words len bytes v many first (omega (arith, t.size, fits)) (omega (arith, t.size, small)) w.blocks w.lists;
-          edits = record { words = w.edits.words ∙ t.words; shows = w.edits.shows; linked = w.edits.linked; touches = omega (arith, w.edits.touches, t.touches); rise = omega (arith, w.edits.rise, t.rise) };
+        (subst (λ (k : ℕ). IsReady sli old at i words tick len k v) (sym (sized ∙ t.is_own.size)) (record {
+          given = given_whole sli t.here tick t.past (list_in old.lists) t.withheld words len bytes v many first (omega (arith, t.is_own.size, fits)) (omega (arith, t.is_own.size, small)) w.blocks w.lists;
+          edits = record { words = w.edits.words; shows = w.edits.shows; linked = w.edits.linked; touches = omega (arith, w.edits.touches); rise = w.edits.rise };
         }))
 
     -- or split
-    module _ (large : words + 4 ≤ own.size) {v : RegionState} (each : EachAt r.blocks at (λ s. Rewrites r v (s.before ++ (Live words tick bytes ∷ Free (size_of s.block - words) tick ∷ []) ++ s.after) 9)) where
-      written : Rewrites r v (take i old.blocks ++ (Live words tick bytes ∷ Free (size_of (block_at old.blocks i) - words) tick ∷ []) ++ drop (suc i) old.blocks) 9
-      written = subst (λ (bs : List Block). Rewrites r v (take i bs ++ (Live words tick bytes ∷ Free (size_of (block_at bs i) - words) tick ∷ []) ++ drop (suc i) bs) 9) t.blocks (each i taken_stands)
+    module _ (large : words + 4 ≤ own.size) {v : RegionState} (each : EachAt old.blocks at (λ s. Rewrites old v (s.before ++ (Live words tick bytes ∷ Free (size_of s.block - words) tick ∷ []) ++ s.after) 9)) where
+      written : Rewrites old v (take i old.blocks ++ (Live words tick bytes ∷ Free (size_of (block_at old.blocks i) - words) tick ∷ []) ++ drop (suc i) old.blocks) 9
+      written = each i t.here.stands
 
       wide : words + 4 ≤ size_of (block_at old.blocks i)
-      wide = omega (arith, t.size, large)
+      wide = omega (arith, t.is_own.size, large)
 
       pub split_rest_free : (j : ℕ) × StandsAt v.blocks (at + words) j × (is_free (block_at v.blocks j) ≡ true)
-      split_rest_free = rest_free sli t.listed (list_in r.lists) t.list t.others words bytes wide v.blocks written.blocks (list_in v.lists) written.lists
+      split_rest_free = rest_free sli t.here tick t.past (list_in old.lists) t.withheld words bytes wide v.blocks written.blocks (list_in v.lists) written.lists
 
       pub split_rest_unlisted : IsUnlisted (list_in v.lists) (at + words)
-      split_rest_unlisted = rest_unlisted sli t.listed (list_in r.lists) t.list t.others words bytes wide v.blocks written.blocks (list_in v.lists) written.lists
+      split_rest_unlisted = rest_unlisted sli t.here tick t.past (list_in old.lists) t.withheld words bytes wide v.blocks written.blocks (list_in v.lists) written.lists
 
       -- and the rest is listed
       pub by_split : {u now : RegionState} {n came : ℕ} → came ≡ class_of sli (own.size - words) → PutInFront v u came (at + words) 7 → now ≡ u → n ≡ words → IsReady sli old at i words tick len n now
@@ -260,6 +245,13 @@ module _ (sli : ℕ) {old r : RegionState} {at i class tick : ℕ} {own : Tag} (
           let w = written in
           subst (λ (s : RegionState). IsReady sli old at i words tick len n s) (sym joined)
           (subst (λ (k : ℕ). IsReady sli old at i words tick len k u) (sym sized) (record {
-            given = given_split sli t.listed (list_in r.lists) t.list t.others words bytes wide v.blocks w.blocks (list_in v.lists) w.lists len u many first push.blocks came (is_class ∙ ap (λ (k : ℕ). class_of sli (k - words)) t.size) push.list push.others;
-            edits = record { words = push.edits.words ∙ w.edits.words ∙ t.words; shows = push.edits.shows; linked = push.edits.linked; touches = omega (arith, push.edits.touches, w.edits.touches, t.touches); rise = omega (arith, push.edits.rise, w.edits.rise, t.rise) };
+            given = given_split sli t.here tick t.past (list_in old.lists) t.withheld words bytes wide v.blocks w.blocks (list_in v.lists) w.lists len u many first push.blocks came (is_class ∙ ap (λ (k : ℕ). class_of sli (k - words)) t.is_own.size) push.list push.others;
+            edits = record { words = push.edits.words ∙ w.edits.words; shows = push.edits.shows; linked = push.edits.linked; touches = omega (arith, push.edits.touches, w.edits.touches); rise = omega (arith, push.edits.rise, w.edits.rise) };
           }))
+
+-- a free block that is taken out of the list of its class
+pub taken_each : (sli : ℕ) {old r : RegionState} {at i class most : ℕ} → IsFreeHere sli old.blocks at i → class ≡ class_of sli (size_of (block_at old.blocks i)) → AreFreeLists sli old.blocks (list_in old.lists)
+    → TakenOut old r class at most → EachAt r.blocks at (λ s. AreFreeLists sli (withheld_alone s) (list_in r.lists))
+taken_each sli {old = old} {r = r} {at = at} {i = i} f is_class listed out =
+    let left = taken_listed sli f is_class listed out.list out.others in
+    rw out.blocks (λ j stands. subst (λ (k : ℕ). AreFreeLists sli (withheld_alone (site_at old.blocks k)) (list_in r.lists)) (one_index sli old.blocks at i j f.regions f.stands stands) left)

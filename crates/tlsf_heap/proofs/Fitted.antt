@@ -1,5 +1,5 @@
 -- A payload of another length: the bytes that stay, and the zeros behind them.
-use Rattle.std.proofs.Common.{◌≡◌, ◌≢◌, ℕ, ◌+◌, ◌-◌, ◌*◌, ◌/◌, ◌<◌, ◌≤◌, List, length, get_or, set, take, replicate, inl, inr, sym, ◌∙◌, arith, length-append, length-take, ext_get_or, refl}
+use Rattle.std.proofs.Common.{◌≡◌, ◌≢◌, ℕ, ◌+◌, ◌-◌, ◌*◌, ◌/◌, ◌<◌, ◌≤◌, List, length, get_or, set, take, replicate, inl, inr, sym, ◌∙◌, arith, length-append, length-take, get_or-take, ext_get_or, refl}
 use Rattle.std.proofs.lemmas.Bool.{cases_lt}
 use Rattle.std.proofs.lemmas.List.{places, length-replicate, get_or-set_other}
 use Rattle.tlsf_words.specs.Bytes.{byte_in, bytes_in}
@@ -15,6 +15,12 @@ fitted_kept bytes len i h g = grind (arith, places)
 
 fitted_new : (bytes : List ℕ) (len i : ℕ) → i < len → length bytes ≤ i → get_or (fitted bytes len) i 0 ≡ 0
 fitted_new bytes len i h g = grind (arith, places)
+
+-- of a payload that has more bytes the first are those of one that has fewer
+pub fitted_less : (bytes : List ℕ) (len n : ℕ) → n ≤ len → n ≤ length bytes → take n (fitted bytes len) ≡ fitted bytes n
+fitted_less bytes len n fewer held = ext_get_or 0 (take n (fitted bytes len)) (fitted bytes n) (omega (arith, length-take n (fitted bytes len), length-fitted bytes len, length-fitted bytes n)) (λ i h.
+    let inside : i < n = omega (arith, length-take n (fitted bytes len)) in
+    get_or-take n (fitted bytes len) i 0 inside ∙ fitted_kept bytes len i (omega arith) (omega arith) ∙ sym (fitted_kept bytes n i inside (omega arith)))
 
 -- bytes of which the first stay, and the others are zero
 pub bytes_fitted : (xs ys : List ℕ) (from old len : ℕ) → ((k : ℕ) → from ≤ k → k < from + old → k < from + len → byte_in ys k ≡ byte_in xs k)

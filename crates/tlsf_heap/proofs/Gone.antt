@@ -83,7 +83,7 @@ gone_run : (sli : ℕ) (h : HeapState) (serial : ℕ) (calls : List Call) → Is
 gone_run sli h serial [] g = g
 gone_run sli h serial (call ∷ calls) g = gone_run sli (answered sli h call).1 serial calls (gone_call sli h serial call g)
 
-distinct_from : (s : ℕ) (xs ys : List ℕ) → AreDistinct (xs ++ s ∷ ys) → AllByRecursion (λ y. y ≢ s) xs × AllByRecursion (λ y. y ≢ s) ys
+pub distinct_from : (s : ℕ) (xs ys : List ℕ) → AreDistinct (xs ++ s ∷ ys) → AllByRecursion (λ y. y ≢ s) xs × AllByRecursion (λ y. y ≢ s) ys
 distinct_from s [] ys d = (tt, all_weaker (λ y. s ≢ y) (λ y. y ≢ s) (λ y f e. f (sym e)) ys d.0)
 distinct_from s (x ∷ xs) ys d = let rest = distinct_from s xs ys d.1 in (((all_right (λ y. x ≢ y) xs (s ∷ ys) d.0).0, rest.0), rest.1)
 

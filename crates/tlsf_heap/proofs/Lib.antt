@@ -51,3 +51,16 @@ pub mod Left
 pub mod Served
 pub mod Alterings
 pub mod Moves
+pub mod ByPlace
+pub mod Lengths
+pub mod Steady
+pub mod WordsInUse
+pub mod Checking
+pub mod Undamaged
+pub mod EvenPlaces
+pub mod Rebyted
+pub mod Unset
+pub mod From
+pub mod Aligning
+pub mod MovedWords
+pub mod AlignedWords

@@ -159,11 +159,14 @@ pushed e front back old new newest list is =
     }
 
 -- a free block is in the list of its class
-pub contains_own : (e : FreePlace) (front back : List FreePlace) (places : List ℕ) → IsFreeList e.class (front ++ e ∷ back) places → Contains places e.at
-contains_own e front back places list =
-    let there = to_filter (is_of e.class) (front ++ e ∷ back) e (Contains-append_right front (e ∷ back) e (first_of e back)) (eq-eqb e.class e.class refl) in
-    let ordered = Contains-permutation (of_class e.class (front ++ e ∷ back)) list.order e (IsPermutation-sym list.order (of_class e.class (front ++ e ∷ back)) list.same) there in
+pub listed_own : (e : FreePlace) (free : List FreePlace) (places : List ℕ) → Contains free e → IsFreeList e.class free places → Contains places e.at
+listed_own e free places c list =
+    let there = to_filter (is_of e.class) free e c (eq-eqb e.class e.class refl) in
+    let ordered = Contains-permutation (of_class e.class free) list.order e (IsPermutation-sym list.order (of_class e.class free) list.same) there in
     subst (λ (l : List ℕ). Contains l e.at) (sym list.are) (contains_map (λ (p : FreePlace). p.at) list.order e ordered)
+
+pub contains_own : (e : FreePlace) (front back : List FreePlace) (places : List ℕ) → IsFreeList e.class (front ++ e ∷ back) places → Contains places e.at
+contains_own e front back places list = listed_own e (front ++ e ∷ back) places (Contains-append_right front (e ∷ back) e (first_of e back)) list
 
 -- a place where none of the free blocks begins is in no list
 pub not_listed : (free : List FreePlace) (lists : ℕ → List ℕ) (at : ℕ) → AreListed free lists → IsFresh at free → IsUnlisted lists at

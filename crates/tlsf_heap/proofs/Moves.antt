@@ -5,13 +5,13 @@ use Rattle.std.specs.List.{AllByRecursion}
 use Rattle.std.proofs.lemmas.Bool.{false≢true, eqb-true, ne_eqb}
 use Rattle.std.proofs.lemmas.Bool.Decides.{nat_tests}
 use Rattle.tlsf_heap.specs.Blocks.{HeapState, payload_words, want}
-use Rattle.tlsf_heap.specs.Calls.{Allocate, Release, Write, refused, last_tick, is_worn, allocated, named, released, released_at, resized, resized_at, written}
+use Rattle.tlsf_heap.specs.Calls.{Outcome, Allocate, Release, Write, refused, last_tick, is_worn, allocated, named, released, released_at, resized, resized_at, written}
 use Rattle.tlsf_heap.specs.Given.{payload_words_at}
 use Rattle.tlsf_heap.specs.GoodFit.{Site, block_at}
 use Rattle.tlsf_heap.specs.InPlace.{payload_of}
 use Rattle.tlsf_heap.specs.Lawful.{IsLawful, HasRoom}
 use Rattle.tlsf_heap.specs.Laws.{IsLive}
-use Rattle.tlsf_heap.specs.Moved.{copied, moved_to, moved, moved_for, resized_else, resized_or_moved}
+use Rattle.tlsf_heap.specs.Moved.{is_nearly_worn, copied, moved_to, moved, moved_for, resized_else, resized_or_moved}
 use Rattle.tlsf_heap.specs.declared.name.Name.{Name}
 use Rattle.tlsf_heap.specs.declared.refusal.Refusal.{Refusal}
 use Rattle.tlsf_heap.specs.declared.refusal.Refusal.TheVariants.{NoFit, Worn, Foreign, Stale, Range, NoRoom}
@@ -21,7 +21,7 @@ use Rattle.tlsf_heap.proofs.Lawfulness.{all_right}
 use Rattle.tlsf_heap.proofs.Living.{given, kept}
 use Rattle.tlsf_heap.proofs.Naming.{named_is}
 use Rattle.tlsf_heap.proofs.Payloads.{held_within}
-use Rattle.tlsf_heap.proofs.Outcomes.{by_allocated, by_written, takes}
+use Rattle.tlsf_heap.proofs.Outcomes.{by_test, by_allocated, by_written, takes}
 
 -- ---- the release behind a copy is accepted
 
@@ -34,6 +34,13 @@ pub released_live : (k : HeapState) (name : Name) → IsLive k name → k.tick �
 released_live k name live fresh =
     ap (λ (b : Bool). (cond b (released_at k (named name k.blocks)) (refused k Foreign)).answer) (eq-eqb name.heap k.id live.0)
     ∙ released_there k (named name k.blocks) live.1 (ne_eqb k.tick last_tick fresh)
+
+-- also behind a write
+pub release_done : (sli : ℕ) (k : HeapState) (name new : Name) (bytes : List ℕ) → IsLive k name → k.tick ≢ last_tick → (released (written k new 0 bytes).heap name).answer ≡ Ok tt
+release_done sli k name new bytes live fresh =
+    let stays : (written k new 0 bytes).heap.tick ≡ k.tick = by_written (λ o. o.heap.tick ≡ k.tick) k new 0 bytes (λ why. refl) (λ s site has. refl) in
+    let still : IsLive (written k new 0 bytes).heap name = kept sli k name (Write new 0 bytes) (λ taken. let bad : Write new 0 bytes ≡ Release name = taken.0 in cc) live in
+    released_live (written k new 0 bytes).heap name still (λ worn. fresh (sym stays ∙ worn))
 
 module _ (sli : ℕ) (h : HeapState) (name : Name) (len : ℕ) where
   -- ---- a move
@@ -63,16 +70,8 @@ module _ (sli : ℕ) (h : HeapState) (name : Name) (len : ℕ) where
     pub new_lives : IsLive (allocated sli h len).heap new
     new_lives = given sli h len new (sym e)
 
-    ticks : (allocated sli h len).heap.tick ≡ h.tick + 1
+    pub ticks : (allocated sli h len).heap.tick ≡ h.tick + 1
     ticks = by_allocated sli (λ o. Ok new ≡ o.answer → o.heap.tick ≡ h.tick + 1) h len (λ why bad. cc) (λ s site fit done. refl) e
-
-    -- and the old one is released behind the copy
-    pub release_done : (bytes : List ℕ) → h.tick + 1 < last_tick → (released (written (allocated sli h len).heap new 0 bytes).heap name).answer ≡ Ok tt
-    release_done bytes fresh =
-        let k = (allocated sli h len).heap in
-        let stays : (written k new 0 bytes).heap.tick ≡ k.tick = by_written (λ o. o.heap.tick ≡ k.tick) k new 0 bytes (λ why. refl) (λ s site has. refl) in
-        let still : IsLive (written k new 0 bytes).heap name = kept sli k name (Write new 0 bytes) (λ taken. let bad : Write new 0 bytes ≡ Release name = taken.0 in cc) old_lives in
-        released_live (written k new 0 bytes).heap name still (λ worn. omega (arith, worn, stays, ticks, fresh))
 
   -- ---- a resize, and what follows it
 
@@ -113,3 +112,27 @@ payload_fits h name lawful live =
     let room = (all_right HasRoom (take i h.blocks) (block_at h.blocks i ∷ drop (suc i) h.blocks) (subst (AllByRecursion HasRoom) (split_at h.blocks i is_named.1.1.within) lawful.rooms)).0 in
     let is : payload_words_at (named name h.blocks) ≡ payload_words (block_at h.blocks i) = ap payload_words_at (named_is name h.blocks i is_named.1.1) in
     omega (arith, held_within (block_at h.blocks i) room, ap length (payload_is h name is_named), is)
+
+-- what a resize or move comes to: a refusal, a resize, or an allocate, a write and a release
+pub by_resized_or_moved : (P : Outcome Name → Type 0) (sli : ℕ) (h : HeapState) (name : Name) (len : ℕ) → ((why : Refusal) → P (refused h why)) → P (record { answer = Ok name; heap = (resized h name len).heap })
+    → ((new : Name) → (allocated sli h len).answer ≡ Ok new → P (record { answer = Ok new; heap = (released (copied (allocated sli h len).heap name new).heap name).heap })) → P (resized_or_moved sli h name len)
+by_resized_or_moved P sli h name len if_refused if_stays if_moved = at (resized h name len).answer
+  where
+    to : (r : Result Name Refusal) → (allocated sli h len).answer ≡ r → P (moved_to h name r (allocated sli h len).heap)
+    to (Ok new) e = if_moved new e
+    to (Err why) e = if_refused why
+
+    move : P (moved sli h name len)
+    move = by_test P (is_nearly_worn h) (refused h Worn) (moved_to h name (allocated sli h len).answer (allocated sli h len).heap) (λ _. if_refused Worn) (to (allocated sli h len).answer refl)
+
+    for : (why : Refusal) → P (moved_for why h (moved sli h name len))
+    for NoRoom = move
+    for NoFit = if_refused NoFit
+    for Worn = if_refused Worn
+    for Foreign = if_refused Foreign
+    for Stale = if_refused Stale
+    for Range = if_refused Range
+
+    at : (r : Result (Unit {0}) Refusal) → P (resized_else h name r (resized h name len).heap (moved sli h name len))
+    at (Ok done) = if_stays
+    at (Err why) = for why

@@ -24,7 +24,7 @@ pub by_test : {X : Type 0} (P : X → Type 0) (b : Bool) (x y : X) → (b ≡ tr
 by_test P true x y f g = f refl
 by_test P false x y f g = g
 
-unless : {X : Type 0} (P : X → Type 0) (b : Bool) (x y : X) → P x → (b ≡ false → P y) → P (cond b x y)
+pub unless : {X : Type 0} (P : X → Type 0) (b : Bool) (x y : X) → P x → (b ≡ false → P y) → P (cond b x y)
 unless P true x y f g = f
 unless P false x y f g = g refl
 
@@ -33,7 +33,7 @@ module _ {X : Type 0} where
   found_or P p true y rest x t holds f e = let same : y ≡ x = cc in subst (λ (z : X). P z × (p z ≡ true)) same (holds, t)
   found_or P p false y rest x t holds f e = f e
 
-  found_has : (P : X → Type 0) (p : X → Bool) (xs : List X) (x : X) → AllByRecursion P xs → find p xs ≡ Some x → P x × (p x ≡ true)
+  pub found_has : (P : X → Type 0) (p : X → Bool) (xs : List X) (x : X) → AllByRecursion P xs → find p xs ≡ Some x → P x × (p x ≡ true)
   found_has P p [] x all e = cc
   found_has P p (y ∷ xs) x all e = found_or P p (p y) y (find p xs) x refl all.0 (found_has P p xs x all.1) e
 
@@ -55,7 +55,7 @@ module _ {X : Type 0} where
 abbrev pub IsSiteOf : List Block → Site → Type 0
 IsSiteOf bs s = s.before ++ s.block ∷ s.after ≡ bs
 
-sites_whole : (p bs : List Block) → AllByRecursion (IsSiteOf (p ++ bs)) (sites_behind p bs)
+pub sites_whole : (p bs : List Block) → AllByRecursion (IsSiteOf (p ++ bs)) (sites_behind p bs)
 sites_whole p [] = tt
 sites_whole p (b ∷ bs) = (refl, subst (λ (l : List Block). AllByRecursion (IsSiteOf l) (sites_behind (p ++ b ∷ []) bs)) (append_assoc p (b ∷ []) bs) (sites_whole (p ++ b ∷ []) bs))
 
@@ -103,17 +103,21 @@ by_released P h name if_refused if_done =
 abbrev pub resizes : HeapState → ℕ → ℕ → Site → Outcome (Unit {0})
 resizes h n len s = record { answer = Ok tt; heap = ticked h (s.before ++ refitted h.tick n len s.block s.after) }
 
-pub by_resized_words : (P : Outcome (Unit {0}) → Type 0) (h : HeapState) (name : Name) (n len : ℕ) → ((why : Refusal) → P (refused h why))
-    → ((s : Site) → name.heap ≡ h.id → IsSiteOf h.blocks s → is_named name.at name.serial s ≡ true → n ≤ room_of s.block s.after → P (resizes h n len s)) → P (resized_words h name n len)
-by_resized_words P h name n len if_refused if_done =
+pub by_resized_found : (P : Outcome (Unit {0}) → Type 0) (h : HeapState) (name : Name) (n len : ℕ) → ((why : Refusal) → P (refused h why))
+    → ((s : Site) → name.heap ≡ h.id → named name h.blocks ≡ Some s → n ≤ room_of s.block s.after → P (resizes h n len s)) → P (resized_words h name n len)
+by_resized_found P h name n len if_refused if_done =
     by_test P (eqb name.heap h.id) (resized_at h n len (named name h.blocks)) (refused h Foreign) (λ own. at (eqb-true name.heap h.id own) (named name h.blocks) refl) (if_refused Foreign)
   where
     at : name.heap ≡ h.id → (o : Option Site) → named name h.blocks ≡ o → P (resized_at h n len o)
     at own None e = if_refused Stale
     at own (Some s) e =
-        let site = named_site name h.blocks s e in
         unless P (nat_lt (room_of s.block s.after) n) (refused h NoRoom) _ (if_refused NoRoom)
-        (λ t. by_test P (is_worn h) (refused h Worn) (resizes h n len s) (λ _. if_refused Worn) (if_done s own site.0 site.1 (grind (arith, nat_tests))))
+        (λ t. by_test P (is_worn h) (refused h Worn) (resizes h n len s) (λ _. if_refused Worn) (if_done s own e (grind (arith, nat_tests))))
+
+pub by_resized_words : (P : Outcome (Unit {0}) → Type 0) (h : HeapState) (name : Name) (n len : ℕ) → ((why : Refusal) → P (refused h why))
+    → ((s : Site) → name.heap ≡ h.id → IsSiteOf h.blocks s → is_named name.at name.serial s ≡ true → n ≤ room_of s.block s.after → P (resizes h n len s)) → P (resized_words h name n len)
+by_resized_words P h name n len if_refused if_done =
+    by_resized_found P h name n len if_refused (λ s own e room. let site = named_site name h.blocks s e in if_done s own site.0 site.1 room)
 
 pub by_resized : (P : Outcome (Unit {0}) → Type 0) (h : HeapState) (name : Name) (len : ℕ) → ((why : Refusal) → P (refused h why))
     → ((s : Site) → name.heap ≡ h.id → IsSiteOf h.blocks s → is_named name.at name.serial s ≡ true → want len ≤ room_of s.block s.after → P (resizes h (want len) len s)) → P (resized h name len)
@@ -122,13 +126,20 @@ by_resized P h name len = by_resized_words P h name (want len) len
 abbrev pub writes : HeapState → ℕ → List ℕ → Site → Outcome (Unit {0})
 writes h at bytes s = record { answer = Ok tt; heap = with_blocks h (s.before ++ with_bytes s.block (overwritten (bytes_of s.block) at bytes) ∷ s.after) }
 
+pub by_written_named : (P : Outcome (Unit {0}) → Type 0) (h : HeapState) (name : Name) (at : ℕ) (bytes : List ℕ) → ((why : Refusal) → P (refused h why))
+    → ((s : Site) → name.heap ≡ h.id → IsSiteOf h.blocks s → is_named name.at name.serial s ≡ true → has_bytes s.block at (length bytes) ≡ true → P (writes h at bytes s)) → P (written h name at bytes)
+by_written_named P h name at bytes if_refused if_done =
+    by_test P (eqb name.heap h.id) (written_at h at bytes (named name h.blocks)) (refused h Foreign) (λ own. on (eqb-true name.heap h.id own) (named name h.blocks) refl) (if_refused Foreign)
+  where
+    on : name.heap ≡ h.id → (o : Option Site) → named name h.blocks ≡ o → P (written_at h at bytes o)
+    on own None e = if_refused Stale
+    on own (Some s) e =
+        let site = named_site name h.blocks s e in
+        by_test P (has_bytes s.block at (length bytes)) (writes h at bytes s) (refused h Range) (if_done s own site.0 site.1) (if_refused Range)
+
 pub by_written : (P : Outcome (Unit {0}) → Type 0) (h : HeapState) (name : Name) (at : ℕ) (bytes : List ℕ) → ((why : Refusal) → P (refused h why))
     → ((s : Site) → IsSiteOf h.blocks s → has_bytes s.block at (length bytes) ≡ true → P (writes h at bytes s)) → P (written h name at bytes)
-by_written P h name at bytes if_refused if_done = by_test P (eqb name.heap h.id) (written_at h at bytes (named name h.blocks)) (refused h Foreign) (λ _. on (named name h.blocks) refl) (if_refused Foreign)
-  where
-    on : (o : Option Site) → named name h.blocks ≡ o → P (written_at h at bytes o)
-    on None e = if_refused Stale
-    on (Some s) e = by_test P (has_bytes s.block at (length bytes)) (writes h at bytes s) (refused h Range) (if_done s (named_site name h.blocks s e).0) (if_refused Range)
+by_written P h name at bytes if_refused if_done = by_written_named P h name at bytes if_refused (λ s own site is. if_done s site)
 
 -- ---- a heap keeps its number and its laws
 

@@ -26,7 +26,7 @@ unfolding bytes_in
 get_or-bytes_in words from len i j inside e = get_or-map-range_with_len (byte_in words) from len i j 0 inside e
 
 -- some bytes among others
-bytes_among : (words : List ℕ) (from len offset n : ℕ) → offset + n ≤ len → bytes_in words (from + offset) n ≡ take n (drop offset (bytes_in words from len))
+pub bytes_among : (words : List ℕ) (from len offset n : ℕ) → offset + n ≤ len → bytes_in words (from + offset) n ≡ take n (drop offset (bytes_in words from len))
 bytes_among words from len offset n fits =
     let all = bytes_in words from len in
     let many = length-bytes_in words from len in

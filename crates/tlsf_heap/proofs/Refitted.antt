@@ -152,6 +152,9 @@ module _ {bs : List Block} {at i : ℕ} (stands : StandsAt bs at i) (live : is_f
   pub recut_takes : (size : ℕ) → size ≤ n → (is_free (block_at now i) ≡ false) × (size ≤ size_of (block_at now i))
   recut_takes size h = (ap is_free (block_around recut_around), omega (arith, ap size_of (block_around recut_around), parts.enough))
 
+  pub recut_bytes : bytes_of (block_at now i) ≡ bytes_of (block_at bs i)
+  recut_bytes = ap bytes_of (block_around recut_around)
+
   pub recut_rebytes : (len : ℕ) (left : List Block) → left ≡ take i now ++ (with_bytes (block_at now i) (fitted (bytes_of (block_at now i)) len) ∷ []) ++ drop (suc i) now
       → left ≡ take i bs ++ recut tick n (with_bytes (block_at bs i) (fitted (bytes_of (block_at bs i)) len)) (drop (suc i) bs)
   recut_rebytes len left is_left =

@@ -32,11 +32,11 @@ pub record Refills (m v : Image) (at len : ℕ) : Type 0 where
   pub only : OnlyFrom m.words v.words (at + 2) (at + words_for len)
   pub starts : v.starts ≡ m.starts
 
-room_for : (b : Block) (bytes : List ℕ) → is_free b ≡ false → words_for (length bytes) ≤ size_of b → HasRoom b → HasRoom (with_bytes b bytes)
+pub room_for : (b : Block) (bytes : List ℕ) → is_free b ≡ false → words_for (length bytes) ≤ size_of b → HasRoom b → HasRoom (with_bytes b bytes)
 room_for (Live size serial old) bytes live fits room = (room.0, fits)
 room_for (Free size stamp) bytes live fits room = absurd (false≢true (sym live))
 
-holds_for : (words : List ℕ) (at : ℕ) (b : Block) (bytes : List ℕ) → get_or words (at + 2) 0 ≡ length_word (length bytes) → bytes_in words (8 * (at + 3)) (length bytes) ≡ bytes → HoldsPayload words at (with_bytes b bytes)
+pub holds_for : (words : List ℕ) (at : ℕ) (b : Block) (bytes : List ℕ) → get_or words (at + 2) 0 ≡ length_word (length bytes) → bytes_in words (8 * (at + 3)) (length bytes) ≡ bytes → HoldsPayload words at (with_bytes b bytes)
 holds_for words at (Live size serial old) bytes word held = (word, held)
 holds_for words at (Free size stamp) bytes word held = tt
 

@@ -28,7 +28,7 @@ length-overwritten bytes new at h =
     length-append (take at bytes ++ new) (drop (at + length new) bytes)
     ∙ omega (arith, front, length-append (take at bytes) new, length-drop (at + length new) bytes)
 
-apart_bytes : (m s : ℕ) (old new : List ℕ) (front back : List Block) → AreApart (front ++ Live m s old ∷ back) → AreApart (front ++ Live m s new ∷ back)
+pub apart_bytes : (m s : ℕ) (old new : List ℕ) (front back : List Block) → AreApart (front ++ Live m s old ∷ back) → AreApart (front ++ Live m s new ∷ back)
 apart_bytes m s old new [] back h = h
 apart_bytes m s old new (Live a c d ∷ front) back h = apart_bytes m s old new front back h
 apart_bytes m s old new (Free a c ∷ []) back h = h
@@ -67,7 +67,7 @@ module _ (h : HeapState) (name : Name) (at n : ℕ) where
   pub read_refused : (why : Refusal) → RefusesName h name why → read_of h name at n ≡ Err why
   read_refused why r = refused_name h name (read_at at n) (λ why. Err why) refl why r
 
-  read_if : (is_named : IsNamed h name) (b : Bool) → has_bytes (block_at h.blocks is_named.1.0) at n ≡ b → read_of h name at n ≡ cond b (Ok (take n (drop at (bytes_of (block_at h.blocks is_named.1.0))))) (Err Range)
+  pub read_if : (is_named : IsNamed h name) (b : Bool) → has_bytes (block_at h.blocks is_named.1.0) at n ≡ b → read_of h name at n ≡ cond b (Ok (take n (drop at (bytes_of (block_at h.blocks is_named.1.0))))) (Err Range)
   read_if is_named b e =
       at_name h name (read_at at n) (λ why. Err why) is_named.0 is_named.1.0 is_named.1.1
       ∙ ap (λ (c : Bool). cond c (Ok (take n (drop at (bytes_of (block_at h.blocks is_named.1.0))))) (Err Range)) e

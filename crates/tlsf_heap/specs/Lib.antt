@@ -17,8 +17,14 @@ pub mod Stored
 pub mod Numbers
 pub mod Named
 pub mod Placed
+pub mod ByPlace
+pub mod Unset
+pub mod Steady
 pub mod Reports
 pub mod Tallies
 pub mod Laws
 pub mod InPlace
 pub mod Moved
+pub mod WordsInUse
+pub mod Checks
+pub mod Aligned

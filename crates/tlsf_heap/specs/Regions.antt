@@ -75,6 +75,10 @@ pub record AreNeighbours (words : ℕ) (s : Site) (ahead behind : ℕ) (tag : Ta
 abbrev pub withheld : Site → List Block
 withheld s = before_free s.before ++ Live (last_free s.before + size_of s.block + first_free s.after) 0 [] ∷ past_free s.after
 
+-- the blocks of a region, were this one live: while a free block is in no list, the lists are of the others
+abbrev pub withheld_alone : Site → List Block
+withheld_alone s = s.before ++ Live (size_of s.block) 0 [] ∷ s.after
+
 -- the tag of the free block behind a block in a region of so many words; of size 0 where there is none
 pub record IsTagBehind (words : ℕ) (s : Site) (tag : Tag) : Type 0 where
   pub size : tag.size ≡ first_free s.after

@@ -1,5 +1,5 @@
 ghost use Rattle.std.specs.Fn.{FnOnceTakesAt, FnOnceTakesAtMut};
-ghost use Rattle.std.specs.Prelude.{◌≡◌, ◌≢◌, ℕ, List, ◌+◌, ◌*◌, ◌/◌, ◌-◌, ◌<◌, ◌≤◌, ◌^◌, ◌↔◌, [], true, length, take, IfOk, OnOk, OnErr, IsOk, IsErrOf, MatchResult, Ok, Err};
+ghost use Rattle.std.specs.Prelude.{◌≡◌, ◌≢◌, ℕ, List, ◌+◌, ◌*◌, ◌/◌, ◌-◌, ◌<◌, ◌≤◌, ◌^◌, ◌↔◌, [], true, length, min, take, IfOk, IfSome, OnOk, OnErr, IsOk, IsErrOf, MatchResult, Ok, Err};
 ghost use Rattle.std.specs.Result.{result_unwrap_or};
 ghost use Rattle.tlsf_class.specs.Classes.{IsLevel, most_words};
 ghost use Rattle.tlsf_heap.specs.Blocks;
@@ -9,17 +9,24 @@ ghost use Rattle.tlsf_heap.specs.Image.{Shows};
 ghost use Rattle.tlsf_heap.specs.InPlace.{payload_of, ArePayload, Alters, Inspects, IsPayloadCheck, IsRefusedAsRead};
 ghost use Rattle.tlsf_heap.specs.Lawful.{IsLawful, IsRegion};
 ghost use Rattle.tlsf_heap.specs.Laws.{IsLive};
-ghost use Rattle.tlsf_heap.specs.Moved.{moved, payload_words_moved, resized_or_moved};
+ghost use Rattle.tlsf_heap.specs.Moved.{copied, moved, payload_words_moved, resized_or_moved};
 ghost use Rattle.tlsf_heap.specs.GoodFit.{fits, block_at};
 ghost use Rattle.tlsf_heap.specs.Named.{IsFirst, IsNameCheck};
 ghost use Rattle.tlsf_heap.specs.Placed.{placed_at};
 ghost use Rattle.tlsf_heap.specs.Regions.{image_of};
 ghost use Rattle.tlsf_heap.specs.Reports.{report_of, IsGrant};
-ghost use Rattle.tlsf_heap.specs.Given.{payload_words_given, payload_words_left};
+ghost use Rattle.tlsf_heap.specs.Given.{payload_words_at, payload_words_given, payload_words_left};
+ghost use Rattle.tlsf_heap.specs.Unset.{lying, with_payload};
 ghost use Rattle.tlsf_heap.specs.Touched.{FollowsNoForgery, allocate_touches, allocate_words_touches, release_touches, resize_touches};
-ghost use Rattle.tlsf_heap.specs.Calls.{opened, allocated, allocated_words, released, resized, resized_words, written, read_of, read_answer, has_bytes, last_tick};
+ghost use Rattle.tlsf_heap.specs.Calls.{opened, allocated, allocated_words, released, resized, resized_words, named, written, read_of, read_answer, has_bytes, last_tick};
 
-use crate::fitting::{carve, choose, coalesce};
+mod aligned;
+mod by_place;
+mod check;
+mod unset;
+mod words_in_use;
+
+use crate::fitting::{carve, choose};
 use crate::name::Name;
 use crate::open_fault::OpenFault;
 use crate::placed_block::PlacedBlock;
@@ -186,6 +193,9 @@ impl<const SLI: u32> Heap<SLI> {
         ensures shows { Shows self.new.stored self.new.heap.blocks }
         ensures lists { ShowsLists SLI self.new.stored self.new.heap.blocks }
 
+        // The block given has the words wanted.
+        ensures room { IfOk result (λ name. words ≤ 3 + payload_words_at (named name self.new.heap.blocks)) }
+
         // Accepted or refused, and whatever the region holds: at most 64 touches for 8 bytes or fewer, however many words, and one for each
         // further word of the payload.
         ensures touches { self.new.touches ≤ self.old.touches + 60 + Blocks.want len }
@@ -240,12 +250,10 @@ impl<const SLI: u32> Heap<SLI> {
         ensures touches_rise { self.old.touches ≤ self.new.touches }
         ensures forged { FollowsNoForgery self.old.heap name self.old.touches self.new.touches }
     {
-        let own = self.check(name)?;
-        if self.tick == u64::MAX {
-            return Err(Refusal::Worn);
+        match self.release_words(name) {
+            Ok(_words) => Ok(()),
+            Err(why) => Err(why),
         }
-        coalesce(&mut self.region, &mut self.tick, name.at, own);
-        Ok(())
     }
 
     /// Makes the payload of the block of that name `len` bytes long, where the block stands: its place and serial stay, so the name
@@ -314,6 +322,9 @@ impl<const SLI: u32> Heap<SLI> {
         // further word of the payload.
         ensures touches { self.new.touches ≤ self.old.touches + 60 + Blocks.want len }
         ensures most_touches { self.new.touches ≤ self.old.touches + resize_touches result self.new.heap name }
+
+        // So a payload that doesn't grow takes no more, however long: of the words that the old bytes have, one is touched at most.
+        ensures grown_touches { self.new.touches ≤ self.old.touches + 28 + (Blocks.words_for len - Blocks.words_for (length (payload_of self.old.heap name))) }
         ensures touches_rise { self.old.touches ≤ self.new.touches }
         ensures forged { FollowsNoForgery self.old.heap name self.old.touches self.new.touches }
     {
@@ -487,6 +498,19 @@ impl<const SLI: u32> Heap<SLI> {
         Ok(self.region.inspect(name.at, len, f))
     }
 
+    /// The address of the region's first word, until the heap ends: the payload of the block at a place begins at byte `8 * (at + 3)` from there.
+    /// Takes no memory.
+    ///
+    /// ```text
+    /// let base = heap.base();                         // that which `heap.payload(name)` answers with a length
+    /// ```
+    pub fn base(&mut self) -> *mut u64
+        ensures heap { self.new ≡ self.old }
+        ensures was_lawful { IsLawful self.old.heap }
+    {
+        self.region.base()
+    }
+
     /// The address of the region's first word, and how many bytes of payload the block of that name has. Its payload begins
     /// at byte `8 * (name.at + 3)` from that address, until the block is released.
     ///
@@ -556,6 +580,17 @@ impl<const SLI: u32> Heap<SLI> {
         ensures nowhere { ¬ (IsPlace self.old.heap.blocks at) → self.new.touches ≤ self.old.touches + 1 }
     {
         self.region.block_at(at)
+    }
+
+    /// The number of the heap, which the names of its blocks have.
+    ///
+    /// ```text
+    /// Heap::<4>::open(alloc, 7, 64, 0)?.id()           // 7
+    /// ```
+    pub fn id(&self) -> u32
+        ensures { result ≡ self.now.heap.id }
+    {
+        self.id
     }
 
     /// The tick of the heap: that which the next accepted allocate, release or resize stamps, 1 to 2^64 - 1. A block that is free since tick
@@ -668,6 +703,22 @@ impl<const SLI: u32> Heap<SLI> {
             return Err(Refusal::Worn);
         }
         let new = self.allocate(len)?;
+        self.hand_over(name, new)
+    }
+
+    /// Copies the payload of the first of two live blocks to the other, as far as both reach, and releases the first. A tick is left.
+    fn hand_over(&mut self, name: Name, new: Name) -> Result<Name, Refusal>
+        requires from { IsLive self.old.heap name }
+        requires to { IsLive self.old.heap new }
+        requires tick { self.old.heap.tick ≢ last_tick }
+        ensures answer { result ≡ Ok new }
+        ensures heap { self.new.heap ≡ (released (copied self.old.heap name new).heap name).heap }
+        ensures lawful { IsLawful self.new.heap }
+        ensures shows { Shows self.new.stored self.new.heap.blocks }
+        ensures lists { ShowsLists SLI self.new.stored self.new.heap.blocks }
+        ensures touches { self.new.touches ≤ self.old.touches + 35 + 2 * (min (length (payload_of self.old.heap name)) (length (payload_of self.old.heap new)) / 8) }
+        ensures rise { self.old.touches ≤ self.new.touches }
+    {
         let len = self.length(name).min(self.length(new));
         self.copy(name, new, len);
         self.release(name)?;
@@ -700,5 +751,23 @@ impl<const SLI: u32> Heap<SLI> {
         ensures rise { self.old.touches ≤ self.new.touches }
     {
         self.region.copy(from.at, to.at, len);
+    }
+
+    /// Says that the payload of the live block of that name is `len` bytes long, for which the block has room: those that lie there. No
+    /// byte of it is read or written.
+    #[inline(always)]
+    fn set_length(&mut self, name: Name, len: u32)
+        requires live { IsLive self.old.heap name }
+        requires room { Blocks.words_for len ≤ 3 + payload_words_at (named name self.old.heap.blocks) }
+        ensures heap { self.new.heap ≡ with_payload self.old.heap name (lying self.new.stored name.at len) }
+        ensures lies { lying self.new.stored name.at len ≡ lying self.old.stored name.at len }
+        ensures level { IsLevel SLI }
+        ensures lawful { IsLawful self.new.heap }
+        ensures shows { Shows self.new.stored self.new.heap.blocks }
+        ensures lists { ShowsLists SLI self.new.stored self.new.heap.blocks }
+        ensures touches { self.new.touches ≤ self.old.touches + 1 }
+        ensures rise { self.old.touches ≤ self.new.touches }
+    {
+        self.region.set_length(name.at, len);
     }
 }

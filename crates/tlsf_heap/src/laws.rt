@@ -1,11 +1,20 @@
-ghost use Rattle.std.specs.Prelude.{◌≡◌, ◌≢◌, ◌↔◌, ℕ, ◌*◌, ◌-◌, ◌<◌, ◌≤◌, List, [], Ok, Err, IsOk, length};
+ghost use Rattle.std.specs.Prelude.{◌≡◌, ◌≢◌, ◌↔◌, ℕ, ◌+◌, ◌*◌, ◌-◌, ◌<◌, ◌≤◌, List, [], ◌∷◌, Ok, Err, Some, IsOk, length};
+ghost use Rattle.std.specs.List.{AllByRecursion};
 ghost use Rattle.tlsf_class.specs.Classes.{IsLevel, low, class_of};
-ghost use Rattle.tlsf_heap.specs.Blocks.{Block, HeapState, want};
-ghost use Rattle.tlsf_heap.specs.Calls.{Call, allocated, allocated_words, answered, last_tick, opened, released, resized_words, run};
+ghost use Rattle.tlsf_heap.specs.Blocks.{Block, HeapState, StandsAt, IsPlace, size_of, want};
+ghost use Rattle.tlsf_heap.specs.Aligned.{words_from, words_aligned};
+ghost use Rattle.tlsf_heap.specs.ByPlace.{name_at};
+ghost use Rattle.tlsf_heap.specs.Steady.{HasPayload, IsEven, IsOfOthers, AreEvenFrom, IsEvenCall};
+ghost use Rattle.tlsf_heap.specs.Calls.{Call, allocated, allocated_words, answered, last_tick, opened, released, resized_words, run, written, read_of, resized};
+ghost use Rattle.tlsf_heap.specs.Unset.{unset_from, with_payload};
+ghost use Rattle.tlsf_heap.specs.Image.{Image};
+ghost use Rattle.tlsf_heap.specs.Moved.{resized_or_moved};
 ghost use Rattle.tlsf_heap.specs.GoodFit.{fits};
 ghost use Rattle.tlsf_heap.specs.Lawful.{IsLawful};
 ghost use Rattle.tlsf_heap.specs.Laws.{LieApart, LieInRegion, IsLive, IsGiven, IsTaken, IsGone, TakesBack};
+ghost use Rattle.tlsf_heap.specs.Moved.{resized_or_moved};
 ghost use Rattle.tlsf_heap.specs.Reports.{report_of, IsGrant};
+ghost use Rattle.tlsf_heap.specs.WordsInUse.{words_in_use, words_at};
 ghost use Rattle.tlsf_heap.specs.declared.name.Name.{Name};
 ghost use Rattle.tlsf_heap.specs.declared.refusal.Refusal.TheVariants.{Foreign, NoFit, Stale};
 
@@ -101,4 +110,113 @@ pub fn refused_only_where_nothing_fits()
     // The same, of the heap that a list of calls leaves of a new one.
     ensures reached { (sli id words first len : ℕ) (calls : List Call) →
         ((allocated sli (run sli (opened id words first) calls).1 len).answer ≡ Err NoFit) ↔ (fits sli (want len) (run sli (opened id words first) calls).1.blocks ≡ []) }
+{}
+
+/// A place is as good as the name of the block that begins there, and no two blocks begin within three words of one another.
+///
+/// ```text
+/// a payload at word 7 or, shifted by one word, at word 8 is of the block that begins at place 4
+/// ```
+pub fn places_name_blocks()
+    ensures found { (h : HeapState) (name : Name) → IsLawful h → IsLive h name → name_at h name.at ≡ Some name }
+    ensures apart { (h : HeapState) → IsLawful h → (at k : ℕ) → IsPlace h.blocks at → 0 < k → k < 4 → ¬ (IsPlace h.blocks (at + k)) }
+{}
+
+/// What a program left in a payload stays until the block is released: through each allocate, and each release, resize, move or write
+/// of another name.
+///
+/// ```text
+/// let name = heap.allocate_unset(8)?;
+/// heap.write(name, 0, b"12345678")?;
+/// let other = heap.allocate(100)?;        // the eight bytes of `name` stay
+/// heap.release(other)?;                   // and so they do here
+/// ```
+pub fn payloads_stay()
+    // It is what a read answers.
+    ensures read { (h : HeapState) (name : Name) (bytes : List ℕ) → IsLawful h → HasPayload h name bytes → read_of h name 0 (length bytes) ≡ Ok bytes }
+
+    // It stays through each call.
+    ensures allocated { (sli : ℕ) (h : HeapState) (n len : ℕ) (name : Name) (bytes : List ℕ) → HasPayload h name bytes → HasPayload (allocated_words sli h n len).heap name bytes }
+    ensures released { (h : HeapState) (other name : Name) (bytes : List ℕ) → other ≢ name → HasPayload h name bytes → HasPayload (released h other).heap name bytes }
+    ensures resized { (h : HeapState) (other name : Name) (n len : ℕ) (bytes : List ℕ) → other ≢ name → HasPayload h name bytes → HasPayload (resized_words h other n len).heap name bytes }
+    ensures moved { (sli : ℕ) (h : HeapState) (other name : Name) (len : ℕ) (bytes : List ℕ) → IsLawful h → other ≢ name → HasPayload h name bytes → HasPayload (resized_or_moved sli h other len).heap name bytes }
+    ensures written { (h : HeapState) (other name : Name) (at : ℕ) (new bytes : List ℕ) → other ≢ name → HasPayload h name bytes → HasPayload (written h other at new).heap name bytes }
+
+    // And through those that fill nothing, whatever bytes lie there.
+    ensures allocated_unset { (sli : ℕ) (h : HeapState) (len : ℕ) (given name : Name) (m : Image) (bytes : List ℕ) → IsLawful h → IsGiven sli h len given → HasPayload h name bytes → HasPayload (unset_from (allocated sli h len).heap given m 0 len) name bytes }
+    ensures resized_unset { (h : HeapState) (other name : Name) (len : ℕ) (m : Image) (from : ℕ) (bytes : List ℕ) → other ≢ name → HasPayload h name bytes → HasPayload (unset_from (resized h other len).heap other m from len) name bytes }
+    ensures moved_unset { (sli : ℕ) (h : HeapState) (other name : Name) (len : ℕ) (bytes : List ℕ) → IsLawful h → other ≢ name → HasPayload h name bytes → (new : Name) (m : Image) (from : ℕ) →
+        (resized_or_moved sli h other len).answer ≡ Ok new → HasPayload (unset_from (resized_or_moved sli h other len).heap new m from len) name bytes }
+
+    // So it stays through every list of calls of which none is a release, resize or write of that name.
+    ensures run { (sli : ℕ) (h : HeapState) (name : Name) (bytes : List ℕ) (calls : List Call) → AllByRecursion (IsOfOthers name) calls → HasPayload h name bytes → HasPayload (run sli h calls).1 name bytes }
+{}
+
+/// Where each call wants an even number of words, each block begins at an even place, whatever the calls: so each payload, three words
+/// behind, begins at an odd word.
+///
+/// The same holds behind a place of which all blocks in front are live, and stay: with live blocks of 5 words in front for good, each
+/// block behind them begins at an odd place, and its payload at an even word.
+///
+/// ```text
+/// blocks of 4, 6, 8 .. words begin at places 0, 4, 10 ..: payloads at words 3, 7, 13 ..
+/// behind a block of 5 words they begin at places 5, 9, 15 ..: payloads at words 8, 12, 18 ..
+/// ```
+pub fn even_blocks_stay_even()
+    ensures opened { (id words first : ℕ) → AreEvenFrom 0 (opened id words first).blocks }
+    ensures allocated { (from sli : ℕ) (h : HeapState) (n len : ℕ) → IsEven n → AreEvenFrom from h.blocks → AreEvenFrom from (allocated_words sli h n len).heap.blocks }
+    ensures released { (from : ℕ) (h : HeapState) (name : Name) → from ≤ name.at → AreEvenFrom from h.blocks → AreEvenFrom from (released h name).heap.blocks }
+    ensures resized { (from : ℕ) (h : HeapState) (name : Name) (n len : ℕ) → IsEven n → from ≤ name.at → AreEvenFrom from h.blocks → AreEvenFrom from (resized_words h name n len).heap.blocks }
+    ensures moved { (from sli : ℕ) (h : HeapState) (name : Name) (len : ℕ) → IsEven (want len) → from ≤ name.at → AreEvenFrom from h.blocks → AreEvenFrom from (resized_or_moved sli h name len).heap.blocks }
+
+    // A write moves no block, so neither does a call that fills nothing: it leaves what a write leaves.
+    ensures written { (from : ℕ) (h : HeapState) (name : Name) (at : ℕ) (bytes : List ℕ) → AreEvenFrom from h.blocks → AreEvenFrom from (written h name at bytes).heap.blocks }
+    ensures payload { (from : ℕ) (h : HeapState) (name : Name) (bytes : List ℕ) → AreEvenFrom from h.blocks → AreEvenFrom from (with_payload h name bytes).blocks }
+
+    // Where a block is given by its place, and where a payload is aligned to a multiple of an even number of words.
+    ensures from { (from : ℕ) (h : HeapState) (at n : ℕ) → IsEven n → AreEvenFrom from h.blocks → AreEvenFrom from (words_from h at n).heap.blocks }
+    ensures aligned { (from sli : ℕ) (h : HeapState) (n step skew : ℕ) → IsEven n → 0 < step → IsEven step → IsEven (from + 3 + skew) → AreEvenFrom from h.blocks
+        → AreEvenFrom from (words_aligned sli h n step skew).heap.blocks }
+
+    // And through every list of such calls.
+    ensures run { (from sli : ℕ) (h : HeapState) (calls : List Call) → AllByRecursion (IsEvenCall from) calls → AreEvenFrom from h.blocks → AreEvenFrom from (run sli h calls).1.blocks }
+{}
+
+/// The words in use, those of the live blocks with their headers, add up: an allocate adds the words of the block that it gives, a release
+/// takes off those of the block that it takes back, and a resize those that the block had, for those that it has. A refused call and a
+/// write change nothing of it.
+///
+/// ```text
+/// let name = heap.allocate(100)?;         // of a heap without a live block: 16 words in use
+/// heap.resize(name, 200)?;                // 28
+/// heap.release(name)?;                    // 0
+/// ```
+pub fn words_in_use_add_up()
+    ensures allocated { (sli : ℕ) → IsLevel sli → (h : HeapState) (n len : ℕ) (name : Name) → want len ≤ n → IsLawful h → (allocated_words sli h n len).answer ≡ Ok name →
+        words_in_use (allocated_words sli h n len).heap ≡ words_in_use h + words_at (allocated_words sli h n len).heap name.at }
+    ensures released { (h : HeapState) (name : Name) → IsLawful h → IsTaken h name → words_in_use h ≡ words_in_use (released h name).heap + words_at h name.at }
+
+    // Of a refused resize too, which leaves the block.
+    ensures resized { (h : HeapState) (name : Name) (n len : ℕ) → want len ≤ n → IsLawful h →
+        words_in_use (resized_words h name n len).heap + words_at h name.at ≡ words_in_use h + words_at (resized_words h name n len).heap name.at }
+    ensures written { (h : HeapState) (name : Name) (at : ℕ) (bytes : List ℕ) → words_in_use (written h name at bytes).heap ≡ words_in_use h }
+
+    // A resize that may move the block, and the words in use between its allocate and its release, while both blocks are live.
+    ensures moved { (sli : ℕ) → IsLevel sli → (h : HeapState) (name new : Name) (len : ℕ) → IsLawful h → (resized_or_moved sli h name len).answer ≡ Ok new →
+        (words_in_use (resized_or_moved sli h name len).heap + words_at h name.at ≡ words_in_use h + words_at (resized_or_moved sli h name len).heap new.at)
+        × (new ≢ name → words_in_use (allocated sli h len).heap ≡ words_in_use h + words_at (resized_or_moved sli h name len).heap new.at) }
+
+    // A request for a block whose payload is aligned, and other bytes of a payload.
+    ensures aligned { (sli : ℕ) → IsLevel sli → (h : HeapState) (n step skew : ℕ) → IsLawful h → 0 < step → 4 ≤ n → (name : Name) → (words_aligned sli h n step skew).answer ≡ Ok name →
+        words_in_use (words_aligned sli h n step skew).heap ≡ words_in_use h + words_at (words_aligned sli h n step skew).heap name.at }
+    ensures payload { (h : HeapState) (name : Name) (bytes : List ℕ) → words_in_use (with_payload h name bytes) ≡ words_in_use h }
+
+    // A block has the words that it has through each call that is not about it.
+    ensures kept_allocated { (sli : ℕ) → IsLevel sli → (h : HeapState) (n len : ℕ) (name : Name) → want len ≤ n → IsLawful h → IsLive h name →
+        words_at (allocated_words sli h n len).heap name.at ≡ words_at h name.at }
+    ensures kept_released { (h : HeapState) (other name : Name) → other ≢ name → IsLawful h → IsLive h name → words_at (released h other).heap name.at ≡ words_at h name.at }
+    ensures kept_written { (place : ℕ) (h : HeapState) (name : Name) (at : ℕ) (bytes : List ℕ) → words_at (written h name at bytes).heap place ≡ words_at h place }
+    ensures kept_payload { (place : ℕ) (h : HeapState) (name : Name) (bytes : List ℕ) → words_at (with_payload h name bytes) place ≡ words_at h place }
+    ensures opened { (id words first : ℕ) → words_in_use (opened id words first) ≡ 0 }
+    ensures reported { (sli : ℕ) (h : HeapState) → (report_of sli h).live_words ≡ words_in_use h }
 {}

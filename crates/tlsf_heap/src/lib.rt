@@ -22,8 +22,18 @@
 //!
 //! A caller to whom each word stands for memory elsewhere says by [`Heap::allocate_words`] and [`Heap::resize_words`] how many a block has. These
 //! make no word zero but the payload's, and three at most that good fit adds, so that no request takes longer for more words.
+//!
+//! A caller who fills each payload himself takes [`Heap::allocate_unset`], [`Heap::resize_unset`] and [`Heap::resize_or_move_unset`]. These fill
+//! nothing, so that no request takes longer for more bytes, and a move as long as the copy of those that stay. [`Heap::allocate_aligned`] begins
+//! such a payload at a multiple of some words.
+//!
+//! A caller who keeps no names, as one who is handed an address, says by [`Heap::name_at`], [`Heap::release_at`] and [`Heap::resize_at`] at which
+//! word a block begins. A place at which none begins is refused, whatever lies there. [`Heap::check_blocks`] looks for blocks that other code
+//! has written over.
 #![tactic(auto)]
 
+mod check;
+mod checked;
 mod fitting;
 mod headers;
 mod heap;
@@ -38,10 +48,13 @@ mod region;
 mod report;
 mod tally;
 
+pub use check::check_words;
+pub use checked::Checked;
 pub use heap::{Heap, want};
 pub use laws::{
-    blocks_never_overlap, grant_is_greatest, names_live_until_released,
-    refused_only_where_nothing_fits, words_keep_laws,
+    blocks_never_overlap, even_blocks_stay_even, grant_is_greatest, names_live_until_released,
+    payloads_stay, places_name_blocks, refused_only_where_nothing_fits, words_in_use_add_up,
+    words_keep_laws,
 };
 pub use name::Name;
 pub use open_fault::OpenFault;

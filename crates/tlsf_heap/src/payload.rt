@@ -1,5 +1,5 @@
 //! The payload of a live block at another length. Places are in words, lengths in bytes.
-ghost use Rattle.std.specs.Prelude.{◌≡◌, ℕ, ◌+◌, ◌*◌, ◌/◌, ◌<◌, ◌≤◌, ◌^◌, length, slice_index};
+ghost use Rattle.std.specs.Prelude.{◌≡◌, ℕ, ◌+◌, ◌-◌, ◌*◌, ◌/◌, ◌<◌, ◌≤◌, ◌^◌, length, slice_index};
 ghost use Rattle.tlsf_words.specs.Bytes.{byte_in, bytes_in, payload_byte};
 ghost use Rattle.tlsf_words.specs.Fields.{low_half, length_word};
 ghost use Rattle.tlsf_heap.specs.Blocks.{words_for};
@@ -19,6 +19,9 @@ pub fn set_payload(words: &mut Words, at: u32, len: u32)
     ensures only { OnlyFrom words.old.words words.new.words (at + 2) (at + words_for len) }
     ensures starts { words.new.starts ≡ words.old.starts }
     ensures touches { RisesBy words.old.touches words.new.touches (words_for len) }
+
+    // Of the payload it touches no word that has only old bytes.
+    ensures grown { words.new.touches ≤ words.old.touches + 4 + (words_for len - words_for (low_half (slice_index words.old.words (at + 2)))) }
 {
     let old = words.length(at);
     words.set_length(at, len);
@@ -37,6 +40,7 @@ fn zero_bytes(words: &mut Words, at: u32, from: u32, to: u32)
     ensures only { OnlyFrom words.old.words words.new.words (at + 3) (at + words_for to) }
     ensures starts { words.new.starts ≡ words.old.starts }
     ensures touches { RisesBy words.old.touches words.new.touches (1 + (to + 7) / 8) }
+    ensures grown { words.new.touches ≤ words.old.touches + 2 + ((to + 7) / 8 - (from + 7) / 8) }
 {
     if from % 8 > 0 {
         words.zero_rest(at, from);

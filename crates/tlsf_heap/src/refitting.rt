@@ -1,5 +1,5 @@
 //! Resizing a block where it stands, over a region and the lists of its free blocks. Sizes and places are in words, lengths in bytes.
-ghost use Rattle.std.specs.Prelude.{◌≡◌, ◌≢◌, ℕ, ◌+◌, ◌<◌, ◌≤◌, ◌++◌, false, length, Contains};
+ghost use Rattle.std.specs.Prelude.{◌≡◌, ◌≢◌, ℕ, ◌+◌, ◌-◌, ◌<◌, ◌≤◌, ◌++◌, false, length, Contains};
 ghost use Rattle.std.specs.List.{AllByRecursion};
 ghost use Rattle.tlsf_class.specs.Classes.{IsLevel, most_words, class_of};
 ghost use Rattle.tlsf_words.specs.Lists.{without_place};
@@ -107,6 +107,7 @@ pub fn refit<const SLI: u32>(
     ensures blocks { EachAt region.old.blocks at (λ s. region.new.blocks ≡ s.before ++ Calls.refitted tick words len s.block s.after) }
     ensures listed { AreFreeLists SLI region.new.blocks (list_in region.new.lists) }
     ensures edits { Edits region.old region.new (20 + words_for len) }
+    ensures grown { EachAt region.old.blocks at (λ s. region.new.touches ≤ region.old.touches + 24 + (words_for len - words_for (length (bytes_of s.block)))) }
 {
     let held = own.size();
     if words > held {

@@ -5,11 +5,15 @@ ghost use Rattle.tlsf_class.specs.Classes.{IsLevel, most_words, class_of};
 ghost use Rattle.tlsf_class.specs.Members.{next_member};
 ghost use Rattle.tlsf_words.specs.Bytes.{bytes_in, payload_byte};
 ghost use Rattle.tlsf_words.specs.Lists.{listed_classes, IsUnlisted};
+ghost use Rattle.tlsf_heap.specs.Aligned.{IsFreeTest};
 ghost use Rattle.tlsf_heap.specs.Blocks.{Live, Free, size_of, is_free, bytes_of, words_for, want, StandsAt, IsPlace};
 ghost use Rattle.tlsf_heap.specs.GoodFit.{block_at};
+ghost use Rattle.tlsf_heap.specs.ByPlace.{IsPlaceTest};
 ghost use Rattle.tlsf_heap.specs.Calls;
 ghost use Rattle.tlsf_heap.specs.Calls.{first_free, last_free};
-ghost use Rattle.tlsf_heap.specs.Headers.{IsRest};
+ghost use Rattle.tlsf_heap.specs.Checks.{Begins, IsCheck, block_touches};
+ghost use Rattle.tlsf_heap.specs.Unset.{lying};
+ghost use Rattle.tlsf_heap.specs.Headers.{IsRest, OnlyFrom};
 ghost use Rattle.tlsf_heap.specs.Image.{mark_of};
 ghost use Rattle.tlsf_heap.specs.InPlace.{payload_at};
 ghost use Rattle.tlsf_heap.specs.Lawful.{HasRoom};
@@ -17,6 +21,8 @@ ghost use Rattle.tlsf_heap.specs.Named.{IsNameTest};
 ghost use Rattle.tlsf_heap.specs.Placed.{placed_at};
 ghost use Rattle.tlsf_heap.specs.Regions.{list_in, AreUnlisted, EachAt, HasAt, IsTagOf, IsTagBehind, AreNeighbours, rest_of, BeginsZero, AwaitsZeros, image_of, OnlyReads, Rewrites, PutInFront, TakenOut, IsOpened};
 
+use crate::check::check_words;
+use crate::checked::Checked;
 use crate::headers::{
     first_header, free_header, live_header, merge_headers, recut_header, split_header, widen_header,
 };
@@ -106,6 +112,42 @@ impl<const SLI: u32> Region<SLI> {
         Some(tag)
     }
 
+    /// The tag of the live block that begins at a place, of all numbers; `None` where there is none. No word is read unless a block
+    /// begins there, and no start bit unless the place lies in the region: a place from outside is not followed.
+    pub fn live_at(&mut self, at: u32) -> Option<Tag>
+        ensures answer { IsPlaceTest at self.old.words self.old.blocks result }
+        ensures reads { OnlyReads self.old self.new 2 }
+        ensures outside { self.old.words ≤ at → self.new.touches ≡ self.old.touches }
+        ensures nowhere { ¬ (IsPlace self.old.blocks at) → self.new.touches ≤ self.old.touches + 1 }
+    {
+        if !self.begins(at) {
+            return None;
+        }
+        let tag = self.tag(at);
+        if tag.is_free() {
+            return None;
+        }
+        Some(tag)
+    }
+
+    /// The tag of the free block that begins at a place, of all numbers; `None` where there is none. No word is read unless a block
+    /// begins there, and no start bit unless the place lies in the region: a place from outside is not followed.
+    pub fn free_at(&mut self, at: u32) -> Option<Tag>
+        ensures answer { IsFreeTest at self.old.words self.old.blocks result }
+        ensures reads { OnlyReads self.old self.new 2 }
+        ensures outside { self.old.words ≤ at → self.new.touches ≡ self.old.touches }
+        ensures nowhere { ¬ (IsPlace self.old.blocks at) → self.new.touches ≤ self.old.touches + 1 }
+    {
+        if !self.begins(at) {
+            return None;
+        }
+        let tag = self.tag(at);
+        if !tag.is_free() {
+            return None;
+        }
+        Some(tag)
+    }
+
     /// Whether a block begins at a place, of all numbers. No start bit is read unless the place lies in the region.
     fn begins(&mut self, at: u32) -> bool
         ensures yes { result ≡ true → IsPlace self.old.blocks at }
@@ -142,6 +184,17 @@ impl<const SLI: u32> Region<SLI> {
             }
         };
         Some(PlacedBlock { at, size, content })
+    }
+
+    /// Looks at `most` blocks at most from a place on, of all numbers, as [`check_words`] does.
+    pub fn check(&mut self, from: u32, most: u32) -> Option<Checked>
+        ensures answer { IsCheck self.old.stored from most result }
+        ensures reads { OnlyReads self.old self.new (1 + block_touches * most) }
+        ensures few { self.new.touches ≤ self.old.touches + 1 + block_touches * (self.old.words / 4) }
+        ensures outside { self.old.words ≤ from → self.new.touches ≡ self.old.touches }
+        ensures nowhere { ¬ (Begins self.old.stored from) → self.new.touches ≤ self.old.touches + 1 }
+    {
+        check_words(&mut self.words, from, most)
     }
 
     /// The tag of the block at a place.
@@ -222,10 +275,21 @@ impl<const SLI: u32> Region<SLI> {
     /// length stay, and new ones are zero.
     pub fn set_payload(&mut self, at: u32, len: u32)
         requires { HasAt self.old.blocks at (λ s. (is_free s.block ≡ false) × (words_for len ≤ size_of s.block)) }
-        ensures { EachAt self.old.blocks at (λ s. Rewrites self.old self.new
+        ensures change { EachAt self.old.blocks at (λ s. Rewrites self.old self.new
             (s.before ++ (Calls.with_bytes s.block (Calls.fitted (bytes_of s.block) len) ∷ []) ++ s.after) (words_for len)) }
+        ensures grown { EachAt self.old.blocks at (λ s. self.new.touches ≤ self.old.touches + 4 + (words_for len - words_for (length (bytes_of s.block)))) }
     {
         set_payload(&mut self.words, at, len);
+    }
+
+    /// Says that the payload of the live block at a place, which has room for it, is `len` bytes long: those that lie there. No byte of it is
+    /// read or written.
+    pub fn set_length(&mut self, at: u32, len: u32)
+        requires { HasAt self.old.blocks at (λ s. (is_free s.block ≡ false) × (words_for len ≤ size_of s.block)) }
+        ensures change { EachAt self.old.blocks at (λ s. Rewrites self.old self.new (s.before ++ (Calls.with_bytes s.block (lying self.new.stored at len) ∷ []) ++ s.after) 1) }
+        ensures only { OnlyFrom self.old.stored.words self.new.stored.words (at + 2) (at + 3) }
+    {
+        self.words.set_length(at, len);
     }
 
     /// Makes the live block at a place and the free block behind it, of these tags, a live block of `size` words and a free rest; a

@@ -8,7 +8,7 @@ use Rattle.tlsf_heap.specs.Regions.{AreRegions, EachAt, IsTagOf, IsTagBehind, li
 use Rattle.tlsf_heap.proofs.Allocating.{regions_of}
 use Rattle.tlsf_heap.proofs.Fitted.{length-fitted}
 use Rattle.tlsf_heap.proofs.Payloads.{is_free-with_bytes}
-use Rattle.tlsf_heap.proofs.Refitted.{tag_rebytes, behind_rebytes, payload_room, bytes_of-with_bytes, rebytes_around, rebytes_site, rebytes_listed, rebytes_stamps, rebytes_words, refitted_grown, refitted_cut, recut_stands, recut_takes, recut_rebytes}
+use Rattle.tlsf_heap.proofs.Refitted.{tag_rebytes, behind_rebytes, payload_room, bytes_of-with_bytes, rebytes_around, rebytes_site, rebytes_listed, rebytes_stamps, rebytes_words, refitted_grown, refitted_cut, recut_stands, recut_bytes, recut_takes, recut_rebytes}
 use Rattle.tlsf_heap.proofs.Showing.{stands_once}
 use Rattle.tlsf_heap.proofs.Sizes.{one_index, stands_around, block_around}
 use Rattle.tlsf_heap.proofs.refitting.refit.Goals as goal
@@ -70,7 +70,7 @@ returns-then-words-held-clause-blocks g c i stands =
     let live = live_here g.row.SLI c.requires.sized c.requires.live stands in
     let room = room_here c.requires.own c.requires.next c.requires.room stands in
     let is = c.recut.ensures.blocks i stands in
-    let set = c.set_payload.ensures i (recut_stands stands live c.args.tick room is) in
+    let set = c.set_payload.ensures.change i (recut_stands stands live c.args.tick room is) in
     recut_rebytes stands live c.args.tick room is c.args.len c.set_payload.new.self.blocks set.blocks
     ∙ ap (λ (l : List Block). take i c.args.region.now.blocks ++ l) (sym (refitted_grown c.args.tick c.args.words c.args.len (block_at c.args.region.now.blocks i) (drop (suc i) c.args.region.now.blocks) (omega (arith, (c.requires.own i stands).size, c.size-held.ensures.value, c.if-words-held.true))))
 
@@ -79,16 +79,24 @@ returns-then-words-held-clause-listed g c =
     let live = c.requires.live in
     let room = room_here c.requires.own c.requires.next c.requires.room live.1 in
     let stands = recut_stands live.1 live.2 c.args.tick room (c.recut.ensures.blocks live.0 live.1) in
-    let set = c.set_payload.ensures live.0 stands in
+    let set = c.set_payload.ensures.change live.0 stands in
     rebytes_listed g.row.SLI stands (fitted (bytes_of (block_at c.recut.new.region.blocks live.0)) c.args.len) set.blocks (list_in c.recut.new.region.lists) (list_in c.set_payload.new.self.lists) set.lists c.recut.ensures.listed
 
 pub returns-then-words-held-clause-edits : goal.returns-then-words-held-clause-edits
 returns-then-words-held-clause-edits g c =
     let live = c.requires.live in
     let room = room_here c.requires.own c.requires.next c.requires.room live.1 in
-    let set = (c.set_payload.ensures live.0 (recut_stands live.1 live.2 c.args.tick room (c.recut.ensures.blocks live.0 live.1))).edits in
+    let set = (c.set_payload.ensures.change live.0 (recut_stands live.1 live.2 c.args.tick room (c.recut.ensures.blocks live.0 live.1))).edits in
     let cut = c.recut.ensures.edits in
     record { words = set.words ∙ cut.words; shows = set.shows; linked = set.linked; touches = omega (arith, set.touches, cut.touches); rise = omega (arith, set.rise, cut.rise) }
+
+pub returns-then-words-held-clause-grown : goal.returns-then-words-held-clause-grown
+returns-then-words-held-clause-grown g c i stands =
+    let live = live_here g.row.SLI c.requires.sized c.requires.live stands in
+    let room = room_here c.requires.own c.requires.next c.requires.room stands in
+    let is = c.recut.ensures.blocks i stands in
+    let set = c.set_payload.ensures.grown i (recut_stands stands live c.args.tick room is) in
+    omega (arith, set, ap (λ (l : List ℕ). words_for (length l)) (recut_bytes stands live c.args.tick room is), c.recut.ensures.edits.touches)
 
 -- ---- it is cut
 
@@ -97,10 +105,10 @@ recut-requires-then-held-words g c =
     let live = c.requires.live in
     let b = block_at c.args.region.now.blocks live.0 in
     let new = fitted (bytes_of b) c.args.len in
-    let a = rebytes_around g.row.SLI live.1 new (c.set_payload-2.ensures live.0 live.1).blocks in
+    let a = rebytes_around g.row.SLI live.1 new (c.set_payload-2.ensures.change live.0 live.1).blocks in
     let bytes = ap bytes_of (block_around a) ∙ bytes_of-with_bytes b new live.2 in
     let bs = c.args.region.now.blocks in
-    let set = c.set_payload-2.ensures live.0 live.1 in
+    let set = c.set_payload-2.ensures.change live.0 live.1 in
     let now = c.set_payload-2.new.self.blocks in
     let whole = rebytes_words g.row.SLI live.1 new set.blocks in (
       omega arith,
@@ -138,7 +146,7 @@ pub returns-then-held-words-clause-blocks : goal.returns-then-held-words-clause-
 returns-then-held-words-clause-blocks g c i stands =
     let b = block_at c.args.region.now.blocks i in
     let new = fitted (bytes_of b) c.args.len in
-    let set = c.set_payload-2.ensures i stands in
+    let set = c.set_payload-2.ensures.change i stands in
     c.recut-then-held-words.ensures.blocks i (stands_around (rebytes_around g.row.SLI stands new set.blocks))
     ∙ ap (λ (s : Site). s.before ++ recut c.args.tick c.args.words s.block s.after) (rebytes_site g.row.SLI stands new set.blocks)
     ∙ ap (λ (l : List Block). take i c.args.region.now.blocks ++ l) (sym (refitted_cut c.args.tick c.args.words c.args.len b (drop (suc i) c.args.region.now.blocks) (omega (arith, (c.requires.own i stands).size, c.size-held.ensures.value, c.if-held-words.true))))
@@ -146,5 +154,5 @@ returns-then-held-words-clause-blocks g c i stands =
 pub returns-else-held-words-clause-listed : goal.returns-else-held-words-clause-listed
 returns-else-held-words-clause-listed g c =
     let live = c.requires.live in
-    let set = c.set_payload-2.ensures live.0 live.1 in
+    let set = c.set_payload-2.ensures.change live.0 live.1 in
     rebytes_listed g.row.SLI live.1 (fitted (bytes_of (block_at c.args.region.now.blocks live.0)) c.args.len) set.blocks (list_in c.args.region.now.lists) (list_in c.set_payload-2.new.self.lists) set.lists c.requires.listed

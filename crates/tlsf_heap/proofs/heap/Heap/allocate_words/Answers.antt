@@ -1,10 +1,12 @@
 use Rattle.std.proofs.Common.{◌+◌, ◌-◌, ◌≤◌, sym, ap, ◌∙◌, subst, Ok, Err, arith}
 use Rattle.tlsf_heap.specs.Blocks.{HeapState, size_of, words_in, payload_words, want, StandsAt}
-use Rattle.tlsf_heap.specs.Given.{payload_words_given}
+use Rattle.tlsf_heap.specs.Calls.{named}
+use Rattle.tlsf_heap.specs.Given.{payload_words_at, payload_words_given}
 use Rattle.tlsf_heap.proofs.Carving.{head_stands}
 use Rattle.tlsf_heap.specs.Regions.{Edits}
 use Rattle.tlsf_heap.specs.Shown.{Shown}
 use Rattle.tlsf_heap.specs.GoodFit.{block_at}
+use Rattle.tlsf_heap.specs.Lawful.{IsLawful}
 use Rattle.tlsf_heap.specs.Laws.{IsLive}
 use Rattle.tlsf_heap.specs.declared.name.Name.{Name}
 use Rattle.tlsf_heap.specs.Stored.{state_of}
@@ -16,6 +18,7 @@ use Rattle.tlsf_heap.proofs.Finding.{and_left}
 use Rattle.tlsf_heap.proofs.Giving.{carved_stands, named_payload}
 use Rattle.tlsf_heap.proofs.Living as living
 use Rattle.tlsf_heap.proofs.Listing.{stored_lists}
+use Rattle.tlsf_heap.proofs.Unset.{given_block}
 use Rattle.tlsf_heap.proofs.heap.Heap.allocate_words.Given.{Over}
 use Rattle.tlsf_heap.proofs.heap.Heap.allocate_words.Goals as goal
 
@@ -171,6 +174,15 @@ returns-clause-most_touches g c = omega (arith, few g c, ap (λ (s : Shown). s.t
 
 pub returns-clause-given_touches : goal.returns-clause-given_touches
 returns-clause-given_touches g c = omega (arith, touched g c, ap (λ (s : Shown). s.touches) c.self.view_is)
+
+pub returns-clause-room : goal.returns-clause-room
+returns-clause-room g c =
+    let n = c.args.words in
+    let h = c.args.self.now.heap in
+    let name : Name = record { heap = c.self.inside.id; at = c.carve-at.result; serial = c.carve-at.new.tick } in
+    let lawful = subst IsLawful (ap (λ (s : Shown). s.heap) c.self.view_is) c.self.invariant.lawful in
+    let found = given_block (λ b. n ≤ 3 + payload_words b) g.row.SLI h n c.args.len name lawful (sym (given g c).is_answer) (omega arith) (λ b fit. let many = fits_size g.row.SLI c.self.invariant.level n b fit in omega (arith, many)) in
+    omega (arith, ap (λ (s : HeapState). payload_words_at (named name s.blocks)) (given g c).is_heap, ap payload_words_at found.1, found.2)
 
 -- ---- the lists
 

@@ -1,4 +1,4 @@
-use Rattle.std.proofs.Common.{◌≡◌, ℕ, ◌+◌, ◌≤◌, sym, ap, ◌∙◌, subst, Ok, Err, arith}
+use Rattle.std.proofs.Common.{◌≡◌, ℕ, ◌+◌, ◌≤◌, List, length, sym, ap, ◌∙◌, subst, Ok, Err, arith}
 use Rattle.std.proofs.lemmas.Result.{err_from_is_err_and}
 use Rattle.tlsf_class.proofs.TwoLevels.{most_words_any}
 use Rattle.tlsf_heap.specs.Blocks.{HeapState, words_in, words_for}
@@ -11,6 +11,8 @@ use Rattle.tlsf_heap.specs.Shown.{Shown}
 use Rattle.tlsf_heap.specs.Stored.{state_of}
 use Rattle.tlsf_heap.specs.declared.name.Name.{Name}
 use Rattle.tlsf_heap.specs.declared.refusal.Refusal.TheVariants.{Worn, NoRoom}
+use Rattle.tlsf_heap.specs.InPlace.{payload_of}
+use Rattle.tlsf_heap.proofs.Alterings.{payload_is}
 use Rattle.tlsf_heap.proofs.Allocating.{lawful_regions}
 use Rattle.tlsf_heap.proofs.Lawfulness.{with_region}
 use Rattle.tlsf_heap.proofs.Left.{Found, found, room_small, resizes_short, resizes_worn, resizes_done, payload_left}
@@ -179,6 +181,16 @@ returns-clause-touches g c =
 pub returns-clause-most_touches : goal.returns-clause-most_touches
 returns-clause-most_touches g c =
     omega (arith, (fits g c).payload, c.refit.ensures.edits.touches, c.look_behind-next.ensures.reads.touches, c.in_ok-own.ensures.touches, ap (λ (s : Shown). s.touches) c.self.view_is)
+
+-- and of the payload only what grows
+pub returns-clause-grown_touches : goal.returns-clause-grown_touches
+returns-clause-grown_touches g c =
+    let same : state_of g.row.SLI c.self.inside ≡ c.args.self.now.heap = ap (λ (s : Shown). s.heap) c.self.view_is ∙ c.in_ok-own.ensures.heap in
+    let is_named = named_same (state_of g.row.SLI c.self.inside) c.args.self.now.heap c.args.name same c.in_ok-own.ensures.answer.0 in
+    let reads = c.look_behind-next.ensures.reads in
+    let grown = (rw reads.blocks at c.refit.ensures.grown) is_named.1.0 (named_stands _ _ _ _ is_named.1.1) in
+    let held = ap (λ (l : List ℕ). words_for (length l)) (ap (λ (h : HeapState). payload_of h c.args.name) (sym same) ∙ payload_is (state_of g.row.SLI c.self.inside) c.args.name is_named) in
+    omega (arith, grown, held, reads.touches, c.in_ok-own.ensures.touches, ap (λ (s : Shown). s.touches) c.self.view_is)
 
 -- ---- the name was not forged
 

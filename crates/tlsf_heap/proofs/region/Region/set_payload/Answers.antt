@@ -30,8 +30,8 @@ relists g c = relisted_refill g.row.SLI (holds_state g.row.SLI c.self.invariant 
 pub invariant_of-self : goal.invariant_of-self
 invariant_of-self g c = (relists g c).holds
 
-pub returns : goal.returns
-returns g c i stands =
+pub returns-clause-change : goal.returns-clause-change
+returns-clause-change g c i stands =
     let new = c.set_payload.ensures in
     let left = refilled (shows_state g.row.SLI c.self.invariant c.self.view_is) c.requires (refills g c) in
     let touches = ap (λ (r : RegionState). r.touches) c.self.view_is in
@@ -41,3 +41,8 @@ returns g c i stands =
       lists = (relists g c).same;
       edits = record { words = new.only.length ∙ words; shows = (relists g c).holds.shows; linked = linked_lists g.row.SLI _ _ (relists g c).holds; touches = omega (arith, new.touches.within, touches); rise = omega (arith, new.touches.rise, touches) };
     }
+
+pub returns-clause-grown : goal.returns-clause-grown
+returns-clause-grown g c i stands =
+    let shows = shows_state g.row.SLI c.self.invariant c.self.view_is in
+    omega (arith, c.set_payload.ensures.grown, length_read shows stands (c.requires.0, c.requires.1, c.requires.2.0), ap (λ (r : RegionState). r.touches) c.self.view_is)

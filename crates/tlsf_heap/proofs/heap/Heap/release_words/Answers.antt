@@ -6,6 +6,7 @@ use Rattle.tlsf_heap.specs.Named.{IsNameCheck}
 use Rattle.tlsf_heap.specs.Regions.{IsTagOf}
 use Rattle.tlsf_heap.specs.Shown.{Shown}
 use Rattle.tlsf_heap.specs.Stored.{state_of}
+use Rattle.tlsf_heap.specs.WordsInUse.{words_in_use}
 use Rattle.tlsf_heap.specs.declared.refusal.Refusal.TheVariants.{Worn}
 use Rattle.tlsf_heap.proofs.Allocating.{lawful_regions}
 use Rattle.tlsf_heap.proofs.Lawfulness.{with_region}
@@ -13,15 +14,16 @@ use Rattle.tlsf_heap.proofs.Naming.{named_same, named_stands, named_live, not_fo
 use Rattle.tlsf_heap.proofs.Reading.{at_index}
 use Rattle.tlsf_heap.proofs.Releasing.{Releases, releases_refused, releases_worn, releases_block}
 use Rattle.tlsf_heap.proofs.Listing.{stored_lists}
-use Rattle.tlsf_heap.proofs.heap.Heap.release.Given.{Over}
-use Rattle.tlsf_heap.proofs.heap.Heap.release.Goals as goal
+use Rattle.tlsf_heap.proofs.WordsInUse.{words_named, in_use_released}
+use Rattle.tlsf_heap.proofs.heap.Heap.release_words.Given.{Over}
+use Rattle.tlsf_heap.proofs.heap.Heap.release_words.Goals as goal
 
 -- ---- the name is refused
 
-pub returns-in_err-own-clause-answer : goal.returns-in_err-own-clause-answer
-returns-in_err-own-clause-answer g c =
+pub returns-in_err-own-clause-refused : goal.returns-in_err-own-clause-refused
+returns-in_err-own-clause-refused g c =
     let p = err_from_is_err_and c.from_residual.result c.from_residual.ensures.1 in
-    rw (p.1, p.2) (releases_refused c.args.self.now.heap c.check.new.self.heap c.args.name c.in_err-own.ensures.lawful c.in_err-own.ensures.heap _ c.in_err-own.ensures.answer).is_answer
+    rw (p.1, p.2) (sym (releases_refused c.args.self.now.heap c.check.new.self.heap c.args.name c.in_err-own.ensures.lawful c.in_err-own.ensures.heap _ c.in_err-own.ensures.answer).is_answer)
 
 pub returns-in_err-own-clause-heap : goal.returns-in_err-own-clause-heap
 returns-in_err-own-clause-heap g c =
@@ -35,8 +37,8 @@ worn g c =
     releases_worn c.args.self.now.heap c.check.new.self.heap c.args.name c.in_ok-own.ensures.lawful c.in_ok-own.ensures.heap c.in_ok-own.ensures.answer.0
     (sym (ap (λ (s : HeapState). s.tick) same) ∙ c.if-self.true)
 
-pub returns-then-self-clause-answer : goal.returns-then-self-clause-answer
-returns-then-self-clause-answer g c = (worn g c).is_answer
+pub returns-then-self-clause-refused : goal.returns-then-self-clause-refused
+returns-then-self-clause-refused g c = sym (worn g c).is_answer
 
 pub returns-then-self-clause-heap : goal.returns-then-self-clause-heap
 returns-then-self-clause-heap g c = (worn g c).is_heap
@@ -73,7 +75,7 @@ coalesce-requires g c =
       ),
     )
 
-freed : (g : Over) (c : goal.After-coalesce g) → Releases c.args.self.now.heap c.args.name (Ok tt) (with_region (state_of g.row.SLI c.self.inside) c.coalesce.new.tick c.coalesce.new.region)
+freed : (g : Over) (c : goal.After-size-words g) → Releases c.args.self.now.heap c.args.name (Ok tt) (with_region (state_of g.row.SLI c.self.inside) c.coalesce.new.tick c.coalesce.new.region)
 freed g c =
     let same : state_of g.row.SLI c.self.inside ≡ c.args.self.now.heap = ap (λ (s : Shown). s.heap) c.self.view_is ∙ c.in_ok-own.ensures.heap in
     let named = named_same (state_of g.row.SLI c.self.inside) c.args.self.now.heap c.args.name same c.in_ok-own.ensures.answer.0 in
@@ -82,8 +84,19 @@ freed g c =
     (releases_block (state_of g.row.SLI c.self.inside) c.args.name c.coalesce.new.region named c.self.invariant.lawful c.coalesce.ensures.edits.words
     (c.coalesce.ensures.blocks named.1.0 (named_stands _ _ _ _ named.1.1)) c.if-self.false))
 
-pub returns-clause-answer : goal.returns-clause-answer
-returns-clause-answer g c = (freed g c).is_answer
+pub returns-clause-ok : goal.returns-clause-ok
+returns-clause-ok g c = sym (freed g c).is_answer
+
+pub returns-clause-words : goal.returns-clause-words
+returns-clause-words g c =
+    let k = c.args.self.now.heap in
+    let found = c.in_ok-own.ensures.answer in
+    c.size-words.ensures.value ∙ found.1.size ∙ sym (words_named k c.args.name c.in_ok-own.ensures.lawful found.0)
+
+pub returns-clause-sum : goal.returns-clause-sum
+returns-clause-sum g c =
+    let sum = in_use_released c.args.self.now.heap c.args.name c.in_ok-own.ensures.lawful (returns-clause-ok g c) in
+    omega (arith, sum, returns-clause-words g c, ap words_in_use (freed g c).is_heap)
 
 pub returns-clause-heap : goal.returns-clause-heap
 returns-clause-heap g c = (freed g c).is_heap

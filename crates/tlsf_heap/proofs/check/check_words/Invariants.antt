@@ -1,0 +1,13 @@
+use Rattle.std.proofs.Common.{◌+◌, ◌*◌, ◌≤◌}
+use Rattle.tlsf_heap.specs.Checks.{Begins, AreSound, OnlyLooks, block_touches}
+use Rattle.tlsf_heap.specs.Regions.{image_of}
+use Rattle.tlsf_heap.proofs.check.check_words.Given as goal
+
+-- so many blocks, each of four words or more, are sound up to the place, where one more begins, and nothing was written
+abbrev pub invariant-loop-count : goal.invariant-loop-count
+invariant-loop-count l = record {
+  sound : AreSound (image_of l.fn.words) l._count l.fn.from l.at;
+  begins : Begins (image_of l.fn.words) l.at;
+  far : l.fn.from + 4 * l._count ≤ l.at;
+  looks : OnlyLooks l.fn.words l.words (1 + block_touches * l._count);
+}

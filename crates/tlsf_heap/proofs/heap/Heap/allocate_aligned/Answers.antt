@@ -1,0 +1,122 @@
+use Rattle.std.proofs.Common.{◌≡◌, ◌+◌, ◌≤◌, ◌<◌, max, [], refl, arith, sym, ap, ◌∙◌, subst}
+use Rattle.std.proofs.lemmas.Bool.{false≢true}
+use Rattle.tlsf_class.proofs.TwoLevels.{most_words_any}
+use Rattle.tlsf_heap.specs.Aligned.{aligned_words}
+use Rattle.tlsf_heap.specs.Blocks.{HeapState, want}
+use Rattle.tlsf_heap.specs.Calls.{Outcome, last_tick}
+use Rattle.tlsf_heap.specs.FreePlaces.{ShowsLists}
+use Rattle.tlsf_heap.specs.GoodFit.{fits}
+use Rattle.tlsf_heap.specs.Lawful.{IsLawful}
+use Rattle.tlsf_heap.specs.Shown.{Shown}
+use Rattle.tlsf_heap.specs.Unset.{lying, with_payload}
+use Rattle.tlsf_heap.specs.declared.name.Name.{Name}
+use Rattle.tlsf_heap.proofs.Aligning.{IsAligned, has_live, has_room, none_fits, aligned_past, first_moves, first_moved, gives_name, gives_payload, gives_others}
+use Rattle.tlsf_heap.proofs.Listing.{stored_lists}
+use Rattle.tlsf_heap.proofs.Sites.{fits_nothing}
+use Rattle.tlsf_heap.proofs.heap.Heap.allocate_aligned.Given.{Over}
+use Rattle.tlsf_heap.proofs.heap.Heap.allocate_aligned.Goals as goal
+
+pub returns-then-self-clause-lists : goal.returns-then-self-clause-lists
+returns-then-self-clause-lists g c = subst (λ (s : Shown). ShowsLists g.row.SLI s.stored s.heap.blocks) c.self.view_is (stored_lists g.row.SLI c.self.inside c.self.invariant)
+
+-- ---- no region has so many words
+
+-- the words that are asked for
+past : (g : Over) (c : goal.Then-step-most_words g) → c.args.self.now.heap.words < aligned_words (want c.args.len) c.max-step.result
+past g c = omega (arith, ap (λ (s : Shown). s.heap.words) c.self.view_is, c.self.invariant.small, c.most_words.ensures, c.if-step-most_words.true)
+
+pub returns-then-step-most_words-clause-answer : goal.returns-then-step-most_words-clause-answer
+returns-then-step-most_words-clause-answer g c =
+    let h = c.args.self.now.heap in
+    let view = ap (λ (s : Shown). s.heap) c.self.view_is in
+    let lawful = subst IsLawful view c.self.invariant.lawful in
+    let left : h.tick + 3 < last_tick = omega (arith, ap (λ (s : HeapState). s.tick) view, c.if-self.false) in
+    sym (ap (λ (o : Outcome Name). o.answer) (rw c.max-step.ensures at (aligned_past g.row.SLI c.self.invariant.level h (want c.args.len) c.max-step.result c.args.skew lawful left (past g c))))
+
+none : (g : Over) (c : goal.Then-step-most_words g) → fits g.row.SLI (aligned_words (want c.args.len) (max c.args.step 1)) c.args.self.now.heap.blocks ≡ []
+none g c =
+    let h = c.args.self.now.heap in
+    let lawful = subst IsLawful (ap (λ (s : Shown). s.heap) c.self.view_is) c.self.invariant.lawful in
+    rw c.max-step.ensures at (fits_nothing g.row.SLI (aligned_words (want c.args.len) c.max-step.result) h.blocks (none_fits g.row.SLI c.self.invariant.level h (aligned_words (want c.args.len) c.max-step.result) lawful (past g c)))
+
+pub returns-then-step-most_words-clause-no_fit : goal.returns-then-step-most_words-clause-no_fit
+returns-then-step-most_words-clause-no_fit g c left = (λ _. none g c, λ _. refl)
+
+pub returns-then-step-most_words-clause-ok : goal.returns-then-step-most_words-clause-ok
+returns-then-step-most_words-clause-ok g c = (λ e. absurd (false≢true e), λ p. absurd (p.1 (none g c)))
+
+pub returns-then-step-most_words-clause-lists : goal.returns-then-step-most_words-clause-lists
+returns-then-step-most_words-clause-lists g c = subst (λ (s : Shown). ShowsLists g.row.SLI s.stored s.heap.blocks) c.self.view_is (stored_lists g.row.SLI c.self.inside c.self.invariant)
+
+-- ---- the block is moved on
+
+pub move_on-requires : goal.move_on-requires
+move_on-requires g c =
+    let h = c.args.self.now.heap in
+    let a = c.allocate_words.new.self.heap in
+    let view = ap (λ (s : Shown). s.heap) c.self.view_is in
+    let lawful = subst IsLawful view c.self.invariant.lawful in
+    let left : h.tick + 3 < last_tick = omega (arith, ap (λ (s : HeapState). s.tick) view, c.if-self.false) in
+    let least : 4 ≤ c.want-words.result = omega (arith, c.want-words.ensures) in
+    let moves = first_moves g.row.SLI c.self.invariant.level h c.want-words.result c.max-step.result c.args.skew lawful left (omega (arith, c.max-step.ensures)) least a c.in-Ok.first c.gap-gap.result c.allocate_words.ensures.heap c.in-Ok.ensures.answer c.allocate_words.ensures.lawful c.gap-gap.ensures in (
+      omega arith,
+      (
+        has_live a c.in-Ok.first (c.gap-gap.result + c.want-words.result) moves.has,
+        (
+          has_room a c.in-Ok.first (c.gap-gap.result + c.want-words.result) c.allocate_words.ensures.lawful moves.has,
+          (least, (moves.front, (moves.left, omega (arith, moves.words, ap (λ (s : HeapState). s.words) view, c.self.invariant.small, most_words_any g.row.SLI)))),
+        ),
+      ),
+    )
+
+-- ---- it has its payload
+
+pub set_length-requires : goal.set_length-requires
+set_length-requires g c =
+    let h = c.args.self.now.heap in
+    let a = c.allocate_words.new.self.heap in
+    let m = c.move_on.new.self.heap in
+    let view = ap (λ (s : Shown). s.heap) c.self.view_is in
+    let lawful = subst IsLawful view c.self.invariant.lawful in
+    let left : h.tick + 3 < last_tick = omega (arith, ap (λ (s : HeapState). s.tick) view, c.if-self.false) in
+    let done = first_moved g.row.SLI c.self.invariant.level h c.want-words.result c.max-step.result c.args.skew lawful left (omega (arith, c.max-step.ensures)) (omega (arith, c.want-words.ensures)) a c.in-Ok.first c.gap-gap.result c.allocate_words.ensures.heap c.in-Ok.ensures.answer c.allocate_words.ensures.lawful c.gap-gap.ensures
+    m c.in_ok-name.name c.move_on.ensures.heap c.in_ok-name.ensures.answer in
+    let has = done.gives.has in
+    let room = has_room m c.in_ok-name.name c.want-words.result c.move_on.ensures.lawful has in
+    (omega arith, (has_live m c.in_ok-name.name c.want-words.result has, omega (arith, room, c.want-words.ensures)))
+
+done : (g : Over) (c : goal.After-set_length g) → IsAligned g.row.SLI c.args.self.now.heap c.move_on.new.self.heap c.want-words.result c.max-step.result c.args.skew c.in_ok-name.name
+done g c =
+    let h = c.args.self.now.heap in
+    let a = c.allocate_words.new.self.heap in
+    let view = ap (λ (s : Shown). s.heap) c.self.view_is in
+    let lawful = subst IsLawful view c.self.invariant.lawful in
+    let left : h.tick + 3 < last_tick = omega (arith, ap (λ (s : HeapState). s.tick) view, c.if-self.false) in
+    first_moved g.row.SLI c.self.invariant.level h c.want-words.result c.max-step.result c.args.skew lawful left (omega (arith, c.max-step.ensures)) (omega (arith, c.want-words.ensures)) a c.in-Ok.first c.gap-gap.result c.allocate_words.ensures.heap c.in-Ok.ensures.answer c.allocate_words.ensures.lawful c.gap-gap.ensures
+    c.move_on.new.self.heap c.in_ok-name.name c.move_on.ensures.heap c.in_ok-name.ensures.answer
+
+pub returns-clause-answer : goal.returns-clause-answer
+returns-clause-answer g c = rw (c.want-words.ensures, c.max-step.ensures) at (done g c).is_answer
+
+pub returns-clause-heap : goal.returns-clause-heap
+returns-clause-heap g c =
+    let bytes = lying c.set_length.new.self.stored c.in_ok-name.name.at c.args.len in
+    c.set_length.ensures.heap ∙ ap (λ (s : HeapState). with_payload s c.in_ok-name.name bytes) (rw (c.want-words.ensures, c.max-step.ensures) at (done g c).is_heap)
+
+pub returns-clause-aligned : goal.returns-clause-aligned
+returns-clause-aligned g c = rw c.max-step.ensures at (done g c).place
+
+pub returns-clause-given : goal.returns-clause-given
+returns-clause-given g c =
+    let bytes = lying c.set_length.new.self.stored c.in_ok-name.name.at c.args.len in
+    gives_name c.args.self.now.heap c.move_on.new.self.heap c.in_ok-name.name c.want-words.result (done g c).gives c.allocate_words.ensures.was_lawful bytes c.set_length.new.self.heap c.set_length.ensures.heap
+
+pub returns-clause-payload : goal.returns-clause-payload
+returns-clause-payload g c =
+    let bytes = lying c.set_length.new.self.stored c.in_ok-name.name.at c.args.len in
+    gives_payload c.args.self.now.heap c.move_on.new.self.heap c.in_ok-name.name c.want-words.result (done g c).gives c.allocate_words.ensures.was_lawful bytes c.set_length.new.self.heap c.set_length.ensures.heap
+
+pub returns-clause-others : goal.returns-clause-others
+returns-clause-others g c =
+    let bytes = lying c.set_length.new.self.stored c.in_ok-name.name.at c.args.len in
+    gives_others c.args.self.now.heap c.move_on.new.self.heap c.in_ok-name.name c.want-words.result (done g c).gives c.allocate_words.ensures.was_lawful bytes c.set_length.new.self.heap c.set_length.ensures.heap

@@ -1,0 +1,52 @@
+use Rattle.std.proofs.Common.{◌≡◌, ℕ, sym, ap, ◌∙◌, subst, Result, Ok, arith}
+use Rattle.tlsf_heap.specs.Blocks.{HeapState, want}
+use Rattle.tlsf_heap.specs.Calls.{allocated_words}
+use Rattle.tlsf_heap.specs.Laws.{IsLive}
+use Rattle.tlsf_heap.specs.Lawful.{IsLawful}
+use Rattle.tlsf_heap.specs.Unset.{lying, with_payload}
+use Rattle.tlsf_heap.specs.declared.name.Name.{Name}
+use Rattle.tlsf_heap.specs.declared.refusal.Refusal.{Refusal}
+use Rattle.tlsf_heap.proofs.Living.{given_words}
+use Rattle.tlsf_heap.proofs.Rebyted.{allocated_answers}
+use Rattle.tlsf_heap.proofs.Unset.{given_answer, allocated_unset}
+use Rattle.tlsf_heap.proofs.heap.Heap.allocate_unset.Goals as goal
+
+pub returns-in-Err-clause-answer : goal.returns-in-Err-clause-answer
+returns-in-Err-clause-answer g c =
+    sym c.in-Err.is ∙ c.allocate_words.ensures.answer ∙ ap (λ (n : ℕ). (allocated_words g.row.SLI c.args.self.now.heap n 0).answer) c.want.ensures
+    ∙ allocated_answers g.row.SLI c.args.self.now.heap (want c.args.len) 0 c.args.len
+
+-- an allocate of no bytes, with the words that are wanted
+given : (sli n len : ℕ) (h : HeapState) (name : Name) (answer : Result Name Refusal) → n ≡ want len → answer ≡ (allocated_words sli h n 0).answer → answer ≡ Ok name → (allocated_words sli h (want len) 0).answer ≡ Ok name
+given sli n len h name answer wanted is gives = ap (λ (k : ℕ). (allocated_words sli h k 0).answer) (sym wanted) ∙ sym is ∙ gives
+
+left : (sli n len : ℕ) (h k : HeapState) → n ≡ want len → k ≡ (allocated_words sli h n 0).heap → k ≡ (allocated_words sli h (want len) 0).heap
+left sli n len h k wanted is = is ∙ ap (λ (m : ℕ). (allocated_words sli h m 0).heap) wanted
+
+pub set_length-requires : goal.set_length-requires
+set_length-requires g c =
+    let h = c.args.self.now.heap in
+    let name = c.in-Ok.name in
+    let lives = given_words g.row.SLI h (want c.args.len) 0 name (given g.row.SLI _ c.args.len h name _ c.want.ensures c.allocate_words.ensures.answer c.in-Ok.is) in (
+      omega arith,
+      (
+        subst (λ (s : HeapState). IsLive s name) (sym (left g.row.SLI _ c.args.len h _ c.want.ensures c.allocate_words.ensures.heap)) lives,
+        omega (arith, c.in-Ok.ensures.room, c.want.ensures),
+      ),
+    )
+
+pub returns-clause-answer : goal.returns-clause-answer
+returns-clause-answer g c =
+    let h = c.args.self.now.heap in
+    sym (given_answer g.row.SLI h c.args.len c.in-Ok.name c.in-Ok.ensures.was_lawful (given g.row.SLI _ c.args.len h c.in-Ok.name _ c.want.ensures c.allocate_words.ensures.answer c.in-Ok.is))
+
+pub returns-clause-heap : goal.returns-clause-heap
+returns-clause-heap g c =
+    let h = c.args.self.now.heap in
+    let name = c.in-Ok.name in
+    let m = c.set_length.new.self.stored in
+    let is = left g.row.SLI _ c.args.len h _ c.want.ensures c.allocate_words.ensures.heap in
+    c.set_length.ensures.heap
+    ∙ ap (λ (s : HeapState). with_payload s name (lying m name.at c.args.len)) is
+    ∙ allocated_unset g.row.SLI h c.args.len name c.in-Ok.ensures.was_lawful (given g.row.SLI _ c.args.len h name _ c.want.ensures c.allocate_words.ensures.answer c.in-Ok.is) m
+    c.set_length.ensures.level (subst IsLawful is c.in-Ok.ensures.lawful)

@@ -1,0 +1,103 @@
+use Rattle.std.proofs.Common.{◌≡◌, ℕ, ◌+◌, ◌≤◌, length, min, sym, ap, ◌∙◌, subst, Ok, arith}
+use Rattle.std.proofs.lemmas.Result.{err_from_is_err_and}
+use Rattle.tlsf_heap.specs.Blocks.{HeapState, bytes_of, want, words_for}
+use Rattle.tlsf_heap.specs.Calls.{Outcome, named, resized, resized_words}
+use Rattle.tlsf_heap.specs.Given.{payload_words_at}
+use Rattle.tlsf_heap.specs.GoodFit.{block_at}
+use Rattle.tlsf_heap.specs.Image.{Shows}
+use Rattle.tlsf_heap.specs.InPlace.{payload_of}
+use Rattle.tlsf_heap.specs.Lawful.{IsLawful}
+use Rattle.tlsf_heap.specs.Laws.{IsLive}
+use Rattle.tlsf_heap.specs.Named.{IsNamed}
+use Rattle.tlsf_heap.specs.Unset.{lying, unset_from, with_payload}
+use Rattle.tlsf_heap.specs.declared.name.Name.{Name}
+use Rattle.tlsf_heap.proofs.Alterings.{live_is, payload_is}
+use Rattle.tlsf_heap.proofs.Naming.{not_forged}
+use Rattle.tlsf_heap.proofs.Rebyted.{resized_answers}
+use Rattle.tlsf_heap.proofs.Resizing.{resized_refused}
+use Rattle.tlsf_heap.proofs.Unset.{shorter_lives, left_answer, left_room, resized_unset}
+use Rattle.tlsf_heap.proofs.heap.Heap.resize_unset.Goals as goal
+
+-- ---- the name is refused
+
+pub returns-in_err-check_payload-clause-answer : goal.returns-in_err-check_payload-clause-answer
+returns-in_err-check_payload-clause-answer g c =
+    let p = err_from_is_err_and c.from_residual.result c.from_residual.ensures.1 in
+    rw (p.1, p.2) (sym (ap (λ (o : Outcome (Unit {0})). o.answer) (resized_refused c.args.self.now.heap c.args.name (want c.args.len) c.args.len _ c.in_err-check_payload.ensures.answer)))
+
+-- ---- the resize is refused
+
+-- the resize is one of the same heap, to the words that are wanted
+asked : (h k : HeapState) (name : Name) (n len kept : ℕ) → k ≡ h → n ≡ want len → resized_words k name n kept ≡ resized_words h name (want len) kept
+asked h k name n len kept same wanted = ap (λ (s : HeapState). resized_words s name n kept) same ∙ ap (λ (m : ℕ). resized_words h name m kept) wanted
+
+pub returns-in_err-resize_words-clause-answer : goal.returns-in_err-resize_words-clause-answer
+returns-in_err-resize_words-clause-answer g c =
+    let h = c.args.self.now.heap in
+    let p = err_from_is_err_and c.from_residual-in_err-resize_words.result c.from_residual-in_err-resize_words.ensures.1 in
+    rw (p.1, p.2) (c.in_err-resize_words.ensures.answer
+    ∙ ap (λ (o : Outcome (Unit {0})). o.answer) (asked h c.check_payload.new.self.heap c.args.name c.want.result c.args.len c.min-kept.result c.in_ok-check_payload.ensures.heap c.want.ensures)
+    ∙ resized_answers h c.args.name (want c.args.len) c.min-kept.result c.args.len)
+
+pub returns-in_err-resize_words-clause-forged : goal.returns-in_err-resize_words-clause-forged
+returns-in_err-resize_words-clause-forged g c = not_forged c.args.self.now.heap c.args.name c.in_ok-check_payload.ensures.lawful c.in_ok-check_payload.ensures.answer.0 _ _
+
+-- ---- the bytes lie there
+
+-- it was done, with as many bytes of the payload as stay
+record Shortens (h k : HeapState) (name : Name) (len kept : ℕ) : Type 0 where
+  lawful : IsLawful h
+  live : IsLive h name
+  least : kept ≡ min (length (payload_of h name)) len
+  answer : (resized_words h name (want len) kept).answer ≡ Ok tt
+  heap : k ≡ (resized_words h name (want len) kept).heap
+
+shortens : (h k l : HeapState) (name : Name) (n len held kept : ℕ) (is_named : IsNamed h name) → IsLawful h → held ≡ length (bytes_of (block_at h.blocks is_named.1.0)) → kept ≡ min held len → k ≡ h → n ≡ want len
+    → Ok tt ≡ (resized_words k name n kept).answer → l ≡ (resized_words k name n kept).heap → Shortens h l name len kept
+shortens h k l name n len held kept is_named lawful many least same wanted answer heap =
+    let is = asked h k name n len kept same wanted in
+    record {
+      lawful = lawful;
+      live = live_is h name is_named;
+      least = omega (arith, least, many, ap length (payload_is h name is_named));
+      answer = sym (answer ∙ ap (λ (o : Outcome (Unit {0})). o.answer) is);
+      heap = heap ∙ ap (λ (o : Outcome (Unit {0})). o.heap) is;
+    }
+
+pub set_length-requires : goal.set_length-requires
+set_length-requires g c =
+    let name = c.args.name in
+    let s = shortens c.args.self.now.heap c.check_payload.new.self.heap c.resize_words.new.self.heap name c.want.result c.args.len c.in_ok-check_payload.field-0 c.min-kept.result
+    c.in_ok-check_payload.ensures.answer.0 c.in_ok-check_payload.ensures.lawful c.in_ok-check_payload.ensures.answer.1 c.min-kept.ensures c.in_ok-check_payload.ensures.heap c.want.ensures c.in_ok-resize_words.ensures.answer c.in_ok-resize_words.ensures.heap in (
+      omega arith,
+      subst (λ (l : HeapState). IsLive l name × (words_for c.args.len ≤ 3 + payload_words_at (named name l.blocks))) (sym s.heap)
+          (shorter_lives _ name c.args.len _ s.lawful s.live s.least s.answer, left_room _ name c.args.len _ s.lawful s.live s.least s.answer),
+    )
+
+pub returns-clause-answer : goal.returns-clause-answer
+returns-clause-answer g c =
+    let s = shortens c.args.self.now.heap c.check_payload.new.self.heap c.resize_words.new.self.heap c.args.name c.want.result c.args.len c.in_ok-check_payload.field-0 c.min-kept.result
+    c.in_ok-check_payload.ensures.answer.0 c.in_ok-check_payload.ensures.lawful c.in_ok-check_payload.ensures.answer.1 c.min-kept.ensures c.in_ok-check_payload.ensures.heap c.want.ensures c.in_ok-resize_words.ensures.answer c.in_ok-resize_words.ensures.heap in
+    sym (left_answer _ c.args.name c.args.len _ s.lawful s.live s.least s.answer)
+
+pub returns-clause-heap : goal.returns-clause-heap
+returns-clause-heap g c =
+    let name = c.args.name in
+    let h = c.args.self.now.heap in
+    let m = c.set_length.new.self.stored in
+    let len = c.args.len in
+    let s = shortens h c.check_payload.new.self.heap c.resize_words.new.self.heap name c.want.result len c.in_ok-check_payload.field-0 c.min-kept.result
+    c.in_ok-check_payload.ensures.answer.0 c.in_ok-check_payload.ensures.lawful c.in_ok-check_payload.ensures.answer.1 c.min-kept.ensures c.in_ok-check_payload.ensures.heap c.want.ensures c.in_ok-resize_words.ensures.answer c.in_ok-resize_words.ensures.heap in
+    c.set_length.ensures.heap
+    ∙ ap (λ (l : HeapState). with_payload l name (lying m name.at len)) s.heap
+    ∙ resized_unset h name len c.min-kept.result s.lawful s.live s.least s.answer c.resize_words.new.self.stored m (subst (λ (l : HeapState). Shows c.resize_words.new.self.stored l.blocks) s.heap c.in_ok-resize_words.ensures.shows) c.set_length.ensures.lies
+    ∙ ap (λ (k : ℕ). unset_from (resized h name len).heap name m k len) s.least
+
+pub returns-clause-touches : goal.returns-clause-touches
+returns-clause-touches g c =
+    let held = ap length (payload_is c.args.self.now.heap c.args.name c.in_ok-check_payload.ensures.answer.0) in
+    let before = ap (λ (s : HeapState). length (payload_of s c.args.name)) c.in_ok-check_payload.ensures.heap in
+    omega (arith, held, before, c.in_ok-check_payload.ensures.answer.1, c.min-kept.ensures, c.in_ok-check_payload.ensures.touches, c.resize_words.ensures.grown_touches, c.set_length.ensures.touches)
+
+pub returns-clause-forged : goal.returns-clause-forged
+returns-clause-forged g c = not_forged c.args.self.now.heap c.args.name c.in_ok-check_payload.ensures.lawful c.in_ok-check_payload.ensures.answer.0 _ _

@@ -1,0 +1,83 @@
+use Rattle.std.proofs.Common.{◌≡◌, ◌≤◌, false, length, ap, ◌∙◌, subst, arith}
+use Rattle.tlsf_words.specs.Bytes.{payload_byte}
+use Rattle.tlsf_heap.specs.Blocks.{HeapState, size_of, is_free, words_for}
+use Rattle.tlsf_heap.specs.FreePlaces.{free_places}
+use Rattle.tlsf_heap.specs.GoodFit.{block_at}
+use Rattle.tlsf_heap.specs.Lawful.{IsLawful}
+use Rattle.tlsf_heap.specs.Named.{IsNamed}
+use Rattle.tlsf_heap.specs.Regions.{list_in}
+use Rattle.tlsf_heap.specs.Shown.{Shown}
+use Rattle.tlsf_heap.specs.Stored.{state_of}
+use Rattle.tlsf_heap.specs.Unset.{lying, with_payload}
+use Rattle.tlsf_heap.proofs.Lawfulness.{with_region}
+use Rattle.tlsf_heap.proofs.Lengths.{Relengths, relengths, same_lying, length_room}
+use Rattle.tlsf_heap.proofs.Listing.{stored_lists, same_lists}
+use Rattle.tlsf_heap.proofs.Naming.{named_stands}
+use Rattle.tlsf_heap.proofs.Payloads.{length-bytes_in}
+use Rattle.tlsf_heap.proofs.heap.Heap.set_length.Given.{Over}
+use Rattle.tlsf_heap.proofs.heap.Heap.set_length.Goals as goal
+
+pub set_length-requires : goal.set_length-requires
+set_length-requires g c =
+    let h = state_of g.row.SLI c.self.inside in
+    let same : h ≡ c.args.self.now.heap = ap (λ (s : Shown). s.heap) c.self.view_is in
+    let there = length_room h c.args.self.now.heap c.args.name c.args.len same (subst IsLawful same c.self.invariant.lawful) c.requires.live c.requires.room in
+    (omega arith, (there.0.1.0, named_stands _ _ _ _ there.0.1.1, (there.1, there.2)))
+
+-- the block, with the room that it has
+there : (g : Over) (c : goal.After-set_length g) → (is_named : IsNamed (state_of g.row.SLI c.self.inside) c.args.name)
+    × (is_free (block_at c.self.inside.region.blocks is_named.1.0) ≡ false) × (words_for c.args.len ≤ size_of (block_at c.self.inside.region.blocks is_named.1.0))
+there g c =
+    let h = state_of g.row.SLI c.self.inside in
+    let same : h ≡ c.args.self.now.heap = ap (λ (s : Shown). s.heap) c.self.view_is in
+    length_room h c.args.self.now.heap c.args.name c.args.len same (subst IsLawful same c.self.invariant.lawful) c.requires.live c.requires.room
+
+set : (g : Over) (c : goal.After-set_length g) → Relengths g.row.SLI (state_of g.row.SLI c.self.inside) c.args.name (lying c.set_length.new.self.stored c.args.name.at c.args.len) (with_region (state_of g.row.SLI c.self.inside) c.self.inside.tick c.set_length.new.self)
+set g c =
+    let h : HeapState = state_of g.row.SLI c.self.inside in
+    let t = there g c in
+    let bytes = lying c.set_length.new.self.stored c.args.name.at c.args.len in
+    let many = length-bytes_in c.set_length.new.self.stored.words (payload_byte c.args.name.at 0) c.args.len in
+    let room : words_for (length bytes) ≤ size_of (block_at h.blocks t.0.1.0) = omega (arith, many, t.2) in
+    let change = c.set_length.ensures.change t.0.1.0 (named_stands _ _ _ _ t.0.1.1) in
+    relengths g.row.SLI h c.args.name bytes c.set_length.new.self t.0 c.self.invariant.lawful t.1 room change.edits.words change.blocks
+
+pub invariant_of-self : goal.invariant_of-self
+invariant_of-self g c =
+    let t = there g c in
+    let change = c.set_length.ensures.change t.0.1.0 (named_stands _ _ _ _ t.0.1.1) in
+    let places = (set g c).places in
+    record {
+      lawful = (set g c).lawful;
+      shows = change.edits.shows;
+      linked = change.edits.linked;
+      level = c.self.invariant.level;
+      small = omega (arith, change.edits.words, c.self.invariant.small);
+      listed = rw places (same_lists (free_places g.row.SLI 0 c.self.inside.region.blocks) (list_in c.self.inside.region.lists) (list_in c.set_length.new.self.lists) change.lists c.self.invariant.listed);
+    }
+
+pub returns-clause-heap : goal.returns-clause-heap
+returns-clause-heap g c = (set g c).is_heap ∙ ap (λ (s : Shown). with_payload s.heap c.args.name (lying c.set_length.new.self.stored c.args.name.at c.args.len)) c.self.view_is
+
+pub returns-clause-lies : goal.returns-clause-lies
+returns-clause-lies g c = same_lying c.self.inside.region.stored c.set_length.new.self.stored c.args.name.at c.args.len c.set_length.ensures.only ∙ ap (λ (s : Shown). lying s.stored c.args.name.at c.args.len) c.self.view_is
+
+pub returns-clause-level : goal.returns-clause-level
+returns-clause-level g c = c.self.invariant.level
+
+pub returns-clause-lawful : goal.returns-clause-lawful
+returns-clause-lawful g c = (set g c).lawful
+
+pub returns-clause-shows : goal.returns-clause-shows
+returns-clause-shows g c = let t = there g c in (c.set_length.ensures.change t.0.1.0 (named_stands _ _ _ _ t.0.1.1)).edits.shows
+
+pub returns-clause-touches : goal.returns-clause-touches
+returns-clause-touches g c = let t = there g c in omega (arith, (c.set_length.ensures.change t.0.1.0 (named_stands _ _ _ _ t.0.1.1)).edits.touches, ap (λ (s : Shown). s.touches) c.self.view_is)
+
+pub returns-clause-rise : goal.returns-clause-rise
+returns-clause-rise g c = let t = there g c in omega (arith, (c.set_length.ensures.change t.0.1.0 (named_stands _ _ _ _ t.0.1.1)).edits.rise, ap (λ (s : Shown). s.touches) c.self.view_is)
+
+-- ---- the lists
+
+pub returns-clause-lists : goal.returns-clause-lists
+returns-clause-lists g c = stored_lists g.row.SLI _ (invariant_of-self g c)

@@ -1,0 +1,253 @@
+use Rattle.std.proofs.Common.{◌≡◌, ℕ, ◌+◌, refl, sym, ap, ◌∙◌, subst, Ok, Err, arith}
+use Rattle.tlsf_class.specs.Classes.{class_of}
+use Rattle.tlsf_heap.specs.Blocks.{HeapState, size_of, words_in, IsPlace}
+use Rattle.tlsf_heap.specs.GoodFit.{block_at, site_at}
+use Rattle.tlsf_heap.specs.Regions.{IsTagOf}
+use Rattle.tlsf_heap.specs.Shown.{Shown}
+use Rattle.tlsf_heap.specs.Stored.{state_of}
+use Rattle.tlsf_heap.specs.declared.refusal.Refusal.TheVariants.{Stale, NoRoom, Worn}
+use Rattle.tlsf_heap.proofs.Allocating.{lawful_regions}
+use Rattle.tlsf_heap.proofs.Carving.{IsFreeHere, contains_here, region_here, taken_each}
+use Rattle.tlsf_heap.proofs.From.{GivesFrom, from_nowhere, from_small, from_worn, from_done, free_inside}
+use Rattle.tlsf_heap.proofs.Giving.{carved_stands}
+use Rattle.tlsf_heap.proofs.Lawfulness.{with_region}
+use Rattle.tlsf_heap.proofs.Listing.{stored_lists}
+use Rattle.tlsf_heap.proofs.Reading.{at_index}
+use Rattle.tlsf_heap.proofs.heap.Heap.words_from.Given.{Over}
+use Rattle.tlsf_heap.proofs.heap.Heap.words_from.Goals as goal
+
+-- ---- no free block begins there
+
+nobody : (g : Over) (c : goal.In_default g) → GivesFrom c.args.self.now.heap c.args.at c.args.words (Err Stale) (with_region (state_of g.row.SLI c.self.inside) c.self.inside.tick c.free_at.new.self)
+nobody g c =
+    let reads = c.free_at.ensures.reads in
+    let h : HeapState = state_of g.row.SLI c.self.inside in
+    let k : HeapState = with_region h c.self.inside.tick c.free_at.new.self in
+    let same : k ≡ h = rw (reads.words, reads.blocks) refl in
+    subst (λ (s : HeapState). GivesFrom s c.args.at c.args.words (Err Stale) k) (ap (λ (s : Shown). s.heap) c.self.view_is)
+    (from_nowhere h k c.args.at c.args.words c.self.invariant.lawful same c.in_default.ensures.answer)
+
+pub returns-in_default-clause-answer : goal.returns-in_default-clause-answer
+returns-in_default-clause-answer g c = (nobody g c).is_answer
+
+pub returns-in_default-clause-heap : goal.returns-in_default-clause-heap
+returns-in_default-clause-heap g c = (nobody g c).is_heap
+
+pub returns-in_default-clause-stale : goal.returns-in_default-clause-stale
+returns-in_default-clause-stale g c = (nobody g c).stale
+
+pub returns-in_default-clause-no_room : goal.returns-in_default-clause-no_room
+returns-in_default-clause-no_room g c = (nobody g c).no_room
+
+pub returns-in_default-clause-ok : goal.returns-in_default-clause-ok
+returns-in_default-clause-ok g c = (nobody g c).ok
+
+pub returns-in_default-clause-lists : goal.returns-in_default-clause-lists
+returns-in_default-clause-lists g c = let reads = c.free_at.ensures.reads in rw (reads.stored, reads.blocks) (stored_lists g.row.SLI c.self.inside c.self.invariant)
+
+-- ---- it has too few words
+
+small : (g : Over) (c : goal.Then-size-words g) → GivesFrom c.args.self.now.heap c.args.at c.args.words (Err NoRoom) (with_region (state_of g.row.SLI c.self.inside) c.self.inside.tick c.free_at.new.self)
+small g c =
+    let reads = c.free_at.ensures.reads in
+    let l = c.in-Some.ensures.answer in
+    let h : HeapState = state_of g.row.SLI c.self.inside in
+    let k : HeapState = with_region h c.self.inside.tick c.free_at.new.self in
+    let same : k ≡ h = rw (reads.words, reads.blocks) refl in
+    subst (λ (s : HeapState). GivesFrom s c.args.at c.args.words (Err NoRoom) k) (ap (λ (s : Shown). s.heap) c.self.view_is)
+    (from_small h k c.args.at c.args.words c.self.invariant.lawful same l.0 l.1 (omega (arith, l.2.size, c.size-size.ensures.value, c.if-size-words.true)))
+
+pub returns-then-size-words-clause-answer : goal.returns-then-size-words-clause-answer
+returns-then-size-words-clause-answer g c = (small g c).is_answer
+
+pub returns-then-size-words-clause-heap : goal.returns-then-size-words-clause-heap
+returns-then-size-words-clause-heap g c = (small g c).is_heap
+
+pub returns-then-size-words-clause-stale : goal.returns-then-size-words-clause-stale
+returns-then-size-words-clause-stale g c = (small g c).stale
+
+pub returns-then-size-words-clause-no_room : goal.returns-then-size-words-clause-no_room
+returns-then-size-words-clause-no_room g c = (small g c).no_room
+
+pub returns-then-size-words-clause-ok : goal.returns-then-size-words-clause-ok
+returns-then-size-words-clause-ok g c = (small g c).ok
+
+pub returns-then-size-words-clause-lists : goal.returns-then-size-words-clause-lists
+returns-then-size-words-clause-lists g c = let reads = c.free_at.ensures.reads in rw (reads.stored, reads.blocks) (stored_lists g.row.SLI c.self.inside c.self.invariant)
+
+-- ---- the tick is at its last value
+
+worn : (g : Over) (c : goal.Then-self g) → GivesFrom c.args.self.now.heap c.args.at c.args.words (Err Worn) (with_region (state_of g.row.SLI c.self.inside) c.self.inside.tick c.free_at.new.self)
+worn g c =
+    let reads = c.free_at.ensures.reads in
+    let l = c.in-Some.ensures.answer in
+    let h : HeapState = state_of g.row.SLI c.self.inside in
+    let k : HeapState = with_region h c.self.inside.tick c.free_at.new.self in
+    let same : k ≡ h = rw (reads.words, reads.blocks) refl in
+    subst (λ (s : HeapState). GivesFrom s c.args.at c.args.words (Err Worn) k) (ap (λ (s : Shown). s.heap) c.self.view_is)
+    (from_worn h k c.args.at c.args.words c.self.invariant.lawful same l.0 l.1 (omega (arith, l.2.size, c.size-size.ensures.value, c.if-size-words.false)) c.if-self.true)
+
+pub returns-then-self-clause-answer : goal.returns-then-self-clause-answer
+returns-then-self-clause-answer g c = (worn g c).is_answer
+
+pub returns-then-self-clause-heap : goal.returns-then-self-clause-heap
+returns-then-self-clause-heap g c = (worn g c).is_heap
+
+pub returns-then-self-clause-stale : goal.returns-then-self-clause-stale
+returns-then-self-clause-stale g c = (worn g c).stale
+
+pub returns-then-self-clause-no_room : goal.returns-then-self-clause-no_room
+returns-then-self-clause-no_room g c = (worn g c).no_room
+
+pub returns-then-self-clause-ok : goal.returns-then-self-clause-ok
+returns-then-self-clause-ok g c = (worn g c).ok
+
+pub returns-then-self-clause-lists : goal.returns-then-self-clause-lists
+returns-then-self-clause-lists g c = let reads = c.free_at.ensures.reads in rw (reads.stored, reads.blocks) (stored_lists g.row.SLI c.self.inside c.self.invariant)
+
+-- ---- it is taken out of its list, and given
+
+pub remove-requires : goal.remove-requires
+remove-requires g c =
+    let reads = c.free_at.ensures.reads in
+    let l = c.in-Some.ensures.answer in
+    let sized = lawful_regions g.row.SLI (state_of g.row.SLI c.self.inside) c.self.invariant.lawful c.self.invariant.small in
+    let f : IsFreeHere g.row.SLI c.self.inside.region.blocks c.args.at l.0 = record { stands = l.1.stands; free = l.1.free; regions = sized } in
+    let size = c.size-size.ensures.value ∙ l.2.size in
+    let region = region_here g.row.SLI f in
+    (omega arith, (c.self.invariant.level, (omega (arith, size, region.0), (omega (arith, size, region.1), rw (reads.lists, size) (contains_here g.row.SLI f c.self.invariant.listed)))))
+
+pub give-requires : goal.give-requires
+give-requires g c =
+    let reads = c.free_at.ensures.reads in
+    let l = c.in-Some.ensures.answer in
+    let sized = lawful_regions g.row.SLI (state_of g.row.SLI c.self.inside) c.self.invariant.lawful c.self.invariant.small in
+    let blocks = c.remove.ensures.blocks ∙ reads.blocks in
+    let words = c.remove.ensures.edits.words ∙ reads.words in
+    let size = c.size-size.ensures.value ∙ l.2.size in
+    let f : IsFreeHere g.row.SLI c.free_at.new.self.blocks c.args.at l.0 = rw reads.blocks (record { stands = l.1.stands; free = l.1.free; regions = sized }) in
+    let left = taken_each g.row.SLI f (ap (class_of g.row.SLI) (size ∙ ap (λ bs. size_of (block_at bs l.0)) (sym reads.blocks))) (rw (reads.blocks, reads.lists) c.self.invariant.listed) c.remove.ensures in (
+      omega arith,
+      (
+        c.self.invariant.level,
+        (
+          omega (arith, c.requires),
+          (
+            rw blocks (l.0, l.1.stands, (l.1.free, omega (arith, size, c.if-size-words.false))),
+            (
+              rw (blocks, words) (λ i stands. at_index c.self.invariant.shows (λ (i : ℕ). IsTagOf c.self.inside.region.words (site_at c.self.inside.region.blocks i) c.in-Some.own) (l.0, l.1.stands, l.2) stands),
+              (
+                rw blocks sized,
+                (
+                  omega (arith, ap words_in blocks, c.self.invariant.lawful.whole, c.self.invariant.small),
+                  (left, rw blocks c.self.invariant.lawful.stamps_past),
+                ),
+              ),
+            ),
+          ),
+        ),
+      ),
+    )
+
+given : (g : Over) (c : goal.After-self-1 g)
+    → GivesFrom c.args.self.now.heap c.args.at c.args.words (Ok (record { heap = c.self.inside.id; at = c.args.at; serial = c.self.inside.tick })) (with_region (state_of g.row.SLI c.self.inside) (c.self.inside.tick + 1) c.give.new.region)
+given g c =
+    let reads = c.free_at.ensures.reads in
+    let l = c.in-Some.ensures.answer in
+    let h : HeapState = state_of g.row.SLI c.self.inside in
+    let was = c.remove.ensures.blocks ∙ reads.blocks in
+    let blocks = (rw was at c.give.ensures.blocks) l.0 l.1.stands in
+    let edits = c.give.ensures.edits l.0 (rw was l.1.stands) in
+    subst (λ (s : HeapState). GivesFrom s c.args.at c.args.words (Ok (record { heap = c.self.inside.id; at = c.args.at; serial = c.self.inside.tick })) (with_region h (c.self.inside.tick + 1) c.give.new.region)) (ap (λ (s : Shown). s.heap) c.self.view_is)
+    (from_done h h c.args.at c.args.words c.self.invariant.lawful refl l.0 l.1 (omega (arith, l.2.size, c.size-size.ensures.value, c.if-size-words.false)) (omega (arith, c.requires)) c.if-self.false
+    c.give.new.region (edits.words ∙ c.remove.ensures.edits.words ∙ reads.words) blocks)
+
+pub invariant_of-self-2 : goal.invariant_of-self-2
+invariant_of-self-2 g c =
+    let reads = c.free_at.ensures.reads in
+    let l = c.in-Some.ensures.answer in
+    let edits = c.give.ensures.edits l.0 (rw (c.remove.ensures.blocks ∙ reads.blocks) l.1.stands) in
+    record {
+      lawful = (given g c).lawful;
+      shows = edits.shows;
+      linked = edits.linked;
+      level = c.self.invariant.level;
+      small = omega (arith, edits.words, c.remove.ensures.edits.words, reads.words, c.self.invariant.small);
+      listed = c.give.ensures.listed;
+    }
+
+pub returns-clause-answer : goal.returns-clause-answer
+returns-clause-answer g c = (given g c).is_answer
+
+pub returns-clause-heap : goal.returns-clause-heap
+returns-clause-heap g c = (given g c).is_heap
+
+pub returns-clause-stale : goal.returns-clause-stale
+returns-clause-stale g c = (given g c).stale
+
+pub returns-clause-no_room : goal.returns-clause-no_room
+returns-clause-no_room g c = (given g c).no_room
+
+pub returns-clause-ok : goal.returns-clause-ok
+returns-clause-ok g c = (given g c).ok
+
+pub returns-clause-lawful : goal.returns-clause-lawful
+returns-clause-lawful g c = (given g c).lawful
+
+pub returns-clause-shows : goal.returns-clause-shows
+returns-clause-shows g c = (invariant_of-self-2 g c).shows
+
+pub returns-clause-lists : goal.returns-clause-lists
+returns-clause-lists g c = stored_lists g.row.SLI _ (invariant_of-self-2 g c)
+
+-- 2 to find the block, 6 to take it out, 9 for the headers, 7 to list the rest, and three words at most that are made zero
+
+pub returns-clause-touches : goal.returns-clause-touches
+returns-clause-touches g c =
+    let reads = c.free_at.ensures.reads in
+    let l = c.in-Some.ensures.answer in
+    let old = c.self.inside.region.blocks in
+    let was = c.remove.ensures.blocks ∙ reads.blocks in
+    let blocks = (rw was at c.give.ensures.blocks) l.0 l.1.stands in
+    let edits = c.give.ensures.edits l.0 (rw was l.1.stands) in
+    let now = carved_stands old c.give.new.region.blocks c.args.at l.0 (size_of (block_at old l.0)) c.args.words c.self.inside.tick 0 l.1.stands blocks in
+    omega (arith, edits.touches, c.remove.ensures.edits.touches, reads.touches, now.1, c.requires, ap (λ (s : Shown). s.touches) c.self.view_is)
+
+pub returns-clause-rise : goal.returns-clause-rise
+returns-clause-rise g c =
+    let reads = c.free_at.ensures.reads in
+    let l = c.in-Some.ensures.answer in
+    let edits = c.give.ensures.edits l.0 (rw (c.remove.ensures.blocks ∙ reads.blocks) l.1.stands) in
+    omega (arith, edits.rise, c.remove.ensures.edits.rise, reads.rise, ap (λ (s : Shown). s.touches) c.self.view_is)
+
+-- ---- the place is one of the region
+
+pub returns-then-size-words-clause-outside : goal.returns-then-size-words-clause-outside
+returns-then-size-words-clause-outside g c past =
+    let inside = free_inside (state_of g.row.SLI c.self.inside) c.self.invariant.lawful (c.in-Some.ensures.answer.0, c.in-Some.ensures.answer.1) in
+    absurd (omega (arith, inside, past, ap (λ (s : Shown). s.heap.words) c.self.view_is))
+
+pub returns-then-self-clause-outside : goal.returns-then-self-clause-outside
+returns-then-self-clause-outside g c past =
+    let inside = free_inside (state_of g.row.SLI c.self.inside) c.self.invariant.lawful (c.in-Some.ensures.answer.0, c.in-Some.ensures.answer.1) in
+    absurd (omega (arith, inside, past, ap (λ (s : Shown). s.heap.words) c.self.view_is))
+
+pub returns-clause-outside : goal.returns-clause-outside
+returns-clause-outside g c past =
+    let inside = free_inside (state_of g.row.SLI c.self.inside) c.self.invariant.lawful (c.in-Some.ensures.answer.0, c.in-Some.ensures.answer.1) in
+    absurd (omega (arith, inside, past, ap (λ (s : Shown). s.heap.words) c.self.view_is))
+
+pub returns-then-size-words-clause-nowhere : goal.returns-then-size-words-clause-nowhere
+returns-then-size-words-clause-nowhere g c none =
+    let l = c.in-Some.ensures.answer in
+    absurd (none (subst (λ (s : Shown). IsPlace s.heap.blocks c.args.at) c.self.view_is (l.0, l.1.stands)))
+
+pub returns-then-self-clause-nowhere : goal.returns-then-self-clause-nowhere
+returns-then-self-clause-nowhere g c none =
+    let l = c.in-Some.ensures.answer in
+    absurd (none (subst (λ (s : Shown). IsPlace s.heap.blocks c.args.at) c.self.view_is (l.0, l.1.stands)))
+
+pub returns-clause-nowhere : goal.returns-clause-nowhere
+returns-clause-nowhere g c none =
+    let l = c.in-Some.ensures.answer in
+    absurd (none (subst (λ (s : Shown). IsPlace s.heap.blocks c.args.at) c.self.view_is (l.0, l.1.stands)))

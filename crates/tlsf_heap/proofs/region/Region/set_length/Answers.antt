@@ -1,0 +1,55 @@
+use Rattle.std.proofs.Common.{◌≡◌, ◌≢◌, ◌+◌, ◌<◌, List, ℕ, length, get_or, ap, ◌∙◌, subst, arith}
+use Rattle.std.proofs.lemmas.List.{length-set, get_or-set_other, get_or-set_same}
+use Rattle.tlsf_words.specs.Fields.{length_word}
+use Rattle.tlsf_heap.specs.Headers.{OnlyFrom}
+use Rattle.tlsf_heap.specs.Regions.{RegionState, image_of}
+use Rattle.tlsf_heap.proofs.Lengths.{SetsLength, length_leaves, length_relists}
+use Rattle.tlsf_heap.proofs.Linking.{linked_lists, Relists, holds_state}
+use Rattle.tlsf_heap.proofs.Reading.{shows_state, says_here}
+use Rattle.tlsf_heap.proofs.Standing.{behind_one}
+use Rattle.tlsf_heap.proofs.region.Region.set_length.Given.{Over}
+use Rattle.tlsf_heap.proofs.region.Region.set_length.Goals as goal
+
+pub set_length-requires : goal.set_length-requires
+set_length-requires g c = let says = says_here (shows_state g.row.SLI c.self.invariant c.self.view_is) c.requires.1 in omega (arith, says.least, says.ends)
+
+sets : (g : Over) (c : goal.After-set_length g) → SetsLength (image_of c.self.inside.words) (image_of c.set_length.new.self) c.args.at c.args.len
+sets g c =
+    let says = says_here (shows_state g.row.SLI c.self.invariant c.self.view_is) c.requires.1 in
+    let new = c.set_length.ensures in
+    let old = c.self.inside.words.words in
+    let place = c.args.at + 2 in
+    let word = length_word c.args.len in
+    let inside : place < length old = omega (arith, says.least, says.ends) in
+    let other : (k : ℕ) → k ≢ place → get_or c.set_length.new.self.words k 0 ≡ get_or old k 0 = λ k ne. ap (λ (ws : List ℕ). get_or ws k 0) new.words ∙ get_or-set_other old place k word 0 ne in
+    record {
+      length = ap (λ (ws : List ℕ). get_or ws place 0) new.words ∙ get_or-set_same old place word 0 inside;
+      only = record {
+        before = λ k h. other k (λ e. omega (arith, h, e));
+        behind = λ k h. other k (λ e. omega (arith, h, e));
+        length = ap length new.words ∙ length-set old place word;
+      };
+      starts = new.starts;
+    }
+
+relists : (g : Over) (c : goal.After-set_length g) → Relists g.row.SLI (image_of c.set_length.new.self) c.self.inside.lists c.args.self.now.lists
+relists g c = length_relists g.row.SLI (holds_state g.row.SLI c.self.invariant c.self.view_is) c.requires (sets g c)
+
+pub invariant_of-self : goal.invariant_of-self
+invariant_of-self g c = (relists g c).holds
+
+pub returns-clause-change : goal.returns-clause-change
+returns-clause-change g c i stands =
+    let new = c.set_length.ensures in
+    let only = (sets g c).only in
+    let left = length_leaves (shows_state g.row.SLI c.self.invariant c.self.view_is) c.requires (sets g c) in
+    let touches = ap (λ (r : RegionState). r.touches) c.self.view_is in
+    let words = ap (λ (r : RegionState). r.words) c.self.view_is in
+    record {
+      blocks = left.blocks i stands ∙ behind_one i _ c.args.self.now.blocks;
+      lists = (relists g c).same;
+      edits = record { words = only.length ∙ words; shows = (relists g c).holds.shows; linked = linked_lists g.row.SLI _ _ (relists g c).holds; touches = omega (arith, new.touches, touches); rise = omega (arith, new.touches, touches) };
+    }
+
+pub returns-clause-only : goal.returns-clause-only
+returns-clause-only g c = subst (λ (r : RegionState). OnlyFrom r.stored.words c.set_length.new.self.words (c.args.at + 2) (c.args.at + 3)) c.self.view_is (sets g c).only

@@ -1,0 +1,57 @@
+-- Calls on the live block that begins at a place, whatever its serial.
+use Rattle.std.specs.Prelude.{◌≡◌, ℕ, List, Option, Some, None, false, MatchOption}
+use Rattle.tlsf_heap.specs.Blocks.{Block, HeapState, is_free, StandsAt}
+use Rattle.tlsf_heap.specs.Calls.{Outcome, refused, released, resized}
+use Rattle.tlsf_heap.specs.GoodFit.{block_at, site_at}
+use Rattle.tlsf_heap.specs.Placed.{placed_at}
+use Rattle.tlsf_heap.specs.Regions.{IsTagOf}
+use Rattle.tlsf_words.specs.declared.tag.Tag.{Tag}
+use Rattle.tlsf_heap.specs.declared.name.Name.{Name}
+use Rattle.tlsf_heap.specs.declared.placed_block.PlacedBlock.{PlacedBlock}
+use Rattle.tlsf_heap.specs.declared.placed_block.Content.{Content}
+use Rattle.tlsf_heap.specs.declared.placed_block.Content.TheVariants as content
+use Rattle.tlsf_heap.specs.declared.refusal.Refusal.TheVariants.{Stale}
+
+-- the serial of what a block holds, none where it is free
+abbrev pub serial_of : Content → Option ℕ
+serial_of (content.Live serial length) = Some serial
+serial_of (content.Free stamp) = None
+
+abbrev pub serial_in : Option PlacedBlock → Option ℕ
+serial_in None = None
+serial_in (Some b) = serial_of b.content
+
+-- the serial of the live block that begins at this place, if one does
+abbrev pub serial_at : List Block → ℕ → Option ℕ
+serial_at blocks at = serial_in (placed_at blocks at)
+
+abbrev pub name_with : ℕ → ℕ → Option ℕ → Option Name
+name_with id at None = None
+name_with id at (Some serial) = Some (record { heap = id; at = at; serial = serial })
+
+-- its name
+abbrev pub name_at : HeapState → ℕ → Option Name
+name_at h at = name_with h.id at (serial_at h.blocks at)
+
+-- a call with a name, refused as Stale where there is none
+abbrev pub call_by : {A : Type 0} → HeapState → (Name → Outcome A) → Option Name → Outcome A
+call_by h call None = refused h Stale
+call_by h call (Some name) = call name
+
+-- the release of the live block that begins at a place
+abbrev pub released_by_place : HeapState → ℕ → Outcome (Unit {0})
+released_by_place h at = call_by h (released h) (name_at h at)
+
+-- its resize to `len` bytes
+abbrev pub resized_by_place : HeapState → ℕ → ℕ → Outcome (Unit {0})
+resized_by_place h at len = call_by h (λ name. resized h name len) (name_at h at)
+
+-- block i is live and begins at this place
+pub record IsLiveAt (blocks : List Block) (at i : ℕ) : Type 0 where
+  pub stands : StandsAt blocks at i
+  pub live : is_free (block_at blocks i) ≡ false
+
+-- what a search for the live block that begins at a place answers, in a region of so many words: its tag
+abbrev pub IsPlaceTest : ℕ → ℕ → List Block → Option Tag → Type 0
+IsPlaceTest at words blocks found =
+    MatchOption found (serial_at blocks at ≡ None) (λ tag. (i : ℕ) × IsLiveAt blocks at i × IsTagOf words (site_at blocks i) tag)

@@ -1,0 +1,212 @@
+ghost use Rattle.std.specs.Prelude.{◌≡◌, ℕ, List, ◌+◌, ◌%◌, ◌^◌, ◌<◌, ◌≤◌, ◌↔◌, [], max, IfOk, OnErr, IsOk, IsErrOf};
+ghost use Rattle.tlsf_class.specs.Classes.{most_words};
+ghost use Rattle.tlsf_heap.specs.Aligned.{HasFreeAt, HasRoomAt, words_from, gap_of, moved_on, aligned_words, words_aligned};
+ghost use Rattle.tlsf_heap.specs.Blocks;
+ghost use Rattle.tlsf_heap.specs.Blocks.{IsPlace};
+ghost use Rattle.tlsf_heap.specs.Calls.{last_tick, named};
+ghost use Rattle.tlsf_heap.specs.FreePlaces.{ShowsLists};
+ghost use Rattle.tlsf_heap.specs.Given.{payload_words_at};
+ghost use Rattle.tlsf_heap.specs.GoodFit.{fits};
+ghost use Rattle.tlsf_heap.specs.Image.{Shows};
+ghost use Rattle.tlsf_heap.specs.Lawful.{IsLawful};
+ghost use Rattle.tlsf_heap.specs.Laws.{IsLive};
+ghost use Rattle.tlsf_heap.specs.Steady.{HasPayload};
+ghost use Rattle.tlsf_heap.specs.Unset.{lying, with_payload};
+ghost use Rattle.tlsf_heap.specs.declared.name.Name.{Name};
+
+use super::{Heap, want};
+use crate::fitting::give;
+use crate::name::Name;
+use crate::refusal::Refusal;
+use tlsf_class::most_words;
+
+/// The words by which the payload of a block at a place has to move on, so that it begins `skew` words before a multiple of `step`
+/// words: none, or at least four, since no block is smaller.
+fn gap(at: u32, step: u32, skew: u32) -> u32
+    requires some { 0 < step }
+    requires most { step ≤ 2 ^ 24 }
+    ensures { result ≡ gap_of at step skew }
+{
+    let step = u64::from(step);
+    let from = u64::from(at) + 3 + u64::from(skew);
+    if from % step == 0 {
+        return 0;
+    }
+    (4 + (step - (from + 4) % step) % step) as u32
+}
+
+// Calls for a block that begins at a place, or for a payload that does.
+impl<const SLI: u32> Heap<SLI> {
+    /// Gives a block that holds `len` bytes of payload out of the free block that begins at a place, of all numbers, and fills nothing:
+    /// the bytes are those that lie there. Where the free block has four words or more above those wanted, they stay free behind it.
+    ///
+    /// Refused as `Stale` where no free block begins there, else as `NoRoom` where it has fewer words than are wanted, else as `Worn`
+    /// where the tick is at its last value. A number from outside is not followed. Takes no memory.
+    ///
+    /// ```text
+    /// let name = heap.allocate(8)?;                    // of a new heap of 64 words: those at place 4 are free
+    /// heap.allocate_from(4, 100)                       // Ok(Name { heap: 0, at: 4, serial: 2 })
+    /// heap.allocate_from(4, 100) == Err(Refusal::Stale)
+    /// ```
+    pub fn allocate_from(&mut self, at: u32, len: u32) -> Result<Name, Refusal>
+        ensures answer { result ≡ (words_from self.old.heap at (Blocks.want len)).answer }
+
+        // Accepted, the heap is as one of those words is given, with the bytes that lie there as its payload.
+        ensures heap { IfOk result (λ name. self.new.heap ≡ with_payload (words_from self.old.heap at (Blocks.want len)).heap name (lying self.new.stored name.at len)) }
+
+        // What that comes to: the name is of that place, live, and was not before, its payload is so long, and every other payload stays.
+        ensures place { IfOk result (λ name. name.at ≡ at) }
+        ensures given { IfOk result (λ name. IsLive self.new.heap name × ¬ (IsLive self.old.heap name)) }
+        ensures payload { IfOk result (λ name. HasPayload self.new.heap name (lying self.new.stored name.at len)) }
+        ensures others { IfOk result (λ name. (other : Name) (bytes : List ℕ) → HasPayload self.old.heap other bytes → HasPayload self.new.heap other bytes) }
+
+        // When it is Stale, when it is NoRoom, and when it is a name. A refusal changes nothing.
+        ensures stale { IsErrOf result Refusal.Stale ↔ ¬ (HasFreeAt self.old.heap.blocks at) }
+        ensures no_room { IsErrOf result Refusal.NoRoom ↔ (HasFreeAt self.old.heap.blocks at × ¬ (HasRoomAt self.old.heap.blocks at (Blocks.want len))) }
+        ensures ok { IsOk result ↔ (HasRoomAt self.old.heap.blocks at (Blocks.want len) × ¬ (self.old.heap.tick ≡ last_tick)) }
+        ensures err { OnErr result (self.new.heap ≡ self.old.heap) }
+        ensures stored { OnErr result (self.new.stored ≡ self.old.stored) }
+        ensures was_lawful { IsLawful self.old.heap }
+        ensures lawful { IsLawful self.new.heap }
+        ensures shows { Shows self.new.stored self.new.heap.blocks }
+        ensures lists { ShowsLists SLI self.new.stored self.new.heap.blocks }
+
+        // Accepted or refused, whatever the region holds, and however many bytes.
+        ensures touches { self.new.touches ≤ self.old.touches + 28 }
+        ensures touches_rise { self.old.touches ≤ self.new.touches }
+        ensures outside { self.old.heap.words ≤ at → self.new.touches ≡ self.old.touches }
+        ensures nowhere { ¬ (IsPlace self.old.heap.blocks at) → self.new.touches ≤ self.old.touches + 1 }
+    {
+        let name = match self.words_from(at, want(len)) {
+            Ok(name) => name,
+            Err(why) => return Err(why),
+        };
+        self.set_length(name, len);
+        Ok(name)
+    }
+
+    /// Gives a block that holds `len` bytes of payload, whose payload begins `skew` words before a multiple of `step` words of the
+    /// region, and fills nothing: the bytes are those that lie there. A step of 0 counts as 1.
+    ///
+    /// It asks for a block of `step + 4` words more than are wanted. What isn't wanted of it stays free.
+    ///
+    /// Refused as `Worn` where fewer than four ticks are left, since it takes up to four, else as `NoFit` where no free block lies in a
+    /// class at or above the search class of the words that it asks for. Takes no memory.
+    ///
+    /// ```text
+    /// let name = heap.allocate_aligned(100, 8, 0)?;    // its payload begins at word 8, 16, 24 ..
+    /// (name.at + 3) % 8 == 0
+    /// ```
+    pub fn allocate_aligned(&mut self, len: u32, step: u32, skew: u32) -> Result<Name, Refusal>
+        ensures answer { result ≡ (words_aligned SLI self.old.heap (Blocks.want len) (max step 1) skew).answer }
+
+        // Accepted, the heap is as one of those words is given, with the bytes that lie there as its payload.
+        ensures heap { IfOk result (λ name. self.new.heap ≡ with_payload (words_aligned SLI self.old.heap (Blocks.want len) (max step 1) skew).heap name (lying self.new.stored name.at len)) }
+
+        // What that comes to: the payload begins at such a word, the name is live and was not before, its payload is so long, and every
+        // other payload stays. A refusal changes nothing.
+        ensures aligned { IfOk result (λ name. (name.at + 3 + skew) % max step 1 ≡ 0) }
+        ensures given { IfOk result (λ name. IsLive self.new.heap name × ¬ (IsLive self.old.heap name)) }
+        ensures payload { IfOk result (λ name. HasPayload self.new.heap name (lying self.new.stored name.at len)) }
+        ensures others { IfOk result (λ name. (other : Name) (bytes : List ℕ) → HasPayload self.old.heap other bytes → HasPayload self.new.heap other bytes) }
+        ensures worn { IsErrOf result Refusal.Worn ↔ (last_tick ≤ self.old.heap.tick + 3) }
+        ensures no_fit { self.old.heap.tick + 3 < last_tick → (IsErrOf result Refusal.NoFit ↔ (fits SLI (aligned_words (Blocks.want len) (max step 1)) self.old.heap.blocks ≡ [])) }
+        ensures ok { IsOk result ↔ ((self.old.heap.tick + 3 < last_tick) × ¬ (fits SLI (aligned_words (Blocks.want len) (max step 1)) self.old.heap.blocks ≡ [])) }
+        ensures err { OnErr result (self.new.heap ≡ self.old.heap) }
+        ensures stored { OnErr result (self.new.stored ≡ self.old.stored) }
+        ensures was_lawful { IsLawful self.old.heap }
+        ensures lawful { IsLawful self.new.heap }
+        ensures shows { Shows self.new.stored self.new.heap.blocks }
+        ensures lists { ShowsLists SLI self.new.stored self.new.heap.blocks }
+
+        // Accepted or refused, whatever the region holds, and however many bytes.
+        ensures touches { self.new.touches ≤ self.old.touches + 116 }
+        ensures touches_rise { self.old.touches ≤ self.new.touches }
+    {
+        if self.tick >= u64::MAX - 3 {
+            return Err(Refusal::Worn);
+        }
+        let step = step.max(1);
+        if step > most_words::<SLI>() {
+            return Err(Refusal::NoFit);
+        }
+        let words = want(len);
+        let first = match self.allocate_words(words + 4 + step, 0) {
+            Ok(first) => first,
+            Err(why) => return Err(why),
+        };
+        let gap = gap(first.at, step, skew);
+        let name = self.move_on(first, gap, words)?;
+        self.set_length(name, len);
+        Ok(name)
+    }
+
+    /// Makes the block of that name, which has `words` words behind the first `gap`, one of `words` words without payload that begins
+    /// `gap` words further on. Those before it are released. Three ticks at most pass.
+    fn move_on(&mut self, name: Name, gap: u32, words: u32) -> Result<Name, Refusal>
+        requires live { IsLive self.old.heap name }
+        requires room { gap + words ≤ 3 + payload_words_at (named name self.old.heap.blocks) }
+        requires least { 4 ≤ words }
+        requires front { 0 < gap → 4 ≤ gap }
+        requires left { self.old.heap.tick + 2 < last_tick }
+        requires small { self.old.heap.words ≤ 2 ^ 24 }
+        ensures answer { result ≡ (moved_on self.old.heap name gap words).answer }
+        ensures heap { self.new.heap ≡ (moved_on self.old.heap name gap words).heap }
+        ensures ok { IsOk result }
+        ensures was_lawful { IsLawful self.old.heap }
+        ensures lawful { IsLawful self.new.heap }
+        ensures shows { Shows self.new.stored self.new.heap.blocks }
+        ensures lists { ShowsLists SLI self.new.stored self.new.heap.blocks }
+        ensures touches { self.new.touches ≤ self.old.touches + 85 }
+        ensures rise { self.old.touches ≤ self.new.touches }
+    {
+        if gap == 0 {
+            self.resize_words(name, words, 0)?;
+            return Ok(name);
+        }
+        self.resize_words(name, gap, 0)?;
+        let moved = self.words_from(name.at + gap, words)?;
+        self.release(name)?;
+        Ok(moved)
+    }
+
+    /// Gives a block of `words` words without payload out of the free block that begins at a place, of all numbers.
+    fn words_from(&mut self, at: u32, words: u32) -> Result<Name, Refusal>
+        requires { 4 ≤ words }
+        ensures answer { result ≡ (words_from self.old.heap at words).answer }
+        ensures heap { self.new.heap ≡ (words_from self.old.heap at words).heap }
+        ensures stale { IsErrOf result Refusal.Stale ↔ ¬ (HasFreeAt self.old.heap.blocks at) }
+        ensures no_room { IsErrOf result Refusal.NoRoom ↔ (HasFreeAt self.old.heap.blocks at × ¬ (HasRoomAt self.old.heap.blocks at words)) }
+        ensures ok { IsOk result ↔ (HasRoomAt self.old.heap.blocks at words × ¬ (self.old.heap.tick ≡ last_tick)) }
+        ensures err { OnErr result (self.new.heap ≡ self.old.heap) }
+        ensures stored { OnErr result (self.new.stored ≡ self.old.stored) }
+        ensures was_lawful { IsLawful self.old.heap }
+        ensures lawful { IsLawful self.new.heap }
+        ensures shows { Shows self.new.stored self.new.heap.blocks }
+        ensures lists { ShowsLists SLI self.new.stored self.new.heap.blocks }
+        ensures touches { self.new.touches ≤ self.old.touches + 27 }
+        ensures rise { self.old.touches ≤ self.new.touches }
+        ensures outside { self.old.heap.words ≤ at → self.new.touches ≡ self.old.touches }
+        ensures nowhere { ¬ (IsPlace self.old.heap.blocks at) → self.new.touches ≤ self.old.touches + 1 }
+    {
+        let Some(own) = self.region.free_at(at) else {
+            return Err(Refusal::Stale);
+        };
+        let size = own.size();
+        if size < words {
+            return Err(Refusal::NoRoom);
+        }
+        if self.tick == u64::MAX {
+            return Err(Refusal::Worn);
+        }
+        self.region.remove(size, at);
+        let serial = self.tick;
+        give(&mut self.region, at, own, words, serial, 0, words - 4);
+        self.tick = serial + 1;
+        Ok(Name {
+            heap: self.id,
+            at,
+            serial,
+        })
+    }
+}

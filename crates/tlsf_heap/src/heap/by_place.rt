@@ -1,0 +1,110 @@
+ghost use Rattle.std.specs.Prelude.{◌≡◌, ◌+◌, ◌<◌, ◌≤◌, IfSome, OnErr};
+ghost use Rattle.tlsf_heap.specs.Blocks;
+ghost use Rattle.tlsf_heap.specs.Blocks.{IsPlace};
+ghost use Rattle.tlsf_heap.specs.ByPlace.{name_at, released_by_place, resized_by_place};
+ghost use Rattle.tlsf_heap.specs.FreePlaces.{ShowsLists};
+ghost use Rattle.tlsf_heap.specs.Image.{Shows};
+ghost use Rattle.tlsf_heap.specs.Lawful.{IsLawful};
+ghost use Rattle.tlsf_heap.specs.Laws.{IsLive};
+
+use super::{Heap, want};
+use crate::name::Name;
+use crate::refusal::Refusal;
+
+// Calls by place: of a caller who keeps no names, as one who is handed an address.
+impl<const SLI: u32> Heap<SLI> {
+    /// The name of the live block that begins at a place, of all numbers; `None` where none does: for a caller who keeps no names, as one
+    /// who is handed an address. A number from outside is not followed. Takes no memory.
+    ///
+    /// ```text
+    /// let name = heap.allocate(8)?;                    // of a new heap of 64 words, at place 0
+    /// heap.name_at(0) == Some(name)
+    /// heap.name_at(1) == None
+    /// ```
+    pub fn name_at(&mut self, at: u32) -> Option<Name>
+        ensures name { result ≡ name_at self.old.heap at }
+
+        // What that comes to: the name is live, and its block begins there.
+        ensures live { IfSome result (λ name. IsLive self.old.heap name × (name.at ≡ at) × (at < self.old.heap.words)) }
+        ensures heap { self.new.heap ≡ self.old.heap }
+        ensures stored { self.new.stored ≡ self.old.stored }
+        ensures was_lawful { IsLawful self.old.heap }
+        ensures shows { Shows self.new.stored self.new.heap.blocks }
+        ensures lists { ShowsLists SLI self.new.stored self.new.heap.blocks }
+        ensures touches { self.new.touches ≤ self.old.touches + 3 }
+        ensures touches_rise { self.old.touches ≤ self.new.touches }
+        ensures outside { self.old.heap.words ≤ at → self.new.touches ≡ self.old.touches }
+        ensures nowhere { ¬ (IsPlace self.old.heap.blocks at) → self.new.touches ≤ self.old.touches + 1 }
+    {
+        let Some(_own) = self.region.live_at(at) else {
+            return None;
+        };
+        let serial = self.region.mark(at);
+        Some(Name {
+            heap: self.id,
+            at,
+            serial,
+        })
+    }
+
+    /// Takes back the live block that begins at a place, of all numbers: a `release` of the name that `name_at` answers, refused as
+    /// `Stale` where there is none, else as `Worn` where the tick is at its last value. Takes no memory.
+    ///
+    /// A place doesn't tell a block from a later one that begins there: who keeps a place past the release releases that one.
+    ///
+    /// ```text
+    /// let name = heap.allocate(8)?;
+    /// heap.release_at(name.at) == Ok(())
+    /// heap.release_at(name.at) == Err(Refusal::Stale)
+    /// ```
+    pub fn release_at(&mut self, at: u32) -> Result<(), Refusal>
+        ensures answer { result ≡ (released_by_place self.old.heap at).answer }
+        ensures heap { self.new.heap ≡ (released_by_place self.old.heap at).heap }
+
+        // A refusal changes nothing.
+        ensures err { OnErr result (self.new.heap ≡ self.old.heap) }
+        ensures stored { OnErr result (self.new.stored ≡ self.old.stored) }
+        ensures was_lawful { IsLawful self.old.heap }
+        ensures lawful { IsLawful self.new.heap }
+        ensures shows { Shows self.new.stored self.new.heap.blocks }
+        ensures lists { ShowsLists SLI self.new.stored self.new.heap.blocks }
+
+        // Accepted or refused, and whatever the region holds: one fewer than `release`, since no serial is read.
+        ensures touches { self.new.touches ≤ self.old.touches + 29 }
+        ensures touches_rise { self.old.touches ≤ self.new.touches }
+        ensures outside { self.old.heap.words ≤ at → self.new.touches ≡ self.old.touches }
+        ensures nowhere { ¬ (IsPlace self.old.heap.blocks at) → self.new.touches ≤ self.old.touches + 1 }
+    {
+        match self.release_words_at(at) {
+            Ok(_words) => Ok(()),
+            Err(why) => Err(why),
+        }
+    }
+
+    /// Makes the payload of the live block that begins at a place `len` bytes long, where the block stands: a `resize` of the name that
+    /// `name_at` answers, refused as `Stale` where there is none. Takes no memory.
+    ///
+    /// ```text
+    /// let name = heap.allocate(8)?;
+    /// heap.resize_at(name.at, 100) == Ok(())
+    /// ```
+    pub fn resize_at(&mut self, at: u32, len: u32) -> Result<(), Refusal>
+        ensures answer { result ≡ (resized_by_place self.old.heap at len).answer }
+        ensures heap { self.new.heap ≡ (resized_by_place self.old.heap at len).heap }
+        ensures err { OnErr result (self.new.heap ≡ self.old.heap) }
+        ensures stored { OnErr result (self.new.stored ≡ self.old.stored) }
+        ensures was_lawful { IsLawful self.old.heap }
+        ensures lawful { IsLawful self.new.heap }
+        ensures shows { Shows self.new.stored self.new.heap.blocks }
+        ensures lists { ShowsLists SLI self.new.stored self.new.heap.blocks }
+        ensures touches { self.new.touches ≤ self.old.touches + 63 + Blocks.want len }
+        ensures touches_rise { self.old.touches ≤ self.new.touches }
+        ensures outside { self.old.heap.words ≤ at → self.new.touches ≡ self.old.touches }
+        ensures nowhere { ¬ (IsPlace self.old.heap.blocks at) → self.new.touches ≤ self.old.touches + 1 }
+    {
+        match self.name_at(at) {
+            None => Err(Refusal::Stale),
+            Some(name) => self.resize_words(name, want(len), len),
+        }
+    }
+}

@@ -1,0 +1,46 @@
+ghost use Rattle.std.specs.Prelude.{◌≡◌, ◌+◌, ◌*◌, ◌/◌, ◌≤◌, MatchOption};
+ghost use Rattle.tlsf_heap.specs.Blocks.{IsPlace};
+ghost use Rattle.tlsf_heap.specs.Checks.{IsCheck, FindsSound, block_touches};
+ghost use Rattle.tlsf_heap.specs.FreePlaces.{ShowsLists};
+ghost use Rattle.tlsf_heap.specs.Image.{Shows};
+ghost use Rattle.tlsf_heap.specs.Lawful.{IsLawful};
+
+use super::Heap;
+use crate::checked::Checked;
+
+impl<const SLI: u32> Heap<SLI> {
+    /// Looks at `most` blocks at most, one behind the other, of which the first begins at `from`; `None` where none begins there. A heap
+    /// that only these calls have changed is never called damaged. Where other code has written past the end of a payload, the answer is
+    /// what [`crate::check_words`] says of words that may hold anything: it follows no place that it has not looked at. Takes no memory.
+    ///
+    /// A caller who checks in slices calls it again with the `next` of the answer, which is 0 behind the last block.
+    ///
+    /// ```text
+    /// let name = heap.allocate(8)?;                    // of a new heap of 64 words: 4 of them
+    /// heap.check_blocks(0, 1)                          // Some(Checked::Sound { next: 4 })
+    /// heap.check_blocks(4, 1)                          // Some(Checked::Sound { next: 0 })
+    /// heap.check_blocks(5, 1) == None
+    /// ```
+    pub fn check_blocks(&mut self, from: u32, most: u32) -> Option<Checked>
+        ensures answer { MatchOption result (¬ (IsPlace self.old.heap.blocks from)) (FindsSound self.old.heap.blocks from most) }
+
+        // What is said of words that hold anything, of these.
+        ensures looks { IsCheck self.old.stored from most result }
+        ensures heap { self.new.heap ≡ self.old.heap }
+        ensures stored { self.new.stored ≡ self.old.stored }
+        ensures was_lawful { IsLawful self.old.heap }
+        ensures shows { Shows self.new.stored self.new.heap.blocks }
+        ensures lists { ShowsLists SLI self.new.stored self.new.heap.blocks }
+
+        // At most 13 for each block looked at, and one for the first start bit. No two blocks that are looked at begin within four words.
+        ensures touches { self.new.touches ≤ self.old.touches + 1 + block_touches * most }
+        ensures few { self.new.touches ≤ self.old.touches + 1 + block_touches * (self.old.heap.words / 4) }
+        ensures touches_rise { self.old.touches ≤ self.new.touches }
+
+        // Not even a start bit is read unless the place lies in the region, and no word unless a block begins there.
+        ensures outside { self.old.heap.words ≤ from → self.new.touches ≡ self.old.touches }
+        ensures nowhere { ¬ (IsPlace self.old.heap.blocks from) → self.new.touches ≤ self.old.touches + 1 }
+    {
+        self.region.check(from, most)
+    }
+}

@@ -1,0 +1,150 @@
+ghost use Rattle.std.specs.Prelude.{◌≡◌, ℕ, ◌+◌, ◌*◌, ◌/◌, ◌≤◌, ◌↔◌, [], length, min, IfOk, OnOk, OnErr, IsOk, IsErrOf};
+ghost use Rattle.tlsf_heap.specs.Blocks;
+ghost use Rattle.tlsf_heap.specs.Calls.{allocated, last_tick, resized};
+ghost use Rattle.tlsf_heap.specs.FreePlaces.{ShowsLists};
+ghost use Rattle.tlsf_heap.specs.GoodFit.{fits};
+ghost use Rattle.tlsf_heap.specs.Image.{Shows};
+ghost use Rattle.tlsf_heap.specs.InPlace.{payload_of};
+ghost use Rattle.tlsf_heap.specs.Lawful.{IsLawful};
+ghost use Rattle.tlsf_heap.specs.Laws.{IsLive};
+ghost use Rattle.tlsf_heap.specs.Moved.{moved, resized_or_moved};
+ghost use Rattle.tlsf_heap.specs.Touched.{FollowsNoForgery};
+ghost use Rattle.tlsf_heap.specs.Unset.{unset_from};
+
+use super::{Heap, want};
+use crate::name::Name;
+use crate::refusal::Refusal;
+
+// Calls that fill nothing: for a caller who fills the payload himself before he reads it.
+impl<const SLI: u32> Heap<SLI> {
+    /// Gives a block that holds `len` bytes of payload, as `allocate`, and fills nothing: its bytes are those that lie there, whatever
+    /// they are. So it takes no longer for more bytes. Up to four payload words are made zero, as good fit makes them for `allocate`.
+    ///
+    /// Refused as `NoFit` where no free block lies in a class at or above the search class of the words wanted, else
+    /// as `Worn` where the tick is at its last value. Takes no memory.
+    ///
+    /// ```text
+    /// let name = heap.allocate_unset(65536)?;          // 64 KiB, in the touches of 8 bytes
+    /// ```
+    // Always inline, as `allocate_words` is: behind a call of its own it saves its registers twice.
+    #[inline(always)]
+    pub fn allocate_unset(&mut self, len: u32) -> Result<Name, Refusal>
+        ensures answer { result ≡ (allocated SLI self.old.heap len).answer }
+
+        // Accepted, the heap is as an allocate and a write of the bytes that lie there make it; a refusal changes nothing.
+        ensures heap { IfOk result (λ name. self.new.heap ≡ unset_from (allocated SLI self.old.heap len).heap name self.new.stored 0 len) }
+        ensures err { OnErr result (self.new.heap ≡ self.old.heap) }
+        ensures stored { OnErr result (self.new.stored ≡ self.old.stored) }
+
+        // When it is NoFit, and when it is a name.
+        ensures no_fit { IsErrOf result Refusal.NoFit ↔ (fits SLI (Blocks.want len) self.old.heap.blocks ≡ []) }
+        ensures ok { IsOk result ↔ (¬ (fits SLI (Blocks.want len) self.old.heap.blocks ≡ []) × ¬ (self.old.heap.tick ≡ last_tick)) }
+        ensures was_lawful { IsLawful self.old.heap }
+        ensures lawful { IsLawful self.new.heap }
+        ensures shows { Shows self.new.stored self.new.heap.blocks }
+        ensures lists { ShowsLists SLI self.new.stored self.new.heap.blocks }
+
+        // Accepted or refused, whatever the region holds, and however many bytes.
+        ensures touches { self.new.touches ≤ self.old.touches + 31 }
+        ensures touches_rise { self.old.touches ≤ self.new.touches }
+    {
+        let name = match self.allocate_words(want(len), 0) {
+            Ok(name) => name,
+            Err(why) => return Err(why),
+        };
+        self.set_length(name, len);
+        Ok(name)
+    }
+
+    /// Makes the payload of the block of that name `len` bytes long, where the block stands, as `resize`, and fills nothing: the bytes up
+    /// to the smaller length stay, and new ones are those that lie there. So it takes no longer for more bytes.
+    ///
+    /// Refused as `resize`: as `Foreign` where the name is of another heap, else as `Stale` where no live block has that place and serial,
+    /// else as `NoRoom` where the block and a free one behind it have fewer words than wanted, else as `Worn` where the tick is at its last
+    /// value. Takes no memory.
+    ///
+    /// ```text
+    /// let name = heap.allocate_unset(8)?;              // of a new heap of 64 words
+    /// heap.resize_unset(name, 100) == Ok(())           // the eight bytes stay, and nobody wrote the others
+    /// ```
+    pub fn resize_unset(&mut self, name: Name, len: u32) -> Result<(), Refusal>
+        ensures answer { result ≡ (resized self.old.heap name len).answer }
+
+        // Accepted, the heap is as a resize and a write of the bytes that lie behind the old ones make it; a refusal changes nothing.
+        ensures heap { OnOk result (self.new.heap ≡ unset_from (resized self.old.heap name len).heap name self.new.stored (min (length (payload_of self.old.heap name)) len) len) }
+        ensures err { OnErr result (self.new.heap ≡ self.old.heap) }
+        ensures stored { OnErr result (self.new.stored ≡ self.old.stored) }
+        ensures was_lawful { IsLawful self.old.heap }
+        ensures lawful { IsLawful self.new.heap }
+        ensures shows { Shows self.new.stored self.new.heap.blocks }
+        ensures lists { ShowsLists SLI self.new.stored self.new.heap.blocks }
+
+        // Accepted or refused, whatever the region holds, and however many bytes.
+        ensures touches { self.new.touches ≤ self.old.touches + 33 }
+        ensures touches_rise { self.old.touches ≤ self.new.touches }
+        ensures forged { FollowsNoForgery self.old.heap name self.old.touches self.new.touches }
+    {
+        let kept = self.check_payload(name)?.min(len);
+        self.resize_words(name, want(len), kept)?;
+        self.set_length(name, len);
+        Ok(())
+    }
+
+    /// Makes the payload of the block of that name `len` bytes long, where the block stands or else in another block, as `resize_or_move`,
+    /// and fills nothing: the bytes up to the smaller length stay, and new ones are those that lie there. So a move takes as long as it is
+    /// to copy the bytes that stay. The answer is the name that the payload has from then on; where it isn't the old one, the old one is
+    /// stale.
+    ///
+    /// Refused as `resize_or_move`: as `Foreign` where the name is of another heap, else as `Stale` where no live block has that place and
+    /// serial. Where there is room at its place it is refused as `Worn` where the tick is at its last value. Where there is none, as `Worn`
+    /// where fewer than two ticks are left, else as `NoFit` where `allocate` finds no block. A refusal changes nothing. Takes no memory.
+    ///
+    /// ```text
+    /// let name = heap.allocate_unset(8)?;              // of a new heap of 64 words: 4 of them
+    /// let wall = heap.allocate_unset(8)?;              // right behind it
+    /// let moved = heap.resize_or_move_unset(name, 100)?;           // at place 8, with the eight bytes
+    /// ```
+    pub fn resize_or_move_unset(&mut self, name: Name, len: u32) -> Result<Name, Refusal>
+        ensures answer { result ≡ (resized_or_moved SLI self.old.heap name len).answer }
+
+        // Accepted, the heap is as a resize or move and a write of the bytes that lie behind the old ones make it; a refusal changes nothing.
+        ensures heap { IfOk result (λ new. self.new.heap ≡ unset_from (resized_or_moved SLI self.old.heap name len).heap new self.new.stored (min (length (payload_of self.old.heap name)) len) len) }
+        ensures err { OnErr result (self.new.heap ≡ self.old.heap) }
+        ensures stored { OnErr result (self.new.stored ≡ self.old.stored) }
+        ensures was_lawful { IsLawful self.old.heap }
+        ensures lawful { IsLawful self.new.heap }
+        ensures shows { Shows self.new.stored self.new.heap.blocks }
+        ensures lists { ShowsLists SLI self.new.stored self.new.heap.blocks }
+
+        // Accepted or refused, and whatever the region holds: at most 99 touches, and two for each word of the bytes that stay.
+        ensures touches { self.new.touches ≤ self.old.touches + 99 + 2 * (min (length (payload_of self.old.heap name)) len / 8) }
+        ensures touches_rise { self.old.touches ≤ self.new.touches }
+        ensures forged { FollowsNoForgery self.old.heap name self.old.touches self.new.touches }
+    {
+        match self.resize_unset(name, len) {
+            Ok(()) => Ok(name),
+            Err(Refusal::NoRoom) => self.relocate_unset(name, len),
+            Err(why) => Err(why),
+        }
+    }
+
+    /// Moves the live block of that name to one of `len` bytes, which it doesn't fill. Two ticks pass, so it is `Worn` where fewer are left.
+    fn relocate_unset(&mut self, name: Name, len: u32) -> Result<Name, Refusal>
+        requires { IsLive self.old.heap name }
+        ensures answer { result ≡ (moved SLI self.old.heap name len).answer }
+        ensures heap { IfOk result (λ new. self.new.heap ≡ unset_from (moved SLI self.old.heap name len).heap new self.new.stored (min (length (payload_of self.old.heap name)) len) len) }
+        ensures err { OnErr result (self.new.heap ≡ self.old.heap) }
+        ensures stored { OnErr result (self.new.stored ≡ self.old.stored) }
+        ensures lawful { IsLawful self.new.heap }
+        ensures shows { Shows self.new.stored self.new.heap.blocks }
+        ensures lists { ShowsLists SLI self.new.stored self.new.heap.blocks }
+        ensures touches { self.new.touches ≤ self.old.touches + 66 + 2 * (min (length (payload_of self.old.heap name)) len / 8) }
+        ensures rise { self.old.touches ≤ self.new.touches }
+    {
+        if self.tick >= u64::MAX - 1 {
+            return Err(Refusal::Worn);
+        }
+        let new = self.allocate_unset(len)?;
+        self.hand_over(name, new)
+    }
+}
