@@ -3,3 +3,5 @@ pub mod PostBox
 pub mod TakeBox
 pub mod Unwrapping
 mod Draining
+pub mod CountSums
+mod Carried

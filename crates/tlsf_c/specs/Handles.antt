@@ -1,11 +1,13 @@
 -- What lies behind C's handles.
 use Rattle.std.specs.Prelude.{◌≡◌, ℕ, true, List, [], Option, Some, None}
 use Rattle.tlsf_heap.specs.Blocks.{HeapState}
+use Rattle.tlsf_heap.specs.Image.{Image}
 use Rattle.tlsf_heap.specs.declared.name.Name.{Name}
 use Rattle.tlsf_post.specs.Lanes.{posts_sent, free_slots, taken, ready, IsLane}
 use Rattle.tlsf_post.specs.declared.post.Post.{Post}
 use Rattle.tlsf_post.specs.declared.post_end.PostEnd.{PostEnd}
 use Rattle.tlsf_post.specs.declared.take_end.TakeEnd.{TakeEnd}
+use Rattle.tlsf_c.specs.declared.counts.Counts.{Counts}
 use Rattle.tlsf_c.specs.declared.heap_slot.HeapSlot.{HeapSlot}
 use Rattle.tlsf_c.specs.declared.post_slot.PostSlot.{PostSlot}
 use Rattle.tlsf_c.specs.declared.take_slot.TakeSlot.{TakeSlot}
@@ -16,6 +18,10 @@ use Rattle.tlsf_c.specs.declared.take_slot.TakeSlot.{TakeSlot}
 abbrev pub heap_in : HeapSlot → HeapState
 heap_in h = h.held.value.heap
 
+-- what is stored in its region
+abbrev pub stored_in : HeapSlot → Image
+stored_in h = h.held.value.stored
+
 -- its level
 abbrev pub level_in : HeapSlot → ℕ
 level_in h = h.held.value.level
@@ -24,9 +30,13 @@ level_in h = h.held.value.level
 abbrev pub touches_in : HeapSlot → ℕ
 touches_in h = h.held.value.touches
 
--- an open handle stays open, with a heap of the same level
+-- its counts
+abbrev pub counts_in : HeapSlot → Counts
+counts_in h = h.held.value.counts
+
+-- an open handle stays open, with a heap of the same level, and the address of its region stays
 abbrev pub StaysOpen : HeapSlot → HeapSlot → Type 0
-StaysOpen old new = (new.is_open ≡ true) × (level_in new ≡ level_in old)
+StaysOpen old new = (new.is_open ≡ true) × (level_in new ≡ level_in old) × (new.base ≡ old.base)
 
 -- ---- ends of lanes
 

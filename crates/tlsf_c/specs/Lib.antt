@@ -7,3 +7,6 @@ pub mod Handles
 pub mod Refusals
 pub mod Names
 pub mod Drains
+pub mod Places
+pub mod Counting
+pub mod Checked

@@ -38,6 +38,10 @@ full = 12
 abbrev pub empty : ℕ
 empty = 13
 
+-- a block is damaged
+abbrev pub damage : ℕ
+damage = 14
+
 abbrev pub call_number_of : CallFault → ℕ
 call_number_of fault.BadSize = bad_size
 call_number_of fault.NoMemory = no_memory
@@ -46,3 +50,4 @@ call_number_of fault.InUse = in_use
 call_number_of fault.BadLevel = bad_level
 call_number_of fault.Full = full
 call_number_of fault.Empty = empty
+call_number_of fault.Damaged = damage

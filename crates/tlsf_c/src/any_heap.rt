@@ -8,7 +8,12 @@ ghost use Rattle.tlsf_heap.specs.InPlace.{IsPayloadCheck};
 ghost use Rattle.tlsf_heap.specs.Given.{payload_words_given, payload_words_left};
 ghost use Rattle.tlsf_heap.specs.Reports.{report_of};
 ghost use Rattle.tlsf_heap.specs.Touched.{FollowsNoForgery};
+ghost use Rattle.tlsf_heap.specs.WordsInUse.{words_in_use};
+ghost use Rattle.tlsf_c.specs.Counting.{no_counts, counted, counted_request};
 
+mod by_place;
+
+use crate::counts::Counts;
 use std::alloc::Global;
 use std::marker::Model;
 use tlsf_heap::{Heap, Name, OpenFault, Refusal, Report};
@@ -20,10 +25,12 @@ pub enum OfLevel {
     Five(Heap<5>),
 }
 
-/// A heap whose level, 4 or 5, is told when it is opened. Contracts see it as its level, the sequential heap and its touches.
+/// A heap whose level, 4 or 5, is told when it is opened. Contracts see it as its level, the sequential
+/// heap, its touches and its counts.
 #[derive(Drop)]
 pub struct AnyHeap {
     of_level: OfLevel,
+    counts: Counts,
 }
 
 impl Model for AnyHeap {
@@ -33,7 +40,11 @@ impl Model for AnyHeap {
 
     ghost use Rattle.tlsf_c.specs.LevelOf.{shown};
 
-    ghost view = { λ a. shown a.of_level };
+    ghost view = { λ a. shown a.of_level a.counts };
+
+    ghost use Rattle.tlsf_c.specs.Counting.{AreCounts};
+
+    ghost invariant = { λ a. AreCounts (shown a.of_level a.counts).heap a.counts };
 }
 
 impl AnyHeap {
@@ -44,6 +55,7 @@ impl AnyHeap {
         ensures heap { IfOk result (λ heap. heap.heap ≡ opened id words 0) }
         ensures level { IfOk result (λ heap. heap.level ≡ level) }
         ensures bad_size { IsErrOf result OpenFault.BadSize ↔ ¬ (IsRegion level words) }
+        ensures counts { IfOk result (λ heap. heap.counts ≡ no_counts) }
         ensures no_memory { IsRegion level words → IfErr result (λ why. why ≡ OpenFault.NoMemory) }
         ensures touches { IfOk result (λ heap. heap.touches ≤ 10) }
     {
@@ -51,11 +63,13 @@ impl AnyHeap {
             let heap = Heap::<4>::open(alloc, id, words, 0)?;
             Ok(AnyHeap {
                 of_level: OfLevel::Four(heap),
+                counts: Counts::new(),
             })
         } else {
             let heap = Heap::<5>::open(alloc, id, words, 0)?;
             Ok(AnyHeap {
                 of_level: OfLevel::Five(heap),
+                counts: Counts::new(),
             })
         }
     }
@@ -65,11 +79,12 @@ impl AnyHeap {
         ensures answer { result ≡ (allocated self.old.level self.old.heap len).answer }
         ensures heap { self.new.heap ≡ (allocated self.old.level self.old.heap len).heap }
         ensures level { self.new.level ≡ self.old.level }
+        ensures counts { self.new.counts ≡ counted_request self.old.counts result len self.new.heap }
         ensures touches { self.new.touches ≤ self.old.touches + 64 + payload_words_given result self.new.heap }
     {
         match &mut self.of_level {
-            OfLevel::Four(heap) => heap.allocate(len),
-            OfLevel::Five(heap) => heap.allocate(len),
+            OfLevel::Four(heap) => self.counts.allocate(heap, len),
+            OfLevel::Five(heap) => self.counts.allocate(heap, len),
         }
     }
 
@@ -78,12 +93,13 @@ impl AnyHeap {
         ensures answer { result ≡ (released self.old.heap name).answer }
         ensures heap { self.new.heap ≡ (released self.old.heap name).heap }
         ensures level { self.new.level ≡ self.old.level }
+        ensures counts { self.new.counts ≡ record self.old.counts { words = words_in_use self.new.heap } }
         ensures touches { self.new.touches ≤ self.old.touches + 64 }
         ensures forged { FollowsNoForgery self.old.heap name self.old.touches self.new.touches }
     {
         match &mut self.of_level {
-            OfLevel::Four(heap) => heap.release(name),
-            OfLevel::Five(heap) => heap.release(name),
+            OfLevel::Four(heap) => self.counts.release(heap, name),
+            OfLevel::Five(heap) => self.counts.release(heap, name),
         }
     }
 
@@ -92,12 +108,13 @@ impl AnyHeap {
         ensures answer { result ≡ (resized self.old.heap name len).answer }
         ensures heap { self.new.heap ≡ (resized self.old.heap name len).heap }
         ensures level { self.new.level ≡ self.old.level }
+        ensures counts { self.new.counts ≡ counted self.old.counts self.new.heap }
         ensures touches { self.new.touches ≤ self.old.touches + 64 + payload_words_left result self.new.heap name }
         ensures forged { FollowsNoForgery self.old.heap name self.old.touches self.new.touches }
     {
         match &mut self.of_level {
-            OfLevel::Four(heap) => heap.resize(name, len),
-            OfLevel::Five(heap) => heap.resize(name, len),
+            OfLevel::Four(heap) => self.counts.resize(heap, name, len),
+            OfLevel::Five(heap) => self.counts.resize(heap, name, len),
         }
     }
 
@@ -106,6 +123,7 @@ impl AnyHeap {
         ensures answer { result ≡ (written self.old.heap name at bytes.now).answer }
         ensures heap { self.new.heap ≡ (written self.old.heap name at bytes.now).heap }
         ensures level { self.new.level ≡ self.old.level }
+        ensures counts { self.new.counts ≡ self.old.counts }
         ensures touches { self.new.touches ≤ self.old.touches + 4 + 2 * (length bytes.now / 8 + 2) }
         ensures forged { FollowsNoForgery self.old.heap name self.old.touches self.new.touches }
     {
@@ -121,6 +139,7 @@ impl AnyHeap {
         ensures bytes { out.new ≡ result_unwrap_or (read_of self.old.heap name at (length out.old)) out.old }
         ensures heap { self.new.heap ≡ self.old.heap }
         ensures level { self.new.level ≡ self.old.level }
+        ensures counts { self.new.counts ≡ self.old.counts }
         ensures touches { self.new.touches ≤ self.old.touches + 4 + (length out.old / 8 + 2) }
         ensures forged { FollowsNoForgery self.old.heap name self.old.touches self.new.touches }
     {
@@ -135,6 +154,7 @@ impl AnyHeap {
         ensures payload { MatchResult result (λ p. IsPayloadCheck self.old.heap name (Ok p.1)) (λ why. IsPayloadCheck self.old.heap name (Err why)) }
         ensures heap { self.new.heap ≡ self.old.heap }
         ensures level { self.new.level ≡ self.old.level }
+        ensures counts { self.new.counts ≡ self.old.counts }
         ensures touches { self.new.touches ≤ self.old.touches + 4 }
         ensures forged { FollowsNoForgery self.old.heap name self.old.touches self.new.touches }
     {
@@ -149,11 +169,23 @@ impl AnyHeap {
         ensures report { result ≡ report_of self.old.level self.old.heap }
         ensures heap { self.new.heap ≡ self.old.heap }
         ensures level { self.new.level ≡ self.old.level }
+        ensures counts { self.new.counts ≡ self.old.counts }
         ensures touches { self.new.touches ≤ self.old.touches + 2 * length self.old.heap.blocks }
     {
         match &mut self.of_level {
             OfLevel::Four(heap) => heap.report(),
             OfLevel::Five(heap) => heap.report(),
         }
+    }
+
+    /// What it counted.
+    pub fn counts(&self) -> Counts
+        ensures counts { result ≡ self.now.counts }
+
+        // The words in use are what a report would find.
+        ensures words { result.words ≡ words_in_use self.now.heap }
+        ensures most { result.words ≤ result.most_words }
+    {
+        self.counts
     }
 }

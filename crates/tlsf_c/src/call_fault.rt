@@ -1,8 +1,9 @@
 //! Why a call of C's is refused.
 ghost use Rattle.std.specs.Prelude.{◌≡◌};
+ghost use Rattle.tlsf_c.specs.Checked.{check_number_of, next_told, damaged_told};
 ghost use Rattle.tlsf_c.specs.Refusals.{status_of};
 
-use tlsf_heap::Refusal;
+use tlsf_heap::{Checked, Refusal};
 
 /// Why a call is refused, beside what a heap refuses. The handles are then as before.
 #[derive(Clone, Copy)]
@@ -21,6 +22,8 @@ pub enum CallFault {
     Full,
     /// The lane has nothing to take, as far as its end knows.
     Empty,
+    /// A block is damaged: other code has written past the end of a payload.
+    Damaged,
 }
 
 impl CallFault {
@@ -38,6 +41,7 @@ impl CallFault {
             CallFault::BadLevel => 11,
             CallFault::Full => 12,
             CallFault::Empty => 13,
+            CallFault::Damaged => 14,
         }
     }
 }
@@ -49,5 +53,25 @@ pub fn status(answer: Result<(), Refusal>) -> u32
     match answer {
         Ok(()) => 0,
         Err(why) => why.number(),
+    }
+}
+
+/// The number of what a look at blocks found. Where all are sound, the place behind them goes to `next`; else that of the first which isn't goes
+/// to `damaged`.
+pub fn check_status(found: Option<Checked>, next: &mut u32, damaged: &mut u32) -> u32
+    ensures number { result ≡ check_number_of found }
+    ensures next { next.new ≡ next_told next.old found }
+    ensures damaged { damaged.new ≡ damaged_told damaged.old found }
+{
+    match found {
+        None => Refusal::Stale.number(),
+        Some(Checked::Sound { next: end }) => {
+            *next = end;
+            0
+        }
+        Some(Checked::Damaged { at }) => {
+            *damaged = at;
+            CallFault::Damaged.number()
+        }
     }
 }

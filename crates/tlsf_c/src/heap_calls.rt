@@ -6,16 +6,20 @@ ghost use Rattle.tlsf_laws.specs.Pools.{pool_region};
 ghost use Rattle.tlsf_heap.specs.Calls.{opened, allocated, released, resized, written, read_of, read_answer};
 ghost use Rattle.tlsf_heap.specs.InPlace.{IsPayloadCheck};
 ghost use Rattle.tlsf_heap.specs.Given.{payload_words_given, payload_words_left};
+ghost use Rattle.tlsf_heap.specs.Moved.{resized_or_moved, payload_words_moved};
 ghost use Rattle.tlsf_heap.specs.Numbers.{number_of};
 ghost use Rattle.tlsf_heap.specs.Reports.{report_of};
 ghost use Rattle.tlsf_heap.specs.Touched.{FollowsNoForgery};
 ghost use Rattle.tlsf_heap.specs.declared.refusal.Refusal.{Refusal};
+ghost use Rattle.tlsf_heap.specs.WordsInUse.{words_in_use};
+ghost use Rattle.tlsf_c.specs.Counting.{no_counts, counted, counted_request, counted_move};
 ghost use Rattle.tlsf_c.specs.Names.{name_of, report_in};
-ghost use Rattle.tlsf_c.specs.Handles.{heap_in, level_in, touches_in, StaysOpen};
+ghost use Rattle.tlsf_c.specs.Handles.{counts_in, heap_in, level_in, touches_in, StaysOpen};
 ghost use Rattle.tlsf_c.specs.Refusals.{status_of, bad_size, no_memory, closed, in_use, bad_level};
 
 use crate::any_heap::AnyHeap;
 use crate::call_fault::{CallFault, status};
+use crate::counts::Counts;
 use crate::heap_slot::HeapSlot;
 use crate::names::{BlockName, HeapReport};
 use std::alloc::Global;
@@ -45,6 +49,7 @@ pub extern "C" fn tlsf_open(
     ensures refused { ¬ (result ≡ 0) → heap.new ≡ heap.old }
     ensures open { result ≡ 0 → heap.new.is_open ≡ true }
     ensures heap { result ≡ 0 → (level_in heap.new ≡ level) × (heap_in heap.new ≡ opened id words 0) }
+    ensures counts { result ≡ 0 → counts_in heap.new ≡ no_counts }
     ensures touches { result ≡ 0 → touches_in heap.new ≤ 10 }
 {
     if heap.is_open {
@@ -57,7 +62,8 @@ pub extern "C" fn tlsf_open(
         Err(fault) => fault.number(),
         Ok(opened) => match Box::new(alloc, opened) {
             Err(_) => CallFault::NoMemory.number(),
-            Ok(owned) => {
+            Ok(mut owned) => {
+                heap.base = owned.base();
                 heap.put_in(owned);
                 0
             }
@@ -139,6 +145,7 @@ pub extern "C" fn tlsf_allocate(
     ensures name { heap.old.is_open ≡ true → result ≡ 0 → (allocated (level_in heap.old) (heap_in heap.old) len).answer ≡ Ok (name_of name.new) }
     ensures no_name { ¬ (result ≡ 0) → name.new ≡ name.old }
     ensures heap { heap.old.is_open ≡ true → heap_in heap.new ≡ (allocated (level_in heap.old) (heap_in heap.old) len).heap }
+    ensures counts { heap.old.is_open ≡ true → counts_in heap.new ≡ counted_request (counts_in heap.old) (allocated (level_in heap.old) (heap_in heap.old) len).answer len (heap_in heap.new) }
     ensures touches { heap.old.is_open ≡ true → touches_in heap.new ≤ touches_in heap.old + 64 + payload_words_given (allocated (level_in heap.old) (heap_in heap.old) len).answer (heap_in heap.new) }
 {
     let Some(mut owned) = heap.take_out(alloc) else {
@@ -170,6 +177,7 @@ pub extern "C" fn tlsf_release(alloc: Global, heap: &mut HeapSlot, name: &BlockN
     ensures status { heap.old.is_open ≡ true → result ≡ status_of (released (heap_in heap.old) (name_of name.now)).answer }
     ensures heap { heap.old.is_open ≡ true → heap_in heap.new ≡ (released (heap_in heap.old) (name_of name.now)).heap }
     ensures forged { heap.old.is_open ≡ true → FollowsNoForgery (heap_in heap.old) (name_of name.now) (touches_in heap.old) (touches_in heap.new) }
+    ensures counts { heap.old.is_open ≡ true → counts_in heap.new ≡ record (counts_in heap.old) { words = words_in_use (heap_in heap.new) } }
     ensures touches { heap.old.is_open ≡ true → touches_in heap.new ≤ touches_in heap.old + 64 }
 {
     let Some(mut owned) = heap.take_out(alloc) else {
@@ -194,6 +202,7 @@ pub extern "C" fn tlsf_resize(alloc: Global, heap: &mut HeapSlot, name: &BlockNa
     ensures status { heap.old.is_open ≡ true → result ≡ status_of (resized (heap_in heap.old) (name_of name.now) len).answer }
     ensures heap { heap.old.is_open ≡ true → heap_in heap.new ≡ (resized (heap_in heap.old) (name_of name.now) len).heap }
     ensures forged { heap.old.is_open ≡ true → FollowsNoForgery (heap_in heap.old) (name_of name.now) (touches_in heap.old) (touches_in heap.new) }
+    ensures counts { heap.old.is_open ≡ true → counts_in heap.new ≡ counted (counts_in heap.old) (heap_in heap.new) }
     ensures touches { heap.old.is_open ≡ true → touches_in heap.new ≤ touches_in heap.old + 64 + payload_words_left (resized (heap_in heap.old) (name_of name.now) len).answer (heap_in heap.new) (name_of name.now) }
 {
     let Some(mut owned) = heap.take_out(alloc) else {
@@ -202,6 +211,47 @@ pub extern "C" fn tlsf_resize(alloc: Global, heap: &mut HeapSlot, name: &BlockNa
     let answer = owned.resize(name.name(), len);
     heap.put_in(owned);
     status(answer)
+}
+
+/// Makes the payload of the block of that name `len` bytes long: where the block stands, or in another block where there is no room, with
+/// the payload's bytes and zeros behind them. The name that the payload has from then on goes to `name`. Where it moved, the old one is stale.
+///
+/// Refused as Closed where the handle isn't open, else as `Heap::resize_or_move` refuses: Foreign, Stale, NoFit, Worn.
+///
+/// ```text
+/// tlsf_reallocate(&heap, &name, 500) == TLSF_OK
+/// ```
+#[unsafe(no_mangle)]
+pub extern "C" fn tlsf_reallocate(
+    alloc: Global,
+    heap: &mut HeapSlot,
+    name: &mut BlockName,
+    len: u32,
+) -> u32
+    ensures closed { heap.old.is_open ≡ false → (result ≡ closed) × (heap.new ≡ heap.old) }
+    ensures open { heap.old.is_open ≡ true → StaysOpen heap.old heap.new }
+    ensures status { heap.old.is_open ≡ true → result ≡ status_of (resized_or_moved (level_in heap.old) (heap_in heap.old) (name_of name.old) len).answer }
+    ensures name { heap.old.is_open ≡ true → result ≡ 0 → (resized_or_moved (level_in heap.old) (heap_in heap.old) (name_of name.old) len).answer ≡ Ok (name_of name.new) }
+    ensures no_name { ¬ (result ≡ 0) → name.new ≡ name.old }
+    ensures heap { heap.old.is_open ≡ true → heap_in heap.new ≡ (resized_or_moved (level_in heap.old) (heap_in heap.old) (name_of name.old) len).heap }
+    ensures forged { heap.old.is_open ≡ true → FollowsNoForgery (heap_in heap.old) (name_of name.old) (touches_in heap.old) (touches_in heap.new) }
+    ensures counts { heap.old.is_open ≡ true → counts_in heap.new ≡ counted_move (counts_in heap.old) (name_of name.old).at (resized_or_moved (level_in heap.old) (heap_in heap.old) (name_of name.old) len).answer len (heap_in heap.new) }
+    ensures touches { heap.old.is_open ≡ true → touches_in heap.new ≤ touches_in heap.old + 133
+        + payload_words_left (resized (heap_in heap.old) (name_of name.old) len).answer (resized (heap_in heap.old) (name_of name.old) len).heap (name_of name.old)
+        + 3 * payload_words_moved (level_in heap.old) (heap_in heap.old) len }
+{
+    let Some(mut owned) = heap.take_out(alloc) else {
+        return CallFault::Closed.number();
+    };
+    let answer = owned.resize_or_move(name.name(), len);
+    heap.put_in(owned);
+    match answer {
+        Ok(moved) => {
+            *name = BlockName::of(moved);
+            0
+        }
+        Err(why) => why.number(),
+    }
 }
 
 /// Writes bytes into the payload of the block of that name, from byte `at` of it on.
@@ -225,6 +275,7 @@ pub extern "C" fn tlsf_write(
     ensures status { heap.old.is_open ≡ true → result ≡ status_of (written (heap_in heap.old) (name_of name.now) at bytes.now).answer }
     ensures heap { heap.old.is_open ≡ true → heap_in heap.new ≡ (written (heap_in heap.old) (name_of name.now) at bytes.now).heap }
     ensures forged { heap.old.is_open ≡ true → FollowsNoForgery (heap_in heap.old) (name_of name.now) (touches_in heap.old) (touches_in heap.new) }
+    ensures counts { heap.old.is_open ≡ true → counts_in heap.new ≡ counts_in heap.old }
     ensures touches { heap.old.is_open ≡ true → touches_in heap.new ≤ touches_in heap.old + 4 + 2 * (length bytes.now / 8 + 2) }
 {
     let Some(mut owned) = heap.take_out(alloc) else {
@@ -256,6 +307,7 @@ pub extern "C" fn tlsf_read(
     ensures bytes { heap.old.is_open ≡ true → out.new ≡ result_unwrap_or (read_of (heap_in heap.old) (name_of name.now) at (length out.old)) out.old }
     ensures heap { heap.old.is_open ≡ true → heap_in heap.new ≡ heap_in heap.old }
     ensures forged { heap.old.is_open ≡ true → FollowsNoForgery (heap_in heap.old) (name_of name.now) (touches_in heap.old) (touches_in heap.new) }
+    ensures counts { heap.old.is_open ≡ true → counts_in heap.new ≡ counts_in heap.old }
     ensures touches { heap.old.is_open ≡ true → touches_in heap.new ≤ touches_in heap.old + 4 + (length out.old / 8 + 2) }
 {
     let Some(mut owned) = heap.take_out(alloc) else {
@@ -291,6 +343,7 @@ pub extern "C" fn tlsf_locate(
     ensures heap { heap.old.is_open ≡ true → heap_in heap.new ≡ heap_in heap.old }
     ensures kept { ¬ (result ≡ 0) → (base.new ≡ base.old) × (len.new ≡ len.old) }
     ensures forged { heap.old.is_open ≡ true → FollowsNoForgery (heap_in heap.old) (name_of name.now) (touches_in heap.old) (touches_in heap.new) }
+    ensures counts { heap.old.is_open ≡ true → counts_in heap.new ≡ counts_in heap.old }
     ensures touches { heap.old.is_open ≡ true → touches_in heap.new ≤ touches_in heap.old + 4 }
 {
     let Some(mut owned) = heap.take_out(alloc) else {
@@ -321,12 +374,41 @@ pub extern "C" fn tlsf_report(alloc: Global, heap: &mut HeapSlot, report: &mut H
     ensures open { heap.old.is_open ≡ true → (result ≡ 0) × StaysOpen heap.old heap.new }
     ensures report { heap.old.is_open ≡ true → report_in report.new ≡ report_of (level_in heap.old) (heap_in heap.old) }
     ensures heap { heap.old.is_open ≡ true → heap_in heap.new ≡ heap_in heap.old }
+    ensures counts { heap.old.is_open ≡ true → counts_in heap.new ≡ counts_in heap.old }
     ensures touches { heap.old.is_open ≡ true → touches_in heap.new ≤ touches_in heap.old + 2 * length (heap_in heap.old).blocks }
 {
     let Some(mut owned) = heap.take_out(alloc) else {
         return CallFault::Closed.number();
     };
     *report = HeapReport::of(owned.report());
+    heap.put_in(owned);
+    0
+}
+
+/// What the heap counted since it was opened goes to `counts`, at once: no block is looked at. See `Counts`.
+///
+/// Refused as Closed where the handle isn't open.
+///
+/// ```text
+/// tlsf_counts(&heap, &counts) == TLSF_OK       // of a new heap: four zeros
+/// ```
+#[unsafe(no_mangle)]
+pub extern "C" fn tlsf_counts(alloc: Global, heap: &mut HeapSlot, counts: &mut Counts) -> u32
+    ensures closed { heap.old.is_open ≡ false → (result ≡ closed) × (heap.new ≡ heap.old) × (counts.new ≡ counts.old) }
+    ensures open { heap.old.is_open ≡ true → (result ≡ 0) × StaysOpen heap.old heap.new }
+    ensures counts { heap.old.is_open ≡ true → counts.new ≡ counts_in heap.old }
+
+    // The words in use are those of all live blocks, as a report finds them.
+    ensures words { heap.old.is_open ≡ true → counts.new.words ≡ words_in_use (heap_in heap.old) }
+    ensures most { heap.old.is_open ≡ true → counts.new.words ≤ counts.new.most_words }
+    ensures heap { heap.old.is_open ≡ true → heap_in heap.new ≡ heap_in heap.old }
+    ensures stay { heap.old.is_open ≡ true → counts_in heap.new ≡ counts_in heap.old }
+    ensures touches { heap.old.is_open ≡ true → touches_in heap.new ≡ touches_in heap.old }
+{
+    let Some(owned) = heap.take_out(alloc) else {
+        return CallFault::Closed.number();
+    };
+    *counts = owned.counts();
     heap.put_in(owned);
     0
 }

@@ -12,14 +12,20 @@ use std::{mem, ptr};
 pub struct HeapSlot {
     pub held: HeldHeap,
     pub is_open: bool,
+    /// The address of the first word of the region that was opened last, for C's own sums. No call reads it.
+    pub base: *mut u64,
     ghost tied: { is_open ≡ held.full },
 }
+
+// It may go to another thread, as what it holds may: no call follows `base`.
+unsafe impl Send for HeapSlot {}
 
 impl HeapSlot {
     /// Takes out what is there, and leaves the place closed. A closed place is not written to: what was there may be in use by the call that a
     /// signal handler interrupts.
     pub fn take_out(&mut self, alloc: Global) -> Option<Box<AnyHeap, Global>>
         ensures closed { self.new.is_open ≡ false }
+        ensures base { self.new.base ≡ self.old.base }
         ensures none { result ≡ None → (self.old.is_open ≡ false) × (self.new ≡ self.old) }
         ensures some { (b : _) → result ≡ Some b → (self.old.is_open ≡ true) × (b.value ≡ self.old.held.value) }
     {
@@ -27,13 +33,8 @@ impl HeapSlot {
             return None;
         }
         let nowhere: *mut u8 = ptr::null_mut();
-        let HeapSlot { held, .. } = mem::replace(
-            self,
-            HeapSlot {
-                held: HeldHeap::empty(alloc, nowhere),
-                is_open: false,
-            },
-        );
+        self.is_open = false;
+        let held = mem::replace(&mut self.held, HeldHeap::empty(alloc, nowhere));
         Some(held.into_box())
     }
 
@@ -41,11 +42,10 @@ impl HeapSlot {
     pub fn put_in(&mut self, boxed: Box<AnyHeap, Global>)
         requires { self.old.is_open ≡ false }
         ensures open { self.new.is_open ≡ true }
+        ensures base { self.new.base ≡ self.old.base }
         ensures value { self.new.held.value ≡ boxed.value }
     {
-        *self = HeapSlot {
-            held: HeldHeap::new(boxed),
-            is_open: true,
-        };
+        self.held = HeldHeap::new(boxed);
+        self.is_open = true;
     }
 }

@@ -4,7 +4,8 @@ ghost use mathlib.Core.List.{IsPrefix};
 ghost use Rattle.tlsf_post.specs.declared.post.Post.{Post};
 ghost use Rattle.tlsf_post.specs.declared.post_end.PostEnd.{PostEnd};
 ghost use Rattle.tlsf_post.specs.declared.take_end.TakeEnd.{TakeEnd};
-ghost use Rattle.tlsf_c.specs.Handles.{heap_in, touches_in, StaysOpen, post_of, sent_in, free_in, taken_in, ready_in, AreEnds, AreLane};
+ghost use Rattle.tlsf_heap.specs.WordsInUse.{words_in_use};
+ghost use Rattle.tlsf_c.specs.Handles.{counts_in, heap_in, touches_in, StaysOpen, post_of, sent_in, free_in, taken_in, ready_in, AreEnds, AreLane};
 ghost use Rattle.tlsf_c.specs.Drains.{drained};
 ghost use Rattle.tlsf_c.specs.Names.{name_of};
 ghost use Rattle.tlsf_c.specs.Refusals.{bad_size, no_memory, closed, in_use, full, empty};
@@ -196,6 +197,8 @@ pub extern "C" fn tlsf_drain(
     ensures most { result ≡ 0 → came.new ≤ most }
     ensures ready { result ≡ 0 → came.new < most → length (ready_in take.old) ≤ came.new }
     ensures lane { (p : Option PostEnd) → AreEnds p take.old.held.value → AreEnds p take.new.held.value }
+    ensures no_counts { result ≡ 0 → came.new ≡ 0 → counts_in heap.new ≡ counts_in heap.old }
+    ensures counts { result ≡ 0 → 0 < came.new → counts_in heap.new ≡ record (counts_in heap.old) { words = words_in_use (heap_in heap.new) } }
     ensures touches { result ≡ 0 → touches_in heap.new ≤ touches_in heap.old + 64 * came.new }
 {
     if !heap.is_open || !take.is_open {

@@ -6,6 +6,8 @@
 
 mod any_heap;
 mod call_fault;
+mod counting;
+mod counts;
 mod heap_calls;
 mod heap_slot;
 mod held_heap;
@@ -14,6 +16,7 @@ mod held_take_end;
 mod lane_calls;
 mod names;
 mod parts;
+mod place_calls;
 mod post_slot;
 mod take_slot;
 

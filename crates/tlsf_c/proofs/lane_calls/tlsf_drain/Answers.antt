@@ -1,4 +1,7 @@
-use Rattle.std.proofs.Common.{◌≡◌, ◌∷◌, ◌++◌, [], arith, ◌∙◌}
+use Rattle.std.proofs.Common.{◌≡◌, ◌∷◌, ◌++◌, [], arith, ap, inl, inr, ◌∙◌}
+use Rattle.std.proofs.lemmas.Bool.{cases_lt}
+use Rattle.tlsf_heap.specs.WordsInUse.{words_in_use}
+use Rattle.tlsf_c.specs.declared.counts.Counts.{Counts}
 use Rattle.tlsf_post.specs.declared.post.Post.{Post}
 use Rattle.tlsf_c.specs.Handles.{heap_in, taken_in, ready_in}
 use Rattle.tlsf_c.specs.Names.{name_of}
@@ -18,7 +21,15 @@ loop-count-preserved c =
       heap = open_still.0;
       take = c.tlsf_take.ensures.open i.take;
       level = open_still.1 ∙ i.level;
+      base = open_still.2 ∙ i.base;
       few = omega (arith, c.loop-count-test.true);
+      no_counts = λ none. absurd (omega (arith, none));
+      counts = λ some.
+          let words = words_in_use (heap_in c.tlsf_release.new.heap) in
+          c.tlsf_release.ensures.counts i.heap ∙ elim (cases_lt 0 c.loop-count.count) [
+            | inl more ↦ ap (λ (k : Counts). record k { words = words }) (i.counts more)
+            | inr first ↦ ap (λ (k : Counts). record k { words = words }) (i.no_counts (omega (arith, first)))
+          ];
       posts = (
         i.posts.0 ++ post ∷ [],
         taken_more (taken_in c.args.take.now) (taken_in c.loop-count.take) (taken_in c.tlsf_take.new.take) i.posts.0 post i.posts.1 came.1,

@@ -1,8 +1,9 @@
-use Rattle.std.proofs.Common.{◌≡◌, ◌-◌, ◌+◌, ◌*◌, ◌≤◌, true, List, ◌++◌, Option, length}
+use Rattle.std.proofs.Common.{◌≡◌, ◌-◌, ◌+◌, ◌*◌, ◌<◌, ◌≤◌, true, List, ◌++◌, Option, length}
+use Rattle.tlsf_heap.specs.WordsInUse.{words_in_use}
 use Rattle.tlsf_post.specs.declared.post.Post.{Post}
 use Rattle.tlsf_post.specs.declared.post_end.PostEnd.{PostEnd}
 use Rattle.tlsf_c.specs.Drains.{drained}
-use Rattle.tlsf_c.specs.Handles.{heap_in, level_in, touches_in, taken_in, ready_in, AreEnds}
+use Rattle.tlsf_c.specs.Handles.{counts_in, heap_in, level_in, touches_in, taken_in, ready_in, AreEnds}
 use Rattle.tlsf_c.proofs.lane_calls.tlsf_drain.Given as goal
 
 abbrev pub invariant-loop-count : goal.invariant-loop-count
@@ -10,7 +11,10 @@ invariant-loop-count l = record {
   heap : l.heap.is_open ≡ true;
   take : l.take.is_open ≡ true;
   level : level_in l.heap ≡ level_in l.fn.heap;
+  base : l.heap.base ≡ l.fn.heap.base;
   few : l.count ≤ l.most;
+  no_counts : l.count ≡ 0 → counts_in l.heap ≡ counts_in l.fn.heap;
+  counts : 0 < l.count → counts_in l.heap ≡ record (counts_in l.fn.heap) { words = words_in_use (heap_in l.heap) };
   posts : (posts : List Post) × (taken_in l.take ≡ taken_in l.fn.take ++ posts) × (heap_in l.heap ≡ drained (heap_in l.fn.heap) posts) × (length posts ≡ l.count);
   ready : length (ready_in l.fn.take) ≤ l.count + length (ready_in l.take);
   lane : (p : Option PostEnd) → AreEnds p l.fn.take.held.value → AreEnds p l.take.held.value;

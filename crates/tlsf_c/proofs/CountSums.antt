@@ -1,0 +1,159 @@
+-- What a heap counts over its calls.
+use Rattle.std.proofs.Common.{◌≡◌, drop, ℕ, ◌+◌, ◌-◌, ◌≤◌, max, List, Result, Ok, Err, refl, sym, ap, ◌∙◌, subst, arith}
+use Rattle.std.specs.Prelude.{IfOk, OnErr}
+use Rattle.tlsf_class.specs.Classes.{IsLevel}
+use Rattle.tlsf_heap.specs.Aligned.{words_aligned}
+use Rattle.tlsf_heap.specs.Blocks.{HeapState, want}
+use Rattle.tlsf_heap.specs.Calls.{refused, allocated, allocated_words, resized_words, written}
+use Rattle.tlsf_heap.specs.Lawful.{IsLawful}
+use Rattle.tlsf_heap.specs.Laws.{IsLive}
+use Rattle.tlsf_heap.specs.Moved.{copied, resized_or_moved}
+use Rattle.tlsf_heap.specs.Named.{RefusesName}
+use Rattle.tlsf_heap.specs.Touched.{FollowsNoForgery}
+use Rattle.tlsf_heap.specs.Image.{Image}
+use Rattle.tlsf_heap.specs.Unset.{lying, unset_from, with_payload}
+use Rattle.tlsf_heap.specs.WordsInUse.{words_in_use, words_at}
+use Rattle.tlsf_heap.specs.declared.name.Name.{Name}
+use Rattle.tlsf_heap.specs.declared.refusal.Refusal.{Refusal}
+use Rattle.tlsf_heap.proofs.AlignedWords.{in_use_aligned, in_use_payload, words_payload}
+use Rattle.tlsf_heap.proofs.Alterings.{named_of}
+use Rattle.tlsf_heap.proofs.MovedWords.{by_moved, in_use_moved}
+use Rattle.tlsf_heap.proofs.Moves.{refuses}
+use Rattle.tlsf_heap.proofs.Naming.{named_stands, named_live, not_forged}
+use Rattle.tlsf_heap.proofs.Outcomes.{by_allocated, by_allocated_words, by_released, by_resized, by_written}
+use Rattle.tlsf_heap.proofs.Resizing.{resized_refused}
+use Rattle.tlsf_heap.proofs.WordsInUse.{words_named, words_part, words_within, in_use_allocated, in_use_resized, in_use_written, words_written}
+use Rattle.tlsf_c.specs.Counting.{counted, AreCounts}
+use Rattle.tlsf_c.specs.declared.counts.Counts.{Counts}
+
+-- a live block has no more words than are in use
+pub part : (h : HeapState) (name : Name) → IsLawful h → IsLive h name → words_at h name.at ≤ words_in_use h
+part h name lawful live =
+    let named = named_of h name live in
+    omega (arith, words_named h name lawful named, words_part h {at = name.at} {i = named.1.0} (record { stands = named_stands _ _ _ _ named.1.1; live = named_live _ _ _ _ named.1.1 }))
+
+-- a live name is not forged, whatever a call with it touches
+pub live_not_forged : (h : HeapState) (name : Name) → IsLawful h → IsLive h name → (before behind : ℕ) → FollowsNoForgery h name before behind
+live_not_forged h name lawful live before behind = not_forged h name lawful (named_of h name live) before behind
+
+-- a resize, which may move the block, is refused where the name is
+pub moved_refused : (sli : ℕ) (h : HeapState) (name : Name) (len : ℕ) (why : Refusal) → RefusesName h name why → resized_or_moved sli h name len ≡ refused h why
+moved_refused sli h name len why r =
+    refuses sli h name len why (λ same. subst (RefusesName h name) same r) (sym (ap (λ o. o.answer) (resized_refused h name (want len) len why r)))
+
+-- what a request is counted by: a block was given, or nothing changed
+pub given : (sli : ℕ) → IsLevel sli → (h : HeapState) (c : Counts) → AreCounts h c → (n len : ℕ) → want len ≤ n → IsLawful h → (answer : Result Name Refusal) → answer ≡ (allocated_words sli h n len).answer
+    → (k : HeapState) → k ≡ (allocated_words sli h n len).heap
+    → IfOk answer (λ name. words_in_use k ≡ c.words + words_at k name.at) × OnErr answer (words_in_use k ≡ c.words)
+given sli level h c are n len wanted lawful (Ok name) e k is =
+    (subst (λ (s : HeapState). words_in_use s ≡ c.words + words_at s name.at) (sym is) (omega (arith, are.words, in_use_allocated sli level h n len name wanted lawful (sym e))), tt)
+given sli level h c are n len wanted lawful (Err why) e k is =
+    (tt, by_allocated_words sli (λ o. Err why ≡ o.answer → k ≡ o.heap → words_in_use k ≡ c.words) h n len (λ other same left. ap words_in_use left ∙ sym are.words) (λ s site fit bad left. absurd cc) e is)
+
+-- a write changes none of it
+pub counts_written : (h : HeapState) (name : Name) (at : ℕ) (bytes : List ℕ) (c : Counts) → AreCounts h c → AreCounts (written h name at bytes).heap c
+counts_written h name at bytes c are = record { words = omega (arith, are.words, in_use_written h name at bytes); most = are.most }
+
+-- the same where nothing is filled
+pub given_unset : (sli : ℕ) → IsLevel sli → (h : HeapState) (c : Counts) → AreCounts h c → (len : ℕ) → IsLawful h → (m : Image) (answer : Result Name Refusal) → answer ≡ (allocated sli h len).answer
+    → (k : HeapState) → IfOk answer (λ name. k ≡ unset_from (allocated sli h len).heap name m 0 len) → OnErr answer (k ≡ h)
+    → IfOk answer (λ name. words_in_use k ≡ c.words + words_at k name.at) × OnErr answer (words_in_use k ≡ c.words)
+given_unset sli level h c are len lawful m (Ok name) e k is same =
+    let full = (allocated sli h len).heap in
+    let bytes = drop 0 (lying m name.at len) in
+    let filled = (given sli level h c are (want len) len (omega arith) lawful (Ok name) e full refl).0 in
+    (subst (λ (s : HeapState). words_in_use s ≡ c.words + words_at s name.at) (sym is) (omega (arith, filled, in_use_written full name 0 bytes, words_written name.at full name 0 bytes)), tt)
+given_unset sli level h c are len lawful m (Err why) e k is same = (tt, ap words_in_use same ∙ sym are.words)
+
+-- and where the payload is aligned too
+pub given_aligned : (sli : ℕ) → IsLevel sli → (h : HeapState) (c : Counts) → AreCounts h c → (len step skew : ℕ) → IsLawful h → (m : Image) (answer : Result Name Refusal)
+    → answer ≡ (words_aligned sli h (want len) (max step 1) skew).answer → (k : HeapState)
+    → IfOk answer (λ name. k ≡ with_payload (words_aligned sli h (want len) (max step 1) skew).heap name (lying m name.at len)) → OnErr answer (k ≡ h)
+    → IfOk answer (λ name. words_in_use k ≡ c.words + words_at k name.at) × OnErr answer (words_in_use k ≡ c.words)
+given_aligned sli level h c are len step skew lawful m (Ok name) e k is same =
+    let full = (words_aligned sli h (want len) (max step 1) skew).heap in
+    let bytes = lying m name.at len in
+    let sum = in_use_aligned sli level h (want len) (max step 1) skew lawful (omega arith) (omega arith) name (sym e) in
+    (subst (λ (s : HeapState). words_in_use s ≡ c.words + words_at s name.at) (sym is) (omega (arith, are.words, sum, in_use_payload full name bytes, words_payload name.at full name bytes)), tt)
+given_aligned sli level h c are len step skew lawful m (Err why) e k is same = (tt, ap words_in_use same ∙ sym are.words)
+
+-- ---- a resize: j is the heap behind a look at the block, k that behind the resize, and l that behind a look at the block that is left
+
+pub resized_sum : (h j k l : HeapState) (name : Name) (before after : ℕ) → IsLawful h → j ≡ h → l ≡ k → before ≡ words_at h name.at
+    → (n len : ℕ) → want len ≤ n → k ≡ (resized_words j name n len).heap → after ≡ words_at k name.at → words_in_use l + before ≡ words_in_use h + after
+resized_sum h j k l name before after lawful looked last had n len wanted is has =
+    let left : k ≡ (resized_words h name n len).heap = is ∙ ap (λ (s : HeapState). (resized_words s name n len).heap) looked in
+    omega (arith, in_use_resized h name n len wanted lawful, ap words_in_use (last ∙ left), had, has ∙ ap (λ (s : HeapState). words_at s name.at) left)
+
+-- ---- one that may move the block
+
+-- a region keeps its words
+moved_words : (sli : ℕ) (h : HeapState) (name : Name) (len : ℕ) → (resized_or_moved sli h name len).heap.words ≡ h.words
+moved_words sli h name len = by_moved sli (λ o. o.heap.words ≡ h.words) h name len (λ why. refl)
+    (by_resized (λ o. o.heap.words ≡ h.words) h name len (λ why. refl) (λ s own site named room. refl))
+    (λ given e live fresh.
+    let given_heap = (allocated sli h len).heap in
+    let copy = (copied given_heap name given).heap in
+    by_released (λ o. o.heap.words ≡ copy.words) copy name (λ why. refl) (λ s own site named. refl)
+    ∙ by_written (λ o. o.heap.words ≡ given_heap.words) given_heap given 0 _ (λ why. refl) (λ s site fits. refl)
+    ∙ by_allocated sli (λ o. o.heap.words ≡ h.words) h len (λ why. refl) (λ s site fit. refl))
+
+-- what it is counted by, of the heap k that it leaves
+pub record Moves (h k : HeapState) (c : Counts) (before : ℕ) (answer : Result Name Refusal) : Type 0 where
+  pub sum : IfOk answer (λ new. words_in_use k + before ≡ c.words + words_at k new.at)
+  pub refused : OnErr answer (words_in_use k ≡ c.words)
+  pub small : before ≤ c.words
+  pub room : before ≤ k.words
+
+module _ (sli : ℕ) (level : IsLevel sli) (h : HeapState) (c : Counts) (are : AreCounts h c) (name : Name) (len before : ℕ) (lawful : IsLawful h) (live : IsLive h name) (had : before ≡ words_at h name.at) where
+  held : before ≤ words_in_use h
+  held = omega (arith, had, part h name lawful live)
+
+  abbrev full : HeapState
+  full = (resized_or_moved sli h name len).heap
+
+  by_sum : (k : HeapState) (new : Name) → (resized_or_moved sli h name len).answer ≡ Ok new → words_in_use k ≡ words_in_use full → words_at k new.at ≡ words_at full new.at → words_in_use k + before ≡ c.words + words_at k new.at
+  by_sum k new done all here = let sums = in_use_moved sli level h name new len lawful done in omega (arith, sums.0, all, here, had, are.words)
+
+  pub moves : (answer : Result Name Refusal) → answer ≡ (resized_or_moved sli h name len).answer → (k : HeapState) → k ≡ (resized_or_moved sli h name len).heap → OnErr answer (k ≡ h) → Moves h k c before answer
+  moves (Ok new) e k is same = record {
+    sum = by_sum k new (sym e) (ap words_in_use is) (ap (λ (s : HeapState). words_at s new.at) is);
+    refused = tt;
+    small = omega (arith, held, are.words);
+    room = omega (arith, held, words_within h lawful, ap (λ (s : HeapState). s.words) is, moved_words sli h name len);
+  }
+  moves (Err why) e k is same = record {
+    sum = tt;
+    refused = ap words_in_use same ∙ sym are.words;
+    small = omega (arith, held, are.words);
+    room = omega (arith, held, words_within h lawful, ap (λ (s : HeapState). s.words) same);
+  }
+
+  -- the same where nothing is filled
+  pub moves_unset : (m : Image) (from : ℕ) (answer : Result Name Refusal) → answer ≡ (resized_or_moved sli h name len).answer
+      → (k : HeapState) → IfOk answer (λ new. k ≡ unset_from (resized_or_moved sli h name len).heap new m from len) → OnErr answer (k ≡ h) → Moves h k c before answer
+  moves_unset m from (Ok new) e k is same =
+      let bytes = drop from (lying m new.at len) in
+      let written_words : (written full new from bytes).heap.words ≡ full.words = by_written (λ o. o.heap.words ≡ full.words) full new from bytes (λ why. refl) (λ s site fits. refl) in
+      record {
+        sum = by_sum k new (sym e) (ap words_in_use is ∙ in_use_written full new from bytes) (ap (λ (s : HeapState). words_at s new.at) is ∙ words_written new.at full new from bytes);
+        refused = tt;
+        small = omega (arith, held, are.words);
+        room = omega (arith, held, words_within h lawful, ap (λ (s : HeapState). s.words) is, written_words, moved_words sli h name len);
+      }
+  moves_unset m from (Err why) e k is same = record {
+    sum = tt;
+    refused = ap words_in_use same ∙ sym are.words;
+    small = omega (arith, held, are.words);
+    room = omega (arith, held, words_within h lawful, ap (λ (s : HeapState). s.words) same);
+  }
+
+module _ (c : Counts) (h k : HeapState) (before after : ℕ) (are : AreCounts h c) (small : before ≤ words_in_use h) (sum : words_in_use k + before ≡ words_in_use h + after) where
+  -- some words are taken off, and others added
+  pub changed : (t g : Counts) → t ≡ record c { words = c.words - before } → g ≡ record t { words = t.words + after; most_words = max t.most_words (t.words + after) }
+      → (g ≡ counted c k) × AreCounts k g
+  changed t g off on =
+      let words : c.words - before + after ≡ words_in_use k = omega (arith, are.words, small, sum) in
+      let same : g ≡ counted c k = on ∙ ap (λ (t : Counts). record t { words = t.words + after; most_words = max t.most_words (t.words + after) }) off
+      ∙ ap (λ (n : ℕ). record c { words = n; most_words = max c.most_words n }) words in
+      (same, subst (AreCounts k) (sym same) (record { words = refl; most = omega arith }))

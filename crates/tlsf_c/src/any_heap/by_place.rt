@@ -1,0 +1,186 @@
+//! What C's calls by place need of a heap whose level is told when it is opened.
+ghost use Rattle.std.specs.Prelude.{◌≡◌, ◌+◌, ◌*◌, ◌/◌, ◌%◌, ◌<◌, ◌≤◌, length, max, min, IfOk, IfSome, MatchOption, OnErr};
+ghost use Rattle.tlsf_heap.specs.Aligned.{words_aligned};
+ghost use Rattle.tlsf_heap.specs.Blocks.{want, IsPlace};
+ghost use Rattle.tlsf_heap.specs.ByPlace.{name_at, released_by_place};
+ghost use Rattle.tlsf_heap.specs.Calls.{allocated, resized};
+ghost use Rattle.tlsf_heap.specs.Checks.{FindsSound, IsCheck, block_touches};
+ghost use Rattle.tlsf_heap.specs.Given.{payload_words_left};
+ghost use Rattle.tlsf_heap.specs.InPlace.{payload_of};
+ghost use Rattle.tlsf_heap.specs.Laws.{IsLive};
+ghost use Rattle.tlsf_heap.specs.Moved.{resized_or_moved, payload_words_moved};
+ghost use Rattle.tlsf_heap.specs.Placed.{placed_at};
+ghost use Rattle.tlsf_heap.specs.Touched.{FollowsNoForgery};
+ghost use Rattle.tlsf_heap.specs.Unset.{lying, unset_from, with_payload};
+ghost use Rattle.tlsf_heap.specs.WordsInUse.{words_in_use};
+ghost use Rattle.tlsf_c.specs.Counting.{counted_request, counted_move};
+ghost use Rattle.tlsf_c.specs.Places.{FollowsNoPlace, kept_at, resized_or_moved_by_place};
+
+use super::{AnyHeap, OfLevel};
+use tlsf_heap::{Checked, Name, PlacedBlock, Refusal};
+
+impl AnyHeap {
+    /// `Heap::id`.
+    pub fn id(&self) -> u32
+        ensures { result ≡ self.now.heap.id }
+    {
+        match &self.of_level {
+            OfLevel::Four(heap) => heap.id(),
+            OfLevel::Five(heap) => heap.id(),
+        }
+    }
+
+    /// `Heap::base`.
+    pub fn base(&mut self) -> *mut u64
+        ensures { self.new ≡ self.old }
+    {
+        match &mut self.of_level {
+            OfLevel::Four(heap) => heap.base(),
+            OfLevel::Five(heap) => heap.base(),
+        }
+    }
+
+    /// `Heap::allocate_unset`.
+    pub fn allocate_unset(&mut self, len: u32) -> Result<Name, Refusal>
+        ensures answer { result ≡ (allocated self.old.level self.old.heap len).answer }
+        ensures heap { IfOk result (λ name. self.new.heap ≡ unset_from (allocated self.old.level self.old.heap len).heap name self.new.stored 0 len) }
+        ensures err { OnErr result (self.new.heap ≡ self.old.heap) }
+        ensures level { self.new.level ≡ self.old.level }
+        ensures counts { self.new.counts ≡ counted_request self.old.counts result len self.new.heap }
+        ensures touches { self.new.touches ≤ self.old.touches + 33 }
+    {
+        match &mut self.of_level {
+            OfLevel::Four(heap) => self.counts.allocate_unset(heap, len),
+            OfLevel::Five(heap) => self.counts.allocate_unset(heap, len),
+        }
+    }
+
+    /// `Heap::allocate_aligned`.
+    pub fn allocate_aligned(&mut self, len: u32, step: u32, skew: u32) -> Result<Name, Refusal>
+        ensures answer { result ≡ (words_aligned self.old.level self.old.heap (want len) (max step 1) skew).answer }
+        ensures heap { IfOk result (λ name. self.new.heap
+            ≡ with_payload (words_aligned self.old.level self.old.heap (want len) (max step 1) skew).heap name (lying self.new.stored name.at len)) }
+        ensures aligned { IfOk result (λ name. (name.at + 3 + skew) % max step 1 ≡ 0) }
+        ensures err { OnErr result (self.new.heap ≡ self.old.heap) }
+        ensures level { self.new.level ≡ self.old.level }
+        ensures counts { self.new.counts ≡ counted_request self.old.counts result len self.new.heap }
+        ensures touches { self.new.touches ≤ self.old.touches + 118 }
+    {
+        match &mut self.of_level {
+            OfLevel::Four(heap) => self.counts.allocate_aligned(heap, len, step, skew),
+            OfLevel::Five(heap) => self.counts.allocate_aligned(heap, len, step, skew),
+        }
+    }
+
+    /// `Heap::block_at`.
+    pub fn block_at(&mut self, at: u32) -> Option<PlacedBlock>
+        ensures block { result ≡ placed_at self.old.heap.blocks at }
+        ensures heap { self.new.heap ≡ self.old.heap }
+        ensures level { self.new.level ≡ self.old.level }
+        ensures counts { self.new.counts ≡ self.old.counts }
+        ensures touches { self.new.touches ≤ self.old.touches + 4 }
+        ensures wild { FollowsNoPlace self.old.heap at self.old.touches self.new.touches }
+    {
+        match &mut self.of_level {
+            OfLevel::Four(heap) => heap.block_at(at),
+            OfLevel::Five(heap) => heap.block_at(at),
+        }
+    }
+
+    /// `Heap::check_blocks`.
+    pub fn check_blocks(&mut self, from: u32, most: u32) -> Option<Checked>
+        ensures answer { MatchOption result (¬ (IsPlace self.old.heap.blocks from)) (FindsSound self.old.heap.blocks from most) }
+        ensures looks { IsCheck self.old.stored from most result }
+        ensures heap { self.new.heap ≡ self.old.heap }
+        ensures level { self.new.level ≡ self.old.level }
+        ensures counts { self.new.counts ≡ self.old.counts }
+        ensures touches { self.new.touches ≤ self.old.touches + 1 + block_touches * most }
+        ensures wild { FollowsNoPlace self.old.heap from self.old.touches self.new.touches }
+    {
+        match &mut self.of_level {
+            OfLevel::Four(heap) => heap.check_blocks(from, most),
+            OfLevel::Five(heap) => heap.check_blocks(from, most),
+        }
+    }
+
+    /// `Heap::name_at`.
+    pub fn name_at(&mut self, at: u32) -> Option<Name>
+        ensures name { result ≡ name_at self.old.heap at }
+        ensures live { IfSome result (λ name. IsLive self.old.heap name × (name.at ≡ at) × (at < self.old.heap.words)) }
+        ensures heap { self.new.heap ≡ self.old.heap }
+        ensures level { self.new.level ≡ self.old.level }
+        ensures counts { self.new.counts ≡ self.old.counts }
+        ensures touches { self.new.touches ≤ self.old.touches + 3 }
+        ensures wild { FollowsNoPlace self.old.heap at self.old.touches self.new.touches }
+    {
+        match &mut self.of_level {
+            OfLevel::Four(heap) => heap.name_at(at),
+            OfLevel::Five(heap) => heap.name_at(at),
+        }
+    }
+
+    /// `Heap::release_at`.
+    pub fn release_at(&mut self, at: u32) -> Result<(), Refusal>
+        ensures answer { result ≡ (released_by_place self.old.heap at).answer }
+        ensures heap { self.new.heap ≡ (released_by_place self.old.heap at).heap }
+        ensures level { self.new.level ≡ self.old.level }
+        ensures counts { self.new.counts ≡ record self.old.counts { words = words_in_use self.new.heap } }
+        ensures touches { self.new.touches ≤ self.old.touches + 29 }
+        ensures wild { FollowsNoPlace self.old.heap at self.old.touches self.new.touches }
+    {
+        match &mut self.of_level {
+            OfLevel::Four(heap) => self.counts.release_at(heap, at),
+            OfLevel::Five(heap) => self.counts.release_at(heap, at),
+        }
+    }
+
+    /// `Heap::resize_or_move_unset`.
+    pub fn resize_or_move_unset(&mut self, name: Name, len: u32) -> Result<Name, Refusal>
+        ensures answer { result ≡ (resized_or_moved self.old.level self.old.heap name len).answer }
+        ensures heap { IfOk result (λ new. self.new.heap
+            ≡ unset_from (resized_or_moved self.old.level self.old.heap name len).heap new self.new.stored (min (length (payload_of self.old.heap name)) len) len) }
+        ensures err { OnErr result (self.new.heap ≡ self.old.heap) }
+        ensures level { self.new.level ≡ self.old.level }
+        ensures counts { self.new.counts ≡ counted_move self.old.counts name.at result len self.new.heap }
+        ensures touches { self.new.touches ≤ self.old.touches + 104 + 2 * (min (length (payload_of self.old.heap name)) len / 8) }
+        ensures forged { FollowsNoForgery self.old.heap name self.old.touches self.new.touches }
+    {
+        match &mut self.of_level {
+            OfLevel::Four(heap) => self.counts.resize_or_move_unset(heap, name, len),
+            OfLevel::Five(heap) => self.counts.resize_or_move_unset(heap, name, len),
+        }
+    }
+
+    /// `resize_or_move_unset` of the live block that begins at a place; refused as `Stale` where there is none.
+    pub fn resize_place(&mut self, at: u32, len: u32) -> Result<Name, Refusal>
+        ensures answer { result ≡ (resized_or_moved_by_place self.old.level self.old.heap at len).answer }
+        ensures heap { IfOk result (λ new. self.new.heap
+            ≡ unset_from (resized_or_moved_by_place self.old.level self.old.heap at len).heap new self.new.stored (kept_at self.old.heap at len) len) }
+        ensures err { OnErr result (self.new.heap ≡ self.old.heap) }
+        ensures level { self.new.level ≡ self.old.level }
+        ensures counts { self.new.counts ≡ counted_move self.old.counts at result len self.new.heap }
+        ensures touches { self.new.touches ≤ self.old.touches + 107 + 2 * (kept_at self.old.heap at len / 8) }
+        ensures wild { FollowsNoPlace self.old.heap at self.old.touches self.new.touches }
+    {
+        match self.name_at(at) {
+            None => Err(Refusal::Stale),
+            Some(name) => self.resize_or_move_unset(name, len),
+        }
+    }
+
+    /// `Heap::resize_or_move`.
+    pub fn resize_or_move(&mut self, name: Name, len: u32) -> Result<Name, Refusal>
+        ensures answer { result ≡ (resized_or_moved self.old.level self.old.heap name len).answer }
+        ensures heap { self.new.heap ≡ (resized_or_moved self.old.level self.old.heap name len).heap }
+        ensures level { self.new.level ≡ self.old.level }
+        ensures counts { self.new.counts ≡ counted_move self.old.counts name.at result len self.new.heap }
+        ensures touches { self.new.touches ≤ self.old.touches + 133 + payload_words_left (resized self.old.heap name len).answer (resized self.old.heap name len).heap name
+            + 3 * payload_words_moved self.old.level self.old.heap len }
+        ensures forged { FollowsNoForgery self.old.heap name self.old.touches self.new.touches }
+    {
+        match &mut self.of_level {
+            OfLevel::Four(heap) => self.counts.resize_or_move(heap, name, len),
+            OfLevel::Five(heap) => self.counts.resize_or_move(heap, name, len),
+        }
+    }
+}

@@ -1,0 +1,313 @@
+//! C's calls of a heap by place: by the number of the word at which a block begins, for a caller who has its address and keeps no name.
+ghost use Rattle.std.specs.Prelude.{◌≡◌, true, false, ◌≤◌, ◌+◌, ◌*◌, ◌/◌, ◌%◌, max, Ok, Option, Some, None};
+ghost use Rattle.tlsf_heap.specs.ByPlace.{name_at, released_by_place};
+ghost use Rattle.tlsf_heap.specs.Aligned.{words_aligned};
+ghost use Rattle.tlsf_heap.specs.Blocks.{want, IsPlace};
+ghost use Rattle.tlsf_heap.specs.Calls.{allocated};
+ghost use Rattle.tlsf_heap.specs.Checks.{FindsSound, IsCheck, block_touches};
+ghost use Rattle.tlsf_heap.specs.Numbers.{number_of};
+ghost use Rattle.tlsf_heap.specs.Placed.{placed_at};
+ghost use Rattle.tlsf_heap.specs.Unset.{lying, unset_from, with_payload};
+ghost use Rattle.tlsf_heap.specs.declared.name.Name.{Name};
+ghost use Rattle.tlsf_heap.specs.declared.checked.Checked.{Checked};
+ghost use Rattle.tlsf_heap.specs.declared.checked.Checked.TheVariants.{Sound};
+ghost use Rattle.tlsf_heap.specs.declared.placed_block.PlacedBlock.{PlacedBlock};
+ghost use Rattle.tlsf_heap.specs.declared.refusal.Refusal.TheVariants.{Stale};
+ghost use Rattle.tlsf_c.specs.Checked.{check_number_of, next_told, damaged_told};
+ghost use Rattle.tlsf_c.specs.Handles.{counts_in, heap_in, level_in, stored_in, touches_in, StaysOpen};
+ghost use Rattle.tlsf_heap.specs.WordsInUse.{words_in_use};
+ghost use Rattle.tlsf_c.specs.Counting.{counted_request, counted_move};
+ghost use Rattle.tlsf_c.specs.Names.{name_of, info_of};
+ghost use Rattle.tlsf_c.specs.Places.{length_at, kept_at, resized_or_moved_by_place, FollowsNoPlace};
+ghost use Rattle.tlsf_c.specs.Refusals.{status_of, closed, damage};
+
+use crate::call_fault::{CallFault, check_status, status};
+use crate::heap_slot::HeapSlot;
+use crate::names::{BlockInfo, BlockName};
+use std::alloc::Global;
+use tlsf_heap::{Content, PlacedBlock, Refusal};
+
+/// Gives a block that holds `len` bytes of payload, and fills nothing: its bytes are those that lie there. Its place goes to `at`. It takes no
+/// longer for more bytes.
+///
+/// Refused as Closed where the handle isn't open, else as `Heap::allocate_unset` refuses: NoFit, Worn.
+///
+/// ```text
+/// tlsf_allocate_place(&heap, 100, &at) == TLSF_OK  // the payload is words at + 3 to at + 15 of the region
+/// ```
+#[unsafe(no_mangle)]
+pub extern "C" fn tlsf_allocate_place(
+    alloc: Global,
+    heap: &mut HeapSlot,
+    len: u32,
+    at: &mut u32,
+) -> u32
+    ensures closed { heap.old.is_open ≡ false → (result ≡ closed) × (heap.new ≡ heap.old) }
+    ensures open { heap.old.is_open ≡ true → StaysOpen heap.old heap.new }
+    ensures status { heap.old.is_open ≡ true → result ≡ status_of (allocated (level_in heap.old) (heap_in heap.old) len).answer }
+    ensures place { heap.old.is_open ≡ true → result ≡ 0 → (name : Name) × ((allocated (level_in heap.old) (heap_in heap.old) len).answer ≡ Ok name) × (name.at ≡ at.new)
+        × (heap_in heap.new ≡ unset_from (allocated (level_in heap.old) (heap_in heap.old) len).heap name (stored_in heap.new) 0 len) }
+    ensures refused { heap.old.is_open ≡ true → ¬ (result ≡ 0) → heap_in heap.new ≡ heap_in heap.old }
+    ensures kept { ¬ (result ≡ 0) → at.new ≡ at.old }
+    ensures counts { heap.old.is_open ≡ true → counts_in heap.new ≡ counted_request (counts_in heap.old) (allocated (level_in heap.old) (heap_in heap.old) len).answer len (heap_in heap.new) }
+    ensures touches { heap.old.is_open ≡ true → touches_in heap.new ≤ touches_in heap.old + 33 }
+{
+    let Some(mut owned) = heap.take_out(alloc) else {
+        return CallFault::Closed.number();
+    };
+    let answer = owned.allocate_unset(len);
+    heap.put_in(owned);
+    match answer {
+        Ok(name) => {
+            *at = name.at;
+            0
+        }
+        Err(why) => why.number(),
+    }
+}
+
+/// Gives a block that holds `len` bytes of payload, and fills nothing: its bytes are those that lie there. Its place goes to `at`, and the
+/// payload's first word is aligned: `at + 3 + skew` is a multiple of `step` words, where `skew` is how many words behind such a multiple the region
+/// begins. A `step` of 0 counts as 1. It takes no longer for more bytes.
+///
+/// Refused as Closed where the handle isn't open, else as `Heap::allocate_aligned` refuses: Worn where fewer than four ticks are left, else NoFit
+/// where no free block has the words wanted with those that a step may take.
+///
+/// ```text
+/// tlsf_allocate_aligned(&heap, 100, 8, 0, &at) == TLSF_OK  // (at + 3) % 8 == 0
+/// ```
+#[unsafe(no_mangle)]
+pub extern "C" fn tlsf_allocate_aligned(
+    alloc: Global,
+    heap: &mut HeapSlot,
+    len: u32,
+    step: u32,
+    skew: u32,
+    at: &mut u32,
+) -> u32
+    ensures closed { heap.old.is_open ≡ false → (result ≡ closed) × (heap.new ≡ heap.old) }
+    ensures open { heap.old.is_open ≡ true → StaysOpen heap.old heap.new }
+    ensures status { heap.old.is_open ≡ true → result ≡ status_of (words_aligned (level_in heap.old) (heap_in heap.old) (want len) (max step 1) skew).answer }
+    ensures place { heap.old.is_open ≡ true → result ≡ 0 → (name : Name)
+        × ((words_aligned (level_in heap.old) (heap_in heap.old) (want len) (max step 1) skew).answer ≡ Ok name) × (name.at ≡ at.new)
+        × (heap_in heap.new ≡ with_payload (words_aligned (level_in heap.old) (heap_in heap.old) (want len) (max step 1) skew).heap name (lying (stored_in heap.new) name.at len)) }
+    ensures aligned { heap.old.is_open ≡ true → result ≡ 0 → (at.new + 3 + skew) % max step 1 ≡ 0 }
+    ensures refused { heap.old.is_open ≡ true → ¬ (result ≡ 0) → heap_in heap.new ≡ heap_in heap.old }
+    ensures kept { ¬ (result ≡ 0) → at.new ≡ at.old }
+    ensures counts { heap.old.is_open ≡ true → counts_in heap.new ≡ counted_request (counts_in heap.old) (words_aligned (level_in heap.old) (heap_in heap.old) (want len) (max step 1) skew).answer len (heap_in heap.new) }
+    ensures touches { heap.old.is_open ≡ true → touches_in heap.new ≤ touches_in heap.old + 118 }
+{
+    let Some(mut owned) = heap.take_out(alloc) else {
+        return CallFault::Closed.number();
+    };
+    let answer = owned.allocate_aligned(len, step, skew);
+    heap.put_in(owned);
+    match answer {
+        Ok(name) => {
+            *at = name.at;
+            0
+        }
+        Err(why) => why.number(),
+    }
+}
+
+/// Takes back the live block that begins at a place.
+///
+/// Refused as Closed where the handle isn't open, else as `Heap::release_at` refuses: Stale where no live block begins there, Worn.
+///
+/// ```text
+/// tlsf_release_place(&heap, name.at) == TLSF_OK
+/// tlsf_release_place(&heap, name.at) == TLSF_STALE
+/// ```
+#[unsafe(no_mangle)]
+pub extern "C" fn tlsf_release_place(alloc: Global, heap: &mut HeapSlot, at: u32) -> u32
+    ensures closed { heap.old.is_open ≡ false → (result ≡ closed) × (heap.new ≡ heap.old) }
+    ensures open { heap.old.is_open ≡ true → StaysOpen heap.old heap.new }
+    ensures status { heap.old.is_open ≡ true → result ≡ status_of (released_by_place (heap_in heap.old) at).answer }
+    ensures heap { heap.old.is_open ≡ true → heap_in heap.new ≡ (released_by_place (heap_in heap.old) at).heap }
+    ensures wild { heap.old.is_open ≡ true → FollowsNoPlace (heap_in heap.old) at (touches_in heap.old) (touches_in heap.new) }
+    ensures counts { heap.old.is_open ≡ true → counts_in heap.new ≡ record (counts_in heap.old) { words = words_in_use (heap_in heap.new) } }
+    ensures touches { heap.old.is_open ≡ true → touches_in heap.new ≤ touches_in heap.old + 29 }
+{
+    let Some(mut owned) = heap.take_out(alloc) else {
+        return CallFault::Closed.number();
+    };
+    let answer = owned.release_at(at);
+    heap.put_in(owned);
+    status(answer)
+}
+
+/// Makes the payload of the live block that begins at a place `len` bytes long: where the block stands, or in another block where there is no
+/// room. The bytes up to the smaller length stay, and nothing is filled: new ones are those that lie there. The place at which the block begins from
+/// then on goes to `new_at`. Where it moved, the old block is free.
+///
+/// Refused as Closed where the handle isn't open, else as Stale where no live block begins there, else as `Heap::resize_or_move_unset` refuses:
+/// NoFit, Worn.
+///
+/// ```text
+/// tlsf_resize_place(&heap, at, 500, &at) == TLSF_OK
+/// ```
+#[unsafe(no_mangle)]
+pub extern "C" fn tlsf_resize_place(
+    alloc: Global,
+    heap: &mut HeapSlot,
+    at: u32,
+    len: u32,
+    new_at: &mut u32,
+) -> u32
+    ensures closed { heap.old.is_open ≡ false → (result ≡ closed) × (heap.new ≡ heap.old) }
+    ensures open { heap.old.is_open ≡ true → StaysOpen heap.old heap.new }
+    ensures status { heap.old.is_open ≡ true → result ≡ status_of (resized_or_moved_by_place (level_in heap.old) (heap_in heap.old) at len).answer }
+    ensures place { heap.old.is_open ≡ true → result ≡ 0 → (name : Name)
+        × ((resized_or_moved_by_place (level_in heap.old) (heap_in heap.old) at len).answer ≡ Ok name) × (name.at ≡ new_at.new)
+        × (heap_in heap.new ≡ unset_from (resized_or_moved_by_place (level_in heap.old) (heap_in heap.old) at len).heap name (stored_in heap.new) (kept_at (heap_in heap.old) at len) len) }
+    ensures refused { heap.old.is_open ≡ true → ¬ (result ≡ 0) → heap_in heap.new ≡ heap_in heap.old }
+    ensures kept { ¬ (result ≡ 0) → new_at.new ≡ new_at.old }
+    ensures wild { heap.old.is_open ≡ true → FollowsNoPlace (heap_in heap.old) at (touches_in heap.old) (touches_in heap.new) }
+    ensures counts { heap.old.is_open ≡ true → counts_in heap.new ≡ counted_move (counts_in heap.old) at (resized_or_moved_by_place (level_in heap.old) (heap_in heap.old) at len).answer len (heap_in heap.new) }
+    ensures touches { heap.old.is_open ≡ true → touches_in heap.new ≤ touches_in heap.old + 107 + 2 * (kept_at (heap_in heap.old) at len / 8) }
+{
+    let Some(mut owned) = heap.take_out(alloc) else {
+        return CallFault::Closed.number();
+    };
+    let answer = owned.resize_place(at, len);
+    heap.put_in(owned);
+    match answer {
+        Ok(name) => {
+            *new_at = name.at;
+            0
+        }
+        Err(why) => why.number(),
+    }
+}
+
+/// The live block that begins at a place: its name goes to `name`, and the bytes of its payload to `len`.
+///
+/// Refused as Closed where the handle isn't open, else as Stale where no live block begins there.
+///
+/// ```text
+/// tlsf_place(&heap, 0, &name, &len) == TLSF_OK  // name.at == 0
+/// tlsf_place(&heap, 1, &name, &len) == TLSF_STALE
+/// ```
+#[unsafe(no_mangle)]
+pub extern "C" fn tlsf_place(
+    alloc: Global,
+    heap: &mut HeapSlot,
+    at: u32,
+    name: &mut BlockName,
+    len: &mut u32,
+) -> u32
+    ensures closed { heap.old.is_open ≡ false → (result ≡ closed) × (heap.new ≡ heap.old) }
+    ensures open { heap.old.is_open ≡ true → StaysOpen heap.old heap.new }
+    ensures name { heap.old.is_open ≡ true → result ≡ 0 → name_at (heap_in heap.old) at ≡ Some (name_of name.new) }
+    ensures len { heap.old.is_open ≡ true → result ≡ 0 → length_at (heap_in heap.old).blocks at ≡ Some len.new }
+    ensures stale { heap.old.is_open ≡ true → ¬ (result ≡ 0) → (result ≡ number_of Stale) × (name_at (heap_in heap.old) at ≡ None) }
+    ensures kept { ¬ (result ≡ 0) → (name.new ≡ name.old) × (len.new ≡ len.old) }
+    ensures heap { heap.old.is_open ≡ true → heap_in heap.new ≡ heap_in heap.old }
+    ensures wild { heap.old.is_open ≡ true → FollowsNoPlace (heap_in heap.old) at (touches_in heap.old) (touches_in heap.new) }
+    ensures counts { heap.old.is_open ≡ true → counts_in heap.new ≡ counts_in heap.old }
+    ensures touches { heap.old.is_open ≡ true → touches_in heap.new ≤ touches_in heap.old + 4 }
+{
+    let Some(mut owned) = heap.take_out(alloc) else {
+        return CallFault::Closed.number();
+    };
+    let id = owned.id();
+    let found = owned.block_at(at);
+    heap.put_in(owned);
+    match found {
+        Some(
+            PlacedBlock {
+                content: Content::Live { serial, length },
+                ..
+            },
+        ) => {
+            *name = BlockName {
+                heap: id,
+                at,
+                serial,
+            };
+            *len = length;
+            0
+        }
+        _ => Refusal::Stale.number(),
+    }
+}
+
+/// The block that begins at a place, live or free, goes to `block`. The next one begins at `at + size`, so that a walk from place 0 meets all.
+///
+/// Refused as Closed where the handle isn't open, else as Stale where no block begins there, as at the region's end.
+///
+/// ```text
+/// tlsf_block_at(&heap, 0, &block) == TLSF_OK   // of a new heap of 64 words: block.size == 64, block.is_live == 0
+/// tlsf_block_at(&heap, 64, &block) == TLSF_STALE
+/// ```
+#[unsafe(no_mangle)]
+pub extern "C" fn tlsf_block_at(
+    alloc: Global,
+    heap: &mut HeapSlot,
+    at: u32,
+    block: &mut BlockInfo,
+) -> u32
+    ensures closed { heap.old.is_open ≡ false → (result ≡ closed) × (heap.new ≡ heap.old) }
+    ensures open { heap.old.is_open ≡ true → StaysOpen heap.old heap.new }
+    ensures block { heap.old.is_open ≡ true → result ≡ 0 → (b : PlacedBlock) × (placed_at (heap_in heap.old).blocks at ≡ Some b) × (block.new ≡ info_of b) }
+    ensures stale { heap.old.is_open ≡ true → ¬ (result ≡ 0) → (result ≡ number_of Stale) × (placed_at (heap_in heap.old).blocks at ≡ None) }
+    ensures kept { ¬ (result ≡ 0) → block.new ≡ block.old }
+    ensures heap { heap.old.is_open ≡ true → heap_in heap.new ≡ heap_in heap.old }
+    ensures wild { heap.old.is_open ≡ true → FollowsNoPlace (heap_in heap.old) at (touches_in heap.old) (touches_in heap.new) }
+    ensures counts { heap.old.is_open ≡ true → counts_in heap.new ≡ counts_in heap.old }
+    ensures touches { heap.old.is_open ≡ true → touches_in heap.new ≤ touches_in heap.old + 4 }
+{
+    let Some(mut owned) = heap.take_out(alloc) else {
+        return CallFault::Closed.number();
+    };
+    let found = owned.block_at(at);
+    heap.put_in(owned);
+    match found {
+        Some(there) => {
+            *block = BlockInfo::of(there);
+            0
+        }
+        None => Refusal::Stale.number(),
+    }
+}
+
+/// Looks at `most` blocks at most, one behind the other, of which the first begins at the place `from`. Where all are sound, the place behind
+/// them goes to `next`, 0 behind the last block of the region: a caller who checks in slices calls on with it. A heap that only these calls have
+/// changed is always sound. Where other code has written past the end of a payload, a block may be damaged, and its place goes to `damaged`: it
+/// follows no place that it has not looked at.
+///
+/// Refused as Closed where the handle isn't open, else as Stale where no block begins at `from`, else as Damaged where a block is damaged.
+///
+/// ```text
+/// tlsf_check(&heap, 0, 100, &next, &damaged) == TLSF_OK
+/// ```
+#[unsafe(no_mangle)]
+pub extern "C" fn tlsf_check(
+    alloc: Global,
+    heap: &mut HeapSlot,
+    from: u32,
+    most: u32,
+    next: &mut u32,
+    damaged: &mut u32,
+) -> u32
+    ensures closed { heap.old.is_open ≡ false → (result ≡ closed) × (heap.new ≡ heap.old) }
+    ensures open { heap.old.is_open ≡ true → StaysOpen heap.old heap.new }
+    ensures sound { heap.old.is_open ≡ true → IsPlace (heap_in heap.old).blocks from → (result ≡ 0) × FindsSound (heap_in heap.old).blocks from most (Sound next.new) }
+    ensures stale { heap.old.is_open ≡ true → ¬ (IsPlace (heap_in heap.old).blocks from) → result ≡ number_of Stale }
+    ensures looks { heap.old.is_open ≡ true → (found : Option Checked) × IsCheck (stored_in heap.old) from most found × (result ≡ check_number_of found)
+        × (next.new ≡ next_told next.old found) × (damaged.new ≡ damaged_told damaged.old found) }
+    ensures no_next { ¬ (result ≡ 0) → next.new ≡ next.old }
+    ensures no_damage { ¬ (result ≡ damage) → damaged.new ≡ damaged.old }
+    ensures heap { heap.old.is_open ≡ true → heap_in heap.new ≡ heap_in heap.old }
+    ensures wild { heap.old.is_open ≡ true → FollowsNoPlace (heap_in heap.old) from (touches_in heap.old) (touches_in heap.new) }
+    ensures counts { heap.old.is_open ≡ true → counts_in heap.new ≡ counts_in heap.old }
+    ensures touches { heap.old.is_open ≡ true → touches_in heap.new ≤ touches_in heap.old + 1 + block_touches * most }
+{
+    let Some(mut owned) = heap.take_out(alloc) else {
+        return CallFault::Closed.number();
+    };
+    let found = owned.check_blocks(from, most);
+    heap.put_in(owned);
+    check_status(found, next, damaged)
+}
