@@ -35,12 +35,11 @@ namespace detail {
 [[noreturn]] inline void bad_size(const char *) { std::abort(); }
 #endif
 
-// What a heap is to those who refer to it: its handle, its number, and where its region begins, once that is known. It
-// outlives the heap as long as somebody refers to it, and its handle refuses then.
+// What a heap is to those who refer to it: its handle and its number. It outlives the heap as long as somebody refers to it,
+// and its handle refuses then.
 struct heap_state {
     tlsf_heap raw = TLSF_CLOSED;
     std::uint32_t number = 0;
-    std::uint64_t *base = nullptr;
     std::atomic<std::size_t> references{1};
 };
 
@@ -85,44 +84,25 @@ using take_state = end_state<tlsf_take_end, tlsf_take_close>;
 
 constexpr std::uint32_t closed = TLSF_IS_CLOSED;
 constexpr std::size_t word = sizeof(std::uint64_t);
-constexpr std::size_t header = 3;
 constexpr std::size_t most_bytes = std::numeric_limits<std::uint32_t>::max();
 
-// The bytes that `give` asks for besides those of an object: the word in front of it, and what aligning may take.
-constexpr std::size_t added_for(std::size_t align) noexcept {
-    return align <= word ? word : align > most_bytes ? align : word + align;
+// The bytes that a block of `len` bytes for objects of that alignment has to find room for, by tlsf_words: rounded up, and with
+// what aligning may take, also to 16, since blocks by name may have an odd number of words.
+constexpr std::size_t bytes_to_find(std::uint32_t len, std::size_t align) noexcept {
+    if (align == 0 || align > most_bytes) return align == 0 ? len : align;
+    return ((std::size_t(len) + word - 1) / word | 1) * word + 4 * word + (align > 16 ? align : 16);
 }
 
-// A block for objects of any alignment, or null where there is no room. A payload is aligned to 8 bytes. The word in front
-// of what is given holds the block's serial, by which it is released. Where more alignment is asked for, the two words in
-// front hold its place and its serial, and the block is longer by what aligning may take.
+// A block for objects of any alignment, or null where there is no room.
 inline void *give(heap_state &heap, std::size_t bytes, std::size_t align) noexcept {
-    const std::size_t more = added_for(align);
-    if (more > most_bytes || bytes > most_bytes - more) return nullptr;
-    tlsf_name name{};
-    std::uint32_t len = 0;
-    if (tlsf_allocate(&heap.raw, static_cast<std::uint32_t>(bytes + more), &name) != TLSF_OK ||
-        tlsf_locate(&heap.raw, &name, &heap.base, &len) != TLSF_OK)
+    if (align <= 4096) return tlsf_aligned_alloc(&heap.raw, align, bytes);
+    std::uint32_t at = 0;
+    const std::uintptr_t base = reinterpret_cast<std::uintptr_t>(heap.raw.base);
+    if (align > TLSF_LONGEST || bytes > TLSF_LONGEST ||
+        tlsf_allocate_aligned(&heap.raw, tlsf_rounded(static_cast<std::uint32_t>(bytes)), static_cast<std::uint32_t>(align / word),
+                              static_cast<std::uint32_t>(base / word % (align / word)), &at) != TLSF_OK)
         return nullptr;
-    std::uint64_t *payload = heap.base + name.at + header;
-    if (align <= word) {
-        payload[0] = name.serial;
-        return payload + 1;
-    }
-    const auto from = reinterpret_cast<std::uintptr_t>(payload + 2);
-    std::uint64_t *at = payload + 2 + ((0 - from) & (align - 1)) / word;
-    at[-2] = name.at;
-    at[-1] = name.serial;
-    return at;
-}
-
-// Releases what `give` gave for that alignment. Where the heap is closed, that is gone, with the words in front of it.
-inline void take_back(heap_state &heap, void *p, std::size_t align) noexcept {
-    if (!heap.raw.is_open) return;
-    const auto *at = static_cast<std::uint64_t *>(p);
-    const std::uint64_t place = align <= word ? static_cast<std::uint64_t>(at - 1 - heap.base) - header : at[-2];
-    const tlsf_name name{heap.number, static_cast<std::uint32_t>(place), at[-1]};
-    tlsf_release(&heap.raw, &name);
+    return heap.raw.base + at + 3;
 }
 
 } // namespace detail
@@ -138,6 +118,18 @@ class heap {
     friend class resource;
     template <typename T>
     friend class allocator;
+
+    template <typename Open>
+    std::uint32_t open_by(std::uint32_t number, Open opens) noexcept {
+        if (is_open()) return TLSF_IN_USE;
+        detail::heap_reference state(new (std::nothrow) detail::heap_state);
+        if (!state) return TLSF_NO_MEMORY;
+        const std::uint32_t answer = opens(&state->raw);
+        if (answer != TLSF_OK) return answer;
+        state->number = number;
+        state_ = std::move(state);
+        return TLSF_OK;
+    }
 
 public:
     heap() noexcept = default;
@@ -160,27 +152,26 @@ public:
 
     // A heap that never lacks room for at most `blocks` blocks at once of at most `len` bytes each, by tlsf_words. Any call may
     // ask for them: of this class, or of a resource or an allocator, for objects aligned to at most `align` bytes. With `align`
-    // 0 the heap has the fewest words, and room for the calls of this class alone.
+    // 0 the heap has the fewest words, and room for the calls by name of this class alone.
     static heap for_blocks(level l, std::uint32_t number, std::uint32_t blocks, std::uint32_t len,
                            std::size_t align = alignof(std::max_align_t)) {
-        const std::size_t more = align == 0 ? 0 : detail::added_for(align);
+        const std::size_t bytes = detail::bytes_to_find(len, align);
         std::uint32_t words = 0;
-        if (more > detail::most_bytes - len ||
-            tlsf_words(static_cast<std::uint32_t>(l), blocks, static_cast<std::uint32_t>(len + more), &words) != TLSF_OK)
+        if (bytes > detail::most_bytes ||
+            tlsf_words(static_cast<std::uint32_t>(l), blocks, static_cast<std::uint32_t>(bytes), &words) != TLSF_OK)
             detail::bad_size("tlsf: no region serves so many blocks of so many bytes");
         return heap(l, number, words);
     }
 
     // As tlsf_open, for a heap that isn't open; nothing is thrown.
     [[nodiscard]] std::uint32_t open(level l, std::uint32_t number, std::uint32_t words) noexcept {
-        if (is_open()) return TLSF_IN_USE;
-        detail::heap_reference state(new (std::nothrow) detail::heap_state);
-        if (!state) return TLSF_NO_MEMORY;
-        const std::uint32_t answer = tlsf_open(&state->raw, static_cast<std::uint32_t>(l), number, words);
-        if (answer != TLSF_OK) return answer;
-        state->number = number;
-        state_ = std::move(state);
-        return TLSF_OK;
+        const auto of_level = static_cast<std::uint32_t>(l);
+        return open_by(number, [&](tlsf_heap *raw) { return tlsf_open(raw, of_level, number, words); });
+    }
+    // As tlsf_open_in: its blocks lie in memory of the caller's, which is the caller's again once it is closed.
+    [[nodiscard]] std::uint32_t open_in(level l, std::uint32_t number, void *memory, std::size_t bytes) noexcept {
+        const auto of_level = static_cast<std::uint32_t>(l);
+        return open_by(number, [&](tlsf_heap *raw) { return tlsf_open_in(raw, of_level, number, memory, bytes); });
     }
     void close() noexcept {
         if (state_) tlsf_close(&state_->raw);
@@ -327,8 +318,8 @@ struct lane {
 };
 
 // The heap under what takes a std::pmr::memory_resource, in one thread at a time. Any alignment; std::bad_alloc where there
-// is no room. Two resources over one heap are equal. A container that still holds objects goes before its heap does, since they
-// lie in the heap's memory.
+// is no room. It adds nothing to what tlsf_malloc takes. Two resources over one heap are equal. A container that still holds
+// objects goes before its heap does, since they lie in the heap's memory.
 class resource : public std::pmr::memory_resource {
     detail::heap_reference heap_;
 
@@ -337,7 +328,7 @@ class resource : public std::pmr::memory_resource {
         if (!p) detail::no_room();
         return p;
     }
-    void do_deallocate(void *p, std::size_t, std::size_t align) override { detail::take_back(*heap_, p, align); }
+    void do_deallocate(void *p, std::size_t, std::size_t) override { tlsf_free(&heap_->raw, p); }
     bool do_is_equal(const std::pmr::memory_resource &other) const noexcept override { return is_over_one_heap(&other); }
 
     bool is_over_one_heap(const std::pmr::memory_resource *other) const noexcept {
@@ -374,7 +365,7 @@ public:
         if (!p) detail::no_room();
         return static_cast<T *>(p);
     }
-    void deallocate(T *p, std::size_t) noexcept { detail::take_back(*heap_, p, alignof(T)); }
+    void deallocate(T *p, std::size_t) noexcept { tlsf_free(&heap_->raw, p); }
 
     template <typename U>
     bool operator==(const allocator<U> &other) const noexcept {

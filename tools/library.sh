@@ -1,24 +1,45 @@
 # Sourced: what C's library is made of, and where its files go.
 
-# merge_library KIT ARCHIVE TO: makes the archive that C links alone, of the one that is proved and built and of the
-# toolchain's three functions that call malloc, realloc and free.
+# merge_library KIT TREE ARCHIVE TO: makes the archive that C links alone, of the one that is proved and built and of
+# c/memory.c in that tree, by which it takes memory. TO.nomalloc is for programs that have no malloc.
 merge_library() {
-    rm -f "$3"
-    printf 'CREATE %s\nADDLIB %s\nADDLIB %s\nSAVE\nEND\n' "$3" "$2" "$1/c/liblibc_c.a" | "$1/toolchain/bin/llvm-ar" -M &&
-        [ -s "$3" ]
+    add_memory "$1" "$2" "$3" "$4.nomalloc" -DTLSF_NO_MALLOC && add_memory "$1" "$2" "$3" "$4"
 }
 
-# put_library TOP ARCHIVE PREFIX: puts that archive, the headers, and what pkg-config and CMake read there. No file has the
-# prefix in it, so the folder can be moved.
+add_memory() {
+    rm -rf "$4" "$4.made" && mkdir "$4.made" && compile_memory "$1" "$2" "$4.made/memory.o" "${5-}" &&
+        printf 'CREATE %s\nADDLIB %s\nADDMOD %s\nSAVE\nEND\n' "$4" "$3" "$4.made/memory.o" | "$1/toolchain/bin/llvm-ar" -M &&
+        [ -s "$4" ] && rm -rf "$4.made"
+}
+
+# compile_memory KIT TREE OBJECT [FLAG]: for baseline x86-64, as what is proved, and with .eh_frame.
+compile_memory() {
+    "$1/toolchain/bin/clang" --target=x86_64-unknown-linux-gnu -march=x86-64 -std=c11 -O2 -fPIC -ffreestanding \
+        -fno-stack-protector -fasynchronous-unwind-tables ${4:+"$4"} -c "$2/c/memory.c" -o "$3"
+}
+
+# put_library TOP ARCHIVE PREFIX: puts that archive and the one beside it, the headers, and what pkg-config and CMake read
+# there. No file has the prefix in it, so the folder can be moved.
 put_library() {
     version=$(sed -n 's/.*const VERSION: .*"\([0-9.]*\)".*/\1/p' "$1"/crates/tlsf_command/src/*.rt) && [ -n "$version" ] || return 1
     mkdir -p "$3/lib/pkgconfig" "$3/lib/cmake/tlsf" "$3/include" || return 1
     put_file cat "$2" "$3/lib/libtlsf.a" &&
-        put_file cat "$1/include/tlsf.h" "$3/include/tlsf.h" &&
-        put_file cat "$1/include/tlsf.hpp" "$3/include/tlsf.hpp" &&
+        put_file cat "$2.nomalloc" "$3/lib/libtlsf_nomalloc.a" &&
+        put_headers "$1/include" "$3/include" &&
         put_file with_version "$1/tools/package/tlsf.pc" "$3/lib/pkgconfig/tlsf.pc" &&
+        put_file without_malloc "$1/tools/package/tlsf.pc" "$3/lib/pkgconfig/tlsf-nomalloc.pc" &&
         put_file with_version "$1/tools/package/tlsf-config.cmake" "$3/lib/cmake/tlsf/tlsf-config.cmake" &&
         put_file with_version "$1/tools/package/tlsf-config-version.cmake" "$3/lib/cmake/tlsf/tlsf-config-version.cmake"
+}
+
+put_headers() {
+    for header in "$1"/*; do
+        put_file cat "$header" "$2/${header##*/}" || return 1
+    done
+}
+
+without_malloc() {
+    with_version "$1" | sed -e 's/^Name: tlsf$/Name: tlsf-nomalloc/' -e 's/-ltlsf$/-ltlsf_nomalloc/' -e '/^Description:/ s/$/; for programs with no malloc/'
 }
 
 with_version() {

@@ -5,7 +5,7 @@
 # refuses a builder's tree there. What is proved is taken from any such folder, also from one that can't be written. Each
 # text of the sources has a folder, named by the checksum of all that the goal is proved from:
 #
-#     KEY/tlsf       the proved program, there once it is whole; or KEY/libtlsf.a, the library
+#     KEY/tlsf       the proved program, there once it is whole; or KEY/libtlsf.a, the library, and the one without malloc
 #     KEY/log        what the last build said
 #     KEY/start      when that build began, in seconds since 1970
 #     KEY/all, done  the crates to prove, of which the goal is the last, and those proved so far, a line each
@@ -71,14 +71,19 @@ lie_in() {
     program=$build/$product
 }
 
-# text_sum TREE: prints the checksum of all that the goal is proved from in a tree.
+# text_sum TREE: prints the checksum of all that the goal is proved and built from in a tree.
 text_sum() (
     cd "$1" || exit 1
     crates=$(crates_below . "$goal")
     [ -n "$crates" ] || exit 1
     # shellcheck disable=SC2086
-    { crate_lines . $crates && cat HANDLES && source_sums $crates; } | sha256sum | cut -c 1-40
+    { crate_lines . $crates && cat HANDLES && source_sums $crates && c_sum; } | sha256sum | cut -c 1-40
 )
+
+# What C's library is built of besides.
+c_sum() {
+    [ "$goal" != tlsf_c ] || sha256sum c/memory.c
+}
 
 # source_sums CRATE..: prints the checksum of each source of these crates, in the tree that is the current folder.
 source_sums() {
@@ -91,7 +96,7 @@ source_sums() {
 
 # places_sum TREE: prints, in milliseconds, a checksum that changes with each write to a source; else nothing.
 places_sum() {
-    listed=$(find "$1/crates.txt" "$1/HANDLES" "$1"/crates/*/src "$1"/crates/*/specs "$1"/crates/*/proofs \
+    listed=$(find "$1/crates.txt" "$1/HANDLES" "$1/c" "$1"/crates/*/src "$1"/crates/*/specs "$1"/crates/*/proofs \
         ! -type d -printf '%p %i %s %T@ %C@\n' 2>/dev/null) && echo "$listed" | sha256sum | cut -c 1-40
 }
 

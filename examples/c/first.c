@@ -1,27 +1,13 @@
-/* The first block: a heap, a name, bytes that are copied in and bytes that are written in place. */
-#include <tlsf.h>
-
+/* The first block: a heap in memory of the program's, a pointer as malloc gives it, and a double free, which is refused. */
 #include <stdio.h>
-#include <string.h>
-
+#include <tlsf.h>
+static unsigned char memory[65536];
+static struct tlsf_heap heap; /* its bytes are zero, so it is closed */
 int main(void) {
-    struct tlsf_heap heap = TLSF_CLOSED;
-    struct tlsf_name name;
-    uint32_t answer = tlsf_open(&heap, 4, 1, 1024); /* level 4, number 1, 1,024 words of 64 bits */
-    if (answer != TLSF_OK) {
-        fprintf(stderr, "first: %s\n", tlsf_text_of(answer));
-        return 1;
-    }
-    if (tlsf_allocate(&heap, 100, &name) == TLSF_OK && /* 100 bytes, all zero */
-        tlsf_write(&heap, &name, 0, (const uint8_t *)"copied in", 9) == TLSF_OK) {
-        uint32_t len = 0;
-        char *payload = tlsf_payload(&heap, &name, &len); /* good until it is released or resized */
-        strcpy(payload + 9, ", and written in place");
-        printf("block %u:%u:%u of %u bytes: %s\n", (unsigned)name.heap, (unsigned)name.at, (unsigned)name.serial, (unsigned)len, payload);
-        tlsf_release(&heap, &name);
-    }
-    answer = tlsf_release(&heap, &name); /* its name outlived it */
-    printf("released again: %s\n", tlsf_text_of(answer));
-    tlsf_close(&heap);
-    return answer == TLSF_STALE ? 0 : 1;
+    if (tlsf_open_in(&heap, 4, 1, memory, sizeof memory)) return 1; /* level 4, heap number 1 */
+    int *numbers = tlsf_malloc(&heap, 100 * sizeof *numbers); /* aligned to 16, and not filled */
+    if (!numbers) return 1;                                   /* there is no room */
+    numbers[0] = 42;
+    tlsf_free(&heap, numbers);
+    puts(tlsf_text_of(tlsf_free(&heap, numbers))); /* a double free: it is refused, and changes nothing */
 }

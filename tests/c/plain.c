@@ -1,6 +1,7 @@
 /* A plain heap and a plain lane that answer as tlsf.h says, by first fit over a table of blocks: what the tests beside it are
  * tried on, since one that passes on each library shows nothing. With WRONG from 1 to 14 one thing in it is wrong, and
- * random.c has to notice. It is no real-time heap, and its lanes are for one thread. */
+ * random.c has to notice; from 15 to 24, and pointers.c has to. It is no real-time heap, and its lanes are for one thread. */
+#define TLSF_NO_COPIES
 #include "tlsf.h"
 
 #include <stdlib.h>
@@ -22,6 +23,8 @@ struct plain {
     uint64_t *region, tick;
     uint32_t words, number, count;
     struct piece *pieces;
+    void *taken; /* the region's memory, where it is malloc's */
+    struct tlsf_heap_counts counts;
 };
 
 struct ring {
@@ -67,6 +70,17 @@ static void cut(struct plain *p, uint32_t k, uint32_t words) {
     insert(p, k + 1, rest);
 }
 
+/* The words in live blocks after a call, and what it was refused. */
+static uint32_t counted(struct plain *p, uint32_t answer, uint32_t len) {
+    struct tlsf_heap_counts *c = &p->counts;
+    c->words = 0;
+    for (uint32_t k = 0; k < p->count; k++) c->words += p->pieces[k].is_live ? p->pieces[k].words : 0;
+    if (c->words > c->most_words) c->most_words = c->words;
+    if (answer == TLSF_NO_FIT && WRONG != 15) c->refused++;
+    if (answer == TLSF_NO_FIT && len > c->longest_refused) c->longest_refused = len;
+    return answer;
+}
+
 static uint32_t find(struct plain *p, const struct tlsf_name *name, struct piece **found) {
     if (WRONG != 3 && name->heap != p->number) return TLSF_FOREIGN;
     for (uint32_t k = 0; k < p->count; k++) {
@@ -76,64 +90,111 @@ static uint32_t find(struct plain *p, const struct tlsf_name *name, struct piece
     return TLSF_STALE;
 }
 
-uint32_t tlsf_open(struct tlsf_heap *heap, uint32_t level, uint32_t number, uint32_t words) {
+static uint32_t open_over(struct tlsf_heap *heap, uint32_t level, uint32_t number, uint32_t words, uint64_t *region) {
     if (heap->is_open) return TLSF_IN_USE;
     if (level != 4 && level != 5) return TLSF_BAD_LEVEL;
     if (words < LEAST || words > (level == 4 ? 1u << 20 : 1u << 24)) return TLSF_BAD_SIZE;
-    struct plain *p = malloc(sizeof *p);
+    struct plain *p = calloc(1, sizeof *p);
     if (!p) return TLSF_NO_MEMORY;
-    *p = (struct plain){calloc(words, 8), 0, words, number, 0, calloc(words / LEAST + 2, sizeof(struct piece))};
-    if (!p->region || !p->pieces) abort();
+    p->taken = region ? NULL : malloc((words + 1) * sizeof *region);
+    p->region = region ? region : (uint64_t *)p->taken + 1;
+    p->words = words;
+    p->number = number;
+    p->pieces = calloc(words / LEAST + 2, sizeof(struct piece));
+    if (!p->pieces || (!region && !p->taken)) abort();
+    memset(p->region, 0, words * sizeof *region);
     insert(p, 0, (struct piece){0, words, 0, 0, false});
     heap->held = p;
     heap->is_open = true;
+    heap->base = p->region;
     return TLSF_OK;
+}
+
+uint32_t tlsf_open(struct tlsf_heap *heap, uint32_t level, uint32_t number, uint32_t words) {
+    return open_over(heap, level, number, words, NULL);
+}
+
+size_t tlsf_bytes(uint32_t level, uint32_t words) {
+    return words < LEAST || words > (level == 4 ? 1u << 20 : level == 5 ? 1u << 24 : 0) ? 0 : 8 * (size_t)words + 23;
+}
+
+uint32_t tlsf_open_in(struct tlsf_heap *heap, uint32_t level, uint32_t number, void *memory, size_t bytes) {
+    uint64_t *const region = (uint64_t *)(void *)((char *)memory + (-(uintptr_t)memory & 15) + 8);
+    const size_t most = level == 4 ? 1u << 20 : 1u << 24, words = bytes < 23 + 8 * LEAST ? 0 : (bytes - 23) / 8;
+    return open_over(heap, level, number, (uint32_t)(words < most ? words : most), region);
 }
 
 uint32_t tlsf_close(struct tlsf_heap *heap) {
     if (!heap->is_open) return TLSF_IS_CLOSED;
     struct plain *p = heap->held;
-    free(p->region);
+    free(p->taken);
     free(p->pieces);
     free(p);
     heap->is_open = false;
     return TLSF_OK;
 }
 
-uint32_t tlsf_allocate(struct tlsf_heap *heap, uint32_t len, struct tlsf_name *name) {
+/* Makes a block of the end of a free piece, behind a gap of no words, or of as many as a block has at least. */
+static uint32_t give(struct plain *p, uint32_t k, uint32_t gap, uint32_t words, uint32_t len) {
+    if (gap) cut(p, k++, gap);
+    cut(p, k, words);
+    p->pieces[k].is_live = true;
+    p->pieces[k].len = len;
+    p->pieces[k].serial = ++p->tick;
+    return p->pieces[k].at;
+}
+
+uint32_t tlsf_allocate_place(struct tlsf_heap *heap, uint32_t len, uint32_t *at) {
     if (!heap->is_open) return TLSF_IS_CLOSED;
     struct plain *p = heap->held;
     uint32_t k = 0;
     while (k < p->count && (p->pieces[k].is_live || p->pieces[k].words < want(len) + (WRONG == 13))) k++;
-    if (WRONG == 10) name->heap = p->number;
-    if (k == p->count) return TLSF_NO_FIT;
-    cut(p, k, want(len) - (WRONG == 6 && want(len) > LEAST));
-    p->pieces[k].is_live = true;
-    p->pieces[k].len = len;
-    p->pieces[k].serial = ++p->tick;
-    if (WRONG != 1) memset(bytes_of(p, &p->pieces[k]), 0, len);
-    *name = (struct tlsf_name){p->number, p->pieces[k].at, p->tick};
+    if (k == p->count) return counted(p, TLSF_NO_FIT, len);
+    *at = give(p, k, 0, want(len) - (WRONG == 6 && want(len) > LEAST), len);
+    return counted(p, TLSF_OK, len);
+}
+
+uint32_t tlsf_allocate_aligned(struct tlsf_heap *heap, uint32_t len, uint32_t step, uint32_t skew, uint32_t *at) {
+    if (!heap->is_open) return TLSF_IS_CLOSED;
+    struct plain *p = heap->held;
+    for (uint32_t k = 0; k < p->count; k++) {
+        const struct piece *it = &p->pieces[k];
+        uint32_t gap = 0;
+        while (gap < it->words && ((it->at + gap + HEADER + skew + (WRONG == 16)) % step || (gap && gap < LEAST))) gap++;
+        if (it->is_live || it->words < gap + want(len)) continue;
+        *at = give(p, k, gap, want(len), len);
+        return counted(p, TLSF_OK, len);
+    }
+    return counted(p, TLSF_NO_FIT, len);
+}
+
+uint32_t tlsf_allocate(struct tlsf_heap *heap, uint32_t len, struct tlsf_name *name) {
+    uint32_t at = 0;
+    if (WRONG == 10) name->heap = ~0u;
+    const uint32_t answer = tlsf_allocate_place(heap, len, &at);
+    if (answer != TLSF_OK) return answer;
+    struct plain *p = heap->held;
+    if (WRONG != 1) memset(p->region + at + HEADER, 0, len);
+    *name = (struct tlsf_name){p->number, at, p->tick};
     return TLSF_OK;
 }
 
-uint32_t tlsf_release(struct tlsf_heap *heap, const struct tlsf_name *name) {
-    if (!heap->is_open) return TLSF_IS_CLOSED;
-    struct plain *p = heap->held;
-    struct piece *found = NULL;
-    const uint32_t answer = find(p, name, &found);
-    if (answer != TLSF_OK) return answer;
+static uint32_t release(struct plain *p, struct piece *found) {
     p->tick++;
     found->is_live = false;
     if (WRONG != 7) merge(p);
-    return TLSF_OK;
+    return counted(p, TLSF_OK, 0);
 }
 
-uint32_t tlsf_resize(struct tlsf_heap *heap, const struct tlsf_name *name, uint32_t len) {
-    if (!heap->is_open) return TLSF_IS_CLOSED;
-    struct plain *p = heap->held;
+uint32_t tlsf_release(struct tlsf_heap *heap, const struct tlsf_name *name) {
     struct piece *found = NULL;
-    const uint32_t answer = find(p, name, &found);
-    if (answer != TLSF_OK) return answer;
+    if (!heap->is_open) return TLSF_IS_CLOSED;
+    const uint32_t answer = find(heap->held, name, &found);
+    return answer == TLSF_OK ? release(heap->held, found) : answer;
+}
+
+/* Gives a block so many bytes where it stands, and leaves them as they are. */
+static uint32_t resize(struct plain *p, struct piece *found, uint32_t len) {
     const uint32_t k = (uint32_t)(found - p->pieces);
     const uint32_t behind = k + 1 < p->count && !found[1].is_live ? found[1].words : 0;
     if (found->words + behind < want(len)) return TLSF_NO_ROOM;
@@ -142,10 +203,95 @@ uint32_t tlsf_resize(struct tlsf_heap *heap, const struct tlsf_name *name, uint3
         found->words += behind;
         remove_piece(p, k + 1);
     }
-    if (WRONG != 4 && len > found->len) memset(bytes_of(p, found) + found->len, 0, len - found->len);
     found->len = len;
     cut(p, k, want(len));
     merge(p);
+    return counted(p, TLSF_OK, 0);
+}
+
+uint32_t tlsf_resize(struct tlsf_heap *heap, const struct tlsf_name *name, uint32_t len) {
+    struct piece *found = NULL;
+    if (!heap->is_open) return TLSF_IS_CLOSED;
+    uint32_t answer = find(heap->held, name, &found);
+    if (answer != TLSF_OK) return answer;
+    const uint32_t had = found->len;
+    answer = resize(heap->held, found, len);
+    if (WRONG != 4 && answer == TLSF_OK && len > had) memset(bytes_of(heap->held, found) + had, 0, len - had);
+    return answer;
+}
+
+static uint32_t at_place(struct tlsf_heap *heap, uint32_t at, struct piece **found) {
+    if (!heap->is_open) return TLSF_IS_CLOSED;
+    struct plain *p = heap->held;
+    for (uint32_t k = 0; k < p->count; k++) {
+        *found = &p->pieces[k];
+        if ((*found)->at == at || (WRONG == 17 && at > (*found)->at && at - (*found)->at < (*found)->words))
+            return (*found)->is_live || WRONG == 18 ? TLSF_OK : TLSF_STALE;
+    }
+    return TLSF_STALE;
+}
+
+uint32_t tlsf_release_place(struct tlsf_heap *heap, uint32_t at) {
+    struct piece *found = NULL;
+    const uint32_t answer = at_place(heap, at, &found);
+    if (answer != TLSF_OK) return answer;
+    return WRONG == 19 ? TLSF_OK : release(heap->held, found);
+}
+
+uint32_t tlsf_place(struct tlsf_heap *heap, uint32_t at, struct tlsf_name *name, uint32_t *len) {
+    struct piece *found = NULL;
+    const uint32_t answer = at_place(heap, at, &found);
+    if (answer != TLSF_OK) return answer;
+    *name = (struct tlsf_name){((struct plain *)heap->held)->number, found->at, found->serial + (WRONG == 20)};
+    *len = found->len - (WRONG == 21);
+    return TLSF_OK;
+}
+
+static uint32_t least(uint32_t a, uint32_t b) { return a < b ? a : b; }
+
+uint32_t tlsf_resize_place(struct tlsf_heap *heap, uint32_t at, uint32_t len, uint32_t *new_at) {
+    struct piece *found = NULL;
+    struct plain *p = heap->held;
+    uint32_t answer = at_place(heap, at, &found);
+    if (answer != TLSF_OK) return answer;
+    const uint32_t had = found->len;
+    answer = resize(p, found, len);
+    if (answer == TLSF_OK && WRONG == 22) memset(bytes_of(p, found), 0, 1);
+    if (answer == TLSF_OK) *new_at = at;
+    if (answer != TLSF_NO_ROOM) return answer;
+    answer = tlsf_allocate_place(heap, len, new_at);
+    if (answer != TLSF_OK) return answer;
+    memmove(p->region + *new_at + HEADER, p->region + at + HEADER, least(had, len));
+    return tlsf_release_place(heap, at);
+}
+
+uint32_t tlsf_reallocate(struct tlsf_heap *heap, struct tlsf_name *name, uint32_t len) {
+    uint32_t had = 0, at = 0;
+    uint64_t *base = NULL;
+    uint32_t answer = tlsf_locate(heap, name, &base, &had);
+    if (answer == TLSF_OK) answer = tlsf_resize_place(heap, name->at, len, &at);
+    if (answer != TLSF_OK) return answer;
+    if (len > had) memset((uint8_t *)(base + at + HEADER) + had, 0, len - had);
+    return tlsf_place(heap, at, name, &had);
+}
+
+uint32_t tlsf_block_at(struct tlsf_heap *heap, uint32_t at, struct tlsf_block_info *block) {
+    if (!heap->is_open) return TLSF_IS_CLOSED;
+    const struct plain *p = heap->held;
+    for (uint32_t k = 0; k < p->count; k++) {
+        const struct piece *it = &p->pieces[k];
+        if (it->at != at) continue;
+        *block = (struct tlsf_block_info){at, it->words, it->is_live && WRONG != 23, it->len, it->serial};
+        if (!it->is_live) block->len = 0;
+        return TLSF_OK;
+    }
+    return TLSF_STALE;
+}
+
+uint32_t tlsf_counts(struct tlsf_heap *heap, struct tlsf_heap_counts *counts) {
+    if (!heap->is_open) return TLSF_IS_CLOSED;
+    *counts = ((struct plain *)heap->held)->counts;
+    if (WRONG == 24) counts->most_words = counts->words;
     return TLSF_OK;
 }
 
@@ -200,6 +346,17 @@ uint32_t tlsf_report(struct tlsf_heap *heap, struct tlsf_heap_report *report) {
     r.fragmentation = r.free_words ? 1000 - 1000 * r.largest / r.free_words : 0;
     r.waste = 8 * r.live_words - r.live_bytes;
     *report = r;
+    return TLSF_OK;
+}
+
+/* It has no headers in its region, so none is ever damaged. */
+uint32_t tlsf_check(struct tlsf_heap *heap, uint32_t from, uint32_t most, uint32_t *next, uint32_t *damaged) {
+    struct tlsf_block_info it = {from, 0, 0, 0, 0};
+    uint32_t answer = tlsf_block_at(heap, from, &it), at = from;
+    if (answer != TLSF_OK) return answer;
+    for (uint32_t k = 0; k < most && tlsf_block_at(heap, at, &it) == TLSF_OK; k++) at = it.at + it.size;
+    *next = at == ((struct plain *)heap->held)->words ? 0 : at;
+    (void)damaged;
     return TLSF_OK;
 }
 

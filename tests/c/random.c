@@ -1,5 +1,6 @@
 /* Calls by chance on two heaps and a lane, against plain tables: what each live block holds, byte by byte, and which names
  * lie in the lane. Each answer is judged, refusals too. RANDOM [CALLS] [SEED] [LEVEL] */
+#define TLSF_NO_COPIES /* the calls themselves, which a copy would hide */
 #include "tlsf.h"
 
 #include <stdio.h>

@@ -110,20 +110,27 @@ static void allocate(struct side *it) {
 }
 
 static void release(struct side *it, struct block *b) {
-    if (is_served(it, ANSWER(it, tlsf_release(&heap, &b->name)), TLSF_OK)) *b = it->blocks[--it->live];
+    const uint32_t answer = below(it, 2) ? ANSWER(it, tlsf_release(&heap, &b->name)) : ANSWER(it, tlsf_release_place(&heap, b->name.at));
+    if (is_served(it, answer, TLSF_OK)) *b = it->blocks[--it->live];
 }
 
 static void resize(struct side *it, struct block *b) {
     const uint32_t len = below(it, LONGEST), before = b->len;
-    if (!is_served(it, ANSWER(it, tlsf_resize(&heap, &b->name, len)), TLSF_NO_ROOM)) return;
+    if (below(it, 2)) {
+        if (!is_served(it, ANSWER(it, tlsf_reallocate(&heap, &b->name, len)), TLSF_NO_FIT)) return;
+    } else if (!is_served(it, ANSWER(it, tlsf_resize(&heap, &b->name, len)), TLSF_NO_ROOM)) {
+        return;
+    }
     b->len = len;
     if (len > before) fill(it, b, before);
 }
 
 static void locate(struct side *it, const struct block *b) {
+    struct tlsf_name name = {0, 0, 0};
     uint64_t *base = NULL;
     uint32_t len = 0;
     if (is_served(it, ANSWER(it, tlsf_locate(&heap, &b->name, &base, &len)), TLSF_OK) && len != b->len) wrong++;
+    if (is_served(it, ANSWER(it, tlsf_place(&heap, b->name.at, &name, &len)), TLSF_OK) && (len != b->len || name.serial != b->name.serial)) wrong++;
 }
 
 static void report(struct side *it) {

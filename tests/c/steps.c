@@ -37,6 +37,12 @@ static struct {
     {"tlsf_allocate", (uintptr_t)tlsf_allocate, 0, 0}, {"tlsf_release", (uintptr_t)tlsf_release, 0, 0},
     {"tlsf_resize", (uintptr_t)tlsf_resize, 0, 0},     {"tlsf_locate", (uintptr_t)tlsf_locate, 0, 0},
     {"tlsf_put", (uintptr_t)tlsf_put, 0, 0},           {"tlsf_take", (uintptr_t)tlsf_take, 0, 0},
+    {"tlsf_allocate_place", (uintptr_t)tlsf_allocate_place, 0, 0},
+    {"tlsf_allocate_aligned", (uintptr_t)tlsf_allocate_aligned, 0, 0},
+    {"tlsf_release_place", (uintptr_t)tlsf_release_place, 0, 0},
+    {"tlsf_place", (uintptr_t)tlsf_place, 0, 0},
+    {"tlsf_block_at", (uintptr_t)tlsf_block_at, 0, 0},
+    {"tlsf_counts", (uintptr_t)tlsf_counts, 0, 0},
 };
 enum { COUNT = sizeof counted / sizeof *counted, MOST = 200 };
 
@@ -49,20 +55,41 @@ static uint32_t below(uint32_t n) {
     return (uint32_t)((state >> 16) % n);
 }
 
+static struct tlsf_heap heap = TLSF_CLOSED;
+static struct tlsf_name names[MOST];
+static uint32_t live;
+
+/* Blocks by place, among those that are known by their names. */
+static void call_by_place(uint32_t kind, uint32_t k, uint32_t size) {
+    struct tlsf_heap_counts counts;
+    struct tlsf_block_info block;
+    uint32_t at = 0, len = 0;
+    if (kind < 4 && live < MOST) {
+        if (kind < 2 ? tlsf_allocate_place(&heap, size, &at) : tlsf_allocate_aligned(&heap, size, 1u << below(6), below(2), &at)) return;
+        if (!tlsf_place(&heap, at, &names[live], &len)) live++;
+    } else if (kind < 7 && live) {
+        if (!tlsf_release_place(&heap, names[k].at)) names[k] = names[--live];
+    } else if (kind == 7) {
+        if (tlsf_block_at(&heap, below(2) && live ? names[k].at : below(1u << 15), &block)) return;
+    } else if (kind == 8) {
+        tlsf_release_place(&heap, below(1u << 16) | 1u);
+    } else if (tlsf_counts(&heap, &counts)) return;
+}
+
 /* The calls: sizes of all classes, names that are live and names that aren't, and a lane that is full and empty. */
 static int make_calls(long calls) {
-    static struct tlsf_name names[MOST];
-    struct tlsf_heap heap = TLSF_CLOSED;
     struct tlsf_post_end post = TLSF_POST_CLOSED;
     struct tlsf_take_end take = TLSF_TAKE_CLOSED;
     struct tlsf_name name = {0, 0, 0};
     uint64_t *base = NULL;
-    uint32_t len = 0, live = 0;
+    uint32_t len = 0;
     if (tlsf_open(&heap, 4 + below(2), 1, 1u << 15) || tlsf_lane_open(&post, &take, 8)) return 1;
     raise(SIGSTOP); /* from here on each instruction is counted */
     for (long i = 0; i < calls; i++) {
         const uint32_t kind = below(10), k = live ? below(live) : 0, size = below(3) ? below(64) : below(256);
-        if (kind < 4 && live < MOST) {
+        if (i % 2) {
+            call_by_place(kind, k, size);
+        } else if (kind < 4 && live < MOST) {
             if (!tlsf_allocate(&heap, size, &names[live])) live++;
         } else if (kind < 7 && live) {
             if (!tlsf_release(&heap, &names[k])) names[k] = names[--live];

@@ -194,6 +194,40 @@ static void fills(tlsf::level level, std::uint32_t count, std::uint32_t len, std
     holds("none is live", heap.report().live_blocks == 0);
 }
 
+// The same where every second block is one by name, which may have an odd number of words.
+static void fills_by_both(tlsf::level level, std::uint32_t count, std::uint32_t len) {
+    auto heap = tlsf::heap::for_blocks(level, 2, count, len);
+    tlsf::resource resource(heap);
+    std::vector<void *> given(count);
+    std::vector<tlsf::block> named(count);
+    for (std::uint32_t turn = 0; turn < 4; turn++) {
+        for (std::uint32_t k = 0; k < count; k++) {
+            if (given[k] || named[k]) continue;
+            if ((k + turn) % 2 == 0) named[k] = heap.make(len);
+            else holds("room by both", !throws<std::bad_alloc>([&] { given[k] = resource.allocate(len, 16); }));
+            holds("one of both", named[k] || (given[k] && is_aligned(given[k], 16)));
+        }
+        for (std::uint32_t k = turn % 3; k < count; k += 3) {
+            if (given[k]) resource.deallocate(given[k], len, 16), given[k] = nullptr;
+            named[k].reset();
+        }
+    }
+    for (void *p : given)
+        if (p) resource.deallocate(p, len, 16);
+}
+
+static void own_memory(tlsf::level level) {
+    static unsigned char memory[1 << 16];
+    tlsf::heap heap;
+    holds("opened in memory of the program's", heap.open_in(level, 3, memory + 3, sizeof memory - 3) == TLSF_OK);
+    holds("opened again", heap.open_in(level, 3, memory, 8) == TLSF_IN_USE);
+    std::vector<int, tlsf::allocator<int>> numbers(100, 7, heap);
+    const auto at = reinterpret_cast<std::uintptr_t>(numbers.data()), from = reinterpret_cast<std::uintptr_t>(memory);
+    holds("a container there", numbers[99] == 7 && at > from && at < from + sizeof memory);
+    tlsf::heap other;
+    holds("too little memory", other.open_in(level, 4, memory, 8) == TLSF_BAD_SIZE && !other.is_open());
+}
+
 template <std::size_t Align, std::size_t Len>
 static void fills_by_allocator(tlsf::level level, std::uint32_t count) {
     struct alignas(Align) object {
@@ -213,6 +247,8 @@ static void sized_heaps(tlsf::level level) {
     for (std::uint32_t count : {1u, 2u, 17u})
         for (std::uint32_t len : {0u, 1u, 8u, 9u, 24u, 100u, 512u, 1000u, 4096u})
             for (std::size_t align = 1; align <= 1024; align *= 2) fills(level, count, len, align);
+    for (std::uint32_t count : {1u, 2u, 17u})
+        for (std::uint32_t len : {0u, 1u, 8u, 9u, 24u, 100u, 512u, 1000u}) fills_by_both(level, count, len);
     for (std::uint32_t count : {1u, 17u}) {
         fills_by_allocator<1, 1>(level, count);
         fills_by_allocator<8, 8>(level, count);
@@ -259,6 +295,7 @@ int main() {
         blocks(heap);
         refusals(heap);
         sized_heaps(level);
+        own_memory(level);
         const tlsf_heap_report after = heap.report();
         holds("nothing is live afterwards", after.live_blocks == 0 && after.free_blocks == 1 && after.largest == 1 << 16);
     }

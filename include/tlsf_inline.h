@@ -1,0 +1,274 @@
+/* The calls of tlsf.h that are inline, and what they are made of. tlsf.h includes it, and says what each does. */
+#ifndef TLSF_INLINE_H
+#define TLSF_INLINE_H
+
+/* What these two name otherwise is called from here on: first what writes a trace, then what marks. */
+#ifdef TLSF_TRACE
+#include "tlsf_trace.h"
+#endif
+#if defined(TLSF_ASAN) || defined(TLSF_VALGRIND)
+#include "tlsf_marks.h"
+#else
+#define TLSF_ASKED(payload, len, rounded) ((void)0)
+#endif
+
+#ifdef __cplusplus
+extern "C" {
+#endif
+
+#define TLSF_LONGEST ((size_t)1 << 27) /* no region has so many bytes */
+
+static inline uint32_t tlsf_rounded(uint32_t len) TLSF_NOEXCEPT {
+    return len > UINT32_MAX - 15 ? UINT32_MAX : ((len + 7) / 8 | 1) * 8;
+}
+
+static inline uint32_t tlsf_place_of(const struct tlsf_heap *heap, const void *p) TLSF_NOEXCEPT {
+    const uint64_t offset = (uintptr_t)p - (uintptr_t)heap->base - 24;
+    const uint64_t at = offset >> 3 | offset << 61;
+    return at < UINT32_MAX ? (uint32_t)at : UINT32_MAX;
+}
+
+/* --- By pointer ------------------------------------------------------------------------------------------------------- */
+
+/* What isn't on the way of a heap whose blocks all have an even number of words. */
+#ifdef __GNUC__
+#define TLSF_RARE static __attribute__((noinline, cold, unused))
+#else
+#define TLSF_RARE static inline
+#endif
+
+/* A place for `len` bytes at a multiple of `align` bytes, which is 16 at least. */
+static inline uint32_t tlsf_align_place(struct tlsf_heap *heap, uint32_t len, size_t align, uint32_t *at) TLSF_NOEXCEPT {
+    return tlsf_allocate_aligned(heap, len, (uint32_t)(align / 8), (uint32_t)((uintptr_t)heap->base / 8 % (align / 8)), at);
+}
+
+/* Gives a misaligned block back for one that is aligned to 16. */
+TLSF_RARE uint32_t tlsf_align_again(struct tlsf_heap *heap, uint32_t len, uint32_t *at) TLSF_NOEXCEPT {
+    tlsf_release_place(heap, *at);
+    return tlsf_align_place(heap, len, 16, at);
+}
+
+/* A place for `len` bytes, TLSF_LONGEST at most, at a multiple of 16 bytes. */
+static inline uint32_t tlsf_even_place(struct tlsf_heap *heap, size_t len, uint32_t *at) TLSF_NOEXCEPT {
+    const uint32_t rounded = tlsf_rounded((uint32_t)len);
+    uint32_t answer = tlsf_allocate_place(heap, rounded, at);
+    if (answer == TLSF_OK && (uintptr_t)(heap->base + *at + 3) % 16 != 0) answer = tlsf_align_again(heap, rounded, at);
+    if (answer == TLSF_OK) TLSF_ASKED(heap->base + *at + 3, len, rounded);
+    return answer;
+}
+
+/* A place for `len` bytes at that alignment, unfilled; TLSF_BAD_SIZE where it is no power of two up to 4,096. */
+TLSF_ANSWER static inline uint32_t tlsf_allocate_for(struct tlsf_heap *heap, size_t len, size_t align,
+                                                     uint32_t *at) TLSF_NOEXCEPT {
+    if (align == 0 || align > 4096 || (align & (align - 1)) != 0) return TLSF_BAD_SIZE;
+    if (len > TLSF_LONGEST) return heap->is_open ? TLSF_NO_FIT : TLSF_IS_CLOSED;
+    if (align <= 16) return tlsf_even_place(heap, len, at);
+    const uint32_t rounded = tlsf_rounded((uint32_t)len);
+    const uint32_t answer = tlsf_align_place(heap, rounded, align, at);
+    if (answer == TLSF_OK) TLSF_ASKED(heap->base + *at + 3, len, rounded);
+    return answer;
+}
+
+static inline void *tlsf_malloc(struct tlsf_heap *heap, size_t len) TLSF_NOEXCEPT {
+    uint32_t at = 0;
+    if (len > TLSF_LONGEST || tlsf_even_place(heap, len, &at) != TLSF_OK) return TLSF_NULL;
+    return heap->base + at + 3;
+}
+
+static inline void *tlsf_aligned_alloc(struct tlsf_heap *heap, size_t align, size_t len) TLSF_NOEXCEPT {
+    uint32_t at = 0;
+    return tlsf_allocate_for(heap, len, align, &at) == TLSF_OK ? heap->base + at + 3 : TLSF_NULL;
+}
+
+static inline void *tlsf_calloc(struct tlsf_heap *heap, size_t count, size_t each) TLSF_NOEXCEPT {
+    struct tlsf_name name = {0, 0, 0};
+    if (each != 0 && count > TLSF_LONGEST / each) return TLSF_NULL;
+    const size_t len = count * each;
+    const uint32_t rounded = tlsf_rounded((uint32_t)len);
+    if (tlsf_allocate(heap, rounded, &name) != TLSF_OK) return TLSF_NULL;
+    void *p = heap->base + name.at + 3;
+    if ((uintptr_t)p % 16 == 0) {
+        TLSF_ASKED(p, len, rounded);
+        return p;
+    }
+    tlsf_release_place(heap, name.at);
+    p = tlsf_malloc(heap, len);
+    return p == TLSF_NULL ? p : memset(p, 0, len);
+}
+
+static inline uint32_t tlsf_free(struct tlsf_heap *heap, void *p) TLSF_NOEXCEPT {
+    return p == TLSF_NULL ? (uint32_t)TLSF_OK : tlsf_release_place(heap, tlsf_place_of(heap, p));
+}
+
+static inline size_t tlsf_usable_size(struct tlsf_heap *heap, const void *p) TLSF_NOEXCEPT {
+    struct tlsf_name name = {0, 0, 0};
+    uint32_t len = 0;
+    return tlsf_place(heap, tlsf_place_of(heap, p), &name, &len) == TLSF_OK ? len : 0;
+}
+
+static inline uint32_t tlsf_name_at(struct tlsf_heap *heap, const void *p, struct tlsf_name *name) TLSF_NOEXCEPT {
+    struct tlsf_name found = {0, 0, 0};
+    uint32_t len = 0;
+    const uint32_t answer = tlsf_place(heap, tlsf_place_of(heap, p), &found, &len);
+    if (answer == TLSF_OK) *name = found;
+    return answer;
+}
+
+/* Whether a live block may have so many words where it stands, by a look at the block behind it. */
+static inline bool tlsf_has_room(struct tlsf_heap *heap, const struct tlsf_block_info *it, uint32_t words) TLSF_NOEXCEPT {
+    struct tlsf_block_info behind = {0, 0, 0, 0, 0};
+    if (it->size >= words) return true;
+    return tlsf_block_at(heap, it->at + it->size, &behind) == TLSF_OK && behind.is_live == 0 && it->size + behind.size >= words;
+}
+
+/* Where blocks may have odd numbers of words: whether the live block of `p` stays; else it moved to `*moved`, if that isn't null.
+ * One that has enough words for `len`, but not for `*rounded`, keeps the words that it has. */
+TLSF_RARE bool tlsf_stays(struct tlsf_heap *heap, void *p, size_t len, uint32_t *rounded, void **moved) TLSF_NOEXCEPT {
+    struct tlsf_block_info it = {0, 0, 0, 0, 0};
+    if (tlsf_block_at(heap, tlsf_place_of(heap, p), &it) != TLSF_OK || it.is_live == 0) return false;
+    if (8 * (it.size - 3) >= len && 8 * (it.size - 3) < *rounded) *rounded = 8 * (it.size - 3);
+    if (tlsf_has_room(heap, &it, 3 + *rounded / 8)) return true;
+    const size_t had = tlsf_usable_size(heap, p);
+    *moved = tlsf_malloc(heap, len);
+    if (*moved == TLSF_NULL) return false;
+    memcpy(*moved, p, had < len ? had : len);
+    tlsf_free(heap, p);
+    return false;
+}
+
+static inline void *tlsf_realloc(struct tlsf_heap *heap, void *p, size_t len) TLSF_NOEXCEPT {
+    uint32_t at = tlsf_place_of(heap, p);
+    void *moved = TLSF_NULL;
+    if (p == TLSF_NULL) return tlsf_malloc(heap, len);
+    if (len == 0) tlsf_free(heap, p);
+    if (len == 0 || len > TLSF_LONGEST) return TLSF_NULL;
+    uint32_t rounded = tlsf_rounded((uint32_t)len);
+    if (heap->is_mixed && !tlsf_stays(heap, p, len, &rounded, &moved)) return moved;
+    if (tlsf_resize_place(heap, at, rounded, &at) != TLSF_OK) return TLSF_NULL;
+    TLSF_ASKED(heap->base + at + 3, len, rounded);
+    return heap->base + at + 3;
+}
+
+static inline uint32_t tlsf_allocate_at(struct tlsf_heap *heap, size_t len, size_t align, uint32_t flags, struct tlsf_name *name,
+                                        void **payload) TLSF_NOEXCEPT {
+    struct tlsf_name own = {0, 0, 0};
+    uint32_t at = 0, bytes = 0;
+    uint32_t answer = tlsf_allocate_for(heap, len, align, &at);
+    if (answer == TLSF_OK) answer = tlsf_place(heap, at, &own, &bytes);
+    if (answer != TLSF_OK) return answer;
+    if ((flags & TLSF_UNFILLED) == 0) memset(heap->base + at + 3, 0, bytes);
+    *name = own;
+    *payload = heap->base + at + 3;
+    return TLSF_OK;
+}
+
+/* --- By name: a copy of each, which lies in no payload ------------------------------------------------------------------ */
+
+/* Notes a block of `len` bytes where it has an odd number of words. A heap that is closed has none. */
+static inline void tlsf_note(struct tlsf_heap *heap, uint32_t len) TLSF_NOEXCEPT {
+    if (len > 8 && (len / 8 + (len % 8 != 0)) % 2 == 0) heap->is_mixed = true;
+}
+static inline uint32_t tlsf_close_noted(struct tlsf_heap *heap) TLSF_NOEXCEPT {
+    const uint32_t answer = tlsf_close(heap);
+    if (answer == TLSF_OK) heap->is_mixed = false;
+    return answer;
+}
+
+#ifndef TLSF_NO_COPIES
+TLSF_ANSWER static inline uint32_t tlsf_allocate_copied(struct tlsf_heap *heap, uint32_t len,
+                                                        struct tlsf_name *name) TLSF_NOEXCEPT {
+    struct tlsf_name own = {0, 0, 0};
+    const uint32_t answer = tlsf_allocate(heap, len, &own);
+    if (answer != TLSF_OK) return answer;
+    tlsf_note(heap, len);
+    *name = own;
+    return TLSF_OK;
+}
+static inline uint32_t tlsf_release_copied(struct tlsf_heap *heap, const struct tlsf_name *name) TLSF_NOEXCEPT {
+    const struct tlsf_name own = *name;
+    return tlsf_release(heap, &own);
+}
+TLSF_ANSWER static inline uint32_t tlsf_resize_copied(struct tlsf_heap *heap, const struct tlsf_name *name,
+                                                      uint32_t len) TLSF_NOEXCEPT {
+    const struct tlsf_name own = *name;
+    const uint32_t answer = tlsf_resize(heap, &own, len);
+    if (answer == TLSF_OK) tlsf_note(heap, len);
+    return answer;
+}
+TLSF_ANSWER static inline uint32_t tlsf_reallocate_copied(struct tlsf_heap *heap, struct tlsf_name *name,
+                                                          uint32_t len) TLSF_NOEXCEPT {
+    struct tlsf_name own = *name;
+    const uint32_t answer = tlsf_reallocate(heap, &own, len);
+    if (answer != TLSF_OK) return answer;
+    tlsf_note(heap, len);
+    *name = own;
+    return TLSF_OK;
+}
+TLSF_ANSWER static inline uint32_t tlsf_write_copied(struct tlsf_heap *heap, const struct tlsf_name *name, uint32_t at,
+                                                     const uint8_t *bytes, size_t n) TLSF_NOEXCEPT {
+    const struct tlsf_name own = *name;
+    return tlsf_write(heap, &own, at, bytes, n);
+}
+TLSF_ANSWER static inline uint32_t tlsf_read_copied(struct tlsf_heap *heap, const struct tlsf_name *name, uint32_t at,
+                                                    uint8_t *out, size_t n) TLSF_NOEXCEPT {
+    const struct tlsf_name own = *name;
+    return tlsf_read(heap, &own, at, out, n);
+}
+TLSF_ANSWER static inline uint32_t tlsf_locate_copied(struct tlsf_heap *heap, const struct tlsf_name *name, uint64_t **base,
+                                                      uint32_t *len) TLSF_NOEXCEPT {
+    const struct tlsf_name own = *name;
+    return tlsf_locate(heap, &own, base, len);
+}
+TLSF_ANSWER static inline uint32_t tlsf_put_copied(struct tlsf_post_end *post, const struct tlsf_name *name) TLSF_NOEXCEPT {
+    const struct tlsf_name own = *name;
+    return tlsf_put(post, &own);
+}
+TLSF_ANSWER static inline uint32_t tlsf_take_copied(struct tlsf_take_end *take, struct tlsf_name *name) TLSF_NOEXCEPT {
+    struct tlsf_name own = {0, 0, 0};
+    const uint32_t answer = tlsf_take(take, &own);
+    if (answer == TLSF_OK) *name = own;
+    return answer;
+}
+/* What tlsf_trace.h and tlsf_marks.h may have named before. */
+#undef tlsf_close
+#undef tlsf_allocate
+#undef tlsf_release
+#undef tlsf_resize
+#undef tlsf_reallocate
+#undef tlsf_write
+#undef tlsf_read
+#undef tlsf_locate
+#undef tlsf_put
+#undef tlsf_take
+#define tlsf_close(...) tlsf_close_noted(__VA_ARGS__)
+#define tlsf_allocate(...) tlsf_allocate_copied(__VA_ARGS__)
+#define tlsf_release(...) tlsf_release_copied(__VA_ARGS__)
+#define tlsf_resize(...) tlsf_resize_copied(__VA_ARGS__)
+#define tlsf_reallocate(...) tlsf_reallocate_copied(__VA_ARGS__)
+#define tlsf_write(...) tlsf_write_copied(__VA_ARGS__)
+#define tlsf_read(...) tlsf_read_copied(__VA_ARGS__)
+#define tlsf_locate(...) tlsf_locate_copied(__VA_ARGS__)
+#define tlsf_put(...) tlsf_put_copied(__VA_ARGS__)
+#define tlsf_take(...) tlsf_take_copied(__VA_ARGS__)
+#endif
+
+static inline void *tlsf_payload(struct tlsf_heap *heap, const struct tlsf_name *name, uint32_t *len) TLSF_NOEXCEPT {
+    uint64_t *base = TLSF_NULL;
+    uint32_t bytes = 0;
+    if (tlsf_locate(heap, name, &base, &bytes) != TLSF_OK) return TLSF_NULL;
+    if (len != TLSF_NULL) *len = bytes;
+    return base + name->at + 3;
+}
+
+static inline const char *tlsf_text_of(uint32_t answer) TLSF_NOEXCEPT {
+    static const char *const said[] = {"done", "no free block fits", "the ticks are used up", "a name of another heap",
+        "no live block has that name or address", "a size out of range", "no memory", "bytes past the end of the payload",
+        "the handle is closed", "the handle is open already", "no room where the block stands", "a level is 4 or 5",
+        "the lane is full", "the lane is empty", "a header is damaged"};
+    return answer < sizeof said / sizeof *said ? said[answer] : "no answer of this library";
+}
+
+#ifdef __cplusplus
+}
+#endif
+#endif

@@ -1,0 +1,352 @@
+/* Marks what isn't live, so that an overrun or a use after free is told where it happens. tlsf.h includes this where TLSF_ASAN or
+ * TLSF_VALGRIND is defined before it, in each file of the program that calls the heap:
+ *
+ *   TLSF_ASAN      for -fsanitize=address: what isn't payload is poisoned.
+ *   TLSF_VALGRIND  for valgrind's memcheck: what isn't payload may not be touched, and new payload isn't initialised unless
+ *                  the call fills it.
+ *
+ * It holds for memory of tlsf_open_in too. Lanes aren't marked. Of what malloc's calls give, the bytes that were asked for are
+ * payload; once tlsf_usable_size or tlsf_name_at was asked, all bytes of the block are.
+ * Calls answer as they do without marks, and take longer: a move is made of an allocate, a copy and a release, and closing looks
+ * at all blocks. */
+#ifndef TLSF_MARKS_H
+#define TLSF_MARKS_H
+
+#ifdef TLSF_ASAN
+#include <sanitizer/asan_interface.h>
+#define TLSF_BEGIN_CALL ((void)0)
+#define TLSF_END_CALL ((void)0)
+#else
+#include <valgrind/memcheck.h>
+/* The heap's own reads and writes of its headers aren't reported. */
+#define TLSF_BEGIN_CALL VALGRIND_DISABLE_ERROR_REPORTING
+#define TLSF_END_CALL VALGRIND_ENABLE_ERROR_REPORTING
+#endif
+
+#ifdef __cplusplus
+extern "C" {
+#endif
+
+/* --- Marks ---------------------------------------------------------------------------------------------------------- */
+
+/* `n` bytes from byte `from` of a payload on may not be touched. */
+static inline void tlsf_mark_dead(void *payload, size_t from, size_t n) TLSF_NOEXCEPT {
+#ifdef TLSF_ASAN
+    ASAN_POISON_MEMORY_REGION((char *)payload + from, n);
+#else
+    (void)VALGRIND_MAKE_MEM_NOACCESS((char *)payload + from, n);
+#endif
+}
+
+/* The first `n` bytes of a payload may be touched. Those that might not be until now aren't initialised. */
+static inline void tlsf_mark_live(void *payload, size_t n) TLSF_NOEXCEPT {
+#ifdef TLSF_ASAN
+    ASAN_UNPOISON_MEMORY_REGION(payload, n);
+#else
+    VALGRIND_DISABLE_ERROR_REPORTING;
+    const uintptr_t first = VALGRIND_CHECK_MEM_IS_ADDRESSABLE(payload, n);
+    VALGRIND_ENABLE_ERROR_REPORTING;
+    if (first != 0) (void)VALGRIND_MAKE_MEM_UNDEFINED(first, (uintptr_t)payload + n - first);
+#endif
+}
+
+/* `n` bytes may be touched, and are initialised. */
+static inline void tlsf_mark_filled(void *from, size_t n) TLSF_NOEXCEPT {
+#ifdef TLSF_ASAN
+    ASAN_UNPOISON_MEMORY_REGION(from, n);
+#else
+    (void)VALGRIND_MAKE_MEM_DEFINED(from, n);
+#endif
+}
+
+/* What malloc's calls gave: no more than was asked for. */
+#undef TLSF_ASKED
+#define TLSF_ASKED(payload, len, rounded) tlsf_mark_dead(payload, len, (rounded) - (len))
+
+static inline void *tlsf_mark_at(const struct tlsf_heap *heap, uint32_t at) TLSF_NOEXCEPT { return heap->base + at + 3; }
+
+#ifdef TLSF_ASAN
+/* What the library fills and copies with, in place of memset and memcpy, which would report what isn't live yet. */
+#define TLSF_UNCHECKED __attribute__((weak, noinline, no_sanitize_address))
+TLSF_UNCHECKED void *tlsf_memory_set(void *to, int byte, size_t n);
+TLSF_UNCHECKED void *tlsf_memory_cpy(void *to, const void *from, size_t n);
+void *tlsf_memory_set(void *to, int byte, size_t n) {
+    volatile unsigned char *p = (volatile unsigned char *)to;
+    while (n-- != 0) *p++ = (unsigned char)byte;
+    return to;
+}
+void *tlsf_memory_cpy(void *to, const void *from, size_t n) {
+    volatile unsigned char *p = (volatile unsigned char *)to;
+    const volatile unsigned char *q = (const volatile unsigned char *)from;
+    while (n-- != 0) *p++ = *q++;
+    return to;
+}
+#endif
+
+/* --- Looks ---------------------------------------------------------------------------------------------------------- */
+
+TLSF_ANSWER static inline uint32_t tlsf_marked_block_at(struct tlsf_heap *heap, uint32_t at,
+                                                        struct tlsf_block_info *block) TLSF_NOEXCEPT {
+    TLSF_BEGIN_CALL;
+    const uint32_t answer = tlsf_block_at(heap, at, block);
+    TLSF_END_CALL;
+    return answer;
+}
+
+TLSF_ANSWER static inline uint32_t tlsf_marked_counts(struct tlsf_heap *heap, struct tlsf_heap_counts *counts) TLSF_NOEXCEPT {
+    TLSF_BEGIN_CALL;
+    const uint32_t answer = tlsf_counts(heap, counts);
+    TLSF_END_CALL;
+    return answer;
+}
+
+TLSF_ANSWER static inline uint32_t tlsf_marked_report(struct tlsf_heap *heap, struct tlsf_heap_report *report) TLSF_NOEXCEPT {
+    TLSF_BEGIN_CALL;
+    const uint32_t answer = tlsf_report(heap, report);
+    TLSF_END_CALL;
+    return answer;
+}
+
+TLSF_ANSWER static inline uint32_t tlsf_marked_check(struct tlsf_heap *heap, uint32_t from, uint32_t most, uint32_t *next,
+                                                     uint32_t *damaged) TLSF_NOEXCEPT {
+    TLSF_BEGIN_CALL;
+    const uint32_t answer = tlsf_check(heap, from, most, next, damaged);
+    TLSF_END_CALL;
+    return answer;
+}
+
+/* Who asks for the length may use it. */
+TLSF_ANSWER static inline uint32_t tlsf_marked_place(struct tlsf_heap *heap, uint32_t at, struct tlsf_name *name,
+                                                     uint32_t *len) TLSF_NOEXCEPT {
+    TLSF_BEGIN_CALL;
+    const uint32_t answer = tlsf_place(heap, at, name, len);
+    TLSF_END_CALL;
+    if (answer == TLSF_OK) tlsf_mark_live(tlsf_mark_at(heap, at), *len);
+    return answer;
+}
+
+TLSF_ANSWER static inline uint32_t tlsf_marked_locate(struct tlsf_heap *heap, const struct tlsf_name *name, uint64_t **base,
+                                                      uint32_t *len) TLSF_NOEXCEPT {
+    TLSF_BEGIN_CALL;
+    const uint32_t answer = tlsf_locate(heap, name, base, len);
+    TLSF_END_CALL;
+    if (answer == TLSF_OK) tlsf_mark_live(tlsf_mark_at(heap, name->at), *len);
+    return answer;
+}
+
+/* The bytes of the live block of that name; 0 where the call has to be refused. */
+static inline uint32_t tlsf_marked_len(struct tlsf_heap *heap, const struct tlsf_name *name) TLSF_NOEXCEPT {
+    uint64_t *base = TLSF_NULL;
+    uint32_t len = 0;
+    return tlsf_marked_locate(heap, name, &base, &len) == TLSF_OK ? len : 0;
+}
+
+TLSF_ANSWER static inline uint32_t tlsf_marked_write(struct tlsf_heap *heap, const struct tlsf_name *name, uint32_t at,
+                                                     const uint8_t *bytes, size_t n) TLSF_NOEXCEPT {
+    (void)tlsf_marked_len(heap, name);
+    TLSF_BEGIN_CALL;
+    const uint32_t answer = tlsf_write(heap, name, at, bytes, n);
+    TLSF_END_CALL;
+    return answer;
+}
+
+TLSF_ANSWER static inline uint32_t tlsf_marked_read(struct tlsf_heap *heap, const struct tlsf_name *name, uint32_t at,
+                                                    uint8_t *out, size_t n) TLSF_NOEXCEPT {
+    (void)tlsf_marked_len(heap, name);
+    TLSF_BEGIN_CALL;
+    const uint32_t answer = tlsf_read(heap, name, at, out, n);
+    TLSF_END_CALL;
+    return answer;
+}
+
+/* --- Opening and closing -------------------------------------------------------------------------------------------- */
+
+static inline uint32_t tlsf_mark_region(struct tlsf_heap *heap, uint32_t answer) TLSF_NOEXCEPT {
+    struct tlsf_block_info whole = {0, 0, 0, 0, 0};
+    if (answer == TLSF_OK && tlsf_marked_block_at(heap, 0, &whole) == TLSF_OK)
+        tlsf_mark_dead(heap->base, 0, (size_t)whole.size * 8);
+    return answer;
+}
+
+TLSF_ANSWER static inline uint32_t tlsf_marked_open(struct tlsf_heap *heap, uint32_t level, uint32_t number,
+                                                    uint32_t words) TLSF_NOEXCEPT {
+    return tlsf_mark_region(heap, tlsf_open(heap, level, number, words));
+}
+
+TLSF_ANSWER static inline uint32_t tlsf_marked_open_in(struct tlsf_heap *heap, uint32_t level, uint32_t number, void *memory,
+                                                       size_t bytes) TLSF_NOEXCEPT {
+    return tlsf_mark_region(heap, tlsf_open_in(heap, level, number, memory, bytes));
+}
+
+static inline uint32_t tlsf_marked_close(struct tlsf_heap *heap) TLSF_NOEXCEPT {
+    struct tlsf_heap_report sums = {0, 0, 0, 0, 0, 0, 0, 0, 0, 0};
+    if (tlsf_marked_report(heap, &sums) == TLSF_OK)
+        tlsf_mark_filled(heap->base, ((size_t)sums.live_words + sums.free_words) * 8);
+    return tlsf_close(heap);
+}
+
+/* --- What gives and takes back ---------------------------------------------------------------------------------------- */
+
+TLSF_ANSWER static inline uint32_t tlsf_marked_allocate_place(struct tlsf_heap *heap, uint32_t len, uint32_t *at) TLSF_NOEXCEPT {
+    TLSF_BEGIN_CALL;
+    const uint32_t answer = tlsf_allocate_place(heap, len, at);
+    TLSF_END_CALL;
+    if (answer == TLSF_OK) tlsf_mark_live(tlsf_mark_at(heap, *at), len);
+    return answer;
+}
+
+TLSF_ANSWER static inline uint32_t tlsf_marked_allocate_aligned(struct tlsf_heap *heap, uint32_t len, uint32_t step,
+                                                                uint32_t skew, uint32_t *at) TLSF_NOEXCEPT {
+    TLSF_BEGIN_CALL;
+    const uint32_t answer = tlsf_allocate_aligned(heap, len, step, skew, at);
+    TLSF_END_CALL;
+    if (answer == TLSF_OK) tlsf_mark_live(tlsf_mark_at(heap, *at), len);
+    return answer;
+}
+
+/* It is filled here: the library would fill what may not be touched yet. */
+TLSF_ANSWER static inline uint32_t tlsf_marked_allocate(struct tlsf_heap *heap, uint32_t len,
+                                                        struct tlsf_name *name) TLSF_NOEXCEPT {
+    uint32_t at = 0, bytes = 0;
+    const uint32_t answer = tlsf_marked_allocate_place(heap, len, &at);
+    if (answer != TLSF_OK) return answer;
+    memset(tlsf_mark_at(heap, at), 0, len);
+    return tlsf_marked_place(heap, at, name, &bytes);
+}
+
+static inline uint32_t tlsf_marked_release_place(struct tlsf_heap *heap, uint32_t at) TLSF_NOEXCEPT {
+    struct tlsf_block_info it = {0, 0, 0, 0, 0};
+    const uint32_t looked = tlsf_marked_block_at(heap, at, &it);
+    TLSF_BEGIN_CALL;
+    const uint32_t answer = tlsf_release_place(heap, at);
+    TLSF_END_CALL;
+    if (looked == TLSF_OK && answer == TLSF_OK) tlsf_mark_dead(tlsf_mark_at(heap, at), 0, it.len);
+    return answer;
+}
+
+static inline uint32_t tlsf_marked_release(struct tlsf_heap *heap, const struct tlsf_name *name) TLSF_NOEXCEPT {
+    const uint32_t len = tlsf_marked_len(heap, name);
+    TLSF_BEGIN_CALL;
+    const uint32_t answer = tlsf_release(heap, name);
+    TLSF_END_CALL;
+    if (answer == TLSF_OK) tlsf_mark_dead(tlsf_mark_at(heap, name->at), 0, len);
+    return answer;
+}
+
+static inline uint32_t tlsf_marked_drain(struct tlsf_heap *heap, struct tlsf_take_end *take, uint32_t most,
+                                         uint32_t *came) TLSF_NOEXCEPT {
+    struct tlsf_name name = {0, 0, 0};
+    uint32_t count = 0;
+    if (!heap->is_open || !take->is_open) return tlsf_drain(heap, take, most, came);
+    for (; count < most && tlsf_take(take, &name) == TLSF_OK; count++) tlsf_marked_release(heap, &name);
+    *came = count;
+    return TLSF_OK;
+}
+
+/* --- What resizes ----------------------------------------------------------------------------------------------------- */
+
+/* Whether the live block at a place may have so many bytes where it stands; `*had` is what it has. */
+static inline bool tlsf_mark_stays(struct tlsf_heap *heap, uint32_t at, uint32_t len, uint32_t *had) TLSF_NOEXCEPT {
+    struct tlsf_block_info it = {0, 0, 0, 0, 0}, behind = {0, 0, 0, 0, 0};
+    if (tlsf_marked_block_at(heap, at, &it) != TLSF_OK || it.is_live == 0) return false;
+    *had = it.len;
+    if (tlsf_marked_block_at(heap, at + it.size, &behind) != TLSF_OK || behind.is_live != 0) behind.size = 0;
+    return 3 + (uint64_t)(len > 8 ? len / 8 + (len % 8 != 0) : 1) <= it.size + behind.size;
+}
+
+static inline void tlsf_mark_copy(struct tlsf_heap *heap, uint32_t from, uint32_t to, uint32_t had, uint32_t len) TLSF_NOEXCEPT {
+    tlsf_mark_live(tlsf_mark_at(heap, from), had);
+    memcpy(tlsf_mark_at(heap, to), tlsf_mark_at(heap, from), had < len ? had : len);
+}
+
+TLSF_ANSWER static inline uint32_t tlsf_marked_resize_place(struct tlsf_heap *heap, uint32_t at, uint32_t len,
+                                                            uint32_t *new_at) TLSF_NOEXCEPT {
+    struct tlsf_name name = {0, 0, 0};
+    uint32_t had = 0, to = 0;
+    const bool stays = tlsf_mark_stays(heap, at, len, &had);
+    uint32_t answer = tlsf_marked_place(heap, at, &name, &had);
+    if (answer == TLSF_OK && !stays) answer = tlsf_marked_allocate_place(heap, len, &to);
+    if (answer != TLSF_OK) return answer;
+    if (!stays) {
+        tlsf_mark_copy(heap, at, to, had, len);
+        tlsf_marked_release_place(heap, at);
+        *new_at = to;
+        return TLSF_OK;
+    }
+    TLSF_BEGIN_CALL;
+    answer = tlsf_resize_place(heap, at, len, new_at);
+    TLSF_END_CALL;
+    if (answer == TLSF_OK && len > had) tlsf_mark_live(tlsf_mark_at(heap, at), len);
+    if (answer == TLSF_OK && len < had) tlsf_mark_dead(tlsf_mark_at(heap, at), len, had - len);
+    return answer;
+}
+
+/* What has to move is refused by the call; what stays is resized unfilled, and filled here. */
+TLSF_ANSWER static inline uint32_t tlsf_marked_resize(struct tlsf_heap *heap, const struct tlsf_name *name,
+                                                      uint32_t len) TLSF_NOEXCEPT {
+    uint64_t *base = TLSF_NULL;
+    uint32_t had = 0, at = 0, answer = tlsf_marked_locate(heap, name, &base, &had);
+    if (answer != TLSF_OK || !tlsf_mark_stays(heap, name->at, len, &had)) {
+        TLSF_BEGIN_CALL;
+        answer = tlsf_resize(heap, name, len);
+        TLSF_END_CALL;
+        return answer;
+    }
+    answer = tlsf_marked_resize_place(heap, name->at, len, &at);
+    if (answer == TLSF_OK && len > had) memset((char *)tlsf_mark_at(heap, at) + had, 0, len - had);
+    return answer;
+}
+
+TLSF_ANSWER static inline uint32_t tlsf_marked_reallocate(struct tlsf_heap *heap, struct tlsf_name *name,
+                                                          uint32_t len) TLSF_NOEXCEPT {
+    struct tlsf_name moved = {0, 0, 0};
+    uint64_t *base = TLSF_NULL;
+    uint32_t had = 0, answer = tlsf_marked_locate(heap, name, &base, &had);
+    if (answer != TLSF_OK) return answer;
+    if (tlsf_mark_stays(heap, name->at, len, &had)) return tlsf_marked_resize(heap, name, len);
+    answer = tlsf_marked_allocate(heap, len, &moved);
+    if (answer != TLSF_OK) return answer;
+    tlsf_mark_copy(heap, name->at, moved.at, had, len);
+    tlsf_marked_release(heap, name);
+    *name = moved;
+    return TLSF_OK;
+}
+
+#ifdef __cplusplus
+}
+#endif
+
+/* What tlsf_trace.h may have named before. */
+#undef tlsf_open
+#undef tlsf_open_in
+#undef tlsf_close
+#undef tlsf_allocate
+#undef tlsf_allocate_place
+#undef tlsf_allocate_aligned
+#undef tlsf_release
+#undef tlsf_release_place
+#undef tlsf_resize
+#undef tlsf_resize_place
+#undef tlsf_reallocate
+#undef tlsf_drain
+#define tlsf_open tlsf_marked_open
+#define tlsf_open_in tlsf_marked_open_in
+#define tlsf_close tlsf_marked_close
+#define tlsf_allocate tlsf_marked_allocate
+#define tlsf_allocate_place tlsf_marked_allocate_place
+#define tlsf_allocate_aligned tlsf_marked_allocate_aligned
+#define tlsf_release tlsf_marked_release
+#define tlsf_release_place tlsf_marked_release_place
+#define tlsf_resize tlsf_marked_resize
+#define tlsf_resize_place tlsf_marked_resize_place
+#define tlsf_reallocate tlsf_marked_reallocate
+#define tlsf_drain tlsf_marked_drain
+#define tlsf_place tlsf_marked_place
+#define tlsf_locate tlsf_marked_locate
+#define tlsf_read tlsf_marked_read
+#define tlsf_write tlsf_marked_write
+#define tlsf_block_at tlsf_marked_block_at
+#define tlsf_counts tlsf_marked_counts
+#define tlsf_report tlsf_marked_report
+#define tlsf_check tlsf_marked_check
+#endif

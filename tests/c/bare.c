@@ -1,0 +1,45 @@
+/* A program with no C library: it links libtlsf_nomalloc.a, two functions of its own that fill and copy, and nothing else. It
+ * allocates, writes, frees and closes in a static array, and ends with 0 where all is as it should be.
+ * Build with -nostdlib -static -O2, for x86-64 Linux. */
+#include "tlsf.h"
+
+static _Alignas(16) unsigned char memory[1 << 16];
+
+/* Loops, where a compiler would call them by themselves. */
+void *memset(void *to, int byte, size_t n) {
+    for (volatile char *p = to; n--; p++) *p = (char)byte;
+    return to;
+}
+void *memcpy(void *restrict to, const void *restrict from, size_t n) {
+    const char *q = from;
+    for (volatile char *p = to; n--; p++) *p = *q++;
+    return to;
+}
+
+static long system_call(long number, long first, const void *second) {
+    long answer;
+    __asm__ volatile("syscall" : "=a"(answer) : "a"(number), "D"(first), "S"(second) : "rcx", "r11", "memory");
+    return answer;
+}
+
+static int uses_heap(void) {
+    static struct tlsf_heap heap = TLSF_CLOSED;
+    if (tlsf_open(&heap, 4, 1, 64) != TLSF_NO_MEMORY || tlsf_open_in(&heap, 4, 1, memory, sizeof memory) != TLSF_OK) return 1;
+    unsigned char *p = tlsf_malloc(&heap, 1000), *q = tlsf_calloc(&heap, 10, 10);
+    if (!p || !q || q[99] != 0) return 2;
+    p[999] = 7;
+    p = tlsf_realloc(&heap, p, 5000);
+    if (!p || p[999] != 7) return 3;
+    if (tlsf_free(&heap, p) || tlsf_free(&heap, q) || tlsf_free(&heap, p) != TLSF_STALE) return 4;
+    return tlsf_close(&heap) == TLSF_OK ? 0 : 5;
+}
+
+/* What a C library does at a program's start: the thread's own variables lie in front of where fs points. */
+void begin(void);
+__attribute__((force_align_arg_pointer)) void begin(void) {
+    static _Alignas(16) unsigned char own[256];
+    void **const thread = (void **)(void *)(own + sizeof own - 16);
+    *thread = thread;
+    if (system_call(158, 0x1002, thread) != 0) system_call(60, 9, 0); /* arch_prctl, ARCH_SET_FS; exit */
+    system_call(60, uses_heap(), 0);
+}

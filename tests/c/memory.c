@@ -1,0 +1,242 @@
+/* Heaps and lanes in memory of the program's, at each alignment: what they take, that nothing else is written, that no malloc
+ * and no free is called, and that it is the program's again. With NO_MALLOC there is no malloc, and tlsf_open is refused.
+ * Link with -Wl,--wrap=malloc,--wrap=free,--wrap=tlsf_memory_alloc. */
+#include "tlsf.h"
+
+#include <pthread.h>
+#include <stdio.h>
+#include <stdlib.h>
+
+enum { ROOM = 1 << 17, GUARD = 32, FILLED = 0xa5 };
+
+static _Alignas(16) unsigned char room[2][ROOM];
+static int calls; /* of malloc and free */
+static int is_counted;
+
+#ifdef NO_MALLOC
+#define NEW_ANSWER TLSF_NO_MEMORY
+#else
+#define NEW_ANSWER TLSF_OK
+#endif
+
+void *__real_malloc(size_t n);
+void __real_free(void *p);
+void *__wrap_malloc(size_t n);
+void __wrap_free(void *p);
+void *__wrap_malloc(size_t n) {
+    if (is_counted) calls++;
+    return __real_malloc(n);
+}
+void __wrap_free(void *p) {
+    if (is_counted) calls++;
+    __real_free(p);
+}
+
+/* What the proved code asks for: where the last piece ends, and where all would that lie as near together as they may. */
+struct piece {
+    uint64_t is_there;
+    void *at;
+};
+static _Thread_local const unsigned char *last_end;
+static _Thread_local size_t near_end;
+struct piece __real_tlsf_memory_alloc(size_t bytes, size_t align);
+struct piece __wrap_tlsf_memory_alloc(size_t bytes, size_t align);
+struct piece __wrap_tlsf_memory_alloc(size_t bytes, size_t align) {
+    const struct piece piece = __real_tlsf_memory_alloc(bytes, align);
+    last_end = (const unsigned char *)piece.at + bytes;
+    near_end = (near_end + 15) / 16 * 16 + 8 + bytes;
+    return piece;
+}
+
+static void wants(const char *what, size_t got, size_t wanted) {
+    if (got == wanted) return;
+    printf("%s: %zu, and not %zu\n", what, got, wanted);
+    exit(1);
+}
+
+static uint32_t words_of(struct tlsf_heap *heap) {
+    struct tlsf_heap_report r = {0, 0, 0, 0, 0, 0, 0, 0, 0, 0};
+    wants("report", tlsf_report(heap, &r), TLSF_OK);
+    return r.live_words + r.free_words;
+}
+
+/* Whether all is as it was filled, but for `bytes` bytes from `from` on. */
+static void check_outside(const unsigned char *all, const unsigned char *from, size_t bytes) {
+    for (const unsigned char *p = all; p < all + ROOM; p++)
+        if (p < from || p >= from + bytes) wants("a byte outside", *p, FILLED);
+}
+
+/* Fills all payload of a heap, and sees that it lies in its memory. */
+static void use(struct tlsf_heap *heap, const unsigned char *from, size_t bytes) {
+    struct tlsf_name name = {0, 0, 0};
+    uint64_t *base = NULL;
+    uint32_t len = 0, count = 0;
+    while (tlsf_allocate(heap, 40, &name) == TLSF_OK || tlsf_allocate(heap, 8, &name) == TLSF_OK) {
+        wants("locate", tlsf_locate(heap, &name, &base, &len), TLSF_OK);
+        unsigned char *p = (unsigned char *)(base + name.at + 3);
+        wants("in its memory", p >= from && p + len <= from + bytes, 1);
+        wants("the base, 8 bytes behind a multiple of 16", (uintptr_t)base % 16, 8);
+        memset(p, 0x5a, len);
+        count++;
+    }
+    wants("some block", count > 0, 1);
+}
+
+/* --- Heaps ---------------------------------------------------------------------------------------------------------- */
+
+/* A heap in so many bytes at an alignment; how many words it has, 0 where it is refused. */
+static uint32_t heap_in(uint32_t level, size_t align, size_t bytes) {
+    struct tlsf_heap heap = TLSF_CLOSED;
+    unsigned char *const from = room[0] + GUARD + align;
+    memset(room[0], FILLED, ROOM);
+    const uint32_t answer = tlsf_open_in(&heap, level, 1, from, bytes);
+    if (answer != TLSF_OK) {
+        wants("refused", answer, TLSF_BAD_SIZE);
+        check_outside(room[0], from, 0);
+        return 0;
+    }
+    const uint32_t words = words_of(&heap);
+    if (align == 1) wants("the last byte", (size_t)(last_end - from), tlsf_bytes(level, words));
+    use(&heap, from, bytes);
+    wants("close", tlsf_close(&heap), TLSF_OK);
+    check_outside(room[0], from, tlsf_bytes(level, words) < bytes ? tlsf_bytes(level, words) : bytes);
+    return words;
+}
+
+/* No fewer bytes would do: the pieces that the same heap takes of malloc, one behind the other. */
+static void check_least(uint32_t level, uint32_t words) {
+    struct tlsf_heap heap = TLSF_CLOSED;
+    near_end = 0;
+    if (tlsf_open(&heap, level, 1, words) == TLSF_NO_MEMORY) return;
+    wants("the least bytes", tlsf_bytes(level, words), 15 + near_end);
+    wants("close", tlsf_close(&heap), TLSF_OK);
+}
+
+static void heaps(uint32_t level) {
+    static const uint32_t sizes[] = {4, 5, 6, 7, 8, 31, 32, 63, 64, 65, 66, 127, 128, 129, 130, 1000, 1001, 4095, 4096, 4097};
+    for (size_t k = 0; k < sizeof sizes / sizeof *sizes; k++) {
+        const size_t bytes = tlsf_bytes(level, sizes[k]);
+        uint32_t least = UINT32_MAX;
+        check_least(level, sizes[k]);
+        for (size_t align = 0; align < 16; align++) {
+            const uint32_t words = heap_in(level, align, bytes), fewer = heap_in(level, align, bytes - 1);
+            wants("as many words as were asked for", words >= sizes[k], 1);
+            least = fewer < least ? fewer : least;
+        }
+        wants("fewer words in one byte fewer", least < sizes[k], 1);
+    }
+    for (size_t bytes = 0; bytes < 200; bytes++) wants("too few bytes", heap_in(level, bytes % 16, bytes), 0);
+    for (size_t bytes = tlsf_bytes(level, 500), last = 0; bytes < tlsf_bytes(level, 600); bytes++) {
+        const uint32_t words = heap_in(level, 3, bytes);
+        wants("more words in more bytes", words >= last && words <= last + (last ? 2 : 600), 1);
+        last = words;
+    }
+    wants("no such sizes", tlsf_bytes(level, 3) + tlsf_bytes(level, (level == 4 ? 1u << 20 : 1u << 24) + 1), 0);
+    wants("the largest", tlsf_bytes(level, level == 4 ? 1u << 20 : 1u << 24) > 8u << 20, 1);
+}
+
+/* More than a heap may have: as many words as it may, and the rest stays as it is. */
+static void too_much(void) {
+    struct tlsf_heap heap = TLSF_CLOSED;
+    const size_t bytes = tlsf_bytes(4, 1u << 20), all = bytes + 100000;
+    unsigned char *const memory = malloc(all);
+    if (!memory) exit(2);
+    memset(memory, FILLED, all);
+    wants("open in more than it may have", tlsf_open_in(&heap, 4, 1, memory, all), TLSF_OK);
+    wants("the most words", words_of(&heap), 1u << 20);
+    wants("close", tlsf_close(&heap), TLSF_OK);
+    for (size_t k = bytes; k < all; k++) wants("a byte of the rest", memory[k], FILLED);
+    wants("open in all there is", tlsf_open_in(&heap, 4, 1, memory, SIZE_MAX / 8 + 4096), TLSF_OK);
+    wants("the most words", words_of(&heap), 1u << 20);
+    wants("close", tlsf_close(&heap), TLSF_OK);
+    free(memory);
+}
+
+static void refusals(void) {
+    struct tlsf_heap heap = TLSF_CLOSED, none = TLSF_CLOSED;
+    struct tlsf_name name = {0, 0, 0};
+    wants("levels", tlsf_bytes(3, 64) + tlsf_bytes(6, 64), 0);
+    wants("level 3", tlsf_open_in(&heap, 3, 1, room[0], 8), TLSF_BAD_LEVEL);
+    wants("no room", tlsf_open_in(&heap, 4, 1, room[0], 8), TLSF_BAD_SIZE);
+    wants("a heap", tlsf_open_in(&heap, 4, 1, room[0], ROOM), TLSF_OK);
+    wants("in use", tlsf_open_in(&heap, 3, 1, room[1], 8), TLSF_IN_USE);
+    wants("still there", tlsf_allocate(&heap, 8, &name), TLSF_OK);
+    wants("close", tlsf_close(&heap), TLSF_OK);
+    wants("no malloc so far", (size_t)calls, 0);
+    wants("by malloc", tlsf_open(&none, 4, 1, 64), NEW_ANSWER);
+    if (none.is_open) wants("close", tlsf_close(&none), TLSF_OK);
+    wants("malloc and free", calls != 0, NEW_ANSWER == TLSF_OK);
+}
+
+/* --- Lanes ---------------------------------------------------------------------------------------------------------- */
+
+static uint32_t lane_in(uint32_t capacity, size_t align, size_t bytes) {
+    struct tlsf_post_end post = TLSF_POST_CLOSED;
+    struct tlsf_take_end take = TLSF_TAKE_CLOSED;
+    struct tlsf_name name = {1, 2, 3}, got = {0, 0, 0};
+    unsigned char *const from = room[0] + GUARD + align;
+    memset(room[0], FILLED, ROOM);
+    const uint32_t answer = tlsf_lane_open_in(&post, &take, capacity, from, bytes);
+    if (answer != TLSF_OK) {
+        check_outside(room[0], from, 0);
+        return answer;
+    }
+    if (align == 1) wants("the last byte", (size_t)(last_end - from), tlsf_lane_bytes(capacity));
+    for (uint32_t k = 0; k < capacity; k++) wants("put", tlsf_put(&post, &name), TLSF_OK);
+    wants("put one more", tlsf_put(&post, &name), TLSF_FULL);
+    wants("take", tlsf_take(&take, &got), TLSF_OK);
+    wants("the name", got.serial, 3);
+    wants("close", align % 2 ? tlsf_post_close(&post) : tlsf_take_close(&take), TLSF_OK);
+    wants("close the other", align % 2 ? tlsf_take_close(&take) : tlsf_post_close(&post), TLSF_OK);
+    check_outside(room[0], from, tlsf_lane_bytes(capacity));
+    return answer;
+}
+
+static void lanes(void) {
+    static const uint32_t sizes[] = {1, 2, 3, 64, 1023, 1024};
+    for (size_t k = 0; k < sizeof sizes / sizeof *sizes; k++) {
+        const size_t bytes = tlsf_lane_bytes(sizes[k]);
+        for (size_t align = 0; align < 16; align++) wants("a lane", lane_in(sizes[k], align, bytes + align), TLSF_OK);
+        wants("one byte fewer", lane_in(sizes[k], 1, bytes - 1), TLSF_BAD_SIZE);
+    }
+    wants("no such lanes", tlsf_lane_bytes(0) + tlsf_lane_bytes(1025), 0);
+    wants("for 0", lane_in(0, 0, ROOM / 2), TLSF_BAD_SIZE);
+    wants("for 1,025", lane_in(1025, 0, ROOM / 2), TLSF_BAD_SIZE);
+}
+
+/* --- Two threads that open at once ---------------------------------------------------------------------------------- */
+
+static void *open_often(void *given) {
+    unsigned char *const own = given;
+    for (int turn = 0; turn < 3000; turn++) {
+        struct tlsf_heap heap = TLSF_CLOSED, other = TLSF_CLOSED;
+        const size_t bytes = 4000 + (size_t)turn % 700;
+        wants("open in", tlsf_open_in(&heap, 4 + (uint32_t)turn % 2, 1, own, bytes), TLSF_OK);
+        wants("by malloc meanwhile", tlsf_open(&other, 4, 2, 64), NEW_ANSWER);
+        if (turn % 50 == 0) use(&heap, own, bytes);
+        wants("close", tlsf_close(&heap), TLSF_OK);
+        if (other.is_open) wants("close", tlsf_close(&other), TLSF_OK);
+    }
+    return NULL;
+}
+
+static void threads(void) {
+    pthread_t thread;
+    if (pthread_create(&thread, NULL, open_often, room[1])) exit(2);
+    (void)open_often(room[0]);
+    pthread_join(thread, NULL);
+}
+
+int main(void) {
+    heaps(4);
+    heaps(5);
+    too_much();
+    is_counted = 1;
+    (void)heap_in(4, 0, ROOM / 2);
+    lanes();
+    refusals();
+    is_counted = 0;
+    threads();
+    printf("heaps and lanes in memory of the program's: all as said\n");
+    return 0;
+}

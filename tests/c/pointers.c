@@ -1,0 +1,319 @@
+/* malloc's calls by chance on two heaps, against a table: one heap in memory of the program's, one in malloc's. What each block
+ * holds is looked at byte by byte, and each answer is judged. Pointers that no live block has are given to each call, and some
+ * blocks are made or released by name. POINTERS [CALLS] [SEED] [LEVEL] [names] */
+#include "tlsf.h"
+
+#include <stdio.h>
+#include <stdlib.h>
+
+enum { HEAPS = 2, MOST = 200, LONGEST = 700, WORDS = 2401, NUMBER = 5, GUARD = 64, HEADER = 3 };
+
+struct block {
+    unsigned char *p; /* null: the slot is free */
+    size_t len;
+    unsigned char fill;
+};
+
+struct model {
+    struct tlsf_heap heap;
+    struct block blocks[MOST];
+    void *gone[MOST]; /* freed before, and not given again since; or null */
+    uint32_t live, refused, longest, most_words;
+};
+
+static struct model models[HEAPS] = {{.heap = TLSF_CLOSED}, {.heap = TLSF_CLOSED}};
+static unsigned char *memory, *inside;
+static uint64_t state;
+static long call, counts[4];
+static int with_names;
+
+static uint32_t below(uint32_t n) {
+    state ^= state << 13;
+    state ^= state >> 7;
+    state ^= state << 17;
+    return (uint32_t)((state >> 16) % n);
+}
+
+static void wants(const char *what, size_t got, size_t wanted) {
+    if (got == wanted) return;
+    printf("call %ld: %s: %zu, and not %zu\n", call, what, got, wanted);
+    exit(1);
+}
+
+static size_t any_len(void) { return below(5) ? below(120) : below(LONGEST + 1); }
+
+static struct tlsf_heap_report report_of(struct model *m) {
+    struct tlsf_heap_report r = {0, 0, 0, 0, 0, 0, 0, 0, 0, 0};
+    wants("report", tlsf_report(&m->heap, &r), TLSF_OK);
+    return r;
+}
+
+/* --- What a block has to be ----------------------------------------------------------------------------------------- */
+
+static void check_bytes(const struct block *b, size_t len) {
+    for (size_t k = 0; k < len; k++) wants("a byte of a block", b->p[k], b->fill);
+}
+
+/* No two live blocks overlap, since each byte of each has its block's value. */
+static void fill(struct block *b) {
+    b->fill = (unsigned char)below(256);
+    memset(b->p, b->fill, b->len);
+}
+
+/* A block that was given: its pointer is aligned and in the region, and it isn't one of those that are gone any more. */
+static void take_in(struct model *m, struct block *b, void *p, size_t len, size_t align) {
+    const size_t offset = (uintptr_t)p - (uintptr_t)m->heap.base;
+    wants("alignment", (uintptr_t)p % align, 0);
+    wants("in the region", offset >= 8 * HEADER && offset + len <= 8 * (size_t)WORDS, 1);
+    wants("usable size", tlsf_usable_size(&m->heap, p) >= len, 1);
+    for (int k = 0; k < MOST; k++) if (m->gone[k] == p) m->gone[k] = NULL;
+    b->p = p;
+    b->len = len;
+}
+
+/* By what the report grants a request has to be served, where aligning takes no more than `extra` bytes. */
+static int is_served(struct model *m, const void *p, size_t len, size_t extra) {
+    const struct tlsf_heap_report r = report_of(m);
+    const size_t wanted = tlsf_rounded((uint32_t)len);
+    const int has_room = r.free_blocks != 0;
+    counts[p == NULL]++;
+    if (p) return 1;
+    wants("refused, though there is room", has_room && wanted + extra <= r.grant, 0);
+    return 0;
+}
+
+/* --- The calls ------------------------------------------------------------------------------------------------------ */
+
+static void give_plain(struct model *m, struct block *b) {
+    const size_t len = any_len();
+    const int is_zero = below(3) == 0;
+    void *p = is_zero ? tlsf_calloc(&m->heap, len, 1) : below(2) ? tlsf_malloc(&m->heap, len) : tlsf_realloc(&m->heap, NULL, len);
+    if (!is_served(m, p, len, with_names ? 48 : 0)) return;
+    take_in(m, b, p, len, 16);
+    b->fill = 0;
+    if (is_zero) check_bytes(b, len);
+    fill(b);
+}
+
+static void give_aligned(struct model *m, struct block *b) {
+    const size_t len = any_len(), align = (size_t)1 << below(13);
+    void *p = tlsf_aligned_alloc(&m->heap, align, len);
+    if (!is_served(m, p, len, 32 + (align > 16 ? align : 16))) return;
+    take_in(m, b, p, len, align);
+    fill(b);
+}
+
+static void give_named(struct model *m, struct block *b) {
+    const int is_odd = with_names && below(2);
+    const size_t any = any_len(), len = is_odd ? any / 16 * 16 + 9 + any % 8 : any; /* of an odd number of words */
+    const uint32_t flags = below(2) ? TLSF_UNFILLED : 0;
+    struct tlsf_name name = {0, 0, 0}, found = {1, 1, 1};
+    void *p = NULL;
+    uint32_t answer = is_odd ? tlsf_allocate(&m->heap, (uint32_t)len, &name) : tlsf_allocate_at(&m->heap, len, 64, flags, &name, &p);
+    if (answer == TLSF_OK && is_odd) p = tlsf_payload(&m->heap, &name, NULL);
+    wants("answer", answer, p ? TLSF_OK : TLSF_NO_FIT);
+    if (!is_served(m, p, len, 32 + 64)) return;
+    take_in(m, b, p, len, is_odd ? 8 : 64);
+    wants("name", tlsf_name_at(&m->heap, p, &found), TLSF_OK);
+    wants("the same name", found.heap == name.heap && found.at == name.at && found.serial == name.serial, 1);
+    b->fill = 0;
+    if (is_odd || !flags) check_bytes(b, tlsf_usable_size(&m->heap, p));
+    fill(b);
+}
+
+static void give(struct model *m, struct block *b) {
+    const uint32_t kind = below(8);
+    if (kind == 0) give_aligned(m, b);
+    else if (kind < (with_names ? 4 : 2)) give_named(m, b);
+    else give_plain(m, b);
+    m->live += b->p != NULL;
+}
+
+static void resize(struct model *m, struct block *b) {
+    const size_t len = any_len() + 1, had = b->len;
+    unsigned char *p = tlsf_realloc(&m->heap, b->p, len);
+    if (!p) {
+        wants("a block that isn't longer", len > had, 1);
+        (void)is_served(m, p, len, with_names ? 48 : 0);
+        return;
+    }
+    counts[2] += p != b->p;
+    if (p != b->p) take_in(m, b, p, len, 16);
+    wants("usable size", tlsf_usable_size(&m->heap, p) >= len, 1);
+    b->len = len;
+    check_bytes(b, had < len ? had : len);
+    fill(b);
+}
+
+static void end(struct model *m, struct block *b) {
+    struct tlsf_name name = {0, 0, 0};
+    const uint32_t way = below(8);
+    if (way == 0) {
+        wants("name", tlsf_name_at(&m->heap, b->p, &name), TLSF_OK);
+        wants("release by name", tlsf_release(&m->heap, &name), TLSF_OK);
+        wants("release again", tlsf_release(&m->heap, &name), TLSF_STALE);
+    } else if (way == 1) {
+        wants("realloc to nothing", tlsf_realloc(&m->heap, b->p, 0) == NULL, 1);
+    } else {
+        wants("free", tlsf_free(&m->heap, b->p), TLSF_OK);
+    }
+    wants("a second free", tlsf_free(&m->heap, b->p), TLSF_STALE);
+    m->gone[below(MOST)] = b->p;
+    b->p = NULL;
+    m->live--;
+}
+
+/* --- Pointers that no live block has -------------------------------------------------------------------------------- */
+
+static unsigned char *wild(struct model *m, struct model *other, struct block *b) {
+    unsigned char *const p = b->p ? b->p : (unsigned char *)m->heap.base + 24;
+    switch (below(8)) {
+    case 0: return b->p && b->len > 16 ? p + 1 + below((uint32_t)b->len - 1) : p - 8;
+    case 1: return p - 8;
+    case 2: return p + 8;
+    case 3: return p + 1 + below(7);
+    case 4: return other->blocks[below(MOST)].p;
+    case 5: return (unsigned char *)m->heap.base + 8 * (uintptr_t)WORDS + below(4096);
+    case 6: return (unsigned char *)(((uintptr_t)below(1u << 30) << 33) + below(64));
+    default: return m->gone[below(MOST)];
+    }
+}
+
+static int is_given(const struct model *m, const unsigned char *p) {
+    for (int k = 0; k < MOST; k++) if (m->blocks[k].p == p) return 1;
+    return 0;
+}
+
+static void refuse_wild(struct model *m, struct model *other, struct block *b) {
+    unsigned char *const p = wild(m, other, b);
+    struct tlsf_name name = {9, 9, 9};
+    if (!p || is_given(m, p)) return;
+    counts[3]++;
+    wants("free of a wild pointer", tlsf_free(&m->heap, p), TLSF_STALE);
+    wants("its usable size", tlsf_usable_size(&m->heap, p), 0);
+    wants("its realloc", tlsf_realloc(&m->heap, p, 40) == NULL, 1);
+    wants("its name", tlsf_name_at(&m->heap, p, &name), TLSF_STALE);
+    wants("the name as before", name.heap == 9 && name.at == 9 && name.serial == 9, 1);
+}
+
+static void refuse_sizes(struct model *m, void *live) {
+    static const size_t too_long[] = {SIZE_MAX, SIZE_MAX - 7, SIZE_MAX / 2, (size_t)1 << 32, ((size_t)1 << 32) + 8, ((size_t)1 << 27) + 1};
+    const size_t len = too_long[below(6)];
+    struct tlsf_name name = {9, 9, 9};
+    void *p = NULL;
+    const uint32_t any = below(1u << 30) * 5u, rounded = tlsf_rounded(any);
+    wants("rounded", rounded == UINT32_MAX ? any > UINT32_MAX - 15 : rounded >= any && rounded - any < 16 && rounded % 16 == 8, 1);
+    wants("the longest", tlsf_rounded(UINT32_MAX), UINT32_MAX);
+    wants("nearly", tlsf_rounded(UINT32_MAX - 15) >= UINT32_MAX - 15 && tlsf_rounded(UINT32_MAX - 14) == UINT32_MAX, 1);
+    wants("free of null", tlsf_free(&m->heap, NULL), TLSF_OK);
+    wants("malloc", tlsf_malloc(&m->heap, len) == NULL, 1);
+    wants("realloc", tlsf_realloc(&m->heap, live, len) == NULL, 1);
+    wants("calloc", tlsf_calloc(&m->heap, len, len) == NULL && tlsf_calloc(&m->heap, len, 1) == NULL && tlsf_calloc(&m->heap, 8, len / 8 + 1) == NULL, 1);
+    wants("aligned_alloc", tlsf_aligned_alloc(&m->heap, 64, len) == NULL, 1);
+    wants("no alignment", !tlsf_aligned_alloc(&m->heap, 0, 8) && !tlsf_aligned_alloc(&m->heap, 24, 8) && !tlsf_aligned_alloc(&m->heap, 8192, 8), 1);
+    wants("allocate_at", tlsf_allocate_at(&m->heap, len, 8, 0, &name, &p), TLSF_NO_FIT);
+    wants("allocate_at 3", tlsf_allocate_at(&m->heap, 8, 3, 0, &name, &p), TLSF_BAD_SIZE);
+    wants("as before", name.heap == 9 && p == NULL, 1);
+}
+
+/* --- The whole heap ------------------------------------------------------------------------------------------------- */
+
+static void check_all(struct model *m) {
+    struct tlsf_heap_counts c = {0, 0, 0, 0};
+    struct tlsf_block_info it = {0, 0, 0, 0, 0};
+    uint32_t at = 0, live = 0, words = 0;
+    for (int k = 0; k < MOST; k++) if (m->blocks[k].p) check_bytes(&m->blocks[k], m->blocks[k].len);
+    for (; tlsf_block_at(&m->heap, at, &it) == TLSF_OK; at += it.size) {
+        wants("an even place", !with_names && at % 2, 0);
+        wants("a block's words hold its bytes", 8 * (size_t)it.size >= 8 * HEADER + it.len, 1);
+        live += it.is_live;
+        words += it.is_live ? it.size : 0;
+    }
+    wants("blocks end where the region does", at, WORDS);
+    wants("live blocks", live, m->live);
+    wants("counts", tlsf_counts(&m->heap, &c), TLSF_OK);
+    wants("words in use", c.words, words);
+    if (words > m->most_words) m->most_words = words;
+    wants("the most words", c.most_words >= m->most_words, 1);
+    m->most_words = c.most_words;
+}
+
+static void count_refusals(struct model *m) {
+    struct tlsf_heap_counts c = {0, 0, 0, 0};
+    const uint32_t len = 8 * WORDS + 8 * below(WORDS);
+    uint32_t at = 0;
+    wants("too long", tlsf_allocate_place(&m->heap, len, &at), TLSF_NO_FIT);
+    wants("counts", tlsf_counts(&m->heap, &c), TLSF_OK);
+    if (len > m->longest) m->longest = len;
+    wants("the longest that was refused", c.longest_refused, m->longest);
+    wants("refusals", c.refused > m->refused, 1);
+    m->refused = c.refused;
+}
+
+static void open_all(uint32_t level) {
+    const size_t bytes = tlsf_bytes(level, WORDS);
+    memory = malloc(bytes + 2 * GUARD);
+    if (!memory) exit(2);
+    memset(memory, 0xa5, bytes + 2 * GUARD);
+    inside = memory + GUARD + 1; /* at the worst alignment, as many words as were asked for */
+    wants("open in", tlsf_open_in(&models[0].heap, level, NUMBER, inside, bytes), TLSF_OK);
+    wants("open", tlsf_open(&models[1].heap, level, NUMBER + 1, WORDS), TLSF_OK);
+}
+
+static void close_all(uint32_t level) {
+    const size_t bytes = tlsf_bytes(level, WORDS);
+    for (int h = 0; h < HEAPS; h++) {
+        struct model *m = &models[h];
+        for (int k = 0; k < MOST; k++) if (m->blocks[k].p) end(m, &m->blocks[k]);
+        const struct tlsf_heap_report r = report_of(m);
+        wants("one free block", r.live_blocks == 0 && r.free_blocks == 1 && r.free_words == WORDS, 1);
+        wants("close", tlsf_close(&m->heap), TLSF_OK);
+        wants("closed", tlsf_malloc(&m->heap, 8) == NULL && tlsf_free(&m->heap, inside) == TLSF_IS_CLOSED, 1);
+    }
+    for (size_t k = 0; k < bytes + 2 * GUARD; k++)
+        if (memory + k < inside || memory + k >= inside + bytes) wants("a byte outside", memory[k], 0xa5);
+    free(memory);
+}
+
+/* A block that would have room with one word more: it moves, and what is free begins at an odd place. */
+static void lacks_one_word(void) {
+    struct tlsf_heap heap = TLSF_CLOSED;
+    struct tlsf_name names[3];
+    wants("open", tlsf_open(&heap, 4, 1, 400), TLSF_OK);
+    unsigned char *p = tlsf_malloc(&heap, 24), *q = p;
+    for (int k = 0; k < 3; k++) wants("five words", tlsf_allocate(&heap, 16, &names[k]), TLSF_OK);
+    wants("release", tlsf_release(&heap, &names[0]), TLSF_OK);
+    p = tlsf_realloc(&heap, p, 64); /* 12 words, where 6 and 5 are */
+    wants("moved, and aligned", p && p != q && (uintptr_t)p % 16 == 0, 1);
+    q = p;
+    p = tlsf_realloc(&heap, p, 20);
+    wants("it stays where it is shorter", p == q, 1);
+    wants("odd blocks are noted", heap.is_mixed, 1);
+    wants("close", tlsf_close(&heap), TLSF_OK);
+    wants("and forgotten", heap.is_mixed, 0);
+}
+
+int main(int argc, char **argv) {
+    const long calls = argc > 1 ? strtol(argv[1], NULL, 10) : 20000;
+    const uint32_t level = argc > 3 ? (uint32_t)strtoul(argv[3], NULL, 10) : 4;
+    state = 88172645463325252u + 7919 * (argc > 2 ? strtoul(argv[2], NULL, 10) : 0);
+    with_names = argc > 4;
+    lacks_one_word();
+    open_all(level);
+    for (call = 0; call < calls; call++) {
+        const uint32_t h = below(HEAPS), kind = below(10);
+        struct model *m = &models[h];
+        struct block *b = &m->blocks[below(MOST)];
+        if (b->p) check_bytes(b, b->len);
+        if (kind == 9) refuse_wild(m, &models[1 - h], b);
+        else if (kind == 8 && below(20) == 0) refuse_sizes(m, b->p), count_refusals(m);
+        else if (!b->p) give(m, b);
+        else if (kind < 4) resize(m, b);
+        else end(m, b);
+        if (call % 200 == 0) check_all(m);
+    }
+    close_all(level);
+    printf("level %u%s: %ld given, %ld refused, %ld moved, %ld wild pointers refused\n", (unsigned)level, with_names ? ", with names" : "",
+           counts[0], counts[1], counts[2], counts[3]);
+    return 0;
+}
