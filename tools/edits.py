@@ -12,6 +12,7 @@ FOLDERS = ("must-fail", "attack")
 PARTS = ("src", "specs", "proofs")
 # The line of an edit of a law that says what shows that the law is false then.
 SHOWN = re.compile(rb"^shown: .*\n", re.M)
+IMPL = re.compile(r"impl(?:<.*?>)? (?:[\w:]+(?:<.*?>)? for )?(\w+)")
 HEADER = re.compile(r'( *)(?:pub(?:\([a-z]+\))? )?(?:(?:const|unsafe|final|extern "C") )*fn (\w+)')
 
 
@@ -49,28 +50,38 @@ def text_sum(crate):
 
 @dataclasses.dataclass(frozen=True)
 class Body:
-    """A function of a source file, by the numbers of its lines from 0: the first, which is that of its first attribute or comment, the
-    one that opens its body, and the last."""
+    """A function of a source file, with the type that it is a method of, or "". By the numbers of its lines from 0: the first, which is
+    that of its first attribute or comment, the one that opens its body, and the last."""
 
     file: str
+    type: str
     name: str
     first: int
     opens: int
     last: int
 
+    @property
+    def owner(self):
+        """What it is named by beside its own name: its type, or else its file."""
+        return self.type or self.file
+
     def has_proof(self, file):
-        """Whether a file is one of the function's own proof: in a folder of its name, below that of its source file."""
+        """Whether a file is one of the function's own proof: in a folder of its name, below that of its type or else of its source file."""
         parts, module = file.split("/"), self.file.removesuffix(".rt").split("/")[1:]
         if module in (["lib"], ["main"]):
             module = []
-        return parts[0] == "proofs" and parts[1 : len(module) + 1] == module and parts[-2].removeprefix("+") == self.name
+        below = parts[-3].startswith(self.type) if self.type else parts[1 : len(module) + 1] == module
+        return parts[0] == "proofs" and below and parts[-2].removeprefix("+") == self.name
 
 
 def bodies_in(file, text):
     """The functions of a source file as `rt fmt` sets it, with their bodies."""
     lines = text.split("\n")
     at = first = 0
+    type_name = ""
     while at < len(lines):
+        if line := IMPL.match(lines[at]):
+            type_name = line[1]
         header = HEADER.match(lines[at])
         opens, at = at, at + 1
         if not lines[opens]:
@@ -88,5 +99,5 @@ def bodies_in(file, text):
         while last < len(lines) and lines[last] != indent + "}":
             last += 1
         if last < len(lines) and lines[opens].endswith("{"):
-            yield Body(file, header[2], first, opens, last)
+            yield Body(file, type_name if indent else "", header[2], first, opens, last)
             at = first = last + 1
