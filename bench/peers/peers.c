@@ -22,9 +22,10 @@
 
 #ifdef AUTHORS
 size_t init_memory_pool(size_t bytes, void *pool);
-void *tlsf_calloc(size_t count, size_t bytes);
-void tlsf_free(void *block);
-void *tlsf_realloc(void *block, size_t bytes);
+/* Inline calls of tlsf.h have these names too. */
+void *authors_calloc(size_t count, size_t bytes) __asm__("tlsf_calloc");
+void authors_free(void *block) __asm__("tlsf_free");
+void *authors_realloc(void *block, size_t bytes) __asm__("tlsf_realloc");
 #endif
 
 enum { ROUNDS = 1000, WARM = 20000, LIVE = 1000, MOST_HOLES = 100000, MOST_BLOCKS = 1 << 20, WORDS = 1 << 20, TRAP = 0x100 };
@@ -94,7 +95,7 @@ static int gives(struct block *block, uint32_t len, int counts) {
     block->len = len;
     if (column == SYSTEM) block->at = call(tally, (uintptr_t)calloc, 1, len, 0, 0, 0);
 #ifdef AUTHORS
-    else if (column == AUTHORS_OWN) block->at = call(tally, (uintptr_t)tlsf_calloc, 1, len, 0, 0, 0);
+    else if (column == AUTHORS_OWN) block->at = call(tally, (uintptr_t)authors_calloc, 1, len, 0, 0, 0);
 #endif
     else block->at = !(uint32_t)call(tally, (uintptr_t)tlsf_allocate, (uintptr_t)&heap, len, (uintptr_t)&block->name, 0, 0);
     return block->at != 0;
@@ -106,20 +107,18 @@ static void release(struct block *block, int counts) {
     struct tally *tally = counts ? &releases : NULL;
     if (column == SYSTEM) call(tally, (uintptr_t)free, block->at, 0, 0, 0, 0);
 #ifdef AUTHORS
-    else if (column == AUTHORS_OWN) call(tally, (uintptr_t)tlsf_free, block->at, 0, 0, 0, 0);
+    else if (column == AUTHORS_OWN) call(tally, (uintptr_t)authors_free, block->at, 0, 0, 0, 0);
 #endif
     else ends_if((int)call(tally, (uintptr_t)tlsf_release, (uintptr_t)&heap, (uintptr_t)&block->name, 0, 0, 0), "release");
 }
-
-static uint64_t reallocate(struct tlsf_heap *in, struct tlsf_name *name, uint32_t len) { return tlsf_reallocate(in, name, len); }
 
 static void resize(struct block *block, uint32_t len, int counts) {
     struct tally *tally = counts ? &resizes : NULL;
     if (column == SYSTEM) block->at = call(tally, (uintptr_t)realloc, block->at, len, 0, 0, 0);
 #ifdef AUTHORS
-    else if (column == AUTHORS_OWN) block->at = call(tally, (uintptr_t)tlsf_realloc, block->at, len, 0, 0, 0);
+    else if (column == AUTHORS_OWN) block->at = call(tally, (uintptr_t)authors_realloc, block->at, len, 0, 0, 0);
 #endif
-    else block->at = !(uint32_t)call(tally, (uintptr_t)reallocate, (uintptr_t)&heap, (uintptr_t)&block->name, len, 0, 0);
+    else block->at = !(uint32_t)call(tally, (uintptr_t)tlsf_reallocate, (uintptr_t)&heap, (uintptr_t)&block->name, len, 0, 0);
     ends_if(!block->at, "resize");
 }
 
