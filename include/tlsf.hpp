@@ -1,8 +1,9 @@
 // tlsf.h for C++17 and later: heaps and lane ends that close themselves, blocks that release themselves, and the heap
 // under the containers of std, as a std::pmr::memory_resource and as an allocator.
 //
-// Header-only; libtlsf.a is all that is linked. What the caller owes is said in tlsf.h. Constructors throw std::bad_alloc
-// where malloc says no, and std::invalid_argument where no region or lane is of that size. resource and allocator throw
+// Header-only; libtlsf.a is all that is linked. What the caller owes is said in tlsf.h. Constructors and heap::for_blocks
+// throw std::bad_alloc where malloc says no, and std::invalid_argument where no region or lane is of that size. resource and
+// allocator throw
 // std::bad_alloc where there is no room. Everything else is noexcept. Where exceptions are off, what would throw aborts.
 #ifndef TLSF_HPP
 #define TLSF_HPP
