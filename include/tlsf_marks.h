@@ -6,12 +6,15 @@
  *                  the call fills it.
  *
  * It holds for memory of tlsf_open_in too. Lanes aren't marked. Of what malloc's calls give, the bytes that were asked for are
- * payload; once tlsf_usable_size or tlsf_name_at was asked, all bytes of the block are.
+ * payload. Once tlsf_usable_size or tlsf_name_at was asked, all bytes of the block are, and of tlsf_allocate_at from the start.
  * Calls answer as they do without marks, and take longer: a move is made of an allocate, a copy and a release, and closing looks
  * at all blocks. */
 #ifndef TLSF_MARKS_H
 #define TLSF_MARKS_H
 
+#if defined(TLSF_ASAN) && defined(TLSF_VALGRIND)
+#error "either TLSF_ASAN or TLSF_VALGRIND"
+#endif
 #ifdef TLSF_ASAN
 #include <sanitizer/asan_interface.h>
 #define TLSF_BEGIN_CALL ((void)0)
@@ -180,7 +183,12 @@ TLSF_ANSWER static inline uint32_t tlsf_marked_open_in(struct tlsf_heap *heap, u
 
 static inline uint32_t tlsf_marked_close(struct tlsf_heap *heap) TLSF_NOEXCEPT {
     struct tlsf_heap_report sums = {0, 0, 0, 0, 0, 0, 0, 0, 0, 0};
-    if (tlsf_marked_report(heap, &sums) == TLSF_OK)
+    uint32_t next = 0, damaged = 0;
+    TLSF_BEGIN_CALL;
+    const uint32_t checked = tlsf_check(heap, 0, UINT32_MAX, &next, &damaged);
+    TLSF_END_CALL;
+    /* A report on a damaged heap may never end, so the memory of that one stays marked. */
+    if (checked == TLSF_OK && tlsf_marked_report(heap, &sums) == TLSF_OK)
         tlsf_mark_filled(heap->base, ((size_t)sums.live_words + sums.free_words) * 8);
     return tlsf_close(heap);
 }
