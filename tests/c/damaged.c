@@ -1,32 +1,16 @@
 /* Writes past the end of a payload, and has tlsf_check look: it tells the block, follows nothing outside of the heap's memory, and
  * leaves all as it is. Before that it finds nothing, in slices of any size. DAMAGED [TURNS] [SEED] */
 #define _DEFAULT_SOURCE
+#include "chance.h"
 #include "tlsf.h"
 
-#include <stdio.h>
-#include <stdlib.h>
 #include <sys/mman.h>
 
 enum { WORDS = 3000, MOST = 300, PAGE = 4096, GUARD = 16 * PAGE };
 
-static uint64_t state;
-static long turn;
 static struct tlsf_heap heap = TLSF_CLOSED;
 static void *given[MOST];
 static bool begins[WORDS + 1];
-
-static uint32_t below(uint32_t n) {
-    state ^= state << 13;
-    state ^= state >> 7;
-    state ^= state << 17;
-    return (uint32_t)((state >> 16) % n);
-}
-
-static void wants(const char *what, size_t got, size_t wanted) {
-    if (got == wanted) return;
-    printf("turn %ld: %s: %zu, and not %zu\n", turn, what, got, wanted);
-    exit(1);
-}
 
 /* Memory between pages that nobody may touch. */
 static unsigned char *guarded(size_t bytes) {

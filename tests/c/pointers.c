@@ -1,10 +1,9 @@
 /* malloc's calls by chance on two heaps, against a table: one heap in memory of the program's, one in malloc's. What each block
  * holds is looked at byte by byte, and each answer is judged. Pointers that no live block has are given to each call, and some
  * blocks are made or released by name. POINTERS [CALLS] [SEED] [LEVEL] [names] */
+#include "chance.h"
 #include "tlsf.h"
 
-#include <stdio.h>
-#include <stdlib.h>
 
 enum { HEAPS = 2, MOST = 200, LONGEST = 700, WORDS = 2401, NUMBER = 5, GUARD = 64, HEADER = 3 };
 
@@ -23,22 +22,8 @@ struct model {
 
 static struct model models[HEAPS] = {{.heap = TLSF_CLOSED}, {.heap = TLSF_CLOSED}};
 static unsigned char *memory, *inside;
-static uint64_t state;
-static long call, counts[4];
+static long counts[4];
 static int with_names;
-
-static uint32_t below(uint32_t n) {
-    state ^= state << 13;
-    state ^= state >> 7;
-    state ^= state << 17;
-    return (uint32_t)((state >> 16) % n);
-}
-
-static void wants(const char *what, size_t got, size_t wanted) {
-    if (got == wanted) return;
-    printf("call %ld: %s: %zu, and not %zu\n", call, what, got, wanted);
-    exit(1);
-}
 
 static size_t any_len(void) { return below(5) ? below(120) : below(LONGEST + 1); }
 
@@ -300,7 +285,7 @@ int main(int argc, char **argv) {
     with_names = argc > 4;
     lacks_one_word();
     open_all(level);
-    for (call = 0; call < calls; call++) {
+    for (turn = 0; turn < calls; turn++) {
         const uint32_t h = below(HEAPS), kind = below(10);
         struct model *m = &models[h];
         struct block *b = &m->blocks[below(MOST)];
@@ -310,7 +295,7 @@ int main(int argc, char **argv) {
         else if (!b->p) give(m, b);
         else if (kind < 4) resize(m, b);
         else end(m, b);
-        if (call % 200 == 0) check_all(m);
+        if (turn % 200 == 0) check_all(m);
     }
     close_all(level);
     printf("level %u%s: %ld given, %ld refused, %ld moved, %ld wild pointers refused\n", (unsigned)level, with_names ? ", with names" : "",
