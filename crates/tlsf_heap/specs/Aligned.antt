@@ -1,13 +1,13 @@
 -- Calls that give the free block which begins at a place, or a block whose payload begins at a multiple of some words.
-use Rattle.std.specs.Prelude.{◌≡◌, ℕ, ◌+◌, ◌-◌, ◌%◌, ◌≤◌, ◌==◌, ◌&&◌, List, Option, Some, None, Bool, Result, Ok, Err, true, nat_le, nat_lt, if◌then◌else◌, find, MatchOption, ◌++◌}
+use Rattle.std.specs.Prelude.{◌≡◌, ℕ, ◌+◌, ◌-◌, ◌%◌, ◌≤◌, ◌<◌, ◌↔◌, ◌==◌, ◌&&◌, List, [], IsOk, IsErrOf, Option, Some, None, Bool, Result, Ok, Err, true, nat_le, nat_lt, if◌then◌else◌, find, MatchOption, ◌++◌}
 use Rattle.tlsf_heap.specs.Blocks.{Block, HeapState, size_of, is_free, StandsAt}
 use Rattle.tlsf_heap.specs.Calls.{Outcome, refused, is_worn, ticked, carved, last_tick, allocated_words, resized_words, released}
-use Rattle.tlsf_heap.specs.GoodFit.{Site, sites, block_at, site_at, place_of}
+use Rattle.tlsf_heap.specs.GoodFit.{Site, sites, block_at, site_at, place_of, fits}
 use Rattle.tlsf_heap.specs.Regions.{IsTagOf}
 use Rattle.tlsf_words.specs.declared.tag.Tag.{Tag}
 use Rattle.tlsf_heap.specs.declared.name.Name.{Name}
 use Rattle.tlsf_heap.specs.declared.refusal.Refusal.{Refusal}
-use Rattle.tlsf_heap.specs.declared.refusal.Refusal.TheVariants.{Stale, NoRoom, Worn}
+use Rattle.tlsf_heap.specs.declared.refusal.Refusal.TheVariants.{Stale, NoRoom, Worn, NoFit}
 
 -- block i is free and begins at this place
 pub record IsFreeAt (blocks : List Block) (at i : ℕ) : Type 0 where
@@ -41,6 +41,12 @@ given_from h n (Some s) = if nat_lt (size_of s.block) n then refused h NoRoom el
 abbrev pub words_from : HeapState → ℕ → ℕ → Outcome Name
 words_from h at n = given_from h n (find (is_free_at at) (sites h.blocks))
 
+-- when that is Stale, when it is NoRoom, and when it is a name
+pub record AnswersFrom (h : HeapState) (at n : ℕ) (answer : Result Name Refusal) : Type 0 where
+  pub stale : IsErrOf answer Stale ↔ ¬ (HasFreeAt h.blocks at)
+  pub no_room : IsErrOf answer NoRoom ↔ (HasFreeAt h.blocks at × ¬ (HasRoomAt h.blocks at n))
+  pub ok : IsOk answer ↔ (HasRoomAt h.blocks at n × ¬ (h.tick ≡ last_tick))
+
 -- ---- a payload at a multiple of some words
 
 -- the words by which the payload of a block at a place has to move on, so that it begins `skew` words before a multiple of `step`: none, or
@@ -69,3 +75,9 @@ aligned_words n step = n + 4 + step
 abbrev pub words_aligned : ℕ → HeapState → ℕ → ℕ → ℕ → Outcome Name
 words_aligned sli h n step skew = let given = allocated_words sli h (aligned_words n step) 0 in
     if nat_le last_tick (h.tick + 3) then refused h Worn else aligned_by h n step skew given.answer given.heap
+
+-- when that is Worn, when it is NoFit, and when it is a name
+pub record AnswersAligned (sli : ℕ) (h : HeapState) (n step : ℕ) (answer : Result Name Refusal) : Type 0 where
+  pub worn : IsErrOf answer Worn ↔ (last_tick ≤ h.tick + 3)
+  pub no_fit : h.tick + 3 < last_tick → (IsErrOf answer NoFit ↔ (fits sli (aligned_words n step) h.blocks ≡ []))
+  pub ok : IsOk answer ↔ ((h.tick + 3 < last_tick) × ¬ (fits sli (aligned_words n step) h.blocks ≡ []))

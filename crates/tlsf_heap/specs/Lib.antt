@@ -9,6 +9,7 @@ pub mod Touched
 pub mod Headers
 pub mod Image
 pub mod Shown
+pub mod Kept
 pub mod Read
 pub mod Regions
 pub mod Listed

@@ -12,6 +12,11 @@ pub record FollowsNoForgery (h : HeapState) (name : Name) (before behind : ℕ) 
   pub outside : h.words ≤ name.at → behind ≡ before
   pub nowhere : name.heap ≡ h.id → name.at < h.words → ¬ (IsPlace h.blocks name.at) → behind ≡ before + 1
 
+-- nor is a place from outside: not even a start bit is read unless it lies in the region, and no word unless a block begins there
+pub record FollowsNoPlace (h : HeapState) (at before behind : ℕ) : Type 0 where
+  pub outside : h.words ≤ at → behind ≡ before
+  pub nowhere : ¬ (IsPlace h.blocks at) → behind ≤ before + 1
+
 -- the most touches of an allocate: 3 to find the class, 7 to take its head out, 9 for the headers, 7 to list the rest, and one for each
 -- payload word of the block given
 abbrev pub allocate_touches : {E : Type 0} → Result Name E → HeapState → ℕ
@@ -20,6 +25,12 @@ allocate_touches answer left = 26 + payload_words_given answer left
 -- the most touches of an allocate by words: those, but of the payload words only the words of the payload and three that good fit adds
 abbrev pub allocate_words_touches : ℕ → ℕ
 allocate_words_touches len = 26 + want len
+
+-- an allocate by words touches at most 64 words for 8 bytes or fewer, and no more than is said above
+pub record TouchesForWords (len : ℕ) (answer : Result Name Refusal) (left : HeapState) (before behind : ℕ) : Type 0 where
+  pub touches : behind ≤ before + 60 + want len
+  pub most_touches : behind ≤ before + allocate_words_touches len
+  pub given_touches : behind ≤ before + allocate_touches answer left
 
 -- the most touches of a release: 3 to check the name, 2 for the tags of the neighbours, 12 to take these out of their lists, 6 for the
 -- headers, and 7 to list what is left

@@ -1,10 +1,13 @@
 -- Calls that fill nothing: new payload bytes are those that lie there.
-use Rattle.std.specs.Prelude.{ℕ, List, ◌++◌, ◌∷◌, Option, Some, None, drop}
+use Rattle.std.specs.Prelude.{◌≡◌, ℕ, List, ◌++◌, ◌∷◌, Option, Some, None, drop}
 use Rattle.tlsf_words.specs.Bytes.{bytes_in, payload_byte}
 use Rattle.tlsf_heap.specs.Blocks.{HeapState}
 use Rattle.tlsf_heap.specs.Calls.{named, with_blocks, with_bytes, written}
 use Rattle.tlsf_heap.specs.GoodFit.{Site}
 use Rattle.tlsf_heap.specs.Image.{Image}
+use Rattle.tlsf_heap.specs.Laws.{IsLive}
+use Rattle.tlsf_heap.specs.Shown.{Shown}
+use Rattle.tlsf_heap.specs.Steady.{HasPayload}
 use Rattle.tlsf_heap.specs.declared.name.Name.{Name}
 
 -- the `len` bytes that lie behind the header at a place
@@ -22,3 +25,10 @@ with_payload_at h bytes (Some s) = with_blocks h (s.before ++ with_bytes s.block
 -- the payload of the block that a name names becomes these bytes; its words stay, and so does the tick
 abbrev pub with_payload : HeapState → Name → List ℕ → HeapState
 with_payload h name bytes = with_payload_at h bytes (named name h.blocks)
+
+-- a call that is to leave a heap of these blocks gave a name: it is live and was not before, its payload has the bytes that lie there, and every other payload stays
+pub record GivesUnset (old new : Shown) (given_heap : HeapState) (len : ℕ) (name : Name) : Type 0 where
+  pub heap : new.heap ≡ with_payload given_heap name (lying new.stored name.at len)
+  pub given : IsLive new.heap name × ¬ (IsLive old.heap name)
+  pub payload : HasPayload new.heap name (lying new.stored name.at len)
+  pub others : (other : Name) (bytes : List ℕ) → HasPayload old.heap other bytes → HasPayload new.heap other bytes

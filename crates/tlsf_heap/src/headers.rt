@@ -8,7 +8,7 @@ ghost use Rattle.tlsf_words.specs.Lists.{nowhere};
 use tlsf_words::{NO_PLACE, Tag, Words};
 
 /// Writes the place of the block before into the header at a place, where a block of tag `own` ends, unless that is the last one.
-#[tactic(auto, using(crate::proofs::Written::size_in_below, crate::proofs::Written::inner_below), unfolding(crate::specs::Headers::with_back))]
+#[tactic(auto, using(crate::proofs::lemmas::words::Headers::size_in_below, crate::proofs::lemmas::words::Headers::inner_below), unfolding(crate::specs::Headers::with_back))]
 fn set_back(words: &mut Words, own: Tag, at: u32, back: u32)
     requires last { own.last ≡ (at == length words.old.words) }
     requires within { at ≤ length words.old.words }

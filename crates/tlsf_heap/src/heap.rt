@@ -1,9 +1,8 @@
 ghost use Rattle.std.specs.Fn.{FnOnceTakesAt, FnOnceTakesAtMut};
-ghost use Rattle.std.specs.Prelude.{◌≡◌, ◌≢◌, ℕ, List, ◌+◌, ◌*◌, ◌/◌, ◌-◌, ◌<◌, ◌≤◌, ◌^◌, ◌↔◌, [], true, length, min, take, IfOk, IfSome, OnOk, OnErr, IsOk, IsErrOf, MatchResult, Ok, Err};
+ghost use Rattle.std.specs.Prelude.{◌≡◌, ◌≢◌, ℕ, List, ◌+◌, ◌*◌, ◌/◌, ◌-◌, ◌<◌, ◌≤◌, ◌^◌, ◌↔◌, [], true, length, min, take, IfOk, OnOk, OnErr, IsOk, IsErrOf, MatchResult, Ok, Err};
 ghost use Rattle.std.specs.Result.{result_unwrap_or};
 ghost use Rattle.tlsf_class.specs.Classes.{IsLevel, most_words};
 ghost use Rattle.tlsf_heap.specs.Blocks;
-ghost use Rattle.tlsf_heap.specs.Blocks.{IsPlace};
 ghost use Rattle.tlsf_heap.specs.FreePlaces.{ShowsLists};
 ghost use Rattle.tlsf_heap.specs.Image.{Shows};
 ghost use Rattle.tlsf_heap.specs.InPlace.{payload_of, ArePayload, Alters, Inspects, IsPayloadCheck, IsRefusedAsRead};
@@ -17,8 +16,9 @@ ghost use Rattle.tlsf_heap.specs.Regions.{image_of};
 ghost use Rattle.tlsf_heap.specs.Reports.{report_of, IsGrant};
 ghost use Rattle.tlsf_heap.specs.Given.{payload_words_at, payload_words_given, payload_words_left};
 ghost use Rattle.tlsf_heap.specs.Unset.{lying, with_payload};
-ghost use Rattle.tlsf_heap.specs.Touched.{FollowsNoForgery, allocate_touches, allocate_words_touches, release_touches, resize_touches};
+ghost use Rattle.tlsf_heap.specs.Touched.{FollowsNoForgery, allocate_touches, release_touches, resize_touches, FollowsNoPlace, TouchesForWords};
 ghost use Rattle.tlsf_heap.specs.Calls.{opened, allocated, allocated_words, released, resized, resized_words, named, written, read_of, read_answer, has_bytes, last_tick};
+ghost use Rattle.tlsf_heap.specs.Kept.{IsAsBefore, Keeps};
 
 mod aligned;
 mod by_place;
@@ -144,17 +144,12 @@ impl<const SLI: u32> Heap<SLI> {
         // What that comes to: when it is NoFit, when it is a name, and that a refusal changes nothing.
         ensures no_fit { IsErrOf result Refusal.NoFit ↔ (fits SLI (Blocks.want len) self.old.heap.blocks ≡ []) }
         ensures ok { IsOk result ↔ (¬ (fits SLI (Blocks.want len) self.old.heap.blocks ≡ []) × ¬ (self.old.heap.tick ≡ last_tick)) }
-        ensures err { OnErr result (self.new.heap ≡ self.old.heap) }
-        ensures stored { OnErr result (self.new.stored ≡ self.old.stored) }
-        ensures was_lawful { IsLawful self.old.heap }
-        ensures lawful { IsLawful self.new.heap }
-        ensures shows { Shows self.new.stored self.new.heap.blocks }
-        ensures lists { ShowsLists SLI self.new.stored self.new.heap.blocks }
+        ensures err { OnErr result (IsAsBefore self.old self.new) }
+        ensures keeps { Keeps SLI self.old self.new }
 
         // Accepted or refused, and whatever the region holds: at most 64 touches, and one for each payload word of the block given.
         ensures touches { self.new.touches ≤ self.old.touches + 64 + payload_words_given result self.new.heap }
         ensures most_touches { self.new.touches ≤ self.old.touches + allocate_touches result self.new.heap }
-        ensures touches_rise { self.old.touches ≤ self.new.touches }
     {
         // Taken apart, so that each answer is written where it is made: handed on whole, it takes four instructions more.
         let name = match self.allocate_words(want(len), len) {
@@ -165,8 +160,8 @@ impl<const SLI: u32> Heap<SLI> {
     }
 
     /// Gives a block of `words` words with `len` bytes of payload, all zero: an `allocate` where the caller says how many words the block
-    /// has, its three of the header with them, as where each word stands for memory elsewhere. Only the payload is made zero, and up to
-    /// three words that good fit adds: so it takes no longer for more words.
+    /// has, its three of the header with them, as where each word stands for memory elsewhere. Only the payload is made zero, so it takes
+    /// no longer for more words.
     ///
     /// `words` is at least `want(len)`, so at least 4. Refused as `NoFit` where no free block lies in a class at or above the search class
     /// of so many words, as where they are more than a region may have, else as `Worn` where the tick is at its last value. Takes no memory.
@@ -186,22 +181,15 @@ impl<const SLI: u32> Heap<SLI> {
         // What that comes to: when it is NoFit, when it is a name, and that a refusal changes nothing.
         ensures no_fit { IsErrOf result Refusal.NoFit ↔ (fits SLI words self.old.heap.blocks ≡ []) }
         ensures ok { IsOk result ↔ (¬ (fits SLI words self.old.heap.blocks ≡ []) × ¬ (self.old.heap.tick ≡ last_tick)) }
-        ensures err { OnErr result (self.new.heap ≡ self.old.heap) }
-        ensures stored { OnErr result (self.new.stored ≡ self.old.stored) }
-        ensures was_lawful { IsLawful self.old.heap }
-        ensures lawful { IsLawful self.new.heap }
-        ensures shows { Shows self.new.stored self.new.heap.blocks }
-        ensures lists { ShowsLists SLI self.new.stored self.new.heap.blocks }
+        ensures err { OnErr result (IsAsBefore self.old self.new) }
+        ensures keeps { Keeps SLI self.old self.new }
 
         // The block given has the words wanted.
         ensures room { IfOk result (λ name. words ≤ 3 + payload_words_at (named name self.new.heap.blocks)) }
 
         // Accepted or refused, and whatever the region holds: at most 64 touches for 8 bytes or fewer, however many words, and one for each
         // further word of the payload.
-        ensures touches { self.new.touches ≤ self.old.touches + 60 + Blocks.want len }
-        ensures most_touches { self.new.touches ≤ self.old.touches + allocate_words_touches len }
-        ensures given_touches { self.new.touches ≤ self.old.touches + allocate_touches result self.new.heap }
-        ensures touches_rise { self.old.touches ≤ self.new.touches }
+        ensures touches { TouchesForWords len result self.new.heap self.old.touches self.new.touches }
     {
         let spare = words - want(len);
         let Some(class) = choose(&mut self.region, words) else {
@@ -237,17 +225,12 @@ impl<const SLI: u32> Heap<SLI> {
         ensures heap { self.new.heap ≡ (released self.old.heap name).heap }
 
         // A refusal changes nothing.
-        ensures err { OnErr result (self.new.heap ≡ self.old.heap) }
-        ensures stored { OnErr result (self.new.stored ≡ self.old.stored) }
-        ensures was_lawful { IsLawful self.old.heap }
-        ensures lawful { IsLawful self.new.heap }
-        ensures shows { Shows self.new.stored self.new.heap.blocks }
-        ensures lists { ShowsLists SLI self.new.stored self.new.heap.blocks }
+        ensures err { OnErr result (IsAsBefore self.old self.new) }
+        ensures keeps { Keeps SLI self.old self.new }
 
         // Accepted or refused, and whatever the region holds: at most 64 touches.
         ensures touches { self.new.touches ≤ self.old.touches + 64 }
         ensures most_touches { self.new.touches ≤ self.old.touches + release_touches }
-        ensures touches_rise { self.old.touches ≤ self.new.touches }
         ensures forged { FollowsNoForgery self.old.heap name self.old.touches self.new.touches }
     {
         match self.release_words(name) {
@@ -277,17 +260,12 @@ impl<const SLI: u32> Heap<SLI> {
         ensures heap { self.new.heap ≡ (resized self.old.heap name len).heap }
 
         // A refusal changes nothing.
-        ensures err { OnErr result (self.new.heap ≡ self.old.heap) }
-        ensures stored { OnErr result (self.new.stored ≡ self.old.stored) }
-        ensures was_lawful { IsLawful self.old.heap }
-        ensures lawful { IsLawful self.new.heap }
-        ensures shows { Shows self.new.stored self.new.heap.blocks }
-        ensures lists { ShowsLists SLI self.new.stored self.new.heap.blocks }
+        ensures err { OnErr result (IsAsBefore self.old self.new) }
+        ensures keeps { Keeps SLI self.old self.new }
 
         // Accepted or refused, and whatever the region holds: at most 64 touches, and one for each payload word of the block that is left.
         ensures touches { self.new.touches ≤ self.old.touches + 64 + payload_words_left result self.new.heap name }
         ensures most_touches { self.new.touches ≤ self.old.touches + resize_touches result self.new.heap name }
-        ensures touches_rise { self.old.touches ≤ self.new.touches }
         ensures forged { FollowsNoForgery self.old.heap name self.old.touches self.new.touches }
     {
         self.resize_words(name, want(len), len)
@@ -311,12 +289,8 @@ impl<const SLI: u32> Heap<SLI> {
         ensures heap { self.new.heap ≡ (resized_words self.old.heap name words len).heap }
 
         // A refusal changes nothing.
-        ensures err { OnErr result (self.new.heap ≡ self.old.heap) }
-        ensures stored { OnErr result (self.new.stored ≡ self.old.stored) }
-        ensures was_lawful { IsLawful self.old.heap }
-        ensures lawful { IsLawful self.new.heap }
-        ensures shows { Shows self.new.stored self.new.heap.blocks }
-        ensures lists { ShowsLists SLI self.new.stored self.new.heap.blocks }
+        ensures err { OnErr result (IsAsBefore self.old self.new) }
+        ensures keeps { Keeps SLI self.old self.new }
 
         // Accepted or refused, and whatever the region holds: at most 64 touches for 8 bytes or fewer, however many words, and one for each
         // further word of the payload.
@@ -325,7 +299,6 @@ impl<const SLI: u32> Heap<SLI> {
 
         // So a payload that doesn't grow takes no more, however long: of the words that the old bytes have, one is touched at most.
         ensures grown_touches { self.new.touches ≤ self.old.touches + 28 + (Blocks.words_for len - Blocks.words_for (length (payload_of self.old.heap name))) }
-        ensures touches_rise { self.old.touches ≤ self.new.touches }
         ensures forged { FollowsNoForgery self.old.heap name self.old.touches self.new.touches }
     {
         let own = self.check(name)?;
@@ -362,18 +335,13 @@ impl<const SLI: u32> Heap<SLI> {
         ensures heap { self.new.heap ≡ (resized_or_moved SLI self.old.heap name len).heap }
 
         // A refusal changes nothing.
-        ensures err { OnErr result (self.new.heap ≡ self.old.heap) }
-        ensures stored { OnErr result (self.new.stored ≡ self.old.stored) }
-        ensures was_lawful { IsLawful self.old.heap }
-        ensures lawful { IsLawful self.new.heap }
-        ensures shows { Shows self.new.stored self.new.heap.blocks }
-        ensures lists { ShowsLists SLI self.new.stored self.new.heap.blocks }
+        ensures err { OnErr result (IsAsBefore self.old self.new) }
+        ensures keeps { Keeps SLI self.old self.new }
 
         // Accepted or refused, and whatever the region holds: at most 128 touches, one for each payload word of the block resized where
         // it stands, and three for each of that which it moves to.
         ensures touches { self.new.touches ≤ self.old.touches + 128 + payload_words_left (resized self.old.heap name len).answer (resized self.old.heap name len).heap name
             + 3 * payload_words_moved SLI self.old.heap len }
-        ensures touches_rise { self.old.touches ≤ self.new.touches }
         ensures forged { FollowsNoForgery self.old.heap name self.old.touches self.new.touches }
     {
         match self.resize(name, len) {
@@ -398,14 +366,9 @@ impl<const SLI: u32> Heap<SLI> {
         ensures heap { self.new.heap ≡ (written self.old.heap name at bytes.now).heap }
 
         // A refusal changes nothing.
-        ensures err { OnErr result (self.new.heap ≡ self.old.heap) }
-        ensures stored { OnErr result (self.new.stored ≡ self.old.stored) }
-        ensures was_lawful { IsLawful self.old.heap }
-        ensures lawful { IsLawful self.new.heap }
-        ensures shows { Shows self.new.stored self.new.heap.blocks }
-        ensures lists { ShowsLists SLI self.new.stored self.new.heap.blocks }
+        ensures err { OnErr result (IsAsBefore self.old self.new) }
+        ensures keeps { Keeps SLI self.old self.new }
         ensures touches { self.new.touches ≤ self.old.touches + 4 + 2 * (length bytes.now / 8 + 2) }
-        ensures touches_rise { self.old.touches ≤ self.new.touches }
         ensures forged { FollowsNoForgery self.old.heap name self.old.touches self.new.touches }
     {
         self.check_range(name, at, bytes.len())?;
@@ -426,11 +389,9 @@ impl<const SLI: u32> Heap<SLI> {
     pub fn read(&mut self, name: Name, at: u32, out: &mut [u8]) -> Result<(), Refusal>
         ensures answer { result ≡ read_answer (read_of self.old.heap name at (length out.old)) }
         ensures bytes { out.new ≡ result_unwrap_or (read_of self.old.heap name at (length out.old)) out.old }
-        ensures heap { self.new.heap ≡ self.old.heap }
-        ensures stored { self.new.stored ≡ self.old.stored }
-        ensures was_lawful { IsLawful self.old.heap }
+        ensures same { IsAsBefore self.old self.new }
+        ensures keeps { Keeps SLI self.old self.new }
         ensures touches { self.new.touches ≤ self.old.touches + 4 + (length out.old / 8 + 2) }
-        ensures touches_rise { self.old.touches ≤ self.new.touches }
         ensures forged { FollowsNoForgery self.old.heap name self.old.touches self.new.touches }
     {
         self.check_range(name, at, out.len())?;
@@ -458,14 +419,9 @@ impl<const SLI: u32> Heap<SLI> {
         ensures altered { IfOk result (λ r. Alters F.FnOnce f self.old.heap name r self.new.heap) }
 
         // A refusal changes nothing.
-        ensures err { OnErr result (self.new.heap ≡ self.old.heap) }
-        ensures stored { OnErr result (self.new.stored ≡ self.old.stored) }
-        ensures was_lawful { IsLawful self.old.heap }
-        ensures lawful { IsLawful self.new.heap }
-        ensures shows { Shows self.new.stored self.new.heap.blocks }
-        ensures lists { ShowsLists SLI self.new.stored self.new.heap.blocks }
+        ensures err { OnErr result (IsAsBefore self.old self.new) }
+        ensures keeps { Keeps SLI self.old self.new }
         ensures touches { self.new.touches ≤ self.old.touches + 4 }
-        ensures touches_rise { self.old.touches ≤ self.new.touches }
         ensures forged { FollowsNoForgery self.old.heap name self.old.touches self.new.touches }
     {
         let len = self.check_payload(name)?;
@@ -487,11 +443,9 @@ impl<const SLI: u32> Heap<SLI> {
         requires { IsLive self.old.heap name → (words : List ℕ) → ArePayload self.old.heap name words → FnOnceTakesAt F.FnOnce f words }
         ensures answer { IsRefusedAsRead self.old.heap name result }
         ensures inspected { IfOk result (λ r. Inspects F.FnOnce f self.old.heap name r) }
-        ensures heap { self.new.heap ≡ self.old.heap }
-        ensures stored { self.new.stored ≡ self.old.stored }
-        ensures was_lawful { IsLawful self.old.heap }
+        ensures same { IsAsBefore self.old self.new }
+        ensures keeps { Keeps SLI self.old self.new }
         ensures touches { self.new.touches ≤ self.old.touches + 4 }
-        ensures touches_rise { self.old.touches ≤ self.new.touches }
         ensures forged { FollowsNoForgery self.old.heap name self.old.touches self.new.touches }
     {
         let len = self.check_payload(name)?;
@@ -506,7 +460,7 @@ impl<const SLI: u32> Heap<SLI> {
     /// ```
     pub fn base(&mut self) -> *mut u64
         ensures heap { self.new ≡ self.old }
-        ensures was_lawful { IsLawful self.old.heap }
+        ensures keeps { Keeps SLI self.old self.new }
     {
         self.region.base()
     }
@@ -522,11 +476,9 @@ impl<const SLI: u32> Heap<SLI> {
     /// ```
     pub fn payload(&mut self, name: Name) -> Result<(*mut u64, u32), Refusal>
         ensures payload { MatchResult result (λ p. IsPayloadCheck self.old.heap name (Ok p.1)) (λ why. IsPayloadCheck self.old.heap name (Err why)) }
-        ensures heap { self.new.heap ≡ self.old.heap }
-        ensures stored { self.new.stored ≡ self.old.stored }
-        ensures was_lawful { IsLawful self.old.heap }
+        ensures same { IsAsBefore self.old self.new }
+        ensures keeps { Keeps SLI self.old self.new }
         ensures touches { self.new.touches ≤ self.old.touches + 4 }
-        ensures touches_rise { self.old.touches ≤ self.new.touches }
         ensures forged { FollowsNoForgery self.old.heap name self.old.touches self.new.touches }
     {
         let len = self.check_payload(name)?;
@@ -545,14 +497,12 @@ impl<const SLI: u32> Heap<SLI> {
 
         // What the grant comes to: no request for more is served, and one for so much is, unless nothing is free.
         ensures grant { IsGrant SLI self.old.heap.blocks result.grant }
-        ensures heap { self.new.heap ≡ self.old.heap }
-        ensures stored { self.new.stored ≡ self.old.stored }
-        ensures was_lawful { IsLawful self.old.heap }
+        ensures same { IsAsBefore self.old self.new }
+        ensures keeps { Keeps SLI self.old self.new }
 
         // Two for each block, and no block has fewer than four words.
         ensures touches { self.new.touches ≤ self.old.touches + 2 * length self.old.heap.blocks }
         ensures few { 4 * length self.old.heap.blocks ≤ self.old.heap.words }
-        ensures touches_rise { self.old.touches ≤ self.new.touches }
     {
         let tick = self.tick;
         Tally::of(&mut self.region, tick).report::<SLI>(tick)
@@ -568,16 +518,13 @@ impl<const SLI: u32> Heap<SLI> {
     /// ```
     pub fn block_at(&mut self, at: u32) -> Option<PlacedBlock>
         ensures block { result ≡ placed_at self.old.heap.blocks at }
-        ensures heap { self.new.heap ≡ self.old.heap }
-        ensures stored { self.new.stored ≡ self.old.stored }
-        ensures was_lawful { IsLawful self.old.heap }
+        ensures same { IsAsBefore self.old self.new }
+        ensures keeps { Keeps SLI self.old self.new }
         ensures most { self.old.heap.words ≤ most_words SLI }
         ensures touches { self.new.touches ≤ self.old.touches + 4 }
-        ensures touches_rise { self.old.touches ≤ self.new.touches }
 
         // Not even a start bit is read unless the place lies in the region, and no word unless a block begins there.
-        ensures outside { self.old.heap.words ≤ at → self.new.touches ≡ self.old.touches }
-        ensures nowhere { ¬ (IsPlace self.old.heap.blocks at) → self.new.touches ≤ self.old.touches + 1 }
+        ensures wild { FollowsNoPlace self.old.heap at self.old.touches self.new.touches }
     {
         self.region.block_at(at)
     }
@@ -627,13 +574,9 @@ impl<const SLI: u32> Heap<SLI> {
     #[inline(always)]
     fn check(&mut self, name: Name) -> Result<Tag, Refusal>
         ensures answer { IsNameCheck self.old.heap name result }
-        ensures heap { self.new.heap ≡ self.old.heap }
-        ensures stored { self.new.stored ≡ self.old.stored }
-        ensures shows { Shows self.new.stored self.new.heap.blocks }
-        ensures lists { ShowsLists SLI self.new.stored self.new.heap.blocks }
-        ensures lawful { IsLawful self.old.heap }
+        ensures same { IsAsBefore self.old self.new }
+        ensures keeps { Keeps SLI self.old self.new }
         ensures touches { self.new.touches ≤ self.old.touches + 3 }
-        ensures rise { self.old.touches ≤ self.new.touches }
         ensures forged { FollowsNoForgery self.old.heap name self.old.touches self.new.touches }
     {
         if name.heap != self.id {
@@ -648,13 +591,9 @@ impl<const SLI: u32> Heap<SLI> {
     /// The payload length in bytes of the live block of that name. Where none has it, `Foreign` or else `Stale`.
     fn check_payload(&mut self, name: Name) -> Result<u32, Refusal>
         ensures answer { IsPayloadCheck self.old.heap name result }
-        ensures heap { self.new.heap ≡ self.old.heap }
-        ensures stored { self.new.stored ≡ self.old.stored }
-        ensures shows { Shows self.new.stored self.new.heap.blocks }
-        ensures lists { ShowsLists SLI self.new.stored self.new.heap.blocks }
-        ensures lawful { IsLawful self.old.heap }
+        ensures same { IsAsBefore self.old self.new }
+        ensures keeps { Keeps SLI self.old self.new }
         ensures touches { self.new.touches ≤ self.old.touches + 4 }
-        ensures rise { self.old.touches ≤ self.new.touches }
         ensures forged { FollowsNoForgery self.old.heap name self.old.touches self.new.touches }
     {
         self.check(name)?;
@@ -669,13 +608,9 @@ impl<const SLI: u32> Heap<SLI> {
         requires { n < 2 ^ 63 }
         ensures answer { result ≡ read_answer (read_of self.old.heap name at n) }
         ensures place { OnOk result ((i : ℕ) × IsFirst name.at name.serial self.old.heap.blocks i × (has_bytes (block_at self.old.heap.blocks i) at n ≡ true)) }
-        ensures heap { self.new.heap ≡ self.old.heap }
-        ensures stored { self.new.stored ≡ self.old.stored }
-        ensures shows { Shows self.new.stored self.new.heap.blocks }
-        ensures lists { ShowsLists SLI self.new.stored self.new.heap.blocks }
-        ensures lawful { IsLawful self.old.heap }
+        ensures same { IsAsBefore self.old self.new }
+        ensures keeps { Keeps SLI self.old self.new }
         ensures touches { self.new.touches ≤ self.old.touches + 4 }
-        ensures rise { self.old.touches ≤ self.new.touches }
         ensures forged { FollowsNoForgery self.old.heap name self.old.touches self.new.touches }
     {
         self.check(name)?;
@@ -691,13 +626,9 @@ impl<const SLI: u32> Heap<SLI> {
         requires { IsLive self.old.heap name }
         ensures answer { result ≡ (moved SLI self.old.heap name len).answer }
         ensures heap { self.new.heap ≡ (moved SLI self.old.heap name len).heap }
-        ensures err { OnErr result (self.new.heap ≡ self.old.heap) }
-        ensures stored { OnErr result (self.new.stored ≡ self.old.stored) }
-        ensures lawful { IsLawful self.new.heap }
-        ensures shows { Shows self.new.stored self.new.heap.blocks }
-        ensures lists { ShowsLists SLI self.new.stored self.new.heap.blocks }
+        ensures err { OnErr result (IsAsBefore self.old self.new) }
+        ensures keeps { Keeps SLI self.old self.new }
         ensures touches { self.new.touches ≤ self.old.touches + 61 + 3 * payload_words_moved SLI self.old.heap len }
-        ensures rise { self.old.touches ≤ self.new.touches }
     {
         if self.tick >= u64::MAX - 1 {
             return Err(Refusal::Worn);
@@ -713,11 +644,8 @@ impl<const SLI: u32> Heap<SLI> {
         requires tick { self.old.heap.tick ≢ last_tick }
         ensures answer { result ≡ Ok new }
         ensures heap { self.new.heap ≡ (released (copied self.old.heap name new).heap name).heap }
-        ensures lawful { IsLawful self.new.heap }
-        ensures shows { Shows self.new.stored self.new.heap.blocks }
-        ensures lists { ShowsLists SLI self.new.stored self.new.heap.blocks }
+        ensures keeps { Keeps SLI self.old self.new }
         ensures touches { self.new.touches ≤ self.old.touches + 35 + 2 * (min (length (payload_of self.old.heap name)) (length (payload_of self.old.heap new)) / 8) }
-        ensures rise { self.old.touches ≤ self.new.touches }
     {
         let len = self.length(name).min(self.length(new));
         self.copy(name, new, len);
@@ -729,10 +657,9 @@ impl<const SLI: u32> Heap<SLI> {
     fn length(&mut self, name: Name) -> u32
         requires { IsLive self.old.heap name }
         ensures value { result ≡ length (payload_of self.old.heap name) }
-        ensures heap { self.new.heap ≡ self.old.heap }
-        ensures lawful { IsLawful self.new.heap }
+        ensures same { IsAsBefore self.old self.new }
+        ensures keeps { Keeps SLI self.old self.new }
         ensures touches { self.new.touches ≤ self.old.touches + 1 }
-        ensures rise { self.old.touches ≤ self.new.touches }
     {
         self.region.length(name.at)
     }
@@ -744,11 +671,8 @@ impl<const SLI: u32> Heap<SLI> {
         requires least { len ≤ length (payload_of self.old.heap from) }
         requires room { len ≤ length (payload_of self.old.heap to) }
         ensures heap { self.new.heap ≡ (written self.old.heap to 0 (take len (payload_of self.old.heap from))).heap }
-        ensures lawful { IsLawful self.new.heap }
-        ensures shows { Shows self.new.stored self.new.heap.blocks }
-        ensures lists { ShowsLists SLI self.new.stored self.new.heap.blocks }
+        ensures keeps { Keeps SLI self.old self.new }
         ensures touches { self.new.touches ≤ self.old.touches + 2 * (len / 8) + 3 }
-        ensures rise { self.old.touches ≤ self.new.touches }
     {
         self.region.copy(from.at, to.at, len);
     }
@@ -762,11 +686,8 @@ impl<const SLI: u32> Heap<SLI> {
         ensures heap { self.new.heap ≡ with_payload self.old.heap name (lying self.new.stored name.at len) }
         ensures lies { lying self.new.stored name.at len ≡ lying self.old.stored name.at len }
         ensures level { IsLevel SLI }
-        ensures lawful { IsLawful self.new.heap }
-        ensures shows { Shows self.new.stored self.new.heap.blocks }
-        ensures lists { ShowsLists SLI self.new.stored self.new.heap.blocks }
+        ensures keeps { Keeps SLI self.old self.new }
         ensures touches { self.new.touches ≤ self.old.touches + 1 }
-        ensures rise { self.old.touches ≤ self.new.touches }
     {
         self.region.set_length(name.at, len);
     }

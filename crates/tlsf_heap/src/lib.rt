@@ -21,7 +21,7 @@
 //! resize at most 64 and one for each payload word of the block that it leaves, however many blocks the region has. The count has no bytes at run time.
 //!
 //! A caller to whom each word stands for memory elsewhere says by [`Heap::allocate_words`] and [`Heap::resize_words`] how many a block has. These
-//! make no word zero but the payload's, and three at most that good fit adds, so that no request takes longer for more words.
+//! make no word zero but the payload's, so that no request takes longer for more words.
 //!
 //! A caller who fills each payload himself takes [`Heap::allocate_unset`], [`Heap::resize_unset`] and [`Heap::resize_or_move_unset`]. These fill
 //! nothing, so that no request takes longer for more bytes, and a move as long as the copy of those that stay. [`Heap::allocate_aligned`] begins

@@ -1,6 +1,6 @@
 ghost use Rattle.std.specs.Fn.{FnOnceReturnsAt, FnOnceReturnsAtMut, FnOnceTakesAt, FnOnceTakesAtMut};
 ghost use Rattle.std.specs.Prelude.{◌≡◌, ℕ, ◌+◌, ◌-◌, ◌*◌, ◌/◌, ◌<◌, ◌≤◌, ◌≢◌, ◌^◌, ◌++◌, false, length, take, drop, replicate, slice_index, slice_index_or, slice_set, IfOk};
-ghost use Rattle.tlsf_words.specs.Bytes.{byte_in, bytes_in, payload_byte};
+ghost use Rattle.tlsf_words.specs.Bytes.{AreApart, byte_in, bytes_in, payload_byte};
 ghost use Rattle.tlsf_words.specs.Fields.{tag_word, size_in, last_in, free_in, back_in, length_word, links_word, low_half, high_half};
 
 use crate::cells::Cells;
@@ -201,8 +201,7 @@ impl Words {
         );
     }
 
-    /// The payload length in bytes of the live block at a place, from the third word of its header. Of a free block it would
-    /// be a place.
+    /// The payload length in bytes of the live block at a place: the third word of its header. Of a free block that is a place.
     ///
     /// ```
     /// let bytes = words.length(at);
@@ -459,7 +458,7 @@ impl Words {
     }
 
     /// Copies the first `len` payload bytes behind the header at a place, `from`, to those behind another, `to`. Each word that has
-    /// one of them is read and written once, and the other bytes stay.
+    /// one of them is read and written once, and the other bytes stay. The whole words of the two lie apart, or are the same.
     ///
     /// ```
     /// words.copy_payload(0, 16, 13);     // a whole word and five bytes of the next, from place 3 on, to place 19 and the next
@@ -467,6 +466,7 @@ impl Words {
     pub fn copy_payload(&mut self, from: u32, to: u32, len: u32)
         requires from { payload_byte from len ≤ 8 * length self.old.words }
         requires to { payload_byte to len ≤ 8 * length self.old.words }
+        requires apart { AreApart from to (len / 8) }
         ensures bytes { bytes_in self.new.words (payload_byte to 0) len ≡ bytes_in self.old.words (payload_byte from 0) len }
         ensures before { (k : ℕ) → k < payload_byte to 0 → byte_in self.new.words k ≡ byte_in self.old.words k }
         ensures behind { (k : ℕ) → payload_byte to len ≤ k → byte_in self.new.words k ≡ byte_in self.old.words k }
@@ -496,6 +496,8 @@ impl Words {
     fn copy_words(&mut self, from: usize, to: usize, n: usize)
         requires from { from + n ≤ length self.old.words }
         requires to { to + n ≤ length self.old.words }
+        requires apart { AreApart from to n }
+        requires small { (from < 2 ^ 40) × (to < 2 ^ 40) × (n < 2 ^ 40) }
         ensures copied { (k : ℕ) → k < 8 * n → byte_in self.new.words (8 * to + k) ≡ byte_in self.old.words (8 * from + k) }
         ensures before { (k : ℕ) → k < 8 * to → byte_in self.new.words k ≡ byte_in self.old.words k }
         ensures behind { (k : ℕ) → 8 * (to + n) ≤ k → byte_in self.new.words k ≡ byte_in self.old.words k }
@@ -508,8 +510,7 @@ impl Words {
         self.words.copy(from, to, n);
     }
 
-    /// Writes bytes into one word, from byte `first` of it on. Its other bytes stay. It says of each byte of the region what
-    /// becomes of it.
+    /// Writes bytes into one word, from byte `first` of it on. Its other bytes stay.
     #[inline]
     fn write_piece(&mut self, place: usize, first: usize, bytes: &[u8])
         requires inside { place < length self.old.words }

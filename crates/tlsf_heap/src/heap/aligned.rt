@@ -1,18 +1,14 @@
-ghost use Rattle.std.specs.Prelude.{◌≡◌, ℕ, List, ◌+◌, ◌%◌, ◌^◌, ◌<◌, ◌≤◌, ◌↔◌, [], max, IfOk, OnErr, IsOk, IsErrOf};
+ghost use Rattle.std.specs.Prelude.{◌≡◌, ◌+◌, ◌%◌, ◌^◌, ◌<◌, ◌≤◌, max, IfOk, OnErr, IsOk};
 ghost use Rattle.tlsf_class.specs.Classes.{most_words};
-ghost use Rattle.tlsf_heap.specs.Aligned.{HasFreeAt, HasRoomAt, words_from, gap_of, moved_on, aligned_words, words_aligned};
+ghost use Rattle.tlsf_heap.specs.Aligned.{words_from, gap_of, moved_on, words_aligned, AnswersFrom, AnswersAligned};
 ghost use Rattle.tlsf_heap.specs.Blocks;
-ghost use Rattle.tlsf_heap.specs.Blocks.{IsPlace};
 ghost use Rattle.tlsf_heap.specs.Calls.{last_tick, named};
-ghost use Rattle.tlsf_heap.specs.FreePlaces.{ShowsLists};
 ghost use Rattle.tlsf_heap.specs.Given.{payload_words_at};
-ghost use Rattle.tlsf_heap.specs.GoodFit.{fits};
-ghost use Rattle.tlsf_heap.specs.Image.{Shows};
-ghost use Rattle.tlsf_heap.specs.Lawful.{IsLawful};
 ghost use Rattle.tlsf_heap.specs.Laws.{IsLive};
-ghost use Rattle.tlsf_heap.specs.Steady.{HasPayload};
-ghost use Rattle.tlsf_heap.specs.Unset.{lying, with_payload};
+ghost use Rattle.tlsf_heap.specs.Unset.{GivesUnset};
 ghost use Rattle.tlsf_heap.specs.declared.name.Name.{Name};
+ghost use Rattle.tlsf_heap.specs.Kept.{IsAsBefore, Keeps};
+ghost use Rattle.tlsf_heap.specs.Touched.{FollowsNoPlace};
 
 use super::{Heap, want};
 use crate::fitting::give;
@@ -51,31 +47,19 @@ impl<const SLI: u32> Heap<SLI> {
     pub fn allocate_from(&mut self, at: u32, len: u32) -> Result<Name, Refusal>
         ensures answer { result ≡ (words_from self.old.heap at (Blocks.want len)).answer }
 
-        // Accepted, the heap is as one of those words is given, with the bytes that lie there as its payload.
-        ensures heap { IfOk result (λ name. self.new.heap ≡ with_payload (words_from self.old.heap at (Blocks.want len)).heap name (lying self.new.stored name.at len)) }
-
-        // What that comes to: the name is of that place, live, and was not before, its payload is so long, and every other payload stays.
+        // Accepted, the heap is as one of those words is given, with the bytes that lie there as its payload: the name is of that place, live,
+        // and was not before, its payload is so long, and every other payload stays.
+        ensures gives { IfOk result (GivesUnset self.old self.new (words_from self.old.heap at (Blocks.want len)).heap len) }
         ensures place { IfOk result (λ name. name.at ≡ at) }
-        ensures given { IfOk result (λ name. IsLive self.new.heap name × ¬ (IsLive self.old.heap name)) }
-        ensures payload { IfOk result (λ name. HasPayload self.new.heap name (lying self.new.stored name.at len)) }
-        ensures others { IfOk result (λ name. (other : Name) (bytes : List ℕ) → HasPayload self.old.heap other bytes → HasPayload self.new.heap other bytes) }
 
         // When it is Stale, when it is NoRoom, and when it is a name. A refusal changes nothing.
-        ensures stale { IsErrOf result Refusal.Stale ↔ ¬ (HasFreeAt self.old.heap.blocks at) }
-        ensures no_room { IsErrOf result Refusal.NoRoom ↔ (HasFreeAt self.old.heap.blocks at × ¬ (HasRoomAt self.old.heap.blocks at (Blocks.want len))) }
-        ensures ok { IsOk result ↔ (HasRoomAt self.old.heap.blocks at (Blocks.want len) × ¬ (self.old.heap.tick ≡ last_tick)) }
-        ensures err { OnErr result (self.new.heap ≡ self.old.heap) }
-        ensures stored { OnErr result (self.new.stored ≡ self.old.stored) }
-        ensures was_lawful { IsLawful self.old.heap }
-        ensures lawful { IsLawful self.new.heap }
-        ensures shows { Shows self.new.stored self.new.heap.blocks }
-        ensures lists { ShowsLists SLI self.new.stored self.new.heap.blocks }
+        ensures cases { AnswersFrom self.old.heap at (Blocks.want len) result }
+        ensures err { OnErr result (IsAsBefore self.old self.new) }
+        ensures keeps { Keeps SLI self.old self.new }
 
         // Accepted or refused, whatever the region holds, and however many bytes.
         ensures touches { self.new.touches ≤ self.old.touches + 28 }
-        ensures touches_rise { self.old.touches ≤ self.new.touches }
-        ensures outside { self.old.heap.words ≤ at → self.new.touches ≡ self.old.touches }
-        ensures nowhere { ¬ (IsPlace self.old.heap.blocks at) → self.new.touches ≤ self.old.touches + 1 }
+        ensures wild { FollowsNoPlace self.old.heap at self.old.touches self.new.touches }
     {
         let name = match self.words_from(at, want(len)) {
             Ok(name) => name,
@@ -100,28 +84,18 @@ impl<const SLI: u32> Heap<SLI> {
     pub fn allocate_aligned(&mut self, len: u32, step: u32, skew: u32) -> Result<Name, Refusal>
         ensures answer { result ≡ (words_aligned SLI self.old.heap (Blocks.want len) (max step 1) skew).answer }
 
-        // Accepted, the heap is as one of those words is given, with the bytes that lie there as its payload.
-        ensures heap { IfOk result (λ name. self.new.heap ≡ with_payload (words_aligned SLI self.old.heap (Blocks.want len) (max step 1) skew).heap name (lying self.new.stored name.at len)) }
-
-        // What that comes to: the payload begins at such a word, the name is live and was not before, its payload is so long, and every
-        // other payload stays. A refusal changes nothing.
+        // Accepted, the heap is as one of those words is given, with the bytes that lie there as its payload: it begins at such a word, the
+        // name is live and was not before, its payload is so long, and every other payload stays.
+        ensures gives { IfOk result (GivesUnset self.old self.new (words_aligned SLI self.old.heap (Blocks.want len) (max step 1) skew).heap len) }
         ensures aligned { IfOk result (λ name. (name.at + 3 + skew) % max step 1 ≡ 0) }
-        ensures given { IfOk result (λ name. IsLive self.new.heap name × ¬ (IsLive self.old.heap name)) }
-        ensures payload { IfOk result (λ name. HasPayload self.new.heap name (lying self.new.stored name.at len)) }
-        ensures others { IfOk result (λ name. (other : Name) (bytes : List ℕ) → HasPayload self.old.heap other bytes → HasPayload self.new.heap other bytes) }
-        ensures worn { IsErrOf result Refusal.Worn ↔ (last_tick ≤ self.old.heap.tick + 3) }
-        ensures no_fit { self.old.heap.tick + 3 < last_tick → (IsErrOf result Refusal.NoFit ↔ (fits SLI (aligned_words (Blocks.want len) (max step 1)) self.old.heap.blocks ≡ [])) }
-        ensures ok { IsOk result ↔ ((self.old.heap.tick + 3 < last_tick) × ¬ (fits SLI (aligned_words (Blocks.want len) (max step 1)) self.old.heap.blocks ≡ [])) }
-        ensures err { OnErr result (self.new.heap ≡ self.old.heap) }
-        ensures stored { OnErr result (self.new.stored ≡ self.old.stored) }
-        ensures was_lawful { IsLawful self.old.heap }
-        ensures lawful { IsLawful self.new.heap }
-        ensures shows { Shows self.new.stored self.new.heap.blocks }
-        ensures lists { ShowsLists SLI self.new.stored self.new.heap.blocks }
+
+        // When it is Worn, when it is NoFit, and when it is a name. A refusal changes nothing.
+        ensures cases { AnswersAligned SLI self.old.heap (Blocks.want len) (max step 1) result }
+        ensures err { OnErr result (IsAsBefore self.old self.new) }
+        ensures keeps { Keeps SLI self.old self.new }
 
         // Accepted or refused, whatever the region holds, and however many bytes.
         ensures touches { self.new.touches ≤ self.old.touches + 116 }
-        ensures touches_rise { self.old.touches ≤ self.new.touches }
     {
         if self.tick >= u64::MAX - 3 {
             return Err(Refusal::Worn);
@@ -153,12 +127,8 @@ impl<const SLI: u32> Heap<SLI> {
         ensures answer { result ≡ (moved_on self.old.heap name gap words).answer }
         ensures heap { self.new.heap ≡ (moved_on self.old.heap name gap words).heap }
         ensures ok { IsOk result }
-        ensures was_lawful { IsLawful self.old.heap }
-        ensures lawful { IsLawful self.new.heap }
-        ensures shows { Shows self.new.stored self.new.heap.blocks }
-        ensures lists { ShowsLists SLI self.new.stored self.new.heap.blocks }
+        ensures keeps { Keeps SLI self.old self.new }
         ensures touches { self.new.touches ≤ self.old.touches + 85 }
-        ensures rise { self.old.touches ≤ self.new.touches }
     {
         if gap == 0 {
             self.resize_words(name, words, 0)?;
@@ -175,19 +145,11 @@ impl<const SLI: u32> Heap<SLI> {
         requires { 4 ≤ words }
         ensures answer { result ≡ (words_from self.old.heap at words).answer }
         ensures heap { self.new.heap ≡ (words_from self.old.heap at words).heap }
-        ensures stale { IsErrOf result Refusal.Stale ↔ ¬ (HasFreeAt self.old.heap.blocks at) }
-        ensures no_room { IsErrOf result Refusal.NoRoom ↔ (HasFreeAt self.old.heap.blocks at × ¬ (HasRoomAt self.old.heap.blocks at words)) }
-        ensures ok { IsOk result ↔ (HasRoomAt self.old.heap.blocks at words × ¬ (self.old.heap.tick ≡ last_tick)) }
-        ensures err { OnErr result (self.new.heap ≡ self.old.heap) }
-        ensures stored { OnErr result (self.new.stored ≡ self.old.stored) }
-        ensures was_lawful { IsLawful self.old.heap }
-        ensures lawful { IsLawful self.new.heap }
-        ensures shows { Shows self.new.stored self.new.heap.blocks }
-        ensures lists { ShowsLists SLI self.new.stored self.new.heap.blocks }
+        ensures cases { AnswersFrom self.old.heap at words result }
+        ensures err { OnErr result (IsAsBefore self.old self.new) }
+        ensures keeps { Keeps SLI self.old self.new }
         ensures touches { self.new.touches ≤ self.old.touches + 27 }
-        ensures rise { self.old.touches ≤ self.new.touches }
-        ensures outside { self.old.heap.words ≤ at → self.new.touches ≡ self.old.touches }
-        ensures nowhere { ¬ (IsPlace self.old.heap.blocks at) → self.new.touches ≤ self.old.touches + 1 }
+        ensures wild { FollowsNoPlace self.old.heap at self.old.touches self.new.touches }
     {
         let Some(own) = self.region.free_at(at) else {
             return Err(Refusal::Stale);

@@ -1,11 +1,9 @@
 ghost use Rattle.std.specs.Prelude.{◌≡◌, ◌+◌, ◌<◌, ◌≤◌, IfSome, OnErr};
 ghost use Rattle.tlsf_heap.specs.Blocks;
-ghost use Rattle.tlsf_heap.specs.Blocks.{IsPlace};
 ghost use Rattle.tlsf_heap.specs.ByPlace.{name_at, released_by_place, resized_by_place};
-ghost use Rattle.tlsf_heap.specs.FreePlaces.{ShowsLists};
-ghost use Rattle.tlsf_heap.specs.Image.{Shows};
-ghost use Rattle.tlsf_heap.specs.Lawful.{IsLawful};
 ghost use Rattle.tlsf_heap.specs.Laws.{IsLive};
+ghost use Rattle.tlsf_heap.specs.Kept.{IsAsBefore, Keeps};
+ghost use Rattle.tlsf_heap.specs.Touched.{FollowsNoPlace};
 
 use super::{Heap, want};
 use crate::name::Name;
@@ -26,15 +24,10 @@ impl<const SLI: u32> Heap<SLI> {
 
         // What that comes to: the name is live, and its block begins there.
         ensures live { IfSome result (λ name. IsLive self.old.heap name × (name.at ≡ at) × (at < self.old.heap.words)) }
-        ensures heap { self.new.heap ≡ self.old.heap }
-        ensures stored { self.new.stored ≡ self.old.stored }
-        ensures was_lawful { IsLawful self.old.heap }
-        ensures shows { Shows self.new.stored self.new.heap.blocks }
-        ensures lists { ShowsLists SLI self.new.stored self.new.heap.blocks }
+        ensures same { IsAsBefore self.old self.new }
+        ensures keeps { Keeps SLI self.old self.new }
         ensures touches { self.new.touches ≤ self.old.touches + 3 }
-        ensures touches_rise { self.old.touches ≤ self.new.touches }
-        ensures outside { self.old.heap.words ≤ at → self.new.touches ≡ self.old.touches }
-        ensures nowhere { ¬ (IsPlace self.old.heap.blocks at) → self.new.touches ≤ self.old.touches + 1 }
+        ensures wild { FollowsNoPlace self.old.heap at self.old.touches self.new.touches }
     {
         let Some(_own) = self.region.live_at(at) else {
             return None;
@@ -62,18 +55,12 @@ impl<const SLI: u32> Heap<SLI> {
         ensures heap { self.new.heap ≡ (released_by_place self.old.heap at).heap }
 
         // A refusal changes nothing.
-        ensures err { OnErr result (self.new.heap ≡ self.old.heap) }
-        ensures stored { OnErr result (self.new.stored ≡ self.old.stored) }
-        ensures was_lawful { IsLawful self.old.heap }
-        ensures lawful { IsLawful self.new.heap }
-        ensures shows { Shows self.new.stored self.new.heap.blocks }
-        ensures lists { ShowsLists SLI self.new.stored self.new.heap.blocks }
+        ensures err { OnErr result (IsAsBefore self.old self.new) }
+        ensures keeps { Keeps SLI self.old self.new }
 
         // Accepted or refused, and whatever the region holds: one fewer than `release`, since no serial is read.
         ensures touches { self.new.touches ≤ self.old.touches + 29 }
-        ensures touches_rise { self.old.touches ≤ self.new.touches }
-        ensures outside { self.old.heap.words ≤ at → self.new.touches ≡ self.old.touches }
-        ensures nowhere { ¬ (IsPlace self.old.heap.blocks at) → self.new.touches ≤ self.old.touches + 1 }
+        ensures wild { FollowsNoPlace self.old.heap at self.old.touches self.new.touches }
     {
         match self.release_words_at(at) {
             Ok(_words) => Ok(()),
@@ -91,16 +78,10 @@ impl<const SLI: u32> Heap<SLI> {
     pub fn resize_at(&mut self, at: u32, len: u32) -> Result<(), Refusal>
         ensures answer { result ≡ (resized_by_place self.old.heap at len).answer }
         ensures heap { self.new.heap ≡ (resized_by_place self.old.heap at len).heap }
-        ensures err { OnErr result (self.new.heap ≡ self.old.heap) }
-        ensures stored { OnErr result (self.new.stored ≡ self.old.stored) }
-        ensures was_lawful { IsLawful self.old.heap }
-        ensures lawful { IsLawful self.new.heap }
-        ensures shows { Shows self.new.stored self.new.heap.blocks }
-        ensures lists { ShowsLists SLI self.new.stored self.new.heap.blocks }
+        ensures err { OnErr result (IsAsBefore self.old self.new) }
+        ensures keeps { Keeps SLI self.old self.new }
         ensures touches { self.new.touches ≤ self.old.touches + 63 + Blocks.want len }
-        ensures touches_rise { self.old.touches ≤ self.new.touches }
-        ensures outside { self.old.heap.words ≤ at → self.new.touches ≡ self.old.touches }
-        ensures nowhere { ¬ (IsPlace self.old.heap.blocks at) → self.new.touches ≤ self.old.touches + 1 }
+        ensures wild { FollowsNoPlace self.old.heap at self.old.touches self.new.touches }
     {
         match self.name_at(at) {
             None => Err(Refusal::Stale),

@@ -1,9 +1,8 @@
-ghost use Rattle.std.specs.Prelude.{◌≡◌, ◌+◌, ◌*◌, ◌/◌, ◌≤◌, MatchOption};
+ghost use Rattle.std.specs.Prelude.{◌+◌, ◌*◌, ◌/◌, ◌≤◌, MatchOption};
 ghost use Rattle.tlsf_heap.specs.Blocks.{IsPlace};
 ghost use Rattle.tlsf_heap.specs.Checks.{IsCheck, FindsSound, block_touches};
-ghost use Rattle.tlsf_heap.specs.FreePlaces.{ShowsLists};
-ghost use Rattle.tlsf_heap.specs.Image.{Shows};
-ghost use Rattle.tlsf_heap.specs.Lawful.{IsLawful};
+ghost use Rattle.tlsf_heap.specs.Kept.{IsAsBefore, Keeps};
+ghost use Rattle.tlsf_heap.specs.Touched.{FollowsNoPlace};
 
 use super::Heap;
 use crate::checked::Checked;
@@ -26,20 +25,15 @@ impl<const SLI: u32> Heap<SLI> {
 
         // What is said of words that hold anything, of these.
         ensures looks { IsCheck self.old.stored from most result }
-        ensures heap { self.new.heap ≡ self.old.heap }
-        ensures stored { self.new.stored ≡ self.old.stored }
-        ensures was_lawful { IsLawful self.old.heap }
-        ensures shows { Shows self.new.stored self.new.heap.blocks }
-        ensures lists { ShowsLists SLI self.new.stored self.new.heap.blocks }
+        ensures same { IsAsBefore self.old self.new }
+        ensures keeps { Keeps SLI self.old self.new }
 
         // At most 13 for each block looked at, and one for the first start bit. No two blocks that are looked at begin within four words.
         ensures touches { self.new.touches ≤ self.old.touches + 1 + block_touches * most }
         ensures few { self.new.touches ≤ self.old.touches + 1 + block_touches * (self.old.heap.words / 4) }
-        ensures touches_rise { self.old.touches ≤ self.new.touches }
 
         // Not even a start bit is read unless the place lies in the region, and no word unless a block begins there.
-        ensures outside { self.old.heap.words ≤ from → self.new.touches ≡ self.old.touches }
-        ensures nowhere { ¬ (IsPlace self.old.heap.blocks from) → self.new.touches ≤ self.old.touches + 1 }
+        ensures wild { FollowsNoPlace self.old.heap from self.old.touches self.new.touches }
     {
         self.region.check(from, most)
     }

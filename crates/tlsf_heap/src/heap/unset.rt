@@ -1,15 +1,13 @@
-ghost use Rattle.std.specs.Prelude.{◌≡◌, ℕ, ◌+◌, ◌*◌, ◌/◌, ◌≤◌, ◌↔◌, [], length, min, IfOk, OnOk, OnErr, IsOk, IsErrOf};
+ghost use Rattle.std.specs.Prelude.{◌≡◌, ◌+◌, ◌*◌, ◌/◌, ◌≤◌, ◌↔◌, [], length, min, IfOk, OnOk, OnErr, IsOk, IsErrOf};
 ghost use Rattle.tlsf_heap.specs.Blocks;
 ghost use Rattle.tlsf_heap.specs.Calls.{allocated, last_tick, resized};
-ghost use Rattle.tlsf_heap.specs.FreePlaces.{ShowsLists};
 ghost use Rattle.tlsf_heap.specs.GoodFit.{fits};
-ghost use Rattle.tlsf_heap.specs.Image.{Shows};
 ghost use Rattle.tlsf_heap.specs.InPlace.{payload_of};
-ghost use Rattle.tlsf_heap.specs.Lawful.{IsLawful};
 ghost use Rattle.tlsf_heap.specs.Laws.{IsLive};
 ghost use Rattle.tlsf_heap.specs.Moved.{moved, resized_or_moved};
 ghost use Rattle.tlsf_heap.specs.Touched.{FollowsNoForgery};
 ghost use Rattle.tlsf_heap.specs.Unset.{unset_from};
+ghost use Rattle.tlsf_heap.specs.Kept.{IsAsBefore, Keeps};
 
 use super::{Heap, want};
 use crate::name::Name;
@@ -18,7 +16,7 @@ use crate::refusal::Refusal;
 // Calls that fill nothing: for a caller who fills the payload himself before he reads it.
 impl<const SLI: u32> Heap<SLI> {
     /// Gives a block that holds `len` bytes of payload, as `allocate`, and fills nothing: its bytes are those that lie there, whatever
-    /// they are. So it takes no longer for more bytes. Up to four payload words are made zero, as good fit makes them for `allocate`.
+    /// they are. So it takes no longer for more bytes. Only the first payload word is made zero.
     ///
     /// Refused as `NoFit` where no free block lies in a class at or above the search class of the words wanted, else
     /// as `Worn` where the tick is at its last value. Takes no memory.
@@ -33,20 +31,15 @@ impl<const SLI: u32> Heap<SLI> {
 
         // Accepted, the heap is as an allocate and a write of the bytes that lie there make it; a refusal changes nothing.
         ensures heap { IfOk result (λ name. self.new.heap ≡ unset_from (allocated SLI self.old.heap len).heap name self.new.stored 0 len) }
-        ensures err { OnErr result (self.new.heap ≡ self.old.heap) }
-        ensures stored { OnErr result (self.new.stored ≡ self.old.stored) }
+        ensures err { OnErr result (IsAsBefore self.old self.new) }
 
         // When it is NoFit, and when it is a name.
         ensures no_fit { IsErrOf result Refusal.NoFit ↔ (fits SLI (Blocks.want len) self.old.heap.blocks ≡ []) }
         ensures ok { IsOk result ↔ (¬ (fits SLI (Blocks.want len) self.old.heap.blocks ≡ []) × ¬ (self.old.heap.tick ≡ last_tick)) }
-        ensures was_lawful { IsLawful self.old.heap }
-        ensures lawful { IsLawful self.new.heap }
-        ensures shows { Shows self.new.stored self.new.heap.blocks }
-        ensures lists { ShowsLists SLI self.new.stored self.new.heap.blocks }
+        ensures keeps { Keeps SLI self.old self.new }
 
         // Accepted or refused, whatever the region holds, and however many bytes.
         ensures touches { self.new.touches ≤ self.old.touches + 31 }
-        ensures touches_rise { self.old.touches ≤ self.new.touches }
     {
         let name = match self.allocate_words(want(len), 0) {
             Ok(name) => name,
@@ -72,16 +65,11 @@ impl<const SLI: u32> Heap<SLI> {
 
         // Accepted, the heap is as a resize and a write of the bytes that lie behind the old ones make it; a refusal changes nothing.
         ensures heap { OnOk result (self.new.heap ≡ unset_from (resized self.old.heap name len).heap name self.new.stored (min (length (payload_of self.old.heap name)) len) len) }
-        ensures err { OnErr result (self.new.heap ≡ self.old.heap) }
-        ensures stored { OnErr result (self.new.stored ≡ self.old.stored) }
-        ensures was_lawful { IsLawful self.old.heap }
-        ensures lawful { IsLawful self.new.heap }
-        ensures shows { Shows self.new.stored self.new.heap.blocks }
-        ensures lists { ShowsLists SLI self.new.stored self.new.heap.blocks }
+        ensures err { OnErr result (IsAsBefore self.old self.new) }
+        ensures keeps { Keeps SLI self.old self.new }
 
         // Accepted or refused, whatever the region holds, and however many bytes.
         ensures touches { self.new.touches ≤ self.old.touches + 33 }
-        ensures touches_rise { self.old.touches ≤ self.new.touches }
         ensures forged { FollowsNoForgery self.old.heap name self.old.touches self.new.touches }
     {
         let kept = self.check_payload(name)?.min(len);
@@ -109,16 +97,11 @@ impl<const SLI: u32> Heap<SLI> {
 
         // Accepted, the heap is as a resize or move and a write of the bytes that lie behind the old ones make it; a refusal changes nothing.
         ensures heap { IfOk result (λ new. self.new.heap ≡ unset_from (resized_or_moved SLI self.old.heap name len).heap new self.new.stored (min (length (payload_of self.old.heap name)) len) len) }
-        ensures err { OnErr result (self.new.heap ≡ self.old.heap) }
-        ensures stored { OnErr result (self.new.stored ≡ self.old.stored) }
-        ensures was_lawful { IsLawful self.old.heap }
-        ensures lawful { IsLawful self.new.heap }
-        ensures shows { Shows self.new.stored self.new.heap.blocks }
-        ensures lists { ShowsLists SLI self.new.stored self.new.heap.blocks }
+        ensures err { OnErr result (IsAsBefore self.old self.new) }
+        ensures keeps { Keeps SLI self.old self.new }
 
         // Accepted or refused, and whatever the region holds: at most 99 touches, and two for each word of the bytes that stay.
         ensures touches { self.new.touches ≤ self.old.touches + 99 + 2 * (min (length (payload_of self.old.heap name)) len / 8) }
-        ensures touches_rise { self.old.touches ≤ self.new.touches }
         ensures forged { FollowsNoForgery self.old.heap name self.old.touches self.new.touches }
     {
         match self.resize_unset(name, len) {
@@ -133,13 +116,9 @@ impl<const SLI: u32> Heap<SLI> {
         requires { IsLive self.old.heap name }
         ensures answer { result ≡ (moved SLI self.old.heap name len).answer }
         ensures heap { IfOk result (λ new. self.new.heap ≡ unset_from (moved SLI self.old.heap name len).heap new self.new.stored (min (length (payload_of self.old.heap name)) len) len) }
-        ensures err { OnErr result (self.new.heap ≡ self.old.heap) }
-        ensures stored { OnErr result (self.new.stored ≡ self.old.stored) }
-        ensures lawful { IsLawful self.new.heap }
-        ensures shows { Shows self.new.stored self.new.heap.blocks }
-        ensures lists { ShowsLists SLI self.new.stored self.new.heap.blocks }
+        ensures err { OnErr result (IsAsBefore self.old self.new) }
+        ensures keeps { Keeps SLI self.old self.new }
         ensures touches { self.new.touches ≤ self.old.touches + 66 + 2 * (min (length (payload_of self.old.heap name)) len / 8) }
-        ensures rise { self.old.touches ≤ self.new.touches }
     {
         if self.tick >= u64::MAX - 1 {
             return Err(Refusal::Worn);

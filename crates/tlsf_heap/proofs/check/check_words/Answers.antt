@@ -1,7 +1,7 @@
 use Rattle.std.proofs.Common.{◌≡◌, ◌+◌, List, ℕ, Bool, length, sym, ap, ◌∙◌, eq-eqb, cond, subst, arith}
 use Rattle.tlsf_heap.specs.Checks.{Begins}
 use Rattle.tlsf_heap.specs.Regions.{image_of}
-use Rattle.tlsf_heap.proofs.Checking.{sound_up_to}
+use Rattle.tlsf_heap.proofs.lemmas.words.Checks.{sound_up_to}
 use Rattle.tlsf_heap.proofs.check.check_words.Goals as goal
 
 pub returns-then-end-len-clause-answer : goal.returns-then-end-len-clause-answer

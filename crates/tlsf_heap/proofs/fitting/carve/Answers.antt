@@ -1,5 +1,5 @@
 use Rattle.std.proofs.Common.{◌∙◌, arith}
-use Rattle.tlsf_heap.proofs.Carving.{IsFreeHere, head_stands, taken_each}
+use Rattle.tlsf_heap.proofs.lemmas.lists.Carved.{IsFreeHere, head_stands, taken_each}
 use Rattle.tlsf_heap.proofs.fitting.carve.Goals as goal
 
 pub give-requires : goal.give-requires

@@ -1,6 +1,6 @@
 use Rattle.std.proofs.Common.{arith}
 use Rattle.tlsf_heap.specs.Regions.{list_in}
-use Rattle.tlsf_heap.proofs.Choosing.{none_above, best_class}
+use Rattle.tlsf_heap.proofs.lemmas.lists.Chosen.{none_above, best_class}
 use Rattle.tlsf_heap.proofs.fitting.choose.Goals as goal
 
 pub returns-then-words-most_words-clause-best : goal.returns-then-words-most_words-clause-best

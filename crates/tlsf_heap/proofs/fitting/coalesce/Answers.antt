@@ -4,8 +4,8 @@ use Rattle.tlsf_heap.specs.Blocks.{size_of, is_free, StandsAt}
 use Rattle.tlsf_heap.specs.Calls.{first_free, last_free}
 use Rattle.tlsf_heap.specs.GoodFit.{block_at}
 use Rattle.tlsf_heap.specs.Regions.{AreUnlisted, list_in}
-use Rattle.tlsf_heap.proofs.Forgetting.{is_between, nothing_out, size_region, rest_unlisted, withheld_listed, merged_free, merged_listed}
-use Rattle.tlsf_heap.proofs.Sizes.{one_index}
+use Rattle.tlsf_heap.proofs.lemmas.lists.Withheld.{is_between, nothing_out, size_region, rest_unlisted, withheld_listed, merged_free, merged_listed}
+use Rattle.tlsf_heap.proofs.lemmas.blocks.Around.{one_index}
 use Rattle.tlsf_heap.proofs.fitting.coalesce.Goals as goal
 
 pub free-requires : goal.free-requires

@@ -2,7 +2,7 @@ use Rattle.std.proofs.Common.{refl, sym, ap, ◌∙◌, arith}
 use Rattle.tlsf_class.specs.Classes.{class_of}
 use Rattle.tlsf_class.proofs.TwoLevels.{most_words_any}
 use Rattle.tlsf_heap.specs.Regions.{list_in}
-use Rattle.tlsf_heap.proofs.Forgetting.{is_between, size_region, end_within, before_within, rest_unlisted, merged_free, merged_listed}
+use Rattle.tlsf_heap.proofs.lemmas.lists.Withheld.{is_between, size_region, end_within, before_within, rest_unlisted, merged_free, merged_listed}
 use Rattle.tlsf_heap.proofs.fitting.merge.Goals as goal
 
 pub class_of-requires : goal.class_of-requires

@@ -1,6 +1,6 @@
 use Rattle.std.proofs.Common.{sym, ◌∙◌, arith}
 use Rattle.tlsf_class.proofs.TwoLevels.{most_words_any}
-use Rattle.tlsf_heap.proofs.Beside.{tag_at, end_is, live_next, next_is, none_behind, place_behind, short_end, ends_within}
+use Rattle.tlsf_heap.proofs.lemmas.blocks.Neighbours.{tag_at, end_is, live_next, next_is, none_behind, place_behind, short_end, ends_within}
 use Rattle.tlsf_heap.proofs.fitting.next_tag.Goals as goal
 
 pub returns-then-is_last-clause-tag : goal.returns-then-is_last-clause-tag

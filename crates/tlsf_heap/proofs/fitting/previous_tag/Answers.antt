@@ -1,6 +1,6 @@
 use Rattle.std.proofs.Common.{arith}
 use Rattle.tlsf_class.proofs.TwoLevels.{words_any}
-use Rattle.tlsf_heap.proofs.Beside.{tag_at, live_previous, none_before, some_before, place_before, previous_is}
+use Rattle.tlsf_heap.proofs.lemmas.blocks.Neighbours.{tag_at, live_previous, none_before, some_before, place_before, previous_is}
 use Rattle.tlsf_heap.proofs.fitting.previous_tag.Goals as goal
 
 pub returns-then-at-eq0-clause-tag : goal.returns-then-at-eq0-clause-tag

@@ -1,4 +1,4 @@
-use Rattle.tlsf_heap.proofs.Lying.{apart, inside}
+use Rattle.tlsf_heap.proofs.lemmas.blocks.Order.{apart, inside}
 use Rattle.tlsf_heap.proofs.laws.blocks_never_overlap.Goals as goal
 
 pub returns : goal.returns

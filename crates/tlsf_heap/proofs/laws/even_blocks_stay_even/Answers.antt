@@ -1,4 +1,4 @@
-use Rattle.tlsf_heap.proofs.EvenPlaces.{even_opened, even_allocated, even_released, even_resized, even_moved, even_written, even_payload, even_from, even_aligned, even_run}
+use Rattle.tlsf_heap.proofs.lemmas.laws.EvenPlaces.{even_opened, even_allocated, even_released, even_resized, even_moved, even_written, even_payload, even_from, even_aligned, even_run}
 use Rattle.tlsf_heap.proofs.laws.even_blocks_stay_even.Goals as goal
 
 pub returns : goal.returns

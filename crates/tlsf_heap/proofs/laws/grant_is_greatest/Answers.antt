@@ -1,4 +1,4 @@
-use Rattle.tlsf_heap.proofs.Reporting.{greatest_length, formula}
+use Rattle.tlsf_heap.proofs.lemmas.calls.Reports.{greatest_length, formula}
 use Rattle.tlsf_heap.proofs.laws.grant_is_greatest.Goals as goal
 
 pub returns-clause-greatest : goal.returns-clause-greatest

@@ -1,4 +1,4 @@
-use Rattle.tlsf_heap.proofs.Steady.{stays_read, stays_allocated, stays_released, stays_resized, stays_moved, stays_written, stays_allocated_unset, stays_resized_unset, stays_moved_unset, stays_run}
+use Rattle.tlsf_heap.proofs.lemmas.laws.Payloads.{stays_read, stays_allocated, stays_released, stays_resized, stays_moved, stays_written, stays_allocated_unset, stays_resized_unset, stays_moved_unset, stays_run}
 use Rattle.tlsf_heap.proofs.laws.payloads_stay.Goals as goal
 
 pub returns : goal.returns

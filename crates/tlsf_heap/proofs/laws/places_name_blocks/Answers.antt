@@ -1,4 +1,4 @@
-use Rattle.tlsf_heap.proofs.ByPlace.{live_is_found, no_near}
+use Rattle.tlsf_heap.proofs.lemmas.calls.ByPlace.{live_is_found, no_near}
 use Rattle.tlsf_heap.proofs.laws.places_name_blocks.Goals as goal
 
 pub returns : goal.returns

@@ -1,5 +1,5 @@
 use Rattle.tlsf_heap.specs.Calls.{opened, run}
-use Rattle.tlsf_heap.proofs.Served.{no_fit, ok}
+use Rattle.tlsf_heap.proofs.lemmas.laws.NoFit.{no_fit, ok}
 use Rattle.tlsf_heap.proofs.laws.refused_only_where_nothing_fits.Goals as goal
 
 pub returns : goal.returns

@@ -1,7 +1,7 @@
 use Rattle.std.proofs.Common.{refl}
-use Rattle.tlsf_heap.proofs.WordsInUse.{in_use_allocated, in_use_released, in_use_resized, in_use_written, words_allocated, words_released, words_written}
-use Rattle.tlsf_heap.proofs.AlignedWords.{in_use_aligned, in_use_payload, words_payload}
-use Rattle.tlsf_heap.proofs.MovedWords.{in_use_moved}
+use Rattle.tlsf_heap.proofs.lemmas.laws.WordsInUse.{in_use_allocated, in_use_released, in_use_resized, in_use_written, words_allocated, words_released, words_written}
+use Rattle.tlsf_heap.proofs.lemmas.laws.AlignedWords.{in_use_aligned, in_use_payload, words_payload}
+use Rattle.tlsf_heap.proofs.lemmas.laws.MovedWords.{in_use_moved}
 use Rattle.tlsf_heap.proofs.laws.words_in_use_add_up.Goals as goal
 
 pub returns : goal.returns

@@ -1,7 +1,7 @@
-use Rattle.tlsf_heap.proofs.Outcomes.{lawful_allocated_words, lawful_resized_words}
-use Rattle.tlsf_heap.proofs.Served.{no_fit_words, ok_words}
-use Rattle.tlsf_heap.proofs.Living.{given_words, new_words, kept_allocated, kept_resized}
-use Rattle.tlsf_heap.proofs.Gone.{gone_taken, gone_call, gone_allocated, gone_resized, gone_dead}
+use Rattle.tlsf_heap.proofs.lemmas.calls.Outcomes.{lawful_allocated_words, lawful_resized_words}
+use Rattle.tlsf_heap.proofs.lemmas.laws.NoFit.{no_fit_words, ok_words}
+use Rattle.tlsf_heap.proofs.lemmas.laws.Live.{given_words, new_words, kept_allocated, kept_resized}
+use Rattle.tlsf_heap.proofs.lemmas.laws.Gone.{gone_taken, gone_call, gone_allocated, gone_resized, gone_dead}
 use Rattle.tlsf_heap.proofs.laws.words_keep_laws.Goals as goal
 
 pub returns : goal.returns

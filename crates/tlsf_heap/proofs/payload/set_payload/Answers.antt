@@ -1,7 +1,7 @@
 use Rattle.std.proofs.Common.{◌≡◌, ℕ, ◌+◌, ◌*◌, ◌≤◌, List, set, ap, ◌∙◌, arith}
 use Rattle.tlsf_words.specs.Bytes.{byte_in}
 use Rattle.tlsf_words.specs.Fields.{length_word}
-use Rattle.tlsf_heap.proofs.Fitted.{bytes_fitted, bytes_behind}
+use Rattle.tlsf_heap.proofs.lemmas.words.NewBytes.{bytes_fitted, bytes_behind}
 use Rattle.tlsf_heap.proofs.payload.set_payload.Goals as goal
 
 -- the length is no byte of the payload

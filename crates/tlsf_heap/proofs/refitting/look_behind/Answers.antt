@@ -1,5 +1,5 @@
 use Rattle.std.proofs.Common.{sym, ◌∙◌}
-use Rattle.tlsf_heap.proofs.Beside.{tag_at, none_is}
+use Rattle.tlsf_heap.proofs.lemmas.blocks.Neighbours.{tag_at, none_is}
 use Rattle.tlsf_heap.proofs.refitting.look_behind.Goals as goal
 
 pub returns-else-is_free-clause-tag : goal.returns-else-is_free-clause-tag

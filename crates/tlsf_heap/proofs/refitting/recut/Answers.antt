@@ -5,9 +5,9 @@ use Rattle.tlsf_heap.specs.Blocks.{size_of}
 use Rattle.tlsf_heap.specs.Calls.{first_free}
 use Rattle.tlsf_heap.specs.GoodFit.{block_at}
 use Rattle.tlsf_heap.specs.Regions.{list_in}
-use Rattle.tlsf_heap.proofs.Edits.{rest_some, rest_none}
-use Rattle.tlsf_heap.proofs.Cutting.{own_unlisted, wide_listed, cut_free, cut_unlisted, cut_listed}
-use Rattle.tlsf_heap.proofs.Forgetting.{is_between, forgets, end_within, next_region, contains_next}
+use Rattle.tlsf_heap.proofs.lemmas.blocks.Replace.{rest_some, rest_none}
+use Rattle.tlsf_heap.proofs.lemmas.lists.Recut.{own_unlisted, wide_listed, cut_free, cut_unlisted, cut_listed}
+use Rattle.tlsf_heap.proofs.lemmas.lists.Withheld.{is_between, forgets, end_within, next_region, contains_next}
 use Rattle.tlsf_heap.proofs.refitting.recut.Goals as goal
 
 pub overflow_add-at : goal.overflow_add-at

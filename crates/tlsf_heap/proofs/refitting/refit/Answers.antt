@@ -5,12 +5,12 @@ use Rattle.tlsf_heap.specs.Blocks.{Block, StandsAt, size_of, is_free, bytes_of, 
 use Rattle.tlsf_heap.specs.Calls.{first_free, with_bytes, fitted, recut}
 use Rattle.tlsf_heap.specs.GoodFit.{Site, block_at, site_at}
 use Rattle.tlsf_heap.specs.Regions.{AreRegions, EachAt, IsTagOf, IsTagBehind, list_in}
-use Rattle.tlsf_heap.proofs.Allocating.{regions_of}
-use Rattle.tlsf_heap.proofs.Fitted.{length-fitted}
-use Rattle.tlsf_heap.proofs.Payloads.{is_free-with_bytes}
-use Rattle.tlsf_heap.proofs.Refitted.{tag_rebytes, behind_rebytes, payload_room, bytes_of-with_bytes, rebytes_around, rebytes_site, rebytes_listed, rebytes_stamps, rebytes_words, refitted_grown, refitted_cut, recut_stands, recut_bytes, recut_takes, recut_rebytes}
-use Rattle.tlsf_heap.proofs.Showing.{stands_once}
-use Rattle.tlsf_heap.proofs.Sizes.{one_index, stands_around, block_around}
+use Rattle.tlsf_heap.proofs.lemmas.calls.Allocate.{regions_of}
+use Rattle.tlsf_heap.proofs.lemmas.words.NewBytes.{length-fitted}
+use Rattle.tlsf_heap.proofs.lemmas.words.Bytes.{is_free-with_bytes}
+use Rattle.tlsf_heap.proofs.lemmas.lists.Refit.{tag_rebytes, behind_rebytes, payload_room, bytes_of-with_bytes, rebytes_around, rebytes_site, rebytes_listed, rebytes_stamps, rebytes_words, refitted_grown, refitted_cut, recut_stands, recut_bytes, recut_takes, recut_rebytes}
+use Rattle.tlsf_heap.proofs.lemmas.words.Image.{stands_once}
+use Rattle.tlsf_heap.proofs.lemmas.blocks.Around.{one_index, stands_around, block_around}
 use Rattle.tlsf_heap.proofs.refitting.refit.Goals as goal
 
 -- the room that the tags say

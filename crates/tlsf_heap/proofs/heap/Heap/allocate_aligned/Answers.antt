@@ -4,20 +4,19 @@ use Rattle.tlsf_class.proofs.TwoLevels.{most_words_any}
 use Rattle.tlsf_heap.specs.Aligned.{aligned_words}
 use Rattle.tlsf_heap.specs.Blocks.{HeapState, want}
 use Rattle.tlsf_heap.specs.Calls.{Outcome, last_tick}
-use Rattle.tlsf_heap.specs.FreePlaces.{ShowsLists}
 use Rattle.tlsf_heap.specs.GoodFit.{fits}
 use Rattle.tlsf_heap.specs.Lawful.{IsLawful}
 use Rattle.tlsf_heap.specs.Shown.{Shown}
 use Rattle.tlsf_heap.specs.Unset.{lying, with_payload}
 use Rattle.tlsf_heap.specs.declared.name.Name.{Name}
-use Rattle.tlsf_heap.proofs.Aligning.{IsAligned, has_live, has_room, none_fits, aligned_past, first_moves, first_moved, gives_name, gives_payload, gives_others}
-use Rattle.tlsf_heap.proofs.Listing.{stored_lists}
-use Rattle.tlsf_heap.proofs.Sites.{fits_nothing}
+use Rattle.tlsf_heap.proofs.lemmas.calls.AllocateAligned.{IsAligned, has_live, has_room, none_fits, aligned_past, first_moves, first_moved, gives_name, gives_payload, gives_others}
+use Rattle.tlsf_heap.proofs.lemmas.blocks.Sites.{fits_nothing}
+use Rattle.tlsf_heap.proofs.lemmas.calls.Kept.{keeps_same}
 use Rattle.tlsf_heap.proofs.heap.Heap.allocate_aligned.Given.{Over}
 use Rattle.tlsf_heap.proofs.heap.Heap.allocate_aligned.Goals as goal
 
-pub returns-then-self-clause-lists : goal.returns-then-self-clause-lists
-returns-then-self-clause-lists g c = subst (λ (s : Shown). ShowsLists g.row.SLI s.stored s.heap.blocks) c.self.view_is (stored_lists g.row.SLI c.self.inside c.self.invariant)
+pub returns-then-self-clause-keeps : goal.returns-then-self-clause-keeps
+returns-then-self-clause-keeps g c = keeps_same g.row.SLI c.self.inside c.self.view_is c.self.invariant
 
 -- ---- no region has so many words
 
@@ -39,14 +38,18 @@ none g c =
     let lawful = subst IsLawful (ap (λ (s : Shown). s.heap) c.self.view_is) c.self.invariant.lawful in
     rw c.max-step.ensures at (fits_nothing g.row.SLI (aligned_words (want c.args.len) c.max-step.result) h.blocks (none_fits g.row.SLI c.self.invariant.level h (aligned_words (want c.args.len) c.max-step.result) lawful (past g c)))
 
-pub returns-then-step-most_words-clause-no_fit : goal.returns-then-step-most_words-clause-no_fit
-returns-then-step-most_words-clause-no_fit g c left = (λ _. none g c, λ _. refl)
+pub returns-then-step-most_words-clause-cases : goal.returns-then-step-most_words-clause-cases
+returns-then-step-most_words-clause-cases g c =
+    let left = c.if-self.false in
+    let tick = ap (λ (s : Shown). s.heap.tick) c.self.view_is in
+    record {
+      worn = (λ bad. cc, λ past. absurd (omega (arith, past, left, tick)));
+      no_fit = λ left. (λ _. none g c, λ _. refl);
+      ok = (λ e. absurd (false≢true e), λ p. absurd (p.1 (none g c)));
+    }
 
-pub returns-then-step-most_words-clause-ok : goal.returns-then-step-most_words-clause-ok
-returns-then-step-most_words-clause-ok g c = (λ e. absurd (false≢true e), λ p. absurd (p.1 (none g c)))
-
-pub returns-then-step-most_words-clause-lists : goal.returns-then-step-most_words-clause-lists
-returns-then-step-most_words-clause-lists g c = subst (λ (s : Shown). ShowsLists g.row.SLI s.stored s.heap.blocks) c.self.view_is (stored_lists g.row.SLI c.self.inside c.self.invariant)
+pub returns-then-step-most_words-clause-keeps : goal.returns-then-step-most_words-clause-keeps
+returns-then-step-most_words-clause-keeps g c = keeps_same g.row.SLI c.self.inside c.self.view_is c.self.invariant
 
 -- ---- the block is moved on
 
@@ -58,12 +61,12 @@ move_on-requires g c =
     let lawful = subst IsLawful view c.self.invariant.lawful in
     let left : h.tick + 3 < last_tick = omega (arith, ap (λ (s : HeapState). s.tick) view, c.if-self.false) in
     let least : 4 ≤ c.want-words.result = omega (arith, c.want-words.ensures) in
-    let moves = first_moves g.row.SLI c.self.invariant.level h c.want-words.result c.max-step.result c.args.skew lawful left (omega (arith, c.max-step.ensures)) least a c.in-Ok.first c.gap-gap.result c.allocate_words.ensures.heap c.in-Ok.ensures.answer c.allocate_words.ensures.lawful c.gap-gap.ensures in (
+    let moves = first_moves g.row.SLI c.self.invariant.level h c.want-words.result c.max-step.result c.args.skew lawful left (omega (arith, c.max-step.ensures)) least a c.in-Ok.first c.gap-gap.result c.allocate_words.ensures.heap c.in-Ok.ensures.answer c.allocate_words.ensures.keeps.lawful c.gap-gap.ensures in (
       omega arith,
       (
         has_live a c.in-Ok.first (c.gap-gap.result + c.want-words.result) moves.has,
         (
-          has_room a c.in-Ok.first (c.gap-gap.result + c.want-words.result) c.allocate_words.ensures.lawful moves.has,
+          has_room a c.in-Ok.first (c.gap-gap.result + c.want-words.result) c.allocate_words.ensures.keeps.lawful moves.has,
           (least, (moves.front, (moves.left, omega (arith, moves.words, ap (λ (s : HeapState). s.words) view, c.self.invariant.small, most_words_any g.row.SLI)))),
         ),
       ),
@@ -79,10 +82,10 @@ set_length-requires g c =
     let view = ap (λ (s : Shown). s.heap) c.self.view_is in
     let lawful = subst IsLawful view c.self.invariant.lawful in
     let left : h.tick + 3 < last_tick = omega (arith, ap (λ (s : HeapState). s.tick) view, c.if-self.false) in
-    let done = first_moved g.row.SLI c.self.invariant.level h c.want-words.result c.max-step.result c.args.skew lawful left (omega (arith, c.max-step.ensures)) (omega (arith, c.want-words.ensures)) a c.in-Ok.first c.gap-gap.result c.allocate_words.ensures.heap c.in-Ok.ensures.answer c.allocate_words.ensures.lawful c.gap-gap.ensures
+    let done = first_moved g.row.SLI c.self.invariant.level h c.want-words.result c.max-step.result c.args.skew lawful left (omega (arith, c.max-step.ensures)) (omega (arith, c.want-words.ensures)) a c.in-Ok.first c.gap-gap.result c.allocate_words.ensures.heap c.in-Ok.ensures.answer c.allocate_words.ensures.keeps.lawful c.gap-gap.ensures
     m c.in_ok-name.name c.move_on.ensures.heap c.in_ok-name.ensures.answer in
     let has = done.gives.has in
-    let room = has_room m c.in_ok-name.name c.want-words.result c.move_on.ensures.lawful has in
+    let room = has_room m c.in_ok-name.name c.want-words.result c.move_on.ensures.keeps.lawful has in
     (omega arith, (has_live m c.in_ok-name.name c.want-words.result has, omega (arith, room, c.want-words.ensures)))
 
 done : (g : Over) (c : goal.After-set_length g) → IsAligned g.row.SLI c.args.self.now.heap c.move_on.new.self.heap c.want-words.result c.max-step.result c.args.skew c.in_ok-name.name
@@ -92,31 +95,25 @@ done g c =
     let view = ap (λ (s : Shown). s.heap) c.self.view_is in
     let lawful = subst IsLawful view c.self.invariant.lawful in
     let left : h.tick + 3 < last_tick = omega (arith, ap (λ (s : HeapState). s.tick) view, c.if-self.false) in
-    first_moved g.row.SLI c.self.invariant.level h c.want-words.result c.max-step.result c.args.skew lawful left (omega (arith, c.max-step.ensures)) (omega (arith, c.want-words.ensures)) a c.in-Ok.first c.gap-gap.result c.allocate_words.ensures.heap c.in-Ok.ensures.answer c.allocate_words.ensures.lawful c.gap-gap.ensures
+    first_moved g.row.SLI c.self.invariant.level h c.want-words.result c.max-step.result c.args.skew lawful left (omega (arith, c.max-step.ensures)) (omega (arith, c.want-words.ensures)) a c.in-Ok.first c.gap-gap.result c.allocate_words.ensures.heap c.in-Ok.ensures.answer c.allocate_words.ensures.keeps.lawful c.gap-gap.ensures
     c.move_on.new.self.heap c.in_ok-name.name c.move_on.ensures.heap c.in_ok-name.ensures.answer
 
 pub returns-clause-answer : goal.returns-clause-answer
 returns-clause-answer g c = rw (c.want-words.ensures, c.max-step.ensures) at (done g c).is_answer
 
-pub returns-clause-heap : goal.returns-clause-heap
-returns-clause-heap g c =
-    let bytes = lying c.set_length.new.self.stored c.in_ok-name.name.at c.args.len in
-    c.set_length.ensures.heap ∙ ap (λ (s : HeapState). with_payload s c.in_ok-name.name bytes) (rw (c.want-words.ensures, c.max-step.ensures) at (done g c).is_heap)
-
 pub returns-clause-aligned : goal.returns-clause-aligned
 returns-clause-aligned g c = rw c.max-step.ensures at (done g c).place
 
-pub returns-clause-given : goal.returns-clause-given
-returns-clause-given g c =
-    let bytes = lying c.set_length.new.self.stored c.in_ok-name.name.at c.args.len in
-    gives_name c.args.self.now.heap c.move_on.new.self.heap c.in_ok-name.name c.want-words.result (done g c).gives c.allocate_words.ensures.was_lawful bytes c.set_length.new.self.heap c.set_length.ensures.heap
-
-pub returns-clause-payload : goal.returns-clause-payload
-returns-clause-payload g c =
-    let bytes = lying c.set_length.new.self.stored c.in_ok-name.name.at c.args.len in
-    gives_payload c.args.self.now.heap c.move_on.new.self.heap c.in_ok-name.name c.want-words.result (done g c).gives c.allocate_words.ensures.was_lawful bytes c.set_length.new.self.heap c.set_length.ensures.heap
-
-pub returns-clause-others : goal.returns-clause-others
-returns-clause-others g c =
-    let bytes = lying c.set_length.new.self.stored c.in_ok-name.name.at c.args.len in
-    gives_others c.args.self.now.heap c.move_on.new.self.heap c.in_ok-name.name c.want-words.result (done g c).gives c.allocate_words.ensures.was_lawful bytes c.set_length.new.self.heap c.set_length.ensures.heap
+pub returns-clause-gives : goal.returns-clause-gives
+returns-clause-gives g c =
+    let h = c.args.self.now.heap in
+    let name = c.in_ok-name.name in
+    let bytes = lying c.set_length.new.self.stored name.at c.args.len in
+    let lawful = c.allocate_words.ensures.keeps.was_lawful in
+    let is = c.set_length.ensures.heap in
+    record {
+      heap = is ∙ ap (λ (s : HeapState). with_payload s name bytes) (rw (c.want-words.ensures, c.max-step.ensures) at (done g c).is_heap);
+      given = gives_name h c.move_on.new.self.heap name c.want-words.result (done g c).gives lawful bytes c.set_length.new.self.heap is;
+      payload = gives_payload h c.move_on.new.self.heap name c.want-words.result (done g c).gives lawful bytes c.set_length.new.self.heap is;
+      others = gives_others h c.move_on.new.self.heap name c.want-words.result (done g c).gives lawful bytes c.set_length.new.self.heap is;
+    }

@@ -6,9 +6,9 @@ use Rattle.tlsf_heap.specs.Lawful.{IsLawful}
 use Rattle.tlsf_heap.specs.Unset.{lying, with_payload}
 use Rattle.tlsf_heap.specs.declared.name.Name.{Name}
 use Rattle.tlsf_heap.specs.declared.refusal.Refusal.{Refusal}
-use Rattle.tlsf_heap.proofs.Living.{given_words}
-use Rattle.tlsf_heap.proofs.Rebyted.{allocated_answers}
-use Rattle.tlsf_heap.proofs.Unset.{given_answer, allocated_unset}
+use Rattle.tlsf_heap.proofs.lemmas.laws.Live.{given_words}
+use Rattle.tlsf_heap.proofs.lemmas.calls.OtherBytes.{allocated_answers}
+use Rattle.tlsf_heap.proofs.lemmas.calls.Unset.{given_answer, allocated_unset}
 use Rattle.tlsf_heap.proofs.heap.Heap.allocate_unset.Goals as goal
 
 pub returns-in-Err-clause-answer : goal.returns-in-Err-clause-answer
@@ -38,7 +38,7 @@ set_length-requires g c =
 pub returns-clause-answer : goal.returns-clause-answer
 returns-clause-answer g c =
     let h = c.args.self.now.heap in
-    sym (given_answer g.row.SLI h c.args.len c.in-Ok.name c.in-Ok.ensures.was_lawful (given g.row.SLI _ c.args.len h c.in-Ok.name _ c.want.ensures c.allocate_words.ensures.answer c.in-Ok.is))
+    sym (given_answer g.row.SLI h c.args.len c.in-Ok.name c.in-Ok.ensures.keeps.was_lawful (given g.row.SLI _ c.args.len h c.in-Ok.name _ c.want.ensures c.allocate_words.ensures.answer c.in-Ok.is))
 
 pub returns-clause-heap : goal.returns-clause-heap
 returns-clause-heap g c =
@@ -48,5 +48,5 @@ returns-clause-heap g c =
     let is = left g.row.SLI _ c.args.len h _ c.want.ensures c.allocate_words.ensures.heap in
     c.set_length.ensures.heap
     ∙ ap (λ (s : HeapState). with_payload s name (lying m name.at c.args.len)) is
-    ∙ allocated_unset g.row.SLI h c.args.len name c.in-Ok.ensures.was_lawful (given g.row.SLI _ c.args.len h name _ c.want.ensures c.allocate_words.ensures.answer c.in-Ok.is) m
-    c.set_length.ensures.level (subst IsLawful is c.in-Ok.ensures.lawful)
+    ∙ allocated_unset g.row.SLI h c.args.len name c.in-Ok.ensures.keeps.was_lawful (given g.row.SLI _ c.args.len h name _ c.want.ensures c.allocate_words.ensures.answer c.in-Ok.is) m
+    c.set_length.ensures.level (subst IsLawful is c.in-Ok.ensures.keeps.lawful)

@@ -2,7 +2,7 @@ use Rattle.std.proofs.Common.{◌+◌, ◌-◌, ◌≤◌, sym, ap, ◌∙◌, s
 use Rattle.tlsf_heap.specs.Blocks.{HeapState, size_of, words_in, payload_words, want, StandsAt}
 use Rattle.tlsf_heap.specs.Calls.{named}
 use Rattle.tlsf_heap.specs.Given.{payload_words_at, payload_words_given}
-use Rattle.tlsf_heap.proofs.Carving.{head_stands}
+use Rattle.tlsf_heap.proofs.lemmas.lists.Carved.{head_stands}
 use Rattle.tlsf_heap.specs.Regions.{Edits}
 use Rattle.tlsf_heap.specs.Shown.{Shown}
 use Rattle.tlsf_heap.specs.GoodFit.{block_at}
@@ -12,13 +12,13 @@ use Rattle.tlsf_heap.specs.declared.name.Name.{Name}
 use Rattle.tlsf_heap.specs.Stored.{state_of}
 use Rattle.tlsf_heap.specs.declared.refusal.Refusal.{Refusal}
 use Rattle.tlsf_heap.specs.declared.refusal.Refusal.TheVariants.{NoFit, Worn}
-use Rattle.tlsf_heap.proofs.Allocating.{Allocates, allocates_none, allocates_worn, allocates_some, lawful_regions, fits_size}
-use Rattle.tlsf_heap.proofs.Lawfulness.{with_region}
-use Rattle.tlsf_heap.proofs.Finding.{and_left}
-use Rattle.tlsf_heap.proofs.Giving.{carved_stands, named_payload}
-use Rattle.tlsf_heap.proofs.Living as living
-use Rattle.tlsf_heap.proofs.Listing.{stored_lists}
-use Rattle.tlsf_heap.proofs.Unset.{given_block}
+use Rattle.tlsf_heap.proofs.lemmas.calls.Allocate.{Allocates, allocates_none, allocates_worn, allocates_some, lawful_regions, fits_size}
+use Rattle.tlsf_heap.proofs.lemmas.blocks.Lawful.{with_region}
+use Rattle.tlsf_heap.proofs.lemmas.blocks.Find.{and_left}
+use Rattle.tlsf_heap.proofs.lemmas.calls.GivenBlock.{carved_stands, named_payload}
+use Rattle.tlsf_heap.proofs.lemmas.laws.Live as living
+use Rattle.tlsf_heap.proofs.lemmas.calls.Unset.{given_block}
+use Rattle.tlsf_heap.proofs.lemmas.calls.Kept.{keeps_stored, keeps_read}
 use Rattle.tlsf_heap.proofs.heap.Heap.allocate_words.Given.{Over}
 use Rattle.tlsf_heap.proofs.heap.Heap.allocate_words.Goals as goal
 
@@ -131,9 +131,6 @@ returns-clause-no_fit g c = (given g c).no_fit
 pub returns-clause-ok : goal.returns-clause-ok
 returns-clause-ok g c = (given g c).ok
 
-pub returns-clause-lawful : goal.returns-clause-lawful
-returns-clause-lawful g c = (given g c).lawful
-
 pub invariant_of-self-2 : goal.invariant_of-self-2
 invariant_of-self-2 g c = record {
   lawful = (given g c).lawful;
@@ -167,13 +164,13 @@ touched g c =
     omega (arith, (carved g c).touches, named_payload g.row.SLI heap name best.1 regions now.0 live, c.choose.ensures.reads.touches)
 
 pub returns-clause-touches : goal.returns-clause-touches
-returns-clause-touches g c = omega (arith, few g c, ap (λ (s : Shown). s.touches) c.self.view_is)
-
-pub returns-clause-most_touches : goal.returns-clause-most_touches
-returns-clause-most_touches g c = omega (arith, few g c, ap (λ (s : Shown). s.touches) c.self.view_is)
-
-pub returns-clause-given_touches : goal.returns-clause-given_touches
-returns-clause-given_touches g c = omega (arith, touched g c, ap (λ (s : Shown). s.touches) c.self.view_is)
+returns-clause-touches g c =
+    let seen = ap (λ (s : Shown). s.touches) c.self.view_is in
+    record {
+      touches = omega (arith, few g c, seen);
+      most_touches = omega (arith, few g c, seen);
+      given_touches = omega (arith, touched g c, seen);
+    }
 
 pub returns-clause-room : goal.returns-clause-room
 returns-clause-room g c =
@@ -184,13 +181,13 @@ returns-clause-room g c =
     let found = given_block (λ b. n ≤ 3 + payload_words b) g.row.SLI h n c.args.len name lawful (sym (given g c).is_answer) (omega arith) (λ b fit. let many = fits_size g.row.SLI c.self.invariant.level n b fit in omega (arith, many)) in
     omega (arith, ap (λ (s : HeapState). payload_words_at (named name s.blocks)) (given g c).is_heap, ap payload_words_at found.1, found.2)
 
--- ---- the lists
+-- ---- what is kept
 
-pub returns-clause-lists : goal.returns-clause-lists
-returns-clause-lists g c = stored_lists g.row.SLI _ (invariant_of-self-2 g c)
+pub returns-clause-keeps : goal.returns-clause-keeps
+returns-clause-keeps g c = keeps_stored g.row.SLI c.self.inside c.self.view_is c.self.invariant _ (invariant_of-self-2 g c) (omega (arith, (carved g c).rise, c.choose.ensures.reads.rise))
 
-pub returns-in_default-clause-lists : goal.returns-in_default-clause-lists
-returns-in_default-clause-lists g c = let reads = c.choose.ensures.reads in rw (reads.stored, reads.blocks) (stored_lists g.row.SLI c.self.inside c.self.invariant)
+pub returns-in_default-clause-keeps : goal.returns-in_default-clause-keeps
+returns-in_default-clause-keeps g c = keeps_read g.row.SLI c.self.inside c.self.view_is c.self.invariant _ c.choose.ensures.reads
 
-pub returns-then-self-clause-lists : goal.returns-then-self-clause-lists
-returns-then-self-clause-lists g c = let reads = c.choose.ensures.reads in rw (reads.stored, reads.blocks) (stored_lists g.row.SLI c.self.inside c.self.invariant)
+pub returns-then-self-clause-keeps : goal.returns-then-self-clause-keeps
+returns-then-self-clause-keeps g c = keeps_read g.row.SLI c.self.inside c.self.view_is c.self.invariant _ c.choose.ensures.reads

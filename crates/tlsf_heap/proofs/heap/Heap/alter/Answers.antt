@@ -9,13 +9,14 @@ use Rattle.tlsf_heap.specs.Calls.{written}
 use Rattle.tlsf_heap.specs.FreePlaces.{free_places}
 use Rattle.tlsf_heap.specs.Regions.{list_in}
 use Rattle.tlsf_heap.specs.Stored.{state_of}
-use Rattle.tlsf_heap.proofs.Alterings.{are_payload, bytes_there, live_is, payload_is, stood_in}
-use Rattle.tlsf_heap.proofs.Listing.{stored_lists, same_lists}
-use Rattle.tlsf_heap.proofs.Lawfulness.{with_region}
-use Rattle.tlsf_heap.proofs.Naming.{not_forged}
-use Rattle.tlsf_heap.proofs.Payloads.{length-bytes_in}
-use Rattle.tlsf_heap.proofs.Writing.{Writes, writes, read_none, read_refused, range_is}
-use Rattle.tlsf_heap.proofs.Standing.{behind_one}
+use Rattle.tlsf_heap.proofs.lemmas.calls.Alter.{are_payload, bytes_there, live_is, payload_is, stood_in}
+use Rattle.tlsf_heap.proofs.lemmas.lists.FreeLists.{same_lists}
+use Rattle.tlsf_heap.proofs.lemmas.blocks.Lawful.{with_region}
+use Rattle.tlsf_heap.proofs.lemmas.calls.Named.{not_forged}
+use Rattle.tlsf_heap.proofs.lemmas.words.Bytes.{length-bytes_in}
+use Rattle.tlsf_heap.proofs.lemmas.calls.Write.{Writes, writes, read_none, read_refused, range_is}
+use Rattle.tlsf_heap.proofs.lemmas.blocks.Stands.{behind_one}
+use Rattle.tlsf_heap.proofs.lemmas.calls.Kept.{keeps_both, keeps_stored}
 use Rattle.tlsf_heap.proofs.heap.Heap.alter.Given.{Over}
 use Rattle.tlsf_heap.proofs.heap.Heap.alter.Goals as goal
 
@@ -32,7 +33,7 @@ pub alter-requires : goal.alter-requires
 alter-requires g c =
     let h = state_of g.row.SLI c.self.inside in
     let k = c.args.self.now.heap in
-    let same : h ≡ k = ap (λ (s : Shown). s.heap) c.self.view_is ∙ c.in_ok-len.ensures.heap in
+    let same : h ≡ k = ap (λ (s : Shown). s.heap) c.self.view_is ∙ c.in_ok-len.ensures.same.heap in
     let is_named = c.in_ok-len.ensures.answer.0 in
     let long = c.in_ok-len.ensures.answer.1 in (
       omega arith,
@@ -45,7 +46,7 @@ alter-requires g c =
 -- the block stands in the region, and has so many bytes
 stood : (g : Over) (c : goal.After-alter g) → (i : ℕ) × StandsAt c.self.inside.region.blocks c.args.name.at i × (c.in_ok-len.len ≡ length (bytes_of (block_at c.self.inside.region.blocks i)))
 stood g c =
-    stood_in (state_of g.row.SLI c.self.inside) c.args.self.now.heap c.args.name c.in_ok-len.len (ap (λ (s : Shown). s.heap) c.self.view_is ∙ c.in_ok-len.ensures.heap) c.in_ok-len.ensures.answer.0 c.in_ok-len.ensures.answer.1
+    stood_in (state_of g.row.SLI c.self.inside) c.args.self.now.heap c.args.name c.in_ok-len.len (ap (λ (s : Shown). s.heap) c.self.view_is ∙ c.in_ok-len.ensures.same.heap) c.in_ok-len.ensures.answer.0 c.in_ok-len.ensures.answer.1
 
 -- the bytes that lie there now
 abbrev left_there : (g : Over) → goal.After-alter g → List ℕ
@@ -53,7 +54,7 @@ left_there g c = bytes_in c.alter.new.self.stored.words (payload_byte c.args.nam
 
 wrote : (g : Over) (c : goal.After-alter g) → Writes g.row.SLI c.args.self.now.heap c.args.name 0 (left_there g c) (with_region (state_of g.row.SLI c.self.inside) c.self.inside.tick c.alter.new.self)
 wrote g c =
-    let same : state_of g.row.SLI c.self.inside ≡ c.args.self.now.heap = ap (λ (s : Shown). s.heap) c.self.view_is ∙ c.in_ok-len.ensures.heap in
+    let same : state_of g.row.SLI c.self.inside ≡ c.args.self.now.heap = ap (λ (s : Shown). s.heap) c.self.view_is ∙ c.in_ok-len.ensures.same.heap in
     let is_named = c.in_ok-len.ensures.answer.0 in
     let many = length-bytes_in c.alter.new.self.stored.words (payload_byte c.args.name.at 0) c.in_ok-len.len in
     let ranged = range_is c.args.self.now.heap c.args.name 0 (length (left_there g c)) is_named (omega (arith, many, c.in_ok-len.ensures.answer.1)) in
@@ -64,7 +65,7 @@ wrote g c =
 
 pub invariant_of-self : goal.invariant_of-self
 invariant_of-self g c =
-    let same : state_of g.row.SLI c.self.inside ≡ c.args.self.now.heap = ap (λ (s : Shown). s.heap) c.self.view_is ∙ c.in_ok-len.ensures.heap in
+    let same : state_of g.row.SLI c.self.inside ≡ c.args.self.now.heap = ap (λ (s : Shown). s.heap) c.self.view_is ∙ c.in_ok-len.ensures.same.heap in
     let places : free_places g.row.SLI 0 c.alter.new.self.blocks ≡ free_places g.row.SLI 0 c.self.inside.region.blocks = (wrote g c).places ∙ sym (ap (λ (h : HeapState). free_places g.row.SLI 0 h.blocks) same) in
     let change = c.alter.ensures.change (stood g c).0 (stood g c).1 in
     record {
@@ -83,7 +84,7 @@ pub returns-clause-altered : goal.returns-clause-altered
 returns-clause-altered g c =
     let h = state_of g.row.SLI c.self.inside in
     let k = c.args.self.now.heap in
-    let same : h ≡ k = ap (λ (s : Shown). s.heap) c.self.view_is ∙ c.in_ok-len.ensures.heap in
+    let same : h ≡ k = ap (λ (s : Shown). s.heap) c.self.view_is ∙ c.in_ok-len.ensures.same.heap in
     let is_named = c.in_ok-len.ensures.answer.0 in
     let long = c.in_ok-len.ensures.answer.1 in
     let many : length (payload_of k c.args.name) ≡ c.in_ok-len.len = ap length (payload_is k c.args.name is_named) ∙ sym long in
@@ -95,26 +96,16 @@ returns-clause-altered g c =
       writes = (wrote g c).is_heap ∙ ap (λ (bytes : List ℕ). (written k c.args.name 0 bytes).heap) (sym (bytes_there c.alter.new.self.stored c.args.name.at c.in_ok-len.len _ many));
     }
 
-pub returns-clause-lawful : goal.returns-clause-lawful
-returns-clause-lawful g c = (wrote g c).lawful
-
-pub returns-clause-shows : goal.returns-clause-shows
-returns-clause-shows g c = (c.alter.ensures.change (stood g c).0 (stood g c).1).edits.shows
-
 pub returns-clause-touches : goal.returns-clause-touches
 returns-clause-touches g c =
     omega (arith, (c.alter.ensures.change (stood g c).0 (stood g c).1).edits.touches, c.in_ok-len.ensures.touches, ap (λ (s : Shown). s.touches) c.self.view_is)
 
-pub returns-clause-touches_rise : goal.returns-clause-touches_rise
-returns-clause-touches_rise g c =
-    omega (arith, (c.alter.ensures.change (stood g c).0 (stood g c).1).edits.rise, c.in_ok-len.ensures.rise, ap (λ (s : Shown). s.touches) c.self.view_is)
-
 -- ---- the name was not forged
 
 pub returns-clause-forged : goal.returns-clause-forged
-returns-clause-forged g c = not_forged c.args.self.now.heap c.args.name c.in_ok-len.ensures.lawful c.in_ok-len.ensures.answer.0 _ _
+returns-clause-forged g c = not_forged c.args.self.now.heap c.args.name c.in_ok-len.ensures.keeps.was_lawful c.in_ok-len.ensures.answer.0 _ _
 
--- ---- the lists
+-- ---- what is kept
 
-pub returns-clause-lists : goal.returns-clause-lists
-returns-clause-lists g c = stored_lists g.row.SLI _ (invariant_of-self g c)
+pub returns-clause-keeps : goal.returns-clause-keeps
+returns-clause-keeps g c = keeps_both c.in_ok-len.ensures.keeps (keeps_stored g.row.SLI c.self.inside c.self.view_is c.self.invariant _ (invariant_of-self g c) (c.alter.ensures.change (stood g c).0 (stood g c).1).edits.rise)

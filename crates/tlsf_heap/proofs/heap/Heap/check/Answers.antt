@@ -3,8 +3,7 @@ use Rattle.tlsf_heap.specs.Blocks.{HeapState}
 use Rattle.tlsf_heap.specs.Named.{IsNameCheck, RefusesName}
 use Rattle.tlsf_heap.specs.declared.refusal.Refusal.TheVariants.{Stale}
 use Rattle.tlsf_heap.specs.Shown.{Shown}
-use Rattle.tlsf_heap.specs.FreePlaces.{ShowsLists}
-use Rattle.tlsf_heap.proofs.Listing.{stored_lists}
+use Rattle.tlsf_heap.proofs.lemmas.calls.Kept.{keeps_same, keeps_read}
 use Rattle.tlsf_heap.proofs.heap.Heap.check.Goals as goal
 
 pub returns-clause-answer : goal.returns-clause-answer
@@ -21,13 +20,13 @@ returns-in_default-clause-answer g c =
     subst (RefusesName c.args.self.now.heap c.args.name) (sym (c.of_name-in_default.ensures.stale c.if-name-self.false))
     (subst (λ (h : HeapState). RefusesName h c.args.name Stale) (ap (λ (s : Shown). s.heap) c.self.view_is) (c.if-name-self.false, c.in_default.ensures.answer))
 
--- ---- the lists are as they were
+-- ---- what is kept
 
-pub returns-then-name-self-clause-lists : goal.returns-then-name-self-clause-lists
-returns-then-name-self-clause-lists g c = subst (λ (s : Shown). ShowsLists g.row.SLI s.stored s.heap.blocks) c.self.view_is (stored_lists g.row.SLI c.self.inside c.self.invariant)
+pub returns-then-name-self-clause-keeps : goal.returns-then-name-self-clause-keeps
+returns-then-name-self-clause-keeps g c = keeps_same g.row.SLI c.self.inside c.self.view_is c.self.invariant
 
-pub returns-in_default-clause-lists : goal.returns-in_default-clause-lists
-returns-in_default-clause-lists g c = let reads = c.find_live.ensures.reads in rw (reads.stored, reads.blocks) (stored_lists g.row.SLI c.self.inside c.self.invariant)
+pub returns-in_default-clause-keeps : goal.returns-in_default-clause-keeps
+returns-in_default-clause-keeps g c = keeps_read g.row.SLI c.self.inside c.self.view_is c.self.invariant _ c.find_live.ensures.reads
 
-pub returns-clause-lists : goal.returns-clause-lists
-returns-clause-lists g c = let reads = c.find_live.ensures.reads in rw (reads.stored, reads.blocks) (stored_lists g.row.SLI c.self.inside c.self.invariant)
+pub returns-clause-keeps : goal.returns-clause-keeps
+returns-clause-keeps g c = keeps_read g.row.SLI c.self.inside c.self.view_is c.self.invariant _ c.find_live.ensures.reads

@@ -2,8 +2,8 @@ use Rattle.std.proofs.Common.{ap, ◌∙◌, arith}
 use Rattle.std.proofs.lemmas.Result.{err_from_is_err_and}
 use Rattle.tlsf_heap.specs.Shown.{Shown}
 use Rattle.tlsf_heap.specs.Stored.{state_of}
-use Rattle.tlsf_heap.proofs.Naming.{named_same, named_stands, named_live, not_forged}
-use Rattle.tlsf_heap.proofs.Writing.{length_is}
+use Rattle.tlsf_heap.proofs.lemmas.calls.Named.{named_same, named_stands, named_live, not_forged}
+use Rattle.tlsf_heap.proofs.lemmas.calls.Write.{length_is}
 use Rattle.tlsf_heap.proofs.heap.Heap.check_payload.Goals as goal
 
 pub returns-in_err-check-clause-answer : goal.returns-in_err-check-clause-answer
@@ -13,15 +13,15 @@ returns-in_err-check-clause-answer g c =
 
 pub length-requires : goal.length-requires
 length-requires g c =
-    let named = (named_same (state_of g.row.SLI c.self.inside) c.args.self.now.heap c.args.name (ap (λ (s : Shown). s.heap) c.self.view_is ∙ c.in_ok-check.ensures.heap) c.in_ok-check.ensures.answer.0).1 in
+    let named = (named_same (state_of g.row.SLI c.self.inside) c.args.self.now.heap c.args.name (ap (λ (s : Shown). s.heap) c.self.view_is ∙ c.in_ok-check.ensures.same.heap) c.in_ok-check.ensures.answer.0).1 in
     (omega arith, (named.0, named_stands _ _ _ _ named.1, named_live _ _ _ _ named.1))
 
 pub returns-clause-answer : goal.returns-clause-answer
 returns-clause-answer g c =
     let is_named = c.in_ok-check.ensures.answer.0 in
-    (is_named, length_is (state_of g.row.SLI c.self.inside) c.args.self.now.heap c.args.name 0 0 c.length.result (ap (λ (s : Shown). s.heap) c.self.view_is ∙ c.in_ok-check.ensures.heap) is_named c.length.ensures.value)
+    (is_named, length_is (state_of g.row.SLI c.self.inside) c.args.self.now.heap c.args.name 0 0 c.length.result (ap (λ (s : Shown). s.heap) c.self.view_is ∙ c.in_ok-check.ensures.same.heap) is_named c.length.ensures.value)
 
 -- ---- the name was not forged
 
 pub returns-clause-forged : goal.returns-clause-forged
-returns-clause-forged g c = not_forged c.args.self.now.heap c.args.name c.in_ok-check.ensures.lawful c.in_ok-check.ensures.answer.0 _ _
+returns-clause-forged g c = not_forged c.args.self.now.heap c.args.name c.in_ok-check.ensures.keeps.was_lawful c.in_ok-check.ensures.answer.0 _ _

@@ -3,8 +3,8 @@ use Rattle.std.proofs.lemmas.Result.{err_from_is_err_and}
 use Rattle.tlsf_heap.specs.Shown.{Shown}
 use Rattle.tlsf_heap.specs.Calls.{read_answer}
 use Rattle.tlsf_heap.specs.Stored.{state_of}
-use Rattle.tlsf_heap.proofs.Naming.{named_same, named_stands, named_live, not_forged}
-use Rattle.tlsf_heap.proofs.Writing.{Ranged, read_refused, range_past, range_within}
+use Rattle.tlsf_heap.proofs.lemmas.calls.Named.{named_same, named_stands, named_live, not_forged}
+use Rattle.tlsf_heap.proofs.lemmas.calls.Write.{Ranged, read_refused, range_past, range_within}
 use Rattle.tlsf_heap.proofs.heap.Heap.check_range.Given.{Over}
 use Rattle.tlsf_heap.proofs.heap.Heap.check_range.Goals as goal
 
@@ -15,17 +15,17 @@ returns-in_err-check-clause-answer g c =
 
 pub length-length-requires : goal.length-length-requires
 length-length-requires g c =
-    let named = (named_same (state_of g.row.SLI c.self.inside) c.args.self.now.heap c.args.name (ap (λ (s : Shown). s.heap) c.self.view_is ∙ c.in_ok-check.ensures.heap) c.in_ok-check.ensures.answer.0).1 in
+    let named = (named_same (state_of g.row.SLI c.self.inside) c.args.self.now.heap c.args.name (ap (λ (s : Shown). s.heap) c.self.view_is ∙ c.in_ok-check.ensures.same.heap) c.in_ok-check.ensures.answer.0).1 in
     (omega arith, (named.0, named_stands _ _ _ _ named.1, named_live _ _ _ _ named.1))
 
 pub returns-then-at-n-clause-answer : goal.returns-then-at-n-clause-answer
 returns-then-at-n-clause-answer g c =
-    range_past (state_of g.row.SLI c.self.inside) c.args.self.now.heap c.args.name c.args.at c.args.n c.length-length.result (ap (λ (s : Shown). s.heap) c.self.view_is ∙ c.in_ok-check.ensures.heap) c.in_ok-check.ensures.answer.0
+    range_past (state_of g.row.SLI c.self.inside) c.args.self.now.heap c.args.name c.args.at c.args.n c.length-length.result (ap (λ (s : Shown). s.heap) c.self.view_is ∙ c.in_ok-check.ensures.same.heap) c.in_ok-check.ensures.answer.0
     c.length-length.ensures.value (omega arith)
 
 within : (g : Over) (c : goal.Else-at-n g) → Ranged c.args.self.now.heap c.args.name c.args.at c.args.n
 within g c =
-    range_within (state_of g.row.SLI c.self.inside) c.args.self.now.heap c.args.name c.args.at c.args.n c.length-length.result (ap (λ (s : Shown). s.heap) c.self.view_is ∙ c.in_ok-check.ensures.heap) c.in_ok-check.ensures.answer.0
+    range_within (state_of g.row.SLI c.self.inside) c.args.self.now.heap c.args.name c.args.at c.args.n c.length-length.result (ap (λ (s : Shown). s.heap) c.self.view_is ∙ c.in_ok-check.ensures.same.heap) c.in_ok-check.ensures.answer.0
     c.length-length.ensures.value (omega arith)
 
 pub returns-clause-answer : goal.returns-clause-answer
@@ -37,7 +37,7 @@ returns-clause-place g c = (within g c).range
 -- ---- the name was not forged
 
 pub returns-then-at-n-clause-forged : goal.returns-then-at-n-clause-forged
-returns-then-at-n-clause-forged g c = not_forged c.args.self.now.heap c.args.name c.in_ok-check.ensures.lawful c.in_ok-check.ensures.answer.0 _ _
+returns-then-at-n-clause-forged g c = not_forged c.args.self.now.heap c.args.name c.in_ok-check.ensures.keeps.was_lawful c.in_ok-check.ensures.answer.0 _ _
 
 pub returns-clause-forged : goal.returns-clause-forged
-returns-clause-forged g c = not_forged c.args.self.now.heap c.args.name c.in_ok-check.ensures.lawful c.in_ok-check.ensures.answer.0 _ _
+returns-clause-forged g c = not_forged c.args.self.now.heap c.args.name c.in_ok-check.ensures.keeps.was_lawful c.in_ok-check.ensures.answer.0 _ _

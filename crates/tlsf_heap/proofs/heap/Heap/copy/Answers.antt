@@ -7,12 +7,13 @@ use Rattle.tlsf_heap.specs.Calls.{written}
 use Rattle.tlsf_heap.specs.FreePlaces.{free_places}
 use Rattle.tlsf_heap.specs.Regions.{list_in}
 use Rattle.tlsf_heap.specs.Stored.{state_of}
-use Rattle.tlsf_heap.proofs.Alterings.{first_bytes, named_of, payload_is, room_in}
-use Rattle.tlsf_heap.proofs.Listing.{stored_lists, same_lists}
-use Rattle.tlsf_heap.proofs.Lawfulness.{with_region}
-use Rattle.tlsf_heap.proofs.Payloads.{length-bytes_in}
-use Rattle.tlsf_heap.proofs.Writing.{Writes, writes, range_is}
-use Rattle.tlsf_heap.proofs.Standing.{behind_one}
+use Rattle.tlsf_heap.proofs.lemmas.calls.Alter.{first_bytes, named_of, payload_is, room_in}
+use Rattle.tlsf_heap.proofs.lemmas.lists.FreeLists.{same_lists}
+use Rattle.tlsf_heap.proofs.lemmas.blocks.Lawful.{with_region}
+use Rattle.tlsf_heap.proofs.lemmas.words.Bytes.{length-bytes_in}
+use Rattle.tlsf_heap.proofs.lemmas.calls.Write.{Writes, writes, range_is}
+use Rattle.tlsf_heap.proofs.lemmas.blocks.Stands.{behind_one}
+use Rattle.tlsf_heap.proofs.lemmas.calls.Kept.{keeps_stored}
 use Rattle.tlsf_heap.proofs.heap.Heap.copy.Given.{Over}
 use Rattle.tlsf_heap.proofs.heap.Heap.copy.Goals as goal
 
@@ -61,19 +62,10 @@ returns-clause-heap g c =
     (wrote g c).is_heap
     ∙ ap (λ (bytes : List ℕ). (written k c.args.to 0 bytes).heap) (first_bytes h k c.args.from c.args.len (ap (λ (s : Shown). s.heap) c.self.view_is) c.self.invariant.shows c.requires.from c.requires.least)
 
-pub returns-clause-lawful : goal.returns-clause-lawful
-returns-clause-lawful g c = (wrote g c).lawful
-
-pub returns-clause-shows : goal.returns-clause-shows
-returns-clause-shows g c = (c.copy.ensures (stood g c).0 (stood g c).1).edits.shows
-
 pub returns-clause-touches : goal.returns-clause-touches
 returns-clause-touches g c = omega (arith, (c.copy.ensures (stood g c).0 (stood g c).1).edits.touches, ap (λ (s : Shown). s.touches) c.self.view_is)
 
-pub returns-clause-rise : goal.returns-clause-rise
-returns-clause-rise g c = omega (arith, (c.copy.ensures (stood g c).0 (stood g c).1).edits.rise, ap (λ (s : Shown). s.touches) c.self.view_is)
+-- ---- what is kept
 
--- ---- the lists
-
-pub returns-clause-lists : goal.returns-clause-lists
-returns-clause-lists g c = stored_lists g.row.SLI _ (invariant_of-self g c)
+pub returns-clause-keeps : goal.returns-clause-keeps
+returns-clause-keeps g c = keeps_stored g.row.SLI c.self.inside c.self.view_is c.self.invariant _ (invariant_of-self g c) (c.copy.ensures (stood g c).0 (stood g c).1).edits.rise

@@ -3,14 +3,14 @@ use Rattle.tlsf_heap.specs.Blocks.{HeapState}
 use Rattle.tlsf_heap.specs.Calls.{released, written}
 use Rattle.tlsf_heap.specs.InPlace.{payload_of}
 use Rattle.tlsf_heap.specs.declared.refusal.Refusal.{Refusal}
-use Rattle.tlsf_heap.proofs.Moves.{release_done}
+use Rattle.tlsf_heap.proofs.lemmas.calls.ResizeOrMove.{release_done}
 use Rattle.tlsf_heap.proofs.heap.Heap.hand_over.Goals as goal
 
 -- the release isn't refused
 pub returns-in_err-release-clause-answer : goal.returns-in_err-release-clause-answer
 returns-in_err-release-clause-answer g c =
     let h = c.args.self.now.heap in
-    let same = c.length-2.ensures.heap ∙ c.length.ensures.heap in
+    let same = c.length-2.ensures.same.heap ∙ c.length.ensures.same.heap in
     let bytes = take c.min-len.result (payload_of c.length-2.new.self.heap c.args.name) in
     let copied = c.copy.ensures.heap ∙ ap (λ (s : HeapState). (written s c.args.new 0 bytes).heap) same in
     let done = ap (λ (s : HeapState). (released s c.args.name).answer) copied ∙ release_done g.row.SLI h c.args.name c.args.new bytes c.requires.from c.requires.tick in

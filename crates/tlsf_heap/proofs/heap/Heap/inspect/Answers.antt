@@ -3,9 +3,9 @@ use Rattle.std.proofs.lemmas.Result.{err_from_is_err_and}
 use Rattle.tlsf_heap.specs.InPlace.{payload_at}
 use Rattle.tlsf_heap.specs.Shown.{Shown}
 use Rattle.tlsf_heap.specs.Stored.{state_of}
-use Rattle.tlsf_heap.proofs.Alterings.{are_payload, live_is, stood_in}
-use Rattle.tlsf_heap.proofs.Naming.{not_forged}
-use Rattle.tlsf_heap.proofs.Writing.{read_none, read_refused}
+use Rattle.tlsf_heap.proofs.lemmas.calls.Alter.{are_payload, live_is, stood_in}
+use Rattle.tlsf_heap.proofs.lemmas.calls.Named.{not_forged}
+use Rattle.tlsf_heap.proofs.lemmas.calls.Write.{read_none, read_refused}
 use Rattle.tlsf_heap.proofs.heap.Heap.inspect.Goals as goal
 
 pub returns-in_err-len-clause-answer : goal.returns-in_err-len-clause-answer
@@ -17,7 +17,7 @@ pub inspect-requires : goal.inspect-requires
 inspect-requires g c =
     let h = state_of g.row.SLI c.self.inside in
     let k = c.args.self.now.heap in
-    let same : h ≡ k = ap (λ (s : Shown). s.heap) c.self.view_is ∙ c.in_ok-len.ensures.heap in
+    let same : h ≡ k = ap (λ (s : Shown). s.heap) c.self.view_is ∙ c.in_ok-len.ensures.same.heap in
     let is_named = c.in_ok-len.ensures.answer.0 in
     let long = c.in_ok-len.ensures.answer.1 in (
       omega arith,
@@ -32,7 +32,7 @@ returns-clause-answer g c = read_none c.args.self.now.heap c.args.name c.in_ok-l
 
 pub returns-clause-inspected : goal.returns-clause-inspected
 returns-clause-inspected g c =
-    let same : state_of g.row.SLI c.self.inside ≡ c.args.self.now.heap = ap (λ (s : Shown). s.heap) c.self.view_is ∙ c.in_ok-len.ensures.heap in
+    let same : state_of g.row.SLI c.self.inside ≡ c.args.self.now.heap = ap (λ (s : Shown). s.heap) c.self.view_is ∙ c.in_ok-len.ensures.same.heap in
     record {
       shown = payload_at c.self.inside.region.stored c.args.name.at c.in_ok-len.len;
       payload = are_payload (state_of g.row.SLI c.self.inside) c.args.self.now.heap c.args.name c.in_ok-len.len same c.self.invariant.shows c.in_ok-len.ensures.answer.0 c.in_ok-len.ensures.answer.1;
@@ -42,4 +42,4 @@ returns-clause-inspected g c =
 -- ---- the name was not forged
 
 pub returns-clause-forged : goal.returns-clause-forged
-returns-clause-forged g c = not_forged c.args.self.now.heap c.args.name c.in_ok-len.ensures.lawful c.in_ok-len.ensures.answer.0 _ _
+returns-clause-forged g c = not_forged c.args.self.now.heap c.args.name c.in_ok-len.ensures.keeps.was_lawful c.in_ok-len.ensures.answer.0 _ _

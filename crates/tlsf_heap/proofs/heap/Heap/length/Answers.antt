@@ -1,9 +1,10 @@
 use Rattle.std.proofs.Common.{length, sym, ap, ◌∙◌, arith}
 use Rattle.tlsf_heap.specs.Shown.{Shown}
 use Rattle.tlsf_heap.specs.Stored.{state_of}
-use Rattle.tlsf_heap.proofs.Alterings.{named_of, payload_is}
-use Rattle.tlsf_heap.proofs.Naming.{named_same, named_stands, named_live}
-use Rattle.tlsf_heap.proofs.Writing.{length_is}
+use Rattle.tlsf_heap.proofs.lemmas.calls.Kept.{keeps_read}
+use Rattle.tlsf_heap.proofs.lemmas.calls.Alter.{named_of, payload_is}
+use Rattle.tlsf_heap.proofs.lemmas.calls.Named.{named_same, named_stands, named_live}
+use Rattle.tlsf_heap.proofs.lemmas.calls.Write.{length_is}
 use Rattle.tlsf_heap.proofs.heap.Heap.length.Goals as goal
 
 pub length-requires : goal.length-requires
@@ -18,3 +19,6 @@ returns-clause-value g c =
     let is_named = named_of k c.args.name c.requires in
     length_is (state_of g.row.SLI c.self.inside) k c.args.name 0 0 c.length.result (ap (λ (s : Shown). s.heap) c.self.view_is) is_named c.length.ensures.value
     ∙ sym (ap length (payload_is k c.args.name is_named))
+
+pub returns-clause-keeps : goal.returns-clause-keeps
+returns-clause-keeps g c = keeps_read g.row.SLI c.self.inside c.self.view_is c.self.invariant _ c.length.ensures.reads

@@ -1,6 +1,6 @@
 use Rattle.std.proofs.Common.{◌+◌, arith}
 use Rattle.std.proofs.lemmas.Bool.{false≢true}
-use Rattle.tlsf_heap.proofs.Aligning.{room_has, has_within, shrink_done, from_done_there, moved_done}
+use Rattle.tlsf_heap.proofs.lemmas.calls.AllocateAligned.{room_has, has_within, shrink_done, from_done_there, moved_done}
 use Rattle.tlsf_heap.proofs.heap.Heap.move_on.Given.{Over}
 use Rattle.tlsf_heap.proofs.heap.Heap.move_on.Goals as goal
 
@@ -9,7 +9,7 @@ use Rattle.tlsf_heap.proofs.heap.Heap.move_on.Goals as goal
 stays : (g : Over) (c : goal.After-from_residual g) → ⊥
 stays g c =
     let has = room_has c.args.self.now.heap c.args.name (c.args.gap + c.args.words) c.requires.live (omega (arith, c.requires.least)) c.requires.room in
-    shrink_done c.args.self.now.heap c.args.name c.args.gap c.args.words c.resize_words.ensures.was_lawful has c.requires.least c.requires.left c.in_err-resize_words.field-0.0 c.args.words (omega arith) c.in_err-resize_words.ensures.answer
+    shrink_done c.args.self.now.heap c.args.name c.args.gap c.args.words c.resize_words.ensures.keeps.was_lawful has c.requires.least c.requires.left c.in_err-resize_words.field-0.0 c.args.words (omega arith) c.in_err-resize_words.ensures.answer
 
 pub returns-in_err-resize_words-clause-answer : goal.returns-in_err-resize_words-clause-answer
 returns-in_err-resize_words-clause-answer g c = absurd (stays g c)
@@ -20,7 +20,7 @@ returns-in_err-resize_words-clause-ok g c = absurd (stays g c)
 cut : (g : Over) (c : goal.After-from_residual-in_err-resize_words-2 g) → ⊥
 cut g c =
     let has = room_has c.args.self.now.heap c.args.name (c.args.gap + c.args.words) c.requires.live (omega (arith, c.requires.least)) c.requires.room in
-    shrink_done c.args.self.now.heap c.args.name c.args.gap c.args.words c.resize_words-2.ensures.was_lawful has c.requires.least c.requires.left c.in_err-resize_words-2.field-0.0 c.args.gap (omega arith) c.in_err-resize_words-2.ensures.answer
+    shrink_done c.args.self.now.heap c.args.name c.args.gap c.args.words c.resize_words-2.ensures.keeps.was_lawful has c.requires.least c.requires.left c.in_err-resize_words-2.field-0.0 c.args.gap (omega arith) c.in_err-resize_words-2.ensures.answer
 
 pub returns-in_err-resize_words-2-clause-answer : goal.returns-in_err-resize_words-2-clause-answer
 returns-in_err-resize_words-2-clause-answer g c = absurd (cut g c)
@@ -34,13 +34,13 @@ returns-in_err-resize_words-2-clause-ok g c = absurd (cut g c)
 pub overflow_add-name : goal.overflow_add-name
 overflow_add-name g c =
     let has = room_has c.args.self.now.heap c.args.name (c.args.gap + c.args.words) c.requires.live (omega (arith, c.requires.least)) c.requires.room in
-    omega (arith, has_within c.args.self.now.heap c.args.name (c.args.gap + c.args.words) c.resize_words-2.ensures.was_lawful has, c.requires.small)
+    omega (arith, has_within c.args.self.now.heap c.args.name (c.args.gap + c.args.words) c.resize_words-2.ensures.keeps.was_lawful has, c.requires.small)
 
 given : (g : Over) (c : goal.After-from_residual-in_err-moved g) → ⊥
 given g c =
     let has = room_has c.args.self.now.heap c.args.name (c.args.gap + c.args.words) c.requires.live (omega (arith, c.requires.least)) c.requires.room in
-    let there = from_done_there c.args.self.now.heap c.args.name c.args.gap c.args.words c.resize_words-2.ensures.was_lawful has c.requires.least c.requires.left c.resize_words-2.new.self.heap c.resize_words-2.ensures.heap in
-    false≢true (c.in_err-moved.ensures.ok.1 there)
+    let there = from_done_there c.args.self.now.heap c.args.name c.args.gap c.args.words c.resize_words-2.ensures.keeps.was_lawful has c.requires.least c.requires.left c.resize_words-2.new.self.heap c.resize_words-2.ensures.heap in
+    false≢true (c.in_err-moved.ensures.cases.ok.1 there)
 
 pub returns-in_err-moved-clause-heap : goal.returns-in_err-moved-clause-heap
 returns-in_err-moved-clause-heap g c = absurd (given g c)
@@ -52,7 +52,7 @@ freed : (g : Over) (c : goal.After-from_residual-in_err-release g) → ⊥
 freed g c =
     let has = room_has c.args.self.now.heap c.args.name (c.args.gap + c.args.words) c.requires.live (omega (arith, c.requires.least)) c.requires.room in
     let same = c.resize_words-2.ensures.heap in
-    moved_done c.args.self.now.heap c.args.name c.args.gap c.args.words c.resize_words-2.ensures.was_lawful has c.requires.least c.requires.left
+    moved_done c.args.self.now.heap c.args.name c.args.gap c.args.words c.resize_words-2.ensures.keeps.was_lawful has c.requires.least c.requires.left
     c.words_from.new.self.heap c.in_err-release.field-0.0 c.in_ok-moved.moved (rw same at c.words_from.ensures.heap) (rw same at c.in_ok-moved.ensures.answer) c.in_err-release.ensures.answer
 
 pub returns-in_err-release-clause-answer : goal.returns-in_err-release-clause-answer

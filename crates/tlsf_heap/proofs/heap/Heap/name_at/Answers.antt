@@ -1,10 +1,10 @@
-use Rattle.std.proofs.Common.{◌≡◌, ℕ, ◌<◌, Some, sym, ap, ◌∙◌, subst, arith}
+use Rattle.std.proofs.Common.{◌≡◌, ℕ, ◌<◌, Some, sym, ap, ◌∙◌, subst}
 use Rattle.tlsf_heap.specs.ByPlace.{name_at}
 use Rattle.tlsf_heap.specs.Laws.{IsLive}
 use Rattle.tlsf_heap.specs.Shown.{Shown}
 use Rattle.tlsf_heap.specs.Stored.{state_of}
-use Rattle.tlsf_heap.proofs.ByPlace.{name_found, live_here}
-use Rattle.tlsf_heap.proofs.Listing.{stored_lists}
+use Rattle.tlsf_heap.proofs.lemmas.calls.ByPlace.{name_found, live_here, live_not_wild}
+use Rattle.tlsf_heap.proofs.lemmas.calls.Kept.{keeps_read, reads_both}
 use Rattle.tlsf_heap.proofs.heap.Heap.name_at.Goals as goal
 
 pub returns-clause-name : goal.returns-clause-name
@@ -22,19 +22,13 @@ returns-clause-live g c =
     (subst (λ (n : ℕ). IsLive (state_of g.row.SLI c.self.inside) (record { heap = c.self.inside.id; at = c.args.at; serial = n }) × (c.args.at ≡ c.args.at) × (c.args.at < c.self.inside.region.words)) (sym mark)
     (live_here (state_of g.row.SLI c.self.inside) c.self.invariant.lawful l.1))
 
-pub returns-clause-outside : goal.returns-clause-outside
-returns-clause-outside g c past = absurd (let inside = (returns-clause-live g c).2 in omega (arith, inside, past))
+pub returns-clause-wild : goal.returns-clause-wild
+returns-clause-wild g c = live_not_wild (ap (λ (s : Shown). s.heap) c.self.view_is) c.self.invariant.lawful c.in-Some.ensures.answer.1 _ _
 
--- ---- the words show the blocks
+-- ---- what is kept
 
-pub returns-in_default-clause-shows : goal.returns-in_default-clause-shows
-returns-in_default-clause-shows g c = let reads = c.live_at.ensures.reads in rw (reads.stored, reads.blocks) c.self.invariant.shows
+pub returns-in_default-clause-keeps : goal.returns-in_default-clause-keeps
+returns-in_default-clause-keeps g c = keeps_read g.row.SLI c.self.inside c.self.view_is c.self.invariant _ c.live_at.ensures.reads
 
-pub returns-clause-shows : goal.returns-clause-shows
-returns-clause-shows g c = let reads = c.live_at.ensures.reads in let more = c.mark-serial.ensures.reads in rw (more.stored, more.blocks, reads.stored, reads.blocks) c.self.invariant.shows
-
-pub returns-in_default-clause-lists : goal.returns-in_default-clause-lists
-returns-in_default-clause-lists g c = let reads = c.live_at.ensures.reads in rw (reads.stored, reads.blocks) (stored_lists g.row.SLI c.self.inside c.self.invariant)
-
-pub returns-clause-lists : goal.returns-clause-lists
-returns-clause-lists g c = let reads = c.live_at.ensures.reads in let more = c.mark-serial.ensures.reads in rw (more.stored, more.blocks, reads.stored, reads.blocks) (stored_lists g.row.SLI c.self.inside c.self.invariant)
+pub returns-clause-keeps : goal.returns-clause-keeps
+returns-clause-keeps g c = keeps_read g.row.SLI c.self.inside c.self.view_is c.self.invariant _ (reads_both c.live_at.ensures.reads c.mark-serial.ensures.reads)

@@ -2,8 +2,8 @@ use Rattle.std.proofs.Common.{length, ap, ◌∙◌, arith}
 use Rattle.tlsf_heap.specs.Shown.{Shown}
 use Rattle.tlsf_heap.specs.Calls.{read_of}
 use Rattle.tlsf_heap.specs.Stored.{state_of}
-use Rattle.tlsf_heap.proofs.Naming.{not_forged}
-use Rattle.tlsf_heap.proofs.Writing.{range_named, range_stands, reads, unread}
+use Rattle.tlsf_heap.proofs.lemmas.calls.Named.{not_forged}
+use Rattle.tlsf_heap.proofs.lemmas.calls.Write.{range_named, range_stands, reads, unread}
 use Rattle.tlsf_heap.proofs.heap.Heap.read.Goals as goal
 
 pub returns-in_err-check_range-clause-bytes : goal.returns-in_err-check_range-clause-bytes
@@ -12,16 +12,16 @@ returns-in_err-check_range-clause-bytes g c = unread (read_of c.args.self.now.he
 pub read-requires : goal.read-requires
 read-requires g c = (
   omega arith,
-  range_stands (state_of g.row.SLI c.self.inside) c.args.self.now.heap c.args.name c.args.at (length c.args.out.now) (ap (λ (s : Shown). s.heap) c.self.view_is ∙ c.in_ok-check_range.ensures.heap)
+  range_stands (state_of g.row.SLI c.self.inside) c.args.self.now.heap c.args.name c.args.at (length c.args.out.now) (ap (λ (s : Shown). s.heap) c.self.view_is ∙ c.in_ok-check_range.ensures.same.heap)
       c.in_ok-check_range.ensures.answer c.in_ok-check_range.ensures.place,
 )
 
 pub returns-clause-bytes : goal.returns-clause-bytes
 returns-clause-bytes g c =
-    reads (state_of g.row.SLI c.self.inside) c.args.self.now.heap c.args.name c.args.at (length c.args.out.now) (ap (λ (s : Shown). s.heap) c.self.view_is ∙ c.in_ok-check_range.ensures.heap)
+    reads (state_of g.row.SLI c.self.inside) c.args.self.now.heap c.args.name c.args.at (length c.args.out.now) (ap (λ (s : Shown). s.heap) c.self.view_is ∙ c.in_ok-check_range.ensures.same.heap)
     c.in_ok-check_range.ensures.answer c.in_ok-check_range.ensures.place c.args.out.now c.read.new.out c.read.ensures.bytes
 
 -- ---- the name was not forged
 
 pub returns-clause-forged : goal.returns-clause-forged
-returns-clause-forged g c = not_forged c.args.self.now.heap c.args.name c.in_ok-check_range.ensures.lawful (range_named c.args.self.now.heap c.args.name c.args.at (length c.args.out.now) c.in_ok-check_range.ensures.answer c.in_ok-check_range.ensures.place) _ _
+returns-clause-forged g c = not_forged c.args.self.now.heap c.args.name c.in_ok-check_range.ensures.keeps.was_lawful (range_named c.args.self.now.heap c.args.name c.args.at (length c.args.out.now) c.in_ok-check_range.ensures.answer c.in_ok-check_range.ensures.place) _ _

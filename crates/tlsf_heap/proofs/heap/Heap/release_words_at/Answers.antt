@@ -1,5 +1,5 @@
 use Rattle.std.proofs.Common.{◌≡◌, ℕ, ◌+◌, refl, sym, ap, ◌∙◌, subst, Ok, Err, arith}
-use Rattle.tlsf_heap.specs.Blocks.{HeapState, words_in, IsPlace}
+use Rattle.tlsf_heap.specs.Blocks.{HeapState, words_in}
 use Rattle.tlsf_heap.specs.ByPlace.{IsLiveAt}
 use Rattle.tlsf_heap.specs.GoodFit.{site_at}
 use Rattle.tlsf_heap.specs.Lawful.{IsLawful}
@@ -8,13 +8,13 @@ use Rattle.tlsf_heap.specs.Shown.{Shown}
 use Rattle.tlsf_heap.specs.Stored.{state_of}
 use Rattle.tlsf_heap.specs.WordsInUse.{words_in_use, words_at}
 use Rattle.tlsf_heap.specs.declared.refusal.Refusal.TheVariants.{Stale, Worn}
-use Rattle.tlsf_heap.proofs.Allocating.{lawful_regions}
-use Rattle.tlsf_heap.proofs.ByPlace.{ReleasesPlace, name_here, is_named_here, live_here, place_free, place_live}
-use Rattle.tlsf_heap.proofs.Lawfulness.{with_region}
-use Rattle.tlsf_heap.proofs.Reading.{at_index}
-use Rattle.tlsf_heap.proofs.Releasing.{Releases, releases_worn, releases_block}
-use Rattle.tlsf_heap.proofs.Listing.{stored_lists}
-use Rattle.tlsf_heap.proofs.WordsInUse.{words_live, in_use_placed}
+use Rattle.tlsf_heap.proofs.lemmas.calls.Allocate.{lawful_regions}
+use Rattle.tlsf_heap.proofs.lemmas.calls.ByPlace.{ReleasesPlace, name_here, is_named_here, place_free, place_live, live_not_wild}
+use Rattle.tlsf_heap.proofs.lemmas.blocks.Lawful.{with_region}
+use Rattle.tlsf_heap.proofs.lemmas.words.Says.{at_index}
+use Rattle.tlsf_heap.proofs.lemmas.calls.Release.{Releases, releases_worn, releases_block}
+use Rattle.tlsf_heap.proofs.lemmas.laws.WordsInUse.{answers_refused, words_live, in_use_placed}
+use Rattle.tlsf_heap.proofs.lemmas.calls.Kept.{keeps_stored, keeps_read}
 use Rattle.tlsf_heap.proofs.heap.Heap.release_words_at.Given.{Over}
 use Rattle.tlsf_heap.proofs.heap.Heap.release_words_at.Goals as goal
 
@@ -29,14 +29,14 @@ nobody g c =
     subst (λ (s : HeapState). ReleasesPlace s c.args.at (Err Stale) k) (ap (λ (s : Shown). s.heap) c.self.view_is)
     (place_free h k c.args.at same c.self.invariant.lawful c.in_default.ensures.answer)
 
-pub returns-in_default-clause-refused : goal.returns-in_default-clause-refused
-returns-in_default-clause-refused g c = sym (nobody g c).is_answer
+pub returns-in_default-clause-answer : goal.returns-in_default-clause-answer
+returns-in_default-clause-answer g c = answers_refused _ (sym (nobody g c).is_answer)
 
 pub returns-in_default-clause-heap : goal.returns-in_default-clause-heap
 returns-in_default-clause-heap g c = (nobody g c).is_heap
 
-pub returns-in_default-clause-lists : goal.returns-in_default-clause-lists
-returns-in_default-clause-lists g c = let reads = c.live_at.ensures.reads in rw (reads.stored, reads.blocks) (stored_lists g.row.SLI c.self.inside c.self.invariant)
+pub returns-in_default-clause-keeps : goal.returns-in_default-clause-keeps
+returns-in_default-clause-keeps g c = keeps_read g.row.SLI c.self.inside c.self.view_is c.self.invariant _ c.live_at.ensures.reads
 
 -- ---- the tick is at its last value
 
@@ -51,14 +51,14 @@ worn g c =
     subst (λ (s : HeapState). ReleasesPlace s c.args.at (Err Worn) k) (ap (λ (s : Shown). s.heap) c.self.view_is)
     (place_live h c.args.at l.0 (Err Worn) k rooms l.1 (releases_worn h k (name_here h c.args.at l.0) c.self.invariant.lawful same (is_named_here h rooms l.1) c.if-self.true))
 
-pub returns-then-self-clause-refused : goal.returns-then-self-clause-refused
-returns-then-self-clause-refused g c = sym (worn g c).is_answer
+pub returns-then-self-clause-answer : goal.returns-then-self-clause-answer
+returns-then-self-clause-answer g c = answers_refused _ (sym (worn g c).is_answer)
 
 pub returns-then-self-clause-heap : goal.returns-then-self-clause-heap
 returns-then-self-clause-heap g c = (worn g c).is_heap
 
-pub returns-then-self-clause-lists : goal.returns-then-self-clause-lists
-returns-then-self-clause-lists g c = let reads = c.live_at.ensures.reads in rw (reads.stored, reads.blocks) (stored_lists g.row.SLI c.self.inside c.self.invariant)
+pub returns-then-self-clause-keeps : goal.returns-then-self-clause-keeps
+returns-then-self-clause-keeps g c = keeps_read g.row.SLI c.self.inside c.self.view_is c.self.invariant _ c.live_at.ensures.reads
 
 -- ---- the block is released
 
@@ -104,26 +104,20 @@ freed g c =
     (subst (λ (t : ℕ). ReleasesPlace h c.args.at (Ok tt) (with_region h t c.coalesce.new.region)) (sym c.coalesce.ensures.tick)
     (place_live h c.args.at l.0 (Ok tt) (with_region h (h.tick + 1) c.coalesce.new.region) rooms l.1 done))
 
-pub returns-clause-ok : goal.returns-clause-ok
-returns-clause-ok g c = sym (freed g c).is_answer
+pub returns-clause-answer : goal.returns-clause-answer
+returns-clause-answer g c = record { ok = sym (freed g c).is_answer; refused = tt }
 
-pub returns-clause-words : goal.returns-clause-words
-returns-clause-words g c =
+pub returns-clause-back : goal.returns-clause-back
+returns-clause-back g c =
     let l = c.in-Some.ensures.answer in
-    subst (λ (s : Shown). c.size.result ≡ words_at s.heap c.args.at) c.self.view_is
-    (c.size.ensures.value ∙ l.2.size ∙ sym (words_live (state_of g.row.SLI c.self.inside) c.self.invariant.lawful.rooms l.1))
-
-pub returns-clause-sum : goal.returns-clause-sum
-returns-clause-sum g c =
     let same = ap (λ (s : Shown). s.heap) c.self.view_is in
-    let sum = in_use_placed c.args.self.now.heap (subst IsLawful same c.self.invariant.lawful) (subst (λ (h : HeapState). IsLiveAt h.blocks c.args.at c.in-Some.ensures.answer.0) same c.in-Some.ensures.answer.1) (returns-clause-ok g c) in
-    omega (arith, sum, returns-clause-words g c, ap words_in_use (freed g c).is_heap)
+    let words : c.size.result ≡ words_at c.args.self.now.heap c.args.at = subst (λ (s : Shown). c.size.result ≡ words_at s.heap c.args.at) c.self.view_is
+    (c.size.ensures.value ∙ l.2.size ∙ sym (words_live (state_of g.row.SLI c.self.inside) c.self.invariant.lawful.rooms l.1)) in
+    let sum = in_use_placed c.args.self.now.heap (subst IsLawful same c.self.invariant.lawful) (subst (λ (h : HeapState). IsLiveAt h.blocks c.args.at l.0) same l.1) (sym (freed g c).is_answer) in
+    record { words = words; sum = omega (arith, sum, words, ap words_in_use (freed g c).is_heap) }
 
 pub returns-clause-heap : goal.returns-clause-heap
 returns-clause-heap g c = (freed g c).is_heap
-
-pub returns-clause-lawful : goal.returns-clause-lawful
-returns-clause-lawful g c = (freed g c).lawful
 
 pub invariant_of-self-2 : goal.invariant_of-self-2
 invariant_of-self-2 g c = record {
@@ -135,27 +129,13 @@ invariant_of-self-2 g c = record {
   listed = c.coalesce.ensures.listed;
 }
 
-pub returns-clause-lists : goal.returns-clause-lists
-returns-clause-lists g c = stored_lists g.row.SLI _ (invariant_of-self-2 g c)
+pub returns-clause-keeps : goal.returns-clause-keeps
+returns-clause-keeps g c = keeps_stored g.row.SLI c.self.inside c.self.view_is c.self.invariant _ (invariant_of-self-2 g c) (omega (arith, c.coalesce.ensures.edits.rise, c.live_at.ensures.reads.rise))
 
 -- ---- the place is one of the region
 
-pub returns-then-self-clause-outside : goal.returns-then-self-clause-outside
-returns-then-self-clause-outside g c past =
-    let inside = (live_here (state_of g.row.SLI c.self.inside) c.self.invariant.lawful c.in-Some.ensures.answer.1).2 in
-    absurd (omega (arith, inside, past, ap (λ (s : Shown). s.heap.words) c.self.view_is))
+pub returns-then-self-clause-wild : goal.returns-then-self-clause-wild
+returns-then-self-clause-wild g c = live_not_wild (ap (λ (s : Shown). s.heap) c.self.view_is) c.self.invariant.lawful c.in-Some.ensures.answer.1 _ _
 
-pub returns-clause-outside : goal.returns-clause-outside
-returns-clause-outside g c past =
-    let inside = (live_here (state_of g.row.SLI c.self.inside) c.self.invariant.lawful c.in-Some.ensures.answer.1).2 in
-    absurd (omega (arith, inside, past, ap (λ (s : Shown). s.heap.words) c.self.view_is))
-
-pub returns-then-self-clause-nowhere : goal.returns-then-self-clause-nowhere
-returns-then-self-clause-nowhere g c none =
-    let l = c.in-Some.ensures.answer in
-    absurd (none (subst (λ (s : Shown). IsPlace s.heap.blocks c.args.at) c.self.view_is (l.0, l.1.stands)))
-
-pub returns-clause-nowhere : goal.returns-clause-nowhere
-returns-clause-nowhere g c none =
-    let l = c.in-Some.ensures.answer in
-    absurd (none (subst (λ (s : Shown). IsPlace s.heap.blocks c.args.at) c.self.view_is (l.0, l.1.stands)))
+pub returns-clause-wild : goal.returns-clause-wild
+returns-clause-wild g c = live_not_wild (ap (λ (s : Shown). s.heap) c.self.view_is) c.self.invariant.lawful c.in-Some.ensures.answer.1 _ _

@@ -1,14 +1,13 @@
 use Rattle.std.proofs.Common.{◌≡◌, ◌+◌, ◌<◌, Result, sym, ap, ◌∙◌, subst, arith}
 use Rattle.tlsf_heap.specs.Blocks.{HeapState}
 use Rattle.tlsf_heap.specs.Calls.{allocated, last_tick, named}
-use Rattle.tlsf_heap.specs.FreePlaces.{ShowsLists}
 use Rattle.tlsf_heap.specs.Given.{payload_words_at, payload_words_given}
 use Rattle.tlsf_heap.specs.Laws.{IsLive}
 use Rattle.tlsf_heap.specs.Shown.{Shown}
 use Rattle.tlsf_heap.specs.declared.name.Name.{Name}
 use Rattle.tlsf_heap.specs.declared.refusal.Refusal.{Refusal}
-use Rattle.tlsf_heap.proofs.Listing.{stored_lists}
-use Rattle.tlsf_heap.proofs.Moves.{new_lives, old_lives, payload_fits, ticks}
+use Rattle.tlsf_heap.proofs.lemmas.calls.ResizeOrMove.{new_lives, old_lives, payload_fits, ticks}
+use Rattle.tlsf_heap.proofs.lemmas.calls.Kept.{keeps_same}
 use Rattle.tlsf_heap.proofs.heap.Heap.relocate.Goals as goal
 
 -- ---- both names are live behind the allocate, and a tick is left
@@ -40,10 +39,10 @@ returns-clause-touches g c =
     let words : payload_words_given (allocated g.row.SLI h c.args.len).answer (allocated g.row.SLI h c.args.len).heap ≡ payload_words_at (named new c.allocate.new.self.heap.blocks) =
     ap (λ (r : Result Name Refusal). payload_words_given r (allocated g.row.SLI h c.args.len).heap) (sym c.in_ok-new.ensures.answer) ∙ ap (λ (s : HeapState). payload_words_at (named new s.blocks)) (sym given) in
     let lives = subst (λ (s : HeapState). IsLive s new) (sym given) (new_lives g.row.SLI h c.args.name c.args.len new c.in_ok-new.ensures.answer c.requires) in
-    let fits = payload_fits c.allocate.new.self.heap new c.in_ok-new.ensures.lawful lives in
+    let fits = payload_fits c.allocate.new.self.heap new c.in_ok-new.ensures.keeps.lawful lives in
     omega (arith, words, fits, c.in_ok-new.ensures.most_touches, c.hand_over.ensures.touches)
 
--- ---- the lists are as they were
+-- ---- what is kept
 
-pub returns-then-self-clause-lists : goal.returns-then-self-clause-lists
-returns-then-self-clause-lists g c = subst (λ (s : Shown). ShowsLists g.row.SLI s.stored s.heap.blocks) c.self.view_is (stored_lists g.row.SLI c.self.inside c.self.invariant)
+pub returns-then-self-clause-keeps : goal.returns-then-self-clause-keeps
+returns-then-self-clause-keeps g c = keeps_same g.row.SLI c.self.inside c.self.view_is c.self.invariant

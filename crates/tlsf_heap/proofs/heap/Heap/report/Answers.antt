@@ -4,8 +4,9 @@ use Rattle.tlsf_heap.specs.Shown.{Shown}
 use Rattle.tlsf_heap.specs.Reports.{report_of, IsGrant}
 use Rattle.tlsf_heap.specs.Stored.{state_of}
 use Rattle.tlsf_heap.specs.declared.report.Report.{Report}
-use Rattle.tlsf_heap.proofs.Summing.{four_each}
-use Rattle.tlsf_heap.proofs.Reporting.{AreSums, sums_are, told_is, greatest_length}
+use Rattle.tlsf_heap.proofs.lemmas.calls.Kept.{keeps_read}
+use Rattle.tlsf_heap.proofs.lemmas.blocks.Sums.{four_each}
+use Rattle.tlsf_heap.proofs.lemmas.calls.Reports.{AreSums, sums_are, told_is, greatest_length}
 use Rattle.tlsf_heap.proofs.heap.Heap.report.Given.{Over}
 use Rattle.tlsf_heap.proofs.heap.Heap.report.Goals as goal
 
@@ -55,3 +56,6 @@ pub returns-clause-few : goal.returns-clause-few
 returns-clause-few g c =
     subst (λ (s : HeapState). 4 * length s.blocks ≤ s.words) (shown g c)
     (let lawful = c.self.invariant.lawful in omega (arith, four_each c.self.inside.region.blocks lawful.rooms, lawful.whole))
+
+pub returns-clause-keeps : goal.returns-clause-keeps
+returns-clause-keeps g c = keeps_read g.row.SLI c.self.inside c.self.view_is c.self.invariant _ c.of.ensures.reads

@@ -1,10 +1,10 @@
-use Rattle.tlsf_heap.proofs.Alterings.{named_of}
-use Rattle.tlsf_heap.proofs.Moves.{no_room_live}
-use Rattle.tlsf_heap.proofs.Naming.{not_forged}
+use Rattle.tlsf_heap.proofs.lemmas.calls.Alter.{named_of}
+use Rattle.tlsf_heap.proofs.lemmas.calls.ResizeOrMove.{no_room_live}
+use Rattle.tlsf_heap.proofs.lemmas.calls.Named.{not_forged}
 use Rattle.tlsf_heap.proofs.heap.Heap.resize_or_move.Goals as goal
 
 pub returns-in-Err-NoRoom-clause-forged : goal.returns-in-Err-NoRoom-clause-forged
 returns-in-Err-NoRoom-clause-forged g c =
     let h = c.args.self.now.heap in
     let refused = rw c.in-Err-NoRoom.field-0-is at c.in-Err-NoRoom.ensures.answer in
-    not_forged h c.args.name c.in-Err-NoRoom.ensures.was_lawful (named_of h c.args.name (no_room_live h c.args.name c.args.len refused)) _ _
+    not_forged h c.args.name c.in-Err-NoRoom.ensures.keeps.was_lawful (named_of h c.args.name (no_room_live h c.args.name c.args.len refused)) _ _

@@ -11,11 +11,11 @@ use Rattle.tlsf_heap.specs.Laws.{IsLive}
 use Rattle.tlsf_heap.specs.Named.{IsNamed}
 use Rattle.tlsf_heap.specs.Unset.{lying, unset_from, with_payload}
 use Rattle.tlsf_heap.specs.declared.name.Name.{Name}
-use Rattle.tlsf_heap.proofs.Alterings.{live_is, payload_is}
-use Rattle.tlsf_heap.proofs.Naming.{not_forged}
-use Rattle.tlsf_heap.proofs.Rebyted.{resized_answers}
-use Rattle.tlsf_heap.proofs.Resizing.{resized_refused}
-use Rattle.tlsf_heap.proofs.Unset.{shorter_lives, left_answer, left_room, resized_unset}
+use Rattle.tlsf_heap.proofs.lemmas.calls.Alter.{live_is, payload_is}
+use Rattle.tlsf_heap.proofs.lemmas.calls.Named.{not_forged}
+use Rattle.tlsf_heap.proofs.lemmas.calls.OtherBytes.{resized_answers}
+use Rattle.tlsf_heap.proofs.lemmas.calls.Resize.{resized_refused}
+use Rattle.tlsf_heap.proofs.lemmas.calls.Unset.{shorter_lives, left_answer, left_room, resized_unset}
 use Rattle.tlsf_heap.proofs.heap.Heap.resize_unset.Goals as goal
 
 -- ---- the name is refused
@@ -36,11 +36,11 @@ returns-in_err-resize_words-clause-answer g c =
     let h = c.args.self.now.heap in
     let p = err_from_is_err_and c.from_residual-in_err-resize_words.result c.from_residual-in_err-resize_words.ensures.1 in
     rw (p.1, p.2) (c.in_err-resize_words.ensures.answer
-    ∙ ap (λ (o : Outcome (Unit {0})). o.answer) (asked h c.check_payload.new.self.heap c.args.name c.want.result c.args.len c.min-kept.result c.in_ok-check_payload.ensures.heap c.want.ensures)
+    ∙ ap (λ (o : Outcome (Unit {0})). o.answer) (asked h c.check_payload.new.self.heap c.args.name c.want.result c.args.len c.min-kept.result c.in_ok-check_payload.ensures.same.heap c.want.ensures)
     ∙ resized_answers h c.args.name (want c.args.len) c.min-kept.result c.args.len)
 
 pub returns-in_err-resize_words-clause-forged : goal.returns-in_err-resize_words-clause-forged
-returns-in_err-resize_words-clause-forged g c = not_forged c.args.self.now.heap c.args.name c.in_ok-check_payload.ensures.lawful c.in_ok-check_payload.ensures.answer.0 _ _
+returns-in_err-resize_words-clause-forged g c = not_forged c.args.self.now.heap c.args.name c.in_ok-check_payload.ensures.keeps.was_lawful c.in_ok-check_payload.ensures.answer.0 _ _
 
 -- ---- the bytes lie there
 
@@ -68,7 +68,7 @@ pub set_length-requires : goal.set_length-requires
 set_length-requires g c =
     let name = c.args.name in
     let s = shortens c.args.self.now.heap c.check_payload.new.self.heap c.resize_words.new.self.heap name c.want.result c.args.len c.in_ok-check_payload.field-0 c.min-kept.result
-    c.in_ok-check_payload.ensures.answer.0 c.in_ok-check_payload.ensures.lawful c.in_ok-check_payload.ensures.answer.1 c.min-kept.ensures c.in_ok-check_payload.ensures.heap c.want.ensures c.in_ok-resize_words.ensures.answer c.in_ok-resize_words.ensures.heap in (
+    c.in_ok-check_payload.ensures.answer.0 c.in_ok-check_payload.ensures.keeps.was_lawful c.in_ok-check_payload.ensures.answer.1 c.min-kept.ensures c.in_ok-check_payload.ensures.same.heap c.want.ensures c.in_ok-resize_words.ensures.answer c.in_ok-resize_words.ensures.heap in (
       omega arith,
       subst (λ (l : HeapState). IsLive l name × (words_for c.args.len ≤ 3 + payload_words_at (named name l.blocks))) (sym s.heap)
           (shorter_lives _ name c.args.len _ s.lawful s.live s.least s.answer, left_room _ name c.args.len _ s.lawful s.live s.least s.answer),
@@ -77,7 +77,7 @@ set_length-requires g c =
 pub returns-clause-answer : goal.returns-clause-answer
 returns-clause-answer g c =
     let s = shortens c.args.self.now.heap c.check_payload.new.self.heap c.resize_words.new.self.heap c.args.name c.want.result c.args.len c.in_ok-check_payload.field-0 c.min-kept.result
-    c.in_ok-check_payload.ensures.answer.0 c.in_ok-check_payload.ensures.lawful c.in_ok-check_payload.ensures.answer.1 c.min-kept.ensures c.in_ok-check_payload.ensures.heap c.want.ensures c.in_ok-resize_words.ensures.answer c.in_ok-resize_words.ensures.heap in
+    c.in_ok-check_payload.ensures.answer.0 c.in_ok-check_payload.ensures.keeps.was_lawful c.in_ok-check_payload.ensures.answer.1 c.min-kept.ensures c.in_ok-check_payload.ensures.same.heap c.want.ensures c.in_ok-resize_words.ensures.answer c.in_ok-resize_words.ensures.heap in
     sym (left_answer _ c.args.name c.args.len _ s.lawful s.live s.least s.answer)
 
 pub returns-clause-heap : goal.returns-clause-heap
@@ -87,17 +87,17 @@ returns-clause-heap g c =
     let m = c.set_length.new.self.stored in
     let len = c.args.len in
     let s = shortens h c.check_payload.new.self.heap c.resize_words.new.self.heap name c.want.result len c.in_ok-check_payload.field-0 c.min-kept.result
-    c.in_ok-check_payload.ensures.answer.0 c.in_ok-check_payload.ensures.lawful c.in_ok-check_payload.ensures.answer.1 c.min-kept.ensures c.in_ok-check_payload.ensures.heap c.want.ensures c.in_ok-resize_words.ensures.answer c.in_ok-resize_words.ensures.heap in
+    c.in_ok-check_payload.ensures.answer.0 c.in_ok-check_payload.ensures.keeps.was_lawful c.in_ok-check_payload.ensures.answer.1 c.min-kept.ensures c.in_ok-check_payload.ensures.same.heap c.want.ensures c.in_ok-resize_words.ensures.answer c.in_ok-resize_words.ensures.heap in
     c.set_length.ensures.heap
     ∙ ap (λ (l : HeapState). with_payload l name (lying m name.at len)) s.heap
-    ∙ resized_unset h name len c.min-kept.result s.lawful s.live s.least s.answer c.resize_words.new.self.stored m (subst (λ (l : HeapState). Shows c.resize_words.new.self.stored l.blocks) s.heap c.in_ok-resize_words.ensures.shows) c.set_length.ensures.lies
+    ∙ resized_unset h name len c.min-kept.result s.lawful s.live s.least s.answer c.resize_words.new.self.stored m (subst (λ (l : HeapState). Shows c.resize_words.new.self.stored l.blocks) s.heap c.in_ok-resize_words.ensures.keeps.shows) c.set_length.ensures.lies
     ∙ ap (λ (k : ℕ). unset_from (resized h name len).heap name m k len) s.least
 
 pub returns-clause-touches : goal.returns-clause-touches
 returns-clause-touches g c =
     let held = ap length (payload_is c.args.self.now.heap c.args.name c.in_ok-check_payload.ensures.answer.0) in
-    let before = ap (λ (s : HeapState). length (payload_of s c.args.name)) c.in_ok-check_payload.ensures.heap in
+    let before = ap (λ (s : HeapState). length (payload_of s c.args.name)) c.in_ok-check_payload.ensures.same.heap in
     omega (arith, held, before, c.in_ok-check_payload.ensures.answer.1, c.min-kept.ensures, c.in_ok-check_payload.ensures.touches, c.resize_words.ensures.grown_touches, c.set_length.ensures.touches)
 
 pub returns-clause-forged : goal.returns-clause-forged
-returns-clause-forged g c = not_forged c.args.self.now.heap c.args.name c.in_ok-check_payload.ensures.lawful c.in_ok-check_payload.ensures.answer.0 _ _
+returns-clause-forged g c = not_forged c.args.self.now.heap c.args.name c.in_ok-check_payload.ensures.keeps.was_lawful c.in_ok-check_payload.ensures.answer.0 _ _

@@ -12,14 +12,14 @@ use Rattle.tlsf_heap.specs.Stored.{state_of}
 use Rattle.tlsf_heap.specs.declared.name.Name.{Name}
 use Rattle.tlsf_heap.specs.declared.refusal.Refusal.TheVariants.{Worn, NoRoom}
 use Rattle.tlsf_heap.specs.InPlace.{payload_of}
-use Rattle.tlsf_heap.proofs.Alterings.{payload_is}
-use Rattle.tlsf_heap.proofs.Allocating.{lawful_regions}
-use Rattle.tlsf_heap.proofs.Lawfulness.{with_region}
-use Rattle.tlsf_heap.proofs.Left.{Found, found, room_small, resizes_short, resizes_worn, resizes_done, payload_left}
-use Rattle.tlsf_heap.proofs.Naming.{named_same, named_stands, named_live, not_forged}
-use Rattle.tlsf_heap.proofs.Reading.{at_index}
-use Rattle.tlsf_heap.proofs.Resizing.{Resizes, resized_refused, resizes_refused}
-use Rattle.tlsf_heap.proofs.Listing.{stored_lists}
+use Rattle.tlsf_heap.proofs.lemmas.calls.Alter.{payload_is}
+use Rattle.tlsf_heap.proofs.lemmas.calls.Allocate.{lawful_regions}
+use Rattle.tlsf_heap.proofs.lemmas.blocks.Lawful.{with_region}
+use Rattle.tlsf_heap.proofs.lemmas.calls.LeftBlock.{Found, found, room_small, resizes_short, resizes_worn, resizes_done, payload_left}
+use Rattle.tlsf_heap.proofs.lemmas.calls.Named.{named_same, named_stands, named_live, not_forged}
+use Rattle.tlsf_heap.proofs.lemmas.words.Says.{at_index}
+use Rattle.tlsf_heap.proofs.lemmas.calls.Resize.{Resizes, resized_refused, resizes_refused}
+use Rattle.tlsf_heap.proofs.lemmas.calls.Kept.{keeps_both, keeps_stored}
 use Rattle.tlsf_heap.proofs.heap.Heap.resize_words.Given.{Over}
 use Rattle.tlsf_heap.proofs.heap.Heap.resize_words.Goals as goal
 
@@ -28,17 +28,17 @@ use Rattle.tlsf_heap.proofs.heap.Heap.resize_words.Goals as goal
 pub returns-in_err-own-clause-answer : goal.returns-in_err-own-clause-answer
 returns-in_err-own-clause-answer g c =
     let p = err_from_is_err_and c.from_residual.result c.from_residual.ensures.1 in
-    rw (p.1, p.2) (resizes_refused c.args.self.now.heap c.check.new.self.heap c.args.name c.args.words c.args.len _ c.in_err-own.ensures.lawful c.in_err-own.ensures.heap (resized_refused c.args.self.now.heap c.args.name c.args.words c.args.len _ c.in_err-own.ensures.answer)).is_answer
+    rw (p.1, p.2) (resizes_refused c.args.self.now.heap c.check.new.self.heap c.args.name c.args.words c.args.len _ c.in_err-own.ensures.keeps.was_lawful c.in_err-own.ensures.same.heap (resized_refused c.args.self.now.heap c.args.name c.args.words c.args.len _ c.in_err-own.ensures.answer)).is_answer
 
 pub returns-in_err-own-clause-heap : goal.returns-in_err-own-clause-heap
 returns-in_err-own-clause-heap g c =
-    (resizes_refused c.args.self.now.heap c.check.new.self.heap c.args.name c.args.words c.args.len _ c.in_err-own.ensures.lawful c.in_err-own.ensures.heap (resized_refused c.args.self.now.heap c.args.name c.args.words c.args.len _ c.in_err-own.ensures.answer)).is_heap
+    (resizes_refused c.args.self.now.heap c.check.new.self.heap c.args.name c.args.words c.args.len _ c.in_err-own.ensures.keeps.was_lawful c.in_err-own.ensures.same.heap (resized_refused c.args.self.now.heap c.args.name c.args.words c.args.len _ c.in_err-own.ensures.answer)).is_heap
 
 -- ---- the block behind
 
 pub look_behind-next-requires : goal.look_behind-next-requires
 look_behind-next-requires g c =
-    let same : state_of g.row.SLI c.self.inside ≡ c.args.self.now.heap = ap (λ (s : Shown). s.heap) c.self.view_is ∙ c.in_ok-own.ensures.heap in
+    let same : state_of g.row.SLI c.self.inside ≡ c.args.self.now.heap = ap (λ (s : Shown). s.heap) c.self.view_is ∙ c.in_ok-own.ensures.same.heap in
     let checked = subst (λ (h : HeapState). IsNameCheck h c.args.name (Ok c.in_ok-own.own)) (sym same) c.in_ok-own.ensures.answer in (
       omega arith,
       (
@@ -55,7 +55,7 @@ look_behind-next-requires g c =
 
 pub overflow_add-room : goal.overflow_add-room
 overflow_add-room g c =
-    let same : state_of g.row.SLI c.self.inside ≡ c.args.self.now.heap = ap (λ (s : Shown). s.heap) c.self.view_is ∙ c.in_ok-own.ensures.heap in
+    let same : state_of g.row.SLI c.self.inside ≡ c.args.self.now.heap = ap (λ (s : Shown). s.heap) c.self.view_is ∙ c.in_ok-own.ensures.same.heap in
     let f : Found (state_of g.row.SLI c.self.inside) c.args.name c.in_ok-own.own c.look_behind-next.result = found same c.in_ok-own.ensures.answer c.look_behind-next.ensures.tag in
     omega (arith, c.size.ensures.value, c.size-2.ensures.value, room_small g.row.SLI f same c.self.invariant.lawful c.args.words c.args.len c.requires, c.self.invariant.small, most_words_any g.row.SLI)
 
@@ -63,7 +63,7 @@ overflow_add-room g c =
 
 short : (g : Over) (c : goal.Then-room-words g) → Resizes c.args.self.now.heap c.args.name c.args.words c.args.len (Err NoRoom) (with_region (state_of g.row.SLI c.self.inside) c.self.inside.tick c.look_behind-next.new.region)
 short g c =
-    let same : state_of g.row.SLI c.self.inside ≡ c.args.self.now.heap = ap (λ (s : Shown). s.heap) c.self.view_is ∙ c.in_ok-own.ensures.heap in
+    let same : state_of g.row.SLI c.self.inside ≡ c.args.self.now.heap = ap (λ (s : Shown). s.heap) c.self.view_is ∙ c.in_ok-own.ensures.same.heap in
     let f : Found (state_of g.row.SLI c.self.inside) c.args.name c.in_ok-own.own c.look_behind-next.result = found same c.in_ok-own.ensures.answer c.look_behind-next.ensures.tag in
     let reads = c.look_behind-next.ensures.reads in
     resizes_short g.row.SLI f same c.self.invariant.lawful c.args.words c.args.len c.requires c.look_behind-next.new.region reads.words reads.blocks (omega (arith, c.if-room-words.true, c.size.ensures.value, c.size-2.ensures.value))
@@ -78,7 +78,7 @@ returns-then-room-words-clause-heap g c = (short g c).is_heap
 
 worn : (g : Over) (c : goal.Then-self g) → Resizes c.args.self.now.heap c.args.name c.args.words c.args.len (Err Worn) (with_region (state_of g.row.SLI c.self.inside) c.self.inside.tick c.look_behind-next.new.region)
 worn g c =
-    let same : state_of g.row.SLI c.self.inside ≡ c.args.self.now.heap = ap (λ (s : Shown). s.heap) c.self.view_is ∙ c.in_ok-own.ensures.heap in
+    let same : state_of g.row.SLI c.self.inside ≡ c.args.self.now.heap = ap (λ (s : Shown). s.heap) c.self.view_is ∙ c.in_ok-own.ensures.same.heap in
     let f : Found (state_of g.row.SLI c.self.inside) c.args.name c.in_ok-own.own c.look_behind-next.result = found same c.in_ok-own.ensures.answer c.look_behind-next.ensures.tag in
     let reads = c.look_behind-next.ensures.reads in
     resizes_worn g.row.SLI f same c.self.invariant.lawful c.args.words c.args.len c.requires c.look_behind-next.new.region reads.words reads.blocks (omega (arith, c.if-room-words.false, c.size.ensures.value, c.size-2.ensures.value)) c.if-self.true
@@ -93,7 +93,7 @@ returns-then-self-clause-heap g c = (worn g c).is_heap
 
 pub refit-requires : goal.refit-requires
 refit-requires g c =
-    let same : state_of g.row.SLI c.self.inside ≡ c.args.self.now.heap = ap (λ (s : Shown). s.heap) c.self.view_is ∙ c.in_ok-own.ensures.heap in
+    let same : state_of g.row.SLI c.self.inside ≡ c.args.self.now.heap = ap (λ (s : Shown). s.heap) c.self.view_is ∙ c.in_ok-own.ensures.same.heap in
     let named = named_same (state_of g.row.SLI c.self.inside) c.args.self.now.heap c.args.name same c.in_ok-own.ensures.answer.0 in
     let checked = subst (λ (h : HeapState). IsNameCheck h c.args.name (Ok c.in_ok-own.own)) (sym same) c.in_ok-own.ensures.answer in
     let reads = c.look_behind-next.ensures.reads in (
@@ -142,7 +142,7 @@ record Fitted (h k : HeapState) (name : Name) (n len : ℕ) (region : RegionStat
 fits : (g : Over) (c : goal.After-self-1 g) → Fitted (state_of g.row.SLI c.self.inside) c.args.self.now.heap c.args.name c.args.words c.args.len c.refit.new.region
 fits g c =
     let h = state_of g.row.SLI c.self.inside in
-    let same : h ≡ c.args.self.now.heap = ap (λ (s : Shown). s.heap) c.self.view_is ∙ c.in_ok-own.ensures.heap in
+    let same : h ≡ c.args.self.now.heap = ap (λ (s : Shown). s.heap) c.self.view_is ∙ c.in_ok-own.ensures.same.heap in
     let f : Found h c.args.name c.in_ok-own.own c.look_behind-next.result = found same c.in_ok-own.ensures.answer c.look_behind-next.ensures.tag in
     let i = f.named.1.0 in
     let reads = c.look_behind-next.ensures.reads in
@@ -159,9 +159,6 @@ returns-clause-answer g c = (fits g c).resizes.is_answer
 
 pub returns-clause-heap : goal.returns-clause-heap
 returns-clause-heap g c = (fits g c).resizes.is_heap
-
-pub returns-clause-lawful : goal.returns-clause-lawful
-returns-clause-lawful g c = (fits g c).resizes.lawful
 
 pub invariant_of-self-2 : goal.invariant_of-self-2
 invariant_of-self-2 g c = record {
@@ -185,7 +182,7 @@ returns-clause-most_touches g c =
 -- and of the payload only what grows
 pub returns-clause-grown_touches : goal.returns-clause-grown_touches
 returns-clause-grown_touches g c =
-    let same : state_of g.row.SLI c.self.inside ≡ c.args.self.now.heap = ap (λ (s : Shown). s.heap) c.self.view_is ∙ c.in_ok-own.ensures.heap in
+    let same : state_of g.row.SLI c.self.inside ≡ c.args.self.now.heap = ap (λ (s : Shown). s.heap) c.self.view_is ∙ c.in_ok-own.ensures.same.heap in
     let is_named = named_same (state_of g.row.SLI c.self.inside) c.args.self.now.heap c.args.name same c.in_ok-own.ensures.answer.0 in
     let reads = c.look_behind-next.ensures.reads in
     let grown = (rw reads.blocks at c.refit.ensures.grown) is_named.1.0 (named_stands _ _ _ _ is_named.1.1) in
@@ -195,15 +192,15 @@ returns-clause-grown_touches g c =
 -- ---- the name was not forged
 
 pub returns-then-room-words-clause-forged : goal.returns-then-room-words-clause-forged
-returns-then-room-words-clause-forged g c = not_forged c.args.self.now.heap c.args.name c.in_ok-own.ensures.lawful c.in_ok-own.ensures.answer.0 _ _
+returns-then-room-words-clause-forged g c = not_forged c.args.self.now.heap c.args.name c.in_ok-own.ensures.keeps.was_lawful c.in_ok-own.ensures.answer.0 _ _
 
 pub returns-then-self-clause-forged : goal.returns-then-self-clause-forged
-returns-then-self-clause-forged g c = not_forged c.args.self.now.heap c.args.name c.in_ok-own.ensures.lawful c.in_ok-own.ensures.answer.0 _ _
+returns-then-self-clause-forged g c = not_forged c.args.self.now.heap c.args.name c.in_ok-own.ensures.keeps.was_lawful c.in_ok-own.ensures.answer.0 _ _
 
 pub returns-clause-forged : goal.returns-clause-forged
-returns-clause-forged g c = not_forged c.args.self.now.heap c.args.name c.in_ok-own.ensures.lawful c.in_ok-own.ensures.answer.0 _ _
+returns-clause-forged g c = not_forged c.args.self.now.heap c.args.name c.in_ok-own.ensures.keeps.was_lawful c.in_ok-own.ensures.answer.0 _ _
 
--- ---- the lists
+-- ---- what is kept
 
-pub returns-clause-lists : goal.returns-clause-lists
-returns-clause-lists g c = stored_lists g.row.SLI _ (invariant_of-self-2 g c)
+pub returns-clause-keeps : goal.returns-clause-keeps
+returns-clause-keeps g c = keeps_both c.in_ok-own.ensures.keeps (keeps_stored g.row.SLI c.self.inside c.self.view_is c.self.invariant _ (invariant_of-self-2 g c) (omega (arith, c.refit.ensures.edits.rise, c.look_behind-next.ensures.reads.rise)))

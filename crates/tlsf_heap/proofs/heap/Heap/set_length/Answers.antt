@@ -9,11 +9,12 @@ use Rattle.tlsf_heap.specs.Regions.{list_in}
 use Rattle.tlsf_heap.specs.Shown.{Shown}
 use Rattle.tlsf_heap.specs.Stored.{state_of}
 use Rattle.tlsf_heap.specs.Unset.{lying, with_payload}
-use Rattle.tlsf_heap.proofs.Lawfulness.{with_region}
-use Rattle.tlsf_heap.proofs.Lengths.{Relengths, relengths, same_lying, length_room}
-use Rattle.tlsf_heap.proofs.Listing.{stored_lists, same_lists}
-use Rattle.tlsf_heap.proofs.Naming.{named_stands}
-use Rattle.tlsf_heap.proofs.Payloads.{length-bytes_in}
+use Rattle.tlsf_heap.proofs.lemmas.blocks.Lawful.{with_region}
+use Rattle.tlsf_heap.proofs.lemmas.words.NewLength.{Relengths, relengths, same_lying, length_room}
+use Rattle.tlsf_heap.proofs.lemmas.lists.FreeLists.{same_lists}
+use Rattle.tlsf_heap.proofs.lemmas.calls.Named.{named_stands}
+use Rattle.tlsf_heap.proofs.lemmas.words.Bytes.{length-bytes_in}
+use Rattle.tlsf_heap.proofs.lemmas.calls.Kept.{keeps_stored}
 use Rattle.tlsf_heap.proofs.heap.Heap.set_length.Given.{Over}
 use Rattle.tlsf_heap.proofs.heap.Heap.set_length.Goals as goal
 
@@ -65,19 +66,10 @@ returns-clause-lies g c = same_lying c.self.inside.region.stored c.set_length.ne
 pub returns-clause-level : goal.returns-clause-level
 returns-clause-level g c = c.self.invariant.level
 
-pub returns-clause-lawful : goal.returns-clause-lawful
-returns-clause-lawful g c = (set g c).lawful
-
-pub returns-clause-shows : goal.returns-clause-shows
-returns-clause-shows g c = let t = there g c in (c.set_length.ensures.change t.0.1.0 (named_stands _ _ _ _ t.0.1.1)).edits.shows
-
 pub returns-clause-touches : goal.returns-clause-touches
 returns-clause-touches g c = let t = there g c in omega (arith, (c.set_length.ensures.change t.0.1.0 (named_stands _ _ _ _ t.0.1.1)).edits.touches, ap (λ (s : Shown). s.touches) c.self.view_is)
 
-pub returns-clause-rise : goal.returns-clause-rise
-returns-clause-rise g c = let t = there g c in omega (arith, (c.set_length.ensures.change t.0.1.0 (named_stands _ _ _ _ t.0.1.1)).edits.rise, ap (λ (s : Shown). s.touches) c.self.view_is)
+-- ---- what is kept
 
--- ---- the lists
-
-pub returns-clause-lists : goal.returns-clause-lists
-returns-clause-lists g c = stored_lists g.row.SLI _ (invariant_of-self g c)
+pub returns-clause-keeps : goal.returns-clause-keeps
+returns-clause-keeps g c = let t = there g c in keeps_stored g.row.SLI c.self.inside c.self.view_is c.self.invariant _ (invariant_of-self g c) (c.set_length.ensures.change t.0.1.0 (named_stands _ _ _ _ t.0.1.1)).edits.rise

@@ -1,18 +1,18 @@
 use Rattle.std.proofs.Common.{◌≡◌, ℕ, ◌+◌, refl, sym, ap, ◌∙◌, subst, Ok, Err, arith}
 use Rattle.tlsf_class.specs.Classes.{class_of}
-use Rattle.tlsf_heap.specs.Blocks.{HeapState, size_of, words_in, IsPlace}
+use Rattle.tlsf_heap.specs.Blocks.{HeapState, size_of, words_in}
 use Rattle.tlsf_heap.specs.GoodFit.{block_at, site_at}
 use Rattle.tlsf_heap.specs.Regions.{IsTagOf}
 use Rattle.tlsf_heap.specs.Shown.{Shown}
 use Rattle.tlsf_heap.specs.Stored.{state_of}
 use Rattle.tlsf_heap.specs.declared.refusal.Refusal.TheVariants.{Stale, NoRoom, Worn}
-use Rattle.tlsf_heap.proofs.Allocating.{lawful_regions}
-use Rattle.tlsf_heap.proofs.Carving.{IsFreeHere, contains_here, region_here, taken_each}
-use Rattle.tlsf_heap.proofs.From.{GivesFrom, from_nowhere, from_small, from_worn, from_done, free_inside}
-use Rattle.tlsf_heap.proofs.Giving.{carved_stands}
-use Rattle.tlsf_heap.proofs.Lawfulness.{with_region}
-use Rattle.tlsf_heap.proofs.Listing.{stored_lists}
-use Rattle.tlsf_heap.proofs.Reading.{at_index}
+use Rattle.tlsf_heap.proofs.lemmas.calls.Allocate.{lawful_regions}
+use Rattle.tlsf_heap.proofs.lemmas.lists.Carved.{IsFreeHere, contains_here, region_here, taken_each}
+use Rattle.tlsf_heap.proofs.lemmas.calls.AllocateFrom.{GivesFrom, from_nowhere, from_small, from_worn, from_done, free_not_wild}
+use Rattle.tlsf_heap.proofs.lemmas.calls.GivenBlock.{carved_stands}
+use Rattle.tlsf_heap.proofs.lemmas.blocks.Lawful.{with_region}
+use Rattle.tlsf_heap.proofs.lemmas.words.Says.{at_index}
+use Rattle.tlsf_heap.proofs.lemmas.calls.Kept.{keeps_stored, keeps_read}
 use Rattle.tlsf_heap.proofs.heap.Heap.words_from.Given.{Over}
 use Rattle.tlsf_heap.proofs.heap.Heap.words_from.Goals as goal
 
@@ -33,17 +33,11 @@ returns-in_default-clause-answer g c = (nobody g c).is_answer
 pub returns-in_default-clause-heap : goal.returns-in_default-clause-heap
 returns-in_default-clause-heap g c = (nobody g c).is_heap
 
-pub returns-in_default-clause-stale : goal.returns-in_default-clause-stale
-returns-in_default-clause-stale g c = (nobody g c).stale
+pub returns-in_default-clause-cases : goal.returns-in_default-clause-cases
+returns-in_default-clause-cases g c = (nobody g c).cases
 
-pub returns-in_default-clause-no_room : goal.returns-in_default-clause-no_room
-returns-in_default-clause-no_room g c = (nobody g c).no_room
-
-pub returns-in_default-clause-ok : goal.returns-in_default-clause-ok
-returns-in_default-clause-ok g c = (nobody g c).ok
-
-pub returns-in_default-clause-lists : goal.returns-in_default-clause-lists
-returns-in_default-clause-lists g c = let reads = c.free_at.ensures.reads in rw (reads.stored, reads.blocks) (stored_lists g.row.SLI c.self.inside c.self.invariant)
+pub returns-in_default-clause-keeps : goal.returns-in_default-clause-keeps
+returns-in_default-clause-keeps g c = keeps_read g.row.SLI c.self.inside c.self.view_is c.self.invariant _ c.free_at.ensures.reads
 
 -- ---- it has too few words
 
@@ -63,17 +57,11 @@ returns-then-size-words-clause-answer g c = (small g c).is_answer
 pub returns-then-size-words-clause-heap : goal.returns-then-size-words-clause-heap
 returns-then-size-words-clause-heap g c = (small g c).is_heap
 
-pub returns-then-size-words-clause-stale : goal.returns-then-size-words-clause-stale
-returns-then-size-words-clause-stale g c = (small g c).stale
+pub returns-then-size-words-clause-cases : goal.returns-then-size-words-clause-cases
+returns-then-size-words-clause-cases g c = (small g c).cases
 
-pub returns-then-size-words-clause-no_room : goal.returns-then-size-words-clause-no_room
-returns-then-size-words-clause-no_room g c = (small g c).no_room
-
-pub returns-then-size-words-clause-ok : goal.returns-then-size-words-clause-ok
-returns-then-size-words-clause-ok g c = (small g c).ok
-
-pub returns-then-size-words-clause-lists : goal.returns-then-size-words-clause-lists
-returns-then-size-words-clause-lists g c = let reads = c.free_at.ensures.reads in rw (reads.stored, reads.blocks) (stored_lists g.row.SLI c.self.inside c.self.invariant)
+pub returns-then-size-words-clause-keeps : goal.returns-then-size-words-clause-keeps
+returns-then-size-words-clause-keeps g c = keeps_read g.row.SLI c.self.inside c.self.view_is c.self.invariant _ c.free_at.ensures.reads
 
 -- ---- the tick is at its last value
 
@@ -93,17 +81,11 @@ returns-then-self-clause-answer g c = (worn g c).is_answer
 pub returns-then-self-clause-heap : goal.returns-then-self-clause-heap
 returns-then-self-clause-heap g c = (worn g c).is_heap
 
-pub returns-then-self-clause-stale : goal.returns-then-self-clause-stale
-returns-then-self-clause-stale g c = (worn g c).stale
+pub returns-then-self-clause-cases : goal.returns-then-self-clause-cases
+returns-then-self-clause-cases g c = (worn g c).cases
 
-pub returns-then-self-clause-no_room : goal.returns-then-self-clause-no_room
-returns-then-self-clause-no_room g c = (worn g c).no_room
-
-pub returns-then-self-clause-ok : goal.returns-then-self-clause-ok
-returns-then-self-clause-ok g c = (worn g c).ok
-
-pub returns-then-self-clause-lists : goal.returns-then-self-clause-lists
-returns-then-self-clause-lists g c = let reads = c.free_at.ensures.reads in rw (reads.stored, reads.blocks) (stored_lists g.row.SLI c.self.inside c.self.invariant)
+pub returns-then-self-clause-keeps : goal.returns-then-self-clause-keeps
+returns-then-self-clause-keeps g c = keeps_read g.row.SLI c.self.inside c.self.view_is c.self.invariant _ c.free_at.ensures.reads
 
 -- ---- it is taken out of its list, and given
 
@@ -182,23 +164,14 @@ returns-clause-answer g c = (given g c).is_answer
 pub returns-clause-heap : goal.returns-clause-heap
 returns-clause-heap g c = (given g c).is_heap
 
-pub returns-clause-stale : goal.returns-clause-stale
-returns-clause-stale g c = (given g c).stale
+pub returns-clause-cases : goal.returns-clause-cases
+returns-clause-cases g c = (given g c).cases
 
-pub returns-clause-no_room : goal.returns-clause-no_room
-returns-clause-no_room g c = (given g c).no_room
-
-pub returns-clause-ok : goal.returns-clause-ok
-returns-clause-ok g c = (given g c).ok
-
-pub returns-clause-lawful : goal.returns-clause-lawful
-returns-clause-lawful g c = (given g c).lawful
-
-pub returns-clause-shows : goal.returns-clause-shows
-returns-clause-shows g c = (invariant_of-self-2 g c).shows
-
-pub returns-clause-lists : goal.returns-clause-lists
-returns-clause-lists g c = stored_lists g.row.SLI _ (invariant_of-self-2 g c)
+pub returns-clause-keeps : goal.returns-clause-keeps
+returns-clause-keeps g c =
+    let l = c.in-Some.ensures.answer in
+    let edits = c.give.ensures.edits l.0 (rw (c.remove.ensures.blocks ∙ c.free_at.ensures.reads.blocks) l.1.stands) in
+    keeps_stored g.row.SLI c.self.inside c.self.view_is c.self.invariant _ (invariant_of-self-2 g c) (omega (arith, edits.rise, c.remove.ensures.edits.rise, c.free_at.ensures.reads.rise))
 
 -- 2 to find the block, 6 to take it out, 9 for the headers, 7 to list the rest, and three words at most that are made zero
 
@@ -213,41 +186,13 @@ returns-clause-touches g c =
     let now = carved_stands old c.give.new.region.blocks c.args.at l.0 (size_of (block_at old l.0)) c.args.words c.self.inside.tick 0 l.1.stands blocks in
     omega (arith, edits.touches, c.remove.ensures.edits.touches, reads.touches, now.1, c.requires, ap (λ (s : Shown). s.touches) c.self.view_is)
 
-pub returns-clause-rise : goal.returns-clause-rise
-returns-clause-rise g c =
-    let reads = c.free_at.ensures.reads in
-    let l = c.in-Some.ensures.answer in
-    let edits = c.give.ensures.edits l.0 (rw (c.remove.ensures.blocks ∙ reads.blocks) l.1.stands) in
-    omega (arith, edits.rise, c.remove.ensures.edits.rise, reads.rise, ap (λ (s : Shown). s.touches) c.self.view_is)
-
 -- ---- the place is one of the region
 
-pub returns-then-size-words-clause-outside : goal.returns-then-size-words-clause-outside
-returns-then-size-words-clause-outside g c past =
-    let inside = free_inside (state_of g.row.SLI c.self.inside) c.self.invariant.lawful (c.in-Some.ensures.answer.0, c.in-Some.ensures.answer.1) in
-    absurd (omega (arith, inside, past, ap (λ (s : Shown). s.heap.words) c.self.view_is))
+pub returns-then-size-words-clause-wild : goal.returns-then-size-words-clause-wild
+returns-then-size-words-clause-wild g c = free_not_wild (ap (λ (s : Shown). s.heap) c.self.view_is) c.self.invariant.lawful (c.in-Some.ensures.answer.0, c.in-Some.ensures.answer.1) _ _
 
-pub returns-then-self-clause-outside : goal.returns-then-self-clause-outside
-returns-then-self-clause-outside g c past =
-    let inside = free_inside (state_of g.row.SLI c.self.inside) c.self.invariant.lawful (c.in-Some.ensures.answer.0, c.in-Some.ensures.answer.1) in
-    absurd (omega (arith, inside, past, ap (λ (s : Shown). s.heap.words) c.self.view_is))
+pub returns-then-self-clause-wild : goal.returns-then-self-clause-wild
+returns-then-self-clause-wild g c = free_not_wild (ap (λ (s : Shown). s.heap) c.self.view_is) c.self.invariant.lawful (c.in-Some.ensures.answer.0, c.in-Some.ensures.answer.1) _ _
 
-pub returns-clause-outside : goal.returns-clause-outside
-returns-clause-outside g c past =
-    let inside = free_inside (state_of g.row.SLI c.self.inside) c.self.invariant.lawful (c.in-Some.ensures.answer.0, c.in-Some.ensures.answer.1) in
-    absurd (omega (arith, inside, past, ap (λ (s : Shown). s.heap.words) c.self.view_is))
-
-pub returns-then-size-words-clause-nowhere : goal.returns-then-size-words-clause-nowhere
-returns-then-size-words-clause-nowhere g c none =
-    let l = c.in-Some.ensures.answer in
-    absurd (none (subst (λ (s : Shown). IsPlace s.heap.blocks c.args.at) c.self.view_is (l.0, l.1.stands)))
-
-pub returns-then-self-clause-nowhere : goal.returns-then-self-clause-nowhere
-returns-then-self-clause-nowhere g c none =
-    let l = c.in-Some.ensures.answer in
-    absurd (none (subst (λ (s : Shown). IsPlace s.heap.blocks c.args.at) c.self.view_is (l.0, l.1.stands)))
-
-pub returns-clause-nowhere : goal.returns-clause-nowhere
-returns-clause-nowhere g c none =
-    let l = c.in-Some.ensures.answer in
-    absurd (none (subst (λ (s : Shown). IsPlace s.heap.blocks c.args.at) c.self.view_is (l.0, l.1.stands)))
+pub returns-clause-wild : goal.returns-clause-wild
+returns-clause-wild g c = free_not_wild (ap (λ (s : Shown). s.heap) c.self.view_is) c.self.invariant.lawful (c.in-Some.ensures.answer.0, c.in-Some.ensures.answer.1) _ _

@@ -6,11 +6,12 @@ use Rattle.tlsf_heap.specs.Calls.{Outcome}
 use Rattle.tlsf_heap.specs.FreePlaces.{free_places}
 use Rattle.tlsf_heap.specs.Regions.{list_in}
 use Rattle.tlsf_heap.specs.Stored.{state_of}
-use Rattle.tlsf_heap.proofs.Listing.{stored_lists, same_lists}
-use Rattle.tlsf_heap.proofs.Lawfulness.{with_region}
-use Rattle.tlsf_heap.proofs.Naming.{not_forged}
-use Rattle.tlsf_heap.proofs.Writing.{range_named, range_stands, unwritten, Writes, writes}
-use Rattle.tlsf_heap.proofs.Standing.{behind_one}
+use Rattle.tlsf_heap.proofs.lemmas.lists.FreeLists.{same_lists}
+use Rattle.tlsf_heap.proofs.lemmas.blocks.Lawful.{with_region}
+use Rattle.tlsf_heap.proofs.lemmas.calls.Named.{not_forged}
+use Rattle.tlsf_heap.proofs.lemmas.calls.Write.{range_named, range_stands, unwritten, Writes, writes}
+use Rattle.tlsf_heap.proofs.lemmas.blocks.Stands.{behind_one}
+use Rattle.tlsf_heap.proofs.lemmas.calls.Kept.{keeps_both, keeps_stored}
 use Rattle.tlsf_heap.proofs.heap.Heap.write.Given.{Over}
 use Rattle.tlsf_heap.proofs.heap.Heap.write.Goals as goal
 
@@ -21,31 +22,31 @@ returns-in_err-check_range-clause-answer g c =
 
 pub returns-in_err-check_range-clause-heap : goal.returns-in_err-check_range-clause-heap
 returns-in_err-check_range-clause-heap g c =
-    c.in_err-check_range.ensures.heap
+    c.in_err-check_range.ensures.same.heap
     ∙ sym (ap (λ (o : Outcome (Unit {0})). o.heap) (unwritten c.args.self.now.heap c.args.name c.args.at c.args.bytes.now _ c.in_err-check_range.ensures.answer))
 
 pub write-requires : goal.write-requires
 write-requires g c = (
   omega arith,
-  range_stands (state_of g.row.SLI c.self.inside) c.args.self.now.heap c.args.name c.args.at (length c.args.bytes.now) (ap (λ (s : Shown). s.heap) c.self.view_is ∙ c.in_ok-check_range.ensures.heap)
+  range_stands (state_of g.row.SLI c.self.inside) c.args.self.now.heap c.args.name c.args.at (length c.args.bytes.now) (ap (λ (s : Shown). s.heap) c.self.view_is ∙ c.in_ok-check_range.ensures.same.heap)
       c.in_ok-check_range.ensures.answer c.in_ok-check_range.ensures.place,
 )
 
 -- the block stands there
 stood : (g : Over) (c : goal.After-write g) → (i : ℕ) × StandsAt c.self.inside.region.blocks c.args.name.at i
 stood g c =
-    let stands = range_stands (state_of g.row.SLI c.self.inside) c.args.self.now.heap c.args.name c.args.at (length c.args.bytes.now) (ap (λ (s : Shown). s.heap) c.self.view_is ∙ c.in_ok-check_range.ensures.heap)
+    let stands = range_stands (state_of g.row.SLI c.self.inside) c.args.self.now.heap c.args.name c.args.at (length c.args.bytes.now) (ap (λ (s : Shown). s.heap) c.self.view_is ∙ c.in_ok-check_range.ensures.same.heap)
     c.in_ok-check_range.ensures.answer c.in_ok-check_range.ensures.place in
     (stands.0, stands.1)
 
 wrote : (g : Over) (c : goal.After-write g) → Writes g.row.SLI c.args.self.now.heap c.args.name c.args.at c.args.bytes.now (with_region (state_of g.row.SLI c.self.inside) c.self.inside.tick c.write.new.self)
 wrote g c =
-    writes g.row.SLI (state_of g.row.SLI c.self.inside) c.args.self.now.heap c.args.name c.args.at c.args.bytes.now (ap (λ (s : Shown). s.heap) c.self.view_is ∙ c.in_ok-check_range.ensures.heap)
+    writes g.row.SLI (state_of g.row.SLI c.self.inside) c.args.self.now.heap c.args.name c.args.at c.args.bytes.now (ap (λ (s : Shown). s.heap) c.self.view_is ∙ c.in_ok-check_range.ensures.same.heap)
     c.in_ok-check_range.ensures.answer c.in_ok-check_range.ensures.place c.write.new.self c.self.invariant.lawful (c.write.ensures (stood g c).0 (stood g c).1).edits.words (λ i stands. (c.write.ensures i stands).blocks ∙ sym (behind_one i _ c.self.inside.region.blocks))
 
 pub invariant_of-self : goal.invariant_of-self
 invariant_of-self g c =
-    let same : state_of g.row.SLI c.self.inside ≡ c.args.self.now.heap = ap (λ (s : Shown). s.heap) c.self.view_is ∙ c.in_ok-check_range.ensures.heap in
+    let same : state_of g.row.SLI c.self.inside ≡ c.args.self.now.heap = ap (λ (s : Shown). s.heap) c.self.view_is ∙ c.in_ok-check_range.ensures.same.heap in
     let places : free_places g.row.SLI 0 c.write.new.self.blocks ≡ free_places g.row.SLI 0 c.self.inside.region.blocks = (wrote g c).places ∙ sym (ap (λ (h : HeapState). free_places g.row.SLI 0 h.blocks) same) in
     let change = c.write.ensures (stood g c).0 (stood g c).1 in
     record {
@@ -63,26 +64,16 @@ returns-clause-answer g c = (wrote g c).is_answer
 pub returns-clause-heap : goal.returns-clause-heap
 returns-clause-heap g c = (wrote g c).is_heap
 
-pub returns-clause-lawful : goal.returns-clause-lawful
-returns-clause-lawful g c = (wrote g c).lawful
-
-pub returns-clause-shows : goal.returns-clause-shows
-returns-clause-shows g c = (c.write.ensures (stood g c).0 (stood g c).1).edits.shows
-
 pub returns-clause-touches : goal.returns-clause-touches
 returns-clause-touches g c =
     omega (arith, (c.write.ensures (stood g c).0 (stood g c).1).edits.touches, c.in_ok-check_range.ensures.touches, ap (λ (s : Shown). s.touches) c.self.view_is)
 
-pub returns-clause-touches_rise : goal.returns-clause-touches_rise
-returns-clause-touches_rise g c =
-    omega (arith, (c.write.ensures (stood g c).0 (stood g c).1).edits.rise, c.in_ok-check_range.ensures.rise, ap (λ (s : Shown). s.touches) c.self.view_is)
-
 -- ---- the name was not forged
 
 pub returns-clause-forged : goal.returns-clause-forged
-returns-clause-forged g c = not_forged c.args.self.now.heap c.args.name c.in_ok-check_range.ensures.lawful (range_named c.args.self.now.heap c.args.name c.args.at (length c.args.bytes.now) c.in_ok-check_range.ensures.answer c.in_ok-check_range.ensures.place) _ _
+returns-clause-forged g c = not_forged c.args.self.now.heap c.args.name c.in_ok-check_range.ensures.keeps.was_lawful (range_named c.args.self.now.heap c.args.name c.args.at (length c.args.bytes.now) c.in_ok-check_range.ensures.answer c.in_ok-check_range.ensures.place) _ _
 
--- ---- the lists
+-- ---- what is kept
 
-pub returns-clause-lists : goal.returns-clause-lists
-returns-clause-lists g c = stored_lists g.row.SLI _ (invariant_of-self g c)
+pub returns-clause-keeps : goal.returns-clause-keeps
+returns-clause-keeps g c = keeps_both c.in_ok-check_range.ensures.keeps (keeps_stored g.row.SLI c.self.inside c.self.view_is c.self.invariant _ (invariant_of-self g c) (c.write.ensures (stood g c).0 (stood g c).1).edits.rise)

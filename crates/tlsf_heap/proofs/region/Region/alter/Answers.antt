@@ -4,13 +4,13 @@ use Rattle.tlsf_heap.specs.Blocks.{bytes_of}
 use Rattle.tlsf_heap.specs.Calls.{overwritten, with_bytes}
 use Rattle.tlsf_heap.specs.GoodFit.{block_at}
 use Rattle.tlsf_words.specs.Bytes.{bytes_in, payload_byte}
-use Rattle.tlsf_heap.proofs.Reading.{shows_state}
-use Rattle.tlsf_heap.proofs.Payloads.{payload_inside}
-use Rattle.tlsf_heap.proofs.Alterings.{altered}
-use Rattle.tlsf_heap.proofs.Linking.{linked_lists, Relists, holds_state}
-use Rattle.tlsf_heap.proofs.Relisting.{relisted_bytes}
-use Rattle.tlsf_heap.proofs.Standing.{behind_one}
-use Rattle.tlsf_heap.proofs.Edited.{Leaves}
+use Rattle.tlsf_heap.proofs.lemmas.words.Says.{shows_state}
+use Rattle.tlsf_heap.proofs.lemmas.words.Bytes.{payload_inside}
+use Rattle.tlsf_heap.proofs.lemmas.calls.Alter.{altered}
+use Rattle.tlsf_heap.proofs.lemmas.words.Links.{linked_lists, Relists, holds_state}
+use Rattle.tlsf_heap.proofs.lemmas.words.KeptLinks.{relisted_bytes}
+use Rattle.tlsf_heap.proofs.lemmas.blocks.Stands.{behind_one}
+use Rattle.tlsf_heap.proofs.lemmas.words.Edit.{Leaves}
 use Rattle.tlsf_heap.specs.Regions.{RegionState, image_of}
 use Rattle.tlsf_heap.proofs.region.Region.alter.Given.{Over}
 use Rattle.tlsf_heap.proofs.region.Region.alter.Goals as goal

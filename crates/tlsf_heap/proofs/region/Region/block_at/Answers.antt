@@ -1,5 +1,5 @@
 use Rattle.std.proofs.Common.{sym, ◌∙◌, arith}
-use Rattle.tlsf_heap.proofs.Placing.{placed_found, placed_none, content-free, content-live}
+use Rattle.tlsf_heap.proofs.lemmas.blocks.ByPlace.{placed_found, placed_none, content-free, content-live}
 use Rattle.tlsf_heap.proofs.region.Region.block_at.Goals as goal
 
 pub returns-then-not-begins-clause-answer : goal.returns-then-not-begins-clause-answer

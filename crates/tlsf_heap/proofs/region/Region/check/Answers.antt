@@ -1,4 +1,4 @@
-use Rattle.tlsf_heap.proofs.Reading.{holds_read}
+use Rattle.tlsf_heap.proofs.lemmas.words.Says.{holds_read}
 use Rattle.tlsf_heap.proofs.region.Region.check.Goals as goal
 
 pub invariant_of-self : goal.invariant_of-self

@@ -1,14 +1,17 @@
-use Rattle.std.proofs.Common.{◌≡◌, ◌≤◌, ◌+◌, ℕ, List, ◌∷◌, [], ◌++◌, length, take, drop, arith, ap, ◌∙◌}
+use Rattle.std.proofs.Common.{◌≡◌, ◌≤◌, ◌+◌, ℕ, List, ◌∷◌, [], ◌++◌, length, take, drop, inl, inr, sym, arith, ap, ◌∙◌}
 use Rattle.tlsf_words.specs.Bytes.{bytes_in, payload_byte}
-use Rattle.tlsf_heap.specs.Blocks.{bytes_of, StandsAt}
+use Rattle.std.proofs.lemmas.Bool.{cases_order}
+use Rattle.tlsf_heap.specs.Blocks.{bytes_of, words_in, StandsAt}
 use Rattle.tlsf_heap.specs.Calls.{overwritten, with_bytes}
 use Rattle.tlsf_heap.specs.GoodFit.{block_at}
-use Rattle.tlsf_heap.proofs.Reading.{shows_state}
-use Rattle.tlsf_heap.proofs.Payloads.{length-bytes_in, payload_inside, rewritten}
-use Rattle.tlsf_heap.proofs.Linking.{linked_lists, Relists, holds_state}
-use Rattle.tlsf_heap.proofs.Relisting.{relisted_bytes}
-use Rattle.tlsf_heap.proofs.Standing.{behind_one}
-use Rattle.tlsf_heap.proofs.Edited.{Leaves}
+use Rattle.tlsf_heap.proofs.lemmas.words.Says.{shows_state}
+use Rattle.tlsf_heap.proofs.lemmas.words.Bytes.{held_within, length-bytes_in, payload_inside, rewritten}
+use Rattle.tlsf_heap.proofs.lemmas.words.Image.{room_here}
+use Rattle.tlsf_heap.proofs.lemmas.blocks.Order.{ends_before}
+use Rattle.tlsf_heap.proofs.lemmas.words.Links.{linked_lists, Relists, holds_state}
+use Rattle.tlsf_heap.proofs.lemmas.words.KeptLinks.{relisted_bytes}
+use Rattle.tlsf_heap.proofs.lemmas.blocks.Stands.{behind_one}
+use Rattle.tlsf_heap.proofs.lemmas.words.Edit.{Leaves}
 use Rattle.tlsf_heap.specs.Regions.{RegionState, image_of}
 use Rattle.tlsf_heap.proofs.region.Region.copy.Given.{Over}
 use Rattle.tlsf_heap.proofs.region.Region.copy.Goals as goal
@@ -18,6 +21,21 @@ copy_payload-requires-clause-from g c = omega (arith, payload_inside (shows_stat
 
 pub copy_payload-requires-clause-to : goal.copy_payload-requires-clause-to
 copy_payload-requires-clause-to g c = omega (arith, payload_inside (shows_state g.row.SLI c.self.invariant c.self.view_is) c.requires.to.1, c.requires.to.2)
+
+-- two blocks are one, or one ends before the other begins
+pub copy_payload-requires-clause-apart : goal.copy_payload-requires-clause-apart
+copy_payload-requires-clause-apart g c =
+    let shows = shows_state g.row.SLI c.self.invariant c.self.view_is in
+    let from = c.requires.from in
+    let to = c.requires.to in
+    let bs = c.args.self.now.blocks in
+    let first = held_within (block_at bs from.0) (room_here _ bs shows c.args.from from.0 from.1) in
+    let second = held_within (block_at bs to.0) (room_here _ bs shows c.args.to to.0 to.1) in
+    elim (cases_order from.0 to.0) [
+      | inl e ↦ inl (sym from.1.place ∙ ap (λ (k : ℕ). words_in (take k bs)) e ∙ to.1.place)
+      | inr (inl below) ↦ inr (inl (omega (arith, ends_before bs from.0 to.0 below to.1.within, from.1.place, to.1.place, first, from.2)))
+      | inr (inr above) ↦ inr (inr (omega (arith, ends_before bs to.0 from.0 above from.1.within, from.1.place, to.1.place, second, to.2)))
+    ]
 
 -- the bytes that are copied
 abbrev source : (g : Over) → goal.After-copy_payload g → List ℕ

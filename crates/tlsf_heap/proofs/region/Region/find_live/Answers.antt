@@ -1,6 +1,6 @@
 use Rattle.std.proofs.Common.{ℕ, sym, ap, ◌∙◌, eq-eqb}
 use Rattle.std.specs.Prelude.{◌==◌}
-use Rattle.tlsf_heap.proofs.Reading.{none_named, named_here, has_serial-live}
+use Rattle.tlsf_heap.proofs.lemmas.words.Says.{none_named, named_here, has_serial-live}
 use Rattle.tlsf_heap.proofs.region.Region.find_live.Goals as goal
 
 pub returns-then-not-begins-clause-answer : goal.returns-then-not-begins-clause-answer

@@ -4,9 +4,9 @@ use Rattle.tlsf_heap.specs.Blocks.{StandsAt}
 use Rattle.tlsf_heap.specs.Calls.{coalesced}
 use Rattle.tlsf_heap.specs.GoodFit.{site_at}
 use Rattle.tlsf_heap.specs.Regions.{RegionState, AreNeighbours, IsTagOf, image_of}
-use Rattle.tlsf_heap.proofs.Freeing.{merged, alone_are, merges_alone}
-use Rattle.tlsf_heap.proofs.Linking.{linked_lists, Reshapes, holds_state}
-use Rattle.tlsf_heap.proofs.Reading.{shows_state, at_index, in_region}
+use Rattle.tlsf_heap.proofs.lemmas.words.Free.{merged, alone_are, merges_alone}
+use Rattle.tlsf_heap.proofs.lemmas.words.Links.{linked_lists, Reshapes, holds_state}
+use Rattle.tlsf_heap.proofs.lemmas.words.Says.{shows_state, at_index, in_region}
 use Rattle.tlsf_heap.proofs.region.Region.free.Given.{Over}
 use Rattle.tlsf_heap.proofs.region.Region.free.Goals as goal
 

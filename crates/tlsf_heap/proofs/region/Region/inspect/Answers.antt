@@ -1,7 +1,7 @@
 use Rattle.std.proofs.Common.{◌≡◌, ℕ, ◌+◌, ◌/◌, List, take, drop, subst, arith, ap, sym}
 use Rattle.std.specs.Fn.{FnOnceReturnsAt, FnOnceTakesAt}
-use Rattle.tlsf_heap.proofs.Reading.{shows_state}
-use Rattle.tlsf_heap.proofs.Payloads.{payload_inside}
+use Rattle.tlsf_heap.proofs.lemmas.words.Says.{shows_state}
+use Rattle.tlsf_heap.proofs.lemmas.words.Bytes.{payload_inside}
 use Rattle.tlsf_heap.specs.Regions.{RegionState}
 use Rattle.tlsf_heap.proofs.region.Region.inspect.Goals as goal
 

@@ -1,6 +1,6 @@
 use Rattle.std.proofs.Common.{◌∙◌, arith}
-use Rattle.tlsf_heap.proofs.Reading.{shows_state, holds_read, in_region}
-use Rattle.tlsf_heap.proofs.Payloads.{length_read}
+use Rattle.tlsf_heap.proofs.lemmas.words.Says.{shows_state, holds_read, in_region}
+use Rattle.tlsf_heap.proofs.lemmas.words.Bytes.{length_read}
 use Rattle.tlsf_heap.proofs.region.Region.length.Goals as goal
 
 pub length-requires : goal.length-requires

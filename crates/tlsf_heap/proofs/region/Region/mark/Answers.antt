@@ -1,5 +1,5 @@
 use Rattle.std.proofs.Common.{◌∙◌, arith}
-use Rattle.tlsf_heap.proofs.Reading.{shows_state, holds_read, in_region, says_here}
+use Rattle.tlsf_heap.proofs.lemmas.words.Says.{shows_state, holds_read, in_region, says_here}
 use Rattle.tlsf_heap.proofs.region.Region.mark.Goals as goal
 
 pub mark-requires : goal.mark-requires

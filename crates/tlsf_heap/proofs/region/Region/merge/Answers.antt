@@ -3,10 +3,10 @@ use Rattle.std.proofs.Common.{ℕ, length, sym, ap, ◌∙◌, subst, arith}
 use Rattle.tlsf_heap.specs.Calls.{coalesced}
 use Rattle.tlsf_heap.specs.Blocks.{StandsAt}
 use Rattle.tlsf_heap.specs.GoodFit.{site_at}
-use Rattle.tlsf_heap.proofs.Reading.{shows_state, at_index}
-use Rattle.tlsf_heap.proofs.Freeing.{merged}
-use Rattle.tlsf_heap.proofs.Merging.{merge_within, merge_last, merge_before, merge_after}
-use Rattle.tlsf_heap.proofs.Linking.{linked_lists, Reshapes, holds_state}
+use Rattle.tlsf_heap.proofs.lemmas.words.Says.{shows_state, at_index}
+use Rattle.tlsf_heap.proofs.lemmas.words.Free.{merged}
+use Rattle.tlsf_heap.proofs.lemmas.words.Merge.{merge_within, merge_last, merge_before, merge_after}
+use Rattle.tlsf_heap.proofs.lemmas.words.Links.{linked_lists, Reshapes, holds_state}
 use Rattle.tlsf_heap.specs.Regions.{RegionState, AreNeighbours, image_of}
 use Rattle.tlsf_heap.proofs.region.Region.merge.Given.{Over}
 use Rattle.tlsf_heap.proofs.region.Region.merge.Goals as goal

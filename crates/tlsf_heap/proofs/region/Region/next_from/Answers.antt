@@ -4,8 +4,8 @@ use Rattle.tlsf_class.specs.Classes.{classes}
 use Rattle.tlsf_class.specs.Members.{next_member}
 use Rattle.tlsf_words.specs.Lists.{list_of}
 use Rattle.tlsf_heap.specs.Regions.{list_in}
-use Rattle.tlsf_heap.proofs.Reading.{lists_read}
-use Rattle.tlsf_heap.proofs.Linking.{holds_state}
+use Rattle.tlsf_heap.proofs.lemmas.words.Says.{lists_read}
+use Rattle.tlsf_heap.proofs.lemmas.words.Links.{holds_state}
 use Rattle.tlsf_heap.proofs.region.Region.next_from.Goals as goal
 
 -- the classes whose bits are set are those whose lists aren't empty

@@ -8,8 +8,8 @@ use Rattle.tlsf_words.specs.Fields.{tag_word}
 use Rattle.tlsf_heap.specs.Blocks.{Free}
 use Rattle.tlsf_words.specs.Lists.{nowhere}
 use Rattle.tlsf_heap.specs.Regions.{image_of}
-use Rattle.tlsf_heap.proofs.Showing.{word_at, blocks_of-shown}
-use Rattle.tlsf_heap.proofs.Linking.{list_in-lists_of}
+use Rattle.tlsf_heap.proofs.lemmas.words.Image.{word_at, blocks_of-shown}
+use Rattle.tlsf_heap.proofs.lemmas.words.Links.{list_in-lists_of}
 use Rattle.tlsf_heap.proofs.region.Region.open.Given.{Over}
 use Rattle.tlsf_heap.proofs.region.Region.open.Goals as goal
 

@@ -2,7 +2,7 @@
 use Rattle.std.proofs.Common.{ℕ, List, sym, ap, ◌∙◌, arith}
 use Rattle.std.specs.Prelude.{slice_get}
 use Rattle.tlsf_words.specs.Lists.{without_place}
-use Rattle.tlsf_heap.proofs.Linking.{linked_lists, Relinks, holds_state, list_in-lists_of, relinked, free_removed}
+use Rattle.tlsf_heap.proofs.lemmas.words.Links.{linked_lists, Relinks, holds_state, list_in-lists_of, relinked, free_removed}
 use Rattle.tlsf_heap.specs.Regions.{RegionState, image_of}
 use Rattle.tlsf_heap.proofs.region.Region.pop_first.Given.{Over}
 use Rattle.tlsf_heap.proofs.region.Region.pop_first.Goals as goal

@@ -1,8 +1,8 @@
 -- The free lists with one more place: only links have changed, and the place is that of a free block.
 use Rattle.std.proofs.Common.{ℕ, List, ◌∷◌, sym, ap, ◌∙◌, subst, arith}
 use Rattle.std.specs.Prelude.{Contains}
-use Rattle.tlsf_heap.proofs.Reading.{shows_state, in_region}
-use Rattle.tlsf_heap.proofs.Linking.{linked_lists, Relinks, holds_state, list_in-lists_of, relinked, free_pushed}
+use Rattle.tlsf_heap.proofs.lemmas.words.Says.{shows_state, in_region}
+use Rattle.tlsf_heap.proofs.lemmas.words.Links.{linked_lists, Relinks, holds_state, list_in-lists_of, relinked, free_pushed}
 use Rattle.tlsf_heap.specs.Regions.{RegionState, image_of}
 use Rattle.tlsf_heap.proofs.region.Region.push.Given.{Over}
 use Rattle.tlsf_heap.proofs.region.Region.push.Goals as goal

@@ -1,6 +1,6 @@
 use Rattle.std.proofs.Common.{◌∙◌, arith}
-use Rattle.tlsf_heap.proofs.Reading.{shows_state, holds_read}
-use Rattle.tlsf_heap.proofs.Payloads.{payload_inside, bytes_read}
+use Rattle.tlsf_heap.proofs.lemmas.words.Says.{shows_state, holds_read}
+use Rattle.tlsf_heap.proofs.lemmas.words.Bytes.{payload_inside, bytes_read}
 use Rattle.tlsf_heap.proofs.region.Region.read.Goals as goal
 
 pub copy_out-requires : goal.copy_out-requires

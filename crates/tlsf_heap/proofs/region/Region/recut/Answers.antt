@@ -3,9 +3,9 @@ use Rattle.tlsf_heap.specs.Blocks.{StandsAt, is_free, bytes_of, words_for}
 use Rattle.tlsf_heap.specs.Calls.{recut}
 use Rattle.tlsf_heap.specs.GoodFit.{block_at}
 use Rattle.tlsf_heap.specs.Regions.{RegionState, image_of}
-use Rattle.tlsf_heap.proofs.Linking.{linked_lists, Reshapes, holds_state}
-use Rattle.tlsf_heap.proofs.Reading.{shows_state, at_index}
-use Rattle.tlsf_heap.proofs.Recutting.{whole_is, whole_ends, whole_last, whole_least, left_wide, left_recut}
+use Rattle.tlsf_heap.proofs.lemmas.words.Links.{linked_lists, Reshapes, holds_state}
+use Rattle.tlsf_heap.proofs.lemmas.words.Says.{shows_state, at_index}
+use Rattle.tlsf_heap.proofs.lemmas.words.Recut.{whole_is, whole_ends, whole_last, whole_least, left_wide, left_recut}
 use Rattle.tlsf_heap.proofs.region.Region.recut.Goals.{After-recut_header}
 use Rattle.tlsf_heap.proofs.region.Region.recut.Given.{Over}
 use Rattle.tlsf_heap.proofs.region.Region.recut.Goals as goal

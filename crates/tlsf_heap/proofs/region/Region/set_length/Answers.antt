@@ -3,10 +3,10 @@ use Rattle.std.proofs.lemmas.List.{length-set, get_or-set_other, get_or-set_same
 use Rattle.tlsf_words.specs.Fields.{length_word}
 use Rattle.tlsf_heap.specs.Headers.{OnlyFrom}
 use Rattle.tlsf_heap.specs.Regions.{RegionState, image_of}
-use Rattle.tlsf_heap.proofs.Lengths.{SetsLength, length_leaves, length_relists}
-use Rattle.tlsf_heap.proofs.Linking.{linked_lists, Relists, holds_state}
-use Rattle.tlsf_heap.proofs.Reading.{shows_state, says_here}
-use Rattle.tlsf_heap.proofs.Standing.{behind_one}
+use Rattle.tlsf_heap.proofs.lemmas.words.NewLength.{SetsLength, length_leaves, length_relists}
+use Rattle.tlsf_heap.proofs.lemmas.words.Links.{linked_lists, Relists, holds_state}
+use Rattle.tlsf_heap.proofs.lemmas.words.Says.{shows_state, says_here}
+use Rattle.tlsf_heap.proofs.lemmas.blocks.Stands.{behind_one}
 use Rattle.tlsf_heap.proofs.region.Region.set_length.Given.{Over}
 use Rattle.tlsf_heap.proofs.region.Region.set_length.Goals as goal
 

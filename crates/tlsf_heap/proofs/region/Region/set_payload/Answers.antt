@@ -1,11 +1,11 @@
 use Rattle.std.proofs.Common.{ap, ◌∙◌, arith}
 use Rattle.tlsf_heap.specs.Regions.{RegionState, image_of}
-use Rattle.tlsf_heap.proofs.Linking.{linked_lists, Relists, holds_state}
-use Rattle.tlsf_heap.proofs.Payloads.{held_within, length_read}
-use Rattle.tlsf_heap.proofs.Reading.{shows_state, says_here}
-use Rattle.tlsf_heap.proofs.Resized.{Refills, refilled, relisted_refill}
-use Rattle.tlsf_heap.proofs.Showing.{room_here}
-use Rattle.tlsf_heap.proofs.Standing.{behind_one}
+use Rattle.tlsf_heap.proofs.lemmas.words.Links.{linked_lists, Relists, holds_state}
+use Rattle.tlsf_heap.proofs.lemmas.words.Bytes.{held_within, length_read}
+use Rattle.tlsf_heap.proofs.lemmas.words.Says.{shows_state, says_here}
+use Rattle.tlsf_heap.proofs.lemmas.words.NewPayload.{Refills, refilled, relisted_refill}
+use Rattle.tlsf_heap.proofs.lemmas.words.Image.{room_here}
+use Rattle.tlsf_heap.proofs.lemmas.blocks.Stands.{behind_one}
 use Rattle.tlsf_heap.proofs.region.Region.set_payload.Given.{Over}
 use Rattle.tlsf_heap.proofs.region.Region.set_payload.Goals as goal
 

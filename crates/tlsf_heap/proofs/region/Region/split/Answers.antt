@@ -3,9 +3,9 @@ use Rattle.std.proofs.Common.{ℕ, ◌+◌, ◌-◌, eqb, [], ◌∷◌, ◌++�
 use Rattle.tlsf_heap.specs.Blocks.{Live, Free, size_of, StandsAt}
 use Rattle.tlsf_heap.specs.GoodFit.{block_at, site_at}
 use Rattle.tlsf_heap.specs.Regions.{RegionState, IsTagOf, image_of}
-use Rattle.tlsf_heap.proofs.Reading.{shows_state, says_here, at_index}
-use Rattle.tlsf_heap.proofs.Linking.{linked_lists, Reshapes, holds_state}
-use Rattle.tlsf_heap.proofs.Splitting.{stored_bytes, begins_zero, tag_here, left_split}
+use Rattle.tlsf_heap.proofs.lemmas.words.Says.{shows_state, says_here, at_index}
+use Rattle.tlsf_heap.proofs.lemmas.words.Links.{linked_lists, Reshapes, holds_state}
+use Rattle.tlsf_heap.proofs.lemmas.words.Split.{stored_bytes, begins_zero, tag_here, left_split}
 use Rattle.tlsf_heap.proofs.region.Region.split.Given.{Over}
 use Rattle.tlsf_heap.proofs.region.Region.split.Goals as goal
 

@@ -1,6 +1,6 @@
 use Rattle.std.proofs.Common.{refl, ap, ◌∙◌, arith}
 use Rattle.tlsf_heap.specs.Regions.{RegionState}
-use Rattle.tlsf_heap.proofs.Reading.{shows_state, holds_read, in_region, says_here}
+use Rattle.tlsf_heap.proofs.lemmas.words.Says.{shows_state, holds_read, in_region, says_here}
 use Rattle.tlsf_heap.proofs.region.Region.tag.Goals as goal
 
 pub tag-requires : goal.tag-requires

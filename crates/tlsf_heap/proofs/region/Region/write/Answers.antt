@@ -2,11 +2,11 @@ use Rattle.std.proofs.Common.{length, arith, ap, ◌∙◌}
 use Rattle.tlsf_heap.specs.Blocks.{bytes_of}
 use Rattle.tlsf_heap.specs.Calls.{overwritten}
 use Rattle.tlsf_heap.specs.GoodFit.{block_at}
-use Rattle.tlsf_heap.proofs.Reading.{shows_state}
-use Rattle.tlsf_heap.proofs.Payloads.{payload_inside, rewritten}
-use Rattle.tlsf_heap.proofs.Linking.{linked_lists, Relists, holds_state}
-use Rattle.tlsf_heap.proofs.Relisting.{relisted_bytes}
-use Rattle.tlsf_heap.proofs.Standing.{behind_one}
+use Rattle.tlsf_heap.proofs.lemmas.words.Says.{shows_state}
+use Rattle.tlsf_heap.proofs.lemmas.words.Bytes.{payload_inside, rewritten}
+use Rattle.tlsf_heap.proofs.lemmas.words.Links.{linked_lists, Relists, holds_state}
+use Rattle.tlsf_heap.proofs.lemmas.words.KeptLinks.{relisted_bytes}
+use Rattle.tlsf_heap.proofs.lemmas.blocks.Stands.{behind_one}
 use Rattle.tlsf_heap.specs.Regions.{RegionState, image_of}
 use Rattle.tlsf_heap.proofs.region.Region.write.Given.{Over}
 use Rattle.tlsf_heap.proofs.region.Region.write.Goals as goal

@@ -1,11 +1,11 @@
 use Rattle.std.proofs.Common.{◌+◌, [], ◌∷◌, ◌++◌, take, drop, ap, ◌∙◌, arith}
 use Rattle.tlsf_heap.specs.GoodFit.{block_at}
 use Rattle.tlsf_heap.specs.Regions.{RegionState, image_of}
-use Rattle.tlsf_heap.proofs.Clearing.{ClearsBehind, clears_length, zeroed_block, cleared_payload, relisted_payload}
-use Rattle.tlsf_heap.proofs.Edited.{Leaves}
-use Rattle.tlsf_heap.proofs.Linking.{linked_lists, Relists, holds_state}
-use Rattle.tlsf_heap.proofs.Reading.{shows_state, says_here}
-use Rattle.tlsf_heap.proofs.Standing.{behind_one}
+use Rattle.tlsf_heap.proofs.lemmas.words.ClearPayload.{ClearsBehind, clears_length, zeroed_block, cleared_payload, relisted_payload}
+use Rattle.tlsf_heap.proofs.lemmas.words.Edit.{Leaves}
+use Rattle.tlsf_heap.proofs.lemmas.words.Links.{linked_lists, Relists, holds_state}
+use Rattle.tlsf_heap.proofs.lemmas.words.Says.{shows_state, says_here}
+use Rattle.tlsf_heap.proofs.lemmas.blocks.Stands.{behind_one}
 use Rattle.tlsf_heap.proofs.region.Region.zero.Given.{Over}
 use Rattle.tlsf_heap.proofs.region.Region.zero.Goals as goal
 

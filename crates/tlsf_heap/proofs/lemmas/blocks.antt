@@ -1,0 +1,13 @@
+pub mod Lawful
+pub mod Find
+pub mod Sites
+pub mod Replace
+pub mod LastFree
+pub mod Order
+pub mod Stands
+pub mod Sums
+pub mod Coalesce
+pub mod Around
+pub mod Neighbours
+pub mod ByPlace
+pub mod Grant

@@ -1,0 +1,45 @@
+-- Edits of the list of blocks.
+use Rattle.std.proofs.Common.{◌≡◌, ℕ, ◌+◌, ◌-◌, inl, inr, Bool, true, false, cond, nat_le, replicate, ◌<◌, ◌≤◌, List, [], ◌∷◌, take, drop, ap, arith}
+use Rattle.std.proofs.lemmas.List.{take-append-drop}
+use Rattle.tlsf_heap.specs.Calls.{carved, first_free}
+use Rattle.tlsf_heap.specs.Regions.{rest_of}
+use Rattle.std.proofs.lemmas.Bool.{cases_lt}
+use Rattle.std.proofs.lemmas.Bool.Decides.{nat_tests}
+use Rattle.tlsf_heap.specs.Blocks.{Block, Live, Free, words_in}
+use Rattle.tlsf_heap.proofs.lemmas.blocks.Lawful.{words_in-append}
+
+pub words_in-take : (bs : List Block) (j : ℕ) → words_in (take j bs) ≤ words_in bs
+words_in-take bs j = let e = ap words_in (take-append-drop j bs) in let f = words_in-append (take j bs) (drop j bs) in omega arith
+
+pub carved_small : (size n tick len : ℕ) → size < n + 4 → carved size n tick len ≡ Live size tick (replicate len 0) ∷ []
+carved_small size n tick len h =
+    let t : nat_le (n + 4) size ≡ false = grind (arith, nat_tests) in
+    ap (λ (b : Bool). cond b (Live n tick (replicate len 0) ∷ Free (size - n) tick ∷ []) (Live size tick (replicate len 0) ∷ [])) t
+
+pub carved_large : (size n tick len : ℕ) → n + 4 ≤ size → carved size n tick len ≡ Live n tick (replicate len 0) ∷ Free (size - n) tick ∷ []
+carved_large size n tick len h =
+    let t : nat_le (n + 4) size ≡ true = grind (arith, nat_tests) in
+    ap (λ (b : Bool). cond b (Live n tick (replicate len 0) ∷ Free (size - n) tick ∷ []) (Live size tick (replicate len 0) ∷ [])) t
+
+-- the free block that a list begins with is one of its words
+pub first_free-words : (bs : List Block) → first_free bs ≤ words_in bs
+first_free-words [] = omega arith
+first_free-words (Live m s xs ∷ bs) = omega arith
+first_free-words (Free m s ∷ bs) = omega arith
+
+-- a rest is split off exactly where it has four words
+pub rest_some : (size n : ℕ) → 0 < rest_of size n → (n + 4 ≤ size) × (rest_of size n ≡ size - n)
+rest_some size n some = elim (cases_lt size (n + 4)) [
+  | inl small ↦
+      let t : nat_le (n + 4) size ≡ false = grind (arith, nat_tests) in
+      let none : rest_of size n ≡ 0 = ap (λ (b : Bool). cond b (size - n) 0) t in absurd (omega (arith, none))
+  | inr large ↦ (large, let t : nat_le (n + 4) size ≡ true = grind (arith, nat_tests) in ap (λ (b : Bool). cond b (size - n) 0) t)
+]
+
+pub rest_none : (size n : ℕ) → rest_of size n ≡ 0 → size < n + 4
+rest_none size n none = elim (cases_lt size (n + 4)) [
+  | inl small ↦ small
+  | inr large ↦
+      let t : nat_le (n + 4) size ≡ true = grind (arith, nat_tests) in
+      let some : rest_of size n ≡ size - n = ap (λ (b : Bool). cond b (size - n) 0) t in absurd (omega (arith, some, large))
+]

@@ -1,0 +1,17 @@
+pub mod Kept
+pub mod Allocate
+pub mod Named
+pub mod Release
+pub mod Write
+pub mod Alter
+pub mod Resize
+pub mod Outcomes
+pub mod GivenBlock
+pub mod LeftBlock
+pub mod AllocateFrom
+pub mod ByPlace
+pub mod ResizeOrMove
+pub mod Unset
+pub mod OtherBytes
+pub mod AllocateAligned
+pub mod Reports

@@ -1,0 +1,138 @@
+-- What a resize that may move the block comes to, call by call.
+use Rattle.std.proofs.Common.{◌≡◌, ◌≢◌, ℕ, ◌+◌, ◌*◌, ◌<◌, ◌≤◌, Bool, true, false, cond, eqb, nat_le, List, ◌∷◌, suc, take, drop, length, Option, Some, None, Result, Ok, Err, refl, sym, ap, ◌∙◌, subst, arith, eq-eqb}
+use Rattle.std.specs.Prelude.{IsSome}
+use Rattle.std.specs.List.{AllByRecursion}
+use Rattle.std.proofs.lemmas.Bool.{false≢true, eqb-true, ne_eqb}
+use Rattle.std.proofs.lemmas.Bool.Decides.{nat_tests}
+use Rattle.tlsf_heap.specs.Blocks.{HeapState, payload_words, want}
+use Rattle.tlsf_heap.specs.Calls.{Outcome, Allocate, Release, Write, refused, last_tick, is_worn, allocated, named, released, released_at, resized, resized_at, written}
+use Rattle.tlsf_heap.specs.Given.{payload_words_at}
+use Rattle.tlsf_heap.specs.GoodFit.{Site, block_at}
+use Rattle.tlsf_heap.specs.InPlace.{payload_of}
+use Rattle.tlsf_heap.specs.Lawful.{IsLawful, HasRoom}
+use Rattle.tlsf_heap.specs.Laws.{IsLive}
+use Rattle.tlsf_heap.specs.Moved.{is_nearly_worn, copied, moved_to, moved, moved_for, resized_else, resized_or_moved}
+use Rattle.tlsf_heap.specs.declared.name.Name.{Name}
+use Rattle.tlsf_heap.specs.declared.refusal.Refusal.{Refusal}
+use Rattle.tlsf_heap.specs.declared.refusal.Refusal.TheVariants.{NoFit, Worn, Foreign, Stale, Range, NoRoom}
+use Rattle.tlsf_heap.proofs.lemmas.calls.Alter.{named_of, payload_is}
+use Rattle.tlsf_heap.proofs.lemmas.calls.Allocate.{split_at}
+use Rattle.tlsf_heap.proofs.lemmas.blocks.Lawful.{all_right}
+use Rattle.tlsf_heap.proofs.lemmas.laws.Live.{given, kept}
+use Rattle.tlsf_heap.proofs.lemmas.calls.Named.{named_is}
+use Rattle.tlsf_heap.proofs.lemmas.words.Bytes.{held_within}
+use Rattle.tlsf_heap.proofs.lemmas.calls.Outcomes.{by_test, by_allocated, by_written, takes}
+
+-- ---- the release behind a copy is accepted
+
+released_there : (k : HeapState) (o : Option Site) → IsSome o → is_worn k ≡ false → (released_at k o).answer ≡ Ok tt
+released_there k None some fresh = absurd (false≢true some)
+released_there k (Some s) some fresh = ap (λ (b : Bool). (cond b (refused k Worn) (takes k s)).answer) fresh
+
+-- the release of a live name, before the last tick
+pub released_live : (k : HeapState) (name : Name) → IsLive k name → k.tick ≢ last_tick → (released k name).answer ≡ Ok tt
+released_live k name live fresh =
+    ap (λ (b : Bool). (cond b (released_at k (named name k.blocks)) (refused k Foreign)).answer) (eq-eqb name.heap k.id live.0)
+    ∙ released_there k (named name k.blocks) live.1 (ne_eqb k.tick last_tick fresh)
+
+-- also behind a write
+pub release_done : (sli : ℕ) (k : HeapState) (name new : Name) (bytes : List ℕ) → IsLive k name → k.tick ≢ last_tick → (released (written k new 0 bytes).heap name).answer ≡ Ok tt
+release_done sli k name new bytes live fresh =
+    let stays : (written k new 0 bytes).heap.tick ≡ k.tick = by_written (λ o. o.heap.tick ≡ k.tick) k new 0 bytes (λ why. refl) (λ s site has. refl) in
+    let still : IsLive (written k new 0 bytes).heap name = kept sli k name (Write new 0 bytes) (λ taken. let bad : Write new 0 bytes ≡ Release name = taken.0 in cc) live in
+    released_live (written k new 0 bytes).heap name still (λ worn. fresh (sym stays ∙ worn))
+
+module _ (sli : ℕ) (h : HeapState) (name : Name) (len : ℕ) where
+  -- ---- a move
+
+  pub moved_worn : last_tick ≤ h.tick + 1 → moved sli h name len ≡ refused h Worn
+  moved_worn worn =
+      let is : nat_le last_tick (h.tick + 1) ≡ true = grind (arith, nat_tests) in
+      ap (λ (b : Bool). cond b (refused h Worn) (moved_to h name (allocated sli h len).answer (allocated sli h len).heap)) is
+
+  moved_fresh : h.tick + 1 < last_tick → moved sli h name len ≡ moved_to h name (allocated sli h len).answer (allocated sli h len).heap
+  moved_fresh fresh =
+      let is : nat_le last_tick (h.tick + 1) ≡ false = grind (arith, nat_tests) in
+      ap (λ (b : Bool). cond b (refused h Worn) (moved_to h name (allocated sli h len).answer (allocated sli h len).heap)) is
+
+  pub moved_refused : h.tick + 1 < last_tick → (why : Refusal) → Err why ≡ (allocated sli h len).answer → moved sli h name len ≡ refused h why
+  moved_refused fresh why e = moved_fresh fresh ∙ ap (λ (r : Result Name Refusal). moved_to h name r (allocated sli h len).heap) (sym e)
+
+  -- a request gave this name
+  module _ (new : Name) (e : Ok new ≡ (allocated sli h len).answer) (live : IsLive h name) where
+    pub moved_done : h.tick + 1 < last_tick → moved sli h name len ≡ record { answer = Ok new; heap = (released (copied (allocated sli h len).heap name new).heap name).heap }
+    moved_done fresh = moved_fresh fresh ∙ ap (λ (r : Result Name Refusal). moved_to h name r (allocated sli h len).heap) (sym e)
+
+    -- both names are live then
+    pub old_lives : IsLive (allocated sli h len).heap name
+    old_lives = kept sli h name (Allocate len) (λ taken. let bad : Allocate len ≡ Release name = taken.0 in cc) live
+
+    pub new_lives : IsLive (allocated sli h len).heap new
+    new_lives = given sli h len new (sym e)
+
+    pub ticks : (allocated sli h len).heap.tick ≡ h.tick + 1
+    ticks = by_allocated sli (λ o. Ok new ≡ o.answer → o.heap.tick ≡ h.tick + 1) h len (λ why bad. cc) (λ s site fit done. refl) e
+
+  -- ---- a resize, and what follows it
+
+  pub stays : Ok tt ≡ (resized h name len).answer → resized_or_moved sli h name len ≡ record { answer = Ok name; heap = (resized h name len).heap }
+  stays e = ap (λ (r : Result (Unit {0}) Refusal). resized_else h name r (resized h name len).heap (moved sli h name len)) (sym e)
+
+  pub moves : Err NoRoom ≡ (resized h name len).answer → resized_or_moved sli h name len ≡ moved sli h name len
+  moves e = ap (λ (r : Result (Unit {0}) Refusal). resized_else h name r (resized h name len).heap (moved sli h name len)) (sym e)
+
+  moved_for_none : (why : Refusal) → why ≢ NoRoom → moved_for why h (moved sli h name len) ≡ refused h why
+  moved_for_none NoFit other = refl
+  moved_for_none Worn other = refl
+  moved_for_none Foreign other = refl
+  moved_for_none Stale other = refl
+  moved_for_none Range other = refl
+  moved_for_none NoRoom other = absurd (other refl)
+
+  pub refuses : (why : Refusal) → why ≢ NoRoom → Err why ≡ (resized h name len).answer → resized_or_moved sli h name len ≡ refused h why
+  refuses why other e = ap (λ (r : Result (Unit {0}) Refusal). resized_else h name r (resized h name len).heap (moved sli h name len)) (sym e) ∙ moved_for_none why other
+
+-- where there was no room the name is live
+pub no_room_live : (h : HeapState) (name : Name) (len : ℕ) → Err NoRoom ≡ (resized h name len).answer → IsLive h name
+no_room_live h name len = own (eqb name.heap h.id) refl
+  where
+    found : name.heap ≡ h.id → (o : Option Site) → named name h.blocks ≡ o → Err NoRoom ≡ (resized_at h (want len) len o).answer → IsLive h name
+    found same None is e = cc
+    found same (Some s) is e = (same, subst IsSome (sym is) refl)
+
+    own : (b : Bool) → eqb name.heap h.id ≡ b → Err NoRoom ≡ (cond b (resized_at h (want len) len (named name h.blocks)) (refused h Foreign)).answer → IsLive h name
+    own true is e = found (eqb-true name.heap h.id is) (named name h.blocks) refl e
+    own false is e = cc
+
+-- a payload has no more words than its block has for it
+pub payload_fits : (h : HeapState) (name : Name) → IsLawful h → IsLive h name → length (payload_of h name) ≤ 8 * payload_words_at (named name h.blocks)
+payload_fits h name lawful live =
+    let is_named = named_of h name live in
+    let i = is_named.1.0 in
+    let room = (all_right HasRoom (take i h.blocks) (block_at h.blocks i ∷ drop (suc i) h.blocks) (subst (AllByRecursion HasRoom) (split_at h.blocks i is_named.1.1.within) lawful.rooms)).0 in
+    let is : payload_words_at (named name h.blocks) ≡ payload_words (block_at h.blocks i) = ap payload_words_at (named_is name h.blocks i is_named.1.1) in
+    omega (arith, held_within (block_at h.blocks i) room, ap length (payload_is h name is_named), is)
+
+-- what a resize or move comes to: a refusal, a resize, or an allocate, a write and a release
+pub by_resized_or_moved : (P : Outcome Name → Type 0) (sli : ℕ) (h : HeapState) (name : Name) (len : ℕ) → ((why : Refusal) → P (refused h why)) → P (record { answer = Ok name; heap = (resized h name len).heap })
+    → ((new : Name) → (allocated sli h len).answer ≡ Ok new → P (record { answer = Ok new; heap = (released (copied (allocated sli h len).heap name new).heap name).heap })) → P (resized_or_moved sli h name len)
+by_resized_or_moved P sli h name len if_refused if_stays if_moved = at (resized h name len).answer
+  where
+    to : (r : Result Name Refusal) → (allocated sli h len).answer ≡ r → P (moved_to h name r (allocated sli h len).heap)
+    to (Ok new) e = if_moved new e
+    to (Err why) e = if_refused why
+
+    move : P (moved sli h name len)
+    move = by_test P (is_nearly_worn h) (refused h Worn) (moved_to h name (allocated sli h len).answer (allocated sli h len).heap) (λ _. if_refused Worn) (to (allocated sli h len).answer refl)
+
+    for : (why : Refusal) → P (moved_for why h (moved sli h name len))
+    for NoRoom = move
+    for NoFit = if_refused NoFit
+    for Worn = if_refused Worn
+    for Foreign = if_refused Foreign
+    for Stale = if_refused Stale
+    for Range = if_refused Range
+
+    at : (r : Result (Unit {0}) Refusal) → P (resized_else h name r (resized h name len).heap (moved sli h name len))
+    at (Ok done) = if_stays
+    at (Err why) = for why

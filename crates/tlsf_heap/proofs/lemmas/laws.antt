@@ -1,0 +1,9 @@
+pub mod Lasting
+pub mod Live
+pub mod Gone
+pub mod NoFit
+pub mod Payloads
+pub mod EvenPlaces
+pub mod WordsInUse
+pub mod MovedWords
+pub mod AlignedWords

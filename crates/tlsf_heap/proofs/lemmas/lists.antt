@@ -1,0 +1,9 @@
+pub mod FreePlaces
+pub mod Permutations
+pub mod FreeLists
+pub mod Heads
+pub mod Chosen
+pub mod Withheld
+pub mod Recut
+pub mod Carved
+pub mod Refit

@@ -1,0 +1,257 @@
+-- A free block that becomes a live one, and the lists of the free blocks.
+use Rattle.std.proofs.Common.{◌≡◌, ◌≢◌, ℕ, suc, ◌+◌, ◌-◌, ◌<◌, ◌≤◌, true, List, [], ◌∷◌, ◌++◌, length, take, drop, replicate, Option, Some, None, sym, ap, ◌∙◌, subst, arith, append_assoc}
+use Rattle.std.specs.Prelude.{slice_get, Contains}
+use Rattle.tlsf_class.specs.Classes.{class_of}
+use Rattle.tlsf_heap.specs.Blocks.{Block, Live, Free, size_of, words_in, is_free, stamp_of, StandsAt}
+use Rattle.tlsf_heap.specs.Chosen.{IsHead}
+use Rattle.tlsf_heap.specs.Lawful.{IsRegion}
+use Rattle.tlsf_heap.specs.Regions.{RegionState, AreRegions, AreUnlisted, SameLists, BeginsZero, EachAt, HasAt, IsTagOf, Edits, Rewrites, PutInFront, TakenOut, list_in, withheld_alone}
+use Rattle.tlsf_heap.specs.GoodFit.{block_at, site_at}
+use Rattle.tlsf_heap.specs.Calls.{carved}
+use Rattle.tlsf_heap.specs.FreePlaces.{FreePlace, free_places, AreFreeLists}
+use Rattle.tlsf_words.specs.Lists.{IsUnlisted, without_place}
+use Rattle.tlsf_words.specs.declared.tag.Tag.{Tag}
+use Rattle.tlsf_heap.proofs.lemmas.words.ClearPayload.{zeroed_block}
+use Rattle.tlsf_heap.proofs.lemmas.blocks.Replace.{carved_small, carved_large}
+use Rattle.tlsf_heap.proofs.lemmas.lists.FreeLists.{AreListed, IsFresh, fresh_both, contains_own, not_listed, same_lists, unlisted_same, taken, given}
+use Rattle.tlsf_heap.proofs.lemmas.calls.Write.{places_bytes}
+use Rattle.tlsf_heap.proofs.lemmas.blocks.Around.{Around, around, around_next, take_around, drop_around, block_around, stands_around, words_around, regions_front, regions_back, region_around, one_index, free_as, places_behind, fresh_front, fresh_back, ArePast, past_around, newest, place}
+
+-- a free block begins at a place, among blocks of sizes that a region may have
+pub record IsFreeHere (sli : ℕ) (bs : List Block) (at i : ℕ) : Type 0 where
+  pub stands : StandsAt bs at i
+  pub free : is_free (block_at bs i) ≡ true
+  pub regions : AreRegions sli bs
+
+-- the head of a list is one place
+pub head_stands : (sli : ℕ) {bs : List Block} {lists : ℕ → List ℕ} {class at result i : ℕ} → IsHead sli bs lists class at i → slice_get (lists class) 0 ≡ Some result → StandsAt bs result i
+head_stands sli {bs = bs} {i = i} head is = subst (λ (k : ℕ). StandsAt bs k i) (ap place (sym head.first ∙ is)) head.stands
+  where
+    place : Option ℕ → ℕ
+    place None = 0
+    place (Some at) = at
+
+-- the region where the block that is given has its header and its rest is listed: the payload begins with a zero word
+pub record IsGiven (sli : ℕ) (bs : List Block) (at i words tick len size : ℕ) (r : RegionState) : Type 0 where
+  pub bytes : List ℕ
+  pub more : List Block
+  pub many : length bytes ≡ len
+  pub first : BeginsZero bytes
+  pub around : Around r.blocks at i (take i bs) (Live size tick bytes) more
+  pub left : take i bs ++ carved (size_of (block_at bs i)) words tick len ++ drop (suc i) bs ≡ take i bs ++ Live size tick (replicate len 0) ∷ more
+  pub listed : AreFreeLists sli r.blocks (list_in r.lists)
+  pub room : words ≤ size
+
+-- once its payload is zero
+module _ (sli : ℕ) {bs : List Block} {at i words tick len size : ℕ} {r : RegionState} (given : IsGiven sli bs at i words tick len size r) {new : List Block}
+    (is : new ≡ take i r.blocks ++ (zeroed_block (block_at r.blocks i) ∷ []) ++ drop (suc i) r.blocks) where
+  zeroed_is : new ≡ take i bs ++ Live size tick (replicate len 0) ∷ given.more
+  zeroed_is =
+      let a = given.around in
+      let rest : drop (suc i) r.blocks ≡ given.more = drop_around a in
+      is ∙ ap (λ (l : List Block). l ++ (zeroed_block (block_at r.blocks i) ∷ []) ++ drop (suc i) r.blocks) (take_around a)
+      ∙ ap (λ (b : Block). take i bs ++ (zeroed_block b ∷ []) ++ drop (suc i) r.blocks) (block_around a)
+      ∙ ap (λ (l : List Block). take i bs ++ (zeroed_block (Live size tick given.bytes) ∷ []) ++ l) rest
+      ∙ append_assoc (take i bs) (zeroed_block (Live size tick given.bytes) ∷ []) given.more
+      ∙ ap (λ (n : ℕ). take i bs ++ Live size tick (replicate n 0) ∷ given.more) given.many
+
+  pub zeroed_around : Around new at i (take i bs) (Live size tick (replicate len 0)) given.more
+  zeroed_around = record { is = zeroed_is; before = given.around.before; place = given.around.place }
+
+  pub zeroed_carved : new ≡ take i bs ++ carved (size_of (block_at bs i)) words tick len ++ drop (suc i) bs
+  zeroed_carved = zeroed_is ∙ sym given.left
+
+  pub zeroed_listed : (lists : ℕ → List ℕ) → SameLists lists (list_in r.lists) → AreFreeLists sli new lists
+  zeroed_listed lists same =
+      let old = Live size tick given.bytes in
+      let places : free_places sli 0 new ≡ free_places sli 0 r.blocks =
+      ap (free_places sli 0) zeroed_is ∙ places_bytes sli (take i bs) given.more old (replicate len 0) ∙ ap (free_places sli 0) (sym given.around.is) in
+      subst (λ (l : List FreePlace). AreListed l lists) (sym places) (same_lists (free_places sli 0 r.blocks) (list_in r.lists) lists same given.listed)
+
+module _ (sli : ℕ) {bs : List Block} {at i : ℕ} (f : IsFreeHere sli bs at i) where
+  abbrev size : ℕ
+  size = size_of (block_at bs i)
+
+  abbrev stamp : ℕ
+  stamp = stamp_of (block_at bs i)
+
+  abbrev entry : FreePlace
+  entry = place sli size at stamp
+
+  abbrev before : List FreePlace
+  before = free_places sli 0 (take i bs)
+
+  abbrev behind : List FreePlace
+  behind = free_places sli (at + size) (drop (suc i) bs)
+
+  around_free : Around bs at i (take i bs) (Free size stamp) (drop (suc i) bs)
+  around_free = subst (λ (b : Block). Around bs at i (take i bs) b (drop (suc i) bs)) (free_as (block_at bs i) f.free) (around bs at i f.stands)
+
+  listed_free : {lists : ℕ → List ℕ} → AreFreeLists sli bs lists → AreListed (before ++ entry ∷ behind) lists
+  listed_free {lists = lists} listed =
+      let a = around_free in
+      subst (λ (l : List FreePlace). AreListed l lists) (ap (free_places sli 0) a.is ∙ places_behind sli (take i bs) (Free size stamp ∷ drop (suc i) bs) at a.place) listed
+
+  -- it is in the list of its class
+  pub contains_here : {lists : ℕ → List ℕ} → AreFreeLists sli bs lists → Contains (lists (class_of sli size)) at
+  contains_here {lists = lists} listed = contains_own entry before behind (lists (class_of sli size)) (listed_free listed (class_of sli size))
+
+  pub end_within : at + size ≤ words_in bs
+  end_within = omega (arith, words_around around_free)
+
+  -- no other free block begins in its words
+  fresh_here : (k : ℕ) → at ≤ k → k < at + size → IsFresh k (before ++ behind)
+  fresh_here k low high =
+      fresh_both k before behind (fresh_front sli (take i bs) k (regions_front sli around_free f.regions) (omega (arith, f.stands.place, low)))
+      (fresh_back sli (drop (suc i) bs) (at + size) k (regions_back sli around_free f.regions) high)
+
+  some_size : 4 ≤ size
+  some_size = (region_around sli around_free f.regions).0
+
+  pub region_here : IsRegion sli size
+  region_here = region_around sli around_free f.regions
+
+  -- the free blocks, while it is in no list
+  withheld_places : free_places sli 0 (withheld_alone (site_at bs i)) ≡ before ++ behind
+  withheld_places = places_behind sli (take i bs) (Live size 0 [] ∷ drop (suc i) bs) at f.stands.place
+
+  -- once it is out of the list of its class
+  pub taken_listed : {class : ℕ} {lists left : ℕ → List ℕ} → class ≡ class_of sli size → AreFreeLists sli bs lists → left class ≡ without_place at (lists class) → ((other : ℕ) → other ≢ class → left other ≡ lists other)
+      → AreFreeLists sli (withheld_alone (site_at bs i)) left
+  taken_listed {class = class} {lists = lists} {left = left} is_class listed out others =
+      subst (λ (l : List FreePlace). AreListed l left) (sym withheld_places)
+      (taken entry before behind lists left (rw (sym is_class) others) (fresh_here at (omega arith) (omega (arith, some_size))) (rw (sym is_class) out) (listed_free listed))
+
+  module _ (tick : ℕ) (past_all : ArePast tick bs) (left : ℕ → List ℕ) (withheld : AreFreeLists sli (withheld_alone (site_at bs i)) left) where
+    left_listed : AreListed (before ++ behind) left
+    left_listed = subst (λ (l : List FreePlace). AreListed l left) withheld_places withheld
+
+    -- no place in its words is listed
+    pub left_unlisted : AreUnlisted left at (at + size)
+    left_unlisted k low high = not_listed (before ++ behind) left k left_listed (fresh_here k low high)
+
+    pub left_unlisted_each : (j : ℕ) → StandsAt bs at j → AreUnlisted left at (at + size_of (block_at bs j))
+    left_unlisted_each j other = subst (λ (k : ℕ). AreUnlisted left at (at + size_of (block_at bs k))) (one_index sli bs at i j f.regions f.stands other) left_unlisted
+
+    -- and whole a live block
+    pub given_whole : (words len : ℕ) (bytes : List ℕ) (r : RegionState) → length bytes ≡ len → BeginsZero bytes → words ≤ size → size < words + 4
+        → r.blocks ≡ take i bs ++ (Live size tick bytes ∷ []) ++ drop (suc i) bs → SameLists (list_in r.lists) left → IsGiven sli bs at i words tick len size r
+    given_whole words len bytes r many first room small is stay =
+        let a : Around r.blocks at i (take i bs) (Live size tick bytes) (drop (suc i) bs) = record { is = is ∙ append_assoc (take i bs) (Live size tick bytes ∷ []) (drop (suc i) bs); before = around_free.before; place = around_free.place } in
+        record {
+          bytes = bytes;
+          more = drop (suc i) bs;
+          many = many;
+          first = first;
+          around = a;
+          left = ap (λ (l : List Block). take i bs ++ l ++ drop (suc i) bs) (carved_small size words tick len small) ∙ append_assoc (take i bs) (Live size tick (replicate len 0) ∷ []) (drop (suc i) bs);
+          listed = subst (λ (l : List FreePlace). AreListed l (list_in r.lists)) (sym (ap (free_places sli 0) a.is ∙ places_behind sli (take i bs) (Live size tick bytes ∷ drop (suc i) bs) at a.place))
+              (same_lists (before ++ behind) left (list_in r.lists) stay left_listed);
+          room = room;
+        }
+
+    -- or split
+    module _ (words : ℕ) (bytes : List ℕ) (large : words + 4 ≤ size) (new : List Block) (is : new ≡ take i bs ++ (Live words tick bytes ∷ Free (size - words) tick ∷ []) ++ drop (suc i) bs) (kept : ℕ → List ℕ) (stay : SameLists kept left) where
+      split : Around new at i (take i bs) (Live words tick bytes) (Free (size - words) tick ∷ drop (suc i) bs)
+      split = record { is = is ∙ append_assoc (take i bs) (Live words tick bytes ∷ Free (size - words) tick ∷ []) (drop (suc i) bs); before = around_free.before; place = around_free.place }
+
+      -- its rest is a free block, in no list
+      pub rest_free : (j : ℕ) × StandsAt new (at + words) j × (is_free (block_at new j) ≡ true)
+      rest_free = let next = around_next split in (i + 1, stands_around next, ap is_free (block_around next))
+
+      pub rest_unlisted : IsUnlisted kept (at + words)
+      rest_unlisted = unlisted_same left kept (at + words) stay (left_unlisted (at + words) (omega arith) (omega (arith, large)))
+
+      -- and once that is in the list of its class
+      rest_listed : (came : ℕ) (more : ℕ → List ℕ) → came ≡ class_of sli (size - words) → more came ≡ (at + words) ∷ kept came → ((other : ℕ) → other ≢ came → more other ≡ kept other)
+          → AreFreeLists sli new more
+      rest_listed came more is_class is_more rest_stays =
+          let split_off : FreePlace = record { class = came; at = at + words; stamp = tick } in
+          let past = past_around around_free tick past_all in
+          let listed : AreListed (before ++ split_off ∷ behind) more =
+          given split_off before behind kept more rest_stays (newest sli tick (at + size) (take i bs) (drop (suc i) bs) past.0 past.1) is_more (same_lists (before ++ behind) left kept stay left_listed) in
+          let rest : at + words + (size - words) ≡ at + size = omega (arith, large) in
+          subst (λ (l : List FreePlace). AreListed l more)
+          (sym (ap (free_places sli 0) split.is ∙ places_behind sli (take i bs) (Live words tick bytes ∷ Free (size - words) tick ∷ drop (suc i) bs) at split.place
+          ∙ ap (λ (n : ℕ). before ++ record { class = class_of sli (size - words); at = at + words; stamp = tick } ∷ free_places sli n (drop (suc i) bs)) rest
+          ∙ ap (λ (n : ℕ). before ++ record { class = n; at = at + words; stamp = tick } ∷ behind) (sym is_class))) listed
+
+      pub given_split : (len : ℕ) (r : RegionState) → length bytes ≡ len → BeginsZero bytes → r.blocks ≡ new → (came : ℕ) → came ≡ class_of sli (size - words) → list_in r.lists came ≡ (at + words) ∷ kept came
+          → ((other : ℕ) → other ≢ came → list_in r.lists other ≡ kept other) → IsGiven sli bs at i words tick len words r
+      given_split len r many first same came is_class is_more rest_stays =
+          record {
+            bytes = bytes;
+            more = Free (size - words) tick ∷ drop (suc i) bs;
+            many = many;
+            first = first;
+            around = record { is = same ∙ split.is; before = split.before; place = split.place };
+            left = ap (λ (l : List Block). take i bs ++ l ++ drop (suc i) bs) (carved_large size words tick len large)
+                ∙ append_assoc (take i bs) (Live words tick (replicate len 0) ∷ Free (size - words) tick ∷ []) (drop (suc i) bs);
+            listed = subst (λ (bs : List Block). AreFreeLists sli bs (list_in r.lists)) (sym same) (rest_listed came (list_in r.lists) is_class is_more rest_stays);
+            room = omega arith;
+          }
+
+-- ---- a block that is given, step by step
+
+-- the free block at a place is in no list, and has this tag
+pub record IsOut (sli : ℕ) (old : RegionState) (at i tick : ℕ) (own : Tag) : Type 0 where
+  pub here : IsFreeHere sli old.blocks at i
+  pub past : ArePast tick old.blocks
+  pub withheld : AreFreeLists sli (withheld_alone (site_at old.blocks i)) (list_in old.lists)
+  pub is_own : IsTagOf old.words (site_at old.blocks i) own
+
+pub is_out : (sli : ℕ) {old : RegionState} {at tick words : ℕ} {own : Tag} → (free : HasAt old.blocks at (λ s. (is_free s.block ≡ true) × (words ≤ size_of s.block))) → EachAt old.blocks at (λ s. IsTagOf old.words s own)
+    → AreRegions sli old.blocks → EachAt old.blocks at (λ s. AreFreeLists sli (withheld_alone s) (list_in old.lists)) → ArePast tick old.blocks → IsOut sli old at free.0 tick own
+is_out sli free own regions listed past = record { here = record { stands = free.1; free = free.2.0; regions = regions }; past = past; withheld = listed free.0 free.1; is_own = own free.0 free.1 }
+
+-- the block has its header, its rest is listed, and its payload is left
+pub record IsReady (sli : ℕ) (old : RegionState) (at i words tick len size : ℕ) (now : RegionState) : Type 0 where
+  pub given : IsGiven sli old.blocks at i words tick len size now
+  pub edits : Edits old now 16
+
+module _ (sli : ℕ) {old : RegionState} {at i tick : ℕ} {own : Tag} (t : IsOut sli old at i tick own) where
+  pub out_unlisted : (j : ℕ) → StandsAt old.blocks at j → AreUnlisted (list_in old.lists) at (at + size_of (block_at old.blocks j))
+  out_unlisted = left_unlisted_each sli t.here tick t.past (list_in old.lists) t.withheld
+
+  module _ (words len : ℕ) (bytes : List ℕ) (many : length bytes ≡ len) (first : BeginsZero bytes) (fits : words ≤ own.size) where
+    -- it was given whole
+    pub by_grant : {v now : RegionState} {n : ℕ} → own.size < words + 4 → EachAt old.blocks at (λ s. Rewrites old v (s.before ++ (Live (size_of s.block) tick bytes ∷ []) ++ s.after) 4) → now ≡ v → n ≡ own.size
+        → IsReady sli old at i words tick len n now
+    by_grant {v = v} {now = now} {n = n} small each joined sized =
+        let w = each i t.here.stands in
+        subst (λ (s : RegionState). IsReady sli old at i words tick len n s) (sym joined)
+        (subst (λ (k : ℕ). IsReady sli old at i words tick len k v) (sym (sized ∙ t.is_own.size)) (record {
+          given = given_whole sli t.here tick t.past (list_in old.lists) t.withheld words len bytes v many first (omega (arith, t.is_own.size, fits)) (omega (arith, t.is_own.size, small)) w.blocks w.lists;
+          edits = record { words = w.edits.words; shows = w.edits.shows; linked = w.edits.linked; touches = omega (arith, w.edits.touches); rise = w.edits.rise };
+        }))
+
+    -- or split
+    module _ (large : words + 4 ≤ own.size) {v : RegionState} (each : EachAt old.blocks at (λ s. Rewrites old v (s.before ++ (Live words tick bytes ∷ Free (size_of s.block - words) tick ∷ []) ++ s.after) 9)) where
+      written : Rewrites old v (take i old.blocks ++ (Live words tick bytes ∷ Free (size_of (block_at old.blocks i) - words) tick ∷ []) ++ drop (suc i) old.blocks) 9
+      written = each i t.here.stands
+
+      wide : words + 4 ≤ size_of (block_at old.blocks i)
+      wide = omega (arith, t.is_own.size, large)
+
+      pub split_rest_free : (j : ℕ) × StandsAt v.blocks (at + words) j × (is_free (block_at v.blocks j) ≡ true)
+      split_rest_free = rest_free sli t.here tick t.past (list_in old.lists) t.withheld words bytes wide v.blocks written.blocks (list_in v.lists) written.lists
+
+      pub split_rest_unlisted : IsUnlisted (list_in v.lists) (at + words)
+      split_rest_unlisted = rest_unlisted sli t.here tick t.past (list_in old.lists) t.withheld words bytes wide v.blocks written.blocks (list_in v.lists) written.lists
+
+      -- and the rest is listed
+      pub by_split : {u now : RegionState} {n came : ℕ} → came ≡ class_of sli (own.size - words) → PutInFront v u came (at + words) 7 → now ≡ u → n ≡ words → IsReady sli old at i words tick len n now
+      by_split {u = u} {n = n} {came = came} is_class push joined sized =
+          let w = written in
+          subst (λ (s : RegionState). IsReady sli old at i words tick len n s) (sym joined)
+          (subst (λ (k : ℕ). IsReady sli old at i words tick len k u) (sym sized) (record {
+            given = given_split sli t.here tick t.past (list_in old.lists) t.withheld words bytes wide v.blocks w.blocks (list_in v.lists) w.lists len u many first push.blocks came (is_class ∙ ap (λ (k : ℕ). class_of sli (k - words)) t.is_own.size) push.list push.others;
+            edits = record { words = push.edits.words ∙ w.edits.words; shows = push.edits.shows; linked = push.edits.linked; touches = omega (arith, push.edits.touches, w.edits.touches); rise = omega (arith, push.edits.rise, w.edits.rise) };
+          }))
+
+-- a free block that is taken out of the list of its class
+pub taken_each : (sli : ℕ) {old r : RegionState} {at i class most : ℕ} → IsFreeHere sli old.blocks at i → class ≡ class_of sli (size_of (block_at old.blocks i)) → AreFreeLists sli old.blocks (list_in old.lists)
+    → TakenOut old r class at most → EachAt r.blocks at (λ s. AreFreeLists sli (withheld_alone s) (list_in r.lists))
+taken_each sli {old = old} {r = r} {at = at} {i = i} f is_class listed out =
+    let left = taken_listed sli f is_class listed out.list out.others in
+    rw out.blocks (λ j stands. subst (λ (k : ℕ). AreFreeLists sli (withheld_alone (site_at old.blocks k)) (list_in r.lists)) (one_index sli old.blocks at i j f.regions f.stands stands) left)

@@ -1,0 +1,19 @@
+-- What each call keeps, and what a refused one leaves.
+use Rattle.std.specs.Prelude.{◌≡◌, ℕ, ◌≤◌}
+use Rattle.tlsf_heap.specs.FreePlaces.{ShowsLists}
+use Rattle.tlsf_heap.specs.Image.{Shows}
+use Rattle.tlsf_heap.specs.Lawful.{IsLawful}
+use Rattle.tlsf_heap.specs.Shown.{Shown}
+
+-- the heap is lawful before and after, what is stored shows its blocks and the links of its free ones, and the touches never fall
+pub record Keeps (sli : ℕ) (old new : Shown) : Type 0 where
+  pub was_lawful : IsLawful old.heap
+  pub lawful : IsLawful new.heap
+  pub shows : Shows new.stored new.heap.blocks
+  pub lists : ShowsLists sli new.stored new.heap.blocks
+  pub touches_rise : old.touches ≤ new.touches
+
+-- the same heap and the same stored words: only the touches may differ
+pub record IsAsBefore (old new : Shown) : Type 0 where
+  pub heap : new.heap ≡ old.heap
+  pub stored : new.stored ≡ old.stored
