@@ -6,7 +6,7 @@ use mathlib.Core.List.{IsPrefix}
 use Rattle.crossbeam_queue.specs.Passes.{view}
 use Rattle.tlsf_post.specs.declared.post.Post.{Post}
 use Rattle.tlsf_post.specs.declared.plan.Plan.{Plan}
-use Rattle.tlsf_post.specs.declared.hand.Hand.{Hand}
+use Rattle.tlsf_post.specs.declared.view.View.{View}
 use Rattle.tlsf_post.specs.declared.owner_end.OwnerEnd.{OwnerEnd}
 use Rattle.tlsf_post.specs.Rule.{posts_of, plan_for, MayPut, AreOfPosters, Shows, HasTaken}
 use Rattle.tlsf_post.specs.Mailboxes.{owner_of, out_of, plan_at, OwnerSaw}
@@ -18,7 +18,7 @@ pub owner_saw : (o : OwnerEnd) (items : List Post) → (view o.pass).plan ≡ pl
 owner_saw o items e shows =
     let here = of_plan items (plan_at o) (view o.pass).plan (sym e) (shows.few, shows.from) in record { few = here.0; from = here.1; known = λ p. (shows.known p).0 }
 
-pub took_first : (o : OwnerEnd) (w : Hand) (r : Option Post) (N : Type 0) → (view o.pass).plan ≡ plan_at o → MatchOption r N (λ x. HasTaken (view o.pass) x w) → IfSome r (λ x. (others : List Post) × OwnerSaw o (x ∷ others))
+pub took_first : (o : OwnerEnd) (w : View) (r : Option Post) (N : Type 0) → (view o.pass).plan ≡ plan_at o → MatchOption r N (λ x. HasTaken (view o.pass) x w) → IfSome r (λ x. (others : List Post) × OwnerSaw o (x ∷ others))
 took_first o w None N e m = tt
 took_first o w (Some x) N e m = (m.1, owner_saw o (x ∷ m.1) e m.2)
 
@@ -27,12 +27,12 @@ took_of_poster o None s = tt
 took_of_poster o (Some x) s = s.1.from 0 x (omega arith)
 
 -- the mailbox stays as it was laid out
-pub laid_still : (v w : Hand) (owner capacity : ℕ) → w ≡ v → v.plan ≡ plan_for owner v.number capacity → w.plan ≡ plan_for owner w.number capacity
-laid_still v w owner capacity e laid = subst (λ (u : Hand). u.plan ≡ plan_for owner u.number capacity) (sym e) laid
+pub laid_still : (v w : View) (owner capacity : ℕ) → w ≡ v → v.plan ≡ plan_for owner v.number capacity → w.plan ≡ plan_for owner w.number capacity
+laid_still v w owner capacity e laid = subst (λ (u : View). u.plan ≡ plan_for owner u.number capacity) (sym e) laid
 
-pub laid_taken : (r : Option Post) (v w : Hand) (N : Type 0) (owner capacity : ℕ) → MatchOption r ((w ≡ v) × N) (λ x. HasTaken v x w) → v.plan ≡ plan_for owner v.number capacity → w.plan ≡ plan_for owner w.number capacity
+pub laid_taken : (r : Option Post) (v w : View) (N : Type 0) (owner capacity : ℕ) → MatchOption r ((w ≡ v) × N) (λ x. HasTaken v x w) → v.plan ≡ plan_for owner v.number capacity → w.plan ≡ plan_for owner w.number capacity
 laid_taken None v w N owner capacity m laid = laid_still v w owner capacity m.0 laid
-laid_taken (Some x) v w N owner capacity m laid = subst (λ (u : Hand). u.plan ≡ plan_for owner u.number capacity) (sym m.0) laid
+laid_taken (Some x) v w N owner capacity m laid = subst (λ (u : View). u.plan ≡ plan_for owner u.number capacity) (sym m.0) laid
 
 -- ---- one poster
 

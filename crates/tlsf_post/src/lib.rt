@@ -24,7 +24,6 @@
 //! half of a step.
 #![tactic(auto)]
 
-mod hand;
 mod lanes;
 mod mailboxes;
 mod mark;
@@ -36,6 +35,7 @@ mod poster_end;
 mod rounds;
 mod rule;
 mod take_end;
+mod view;
 
 pub use lanes::{beside, lane};
 pub use mailboxes::mailbox;

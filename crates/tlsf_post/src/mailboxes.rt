@@ -1,15 +1,15 @@
 ghost use Rattle.std.specs.Prelude.{◌≡◌, ◌⊎◌, ◌+◌, ◌-◌, ◌<◌, ◌≤◌, [], ◌++◌, map, IfOk, OnOk, All, vec_len, vec_capacity};
 ghost use Rattle.std.specs.Arc.{arc_value};
 ghost use Rattle.crossbeam_queue.specs.Passes.{view, ruled_capacity, IsPassOf};
-ghost use Rattle.tlsf_post.specs.Rule.{keeper, plan_for, no_plan};
+ghost use Rattle.tlsf_post.specs.Rule.{owner_view, plan_for};
 ghost use Rattle.tlsf_post.specs.Mailboxes.{number_of, put_by, owner_of, out_of, most_of, got_by, known_to, IsWhole};
 ghost use Rattle.tlsf_post.specs.Rounds.{run, IsFreshAt};
 
-use crate::hand::Hand;
 use crate::owner_end::OwnerEnd;
 use crate::post::Post;
 use crate::poster_end::PosterEnd;
 use crate::rule::{OneSlot, OneWorker, OwnNumber, OwnerOn, PosterOut, Queue};
+use crate::view::View;
 use crossbeam_queue::Pass;
 use std::alloc::Global;
 use std::sync::Arc;
@@ -60,9 +60,9 @@ pub fn mailbox(
 }
 
 /// Tells the pass what the mailbox is laid out for. A rule knows no number of the program, so it counts: each step is one load.
-fn lay_out(queue: &Queue, pass: &mut Pass<Post, Hand>, owner: u32, n: u32, capacity: u32)
-    requires pass { IsPassOf queue.now pass.old × (view pass.old ≡ keeper no_plan 0 [] []) }
-    ensures pass { IsPassOf queue.now pass.new × (view pass.new ≡ keeper (plan_for owner n capacity) 0 [] []) }
+fn lay_out(queue: &Queue, pass: &mut Pass<Post, View>, owner: u32, n: u32, capacity: u32)
+    requires pass { IsPassOf queue.now pass.old × (view pass.old ≡ owner_view (plan_for 0 0 0) 0 [] []) }
+    ensures pass { IsPassOf queue.now pass.new × (view pass.new ≡ owner_view (plan_for owner n capacity) 0 [] []) }
 {
     for _k in 0..owner {
         queue.another::<OwnerOn>(pass);
@@ -78,19 +78,19 @@ fn lay_out(queue: &Queue, pass: &mut Pass<Post, Hand>, owner: u32, n: u32, capac
 /// Makes the posters' ends of the numbers from `from` up to `to`.
 fn send_out(
     queue: &Arc<Queue, Global>,
-    pass: &mut Pass<Post, Hand>,
+    pass: &mut Pass<Post, View>,
     from: u32,
     to: u32,
     posters: &mut Vec<PosterEnd>,
 ) -> Result<(), NoMemory>
-    requires pass { IsPassOf (arc_value queue.now) pass.old × (view pass.old ≡ keeper (view pass.old).plan from [] []) × (from ≤ to) }
+    requires pass { IsPassOf (arc_value queue.now) pass.old × (view pass.old ≡ owner_view (view pass.old).plan from [] []) × (from ≤ to) }
     requires room { (view pass.old).plan.capacity ≡ ruled_capacity (arc_value queue.now) }
     requires owned { (view pass.old).plan.owner < (view pass.old).plan.workers }
     requires numbers { (to ≤ (view pass.old).plan.workers) × ((to ≤ (view pass.old).plan.owner) ⊎ ((view pass.old).plan.owner < from)) }
     requires posters { All (IsFreshAt pass.old) posters.old.items }
     requires places { vec_len posters.old + (to - from) ≤ vec_capacity posters.old }
     ensures pass { OnOk result (IsPassOf (arc_value queue.now) pass.new × (pass.new.table_id ≡ pass.old.table_id)
-        × (view pass.new ≡ keeper (view pass.old).plan to [] [])) }
+        × (view pass.new ≡ owner_view (view pass.old).plan to [] [])) }
     ensures posters { OnOk result (All (IsFreshAt pass.old) posters.new.items) }
     ensures numbers { OnOk result (map number_of posters.new.items ≡ map number_of posters.old.items ++ run from (to - from)) }
     ensures places { OnOk result ((vec_capacity posters.new ≡ vec_capacity posters.old) × (vec_len posters.new ≡ vec_len posters.old + (to - from))) }

@@ -3,11 +3,11 @@ ghost use Rattle.std.specs.Arc.{arc_value};
 ghost use Rattle.crossbeam_queue.specs.Passes.{view, ruled_capacity};
 ghost use Rattle.tlsf_post.specs.Rule.{plan_for};
 
-use crate::hand::Hand;
 use crate::post::Post;
 use crate::poster_end::PosterEnd;
 use crate::rounds::come_back;
 use crate::rule::{OneTake, Queue};
+use crate::view::View;
 use crossbeam_queue::Pass;
 use std::alloc::Global;
 use std::sync::{Arc, Wait};
@@ -22,7 +22,7 @@ use std::thread::yield_now;
 pub struct OwnerEnd {
     pub(crate) queue: Arc<Queue, Global>,
     // What was taken, and what is known to have been put. It has no bytes.
-    pub(crate) pass: Pass<Post, Hand>,
+    pub(crate) pass: Pass<Post, View>,
     pub(crate) number: u32,
     ghost place: { pass.table_id ≡ (arc_value queue).table.shared.table_id },
     ghost whole: { pass.me.1 ≡ [] },

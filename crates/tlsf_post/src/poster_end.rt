@@ -3,9 +3,9 @@ ghost use Rattle.std.specs.Arc.{arc_value};
 ghost use Rattle.crossbeam_queue.specs.Passes.{view, ruled_capacity};
 ghost use Rattle.tlsf_post.specs.Rule.{posts_of, MayPut};
 
-use crate::hand::Hand;
 use crate::post::Post;
 use crate::rule::{OnePut, Queue};
+use crate::view::View;
 use crossbeam_queue::Pass;
 use std::alloc::Global;
 use std::sync::{Arc, Wait};
@@ -20,7 +20,7 @@ use tlsf_heap::Name;
 pub struct PosterEnd {
     pub(crate) queue: Arc<Queue, Global>,
     // What was put. It has no bytes.
-    pub(crate) pass: Pass<Post, Hand>,
+    pub(crate) pass: Pass<Post, View>,
     pub(crate) from: u32,
     ghost place: { pass.table_id ≡ (arc_value queue).table.shared.table_id },
     ghost whole: { pass.me.1 ≡ [] },

@@ -1,33 +1,33 @@
 //! The rule of a mailbox's queue, and what each step on it tells.
 
-use crate::hand::Hand;
 use crate::post::Post;
+use crate::view::View;
 use crossbeam_queue::RuledArrayQueue;
 use crossbeam_queue::protocol::{Join, Lesson, Outcome, Protocol, Split};
 
 /// The queue of a mailbox.
-pub(crate) type Queue = RuledArrayQueue<Post, Hand, InOrder>;
+pub(crate) type Queue = RuledArrayQueue<Post, View, InOrder>;
 
 /// Of each poster, what was taken and then what waits is what it has put, in order. No more waits than the mailbox holds.
 pub(crate) struct InOrder;
 
-impl Protocol<Post, Hand> for InOrder {
+impl Protocol<Post, View> for InOrder {
     ghost use Rattle.std.specs.Prelude.{[]};
-    ghost use Rattle.tlsf_post.specs.Rule.{Kept, keeper, no_plan};
+    ghost use Rattle.tlsf_post.specs.Rule.{Kept, owner_view, plan_for};
 
     ghost holds = { Kept };
 
-    ghost first = { keeper no_plan 0 [] [] };
+    ghost first = { owner_view (plan_for 0 0 0) 0 [] [] };
 }
 
 /// The owner's number is one more.
 pub(crate) struct OwnerOn;
 
-impl Split<Hand> for OwnerOn {
+impl Split<View> for OwnerOn {
     ghost use Rattle.std.specs.Prelude.{◌+◌};
-    ghost use Rattle.tlsf_post.specs.Rule.{keeper, plan_for, idle};
+    ghost use Rattle.tlsf_post.specs.Rule.{owner_view, plan_for, idle};
 
-    ghost left = { λ v. keeper (plan_for (v.plan.owner + 1) v.plan.workers v.plan.capacity) v.number v.put v.got };
+    ghost left = { λ v. owner_view (plan_for (v.plan.owner + 1) v.plan.workers v.plan.capacity) v.number v.put v.got };
 
     ghost right = { λ v. idle };
 }
@@ -35,11 +35,11 @@ impl Split<Hand> for OwnerOn {
 /// There is one worker more.
 pub(crate) struct OneWorker;
 
-impl Split<Hand> for OneWorker {
+impl Split<View> for OneWorker {
     ghost use Rattle.std.specs.Prelude.{◌+◌};
-    ghost use Rattle.tlsf_post.specs.Rule.{keeper, plan_for, idle};
+    ghost use Rattle.tlsf_post.specs.Rule.{owner_view, plan_for, idle};
 
-    ghost left = { λ v. keeper (plan_for v.plan.owner (v.plan.workers + 1) v.plan.capacity) v.number v.put v.got };
+    ghost left = { λ v. owner_view (plan_for v.plan.owner (v.plan.workers + 1) v.plan.capacity) v.number v.put v.got };
 
     ghost right = { λ v. idle };
 }
@@ -47,11 +47,11 @@ impl Split<Hand> for OneWorker {
 /// The mailbox holds one post more.
 pub(crate) struct OneSlot;
 
-impl Split<Hand> for OneSlot {
+impl Split<View> for OneSlot {
     ghost use Rattle.std.specs.Prelude.{◌+◌};
-    ghost use Rattle.tlsf_post.specs.Rule.{keeper, plan_for, idle};
+    ghost use Rattle.tlsf_post.specs.Rule.{owner_view, plan_for, idle};
 
-    ghost left = { λ v. keeper (plan_for v.plan.owner v.plan.workers (v.plan.capacity + 1)) v.number v.put v.got };
+    ghost left = { λ v. owner_view (plan_for v.plan.owner v.plan.workers (v.plan.capacity + 1)) v.number v.put v.got };
 
     ghost right = { λ v. idle };
 }
@@ -59,23 +59,23 @@ impl Split<Hand> for OneSlot {
 /// The next poster goes out, with all that it had put and all that was taken of it.
 pub(crate) struct PosterOut;
 
-impl Split<Hand> for PosterOut {
+impl Split<View> for PosterOut {
     ghost use Rattle.std.specs.Prelude.{◌+◌};
-    ghost use Rattle.tlsf_post.specs.Rule.{keeper, poster, posts_of};
+    ghost use Rattle.tlsf_post.specs.Rule.{owner_view, poster_view, posts_of};
 
-    ghost left = { λ v. keeper v.plan (v.number + 1) v.put v.got };
+    ghost left = { λ v. owner_view v.plan (v.number + 1) v.put v.got };
 
-    ghost right = { λ v. poster v.plan v.number (posts_of v.number v.put) (posts_of v.number v.got) };
+    ghost right = { λ v. poster_view v.plan v.number (posts_of v.number v.put) (posts_of v.number v.got) };
 }
 
 /// The next number is passed over: it is the owner's own. Its pass is let go, and nobody posts by it.
 pub(crate) struct OwnNumber;
 
-impl Split<Hand> for OwnNumber {
+impl Split<View> for OwnNumber {
     ghost use Rattle.std.specs.Prelude.{◌+◌};
-    ghost use Rattle.tlsf_post.specs.Rule.{keeper, idle};
+    ghost use Rattle.tlsf_post.specs.Rule.{owner_view, idle};
 
-    ghost left = { λ v. keeper v.plan (v.number + 1) v.put v.got };
+    ghost left = { λ v. owner_view v.plan (v.number + 1) v.put v.got };
 
     ghost right = { λ v. idle };
 }
@@ -83,11 +83,11 @@ impl Split<Hand> for OwnNumber {
 /// The last poster that is out comes back, and the owner learns what it has put.
 pub(crate) struct PosterBack;
 
-impl Join<Hand> for PosterBack {
+impl Join<View> for PosterBack {
     ghost use Rattle.std.specs.Prelude.{◌++◌};
-    ghost use Rattle.tlsf_post.specs.Rule.{keeper, posts_but, idle};
+    ghost use Rattle.tlsf_post.specs.Rule.{owner_view, posts_but, idle};
 
-    ghost both = { λ v w. keeper v.plan w.number (posts_but w.number v.put ++ w.put) v.got };
+    ghost both = { λ v w. owner_view v.plan w.number (posts_but w.number v.put ++ w.put) v.got };
 
     ghost spent = { idle };
 }
@@ -95,13 +95,13 @@ impl Join<Hand> for PosterBack {
 /// A post goes in.
 pub(crate) struct OnePut;
 
-impl Outcome<Post, Hand> for OnePut {
+impl Outcome<Post, View> for OnePut {
     ghost use Rattle.tlsf_post.specs.Rule.{HasPut};
 
     ghost then = { HasPut };
 }
 
-impl Lesson<Post, Hand> for OnePut {
+impl Lesson<Post, View> for OnePut {
     ghost use Rattle.tlsf_post.specs.Rule.{ShowsOwn};
 
     ghost fact = { ShowsOwn };
@@ -110,13 +110,13 @@ impl Lesson<Post, Hand> for OnePut {
 /// A post comes out.
 pub(crate) struct OneTake;
 
-impl Outcome<Post, Hand> for OneTake {
+impl Outcome<Post, View> for OneTake {
     ghost use Rattle.tlsf_post.specs.Rule.{HasTaken};
 
     ghost then = { HasTaken };
 }
 
-impl Lesson<Post, Hand> for OneTake {
+impl Lesson<Post, View> for OneTake {
     ghost use Rattle.tlsf_post.specs.Rule.{Shows};
 
     ghost fact = { Shows };

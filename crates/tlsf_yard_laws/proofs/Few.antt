@@ -3,12 +3,12 @@ use Rattle.std.proofs.Common.{◌≡◌, ◌≢◌, ℕ, zero, suc, ◌+◌, ◌
 use Rattle.std.proofs.lemmas.Bool.{cases_eq, false≢true, ne_eqb}
 use Rattle.std.proofs.lemmas.List.{length-map}
 use Rattle.tlsf_heap.specs.declared.name.Name.{Name}
-use Rattle.tlsf_heap.proofs.Finding.{not_true}
+use Rattle.tlsf_heap.proofs.lemmas.blocks.Find.{not_true}
 use Rattle.tlsf_post.specs.declared.post.Post.{Post}
-use Rattle.tlsf_laws.specs.Contents.{is_same}
-use Rattle.tlsf_laws.specs.Kinds.{Ledger}
-use Rattle.tlsf_laws.proofs.Names.{same_self, same_is}
-use Rattle.tlsf_laws.proofs.Ledgers.{AreNamesApart, lookup}
+use Rattle.tlsf_pool.specs.laws.Contents.{is_same}
+use Rattle.tlsf_pool.specs.laws.Kinds.{Ledger}
+use Rattle.tlsf_pool.proofs.lemmas.laws.Names.{same_self, same_is}
+use Rattle.tlsf_pool.proofs.lemmas.laws.Ledgers.{AreNamesApart, lookup}
 
 abbrev pub IsAmong : Name → List Name → Type 0
 IsAmong name [] = ⊥

@@ -12,9 +12,9 @@ use Rattle.tlsf_heap.specs.Lawful.{IsLawful}
 use Rattle.tlsf_heap.specs.Laws.{IsLive}
 use Rattle.tlsf_heap.specs.declared.name.Name.{Name}
 use Rattle.tlsf_heap.specs.declared.refusal.Refusal.{Refusal}
-use Rattle.tlsf_laws.specs.Contents.{Contents, after, contents, is_same}
-use Rattle.tlsf_laws.proofs.Looks.{change, live}
-use Rattle.tlsf_laws.proofs.Names.{same_is}
+use Rattle.tlsf_pool.specs.laws.Contents.{Contents, after, contents, is_same}
+use Rattle.tlsf_pool.proofs.lemmas.laws.Looks.{change, live}
+use Rattle.tlsf_pool.proofs.lemmas.laws.Names.{same_is}
 use Rattle.tlsf_calls.specs.declared.entry.Entry.{Entry}
 use Rattle.tlsf_crew.specs.histories.History.{RunsTo, answer_told, answers_on, call_on_own, calls_on, handed_on}
 use Rattle.tlsf_crew.proofs.lemmas.histories.Fronts.{runs_through}

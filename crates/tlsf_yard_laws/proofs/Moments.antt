@@ -10,15 +10,15 @@ use Rattle.tlsf_heap.specs.Blocks.{HeapState}
 use Rattle.tlsf_heap.specs.Calls as heap
 use Rattle.tlsf_heap.specs.Lawful.{IsLawful}
 use Rattle.tlsf_heap.specs.declared.name.Name.{Name}
-use Rattle.tlsf_heap.proofs.Outcomes.{lawful_run}
-use Rattle.tlsf_heap.proofs.Lawfulness.{opened_lawful}
+use Rattle.tlsf_heap.proofs.lemmas.calls.Outcomes.{lawful_run}
+use Rattle.tlsf_heap.proofs.lemmas.blocks.Lawful.{opened_lawful}
 use Rattle.tlsf_post.specs.declared.post.Post.{Post}
-use Rattle.tlsf_laws.specs.Held.{held_after, held_after_all}
-use Rattle.tlsf_laws.specs.Pools.{AreModest, IsModest}
-use Rattle.tlsf_laws.specs.Contents.{is_same}
-use Rattle.tlsf_laws.specs.Kinds.{Ledger, ledger_after, ledger_after_all}
-use Rattle.tlsf_laws.proofs.Names.{same_is, same_self}
-use Rattle.tlsf_laws.proofs.Ledgers.{Agrees, agrees_run, live_agrees, lookup, new_agrees}
+use Rattle.tlsf_pool.specs.laws.Held.{held_after, held_after_all}
+use Rattle.tlsf_pool.specs.laws.Pools.{AreModest, IsModest}
+use Rattle.tlsf_pool.specs.laws.Contents.{is_same}
+use Rattle.tlsf_pool.specs.laws.Kinds.{Ledger, ledger_after, ledger_after_all}
+use Rattle.tlsf_pool.proofs.lemmas.laws.Names.{same_is, same_self}
+use Rattle.tlsf_pool.proofs.lemmas.laws.Ledgers.{Agrees, agrees_run, live_agrees, lookup, new_agrees}
 use Rattle.tlsf_crew.specs.model.World.{World, heap_in}
 use Rattle.tlsf_crew.specs.histories.History.{RunsTo, answer_told, answers_on, call_on_own, calls_on, entries_of, handed_on, post_of_release, post_of_take}
 use Rattle.tlsf_crew.specs.races.Race.{record_of}

@@ -12,16 +12,16 @@ use Rattle.tlsf_heap.specs.Calls as heap
 use Rattle.tlsf_heap.specs.declared.name.Name.{Name}
 use Rattle.tlsf_heap.specs.declared.refusal.Refusal.{Refusal}
 use Rattle.tlsf_heap.specs.declared.refusal.Refusal.TheVariants.{Foreign, Worn}
-use Rattle.tlsf_heap.proofs.Lawfulness.{all_append}
-use Rattle.tlsf_heap.proofs.Outcomes.{takes}
+use Rattle.tlsf_heap.proofs.lemmas.blocks.Lawful.{all_append}
+use Rattle.tlsf_heap.proofs.lemmas.calls.Outcomes.{takes}
 use Rattle.tlsf_post.specs.declared.post.Post.{Post}
-use Rattle.tlsf_laws.specs.Room.{live_count}
-use Rattle.tlsf_laws.specs.Pools.{pool_words, IsModest, IsServed}
-use Rattle.tlsf_laws.specs.Contents.{bytes_there, is_same}
-use Rattle.tlsf_laws.specs.Kinds.{Ledger, ledger_after, with_length}
-use Rattle.tlsf_laws.proofs.Names.{same_is, same_self}
-use Rattle.tlsf_laws.proofs.Ledgers.{Agrees, agrees_call, live_agrees, lookup, lookup_without}
-use Rattle.tlsf_laws.proofs.ModestCalls.{InPool, is_served, kept, tick_kept}
+use Rattle.tlsf_pool.specs.laws.Room.{live_count}
+use Rattle.tlsf_pool.specs.laws.Pools.{pool_words, IsModest, IsServed}
+use Rattle.tlsf_pool.specs.laws.Contents.{bytes_there, is_same}
+use Rattle.tlsf_pool.specs.laws.Kinds.{Ledger, ledger_after, with_length}
+use Rattle.tlsf_pool.proofs.lemmas.laws.Names.{same_is, same_self}
+use Rattle.tlsf_pool.proofs.lemmas.laws.Ledgers.{Agrees, agrees_call, live_agrees, lookup, lookup_without}
+use Rattle.tlsf_pool.proofs.lemmas.laws.ModestCalls.{InPool, is_served, kept, tick_kept}
 use Rattle.tlsf_calls.specs.Bytes.{bytes_of}
 use Rattle.tlsf_crew.specs.histories.History.{RunsTo, answer_told, answers_on, call_on_own, calls_on, handed_on, meant, name_on_heap, post_of_release, post_of_take, posts_made, posts_taken, taken_name}
 use Rattle.tlsf_calls.specs.declared.entry.Entry.{Entry}

@@ -5,15 +5,15 @@ use Rattle.tlsf_class.specs.Classes.{IsLevel, most_words}
 use Rattle.tlsf_heap.specs.Blocks.{HeapState, want}
 use Rattle.tlsf_heap.specs.Lawful.{IsRegion}
 use Rattle.tlsf_heap.specs.Calls.{Call, Allocate, Release, Write, Resize, Read, Answer, Allocated, Released, Written, Resized, Got, last_tick, opened, run}
-use Rattle.tlsf_laws.specs.Room.{live_count}
-use Rattle.tlsf_laws.specs.Held.{held_after, held_after_all}
+use Rattle.tlsf_pool.specs.laws.Room.{live_count}
+use Rattle.tlsf_pool.specs.laws.Held.{held_after, held_after_all}
 use Rattle.tlsf_heap.specs.declared.name.Name.{Name}
-use Rattle.tlsf_laws.specs.Pools.{pool_words, AreModest, HasRoomFor, IsServed}
-use Rattle.tlsf_laws.specs.Kinds.{Ledger, ledger_after}
-use Rattle.tlsf_laws.specs.Contents.{Contents, contents, after, after_all}
-use Rattle.tlsf_laws.proofs.Held.{holds}
-use Rattle.tlsf_laws.proofs.ModestCalls.{serves, suffices}
-use Rattle.tlsf_laws.proofs.Looks.{told_new}
+use Rattle.tlsf_pool.specs.laws.Pools.{pool_words, AreModest, HasRoomFor, IsServed}
+use Rattle.tlsf_pool.specs.laws.Kinds.{Ledger, ledger_after}
+use Rattle.tlsf_pool.specs.laws.Contents.{Contents, contents, after, after_all}
+use Rattle.tlsf_pool.proofs.lemmas.laws.Held.{holds}
+use Rattle.tlsf_pool.proofs.lemmas.laws.ModestCalls.{serves, suffices}
+use Rattle.tlsf_pool.proofs.lemmas.laws.Looks.{told_new}
 use Rattle.tlsf_crew.specs.model.World.{World, heap_in, replies}
 use Rattle.tlsf_crew.specs.histories.History.{RunsTo, calls_on, answers_on, handed_on}
 use Rattle.tlsf_calls.specs.declared.event.Event.{Event}

@@ -7,11 +7,11 @@ use Rattle.tlsf_class.specs.Classes.{IsLevel}
 use Rattle.tlsf_heap.specs.Blocks.{HeapState, want}
 use Rattle.tlsf_heap.specs.Lawful.{IsLawful}
 use Rattle.tlsf_heap.specs.declared.name.Name.{Name}
-use Rattle.tlsf_heap.proofs.Outcomes.{lawful_run}
+use Rattle.tlsf_heap.proofs.lemmas.calls.Outcomes.{lawful_run}
 use Rattle.tlsf_post.specs.declared.post.Post.{Post}
-use Rattle.tlsf_laws.specs.Pools.{pool_words, IsServed}
-use Rattle.tlsf_laws.proofs.Ledgers.{Agrees, new_agrees}
-use Rattle.tlsf_laws.proofs.ModestCalls.{InPool, opens}
+use Rattle.tlsf_pool.specs.laws.Pools.{pool_words, IsServed}
+use Rattle.tlsf_pool.proofs.lemmas.laws.Ledgers.{Agrees, new_agrees}
+use Rattle.tlsf_pool.proofs.lemmas.laws.ModestCalls.{InPool, opens}
 use Rattle.tlsf_crew.specs.model.World.{World, Replayed, after, answered, begun, called, heap_in, replies}
 use Rattle.tlsf_crew.specs.histories.History.{AreTakes, RunsTo, TellsCall, answer_told, answers_on, call_on_own, calls_on, post_of_release, post_of_take, posts_made, posts_taken}
 use Rattle.tlsf_calls.specs.declared.entry.Entry.{Entry}

@@ -8,8 +8,8 @@ use Rattle.tlsf_heap.specs.Lawful.{IsRegion}
 use Rattle.tlsf_heap.specs.Calls as heap
 use Rattle.tlsf_heap.specs.declared.name.Name.{Name}
 use Rattle.tlsf_post.specs.declared.post.Post.{Post}
-use Rattle.tlsf_laws.specs.Pools.{pool_words, AreModest, IsServed}
-use Rattle.tlsf_laws.specs.Kinds.{Ledger, ledger_after_all}
+use Rattle.tlsf_pool.specs.laws.Pools.{pool_words, AreModest, IsServed}
+use Rattle.tlsf_pool.specs.laws.Kinds.{Ledger, ledger_after_all}
 use Rattle.tlsf_crew.specs.model.World.{World}
 use Rattle.tlsf_crew.specs.histories.History.{StandsBehind, answers_on, calls_on, entries_of, posts_made, posts_taken}
 use Rattle.tlsf_crew.specs.races.Race.{record_of}

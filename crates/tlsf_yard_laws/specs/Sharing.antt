@@ -7,9 +7,9 @@ use Rattle.tlsf_heap.specs.Lawful.{IsRegion}
 use Rattle.tlsf_heap.specs.Calls as heap
 use Rattle.tlsf_heap.specs.declared.name.Name.{Name}
 use Rattle.tlsf_post.specs.declared.post.Post.{Post}
-use Rattle.tlsf_laws.specs.Pools.{pool_words, IsServed}
-use Rattle.tlsf_laws.specs.Contents.{is_same}
-use Rattle.tlsf_laws.specs.Kinds.{Ledger, ledger_after}
+use Rattle.tlsf_pool.specs.laws.Pools.{pool_words, IsServed}
+use Rattle.tlsf_pool.specs.laws.Contents.{is_same}
+use Rattle.tlsf_pool.specs.laws.Kinds.{Ledger, ledger_after}
 use Rattle.tlsf_crew.specs.model.World.{World, replies}
 use Rattle.tlsf_crew.specs.histories.History.{answer_told, answers_on, call_on_own, post_of_release}
 use Rattle.tlsf_calls.specs.declared.entry.Entry.{Entry}

@@ -6,10 +6,10 @@ use Rattle.tlsf_heap.specs.Blocks.{want}
 use Rattle.tlsf_heap.specs.Lawful.{IsRegion}
 use Rattle.tlsf_heap.specs.Calls.{last_tick, opened}
 use Rattle.tlsf_heap.specs.declared.name.Name.{Name}
-use Rattle.tlsf_laws.specs.Room.{live_count}
-use Rattle.tlsf_laws.specs.Held.{held_after_all}
-use Rattle.tlsf_laws.specs.Pools.{pool_words, AreModest, HasRoomFor, IsServed}
-use Rattle.tlsf_laws.specs.Contents.{contents, after_all}
+use Rattle.tlsf_pool.specs.laws.Room.{live_count}
+use Rattle.tlsf_pool.specs.laws.Held.{held_after_all}
+use Rattle.tlsf_pool.specs.laws.Pools.{pool_words, AreModest, HasRoomFor, IsServed}
+use Rattle.tlsf_pool.specs.laws.Contents.{contents, after_all}
 use Rattle.tlsf_crew.specs.model.World.{World, heap_in, replies}
 use Rattle.tlsf_crew.specs.histories.History.{calls_on, answers_on}
 use Rattle.tlsf_calls.specs.declared.event.Event.{Event}

@@ -1,4 +1,4 @@
-//! What the worker of a heap may rely on, whatever the other workers do: the laws of `tlsf_laws` for each heap of a yard.
+//! What the worker of a heap may rely on, whatever the other workers do: the laws of `tlsf_pool` for each heap of a yard.
 //!
 //! Each is the contract of a function that does nothing, over every list of events on every yard, or over every race, whatever
 //! its schedule. They follow from `tlsf_crew::one_history`, `tlsf_crew::one_history_of_a_race` and

@@ -23,7 +23,7 @@ pub fn past_goes_on()
 ///
 /// A worker counts for itself: one more for each allocate that was accepted, one fewer for each release of its own and each
 /// post that it took that its heap accepted. While it has fewer than `most` blocks before each request, and asks for at most
-/// `len` bytes, a heap of `tlsf_laws::pool_never_refuses`' words for these two has room. Where it has `most`, it drains first.
+/// `len` bytes, a heap of `tlsf_pool::pool_never_refuses`' words for these two has room. Where it has `most`, it drains first.
 ///
 /// ```text
 /// worker 0: Allocate(8), Allocate(8), Drain(8), and again where the drain left it fewer than two, in a heap for two blocks

@@ -9,7 +9,7 @@ ghost use Rattle.tlsf_yard_laws.specs.Sharing.{SharedPoolServes};
 /// A block counts as held from the allocate that gave it until a release of its name is accepted from anybody: `Freed` by its
 /// owner, or `Posted` by another worker. So a program that is done with a block need not know when its owner drains. Blocks
 /// whose names are under way are bounded by the lanes: each of the n - 1 lanes that lead to a worker holds up to C posts. A heap
-/// with the words of `tlsf_laws::pool_never_refuses` for `most` + (n - 1) * C blocks of `len` bytes serves each request of
+/// with the words of `tlsf_pool::pool_never_refuses` for `most` + (n - 1) * C blocks of `len` bytes serves each request of
 /// its worker that is for at most `len` bytes and is made while fewer than `most` are held, as long as the ticks last and its
 /// worker resizes no block to more than `len` bytes. Nothing is asked of when a worker drains, and posts of forged or doubled names change nothing.
 ///
@@ -26,7 +26,7 @@ pub fn lanes_add_their_capacity()
 /// A moment of the owner's record is how far it has come, and with it how far each other worker has: any part of that worker's
 /// record of which all is posted that the owner took from it, and at most C posts more, those under way. The blocks that the owner's
 /// answers leave live are held by the programs, but for those whose names are under way. A heap with the words of
-/// `tlsf_laws::pool_never_refuses` for `most` + (n - 1) * C blocks of `len` bytes serves each request of its worker that is for at
+/// `tlsf_pool::pool_never_refuses` for `most` + (n - 1) * C blocks of `len` bytes serves each request of its worker that is for at
 /// most `len` bytes and is made at some such moment at which fewer than `most` are held, as long as the ticks last and its worker
 /// resizes no block to more than `len` bytes.
 ///
@@ -47,7 +47,7 @@ pub fn race_adds_its_lanes()
 
 /// The same in a race over queues: one queue leads to a worker, which holds up to C posts of all others together.
 ///
-/// So the heap needs the words of `tlsf_laws::pool_never_refuses` for `most` + C blocks of `len` bytes, however many workers there
+/// So the heap needs the words of `tlsf_pool::pool_never_refuses` for `most` + C blocks of `len` bytes, however many workers there
 /// are. A moment is as in [`race_adds_its_lanes`], but that at most C posts are under way in all: in what order those of several
 /// workers stand in the queue is free.
 ///

@@ -4,7 +4,7 @@ ghost use Rattle.tlsf_yard_laws.specs.Yards.{YardHoldsWhatIsLive, YardKeepsBytes
 
 /// How large the heap of a worker must be, so that none of its requests is ever refused for want of room.
 ///
-/// The heap needs the words of `tlsf_laws::pool_never_refuses`, for the most blocks of it that are held at any moment. They
+/// The heap needs the words of `tlsf_pool::pool_never_refuses`, for the most blocks of it that are held at any moment. They
 /// are told by the entries of its own worker: its accepted allocates, less the releases that its heap accepted, at once or
 /// in a drain. So a block whose name waits in a lane counts as held: with lanes of C posts from each of n - 1 other workers,
 /// up to C * (n - 1) such blocks beside those in use.

@@ -1,27 +1,23 @@
 -- What the calls of a worker over lanes put and take.
-use Rattle.std.specs.Prelude.{◌≡◌, ℕ, List, Option, Some, Result, Ok, Err, slice_get, slice_set}
+use Rattle.std.specs.Prelude.{◌≡◌, ℕ, List, Option, Some, Result, slice_get, slice_set}
 use Rattle.tlsf_heap.specs.declared.name.Name.{Name}
 use Rattle.tlsf_post.specs.declared.post.Post.{Post}
+use Rattle.tlsf_calls.specs.declared.crew_refusal.CrewRefusal.{CrewRefusal}
 use Rattle.tlsf_calls.specs.declared.took.Took.{Took}
 use Rattle.tlsf_crew.specs.declared.worker.worker.Worker.{Worker}
 use Rattle.tlsf_crew.specs.declared.worker.lanes.Lanes.{Lanes}
 use Rattle.tlsf_crew.specs.lanes.LaneWorkers.{PutThrough, TookThrough}
 use Rattle.tlsf_crew.specs.lanes.Yard.{IsYard}
-use Rattle.tlsf_crew.specs.worker.Calls.{TakenFrom}
+use Rattle.tlsf_crew.specs.worker.Calls.{TakenFrom, put_answer}
 
 -- a yard with lanes stays whole where the one worker takes the other's place
 abbrev pub KeepsYards : {sli : ℕ} → Worker sli Lanes → Worker sli Lanes → Type 0
 KeepsYards {sli} a v = (ws : List (Worker sli Lanes)) (i : ℕ) → slice_get ws i ≡ Some a → IsYard ws → IsYard (slice_set ws i v)
 
--- the name a lane gave back, where it gave back a post
-abbrev pub name_back : Result (Unit {0}) Post → Result (Unit {0}) Name
-name_back (Ok done) = Ok done
-name_back (Err post) = Err post.name
-
 -- a post of that name, from the worker of number `from`, was put into the lane to the worker of its heap
-abbrev pub PutsIntoLane : ℕ → Lanes → Lanes → Name → Result (Unit {0}) Name → Type 0
+abbrev pub PutsIntoLane : ℕ → Lanes → Lanes → Name → Result (Unit {0}) CrewRefusal → Type 0
 PutsIntoLane from p q name answer =
-    (put : Result (Unit {0}) Post) × PutThrough p q name.heap (record { from = from; name = name }) put × (answer ≡ name_back put)
+    (put : Result (Unit {0}) Post) × PutThrough p q name.heap (record { from = from; name = name }) put × (answer ≡ put_answer name put)
 
 -- the lane from a worker was asked for its next post
 abbrev pub TakenFromLane : {sli : ℕ} → Worker sli Lanes → Worker sli Lanes → ℕ → Option Took → Type 0

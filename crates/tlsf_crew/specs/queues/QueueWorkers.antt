@@ -4,6 +4,8 @@ use Rattle.tlsf_heap.specs.declared.name.Name.{Name}
 use Rattle.tlsf_post.specs.Mailboxes.{number_of, put_by, plan_of, owner_of, out_of, got_by, IsOnlyPoster, HasFilled, PosterSaw, OwnerSaw, KeepsPoster, KeepsOwner, IsAllTaken}
 use Rattle.tlsf_post.specs.declared.post.Post.{Post}
 use Rattle.tlsf_post.specs.declared.poster_end.PosterEnd.{PosterEnd}
+use Rattle.tlsf_calls.specs.declared.crew_refusal.CrewRefusal.{CrewRefusal}
+use Rattle.tlsf_crew.specs.worker.Calls.{put_answer}
 use Rattle.tlsf_crew.specs.worker.Workers.{IsOther, heap_of, id_of, slot_of, SameButPorts, KeepsHeap}
 use Rattle.tlsf_crew.specs.declared.worker.worker.Worker.{Worker}
 use Rattle.tlsf_crew.specs.declared.queues.queues.Queues.{Queues}
@@ -63,8 +65,8 @@ pub record PutInto (p q : Queues) (j : ℕ) (name : Name) (answer : Result (Unit
   pub alone : IfErr answer (λ back. IsOnlyPoster end → HasFilled end)
 
 -- a name was put into the queue of the worker of its heap
-abbrev pub PutsIntoQueue : ℕ → Queues → Queues → Name → Result (Unit {0}) Name → Type 0
-PutsIntoQueue from p q name answer = PutInto p q name.heap name answer
+abbrev pub PutsIntoQueue : ℕ → Queues → Queues → Name → Result (Unit {0}) CrewRefusal → Type 0
+PutsIntoQueue from p q name answer = (put : Result (Unit {0}) Name) × PutInto p q name.heap name put × (answer ≡ put_answer name put)
 
 -- worker v is a with its end to j after a put
 abbrev pub PosterEndPut : {sli : ℕ} → Worker sli Queues → Worker sli Queues → ℕ → Name → Result (Unit {0}) Name → Type 0

@@ -61,7 +61,7 @@ reply_released (Ok WasPosted) = Posted
 reply_released (Err why) = Refused why
 
 -- what a release promises, over ports that reach some workers and by what a put may leave
-pub record ReleasedAnywhere {sli : ℕ} {P : Type 0} (reaches : P → ℕ → Type 0) (puts : ℕ → P → P → Name → Result (Unit {0}) Name → Type 0) (a v : Worker sli P) (name : Name) (answer : Result Released CrewRefusal) : Type 0 where
+pub record ReleasedAnywhere {sli : ℕ} {P : Type 0} (reaches : P → ℕ → Type 0) (puts : ℕ → P → P → Name → Result (Unit {0}) CrewRefusal → Type 0) (a v : Worker sli P) (name : Name) (answer : Result Released CrewRefusal) : Type 0 where
   pub here : name.heap ≡ id_of a → ReleasedHere a v name answer
   pub there : name.heap ≢ id_of a → reaches a.ports name.heap → ReleasedThere puts a v name answer
   pub nowhere : name.heap ≢ id_of a → ¬ (reaches a.ports name.heap) → (answer ≡ Err Stranger) × (v ≡ a)

@@ -27,8 +27,8 @@ abbrev pub freed_by : Result (Unit {0}) Refusal → Result Released CrewRefusal
 freed_by (Ok done) = Ok Freed
 freed_by (Err why) = Err (Heap why)
 
--- what a post answers whose put was answered so
-abbrev pub put_answer : Name → Result (Unit {0}) Name → Result (Unit {0}) CrewRefusal
+-- what a post of that name answers whose port answered so
+abbrev pub put_answer : {X : Type 0} → Name → Result (Unit {0}) X → Result (Unit {0}) CrewRefusal
 put_answer name (Ok done) = Ok done
 put_answer name (Err back) = Err (Full name)
 
@@ -44,13 +44,11 @@ pub record ReleasedHere {sli : ℕ} {P : Type 0} (a v : Worker sli P) (name : Na
   pub same : SameButHeap a v
 
 -- the name was put through the port to the worker of its heap, by what such a put may leave and answer
-pub record PostedThere {sli : ℕ} {P : Type 0} (puts : ℕ → P → P → Name → Result (Unit {0}) Name → Type 0) (a v : Worker sli P) (name : Name) (answer : Result (Unit {0}) CrewRefusal) : Type 0 where
-  pub put : Result (Unit {0}) Name
-  pub through : puts (id_of a) a.ports v.ports name put
+pub record PostedThere {sli : ℕ} {P : Type 0} (puts : ℕ → P → P → Name → Result (Unit {0}) CrewRefusal → Type 0) (a v : Worker sli P) (name : Name) (answer : Result (Unit {0}) CrewRefusal) : Type 0 where
+  pub through : puts (id_of a) a.ports v.ports name answer
   pub same : SameButPorts a v
-  pub answer_is : answer ≡ put_answer name put
 
-pub record ReleasedThere {sli : ℕ} {P : Type 0} (puts : ℕ → P → P → Name → Result (Unit {0}) Name → Type 0) (a v : Worker sli P) (name : Name) (answer : Result Released CrewRefusal) : Type 0 where
+pub record ReleasedThere {sli : ℕ} {P : Type 0} (puts : ℕ → P → P → Name → Result (Unit {0}) CrewRefusal → Type 0) (a v : Worker sli P) (name : Name) (answer : Result Released CrewRefusal) : Type 0 where
   pub posted : Result (Unit {0}) CrewRefusal
   pub post : PostedThere puts a v name posted
   pub answer_is : answer ≡ posted_as posted

@@ -1,10 +1,8 @@
 //! The jobs of a race, each in a thread of its own.
-ghost use Rattle.std.specs.Prelude.{◌≡◌, ◌≤◌, [], map, vec_len, vec_capacity, IfOk, OnOk, All};
+ghost use Rattle.std.specs.Prelude.{◌≡◌, ◌≤◌, [], vec_len, vec_capacity, IfOk, OnOk, All};
 ghost use Rattle.tlsf_crew.specs.jobs.Parts.{AllDone};
 
-use crate::jobs::done::Done;
 use crate::jobs::gate::Gate;
-use crate::jobs::outcome::Outcome;
 use crate::jobs::work::Work;
 use crate::jobs::work_promise::WorkPromise;
 use std::alloc::{AllocError, Global};
@@ -14,7 +12,8 @@ use std::sync::Wait;
 use std::thread;
 use std::thread::{Scope, Threads};
 
-/// Does each job in a thread of its own: the last one's starts first, and is joined last.
+/// Does each job in a thread of its own: the last one's starts first, and is joined last. It calls itself, so that each
+/// thread's handle stands in a call and no list of them takes memory.
 fn fan_out<'s, E, R: Threads + Wait + Sync, W: Work<R> + Send + Drop + 's, G: Gate + Sync>(
     rt: &'s R,
     scope: &Scope<'s, E>,
@@ -77,30 +76,4 @@ where
             Ok(all)
         },
     )
-}
-
-/// Takes apart what was done.
-pub(crate) fn take_apart<const SLI: u32, P: Drop>(
-    done: &mut Vec<Done<SLI, P>>,
-    out: &mut Outcome<SLI, P>,
-)
-    requires empty { (out.old.workers.items ≡ []) × (out.old.records.items ≡ []) }
-    requires room { (vec_len done.old ≤ vec_capacity out.old.workers) × (vec_len done.old ≤ vec_capacity out.old.records) }
-    ensures parts { (out.new.workers.items ≡ map (λ d. d.worker) done.old.items) × (out.new.records.items ≡ map (λ d. d.entries) done.old.items) }
-    ensures len { (vec_len out.new.workers ≡ vec_len done.old) × (vec_len out.new.records ≡ vec_len done.old) }
-    ensures capacity { (vec_capacity out.new.workers ≡ vec_capacity out.old.workers) × (vec_capacity out.new.records ≡ vec_capacity out.old.records) }
-{
-    let Some(
-        Done {
-            worker,
-            made: _,
-            entries,
-        },
-    ) = done.pop()
-    else {
-        return;
-    };
-    take_apart(done, out);
-    out.workers.push_reserved(worker);
-    out.records.push_reserved(entries);
 }

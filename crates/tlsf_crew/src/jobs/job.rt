@@ -33,7 +33,7 @@ impl<const SLI: u32, R, P: Scripted<R>> Work<R> for Job<SLI, P> {
 
     /// Runs the script. The gate is passed before each call, and once after the last.
     fn run<G: Gate>(self, rt: &R, gate: &G) -> Done<SLI, P> {
-        P::moves_join();
+        P::laws();
         let Job {
             mut worker,
             script,

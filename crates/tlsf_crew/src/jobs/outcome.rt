@@ -1,5 +1,6 @@
-ghost use Rattle.std.specs.Prelude.{◌≡◌, ◌≤◌, [], vec_capacity, IfOk};
+ghost use Rattle.std.specs.Prelude.{◌≡◌, ◌≤◌, [], map, vec_len, vec_capacity, IfOk};
 
+use crate::jobs::done::Done;
 use crate::queues::queues::Queues;
 use crate::worker::lanes::Lanes;
 use crate::worker::worker::Worker;
@@ -28,5 +29,22 @@ impl<const SLI: u32, P: Drop> Outcome<SLI, P> {
         let workers = Vec::with_capacity(alloc, count)?;
         let records = Vec::with_capacity(alloc, count)?;
         Ok(Outcome { workers, records })
+    }
+
+    /// Adds what each worker's thread handed back.
+    pub(crate) fn add_all(&mut self, done: Vec<Done<SLI, P>>)
+        requires empty { (self.old.workers.items ≡ []) × (self.old.records.items ≡ []) }
+        requires room { (vec_len done ≤ vec_capacity self.old.workers) × (vec_len done ≤ vec_capacity self.old.records) }
+        ensures parts { (self.new.workers.items ≡ map (λ d. d.worker) done.items) × (self.new.records.items ≡ map (λ d. d.entries) done.items) }
+    {
+        for each in done {
+            let Done {
+                worker,
+                made: _,
+                entries,
+            } = each;
+            self.workers.push_reserved(worker);
+            self.records.push_reserved(entries);
+        }
     }
 }

@@ -1,5 +1,5 @@
 //! The jobs of a race. All room is made here, before a thread starts.
-ghost use Rattle.std.specs.Prelude.{◌≡◌, ℕ, ◌+◌, ◌^◌, ◌<◌, ◌≤◌, [], length, map, slice_index, vec_len, vec_capacity, IfOk, OnOk, All};
+ghost use Rattle.std.specs.Prelude.{◌≡◌, ℕ, ◌+◌, ◌^◌, ◌<◌, ◌≤◌, length, map, slice_index, vec_len, IfOk, All};
 ghost use Rattle.tlsf_crew.specs.model.Sums.{sum_of};
 ghost use Rattle.tlsf_crew.specs.scripts.Counts.{releases_of};
 ghost use Rattle.tlsf_crew.specs.scripts.Scripts.{script_of};
@@ -10,8 +10,7 @@ use crate::jobs::job::Job;
 use crate::scripts::scripted::Scripted;
 use crate::worker::worker::Worker;
 use std::alloc::Global;
-use tlsf_calls::{Call, Entry};
-use tlsf_heap::Name;
+use tlsf_calls::Call;
 use tlsf_post::NoMemory;
 
 /// How many calls of a script are releases.
@@ -51,23 +50,6 @@ fn room_with_limits(limits: &[u64; 8], calls: usize) -> usize
     room
 }
 
-/// Room for the names that so many calls make, and for the record of the worker that makes them.
-fn room_for_job(
-    alloc: Global,
-    limits: &[u64; 8],
-    calls: usize,
-) -> Result<(Vec<Option<Name>>, Vec<Entry>), NoMemory>
-    requires short { calls < 2 ^ 32 }
-    requires few { (i : ℕ) → i < 8 → slice_index limits.now i ≤ 2 ^ 36 }
-    ensures fresh { IfOk result (λ room. (room.0.items ≡ []) × (room.1.items ≡ [])) }
-    ensures names { IfOk result (λ room. calls ≤ vec_capacity room.0) }
-    ensures record { IfOk result (λ room. vec_capacity room.1 ≡ calls + sum_of limits.now + 1) }
-{
-    let made = Vec::with_capacity(alloc, calls)?;
-    let entries = Vec::with_capacity(alloc, room_with_limits(limits, calls))?;
-    Ok((made, entries))
-}
-
 /// A worker with its script, and the room for its record.
 fn make_job<const SLI: u32, R, P: Scripted<R> + Drop>(
     alloc: Global,
@@ -80,7 +62,8 @@ fn make_job<const SLI: u32, R, P: Scripted<R> + Drop>(
     ensures { IfOk result (λ job. (job.worker ≡ worker) × (job.script ≡ script) × IsPrepared (P.promise SLI) releases.now job) }
 {
     let limits = worker.ports.limits(releases);
-    let (made, entries) = room_for_job(alloc, &limits, script.len())?;
+    let made = Vec::with_capacity(alloc, script.len())?;
+    let entries = Vec::with_capacity(alloc, room_with_limits(&limits, script.len()))?;
     Ok(Job {
         worker,
         script,
@@ -91,39 +74,10 @@ fn make_job<const SLI: u32, R, P: Scripted<R> + Drop>(
 }
 
 /// Pairs each worker with its script, in order, and makes the room for its record.
-fn add_jobs<const SLI: u32, R, P: Scripted<R> + Drop>(
-    alloc: Global,
-    workers: &mut Vec<Worker<SLI, P>>,
-    scripts: &mut Vec<Vec<Call>>,
-    releases: &[u32; 8],
-    jobs: &mut Vec<Job<SLI, P>>,
-) -> Result<(), NoMemory>
-    requires same { vec_len scripts.old ≡ vec_len workers.old }
-    requires yard { All (KnowsSome (P.promise SLI).knows) workers.old.items }
-    requires short { All (λ s. vec_len s < 2 ^ 32) scripts.old.items }
-    requires room { (jobs.old.items ≡ []) × (vec_len workers.old ≤ vec_capacity jobs.old) }
-    ensures workers { OnOk result (map (λ j. j.worker) jobs.new.items ≡ workers.old.items) }
-    ensures scripts { OnOk result (map (λ j. j.script) jobs.new.items ≡ scripts.old.items) }
-    ensures ready { OnOk result (All (IsPrepared (P.promise SLI) releases.now) jobs.new.items) }
-    ensures len { OnOk result (vec_len jobs.new ≡ vec_len workers.old) }
-    ensures capacity { vec_capacity jobs.new ≡ vec_capacity jobs.old }
-{
-    while let Some(worker) = workers.pop() {
-        let Some(script) = scripts.pop() else {
-            unreachable!()
-        };
-        let job = make_job::<SLI, R, P>(alloc, worker, script, releases)?;
-        jobs.push_reserved(job);
-    }
-    jobs.reverse();
-    Ok(())
-}
-
-/// A job for each worker, in order.
 pub(crate) fn prepare<const SLI: u32, R, P: Scripted<R> + Drop>(
     alloc: Global,
-    workers: Vec<Worker<SLI, P>>,
-    scripts: Vec<Vec<Call>>,
+    mut workers: Vec<Worker<SLI, P>>,
+    mut scripts: Vec<Vec<Call>>,
     releases: &[u32; 8],
 ) -> Result<Vec<Job<SLI, P>>, NoMemory>
     requires yard { All (KnowsSome (P.promise SLI).knows) workers.items }
@@ -134,9 +88,14 @@ pub(crate) fn prepare<const SLI: u32, R, P: Scripted<R> + Drop>(
     ensures ready { IfOk result (λ jobs. All (IsPrepared (P.promise SLI) releases.now) jobs.items) }
     ensures len { IfOk result (λ jobs. vec_len jobs ≡ vec_len workers) }
 {
-    let mut workers = workers;
-    let mut scripts = scripts;
     let mut jobs = Vec::with_capacity(alloc, workers.len())?;
-    add_jobs::<SLI, R, P>(alloc, &mut workers, &mut scripts, releases, &mut jobs)?;
+    while let Some(worker) = workers.pop() {
+        let Some(script) = scripts.pop() else {
+            unreachable!()
+        };
+        let job = make_job::<SLI, R, P>(alloc, worker, script, releases)?;
+        jobs.push_reserved(job);
+    }
+    jobs.reverse();
     Ok(jobs)
 }

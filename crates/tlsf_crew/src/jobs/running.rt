@@ -4,7 +4,7 @@ ghost use Rattle.tlsf_crew.specs.jobs.Job.{KnowsSome};
 ghost use Rattle.tlsf_crew.specs.jobs.Parts.{EachJobRan};
 
 use crate::jobs::done::Done;
-use crate::jobs::fan_out::{run_all, take_apart};
+use crate::jobs::fan_out::run_all;
 use crate::jobs::gate::Gate;
 use crate::jobs::job::Job;
 use crate::jobs::outcome::Outcome;
@@ -41,7 +41,7 @@ pub(crate) fn run_scripts<
     let releases = count_all(&scripts);
     let jobs = prepare::<SLI, R, P>(alloc, workers, scripts, &releases)?;
     let mut outcome = Outcome::with_room(alloc, jobs.len())?;
-    let mut done = run_all(rt, alloc, jobs, gate)?;
-    take_apart(&mut done, &mut outcome);
+    let done = run_all(rt, alloc, jobs, gate)?;
+    outcome.add_all(done);
     Ok(outcome)
 }

@@ -1,18 +1,19 @@
 //! What a worker does over lanes.
 ghost use Rattle.std.specs.Prelude.{◌≡◌, ◌≢◌, ◌+◌, ◌*◌, ◌≤◌, length, Option, None, Some, Ok, Err, IfOk, IfSome};
 ghost use Rattle.tlsf_calls.specs.declared.took.Took.{Took};
+ghost use Rattle.tlsf_heap.specs.declared.refusal.Refusal.TheVariants.{Foreign};
 ghost use Rattle.tlsf_heap.specs.Touched.{FollowsNoForgery};
 ghost use Rattle.tlsf_crew.specs.worker.Workers.{heap_of, touches_of, id_of};
 ghost use Rattle.tlsf_crew.specs.lanes.LaneWorkers.{HasPost, HasTake, HearsLane, ReachesLane, TookThrough};
 ghost use Rattle.tlsf_crew.specs.lanes.LaneCalls.{KeepsYards, PutsIntoLane, TakenFromLane};
-ghost use Rattle.tlsf_crew.specs.worker.Calls.{ReleasedHere, ReleasedThere};
+ghost use Rattle.tlsf_crew.specs.worker.Calls.{PostedThere, ReleasedHere, ReleasedThere};
 ghost use Rattle.tlsf_crew.specs.lanes.LaneTurns.{DrainedAll};
 ghost use Rattle.tlsf_crew.specs.lanes.LaneNotes.{StopsAtLane};
 
 use crate::worker::lanes::Lanes;
 use crate::worker::notes::NoNotes;
-use crate::worker::ports::{Exchange, Ports, has_end};
-use crate::worker::worker::{Worker, drain_each, release, take_next};
+use crate::worker::ports::{Exchange, NoRuntime, Ports, has_end, put_answer};
+use crate::worker::worker::{Worker, drain_each, post, release, take_next};
 use tlsf_calls::{CrewRefusal, Drained, Released, Took};
 use tlsf_heap::Name;
 use tlsf_post::Post;
@@ -48,24 +49,21 @@ impl Ports for Lanes {
     fn heap_keeps() {}
 }
 
-impl<C> Exchange<C> for Lanes {
+impl<R> Exchange<R> for Lanes {
     ghost puts = { PutsIntoLane };
 
     ghost takes = { λ p q from answer. TookThrough p q from answer };
 
     ghost stops = { StopsAtLane };
 
-    fn put(&mut self, _context: &C, from: u32, name: Name) -> Result<(), Name> {
+    fn put(&mut self, _rt: &R, from: u32, name: Name) -> Result<(), CrewRefusal> {
         let Some(end) = self.posts[name.heap as usize].as_mut() else {
             unreachable!()
         };
-        match end.put(Post { from, name }) {
-            Ok(()) => Ok(()),
-            Err(post) => Err(post.name),
-        }
+        put_answer(end.put(Post { from, name }), name)
     }
 
-    fn take(&mut self, _context: &C, source: usize) -> Option<Post> {
+    fn take(&mut self, _rt: &R, source: usize) -> Option<Post> {
         let Some(end) = self.takes[source].as_mut() else {
             unreachable!()
         };
@@ -73,10 +71,31 @@ impl<C> Exchange<C> for Lanes {
     }
 
     /// A drain leaves a lane at once.
-    fn stop(&mut self, _context: &C, _source: usize) {}
+    fn stop(&mut self, _rt: &R, _source: usize) {}
 }
 
 impl<const SLI: u32> Worker<SLI> {
+    /// Posts the name of another worker's block to its owner, unread.
+    ///
+    /// - `own`: a name of the own heap is refused as `Foreign`, and nothing changes: see [`Worker::free`].
+    /// - `there`: a name of another worker's heap is put into the lane to it, or given back as `Full`, which comes only
+    ///   where that lane knows no free slot.
+    /// - `nowhere`: a name of no other worker is a `Stranger`, and nothing changes.
+    ///
+    /// ```
+    /// workers[1].post(name)?; // worker 0, which allocated it, will take and release it
+    /// ```
+    pub fn post(&mut self, name: Name) -> Result<(), CrewRefusal>
+        ensures own { name.heap ≡ id_of self.old → (result ≡ Err (CrewRefusal.Heap Foreign)) × (self.new ≡ self.old) }
+        ensures there { name.heap ≢ id_of self.old → HasPost self.old name.heap → PostedThere PutsIntoLane self.old self.new name result }
+        ensures nowhere { name.heap ≢ id_of self.old → ¬ (HasPost self.old name.heap) → (result ≡ Err CrewRefusal.Stranger) × (self.new ≡ self.old) }
+        ensures heap { heap_of self.new ≡ heap_of self.old }
+        ensures yard { KeepsYards self.old self.new }
+        ensures touches { touches_of self.new ≡ touches_of self.old }
+    {
+        post(self, &NoRuntime, name)
+    }
+
     /// Releases a block of the own heap, or posts the name of another worker's block to its owner, unread.
     ///
     /// - `here`: a name of the own heap is answered as the heap answers it.
@@ -98,7 +117,7 @@ impl<const SLI: u32> Worker<SLI> {
         ensures touches_rise { touches_of self.old ≤ touches_of self.new }
         ensures forged { name.heap ≡ id_of self.old → FollowsNoForgery (heap_of self.old) name (touches_of self.old) (touches_of self.new) }
     {
-        release(self, &(), name)
+        release(self, &NoRuntime, name)
     }
 
     /// Takes the next post from another worker, where the end of that lane has one, and releases the block that it
@@ -124,7 +143,7 @@ impl<const SLI: u32> Worker<SLI> {
         if !self.ports.has_source(from as usize) {
             return Err(CrewRefusal::Stranger);
         }
-        Ok(take_next(self, &(), from as usize))
+        Ok(take_next(self, &NoRuntime, from as usize))
     }
 
     /// Takes from the other workers' lanes, in the rising order of their numbers, and releases each block that a post
@@ -147,6 +166,6 @@ impl<const SLI: u32> Worker<SLI> {
         ensures touches { touches_of self.new ≤ touches_of self.old + 64 * result.taken }
         ensures touches_rise { touches_of self.old ≤ touches_of self.new }
     {
-        drain_each(self, &(), most, &mut NoNotes)
+        drain_each(self, &NoRuntime, most, &mut NoNotes)
     }
 }

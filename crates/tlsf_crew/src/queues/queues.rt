@@ -1,5 +1,6 @@
 //! The queues of a worker, and what it does over them.
-ghost use Rattle.std.specs.Prelude.{◌≡◌, ◌≢◌, ◌+◌, ◌*◌, ◌≤◌, ⊤, Some, Err, IfSome};
+ghost use Rattle.std.specs.Prelude.{◌≡◌, ◌≢◌, ◌+◌, ◌*◌, ◌≤◌, ⊤, Option, Some, Ok, Err, IfOk, IfSome};
+ghost use Rattle.tlsf_calls.specs.declared.took.Took.{Took};
 ghost use Rattle.tlsf_heap.specs.declared.refusal.Refusal.TheVariants.{Foreign};
 ghost use Rattle.tlsf_heap.specs.Touched.{FollowsNoForgery};
 ghost use Rattle.tlsf_crew.specs.worker.Workers.{heap_of, touches_of, id_of};
@@ -9,7 +10,7 @@ ghost use Rattle.tlsf_crew.specs.queues.QueueCalls.{TakenFromQueue, DrainedQueue
 ghost use Rattle.tlsf_crew.specs.queues.QueueNotes.{StopsAtQueue};
 
 use crate::worker::notes::NoNotes;
-use crate::worker::ports::{Exchange, Ports, has_end};
+use crate::worker::ports::{Exchange, Ports, has_end, put_answer};
 use crate::worker::worker::{Worker, drain_source, post, release, take_next};
 use std::sync::Wait;
 use tlsf_calls::{CrewRefusal, Drained, Released, Took};
@@ -66,20 +67,20 @@ impl<R: Wait> Exchange<R> for Queues {
 
     ghost stops = { StopsAtQueue };
 
-    fn put(&mut self, context: &R, _from: u32, name: Name) -> Result<(), Name> {
+    fn put(&mut self, rt: &R, _from: u32, name: Name) -> Result<(), CrewRefusal> {
         let Some(end) = self.posts[name.heap as usize].as_mut() else {
             unreachable!()
         };
-        end.put(context, name)
+        put_answer(end.put(rt, name), name)
     }
 
-    fn take(&mut self, context: &R, _source: usize) -> Option<Post> {
-        self.own.take(context)
+    fn take(&mut self, rt: &R, _source: usize) -> Option<Post> {
+        self.own.take(rt)
     }
 
     /// All that may come was taken, so it waits for the queue to be seen empty.
-    fn stop(&mut self, context: &R, _source: usize) {
-        self.own.wait_empty(context);
+    fn stop(&mut self, rt: &R, _source: usize) {
+        self.own.wait_empty(rt);
     }
 }
 
@@ -135,22 +136,23 @@ impl<const SLI: u32> QueueWorker<SLI> {
     /// then, whatever the heap's answer. `None` comes where the queue was empty at one moment of the call. It may spin
     /// while a post is half put by another thread, and so needs `Wait`.
     ///
-    /// - `taken`: the own queue is asked for one post. Where it answers one, no more waited than the queue holds.
+    /// - `taken`: the own queue is asked for one post. Where it answers one, no more waited than the queue holds. It is never
+    ///   refused, but answers as [`crate::Worker::take`] does.
     /// - `touches`: at most 64 touches of the own heap's memory.
     ///
     /// ```
-    /// if let Some(took) = worker.take(rt) {
+    /// if let Some(took) = worker.take(rt)? {
     ///     let freed = took.answer.is_ok(); // whether the block that worker `took.from` posted was released
     /// }
     /// ```
-    pub fn take<R: Wait>(&mut self, rt: &R) -> Option<Took>
-        ensures taken { TakenFromQueue self.old self.new result }
+    pub fn take<R: Wait>(&mut self, rt: &R) -> Result<Option<Took>, CrewRefusal>
+        ensures taken { (answer : Option Took) × TakenFromQueue self.old self.new answer × (result ≡ Ok answer) }
         ensures yard { KeepsQueueYards self.old self.new }
         ensures touches { touches_of self.new ≤ touches_of self.old + 64 }
         ensures touches_rise { touches_of self.old ≤ touches_of self.new }
-        ensures forged { IfSome result (λ took. FollowsNoForgery (heap_of self.old) took.name (touches_of self.old) (touches_of self.new)) }
+        ensures forged { IfOk result (λ answer. IfSome answer (λ took. FollowsNoForgery (heap_of self.old) took.name (touches_of self.old) (touches_of self.new))) }
     {
-        take_next(self, rt, 0)
+        Ok(take_next(self, rt, 0))
     }
 
     /// Takes from the own queue and releases each block that a post names, until `most` posts were taken or the queue is

@@ -22,7 +22,6 @@ use crate::scripts::journal::Journal;
 use crate::worker::worker::drain_source;
 use std::alloc::Global;
 use std::marker::{PhantomData, Sync};
-use std::mem;
 use std::sync::Wait;
 use std::thread::Threads;
 use tlsf_calls::{Call, Entry, MOST_DRAINED, Reply};
@@ -131,10 +130,8 @@ fn drain_one<const SLI: u32, R: Wait>(
     ensures drained { (n : ℕ) → KnowsQueueYard n worker.old → QueueLastDrained n worker.old worker.new entries.old.items entries.new.items }
     ensures capacity { vec_capacity entries.new ≡ vec_capacity entries.old }
 {
-    let mut journal = Journal {
-        limits: [last_limit(entries), 0, 0, 0, 0, 0, 0, 0],
-        entries: mem::replace(entries, Vec::new(alloc)),
-    };
+    let limits = [last_limit(entries), 0, 0, 0, 0, 0, 0, 0];
+    let mut journal = Journal::resume(alloc, entries, limits);
     let taken = drain_into_queue_journal(rt, worker, &mut journal, MOST_DRAINED);
     journal.entries.push_reserved(Entry {
         worker: worker.id,

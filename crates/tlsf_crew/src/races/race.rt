@@ -18,7 +18,6 @@ use crate::scripts::journal::Journal;
 use crate::worker::worker::Worker;
 use std::alloc::Global;
 use std::marker::{PhantomData, Sync};
-use std::mem;
 use std::sync::Wait;
 use std::thread::Threads;
 use tlsf_calls::{Call, Entry, Event, MOST_DRAINED};
@@ -104,10 +103,7 @@ fn drain_one<const SLI: u32>(
         worker: at,
         call: Call::Drain { most: MOST_DRAINED },
     };
-    let mut journal = Journal {
-        limits: [0; 8],
-        entries: mem::replace(entries, Vec::new(alloc)),
-    };
+    let mut journal = Journal::resume(alloc, entries, [0; 8]);
     let reply = reply_in_yard(workers, &event, None, &mut journal);
     journal.entries.push_reserved(Entry {
         worker: at,

@@ -1,8 +1,8 @@
 //! Events, one after another.
 ghost use Rattle.std.specs.Prelude.{◌≡◌, ◌≢◌, ℕ, ◌+◌, ◌*◌, ◌<◌, ◌≤◌, length, List, Option, Some, vec_len, vec_capacity, IfOk, OnOk, OnErr};
 ghost use Rattle.tlsf_heap.specs.declared.name.Name.{Name};
-ghost use Rattle.tlsf_crew.specs.model.Sums.{sum_below, waiting_count};
-ghost use Rattle.tlsf_crew.specs.scripts.Counts.{releases_in, entry_room};
+ghost use Rattle.tlsf_crew.specs.model.Sums.{sum_below};
+ghost use Rattle.tlsf_crew.specs.scripts.Counts.{entry_room};
 ghost use Rattle.tlsf_crew.specs.lanes.Yard.{IsYard, waits_in, world_of};
 ghost use Rattle.tlsf_crew.specs.model.World.{after, replies, replies_behind};
 ghost use Rattle.tlsf_crew.specs.model.Targets.{target_name};
@@ -15,37 +15,31 @@ use crate::lanes::settle::{settle, settle_column};
 use crate::scripts::executor::{answer, reply_to};
 use crate::scripts::journal::Journal;
 use crate::scripts::own_replies::target_name;
-use crate::scripts::room::{count_each, room_for};
+use crate::scripts::room::room_for;
+use crate::scripts::scripted::Scripted;
+use crate::worker::lanes::Lanes;
+use crate::worker::ports::NoRuntime;
 use crate::worker::worker::Worker;
 use std::alloc::Global;
 use tlsf_calls::{Call, CrewRefusal, Entry, Event, Reply};
 use tlsf_heap::Name;
 use tlsf_post::NoMemory;
 
-/// Settles the lane between two workers, where there is one.
-fn settle_between<const SLI: u32>(workers: &mut [Worker<SLI>], i: usize, j: usize)
-    requires yard { IsYard workers.old }
-    ensures settled { i < length workers.old → j < length workers.old → i ≢ j → LaneSettled workers.old workers.new i j }
-    ensures yard { IsYard workers.new }
-    ensures count { length workers.new ≡ length workers.old }
-    ensures world { world_of workers.new ≡ world_of workers.old }
-{
-    if i != j && i < workers.len() && j < workers.len() {
-        settle_lane(workers, i, j);
-    }
-}
-
 /// Settles the lane from a worker to that of a name's heap, where there is one.
 fn settle_named<const SLI: u32>(workers: &mut [Worker<SLI>], at: usize, name: Option<Name>)
     requires yard { IsYard workers.old }
-    ensures settled { (k : Name) → name ≡ Some k → at < length workers.old → k.heap < length workers.old → at ≢ k.heap → LaneSettled workers.old workers.new at k.heap }
+    requires inside { at < length workers.old }
+    ensures settled { (k : Name) → name ≡ Some k → k.heap < length workers.old → at ≢ k.heap → LaneSettled workers.old workers.new at k.heap }
     ensures yard { IsYard workers.new }
     ensures count { length workers.new ≡ length workers.old }
     ensures world { world_of workers.new ≡ world_of workers.old }
 {
-    match name {
-        Some(name) => settle_between(workers, at, name.heap as usize),
-        None => {}
+    let Some(name) = name else {
+        return;
+    };
+    let to = name.heap as usize;
+    if at != to && to < workers.len() {
+        settle_lane(workers, at, to);
     }
 }
 
@@ -75,7 +69,7 @@ fn settle_for<const SLI: u32>(
         }
         Call::Take { .. } | Call::Drain { .. } => {
             settle_column(workers, at);
-            *limits = count_each(&workers[at]);
+            *limits = <Lanes as Scripted<NoRuntime>>::limits(&workers[at].ports, &[0; 8]);
         }
         Call::Allocate { .. } => *limits = [0; 8],
         Call::Write { .. } => *limits = [0; 8],
@@ -101,7 +95,7 @@ pub(crate) fn reply_in_yard<const SLI: u32>(
 {
     settle_for(workers, event, name, &mut journal.limits);
     let worker = &mut workers[event.worker as usize];
-    let reply = reply_to(worker, &(), journal, &event.call, name);
+    let reply = reply_to(worker, &NoRuntime, journal, &event.call, name);
     settle_for(workers, event, name, &mut [0; 8]);
     reply
 }
@@ -190,26 +184,11 @@ pub fn replay_behind<const SLI: u32>(
 {
     settle(workers);
     let room = room_for(workers, events);
-    replay_within(alloc, workers, made, events, room)
-}
-
-/// Runs every event in order, behind those that made the names, with room for all entries.
-fn replay_within<const SLI: u32>(
-    alloc: Global,
-    workers: &mut [Worker<SLI>],
-    made: &mut Vec<Option<Name>>,
-    events: &[Event],
-    room: usize,
-) -> Result<Vec<Entry>, NoMemory>
-    requires yard { IsYard workers.old }
-    requires room { length events.now + releases_in events.now + waiting_count (world_of workers.old) ≤ room }
-    ensures yard { IsYard workers.new }
-    ensures replies { IfOk result (λ es. replay_of made.new.items es.items workers.new ≡ replies_behind (world_of workers.old) made.old.items events.now) }
-    ensures refused { OnErr result ((world_of workers.new ≡ world_of workers.old) × (made.new.items ≡ made.old.items)) }
-    ensures room { IfOk result (λ es. vec_capacity es ≡ room) }
-{
     made.reserve(events.len())?;
-    let mut journal = Journal::with_room(alloc, room)?;
+    let mut journal = Journal {
+        limits: [0; 8],
+        entries: Vec::with_capacity(alloc, room)?,
+    };
     for event in events.iter() {
         run_event(workers, event, made, &mut journal);
     }

@@ -64,21 +64,20 @@ fn as_reply(answer: Result<Released, CrewRefusal>) -> Reply
 }
 
 /// Releases what the target meant: a block of the own heap, or by a post another's.
-fn reply_to_release<const SLI: u32, C, P: Scripted<C>>(
+fn reply_to_release<const SLI: u32, R, P: Scripted<R>>(
     worker: &mut Worker<SLI, P>,
-    context: &C,
+    rt: &R,
     name: Option<Name>,
 ) -> Reply
     ensures { (n : ℕ) (limits : List ℕ) (target : Target) (made : List (Option Name)) (entries : List Entry) → name_of made target ≡ name → (P.promise SLI).knows n worker.old
         → P.steps SLI n (at_stage worker.old limits entries) (Release target) made (at_stage worker.new limits entries) result }
 {
     P::heap_keeps();
-    P::quiet_step();
-    P::posts_step();
+    P::laws();
     let Some(name) = name else {
         return Reply::Refused(CrewRefusal::Unmade);
     };
-    as_reply(release(worker, context, name))
+    as_reply(release(worker, rt, name))
 }
 
 /// Whether a source is that worker's alone, and goes by its number.
@@ -94,9 +93,9 @@ fn is_source_of<P: Ports>(ports: &P, from: u32) -> bool
 
 /// Takes the next post from a worker, and counts its limit down. At a limit of 0 its source isn't asked. It is `Stranger`
 /// where no source is that worker's alone.
-fn reply_to_take<const SLI: u32, C, P: Scripted<C>>(
+fn reply_to_take<const SLI: u32, R, P: Scripted<R>>(
     worker: &mut Worker<SLI, P>,
-    context: &C,
+    rt: &R,
     journal: &mut Journal,
     from: u32,
 ) -> Reply
@@ -104,7 +103,7 @@ fn reply_to_take<const SLI: u32, C, P: Scripted<C>>(
         → P.steps SLI n (stage_of worker.old journal.old) (Take from) made (at_stage worker.new journal.new.limits journal.old.entries.items) result }
     ensures entries { journal.new.entries ≡ journal.old.entries }
 {
-    P::takes_step();
+    P::laws();
     let source = from as usize;
     if !is_source_of(&worker.ports, from) {
         return Reply::Refused(CrewRefusal::Stranger);
@@ -112,7 +111,7 @@ fn reply_to_take<const SLI: u32, C, P: Scripted<C>>(
     if !journal.admits(source) {
         return Reply::Empty;
     }
-    let Some(took) = take_next(worker, context, source) else {
+    let Some(took) = take_next(worker, rt, source) else {
         return Reply::Empty;
     };
     journal.limits[source] -= 1;
@@ -122,9 +121,9 @@ fn reply_to_take<const SLI: u32, C, P: Scripted<C>>(
 /// Makes one call, whose target means this name, and answers the reply. A drain's takes get their entries here, the call
 /// gets its own later.
 #[inline(always)]
-pub(crate) fn reply_to<const SLI: u32, C, P: Scripted<C>>(
+pub(crate) fn reply_to<const SLI: u32, R, P: Scripted<R>>(
     worker: &mut Worker<SLI, P>,
-    context: &C,
+    rt: &R,
     journal: &mut Journal,
     call: &Call,
     name: Option<Name>,
@@ -135,23 +134,22 @@ pub(crate) fn reply_to<const SLI: u32, C, P: Scripted<C>>(
     ensures capacity { vec_capacity journal.new.entries ≡ vec_capacity journal.old.entries }
 {
     P::heap_keeps();
-    P::quiet_step();
-    P::drains_step();
+    P::laws();
     match call {
         Call::Allocate { len } => reply_to_own_allocate(worker, *len),
-        Call::Release { .. } => reply_to_release(worker, context, name),
+        Call::Release { .. } => reply_to_release(worker, rt, name),
         Call::Write { at, bytes, .. } => reply_to_own_write(worker, name, *at, bytes),
         Call::Read { at, n, .. } => reply_to_own_read(worker, name, *at, *n),
         Call::Resize { len, .. } => reply_to_own_resize(worker, name, *len),
-        Call::Take { from } => reply_to_take(worker, context, journal, *from),
-        Call::Drain { most } => Reply::Drained(drain_each(worker, context, *most, journal).taken),
+        Call::Take { from } => reply_to_take(worker, rt, journal, *from),
+        Call::Drain { most } => Reply::Drained(drain_each(worker, rt, *most, journal).taken),
     }
 }
 
 /// Makes one call of a worker of some yard, with its entries and the name that it made.
-pub(crate) fn run_call<const SLI: u32, C, P: Scripted<C>>(
+pub(crate) fn run_call<const SLI: u32, R, P: Scripted<R>>(
     worker: &mut Worker<SLI, P>,
-    context: &C,
+    rt: &R,
     journal: &mut Journal,
     call: Call,
     made: &mut Vec<Option<Name>>,
@@ -163,10 +161,9 @@ pub(crate) fn run_call<const SLI: u32, C, P: Scripted<C>>(
         → CallMade (P.promise SLI) n (stage_of worker.old journal.old) call made.old.items (stage_of worker.new journal.new) made.new.items }
     ensures capacity { (vec_capacity made.new ≡ vec_capacity made.old) × (vec_capacity journal.new.entries ≡ vec_capacity journal.old.entries) }
 {
-    P::moves_join();
-    P::steps_tell();
+    P::laws();
     let name = target_name(&call, made);
-    let reply = reply_to(worker, context, journal, &call, name);
+    let reply = reply_to(worker, rt, journal, &call, name);
     let event = Event {
         worker: worker.id,
         call,

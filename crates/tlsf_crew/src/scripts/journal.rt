@@ -1,11 +1,11 @@
 //! The record of a worker, while it is written.
-ghost use Rattle.std.specs.Prelude.{◌≡◌, ◌<◌, [], vec_capacity, IfOk};
+ghost use Rattle.std.specs.Prelude.{◌≡◌, ◌<◌, vec_capacity};
 ghost use Rattle.tlsf_crew.specs.scripts.Journals.{IsAdmitted, HasTakePlaces, EntersTake};
 
 use crate::worker::notes::Notes;
 use std::alloc::Global;
+use std::mem;
 use tlsf_calls::{Call, Entry, Reply, Took};
-use tlsf_post::NoMemory;
 
 /// The entries of a worker's calls, and how many posts these may still take from each source: so many that the entries
 /// have room for.
@@ -16,16 +16,14 @@ pub(crate) struct Journal {
 }
 
 impl Journal {
-    /// Room for so many entries, and limits of 0.
-    pub(crate) fn with_room(alloc: Global, room: usize) -> Result<Journal, NoMemory>
-        ensures empty { IfOk result (λ journal. journal.entries.items ≡ []) }
-        ensures room { IfOk result (λ journal. vec_capacity journal.entries ≡ room) }
+    /// Goes on with a record, whose entries it has until they are given back. None are left there.
+    pub(crate) fn resume(alloc: Global, record: &mut Vec<Entry>, limits: [u64; 8]) -> Journal
+        ensures { (result.limits ≡ limits) × (result.entries ≡ record.old) }
     {
-        let entries = Vec::with_capacity(alloc, room)?;
-        Ok(Journal {
-            limits: [0; 8],
-            entries,
-        })
+        Journal {
+            limits,
+            entries: mem::replace(record, Vec::new(alloc)),
+        }
     }
 }
 

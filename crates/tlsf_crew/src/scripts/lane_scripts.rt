@@ -6,7 +6,7 @@ use crate::scripts::room::count_from;
 use crate::scripts::scripted::Scripted;
 use crate::worker::lanes::Lanes;
 
-impl<C> Scripted<C> for Lanes {
+impl<R> Scripted<R> for Lanes {
     ghost promise = { lane_promise };
 
     ghost steps = { λ sli n s call made t reply. LaneStepped n s call made t reply };
@@ -20,15 +20,5 @@ impl<C> Scripted<C> for Lanes {
         limits
     }
 
-    fn moves_join() {}
-
-    fn steps_tell() {}
-
-    fn quiet_step() {}
-
-    fn posts_step() {}
-
-    fn takes_step() {}
-
-    fn drains_step() {}
+    fn laws() {}
 }

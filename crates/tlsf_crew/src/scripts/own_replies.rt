@@ -78,28 +78,6 @@ pub(crate) fn reply_to_own_write<const SLI: u32, P: Ports>(
     }
 }
 
-/// Fills up to 64 bytes from a block.
-fn read_own_into<const SLI: u32, P: Ports>(
-    worker: &mut Worker<SLI, P>,
-    name: Name,
-    from: u32,
-    out: &mut [u8],
-) -> Result<Chunk, CrewRefusal>
-    requires { length out.old ≤ 64 }
-    ensures answer { result ≡ by_heap (as_chunk (read_of (heap_of worker.old) name from (length out.old))) }
-    ensures heap { heap_of worker.new ≡ heap_of worker.old }
-    ensures same { SameButHeap worker.old worker.new }
-{
-    match worker.read(name, from, out) {
-        Ok(()) => match Chunk::new(out) {
-            Some(chunk) => Ok(chunk),
-            // It can't come: `out` has no more bytes than a chunk holds.
-            None => Err(CrewRefusal::Heap(Refusal::Range)),
-        },
-        Err(why) => Err(why),
-    }
-}
-
 /// Reads up to 64 bytes of a block. More are refused as `Range`, where the heap doesn't refuse the name.
 fn read_own_chunk<const SLI: u32, P: Ports>(
     worker: &mut Worker<SLI, P>,
@@ -119,7 +97,15 @@ fn read_own_chunk<const SLI: u32, P: Ports>(
             Err(why) => Err(why),
         };
     }
-    read_own_into(worker, name, from, &mut bytes[..n as usize])
+    let out = &mut bytes[..n as usize];
+    match worker.read(name, from, out) {
+        Ok(()) => match Chunk::new(out) {
+            Some(chunk) => Ok(chunk),
+            // It can't come: `out` has no more bytes than a chunk holds.
+            None => Err(CrewRefusal::Heap(Refusal::Range)),
+        },
+        Err(why) => Err(why),
+    }
 }
 
 /// Reads `n` bytes of the block that the target meant, from byte `from` of it on. More than 64 are refused.

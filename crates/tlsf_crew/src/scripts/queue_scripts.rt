@@ -21,15 +21,5 @@ impl<R: Wait> Scripted<R> for Queues {
         [all, 0, 0, 0, 0, 0, 0, 0]
     }
 
-    fn moves_join() {}
-
-    fn steps_tell() {}
-
-    fn quiet_step() {}
-
-    fn posts_step() {}
-
-    fn takes_step() {}
-
-    fn drains_step() {}
+    fn laws() {}
 }

@@ -1,5 +1,5 @@
 //! Room for the entries of a replay, counted before it.
-ghost use Rattle.std.specs.Prelude.{◌≡◌, ℕ, ◌+◌, ◌*◌, ◌<◌, ◌≤◌, length, slice_index};
+ghost use Rattle.std.specs.Prelude.{◌≡◌, ℕ, ◌+◌, ◌*◌, ◌≤◌, length};
 ghost use Rattle.tlsf_crew.specs.lanes.Ready.{count_of, ready_from, ready_in};
 ghost use Rattle.tlsf_crew.specs.model.Sums.{sum_below};
 ghost use Rattle.tlsf_crew.specs.scripts.Counts.{releases_in};
@@ -63,15 +63,4 @@ pub(crate) fn count_from(lanes: &Lanes, i: usize) -> u32
         Some(None) => 0,
         None => 0,
     }
-}
-
-/// How many posts are ready for a worker from each other one.
-pub(crate) fn count_each<const SLI: u32>(worker: &Worker<SLI>) -> [u64; 8]
-    ensures { (i : ℕ) → i < 8 → slice_index result i ≡ ready_from worker.now i }
-{
-    let mut counts = [0; 8];
-    for i in 0..8 {
-        counts[i] = count_from(&worker.ports, i) as u64;
-    }
-    counts
 }

@@ -23,8 +23,8 @@ ghost use Rattle.tlsf_crew.specs.model.World.{name_of};
 
 use crate::worker::ports::Exchange;
 
-/// Ports over which the calls of a script are made. All of its functions but the first do nothing but say what holds of them.
-pub(crate) trait Scripted<C>: Exchange<C> {
+/// Ports over which the calls of a script are made.
+pub(crate) trait Scripted<R>: Exchange<R> {
     // What the calls of a script may tell of such workers, and what they leave.
     ghost promise: { (sli : ℕ) → ScriptPromise sli Self };
 
@@ -37,36 +37,29 @@ pub(crate) trait Scripted<C>: Exchange<C> {
         ensures limited { (sli : ℕ) → (promise sli).limited self.now releases.now result }
         ensures few { (i : ℕ) → i < 8 → slice_index result i ≤ 2 ^ 36 };
 
-    /// Moves join.
-    fn moves_join()
-        ensures { (sli : ℕ) → AreMoves (promise sli) };
+    /// Says that moves join, that a step tells its call and is a move, and what are steps. It does nothing.
+    fn laws()
+        ensures joins { (sli : ℕ) → AreMoves (promise sli) }
+        ensures tells { (sli n : ℕ) (s t : Stage sli Self) (call : Call) (made : List (Option Name)) (reply : Reply) → steps sli n s call made t reply → Step (promise sli) n s call made t reply }
 
-    /// A step tells its call and is a move.
-    fn steps_tell()
-        ensures { (sli n : ℕ) (s t : Stage sli Self) (call : Call) (made : List (Option Name)) (reply : Reply) → steps sli n s call made t reply → Step (promise sli) n s call made t reply };
+        // A call that posts and takes nothing, and is answered as the model answers it.
+        ensures quiet { (sli n : ℕ) (a v : Worker sli Self) (limits : List ℕ) (call : Call) (made : List (Option Name)) (entries : List Entry) (reply : Reply) → (promise sli).knows n a → Self.keeps_yards sli a v
+            → QuietCall n a v call made entries reply → steps sli n (at_stage a limits entries) call made (at_stage v limits entries) reply }
 
-    /// A call that posts and takes nothing, and is answered as the model answers it, is a step.
-    fn quiet_step()
-        ensures { (sli n : ℕ) (a v : Worker sli Self) (limits : List ℕ) (call : Call) (made : List (Option Name)) (entries : List Entry) (reply : Reply) → (promise sli).knows n a → Self.keeps_yards sli a v
-            → QuietCall n a v call made entries reply → steps sli n (at_stage a limits entries) call made (at_stage v limits entries) reply };
-
-    /// What a post answers is a step. There is a port to each other worker, and to none else.
-    fn posts_step()
+        // What a post answers. There is a port to each other worker, and to none else.
         ensures posted { (sli n : ℕ) (a v : Worker sli Self) (limits : List ℕ) (target : Target) (name : Name) (made : List (Option Name)) (entries : List Entry) (answer : Result Released CrewRefusal) → (promise sli).knows n a
             → name_of made target ≡ Some name → name.heap ≢ id_of a → Self.reaches a.ports name.heap → ReleasedThere Self.puts a v name answer
             → steps sli n (at_stage a limits entries) (Release target) made (at_stage v limits entries) (reply_released answer) }
-        ensures reached { (sli n : ℕ) (a : Worker sli Self) (j : ℕ) → (promise sli).knows n a → Self.reaches a.ports j ⊎ ((j ≢ id_of a → n ≤ j) × ¬ (Self.reaches a.ports j)) };
+        ensures reached { (sli n : ℕ) (a : Worker sli Self) (j : ℕ) → (promise sli).knows n a → Self.reaches a.ports j ⊎ ((j ≢ id_of a → n ≤ j) × ¬ (Self.reaches a.ports j)) }
 
-    /// What a take answers is a step: it is refused where no source is that worker's.
-    fn takes_step()
+        // What a take answers: it is refused where no source is that worker's.
         ensures stranger { (sli n : ℕ) (a : Worker sli Self) (limits : List ℕ) (from : ℕ) (made : List (Option Name)) (entries : List Entry) → (promise sli).knows n a → ((Self.sent_by from ≡ None) → ¬ (Self.hears a.ports from))
             → steps sli n (at_stage a limits entries) (Take from) made (at_stage a limits entries) (Refused Stranger) }
         ensures taken { (sli n : ℕ) (a v : Worker sli Self) (limits left : List ℕ) (from : ℕ) (made : List (Option Name)) (entries : List Entry) (answer : Option Took) → (promise sli).knows n a → Self.sent_by from ≡ None → Self.hears a.ports from
-            → TakenWithin Self.takes a limits from v left answer → steps sli n (at_stage a limits entries) (Take from) made (at_stage v left entries) (reply_took answer) };
+            → TakenWithin Self.takes a limits from v left answer → steps sli n (at_stage a limits entries) (Take from) made (at_stage v left entries) (reply_took answer) }
 
-    /// What a drain answers is a step.
-    fn drains_step()
-        ensures { (sli n : ℕ) (a v : Worker sli Self) (x y : Journal) (most : ℕ) (made : List (Option Name)) (answer : WasDrained) → (promise sli).knows n a
+        // What a drain answers.
+        ensures drained { (sli n : ℕ) (a v : Worker sli Self) (x y : Journal) (most : ℕ) (made : List (Option Name)) (answer : WasDrained) → (promise sli).knows n a
             → AllNoted (record { hears = Self.hears; takes = Self.takes; stops = Self.stops; sent_by = Self.sent_by; admitted = IsAdmitted; noted = EntersTake }) a v x y (Self.sources a.ports) most answer
             → steps sli n (stage_of a x) (Drain most) made (stage_of v y) (Drained answer.taken) };
 }

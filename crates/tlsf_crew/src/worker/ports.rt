@@ -1,10 +1,13 @@
 //! What a worker asks of its ports, of whatever kind.
 ghost use Rattle.std.specs.Prelude.{Some, slice_get, ◌≡◌, ℕ, Option, Result, true, false};
 ghost use Rattle.tlsf_heap.specs.declared.name.Name.{Name};
+ghost use Rattle.tlsf_calls.specs.declared.crew_refusal.CrewRefusal.{CrewRefusal};
 ghost use Rattle.tlsf_post.specs.declared.post.Post.{Post};
 ghost use Rattle.tlsf_crew.specs.declared.worker.worker.Worker.{Worker};
+ghost use Rattle.tlsf_crew.specs.worker.Calls.{put_answer};
 ghost use Rattle.tlsf_crew.specs.worker.Workers.{slot_of, heap_of, SameButHeap, KeepsHeap};
 
+use tlsf_calls::CrewRefusal;
 use tlsf_heap::Name;
 use tlsf_post::Post;
 
@@ -50,10 +53,13 @@ pub trait Ports: Sized {
         ensures { (sli : ℕ) (a v : Worker sli Self) → SameButHeap a v → KeepsHeap (heap_of a) (heap_of v) → keeps_yards sli a v };
 }
 
-/// Ports whose calls are passed a context: nothing over lanes, over queues a runtime, since they may wait there.
-pub(crate) trait Exchange<C>: Ports {
+/// Stands for the runtime where a call over lanes has none: it waits for nothing.
+pub(crate) struct NoRuntime;
+
+/// Ports whose calls are passed a runtime, since they may wait over queues. Over lanes they make nothing of it.
+pub(crate) trait Exchange<R>: Ports {
     // What a put of a name, by the worker of a number, may leave and answer.
-    ghost puts: { ℕ → Self → Self → Name → Result (Unit {0}) Name → Type 0 };
+    ghost puts: { ℕ → Self → Self → Name → Result (Unit {0}) CrewRefusal → Type 0 };
 
     // What a take from the source of a number may leave and answer.
     ghost takes: { Self → Self → ℕ → Option Post → Type 0 };
@@ -61,21 +67,31 @@ pub(crate) trait Exchange<C>: Ports {
     // What it may leave where a drain is to take no more posts of a source, though fewer were taken than were asked for.
     ghost stops: { Self → Self → ℕ → Type 0 };
 
-    /// Puts a name through the port to the worker of its heap, or gives it back where that is full.
-    fn put(&mut self, context: &C, from: u32, name: Name) -> Result<(), Name>
+    /// Puts a name through the port to the worker of its heap. It is `Full` where that takes no post.
+    fn put(&mut self, rt: &R, from: u32, name: Name) -> Result<(), CrewRefusal>
         requires { Self.reaches self.old name.heap }
         ensures { puts from self.old self.new name result };
 
     /// Takes the next post of a source.
-    fn take(&mut self, context: &C, source: usize) -> Option<Post>
+    fn take(&mut self, rt: &R, source: usize) -> Option<Post>
         requires { Self.hears self.old source }
         ensures took { takes self.old self.new source result }
         ensures still { Self.hears self.new source };
 
     /// Ends a drain of a source that is to take no more posts.
-    fn stop(&mut self, context: &C, source: usize)
+    fn stop(&mut self, rt: &R, source: usize)
         requires { Self.hears self.old source }
         ensures { stops self.old self.new source };
+}
+
+/// The answer of a port, whose end may give back what it didn't take.
+pub(crate) fn put_answer<E: Drop>(put: Result<(), E>, name: Name) -> Result<(), CrewRefusal>
+    ensures { result ≡ put_answer name put }
+{
+    match put {
+        Ok(()) => Ok(()),
+        Err(_) => Err(CrewRefusal::Full(name)),
+    }
 }
 
 /// Whether one of these ends is there, at that number.

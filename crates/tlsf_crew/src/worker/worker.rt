@@ -45,9 +45,9 @@ fn as_crew<P: Ports, T>(answer: Result<T, Refusal>) -> Result<T, CrewRefusal>
 }
 
 /// Posts the name of another worker's block, unread. A name of the own heap is refused as `Foreign`.
-pub(crate) fn post<const SLI: u32, C, P: Exchange<C>>(
+pub(crate) fn post<const SLI: u32, R, P: Exchange<R>>(
     worker: &mut Worker<SLI, P>,
-    context: &C,
+    rt: &R,
     name: Name,
 ) -> Result<(), CrewRefusal>
     ensures own { name.heap ≡ id_of worker.old → (result ≡ Err (CrewRefusal.Heap Refusal.Foreign)) × (worker.new ≡ worker.old) }
@@ -61,16 +61,13 @@ pub(crate) fn post<const SLI: u32, C, P: Exchange<C>>(
     if !worker.ports.has_port(name.heap as usize) {
         return Err(CrewRefusal::Stranger);
     }
-    match worker.ports.put(context, worker.id, name) {
-        Ok(()) => Ok(()),
-        Err(_) => Err(CrewRefusal::Full(name)),
-    }
+    worker.ports.put(rt, worker.id, name)
 }
 
 /// Releases a block of the own heap, or posts the name of another worker's block, unread.
-pub(crate) fn release<const SLI: u32, C, P: Exchange<C>>(
+pub(crate) fn release<const SLI: u32, R, P: Exchange<R>>(
     worker: &mut Worker<SLI, P>,
-    context: &C,
+    rt: &R,
     name: Name,
 ) -> Result<Released, CrewRefusal>
     ensures here { name.heap ≡ id_of worker.old → ReleasedHere worker.old worker.new name result }
@@ -86,16 +83,16 @@ pub(crate) fn release<const SLI: u32, C, P: Exchange<C>>(
             Err(why) => Err(CrewRefusal::Heap(why)),
         };
     }
-    match post(worker, context, name) {
+    match post(worker, rt, name) {
         Ok(()) => Ok(Released::Posted),
         Err(why) => Err(why),
     }
 }
 
 /// Takes the next post of a source that is there, and releases the block that it names.
-pub(crate) fn take_next<const SLI: u32, C, P: Exchange<C>>(
+pub(crate) fn take_next<const SLI: u32, R, P: Exchange<R>>(
     worker: &mut Worker<SLI, P>,
-    context: &C,
+    rt: &R,
     source: usize,
 ) -> Option<Took>
     requires { P.hears worker.old.ports source }
@@ -106,7 +103,7 @@ pub(crate) fn take_next<const SLI: u32, C, P: Exchange<C>>(
     ensures touches_rise { touches_of worker.old ≤ touches_of worker.new }
     ensures forged { IfSome result (λ took. FollowsNoForgery (heap_of worker.old) took.name (touches_of worker.old) (touches_of worker.new)) }
 {
-    let post = worker.ports.take(context, source)?;
+    let post = worker.ports.take(rt, source)?;
     let answer = worker.heap.release(post.name);
     Some(Took {
         from: post.from,
@@ -116,9 +113,9 @@ pub(crate) fn take_next<const SLI: u32, C, P: Exchange<C>>(
 }
 
 /// Takes from one source, and releases, until `most` posts were taken, the notes admit no more, or it shows no post.
-pub(crate) fn drain_source<const SLI: u32, C, P: Exchange<C>, N: Notes>(
+pub(crate) fn drain_source<const SLI: u32, R, P: Exchange<R>, N: Notes>(
     worker: &mut Worker<SLI, P>,
-    context: &C,
+    rt: &R,
     source: usize,
     most: u32,
     notes: &mut N,
@@ -136,10 +133,10 @@ pub(crate) fn drain_source<const SLI: u32, C, P: Exchange<C>, N: Notes>(
     let mut drained = Drained { taken: 0, freed: 0 };
     while drained.taken < most {
         if !notes.admits(source) {
-            worker.ports.stop(context, source);
+            worker.ports.stop(rt, source);
             break;
         }
-        let Some(took) = take_next(worker, context, source) else {
+        let Some(took) = take_next(worker, rt, source) else {
             break;
         };
         notes.note(worker.id, source, P::sender(took.from), took);
@@ -152,9 +149,9 @@ pub(crate) fn drain_source<const SLI: u32, C, P: Exchange<C>, N: Notes>(
 }
 
 /// Takes from all sources, in the rising order of their numbers, and notes each take.
-pub(crate) fn drain_each<const SLI: u32, C, P: Exchange<C>, N: Notes>(
+pub(crate) fn drain_each<const SLI: u32, R, P: Exchange<R>, N: Notes>(
     worker: &mut Worker<SLI, P>,
-    context: &C,
+    rt: &R,
     most: u32,
     notes: &mut N,
 ) -> Drained
@@ -169,7 +166,7 @@ pub(crate) fn drain_each<const SLI: u32, C, P: Exchange<C>, N: Notes>(
     let mut drained = Drained { taken: 0, freed: 0 };
     for source in 0..worker.ports.source_count() {
         if worker.ports.has_source(source) {
-            let here = drain_source(worker, context, source, most - drained.taken, notes);
+            let here = drain_source(worker, rt, source, most - drained.taken, notes);
             drained.taken += here.taken;
             drained.freed += here.freed;
         }

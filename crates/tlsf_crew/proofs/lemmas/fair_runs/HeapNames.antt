@@ -9,8 +9,8 @@ use Rattle.tlsf_heap.specs.Laws.{IsLive}
 use Rattle.tlsf_heap.specs.declared.name.Name.{Name}
 use Rattle.tlsf_heap.specs.declared.refusal.Refusal.{Refusal}
 use Rattle.tlsf_heap.specs.declared.refusal.Refusal.TheVariants.{Stale, Foreign, Worn, Range, NoRoom}
-use Rattle.tlsf_heap.proofs.Outcomes.{by_test, gives, writes, ids}
-use Rattle.tlsf_heap.proofs.Living.{given, kept, known}
+use Rattle.tlsf_heap.proofs.lemmas.calls.Outcomes.{by_test, gives, writes, ids}
+use Rattle.tlsf_heap.proofs.lemmas.laws.Live.{given, kept, known}
 use Rattle.tlsf_crew.specs.model.Heaps.{allocated, released, written, resized, bytes_read, too_many, as_chunk, chunk_read}
 
 abbrev IsKnown : {A : Type 0} → Result A Refusal → Type 0

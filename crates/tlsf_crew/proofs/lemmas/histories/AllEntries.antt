@@ -4,7 +4,7 @@ use Rattle.std.specs.List.{fold}
 use Rattle.std.proofs.lemmas.Bool.{cases_lt}
 use Rattle.std.proofs.lemmas.List.Elements.{All-nil, All-cons}
 use Rattle.tlsf_heap.specs.Lawful.{IsLawful}
-use Rattle.tlsf_heap.proofs.Outcomes.{lawful_run}
+use Rattle.tlsf_heap.proofs.lemmas.calls.Outcomes.{lawful_run}
 use Rattle.tlsf_heap.specs.declared.name.Name.{Name}
 use Rattle.tlsf_calls.specs.Bytes.{bytes_of}
 use Rattle.tlsf_calls.specs.declared.entry.Entry.{Entry}

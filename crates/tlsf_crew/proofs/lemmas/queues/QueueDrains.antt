@@ -65,5 +65,5 @@ pub queues_keep_yards : {sli : ℕ} → Keeping {sli = sli} {P = Queues} (λ p j
 queues_keep_yards = record {
   either = λ p j. end_or (queue_to p j);
   heap = queues_keep_heap;
-  put = λ a v name answer same puts. queues_keep_put a v name.heap name answer (same, puts);
+  put = λ a v name answer same puts. queues_keep_put a v name.heap name puts.0 (same, puts.1);
 }

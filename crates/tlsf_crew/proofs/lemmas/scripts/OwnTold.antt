@@ -179,7 +179,7 @@ here_call n a v target name made entries answer known own here =
     (λ w. release_called (id_of a) (told_of made entries (heap_of a)) w target (Some name) _ known (own_name w (id_of a) name own)) (record { same = e; left = here.heap })
 
 -- a post is answered so where the port has room, and where it has none
-pub put_answered : (sli n at : ℕ) (h : HeapState) (made : List (Option Name)) (entries : List Entry) (target : Target) (name : Name) (put : Result (Unit {0}) Name) → name_of made target ≡ Some name → name.heap ≢ at → name.heap < n
+pub put_answered : {X : Type 0} (sli n at : ℕ) (h : HeapState) (made : List (Option Name)) (entries : List Entry) (target : Target) (name : Name) (put : Result (Unit {0}) X) → name_of made target ≡ Some name → name.heap ≢ at → name.heap < n
     → IsModelAnswer sli n at (told_of made entries h) (Release target) (reply_released (posted_as (put_answer name put))) h
 put_answered sli n at h made entries target name (Ok done) known ne near = λ lt w has s.
     let near_w : name.heap < length w.heaps = omega (arith, has.0) in
@@ -193,7 +193,7 @@ put_answered sli n at h made entries target name (Err back) known ne near = λ l
     (record { same = refl; left = sym has.1 })
 
 -- a release is a quiet call or a put, by ports that reach each other worker and none else
-pub release_by : {sli : ℕ} {P : Type 0} (n : ℕ) (reaches : P → ℕ → Type 0) (puts : ℕ → P → P → Name → Result (Unit {0}) Name → Type 0) (a v : Worker sli P) (target : Target) (name : Name) (made : List (Option Name))
+pub release_by : {sli : ℕ} {P : Type 0} (n : ℕ) (reaches : P → ℕ → Type 0) (puts : ℕ → P → P → Name → Result (Unit {0}) CrewRefusal → Type 0) (a v : Worker sli P) (target : Target) (name : Name) (made : List (Option Name))
     (entries : List Entry) (answer : Result Released CrewRefusal) (IsStep : Worker sli P → Reply → Type 0) → name_of made target ≡ Some name → ReleasedAnywhere reaches puts a v name answer
     → reaches a.ports name.heap ⊎ ((name.heap ≢ id_of a → n ≤ name.heap) × ¬ (reaches a.ports name.heap))
     → ((u : Worker sli P) (reply : Reply) → KeepsHeap (heap_of a) (heap_of u) → QuietCall n a u (Release target) made entries reply → IsStep u reply)

@@ -184,15 +184,15 @@ pub there_stepped : {sli : ℕ} (n : ℕ) (a v : Worker sli Queues) (limits : Li
     → QueueStepped n (at_stage a limits entries) (Release target) made (at_stage v limits entries) (reply_released answer)
 there_stepped {sli} n a v limits target name made entries answer k known ne has there =
     let other = ends_are n a k name.heap has.0 has.1 in
-    let put = there.post.put in
-    let e : answer ≡ posted_as (put_answer name put) = there.answer_is ∙ ap posted_as there.post.answer_is in
+    let put = there.post.through in
+    let e : answer ≡ posted_as (put_answer name put.0) = there.answer_is ∙ ap posted_as put.2 in
     let h = sym (ports_heap a v there.post.same) in
     rw e (record {
       own = [];
       entries_are = sym (append-nil entries);
       told = model_tells sli n (id_of a) (told_of made entries (heap_of a)) (Release target) _ (heap_of v) k.self
-          (subst (IsModelAnswer sli n (id_of a) (told_of made entries (heap_of a)) (Release target) _) h (put_answered sli n (id_of a) (heap_of a) made entries target name put known ne other.0));
-      moved = λ rest. put_moved n (made ++ rest) a v limits target name put k (more_knows made rest target name known) (there.post.same, there.post.through);
+          (subst (IsModelAnswer sli n (id_of a) (told_of made entries (heap_of a)) (Release target) _) h (put_answered sli n (id_of a) (heap_of a) made entries target name put.0 known ne other.0));
+      moved = λ rest. put_moved n (made ++ rest) a v limits target name put.0 k (more_knows made rest target name known) (there.post.same, put.1);
     })
 
 -- ---- takes

@@ -15,7 +15,7 @@ use Rattle.tlsf_calls.specs.declared.reply.Reply.{Reply}
 use Rattle.tlsf_calls.specs.declared.reply.Reply.TheVariants.{Refused}
 use Rattle.tlsf_calls.specs.declared.target.Target.{Target}
 use Rattle.tlsf_calls.specs.declared.took.Took.{Took}
-use Rattle.tlsf_crew.specs.lanes.LaneCalls.{KeepsYards, PutsIntoLane, name_back}
+use Rattle.tlsf_crew.specs.lanes.LaneCalls.{KeepsYards, PutsIntoLane}
 use Rattle.tlsf_crew.specs.worker.Calls.{ReleasedThere, posted_as, put_answer}
 use Rattle.tlsf_crew.specs.scripts.LaneMoves.{one, LaneMoved, LaneStepped, lane_promise}
 use Rattle.tlsf_crew.specs.scripts.Scripts.{reply_took, AreMoves, IsNoTake, IsQuiet, QuietCall, TakenWithin, at_stage, reply_released, told_of}
@@ -79,7 +79,7 @@ full_idle at later a v limits target name post back put = record {
 
 put_moved : {sli : ℕ} (made : List (Option Name)) (a v : Worker sli Lanes) (limits : List ℕ) (target : Target) (name : Name) (put : Result (Unit {0}) Post) → name_of made target ≡ Some name
     → PostEndPut a v name.heap (record { from = id_of a; name = name }) put
-    → LaneMoved (id_of a) made a limits (Release target ∷ []) (one (id_of a) (Release target) (reply_released (posted_as (put_answer name (name_back put))))) v limits
+    → LaneMoved (id_of a) made a limits (Release target ∷ []) (one (id_of a) (Release target) (reply_released (posted_as (put_answer name put)))) v limits
 put_moved made a v limits target name (Ok done) known put = moved_post (id_of a) made a v limits target name done known refl put
 put_moved made a v limits target name (Err back) known put =
     let post : Post = record { from = id_of a; name = name } in
@@ -91,10 +91,10 @@ pub there_stepped : {sli : ℕ} (n : ℕ) (a v : Worker sli Lanes) (limits : Lis
 there_stepped {sli} n a v limits target name made es answer k known ne has there =
     let put = there.post.through in
     let near = (k.to name.heap).0 has in
-    let e : answer ≡ posted_as (put_answer name (name_back put.0)) = there.answer_is ∙ ap posted_as (there.post.answer_is ∙ ap (put_answer name) put.2) in
+    let e : answer ≡ posted_as (put_answer name put.0) = there.answer_is ∙ ap posted_as put.2 in
     let h = sym (ports_heap a v there.post.same) in
     rw e (single_stepped n a v limits limits (Release target) made es _ k (λ most d. cc)
-    (subst (IsModelAnswer sli n (id_of a) (told_of made es (heap_of a)) (Release target) _) h (put_answered sli n (id_of a) (heap_of a) made es target name (name_back put.0) known ne near.0))
+    (subst (IsModelAnswer sli n (id_of a) (told_of made es (heap_of a)) (Release target) _) h (put_answered sli n (id_of a) (heap_of a) made es target name put.0 known ne near.0))
     (λ rest. put_moved (made ++ rest) a v limits target name put.0 (more_knows made rest target name known) (there.post.same, put.1)))
 
 -- ---- over lanes

@@ -7,8 +7,10 @@ use Rattle.tlsf_heap.specs.Blocks.{HeapState}
 use Rattle.tlsf_heap.specs.Lawful.{IsLawful, IsRegion}
 use Rattle.tlsf_heap.specs.Calls.{Call, answered, opened, Allocate, Write}
 use Rattle.tlsf_heap.specs.InPlace.{Alters}
+use Rattle.tlsf_heap.specs.Kept.{IsAsBefore}
+use Rattle.tlsf_heap.specs.Shown.{Shown}
 use Rattle.tlsf_heap.specs.declared.name.Name.{Name}
-use Rattle.tlsf_heap.proofs.Outcomes.{ids, lawful_run}
+use Rattle.tlsf_heap.proofs.lemmas.calls.Outcomes.{ids, lawful_run}
 use Rattle.tlsf_crew.specs.worker.Workers.{KeepsHeap, IsHeapOf}
 use Rattle.tlsf_class.proofs.TwoLevels.{level_4}
 
@@ -23,10 +25,10 @@ pub call_keeps : (h k : HeapState) (call : Call) → k ≡ (answered 4 h call).1
 call_keeps h k call e = (ap (λ x. x.id) e ∙ ids 4 h call, λ lawful. subst IsLawful (sym e) (lawful_run 4 level_4 h (call ∷ []) lawful))
 
 -- nor does an alter, done or refused
-pub alter_keeps : {F R E : Type 0} (g : Once F (MutBor (List ℕ) × Unit {0}) (R × (MutBor (List ℕ) × Unit {0}))) (f : F) (h k : HeapState) (name : Name) (answer : Result R E)
-    → IfOk answer (λ r. Alters g f h name r k) → OnErr answer (k ≡ h) → KeepsHeap h k
-alter_keeps g f h k name (Ok r) altered err = call_keeps h k (Write name 0 _) altered.writes
-alter_keeps g f h k name (Err why) altered err = same_heap_keeps h k err
+pub alter_keeps : {F R E : Type 0} (g : Once F (MutBor (List ℕ) × Unit {0}) (R × (MutBor (List ℕ) × Unit {0}))) (f : F) (old new : Shown) (name : Name) (answer : Result R E)
+    → IfOk answer (λ r. Alters g f old.heap name r new.heap) → OnErr answer (IsAsBefore old new) → KeepsHeap old.heap new.heap
+alter_keeps g f old new name (Ok r) altered err = call_keeps old.heap new.heap (Write name 0 _) altered.writes
+alter_keeps g f old new name (Err why) altered err = same_heap_keeps old.heap new.heap err.heap
 
 pub opened_lawful : (sli : ℕ) (id words : ℕ) → IsRegion sli words → IsHeapOf id (opened id words 0)
 opened_lawful sli id words region = (

@@ -12,35 +12,35 @@ use Rattle.tlsf_crew.specs.worker.Calls.{PostedThere, ReleasedHere, ReleasedTher
 use Rattle.tlsf_crew.proofs.lemmas.worker.OwnHeaps.{call_keeps, same_heap_keeps}
 
 -- what ports keep of the yards that a worker fits
-pub record Keeping {sli : ℕ} {P : Type 0} (reaches : P → ℕ → Type 0) (puts : ℕ → P → P → Name → Result (Unit {0}) Name → Type 0) (keeps : Worker sli P → Worker sli P → Type 0) : Type 0 where
+pub record Keeping {sli : ℕ} {P : Type 0} (reaches : P → ℕ → Type 0) (puts : ℕ → P → P → Name → Result (Unit {0}) CrewRefusal → Type 0) (keeps : Worker sli P → Worker sli P → Type 0) : Type 0 where
   pub either : (p : P) (j : ℕ) → reaches p j ⊎ ¬ (reaches p j)
   pub heap : (a v : Worker sli P) → SameButHeap a v → KeepsHeap (heap_of a) (heap_of v) → keeps a v
-  pub put : (a v : Worker sli P) (name : Name) (answer : Result (Unit {0}) Name) → SameButPorts a v → puts (id_of a) a.ports v.ports name answer → keeps a v
+  pub put : (a v : Worker sli P) (name : Name) (answer : Result (Unit {0}) CrewRefusal) → SameButPorts a v → puts (id_of a) a.ports v.ports name answer → keeps a v
 
-pub keeping_same : {sli : ℕ} {P : Type 0} (reaches : P → ℕ → Type 0) (puts : ℕ → P → P → Name → Result (Unit {0}) Name → Type 0) (keeps : Worker sli P → Worker sli P → Type 0) (k : Keeping reaches puts keeps)
+pub keeping_same : {sli : ℕ} {P : Type 0} (reaches : P → ℕ → Type 0) (puts : ℕ → P → P → Name → Result (Unit {0}) CrewRefusal → Type 0) (keeps : Worker sli P → Worker sli P → Type 0) (k : Keeping reaches puts keeps)
     → (a v : Worker sli P) → v ≡ a → keeps a v
 keeping_same reaches puts keeps k a v same = subst (keeps a) (sym same) (k.heap a a (refl, refl) (same_heap_keeps (heap_of a) (heap_of a) refl))
 
-pub post_keeps : {sli : ℕ} {P : Type 0} (reaches : P → ℕ → Type 0) (puts : ℕ → P → P → Name → Result (Unit {0}) Name → Type 0) (keeps : Worker sli P → Worker sli P → Type 0) (k : Keeping reaches puts keeps)
+pub post_keeps : {sli : ℕ} {P : Type 0} (reaches : P → ℕ → Type 0) (puts : ℕ → P → P → Name → Result (Unit {0}) CrewRefusal → Type 0) (keeps : Worker sli P → Worker sli P → Type 0) (k : Keeping reaches puts keeps)
     → (a v : Worker sli P) (name : Name) (answer : Result (Unit {0}) CrewRefusal)
     → (name.heap ≡ id_of a → v ≡ a) → (name.heap ≢ id_of a → reaches a.ports name.heap → PostedThere puts a v name answer) → (name.heap ≢ id_of a → ¬ (reaches a.ports name.heap) → v ≡ a)
     → keeps a v
 post_keeps reaches puts keeps k a v name answer own there nowhere = elim (cases_eq name.heap (id_of a)) [
   | inl is ↦ keeping_same reaches puts keeps k a v (own is)
   | inr ne ↦ elim (k.either a.ports name.heap) [
-    | inl has ↦ let post = there ne has in k.put a v name post.put post.same post.through
+    | inl has ↦ let post = there ne has in k.put a v name answer post.same post.through
     | inr none ↦ keeping_same reaches puts keeps k a v (nowhere ne none)
   ]
 ]
 
-pub release_keeps : {sli : ℕ} {P : Type 0} (reaches : P → ℕ → Type 0) (puts : ℕ → P → P → Name → Result (Unit {0}) Name → Type 0) (keeps : Worker sli P → Worker sli P → Type 0) (k : Keeping reaches puts keeps)
+pub release_keeps : {sli : ℕ} {P : Type 0} (reaches : P → ℕ → Type 0) (puts : ℕ → P → P → Name → Result (Unit {0}) CrewRefusal → Type 0) (keeps : Worker sli P → Worker sli P → Type 0) (k : Keeping reaches puts keeps)
     → (a v : Worker sli P) (name : Name) (answer : Result Released CrewRefusal)
     → (name.heap ≡ id_of a → ReleasedHere a v name answer) → (name.heap ≢ id_of a → reaches a.ports name.heap → ReleasedThere puts a v name answer)
     → (name.heap ≢ id_of a → ¬ (reaches a.ports name.heap) → (answer ≡ Err Stranger) × (v ≡ a)) → keeps a v
 release_keeps reaches puts keeps k a v name answer here there nowhere = elim (cases_eq name.heap (id_of a)) [
   | inl is ↦ let h = here is in k.heap a v h.same (call_keeps (heap_of a) (heap_of v) (heap.Release name) h.heap)
   | inr ne ↦ elim (k.either a.ports name.heap) [
-    | inl has ↦ let post = (there ne has).post in k.put a v name post.put post.same post.through
+    | inl has ↦ let t = there ne has in k.put a v name t.posted t.post.same t.post.through
     | inr none ↦ keeping_same reaches puts keeps k a v (nowhere ne none).1
   ]
 ]

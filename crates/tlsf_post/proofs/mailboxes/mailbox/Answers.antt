@@ -1,5 +1,5 @@
 use Rattle.std.proofs.Common.{arith, ℕ, ◌≡◌, ap, sym, ◌∙◌, ◌++◌, ◌+◌, ◌-◌, map}
-use Rattle.tlsf_post.specs.declared.hand.Hand.{Hand}
+use Rattle.tlsf_post.specs.declared.view.View.{View}
 use Rattle.std.specs.Arc.{arc_value}
 use Rattle.std.proofs.lemmas.Grind.{common_steps}
 use Rattle.crossbeam_queue.specs.Passes.{view, ruled_capacity}
@@ -15,24 +15,24 @@ pub ruled-requires-clause-rule : goal.ruled-requires-clause-rule
 ruled-requires-clause-rule c = begins
 
 pub another-requires-clause-rule : goal.another-requires-clause-rule
-another-requires-clause-rule c = skips _ _ (ap (λ (v : Hand). v.takes) c.in_ok-send_out.ensures.pass.2)
+another-requires-clause-rule c = skips _ _ (ap (λ (v : View). v.takes) c.in_ok-send_out.ensures.pass.2)
 
 pub returns-clause-whole : goal.returns-clause-whole
 returns-clause-whole c =
     let zero_less : c.args.owner - 0 ≡ c.args.owner = omega arith in
     let pass = c.in_ok-send_out-2.ensures.pass in
     let laid : (view c.another.new.pass).plan ≡ plan_for c.args.owner c.args.n c.args.capacity
-    = ap (λ (v : Hand). v.plan) c.another.ensures.rule.0 ∙ ap (λ (v : Hand). v.plan) c.in_ok-send_out.ensures.pass.2 ∙ ap (λ (v : Hand). v.plan) c.lay_out.ensures.pass.1 in
+    = ap (λ (v : View). v.plan) c.another.ensures.rule.0 ∙ ap (λ (v : View). v.plan) c.in_ok-send_out.ensures.pass.2 ∙ ap (λ (v : View). v.plan) c.lay_out.ensures.pass.1 in
     let room : ruled_capacity (arc_value c.in-Ok.queue) ≡ c.args.capacity = grind (arith, common_steps) in (
       (λ k d lt.
           let h = c.in_ok-send_out-2.ensures.posters k d lt in
-          (h.0.0 ∙ sym pass.1, h.0.1 ∙ laid ∙ (λ i. plan_for c.args.owner (ap (λ (v : Hand). v.number) (sym pass.2) i) (sym room i)))),
+          (h.0.0 ∙ sym pass.1, h.0.1 ∙ laid ∙ (λ i. plan_for c.args.owner (ap (λ (v : View). v.number) (sym pass.2) i) (sym room i)))),
       c.in_ok-send_out-2.ensures.numbers
           ∙ ap (λ l. l ++ run (c.args.owner + 1) (c.args.n - (c.args.owner + 1)))
           (c.in_ok-send_out.ensures.numbers ∙ ap (λ (k : ℕ). map number_of c.in_ok-posters.posters.items ++ run 0 k) zero_less
           ∙ ap (λ l. map number_of l ++ run 0 c.args.owner) c.in_ok-posters.ensures.items)
           ∙ but_whole c.args.owner c.args.n c.requires.count.0
-          ∙ ap (below_but c.args.owner) (sym (ap (λ (v : Hand). v.number) pass.2)),
+          ∙ ap (below_but c.args.owner) (sym (ap (λ (v : View). v.number) pass.2)),
     )
 
 pub returns-clause-fresh : goal.returns-clause-fresh
@@ -42,6 +42,6 @@ pub invariant_of-end-clause-plan : goal.invariant_of-end-clause-plan
 invariant_of-end-clause-plan c =
     let pass = c.in_ok-send_out-2.ensures.pass in
     let laid : (view c.another.new.pass).plan ≡ plan_for c.args.owner c.args.n c.args.capacity
-    = ap (λ (v : Hand). v.plan) c.another.ensures.rule.0 ∙ ap (λ (v : Hand). v.plan) c.in_ok-send_out.ensures.pass.2 ∙ ap (λ (v : Hand). v.plan) c.lay_out.ensures.pass.1 in
+    = ap (λ (v : View). v.plan) c.another.ensures.rule.0 ∙ ap (λ (v : View). v.plan) c.in_ok-send_out.ensures.pass.2 ∙ ap (λ (v : View). v.plan) c.lay_out.ensures.pass.1 in
     let room : ruled_capacity (arc_value c.in-Ok.queue) ≡ c.args.capacity = grind (arith, common_steps) in
-    ap (λ (v : Hand). v.plan) pass.2 ∙ laid ∙ (λ i. plan_for c.args.owner (ap (λ (v : Hand). v.number) (sym pass.2) i) (sym room i))
+    ap (λ (v : View). v.plan) pass.2 ∙ laid ∙ (λ i. plan_for c.args.owner (ap (λ (v : View). v.number) (sym pass.2) i) (sym room i))

@@ -2,9 +2,9 @@ use Rattle.std.proofs.Common.{rules, arith, ap, ◌∙◌, ◌+◌, ◌<◌, sym
 use Rattle.std.proofs.lemmas.Grind.{common_steps}
 use Rattle.std.proofs.lemmas.List.{map-append}
 use Rattle.crossbeam_queue.specs.Passes.{view}
-use Rattle.tlsf_post.specs.declared.hand.Hand.{Hand}
+use Rattle.tlsf_post.specs.declared.view.View.{View}
 use Rattle.tlsf_post.specs.declared.plan.Plan.{Plan}
-use Rattle.tlsf_post.specs.Rule.{keeper, poster, posts_of, MayPut}
+use Rattle.tlsf_post.specs.Rule.{owner_view, poster_view, posts_of, MayPut}
 use Rattle.tlsf_post.specs.Rounds.{IsFreshAt}
 use Rattle.tlsf_post.proofs.RuleSteps.{forks}
 use Rattle.tlsf_post.proofs.Numbers.{apart_from, run_push, all_pushed}
@@ -13,25 +13,25 @@ use Rattle.tlsf_post.proofs.mailboxes.send_out.Goals as goal
 pub another-pass-requires-clause-rule : goal.another-pass-requires-clause-rule
 another-pass-requires-clause-rule c =
     let v = c.loop-number.invariant.view in
-    let own = ap (λ (v : Hand). v.plan.owner) v in
-    let number = ap (λ (v : Hand). v.number) v in
+    let own = ap (λ (v : View). v.plan.owner) v in
+    let number = ap (λ (v : View). v.number) v in
     let away = apart_from (view c.args.pass.now).plan.owner c.args.from c.args.to c.loop-number.number c.requires.numbers.1 (search rules) (search rules) in
-    forks _ _ (ap (λ (v : Hand). v.takes) v) (ap (λ (v : Hand). v.posts) v) (λ e. away (sym own ∙ e ∙ number))
+    forks _ _ (ap (λ (v : View). v.takes) v) (ap (λ (v : View). v.posts) v) (λ e. away (sym own ∙ e ∙ number))
 
 pub invariant_of-push_reserved-clause-room : goal.invariant_of-push_reserved-clause-room
 invariant_of-push_reserved-clause-room c =
-    let plan = ap (λ (v : Hand). v.plan.capacity) c.another-pass.ensures.rule.1 ∙ ap (λ (v : Hand). v.plan.capacity) c.loop-number.invariant.view ∙ c.requires.room in
+    let plan = ap (λ (v : View). v.plan.capacity) c.another-pass.ensures.rule.1 ∙ ap (λ (v : View). v.plan.capacity) c.loop-number.invariant.view ∙ c.requires.room in
     grind (arith, common_steps)
 
 pub invariant_of-push_reserved-clause-may_put : goal.invariant_of-push_reserved-clause-may_put
 invariant_of-push_reserved-clause-may_put c =
-    let mine = c.another-pass.ensures.rule.1 ∙ ap (λ (v : Hand). poster v.plan v.number (posts_of v.number v.put) (posts_of v.number v.got)) c.loop-number.invariant.view in
+    let mine = c.another-pass.ensures.rule.1 ∙ ap (λ (v : View). poster_view v.plan v.number (posts_of v.number v.put) (posts_of v.number v.got)) c.loop-number.invariant.view in
     let away = apart_from (view c.args.pass.now).plan.owner c.args.from c.args.to c.loop-number.number c.requires.numbers.1 (search rules) (search rules) in
-    subst (λ (v : Hand). MayPut v.plan v.number) (sym mine) (omega (arith, c.requires.numbers.0), λ e. away (sym e))
+    subst (λ (v : View). MayPut v.plan v.number) (sym mine) (omega (arith, c.requires.numbers.0), λ e. away (sym e))
 
 pub invariant_of-push_reserved-clause-owned : goal.invariant_of-push_reserved-clause-owned
 invariant_of-push_reserved-clause-owned c =
-    let plan = ap (λ (v : Hand). v.plan) c.another-pass.ensures.rule.1 ∙ ap (λ (v : Hand). v.plan) c.loop-number.invariant.view in
+    let plan = ap (λ (v : View). v.plan) c.another-pass.ensures.rule.1 ∙ ap (λ (v : View). v.plan) c.loop-number.invariant.view in
     subst (λ (plan : Plan). plan.owner < plan.workers) (sym plan) c.requires.owned
 
 pub loop-number-preserved : goal.loop-number-preserved
@@ -41,10 +41,10 @@ loop-number-preserved c =
     record {
       pass = search rules;
       table = grind (arith, common_steps);
-      view = rule.0 ∙ ap (λ (v : Hand). keeper v.plan (v.number + 1) v.put v.got) before.view;
+      view = rule.0 ∙ ap (λ (v : View). owner_view v.plan (v.number + 1) v.put v.got) before.view;
       posters = all_pushed (IsFreshAt c.args.pass.now) _ _ _ c.push_reserved.ensures.items before.posters (
-        (grind (arith, common_steps), ap (λ (v : Hand). v.plan) rule.1 ∙ ap (λ (v : Hand). v.plan) before.view),
-        ap (λ (v : Hand). v.put) rule.1 ∙ ap (λ (v : Hand). posts_of v.number v.put) before.view,
+        (grind (arith, common_steps), ap (λ (v : View). v.plan) rule.1 ∙ ap (λ (v : View). v.plan) before.view),
+        ap (λ (v : View). v.put) rule.1 ∙ ap (λ (v : View). posts_of v.number v.put) before.view,
       );
       numbers = grind (arith, common_steps, map-append, run_push);
       len = grind (arith, common_steps);

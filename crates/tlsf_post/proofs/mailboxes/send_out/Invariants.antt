@@ -1,7 +1,7 @@
 use Rattle.std.proofs.Common.{◌≡◌, ◌+◌, ◌-◌, [], ◌++◌, map, All, vec_len, vec_capacity}
 use Rattle.std.specs.Arc.{arc_value}
 use Rattle.crossbeam_queue.specs.Passes.{view, IsPassOf}
-use Rattle.tlsf_post.specs.Rule.{keeper}
+use Rattle.tlsf_post.specs.Rule.{owner_view}
 use Rattle.tlsf_post.specs.Mailboxes.{number_of}
 use Rattle.tlsf_post.specs.Rounds.{run, IsFreshAt}
 use Rattle.tlsf_post.proofs.mailboxes.send_out.Given as goal
@@ -10,7 +10,7 @@ abbrev pub invariant-loop-number : goal.invariant-loop-number
 invariant-loop-number l = record {
   pass : IsPassOf (arc_value l.queue) l.pass;
   table : l.pass.table_id ≡ l.fn.pass.table_id;
-  view : view l.pass ≡ keeper (view l.fn.pass).plan l.number [] [];
+  view : view l.pass ≡ owner_view (view l.fn.pass).plan l.number [] [];
   posters : All (IsFreshAt l.fn.pass) l.posters.items;
   numbers : map number_of l.posters.items ≡ map number_of l.fn.posters.items ++ run l.from (l.number - l.from);
   len : vec_len l.posters ≡ vec_len l.fn.posters + (l.number - l.from);

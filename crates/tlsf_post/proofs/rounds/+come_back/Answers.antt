@@ -3,9 +3,9 @@ use Rattle.std.proofs.lemmas.Grind.{common_steps}
 use Rattle.std.proofs.lemmas.List.{append-nil}
 use Rattle.std.proofs.lemmas.List.Elements.{All-pop}
 use Rattle.crossbeam_queue.specs.Passes.{view}
-use Rattle.tlsf_post.specs.declared.hand.Hand.{Hand}
+use Rattle.tlsf_post.specs.declared.view.View.{View}
 use Rattle.tlsf_post.specs.declared.plan.Plan.{Plan}
-use Rattle.tlsf_post.specs.Rule.{posts_but, keeper, MayPut}
+use Rattle.tlsf_post.specs.Rule.{posts_but, owner_view, MayPut}
 use Rattle.tlsf_post.specs.Mailboxes.{put_by, below_but}
 use Rattle.tlsf_post.specs.Rounds.{IsOfPass}
 use Rattle.tlsf_post.proofs.RuleSteps.{learns, merges, signed_of}
@@ -34,15 +34,15 @@ come_back-requires t c =
     let l = last_of (view c.args.pass.now) _ _ p c.args.own c.requires.own.1 c.in-Some.ensures.items c.requires.numbers in
     let queue = c.absorb.ensures.queue in
     let rule = c.absorb.ensures.rule in
-    let number = ap (λ (v : Hand). v.number) rule ∙ p.number in
+    let number = ap (λ (v : View). v.number) rule ∙ p.number in
     let rest = (All-pop (IsOfPass c.args.pass.now) _ _ _ c.pop.ensures.items c.requires.posters).0 in (
       grind (arith, common_steps),
       (
-        ((queue.0 ∙ c.requires.pass.0.0, queue.2 ∙ c.requires.pass.0.1), ap (λ (v : Hand). v.takes) rule, ap (λ (v : Hand). v.posts) rule),
+        ((queue.0 ∙ c.requires.pass.0.0, queue.2 ∙ c.requires.pass.0.1), ap (λ (v : View). v.takes) rule, ap (λ (v : View). v.posts) rule),
         (
-          (ap (λ (v : Hand). v.plan.owner) rule ∙ c.requires.own.0, λ e. l.1 (sym number ∙ e)),
+          (ap (λ (v : View). v.plan.owner) rule ∙ c.requires.own.0, λ e. l.1 (sym number ∙ e)),
           (
-            ends_still c.args.pass.now c.absorb.new.pass _ queue.0 (ap (λ (v : Hand). v.plan) rule) rest,
+            ends_still c.args.pass.now c.absorb.new.pass _ queue.0 (ap (λ (v : View). v.plan) rule) rest,
             l.0 ∙ ap (below_but c.args.own) (sym number),
           ),
         ),
@@ -55,8 +55,8 @@ send_back-back-requires-clause-number t c =
     let l = last_of (view c.args.pass.now) _ _ p c.args.own c.requires.own.1 c.in-Some.ensures.items c.requires.numbers in
     let rule = c.absorb.ensures.rule in
     let same = c.come_back.ensures.round.same in (
-      ap (λ (v : Hand). v.plan.owner) same ∙ ap (λ (v : Hand). v.plan.owner) rule ∙ c.requires.own.0,
-      ap (λ (v : Hand). v.number) same ∙ ap (λ (v : Hand). v.number) rule ∙ p.number,
+      ap (λ (v : View). v.plan.owner) same ∙ ap (λ (v : View). v.plan.owner) rule ∙ c.requires.own.0,
+      ap (λ (v : View). v.number) same ∙ ap (λ (v : View). v.number) rule ∙ p.number,
       l.1,
     )
 
@@ -66,14 +66,14 @@ invariant_of-push_reserved t c =
     let back = c.send_back-back.ensures.back in
     let mine = (All-pop (IsOfPass c.args.pass.now) _ _ (Some p) c.in-Some.ensures.items c.requires.posters).1 in
     let plan : (view c.send_back-back.result).plan ≡ (view p.pass).plan
-    = ap (λ (v : Hand). v.plan) back.1 ∙ ap (λ (v : Hand). v.plan) c.come_back.ensures.round.same ∙ ap (λ (v : Hand). v.plan) c.absorb.ensures.rule ∙ sym mine.1 in
-    let number : (view c.send_back-back.result).number ≡ (view p.pass).number = ap (λ (v : Hand). v.number) back.1 ∙ sym p.number in
+    = ap (λ (v : View). v.plan) back.1 ∙ ap (λ (v : View). v.plan) c.come_back.ensures.round.same ∙ ap (λ (v : View). v.plan) c.absorb.ensures.rule ∙ sym mine.1 in
+    let number : (view c.send_back-back.result).number ≡ (view p.pass).number = ap (λ (v : View). v.number) back.1 ∙ sym p.number in
     record {
       place = back.0.0 ∙ sym c.requires.pass.0.0 ∙ sym mine.0 ∙ p.place;
       whole = back.0.1;
-      posts = ap (λ (v : Hand). v.posts) back.1;
-      takes = ap (λ (v : Hand). v.takes) back.1;
-      number = ap (λ (v : Hand). v.number) back.1;
+      posts = ap (λ (v : View). v.posts) back.1;
+      takes = ap (λ (v : View). v.takes) back.1;
+      number = ap (λ (v : View). v.number) back.1;
       room = ap (λ (plan : Plan). plan.capacity) plan ∙ p.room;
       may_put = subst (λ (z : Plan × ℕ). MayPut z.0 z.1) (λ i. (sym plan i, sym number i)) p.may_put;
       owned = subst (λ (plan : Plan). plan.owner < plan.workers) (sym plan) p.owned;
@@ -85,14 +85,14 @@ returns-clause-round t c =
     let p = c.in-Some.field-0 in
     let v = view c.args.pass.now in
     back_some v (view c.absorb.new.pass) (view c.come_back.new.pass) (view c.send_back-back.new.pass) _ _ _ _ p _ c.args.own c.requires.own.0 c.requires.own.1 c.in-Some.ensures.items c.requires.numbers p.signed
-    (c.absorb.ensures.rule ∙ ap (λ (n : ℕ). keeper v.plan n (posts_but n v.put ++ put_by p) v.got) p.number)
-    c.come_back.ensures.round c.send_back-back.ensures.next refl (ap (λ (u : Hand). u.put) c.send_back-back.ensures.back.1) (ap (λ (u : Hand). u.got) c.send_back-back.ensures.back.1)
+    (c.absorb.ensures.rule ∙ ap (λ (n : ℕ). owner_view v.plan n (posts_but n v.put ++ put_by p) v.got) p.number)
+    c.come_back.ensures.round c.send_back-back.ensures.next refl (ap (λ (u : View). u.put) c.send_back-back.ensures.back.1) (ap (λ (u : View). u.got) c.send_back-back.ensures.back.1)
     c.push_reserved.ensures.items
 
 pub returns-clause-posters : goal.returns-clause-posters
 returns-clause-posters t c =
     let back = c.send_back-back.ensures.back in
-    let laid : (view c.absorb.new.pass).plan ≡ (view c.args.pass.now).plan = ap (λ (v : Hand). v.plan) c.absorb.ensures.rule in
+    let laid : (view c.absorb.new.pass).plan ≡ (view c.args.pass.now).plan = ap (λ (v : View). v.plan) c.absorb.ensures.rule in
     all_pushed (IsOfPass c.args.pass.now) _ _ _ c.push_reserved.ensures.items
     (ends_still c.absorb.new.pass c.args.pass.now _ (sym c.absorb.ensures.queue.0) (sym laid) c.come_back.ensures.posters)
-    (back.0.0 ∙ sym c.requires.pass.0.0, ap (λ (v : Hand). v.plan) back.1 ∙ ap (λ (v : Hand). v.plan) c.come_back.ensures.round.same ∙ laid)
+    (back.0.0 ∙ sym c.requires.pass.0.0, ap (λ (v : View). v.plan) back.1 ∙ ap (λ (v : View). v.plan) c.come_back.ensures.round.same ∙ laid)

@@ -1,5 +1,5 @@
 use Rattle.std.proofs.Common.{ap, sym, ◌∙◌}
-use Rattle.tlsf_post.specs.declared.hand.Hand.{Hand}
+use Rattle.tlsf_post.specs.declared.view.View.{View}
 use Rattle.tlsf_post.proofs.RuleSteps.{forks, skips}
 use Rattle.tlsf_post.proofs.rounds.send_back.Goals as goal
 
@@ -9,4 +9,4 @@ another-back-requires-clause-rule c =
     forks _ _ c.requires.pass.1 c.requires.pass.2 (λ e. number.2 (sym number.1 ∙ sym e ∙ number.0))
 
 pub another-requires-clause-rule : goal.another-requires-clause-rule
-another-requires-clause-rule c = skips _ _ (ap (λ (v : Hand). v.takes) c.another-back.ensures.rule.0)
+another-requires-clause-rule c = skips _ _ (ap (λ (v : View). v.takes) c.another-back.ensures.rule.0)

@@ -8,12 +8,12 @@ returns g c = (
   record {
     ready = record {
       yard = c.requires.yard;
-      fresh = c.in_ok-made.ensures.fresh;
+      fresh = (c.in_ok-made.ensures.items, c.in_ok-entries.ensures.items);
       short = c.requires.short;
-      names = omega (arith, c.in_ok-made.ensures.names, c.len.ensures);
-      room = omega (arith, c.in_ok-made.ensures.record, c.len.ensures);
+      names = omega (arith, c.in_ok-made.ensures.capacity, c.len.ensures);
+      room = omega (arith, c.in_ok-entries.ensures.exact, c.room_with_limits.ensures, c.len.ensures);
     };
     limits = c.limits-limits.ensures.limited g.row.SLI;
-    room = omega (arith, c.in_ok-made.ensures.record, c.len.ensures);
+    room = omega (arith, c.in_ok-entries.ensures.exact, c.room_with_limits.ensures, c.len.ensures);
   },
 )

@@ -4,15 +4,15 @@ use Rattle.tlsf_crew.proofs.jobs.running.run_scripts.Goals as goal
 
 pub returns : goal.returns
 returns g c = record {
-  run = jobs_gathered (g.P.Scripted.promise g.row.SLI) c.count_all-releases.result c.in_ok-jobs.jobs.items c.in_ok-done.done.items c.args.workers.items c.args.scripts.items c.take_apart.new.out.records.items c.take_apart.new.out.workers.items c.in_ok-jobs.ensures.workers c.in_ok-jobs.ensures.scripts
-      c.take_apart.ensures.parts.0 c.take_apart.ensures.parts.1 (rw c.deref.ensures.value at c.count_all-releases.ensures) c.in_ok-jobs.ensures.ready c.in_ok-done.ensures.done;
+  run = jobs_gathered (g.P.Scripted.promise g.row.SLI) c.count_all-releases.result c.in_ok-jobs.jobs.items c.in_ok-done.done.items c.args.workers.items c.args.scripts.items c.add_all.new.self.records.items c.add_all.new.self.workers.items c.in_ok-jobs.ensures.workers c.in_ok-jobs.ensures.scripts
+      c.add_all.ensures.parts.0 c.add_all.ensures.parts.1 (rw c.deref.ensures.value at c.count_all-releases.ensures) c.in_ok-jobs.ensures.ready c.in_ok-done.ensures.done;
 }
 
 pub prepare-requires : goal.prepare-requires
 prepare-requires g c = (omega arith, (omega arith, (c.requires.yard, (c.requires.count, c.requires.short))))
 
-pub take_apart-requires : goal.take_apart-requires
-take_apart-requires g c =
+pub add_all-requires : goal.add_all-requires
+add_all-requires g c =
     (omega arith, (omega arith, (c.in_ok-outcome.ensures.empty, room_of_done _ _ _ _ _ c.in_ok-done.ensures.len c.len.ensures c.in_ok-outcome.ensures.room)))
 
 pub count_all-releases-requires-clause-short : goal.count_all-releases-requires-clause-short

@@ -1,4 +1,4 @@
-use Rattle.std.proofs.Common.{◌≡◌, length, ap, ◌∙◌, arith, rules}
+use Rattle.std.proofs.Common.{◌≡◌, length, ap, ◌∙◌, arith}
 use Rattle.tlsf_heap.specs.Calls.{opened}
 use Rattle.tlsf_crew.specs.model.Opening.{opened_heaps}
 use Rattle.tlsf_crew.specs.worker.Workers.{heap_of}
@@ -13,8 +13,8 @@ loop-id-preserved g c =
     let own = c.in_ok-open_worker.ensures in
     let e = c.push_reserved.ensures.items in
     record {
-      count = search rules;
-      room = search rules;
+      count = omega (arith, i.count, c.push_reserved.ensures.len);
+      room = omega (arith, i.room, c.push_reserved.ensures.capacity);
       heaps = rw e (map_push heap_of (λ j. opened j c.args.words 0) _ _ _ i.heaps own.heap);
       numbers = rw e (map_push id_and_capacity (λ j. (j, c.args.capacity)) _ _ _ i.numbers own.numbers);
       alone = rw e (alone_push _ _ _ i.alone own.posts own.takes);
@@ -24,5 +24,5 @@ pub returns : goal.returns
 returns g c =
     let i = c.loop-id.invariant in
     let e : c.loop-id.id ≡ c.args.n = omega arith in
-    let len : length c.loop-id.workers.items ≡ c.args.n = search rules in
+    let len : length c.loop-id.workers.items ≡ c.args.n = omega (arith, i.count, c.loop-id.workers.ok) in
     alone_laid _ _ _ _ len (i.heaps ∙ ap (λ k. opened_heaps k c.args.words) e) (i.numbers ∙ ap (λ k. opened_numbers k c.args.capacity) e) i.alone

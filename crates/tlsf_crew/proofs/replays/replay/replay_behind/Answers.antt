@@ -1,27 +1,91 @@
-use Rattle.std.proofs.Common.{◌≡◌, ap, arith}
+use Rattle.std.proofs.Common.{◌+◌, ◌∙◌, ap, sym, length, arith, get_or}
+use Rattle.std.specs.List.{fold}
+use Rattle.std.proofs.lemmas.List.{take_all}
+use Rattle.std.proofs.lemmas.List.Sums.{fold_more}
+use Rattle.tlsf_calls.specs.declared.event.Event.{Event}
+use Rattle.tlsf_calls.specs.declared.call.Call.TheVariants.{Allocate}
 use Rattle.tlsf_crew.specs.lanes.Yard.{world_of}
+use Rattle.tlsf_crew.specs.model.World.{after, resumed}
 use Rattle.tlsf_crew.specs.model.Sums.{waiting_count}
-use Rattle.tlsf_crew.specs.scripts.Counts.{entry_room}
 use Rattle.tlsf_crew.proofs.lemmas.lanes.Pending.{all_ready}
+use Rattle.tlsf_crew.proofs.lemmas.model.InParts.{replies_behind_is}
+use Rattle.tlsf_crew.proofs.lemmas.replays.Room.{so_far, worker_waits}
 use Rattle.tlsf_crew.proofs.replays.replay.replay_behind.Goals as goal
 
-pub replay_within-requires : goal.replay_within-requires
-replay_within-requires g c = (
-  omega arith,
-  (
-    c.settle.ensures.yard,
-    let vs = c.settle.new.workers in
-        let s = c.settle.ensures in
-        let b = all_ready c.args.workers.now vs s.count s.settled s.yard in
-        omega (arith, c.room_for-room.ensures),
-  ),
-)
-
-pub returns-clause-room : goal.returns-clause-room
-returns-clause-room g c =
-    let vs = c.settle.new.workers in
+pub run_event-requires : goal.run_event-requires
+run_event-requires g c =
+    let w = world_of c.args.workers.now in
+    let made = c.args.made.now.items in
+    let i = c.loop-event.event-index in
+    let now = c.loop-event.invariant in
     let s = c.settle.ensures in
-    let b = all_ready c.args.workers.now vs s.count s.settled s.yard in
+    let ready = all_ready c.args.workers.now c.settle.new.workers s.count s.settled s.yard in
     let same = ap waiting_count s.world in
-    let e : c.room_for-room.result ≡ entry_room (world_of c.args.workers.now) c.args.events.now = omega (arith, b, c.room_for-room.ensures) in
-    rw e at c.replay_within.ensures.room
+    let d0 : Event = record { worker = 0; call = Allocate 0 } in
+    let e : Event = get_or c.args.events.now i d0 in (
+      omega arith,
+      (
+        now.yard,
+        (
+          omega arith,
+          (
+            let before = so_far i c.args.events.now w made (omega arith) in
+                let entries = ap (λ r. length r.entries) now.replayed in
+                let waits = ap (λ r. waiting_count r.world) now.replayed in
+                let most = worker_waits c.loop-event.workers e.worker now.yard in
+                omega (arith, c.room_for-room.ensures, now.room),
+            let one = fold_more after (resumed w made) c.args.events.now i d0 (omega arith) in
+                let then = so_far (i + 1) c.args.events.now w made (omega arith) in
+                rw (now.replayed, ← one) (omega (arith, then, ready, same, c.room_for-room.ensures, now.room)),
+          ),
+        ),
+      ),
+    )
+
+pub returns : goal.returns
+returns g c =
+    let w = world_of c.args.workers.now in
+    let made = c.args.made.now.items in
+    let now = c.loop-event.invariant in
+    let s = c.settle.ensures in
+    let ready = all_ready c.args.workers.now c.settle.new.workers s.count s.settled s.yard in
+    let same = ap waiting_count s.world in
+    let all = take_all c.loop-event.event-index c.args.events.now (omega arith) in
+    let e = now.replayed ∙ (ap (fold after (resumed w made)) all ∙ sym (replies_behind_is w made c.args.events.now)) in
+    record {
+      yard = now.yard;
+      entries = ap (λ r. r.entries) e;
+      made = ap (λ r. r.made) e;
+      world = ap (λ r. r.world) e;
+      no_memory = tt;
+      room = omega (arith, ready, same, c.room_for-room.ensures, now.room);
+    }
+
+pub loop-event-preserved : goal.loop-event-preserved
+loop-event-preserved g c =
+    let w = world_of c.args.workers.now in
+    let made = c.args.made.now.items in
+    let n = c.loop-event.event-index in
+    let i = c.loop-event.invariant in
+    let e = c.run_event.ensures in
+    let d0 : Event = record { worker = 0; call = Allocate 0 } in
+    let event : Event = get_or c.args.events.now n d0 in
+    let a = fold_more after (resumed w made) c.args.events.now n d0 (omega arith) in
+    record {
+      yard = e.yard;
+      count = omega (arith, i.count);
+      made = omega (arith, e.made, i.made);
+      made_room = omega (arith, e.capacity.0, i.made_room);
+      room = omega (arith, e.capacity.1, i.room);
+      replayed = e.after ∙ (ap (λ r. after r event) i.replayed ∙ sym a);
+    }
+
+pub loop-event-init : goal.loop-event-init
+loop-event-init g c = record {
+  yard = c.settle.ensures.yard;
+  count = c.settle.ensures.count;
+  made = omega (arith, c.reserve.ensures.len);
+  made_room = omega (arith, c.reserve.ensures.len, c.in_ok-reserve.ensures.ok);
+  room = c.in_ok-with_capacity.ensures.exact;
+  replayed = rw (c.reserve.ensures.items, c.in_ok-with_capacity.ensures.items) (ap (λ w. resumed w c.args.made.now.items) c.settle.ensures.world);
+}

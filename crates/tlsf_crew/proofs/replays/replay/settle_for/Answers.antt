@@ -1,4 +1,5 @@
-use Rattle.std.proofs.Common.{◌≡◌, ◌∙◌, ap, sym, subst, arith, Some, slice_get}
+use Rattle.std.proofs.Common.{◌≡◌, ◌∙◌, ap, sym, subst, arith, Some, slice_get, slice_index, replicate}
+use Rattle.std.proofs.lemmas.List.{get_or-replicate}
 use Rattle.std.proofs.lemmas.Option.{slice_get-get_or}
 use Rattle.tlsf_crew.specs.model.Targets.{target_name}
 use Rattle.tlsf_crew.specs.replays.ReplaySteps.{ConcernsCall, MayTake}
@@ -12,7 +13,7 @@ returns-in-Release-clause-settled g c = λ made known i j a b ne k.
     let ie : i ≡ c.args.event.now.worker = m.0 in
     let je : j ≡ m.1.heap = m.3 in
     let p = c.requires.inside in
-    rw (ie, je) (c.settle_named.ensures.settled m.1 (sym meant ∙ m.2) (omega arith) (omega arith) (λ q. ne (ie ∙ (q ∙ sym je))))
+    rw (ie, je) (c.settle_named.ensures.settled m.1 (sym meant ∙ m.2) (omega arith) (λ q. ne (ie ∙ (q ∙ sym je))))
 
 pub returns-in-Take-clause-limits : goal.returns-in-Take-clause-limits
 returns-in-Take-clause-limits g c =
@@ -22,7 +23,8 @@ returns-in-Take-clause-limits g c =
     let n = c.settle_column.ensures.count in
     let p = c.requires.inside in
     let is : slice_get vs at ≡ Some a = slice_get-get_or vs at a (omega arith) ∙ ap Some (sym c.index-workers-at.is) in
-    limits_are c.args.workers.now vs c.args.event.now c.count_each.result a c.settle_column.ensures.yard c.settle_column.ensures.count is c.settle_column.ensures.settled.done (rw (sym c.index-workers-at.is) at c.count_each.ensures)
+    limits_are c.args.workers.now vs c.args.event.now c.limits.result a c.settle_column.ensures.yard c.settle_column.ensures.count is c.settle_column.ensures.settled.done
+    (λ i lt. let none : slice_index (replicate 8 0) i ≡ 0 = get_or-replicate 8 i 0 0 lt in let l = (rw (sym c.index-workers-at.is) at c.limits.ensures.limited) g.row.SLI i lt in omega (arith, l, none))
 
 pub returns-in-Release-clause-limits : goal.returns-in-Release-clause-limits
 returns-in-Release-clause-limits g c = zero_limits _ c.args.event.now (λ m. subst MayTake c.in-Release.is m)

@@ -10,7 +10,7 @@ use Rattle.tlsf_crew.proofs.scripts.executor.reply_to_release.Goals as goal
 pub returns-in_default : goal.returns-in_default
 returns-in_default g c = λ n limits target made entries known k.
     let a = c.args.worker.now in
-    c.quiet_step.ensures g.row.SLI n a a limits (Release target) made entries (Refused Unmade) k (c.heap_keeps.ensures g.row.SLI a a (refl, refl) (same_heap_keeps _ _ refl))
+    c.laws.ensures.quiet g.row.SLI n a a limits (Release target) made entries (Refused Unmade) k (c.heap_keeps.ensures g.row.SLI a a (refl, refl) (same_heap_keeps _ _ refl))
     (unmade_call n a target made entries (known ∙ c.in_default.is))
 
 pub returns : goal.returns
@@ -21,6 +21,6 @@ returns g c = λ n limits target made entries known k.
     let e = c.release.ensures in
     rw c.as_reply.ensures
     (release_by n g.P.Ports.reaches g.P.Exchange.puts a v target c.in-Some.name made entries c.release.result (λ u reply. g.P.Scripted.steps g.row.SLI n (at_stage a limits entries) (Release target) made (at_stage u limits entries) reply) meant
-    (record { here = e.here; there = e.there; nowhere = e.nowhere }) (c.posts_step.ensures.reached g.row.SLI n a c.in-Some.name.heap k)
-    (λ u reply kept q. c.quiet_step.ensures g.row.SLI n a u limits (Release target) made entries reply k (c.heap_keeps.ensures g.row.SLI a u q.same kept) q)
-    (λ ne has there. c.posts_step.ensures.posted g.row.SLI n a v limits target c.in-Some.name made entries c.release.result k meant ne has there))
+    (record { here = e.here; there = e.there; nowhere = e.nowhere }) (c.laws.ensures.reached g.row.SLI n a c.in-Some.name.heap k)
+    (λ u reply kept q. c.laws.ensures.quiet g.row.SLI n a u limits (Release target) made entries reply k (c.heap_keeps.ensures g.row.SLI a u q.same kept) q)
+    (λ ne has there. c.laws.ensures.posted g.row.SLI n a v limits target c.in-Some.name made entries c.release.result k meant ne has there))

@@ -1,9 +1,9 @@
-use Rattle.std.proofs.Common.{◌∙◌, ap, sym, arith, replicate}
+use Rattle.std.proofs.Common.{◌∙◌, ap, sym, arith, replicate, Ok}
 use Rattle.std.proofs.lemmas.List.{length-take-le}
 use Rattle.tlsf_heap.specs.Calls.{read_of}
 use Rattle.tlsf_crew.specs.worker.Workers.{heap_of}
 use Rattle.tlsf_crew.specs.worker.Calls.{by_heap}
-use Rattle.tlsf_crew.proofs.lemmas.model.ChunkReads.{answer_of_few, read_many, many_ok, many_err}
+use Rattle.tlsf_crew.proofs.lemmas.model.ChunkReads.{answer_of_few, few_err, few_ok, read_many, many_ok, many_err}
 use Rattle.tlsf_crew.proofs.scripts.own_replies.read_own_chunk.Goals as goal
 
 pub returns-in-Ok-clause-answer : goal.returns-in-Ok-clause-answer
@@ -14,6 +14,12 @@ pub returns-in-Err-clause-answer : goal.returns-in-Err-clause-answer
 returns-in-Err-clause-answer g c =
     many_err (read_of (heap_of c.args.worker.now) c.args.name c.args.from 0) _ c.in-Err.ensures.answer ∙ ap by_heap (sym (read_many _ _ _ _ c.if-n-gt64.true))
 
-pub returns-clause-answer : goal.returns-clause-answer
-returns-clause-answer g c =
-    answer_of_few (heap_of c.args.worker.now) c.args.name c.args.from c.args.n _ _ c.read_own_into.ensures.answer (length-take-le c.args.n (replicate 64 0) (omega arith)) (omega arith)
+pub returns-in-Some-clause-answer : goal.returns-in-Some-clause-answer
+returns-in-Some-clause-answer g c =
+    answer_of_few (heap_of c.args.worker.now) c.args.name c.args.from c.args.n _ _
+    (ap Ok c.in-Some.ensures.chunk ∙ few_ok (read_of (heap_of c.args.worker.now) c.args.name c.args.from _) _ _ _ c.in-Ok-read.ensures.answer c.in-Ok-read.ensures.bytes) (length-take-le c.args.n (replicate 64 0) (omega arith)) (omega arith)
+
+pub returns-in-Err-read-clause-answer : goal.returns-in-Err-read-clause-answer
+returns-in-Err-read-clause-answer g c =
+    answer_of_few (heap_of c.args.worker.now) c.args.name c.args.from c.args.n _ _
+    (few_err (read_of (heap_of c.args.worker.now) c.args.name c.args.from _) _ c.in-Err-read.ensures.answer) (length-take-le c.args.n (replicate 64 0) (omega arith)) (omega arith)

@@ -1,7 +1,7 @@
 use Rattle.std.proofs.Common.{◌≡◌, ℕ, List, [], ◌++◌, All, ap, sym, refl, ◌∙◌, subst, append-nil}
 use Rattle.std.proofs.lemmas.List.Elements.{All-weaker}
 use Rattle.crossbeam_queue.specs.Passes.{view}
-use Rattle.tlsf_post.specs.declared.hand.Hand.{Hand}
+use Rattle.tlsf_post.specs.declared.view.View.{View}
 use Rattle.tlsf_post.specs.declared.post.Post.{Post}
 use Rattle.tlsf_post.specs.Mailboxes.{number_of, gone_from, owner_of, most_of, below_but, IsMailbox}
 use Rattle.tlsf_post.specs.Rounds.{IsOfPass}
@@ -18,14 +18,14 @@ come_back-requires-clause-numbers c = c.requires.1
 pub returns-clause-beside : goal.returns-clause-beside
 returns-clause-beside c =
     let m = c.come_back.ensures.round in
-    let number = ap (λ (v : Hand). v.number) m.same in
-    let got = ap (λ (v : Hand). v.got) m.same in
-    let plan = ap (λ (v : Hand). v.plan) m.same ∙ c.args.self.now.plan ∙ (λ i. plan_for (owner_of c.args.self.now) (sym number i) (most_of c.args.self.now)) in
+    let number = ap (λ (v : View). v.number) m.same in
+    let got = ap (λ (v : View). v.got) m.same in
+    let plan = ap (λ (v : View). v.plan) m.same ∙ c.args.self.now.plan ∙ (λ i. plan_for (owner_of c.args.self.now) (sym number i) (most_of c.args.self.now)) in
     let same : (p : ℕ) → posts_of p (view c.come_back.new.pass).put ≡ posts_of p ((view c.come_back.new.pass).got ++ m.items) = λ p. m.order p ∙ ap (λ (l : List Post). posts_of p (l ++ m.items)) (sym got) in
-    let here = of_plan m.items (plan_for (owner_of c.args.self.now) (view c.come_back.new.pass).number (most_of c.args.self.now)) (view c.args.self.now.pass).plan (sym plan ∙ ap (λ (v : Hand). v.plan) m.same) m.few in
+    let here = of_plan m.items (plan_for (owner_of c.args.self.now) (view c.come_back.new.pass).number (most_of c.args.self.now)) (view c.args.self.now.pass).plan (sym plan ∙ ap (λ (v : View). v.plan) m.same) m.few in
     record {
       whole = (
-        (λ k d lt. let h = c.come_back.ensures.posters k d lt in (h.0 ∙ sym c.come_back.ensures.pass.1, h.1 ∙ sym (ap (λ (v : Hand). v.plan) m.same) ∙ plan)),
+        (λ k d lt. let h = c.come_back.ensures.posters k d lt in (h.0 ∙ sym c.come_back.ensures.pass.1, h.1 ∙ sym (ap (λ (v : View). v.plan) m.same) ∙ plan)),
         m.numbers ∙ c.requires.1 ∙ ap (below_but (owner_of c.args.self.now)) (sym number),
       );
       owner = (refl, number, refl);
@@ -40,5 +40,5 @@ returns-clause-beside c =
 pub invariant_of-self-clause-plan : goal.invariant_of-self-clause-plan
 invariant_of-self-clause-plan c =
     let m = c.come_back.ensures.round in
-    let number = ap (λ (v : Hand). v.number) m.same in
-    ap (λ (v : Hand). v.plan) m.same ∙ c.args.self.now.plan ∙ (λ i. plan_for (owner_of c.args.self.now) (sym number i) (most_of c.args.self.now))
+    let number = ap (λ (v : View). v.number) m.same in
+    ap (λ (v : View). v.plan) m.same ∙ c.args.self.now.plan ∙ (λ i. plan_for (owner_of c.args.self.now) (sym number i) (most_of c.args.self.now))

@@ -1,6 +1,6 @@
 use Rattle.std.proofs.Common.{◌≤◌, sym, subst}
 use Rattle.crossbeam_queue.specs.Passes.{ruled_capacity}
-use Rattle.tlsf_post.specs.declared.hand.Hand.{Hand}
+use Rattle.tlsf_post.specs.declared.view.View.{View}
 use Rattle.tlsf_post.specs.Rule.{Shows}
 use Rattle.tlsf_post.proofs.RuleSteps.{learns}
 use Rattle.tlsf_post.proofs.Waited.{laid_still, owner_saw}
@@ -13,7 +13,7 @@ pub returns-clause-count : goal.returns-clause-count
 returns-clause-count g c =
     let held = c.len_as.ensures.rule.1 in
     let same = c.len_as.ensures.queue.1 in
-    (held.0, held.1, owner_saw _ held.0 (laid_still _ _ _ _ same c.args.self.now.plan) (subst (λ (v : Hand). Shows v held.0) (sym same) held.2))
+    (held.0, held.1, owner_saw _ held.0 (laid_still _ _ _ _ same c.args.self.now.plan) (subst (λ (v : View). Shows v held.0) (sym same) held.2))
 
 pub invariant_of-self-clause-plan : goal.invariant_of-self-clause-plan
 invariant_of-self-clause-plan g c = laid_still _ _ _ _ c.len_as.ensures.queue.1 c.args.self.now.plan

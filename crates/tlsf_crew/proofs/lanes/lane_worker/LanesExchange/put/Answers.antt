@@ -1,20 +1,20 @@
-use Rattle.std.proofs.Common.{◌≡◌, ◌∙◌, arith, refl, sym, ap, Some, None, Ok, Err}
+use Rattle.std.proofs.Common.{◌≡◌, ◌∙◌, arith, refl, sym, ap, Some, None}
 use Rattle.std.specs.Option.{option_copied_mut}
 use Rattle.std.proofs.lemmas.Option.{slice_get_within}
 use Rattle.tlsf_crew.proofs.lemmas.worker.StandingEnd.{same_end, end_stands}
 use Rattle.tlsf_crew.proofs.lemmas.worker.Slots.{from_slot, slot_new, slot_other}
 use Rattle.tlsf_crew.proofs.lanes.lane_worker.LanesExchange.put.Goals as goal
 
-pub returns-in-Ok : goal.returns-in-Ok
-returns-in-Ok g c =
-    let e = c.in-Ok.ensures in
+pub returns : goal.returns
+returns g c =
+    let e = c.put.ensures in
     let p = c.requires.0 in
     let j = c.args.name.heap in
     let xs = c.args.self.now.posts.items in
     let is = from_slot _ p c.requires.1 in
     let a : Some c.in-Some.end.now ≡ c.index_mut.result.now = sym (ap option_copied_mut c.in-Some.is) ∙ c.as_mut.ensures.value in
     let pe : c.in-Some.end.now ≡ p = same_end _ xs j _ _ c.index_mut.ensures.value is a in (
-      Ok c.in-Ok.field-0,
+      c.put.result,
       record {
         end = p;
         new_end = c.put.new.self;
@@ -24,35 +24,10 @@ returns-in-Ok g c =
         same = (refl, refl);
         lane = rw (← pe) e.lane;
         ok = rw (← pe) e.ok;
-        full = tt;
-        succeeds = rw (← pe) e.succeeds;
-      },
-      refl,
-    )
-
-pub returns-in-Err : goal.returns-in-Err
-returns-in-Err g c =
-    let e = c.in-Err.ensures in
-    let p = c.requires.0 in
-    let j = c.args.name.heap in
-    let xs = c.args.self.now.posts.items in
-    let is = from_slot _ p c.requires.1 in
-    let a : Some c.in-Some.end.now ≡ c.index_mut.result.now = sym (ap option_copied_mut c.in-Some.is) ∙ c.as_mut.ensures.value in
-    let pe : c.in-Some.end.now ≡ p = same_end _ xs j _ _ c.index_mut.ensures.value is a in (
-      Err c.in-Err.post,
-      record {
-        end = p;
-        new_end = c.put.new.self;
-        end_is = c.requires.1;
-        new_end_is = slot_new xs _ j c.put.new.self (slice_get_within xs j (Some p) is) refl;
-        others = slot_other xs _ j c.put.new.self refl;
-        same = (refl, refl);
-        lane = rw (← pe) e.lane;
-        ok = tt;
         full = rw (← pe) e.full;
         succeeds = rw (← pe) e.succeeds;
       },
-      refl,
+      c.put_answer.ensures,
     )
 
 pub index_mut-requires : goal.index_mut-requires

@@ -13,21 +13,24 @@ returns g c =
     let xs = c.args.self.now.posts.items in
     let is = from_slot _ p c.requires.1 in
     let a : Some c.in-Some.end.now ≡ c.index_mut.result.now = sym (ap option_copied_mut c.in-Some.is) ∙ c.as_mut.ensures.value in
-    let pe : c.in-Some.end.now ≡ p = same_end _ xs j _ _ c.index_mut.ensures.value is a in
-    record {
-      end = p;
-      new_end = c.put.new.self;
-      end_is = c.requires.1;
-      new_end_is = slot_new xs _ j c.put.new.self (slice_get_within xs j (Some p) is) refl;
-      others = slot_other xs _ j c.put.new.self refl;
-      same = refl;
-      mailbox = rw (← pe) e.mailbox;
-      ok = rw (← pe) e.ok;
-      waits = rw (← pe) e.waits;
-      full = rw (← pe) e.full;
-      was_full = rw (← pe) e.was_full;
-      alone = rw (← pe) e.alone;
-    }
+    let pe : c.in-Some.end.now ≡ p = same_end _ xs j _ _ c.index_mut.ensures.value is a in (
+      c.put.result,
+      record {
+        end = p;
+        new_end = c.put.new.self;
+        end_is = c.requires.1;
+        new_end_is = slot_new xs _ j c.put.new.self (slice_get_within xs j (Some p) is) refl;
+        others = slot_other xs _ j c.put.new.self refl;
+        same = refl;
+        mailbox = rw (← pe) e.mailbox;
+        ok = rw (← pe) e.ok;
+        waits = rw (← pe) e.waits;
+        full = rw (← pe) e.full;
+        was_full = rw (← pe) e.was_full;
+        alone = rw (← pe) e.alone;
+      },
+      c.put_answer.ensures,
+    )
 
 pub index_mut-requires : goal.index_mut-requires
 index_mut-requires g c =

@@ -3,7 +3,7 @@ use Rattle.std.specs.List.{fold}
 use Rattle.tlsf_crew.specs.lanes.Yard.{IsYard, world_of}
 use Rattle.tlsf_crew.specs.model.World.{after, resumed}
 use Rattle.tlsf_crew.specs.replays.ReplaySteps.{replay_of}
-use Rattle.tlsf_crew.proofs.replays.replay.replay_within.Given as goal
+use Rattle.tlsf_crew.proofs.replays.replay.replay_behind.Given as goal
 
 abbrev pub invariant-loop-event : goal.invariant-loop-event
 invariant-loop-event g l = record {

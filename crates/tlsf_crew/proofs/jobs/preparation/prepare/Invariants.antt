@@ -1,7 +1,7 @@
 use Rattle.std.proofs.Common.{◌≡◌, ◌+◌, ◌^◌, ◌<◌, ◌≤◌, ◌++◌, map, reverse, vec_len, vec_capacity, All}
 use Rattle.tlsf_crew.specs.jobs.Job.{KnowsSome}
 use Rattle.tlsf_crew.specs.jobs.Parts.{IsPrepared}
-use Rattle.tlsf_crew.proofs.jobs.preparation.add_jobs.Given as goal
+use Rattle.tlsf_crew.proofs.jobs.preparation.prepare.Given as goal
 
 -- what is left of the workers and of the scripts, and then the jobs, last first, is all that was there
 abbrev pub invariant-loop-worker : goal.invariant-loop-worker
@@ -13,7 +13,6 @@ invariant-loop-worker g l = record {
   scripts : l.scripts.items ++ reverse (map (λ j. j.script) l.jobs.items) ≡ l.fn.scripts.items;
   ready : All (IsPrepared (g.P.Scripted.promise g.row.SLI) l.releases) l.jobs.items;
   room : vec_len l.jobs + vec_len l.workers ≤ vec_capacity l.jobs;
-  capacity : vec_capacity l.jobs ≡ vec_capacity l.fn.jobs;
 }
 
 abbrev pub decreases-loop-worker : goal.decreases-loop-worker

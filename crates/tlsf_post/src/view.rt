@@ -3,7 +3,7 @@ use crate::post::Post;
 use std::collections::LinkedList;
 
 /// What a pass of a mailbox's queue knows. It stands in contracts alone: no value of it is made.
-pub struct Hand {
+pub struct View {
     /// Whether it is a poster's.
     pub posts: bool,
     /// Whether it is the owner's.

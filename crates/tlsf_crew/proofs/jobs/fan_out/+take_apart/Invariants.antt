@@ -1,5 +1,0 @@
-use Rattle.std.proofs.Common.{vec_len}
-use Rattle.tlsf_crew.proofs.jobs.fan_out.+take_apart.Given as goal
-
-abbrev pub decreases-take_apart : goal.decreases-take_apart
-decreases-take_apart g l = vec_len l.done.now
