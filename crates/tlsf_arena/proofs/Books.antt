@@ -9,12 +9,12 @@ use Rattle.tlsf_heap.specs.Lawful.{IsLawful}
 use Rattle.tlsf_heap.specs.Laws.{IsLive}
 use Rattle.tlsf_heap.specs.Calls.{allocated_words, fitted, first_free, has_serial, is_sized, past_free, recut, refitted, released, resized_words, room_of}
 use Rattle.tlsf_heap.specs.declared.name.Name.{Name}
-use Rattle.tlsf_heap.proofs.Finding.{and_left, and_right}
-use Rattle.tlsf_heap.proofs.Fitted.{length-fitted}
-use Rattle.tlsf_heap.proofs.Lasting.{HasFrom, in_right}
-use Rattle.tlsf_heap.proofs.Living.{new_words}
-use Rattle.tlsf_heap.proofs.Outcomes.{by_resized_words, resizes}
-use Rattle.tlsf_heap.proofs.Recutting.{cut_small, cut_large}
+use Rattle.tlsf_heap.proofs.lemmas.blocks.Find.{and_left, and_right}
+use Rattle.tlsf_heap.proofs.lemmas.words.NewBytes.{length-fitted}
+use Rattle.tlsf_heap.proofs.lemmas.laws.Lasting.{HasFrom, in_right}
+use Rattle.tlsf_heap.proofs.lemmas.laws.Live.{new_words}
+use Rattle.tlsf_heap.proofs.lemmas.calls.Outcomes.{by_resized_words, resizes}
+use Rattle.tlsf_heap.proofs.lemmas.words.Recut.{cut_small, cut_large}
 use Rattle.tlsf_arena.specs.Arenas.{Holds}
 use Rattle.tlsf_arena.specs.Loans.{Loan, loan_of, name_of, units_of, is_out, same_loan, without, IsBook}
 use Rattle.tlsf_arena.specs.Places.{held_units, lacking}

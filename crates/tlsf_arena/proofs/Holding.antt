@@ -7,10 +7,10 @@ use Rattle.tlsf_heap.specs.Calls.{allocated_words, carved, has_serial, is_named,
 use Rattle.tlsf_heap.specs.Lawful.{IsLawful}
 use Rattle.tlsf_heap.specs.Laws.{IsLive}
 use Rattle.tlsf_heap.specs.declared.name.Name.{Name}
-use Rattle.tlsf_heap.proofs.Finding.{and_left, and_right}
-use Rattle.tlsf_heap.proofs.Lasting.{HasFrom, in_left, in_right, in_either, edited, released_lasts, refitted_lasts}
-use Rattle.tlsf_heap.proofs.Living.{shown, one_serial, same_name, words_carved, no_serial}
-use Rattle.tlsf_heap.proofs.Outcomes.{by_allocated_words, by_released, by_resized_words, named_site}
+use Rattle.tlsf_heap.proofs.lemmas.blocks.Find.{and_left, and_right}
+use Rattle.tlsf_heap.proofs.lemmas.laws.Lasting.{HasFrom, in_left, in_right, in_either, edited, released_lasts, refitted_lasts}
+use Rattle.tlsf_heap.proofs.lemmas.laws.Live.{shown, one_serial, same_name, words_carved, no_serial}
+use Rattle.tlsf_heap.proofs.lemmas.calls.Outcomes.{by_allocated_words, by_released, by_resized_words, named_site}
 use Rattle.tlsf_arena.specs.Arenas.{Holds}
 use Rattle.tlsf_arena.specs.Places.{held_at, held_units}
 use Rattle.tlsf_arena.proofs.Maps.{holds_live, stands_held}

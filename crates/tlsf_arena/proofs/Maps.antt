@@ -13,14 +13,14 @@ use Rattle.tlsf_arena.specs.Arenas.{Holds}
 use Rattle.tlsf_heap.specs.Placed.{placed_at, placed}
 use Rattle.tlsf_heap.specs.Calls.{Outcome, carved, allocated_words, released, coalesced, named, first_free, past_free, last_free, before_free, has_serial}
 use Rattle.tlsf_heap.specs.declared.name.Name.{Name}
-use Rattle.tlsf_heap.proofs.Finding.{and_left, and_right}
-use Rattle.tlsf_heap.proofs.Edits.{carved_small, carved_large}
-use Rattle.tlsf_heap.proofs.Allocating.{fits_size}
-use Rattle.tlsf_heap.proofs.Coalescing.{by_last}
-use Rattle.tlsf_heap.proofs.Lawfulness.{all_left, all_right}
-use Rattle.tlsf_heap.proofs.Placing.{placed_found}
-use Rattle.tlsf_heap.proofs.Living.{given_words}
-use Rattle.tlsf_heap.proofs.Outcomes.{IsSiteOf, gives_words, takes, named_site, by_allocated_words, by_released}
+use Rattle.tlsf_heap.proofs.lemmas.blocks.Find.{and_left, and_right}
+use Rattle.tlsf_heap.proofs.lemmas.blocks.Replace.{carved_small, carved_large}
+use Rattle.tlsf_heap.proofs.lemmas.calls.Allocate.{fits_size}
+use Rattle.tlsf_heap.proofs.lemmas.blocks.Coalesce.{by_last}
+use Rattle.tlsf_heap.proofs.lemmas.blocks.Lawful.{all_left, all_right}
+use Rattle.tlsf_heap.proofs.lemmas.blocks.ByPlace.{placed_found}
+use Rattle.tlsf_heap.proofs.lemmas.laws.Live.{given_words}
+use Rattle.tlsf_heap.proofs.lemmas.calls.Outcomes.{IsSiteOf, gives_words, takes, named_site, by_allocated_words, by_released}
 use Rattle.tlsf_arena.specs.Places.{IsRun, marked, spread, free_map, held_units, held_at, held_in, free_in}
 use Rattle.tlsf_arena.proofs.Rooms.{marked_run}
 use Rattle.tlsf_arena.proofs.Spread.{spread_run, spread_marked}

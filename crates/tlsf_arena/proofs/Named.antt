@@ -8,10 +8,10 @@ use Rattle.tlsf_heap.specs.Calls.{has_serial, named}
 use Rattle.tlsf_heap.specs.Lawful.{IsLawful, HasRoom}
 use Rattle.tlsf_heap.specs.Placed.{placed_at, placed}
 use Rattle.tlsf_heap.specs.declared.name.Name.{Name}
-use Rattle.tlsf_heap.proofs.Finding.{and_left, and_right}
-use Rattle.tlsf_heap.proofs.Lawfulness.{all_right, words_in-append}
-use Rattle.tlsf_heap.proofs.Outcomes.{named_site}
-use Rattle.tlsf_heap.proofs.Placing.{placed_found}
+use Rattle.tlsf_heap.proofs.lemmas.blocks.Find.{and_left, and_right}
+use Rattle.tlsf_heap.proofs.lemmas.blocks.Lawful.{all_right, words_in-append}
+use Rattle.tlsf_heap.proofs.lemmas.calls.Outcomes.{named_site}
+use Rattle.tlsf_heap.proofs.lemmas.blocks.ByPlace.{placed_found}
 use Rattle.tlsf_arena.specs.Arenas.{Holds, IsMapped}
 use Rattle.tlsf_arena.specs.Places.{free_map, held_at, serial_at, serial_in}
 use Rattle.tlsf_arena.proofs.Maps.{held_of, length-map, stands}

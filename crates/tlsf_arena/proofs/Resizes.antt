@@ -9,11 +9,11 @@ use Rattle.tlsf_heap.specs.GoodFit.{Site, place_of}
 use Rattle.tlsf_heap.specs.Lawful.{IsLawful, HasRoom}
 use Rattle.tlsf_heap.specs.Calls.{Outcome, cut, fitted, recut, refitted, is_sized, room_of, resized_words, first_free, past_free, has_serial}
 use Rattle.tlsf_heap.specs.declared.name.Name.{Name}
-use Rattle.tlsf_heap.proofs.Finding.{and_left, and_right}
-use Rattle.tlsf_heap.proofs.Lawfulness.{all_left, all_right}
-use Rattle.tlsf_heap.proofs.Outcomes.{IsSiteOf, by_resized_words, resizes}
-use Rattle.tlsf_heap.proofs.Recutting.{cut_small, cut_large}
-use Rattle.tlsf_heap.proofs.Fitted.{length-fitted}
+use Rattle.tlsf_heap.proofs.lemmas.blocks.Find.{and_left, and_right}
+use Rattle.tlsf_heap.proofs.lemmas.blocks.Lawful.{all_left, all_right}
+use Rattle.tlsf_heap.proofs.lemmas.calls.Outcomes.{IsSiteOf, by_resized_words, resizes}
+use Rattle.tlsf_heap.proofs.lemmas.words.Recut.{cut_small, cut_large}
+use Rattle.tlsf_heap.proofs.lemmas.words.NewBytes.{length-fitted}
 use Rattle.tlsf_arena.specs.Places.{IsRun, marked, spread, free_map, held_units, held_at}
 use Rattle.tlsf_arena.proofs.Rooms.{marked_run}
 use Rattle.tlsf_arena.proofs.Maps.{Tells, map-append, past_map, joined, length-map, held_fit, seen_held}

@@ -12,7 +12,7 @@ use base.Logic.{SProp, ent, sep, emp, ex, guard, via, guard_i, guard_e}
 use base.Fml.{GName}
 use types.Logic.{Logic, sem}
 use types.Owned.{basic, own_new, own_join, own_sum}
-use Rattle.tlsf_heap.proofs.Finding.{and_left, and_right}
+use Rattle.tlsf_heap.proofs.lemmas.blocks.Find.{and_left, and_right}
 use Rattle.tlsf_arena.specs.Loans.{Loan, same_loan, is_out, without, rights, row, right, rest_of}
 
 -- ---- loans

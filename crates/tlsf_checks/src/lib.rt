@@ -1,5 +1,11 @@
-//! Tests of the public calls of the libraries: of one heap and its pools, of posts and locks, of memory in place, of yards and of traces.
+//! Tests of the public calls of the libraries: of one heap and its pools, and of posts and locks. `same` and `name` serve the tests of other
+//! crates too.
 #![tactic(auto)]
 
+mod different;
+mod names;
 #[cfg(test)]
 mod tests;
+
+pub use different::{Different, same};
+pub use tlsf_heap::Name;

@@ -10,9 +10,9 @@ use Rattle.tlsf_heap.specs.Calls.{Outcome, carved, allocated, has_serial, is_wor
 use Rattle.tlsf_heap.specs.declared.name.Name.{Name}
 use Rattle.tlsf_heap.specs.declared.refusal.Refusal.{Refusal}
 use Rattle.tlsf_heap.specs.declared.refusal.Refusal.TheVariants.{Foreign, Stale, NoRoom, Worn}
-use Rattle.tlsf_heap.proofs.Finding.{and_left}
-use Rattle.tlsf_heap.proofs.Coalescing.{by_last}
-use Rattle.tlsf_heap.proofs.Outcomes.{IsSiteOf, by_test, by_allocated, by_released, by_written, named_site}
+use Rattle.tlsf_heap.proofs.lemmas.blocks.Find.{and_left}
+use Rattle.tlsf_heap.proofs.lemmas.blocks.Coalesce.{by_last}
+use Rattle.tlsf_heap.proofs.lemmas.calls.Outcomes.{IsSiteOf, by_test, by_allocated, by_released, by_written, named_site}
 use Rattle.tlsf_lock.specs.Grants.{HeapCount, IsCounted, live_count, accepted}
 
 abbrev live_in : List Block → ℕ

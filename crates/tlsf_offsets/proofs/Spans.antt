@@ -16,22 +16,22 @@ use Rattle.tlsf_heap.specs.declared.name.Name.{Name}
 use Rattle.tlsf_heap.specs.declared.refusal.Refusal.{Refusal}
 use Rattle.tlsf_heap.specs.declared.refusal.Refusal.TheVariants.{NoFit, NoRoom, Worn, Foreign}
 use Rattle.tlsf_heap.specs.declared.placed_block.PlacedBlock.{PlacedBlock}
-use Rattle.tlsf_heap.proofs.Allocating.{fits_size}
-use Rattle.tlsf_heap.proofs.Choosing.{none_above}
-use Rattle.tlsf_heap.proofs.Edits.{carved_small, carved_large}
-use Rattle.tlsf_heap.proofs.Finding.{and_left, and_right}
-use Rattle.tlsf_heap.proofs.Gone.{gone_dead, gone_taken}
-use Rattle.tlsf_heap.proofs.Lasting.{HasFrom, in_left, in_right, in_either, edited, released_lasts, refitted_lasts}
-use Rattle.tlsf_heap.proofs.Lawfulness.{words_in-append}
-use Rattle.tlsf_heap.proofs.Living.{lives, new_words, shown, one_serial, same_name, words_carved, no_serial}
-use Rattle.tlsf_heap.proofs.Lying.{ends_before, inside}
-use Rattle.tlsf_heap.proofs.Outcomes.{by_allocated_words, by_released, by_resized_words, gives_words, named_site, resizes}
-use Rattle.tlsf_heap.proofs.Placing.{placed_found}
-use Rattle.tlsf_heap.proofs.Recutting.{cut_small, cut_large}
-use Rattle.tlsf_heap.proofs.Refitted.{refitted_grown, refitted_cut, refitted_kept}
-use Rattle.tlsf_heap.proofs.Served.{no_fit_words, ok_words}
-use Rattle.tlsf_heap.proofs.Showing.{least}
-use Rattle.tlsf_heap.proofs.Sites.{choice_none}
+use Rattle.tlsf_heap.proofs.lemmas.calls.Allocate.{fits_size}
+use Rattle.tlsf_heap.proofs.lemmas.lists.Chosen.{none_above}
+use Rattle.tlsf_heap.proofs.lemmas.blocks.Replace.{carved_small, carved_large}
+use Rattle.tlsf_heap.proofs.lemmas.blocks.Find.{and_left, and_right}
+use Rattle.tlsf_heap.proofs.lemmas.laws.Gone.{gone_dead, gone_taken}
+use Rattle.tlsf_heap.proofs.lemmas.laws.Lasting.{HasFrom, in_left, in_right, in_either, edited, released_lasts, refitted_lasts}
+use Rattle.tlsf_heap.proofs.lemmas.blocks.Lawful.{words_in-append}
+use Rattle.tlsf_heap.proofs.lemmas.laws.Live.{lives, new_words, shown, one_serial, same_name, words_carved, no_serial}
+use Rattle.tlsf_heap.proofs.lemmas.blocks.Order.{ends_before, inside}
+use Rattle.tlsf_heap.proofs.lemmas.calls.Outcomes.{by_allocated_words, by_released, by_resized_words, gives_words, named_site, resizes}
+use Rattle.tlsf_heap.proofs.lemmas.blocks.ByPlace.{placed_found}
+use Rattle.tlsf_heap.proofs.lemmas.words.Recut.{cut_small, cut_large}
+use Rattle.tlsf_heap.proofs.lemmas.lists.Refit.{refitted_grown, refitted_cut, refitted_kept}
+use Rattle.tlsf_heap.proofs.lemmas.laws.NoFit.{no_fit_words, ok_words}
+use Rattle.tlsf_heap.proofs.lemmas.words.Image.{least}
+use Rattle.tlsf_heap.proofs.lemmas.blocks.Sites.{choice_none}
 use Rattle.tlsf_offsets.specs.Offsets.{Offsets, IsOffsets, IsHeld, AreApart, KeepsOthers, units_for}
 use Rattle.tlsf_offsets.specs.declared.span.Span.{Span}
 

@@ -1,4 +1,6 @@
-pub mod Pools
-pub mod Splits
--- What the clauses of private functions cite besides.
-pub mod Cheapest
+-- The laws: what they say of any heap, and the sizes that they name.
+pub mod laws
+-- Ways to cut a table of kinds, and how the least one is found.
+pub mod sizes
+-- What the heaps that never refuse show and keep.
+pub mod pools

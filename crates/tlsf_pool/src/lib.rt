@@ -1,7 +1,9 @@
-//! Pools: heaps that never refuse for want of room.
+//! Heaps that never refuse for want of room, and the laws by which they don't.
+//!
+//! # Heaps
 //!
 //! Who opens a [`Pool`] writes two numbers: how many blocks are held at once, at most, and how many bytes a request has, at
-//! most. The pool takes a region of just so many words as `tlsf_laws::pool_never_refuses` asks for, and its
+//! most. The pool takes a region of just so many words as [`pool_never_refuses`] asks for, and its
 //! [`allocate`](Pool::allocate) then gives a block whenever fewer are held, the request is no longer, and the tick isn't at
 //! its last value. No other refusal is left: `NoFit` is no answer that it has.
 //!
@@ -10,24 +12,63 @@
 //! let name = pool.allocate(512)?;
 //! ```
 //!
+//! A [`TablePool`] has a table of kinds: of each kind of request how many blocks are held at once, at most, and how many bytes
+//! such a request has, at most. Its heap takes just so many words as [`kinds_suffice`] asks for. A block counts for the first
+//! row of the table that is long enough for it.
+//!
+//! ```text
+//! let kinds = [Kind { most: 100, len: 64 }, Kind { most: 4, len: 4096 }];
+//! let mut pool = TablePool::<4>::open(alloc, 0, &kinds, 0)?;        // 59,427 words
+//! let name = pool.allocate(4096)?;
+//! ```
+//!
+//! [`Pools`] are several such heaps for one table, in the fewest words.
+//!
+//! # Sizes
+//!
 //! [`kinds_words`] tells how many words a heap needs for several kinds of request, [`cheapest_split`] how these are given to several heaps
 //! by the fewest words, [`one_large_words`] how many are enough for one large block beside small ones, [`pool_region`] the words of the
 //! region for one kind, [`most_blocks`] and [`longest_request`] how far the greatest region goes.
+//!
+//! # Laws
+//!
+//! Each law is the contract of a function that does nothing. It speaks of the model of a heap that the contracts of
+//! `tlsf_heap::Heap` name, so it holds of every heap, whatever calls were made on it.
+//!
+//! | A user knows | So | Law |
+//! |---|---|---|
+//! | how many words are free, and how many blocks are live | whether a request finds room, however the free words are cut up | [`enough_free_words_serve`] |
+//! | the greatest number of blocks held at once, and the greatest request | how many words of region are enough for ever | [`pool_never_refuses`] |
+//! | a table of sizes, with how many of each may be held | the same by sums | [`kinds_suffice`] |
+//! | the same, with one block in it that is longer than all others, and no resize | fewer words where it is much longer | [`one_large_suffices`] |
+//! | what the live blocks were asked for | how many words they take at most | [`blocks_are_snug`] |
+//!
+//! A program counts what it holds by the answers that it gets: one more after each accepted allocate, one fewer after each
+//! accepted release. So the premises name nothing of the heap.
+//!
+//! To its user a heap is a map from live names to bytes ([`heap_is_a_map`]). No word lies in the blocks of two live names
+//! ([`names_share_no_word`]), and a heap whose blocks were all released is whole again ([`whole_again`]). When a request is
+//! refused is said exactly by `tlsf_heap::refused_only_where_nothing_fits`.
 #![tactic(auto)]
 
-mod greatest;
-mod one_large;
-mod pool;
-mod pool_refusal;
-mod region;
-mod sizing;
-mod split;
+mod kind;
+mod laws;
+mod pools;
+mod sizes;
 
-pub use greatest::{longest_request, most_blocks};
-pub use one_large::one_large_words;
-pub use pool::Pool;
-pub use pool_refusal::PoolRefusal;
-pub use region::pool_region;
-pub use sizing::{kinds_words, most_bytes};
-pub use split::{MOST_HEAPS, MOST_SPLIT, Split, cheapest_split};
-pub use tlsf_laws::Kind;
+pub use kind::Kind;
+pub use laws::contents::heap_is_a_map;
+pub use laws::kinds::kinds_suffice;
+pub use laws::one_large::one_large_suffices;
+pub use laws::places::{names_share_no_word, whole_again};
+pub use laws::pools::pool_never_refuses;
+pub use laws::room::{blocks_are_snug, enough_free_words_serve};
+pub use pools::pool::Pool;
+pub use pools::pool_refusal::PoolRefusal;
+pub use pools::pools::Pools;
+pub use pools::table_pool::TablePool;
+pub use sizes::greatest::{longest_request, most_blocks};
+pub use sizes::one_large::one_large_words;
+pub use sizes::region::pool_region;
+pub use sizes::sizing::{kinds_words, most_bytes};
+pub use sizes::split::{MOST_HEAPS, MOST_SPLIT, Split, cheapest_split};

@@ -13,20 +13,20 @@ use Rattle.tlsf_heap.specs.Reports.{live_among}
 use Rattle.tlsf_heap.specs.Calls.{Outcome, Release, Released, carved, has_serial, last_tick, past_free, refitted, released, resized_words}
 use Rattle.tlsf_heap.specs.declared.name.Name.{Name}
 use Rattle.tlsf_heap.specs.declared.refusal.Refusal.{Refusal}
-use Rattle.tlsf_heap.proofs.Edits.{carved_small, carved_large}
-use Rattle.tlsf_heap.proofs.Finding.{and_left}
-use Rattle.tlsf_heap.proofs.Lawfulness.{all_append}
-use Rattle.tlsf_heap.proofs.Living.{new_words}
-use Rattle.tlsf_heap.proofs.Outcomes.{IsSiteOf, by_allocated_words, by_resized_words, gives_words, lawful_allocated_words, lawful_resized_words, resizes}
-use Rattle.tlsf_heap.proofs.Served.{no_fit}
-use Rattle.tlsf_laws.specs.Held.{held_after}
-use Rattle.tlsf_laws.specs.Pools.{BeginAtFours, IsSmall}
-use Rattle.tlsf_laws.specs.Room.{live_count}
-use Rattle.tlsf_laws.proofs.Around.{around_site}
-use Rattle.tlsf_laws.proofs.Fours.{fours_given, fours_resized}
-use Rattle.tlsf_laws.proofs.Held.{held_is}
-use Rattle.tlsf_laws.proofs.ModestCalls.{AreSmall, InPool, has_room, kept, small_carved, small_refitted}
-use Rattle.tlsf_laws.proofs.Refits.{by_refit}
+use Rattle.tlsf_heap.proofs.lemmas.blocks.Replace.{carved_small, carved_large}
+use Rattle.tlsf_heap.proofs.lemmas.blocks.Find.{and_left}
+use Rattle.tlsf_heap.proofs.lemmas.blocks.Lawful.{all_append}
+use Rattle.tlsf_heap.proofs.lemmas.laws.Live.{new_words}
+use Rattle.tlsf_heap.proofs.lemmas.calls.Outcomes.{IsSiteOf, by_allocated_words, by_resized_words, gives_words, lawful_allocated_words, lawful_resized_words, resizes}
+use Rattle.tlsf_heap.proofs.lemmas.laws.NoFit.{no_fit}
+use Rattle.tlsf_pool.specs.laws.Held.{held_after}
+use Rattle.tlsf_pool.specs.laws.Pools.{BeginAtFours, IsSmall}
+use Rattle.tlsf_pool.specs.laws.Room.{live_count}
+use Rattle.tlsf_pool.proofs.lemmas.laws.Around.{around_site}
+use Rattle.tlsf_pool.proofs.lemmas.laws.Fours.{fours_given, fours_resized}
+use Rattle.tlsf_pool.proofs.lemmas.laws.Held.{held_is}
+use Rattle.tlsf_pool.proofs.lemmas.laws.ModestCalls.{AreSmall, InPool, has_room, kept, small_carved, small_refitted}
+use Rattle.tlsf_pool.proofs.lemmas.laws.Refits.{by_refit}
 use Rattle.tlsf_arena.specs.Arenas.{Holds, requested, refitted as refitted_to}
 use Rattle.tlsf_arena.specs.Places.{IsUnit, lacking, units_for}
 use Rattle.tlsf_arena.proofs.UnitCases.{by_unit}

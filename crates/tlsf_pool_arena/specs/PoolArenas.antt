@@ -9,8 +9,8 @@ use Rattle.tlsf_heap.specs.Calls.{Outcome, refused}
 use Rattle.tlsf_heap.specs.Lawful.{IsLawful}
 use Rattle.tlsf_heap.specs.declared.name.Name.{Name}
 use Rattle.tlsf_heap.specs.declared.refusal.Refusal.TheVariants.{NoRoom}
-use Rattle.tlsf_laws.specs.Pools.{BeginAtFours, IsSmall, pool_region, pool_words}
-use Rattle.tlsf_laws.specs.Room.{live_count}
+use Rattle.tlsf_pool.specs.laws.Pools.{BeginAtFours, IsSmall, pool_region, pool_words}
+use Rattle.tlsf_pool.specs.laws.Room.{live_count}
 use Rattle.tlsf_arena.specs.Arenas.{refitted}
 use Rattle.tlsf_arena.specs.Places.{IsUnit, units_for}
 

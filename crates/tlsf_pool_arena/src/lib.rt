@@ -1,6 +1,6 @@
 //! Memory in place that never runs out: an arena that is opened by the most blocks held at once and the longest request.
 //!
-//! A [`PoolArena`] has as many units as the law of `tlsf_laws` asks for, and its [`allocate`](PoolArena::allocate) then gives a block
+//! A [`PoolArena`] has as many units as the law of `tlsf_pool` asks for, and its [`allocate`](PoolArena::allocate) then gives a block
 //! whenever fewer are held, the request is no longer, and the tick isn't at its last value. `NoFit` is no answer that it has.
 //!
 //! ```text
@@ -8,10 +8,29 @@
 //! let block = voices.allocate(512)?;
 //! voices.release(block)
 //! ```
+//!
+//! A [`RemoteArena`] is such an arena whose blocks any thread may give back. It lends each block by a place that is free. A [`RemoteBlock`]
+//! goes to any thread, which is then the only one that can reach its bytes, and comes home when it is dropped: never refused, with no wait.
+//! The arena's own thread releases what came home, by [`RemoteArena::drain`].
+//!
+//! ```text
+//! let (places, owner) = open_places(alloc, 100)?;
+//! let mut arena = RemoteArena::<4, 16>::open(alloc, owner, 0, 100, 512)?;      // 100 blocks of up to 512 bytes
+//! let block = arena.lend(&places, 512)?;
+//! drop(block);                                                                // by any thread
+//! arena.drain(&places) == 1
+//! ```
 #![tactic(auto)]
 
+mod parcel;
 mod pool_arena;
+mod remote_arena;
+mod remote_block;
 
+pub use parcel::Parcel;
 pub use pool_arena::{PoolArena, pool_units};
+pub use remote_arena::RemoteArena;
+pub use remote_block::RemoteBlock;
 pub use tlsf_arena::Block;
 pub use tlsf_pool::PoolRefusal;
+pub use tlsf_returns::{OwnerEnd, Places, Receipt, open_places};

@@ -1,7 +1,7 @@
 //! Calls on a heap, and their replies: a test of heaps is a table of both.
 ghost use Rattle.tlsf_class.specs.Classes.{IsLevel};
 
-use crate::tests::different::same;
+use crate::same;
 use std::alloc::Global;
 use std::process::Abort;
 use tlsf_heap::{Content, Heap, Name, PlacedBlock, Refusal};
@@ -32,29 +32,25 @@ pub enum Reply {
     NotGiven(PoolRefusal),
     /// Bytes that were read, and 0xee behind them.
     Bytes([u8; 16]),
-    Block(PlacedBlock),
+    /// A live block: its place, size, serial and length.
+    Live(u32, u32, u64, u32),
+    /// A free block: its place and size, and the tick at which it became free.
+    Free(u32, u32, u64),
     NoBlock,
     Tick(u64),
     /// The free words, the size of the largest free block, the fragmentation in thousandths, and the grant.
     Report([u32; 4]),
 }
 
-/// A live block with that serial, and its size and length.
-pub fn live(at: u32, size: u32, serial: u64, length: u32) -> Reply {
-    Reply::Block(PlacedBlock {
-        at,
-        size,
-        content: Content::Live { serial, length },
-    })
-}
-
-/// A free block that became free at that tick.
-pub fn free(at: u32, size: u32, stamp: u64) -> Reply {
-    Reply::Block(PlacedBlock {
-        at,
-        size,
-        content: Content::Free { stamp },
-    })
+/// The reply to a look for the block at a place.
+pub fn shown(found: Option<PlacedBlock>) -> Reply {
+    match found {
+        Some(PlacedBlock { at, size, content }) => match content {
+            Content::Live { serial, length } => Reply::Live(at, size, serial, length),
+            Content::Free { stamp } => Reply::Free(at, size, stamp),
+        },
+        None => Reply::NoBlock,
+    }
 }
 
 /// The reply to an allocate or a move.
@@ -102,10 +98,7 @@ pub fn answer<const SLI: u32>(heap: &mut Heap<SLI>, ask: Ask) -> Reply {
             let answer = heap.read(name, at, &mut out[..n.min(16)]);
             bytes(answer, out)
         }
-        Ask::BlockAt(at) => match heap.block_at(at) {
-            Some(block) => Reply::Block(block),
-            None => Reply::NoBlock,
-        },
+        Ask::BlockAt(at) => shown(heap.block_at(at)),
         Ask::Tick => Reply::Tick(heap.tick()),
         Ask::Report => {
             let report = heap.report();

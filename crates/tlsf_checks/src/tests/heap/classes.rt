@@ -1,7 +1,7 @@
 ghost use Rattle.std.specs.Prelude.{◌≤◌};
 ghost use Rattle.tlsf_class.specs.Classes.{IsLevel, most_words};
 
-use crate::tests::different::same;
+use crate::same;
 use std::process::Abort;
 use tlsf_class::{Bitmaps, Class, class_of, low, most_words, search_of};
 
@@ -99,7 +99,7 @@ fn check_steps<const SLI: u32>(rt: &impl Abort, rows: &[(u32, Step, u32)])
 
 #[test]
 fn next_members_across_first_levels(rt: HostRuntime) {
-    let rows = [
+    const ROWS: &[(u32, Step, u32)] = &[
         (4, Step::Next, 0),
         (1048576, Step::Next, 0),
         (4, Step::Set, 0),
@@ -128,8 +128,8 @@ fn next_members_across_first_levels(rt: HostRuntime) {
         (63, Step::Holds, 1),
         (21, Step::Holds, 0),
     ];
-    check_steps::<4>(&rt, &rows);
-    let fine_rows = [
+    check_steps::<4>(&rt, ROWS);
+    const FINE_ROWS: &[(u32, Step, u32)] = &[
         (4, Step::Next, 0),
         (16777216, Step::Next, 0),
         (4, Step::Set, 0),
@@ -151,7 +151,7 @@ fn next_members_across_first_levels(rt: HostRuntime) {
         (66, Step::Next, 0),
         (16777216, Step::Next, 0),
     ];
-    check_steps::<5>(&rt, &fine_rows);
+    check_steps::<5>(&rt, FINE_ROWS);
     let defaults = [
         Bitmaps::<4>::default().next_from(class_of(4)).is_none(),
         Bitmaps::<5>::default().next_from(class_of(4)).is_none(),

@@ -1,107 +1,109 @@
 ghost use Rattle.tlsf_class.specs.Classes.{IsLevel};
 
-use crate::tests::different::same;
-use crate::tests::heap::calls::{Ask, Reply, check_heap, free, live};
-use crate::tests::names::name;
+use crate::tests::heap::calls::{Ask, Reply, check_heap};
+use crate::{name, same};
 use std::alloc::Global;
-use tlsf_heap::{Heap, OpenFault, Refusal, want};
+use tlsf_heap::{Heap, Name, OpenFault, Refusal, want};
 
 // Of another heap, of a place where no block begins, of one behind the region, and of another serial. No sum of an offset
 // and a length wraps.
 #[test]
 fn names_and_places(rt: HostRuntime) {
-    let first = name(0, 0, 1);
-    let second = name(0, 4, 2);
-    let stale = Reply::Refused(Refusal::Stale);
-    let foreign = Reply::Refused(Refusal::Foreign);
-    let range = Reply::Refused(Refusal::Range);
-    let rows = [
-        (Ask::Allocate(8), Reply::Made(first)),
-        (Ask::Allocate(100), Reply::Made(second)),
-        (Ask::Release(name(0, 5, 2)), stale),
-        (Ask::Release(name(0, 64, 1)), stale),
-        (Ask::Release(name(0, 20, 2)), stale),
-        (Ask::Release(name(0, 4, 1)), stale),
-        (Ask::Release(name(0, u32::MAX, 0)), stale),
-        (Ask::Release(name(1, 4, 2)), foreign),
-        (Ask::Write(name(1, 0, 2), 0, b"123456789"), foreign),
-        (Ask::Read(name(1, 0, 2), 0, 9), foreign),
-        (Ask::Write(name(0, 0, 2), 0, b"123456789"), stale),
-        (Ask::Read(name(0, 0, 2), 0, 9), stale),
-        (Ask::Write(first, 0, b"123456789"), range),
-        (Ask::Read(first, 0, 9), range),
-        (Ask::Write(first, 8, b"123456789"), range),
-        (Ask::Read(first, 8, 9), range),
-        (Ask::Write(first, u32::MAX, b"123456789"), range),
-        (Ask::Read(first, u32::MAX, 9), range),
-        (Ask::Write(first, 9, b""), range),
-        (Ask::Read(first, 9, 0), range),
-        (Ask::Write(first, 8, b""), Reply::Done),
-        (Ask::Read(first, 8, 0), Reply::Bytes([0xee; 16])),
+    const FIRST: Name = name!(0, 0, 1);
+    const SECOND: Name = name!(0, 4, 2);
+    const STALE: Reply = Reply::Refused(Refusal::Stale);
+    const FOREIGN: Reply = Reply::Refused(Refusal::Foreign);
+    const RANGE: Reply = Reply::Refused(Refusal::Range);
+    const ROWS: &[(Ask, Reply)] = &[
+        (Ask::Allocate(8), Reply::Made(FIRST)),
+        (Ask::Allocate(100), Reply::Made(SECOND)),
+        (Ask::Release(name!(0, 5, 2)), STALE),
+        (Ask::Release(name!(0, 64, 1)), STALE),
+        (Ask::Release(name!(0, 20, 2)), STALE),
+        (Ask::Release(name!(0, 4, 1)), STALE),
+        (Ask::Release(name!(0, u32::MAX, 0)), STALE),
+        (Ask::Release(name!(1, 4, 2)), FOREIGN),
+        (Ask::Write(name!(1, 0, 2), 0, b"123456789"), FOREIGN),
+        (Ask::Read(name!(1, 0, 2), 0, 9), FOREIGN),
+        (Ask::Write(name!(0, 0, 2), 0, b"123456789"), STALE),
+        (Ask::Read(name!(0, 0, 2), 0, 9), STALE),
+        (Ask::Write(FIRST, 0, b"123456789"), RANGE),
+        (Ask::Read(FIRST, 0, 9), RANGE),
+        (Ask::Write(FIRST, 8, b"123456789"), RANGE),
+        (Ask::Read(FIRST, 8, 9), RANGE),
+        (Ask::Write(FIRST, u32::MAX, b"123456789"), RANGE),
+        (Ask::Read(FIRST, u32::MAX, 9), RANGE),
+        (Ask::Write(FIRST, 9, b""), RANGE),
+        (Ask::Read(FIRST, 9, 0), RANGE),
+        (Ask::Write(FIRST, 8, b""), Reply::Done),
+        (Ask::Read(FIRST, 8, 0), Reply::Bytes([0xee; 16])),
         (
-            Ask::Read(first, 0, 8),
+            Ask::Read(FIRST, 0, 8),
             Reply::Bytes(*b"\0\0\0\0\0\0\0\0\xee\xee\xee\xee\xee\xee\xee\xee"),
         ),
-        (Ask::Release(first), Reply::Done),
-        (Ask::Release(first), stale),
-        (Ask::BlockAt(0), free(0, 4, 3)),
-        (Ask::BlockAt(4), live(4, 16, 2, 100)),
-        (Ask::BlockAt(20), free(20, 44, 2)),
+        (Ask::Release(FIRST), Reply::Done),
+        (Ask::Release(FIRST), STALE),
+        (Ask::BlockAt(0), Reply::Free(0, 4, 3)),
+        (Ask::BlockAt(4), Reply::Live(4, 16, 2, 100)),
+        (Ask::BlockAt(20), Reply::Free(20, 44, 2)),
         (Ask::BlockAt(5), Reply::NoBlock),
         (Ask::BlockAt(63), Reply::NoBlock),
         (Ask::BlockAt(64), Reply::NoBlock),
         (Ask::BlockAt(u32::MAX), Reply::NoBlock),
     ];
-    check_heap::<4>(&rt, rt.alloc(), 64, 0, &rows);
+    check_heap::<4>(&rt, rt.alloc(), 64, 0, ROWS);
 }
 
 // A block of the last serial can't be released, and stays a block: its bytes are written and read. A move takes two ticks.
 #[test]
 fn heaps_wear_out(rt: HostRuntime) {
-    let last = name(0, 0, u64::MAX - 1);
-    let worn = Reply::Refused(Refusal::Worn);
-    let no_tick = [
-        (Ask::Allocate(8), worn),
+    const LAST: Name = name!(0, 0, u64::MAX - 1);
+    const WORN: Reply = Reply::Refused(Refusal::Worn);
+    const NO_TICK: &[(Ask, Reply)] = &[
+        (Ask::Allocate(8), WORN),
         (Ask::Allocate(4000), Reply::Refused(Refusal::NoFit)),
     ];
-    check_heap::<4>(&rt, rt.alloc(), 64, u64::MAX - 1, &no_tick);
-    let one_tick = [
-        (Ask::Allocate(8), Reply::Made(last)),
-        (Ask::Release(last), worn),
-        (Ask::Allocate(8), worn),
-        (Ask::Write(last, 6, b"Hi"), Reply::Done),
+    check_heap::<4>(&rt, rt.alloc(), 64, u64::MAX - 1, NO_TICK);
+    const ONE_TICK: &[(Ask, Reply)] = &[
+        (Ask::Allocate(8), Reply::Made(LAST)),
+        (Ask::Release(LAST), WORN),
+        (Ask::Allocate(8), WORN),
+        (Ask::Write(LAST, 6, b"Hi"), Reply::Done),
         (
-            Ask::Read(last, 5, 3),
+            Ask::Read(LAST, 5, 3),
             Reply::Bytes(*b"\0Hi\xee\xee\xee\xee\xee\xee\xee\xee\xee\xee\xee\xee\xee"),
         ),
         // The refusals of a resize in their order.
         (
-            Ask::Resize(name(1, 0, u64::MAX - 1), 1000),
+            Ask::Resize(name!(1, 0, u64::MAX - 1), 1000),
             Reply::Refused(Refusal::Foreign),
         ),
         (
-            Ask::Resize(name(0, 0, 0), 1000),
+            Ask::Resize(name!(0, 0, 0), 1000),
             Reply::Refused(Refusal::Stale),
         ),
-        (Ask::Resize(last, 1000), Reply::Refused(Refusal::NoRoom)),
-        (Ask::Resize(last, 8), worn),
+        (Ask::Resize(LAST, 1000), Reply::Refused(Refusal::NoRoom)),
+        (Ask::Resize(LAST, 8), WORN),
         (Ask::Tick, Reply::Tick(u64::MAX)),
     ];
-    check_heap::<4>(&rt, rt.alloc(), 64, u64::MAX - 2, &one_tick);
-    let first = name(0, 0, u64::MAX - 3);
-    let three_ticks = [
-        (Ask::Allocate(8), Reply::Made(first)),
-        (Ask::Allocate(8), Reply::Made(name(0, 4, u64::MAX - 2))),
-        (Ask::Move(first, 100), worn),
+    check_heap::<4>(&rt, rt.alloc(), 64, u64::MAX - 2, ONE_TICK);
+    const THIRD: Name = name!(0, 0, u64::MAX - 3);
+    const THREE_TICKS: &[(Ask, Reply)] = &[
+        (Ask::Allocate(8), Reply::Made(THIRD)),
+        (Ask::Allocate(8), Reply::Made(name!(0, 4, u64::MAX - 2))),
+        (Ask::Move(THIRD, 100), WORN),
     ];
-    check_heap::<4>(&rt, rt.alloc(), 64, u64::MAX - 4, &three_ticks);
-    let first = name(0, 0, u64::MAX - 4);
-    let four_ticks = [
-        (Ask::Allocate(8), Reply::Made(first)),
-        (Ask::Allocate(8), Reply::Made(name(0, 4, u64::MAX - 3))),
-        (Ask::Move(first, 100), Reply::Made(name(0, 8, u64::MAX - 2))),
+    check_heap::<4>(&rt, rt.alloc(), 64, u64::MAX - 4, THREE_TICKS);
+    const FIRST: Name = name!(0, 0, u64::MAX - 4);
+    const FOUR_TICKS: &[(Ask, Reply)] = &[
+        (Ask::Allocate(8), Reply::Made(FIRST)),
+        (Ask::Allocate(8), Reply::Made(name!(0, 4, u64::MAX - 3))),
+        (
+            Ask::Move(FIRST, 100),
+            Reply::Made(name!(0, 8, u64::MAX - 2)),
+        ),
     ];
-    check_heap::<4>(&rt, rt.alloc(), 64, u64::MAX - 5, &four_ticks);
+    check_heap::<4>(&rt, rt.alloc(), 64, u64::MAX - 5, FOUR_TICKS);
 }
 
 /// Why a heap isn't opened.
@@ -143,17 +145,17 @@ fn open_refuses_in_order(rt: HostRuntime) {
 // 8 * (2^23 - 3).
 #[test]
 fn report_on_the_greatest_region(rt: HostRuntime) {
-    let half = name(0, 0, 1);
-    let rows = [
-        (Ask::Allocate(1 << 26), Reply::Made(half)),
-        (Ask::Allocate(8), Reply::Made(name(0, 8_388_611, 2))),
-        (Ask::Release(half), Reply::Done),
+    const HALF: Name = name!(0, 0, 1);
+    const ROWS: &[(Ask, Reply)] = &[
+        (Ask::Allocate(1 << 26), Reply::Made(HALF)),
+        (Ask::Allocate(8), Reply::Made(name!(0, 8_388_611, 2))),
+        (Ask::Release(HALF), Reply::Done),
         (
             Ask::Report,
             Reply::Report([16_777_212, 8_388_611, 500, 67_108_840]),
         ),
     ];
-    check_heap::<5>(&rt, rt.alloc(), 1 << 24, 0, &rows);
+    check_heap::<5>(&rt, rt.alloc(), 1 << 24, 0, ROWS);
 }
 
 #[test]

@@ -1,10 +1,9 @@
 //! What stands in the words of a region, word for word.
-use crate::tests::different::same;
 use crate::tests::heap::calls::{Ask, answer};
-use crate::tests::names::name;
+use crate::{name, same};
 use std::alloc::Global;
 use std::process::Abort;
-use tlsf_heap::Heap;
+use tlsf_heap::{Heap, Name};
 use tlsf_words::Words;
 
 /// Neither next nor previous in a list.
@@ -46,64 +45,66 @@ fn check_image(rt: &impl Abort, alloc: Global, calls: &[Ask], rows: &[[u64; 4]],
 const FOUR: Ask = Ask::Allocate(8);
 
 /// Releases one of these.
-fn let_go(at: u32) -> Ask {
-    Ask::Release(name(0, at, u64::from(at / 4) + 1))
+macro_rules! let_go {
+    ($at:expr) => {
+        Ask::Release(name!(0, $at, $at / 4 + 1))
+    };
 }
 
 #[test]
 fn images_of_live_blocks(rt: HostRuntime) {
-    let opened = [
+    const OPENED: &[[u64; 4]] = &[
         [0xffff_ffff_0000_0043, 0, ALONE, 0],
         [0, 0, 0, 0],
         [0, 0, 0, 0],
         [0, 0, 0, 0],
     ];
-    check_image(&rt, rt.alloc(), &[], &opened, &[0]);
-    let written = [
+    check_image(&rt, rt.alloc(), &[], OPENED, &[0]);
+    const WRITTEN: &[[u64; 4]] = &[
         [0xffff_ffff_0000_0010, 1, 8, 0x6948],
         [0x0000_0000_0000_0033, 1, ALONE, 0],
         [0, 0, 0, 0],
         [0, 0, 0, 0],
     ];
-    let block = name(0, 0, 1);
-    let calls = [FOUR, Ask::Write(block, 0, b"Hi")];
-    check_image(&rt, rt.alloc(), &calls, &written, &[0, 4]);
+    const BLOCK: Name = name!(0, 0, 1);
+    const CALLS: &[Ask] = &[FOUR, Ask::Write(BLOCK, 0, b"Hi")];
+    check_image(&rt, rt.alloc(), CALLS, WRITTEN, &[0, 4]);
     // Bytes in their words.
-    let words = [
+    const WORDS: &[[u64; 4]] = &[
         [0xffff_ffff_0000_0022, 1, 16, 0x8007_0605_0403_0201],
         [0x90, 0, 0, 0],
     ];
-    let calls = [
+    const RUN: &[Ask] = &[
         Ask::Allocate(16),
-        Ask::Write(block, 0, b"\x01\x02\x03\x04\x05\x06\x07\x08"),
-        Ask::Write(block, 7, b"\x80\x90"),
+        Ask::Write(BLOCK, 0, b"\x01\x02\x03\x04\x05\x06\x07\x08"),
+        Ask::Write(BLOCK, 7, b"\x80\x90"),
     ];
-    check_image(&rt, rt.alloc(), &calls, &words, &[0]);
+    check_image(&rt, rt.alloc(), RUN, WORDS, &[0]);
     // The payload is zero where headers were.
-    let whole = [
+    const WHOLE: &[[u64; 4]] = &[
         [0xffff_ffff_0000_0042, 9, 104, 0],
         [0, 0, 0, 0],
         [0, 0, 0, 0],
         [0, 0, 0, 0],
     ];
-    let calls = [
+    const FOUR_TIMES: &[Ask] = &[
         FOUR,
         FOUR,
         FOUR,
         FOUR,
-        let_go(0),
-        let_go(4),
-        let_go(8),
-        let_go(12),
+        let_go!(0),
+        let_go!(4),
+        let_go!(8),
+        let_go!(12),
         Ask::Allocate(104),
     ];
-    check_image(&rt, rt.alloc(), &calls, &whole, &[0]);
+    check_image(&rt, rt.alloc(), FOUR_TIMES, WHOLE, &[0]);
 }
 
 #[test]
 fn tags_name_the_block_before(rt: HostRuntime) {
     // Four live blocks of 4 words, and a free one of 8.
-    let allocated = [
+    const ALLOCATED: &[[u64; 4]] = &[
         [0xffff_ffff_0000_0010, 1, 8, 0],
         [0x0000_0000_0000_0010, 2, 8, 0],
         [0x0000_0004_0000_0010, 3, 8, 0],
@@ -111,10 +112,10 @@ fn tags_name_the_block_before(rt: HostRuntime) {
         [0x0000_000c_0000_0023, 4, ALONE, 0],
         [0, 0, 0, 0],
     ];
-    let calls = [FOUR, FOUR, FOUR, FOUR, let_go(4), let_go(0), let_go(12)];
-    check_image(&rt, rt.alloc(), &calls[..4], &allocated, &[0, 4, 8, 12, 16]);
+    const CALLS: &[Ask] = &[FOUR, FOUR, FOUR, FOUR, let_go!(4), let_go!(0), let_go!(12)];
+    check_image(&rt, rt.alloc(), &CALLS[..4], ALLOCATED, &[0, 4, 8, 12, 16]);
     // The first two are one free block now, and the third names it. It is the head of the list of eight words.
-    let first_two = [
+    const FIRST_TWO: &[[u64; 4]] = &[
         [0xffff_ffff_0000_0021, 6, 0xffff_ffff_0000_0010, 0],
         [0x0000_0000_0000_0011, 5, ALONE, 0],
         [0x0000_0000_0000_0010, 3, 8, 0],
@@ -122,9 +123,9 @@ fn tags_name_the_block_before(rt: HostRuntime) {
         [0x0000_000c_0000_0023, 4, 0x0000_0000_ffff_ffff, 0],
         [0, 0, 0, 0],
     ];
-    check_image(&rt, rt.alloc(), &calls[..6], &first_two, &[0, 8, 12, 16]);
+    check_image(&rt, rt.alloc(), &CALLS[..6], FIRST_TWO, &[0, 8, 12, 16]);
     // The fourth and the last are one too.
-    let last_two = [
+    const LAST_TWO: &[[u64; 4]] = &[
         [0xffff_ffff_0000_0021, 6, ALONE, 0],
         [0x0000_0000_0000_0011, 5, ALONE, 0],
         [0x0000_0000_0000_0010, 3, 8, 0],
@@ -132,13 +133,13 @@ fn tags_name_the_block_before(rt: HostRuntime) {
         [0x0000_000c_0000_0023, 4, 0x0000_0000_ffff_ffff, 0],
         [0, 0, 0, 0],
     ];
-    check_image(&rt, rt.alloc(), &calls, &last_two, &[0, 8, 12]);
+    check_image(&rt, rt.alloc(), CALLS, LAST_TWO, &[0, 8, 12]);
 }
 
 #[test]
 fn links_name_the_neighbours_in_a_list(rt: HostRuntime) {
     // The block at 8 became free last: it is the head, and the one at 0 is behind it.
-    let two = [
+    const TWO: &[[u64; 4]] = &[
         [0xffff_ffff_0000_0011, 5, 0x0000_0008_ffff_ffff, 0],
         [0x0000_0000_0000_0010, 2, 8, 0],
         [0x0000_0004_0000_0011, 6, 0xffff_ffff_0000_0000, 0],
@@ -146,11 +147,11 @@ fn links_name_the_neighbours_in_a_list(rt: HostRuntime) {
         [0x0000_000c_0000_0023, 4, ALONE, 0],
         [0, 0, 0, 0],
     ];
-    let calls = [FOUR, FOUR, FOUR, FOUR, let_go(0), let_go(8), let_go(4)];
-    check_image(&rt, rt.alloc(), &calls[..6], &two, &[0, 4, 8, 12, 16]);
+    const CALLS: &[Ask] = &[FOUR, FOUR, FOUR, FOUR, let_go!(0), let_go!(8), let_go!(4)];
+    check_image(&rt, rt.alloc(), &CALLS[..6], TWO, &[0, 4, 8, 12, 16]);
     // All three are one free block now, alone in the list of its class. The words of the second and third header are no block's now,
     // and stay.
-    let merged = [
+    const MERGED: &[[u64; 4]] = &[
         [0xffff_ffff_0000_0031, 7, ALONE, 0],
         [0x0000_0000_0000_0010, 2, 8, 0],
         [0x0000_0004_0000_0011, 6, 0xffff_ffff_0000_0000, 0],
@@ -158,9 +159,9 @@ fn links_name_the_neighbours_in_a_list(rt: HostRuntime) {
         [0x0000_000c_0000_0023, 4, ALONE, 0],
         [0, 0, 0, 0],
     ];
-    check_image(&rt, rt.alloc(), &calls, &merged, &[0, 12, 16]);
-    // The list was 16, 8, 0. The blocks at 8 and at 0 went into the one that was merged, and the one at 16 is alone.
-    let middle = [
+    check_image(&rt, rt.alloc(), CALLS, MERGED, &[0, 12, 16]);
+    // The list was 16, 8, 0. The blocks at 8 and at 0 went into the one that was MERGED, and the one at 16 is alone.
+    const MIDDLE: &[[u64; 4]] = &[
         [0xffff_ffff_0000_0031, 10, ALONE, 0],
         [0x0000_0000_0000_0010, 2, 8, 0],
         [0x0000_0004_0000_0011, 8, 0x0000_0010_0000_0000, 0],
@@ -170,25 +171,25 @@ fn links_name_the_neighbours_in_a_list(rt: HostRuntime) {
         [0x0000_0014_0000_0023, 6, ALONE, 0],
         [0, 0, 0, 0],
     ];
-    let calls = [
+    const SIX: &[Ask] = &[
         FOUR,
         FOUR,
         FOUR,
         FOUR,
         FOUR,
         FOUR,
-        let_go(0),
-        let_go(8),
-        let_go(16),
-        let_go(4),
+        let_go!(0),
+        let_go!(8),
+        let_go!(16),
+        let_go!(4),
     ];
-    check_image(&rt, rt.alloc(), &calls, &middle, &[0, 12, 16, 20, 24]);
+    check_image(&rt, rt.alloc(), SIX, MIDDLE, &[0, 12, 16, 20, 24]);
 }
 
 // Of three blocks in a list the head goes to a request, or the middle one into the block before it.
 #[test]
 fn head_and_middle_of_three_leave_their_list(rt: HostRuntime) {
-    let head = [
+    const HEAD: &[[u64; 4]] = &[
         [0xffff_ffff_0000_0011, 9, 0x0000_000c_ffff_ffff, 0],
         [0x0000_0000_0000_0010, 2, 8, 0],
         [0x0000_0004_0000_0010, 3, 8, 0],
@@ -207,14 +208,14 @@ fn head_and_middle_of_three_leave_their_list(rt: HostRuntime) {
         FOUR,
         FOUR,
         FOUR,
-        let_go(0),
-        let_go(12),
-        let_go(24),
+        let_go!(0),
+        let_go!(12),
+        let_go!(24),
         FOUR,
     ];
     let starts = [0, 4, 8, 12, 16, 20, 24, 28];
-    check_image(&rt, rt.alloc(), &calls, &head, &starts);
-    let middle = [
+    check_image(&rt, rt.alloc(), &calls, HEAD, &starts);
+    const MIDDLE: &[[u64; 4]] = &[
         [0xffff_ffff_0000_0011, 9, 0x0000_0018_ffff_ffff, 0],
         [0x0000_0000_0000_0010, 2, 8, 0],
         [0x0000_0004_0000_0021, 12, ALONE, 0],
@@ -224,7 +225,7 @@ fn head_and_middle_of_three_leave_their_list(rt: HostRuntime) {
         [0x0000_0014_0000_0011, 11, 0xffff_ffff_0000_0000, 0],
         [0x0000_0018_0000_0012, 8, 8, 0],
     ];
-    calls[11] = let_go(8);
+    calls[11] = let_go!(8);
     let starts = [0, 4, 8, 16, 20, 24, 28];
-    check_image(&rt, rt.alloc(), &calls, &middle, &starts);
+    check_image(&rt, rt.alloc(), &calls, MIDDLE, &starts);
 }

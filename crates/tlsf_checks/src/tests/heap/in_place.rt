@@ -1,7 +1,6 @@
 //! Payloads that are read and written where they stand.
 
-use crate::tests::different::same;
-use crate::tests::names::name;
+use crate::{name, same};
 use std::process::Abort;
 use tlsf_heap::{Heap, Name, Refusal};
 use tlsf_lock::LockedHeap;
@@ -33,20 +32,20 @@ fn handed_out(heap: &mut Heap<4>, block: Name) -> Handed {
 /// The names that are refused are of another heap, of a serial that is none, of a place where no block begins, and of one behind
 /// the region. They are handed nothing, and nor is a block of no bytes.
 fn check_handed_out(rt: &impl Abort, heap: &mut Heap<4>) {
-    let last = 0x1817_1615_1413_1211;
-    let rows: [(Name, Handed); 7] = [
-        (name(7, 0, 1), (Ok(2), Ok(Some(last)))),
-        (name(7, 9, 3), (Ok(0), Ok(None))),
-        (name(7, 5, 2), (Ok(1), Ok(Some(last)))),
+    const LAST: u64 = 0x1817_1615_1413_1211;
+    const ROWS: [(Name, Handed); 7] = [
+        (name!(7, 0, 1), (Ok(2), Ok(Some(LAST)))),
+        (name!(7, 9, 3), (Ok(0), Ok(None))),
+        (name!(7, 5, 2), (Ok(1), Ok(Some(LAST)))),
         (
-            name(6, 0, 1),
+            name!(6, 0, 1),
             (Err(Refusal::Foreign), Err(Refusal::Foreign)),
         ),
-        (name(7, 0, 2), (Err(Refusal::Stale), Err(Refusal::Stale))),
-        (name(7, 1, 1), (Err(Refusal::Stale), Err(Refusal::Stale))),
-        (name(7, 64, 1), (Err(Refusal::Stale), Err(Refusal::Stale))),
+        (name!(7, 0, 2), (Err(Refusal::Stale), Err(Refusal::Stale))),
+        (name!(7, 1, 1), (Err(Refusal::Stale), Err(Refusal::Stale))),
+        (name!(7, 64, 1), (Err(Refusal::Stale), Err(Refusal::Stale))),
     ];
-    for (i, (block, wanted)) in rows.iter().enumerate() {
+    for (i, (block, wanted)) in ROWS.iter().enumerate() {
         same((i, handed_out(heap, *block)), (i, *wanted)).expect(rt, "differ");
     }
 }
@@ -67,8 +66,8 @@ fn check_bytes(rt: &impl Abort, heap: &mut Heap<4>, block: Name) {
 fn payload_is_altered_where_it_stands(rt: HostRuntime) {
     let mut heap = Heap::<4>::open(rt.alloc(), 7, 64, 0).expect(&rt, "open");
     let made = [heap.allocate(13), heap.allocate(8), heap.allocate(0)];
-    let block = name(7, 0, 1);
-    let wanted = [Ok(block), Ok(name(7, 5, 2)), Ok(name(7, 9, 3))];
+    let block = name!(7, 0, 1);
+    let wanted = [Ok(block), Ok(name!(7, 5, 2)), Ok(name!(7, 9, 3))];
     same(made, wanted).expect(&rt, "differ");
     check_handed_out(&rt, &mut heap);
     check_bytes(&rt, &mut heap, block);

@@ -1,8 +1,7 @@
 //! Bytes that are written and read.
 ghost use Rattle.std.specs.Prelude.{◌+◌, ◌≤◌};
 
-use crate::tests::different::same;
-use crate::tests::names::name;
+use crate::{name, same};
 use std::process::Abort;
 use tlsf_heap::{Heap, Name};
 
@@ -39,12 +38,12 @@ fn check_runs(rt: &impl Abort, heap: &mut Heap<4>, block: Name) {
 #[test]
 fn runs_of_each_length_at_each_offset(rt: HostRuntime) {
     let mut heap = Heap::<4>::open(rt.alloc(), 0, 64, 0).expect(&rt, "open");
-    let behind = name(0, 9, 2);
+    let behind = name!(0, 9, 2);
     let asked = (heap.allocate(45), heap.allocate(8));
     let written = heap.write(behind, 0, &[0xdd; 8]);
-    let wanted = ((Ok(name(0, 0, 1)), Ok(behind)), Ok(()));
+    let wanted = ((Ok(name!(0, 0, 1)), Ok(behind)), Ok(()));
     same((asked, written), wanted).expect(&rt, "differ");
-    check_runs(&rt, &mut heap, name(0, 0, 1));
+    check_runs(&rt, &mut heap, name!(0, 0, 1));
     let mut out = [0; 8];
     let read = heap.read(behind, 0, &mut out);
     same((read, out), (Ok(()), [0xdd; 8])).expect(&rt, "changed");

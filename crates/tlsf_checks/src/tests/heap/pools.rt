@@ -1,9 +1,8 @@
 //! Pools, and the words of tables of kinds.
-use crate::tests::different::same;
 use crate::tests::heap::calls::{Ask, Reply, bytes, done, given};
-use crate::tests::names::name;
+use crate::{name, same};
 use std::process::Abort;
-use tlsf_heap::{OpenFault, Refusal};
+use tlsf_heap::{Name, OpenFault, Refusal};
 use tlsf_pool::{
     Kind, Pool, PoolRefusal, cheapest_split, kinds_words, longest_request, most_blocks, most_bytes,
     pool_region,
@@ -38,25 +37,25 @@ fn check_rows(rt: &impl Abort, pool: &mut Pool<4>, rows: &[(Ask, (Reply, u32))])
 #[test]
 fn pool_is_filled_and_emptied(rt: HostRuntime) {
     let mut pool = Pool::<4>::open(rt.alloc(), 3, 2, 8, 0).expect(&rt, "open");
-    let first = name(3, 0, 1);
-    let rows = [
-        (Ask::Allocate(8), (Reply::Made(first), 1)),
-        (Ask::Allocate(0), (Reply::Made(name(3, 4, 2)), 2)),
+    const FIRST: Name = name!(3, 0, 1);
+    const ROWS: &[(Ask, (Reply, u32))] = &[
+        (Ask::Allocate(8), (Reply::Made(FIRST), 1)),
+        (Ask::Allocate(0), (Reply::Made(name!(3, 4, 2)), 2)),
         (Ask::Allocate(8), (Reply::NotGiven(PoolRefusal::Full), 2)),
         (Ask::Allocate(9), (Reply::NotGiven(PoolRefusal::TooLong), 2)),
-        (Ask::Write(first, 6, b"Hi"), (Reply::Done, 2)),
+        (Ask::Write(FIRST, 6, b"Hi"), (Reply::Done, 2)),
         (
-            Ask::Read(first, 6, 2),
+            Ask::Read(FIRST, 6, 2),
             (
                 Reply::Bytes(*b"Hi\xee\xee\xee\xee\xee\xee\xee\xee\xee\xee\xee\xee\xee\xee"),
                 2,
             ),
         ),
-        (Ask::Release(first), (Reply::Done, 1)),
-        (Ask::Release(first), (Reply::Refused(Refusal::Stale), 1)),
-        (Ask::Allocate(8), (Reply::Made(name(3, 0, 4)), 2)),
+        (Ask::Release(FIRST), (Reply::Done, 1)),
+        (Ask::Release(FIRST), (Reply::Refused(Refusal::Stale), 1)),
+        (Ask::Allocate(8), (Reply::Made(name!(3, 0, 4)), 2)),
     ];
-    check_rows(&rt, &mut pool, &rows);
+    check_rows(&rt, &mut pool, ROWS);
 }
 
 // A request of 480 bytes wants 63 words, which have a class of their own at level 5: at level 4 the region has one word more.
@@ -75,41 +74,41 @@ fn pools_open_by_their_words(rt: HostRuntime) {
     let regions = [pool_region::<4>(1, 480), pool_region::<5>(1, 480)];
     same(regions, [Some(64), Some(63)]).expect(&rt, "differ");
     let mut pool = Pool::<5>::open(rt.alloc(), 0, 1, 480, 0).expect(&rt, "open");
-    same(given(pool.allocate(480)), Reply::Made(name(0, 0, 1))).expect(&rt, "differ");
+    same(given(pool.allocate(480)), Reply::Made(name!(0, 0, 1))).expect(&rt, "differ");
 }
 
 #[test]
 fn words_of_tables(rt: HostRuntime) {
-    let hundred = Kind {
+    const HUNDRED: Kind = Kind {
         most: 100,
         len: 512,
     };
-    let small = Kind { most: 100, len: 64 };
-    let large = Kind { most: 4, len: 4096 };
-    let none = Kind {
+    const SMALL: Kind = Kind { most: 100, len: 64 };
+    const LARGE: Kind = Kind { most: 4, len: 4096 };
+    const NONE: Kind = Kind {
         most: 0,
         len: LONGEST,
     };
-    let tiny = Kind { most: 3, len: 8 };
-    let unreached = Kind {
+    const TINY: Kind = Kind { most: 3, len: 8 };
+    const UNREACHED: Kind = Kind {
         most: u32::MAX,
         len: 4096,
     };
     let found = [
         kinds_words::<4>(&[]),
-        kinds_words::<4>(&[hundred]),
-        kinds_words::<4>(&[small, large]),
-        kinds_words::<4>(&[large, small]),
-        kinds_words::<4>(&[none, small, large]),
-        kinds_words::<4>(&[tiny, none]),
+        kinds_words::<4>(&[HUNDRED]),
+        kinds_words::<4>(&[SMALL, LARGE]),
+        kinds_words::<4>(&[LARGE, SMALL]),
+        kinds_words::<4>(&[NONE, SMALL, LARGE]),
+        kinds_words::<4>(&[TINY, NONE]),
     ];
     same(found, [4, 13_631, 59_427, 59_427, 59_427, 12]).expect(&rt, "differ");
-    let two = kinds_words::<4>(&[small]).wrapping_add(kinds_words::<4>(&[large]));
+    let two = kinds_words::<4>(&[SMALL]).wrapping_add(kinds_words::<4>(&[LARGE]));
     let found = [
-        cheapest_split::<4>(&[small, large], 8).map(|split| split.words),
-        cheapest_split::<4>(&[small, large], 1).map(|split| split.words),
-        cheapest_split::<4>(&[small, unreached], 8).map(|split| split.words),
-        cheapest_split::<4>(&[small], 0).map(|split| split.words),
+        cheapest_split::<4>(&[SMALL, LARGE], 8).map(|split| split.words),
+        cheapest_split::<4>(&[SMALL, LARGE], 1).map(|split| split.words),
+        cheapest_split::<4>(&[SMALL, UNREACHED], 8).map(|split| split.words),
+        cheapest_split::<4>(&[SMALL], 0).map(|split| split.words),
     ];
     let wanted = [Some(two.min(59_427)), Some(59_427), None, None];
     same(found, wanted).expect(&rt, "differ");

@@ -1,11 +1,10 @@
 //! Heaps for tables of kinds: one for a whole table, and one for each of its parts.
-use crate::tests::different::same;
-use crate::tests::heap::calls::{Ask, Reply, bytes, done, given, live};
-use crate::tests::names::name;
+use crate::tests::heap::calls::{Ask, Reply, bytes, done, given, shown};
+use crate::{name, same};
 use std::alloc::Global;
 use std::process::Abort;
-use tlsf_heap::{OpenFault, Refusal};
-use tlsf_pools::{Kind, PoolRefusal, Pools, TablePool};
+use tlsf_heap::{Name, OpenFault, Refusal};
+use tlsf_pool::{Kind, PoolRefusal, Pools, TablePool};
 
 const SHORT: Kind = Kind { most: 2, len: 16 };
 
@@ -46,10 +45,7 @@ fn table_answer(pool: &mut TablePool<4>, ask: Ask) -> Reply {
             let answer = pool.read(name, at, &mut out[..n.min(16)]);
             bytes(answer, out)
         }
-        Ask::BlockAt(at) => match pool.block_at(at) {
-            Some(block) => Reply::Block(block),
-            None => Reply::NoBlock,
-        },
+        Ask::BlockAt(at) => shown(pool.block_at(at)),
         Ask::Tick => Reply::Tick(pool.tick()),
         _ => Reply::NoBlock,
     }
@@ -79,53 +75,53 @@ fn check_table(rt: &impl Abort, alloc: Global, first: u64, rows: &[(Ask, Reply)]
 // At the end the tick is at its last value but one.
 #[test]
 fn table_is_filled_and_emptied(rt: HostRuntime) {
-    let first = name(3, 0, 1);
-    let rows = [
-        (Ask::Allocate(16), Reply::Made(first)),
-        (Ask::Allocate(400), Reply::Made(name(3, 5, 2))),
+    const FIRST: Name = name!(3, 0, 1);
+    const ROWS: &[(Ask, Reply)] = &[
+        (Ask::Allocate(16), Reply::Made(FIRST)),
+        (Ask::Allocate(400), Reply::Made(name!(3, 5, 2))),
         (Ask::Allocate(17), FULL),
         (Ask::Allocate(401), TOO_LONG),
-        (Ask::Write(first, 6, b"Hi"), Reply::Done),
-        (Ask::Read(first, 6, 2), HI),
-        (Ask::Write(first, 15, b"Hi"), RANGE),
-        (Ask::Read(first, 15, 2), RANGE),
-        (Ask::BlockAt(5), live(5, 53, 2, 400)),
-        (Ask::Release(name(2, 0, 1)), FOREIGN),
-        (Ask::Write(name(2, 0, 1), 0, b"Hi"), FOREIGN),
-        (Ask::Read(name(2, 0, 1), 0, 1), FOREIGN),
-        (Ask::Release(name(3, 1, 1)), STALE),
-        (Ask::Release(name(3, u32::MAX, 1)), STALE),
-        (Ask::Write(name(3, u32::MAX, 1), 0, b"Hi"), STALE),
-        (Ask::Read(name(3, u32::MAX, 1), 0, 1), STALE),
-        (Ask::Release(name(3, 0, 2)), STALE),
-        (Ask::Release(first), Reply::Done),
-        (Ask::Release(first), STALE),
+        (Ask::Write(FIRST, 6, b"Hi"), Reply::Done),
+        (Ask::Read(FIRST, 6, 2), HI),
+        (Ask::Write(FIRST, 15, b"Hi"), RANGE),
+        (Ask::Read(FIRST, 15, 2), RANGE),
+        (Ask::BlockAt(5), Reply::Live(5, 53, 2, 400)),
+        (Ask::Release(name!(2, 0, 1)), FOREIGN),
+        (Ask::Write(name!(2, 0, 1), 0, b"Hi"), FOREIGN),
+        (Ask::Read(name!(2, 0, 1), 0, 1), FOREIGN),
+        (Ask::Release(name!(3, 1, 1)), STALE),
+        (Ask::Release(name!(3, u32::MAX, 1)), STALE),
+        (Ask::Write(name!(3, u32::MAX, 1), 0, b"Hi"), STALE),
+        (Ask::Read(name!(3, u32::MAX, 1), 0, 1), STALE),
+        (Ask::Release(name!(3, 0, 2)), STALE),
+        (Ask::Release(FIRST), Reply::Done),
+        (Ask::Release(FIRST), STALE),
         (Ask::Tick, Reply::Tick(4)),
     ];
-    check_table(&rt, rt.alloc(), 0, &rows, [0, 1, 0, 1]);
-    let block = name(3, 0, u64::MAX - 1);
-    let rows = [
-        (Ask::Allocate(16), Reply::Made(block)),
+    check_table(&rt, rt.alloc(), 0, ROWS, [0, 1, 0, 1]);
+    const BLOCK: Name = name!(3, 0, u64::MAX - 1);
+    const WORN: &[(Ask, Reply)] = &[
+        (Ask::Allocate(16), Reply::Made(BLOCK)),
         (Ask::Allocate(16), Reply::NotGiven(PoolRefusal::Worn)),
-        (Ask::Release(block), Reply::Refused(Refusal::Worn)),
+        (Ask::Release(BLOCK), Reply::Refused(Refusal::Worn)),
         (Ask::Tick, Reply::Tick(u64::MAX)),
     ];
-    check_table(&rt, rt.alloc(), u64::MAX - 2, &rows, [1, 0, 0, 1]);
+    check_table(&rt, rt.alloc(), u64::MAX - 2, WORN, [1, 0, 0, 1]);
 }
 
 // A table of 2,000 short blocks and a long one has a heap for each: in one they would need more words than any region has.
 #[test]
 fn tables_open_by_their_words(rt: HostRuntime) {
-    let most = Kind {
+    const MOST: Kind = Kind {
         most: 7655,
         len: 512,
     };
-    let unreached = Kind {
+    const UNREACHED: Kind = Kind {
         most: u32::MAX,
         len: 4096,
     };
     for (kinds, first, wanted) in [
-        ([most, SHORT], 0, Some(OpenFault::BadSize)),
+        ([MOST, SHORT], 0, Some(OpenFault::BadSize)),
         ([SHORT, LONG], u64::MAX, Some(OpenFault::Worn)),
         ([SHORT, LONG], u64::MAX - 1, None),
         ([MANY, LARGE], 0, Some(OpenFault::BadSize)),
@@ -134,7 +130,7 @@ fn tables_open_by_their_words(rt: HostRuntime) {
         same(found, wanted).expect(&rt, "differ");
     }
     for (kinds, first, wanted) in [
-        ([MANY, unreached], 0, Some(OpenFault::BadSize)),
+        ([MANY, UNREACHED], 0, Some(OpenFault::BadSize)),
         ([MANY, LARGE], u64::MAX, Some(OpenFault::Worn)),
         ([MANY, LARGE], u64::MAX - 1, None),
     ] {
@@ -189,50 +185,50 @@ fn check_parts(rt: &impl Abort, alloc: Global, first: u64, rows: &[(Ask, Reply)]
 // serial.
 #[test]
 fn parts_are_filled_and_emptied(rt: HostRuntime) {
-    let small = name(5, 0, 1);
-    let large = name(6, 0, 1);
-    let rows = [
-        (Ask::Allocate(64), Reply::Made(small)),
-        (Ask::Release(large), STALE),
-        (Ask::Allocate(65), Reply::Made(large)),
+    const SMALL: Name = name!(5, 0, 1);
+    const LARGE_BLOCK: Name = name!(6, 0, 1);
+    const ROWS: &[(Ask, Reply)] = &[
+        (Ask::Allocate(64), Reply::Made(SMALL)),
+        (Ask::Release(LARGE_BLOCK), STALE),
+        (Ask::Allocate(65), Reply::Made(LARGE_BLOCK)),
         (Ask::Allocate(65_536), FULL),
         (Ask::Allocate(65_537), TOO_LONG),
-        (Ask::Write(large, 6, b"Hi"), Reply::Done),
-        (Ask::Read(large, 6, 2), HI),
-        (Ask::Release(name(4, 0, 1)), FOREIGN),
-        (Ask::Write(name(4, 0, 1), 0, b"Hi"), FOREIGN),
-        (Ask::Read(name(4, 0, 1), 0, 1), FOREIGN),
-        (Ask::Release(name(7, 0, 1)), FOREIGN),
-        (Ask::Write(name(7, 0, 1), 0, b"Hi"), FOREIGN),
-        (Ask::Read(name(7, 0, 1), 0, 1), FOREIGN),
-        (Ask::Release(name(u32::MAX, 0, 1)), FOREIGN),
-        (Ask::Release(name(5, 1, 1)), STALE),
-        (Ask::Release(name(5, u32::MAX, 1)), STALE),
-        (Ask::Write(name(5, u32::MAX, 1), 0, b"Hi"), STALE),
-        (Ask::Read(name(5, u32::MAX, 1), 0, 1), STALE),
-        (Ask::Release(name(5, 0, 2)), STALE),
-        (Ask::Write(small, 63, b"Hi"), RANGE),
-        (Ask::Read(small, 63, 2), RANGE),
-        (Ask::Release(large), Reply::Done),
-        (Ask::Release(large), STALE),
+        (Ask::Write(LARGE_BLOCK, 6, b"Hi"), Reply::Done),
+        (Ask::Read(LARGE_BLOCK, 6, 2), HI),
+        (Ask::Release(name!(4, 0, 1)), FOREIGN),
+        (Ask::Write(name!(4, 0, 1), 0, b"Hi"), FOREIGN),
+        (Ask::Read(name!(4, 0, 1), 0, 1), FOREIGN),
+        (Ask::Release(name!(7, 0, 1)), FOREIGN),
+        (Ask::Write(name!(7, 0, 1), 0, b"Hi"), FOREIGN),
+        (Ask::Read(name!(7, 0, 1), 0, 1), FOREIGN),
+        (Ask::Release(name!(u32::MAX, 0, 1)), FOREIGN),
+        (Ask::Release(name!(5, 1, 1)), STALE),
+        (Ask::Release(name!(5, u32::MAX, 1)), STALE),
+        (Ask::Write(name!(5, u32::MAX, 1), 0, b"Hi"), STALE),
+        (Ask::Read(name!(5, u32::MAX, 1), 0, 1), STALE),
+        (Ask::Release(name!(5, 0, 2)), STALE),
+        (Ask::Write(SMALL, 63, b"Hi"), RANGE),
+        (Ask::Read(SMALL, 63, 2), RANGE),
+        (Ask::Release(LARGE_BLOCK), Reply::Done),
+        (Ask::Release(LARGE_BLOCK), STALE),
     ];
-    let told = [
+    const TOLD: [Told; 3] = [
         (Some((47_976, 1)), Some(11), false, Some(2)),
         (Some((8_704, 0)), Some(8_704), false, Some(3)),
         (None, None, false, None),
     ];
-    check_parts(&rt, rt.alloc(), 0, &rows, told);
-    let block = name(5, 0, u64::MAX - 1);
-    let rows = [
-        (Ask::Allocate(64), Reply::Made(block)),
+    check_parts(&rt, rt.alloc(), 0, ROWS, TOLD);
+    const BLOCK: Name = name!(5, 0, u64::MAX - 1);
+    const WORN: &[(Ask, Reply)] = &[
+        (Ask::Allocate(64), Reply::Made(BLOCK)),
         (Ask::Allocate(64), Reply::NotGiven(PoolRefusal::Worn)),
-        (Ask::Allocate(65), Reply::Made(name(6, 0, u64::MAX - 1))),
-        (Ask::Release(block), Reply::Refused(Refusal::Worn)),
+        (Ask::Allocate(65), Reply::Made(name!(6, 0, u64::MAX - 1))),
+        (Ask::Release(BLOCK), Reply::Refused(Refusal::Worn)),
     ];
-    let told = [
+    const WORN_TOLD: [Told; 3] = [
         (Some((47_976, 1)), Some(11), false, Some(u64::MAX)),
         (Some((8_692, 1)), Some(12), false, Some(u64::MAX)),
         (None, None, false, None),
     ];
-    check_parts(&rt, rt.alloc(), u64::MAX - 2, &rows, told);
+    check_parts(&rt, rt.alloc(), u64::MAX - 2, WORN, WORN_TOLD);
 }

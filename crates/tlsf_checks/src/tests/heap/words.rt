@@ -1,6 +1,6 @@
 ghost use Rattle.std.specs.Prelude.{◌≡◌, ◌+◌, ◌<◌, ◌≤◌, length};
 
-use crate::tests::different::same;
+use crate::same;
 use byteorder::{ByteOrder, LittleEndian};
 use std::process::Abort;
 use tlsf_words::{Links, NoMemory, Tag, Words};

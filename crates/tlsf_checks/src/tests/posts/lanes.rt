@@ -1,8 +1,7 @@
 ghost use Rattle.std.specs.Prelude.{◌≤◌, ◌<◌};
 ghost use Rattle.tlsf_post.specs.Lanes.{IsLane};
 
-use crate::tests::different::same;
-use crate::tests::names::name;
+use crate::{name, same};
 use std::alloc::Global;
 use std::process::Abort;
 use tlsf_post::{Post, PostEnd, TakeEnd, beside, lane};
@@ -11,7 +10,7 @@ use tlsf_post::{Post, PostEnd, TakeEnd, beside, lane};
 pub fn post(serial: u64) -> Post {
     Post {
         from: 1,
-        name: name(0, 4, serial),
+        name: name!(0, 4, serial),
     }
 }
 
@@ -44,7 +43,7 @@ fn answer(post_end: &mut PostEnd, take_end: &mut TakeEnd, ask: Ask) -> (Option<u
 
 #[test]
 fn first_sent_first_taken(rt: HostRuntime) {
-    let rows = [
+    const ROWS: &[(Ask, (Option<u64>, u32))] = &[
         (Ask::Put(1), (None, 0)),
         (Ask::Put(2), (None, 0)),
         (Ask::Beside, (None, 2)),
@@ -59,7 +58,7 @@ fn first_sent_first_taken(rt: HostRuntime) {
         (Ask::Beside, (None, 0)),
         (Ask::Take, (None, 0)),
     ];
-    check_asks(&rt, rt.alloc(), 4, &rows);
+    check_asks(&rt, rt.alloc(), 4, ROWS);
 }
 
 /// Asks a new lane, and holds each answer to the one that is wanted.

@@ -1,11 +1,10 @@
-use crate::tests::different::same;
 use crate::tests::heap::calls::{Ask, Reply, bytes, done, made};
-use crate::tests::names::name;
+use crate::{name, same};
 use std::alloc::Global;
 use std::process::Abort;
 use std::sync::Wait;
 use std::thread::join;
-use tlsf_heap::{OpenFault, Refusal};
+use tlsf_heap::{Name, OpenFault, Refusal};
 use tlsf_lock::LockedHeap;
 
 /// What a heap replies, locked for this call.
@@ -51,38 +50,38 @@ fn counts_of<R: Wait>(rt: &R, heap: &LockedHeap<4>) -> (u64, u64, u32) {
 // the serial of the next block shows.
 #[test]
 fn calls_behind_a_lock(rt: HostRuntime) {
-    let block = name(7, 0, 1);
-    let rows = [
-        (Ask::Allocate(4), Reply::Made(block)),
-        (Ask::Write(block, 1, b"ab"), Reply::Done),
-        (Ask::Write(block, 3, b"ab"), Reply::Refused(Refusal::Range)),
+    const BLOCK: Name = name!(7, 0, 1);
+    const ROWS: &[(Ask, Reply)] = &[
+        (Ask::Allocate(4), Reply::Made(BLOCK)),
+        (Ask::Write(BLOCK, 1, b"ab"), Reply::Done),
+        (Ask::Write(BLOCK, 3, b"ab"), Reply::Refused(Refusal::Range)),
         (
-            Ask::Read(block, 2, 2),
+            Ask::Read(BLOCK, 2, 2),
             Reply::Bytes(*b"b\0\xee\xee\xee\xee\xee\xee\xee\xee\xee\xee\xee\xee\xee\xee"),
         ),
-        (Ask::Resize(block, 1000), Reply::Refused(Refusal::NoRoom)),
+        (Ask::Resize(BLOCK, 1000), Reply::Refused(Refusal::NoRoom)),
         (
-            Ask::Resize(name(1, 0, 1), 8),
+            Ask::Resize(name!(1, 0, 1), 8),
             Reply::Refused(Refusal::Foreign),
         ),
-        (Ask::Resize(block, 100), Reply::Done),
-        (Ask::Allocate(8), Reply::Made(name(7, 16, 3))),
+        (Ask::Resize(BLOCK, 100), Reply::Done),
+        (Ask::Allocate(8), Reply::Made(name!(7, 16, 3))),
         (Ask::Allocate(1000), Reply::Refused(Refusal::NoFit)),
-        (Ask::Resize(block, 8), Reply::Done),
-        (Ask::Release(block), Reply::Done),
-        (Ask::Release(block), Reply::Refused(Refusal::Stale)),
-        (Ask::Resize(block, 8), Reply::Refused(Refusal::Stale)),
+        (Ask::Resize(BLOCK, 8), Reply::Done),
+        (Ask::Release(BLOCK), Reply::Done),
+        (Ask::Release(BLOCK), Reply::Refused(Refusal::Stale)),
+        (Ask::Resize(BLOCK, 8), Reply::Refused(Refusal::Stale)),
     ];
-    check_asks(&rt, rt.alloc(), (64, 0), &rows, (2, 1, 1));
-    let last = name(7, 0, u64::MAX - 1);
-    let worn = Reply::Refused(Refusal::Worn);
-    let rows = [
-        (Ask::Allocate(8), Reply::Made(last)),
-        (Ask::Allocate(8), worn),
-        (Ask::Release(last), worn),
-        (Ask::Resize(last, 8), worn),
+    check_asks(&rt, rt.alloc(), (64, 0), ROWS, (2, 1, 1));
+    const LAST: Name = name!(7, 0, u64::MAX - 1);
+    const WORN: Reply = Reply::Refused(Refusal::Worn);
+    const LAST_ROWS: &[(Ask, Reply)] = &[
+        (Ask::Allocate(8), Reply::Made(LAST)),
+        (Ask::Allocate(8), WORN),
+        (Ask::Release(LAST), WORN),
+        (Ask::Resize(LAST, 8), WORN),
     ];
-    check_asks(&rt, rt.alloc(), (64, u64::MAX - 2), &rows, (1, 0, 1));
+    check_asks(&rt, rt.alloc(), (64, u64::MAX - 2), LAST_ROWS, (1, 0, 1));
 }
 
 // At level 4 a region of 63 words doesn't serve a request that wants them all.
@@ -95,7 +94,7 @@ fn locked_heaps_open_by_their_words(rt: HostRuntime) {
     same(found, [Some(OpenFault::BadSize), Some(OpenFault::Worn)]).expect(&rt, "differ");
     let heap = LockedHeap::<5>::new(rt.alloc(), 0, 63, 0).expect(&rt, "open");
     let answer = heap.lock(&rt).allocate(480);
-    same(made(answer), Reply::Made(name(0, 0, 1))).expect(&rt, "differ");
+    same(made(answer), Reply::Made(name!(0, 0, 1))).expect(&rt, "differ");
 }
 
 /// Allocates 8 bytes 100 times, and releases each of the first 60 blocks. Tells whether all of it was accepted.

@@ -1,4 +1,4 @@
-use crate::tests::different::same;
+use crate::same;
 use crate::tests::posts::mailboxes::block;
 use std::alloc::AllocError;
 use std::sync::Wait;

@@ -1,5 +1,4 @@
-use crate::tests::different::same;
-use crate::tests::names::name;
+use crate::{name, same};
 use std::process::Abort;
 use std::sync::Wait;
 use tlsf_heap::Name;
@@ -7,7 +6,7 @@ use tlsf_post::{OwnerEnd, Post, PosterEnd, mailbox};
 
 /// The name of the block of heap 1 with a serial.
 pub fn block(serial: u64) -> Name {
-    name(1, 4, serial)
+    name!(1, 4, serial)
 }
 
 /// What the ends of a mailbox are asked.
@@ -64,7 +63,7 @@ fn check_ends<R: Abort + Wait>(
 // The mailbox of worker 1 of three holds two posts: posters 0 and 2 share its places.
 #[test]
 fn posters_share_a_mailbox(rt: HostRuntime) {
-    let rows = [
+    const ROWS: &[(Ask, Answer)] = &[
         (Ask::Take, NOTHING),
         (Ask::Put(0, 5), DONE),
         (Ask::Put(1, 6), DONE),
@@ -80,13 +79,13 @@ fn posters_share_a_mailbox(rt: HostRuntime) {
         (Ask::Take, NOTHING),
     ];
     let (mut owner_end, mut posters) = mailbox(rt.alloc(), 1, 3, 2).expect(&rt, "mailbox");
-    check_ends(&rt, &mut owner_end, &mut posters, &rows);
+    check_ends(&rt, &mut owner_end, &mut posters, ROWS);
 }
 
 // Each end goes on with its number once all ends were side by side.
 #[test]
 fn ends_go_on_once_side_by_side(rt: HostRuntime) {
-    let rows = [
+    const ROWS: &[(Ask, Answer)] = &[
         (Ask::Put(1, 5), DONE),
         (Ask::Put(0, 6), DONE),
         (Ask::Put(0, 7), DONE),
@@ -99,7 +98,7 @@ fn ends_go_on_once_side_by_side(rt: HostRuntime) {
     ];
     let (mut owner_end, mut posters) = mailbox(rt.alloc(), 1, 3, 3).expect(&rt, "mailbox");
     owner_end.beside(&mut posters);
-    check_ends(&rt, &mut owner_end, &mut posters, &rows);
+    check_ends(&rt, &mut owner_end, &mut posters, ROWS);
 }
 
 /// How many posts a mailbox takes before it gives a name back, by their serials from 0 on.

@@ -1,9 +1,0 @@
--- Each note so far has a pipe, the pool's bounds are as they were, and each note took at most 43 touches.
-use Rattle.std.proofs.Common.{◌≡◌, ◌+◌, ◌*◌, ◌≤◌}
-use Rattle.example_chord.proofs.strike.Given as goal
-
-abbrev pub invariant-loop-note : goal.invariant-loop-note
-invariant-loop-note l =
-    (l.organ.held ≡ l.initial.organ.held + l.note-index) × (l.organ.most ≡ l.initial.organ.most)
-    × (l.organ.longest ≡ l.initial.organ.longest)
-    × (l.organ.touches ≤ l.initial.organ.touches + 43 * l.note-index)

@@ -1,7 +1,0 @@
-//! Workers over lanes and over queues, lists of events, and races.
-
-mod events;
-mod queue_races;
-mod queue_workers;
-mod races;
-mod workers;

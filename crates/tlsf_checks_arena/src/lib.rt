@@ -1,0 +1,5 @@
+//! Tests of the public calls of memory in place.
+#![tactic(auto)]
+
+#[cfg(test)]
+mod tests;

@@ -1,0 +1,41 @@
+-- Lemmas on the laws, a line a file.
+--   Around: what a call leaves of a fact about each block, and of the words of a region
+--   Choices: the block that good fit chooses
+--   Comb: a heap of one block that has one word less, and refuses
+--   Fours: where all blocks want four words, and none is free, they have four each
+--   FreeRoom: room by counting free blocks, and those too small
+--   Held: as many blocks are live as are held
+--   Hundred: the words of two regions, by computing
+--   Ledgers: a ledger has the length of each live block, under its name
+--   Loads: sums over live blocks, and what the calls make of them
+--   Looks: the bytes under a name, by a look through the blocks
+--   ModestCalls: what each call leaves of the bounds of a pool
+--   Names: whether two names are the same
+--   OneLargeCalls: what each call leaves of the hole for one large block
+--   PlannedCalls: what each call leaves of the bounds of a table of kinds
+--   Refits: what a resize comes to, by its cases
+--   Reserves: the greatest hole, a large block in front of it counted with it
+--   Snug: no live block has four words that it doesn't want
+--   Spans: names by the sites of their blocks
+--   Tables: how many blocks fit a table of kinds, and the words they take
+--   TightRuns: calls that leave holes just too small for a request
+pub mod Around
+pub mod Choices
+pub mod Comb
+pub mod Fours
+pub mod FreeRoom
+pub mod Held
+pub mod Hundred
+pub mod Ledgers
+pub mod Loads
+pub mod Looks
+pub mod ModestCalls
+pub mod Names
+pub mod OneLargeCalls
+pub mod PlannedCalls
+pub mod Refits
+pub mod Reserves
+pub mod Snug
+pub mod Spans
+pub mod Tables
+pub mod TightRuns

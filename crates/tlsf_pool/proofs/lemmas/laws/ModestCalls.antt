@@ -1,0 +1,201 @@
+-- A pool that never refuses: what each call leaves of its bounds.
+use Rattle.std.proofs.Common.{◌≡◌, ◌≢◌, ℕ, ◌+◌, ◌-◌, ◌*◌, ◌<◌, ◌≤◌, ◌&&◌, max, Bool, true, false, cond, nat_le, List, [], ◌∷◌, ◌++◌, length, Option, Some, None, Err, refl, sym, ap, ap₂, ◌∙◌, subst, inl, inr, arith}
+use Rattle.std.specs.List.{AllByRecursion}
+use Rattle.std.proofs.Math.Nat.{mul-le-mul, mul-le-mul_right}
+use Rattle.std.proofs.lemmas.Bool.{false≢true, cases_lt, ne_eqb, le-leb, leb-true, lt-leb}
+use Rattle.tlsf_class.specs.Classes.{IsLevel, most_words}
+use Rattle.tlsf_heap.specs.Blocks.{Block, Live, Free, HeapState, size_of, words_in, want}
+use Rattle.tlsf_heap.specs.GoodFit.{Site, choice, fits}
+use Rattle.tlsf_heap.specs.Lawful.{IsLawful, IsRegion}
+use Rattle.tlsf_heap.specs.Calls.{Outcome, Call, Allocate, Release, Write, Resize, Read, Allocated, allocated, allocated_at, refused, carved, before_free, with_bytes, has_serial, refitted, answered, opened, run, is_worn, last_tick}
+use Rattle.tlsf_heap.specs.Reports.{live_among, free_among}
+use Rattle.tlsf_heap.specs.declared.name.Name.{Name}
+use Rattle.tlsf_heap.specs.declared.refusal.Refusal.TheVariants.{NoFit, Worn}
+use Rattle.tlsf_heap.proofs.lemmas.blocks.Find.{and_left}
+use Rattle.tlsf_heap.proofs.lemmas.blocks.Lawful.{all_append, opened_lawful}
+use Rattle.tlsf_heap.proofs.lemmas.blocks.Replace.{carved_small, carved_large}
+use Rattle.tlsf_heap.proofs.lemmas.blocks.Sums.{words_apart}
+use Rattle.tlsf_heap.proofs.lemmas.calls.Outcomes.{by_test, gives, by_allocated, by_released, by_written, lawful_run}
+use Rattle.tlsf_heap.proofs.lemmas.laws.NoFit.{no_fit}
+use Rattle.tlsf_pool.specs.laws.Room.{live_count, sure}
+use Rattle.tlsf_pool.specs.laws.Held.{held_after}
+use Rattle.tlsf_pool.specs.laws.Pools.{pool_region, pool_words, BeginAtFours, HasRegion, IsSmall, IsModest, AreModest, HasRoomFor, IsServed, PoolSuffices, PoolServes, RegionIsThePools}
+use Rattle.tlsf_pool.proofs.lemmas.laws.FreeRoom.{finds_room, holes_sum, holes_where_none, sure_rises}
+use Rattle.tlsf_pool.proofs.lemmas.laws.Fours.{WantsFour, fours_kept, free_least, packed, sure_four}
+use Rattle.tlsf_pool.proofs.lemmas.laws.Around.{past_all, before_all, around_site, words_kept}
+use Rattle.tlsf_pool.proofs.lemmas.laws.Held.{held_is}
+use Rattle.tlsf_pool.proofs.lemmas.laws.Refits.{by_refit, by_resize}
+
+-- ---- live blocks of at most k words
+
+abbrev pub AreSmall : ℕ → List Block → Type 0
+AreSmall k bs = AllByRecursion (IsSmall k) bs
+
+live_small : (k : ℕ) (bs : List Block) → AreSmall k bs → words_in (live_among bs) ≤ length (live_among bs) * k
+live_small k [] all = omega arith
+live_small k (Live m s xs ∷ bs) all = let e = live_small k bs all.1 in let f = all.0 refl in omega arith
+live_small k (Free m s ∷ bs) all = live_small k bs all.1
+
+pub small_carved : (k size n tick len : ℕ) → n + 3 ≤ k → AreSmall k (carved size n tick len)
+small_carved k size n tick len h = elim (cases_lt size (n + 4)) [
+  | inl small ↦ subst (AreSmall k) (sym (carved_small size n tick len small)) ((λ _. omega arith), tt)
+  | inr large ↦ subst (AreSmall k) (sym (carved_large size n tick len large)) ((λ _. omega arith), ((λ f. absurd (false≢true (sym f))), tt))
+]
+
+small_with : (k : ℕ) (b : Block) (xs : List ℕ) → IsSmall k b → IsSmall k (with_bytes b xs)
+small_with k (Live m s ys) xs h = h
+small_with k (Free m s) xs h = h
+
+pub small_refitted : (k tick n len serial : ℕ) (b : Block) (bs : List Block) → n + 3 ≤ k → has_serial serial b ≡ true → AreSmall k bs → AreSmall k (refitted tick n len b bs)
+small_refitted k tick n len serial (Free m s) bs h e all = absurd (false≢true e)
+small_refitted k tick n len serial (Live m s xs) bs h e all =
+    let past = past_all (IsSmall k) bs all in
+    by_refit (AreSmall k) tick n len m s xs bs (λ enough few. ((λ _. omega arith), all)) (λ large. ((λ _. omega arith), ((λ f. absurd (false≢true (sym f))), past))) (λ small. ((λ _. omega arith), past))
+
+-- ---- what holds of the heap of a pool
+
+pub record InPool (words k : ℕ) (h : HeapState) : Type 0 where
+  pub lawful : IsLawful h
+  pub words_are : h.words ≡ words
+  pub small : AreSmall k h.blocks
+  pub fours : k ≤ 7 → BeginAtFours 0 h.blocks
+
+-- the words of a pool by its cases
+pub pool_of_fours : (sli most len : ℕ) → len ≤ 8 → pool_words sli most len ≡ max 4 (most * 4)
+pool_of_fours sli most len h =
+    ap (λ (c : Bool). max 4 (cond c (most * 4) ((most - 1) * (want len + 3) + most * (sure sli (want len) - 1) + 1))) (le-leb len 8 h)
+
+pub pool_of_more : (sli most len : ℕ) → 8 < len → pool_words sli most len ≡ max 4 ((most - 1) * (want len + 3) + most * (sure sli (want len) - 1) + 1)
+pool_of_more sli most len h =
+    ap (λ (c : Bool). max 4 (cond c (most * 4) ((most - 1) * (want len + 3) + most * (sure sli (want len) - 1) + 1))) (lt-leb len 8 h)
+
+-- the region of a pool
+pub region_is : (sli : ℕ) → RegionIsThePools sli
+region_is sli most len words = (at (nat_le (want len) (most_words sli)) (nat_le (pool_words sli most len) (most_words sli)) refl refl, λ has. on has)
+  where
+    at : (a b : Bool) → nat_le (want len) (most_words sli) ≡ a → nat_le (pool_words sli most len) (most_words sli) ≡ b → cond (a && b) (Some (pool_words sli most len)) None ≡ Some words → HasRegion sli most len × (words ≡ pool_words sli most len)
+    at true true class few is = ((leb-true _ _ class, (omega arith, leb-true _ _ few)), cc)
+    at true false class few is = absurd cc
+    at false b class few is = absurd cc
+
+    on : HasRegion sli most len × (words ≡ pool_words sli most len) → pool_region sli most len ≡ Some words
+    on has =
+        let class : nat_le (want len) (most_words sli) ≡ true = le-leb _ _ has.0.0 in
+        let few : nat_le (pool_words sli most len) (most_words sli) ≡ true = le-leb _ _ has.0.1.1 in
+        ap₂ (λ (a b : Bool). cond (a && b) (Some (pool_words sli most len)) None) class few ∙ ap Some (sym has.1)
+
+wants_four : (most len held : ℕ) (call : Call) → want len + 3 ≤ 7 → IsModest most len held call → WantsFour call
+wants_four most len held (Allocate n) few modest = omega (arith, few, modest.0)
+wants_four most len held (Release name) few modest = tt
+wants_four most len held (Write name at bytes) few modest = tt
+wants_four most len held (Resize name n) few modest = omega (arith, few, modest)
+wants_four most len held (Read name at n) few modest = tt
+
+module _ (sli most len : ℕ) where
+  pub small_kept : (h : HeapState) (call : Call) → AreSmall (want len + 3) h.blocks → IsModest most len (live_count h) call → AreSmall (want len + 3) (answered sli h call).1.blocks
+  small_kept h (Allocate n) small modest = by_allocated sli (λ o. AreSmall (want len + 3) o.heap.blocks) h n (λ why. small) (λ s site fit.
+      let a = around_site (IsSmall (want len + 3)) h s site small in
+      all_append (IsSmall (want len + 3)) (s.before ++ carved (size_of s.block) (want n) h.tick n) s.after
+      (all_append (IsSmall (want len + 3)) s.before (carved (size_of s.block) (want n) h.tick n) a.0 (small_carved (want len + 3) (size_of s.block) (want n) h.tick n (omega (arith, modest.0)))) a.2)
+  small_kept h (Release name) small modest = by_released (λ o. AreSmall (want len + 3) o.heap.blocks) h name (λ why. small) (λ s own site is.
+      let a = around_site (IsSmall (want len + 3)) h s site small in
+      all_append (IsSmall (want len + 3)) (before_free s.before) _ (before_all (IsSmall (want len + 3)) s.before a.0) ((λ f. absurd (false≢true (sym f))), past_all (IsSmall (want len + 3)) s.after a.2))
+  small_kept h (Write name at bytes) small modest = by_written (λ o. AreSmall (want len + 3) o.heap.blocks) h name at bytes (λ why. small) (λ s site has.
+      let a = around_site (IsSmall (want len + 3)) h s site small in
+      all_append (IsSmall (want len + 3)) s.before _ a.0 (small_with (want len + 3) s.block _ a.1, a.2))
+  small_kept h (Resize name n) small modest = by_resize (λ o. AreSmall (want len + 3) o.heap.blocks) h name n (λ why. small) (λ s own e site is.
+      let a = around_site (IsSmall (want len + 3)) h s site small in
+      all_append (IsSmall (want len + 3)) s.before _ a.0 (small_refitted (want len + 3) h.tick (want n) n name.serial s.block s.after (omega (arith, modest)) (and_left _ _ is) a.2))
+  small_kept h (Read name at n) small modest = small
+
+module _ (sli : ℕ) (level : IsLevel sli) (words most len : ℕ) (region : want len ≤ most_words sli) (enough : pool_words sli most len ≤ words) where
+  abbrev k : ℕ
+  k = want len + 3
+
+  pub kept : (h : HeapState) (call : Call) → InPool words k h → IsModest most len (live_count h) call → InPool words k (answered sli h call).1
+  kept h call pool modest = record {
+    lawful = lawful_run sli level h (call ∷ []) pool.lawful;
+    words_are = words_kept sli h call ∙ pool.words_are;
+    small = small_kept sli most len h call pool.small modest;
+    fours = λ few. fours_kept sli h call (wants_four most len (live_count h) call few modest) (pool.fours few);
+  }
+
+  -- where four words are wanted, any free block serves, and where none is free, as many blocks are live as have room
+  fours_room : (h : HeapState) (n : ℕ) → InPool words k h → len ≤ 8 → n ≤ len → live_count h < most → (fits sli (want n) h.blocks ≡ []) → ⊥
+  fours_room h n pool four short few none =
+      let wanted : want n ≡ 4 = omega (arith, four, short) in
+      let serves : sure sli (want n) ≡ 4 = rw wanted (sure_four sli level) in
+      let lacking = holes_sum (sure sli (want n) - 1) h.blocks (holes_where_none sli level (want n) (omega (arith, wanted, region)) h.blocks pool.lawful.rooms none) in
+      let bound : words_in (free_among h.blocks) ≤ length (free_among h.blocks) * 3 = rw serves at lacking in
+      let nothing : length (free_among h.blocks) ≡ 0 = omega (arith, bound, free_least h.blocks pool.lawful.rooms) in
+      let full = packed 0 h.blocks (pool.fours (omega (arith, four))) (subst (λ (j : ℕ). AreSmall j h.blocks) (omega (arith, four)) pool.small) nothing in
+      omega (arith, full, pool.lawful.whole, pool.words_are, enough, pool_of_fours sli most len four, few)
+
+  -- where more are wanted, more is free than holes that are too small may have
+  holes_room : (h : HeapState) (n : ℕ) → InPool words k h → 8 < len → n ≤ len → live_count h < most → (fits sli (want n) h.blocks ≡ []) → ⊥
+  holes_room h n pool more short few =
+      let rises = sure_rises sli level (want n) (want len) (omega arith) region in
+      let live = live_small k h.blocks pool.small in
+      let most_live : live_count h * k ≤ (most - 1) * k = mul-le-mul_right k (omega arith) in
+      let most_lost : (live_count h + 1) * (sure sli (want n) - 1) ≤ most * (sure sli (want len) - 1) = mul-le-mul (omega arith) (omega arith) in
+      finds_room sli level h n pool.lawful (omega arith) (omega (arith, words_apart h.blocks, pool.lawful.whole, pool.words_are, live, most_live, most_lost, enough, pool_of_more sli most len more))
+
+  -- a modest request finds room
+  pub has_room : (h : HeapState) (n : ℕ) → InPool words k h → n ≤ len → live_count h < most → (allocated sli h n).answer ≢ Err NoFit
+  has_room h n pool short few e = elim (cases_lt 8 len) [
+    | inl more ↦ holes_room h n pool more short few ((no_fit sli h n).0 e)
+    | inr four ↦ fours_room h n pool four short few ((no_fit sli h n).0 e)
+  ]
+
+  not_refused : (h : HeapState) (call : Call) → InPool words k h → IsModest most len (live_count h) call → (answered sli h call).0 ≢ Allocated (Err NoFit)
+  not_refused h (Allocate n) pool modest = λ e. let same : (allocated sli h n).answer ≡ Err NoFit = cc in has_room h n pool modest.0 modest.1 same
+  not_refused h (Release name) pool modest = λ e. cc
+  not_refused h (Write name at bytes) pool modest = λ e. cc
+  not_refused h (Resize name n) pool modest = λ e. cc
+  not_refused h (Read name at n) pool modest = λ e. cc
+
+  next : (h : HeapState) (call : Call) (calls : List Call) → AreModest most len (held_after (live_count h) call (answered sli h call).0) calls (run sli (answered sli h call).1 calls).0
+      → AreModest most len (live_count (answered sli h call).1) calls (run sli (answered sli h call).1 calls).0
+  next h call calls modest = subst (λ (held : ℕ). AreModest most len held calls (run sli (answered sli h call).1 calls).0) (sym (held_is sli h call)) modest
+
+  none_refused : (h : HeapState) (calls : List Call) → InPool words k h → AreModest most len (live_count h) calls (run sli h calls).0 → AllByRecursion HasRoomFor (run sli h calls).0
+  none_refused h [] pool modest = tt
+  none_refused h (call ∷ calls) pool modest = (not_refused h call pool modest.0, none_refused (answered sli h call).1 calls (kept h call pool modest.0) (next h call calls modest.1))
+
+  -- ---- while the ticks last
+
+  pub tick_kept : (h : HeapState) (call : Call) → (answered sli h call).1.tick ≤ h.tick + 1
+  tick_kept h (Allocate n) = by_allocated sli (λ o. o.heap.tick ≤ h.tick + 1) h n (λ why. omega arith) (λ s site fit. omega arith)
+  tick_kept h (Release name) = by_released (λ o. o.heap.tick ≤ h.tick + 1) h name (λ why. omega arith) (λ s own site is. omega arith)
+  tick_kept h (Write name at bytes) = by_written (λ o. o.heap.tick ≤ h.tick + 1) h name at bytes (λ why. omega arith) (λ s site has. omega arith)
+  tick_kept h (Resize name n) = by_resize (λ o. o.heap.tick ≤ h.tick + 1) h name n (λ why. omega arith) (λ s own e site is. omega arith)
+  tick_kept h (Read name at n) = omega arith
+
+  pub is_served : (h : HeapState) (call : Call) → InPool words k h → IsModest most len (live_count h) call → h.tick < last_tick → IsServed (answered sli h call).0
+  is_served h (Allocate n) pool modest fresh = at (choice sli (want n) h.blocks) (has_room h n pool modest.0 modest.1)
+    where
+      at : (o : Option Site) → (allocated_at h (want n) n o).answer ≢ Err NoFit → IsServed (Allocated (allocated_at h (want n) n o).answer)
+      at None room = absurd (room refl)
+      at (Some s) room = by_test (λ (o : Outcome Name). IsServed (Allocated o.answer)) (is_worn h) (refused h Worn) (gives h n s) (λ worn. absurd (false≢true (sym (ne_eqb h.tick last_tick (λ e. omega (arith, e, fresh))) ∙ worn))) tt
+  is_served h (Release name) pool modest fresh = tt
+  is_served h (Write name at bytes) pool modest fresh = tt
+  is_served h (Resize name n) pool modest fresh = tt
+  is_served h (Read name at n) pool modest fresh = tt
+
+  all_served : (h : HeapState) (calls : List Call) → InPool words k h → AreModest most len (live_count h) calls (run sli h calls).0 → h.tick + length calls ≤ last_tick → AllByRecursion IsServed (run sli h calls).0
+  all_served h [] pool modest fresh = tt
+  all_served h (call ∷ calls) pool modest fresh =
+      let tick = tick_kept h call in (
+        is_served h call pool modest.0 (omega arith),
+        all_served (answered sli h call).1 calls (kept h call pool modest.0) (next h call calls modest.1) (omega (arith, tick, fresh)),
+      )
+
+-- a new heap is a pool
+pub opens : (sli id words first k : ℕ) → IsRegion sli words → InPool words k (opened id words first)
+opens sli id words first k region = record { lawful = opened_lawful id words first region.0; words_are = refl; small = ((λ f. absurd (false≢true (sym f))), tt); fours = λ _. (refl, tt) }
+
+pub suffices : (sli : ℕ) (level : IsLevel sli) → PoolSuffices sli
+suffices sli level id words first most len calls region upto enough modest = none_refused sli level words most len upto enough (opened id words first) calls (opens sli id words first (want len + 3) region) modest
+
+pub serves : (sli : ℕ) (level : IsLevel sli) → PoolServes sli
+serves sli level id words first most len calls region upto enough modest fresh = all_served sli level words most len upto enough (opened id words first) calls (opens sli id words first (want len + 3) region) modest (omega arith)

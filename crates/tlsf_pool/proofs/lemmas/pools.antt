@@ -1,0 +1,17 @@
+-- Lemmas on pools, a line a file.
+--   Answering: what the clauses of a table's calls say
+--   Counts: how many lengths count for each row of a table
+--   Heaps: several heaps stay heaps for the parts of a table
+--   Opened: new heaps for the parts of a table
+--   PoolKept: a pool stays one through its calls
+--   Served: a request that has a place finds room
+--   TableKept: a table stays one through its calls
+--   WholeTable: the rows of the whole table, and the part that has each
+pub mod Answering
+pub mod Counts
+pub mod Heaps
+pub mod Opened
+pub mod PoolKept
+pub mod Served
+pub mod TableKept
+pub mod WholeTable

@@ -1,0 +1,151 @@
+-- Several heaps stay heaps for the parts of a table, whichever of them a call changes.
+use Rattle.std.proofs.Common.{◌≡◌, ◌≢◌, ℕ, zero, suc, ◌+◌, ◌-◌, ◌<◌, ◌≤◌, ◌↔◌, ◌&&◌, Bool, true, false, cond, List, [], ◌∷◌, length, get_or, set, nat_le, nat_lt, Option, Some, None, Result, Ok, Err, refl, sym, ap, ◌∙◌, subst, inl, inr, arith}
+use Rattle.std.specs.List.{AllByRecursion}
+use Rattle.std.specs.Prelude.{IfSome, IsSomeAnd, OnErr, OnOk, is_some}
+use Rattle.std.proofs.lemmas.Bool.{cases_lt, false≢true, le-ltb, lt-ltb}
+use Rattle.std.proofs.lemmas.List.Sums.{position_or_len_is}
+use Rattle.std.proofs.lemmas.Bool.Decides.{nat_tests}
+use Rattle.std.proofs.lemmas.List.Quantifiers.{position-Some}
+use Rattle.tlsf_heap.specs.Blocks.{HeapState}
+use Rattle.tlsf_heap.specs.Calls.{Allocate, Release, Write, allocated, released, written}
+use Rattle.tlsf_heap.specs.declared.name.Name.{Name}
+use Rattle.tlsf_heap.proofs.lemmas.calls.Outcomes.{ids}
+use Rattle.tlsf_pool.specs.declared.pools.pool_refusal.PoolRefusal.{PoolRefusal}
+use Rattle.tlsf_pool.specs.pools.Tables.{IsTable, SameTable, TableState, row_of}
+use Rattle.tlsf_pool.specs.pools.Parts.{ArePools, OnlyPart, PoolsState, named_in, no_part, part_at, part_in}
+use Rattle.tlsf_pool.proofs.lemmas.pools.Counts.{this_row}
+
+-- ---- one of a list
+
+all_set : (P : TableState → Type 0) (xs : List TableState) (i : ℕ) (t : TableState) → AllByRecursion P xs → P t → AllByRecursion P (set xs i t)
+all_set P [] i t all one = tt
+all_set P (x ∷ xs) zero t all one = (one, all.1)
+all_set P (x ∷ xs) (suc i) t all one = (all.0, all_set P xs i t all.1 one)
+
+number_set : (xs : List TableState) (i j : ℕ) (t d : TableState) → t.heap.id ≡ (get_or xs i d).heap.id → (get_or (set xs i t) j d).heap.id ≡ (get_or xs j d).heap.id
+number_set [] i j t d same = refl
+number_set (x ∷ xs) zero zero t d same = same
+number_set (x ∷ xs) zero (suc j) t d same = refl
+number_set (x ∷ xs) (suc i) zero t d same = refl
+number_set (x ∷ xs) (suc i) (suc j) t d same = number_set xs i j t d same
+
+length_set : (xs : List TableState) (i : ℕ) (t : TableState) → length (set xs i t) ≡ length xs
+length_set [] i t = refl
+length_set (x ∷ xs) zero t = refl
+length_set (x ∷ xs) (suc i) t = ap suc (length_set xs i t)
+
+at_set : (xs : List TableState) (i : ℕ) (t d : TableState) → i < length xs → get_or (set xs i t) i d ≡ t
+at_set [] i t d within = absurd (omega (arith, within))
+at_set (x ∷ xs) zero t d within = refl
+at_set (x ∷ xs) (suc i) t d within = at_set xs i t d (this_row _ _ within)
+
+any_else : (xs : List TableState) (i : ℕ) (d e : TableState) → i < length xs → get_or xs i d ≡ get_or xs i e
+any_else [] i d e within = absurd (omega (arith, within))
+any_else (x ∷ xs) zero d e within = refl
+any_else (x ∷ xs) (suc i) d e within = any_else xs i d e (this_row _ _ within)
+
+-- the heap at a part is the one that was read
+pub is_part : (p : PoolsState) (i : ℕ) (t : TableState) → i < length p.parts → t ≡ get_or p.parts i t → t ≡ part_at p i
+is_part p i t within is = is ∙ any_else p.parts i t no_part within
+
+-- and then the one that was put there
+pub new_part : (id i : ℕ) (parts : List TableState) (t : TableState) → i < length parts → t ≡ part_at (record { id = id; parts = set parts i t }) i
+new_part id i parts t within = sym (at_set parts i t no_part within)
+
+-- the others are as they were
+pub only_part : (p : PoolsState) (i : ℕ) (t : TableState) → i < length p.parts → OnlyPart p (record { id = p.id; parts = set p.parts i t }) i
+only_part p i t within = record { id = refl; parts = ap (λ (x : TableState). set p.parts i x) (new_part p.id i p.parts t within) }
+
+-- so all are heaps for their tables, as before
+pub kept : (sli : ℕ) (p : PoolsState) (i : ℕ) (t : TableState) → ArePools sli p → IsTable sli t → t.heap.id ≡ (part_at p i).heap.id → ArePools sli (record { id = p.id; parts = set p.parts i t })
+kept sli p i t are is same = record {
+  tables = all_set (IsTable sli) p.parts i t are.tables is;
+  numbers = λ j within. number_set p.parts i j t no_part same ∙ are.numbers j (subst (λ (n : ℕ). j < n) (length_set p.parts i t) within);
+  few = subst (λ (n : ℕ). n ≤ 8) (sym (length_set p.parts i t)) are.few;
+}
+
+-- ---- a heap keeps its number
+
+pub given_number : (sli : ℕ) (old new : TableState) (len : ℕ) (answer : Result Name PoolRefusal) → OnOk answer (new.heap ≡ (allocated sli old.heap len).heap) → OnErr answer (SameTable old new) → new.heap.id ≡ old.heap.id
+given_number sli old new len (Ok name) ok err = ap (λ (h : HeapState). h.id) ok ∙ ids sli old.heap (Allocate len)
+given_number sli old new len (Err why) ok err = ap (λ (h : HeapState). h.id) err.heap
+
+pub taken_number : (old new : TableState) (name : Name) → new.heap ≡ (released old.heap name).heap → new.heap.id ≡ old.heap.id
+taken_number old new name is = ap (λ (h : HeapState). h.id) is ∙ ids 4 old.heap (Release name)
+
+pub written_number : (old new : TableState) (name : Name) (at : ℕ) (bytes : List ℕ) → new.heap ≡ (written old.heap name at bytes).heap → new.heap.id ≡ old.heap.id
+written_number old new name at bytes is = ap (λ (h : HeapState). h.id) is ∙ ids 4 old.heap (Write name at bytes)
+
+-- ---- which part
+
+some_row : (o : Option ℕ) → is_some o ≡ true → o ≢ None
+some_row None is = λ e. false≢true is
+some_row (Some row) is = λ e. cc
+
+-- the part for which a length counts is there, and has a row for it
+pub part_has : (parts : List TableState) (len i : ℕ) → part_in parts len ≡ Some i → (i < length parts) × (row_of (get_or parts i no_part).kinds len ≢ None)
+part_has parts len i is =
+    let found = position-Some (λ t. is_some (row_of t.kinds len)) parts i no_part is in
+    (found.0, some_row (row_of (get_or parts i no_part).kinds len) found.1)
+
+pub named_within : (id : ℕ) (parts : List TableState) (name : Name) (i : ℕ) → named_in id parts name ≡ Some i → (i < length parts) × (id + i ≡ name.heap)
+named_within id parts name i is = at (nat_le id name.heap) (nat_lt (name.heap - id) (length parts)) refl refl is
+  where
+    at : (a b : Bool) → nat_le id name.heap ≡ a → nat_lt (name.heap - id) (length parts) ≡ b → cond (a && b) (Some (name.heap - id)) None ≡ Some i → (i < length parts) × (id + i ≡ name.heap)
+    at true true above within e =
+        let same : name.heap - id ≡ i = cc in
+        let less : name.heap - id < length parts = grind (arith, nat_tests) in
+        let from : id ≤ name.heap = grind (arith, nat_tests) in
+        (omega (arith, same, less), omega (arith, same, from))
+    at true false above within e = absurd cc
+    at false b above within e = absurd cc
+
+-- ---- a fact of the part that there is
+
+pub if_part : (P : ℕ → Type 0) (o : Option ℕ) (i : ℕ) → o ≡ Some i → P i → IfSome o P
+if_part P o i is here = subst (λ (o : Option ℕ). IfSome o P) (sym is) here
+
+pub iff_part : {A : Type 0} (P : ℕ → Type 0) (o : Option ℕ) (i : ℕ) → o ≡ Some i → A ↔ P i → A ↔ IsSomeAnd o P
+iff_part {A} P o i is both = subst (λ (o : Option ℕ). A ↔ IsSomeAnd o P) (sym is) both
+
+pub not_none : (o : Option ℕ) (i : ℕ) → o ≡ Some i → o ≢ None
+not_none o i is = λ e. cc
+
+-- what one heap was and became is what the part of that number was and became
+module _ (p : PoolsState) (part : ℕ) (old new : TableState) (o : Option ℕ) (found : o ≡ Some part) (within : part < length p.parts) (is : old ≡ get_or p.parts part old) where
+  abbrev left : PoolsState
+  left = record { id = p.id; parts = set p.parts part new }
+
+  pub lift_iff : {A : Type 0} (P : TableState → Type 0) → A ↔ P old → A ↔ IsSomeAnd o (λ i. P (part_at p i))
+  lift_iff {A} P both = iff_part (λ i. P (part_at p i)) o part found (subst (λ (t : TableState). A ↔ P t) (is_part p part old within is) both)
+
+  pub lift_both : (R : TableState → TableState → Type 0) → R old new → IfSome o (λ i. R (part_at p i) (part_at left i))
+  lift_both R here =
+      if_part (λ i. R (part_at p i) (part_at left i)) o part found
+      (subst (λ (t : TableState). R (part_at p part) t) (new_part p.id part p.parts new within) (subst (λ (t : TableState). R t new) (is_part p part old within is) here))
+
+  pub lift_kept : (sli : ℕ) → ArePools sli p → IsTable sli new → new.heap.id ≡ old.heap.id → ArePools sli left
+  lift_kept sli are table same = kept sli p part new are table (same ∙ ap (λ (t : TableState). t.heap.id) (is_part p part old within is))
+
+-- ---- the search for a part
+
+module _ (parts : List TableState) (len at : ℕ) where
+  abbrev pub Has : ℕ → Bool → Type 0
+  Has i b = is_some (row_of (get_or parts i no_part).kinds len) ≡ b
+
+  -- whether the part that was read has a row
+  pub has_at : (t : TableState) (b : Bool) → at < length parts → t ≡ get_or parts at t → is_some (row_of t.kinds len) ≡ b → Has at b
+  has_at t b within is serves = subst (λ (x : TableState). is_some (row_of x.kinds len) ≡ b) (is ∙ any_else parts at t no_part within) serves
+
+  pub none_before : ((k : ℕ) → k < at → Has k false) → Has at false → (k : ℕ) → k < at + 1 → Has k false
+  none_before before here k below = elim (cases_lt k at) [ inl less ↦ before k less | inr above ↦ subst (λ (i : ℕ). Has i false) (omega (arith, below, above)) here ]
+
+  pub found_at : at < length parts → ((k : ℕ) → k < at → Has k false) → Has at true → part_in parts len ≡ Some at
+  found_at within before here =
+      ap (λ (i : ℕ). cond {A = Option ℕ} (nat_lt i (length parts)) (Some i) None) (position_or_len_is (λ t. is_some (row_of t.kinds len)) parts at no_part (omega (arith, within)) before (λ _. here))
+      ∙ ap (λ (c : Bool). cond {A = Option ℕ} c (Some at) None) (lt-ltb at (length parts) within)
+
+  pub found_none : at ≡ length parts → ((k : ℕ) → k < at → Has k false) → part_in parts len ≡ None
+  found_none end before =
+      ap (λ (i : ℕ). cond {A = Option ℕ} (nat_lt i (length parts)) (Some i) None) (position_or_len_is (λ t. is_some (row_of t.kinds len)) parts at no_part (omega (arith, end)) before (λ within. absurd (omega (arith, within, end))))
+      ∙ ap (λ (c : Bool). cond {A = Option ℕ} c (Some at) None) (le-ltb at (length parts) (omega (arith, end)))

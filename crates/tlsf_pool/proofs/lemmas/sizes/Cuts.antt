@@ -1,0 +1,271 @@
+-- The least way of cutting kinds, from its end.
+use Rattle.std.proofs.Common.{◌≡◌, ◌≢◌, ℕ, zero, suc, ◌+◌, ◌-◌, ◌^◌, ◌<◌, ◌≤◌, ◌⊎◌, inl, inr, Bool, true, false, cond, List, [], ◌∷◌, ◌++◌, length, get_or, set, take, drop, Option, Some, None, refl, ap, ap₂, sym, ◌∙◌, subst, arith, add-one, get_or-set_other, get_or-set_same, take-append-drop, length-take, length-drop, length-set, length-append, drop_of_length-le}
+use Rattle.std.proofs.Common.{drop-drop, get_or-drop, take_all}
+use Rattle.std.specs.Prelude.{nat_lt, IfSome}
+use Rattle.tlsf_class.specs.Classes.{IsLevel, most_words}
+use Rattle.tlsf_class.proofs.TwoLevels.{by_level}
+use Rattle.std.proofs.lemmas.Bool.{cases_eq, cases_lt}
+use Rattle.std.proofs.lemmas.Bool.Decides.{nat_tests}
+use Rattle.tlsf_pool.specs.laws.Kinds.{kinds_words}
+use Rattle.tlsf_pool.specs.declared.kind.Kind.{Kind}
+use Rattle.tlsf_pool.specs.sizes.Cheapest.{cheaper, with_first, AreBest, AreSmall, HasFirst, IsBest, IsBestAmong, IsSmall}
+use Rattle.tlsf_pool.specs.sizes.Splits.{cut_by, joined, parts_of, words_together, HasAtMost, HasWords, IsCut, IsLeastAmong, IsPart}
+use Rattle.tlsf_pool.specs.declared.sizes.split.Split.{Split}
+
+-- ---- a first heap more
+
+cut_past : (heaps k n : ℕ) (lens : List ℕ) (kinds : List Kind) → heaps ≤ k → cut_by heaps (set lens k n) kinds ≡ cut_by heaps lens kinds
+cut_past zero k n lens kinds below = refl
+cut_past (suc h) k n lens kinds below =
+    let ne : h ≢ k = omega arith in
+    rw (get_or-set_other lens k h n 0 ne) (ap (λ (rest : List (List Kind)). take (get_or lens h 0) kinds ∷ rest) (cut_past h k n lens (drop (get_or lens h 0) kinds) (omega arith)))
+
+cut_first : (heaps n : ℕ) (lens : List ℕ) (kinds : List Kind) → heaps < length lens → cut_by (heaps + 1) (set lens heaps n) kinds ≡ take n kinds ∷ cut_by heaps lens (drop n kinds)
+cut_first heaps n lens kinds inside =
+    rw (add-one, get_or-set_same lens heaps n 0 inside) (ap (λ (rest : List (List Kind)). take n kinds ∷ rest) (cut_past heaps heaps n lens (drop n kinds) (omega arith)))
+
+-- ---- a part and what is behind it
+
+taken : (part rest : List Kind) → take (length part) (part ++ rest) ≡ part
+taken [] rest = refl
+taken (kind ∷ part) rest = ap (λ (kinds : List Kind). kind ∷ kinds) (taken part rest)
+
+dropped : (part rest : List Kind) → drop (length part) (part ++ rest) ≡ rest
+dropped [] rest = refl
+dropped (kind ∷ part) rest = dropped part rest
+
+record Begins (n : ℕ) (kinds part rest : List Kind) : Type 0 where
+  first : part ≡ take n kinds
+  behind : rest ≡ drop n kinds
+
+begins : (n : ℕ) (kinds part rest : List Kind) → part ++ rest ≡ kinds → length part ≡ n → Begins n kinds part rest
+begins n kinds part rest joins long = record {
+  first = sym (ap₂ (λ (k : ℕ) (xs : List Kind). take k xs) (sym long) (sym joins) ∙ taken part rest);
+  behind = sym (ap₂ (λ (k : ℕ) (xs : List Kind). drop k xs) (sym long) (sym joins) ∙ dropped part rest);
+}
+
+-- the first heap has just so many kinds
+abbrev HasJust : ℕ → ℕ → List (List Kind) → Type 0
+HasJust heaps n [] = ⊥
+HasJust heaps n (part ∷ parts) = (length part ≡ n) × (length parts ≤ heaps)
+
+-- the words of the first heap, where a region has them
+pub record AreWordsOf (sli : ℕ) (part : List Kind) (words : Option ℕ) : Type 0 where
+  pub some : (n : ℕ) → words ≡ Some n → HasWords sli part × (n ≡ kinds_words sli part)
+  pub none : words ≡ None → ¬ (HasWords sli part)
+
+module _ (sli heaps n : ℕ) (kinds : List Kind) (some : 0 < n) (within : n ≤ length kinds) where
+  no_words : ¬ (HasWords sli (take n kinds)) → (parts : List (List Kind)) → IsCut sli kinds parts → ¬ (HasJust heaps n parts)
+  no_words lacks [] cut just = just
+  no_words lacks (part ∷ parts) cut just = lacks (subst (HasWords sli) (begins n kinds part (joined parts) cut.0 just.0).first cut.1.0.1)
+
+  no_rest : ((parts : List (List Kind)) → IsCut sli (drop n kinds) parts → ¬ (HasAtMost heaps parts)) → (parts : List (List Kind)) → IsCut sli kinds parts → ¬ (HasJust heaps n parts)
+  no_rest lacks [] cut just = just
+  no_rest lacks (part ∷ parts) cut just = lacks parts ((begins n kinds part (joined parts) cut.0 just.0).behind, cut.1.1) just.1
+
+  least_with : (words : ℕ) (rest : Split) → words ≡ kinds_words sli (take n kinds) → IsLeastAmong sli (HasAtMost heaps) (drop n kinds) rest
+      → (parts : List (List Kind)) → IsCut sli kinds parts → HasJust heaps n parts → words + rest.words ≤ words_together sli parts
+  least_with words rest is best [] cut just = absurd just
+  least_with words rest is best (part ∷ parts) cut just =
+      let begin = begins n kinds part (joined parts) cut.0 just.0 in
+      let first = ap (kinds_words sli) begin.first in
+      omega (arith, is, first, best.least parts (begin.behind, cut.1.1) just.1)
+
+  with_first_best : (words : Option ℕ) (rest : Option Split) → AreWordsOf sli (take n kinds) words → IsBest sli heaps (drop n kinds) rest → AreSmall 7 rest
+      → IsBestAmong sli (HasJust heaps n) kinds (with_first n words rest)
+  with_first_best None rest are best small = no_words (are.none refl)
+  with_first_best (Some words) None are best small = no_rest best
+  with_first_best (Some words) (Some rest) are best small =
+      let has = are.some words refl in
+      let parts = parts_of rest (drop n kinds) in
+      let whole = cut_first rest.heaps n rest.lens kinds (omega (arith, small.few, small.room)) in
+      let part : IsPart sli (take n kinds) = (omega (arith, length-take n kinds), has.0) in
+      record {
+        cut = subst (IsCut sli kinds) (sym whole) (ap (λ (behind : List Kind). take n kinds ++ behind) best.cut.0 ∙ take-append-drop n kinds, (part, best.cut.1));
+        sought = subst (HasJust heaps n) (sym whole) (omega (arith, length-take n kinds), best.sought);
+        words = ap₂ (λ (a b : ℕ). a + b) has.1 best.words ∙ sym (ap (words_together sli) whole);
+        least = least_with words rest has.1 best;
+      }
+
+pub are_words : (sli : ℕ) (part : List Kind) (words : Option ℕ) → IfSome words (λ n. HasWords sli part × (n ≡ kinds_words sli part)) → (words ≡ None → ¬ (HasWords sli part)) → AreWordsOf sli part words
+are_words sli part None some none = record { some = λ n is. absurd cc; none = none }
+are_words sli part (Some words) some none = record { some = λ n is. let same : words ≡ n = cc in subst (λ (k : ℕ). HasWords sli part × (k ≡ kinds_words sli part)) same some; none = λ is. absurd cc }
+
+pub most_words_most : (sli : ℕ) → IsLevel sli → most_words sli ≤ 2 ^ 24
+most_words_most = by_level (λ sli. most_words sli ≤ 2 ^ 24) (omega arith) (omega arith)
+
+pub words_most : (sli : ℕ) → IsLevel sli → (part : List Kind) (words : Option ℕ) → AreWordsOf sli part words → (n : ℕ) → words ≡ Some n → n ≤ 2 ^ 24
+words_most sli level part words are n is = let has = are.some n is in omega (arith, has.0.1, has.1, most_words_most sli level)
+
+-- ---- the cheaper of two
+
+module _ (sli : ℕ) (P R : List (List Kind) → Type 0) (kinds : List Kind) where
+  -- what is the best of some is the best of others, where no way tells them apart
+  pub same_best : (best : Option Split) → ((parts : List (List Kind)) → IsCut sli kinds parts → R parts → P parts) → ((parts : List (List Kind)) → P parts → R parts)
+      → IsBestAmong sli P kinds best → IsBestAmong sli R kinds best
+  same_best None to from is = λ parts cut sought. is parts cut (to parts cut sought)
+  same_best (Some split) to from is = record { cut = is.cut; sought = from _ is.sought; words = is.words; least = λ parts cut sought. is.least parts cut (to parts cut sought) }
+
+module _ (sli : ℕ) (P Q R : List (List Kind) → Type 0) (kinds : List Kind)
+    (either : (parts : List (List Kind)) → R parts → P parts ⊎ Q parts) (of_one : (parts : List (List Kind)) → P parts → R parts) (of_other : (parts : List (List Kind)) → Q parts → R parts) where
+  first_best : (split : Split) → IsLeastAmong sli P kinds split → ((parts : List (List Kind)) → IsCut sli kinds parts → Q parts → split.words ≤ words_together sli parts) → IsLeastAmong sli R kinds split
+  first_best split is more = record {
+    cut = is.cut;
+    sought = of_one _ is.sought;
+    words = is.words;
+    least = λ parts cut sought. elim (either parts sought) [ inl one ↦ is.least parts cut one | inr other ↦ more parts cut other ];
+  }
+
+  other_best : (split : Split) → IsLeastAmong sli Q kinds split → ((parts : List (List Kind)) → IsCut sli kinds parts → P parts → split.words ≤ words_together sli parts) → IsLeastAmong sli R kinds split
+  other_best split is more = record {
+    cut = is.cut;
+    sought = of_other _ is.sought;
+    words = is.words;
+    least = λ parts cut sought. elim (either parts sought) [ inl one ↦ more parts cut one | inr other ↦ is.least parts cut other ];
+  }
+
+  chosen : (a b : Split) (t : Bool) → (t ≡ true → b.words ≤ a.words) → (t ≡ false → a.words ≤ b.words) → IsLeastAmong sli P kinds a → IsLeastAmong sli Q kinds b
+      → IsBestAmong sli R kinds (cond t (Some b) (Some a))
+  chosen a b true less more one other = other_best b other (λ parts cut sought. let upto = less refl in omega (arith, upto, one.least parts cut sought))
+  chosen a b false less more one other = first_best a one (λ parts cut sought. let upto = more refl in omega (arith, upto, other.least parts cut sought))
+
+  cheaper_best : (a b : Option Split) → IsBestAmong sli P kinds a → IsBestAmong sli Q kinds b → IsBestAmong sli R kinds (cheaper a b)
+  cheaper_best None None one other = λ parts cut sought. elim (either parts sought) [ inl p ↦ one parts cut p | inr q ↦ other parts cut q ]
+  cheaper_best None (Some b) one other = other_best b other (λ parts cut sought. absurd (one parts cut sought))
+  cheaper_best (Some a) None one other = first_best a one (λ parts cut sought. absurd (other parts cut sought))
+  cheaper_best (Some a) (Some b) one other = chosen a b (nat_lt b.words a.words) (λ is. grind (arith, nat_tests)) (λ is. grind (arith, nat_tests)) one other
+
+-- ---- one kind more for the first heap
+
+either_first : (heaps n : ℕ) (parts : List (List Kind)) → HasFirst heaps (n + 1) parts → HasFirst heaps n parts ⊎ HasJust heaps (n + 1) parts
+either_first heaps n [] first = absurd first
+either_first heaps n (part ∷ parts) first = elim (cases_eq (length part) (n + 1)) [ inl is ↦ inr (is, first.1) | inr ne ↦ inl (omega (arith, ne, first.0), first.1) ]
+
+fewer_first : (heaps n : ℕ) (parts : List (List Kind)) → HasFirst heaps n parts → HasFirst heaps (n + 1) parts
+fewer_first heaps n [] first = first
+fewer_first heaps n (part ∷ parts) first = (omega (arith, first.0), first.1)
+
+just_first : (heaps n : ℕ) (parts : List (List Kind)) → HasJust heaps n parts → HasFirst heaps n parts
+just_first heaps n [] just = just
+just_first heaps n (part ∷ parts) just = (omega (arith, just.0), just.1)
+
+pub longer_first : (sli heaps n : ℕ) (kinds : List Kind) (best rest : Option Split) (words : Option ℕ) → n < length kinds → AreWordsOf sli (take (n + 1) kinds) words
+    → IsBestAmong sli (HasFirst heaps n) kinds best → IsBest sli heaps (drop (n + 1) kinds) rest → AreSmall 7 rest
+    → IsBestAmong sli (HasFirst heaps (n + 1)) kinds (cheaper best (with_first (n + 1) words rest))
+longer_first sli heaps n kinds best rest words inside are is behind small =
+    cheaper_best sli (HasFirst heaps n) (HasJust heaps (n + 1)) (HasFirst heaps (n + 1)) kinds (either_first heaps n) (fewer_first heaps n) (just_first heaps (n + 1))
+    best (with_first (n + 1) words rest) is (with_first_best sli heaps (n + 1) kinds (omega arith) (omega arith) words rest are behind small)
+
+of_first : (heaps n : ℕ) (parts : List (List Kind)) → HasFirst heaps n parts → HasAtMost (heaps + 1) parts
+of_first heaps n [] first = absurd first
+of_first heaps n (part ∷ parts) first = omega (arith, first.1)
+
+-- ---- of no kinds, and into no heap
+
+no_parts : (sli heaps : ℕ) (parts : List (List Kind)) → IsCut sli [] parts → HasAtMost (heaps + 1) parts → HasAtMost heaps parts
+no_parts sli heaps [] cut few = omega arith
+no_parts sli heaps (part ∷ parts) cut few = absurd (omega (arith, ap length cut.0, length-append part (joined parts), cut.1.0.0))
+
+more_parts : (heaps : ℕ) (parts : List (List Kind)) → HasAtMost heaps parts → HasAtMost (heaps + 1) parts
+more_parts heaps parts few = omega (arith, few)
+
+pub of_no_kinds : (sli heaps : ℕ) (best : Option Split) → IsBest sli heaps [] best → IsBest sli (heaps + 1) [] best
+of_no_kinds sli heaps best is = same_best sli (HasAtMost heaps) (HasAtMost (heaps + 1)) [] best (no_parts sli heaps) (more_parts heaps) is
+
+pub into_none : (sli : ℕ) (kinds : List Kind) → 0 < length kinds → IsBest sli 0 kinds None
+into_none sli kinds some [] cut few = omega (arith, some, ap length cut.0)
+into_none sli kinds some (part ∷ parts) cut few = omega (arith, few)
+
+-- ---- how large splits are
+
+pub small_first : (heaps n : ℕ) (words : Option ℕ) (rest : Option Split) → heaps ≤ 7 → ((k : ℕ) → words ≡ Some k → k ≤ 2 ^ 24) → AreSmall heaps rest → AreSmall (heaps + 1) (with_first n words rest)
+small_first heaps n None rest few upto small = tt
+small_first heaps n (Some words) None few upto small = tt
+small_first heaps n (Some words) (Some rest) few upto small = record {
+  few = omega (arith, small.few);
+  words = omega (arith, small.words, upto words refl);
+  room = omega (arith, length-set rest.lens rest.heaps n, small.room);
+}
+
+small_chosen : (heaps : ℕ) (a b : Split) (t : Bool) → IsSmall heaps a → IsSmall heaps b → AreSmall heaps (cond t (Some b) (Some a))
+small_chosen heaps a b true one other = other
+small_chosen heaps a b false one other = one
+
+pub small_cheaper : (heaps : ℕ) (a b : Option Split) → AreSmall heaps a → AreSmall heaps b → AreSmall heaps (cheaper a b)
+small_cheaper heaps None b one other = other
+small_cheaper heaps (Some a) None one other = one
+small_cheaper heaps (Some a) (Some b) one other = small_chosen heaps a b (nat_lt b.words a.words) one other
+
+pub small_more : (heaps more : ℕ) (best : Option Split) → heaps ≤ more → AreSmall heaps best → AreSmall more best
+small_more heaps more None upto small = tt
+small_more heaps more (Some split) upto small = record { few = omega (arith, small.few, upto); words = small.words; room = small.room }
+
+-- ---- the row of the best
+
+pub rest_best : (sli heaps at : ℕ) (kinds : List Kind) (row : List (Option Split)) → length row ≡ length kinds + 1 → at < length kinds
+    → ((k : ℕ) → at ≤ k → k < length row → IsBest sli heaps (drop k kinds) (get_or row k None) × AreSmall heaps (get_or row k None))
+    → AreBest sli heaps (drop 1 (take (length kinds - at) (drop at kinds))) (take (length row - (at + 1)) (drop (at + 1) row))
+rest_best sli heaps at kinds row long inside before =
+    let all : take (length kinds - at) (drop at kinds) ≡ drop at kinds = take_all (length kinds - at) (drop at kinds) (omega (arith, length-drop at kinds)) in
+    let cells : take (length row - (at + 1)) (drop (at + 1) row) ≡ drop (at + 1) row = take_all (length row - (at + 1)) (drop (at + 1) row) (omega (arith, length-drop (at + 1) row)) in
+    subst (λ (ks : List Kind). AreBest sli heaps (drop 1 ks) (take (length row - (at + 1)) (drop (at + 1) row))) (sym all)
+    (subst (λ (r : List (Option Split)). AreBest sli heaps (drop 1 (drop at kinds)) r) (sym cells)
+    (λ k below.
+    let place : at + (1 + k) ≡ at + 1 + k = omega arith in
+    let left : drop k (drop 1 (drop at kinds)) ≡ drop (at + 1 + k) kinds = drop-drop k 1 (drop at kinds) ∙ (drop-drop (1 + k) at kinds ∙ ap (λ (n : ℕ). drop n kinds) place) in
+    rw (left, get_or-drop (at + 1) row k None) (before (at + 1 + k) (omega arith) (omega (arith, length-drop (at + 1) row, below)))))
+
+pub row_done : (sli heaps at : ℕ) (kinds : List Kind) (row : List (Option Split)) → length row ≡ length kinds + 1 → length kinds ≤ at
+    → ((k : ℕ) → k < at → IsBest sli (heaps + 1) (drop k kinds) (get_or row k None) × AreSmall (heaps + 1) (get_or row k None))
+    → ((k : ℕ) → at ≤ k → k < length row → IsBest sli heaps (drop k kinds) (get_or row k None) × AreSmall heaps (get_or row k None))
+    → AreBest sli (heaps + 1) kinds row
+row_done sli heaps at kinds row long end more before k inside = elim (cases_lt k at) [
+  | inl below ↦ more k below
+  | inr from ↦
+      let was = before k from inside in
+      let none : drop k kinds ≡ [] = drop_of_length-le kinds (omega (arith, end, from)) in (
+        subst (λ (ks : List Kind). IsBest sli (heaps + 1) ks (get_or row k None)) (sym none)
+            (of_no_kinds sli heaps (get_or row k None) (subst (λ (ks : List Kind). IsBest sli heaps ks (get_or row k None)) none was.0)),
+        small_more heaps (heaps + 1) (get_or row k None) (omega arith) was.1,
+      )
+]
+
+none_best : (sli : ℕ) (kinds : List Kind) (best : Option Split) → 0 < length kinds → best ≡ None → IsBest sli 0 kinds best × AreSmall 0 best
+none_best sli kinds best some is = rw is (into_none sli kinds some, tt)
+
+nothing_best : (sli : ℕ) (split : Split) → split.heaps ≡ 0 → split.words ≡ 0 → length split.lens ≡ 8 → IsLeastAmong sli (HasAtMost 0) [] split × IsSmall 0 split
+nothing_best sli split none wordless room =
+    let parts : parts_of split [] ≡ [] = ap (λ (n : ℕ). cut_by n split.lens []) none in (
+      record {
+        cut = subst (IsCut sli []) (sym parts) (refl, tt);
+        sought = omega (arith, ap length parts);
+        words = wordless ∙ sym (ap (words_together sli) parts);
+        least = λ ways cut sought. omega (arith, wordless);
+      },
+      record { few = omega (arith, none); words = omega (arith, wordless); room = room },
+    )
+
+pub row_begun : (sli : ℕ) (kinds : List Kind) (row : List (Option Split)) (split : Split) → split.heaps ≡ 0 → split.words ≡ 0 → length split.lens ≡ 8 → length row ≡ length kinds + 1
+    → ((k : ℕ) → k < length kinds → get_or row k None ≡ None) → get_or row (length kinds) None ≡ Some split → AreBest sli 0 kinds row
+row_begun sli kinds row split none wordless room long nothing last k inside = elim (cases_lt k (length kinds)) [
+  | inl below ↦ none_best sli (drop k kinds) (get_or row k None) (omega (arith, length-drop k kinds)) (nothing k below)
+  | inr from ↦
+      let place : k ≡ length kinds = omega (arith, from, inside) in
+      let empty : drop k kinds ≡ [] = drop_of_length-le kinds (omega (arith, from)) in
+      let cell : get_or row k None ≡ Some split = ap (λ (n : ℕ). get_or row n None) place ∙ last in
+      rw (empty, cell) (nothing_best sli split none wordless room)
+]
+
+-- one kind more for the first heap keeps what is the best small
+pub both_longer : (sli heaps n : ℕ) (level : IsLevel sli) (kinds : List Kind) (rests : List (Option Split)) (best : Option Split) (words : Option ℕ) → heaps ≤ 7 → n < length kinds → n < length rests
+    → AreWordsOf sli (take (n + 1) kinds) words → AreBest sli heaps (drop 1 kinds) rests → IsBestAmong sli (HasFirst heaps n) kinds best → AreSmall (heaps + 1) best
+    → let now = cheaper best (with_first (n + 1) words (get_or rests n None)) in IsBestAmong sli (HasFirst heaps (n + 1)) kinds now × AreSmall (heaps + 1) now
+both_longer sli heaps n level kinds rests best words few inside there are each is small =
+    let rest = get_or rests n None in
+    let place : 1 + n ≡ n + 1 = omega arith in
+    let left : drop n (drop 1 kinds) ≡ drop (n + 1) kinds = drop-drop n 1 kinds ∙ ap (λ (k : ℕ). drop k kinds) place in
+    let behind = subst (λ (ks : List Kind). IsBest sli heaps ks rest) left (each n there).0 in
+    let upto = (each n there).1 in (
+      longer_first sli heaps n kinds best rest words inside are is behind (small_more heaps 7 rest few upto),
+      small_cheaper (heaps + 1) best (with_first (n + 1) words rest) small (small_first heaps (n + 1) words rest few (words_most sli level (take (n + 1) kinds) words are) upto),
+    )

@@ -1,0 +1,8 @@
+use Rattle.std.proofs.Common.{◌↔◌, drop}
+use Rattle.std.specs.List.{AllByRecursion}
+use Rattle.tlsf_pool.specs.laws.Kinds.{HasClass}
+use Rattle.tlsf_pool.proofs.sizes.region.have_classes.Given as goal
+
+-- all have one where those that are left have
+abbrev pub invariant-loop-kind : goal.invariant-loop-kind
+invariant-loop-kind g l = AllByRecursion (HasClass g.row.SLI) (drop l.kind-index l.kinds) ↔ AllByRecursion (HasClass g.row.SLI) l.kinds

@@ -1,0 +1,7 @@
+use Rattle.std.proofs.Common.{◌≡◌, ◌+◌, length}
+use Rattle.tlsf_pool.specs.sizes.Cheapest.{AreBest}
+use Rattle.tlsf_pool.proofs.sizes.split.best_in.Given as goal
+
+-- so many heaps are allowed
+abbrev pub invariant-loop-heaps : goal.invariant-loop-heaps
+invariant-loop-heaps g l = record { long : length l.row ≡ length l.kinds + 1; best : AreBest g.row.SLI l.heaps l.kinds l.row }

@@ -1,7 +1,0 @@
-use Rattle.std.proofs.Common.{◌≡◌, ◌+◌, length}
-use Rattle.tlsf_pool.specs.Cheapest.{AreBest}
-use Rattle.tlsf_pool.proofs.split.best_in.Given as goal
-
--- so many heaps are allowed
-abbrev pub invariant-loop-heaps : goal.invariant-loop-heaps
-invariant-loop-heaps g l = record { long : length l.row ≡ length l.kinds + 1; best : AreBest g.row.SLI l.heaps l.kinds l.row }

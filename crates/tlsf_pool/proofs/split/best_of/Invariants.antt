@@ -1,7 +1,0 @@
-use Rattle.std.proofs.Common.{◌+◌}
-use Rattle.tlsf_pool.specs.Cheapest.{AreSmall, HasFirst, IsBestAmong}
-use Rattle.tlsf_pool.proofs.split.best_of.Given as goal
-
--- the best of the splits whose first heap has at most so many kinds
-abbrev pub invariant-loop-index : goal.invariant-loop-index
-invariant-loop-index g l = record { best : IsBestAmong g.row.SLI (HasFirst l.heaps l.index) l.kinds l.best; small : AreSmall (l.heaps + 1) l.best }

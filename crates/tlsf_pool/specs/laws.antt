@@ -1,0 +1,8 @@
+-- The laws: what they say of any heap, and the sizes that they name.
+pub mod Room
+pub mod Held
+pub mod Pools
+pub mod Kinds
+pub mod OneLarge
+pub mod Contents
+pub mod Places

@@ -1,0 +1,122 @@
+-- How large a region must be for several kinds of request.
+use Rattle.std.specs.Prelude.{◌≡◌, ℕ, ◌+◌, ◌*◌, ◌-◌, ◌≤◌, List, [], ◌∷◌, Ok, Bool, IsTrue, length, map, filter, fold, max, nat_le, nat_lt, not, if◌then◌else◌, ⊤}
+use Rattle.std.specs.List.{AllByRecursion, list_all}
+use Rattle.tlsf_class.specs.Classes.{most_words}
+use Rattle.tlsf_heap.specs.Blocks.{want}
+use Rattle.tlsf_heap.specs.Lawful.{IsRegion}
+use Rattle.tlsf_heap.specs.Calls.{Call, Allocate, Release, Write, Resize, Read, Answer, Allocated, Released, Resized, opened, run}
+use Rattle.tlsf_heap.specs.declared.name.Name.{Name}
+use Rattle.tlsf_pool.specs.laws.Room.{live_count, sure}
+use Rattle.tlsf_pool.specs.laws.Pools.{pool_words, HasRoomFor}
+use Rattle.tlsf_pool.specs.laws.Contents.{is_same}
+use Rattle.tlsf_pool.specs.declared.kind.Kind.{Kind}
+
+-- what a program holds: the names that it was given and has not released, each with the bytes that it asked for last
+abbrev pub Ledger : Type 0
+Ledger = List (Name × ℕ)
+
+-- the bytes that were asked for
+abbrev pub lengths : Ledger → List ℕ
+lengths ledger = map (λ entry. entry.1) ledger
+
+-- the ledger with another length under a name
+abbrev pub with_length : Ledger → Name → ℕ → Ledger
+with_length ledger name len = map (λ entry. if is_same name entry.0 then (entry.0, len) else entry) ledger
+
+-- the ledger after a call, told by its answer
+abbrev pub ledger_after : Ledger → Call → Answer → Ledger
+ledger_after ledger (Allocate len) (Allocated (Ok name)) = (name, len) ∷ ledger
+ledger_after ledger (Release name) (Released (Ok done)) = filter (λ entry. not (is_same name entry.0)) ledger
+ledger_after ledger (Resize name len) (Resized (Ok done)) = with_length ledger name len
+ledger_after ledger call answer = ledger
+
+-- and after calls in turn
+abbrev pub ledger_after_all : Ledger → List Call → List Answer → Ledger
+ledger_after_all ledger [] answers = ledger
+ledger_after_all ledger (call ∷ calls) [] = ledger
+ledger_after_all ledger (call ∷ calls) (answer ∷ answers) = ledger_after_all (ledger_after ledger call answer) calls answers
+
+-- blocks of these lengths fit the table: each counts for the first kind that is long enough for it
+abbrev pub AreOfKinds : List Kind → List ℕ → Type 0
+AreOfKinds [] lens = lens ≡ []
+AreOfKinds (kind ∷ kinds) lens = (length (filter (λ n. nat_le n kind.len) lens) ≤ kind.most) × AreOfKinds kinds (filter (λ n. nat_lt kind.len n) lens)
+
+-- a request fits the table with all that is held, at the lengths that it has then
+abbrev pub IsPlanned : List Kind → Ledger → Call → Type 0
+IsPlanned kinds ledger (Allocate n) = AreOfKinds kinds (n ∷ lengths ledger)
+IsPlanned kinds ledger (Release name) = ⊤
+IsPlanned kinds ledger (Write name at bytes) = ⊤
+IsPlanned kinds ledger (Resize name n) = ⊤
+IsPlanned kinds ledger (Read name at n) = ⊤
+
+-- so does each request among these calls, which get these answers
+abbrev pub ArePlanned : List Kind → Ledger → List Call → List Answer → Type 0
+ArePlanned kinds ledger [] answers = ⊤
+ArePlanned kinds ledger (call ∷ calls) [] = ⊤
+ArePlanned kinds ledger (call ∷ calls) (answer ∷ answers) = IsPlanned kinds ledger call × ArePlanned kinds (ledger_after ledger call answer) calls answers
+
+-- how many blocks are held at once, at most
+abbrev pub count_in : List Kind → ℕ
+count_in [] = 0
+count_in (kind ∷ kinds) = kind.most + count_in kinds
+
+-- the words that they take, at most
+abbrev pub table_words : List Kind → ℕ
+table_words [] = 0
+table_words (kind ∷ kinds) = kind.most * (want kind.len + 3) + table_words kinds
+
+-- the words with which a request of this kind finds room, where all others are held
+abbrev pub words_with : ℕ → List Kind → Kind → ℕ
+words_with sli kinds kind = table_words kinds - (want kind.len + 3) + count_in kinds * (sure sli (want kind.len) - 1) + 1
+
+-- the kinds of which a block may be held
+abbrev pub used : List Kind → List Kind
+used kinds = filter (λ kind. nat_lt 0 kind.most) kinds
+
+-- the words of a region in which a request of each of these does, however blocks are resized
+abbrev pub resized_words : ℕ → List Kind → ℕ
+resized_words sli kinds = fold max 4 (map (words_with sli kinds) (used kinds))
+
+-- no request of the table is longer than 8 bytes, which want four words
+abbrev pub are_fours : List Kind → Bool
+are_fours kinds = list_all (λ kind. nat_le kind.len 8) (used kinds)
+
+-- the words of a region in which a request of each kind does: where all want four words, none are lost to holes
+abbrev pub kinds_words : ℕ → List Kind → ℕ
+kinds_words sli kinds = if are_fours kinds then max 4 (count_in kinds * 4) else resized_words sli kinds
+
+-- no block is resized to more than 8 bytes
+abbrev pub StaysFour : Call → Type 0
+StaysFour (Allocate n) = ⊤
+StaysFour (Release name) = ⊤
+StaysFour (Write name at bytes) = ⊤
+StaysFour (Resize name n) = n ≤ 8
+StaysFour (Read name at n) = ⊤
+
+-- a request of this kind finds a class
+abbrev pub HasClass : ℕ → Kind → Type 0
+HasClass sli kind = want kind.len ≤ most_words sli
+
+-- a program whose requests fit the table is never answered NoFit in a region of kinds_words, where a table of blocks of four words has no
+-- block resized to more
+abbrev pub KindsSuffice : ℕ → Type 0
+KindsSuffice sli = (id words first : ℕ) (kinds : List Kind) (calls : List Call) → IsRegion sli words → AllByRecursion (HasClass sli) kinds → kinds_words sli kinds ≤ words
+    → (IsTrue (are_fours kinds) → AllByRecursion StaysFour calls) → let answers = (run sli (opened id words first) calls).0 in ArePlanned kinds [] calls answers → AllByRecursion HasRoomFor answers
+
+-- nor in one of resized_words, to whatever a block of any table is resized
+abbrev pub ResizedSuffice : ℕ → Type 0
+ResizedSuffice sli = (id words first : ℕ) (kinds : List Kind) (calls : List Call) → IsRegion sli words → AllByRecursion (HasClass sli) kinds → resized_words sli kinds ≤ words
+    → let answers = (run sli (opened id words first) calls).0 in ArePlanned kinds [] calls answers → AllByRecursion HasRoomFor answers
+
+-- a kind of which no block is held asks for no words
+abbrev pub EmptyKindsAreNothing : ℕ → Type 0
+EmptyKindsAreNothing sli = (kinds : List Kind) → kinds_words sli kinds ≡ kinds_words sli (used kinds)
+
+-- a table of one kind asks for the words of a pool
+abbrev pub OneKindIsAPool : ℕ → Type 0
+OneKindIsAPool sli = (kind : Kind) → kinds_words sli (kind ∷ []) ≡ pool_words sli kind.most kind.len
+
+-- as many blocks are live as the ledger has entries
+abbrev pub LedgerHoldsWhatIsLive : ℕ → Type 0
+LedgerHoldsWhatIsLive sli = (id words first : ℕ) (calls : List Call) → 4 ≤ words
+    → let end = run sli (opened id words first) calls in live_count end.1 ≡ length (ledger_after_all [] calls end.0)

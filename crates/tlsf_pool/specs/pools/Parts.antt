@@ -1,0 +1,153 @@
+-- Several heaps, one for each part of a table.
+use Rattle.std.specs.Prelude.{◌≡◌, ℕ, ◌+◌, ◌-◌, ◌*◌, ◌/◌, ◌<◌, ◌≤◌, List, [], ◌∷◌, ◌++◌, Option, Some, None, Result, Ok, IfOk, OnErr, OnOk, is_some, length, nat_le, nat_lt, position, replicate, set, slice_index_or, sum, take, ⊤, ◌&&◌, if◌then◌else◌}
+use Rattle.std.specs.List.{AllByRecursion}
+use Rattle.std.specs.Result.{result_unwrap_or}
+use Rattle.tlsf_heap.specs.Blocks.{want}
+use Rattle.tlsf_heap.specs.Calls.{allocated, opened, read_answer, read_of, released, written}
+use Rattle.tlsf_heap.specs.Given.{payload_words_given}
+use Rattle.tlsf_heap.specs.InPlace.{payload_of}
+use Rattle.tlsf_heap.specs.Placed.{placed_at}
+use Rattle.tlsf_heap.specs.Reports.{report_of}
+use Rattle.tlsf_heap.specs.Touched.{FollowsNoForgery, allocate_touches}
+use Rattle.tlsf_heap.specs.declared.name.Name.{Name}
+use Rattle.tlsf_heap.specs.declared.placed_block.PlacedBlock.{PlacedBlock}
+use Rattle.tlsf_heap.specs.declared.refusal.Refusal.{Refusal}
+use Rattle.tlsf_heap.specs.declared.report.Report.{Report}
+use Rattle.tlsf_pool.specs.laws.Kinds.{kinds_words}
+use Rattle.tlsf_pool.specs.declared.kind.Kind.{Kind}
+use Rattle.tlsf_pool.specs.declared.pools.pool_refusal.PoolRefusal.{PoolRefusal}
+use Rattle.tlsf_pool.specs.pools.Tables.{TableState, IsTable, SameTable, HasPlace, HoldsOneMore, row_of}
+
+-- what several heaps show: the number of the first, and each with its part of the table
+pub record PoolsState : Type 0 where
+  pub id : ℕ
+  pub parts : List TableState
+
+-- no heap
+abbrev pub no_part : TableState
+no_part = record { heap = record { id = 0; words = 0; tick = 0; blocks = [] }; kinds = []; held = []; touches = 0 }
+
+abbrev pub part_at : PoolsState → ℕ → TableState
+part_at p i = slice_index_or p.parts i no_part
+
+-- the part for which a length counts: the first that has a row long enough for it
+abbrev pub part_in : List TableState → ℕ → Option ℕ
+part_in parts len = position (λ t. is_some (row_of t.kinds len)) parts
+
+abbrev pub part_of : PoolsState → ℕ → Option ℕ
+part_of p len = part_in p.parts len
+
+-- the part whose heap a name names: the heaps have numbers one behind the other
+abbrev pub named_in : ℕ → List TableState → Name → Option ℕ
+named_in id parts name = if nat_le id name.heap && nat_lt (name.heap - id) (length parts) then Some (name.heap - id) else None
+
+abbrev pub part_named : PoolsState → Name → Option ℕ
+part_named p name = named_in p.id p.parts name
+
+-- the rows of these parts, one part behind the other
+abbrev pub rows_in : List TableState → List Kind
+rows_in [] = []
+rows_in (t ∷ parts) = t.kinds ++ rows_in parts
+
+-- how many blocks are held of each of these rows
+abbrev pub held_in : List TableState → List ℕ
+held_in [] = []
+held_in (t ∷ parts) = t.held ++ held_in parts
+
+-- how many rows stand before those of a part
+abbrev pub rows_before : List TableState → ℕ → ℕ
+rows_before parts i = length (rows_in (take i parts))
+
+-- the whole table, and how many blocks are held of each of its rows
+abbrev pub table_of : PoolsState → List Kind
+table_of p = rows_in p.parts
+
+abbrev pub held_by : PoolsState → List ℕ
+held_by p = held_in p.parts
+
+-- this row of the whole table is one of a part
+abbrev pub HasRow : PoolsState → ℕ → ℕ → Type 0
+HasRow p row i = (rows_before p.parts i ≤ row) × (row < rows_before p.parts i + length (part_at p i).kinds)
+
+-- each part is a heap for its table, and their numbers follow one another
+pub record ArePools (sli : ℕ) (p : PoolsState) : Type 0 where
+  pub tables : AllByRecursion (IsTable sli) p.parts
+  pub numbers : (i : ℕ) → i < length p.parts → (part_at p i).heap.id ≡ p.id + i
+  pub few : length p.parts ≤ 8
+
+-- a new heap of that number for a table: nothing is held
+pub record IsNew (sli id first : ℕ) (table : List Kind) (t : TableState) : Type 0 where
+  pub heap : t.heap ≡ opened id (kinds_words sli table) first
+  pub kinds : t.kinds ≡ table
+  pub held : t.held ≡ replicate (length table) 0
+
+-- new heaps for these tables, in their order, with numbers one behind the other
+abbrev pub AreNew : ℕ → ℕ → ℕ → List (List Kind) → List TableState → Type 0
+AreNew sli id first [] [] = ⊤
+AreNew sli id first [] (t ∷ parts) = ⊥
+AreNew sli id first (kinds ∷ tables) [] = ⊥
+AreNew sli id first (kinds ∷ tables) (t ∷ parts) = IsNew sli id first kinds t × AreNew sli (id + 1) first tables parts
+
+-- the others are as they were
+pub record OnlyPart (old new : PoolsState) (i : ℕ) : Type 0 where
+  pub id : new.id ≡ old.id
+  pub parts : new.parts ≡ set old.parts i (part_at new i)
+
+-- an allocate in a heap for a table: an accepted one is the heap's, with one block more held of its row, and a refused one changes nothing;
+-- with the most touches, and no more payload words than the request wants
+pub record Allocates (sli : ℕ) (old new : TableState) (len : ℕ) (answer : Result Name PoolRefusal) : Type 0 where
+  pub answer_is : IfOk answer (λ name. (allocated sli old.heap len).answer ≡ Ok name)
+  pub heap : OnOk answer (new.heap ≡ (allocated sli old.heap len).heap)
+  pub held : OnOk answer (HoldsOneMore old.kinds len old.held new.held)
+  pub err : OnErr answer (SameTable old new)
+  pub kinds : new.kinds ≡ old.kinds
+  pub touches : new.touches ≤ old.touches + allocate_touches answer new.heap
+  pub given : payload_words_given answer new.heap ≤ want len
+  pub rise : old.touches ≤ new.touches
+
+-- a release in one
+pub record Releases (old new : TableState) (name : Name) (answer : Result (Unit {0}) Refusal) : Type 0 where
+  pub answer_is : answer ≡ (released old.heap name).answer
+  pub heap : new.heap ≡ (released old.heap name).heap
+  pub held : OnOk answer (HoldsOneMore old.kinds (length (payload_of old.heap name)) new.held old.held)
+  pub err : OnErr answer (SameTable old new)
+  pub kinds : new.kinds ≡ old.kinds
+  pub touches : new.touches ≤ old.touches + 34
+  pub rise : old.touches ≤ new.touches
+  pub forged : FollowsNoForgery old.heap name old.touches new.touches
+
+-- a write in one
+pub record Writes (old new : TableState) (name : Name) (at : ℕ) (bytes : List ℕ) (answer : Result (Unit {0}) Refusal) : Type 0 where
+  pub answer_is : answer ≡ (written old.heap name at bytes).answer
+  pub heap : new.heap ≡ (written old.heap name at bytes).heap
+  pub held : new.held ≡ old.held
+  pub kinds : new.kinds ≡ old.kinds
+  pub touches : new.touches ≤ old.touches + 4 + 2 * (length bytes / 8 + 2)
+  pub rise : old.touches ≤ new.touches
+  pub forged : FollowsNoForgery old.heap name old.touches new.touches
+
+-- a read in one, which fills these bytes with others
+pub record Reads (old new : TableState) (name : Name) (at : ℕ) (bytes filled : List ℕ) (answer : Result (Unit {0}) Refusal) : Type 0 where
+  pub answer_is : answer ≡ read_answer (read_of old.heap name at (length bytes))
+  pub bytes_are : filled ≡ result_unwrap_or (read_of old.heap name at (length bytes)) bytes
+  pub same : SameTable old new
+  pub touches : new.touches ≤ old.touches + 4 + (length bytes / 8 + 2)
+  pub rise : old.touches ≤ new.touches
+  pub forged : FollowsNoForgery old.heap name old.touches new.touches
+
+-- a report on one, which counts the blocks that are held; no request that has a place is longer than its grant
+pub record Reports (sli : ℕ) (old new : TableState) (report : Report) : Type 0 where
+  pub report_is : report ≡ report_of sli old.heap
+  pub held : report.live_blocks ≡ sum old.held
+  pub grant : (len : ℕ) → HasPlace old len → len ≤ report.grant
+  pub same : SameTable old new
+  pub touches : new.touches ≤ old.touches + 2 * length old.heap.blocks
+  pub few : 4 * length old.heap.blocks ≤ old.heap.words
+  pub rise : old.touches ≤ new.touches
+
+-- a look at what begins at a place of one
+pub record Looks (old new : TableState) (at : ℕ) (answer : Option PlacedBlock) : Type 0 where
+  pub answer_is : answer ≡ placed_at old.heap.blocks at
+  pub same : SameTable old new
+  pub touches : new.touches ≤ old.touches + 4
+  pub rise : old.touches ≤ new.touches

@@ -1,0 +1,6 @@
+-- How large a table may be.
+pub mod Limits
+-- Ways to cut a table of kinds.
+pub mod Splits
+-- What the clauses of private functions cite besides.
+pub mod Cheapest

@@ -1,0 +1,8 @@
+//! Laws of every heap: what its calls make of names and bytes, and how many words are enough.
+
+pub(crate) mod contents;
+pub(crate) mod kinds;
+pub(crate) mod one_large;
+pub(crate) mod places;
+pub(crate) mod pools;
+pub(crate) mod room;

@@ -1,0 +1,44 @@
+ghost use Rattle.std.specs.Prelude.{◌≡◌, ◌≤◌, ◌+◌, ◌^◌, length, IfOk, IsErrOf};
+ghost use Rattle.std.specs.List.{AllByRecursion};
+ghost use Rattle.tlsf_class.specs.Classes.{IsLevel};
+ghost use Rattle.tlsf_heap.specs.Calls.{last_tick};
+ghost use Rattle.tlsf_pool.specs.sizes.Splits.{IsPart, parts_of};
+ghost use Rattle.tlsf_pool.specs.pools.Tables.{IsTable};
+ghost use Rattle.tlsf_pool.specs.pools.Parts.{AreNew};
+
+use crate::kind::Kind;
+use crate::pools::table_pool::TablePool;
+use crate::sizes::split::Split;
+use std::alloc::Global;
+use tlsf_heap::OpenFault;
+
+/// Opens a heap for each part into which a split cuts a table, the first of number `id`.
+pub(crate) fn open_parts<const SLI: u32>(
+    alloc: Global,
+    id: u32,
+    kinds: &[Kind],
+    split: &Split,
+    first: u64,
+) -> Result<Vec<TablePool<SLI>>, OpenFault>
+    requires level { IsLevel SLI }
+    requires few { length kinds.now ≤ 64 }
+    requires numbers { id + 8 ≤ 2 ^ 32 }
+    requires heaps { split.now.heaps ≤ 8 }
+    requires parts { AllByRecursion (IsPart SLI) (parts_of split.now kinds.now) }
+    ensures new { IfOk result (λ parts. AreNew SLI id first (parts_of split.now kinds.now) parts.items) }
+    ensures tables { IfOk result (λ parts. AllByRecursion (IsTable SLI) parts.items) }
+    ensures large_enough { ¬ (IsErrOf result OpenFault.BadSize) }
+    ensures worn { IsErrOf result OpenFault.Worn → first ≡ last_tick }
+{
+    let mut parts = Vec::new(alloc);
+    let mut rest = kinds;
+    for at in 0..split.heaps {
+        let len = split.lens[split.heaps - 1 - at].min(rest.len());
+        let part = TablePool::open(alloc, id + at as u32, &rest[..len], first)?;
+        let Ok(()) = parts.push(part) else {
+            return Err(OpenFault::NoMemory);
+        };
+        rest = &rest[len..];
+    }
+    Ok(parts)
+}

@@ -1,0 +1,7 @@
+//! The words that the laws ask for, as numbers.
+
+pub(crate) mod greatest;
+pub(crate) mod one_large;
+pub(crate) mod region;
+pub(crate) mod sizing;
+pub(crate) mod split;

@@ -1,0 +1,63 @@
+ghost use Rattle.std.specs.Prelude.{◌≡◌, ◌≤◌, ◌↔◌, length, IfSome, IsTrue, None};
+ghost use Rattle.std.specs.List.{AllByRecursion};
+ghost use Rattle.tlsf_class.specs.Classes.{IsLevel};
+ghost use Rattle.tlsf_pool.specs.laws.Kinds;
+ghost use Rattle.tlsf_pool.specs.laws.Kinds.{HasClass};
+ghost use Rattle.tlsf_pool.specs.laws.Pools;
+ghost use Rattle.tlsf_pool.specs.sizes.Splits.{HasWords};
+
+use crate::kind::Kind;
+use crate::sizes::sizing::{kinds_words, most_bytes};
+use tlsf_class::most_words;
+
+/// The words of a region in which a program of at most `most` blocks at once, of at most `len` bytes each, is never refused for want of
+/// room, by [`pool_never_refuses`](crate::pool_never_refuses); None where no region has so many. It is the region that a
+/// [`Pool`](crate::Pool) of these bounds takes.
+///
+/// ```
+/// let words = pool_region::<4>(100, 512);      // Some(13631)
+/// let none = pool_region::<4>(100_000, 512);   // None
+/// ```
+pub fn pool_region<const SLI: u32>(most: u32, len: u32) -> Option<u32>
+    requires { IsLevel SLI }
+    ensures { result ≡ Pools.pool_region SLI most len }
+{
+    if len > most_bytes::<SLI>() {
+        return None;
+    }
+    let words = kinds_words::<SLI>(&[Kind { most, len }]);
+    if words > u64::from(most_words::<SLI>()) {
+        return None;
+    }
+    Some(words as u32)
+}
+
+// Whether each kind of a table has a class.
+fn have_classes<const SLI: u32>(kinds: &[Kind]) -> bool
+    requires { IsLevel SLI }
+    ensures { IsTrue result ↔ AllByRecursion (HasClass SLI) kinds.now }
+{
+    for kind in kinds {
+        if kind.len > most_bytes::<SLI>() {
+            return false;
+        }
+    }
+    true
+}
+
+/// The words of the region for a table; None where no region has so many.
+pub(crate) fn region_words<const SLI: u32>(kinds: &[Kind]) -> Option<u32>
+    requires level { IsLevel SLI }
+    requires few { length kinds.now ≤ 64 }
+    ensures some { IfSome result (λ words. HasWords SLI kinds.now × (words ≡ Kinds.kinds_words SLI kinds.now)) }
+    ensures none { result ≡ None → ¬ (HasWords SLI kinds.now) }
+{
+    if !have_classes::<SLI>(kinds) {
+        return None;
+    }
+    let asked = kinds_words::<SLI>(kinds);
+    if asked > u64::from(most_words::<SLI>()) {
+        return None;
+    }
+    Some(asked as u32)
+}

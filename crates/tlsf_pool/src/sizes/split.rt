@@ -1,0 +1,144 @@
+ghost use Rattle.std.specs.Prelude.{◌≡◌, ◌≤◌, ◌<◌, ◌+◌, ◌^◌, length, drop, IfSome, None};
+ghost use Rattle.tlsf_class.specs.Classes.{IsLevel};
+ghost use Rattle.tlsf_pool.specs.sizes.Cheapest as found;
+ghost use Rattle.tlsf_pool.specs.sizes.Cheapest.{AreBest, AreSmall, IsBest};
+ghost use Rattle.tlsf_pool.specs.sizes.Splits.{HasNoCut, IsLeast};
+
+use crate::kind::Kind;
+use crate::sizes::region::region_words;
+
+/// The most heaps that a split has.
+pub const MOST_HEAPS: usize = 8;
+
+/// The most kinds of a table that is split.
+pub const MOST_SPLIT: usize = 64;
+
+/// A way to give the kinds of a table, in their order, to several heaps.
+#[derive(Clone, Copy, Debug, PartialEq, Eq)]
+pub struct Split {
+    /// How many heaps, 0 to 8: none where there are no kinds.
+    pub heaps: usize,
+    /// How many kinds each of them has, the last heap first. What stands behind so many numbers means nothing.
+    pub lens: [usize; 8],
+    /// The words of all heaps.
+    pub words: u64,
+}
+
+/// Of no kind.
+const NOTHING: Split = Split {
+    heaps: 0,
+    lens: [0; 8],
+    words: 0,
+};
+
+// The one of fewer words.
+fn cheaper(split: Option<Split>, other: Option<Split>) -> Option<Split>
+    ensures { result ≡ found.cheaper split other }
+{
+    match (split, other) {
+        (None, other) => other,
+        (Some(split), None) => Some(split),
+        (Some(split), Some(other)) => Some(if other.words < split.words {
+            other
+        } else {
+            split
+        }),
+    }
+}
+
+// A split with a first heap more, for so many kinds, of so many words.
+fn with_first(len: usize, words: Option<u32>, rest: Option<Split>) -> Option<Split>
+    requires words { IfSome words (λ n. n ≤ 2 ^ 24) }
+    requires small { AreSmall 7 rest }
+    ensures value { result ≡ found.with_first len words rest }
+{
+    let words = words?;
+    let mut split = rest?;
+    split.lens[split.heaps] = len;
+    split.heaps += 1;
+    split.words += u64::from(words);
+    Some(split)
+}
+
+// The best split of these kinds into at most one heap more than `heaps`, by the best ones of what is left behind one of them, two
+// of them and so on into at most `heaps`.
+fn best_of<const SLI: u32>(kinds: &[Kind], rests: &[Option<Split>], heaps: usize) -> Option<Split>
+    requires level { IsLevel SLI }
+    requires some { 0 < length kinds.now }
+    requires few { length kinds.now ≤ 64 }
+    requires heaps { heaps ≤ 7 }
+    requires behind { length rests.now ≡ length kinds.now }
+    requires best { AreBest SLI heaps (drop 1 kinds.now) rests.now }
+    ensures best { IsBest SLI (heaps + 1) kinds.now result }
+    ensures small { AreSmall (heaps + 1) result }
+{
+    let mut best = None;
+    for (index, rest) in rests.iter().enumerate() {
+        let len = index + 1;
+        let words = region_words::<SLI>(&kinds[..len]);
+        best = cheaper(best, with_first(len, words, *rest));
+    }
+    best
+}
+
+// Allows one heap more to the best split of what is left behind each number of kinds.
+fn allow_one_more<const SLI: u32>(kinds: &[Kind], row: &mut [Option<Split>], heaps: usize)
+    requires level { IsLevel SLI }
+    requires few { length kinds.now ≤ 64 }
+    requires heaps { heaps ≤ 7 }
+    requires behind { length row.old ≡ length kinds.now + 1 }
+    requires best { AreBest SLI heaps kinds.now row.old }
+    ensures { AreBest SLI (heaps + 1) kinds.now row.new }
+{
+    for at in 0..kinds.len() {
+        row[at] = best_of::<SLI>(&kinds[at..], &row[at + 1..], heaps);
+    }
+}
+
+// Begins with the best splits into no heap: there is one of no kinds alone.
+fn begin<const SLI: u32>(kinds: &[Kind], row: &mut [Option<Split>])
+    requires { length row.old ≡ length kinds.now + 1 }
+    ensures { AreBest SLI 0 kinds.now row.new }
+{
+    for at in 0..kinds.len() {
+        row[at] = None;
+    }
+    row[kinds.len()] = Some(NOTHING);
+}
+
+// The best split of the kinds into at most so many heaps, found in a row of one cell more than there are kinds.
+fn best_in<const SLI: u32>(kinds: &[Kind], row: &mut [Option<Split>], most: usize) -> Option<Split>
+    requires level { IsLevel SLI }
+    requires few { length kinds.now ≤ 64 }
+    requires most { most ≤ 8 }
+    requires behind { length row.old ≡ length kinds.now + 1 }
+    ensures { IsBest SLI most kinds.now result }
+{
+    begin::<SLI>(kinds, row);
+    for heaps in 0..most {
+        allow_one_more::<SLI>(kinds, row, heaps);
+    }
+    row[0]
+}
+
+/// The cheapest way to give the kinds of a table to at most `most` heaps, each with the words that
+/// [`kinds_suffice`](crate::kinds_suffice) asks for its own kinds. The kinds stay in their order, so those of one heap stand
+/// together; a table that begins with short kinds gives short ones to the first heap. The table has at most [`MOST_SPLIT`] kinds,
+/// and there are at most [`MOST_HEAPS`] heaps. None where no way gives each heap a region.
+///
+/// ```
+/// let kinds = [Kind { most: 2000, len: 64 }, Kind { most: 1, len: 65_536 }];
+/// let split = cheapest_split::<4>(&kinds, 8);     // two heaps, of one kind each
+/// ```
+pub fn cheapest_split<const SLI: u32>(kinds: &[Kind], most: usize) -> Option<Split>
+    requires level { IsLevel SLI }
+    requires few { length kinds.now ≤ 64 }
+    requires heaps { most ≤ 8 }
+
+    // It is a way to cut the table, and no way has fewer words.
+    ensures least { IfSome result (IsLeast SLI most kinds.now) }
+    ensures none { result ≡ None → HasNoCut SLI most kinds.now }
+{
+    let mut cells = [None; MOST_SPLIT + 1];
+    best_in::<SLI>(kinds, &mut cells[..kinds.len() + 1], most)
+}

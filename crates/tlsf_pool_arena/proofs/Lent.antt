@@ -1,0 +1,64 @@
+-- The blocks that are away are the arena's, and are taken back.
+use Rattle.std.proofs.Common.{◌≡◌, ◌≢◌, ◌==◌, ℕ, zero, suc, Bool, true, false, if◌then◌else◌, List, [], ◌∷◌, set, slice_get, replicate, Option, Some, None, Ok, Err, refl, sym, ap, subst, ◌∙◌, ◌⊎◌, inl, inr, ⊎_elim, eqb-true}
+use base.Fml.{GName}
+use Rattle.linked_list_allocator.specs.Region.{Region}
+use Rattle.tlsf_heap.specs.Blocks.{HeapState}
+use Rattle.tlsf_heap.specs.Calls.{Outcome, coalesced, is_worn, last_tick, named, refused, released, released_at, ticked}
+use Rattle.tlsf_heap.specs.GoodFit.{Site}
+use Rattle.tlsf_heap.specs.declared.refusal.Refusal.{Refusal}
+use Rattle.tlsf_heap.specs.declared.refusal.Refusal.TheVariants.{Worn, Foreign}
+use Rattle.tlsf_heap.specs.declared.name.Name.{Name}
+use Rattle.tlsf_pool_arena.specs.declared.parcel.Parcel.{Parcel}
+use Rattle.tlsf_arena.specs.declared.block.Block.{Block}
+use Rattle.tlsf_pool_arena.specs.Remotes.{AreAway, IsFrom}
+
+-- what is found in a list with one entry changed
+pub got_set : {A : Type 0} (l : List A) (k j : ℕ) (a b : A) → slice_get (set l k a) j ≡ Some b → ((j ≡ k) × (a ≡ b)) ⊎ ((j ≢ k) × (slice_get l j ≡ Some b))
+got_set [] k j a b e = absurd (let no : ⊥ = cc in no)
+got_set (x ∷ l) zero zero a b e = let same : a ≡ b = cc in inl (refl, same)
+got_set (x ∷ l) zero (suc j) a b e = inr ((λ h. cc), e)
+got_set (x ∷ l) (suc k) zero a b e = inr ((λ h. cc), e)
+got_set (x ∷ l) (suc k) (suc j) a b e = ⊎_elim (λ t. inl (ap suc t.0, t.1)) (λ t. inr ((λ h. let same : j ≡ k = cc in t.0 same), t.1)) (got_set l k j a b e)
+
+abbrev pub parcel_of : {u : ℕ} → Block u → Parcel u
+parcel_of b = record { block = b }
+
+module _ {u : ℕ} (was region : Region) (old book : GName) (away now : List (Option (Parcel u))) (at : ℕ) (is : AreAway u was old away) (same_region : region ≡ was) (same_book : book ≡ old) where
+  set_to : (o : Option (Parcel u)) → now ≡ set away at o → ((b : Parcel u) → o ≡ Some b → IsFrom was old b) → AreAway u region book now
+  set_to o now_is first =
+      subst (λ (p : Region × GName × List (Option (Parcel u))). AreAway u p.0 p.1 p.2) (λ i. (sym same_region i, sym same_book i, sym now_is i))
+      (record { from = λ k b e. ⊎_elim (λ t. first b t.1) (λ t. is.from k b t.1) (got_set away at k o (Some b) e) })
+
+  -- one more block of the arena is away
+  pub lent : (b : Parcel u) → now ≡ set away at (Some b) → IsFrom was old b → AreAway u region book now
+  lent b now_is is_from = set_to (Some b) now_is (λ c e. let same : b ≡ c = cc in subst (λ (c : Parcel u). IsFrom was old c) same is_from)
+
+  -- one came home
+  pub home : now ≡ set away at None → AreAway u region book now
+  home now_is = set_to None now_is (λ c e. absurd (let no : ⊥ = cc in no))
+
+none_away : {u : ℕ} (n k : ℕ) (b : Parcel u) → slice_get (replicate n None) k ≡ Some (Some b) → ⊥
+none_away zero k b e = cc
+none_away (suc n) zero b e = cc
+none_away (suc n) (suc k) b e = none_away n k b e
+
+-- at first none is away
+pub fresh : {u : ℕ} (region : Region) (book : GName) (n : ℕ) → AreAway u region book (replicate n None)
+fresh region book n = record { from = λ k b e. absurd (none_away n k b e) }
+
+-- ---- a release that answers Worn is one at the last tick
+
+own_case : (b : Bool) (h : HeapState) (x : Outcome (Unit {0})) → (if b then x else refused h Foreign).answer ≡ Err Worn → x.answer ≡ Err Worn
+own_case true h x e = e
+own_case false h x e = absurd (let no : ⊥ = cc in no)
+
+worn_case : (b : Bool) (h : HeapState) (x : Outcome (Unit {0})) → x.answer ≡ Ok tt → (if b then refused h Worn else x).answer ≡ Err Worn → b ≡ true
+worn_case true h x ok e = refl
+worn_case false h x ok e = absurd (let clash = sym ok ∙ e in let no : ⊥ = cc in no)
+
+at_worn : (h : HeapState) (o : Option Site) → ¬ (h.tick ≡ last_tick) → (released_at h o).answer ≡ Err Worn → ⊥
+at_worn h None fresh e = cc
+at_worn h (Some s) fresh e = fresh (eqb-true h.tick last_tick (worn_case (is_worn h) h (record { answer = Ok tt; heap = ticked h (coalesced h.tick s) }) refl e))
+
+pub never_refused : (h : HeapState) (name : Name) (why : Refusal) → ¬ (h.tick ≡ last_tick) → why ≡ Worn → (released h name).answer ≡ Err why → ⊥
+never_refused h name why fresh worn answer = at_worn h (named name h.blocks) fresh (own_case (name.heap == h.id) h (released_at h (named name h.blocks)) (answer ∙ ap Err worn))

@@ -1,0 +1,209 @@
+ghost use Rattle.std.specs.Prelude.{◌≡◌, ◌↔◌, ◌⊎◌, ℕ, ◌+◌, ◌*◌, ◌<◌, ◌≤◌, [], ◌∷◌, ◌++◌, length, true, false, Some, None, IfOk, IsOk, IsErrOf, OnOk, OnErr, Ok, replicate, slice_get, slice_set};
+ghost use Rattle.std.specs.List.{range_with_len};
+ghost use Rattle.tlsf_class.specs.Classes.{IsLevel};
+ghost use Rattle.tlsf_heap.specs.Calls.{last_tick, opened, released};
+ghost use Rattle.tlsf_arena.specs.Arenas.{Holds, requested};
+ghost use Rattle.tlsf_arena.specs.Places.{IsUnit, piece_size, units_for};
+ghost use Rattle.tlsf_pool_arena.specs.PoolArenas.{SamePlan, SamePoolArena, units_of_pool};
+ghost use Rattle.tlsf_pool_arena.specs.Remotes.{IsAwayBy, NoneLost, idle_places};
+ghost use Rattle.tlsf_pool_arena.specs.declared.parcel.Parcel as parcel;
+ghost use Rattle.tlsf_returns.specs.Ends.{away_by, id_of, looks_of, owner_id, place_by};
+
+use crate::parcel::Parcel;
+use crate::pool_arena::PoolArena;
+use crate::remote_block::RemoteBlock;
+use std::alloc::{AllocError, Global};
+use std::marker::Model;
+use tlsf_heap::OpenFault;
+use tlsf_pool::PoolRefusal;
+use tlsf_returns::{OwnerEnd, Places};
+
+/// A pool's arena that lends its blocks by places: it never refuses for want of room, and any thread may give a block back.
+///
+/// Contracts see it as its arena, the block that is away by each place, and the places that it looked at, in order.
+#[derive(Drop)]
+pub struct RemoteArena<const SLI: u32, const UNIT: usize> {
+    arena: PoolArena<SLI, UNIT>,
+    owner: OwnerEnd<Parcel<UNIT>>,
+    // As many entries from the first on as blocks may be lent besides: the places by which none is away.
+    idle: Vec<u32, Global>,
+    count: u32,
+}
+
+impl<const SLI: u32, const UNIT: usize> Model for RemoteArena<SLI, UNIT> {
+    ghost use Rattle.std.specs.Prelude.{◌≡◌, ◌-◌, ◌≤◌, length};
+    ghost use Rattle.tlsf_returns.specs.Ends.{owner_id, away_by, looks_of};
+    ghost use Rattle.tlsf_pool_arena.specs.Remotes.{AreAway, AreIdle, RemoteState};
+
+    ghost Value = { RemoteState UNIT };
+
+    ghost view = { λ r. record { arena = r.arena; away = away_by r.owner; looks = looks_of r.owner; places = owner_id r.owner } };
+
+    ghost invariant = { λ r. AreAway UNIT r.arena.region r.arena.book (away_by r.owner) × (r.count ≡ length (away_by r.owner)) × (r.count ≡ r.arena.most) × AreIdle UNIT r.count (r.count - r.arena.held) r.idle.items (away_by r.owner) × (r.arena.held ≤ r.count) };
+}
+
+impl<const SLI: u32, const UNIT: usize> RemoteArena<SLI, UNIT> {
+    /// Opens an arena for at most `most` blocks at once, of at most `longest` bytes each, as [`PoolArena::open`] does, and is refused as it
+    /// is. It lends them by the places of `owner`, of which there are as many.
+    pub fn open(
+        alloc: Global,
+        owner: OwnerEnd<Parcel<UNIT>>,
+        id: u32,
+        most: u32,
+        longest: u32,
+    ) -> Result<RemoteArena<SLI, UNIT>, OpenFault>
+        requires level { IsLevel SLI }
+        requires unit { IsUnit UNIT }
+        requires fresh { away_by owner ≡ replicate most None }
+        ensures heap { IfOk result (λ r. (units : ℕ) → units_of_pool SLI UNIT most longest ≡ Some units → r.arena.heap ≡ opened id units 0) }
+        ensures bounds { IfOk result (λ r. (r.arena.most ≡ most) × (r.arena.longest ≡ longest) × (r.arena.held ≡ 0)) }
+        ensures idle { IfOk result (λ r. NoneLost r) }
+        ensures places { IfOk result (λ r. (r.places ≡ owner_id owner.entry) × (r.away ≡ away_by owner.entry) × (r.looks ≡ looks_of owner.entry)) }
+        ensures bad_size { IsErrOf result OpenFault.BadSize ↔ (units_of_pool SLI UNIT most longest ≡ None) }
+        ensures not_worn { ¬ (IsErrOf result OpenFault.Worn) }
+    {
+        let arena = PoolArena::<SLI, UNIT>::open(alloc, id, most, longest)?;
+        let Ok(idle) = all_places(alloc, most) else {
+            return Err(OpenFault::NoMemory);
+        };
+        Ok(RemoteArena {
+            arena,
+            owner,
+            idle,
+            count: most,
+        })
+    }
+
+    /// Lends a block of `len` bytes or more, by a place by which none is away: the one that came home last, or one that was never used. It is
+    /// found in one step, whatever the number of places.
+    ///
+    /// It is lent whenever `len` is at most the longest request, a place is idle, as one is while fewer blocks are held than may be, and the
+    /// tick isn't at its last value. Else it is refused as `TooLong`, `Full` or `Worn`, in this order, and nothing changes: never for want of
+    /// room. Takes no memory.
+    ///
+    /// ```text
+    /// let block = arena.lend(&places, 512)?;                       // of an arena of one block of up to 512 bytes
+    /// arena.lend(&places, 512).err() == Some(PoolRefusal::Full)
+    /// arena.lend(&places, 513).err() == Some(PoolRefusal::TooLong)
+    /// ```
+    pub fn lend<'a>(
+        &mut self,
+        places: &'a Places<Parcel<UNIT>>,
+        len: u32,
+    ) -> Result<RemoteBlock<'a, UNIT>, PoolRefusal>
+        requires own { self.old.places ≡ id_of places.now }
+        ensures own { self.new.places ≡ self.old.places }
+        ensures ok { IsOk result ↔ ((len ≤ self.old.arena.longest) × (self.old.arena.held < self.old.arena.most) × ¬ (self.old.arena.heap.tick ≡ last_tick)) }
+
+        // The refusals, in their order, and that nothing changes then.
+        ensures too_long { IsErrOf result PoolRefusal.TooLong ↔ (self.old.arena.longest < len) }
+        ensures full { IsErrOf result PoolRefusal.Full ↔ ((len ≤ self.old.arena.longest) × (idle_places self.old.away ≡ 0)) }
+        ensures err { OnErr result (SamePoolArena self.old.arena self.new.arena × (self.new.away ≡ self.old.away)) }
+
+        // The block is the arena's, and is away by one of the places by which none was.
+        ensures answer { IfOk result (λ b. (requested SLI UNIT self.old.arena.heap len).answer ≡ Ok b.parcel.block.name) }
+        ensures heap { OnOk result (self.new.arena.heap ≡ (requested SLI UNIT self.old.arena.heap len).heap) }
+        ensures block { IfOk result (λ b. (b.parcel.block.piece.region ≡ self.old.arena.region) × (b.parcel.block.right.book ≡ self.old.arena.book) × (b.parcel.block.piece.size ≡ piece_size UNIT len)) }
+        ensures holds { IfOk result (λ b. Holds self.new.arena.heap b.parcel.block.name (units_for UNIT len)) }
+        ensures away { IfOk result (λ b. IsAwayBy self.old.away self.new.away (place_by b.ticket) b.parcel) }
+        ensures place { IfOk result (λ b. place_by b.ticket < self.new.arena.most) }
+        ensures held { IfOk result (λ _. self.new.arena.held ≡ self.old.arena.held + 1) }
+        ensures idle { NoneLost self.new }
+        ensures plan { SamePlan self.old.arena self.new.arena }
+        ensures looks { self.new.looks ≡ self.old.looks }
+        ensures touches { self.new.arena.touches ≤ self.old.arena.touches + 64 }
+    {
+        let block = self.arena.allocate(len)?;
+        let last = (self.count - self.arena.held()) as usize;
+        let at = self.idle[last];
+        let parcel = Parcel { block };
+        let (parcel, ticket) = self.owner.send_out(places, at as usize, parcel);
+        Ok(RemoteBlock {
+            parcel,
+            ticket,
+            places,
+        })
+    }
+
+    /// Releases the block that is away by a place, where it came home, and answers whether it did. Its units are free from then on: the
+    /// release is never refused. At the last tick nothing is released. Takes no memory.
+    ///
+    /// ```text
+    /// let at = block.place();
+    /// drop(block);
+    /// arena.take_home(&places, at) == true
+    /// ```
+    pub fn take_home(&mut self, places: &Places<Parcel<UNIT>>, at: u32) -> bool
+        requires own { self.old.places ≡ id_of places.now }
+        requires place { at < self.old.arena.most }
+        ensures own { self.new.places ≡ self.old.places }
+        ensures home { result ≡ true → (b : parcel.Parcel UNIT) × (slice_get self.old.away at ≡ Some (Some b)) × (self.new.away ≡ slice_set self.old.away at None) × (self.new.arena.heap ≡ (released self.old.arena.heap b.block.name).heap) × (self.new.arena.held + 1 ≡ self.old.arena.held) }
+        ensures none { result ≡ false → (self.new.away ≡ self.old.away) × (self.new.arena.heap ≡ self.old.arena.heap) × (self.new.arena.held ≡ self.old.arena.held) }
+        ensures plan { SamePlan self.old.arena self.new.arena }
+        ensures looks { ¬ (self.old.arena.heap.tick ≡ last_tick) → self.new.looks ≡ self.old.looks ++ at ∷ [] }
+        ensures worn { self.old.arena.heap.tick ≡ last_tick → result ≡ false }
+        ensures idle { NoneLost self.new }
+        ensures touches { self.new.arena.touches ≤ self.old.arena.touches + 60 }
+    {
+        if self.arena.tick() == u64::MAX {
+            return false;
+        }
+        let Some(parcel) = self.owner.take(places, at as usize) else {
+            return false;
+        };
+        let idle = (self.count - self.arena.held()) as usize;
+        match self.arena.release(parcel.into_block()) {
+            Ok(()) => {
+                self.idle[idle] = at;
+                true
+            }
+            Err(_) => unreachable!(),
+        }
+    }
+
+    /// Releases each block that came home, and answers how many did. It looks at each place once, in order, and takes no memory.
+    ///
+    /// ```text
+    /// arena.drain(&places) == 1                // one block came home
+    /// ```
+    pub fn drain(&mut self, places: &Places<Parcel<UNIT>>) -> u32
+        requires own { self.old.places ≡ id_of places.now }
+        ensures own { self.new.places ≡ self.old.places }
+        ensures held { self.new.arena.held + result ≡ self.old.arena.held }
+        ensures away { (k : ℕ) → (slice_get self.new.away k ≡ slice_get self.old.away k) ⊎ (slice_get self.new.away k ≡ Some None) }
+        ensures looks { ¬ (self.new.arena.heap.tick ≡ last_tick) → self.new.looks ≡ self.old.looks ++ range_with_len 0 (length self.old.away) }
+        ensures idle { NoneLost self.new }
+        ensures plan { SamePlan self.old.arena self.new.arena }
+
+        // At most 60 touches for each place.
+        ensures touches { self.new.arena.touches ≤ self.old.arena.touches + 60 * self.old.arena.most }
+    {
+        let before = self.arena.held();
+        for at in 0..self.count {
+            let _home = self.take_home(places, at);
+        }
+        before - self.arena.held()
+    }
+
+    /// How many blocks are held: those that are away, and those that came home and weren't released yet.
+    pub fn held(&self) -> u32
+        ensures held { result ≡ self.now.arena.held }
+        ensures few { result ≤ self.now.arena.most }
+
+        // By each other place, of as many as blocks may be held, none is away.
+        ensures idle { NoneLost self.now }
+    {
+        self.arena.held()
+    }
+}
+
+/// So many places, from 0 on.
+fn all_places(alloc: Global, count: u32) -> Result<Vec<u32, Global>, AllocError>
+    ensures { IfOk result (λ v. v.items ≡ range_with_len 0 count) }
+{
+    let mut places = Vec::with_capacity(alloc, count as usize)?;
+    for at in 0..count {
+        places.push(at)?;
+    }
+    Ok(places)
+}

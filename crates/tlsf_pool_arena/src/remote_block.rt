@@ -1,0 +1,90 @@
+ghost use Rattle.std.specs.Prelude.{◌≡◌, ◌^◌, ◌<◌, Some};
+ghost use Rattle.tlsf_returns.specs.Ends.{id_of, place_by, ticket_id, value_for};
+ghost use Rattle.tlsf_pool_arena.specs.Given.{IsGivenBack};
+
+use crate::parcel::Parcel;
+use tlsf_arena::Block;
+use tlsf_returns::{Places, Receipt, Ticket};
+
+/// A block that any thread may give back: whoever has it is the only one who can reach its bytes. Once it is dropped, or given back, it is
+/// home: the arena's next `drain` releases it. That is never refused, takes no memory and doesn't wait.
+///
+/// ```text
+/// let block = arena.lend(&places, 512)?;
+/// scope.spawn(move || drop(block))?;
+/// ```
+pub struct RemoteBlock<'a, const UNIT: usize> {
+    pub(crate) parcel: Parcel<UNIT>,
+    pub(crate) ticket: Ticket<Parcel<UNIT>>,
+    pub(crate) places: &'a Places<Parcel<UNIT>>,
+    ghost paired: { value_for ticket ≡ Some parcel },
+    ghost own: { ticket_id ticket ≡ id_of places.now },
+    ghost small: { place_by ticket < 2 ^ 32 },
+}
+
+impl<'a, const UNIT: usize> RemoteBlock<'a, UNIT> {
+    /// The address of its bytes, a multiple of 16, their number, and the block again.
+    ///
+    /// ```text
+    /// let (ptr, size, block) = block.with_parts();     // of 100 bytes in units of 16: 112
+    /// ```
+    pub fn with_parts(self) -> (*mut u8, usize, RemoteBlock<'a, UNIT>)
+        ensures bytes { (result.0 ≡ self.entry.parcel.block.piece.ptr) × (result.1 ≡ self.entry.parcel.block.piece.size) }
+        ensures same { (result.2.parcel.block.name ≡ self.entry.parcel.block.name) × (result.2.parcel.block.piece ≡ self.entry.parcel.block.piece) × (result.2.parcel.block.right ≡ self.entry.parcel.block.right) }
+    {
+        let RemoteBlock {
+            parcel,
+            ticket,
+            places,
+        } = self;
+        let Block { name, piece, right } = parcel.into_block();
+        let (ptr, piece) = piece.with_ptr();
+        let (size, piece) = piece.with_size();
+        let block = Block { name, piece, right };
+        let parcel = Parcel { block };
+        (
+            ptr,
+            size,
+            RemoteBlock {
+                parcel,
+                ticket,
+                places,
+            },
+        )
+    }
+
+    /// The number of the place by which it comes home, as [`RemoteArena::take_home`](crate::RemoteArena::take_home) wants it.
+    ///
+    /// ```text
+    /// let at = block.place();
+    /// drop(block);
+    /// arena.take_home(&places, at) == true
+    /// ```
+    pub fn place(&self) -> u32
+        ensures place { result ≡ place_by self.now.ticket }
+    {
+        self.ticket.place() as u32
+    }
+
+    /// Gives the block back, as its drop does. The receipt shows that it was put back by its place.
+    ///
+    /// ```text
+    /// let receipt = block.give_back();
+    /// ```
+    pub fn give_back(self) -> Receipt<Parcel<UNIT>>
+        ensures put { IsGivenBack self.entry.places.now self.entry.parcel result }
+    {
+        let RemoteBlock {
+            parcel,
+            ticket,
+            places,
+        } = self;
+        ticket.put(places, parcel)
+    }
+}
+
+impl<'a, const UNIT: usize> Drop for RemoteBlock<'a, UNIT> {
+    fn drop(self) {
+        drop(self.give_back());
+    }
+}

@@ -1,3 +1,0 @@
-pub mod Drained
-pub mod Idle
-pub mod Lent

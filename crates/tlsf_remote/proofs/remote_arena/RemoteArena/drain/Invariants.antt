@@ -1,5 +1,0 @@
-use Rattle.tlsf_remote.proofs.Drained.{Drained}
-use Rattle.tlsf_remote.proofs.remote_arena.RemoteArena.drain.Given as goal
-
-abbrev pub invariant-loop-at : goal.invariant-loop-at
-invariant-loop-at g l = Drained l.fn.self l.self l.at

@@ -1,2 +1,0 @@
-pub mod Given
-pub mod Remotes
