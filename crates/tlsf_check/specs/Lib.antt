@@ -6,4 +6,3 @@ pub mod Checks
 -- What the clauses of private functions cite besides.
 pub mod Kinds
 pub mod Passing
-pub mod Unreads

@@ -7,25 +7,24 @@ ghost use Rattle.tlsf_trace.specs.Replay.{IsRun};
 
 use crate::count_line::line_on;
 use crate::field_spots::field_of_fault;
+use crate::limit::note_of;
 use crate::notes::explain;
-use crate::reading::read_within;
-use crate::unread::Unread;
 use std::alloc::{AllocError, Global};
 use std::io::{Read, Write};
-use tlsf_lines::{TraceFault, trace_in};
+use tlsf_lines::{ReadError, TraceFault, read_all, trace_in};
 use tlsf_trace::{Summary, finish};
 
 // The fault of a trace that was not read whole. Adds the note on a limit that it passes.
-fn note_unread(unread: Unread, note: &mut String) -> TraceFault
-    ensures { NotesUnread unread result (string_bytes note.old) (string_bytes note.new) }
+fn note_unread(error: ReadError, note: &mut String) -> TraceFault
+    ensures { NotesUnread error result (string_bytes note.old) (string_bytes note.new) }
 {
-    match unread {
-        Unread::NoMemory => TraceFault::NO_MEMORY,
-        Unread::Passed(limit) => match note.push_str(limit.note()) {
+    match error {
+        ReadError::NoMemory => TraceFault::NO_MEMORY,
+        ReadError::TooLong(limit) => match note.push_str(note_of(limit)) {
             Ok(()) => TraceFault::TOO_LONG,
             Err(_) => TraceFault::NO_MEMORY,
         },
-        Unread::Failed => TraceFault::READ,
+        ReadError::Read => TraceFault::READ,
     }
 }
 
@@ -93,9 +92,9 @@ pub fn check_trace<R: Read, W: Write>(
         (λ text. Notes text fault (string_bytes note.old) (string_bytes note.new))) }
     ensures kept { OnOk result (string_bytes note.new ≡ string_bytes note.old) }
 {
-    let text = match read_within(alloc, reader) {
+    let text = match read_all(alloc, reader) {
         Ok(text) => text,
-        Err(unread) => return Err(note_unread(unread, note)),
+        Err(error) => return Err(note_unread(error, note)),
     };
     let trace = match trace_in(alloc, &text) {
         Ok(trace) => trace,

@@ -24,8 +24,6 @@ mod line_view;
 mod notes;
 mod number_tip;
 mod places;
-mod reading;
-mod unread;
 
 pub use checking::check_trace;
 pub use field_spots::field_of_fault;

@@ -8,9 +8,9 @@ use Rattle.tlsf_class.specs.Classes.{most_words}
 use Rattle.tlsf_heap.specs.Blocks.{HeapState, want}
 use Rattle.tlsf_heap.specs.Calls.{Call, Allocate, Release, Write, Resize, Read, Got, answered, opened, read_of, run}
 use Rattle.tlsf_heap.specs.declared.refusal.Refusal.{Refusal}
-use Rattle.tlsf_laws.specs.Held.{held_after}
-use Rattle.tlsf_laws.specs.Pools.{pool_region, pool_words, AreModest, HasRoomFor}
-use Rattle.tlsf_laws.proofs.ModestCalls.{region_is}
+use Rattle.tlsf_pool.specs.laws.Held.{held_after}
+use Rattle.tlsf_pool.specs.laws.Pools.{pool_region, pool_words, AreModest, HasRoomFor}
+use Rattle.tlsf_pool.proofs.lemmas.laws.ModestCalls.{region_is}
 use Rattle.tlsf_calls.specs.declared.event.Event.{Event}
 use Rattle.tlsf_crew.specs.histories.History.{answers_on, calls_on, handed_on}
 use Rattle.tlsf_crew.specs.model.World.{World, heap_in, replies, no_heap}

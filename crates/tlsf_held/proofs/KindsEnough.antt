@@ -10,10 +10,10 @@ use Rattle.tlsf_class.specs.Classes.{class_of, last_class, most_words, IsLevel}
 use Rattle.tlsf_class.proofs.ClassOfSize.{class_of-bounds, class_of-rises}
 use Rattle.tlsf_heap.specs.Blocks.{HeapState, want}
 use Rattle.tlsf_heap.specs.Calls.{Call, Allocate, Release, Write, Resize, Read, Answer, Got, opened, run}
-use Rattle.tlsf_laws.specs.Kinds.{Ledger, ledger_after, lengths, AreOfKinds, ArePlanned, IsPlanned}
-use Rattle.tlsf_laws.specs.Pools.{HasRoomFor}
-use Rattle.tlsf_laws.specs.declared.kind.Kind.{Kind}
-use Rattle.tlsf_laws.proofs.PlannedCalls.{kinds_suffice}
+use Rattle.tlsf_pool.specs.laws.Kinds.{Ledger, ledger_after, lengths, AreOfKinds, ArePlanned, IsPlanned}
+use Rattle.tlsf_pool.specs.laws.Pools.{HasRoomFor}
+use Rattle.tlsf_pool.specs.declared.kind.Kind.{Kind}
+use Rattle.tlsf_pool.proofs.lemmas.laws.PlannedCalls.{kinds_suffice}
 use Rattle.tlsf_crew.specs.histories.History.{answers_on, calls_on, handed_on}
 use Rattle.tlsf_crew.specs.model.World.{heap_in, no_heap}
 use Rattle.tlsf_crew.proofs.lemmas.histories.AllEntries.{replies_tell}

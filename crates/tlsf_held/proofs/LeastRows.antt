@@ -7,11 +7,11 @@ use Rattle.std.proofs.lemmas.Grind.{get_or-set_at}
 use Rattle.std.proofs.lemmas.List.{get_or-set_other, get_or-replicate, length-replicate, length-set}
 use Rattle.tlsf_heap.specs.Calls.{Call, Allocate, Release, Write, Resize, Read, Answer, Allocated, Released, Written, Resized, Got}
 use Rattle.tlsf_heap.specs.declared.name.Name.{Name}
-use Rattle.tlsf_laws.specs.Contents.{is_same}
-use Rattle.tlsf_laws.specs.Kinds.{Ledger, ledger_after, lengths, with_length}
+use Rattle.tlsf_pool.specs.laws.Contents.{is_same}
+use Rattle.tlsf_pool.specs.laws.Kinds.{Ledger, ledger_after, lengths, with_length}
 use Rattle.tlsf_held.specs.KindTables.{lengths_with, IsLeastRow, IsOfRow, KeepWithin}
 use Rattle.tlsf_held.specs.RowTallies.{with_lengths}
-use Rattle.tlsf_held.specs.Rows.{joined, no_row, raised, row_in, with_one, IsWithin}
+use Rattle.tlsf_held.specs.Rows.{joined, no_row, row_in, with_one, IsWithin}
 use Rattle.tlsf_held.specs.declared.row.Row.{Row}
 use Rattle.tlsf_held.proofs.MostWanted.{read_ledger, written_ledger}
 use Rattle.tlsf_held.proofs.RowEntries.{rows_after, rows_after_all, rows_behind}

@@ -2,8 +2,8 @@
 use Rattle.std.proofs.Common.{◌≡◌, ℕ, Bool, true, false, cond, List, [], ◌∷◌, fold, map, refl, ap, ◌∙◌}
 use Rattle.std.specs.Prelude.{filter, not}
 use Rattle.tlsf_heap.specs.declared.name.Name.{Name}
-use Rattle.tlsf_laws.specs.Contents.{is_same}
-use Rattle.tlsf_laws.specs.Kinds.{Ledger, with_length}
+use Rattle.tlsf_pool.specs.laws.Contents.{is_same}
+use Rattle.tlsf_pool.specs.laws.Kinds.{Ledger, with_length}
 use Rattle.tlsf_held.specs.Lent.{ledger_of, others, with_len, with_loan}
 use Rattle.tlsf_held.specs.declared.loans.Loan.{Loan}
 

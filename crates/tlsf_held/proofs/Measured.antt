@@ -1,12 +1,14 @@
 -- What is told of a run's entries is what the trace asks for.
-use Rattle.std.proofs.Common.{◌≡◌, ℕ, List, Option, ap, ap₂, sym, ◌∙◌, subst, arith}
+use Rattle.std.proofs.Common.{◌≡◌, ℕ, ◌+◌, ◌<◌, ◌++◌, List, Option, length, vec_len, ap, ap₂, sym, ◌∙◌, subst, arith}
 use Rattle.std.proofs.lemmas.List.FromFn.{length-map-range_with_len}
 use Rattle.tlsf_heap.specs.Calls as heap
 use Rattle.tlsf_heap.specs.declared.name.Name.{Name}
 use Rattle.tlsf_calls.specs.declared.entry.Entry.{Entry}
-use Rattle.tlsf_calls.specs.declared.event.Event.{Event}
-use Rattle.tlsf_crew.specs.model.World.{World, replies}
+use Rattle.tlsf_crew.specs.model.World.{Replayed}
 use Rattle.tlsf_lines.specs.Events.{events_of}
+use Rattle.tlsf_lines.specs.ScriptSoFar.{IsScript}
+use Rattle.tlsf_lines.specs.declared.script.Script.{Script}
+use Rattle.tlsf_lines.proofs.ScriptSteps.{ends_count}
 use Rattle.tlsf_lines.specs.Trace.{Trace}
 use Rattle.tlsf_lines.specs.Versions.{level_of}
 use Rattle.tlsf_lines.specs.declared.header.Header.{Header}
@@ -15,6 +17,9 @@ use Rattle.tlsf_lines.specs.declared.version.Version.TheVariants.{One, Two}
 use Rattle.tlsf_class.specs.Classes.{IsLevel}
 use Rattle.tlsf_class.proofs.TwoLevels.{level_4, level_5}
 use Rattle.tlsf_trace.specs.Output.{level_in, run_at, run_of, yard_of}
+use Rattle.tlsf_trace.specs.Players.{PlaysOn}
+use Rattle.tlsf_trace.specs.declared.player.Player.{Player}
+use Rattle.tlsf_trace.proofs.Onward.{ends, nothing_told}
 use Rattle.tlsf_held.specs.HeldLines.{held_text}
 use Rattle.tlsf_held.specs.KindLines.{kinds_text}
 use Rattle.tlsf_held.specs.Loans.{account_of}
@@ -31,15 +36,16 @@ pub is_level : (version : Version) → IsLevel (level_of version)
 is_level One = level_4
 is_level Two = level_5
 
--- what a new yard of a trace answers to its events is its run
-pub run_told : {sli : ℕ} (trace : Trace) (header : Header) (w : World sli) (events : List Event) (entries : List Entry) (made : List (Option Name))
-    → level_in trace.header ≡ sli → header ≡ trace.header → w ≡ yard_of header → events ≡ events_of trace → entries ≡ (replies w events).entries
-    → made ≡ (replies w events).made → IsRunOf trace made entries
-run_told {sli} trace header w events entries made level_is header_is world_is events_are entries_are made_is =
-    let yard : w ≡ yard_of trace.header = world_is ∙ ap yard_of header_is in
-    subst (λ (n : ℕ). (made ≡ (run_at n trace).made) × (entries ≡ (run_at n trace).entries)) (sym level_is) (
-      made_is ∙ ap₂ (λ (v : World sli) (es : List Event). (replies v es).made) yard events_are,
-      entries_are ∙ ap₂ (λ (v : World sli) (es : List Event). (replies v es).entries) yard events_are,
+-- what a player tells and has made behind its last line is the trace's run
+pub run_told : {sli : ℕ} (trace : Trace) (script : Script) (player : Player sli) (entries : List Entry) (line : ℕ) → level_in trace.header ≡ sli → IsScript script trace
+    → vec_len script.ends + 1 < line → PlaysOn 0 line trace player entries → IsRunOf trace player.made.items entries
+run_told {sli} trace script player entries line level_is is past plays =
+    let many = ap (λ (l : List ℕ). length l) is.ends ∙ ends_count trace.header.workers 0 trace.lines in
+    let all = ends sli line trace (omega (arith, many, past)) in
+    let none = nothing_told sli trace in
+    subst (λ (n : ℕ). (player.made.items ≡ (run_at n trace).made) × (entries ≡ (run_at n trace).entries)) (sym level_is) (
+      plays.stands.made ∙ ap (λ (r : Replayed sli). r.made) all,
+      sym (ap (λ (es : List Entry). es ++ entries) none) ∙ (sym plays.told ∙ ap (λ (r : Replayed sli). r.entries) all),
     )
 
 -- the lines of a run's tallies are those of the trace

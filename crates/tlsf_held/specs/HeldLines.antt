@@ -1,7 +1,7 @@
 -- The lines on what workers asked of their heaps.
 use Rattle.std.specs.Prelude.{ℕ, zero, suc, List, [], ◌++◌, ◌==◌, Option, Some, None, codes, if◌then◌else◌}
 use Rattle.std.specs.Fmt.{decimal}
-use Rattle.tlsf_laws.specs.Pools.{pool_region}
+use Rattle.tlsf_pool.specs.laws.Pools.{pool_region}
 
 -- so many words, or that no region has so many
 abbrev pub words_text : Option ℕ → List ℕ

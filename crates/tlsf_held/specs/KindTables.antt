@@ -2,8 +2,8 @@
 use Rattle.std.specs.Prelude.{◌≡◌, ◌↔◌, ℕ, ◌<◌, ◌≤◌, List, [], ◌∷◌, length, map}
 use Rattle.std.specs.List.{range_with_len}
 use Rattle.tlsf_heap.specs.Calls.{Call, Allocate, Release, Write, Resize, Read, Answer}
-use Rattle.tlsf_laws.specs.Kinds.{Ledger, ledger_after, lengths}
-use Rattle.tlsf_laws.specs.declared.kind.Kind.{Kind}
+use Rattle.tlsf_pool.specs.laws.Kinds.{Ledger, ledger_after, lengths}
+use Rattle.tlsf_pool.specs.declared.kind.Kind.{Kind}
 use Rattle.tlsf_held.specs.Rows.{row_count, row_in, row_of, used, IsWithin}
 use Rattle.tlsf_held.specs.declared.row.Row.{Row}
 

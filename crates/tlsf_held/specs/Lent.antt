@@ -1,8 +1,8 @@
 -- The loans of a worker as a ledger.
 use Rattle.std.specs.Prelude.{ℕ, List, [], ◌∷◌, fold, filter, not, if◌then◌else◌}
 use Rattle.tlsf_heap.specs.declared.name.Name.{Name}
-use Rattle.tlsf_laws.specs.Contents.{is_same}
-use Rattle.tlsf_laws.specs.Kinds.{Ledger}
+use Rattle.tlsf_pool.specs.laws.Contents.{is_same}
+use Rattle.tlsf_pool.specs.laws.Kinds.{Ledger}
 use Rattle.tlsf_held.specs.declared.loans.Loan.{Loan}
 
 -- one loan more stands first

@@ -3,8 +3,8 @@ use Rattle.std.specs.Prelude.{◌↔◌, ℕ, ◌+◌, ◌≤◌, List, [], ◌�
 use Rattle.tlsf_heap.specs.Blocks.{want}
 use Rattle.tlsf_heap.specs.Calls.{Call as HeapCall, Allocate as AllocateAt, Release as ReleaseAt, Write as WriteAt, Resize as ResizeAt, Read as ReadAt, Answer}
 use Rattle.tlsf_heap.specs.declared.name.Name.{Name}
-use Rattle.tlsf_laws.specs.Contents.{is_same}
-use Rattle.tlsf_laws.specs.Kinds.{Ledger, ledger_after, with_length}
+use Rattle.tlsf_pool.specs.laws.Contents.{is_same}
+use Rattle.tlsf_pool.specs.laws.Kinds.{Ledger, ledger_after, with_length}
 use Rattle.tlsf_calls.specs.declared.call.Call.{Call}
 use Rattle.tlsf_calls.specs.declared.call.Call.TheVariants.{Allocate, Release, Resize, Take}
 use Rattle.tlsf_calls.specs.declared.entry.Entry.{Entry}

@@ -3,9 +3,9 @@ use Rattle.std.specs.Prelude.{◌≡◌, ◌↔◌, ℕ, ◌<◌, ◌≤◌, IsT
 use Rattle.std.specs.List.{AllByRecursion}
 use Rattle.tlsf_heap.specs.Calls.{Call, Answer}
 use Rattle.tlsf_heap.specs.Lawful.{IsRegion}
-use Rattle.tlsf_laws.specs.Pools.{AreModest, HasRoomFor}
+use Rattle.tlsf_pool.specs.laws.Pools.{AreModest, HasRoomFor}
 use Rattle.tlsf_crew.specs.histories.History.{answers_on, calls_on}
-use Rattle.tlsf_laws.specs.Kinds.{kinds_words, HasClass, StaysFour, are_fours}
+use Rattle.tlsf_pool.specs.laws.Kinds.{kinds_words, HasClass, StaysFour, are_fours}
 use Rattle.tlsf_held.specs.HeldLines.{held_region, held_text}
 use Rattle.tlsf_held.specs.KindLines.{kinds_text}
 use Rattle.tlsf_held.specs.KindTables.{kinds_of, IsTable}

@@ -1,7 +1,7 @@
 -- What the entries of a worker tell of the rows of a table.
 use Rattle.std.specs.Prelude.{ℕ, zero, suc, ◌+◌, List, ◌∷◌, Option, fold, length, nat_le, replicate, if◌then◌else◌}
 use Rattle.tlsf_heap.specs.declared.name.Name.{Name}
-use Rattle.tlsf_laws.specs.Kinds.{Ledger, lengths}
+use Rattle.tlsf_pool.specs.laws.Kinds.{Ledger, lengths}
 use Rattle.tlsf_calls.specs.declared.call.Call.{Call}
 use Rattle.tlsf_calls.specs.declared.call.Call.TheVariants.{Allocate, Resize}
 use Rattle.tlsf_calls.specs.declared.entry.Entry.{Entry}

@@ -15,7 +15,7 @@ pub fn held_words_suffice()
 
 /// A worker whose heap has the words of the table of kinds that its calls keep to was never refused for want of room in that trace.
 ///
-/// The words are those of `tlsf_laws::kinds_suffice`, which `tlsf size` writes for the table's options. Where all rows are of blocks of
+/// The words are those of `tlsf_pool::kinds_suffice`, which `tlsf size` writes for the table's options. Where all rows are of blocks of
 /// up to 8 bytes, no block may be resized to more.
 ///
 /// ```text

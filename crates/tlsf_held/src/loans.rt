@@ -4,8 +4,8 @@ ghost use Rattle.tlsf_crew.specs.model.World as crew;
 ghost use Rattle.tlsf_held.specs.Lent as lent;
 ghost use Rattle.tlsf_held.specs.Loans as told;
 ghost use Rattle.tlsf_held.specs.Rows as rows;
-ghost use Rattle.tlsf_laws.specs.Contents as laws;
-ghost use Rattle.tlsf_laws.specs.Kinds.{lengths};
+ghost use Rattle.tlsf_pool.specs.laws.Contents as laws;
+ghost use Rattle.tlsf_pool.specs.laws.Kinds.{lengths};
 
 use crate::row::Row;
 use crate::rows::row_of;

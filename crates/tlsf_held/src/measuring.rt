@@ -1,8 +1,7 @@
 //! A trace whose run is measured.
-ghost use Rattle.std.specs.Prelude.{◌≡◌, [], IfOk, string_bytes};
+ghost use Rattle.std.specs.Prelude.{◌≡◌, ◌≤◌, vec_len, IfOk, string_bytes};
 ghost use Rattle.tlsf_class.specs.Classes.{IsLevel};
 ghost use Rattle.tlsf_held.specs.Measures.{IsKindMeasurement, IsMeasurement, Measures, TellsKinds};
-ghost use Rattle.tlsf_held.specs.Runs.{IsRunOf};
 ghost use Rattle.tlsf_lines.specs.Ranges.{IsHeaderInRange};
 ghost use Rattle.tlsf_lines.specs.ScriptSoFar.{IsScript};
 ghost use Rattle.tlsf_lines.specs.Trace.{Trace};
@@ -12,91 +11,70 @@ use crate::kind_lines::write_kinds_lines;
 use crate::lines::write_held_lines;
 use std::alloc::{AllocError, Global};
 use std::io::{Read, Write};
-use tlsf_crew::{Entry, open_yard, replay_behind};
-use tlsf_heap::Name;
-use tlsf_lines::{Script, Version, read_all, script_in};
-use tlsf_trace::{Summary, TraceFault, finish};
+use tlsf_lines::Script;
+use tlsf_trace::{Player, Plays, Puts, Summary, TraceFault, play};
 
-// Runs a script on a new yard of this level, that of its version. Gives the entries, and adds the names that its events made.
-fn run_at<const SLI: u32>(
-    alloc: Global,
-    script: Script,
-    made: &mut Vec<Option<Name>>,
-) -> Result<Vec<Entry>, AllocError>
-    requires level { IsLevel SLI }
-    requires header { IsHeaderInRange script.header }
-    requires new { made.old.items ≡ [] }
-    ensures { (trace : Trace) → level_in trace.header ≡ SLI → IsScript script trace → IfOk result (λ entries. IsRunOf trace made.new.items entries.items) }
-{
-    let header = script.header;
-    // A header in its ranges is not of a bad size, so what is refused here is memory.
-    let Ok(mut workers) = open_yard::<SLI>(alloc, header.workers, header.words, header.capacity)
-    else {
-        return Err(AllocError);
-    };
-    let events = script.events.all(alloc)?;
-    // What it keeps of them would stand beside the entries.
-    drop(script);
-    let Ok(entries) = replay_behind(alloc, &mut workers, made, &events) else {
-        return Err(AllocError);
-    };
-    Ok(entries)
+// The line behind which each trace has ended.
+const END: u32 = u32::MAX;
+
+// The lines on what the workers of a trace ask of their heaps.
+#[derive(Drop)]
+struct Measurement;
+
+impl Puts for Measurement {
+    ghost use Rattle.tlsf_held.specs.Measures.{Measures};
+
+    ghost puts = { λ measurement. Measures };
 }
 
-// The lines on what the workers of a script ask of their heaps, at this level, that of its version.
-fn lines_at<const SLI: u32>(alloc: Global, script: Script) -> Result<String, AllocError>
-    requires level { IsLevel SLI }
-    requires header { IsHeaderInRange script.header }
-    ensures { (trace : Trace) → level_in trace.header ≡ SLI → IsScript script trace → IfOk result (λ text. Measures trace (string_bytes text)) }
-{
-    let header = script.header;
-    let mut made = Vec::new(alloc);
-    let entries = run_at::<SLI>(alloc, script, &mut made)?;
-    let mut text = String::new(alloc);
-    write_held_lines::<SLI>(
-        alloc,
-        &mut text,
-        header.workers,
-        header.words,
-        &made,
-        &entries,
-    )?;
-    Ok(text)
-}
-
-// Those at the level of its version.
-fn lines_of(alloc: Global, script: Script) -> Result<String, AllocError>
-    requires { IsHeaderInRange script.header }
-    ensures { (trace : Trace) → IsScript script trace → IfOk result (λ text. Measures trace (string_bytes text)) }
-{
-    match script.header.version {
-        Version::One => lines_at::<4>(alloc, script),
-        Version::Two => lines_at::<5>(alloc, script),
+impl<const SLI: u32> Plays<SLI> for Measurement {
+    fn output(&self, alloc: Global, script: &Script) -> Result<String, AllocError>
+        requires level { IsLevel SLI }
+        requires header { IsHeaderInRange script.now.header }
+        requires lines { vec_len script.now.ends ≤ 32768 }
+        ensures { (trace : Trace) → level_in trace.header ≡ SLI → IsScript script.now trace
+            → IfOk result (λ text. Measures trace (string_bytes text)) }
+    {
+        let header = script.header;
+        let mut player = Player::<SLI>::open(alloc, script)?;
+        let entries = player.step_to(alloc, script, END)?;
+        let mut text = String::new(alloc);
+        write_held_lines::<SLI>(
+            alloc,
+            &mut text,
+            header.workers,
+            header.words,
+            &player.made,
+            &entries,
+        )?;
+        Ok(text)
     }
 }
 
-// The lines on the kinds of blocks that the workers of a script hold, at this level, that of its version.
-fn kinds_at<const SLI: u32>(alloc: Global, script: Script) -> Result<String, AllocError>
-    requires level { IsLevel SLI }
-    requires header { IsHeaderInRange script.header }
-    ensures { (trace : Trace) → level_in trace.header ≡ SLI → IsScript script trace → IfOk result (λ text. TellsKinds trace (string_bytes text)) }
-{
-    let workers = script.header.workers;
-    let mut made = Vec::new(alloc);
-    let entries = run_at::<SLI>(alloc, script, &mut made)?;
-    let mut text = String::new(alloc);
-    write_kinds_lines::<SLI>(alloc, &mut text, workers, &made, &entries)?;
-    Ok(text)
+// The lines on the kinds of blocks that the workers of a trace hold.
+#[derive(Drop)]
+struct KindMeasurement;
+
+impl Puts for KindMeasurement {
+    ghost use Rattle.tlsf_held.specs.Measures.{TellsKinds};
+
+    ghost puts = { λ measurement. TellsKinds };
 }
 
-// Those at the level of its version.
-fn kinds_of(alloc: Global, script: Script) -> Result<String, AllocError>
-    requires { IsHeaderInRange script.header }
-    ensures { (trace : Trace) → IsScript script trace → IfOk result (λ text. TellsKinds trace (string_bytes text)) }
-{
-    match script.header.version {
-        Version::One => kinds_at::<4>(alloc, script),
-        Version::Two => kinds_at::<5>(alloc, script),
+impl<const SLI: u32> Plays<SLI> for KindMeasurement {
+    fn output(&self, alloc: Global, script: &Script) -> Result<String, AllocError>
+        requires level { IsLevel SLI }
+        requires header { IsHeaderInRange script.now.header }
+        requires lines { vec_len script.now.ends ≤ 32768 }
+        ensures { (trace : Trace) → level_in trace.header ≡ SLI → IsScript script.now trace
+            → IfOk result (λ text. TellsKinds trace (string_bytes text)) }
+    {
+        let workers = script.header.workers;
+        let mut player = Player::<SLI>::open(alloc, script)?;
+        let entries = player.step_to(alloc, script, END)?;
+        let mut text = String::new(alloc);
+        write_kinds_lines::<SLI>(alloc, &mut text, workers, &player.made, &entries)?;
+        Ok(text)
     }
 }
 
@@ -126,12 +104,7 @@ pub fn measure_trace<R: Read, W: Write>(
     ensures { IsMeasurement result (R.remaining reader.old) (R.remaining reader.new)
         (W.contents writer.old) (W.contents writer.new) }
 {
-    let text = read_all(alloc, reader)?;
-    let script = script_in(alloc, &text)?;
-    drop(text);
-    let calls = script.calls;
-    let lines = lines_of(alloc, script)?;
-    finish(writer, calls, &lines)
+    play(alloc, &Measurement, reader, writer)
 }
 
 /// Reads a whole trace, runs it on a new yard of workers, and writes for each worker a table of the kinds of blocks that it holds, as
@@ -159,10 +132,5 @@ pub fn measure_kinds<R: Read, W: Write>(
     ensures { IsKindMeasurement result (R.remaining reader.old) (R.remaining reader.new)
         (W.contents writer.old) (W.contents writer.new) }
 {
-    let text = read_all(alloc, reader)?;
-    let script = script_in(alloc, &text)?;
-    drop(text);
-    let calls = script.calls;
-    let kinds = kinds_of(alloc, script)?;
-    finish(writer, calls, &kinds)
+    play(alloc, &KindMeasurement, reader, writer)
 }

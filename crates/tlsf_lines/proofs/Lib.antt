@@ -13,7 +13,7 @@ pub mod HexSteps  -- pairs of hexadecimal digits, all read before they are judge
 pub mod FirstPiece  -- a text begins with its first piece
 pub mod PiecesJoin  -- the pieces of a text, joined, are the text
 pub mod PieceCounts  -- how many pieces two joined texts have
-pub mod LongInputs  -- an input with a prefix of too many lines
+pub mod LongInputs  -- an input that passes a limit
 pub mod ReadSteps  -- one read more of an input
 pub mod PrefixSteps  -- a prefix that grows by what the writer took
 -- Faults.

@@ -1,11 +1,16 @@
 -- Scripts, one line after another.
-use Rattle.std.proofs.Common.{◌≡◌, ℕ, ◌+◌, ◌≤◌, cond, List, [], ◌∷◌, ◌++◌, length, count_by, sym, subst, ap, ◌∙◌, arith, append_assoc, append-nil, replicate, None}
+use Rattle.std.proofs.Common.{◌≡◌, ℕ, zero, suc, ◌+◌, ◌<◌, ◌≤◌, cond, List, [], ◌∷◌, ◌++◌, length, take, get_or, count_by, refl, sym, subst, ap, ◌∙◌, arith, append_assoc, append-nil, replicate, None}
+use Rattle.std.specs.List.{range_with_len}
+use Rattle.std.proofs.lemmas.List.{length-append, length-map, map-append}
+use Rattle.std.proofs.lemmas.List.FromFn.{length-range_with_len}
 use Rattle.std.proofs.lemmas.List.Sums.{count_by-le-length, sum_by-append}
 use Rattle.tlsf_lines.specs.declared.header.Header.{Header}
 use Rattle.tlsf_lines.specs.declared.line.Line.{Line}
 use Rattle.tlsf_lines.specs.declared.script.Script.{Script}
-use Rattle.tlsf_lines.specs.Events.{last_drains, events_in, events_from, labels_in, labels_from}
-use Rattle.tlsf_lines.specs.Lines.{is_call}
+use Rattle.tlsf_calls.specs.declared.event.Event.{Event}
+use Rattle.tlsf_lines.specs.Events.{last_drain, last_drains, ends_from, events_in, events_from, labels_in, labels_from, width_in, width_of}
+use Rattle.tlsf_lines.specs.declared.line.Line.TheVariants.{Allocate, Release, Write, Read, Resize, Drain, Phase}
+use Rattle.tlsf_lines.specs.Lines.{is_call, request_in}
 use Rattle.tlsf_lines.specs.ScriptSoFar.{Adds, Holds, IsScript}
 
 -- calls among some lines, and one more
@@ -14,15 +19,62 @@ calls_with lines line =
     let both : count_by is_call (lines ++ line ∷ []) ≡ count_by is_call lines + count_by is_call (line ∷ []) = sum_by-append (λ l. cond (is_call l) 1 0) lines (line ∷ []) in
     omega (arith, both)
 
+-- a line has as many events as it stands for
+width_is : (workers : ℕ) (before : List Line) (line : Line) → length (events_in workers before line) ≡ width_of workers line
+width_is workers before (Allocate worker label len) = refl
+width_is workers before (Release worker label) = refl
+width_is workers before (Write worker label at bytes) = refl
+width_is workers before (Read worker label at n) = refl
+width_is workers before (Resize worker label len) = refl
+width_is workers before (Drain worker most) = refl
+width_is workers before Phase = length-map (range_with_len 0 workers) last_drain ∙ length-range_with_len 0 workers
+
+width_with : (workers : ℕ) (lines : List Line) (line : Line) → width_in workers (lines ++ line ∷ []) ≡ width_in workers lines + width_of workers line
+width_with workers [] line = omega arith
+width_with workers (l ∷ lines) line = let rest = width_with workers lines line in omega (arith, rest)
+
+-- where one line more ends
+ends_with : (workers at : ℕ) (lines : List Line) (line : Line)
+    → ends_from workers at (lines ++ line ∷ []) ≡ ends_from workers at lines ++ (at + width_in workers lines + width_of workers line) ∷ []
+ends_with workers at [] line = let none : at + 0 + width_of workers line ≡ at + width_of workers line = omega arith in rw none refl
+ends_with workers at (l ∷ lines) line =
+    let end = at + width_of workers l in
+    let here : end + width_in workers lines + width_of workers line ≡ at + (width_of workers l + width_in workers lines) + width_of workers line = omega arith in
+    ap (λ (es : List ℕ). end ∷ es) (ends_with workers end lines line ∙ ap (λ (n : ℕ). ends_from workers end lines ++ n ∷ []) here)
+
+-- where a line ends
+end_at : (workers at : ℕ) (lines : List Line) (i d : ℕ) → i < length lines → get_or (ends_from workers at lines) i d ≡ at + width_in workers (take (i + 1) lines)
+end_at workers at [] i d lt = absurd (omega (arith, lt))
+end_at workers at (l ∷ lines) zero d lt = omega arith
+end_at workers at (l ∷ lines) (suc i) d lt =
+    let rest = end_at workers (at + width_of workers l) lines i d (omega (arith, lt)) in
+    let next : suc i + 1 ≡ suc (i + 1) = omega arith in
+    rw next (omega (arith, rest))
+
+pub end_of : (workers : ℕ) (lines : List Line) (i d : ℕ) → i < length lines → get_or (ends_from workers 0 lines) i d ≡ width_in workers (take (i + 1) lines)
+end_of workers lines i d lt = let here = end_at workers 0 lines i d lt in omega (arith, here)
+
+pub ends_count : (workers at : ℕ) (lines : List Line) → length (ends_from workers at lines) ≡ length lines
+ends_count workers at [] = refl
+ends_count workers at (l ∷ lines) = ap suc (ends_count workers (at + width_of workers l) lines)
+
 module _ (workers : ℕ) (before lines : List Line) (line : Line) (old new : Script) (held : Holds workers before lines old) (adds : Adds workers before line old new) where
-  -- what a script has behind one line more
-  pub holds_more : Holds workers (line ∷ before) (lines ++ line ∷ []) new
-  holds_more = record {
-    events = λ more. rw (adds.events, append_assoc old.events (events_in workers before line) (events_from workers (line ∷ before) more))
+  count_more : length new.events ≡ width_in workers lines + width_of workers line
+  count_more = rw (adds.events, length-append old.events (events_in workers before line), held.count, width_is workers before line) refl
+
+  -- what a script has behind one line more, where its end is noted
+  pub holds_more : (noted : Script) → noted.events ≡ new.events → noted.labels.items ≡ new.labels.items → noted.calls ≡ new.calls
+      → noted.ends.items ≡ new.ends.items ++ length new.events ∷ [] → noted.requests.items ≡ new.requests.items ++ request_in line ∷ []
+      → Holds workers (line ∷ before) (lines ++ line ∷ []) noted
+  holds_more noted events labels calls ends requests = record {
+    events = λ more. rw (events, adds.events, append_assoc old.events (events_in workers before line) (events_from workers (line ∷ before) more))
         (held.events (line ∷ more) ∙ ap (λ ls. events_from workers [] ls) (sym (append_assoc lines (line ∷ []) more)));
-    labels = λ more. rw (adds.labels, append_assoc old.labels.items (labels_in workers line) (labels_from workers more))
+    labels = λ more. rw (labels, adds.labels, append_assoc old.labels.items (labels_in workers line) (labels_from workers more))
         (held.labels (line ∷ more) ∙ ap (λ ls. labels_from workers ls) (sym (append_assoc lines (line ∷ []) more)));
-    calls = adds.calls ∙ (ap (λ n. n + cond (is_call line) 1 0) held.calls ∙ sym (calls_with lines line));
+    calls = calls ∙ (adds.calls ∙ (ap (λ n. n + cond (is_call line) 1 0) held.calls ∙ sym (calls_with lines line)));
+    count = ap (λ (es : List Event). length es) events ∙ (count_more ∙ sym (width_with workers lines line));
+    ends = rw (ends, adds.ends, held.ends, count_more) (sym (ends_with workers 0 lines line ∙ ap (λ (n : ℕ). ends_from workers 0 lines ++ n ∷ []) (omega arith)));
+    requests = rw (requests, adds.requests, held.requests) (sym (map-append request_in lines (line ∷ [])));
   }
 
 -- there are no more calls than lines
@@ -30,21 +82,26 @@ pub calls_few : (workers : ℕ) (before lines : List Line) (script : Script) →
 calls_few workers before lines script held = omega (arith, held.calls, count_by-le-length is_call lines)
 
 -- a script made of a header and some lines, and one line more
-pub add_holds : (header : Header) (before lines : List Line) (line : Line) (old new : Script) → (old.header ≡ header) × Holds header.workers before lines old → Adds old.header.workers before line old new
-    → (new.header ≡ header) × Holds header.workers (line ∷ before) (lines ++ line ∷ []) new
-add_holds header before lines line old new has adds =
-    let same : old.header.workers ≡ header.workers = ap (λ (h : Header). h.workers) has.0 in
-    (adds.header ∙ has.0, holds_more header.workers before lines line old new has.1 (subst (λ workers. Adds workers before line old new) same adds))
+pub add_holds : (header : Header) (before lines : List Line) (line : Line) (old new noted : Script) → (old.header ≡ header) × Holds header.workers before lines old → Adds old.header.workers before line old new
+    → noted.header ≡ new.header → noted.events ≡ new.events → noted.labels.items ≡ new.labels.items → noted.calls ≡ new.calls → noted.ends.items ≡ new.ends.items ++ length new.events ∷ []
+    → noted.requests.items ≡ new.requests.items ++ request_in line ∷ [] → (noted.header ≡ header) × Holds header.workers (line ∷ before) (lines ++ line ∷ []) noted
+add_holds header before lines line old new noted has adds same_header events labels calls ends requests =
+    let same : old.header.workers ≡ header.workers = ap (λ (h : Header). h.workers) has.0 in (
+      same_header ∙ (adds.header ∙ has.0),
+      holds_more header.workers before lines line old new has.1 (subst (λ workers. Adds workers before line old new) same adds) noted events labels calls ends requests,
+    )
 
 -- the script of a trace: what its lines stand for, and the drains at the end
 pub script_ends : (header : Header) (before lines : List Line) (old new : Script) → (old.header ≡ header) × Holds header.workers before lines old → new.header ≡ old.header
-    → new.events ≡ old.events ++ last_drains old.header.workers → new.labels.items ≡ old.labels.items ++ replicate old.header.workers None → new.calls ≡ old.calls
+    → new.events ≡ old.events ++ last_drains old.header.workers → new.labels.items ≡ old.labels.items ++ replicate old.header.workers None → new.calls ≡ old.calls → new.ends.items ≡ old.ends.items → new.requests.items ≡ old.requests.items
     → IsScript new (record { header = header; lines = lines })
-script_ends header before lines old new has same events labels calls =
+script_ends header before lines old new has same events labels calls ends requests =
     let workers : old.header.workers ≡ header.workers = ap (λ (h : Header). h.workers) has.0 in
     record {
       header = same ∙ has.0;
       events = events ∙ rw workers (has.1.events [] ∙ ap (λ ls. events_from header.workers [] ls) (append-nil lines));
       labels = labels ∙ rw workers (has.1.labels [] ∙ ap (λ ls. labels_from header.workers ls) (append-nil lines));
       calls = calls ∙ has.1.calls;
+      ends = ends ∙ has.1.ends;
+      requests = requests ∙ has.1.requests;
     }

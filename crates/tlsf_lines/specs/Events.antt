@@ -1,5 +1,5 @@
 -- The events that a trace stands for, and the label of each.
-use Rattle.std.specs.Prelude.{ℕ, ◌+◌, List, [], ◌∷◌, ◌++◌, map, replicate, Option, Some, None}
+use Rattle.std.specs.Prelude.{ℕ, ◌+◌, ◌-◌, List, [], ◌∷◌, ◌++◌, length, map, nat_lt, replicate, take, Option, Some, None, if◌then◌else◌}
 use Rattle.std.specs.List.{range_with_len}
 use Rattle.tlsf_calls.specs.declared.event.Event.{Event}
 use Rattle.tlsf_calls.specs.declared.call.Call.{Call}
@@ -37,6 +37,15 @@ width_of workers Phase = workers
 abbrev pub width_in : ℕ → List Line → ℕ
 width_in workers [] = 0
 width_in workers (line ∷ lines) = width_of workers line + width_in workers lines
+
+-- how many events there are up to each of some lines, where so many come before
+abbrev pub ends_from : ℕ → ℕ → List Line → List ℕ
+ends_from workers before [] = []
+ends_from workers before (line ∷ lines) = let end = before + width_of workers line in end ∷ ends_from workers end lines
+
+-- up to each line of a trace
+abbrev pub ends_of : Trace → List ℕ
+ends_of trace = ends_from trace.header.workers 0 trace.lines
 
 -- the number of the event that makes a label, by the lines before, the newest first: so many events come before it
 abbrev pub maker_of : ℕ → ℕ → List Line → Option ℕ
@@ -102,3 +111,10 @@ labels_from workers (line ∷ lines) = labels_in workers line ++ labels_from wor
 
 abbrev pub labels_of : Trace → List (Option ℕ)
 labels_of trace = labels_from trace.header.workers trace.lines
+
+-- ---- up to a line
+
+-- how many events there are up to a line of the text, whose header is line 1; behind the last line these are all, with the drains at the end
+abbrev pub events_by : ℕ → Trace → ℕ
+events_by line trace =
+    if nat_lt (length trace.lines + 1) line then length (events_of trace) else width_in trace.header.workers (take (line - 1) trace.lines)

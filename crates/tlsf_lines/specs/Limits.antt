@@ -1,6 +1,8 @@
 -- How long an input may be.
 use Rattle.std.specs.Prelude.{ℕ, List, ◌⊎◌, ◌<◌, ◌≤◌, ◌^◌, length}
 use Rattle.tlsf_lines.specs.Pieces.{pieces_of}
+use Rattle.tlsf_lines.specs.declared.limit.Limit.{Limit}
+use Rattle.tlsf_lines.specs.declared.limit.Limit.TheVariants.{Bytes, Lines, Reads}
 
 -- an input of no more bytes and lines than the program takes
 pub record IsWithinLimits (text : List ℕ) : Type 0 where
@@ -11,3 +13,9 @@ pub record IsWithinLimits (text : List ℕ) : Type 0 where
 -- in 65,536 reads
 abbrev pub IsTooLong : List ℕ → Type 0
 IsTooLong text = (32768 < length (pieces_of text)) ⊎ (2 ^ 16 ≤ length text)
+
+-- an input passes a limit: it has more bytes or lines than that, or bytes for as many reads
+abbrev pub Passes : Limit → List ℕ → Type 0
+Passes Bytes text = 2 ^ 20 < length text
+Passes Lines text = 32768 < length (pieces_of text)
+Passes Reads text = 65536 ≤ length text

@@ -4,6 +4,7 @@ use Rattle.std.specs.Str.{bytes_eq}
 use Rattle.tlsf_lines.specs.Values.{Kind, Worker, Label, Length, Offset, Hex, Count, Most}
 use Rattle.tlsf_lines.specs.declared.line.Line.{Line}
 use Rattle.tlsf_lines.specs.declared.line.Line.TheVariants.{Allocate, Release, Write, Read, Resize, Drain, Phase}
+use Rattle.tlsf_lines.specs.declared.request.Request.{Request}
 use Rattle.tlsf_lines.specs.declared.word.Word.{Word}
 use Rattle.tlsf_lines.specs.declared.word.Word.TheVariants as word
 use Rattle.tlsf_lines.specs.Values.{Value, Number, Bytes}
@@ -44,3 +45,8 @@ line_from _ _ = None
 abbrev pub is_call : Line → Bool
 is_call Phase = false
 is_call _ = true
+
+-- the block that a line asks for
+abbrev pub request_in : Line → Option Request
+request_in (Allocate worker label len) = Some (record { worker = worker; len = len })
+request_in _ = None

@@ -1,8 +1,10 @@
 -- How the reads of an input go, and which input is refused for its length.
-use Rattle.std.specs.Prelude.{◌≡◌, ◌⊎◌, ℕ, zero, suc, ◌-◌, ◌<◌, ◌^◌, List, length, Result, Ok, Err}
+use Rattle.std.specs.Prelude.{◌≡◌, ℕ, zero, suc, ◌-◌, ◌<◌, ◌^◌, List, length, Result, Ok, Err}
 use Rattle.tlsf_lines.specs.Pieces.{pieces_of}
 use Rattle.tlsf_lines.specs.declared.last_read.LastRead.{LastRead}
 use Rattle.tlsf_lines.specs.declared.last_read.LastRead.TheVariants.{Open, Ended, Failed}
+use Rattle.tlsf_lines.specs.declared.limit.Limit.{Limit}
+use Rattle.tlsf_lines.specs.declared.limit.Limit.TheVariants.{Bytes, Lines, Reads}
 use Rattle.tlsf_lines.specs.declared.read_error.ReadError.{ReadError}
 use Rattle.tlsf_lines.specs.declared.read_error.ReadError.TheVariants.{NoMemory, TooLong, Read}
 
@@ -30,9 +32,11 @@ pub record IsRead (shown : LastRead) (old new : ReadsSoFar) : Type 0 where
 abbrev pub IsNextRead : Result ℕ ReadError → ReadsSoFar → ReadsSoFar → Type 0
 IsNextRead (Ok n) old new = IsRead (shown_by n) old new
 IsNextRead (Err Read) old new = IsRead Failed old new
-IsNextRead (Err TooLong) old new = (old.left ≡ 0) × (new ≡ old)
+IsNextRead (Err (TooLong limit)) old new = (limit ≡ Reads) × (old.left ≡ 0) × (new ≡ old)
 IsNextRead (Err NoMemory) old new = ⊥
 
--- what reads gave is too long: it has too many bytes or lines, or its end did not show in all reads that there are
-abbrev pub IsOverLimits : ReadsSoFar → List ℕ → Type 0
-IsOverLimits reads given = ((reads.left ≡ 0) × (reads.last ≡ Open)) ⊎ ((2 ^ 20 < length given) ⊎ (32768 < length (pieces_of given)))
+-- what reads gave is over a limit: it has too many bytes or lines, or its end did not show in all reads that there are
+abbrev pub IsOver : Limit → ReadsSoFar → List ℕ → Type 0
+IsOver Bytes reads given = 2 ^ 20 < length given
+IsOver Lines reads given = 32768 < length (pieces_of given)
+IsOver Reads reads given = (reads.left ≡ 0) × (reads.last ≡ Open)

@@ -32,7 +32,7 @@ write_fault = fault_numbered 17
 -- the fault of a run whose trace was not read
 abbrev pub fault_of_read : ReadError → TraceFault
 fault_of_read NoMemory = no_memory_fault
-fault_of_read TooLong = too_long_fault
+fault_of_read (TooLong limit) = too_long_fault
 fault_of_read Read = read_fault
 
 -- the fault of a run whose trace is none

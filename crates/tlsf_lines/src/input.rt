@@ -1,10 +1,13 @@
 ghost use Rattle.std.specs.Prelude.{◌≡◌, ℕ, ◌+◌, ◌==◌, ◌<◌, ◌≤◌, List, length, IfErr, IfOk, IsErrOf, OnOk, IfSome, count_by};
 ghost use Rattle.std.specs.Io.KnownBytes.{Consumes, IsAtEnd};
-ghost use Rattle.tlsf_lines.specs.Limits.{IsWithinLimits, IsTooLong};
+ghost use Rattle.tlsf_lines.specs.Limits.{IsTooLong, IsWithinLimits, Passes};
 ghost use Rattle.tlsf_lines.specs.OpenLines.{open_count};
-ghost use Rattle.tlsf_lines.specs.ReadCounts.{IsOverLimits};
+ghost use Rattle.tlsf_lines.specs.ReadCounts.{IsOver};
+ghost use Rattle.tlsf_lines.specs.TraceFaults.{fault_of_read, too_long_fault};
 ghost use Rattle.tlsf_lines.specs.declared.last_read.LastRead.TheVariants.{Ended, Failed};
+ghost use Rattle.tlsf_lines.specs.declared.limit.Limit as limits;
 
+use crate::limit::Limit;
 use crate::read_count::ReadCount;
 use crate::read_error::ReadError;
 use std::alloc::Global;
@@ -72,8 +75,8 @@ fn count_open_lines(bytes: &[u8]) -> usize
 ///
 /// # Errors
 ///
-/// [`ReadError::TooLong`] exactly where what was read has more than 2^20 bytes or 32,768 lines, or where 65,536 reads all gave
-/// bytes; [`ReadError::Read`] only where a read answered an error; and [`ReadError::NoMemory`].
+/// [`ReadError::TooLong`] with the limit, exactly where what was read has more than 2^20 bytes or 32,768 lines, or where 65,536
+/// reads all gave bytes; [`ReadError::Read`] only where a read answered an error; and [`ReadError::NoMemory`].
 pub fn read_counted<R: Read>(
     alloc: Global,
     reader: &mut R,
@@ -90,10 +93,10 @@ pub fn read_counted<R: Read>(
     ensures ended { OnOk result (count.new.last ≡ Ended) }
     ensures failed { IsErrOf result ReadError.Read → count.new.last ≡ Failed }
 
-    // It is refused for its length only where what was given up to then is too long. All reads up to then gave a byte.
-    ensures too_long { IsErrOf result ReadError.TooLong → (given : List ℕ)
+    // It is refused by a limit only where what was given up to then is over that. All reads up to then gave a byte.
+    ensures too_long { (limit : limits.Limit) → IsErrOf result (ReadError.TooLong limit) → (given : List ℕ)
         × Consumes (R.remaining reader.old) (R.remaining reader.new) given
-        × (65536 ≤ count.new.left + length given) × IsOverLimits count.new given }
+        × (65536 ≤ count.new.left + length given) × IsOver limit count.new given }
 {
     *count = ReadCount::new();
     let mut text: Vec<u8> = Vec::new(alloc);
@@ -106,11 +109,11 @@ pub fn read_counted<R: Read>(
         }
         let piece = &buffer[..taken];
         if MOST_BYTES - text.len() < piece.len() {
-            return Err(ReadError::TooLong);
+            return Err(ReadError::TooLong(Limit::Bytes));
         }
         line_feeds += count_line_feeds(piece);
         if line_feeds + count_open_lines(piece) > MOST_LINES {
-            return Err(ReadError::TooLong);
+            return Err(ReadError::TooLong(Limit::Lines));
         }
         if text.extend_from_slice(piece).is_err() {
             return Err(ReadError::NoMemory);
@@ -130,7 +133,7 @@ pub fn read_counted<R: Read>(
 ///
 /// # Errors
 ///
-/// [`ReadError`]: memory, a text that is too long, or a read that answered an error.
+/// [`ReadError`]: memory, a limit that the text passes, or a read that answered an error.
 pub fn read_all<R: Read>(alloc: Global, reader: &mut R) -> Result<Vec<u8>, ReadError>
     ensures whole { IfOk result (λ text. IfSome (R.remaining reader.old)
         (λ left. text.items ≡ left)) }
@@ -140,8 +143,12 @@ pub fn read_all<R: Read>(alloc: Global, reader: &mut R) -> Result<Vec<u8>, ReadE
     ensures limits { IfOk result (λ text. IsWithinLimits text.items) }
 
     // An input is refused for its length only where it has that many bytes or lines.
-    ensures too_long { IfErr result (λ error. error ≡ ReadError.TooLong
+    ensures too_long { IfErr result (λ error. fault_of_read error ≡ too_long_fault
         → IfSome (R.remaining reader.old) IsTooLong) }
+
+    // The limit that is answered is one that it passes.
+    ensures passed { (limit : limits.Limit) → IsErrOf result (ReadError.TooLong limit)
+        → IfSome (R.remaining reader.old) (Passes limit) }
 {
     read_counted(alloc, reader, &mut ReadCount::new())
 }

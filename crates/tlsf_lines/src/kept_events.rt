@@ -65,15 +65,6 @@ impl KeptEvents {
         Ok(())
     }
 
-    /// All of them, as a list.
-    pub fn all(&self, alloc: Global) -> Result<Vec<Event>, AllocError>
-        ensures { IfOk result (λ events. events.items ≡ self.now) }
-    {
-        let mut events = Vec::with_capacity(alloc, self.len())?;
-        self.add_part(0, self.len(), &mut events)?;
-        Ok(events)
-    }
-
     /// Adds an event.
     #[inline(always)]
     pub(crate) fn push(&mut self, worker: u32, call: Call) -> Result<(), AllocError>

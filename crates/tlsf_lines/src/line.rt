@@ -9,6 +9,7 @@ use crate::fields::{cut_feed, cut_field};
 use crate::labels::Labels;
 use crate::line_fault::LineFault;
 use crate::reading::parse_fields;
+use crate::request::Request;
 use crate::word::word_of;
 use tlsf_calls::{Chunk, Target};
 
@@ -94,6 +95,21 @@ impl Line {
             | Line::Read { .. }
             | Line::Resize { .. }
             | Line::Drain { .. } => 1,
+        }
+    }
+
+    /// The block that the line asks for: an allocate asks for one, and no other line does.
+    pub(crate) fn request(&self) -> Option<Request>
+        ensures { result ≡ Lines.request_in self.now }
+    {
+        match *self {
+            Line::Allocate { worker, len, .. } => Some(Request { worker, len }),
+            Line::Release { .. }
+            | Line::Write { .. }
+            | Line::Read { .. }
+            | Line::Resize { .. }
+            | Line::Drain { .. }
+            | Line::Phase => None,
         }
     }
 

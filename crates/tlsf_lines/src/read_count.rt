@@ -4,6 +4,7 @@ ghost use Rattle.std.specs.Io.KnownBytes.{ReadConsumes};
 ghost use Rattle.tlsf_lines.specs.ReadCounts.{no_reads, IsNextRead};
 
 use crate::last_read::LastRead;
+use crate::limit::Limit;
 use crate::read_error::ReadError;
 use std::io::Read;
 use std::marker::Model;
@@ -77,8 +78,8 @@ impl ReadCount {
     ///
     /// # Errors
     ///
-    /// [`ReadError::TooLong`] exactly where no read is left, and then nothing is read; [`ReadError::Read`] where the
-    /// read answered an error.
+    /// [`ReadError::TooLong`] by [`Limit::Reads`], exactly where no read is left, and then nothing is read;
+    /// [`ReadError::Read`] where the read answered an error.
     pub fn read<R: Read>(
         &mut self,
         reader: &mut R,
@@ -89,7 +90,7 @@ impl ReadCount {
         ensures bytes { ReadConsumes (R.remaining reader.old) (R.remaining reader.new) result buffer.new }
     {
         if self.left == 0 {
-            return Err(ReadError::TooLong);
+            return Err(ReadError::TooLong(Limit::Reads));
         }
         self.left -= 1;
         match reader.read(buffer) {

@@ -1,13 +1,16 @@
 ghost use Rattle.std.specs.Prelude.{◌≡◌, ◌+◌, ◌^◌, ◌<◌, List, [], ◌∷◌, ◌++◌, replicate, None, OnOk};
 ghost use Rattle.tlsf_lines.specs.Events.{last_drains, target_used};
 ghost use Rattle.tlsf_lines.specs.KeptEvents.{CanBeKept, IsMade};
-ghost use Rattle.tlsf_lines.specs.ScriptSoFar.{Adds};
+ghost use Rattle.tlsf_lines.specs.Events.{events_by};
+ghost use Rattle.tlsf_lines.specs.ScriptSoFar.{Adds, IsSameBut, IsScript};
+ghost use Rattle.tlsf_lines.specs.Trace.{Trace as ATrace};
 ghost use Rattle.tlsf_lines.specs.declared.line.Line.{Line as ALine};
 
 use crate::header::Header;
 use crate::kept_events::KeptEvents;
 use crate::line::Line;
 use crate::parsing::FromLines;
+use crate::request::Request;
 use std::alloc::{AllocError, Global};
 use tlsf_calls::{Call, MOST_DRAINED, Target};
 
@@ -17,7 +20,7 @@ use tlsf_calls::{Call, MOST_DRAINED, Target};
 ///
 /// ```
 /// let script = script_in(alloc, b"tlsf 1 1 64 4\na 0 7 8\n")?;
-/// // script.events.all(alloc)?: worker 0 allocates 8 bytes, and drains; script.labels: Some(7), None; script.calls: 1
+/// // script.events: worker 0 allocates 8 bytes, and drains; script.labels: Some(7), None; script.calls: 1; script.ends: 1
 /// ```
 #[derive(Drop)]
 pub struct Script {
@@ -29,9 +32,33 @@ pub struct Script {
     pub labels: Vec<Option<u32>>,
     /// How many lines are calls of a worker, 0 to 32,767.
     pub calls: u32,
+    /// How many events there are up to each line behind the header, those of the line included.
+    pub ends: Vec<usize>,
+    /// The block that each line behind the header asks for, None where it asks for none.
+    pub requests: Vec<Option<Request>>,
 }
 
 impl Script {
+    /// How many events there are up to a line of the text, whose header is line 1; behind the last line these are all, with the
+    /// drains at the end.
+    ///
+    /// ```
+    /// let script = script_in(alloc, b"tlsf 1 1 64 4\na 0 7 8\n")?;
+    /// // script.events_by(1) is 0, script.events_by(2) is 1, and script.events_by(3) is 2
+    /// ```
+    pub fn events_by(&self, line: u32) -> usize
+        ensures { (trace : ATrace) → IsScript self.now trace → result ≡ events_by line trace }
+    {
+        let before = (line as usize).saturating_sub(1);
+        if before > self.ends.len() {
+            self.events.len()
+        } else if before == 0 {
+            0
+        } else {
+            self.ends[before - 1]
+        }
+    }
+
     // Adds the events of a line. The target is what the label stands for that it uses.
     fn add_events(&mut self, line: &Line, target: Target) -> Result<(), AllocError>
         requires calls { self.old.calls + 1 < 2 ^ 32 }
@@ -73,7 +100,7 @@ impl Script {
     fn drain_all(&mut self) -> Result<(), AllocError>
         ensures events { OnOk result (self.new.events ≡ self.old.events ++ last_drains self.old.header.workers) }
         ensures labels { OnOk result (self.new.labels.items ≡ self.old.labels.items ++ replicate self.old.header.workers None) }
-        ensures same { (self.new.header ≡ self.old.header) × (self.new.calls ≡ self.old.calls) }
+        ensures same { IsSameBut self.old self.new }
     {
         for worker in 0..self.header.workers {
             self.push(worker, Call::Drain { most: MOST_DRAINED }, None)?;
@@ -87,7 +114,7 @@ impl Script {
         requires { CanBeKept call }
         ensures events { OnOk result (self.new.events ≡ self.old.events ++ record { worker = worker; call = call } ∷ []) }
         ensures labels { OnOk result (self.new.labels.items ≡ self.old.labels.items ++ label ∷ []) }
-        ensures same { (self.new.header ≡ self.old.header) × (self.new.calls ≡ self.old.calls) }
+        ensures same { IsSameBut self.old self.new }
     {
         self.events.push(worker, call)?;
         self.labels.push(label)?;
@@ -109,11 +136,15 @@ impl FromLines for Script {
             events: KeptEvents::with_capacity(alloc, room)?,
             labels: Vec::with_capacity(alloc, room)?,
             calls: 0,
+            ends: Vec::with_capacity(alloc, room)?,
+            requests: Vec::with_capacity(alloc, room)?,
         })
     }
 
     fn add(&mut self, line: &Line, target: Target) -> Result<(), AllocError> {
         self.add_events(line, target)?;
+        self.ends.push(self.events.len())?;
+        self.requests.push(line.request())?;
         Ok(())
     }
 

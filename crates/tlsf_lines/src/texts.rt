@@ -52,6 +52,7 @@ pub fn script_in(alloc: Global, text: &[u8]) -> Result<Script, TraceFault>
     requires { IsWithinLimits text.now }
     ensures ok { IfOk result (λ script. IsScriptOfText text.now script) }
     ensures header { IfOk result (λ script. IsHeaderInRange script.header) }
+    ensures lines { IfOk result (λ script. vec_len script.ends ≤ 32768) }
     ensures err { IfErr result (λ fault. (fault ≡ no_memory_fault) ⊎ (IsLineFault fault × (fault_of text.now ≡ Some fault))) }
 {
     Ok(parse::<Script>(alloc, text)?)

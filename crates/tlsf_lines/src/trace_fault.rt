@@ -52,7 +52,7 @@ impl From<ReadError> for TraceFault {
     fn from(error: ReadError) -> TraceFault {
         match error {
             ReadError::NoMemory => TraceFault::NO_MEMORY,
-            ReadError::TooLong => TraceFault::TOO_LONG,
+            ReadError::TooLong(_) => TraceFault::TOO_LONG,
             ReadError::Read => TraceFault::READ,
         }
     }

@@ -2,12 +2,16 @@
 --   Labels: the labels of blocks, one event after another
 --   Walking: a walk over the blocks of a heap by their places
 --   Maps: maps of heaps, one heap after another
---   Moments: the moments of a trace
 --   Yards: a yard in which one heap was looked at
---   Onward: a trace that is run from one of its moments to the next
+--   Onward: a page, one moment after another
+--   Lines: the points of a heap, one line after another
+--   Charts: charts of heaps, one heap after another
+--   Standings: where a heap stands worst, one point and one heap after another
 pub mod Labels
 pub mod Walking
 pub mod Maps
-pub mod Moments
 pub mod Yards
 pub mod Onward
+pub mod Lines
+pub mod Charts
+pub mod Standings

@@ -8,11 +8,14 @@ use Rattle.tlsf_heap.specs.declared.name.Name.{Name}
 use Rattle.tlsf_map.specs.declared.mapped_heap.MappedHeap.{MappedHeap}
 use Rattle.tlsf_picture.specs.Drawn.{AreMaps, IsMap, IsMapBy}
 use Rattle.tlsf_picture.specs.Labelled.{label_of}
-use Rattle.tlsf_trace.specs.Ended.{IsEnd}
 use Rattle.tlsf_lines.specs.Events.{labels_of}
-use Rattle.tlsf_trace.specs.Output.{level_in, run_at, run_of}
+use Rattle.tlsf_lines.specs.ScriptSoFar.{IsScript}
+use Rattle.tlsf_lines.specs.declared.script.Script.{Script}
+use Rattle.tlsf_trace.specs.Moments.{moment_at, moment_of}
+use Rattle.tlsf_trace.specs.Output.{level_in}
+use Rattle.tlsf_trace.specs.Players.{Stands}
 use Rattle.tlsf_lines.specs.Trace.{Trace}
-use Rattle.tlsf_trace.specs.declared.ended.EndedTrace.{EndedTrace}
+use Rattle.tlsf_trace.specs.declared.player.Player.{Player}
 use Rattle.tlsf_trace.proofs.WholeOutput.{heaps_in}
 
 -- one of each more
@@ -39,13 +42,13 @@ map_more sli made labels heaps i d heap maps known mapped lt here id knows is so
     subst (λ (l : List HeapState). AreMaps sli made labels l (maps ++ mapped ∷ [])) (sym (take_more heaps i d lt))
     (push_both (IsMap sli made labels) (take i heaps) maps (get_or heaps i d) mapped so_far (subst (λ (h : HeapState). IsMap sli made labels h mapped) (sym here) own))
 
--- maps of the heaps of a trace's end are maps of the heaps of its world
-pub maps_of_end : {sli : ℕ} (trace : Trace) (ended : EndedTrace sli) (maps : List MappedHeap) → level_in trace.header ≡ sli → IsEnd trace ended
-    → AreMaps sli ended.made.items ended.labels.items (map heap_of ended.workers.items) maps
-    → AreMaps (level_in trace.header) (run_of trace).made (labels_of trace) (run_of trace).world.heaps maps
-maps_of_end {sli} trace ended maps level is mapped =
-    let heaps = map heap_of ended.workers.items in
-    subst (λ (n : ℕ). AreMaps n (run_at n trace).made (labels_of trace) (run_at n trace).world.heaps maps) (sym level)
-    (subst (λ (hs : List HeapState). AreMaps sli (run_at sli trace).made (labels_of trace) hs maps) (heaps_in ended.workers.items _ is.world)
-    (subst (λ (ls : List (Option ℕ)). AreMaps sli (run_at sli trace).made ls heaps maps) is.labels
-    (subst (λ (names : List (Option Name)). AreMaps sli names ended.labels.items heaps maps) is.made mapped)))
+-- maps of the heaps of a yard that stands behind a line are maps of the heaps of its moment
+pub maps_behind : {sli : ℕ} (line : ℕ) (trace : Trace) (script : Script) (player : Player sli) (maps : List MappedHeap) → level_in trace.header ≡ sli → IsScript script trace → Stands line trace player
+    → AreMaps sli player.made.items script.labels.items (map heap_of player.workers.items) maps
+    → AreMaps (level_in trace.header) (moment_of line trace).made (labels_of trace) (moment_of line trace).world.heaps maps
+maps_behind {sli} line trace script player maps level is stands mapped =
+    let heaps = map heap_of player.workers.items in
+    subst (λ (n : ℕ). AreMaps n (moment_at n line trace).made (labels_of trace) (moment_at n line trace).world.heaps maps) (sym level)
+    (subst (λ (hs : List HeapState). AreMaps sli (moment_at sli line trace).made (labels_of trace) hs maps) (heaps_in player.workers.items _ stands.world)
+    (subst (λ (ls : List (Option ℕ)). AreMaps sli (moment_at sli line trace).made ls heaps maps) is.labels
+    (subst (λ (names : List (Option Name)). AreMaps sli names script.labels.items heaps maps) stands.made mapped)))

@@ -8,11 +8,11 @@ use Rattle.tlsf_heap.specs.GoodFit.{block_at}
 use Rattle.tlsf_heap.specs.Lawful.{HasRoom}
 use Rattle.tlsf_heap.specs.Placed.{placed, placed_from, placed_blocks, placed_at}
 use Rattle.tlsf_heap.specs.declared.placed_block.PlacedBlock.{PlacedBlock}
-use Rattle.tlsf_heap.proofs.Edits.{words_in-take}
-use Rattle.tlsf_heap.proofs.Lawfulness.{all_right}
-use Rattle.tlsf_heap.proofs.Placing.{placed_found, placed_none}
-use Rattle.tlsf_heap.proofs.Showing.{least, parted}
-use Rattle.tlsf_heap.proofs.Standing.{words_up_to}
+use Rattle.tlsf_heap.proofs.lemmas.blocks.Replace.{words_in-take}
+use Rattle.tlsf_heap.proofs.lemmas.blocks.Lawful.{all_right}
+use Rattle.tlsf_heap.proofs.lemmas.blocks.ByPlace.{placed_found, placed_none}
+use Rattle.tlsf_heap.proofs.lemmas.words.Image.{least, parted}
+use Rattle.tlsf_heap.proofs.lemmas.blocks.Stands.{words_up_to}
 use Rattle.tlsf_map.specs.declared.mapped_heap.LabelledBlock.{LabelledBlock}
 
 -- so many blocks are behind the place, and those that are met and those that are left are all

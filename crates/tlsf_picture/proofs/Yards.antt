@@ -4,7 +4,7 @@ use Rattle.std.specs.List.{slice_get}
 use Rattle.tlsf_crew.specs.declared.worker.lanes.Lanes.{Lanes}
 use Rattle.tlsf_crew.specs.declared.worker.worker.Worker.{Worker}
 use Rattle.tlsf_crew.specs.lanes.LaneWorkers.{id_and_capacity}
-use Rattle.tlsf_crew.specs.lanes.Yard.{IsYard, lane_waits, post_at, take_at, world_of}
+use Rattle.tlsf_crew.specs.lanes.Yard.{IsYard, world_of}
 use Rattle.tlsf_crew.specs.worker.Workers.{SameButHeap, heap_of}
 use Rattle.tlsf_crew.proofs.lemmas.lanes.LaneChanges.{heap_lanes, heap_yard}
 use Rattle.tlsf_crew.proofs.lemmas.lanes.LaneSlots.{map_same, same_parts}

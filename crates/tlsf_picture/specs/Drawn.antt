@@ -1,5 +1,5 @@
 -- The picture of the heaps that a trace leaves.
-use Rattle.std.specs.Prelude.{◌≡◌, ℕ, List, Option, Result, map}
+use Rattle.std.specs.Prelude.{◌≡◌, ℕ, ◌+◌, List, length, Option, Some, None, Result, map}
 use Rattle.std.specs.List.{AllZip}
 use Rattle.tlsf_heap.specs.Blocks.{HeapState}
 use Rattle.tlsf_heap.specs.Placed.{placed_blocks}
@@ -9,11 +9,11 @@ use Rattle.tlsf_map.specs.Page.{svg_text}
 use Rattle.tlsf_map.specs.Text.{text_of}
 use Rattle.tlsf_map.specs.declared.mapped_heap.MappedHeap.{MappedHeap}
 use Rattle.tlsf_picture.specs.Labelled.{label_of, labelled}
-use Rattle.tlsf_picture.specs.Moments.{moment_of}
 use Rattle.tlsf_picture.specs.declared.form.Form.{Form}
 use Rattle.tlsf_picture.specs.declared.form.Form.TheVariants.{Svg, Text}
 use Rattle.tlsf_lines.specs.Events.{labels_of}
-use Rattle.tlsf_trace.specs.Output.{level_in, run_of}
+use Rattle.tlsf_trace.specs.Moments.{moment_of}
+use Rattle.tlsf_trace.specs.Output.{level_in}
 use Rattle.tlsf_trace.specs.Replay.{IsRun}
 use Rattle.tlsf_lines.specs.Trace.{Trace}
 use Rattle.tlsf_trace.specs.declared.summary.Summary.{Summary}
@@ -34,26 +34,6 @@ IsMap sli made labels heap = IsMapBy sli (label_of heap.id made labels) heap
 abbrev pub AreMaps : ℕ → List (Option Name) → List (Option ℕ) → List HeapState → List MappedHeap → Type 0
 AreMaps sli made labels heaps maps = AllZip (IsMap sli made labels) heaps maps
 
--- the text is the picture, by this definition of one, of maps of the heaps that the trace leaves
-pub record DrawsBy (picture : ℕ → List MappedHeap → List ℕ) (trace : Trace) (text : List ℕ) : Type 0 where
-  pub maps : List MappedHeap
-  pub mapped : AreMaps (level_in trace.header) (run_of trace).made (labels_of trace) (run_of trace).world.heaps maps
-  pub drawn : text ≡ picture trace.header.words maps
-
--- as an SVG file, or in the characters of a terminal
-abbrev pub Draws : Trace → List ℕ → Type 0
-Draws = DrawsBy svg_text
-
-abbrev pub DrawsText : Trace → List ℕ → Type 0
-DrawsText = DrawsBy text_of
-
--- a run of a trace that puts out its picture
-abbrev pub IsDrawing : Result Summary TraceFault → Option (List ℕ) → Option (List ℕ) → Option (List ℕ) → Option (List ℕ) → Type 0
-IsDrawing = IsRun Draws
-
-abbrev pub IsTextDrawing : Result Summary TraceFault → Option (List ℕ) → Option (List ℕ) → Option (List ℕ) → Option (List ℕ) → Type 0
-IsTextDrawing = IsRun DrawsText
-
 -- a picture of heaps with so many words each
 abbrev pub picture_in : Form → ℕ → List MappedHeap → List ℕ
 picture_in Svg = svg_text
@@ -64,3 +44,22 @@ pub record DrawsAt (form : Form) (line : ℕ) (trace : Trace) (text : List ℕ) 
   pub maps : List MappedHeap
   pub mapped : AreMaps (level_in trace.header) (moment_of line trace).made (labels_of trace) (moment_of line trace).world.heaps maps
   pub drawn : text ≡ picture_in form trace.header.words maps
+
+-- the line that is drawn: where none is given the end, which counts as one line more than the last
+abbrev pub line_in : Option ℕ → Trace → ℕ
+line_in None trace = length trace.lines + 2
+line_in (Some line) trace = line
+
+-- a picture of the heaps that the trace leaves, as an SVG file, or in the characters of a terminal
+abbrev pub Draws : Trace → List ℕ → Type 0
+Draws trace text = DrawsAt Svg (line_in None trace) trace text
+
+abbrev pub DrawsText : Trace → List ℕ → Type 0
+DrawsText trace text = DrawsAt Text (line_in None trace) trace text
+
+-- a run of a trace that puts out its picture
+abbrev pub IsDrawing : Result Summary TraceFault → Option (List ℕ) → Option (List ℕ) → Option (List ℕ) → Option (List ℕ) → Type 0
+IsDrawing = IsRun Draws
+
+abbrev pub IsTextDrawing : Result Summary TraceFault → Option (List ℕ) → Option (List ℕ) → Option (List ℕ) → Option (List ℕ) → Type 0
+IsTextDrawing = IsRun DrawsText

@@ -1,11 +1,11 @@
 -- The page of a trace: its heaps as they stand behind some of its lines.
-use Rattle.std.specs.Prelude.{◌≡◌, ℕ, ◌+◌, ◌-◌, ◌*◌, ◌/◌, min, List, ◌++◌, length, map}
+use Rattle.std.specs.Prelude.{◌≡◌, ℕ, ◌+◌, ◌-◌, ◌*◌, ◌/◌, min, List, length, map}
 use Rattle.std.specs.List.{AllZip, range_with_len}
 use Rattle.tlsf_lines.specs.Events.{labels_of}
 use Rattle.tlsf_lines.specs.Trace.{Trace}
 use Rattle.tlsf_map.specs.Html.{Moment, page_of}
 use Rattle.tlsf_picture.specs.Drawn.{AreMaps}
-use Rattle.tlsf_picture.specs.Moments.{moment_of}
+use Rattle.tlsf_trace.specs.Moments.{moment_of}
 use Rattle.tlsf_trace.specs.Output.{level_in}
 
 -- how many moments the page of a trace with so many lines behind its header has: one behind each line of the text and one at the end, at most 200

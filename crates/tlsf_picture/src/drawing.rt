@@ -1,36 +1,74 @@
-ghost use Rattle.std.specs.Prelude.{◌≡◌, IfOk, string_bytes};
-ghost use Rattle.tlsf_crew.specs.lanes.Yard.{IsYard};
-ghost use Rattle.tlsf_picture.specs.Drawn.{Draws, IsDrawing};
-ghost use Rattle.tlsf_trace.specs.Ended.{HasYard, IsEnd, IsEndOfTrace};
-ghost use Rattle.tlsf_trace.specs.Output.{level_in};
+//! Pictures of the heaps of a trace, at its end and as they stand behind a line.
+ghost use Rattle.std.specs.Prelude.{◌≡◌, ◌≤◌, vec_len, IfOk, string_bytes};
+ghost use Rattle.tlsf_class.specs.Classes.{IsLevel};
+ghost use Rattle.tlsf_lines.specs.Ranges.{IsHeaderInRange};
+ghost use Rattle.tlsf_lines.specs.ScriptSoFar.{IsScript};
 ghost use Rattle.tlsf_lines.specs.Trace.{Trace};
+ghost use Rattle.tlsf_picture.specs.Drawn.{DrawsAt, IsDrawing, IsTextDrawing, line_in};
+ghost use Rattle.tlsf_trace.specs.Output.{level_in};
+ghost use Rattle.tlsf_trace.specs.Replay.{IsRun};
 
+use crate::form::Form;
 use crate::mapping::map_heaps;
 use std::alloc::{AllocError, Global};
 use std::io::{Read, Write};
-use tlsf_map::write_svg;
-use tlsf_trace::{Ended, EndedTrace, Summary, TraceFault, finish, run_to_end};
+use tlsf_lines::Script;
+use tlsf_trace::{Player, Plays, Puts, Summary, TraceFault, play};
 
-// The picture of the heaps that a trace leaves, at its level.
-fn picture_at<const SLI: u32>(alloc: Global, ended: EndedTrace<SLI>) -> Result<String, AllocError>
-    requires { IsYard ended.workers.items }
-    ensures { (trace : Trace) → level_in trace.header ≡ SLI → IsEnd trace ended.entry → IfOk result (λ text. Draws trace (string_bytes text)) }
+/// The picture behind a line, at the level of the script's version.
+pub fn picture_behind<const SLI: u32>(
+    alloc: Global,
+    script: &Script,
+    form: Form,
+    line: u32,
+) -> Result<String, AllocError>
+    requires level { IsLevel SLI }
+    requires header { IsHeaderInRange script.now.header }
+    ensures { (trace : Trace) → level_in trace.header ≡ SLI → IsScript script.now trace
+        → IfOk result (λ text. DrawsAt form line trace (string_bytes text)) }
 {
-    let mut workers = ended.workers;
-    let maps = map_heaps(alloc, &mut workers, &ended.made, &ended.labels)?;
+    let mut player = Player::<SLI>::open(alloc, script)?;
+    player.step_to(alloc, script, line)?;
+    let maps = map_heaps(alloc, &mut player.workers, &player.made, &script.labels)?;
     let mut text = String::new(alloc);
-    write_svg(&mut text, ended.words, &maps)?;
+    form.write(&mut text, script.header.words, &maps)?;
     Ok(text)
 }
 
-// The picture of the heaps that a trace leaves.
-fn picture_of(alloc: Global, ended: Ended) -> Result<String, AllocError>
-    requires { HasYard ended }
-    ensures { (trace : Trace) → IsEndOfTrace trace ended → IfOk result (λ text. Draws trace (string_bytes text)) }
+// The line that is drawn of a script: where none is given the end, which counts as one line more than the last.
+fn line_in(script: &Script, line: Option<u32>) -> u32
+    requires { vec_len script.now.ends ≤ 32768 }
+    ensures { (trace : Trace) → IsScript script.now trace → result ≡ line_in line trace }
 {
-    match ended {
-        Ended::AtLevel4(ended) => picture_at(alloc, ended),
-        Ended::AtLevel5(ended) => picture_at(alloc, ended),
+    match line {
+        Some(line) => line,
+        None => script.ends.len() as u32 + 2,
+    }
+}
+
+// A picture in a form, behind a line or at the end.
+#[derive(Drop)]
+struct Drawing {
+    form: Form,
+    line: Option<u32>,
+}
+
+impl Puts for Drawing {
+    ghost use Rattle.tlsf_picture.specs.Drawn.{DrawsAt, line_in};
+
+    ghost puts = { λ drawing trace text. DrawsAt drawing.form (line_in drawing.line trace) trace text };
+}
+
+impl<const SLI: u32> Plays<SLI> for Drawing {
+    fn output(&self, alloc: Global, script: &Script) -> Result<String, AllocError>
+        requires level { IsLevel SLI }
+        requires header { IsHeaderInRange script.now.header }
+        requires lines { vec_len script.now.ends ≤ 32768 }
+        ensures { (trace : Trace) → level_in trace.header ≡ SLI → IsScript script.now trace
+            → IfOk result (λ text. DrawsAt self.now.form (line_in self.now.line trace) trace (string_bytes text)) }
+    {
+        let line = line_in(script, self.line);
+        picture_behind::<SLI>(alloc, script, self.form, line)
     }
 }
 
@@ -57,8 +95,71 @@ pub fn draw_trace<R: Read, W: Write>(
     ensures { IsDrawing result (R.remaining reader.old) (R.remaining reader.new)
         (W.contents writer.old) (W.contents writer.new) }
 {
-    let ended = run_to_end(alloc, reader)?;
-    let calls = ended.calls();
-    let picture = picture_of(alloc, ended)?;
-    finish(writer, calls, &picture)
+    let drawing = Drawing {
+        form: Form::Svg,
+        line: None,
+    };
+    play(alloc, &drawing, reader, writer)
+}
+
+/// Reads a whole trace, runs it on a new yard of workers, and writes a picture of each heap that it leaves in the characters of a
+/// terminal of 80 columns, ASCII alone.
+///
+/// A character stands for as many words as the picture says, and shows the first of them. The heaps, labels and reports, what is
+/// read and written, and the limits are those of [`draw_trace`].
+///
+/// ```
+/// // reader gives "tlsf 1 1 64 1\na 0 7 8\n"
+/// let summary = draw_trace_as_text(alloc, &mut reader, &mut writer)?;
+/// // writer holds, below the numbers of heap 0, the row "      0 |[7#=*..........................................................."
+/// ```
+///
+/// # Errors
+///
+/// Those of [`replay`](tlsf_trace::replay), each where a replay of that trace has it.
+pub fn draw_trace_as_text<R: Read, W: Write>(
+    alloc: Global,
+    reader: &mut R,
+    writer: &mut W,
+) -> Result<Summary, TraceFault>
+    ensures { IsTextDrawing result (R.remaining reader.old) (R.remaining reader.new)
+        (W.contents writer.old) (W.contents writer.new) }
+{
+    let drawing = Drawing {
+        form: Form::Text,
+        line: None,
+    };
+    play(alloc, &drawing, reader, writer)
+}
+
+/// Reads a whole trace, runs it on a new yard of workers up to a line, and writes a picture of each heap as it stands then.
+///
+/// Lines are counted as faults count them: the header is line 1, and behind it the heaps are new. Posts that wait behind the line
+/// wait in the picture too. Behind the last line the trace is run to its end, with the drains there, so that the picture is that of
+/// [`draw_trace`]. The whole trace is checked, and what it is told and read is as there.
+///
+/// ```
+/// // reader gives "tlsf 1 1 64 1\na 0 7 8\nf 0 7\n"
+/// let summary = draw_trace_at(alloc, Form::Text, 2, &mut reader, &mut writer)?;
+/// // summary.calls is 2, and the picture has a block of label 7 and a free one
+/// ```
+///
+/// # Errors
+///
+/// Those of [`replay`](tlsf_trace::replay), each where a replay of that trace has it.
+pub fn draw_trace_at<R: Read, W: Write>(
+    alloc: Global,
+    form: Form,
+    line: u32,
+    reader: &mut R,
+    writer: &mut W,
+) -> Result<Summary, TraceFault>
+    ensures { IsRun (DrawsAt form line) result (R.remaining reader.old) (R.remaining reader.new)
+        (W.contents writer.old) (W.contents writer.new) }
+{
+    let drawing = Drawing {
+        form,
+        line: Some(line),
+    };
+    play(alloc, &drawing, reader, writer)
 }

@@ -1,26 +1,28 @@
-//! Pictures of the heaps that a trace leaves.
+//! Pictures of the heaps that a trace leaves, and plots of them over its lines.
 //!
 //! [`draw_trace`] reads a trace, runs it to its end, and writes a picture of each heap, one below the other, as an SVG file, and
 //! [`draw_trace_as_text`] in the characters of a terminal; [`draw_trace_at`] draws the heaps as they stand behind a line. No reply
 //! line is written. Each block of a heap is drawn once, in the order of the places, and a live one with the label whose line made it.
 //!
+//! [`plot_trace`] plots each heap over the lines of a trace, in either form. A point is the report on the heap behind a line; of a
+//! long trace several lines are one point, the worst of each number. [`draw_trace_at_worst`] draws the heaps behind the line that the
+//! plot names (`specs/plots/Worst.antt`).
+//!
 //! Contracts see the trace that a text spells and the world that it leaves by the definitions of `tlsf_trace`, and the text of
-//! the picture by those of `tlsf_map`; `Draws` and `DrawsText` of `specs/Drawn.antt` join them.
+//! the picture by those of `tlsf_map`; `Draws` and `DrawsText` of `specs/Drawn.antt` join them. They see a point as `point_at` of
+//! `specs/plots/Points.antt`, and the text of a plot by `svg_text` of `specs/plots/Svg.antt` and `text_of` of `specs/plots/Rows.antt`;
+//! `Plots` of `specs/plots/Plots.antt` joins them.
 #![tactic(auto)]
 
 mod block_labels;
 mod drawing;
 mod form;
 mod mapping;
-mod moment_drawing;
 mod page_drawing;
-mod recording;
-mod stage;
-mod text_drawing;
+mod plots;
 
-pub use drawing::draw_trace;
+pub use drawing::{draw_trace, draw_trace_as_text, draw_trace_at};
 pub use form::Form;
-pub use moment_drawing::{draw_trace_at, picture_by};
 pub use page_drawing::draw_trace_as_page;
-pub use recording::{Recording, event_count, record_trace};
-pub use text_drawing::draw_trace_as_text;
+pub use plots::plotting::plot_trace;
+pub use plots::worst::draw_trace_at_worst;

@@ -1,5 +1,6 @@
 -- The run and its text.
-pub mod PartByPart  -- a replay whose lines are written part by part
+pub mod Onward  -- a trace that is run from one of its moments to the next
+pub mod PartByPart  -- entries whose lines are written part by part
 pub mod ReportSteps  -- report lines of heaps, one heap after another
 pub mod WholeOutput  -- what is put out, from its parts
 pub mod WholeReplay  -- a replay that is done

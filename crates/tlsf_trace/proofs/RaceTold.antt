@@ -11,8 +11,8 @@ use Rattle.tlsf_heap.specs.Calls as heap
 use Rattle.tlsf_heap.specs.Calls.{opened}
 use Rattle.tlsf_heap.specs.Lawful.{IsLawful}
 use Rattle.tlsf_heap.specs.declared.name.Name.{Name}
-use Rattle.tlsf_heap.proofs.Lawfulness.{opened_lawful}
-use Rattle.tlsf_heap.proofs.Outcomes.{lawful_run}
+use Rattle.tlsf_heap.proofs.lemmas.blocks.Lawful.{opened_lawful}
+use Rattle.tlsf_heap.proofs.lemmas.calls.Outcomes.{lawful_run}
 use Rattle.tlsf_calls.specs.Entries.{record_of}
 use Rattle.tlsf_calls.specs.declared.call.Call.{Call}
 use Rattle.tlsf_calls.specs.declared.entry.Entry.{Entry}

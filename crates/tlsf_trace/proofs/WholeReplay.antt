@@ -1,6 +1,6 @@
 -- A replay that is done.
 use Rattle.std.proofs.Common.{◌≡◌, ℕ, List, Option, Some, None, Result, Ok, Err, IfSome, sym, ap, ◌∙◌, subst, inr, arith}
-use Rattle.tlsf_trace.specs.Ended.{IsReadWhole}
+use Rattle.std.specs.Io.KnownBytes.{IsAtEnd}
 use Rattle.tlsf_trace.specs.Finish.{Finishes, IsCutShort, IsFinished}
 use Rattle.tlsf_lines.specs.Limits.{IsWithinLimits}
 use Rattle.tlsf_trace.specs.Replay.{AsksFor, IsRun, Outputs, Writes, WritesPrefix}
@@ -8,6 +8,12 @@ use Rattle.tlsf_lines.specs.TraceFaults.{too_long_fault, write_fault, IsLineFaul
 use Rattle.tlsf_lines.specs.declared.line_fault.LineFault.TheVariants.{BadHeader, BadLine, BadNumber, LabelOrder}
 use Rattle.tlsf_trace.specs.declared.summary.Summary.{Summary}
 use Rattle.tlsf_lines.specs.declared.trace_fault.TraceFault.{TraceFault}
+
+-- the text that was left was read to its end, within the limits
+pub record IsReadWhole (text : List ℕ) (left left' : Option (List ℕ)) : Type 0 where
+  pub whole : IfSome left (λ all. text ≡ all)
+  pub end : IsAtEnd left'
+  pub limits : IsWithinLimits text
 
 -- a fact of the text that was read, where it is known what the reader had left
 of_read : (P : List ℕ → Type 0) (left : Option (List ℕ)) (text : List ℕ) → IfSome left (λ l. text ≡ l) → P text → IfSome left P

@@ -6,7 +6,8 @@ pub mod RaceHistory
 pub mod OneText
 pub mod Replay
 pub mod Finish
-pub mod Ended
+pub mod Moments
+pub mod Players
 pub use Rattle.tlsf_lines.specs.Pieces
 pub use Rattle.tlsf_lines.specs.Trace
 pub use Rattle.tlsf_lines.specs.Events

@@ -2,7 +2,8 @@ ghost use Rattle.tlsf_trace.specs.RacedYards.{PutsOver};
 ghost use Rattle.tlsf_trace.specs.Replay.{IsReplay, IsQueueRaceOfTrace, IsRaceOfTrace, IsRun};
 ghost use Rattle.tlsf_trace.specs.Finish.{Finishes};
 
-use crate::output::output;
+use crate::output::Replay;
+use crate::playing::play;
 use crate::race_output::race_output;
 use crate::raced_yard::PortKind;
 use crate::summary::Summary;
@@ -12,7 +13,7 @@ use std::marker::Sync;
 use std::sync::Wait;
 use std::thread::Threads;
 use tlsf_crew::Gate;
-use tlsf_lines::{TraceFault, read_all, script_in, trace_in, write_out};
+use tlsf_lines::{TraceFault, read_all, trace_in, write_out};
 
 /// Writes the whole text that a trace of so many calls comes to, flushes, and tells of both.
 ///
@@ -58,11 +59,7 @@ pub fn replay<R: Read, W: Write>(
     ensures { IsReplay result (R.remaining reader.old) (R.remaining reader.new)
         (W.contents writer.old) (W.contents writer.new) }
 {
-    let text = read_all(alloc, reader)?;
-    let script = script_in(alloc, &text)?;
-    drop(text);
-    let output = output(alloc, &script)?;
-    finish(writer, script.calls, &output)
+    play(alloc, &Replay, reader, writer)
 }
 
 // Reads a whole trace, races it over ports of this kind, and writes what it puts out.

@@ -1,4 +1,4 @@
-use Rattle.std.proofs.Common.{arith, string_bytes}
+use Rattle.std.proofs.Common.{Err, ap, arith, string_bytes}
 use Rattle.std.proofs.lemmas.List.Sums.{count_by-le-length}
 use Rattle.tlsf_lines.specs.Lines.{is_call}
 use Rattle.tlsf_lines.specs.Views.{view_trace}
@@ -8,11 +8,11 @@ use Rattle.tlsf_check.proofs.checking.check_trace.Goals as goal
 
 pub returns-in-Err-clause-run : goal.returns-in-Err-clause-run
 returns-in-Err-clause-run g c =
-    unread_run c.note_unread.result _ _ _ c.in-Err.unread (string_bytes c.args.note.now) (string_bytes c.note_unread.new.note) (λ limit same. c.in-Err.ensures.passed limit cc) c.note_unread.ensures
+    unread_run c.note_unread.result _ _ _ c.in-Err.error (string_bytes c.args.note.now) (string_bytes c.note_unread.new.note) (λ limit same. c.in-Err.ensures.passed limit (ap Err same)) c.note_unread.ensures
 
 pub returns-in-Err-clause-noted : goal.returns-in-Err-clause-noted
 returns-in-Err-clause-noted g c =
-    unread_notes _ c.note_unread.result c.in-Err.unread (string_bytes c.args.note.now) (string_bytes c.note_unread.new.note) (λ limit same. c.in-Err.ensures.passed limit cc) c.note_unread.ensures
+    unread_notes _ c.note_unread.result c.in-Err.error (string_bytes c.args.note.now) (string_bytes c.note_unread.new.note) (λ limit same. c.in-Err.ensures.passed limit (ap Err same)) c.note_unread.ensures
 
 pub returns-clause-run : goal.returns-clause-run
 returns-clause-run g c =

@@ -1,8 +1,10 @@
-use Rattle.std.proofs.Common.{◌≡◌, ◌<◌, ◌^◌, ◌++◌, ◌∙◌, length, take, inl, inr, arith, length-append, length-take, count_by, eqb}
+use Rattle.std.proofs.Common.{◌≡◌, ◌<◌, ◌^◌, ◌++◌, ◌∙◌, length, take, arith, length-append, length-take, count_by, eqb}
 use Rattle.std.proofs.KnownBytes.{Consumes-trans}
 use Rattle.std.proofs.lemmas.Grind.{common_steps}
 use Rattle.tlsf_lines.proofs.PieceCounts.{length-pieces_of-append, feeds_of_both}
 use Rattle.tlsf_lines.specs.Pieces.{pieces_of}
+use Rattle.tlsf_lines.specs.declared.limit.Limit.TheVariants.{Bytes, Lines}
+use Rattle.tlsf_lines.proofs.LongInputs.{over_named}
 use Rattle.tlsf_lines.proofs.ReadSteps.{gave_bytes}
 use Rattle.tlsf_lines.proofs.input.read_counted.Goals as goal
 
@@ -14,7 +16,7 @@ returns-then-len-piece-clause-too_long g c =
     let joined = length-append old piece in
     let many : 2 ^ 20 < length (old ++ piece) = omega (arith, joined, c.len.ensures, c.if-len-piece.true) in
     let next = c.in_ok-taken.ensures.next in
-    λ is. (
+    λ limit is. (
       old ++ piece,
       given,
       omega (
@@ -27,7 +29,7 @@ returns-then-len-piece-clause-too_long g c =
         length-take c.in_ok-taken.taken c.read.new.buffer,
         c.if-taken-eq0.false,
       ),
-      inr (inl many),
+      over_named Bytes limit _ _ is many,
     )
 
 pub returns-then-line_feeds-count_open_lines-gt-MOST_LINES-clause-too_long :
@@ -47,7 +49,7 @@ returns-then-line_feeds-count_open_lines-gt-MOST_LINES-clause-too_long g c =
       c.if-line_feeds-count_open_lines-gt-MOST_LINES.true,
     ) in
     let next = c.in_ok-taken.ensures.next in
-    λ is. (old ++ piece, given, omega (arith, joined, some, c.loop-text.invariant.reads, next.was_left, next.left), inr (inr many))
+    λ limit is. (old ++ piece, given, omega (arith, joined, some, c.loop-text.invariant.reads, next.was_left, next.left), over_named Lines limit _ _ is many)
 
 pub loop-text-preserved : goal.loop-text-preserved
 loop-text-preserved g c =

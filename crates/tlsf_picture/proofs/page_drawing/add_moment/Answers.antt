@@ -2,16 +2,16 @@ use Rattle.std.proofs.Common.{◌++◌, refl, ap, ◌∙◌, string_bytes}
 use Rattle.std.proofs.lemmas.Result.{on_ok_weaker}
 use Rattle.tlsf_lines.specs.declared.header.Header.{Header}
 use Rattle.tlsf_map.specs.Html.{Moment, moment_data}
-use Rattle.tlsf_picture.proofs.Onward.{maps_behind}
+use Rattle.tlsf_picture.proofs.Maps.{maps_behind}
 use Rattle.tlsf_picture.proofs.page_drawing.add_moment.Goals as goal
 
 pub returns-clause-added : goal.returns-clause-added
 returns-clause-added g c = λ trace level is stands.
-    let mapped = rw c.deref.ensures.value at c.in_ok-maps.ensures.maps in
+    let mapped = rw (c.deref.ensures.value, c.deref-2.ensures.value, c.deref_mut.ensures.value) at c.in_ok-maps.ensures.maps in
     let moment : Moment = record { line = c.args.line; heaps = c.in_ok-maps.maps.items } in
-    let wrote = rw c.deref-2.ensures.value at c.write_moment.ensures in
+    let wrote = rw c.deref-3.ensures.value at c.write_moment.ensures in
     on_ok_weaker c.write_moment.result (λ added. record {
       moment = moment;
-      is = record { line_is = refl; mapped = maps_behind c.args.line trace c.args.recording.now c.args.workers.now c.args.made.now c.in_ok-maps.maps.items level is stands mapped };
+      is = record { line_is = refl; mapped = maps_behind c.args.line trace c.args.script.now c.args.player.now c.in_ok-maps.maps.items level is stands mapped };
       added = added ∙ ap (λ (header : Header). string_bytes c.args.text.now ++ moment_data header.words moment) is.header;
     }) wrote

@@ -1,64 +1,55 @@
-use Rattle.std.proofs.Common.{◌≡◌, ◌+◌, ◌≤◌, ◌++◌, [], ℕ, List, ap, append_assoc, drop, length, refl, string_bytes, sym, take, ◌∙◌}
-use Rattle.std.proofs.lemmas.List.{drop_all}
-use Rattle.tlsf_calls.specs.declared.event.Event.{Event}
-use Rattle.tlsf_crew.specs.lanes.Yard.{world_of}
-use Rattle.tlsf_crew.specs.model.World.{replies_behind}
-use Rattle.tlsf_lines.specs.ReplyLines.{reply_text}
-use Rattle.tlsf_crew.proofs.lemmas.model.InParts.{replies_alone}
-use Rattle.tlsf_trace.proofs.PartByPart.{all_left, all_made, all_told, part_and_rest, part_left, part_made, part_told}
+use Rattle.std.proofs.Common.{◌≡◌, ℕ, ◌+◌, ◌++◌, ◌<◌, ◌≤◌, List, length, sym, ap, subst, ◌∙◌, arith, append_assoc, append-nil, string_bytes}
+use Rattle.tlsf_calls.specs.declared.entry.Entry.{Entry}
+use Rattle.tlsf_lines.specs.Events.{labels_of}
+use Rattle.tlsf_lines.specs.ReplyLines.{labels_left, reply_text}
+use Rattle.tlsf_lines.proofs.ReplySteps.{reply_text-append}
+use Rattle.tlsf_lines.proofs.ScriptSteps.{ends_count}
+use Rattle.tlsf_trace.specs.Moments.{moment_at}
+use Rattle.tlsf_trace.proofs.PartByPart.{labels_left-append}
+use Rattle.tlsf_trace.specs.Players.{Stands}
+use Rattle.tlsf_trace.proofs.Onward.{ends, nothing_told}
 use Rattle.tlsf_trace.proofs.output.write_run.Goals as goal
 
-pub loop-first-init : goal.loop-first-init
-loop-first-init g c =
-    let alone = replies_alone (world_of c.args.workers.now) c.args.script.now.events in
-    record {
-      yard = c.requires;
-      so_far = rw (c.deref-labels.ensures.value, c.in_ok-made.ensures.items, alone) refl;
-      world = rw (c.in_ok-made.ensures.items, alone) refl;
-      made = rw (c.in_ok-made.ensures.items, alone) refl;
-    }
+pub loop-line-init : goal.loop-line-init
+loop-line-init g c = record {
+  yard = c.requires.yard;
+  within = omega arith;
+  so_far = λ trace is new.
+      let none = nothing_told g.row.SLI trace in
+      (new, rw none (sym (append-nil (string_bytes c.args.text.now))), rw none (c.deref-labels.ensures.value ∙ is.labels));
+}
 
-pub loop-first-preserved : goal.loop-first-preserved
-loop-first-preserved g c =
-    let inv = c.loop-first.invariant in
-    let w = world_of c.loop-first.workers in
-    let made = c.loop-first.made.items in
-    let first = c.loop-first.first in
-    let events : List Event = c.args.script.now.events in
-    let n = c.min-n.result in
-    let part = take n (drop first events) in
-    let rest = drop (first + n) events in
-    let labels = c.loop-first.labels.now in
-    let old = string_bytes c.loop-first.text in
-    let whole : drop first events ≡ part ++ rest = part_and_rest first n events in
-    let is_part : c.deref.result.now ≡ part = c.deref.ensures.value ∙ (rw c.clear.ensures.items at c.in_ok-add_part.ensures) in
-    let left_world = rw is_part at c.in-Ok.ensures.world in
-    let left_made = rw is_part at c.in-Ok.ensures.made in
-    let entries = rw is_part at c.in-Ok.ensures.entries in
-    let text = rw c.deref-in-loop-first.ensures.value at c.in_ok-labels.ensures.text in
-    let left = rw c.deref-in-loop-first.ensures.value at c.in_ok-labels.ensures.left in
+pub loop-line-preserved : goal.loop-line-preserved
+loop-line-preserved g c =
+    let inv = c.loop-line.invariant in
+    let here = c.loop-line.line in
+    let on : here ≤ here + c.min-line.result = omega arith in
     record {
-      yard = c.replay_behind.ensures.yard;
-      so_far = rw (text, left, left_world, left_made, entries)
-          (append_assoc old (reply_text (replies_behind w made part).entries labels) _ ∙ (ap (λ (l : List ℕ). old ++ l) (sym (part_told w made part rest labels)) ∙ (rw whole at inv.so_far)));
-      world = rw (left_made, left_world) (part_left w made part rest ∙ (rw whole at inv.world));
-      made = rw (left_made, left_world) (part_made w made part rest ∙ (rw whole at inv.made));
+      yard = c.step_to.ensures.yard;
+      within = omega (arith, c.min-line.ensures, c.len-end.ensures, inv.within);
+      so_far = λ trace is new.
+          let before = inv.so_far trace is new in
+          let plays = c.in_ok-entries.ensures.plays here trace on is before.0 in
+          let told = (moment_at g.row.SLI here trace).entries in
+          let entries = c.in_ok-entries.entries.items in
+          let labels = labels_of trace in
+          let old = string_bytes c.args.text.now in
+          let text = rw (c.deref.ensures.value, before.2, before.1) at c.in_ok-labels.ensures.text in
+          let left = rw (c.deref.ensures.value, before.2) at c.in_ok-labels.ensures.left in
+          let both = ap (λ (es : List Entry). reply_text es labels) plays.told ∙ reply_text-append told entries labels in
+          let rest = ap (λ (es : List Entry). labels_left es labels) plays.told ∙ labels_left-append told entries labels in
+          (plays.stands, text ∙ (append_assoc old (reply_text told labels) (reply_text entries (labels_left told labels)) ∙ ap (λ (l : List ℕ). old ++ l) (sym both)), left ∙ sym rest);
     }
-
-none_left : (events : List Event) (len first : ℕ) → len ≡ length events → len ≤ first → drop first events ≡ []
-none_left events len first is all = drop_all first events (rw (← is) all)
 
 pub returns-clause-text : goal.returns-clause-text
-returns-clause-text g c =
-    let none = none_left c.args.script.now.events c.len-in-loop-first.result c.loop-first.first c.len-in-loop-first.ensures c.loop-first-test.false in
-    all_told (world_of c.loop-first.workers) c.loop-first.made.items c.loop-first.labels.now (string_bytes c.loop-first.text) ∙ (rw none at c.loop-first.invariant.so_far)
+returns-clause-text g c = λ trace is new.
+    let many = ap (λ (l : List ℕ). length l) is.ends ∙ ends_count trace.header.workers 0 trace.lines in
+    let past : length trace.lines + 1 < c.loop-line.line = omega (arith, many, c.len-end.ensures, c.loop-line-test.false) in
+    let all = ends g.row.SLI c.loop-line.line trace past in
+    rw all at (c.loop-line.invariant.so_far trace is new).1
 
-pub returns-clause-world : goal.returns-clause-world
-returns-clause-world g c =
-    let none = none_left c.args.script.now.events c.len-in-loop-first.result c.loop-first.first c.len-in-loop-first.ensures c.loop-first-test.false in
-    all_left (world_of c.loop-first.workers) c.loop-first.made.items ∙ (rw none at c.loop-first.invariant.world)
-
-pub returns-clause-made : goal.returns-clause-made
-returns-clause-made g c =
-    let none = none_left c.args.script.now.events c.len-in-loop-first.result c.loop-first.first c.len-in-loop-first.ensures c.loop-first-test.false in
-    all_made (world_of c.loop-first.workers) c.loop-first.made.items ∙ (rw none at c.loop-first.invariant.made)
+pub returns-clause-stands : goal.returns-clause-stands
+returns-clause-stands g c = λ trace is new.
+    let many = ap (λ (l : List ℕ). length l) is.ends ∙ ends_count trace.header.workers 0 trace.lines in
+    let end : c.loop-line.line ≡ length trace.lines + 2 = omega (arith, many, c.len-end.ensures, c.loop-line-test.false, c.loop-line.invariant.within) in
+    subst (λ (n : ℕ). Stands n trace c.loop-line.player) end (c.loop-line.invariant.so_far trace is new).0

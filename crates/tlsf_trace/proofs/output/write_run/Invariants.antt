@@ -1,18 +1,22 @@
-use Rattle.std.proofs.Common.{◌≡◌, ◌-◌, ◌++◌, drop, length, string_bytes}
-use Rattle.tlsf_crew.specs.lanes.Yard.{IsYard, world_of}
-use Rattle.tlsf_crew.specs.model.World.{replies, replies_behind}
-use Rattle.tlsf_lines.specs.ReplyLines.{reply_text}
+use Rattle.std.proofs.Common.{◌≡◌, ◌+◌, ◌-◌, ◌++◌, ◌≤◌, string_bytes, vec_len}
+use Rattle.tlsf_crew.specs.lanes.Yard.{IsYard}
+use Rattle.tlsf_lines.specs.Events.{labels_of}
+use Rattle.tlsf_lines.specs.ReplyLines.{labels_left, reply_text}
+use Rattle.tlsf_lines.specs.ScriptSoFar.{IsScript}
+use Rattle.tlsf_lines.specs.Trace.{Trace}
+use Rattle.tlsf_trace.specs.Moments.{moment_at}
+use Rattle.tlsf_trace.specs.Players.{Stands}
 use Rattle.tlsf_trace.proofs.output.write_run.Given as goal
 
--- the lines so far and those of the events that are left are the lines of all, and these leave the world and the names that all leave
-abbrev pub invariant-loop-first : goal.invariant-loop-first
-invariant-loop-first g l = record {
-  yard : IsYard l.workers;
-  so_far : string_bytes l.text ++ reply_text (replies_behind (world_of l.workers) l.made.items (drop l.first l.script.events)).entries l.labels
-      ≡ string_bytes l.fn.text ++ reply_text (replies (world_of l.fn.workers) l.script.events).entries l.script.labels.items;
-  world : (replies_behind (world_of l.workers) l.made.items (drop l.first l.script.events)).world ≡ (replies (world_of l.fn.workers) l.script.events).world;
-  made : (replies_behind (world_of l.workers) l.made.items (drop l.first l.script.events)).made ≡ (replies (world_of l.fn.workers) l.script.events).made;
+-- the trace has run up to this line, and the text has what was answered so far
+abbrev pub invariant-loop-line : goal.invariant-loop-line
+invariant-loop-line g l = record {
+  yard : IsYard l.player.workers.items;
+  within : l.line ≤ vec_len l.script.ends + 2;
+  so_far : (trace : Trace) → IsScript l.script trace → Stands 0 trace l.fn.player
+      → Stands l.line trace l.player × (string_bytes l.text ≡ string_bytes l.fn.text ++ reply_text (moment_at g.row.SLI l.line trace).entries (labels_of trace))
+      × (l.labels ≡ labels_left (moment_at g.row.SLI l.line trace).entries (labels_of trace));
 }
 
-abbrev pub decreases-loop-first : goal.decreases-loop-first
-decreases-loop-first g l = length l.script.events - l.first
+abbrev pub decreases-loop-line : goal.decreases-loop-line
+decreases-loop-line g l = vec_len l.script.ends + 2 - l.line

@@ -12,6 +12,8 @@ loop-worker-preserved c =
     record {
       events = rw (map-range_with_len_more last_drain 0 w w next) (c.in_ok-push.ensures.events ∙ (ap (λ l. l ++ last_drain w ∷ []) inv.events ∙ append_assoc c.args.self.now.events _ _));
       labels = rw (← replicate_more {X = Option ℕ} w None) (c.in_ok-push.ensures.labels ∙ (ap (λ l. l ++ None ∷ []) inv.labels ∙ append_assoc c.args.self.now.labels.items _ _));
-      header = c.in_ok-push.ensures.same.0 ∙ inv.header;
-      calls = c.in_ok-push.ensures.same.1 ∙ inv.calls;
+      header = c.in_ok-push.ensures.same.header ∙ inv.header;
+      calls = c.in_ok-push.ensures.same.calls ∙ inv.calls;
+      ends = c.in_ok-push.ensures.same.ends ∙ inv.ends;
+      requests = c.in_ok-push.ensures.same.requests ∙ inv.requests;
     }

@@ -9,4 +9,6 @@ invariant-loop-worker l = record {
   labels : l.self.labels.items ≡ l.fn.self.labels.items ++ replicate l.worker None;
   header : l.self.header ≡ l.fn.self.header;
   calls : l.self.calls ≡ l.fn.self.calls;
+  ends : l.self.ends.items ≡ l.fn.self.ends.items;
+  requests : l.self.requests.items ≡ l.fn.self.requests.items;
 }

@@ -1,4 +1,4 @@
-use Rattle.std.proofs.Common.{ap, arith}
+use Rattle.std.proofs.Common.{ap, arith, refl}
 use Rattle.tlsf_lines.specs.declared.header.Header.{Header}
 use Rattle.tlsf_lines.proofs.ScriptSteps.{add_holds, calls_few}
 use Rattle.tlsf_lines.proofs.script.ScriptFromLines.add.Goals as goal
@@ -14,4 +14,5 @@ add_events-requires c =
 pub returns : goal.returns
 returns c = λ header before lines has target.
     let same = ap (λ (h : Header). h.workers) has.0 in
-    add_holds header before lines c.args.line.now c.args.self.now c.add_events.new.self has (c.in_ok-add_events.ensures before (rw same target))
+    add_holds header before lines c.args.line.now c.args.self.now c.add_events.new.self _ has (c.in_ok-add_events.ensures before (rw same target))
+    refl refl refl refl (rw c.len.ensures at c.in_ok-push.ensures.items) (rw c.request.ensures at c.in_ok-push-2.ensures.items)

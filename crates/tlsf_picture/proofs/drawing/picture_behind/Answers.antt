@@ -1,0 +1,28 @@
+use Rattle.std.proofs.Common.{length, map, ap, ◌∙◌, arith}
+use Rattle.std.proofs.lemmas.List.{length-map}
+use Rattle.tlsf_crew.specs.worker.Workers.{heap_of}
+use Rattle.tlsf_picture.specs.Drawn.{IsMap, picture_in}
+use Rattle.tlsf_picture.proofs.Maps.{as_many, maps_behind}
+use Rattle.tlsf_lines.specs.declared.header.Header.{Header}
+use Rattle.tlsf_picture.proofs.drawing.picture_behind.Goals as goal
+
+pub write-requires : goal.write-requires
+write-requires g c =
+    let player = c.step_to.new.self in
+    let workers = player.workers.items in
+    let mapped = rw (c.deref.ensures.value, c.deref-2.ensures.value, c.deref_mut.ensures.value) at c.in_ok-maps.ensures.maps in
+    let many = as_many (IsMap g.row.SLI player.made.items c.args.script.now.labels.items) (map heap_of workers) c.in_ok-maps.maps.items mapped in
+    let heaps = length-map workers heap_of in
+    let shown = ap length c.deref-3.ensures.value in
+    omega (arith, many, heaps, shown, c.step_to.ensures.yard.few)
+
+pub returns : goal.returns
+returns g c = λ trace level is.
+    let mapped = rw (c.deref.ensures.value, c.deref-2.ensures.value, c.deref_mut.ensures.value) at c.in_ok-maps.ensures.maps in
+    let plays = c.in_ok-step_to.ensures.plays 0 trace (omega arith) is (c.in_ok-player.ensures.stands trace is) in
+    record {
+      maps = c.in_ok-maps.maps.items;
+      mapped = maps_behind c.args.line trace c.args.script.now c.step_to.new.self c.in_ok-maps.maps.items level is plays.stands mapped;
+      drawn = (rw (c.deref-3.ensures.value, c.new-text.ensures.bytes) at c.in_ok-write.ensures)
+          ∙ ap (λ (header : Header). picture_in c.args.form header.words c.in_ok-maps.maps.items) is.header;
+    }

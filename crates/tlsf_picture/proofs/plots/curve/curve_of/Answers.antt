@@ -1,0 +1,17 @@
+use Rattle.std.proofs.Common.{◌≡◌, ℕ, take, ap, sym, ◌∙◌, arith}
+use Rattle.std.proofs.lemmas.List.{take_min}
+use Rattle.std.proofs.lemmas.List.FromFn.{map-range_with_len_more}
+use Rattle.tlsf_picture.specs.plots.Curves.{bucket, worst_of}
+use Rattle.tlsf_picture.proofs.plots.curve.curve_of.Goals as goal
+
+pub loop-number-preserved : goal.loop-number-preserved
+loop-number-preserved c =
+    let number = c.loop-number.number in
+    let span = c.args.span in
+    let points = c.args.points.now in
+    let rest = c.split_at.result.1.now in
+    let part_is : c.split_at-in-loop-number.result.0.now ≡ bucket span points number =
+    c.split_at-in-loop-number.ensures.front ∙ (ap (λ (n : ℕ). take n rest) c.min.ensures ∙ (take_min span rest ∙ ap (take span) c.split_at.ensures.back)) in
+    let one = λ (k : ℕ). worst_of c.args.words (bucket span points k) in
+    c.in_ok-push.ensures.items
+    ∙ rw (c.loop-number.invariant, c.worst_of.ensures, part_is) (sym (map-range_with_len_more one 0 number number (omega arith)))

@@ -1,0 +1,8 @@
+use Rattle.std.proofs.Common.{◌≡◌, map}
+use Rattle.std.specs.List.{range_with_len}
+use Rattle.tlsf_picture.specs.plots.Curves.{bucket, worst_of}
+use Rattle.tlsf_picture.proofs.plots.curve.curve_of.Given as goal
+
+-- those below this number are drawn
+abbrev pub invariant-loop-number : goal.invariant-loop-number
+invariant-loop-number l = l.curve.items ≡ map (λ number. worst_of l.words (bucket l.span l.points number)) (range_with_len 0 l.number)

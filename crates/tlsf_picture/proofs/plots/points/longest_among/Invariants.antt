@@ -1,0 +1,7 @@
+use Rattle.std.proofs.Common.{◌≡◌, take}
+use Rattle.tlsf_picture.specs.plots.Points.{longest_among}
+use Rattle.tlsf_picture.proofs.plots.points.longest_among.Given as goal
+
+-- the longest of those so far
+abbrev pub invariant-loop-request : goal.invariant-loop-request
+invariant-loop-request l = l.longest ≡ longest_among l.worker (take l.request-index l.requests)

@@ -1,0 +1,17 @@
+use Rattle.std.proofs.Common.{◌≡◌, ◌<◌, map, vec_len}
+use Rattle.std.specs.List.{range_with_len}
+use Rattle.tlsf_crew.specs.lanes.Yard.{IsYard}
+use Rattle.tlsf_lines.specs.ScriptSoFar.{IsScript}
+use Rattle.tlsf_lines.specs.Trace.{Trace}
+use Rattle.tlsf_picture.specs.plots.Points.{point_at}
+use Rattle.tlsf_picture.proofs.plots.points.points_of.Given as goal
+use Rattle.tlsf_trace.specs.Players.{Stands}
+
+-- the trace has run up to this line, and the points so far stand
+abbrev pub invariant-loop-number : goal.invariant-loop-number
+invariant-loop-number g l = record {
+  yard : IsYard l.player.workers.items;
+  heap : l.heap < vec_len l.player.workers;
+  count : vec_len l.points ≡ l.number;
+  so_far : (trace : Trace) → IsScript l.script trace → Stands l.number trace l.player × (l.points.items ≡ map (point_at g.row.SLI trace l.heap) (range_with_len 1 l.number));
+}

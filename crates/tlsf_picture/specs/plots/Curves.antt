@@ -1,0 +1,29 @@
+-- The curve of a heap: its points, as many of them as one as it takes.
+use Rattle.std.specs.Prelude.{ℕ, ◌+◌, ◌-◌, ◌*◌, ◌/◌, List, length, map, take, drop, slice_index_or, fold}
+use Rattle.std.specs.List.{range_with_len}
+use Rattle.tlsf_picture.specs.plots.Points.{untouched, worse}
+use Rattle.tlsf_picture.specs.declared.plots.point.Point.{Point}
+
+-- the worst of some points of a heap of so many words, number by number
+abbrev pub worst_of : ℕ → List Point → Point
+worst_of words points = fold worse (untouched words) points
+
+-- how many points are drawn as one, so that at most so many are drawn
+abbrev pub span_for : ℕ → ℕ → ℕ
+span_for most points = (points + (most - 1)) / most
+
+-- those that are drawn as one, of this number
+abbrev pub bucket : ℕ → List Point → ℕ → List Point
+bucket span points number = take span (drop (number * span) points)
+
+-- how many are drawn
+abbrev pub buckets_in : ℕ → ℕ → ℕ
+buckets_in span points = (points + (span - 1)) / span
+
+-- each of them at its worst
+abbrev pub curve_of : ℕ → ℕ → List Point → List Point
+curve_of words span points = map (λ number. worst_of words (bucket span points number)) (range_with_len 0 (buckets_in span (length points)))
+
+-- the point of a number
+abbrev pub point_in : List Point → ℕ → Point
+point_in points number = slice_index_or points number (untouched 0)

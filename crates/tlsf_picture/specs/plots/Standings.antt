@@ -1,0 +1,41 @@
+-- Which line of a trace to look at: how a heap stands behind each, and where it stands worst.
+use Rattle.std.specs.Prelude.{◌≡◌, ℕ, ◌+◌, ◌<◌, Bool, true, false, ◌==◌, ◌&&◌, ◌||◌, nat_lt, if◌then◌else◌, List}
+use Rattle.tlsf_picture.specs.plots.Curves.{point_in}
+use Rattle.tlsf_picture.specs.plots.Points.{lacks}
+use Rattle.tlsf_picture.specs.declared.plots.look.Look.{Look}
+use Rattle.tlsf_picture.specs.declared.plots.point.Point.{Point}
+use Rattle.tlsf_picture.specs.declared.plots.standing.Standing.{Standing}
+use Rattle.tlsf_picture.specs.declared.plots.standing.Standing.TheVariants.{NoRoom, Room}
+
+-- how a heap stands at a point: without room for a request of so many bytes, with so many words free; or with room for it, so many words live
+-- and so much fragmentation
+abbrev pub standing_of : ℕ → Point → Standing
+standing_of len point = if lacks len point then NoRoom point.free else Room point.live point.fragmentation
+
+-- whether a heap with so many words live and so much fragmentation is fuller than another: it has more live words, or as many and more fragmentation
+abbrev pub is_fuller : (live fragmentation other less : ℕ) → Bool
+is_fuller live fragmentation other less = nat_lt other live || (live == other && nat_lt less fragmentation)
+
+-- whether a heap stands worse than another: without room worse than with it, without room worse the more words are free, and with room worse the fuller
+abbrev pub is_worse : Standing → Standing → Bool
+is_worse (NoRoom free) (NoRoom other) = nat_lt other free
+is_worse (NoRoom free) (Room live fragmentation) = true
+is_worse (Room live fragmentation) (NoRoom free) = false
+is_worse (Room live fragmentation) (Room other less) = is_fuller live fragmentation other less
+
+-- how it stands at the point of a number
+abbrev pub standing_in : ℕ → List Point → ℕ → Standing
+standing_in len points number = standing_of len (point_in points number)
+
+-- of the first n points it stands at none worse than at this one, which is the first of those
+pub record IsWorst (len : ℕ) (points : List Point) (n number : ℕ) : Type 0 where
+  pub within : number < n
+  pub most : (i : ℕ) → i < n → is_worse (standing_in len points i) (standing_in len points number) ≡ false
+  pub first : (i : ℕ) → i < number → is_worse (standing_in len points number) (standing_in len points i) ≡ true
+
+-- its line, and how the heap stands there; the first point stands behind line 1
+pub record IsLook (len : ℕ) (points : List Point) (n : ℕ) (look : Look) : Type 0 where
+  pub number : ℕ
+  pub line : look.line ≡ number + 1
+  pub standing : look.standing ≡ standing_in len points number
+  pub worst : IsWorst len points n number

@@ -1,0 +1,19 @@
+use crate::plots::look::Look;
+use crate::plots::point::Point;
+
+/// What the plot of a heap is made of.
+#[derive(Drop)]
+pub struct Chart {
+    /// The number of the heap.
+    pub heap: u32,
+    /// The words of the heap.
+    pub words: u32,
+    /// How many lines of the trace are drawn as one point.
+    pub span: usize,
+    /// The bytes of the longest request of its worker.
+    pub longest: u32,
+    /// The line to look at.
+    pub look: Look,
+    /// The points that are drawn, each the worst of its lines.
+    pub curve: Vec<Point>,
+}

@@ -1,0 +1,93 @@
+//! The curve of a heap: as many of its points as one as it takes.
+ghost use Rattle.std.specs.Prelude.{◌≡◌, ◌+◌, ◌<◌, ◌≤◌, ◌^◌, length, IfOk};
+ghost use Rattle.tlsf_picture.specs.plots.Curves as drawn;
+ghost use Rattle.tlsf_picture.specs.plots.Standings.{IsLook, standing_in};
+
+use crate::plots::look::Look;
+use crate::plots::point::Point;
+use crate::plots::standing::Standing;
+use std::alloc::{AllocError, Global};
+
+/// How many points are drawn as one, so that at most so many are drawn.
+pub fn span_for(most: usize, points: usize) -> usize
+    requires most { 0 < most }
+    requires few { most ≤ 2 ^ 16 }
+    requires some { 0 < points }
+    requires points { points ≤ 2 ^ 16 }
+    ensures span { result ≡ drawn.span_for most points }
+    ensures some { 0 < result }
+    ensures few { result ≤ 2 ^ 17 }
+{
+    (points + (most - 1)) / most
+}
+
+// The worst of some points of a heap of so many words, number by number.
+fn worst_of(words: u32, points: &[Point]) -> Point
+    ensures { result ≡ drawn.worst_of words points.now }
+{
+    let mut worst = Point::untouched(words);
+    for point in points {
+        worst = worst.worse(*point);
+    }
+    worst
+}
+
+/// The points of a heap of so many words, so many as one.
+pub fn curve_of(
+    alloc: Global,
+    words: u32,
+    span: usize,
+    points: &[Point],
+) -> Result<Vec<Point>, AllocError>
+    requires span { 0 < span }
+    requires few { span ≤ 2 ^ 17 }
+    requires points { length points.now ≤ 2 ^ 16 }
+    ensures { IfOk result (λ curve. curve.items ≡ drawn.curve_of words span points.now) }
+{
+    let count = (points.len() + (span - 1)) / span;
+    let mut curve = Vec::with_capacity(alloc, count)?;
+    for number in 0..count {
+        let (_, rest) = points.split_at(number * span);
+        let (part, _) = rest.split_at(span.min(rest.len()));
+        curve.push(worst_of(words, part))?;
+    }
+    Ok(curve)
+}
+
+// How a heap stands at the point of a number.
+fn standing_at(len: u32, points: &[Point], number: usize) -> Standing
+    requires { number < length points.now }
+    ensures { result ≡ standing_in len points.now number }
+{
+    Standing::of(len, &points[number])
+}
+
+// The line to look at among one point more than the first of these points.
+fn worse_line(len: u32, points: &[Point], number: usize, worst: Look) -> Look
+    requires within { number < length points.now }
+    requires few { length points.now ≤ 2 ^ 16 }
+    requires worst { IsLook len points.now number worst }
+    ensures { IsLook len points.now (number + 1) result }
+{
+    let standing = standing_at(len, points, number);
+    if standing.is_worse(worst.standing) {
+        let line = number as u32 + 1;
+        Look { line, standing }
+    } else {
+        worst
+    }
+}
+
+/// The line to look at of a heap whose worker's longest request is of so many bytes: the first of those behind which it stands worst.
+pub fn worst_line(len: u32, points: &[Point]) -> Look
+    requires some { 0 < length points.now }
+    requires few { length points.now ≤ 2 ^ 16 }
+    ensures { IsLook len points.now (length points.now) result }
+{
+    let standing = standing_at(len, points, 0);
+    let mut worst = Look { line: 1, standing };
+    for number in 1..points.len() {
+        worst = worse_line(len, points, number, worst);
+    }
+    worst
+}

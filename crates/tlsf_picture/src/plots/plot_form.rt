@@ -1,0 +1,32 @@
+//! The forms of a plot.
+ghost use Rattle.std.specs.Prelude.{◌≡◌, ◌<◌, ◌≤◌, ◌++◌, ◌^◌, length, OnOk, string_bytes};
+ghost use Rattle.tlsf_picture.specs.plots.Plots as drawn;
+
+use crate::form::Form;
+use crate::plots::chart::Chart;
+use crate::plots::rows::write_text;
+use crate::plots::svg::write_svg;
+use std::alloc::AllocError;
+
+/// The most points of a line in a form.
+pub fn most_points(form: Form) -> usize
+    ensures most { result ≡ drawn.most_points form }
+    ensures some { 0 < result }
+    ensures few { result ≤ 2 ^ 16 }
+{
+    match form {
+        Form::Svg => 2000,
+        Form::Text => 56,
+    }
+}
+
+/// Adds the plot of heaps in a form, at most eight.
+pub fn write_plot(text: &mut String, form: Form, charts: &[Chart]) -> Result<(), AllocError>
+    requires { length charts.now ≤ 8 }
+    ensures { OnOk result (string_bytes text.new ≡ string_bytes text.old ++ drawn.plot_in form charts.now) }
+{
+    match form {
+        Form::Svg => write_svg(text, charts),
+        Form::Text => write_text(text, charts),
+    }
+}

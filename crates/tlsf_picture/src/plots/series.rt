@@ -1,0 +1,47 @@
+ghost use Rattle.std.specs.Prelude.{◌≡◌};
+ghost use Rattle.tlsf_picture.specs.plots.Svg as drawn;
+
+use crate::plots::point::Point;
+
+/// A number of points that is drawn as a line.
+#[derive(Clone, Copy)]
+pub enum Series {
+    /// The words of the live blocks.
+    Live,
+    /// The words that lines ask for.
+    Asked,
+    /// The words of the free blocks.
+    Free,
+    /// The words of the greatest free block.
+    Largest,
+    /// The thousandths of the free words outside that block.
+    Fragmentation,
+}
+
+impl Series {
+    /// That number of a point.
+    pub fn of(self, point: &Point) -> u32
+        ensures { result ≡ drawn.number_of self point.now }
+    {
+        match self {
+            Series::Live => point.live,
+            Series::Asked => point.asked,
+            Series::Free => point.free,
+            Series::Largest => point.largest,
+            Series::Fragmentation => point.fragmentation,
+        }
+    }
+
+    /// The class of its line in the SVG file.
+    pub fn class(self) -> &'static str
+        ensures { result.now ≡ drawn.class_of self }
+    {
+        match self {
+            Series::Live => "live",
+            Series::Asked => "asked",
+            Series::Free => "free",
+            Series::Largest => "largest",
+            Series::Fragmentation => "fragmentation",
+        }
+    }
+}

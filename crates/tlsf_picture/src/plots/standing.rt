@@ -1,0 +1,67 @@
+ghost use Rattle.std.specs.Prelude.{◌≡◌};
+ghost use Rattle.tlsf_picture.specs.plots.Standings as told;
+
+use crate::plots::point::Point;
+
+/// How a heap stands at a point, by what tells where to look. Words are of 64 bits.
+#[derive(Clone, Copy)]
+pub enum Standing {
+    /// The longest request of its worker finds no room.
+    NoRoom {
+        /// The words of the free blocks.
+        free: u32,
+    },
+    /// It finds room.
+    Room {
+        /// The words of the live blocks.
+        live: u32,
+        /// The thousandths of the free words that lie outside the greatest free block.
+        fragmentation: u32,
+    },
+}
+
+// Whether a heap with so many words live and so much fragmentation is fuller than another.
+fn is_fuller(live: u32, fragmentation: u32, other: u32, less: u32) -> bool
+    ensures { result ≡ told.is_fuller live fragmentation other less }
+{
+    other < live || (live == other && less < fragmentation)
+}
+
+impl Standing {
+    /// At a point, where the longest request is of so many bytes.
+    pub(crate) fn of(len: u32, point: &Point) -> Standing
+        ensures { result ≡ told.standing_of len point.now }
+    {
+        if point.lacks(len) {
+            Standing::NoRoom { free: point.free }
+        } else {
+            Standing::Room {
+                live: point.live,
+                fragmentation: point.fragmentation,
+            }
+        }
+    }
+
+    /// Whether it is worse than another: without room than with it, then by more free words, or with room by more live words and,
+    /// of equally many, by more fragmentation.
+    pub(crate) fn is_worse(self, than: Standing) -> bool
+        ensures { result ≡ told.is_worse self than }
+    {
+        match self {
+            Standing::NoRoom { free } => match than {
+                Standing::NoRoom { free: other } => other < free,
+                Standing::Room { .. } => true,
+            },
+            Standing::Room {
+                live,
+                fragmentation,
+            } => match than {
+                Standing::NoRoom { .. } => false,
+                Standing::Room {
+                    live: other,
+                    fragmentation: less,
+                } => is_fuller(live, fragmentation, other, less),
+            },
+        }
+    }
+}

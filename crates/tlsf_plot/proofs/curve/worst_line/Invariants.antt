@@ -1,6 +1,0 @@
-use Rattle.tlsf_plot.specs.Standings.{IsLook}
-use Rattle.tlsf_plot.proofs.curve.worst_line.Given as goal
-
--- the line to look at among the points so far
-abbrev pub invariant-loop-number : goal.invariant-loop-number
-invariant-loop-number l = IsLook l.len l.points l.number l.worst

@@ -1,7 +1,0 @@
-use Rattle.std.proofs.Common.{◌≡◌, take}
-use Rattle.tlsf_plot.specs.Curves.{worst_of}
-use Rattle.tlsf_plot.proofs.curve.worst_of.Given as goal
-
--- the worst of those so far
-abbrev pub invariant-loop-point : goal.invariant-loop-point
-invariant-loop-point l = l.worst ≡ worst_of l.words (take l.point-index l.points)

@@ -1,7 +1,0 @@
-use Rattle.std.proofs.Common.{sym}
-use Rattle.tlsf_plot.specs.Rows.{worst_row}
-use Rattle.tlsf_plot.proofs.rows.write_worst_row.Goals as goal
-
-pub returns : goal.returns
-unfolding worst_row
-returns c = rw (sym c.bytes-bytes.ensures) c.write.ensures.bytes

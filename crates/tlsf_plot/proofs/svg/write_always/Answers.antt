@@ -1,7 +1,0 @@
-use Rattle.std.proofs.Common.{sym}
-use Rattle.tlsf_plot.specs.Svg.{always_text}
-use Rattle.tlsf_plot.proofs.svg.write_always.Goals as goal
-
-pub returns : goal.returns
-unfolding always_text
-returns c = rw (sym c.bytes-bytes.ensures) c.write.ensures.bytes
