@@ -4,8 +4,8 @@ use Rattle.std.specs.Prelude.{IfSome}
 use Rattle.std.specs.Option.{unwrap_or}
 use Rattle.tlsf_class.specs.Classes.{IsLevel, most_words}
 use Rattle.tlsf_heap.specs.Blocks.{want}
-use Rattle.tlsf_laws.specs.Pools.{pool_words}
-use Rattle.tlsf_pool.proofs.Bounds.{words_rise}
+use Rattle.tlsf_pool.specs.laws.Pools.{pool_words}
+use Rattle.tlsf_pool.proofs.lemmas.sizes.Bounds.{words_rise}
 use Rattle.tlsf_command.specs.SizeLines.{IsGreatest, IsReached}
 
 least : (k : ℕ) → 0 ≤ k

@@ -6,7 +6,7 @@ use Rattle.tlsf_lines.specs.declared.trace_fault.TraceFault.{TraceFault}
 use Rattle.tlsf_trace.specs.declared.summary.Summary.{Summary}
 use Rattle.tlsf_command.specs.Runs.{tip_on, ChecksNote, IsNote}
 use Rattle.tlsf_command.specs.declared.trace_run.TraceRun.{TraceRun}
-use Rattle.tlsf_command.specs.declared.trace_run.TraceRun.TheVariants.{Replay, Held, HeldKinds, Race, RaceQueues, Map, MapText, MapHtml, MapWorst, MapWorstText, Plot, PlotText, Check}
+use Rattle.tlsf_command.specs.declared.trace_run.TraceRun.TheVariants.{Replay, Held, HeldKinds, Race, RaceQueues, Map, MapHtml, MapWorst, Plot, Check}
 
 -- what a check adds to no note is the note
 pub check_notes : (answer : Result Summary TraceFault) (text : Option (List ℕ)) (old new : List ℕ) → old ≡ []
@@ -22,11 +22,8 @@ other_note Held answer text note other is = is
 other_note HeldKinds answer text note other is = is
 other_note Race answer text note other is = is
 other_note RaceQueues answer text note other is = is
-other_note Map answer text note other is = is
-other_note MapText answer text note other is = is
+other_note (Map form) answer text note other is = is
 other_note MapHtml answer text note other is = is
-other_note MapWorst answer text note other is = is
-other_note MapWorstText answer text note other is = is
-other_note Plot answer text note other is = is
-other_note PlotText answer text note other is = is
+other_note (MapWorst form) answer text note other is = is
+other_note (Plot form) answer text note other is = is
 other_note Check answer text note other is = absurd (other refl)

@@ -1,16 +1,14 @@
 -- How a run ends, by what its words name.
-use Rattle.std.proofs.Common.{◌≡◌, ◌⊎◌, ◌∷◌, ◌++◌, ◌∙◌, ℕ, List, [], codes, inl, inr, ap, subst, sym}
+use Rattle.std.proofs.Common.{◌≡◌, ◌⊎◌, ◌∷◌, ◌++◌, ◌∙◌, ℕ, List, [], inl, inr, ap, subst, sym}
 use Rattle.clap.specs.Words.{IsAmong, Text}
 use Rattle.clap.specs.declared.error.kind.ErrorKind.{ErrorKind}
 use Rattle.clap.specs.declared.error.kind.ErrorKind.TheVariants.{OutOfMemory}
-use Rattle.tlsf_command.specs.CommandLine.{Asks, command_in, faults_of, words_of, IsPlainWord}
-use Rattle.tlsf_command.specs.Runs.{Streams, unset, Does, Ends, LacksMemory, RunsOrLacksMemory, ShowsAnswer, ShowsOptionsOrLacksMemory, ShowsPairsOrLacksMemory, TipsOrLacksMemory}
-use Rattle.tlsf_command.specs.SizeQuestions.{blocks_of, bytes_in, option_words, pair_words, AreOptions, ArePairs, IsQuestion, Pair, SizeOption}
+use Rattle.tlsf_command.specs.CommandLine.{Asks, faults_of, words_of, IsPlainWord}
+use Rattle.tlsf_command.specs.Runs.{Streams, Does, Ends, LacksMemory, RunsOrLacksMemory, ShowsAnswer, TipsOrLacksMemory}
 use Rattle.tlsf_command.specs.declared.command_line.Choice.{Choice}
 use Rattle.tlsf_command.specs.declared.trace_run.TraceRun.{TraceRun}
-use Rattle.tlsf_command.proofs.ChosenCommands.{only_run, only_size, only_tip}
+use Rattle.tlsf_command.proofs.ChosenCommands.{only_run, only_tip}
 use Rattle.tlsf_command.proofs.NamedRuns.{file_named, run_named, NameRun}
-use Rattle.tlsf_command.proofs.SizeOptions.{are_options, options_faultless, options_named, options_of, options_question, pair_blocks, pair_bytes, pair_words_are}
 
 -- ---- where `clap` ends it by an error
 
@@ -37,7 +35,7 @@ module _ (words : List Text) (called : Text) (status : ℕ) (old new : Streams) 
   by_run : (wanted : TraceRun) → words ≡ called ∷ words_of wanted → Run words status old new → RunsOrLacksMemory wanted status old new
   by_run wanted is (does choice asks done) =
       let names = subst (λ (given : List Text). NameRun given wanted []) (sym is) (run_named called wanted) in
-      inl (subst (λ (c : Choice). Does c status old new) (only_run words wanted choice names.named names.form names.given names.no_line asks) done)
+      inl (subst (λ (c : Choice). Does c status old new) (only_run wanted choice _ names.named asks.asked) done)
   by_run wanted is (fails kind among shows) = inr (answer_lacks words _ kind status old new shows among is (run_named called wanted).faultless)
 
   pub ends_run : (wanted : TraceRun) → words ≡ called ∷ words_of wanted → RunsOrLacksMemory wanted status old new
@@ -46,26 +44,8 @@ module _ (words : List Text) (called : Text) (status : ℕ) (old new : Streams) 
   by_file : (wanted : TraceRun) (file : Text) → IsPlainWord file → words ≡ called ∷ (words_of wanted ++ file ∷ []) → Run words status old new → TipsOrLacksMemory wanted file status old new
   by_file wanted file plain is (does choice asks done) =
       let names = subst (λ (given : List Text). NameRun given wanted (file ∷ [])) (sym is) (file_named called wanted file plain) in
-      inl (only_tip words wanted file choice status old new names.named names.form names.given names.no_line asks done)
+      inl (only_tip wanted file choice status old new _ names.named asks.asked done)
   by_file wanted file plain is (fails kind among shows) = inr (answer_lacks words _ kind status old new shows among is (file_named called wanted file plain).faultless)
 
   pub ends_file : (wanted : TraceRun) (file : Text) → IsPlainWord file → words ≡ called ∷ (words_of wanted ++ file ∷ []) → TipsOrLacksMemory wanted file status old new
   ends_file wanted file plain is = by_file wanted file plain is run
-
-  by_options : (options : List SizeOption) → AreOptions options → words ≡ called ∷ codes "size" ∷ option_words options → Run words status old new → ShowsOptionsOrLacksMemory options status old new
-  by_options options are is (does choice asks done) =
-      let size = only_size words choice (ap command_in is ∙ options_named called options are) asks in
-      inl (size.0, options_question words called options size.0 (subst (Asks words) size.1 asks) are is, subst (λ (c : Choice). Does c status old new) size.1 done)
-  by_options options are is (fails kind among shows) = inr (answer_lacks words _ kind status old new shows among is (options_faultless called options are))
-
-  pub ends_options : (options : List SizeOption) → AreOptions options → words ≡ called ∷ codes "size" ∷ option_words options → ShowsOptionsOrLacksMemory options status old new
-  ends_options options are is = by_options options are is run
-
-  pub ends_pairs : (pairs : List Pair) → ArePairs pairs → words ≡ called ∷ codes "size" ∷ pair_words pairs → ShowsPairsOrLacksMemory pairs status old new
-  ends_pairs pairs are is =
-      let options = ends_options (options_of pairs) (are_options pairs are) (is ∙ ap (λ (given : List Text). called ∷ codes "size" ∷ given) (pair_words_are pairs)) in
-      elim options [
-        | inl shown ↦
-            inl (shown.0, subst (λ (texts : List Text). IsQuestion (blocks_of pairs) texts [] unset shown.0) (pair_bytes pairs) (subst (λ (texts : List Text). IsQuestion texts (bytes_in (options_of pairs)) [] unset shown.0) (pair_blocks pairs) shown.1), shown.2)
-        | inr lacks ↦ inr lacks
-      ]

@@ -1,5 +1,5 @@
 -- Tables of kinds, and the numbers of texts.
-use Rattle.std.proofs.Common.{◌≡◌, ◌≤◌, ◌<◌, ◌+◌, ◌*◌, ◌^◌, ℕ, suc, Bool, true, false, cond, List, [], ◌∷◌, Option, Some, None, Result, Ok, Err, fold, map, max, nat_le, nat_lt, ◌∙◌, length, refl, sym, ap, arith}
+use Rattle.std.proofs.Common.{◌≡◌, ◌≤◌, ◌<◌, ◌+◌, ◌*◌, ◌^◌, ℕ, suc, Bool, true, false, cond, List, [], ◌∷◌, Option, Some, None, Result, Ok, Err, codes, fold, map, max, nat_le, nat_lt, ◌∙◌, length, refl, sym, ap, arith}
 use Rattle.std.proofs.Math.Nat.{mul-le-mul}
 use Rattle.std.specs.Prelude.{IfSome}
 use Rattle.std.specs.List.{AllByRecursion, list_all}
@@ -12,16 +12,17 @@ use Rattle.clap.specs.declared.builder.value_parser.ValueParser.TheVariants.{Uns
 use Rattle.clap.proofs.ValueTestLemmas.{accepts-Accepts, Accepts-accepts}
 use Rattle.tlsf_command.specs.SizeLines.{asked_bytes, AreReached, HasNoSplit, IsCheapest, IsFiner, IsServable, IsSplitOf}
 use Rattle.clap.specs.Words.{Text}
-use Rattle.tlsf_command.specs.SizeQuestions.{kinds_in, number_of, AreOfTexts, HasKinds, HasTable, IsQuestion}
+use Rattle.tlsf_command.specs.Arguments.{Arguments, number_of}
+use Rattle.tlsf_command.specs.SizeQuestions.{kinds_in, AreOfTexts, HasKinds, HasTable, IsQuestion}
 use Rattle.tlsf_command.specs.declared.size_question.SizeQuestion.{SizeQuestion}
 use Rattle.tlsf_command.specs.declared.size_question.SizeQuestion.TheVariants.{Table, FineTable, Split, FineSplit, Unpaired}
 use Rattle.tlsf_class.specs.Classes.{most_words}
 use Rattle.tlsf_class.proofs.TwoLevels.{most_words_any}
 use Rattle.tlsf_heap.specs.Blocks.{want}
-use Rattle.tlsf_heap.proofs.Finding.{and_left, and_right}
-use Rattle.tlsf_laws.specs.Kinds.{are_fours, count_in, kinds_words, resized_words, table_words, used, words_with, HasClass}
-use Rattle.tlsf_laws.specs.declared.kind.Kind.{Kind}
-use Rattle.tlsf_pool.specs.declared.split.Split.{Split as Way}
+use Rattle.tlsf_heap.proofs.lemmas.blocks.Find.{and_left, and_right}
+use Rattle.tlsf_pool.specs.laws.Kinds.{are_fours, count_in, kinds_words, resized_words, table_words, used, words_with, HasClass}
+use Rattle.tlsf_pool.specs.declared.kind.Kind.{Kind}
+use Rattle.tlsf_pool.specs.declared.sizes.split.Split.{Split as Way}
 
 -- ---- numbers
 
@@ -150,9 +151,9 @@ of_texts blocks bytes kinds are =
     (omega (arith, count, are.0.1), omega (arith, count, are.0.2))
 
 -- and so has that of a question
-pub has_table : (blocks bytes levels flags : List Text) (question : SizeQuestion) → IsQuestion blocks bytes levels flags question → HasTable question
-has_table blocks bytes levels flags (Table kinds) is = of_texts blocks bytes kinds.items is.0
-has_table blocks bytes levels flags (FineTable kinds) is = of_texts blocks bytes kinds.items is.0
-has_table blocks bytes levels flags (Split kinds) is = of_texts blocks bytes kinds.items is.0
-has_table blocks bytes levels flags (FineSplit kinds) is = of_texts blocks bytes kinds.items is.0
-has_table blocks bytes levels flags (Unpaired m n) is = tt
+pub has_table : (given : Arguments) (question : SizeQuestion) → IsQuestion given question → HasTable question
+has_table given (Table kinds) is = of_texts (given (codes "B")) (given (codes "N")) kinds.items is.0
+has_table given (FineTable kinds) is = of_texts (given (codes "B")) (given (codes "N")) kinds.items is.0
+has_table given (Split kinds) is = of_texts (given (codes "B")) (given (codes "N")) kinds.items is.0
+has_table given (FineSplit kinds) is = of_texts (given (codes "B")) (given (codes "N")) kinds.items is.0
+has_table given (Unpaired m n) is = tt

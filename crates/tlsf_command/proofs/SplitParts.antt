@@ -3,9 +3,9 @@ use Rattle.std.proofs.Common.{◌≡◌, ◌≤◌, ◌<◌, ◌+◌, ◌-◌, �
 use Rattle.std.specs.List.{AllByRecursion}
 use Rattle.std.proofs.lemmas.Bool.{cases_lt}
 use Rattle.tlsf_class.proofs.TwoLevels.{most_words_any}
-use Rattle.tlsf_laws.specs.declared.kind.Kind.{Kind}
-use Rattle.tlsf_pool.specs.Splits.{cut_by, joined, parts_of, words_together, IsCut, IsPart}
-use Rattle.tlsf_pool.specs.declared.split.Split.{Split}
+use Rattle.tlsf_pool.specs.declared.kind.Kind.{Kind}
+use Rattle.tlsf_pool.specs.sizes.Splits.{cut_by, joined, parts_of, words_together, IsCut, IsPart}
+use Rattle.tlsf_pool.specs.declared.sizes.split.Split.{Split}
 use Rattle.tlsf_command.specs.SizeLines.{asked_bytes, heap_line, heap_lines, AreReached, IsCheapest, IsServable}
 use Rattle.tlsf_command.proofs.SizeTables.{few_bytes}
 

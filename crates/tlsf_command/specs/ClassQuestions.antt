@@ -1,8 +1,7 @@
 -- What `tlsf classes` is asked for, by the texts that give the size and that stand behind `--sli`.
-use Rattle.std.specs.Prelude.{◌≡◌, ◌≤◌, ⊤, ℕ, List}
-use Rattle.clap.specs.Words.{Text}
+use Rattle.std.specs.Prelude.{◌≡◌, ◌≤◌, ⊤, ℕ, codes}
 use Rattle.tlsf_class.specs.Classes.{IsLevel, most_words}
-use Rattle.tlsf_command.specs.SizeQuestions.{first_number}
+use Rattle.tlsf_command.specs.Arguments.{Arguments, first_number}
 use Rattle.tlsf_command.specs.declared.class_question.ClassQuestion.{ClassQuestion}
 use Rattle.tlsf_command.specs.declared.class_question.ClassQuestion.TheVariants.{Coarse, Fine, NoClass}
 
@@ -16,9 +15,9 @@ IsOfNumbers words level (Coarse n) = (level ≡ 4) × (n ≡ words) × HasClassA
 IsOfNumbers words level (Fine n) = (level ≡ 5) × (n ≡ words) × HasClassAt 5 n
 IsOfNumbers words level NoClass = ¬ (HasClassAt level words)
 
--- the question that these texts make: the size is the first number of those, and the level that of these, 4 where there is none
-abbrev pub IsClassQuestion : (sizes levels : List Text) → ClassQuestion → Type 0
-IsClassQuestion sizes levels = IsOfNumbers (first_number 0 sizes) (first_number 4 levels)
+-- the question about the size and the level that are given, 4 where there is none
+abbrev pub IsClassQuestion : Arguments → ClassQuestion → Type 0
+IsClassQuestion given = IsOfNumbers (first_number 0 (given (codes "N"))) (first_number 4 (given (codes "sli")))
 
 -- its size, if it has one, has a class
 abbrev pub HasClasses : ClassQuestion → Type 0

@@ -1,22 +1,30 @@
 -- The command line, by the definitions of `clap`.
-use Rattle.std.specs.Prelude.{◌≡◌, ◌≢◌, ◌==◌, ◌^◌, ⊤, ℕ, Bool, false, true, pos, List, [], ◌∷◌, ◌++◌, Option, Some, None, codes, option_and_then, option_map, string_bytes, unwrap_or, if◌then◌else◌}
-use Rattle.clap.specs.Matches.{found_of, subcommand_name_of}
-use Rattle.clap.specs.Walk.{Row, rows_of}
-use Rattle.clap.specs.Words.{App, Kinds, Rule, Text, all_of, fault_of, new_app, new_rule, one_of, subcommand_of, subcommand_rows_of, with_rule, with_subcommand}
+use Rattle.std.specs.Prelude.{◌≡◌, ◌≢◌, ◌⊎◌, ◌==◌, ◌^◌, ⊤, ℕ, Bool, false, true, pos, List, [], ◌∷◌, ◌++◌, Option, Some, None, codes, string_bytes, if◌then◌else◌}
+use Rattle.clap.specs.Words.{App, Kinds, Row, Rule, Text, app_of, fault_of, new_app, new_rule, rule_of, subcommand_of, with_rule, with_subcommand}
 use Rattle.clap.specs.declared.builder.action.ArgAction.TheVariants.{Append, Set, SetTrue}
 use Rattle.clap.specs.declared.builder.value_parser.ValueParser.TheVariants.{Signed}
-use Rattle.clap.specs.declared.parser.matches.ArgMatches.{ArgMatches}
+use Rattle.clap.specs.declared.builder.arg.Arg.{Arg}
+use Rattle.clap.specs.declared.builder.command.Command.{Command}
+use Rattle.clap.specs.declared.builder.command.Command.TheViews.{out-Command}
 use Rattle.std.specs.Fmt.{decimal}
 use Rattle.std.specs.Str.{bytes_eq}
+use Rattle.tlsf_command.specs.Arguments.{Arguments, first_number, is_set, texts_in}
 use Rattle.tlsf_command.specs.Quotes.{quoted}
 use Rattle.tlsf_command.specs.ClassQuestions.{HasClasses, IsClassQuestion}
-use Rattle.tlsf_command.specs.SizeQuestions.{HasTable, IsQuestion, first_number}
+use Rattle.tlsf_command.specs.SizeQuestions.{HasTable, IsQuestion}
 use Rattle.tlsf_command.specs.declared.command_line.Choice.{Choice}
 use Rattle.tlsf_command.specs.declared.command_line.Choice.TheVariants.{Trace, File, Classes, Size, At, TwoLines}
 use Rattle.tlsf_picture.specs.declared.form.Form.{Form}
 use Rattle.tlsf_picture.specs.declared.form.Form.TheVariants.{Svg, Text as Characters}
 use Rattle.tlsf_command.specs.declared.trace_run.TraceRun.{TraceRun}
-use Rattle.tlsf_command.specs.declared.trace_run.TraceRun.TheVariants.{Replay, Held, HeldKinds, Race, RaceQueues, Map, MapText, MapHtml, MapWorst, MapWorstText, Plot, PlotText, Check}
+use Rattle.tlsf_command.specs.declared.trace_run.TraceRun.TheVariants.{Replay, Held, HeldKinds, Race, RaceQueues, Map, MapHtml, MapWorst, Plot, Check}
+
+-- an argument has this rule, and a command is of this app; neither is for all commands
+abbrev pub IsArg : Rule → Arg → Type 0
+IsArg rule arg = (rule_of arg ≡ rule) × (arg.global ≡ false)
+
+abbrev pub IsOf : App → Command → Type 0
+IsOf app command = (app_of command ≡ app) × ((out-Command command).has_globals ≡ false)
 
 -- the size that `classes` asks for, a number from 4 to 2^24
 abbrev pub size_rule : Rule
@@ -111,79 +119,66 @@ tlsf_app =
 abbrev pub faults_of : List Text → Kinds
 faults_of words = fault_of tlsf_app words
 
--- the name of the command that the words name
-abbrev pub command_in : List Text → Option Text
-command_in words = option_map (λ named. named.0) (subcommand_of tlsf_app words)
+-- the words name a command, and this holds of its name and of what is given to it
+abbrev pub Names : (Text → Arguments → Type 0) → Option (Text × List Row) → Type 0
+Names Is None = ⊥
+Names Is (Some named) = Is named.0 (texts_in named.1)
 
--- the words come to no fault, and the matches give the command that they name
-abbrev pub Answers : List Text → ArgMatches → Type 0
-Answers words matches = (faults_of words ≡ []) × (subcommand_rows_of matches ≡ subcommand_of tlsf_app words)
+-- the form of a picture or a plot, by whether the flag `--text` is given
+abbrev pub form_by : Bool → Form
+form_by true = Characters
+form_by false = Svg
 
--- the command of this name was entered, and these are its own matches
-abbrev pub Enters : ArgMatches → Text → ArgMatches → Type 0
-Enters matches name given = (subcommand_name_of matches ≡ Some name)
-    × (option_map (λ (entered : Text × List Row). entered.1) (subcommand_rows_of matches) ≡ Some (rows_of (found_of given)))
+-- the run that a command asks for by whether its flags are given, in the order of their names here. Kinds are held ones, with `--held` and
+-- without
+abbrev pub replay_by : (kinds held : Bool) → TraceRun
+replay_by true held = HeldKinds
+replay_by false true = Held
+replay_by false false = Replay
 
--- what the words give for a flag of the command that they name: `true` where it stands among them, `false` where it doesn't
-abbrev pub flag_given : Text → List Text → Option Text
-flag_given name words = option_and_then (λ named. one_of name named.1) (subcommand_of tlsf_app words)
+abbrev pub race_by : (queues : Bool) → TraceRun
+race_by true = RaceQueues
+race_by false = Race
 
--- the texts that the words give under this id to the command that they name, in their order
-abbrev pub texts_given : Text → List Text → List Text
-texts_given id words =
-    unwrap_or (option_and_then (λ named. all_of id named.1) (subcommand_of tlsf_app words)) []
+abbrev pub map_by : (html worst : Bool) → Form → TraceRun
+map_by true worst form = MapHtml
+map_by false true form = MapWorst form
+map_by false false form = Map form
 
--- the number of the line that the words give, 0 where they give none
-abbrev pub line_given : List Text → ℕ
-line_given words = first_number 0 (texts_given (codes "K") words)
+-- the run that the command of this name asks for, by which flags are given: `replay` is the one that is none of the others
+abbrev pub run_by : (name : Text) → (is_given : Text → Bool) → TraceRun
+run_by name is_given =
+    if bytes_eq name (codes "race") then race_by (is_given (codes "queues"))
+    else (if bytes_eq name (codes "map") then map_by (is_given (codes "html")) (is_given (codes "worst")) (form_by (is_given (codes "text")))
+    else (if bytes_eq name (codes "plot") then Plot (form_by (is_given (codes "text")))
+    else (if bytes_eq name (codes "check") then Check
+    else replay_by (is_given (codes "kinds")) (is_given (codes "held")))))
 
--- the command that a run of a trace is named by
-abbrev pub command_of : TraceRun → Text
-command_of Replay = codes "replay"
-command_of Held = codes "replay"
-command_of HeldKinds = codes "replay"
-command_of Race = codes "race"
-command_of RaceQueues = codes "race"
-command_of Map = codes "map"
-command_of MapText = codes "map"
-command_of MapHtml = codes "map"
-command_of MapWorst = codes "map"
-command_of MapWorstText = codes "map"
-command_of Plot = codes "plot"
-command_of PlotText = codes "plot"
-command_of Check = codes "check"
-
--- the words that ask for it, behind the program's name
+-- the words that ask for a run, behind the program's name
 abbrev pub words_of : TraceRun → List Text
 words_of Replay = codes "replay" ∷ []
 words_of Held = codes "replay" ∷ codes "--held" ∷ []
 words_of HeldKinds = codes "replay" ∷ codes "--held" ∷ codes "--kinds" ∷ []
 words_of Race = codes "race" ∷ []
 words_of RaceQueues = codes "race" ∷ codes "--queues" ∷ []
-words_of Map = codes "map" ∷ []
-words_of MapText = codes "map" ∷ codes "--text" ∷ []
+words_of (Map Svg) = codes "map" ∷ []
+words_of (Map Characters) = codes "map" ∷ codes "--text" ∷ []
 words_of MapHtml = codes "map" ∷ codes "--html" ∷ []
-words_of MapWorst = codes "map" ∷ codes "--worst" ∷ []
-words_of MapWorstText = codes "map" ∷ codes "--worst" ∷ codes "--text" ∷ []
-words_of Plot = codes "plot" ∷ []
-words_of PlotText = codes "plot" ∷ codes "--text" ∷ []
+words_of (MapWorst Svg) = codes "map" ∷ codes "--worst" ∷ []
+words_of (MapWorst Characters) = codes "map" ∷ codes "--worst" ∷ codes "--text" ∷ []
+words_of (Plot Svg) = codes "plot" ∷ []
+words_of (Plot Characters) = codes "plot" ∷ codes "--text" ∷ []
 words_of Check = codes "check" ∷ []
 
--- these words in one text
+-- words in one text
+abbrev pub joined : List Text → Text
+joined [] = []
+joined (word ∷ []) = word
+joined (word ∷ words) = word ++ (codes " " ++ joined words)
+
+-- the words of a run in one text
 abbrev pub spelled : TraceRun → Text
-spelled Replay = codes "replay"
-spelled Held = codes "replay --held"
-spelled HeldKinds = codes "replay --held --kinds"
-spelled Race = codes "race"
-spelled RaceQueues = codes "race --queues"
-spelled Map = codes "map"
-spelled MapText = codes "map --text"
-spelled MapHtml = codes "map --html"
-spelled MapWorst = codes "map --worst"
-spelled MapWorstText = codes "map --worst --text"
-spelled Plot = codes "plot"
-spelled PlotText = codes "plot --text"
-spelled Check = codes "check"
+spelled run = joined (words_of run)
 
 -- the option that gives a line of the trace, behind these words; 0 is none
 abbrev pub at_text : ℕ → Text
@@ -204,76 +199,48 @@ IsTip run line (file ∷ files) text = text ≡ tip_line run line file
 abbrev pub two_lines_line : Text
 two_lines_line = codes "tlsf: --at and --worst each choose a line of the trace: give one of them\n"
 
--- how a command line names the choice
-abbrev pub name_of : Choice → Text
-name_of (Trace run) = command_of run
-name_of (File run tip) = command_of run
-name_of (Classes question) = codes "classes"
-name_of (Size question) = codes "size"
-name_of (At form line) = codes "map"
-name_of TwoLines = codes "map"
+-- a picture is drawn behind a line, if one is given; a page shows each one, and takes none
+abbrev pub takes_line : TraceRun → Bool
+takes_line (Map form) = true
+takes_line (MapWorst form) = true
+takes_line run = false
 
--- the words give this flag, as far as `clap` tells it; and they don't
-abbrev pub HasFlag : Text → List Text → Type 0
-HasFlag name words = (flag_given name words ≢ Some (codes "false")) × (flag_given name words ≢ None)
+-- the line that is given to a run, 0 where none is
+abbrev pub line_for : TraceRun → Arguments → ℕ
+line_for run given = if takes_line run then first_number 0 (given (codes "K")) else 0
 
-abbrev pub LacksFlag : Text → List Text → Type 0
-LacksFlag name words = flag_given name words ≢ Some (codes "true")
+-- a run draws the heaps behind the line to look at
+abbrev pub IsWorst : TraceRun → Type 0
+IsWorst (MapWorst form) = ⊤
+IsWorst run = ⊥
 
--- the words give the flag by which the run is asked for, or lack those by which another one is. Kinds are held ones, with `--held` and without
-abbrev pub HasForm : TraceRun → List Text → Type 0
-HasForm Replay words = LacksFlag (codes "kinds") words × LacksFlag (codes "held") words
-HasForm Held words = LacksFlag (codes "kinds") words × HasFlag (codes "held") words
-HasForm HeldKinds words = HasFlag (codes "kinds") words
-HasForm Race words = LacksFlag (codes "queues") words
-HasForm RaceQueues words = HasFlag (codes "queues") words
-HasForm Map words = LacksFlag (codes "html") words × LacksFlag (codes "worst") words × LacksFlag (codes "text") words
-HasForm MapText words = LacksFlag (codes "html") words × LacksFlag (codes "worst") words × HasFlag (codes "text") words
-HasForm MapHtml words = HasFlag (codes "html") words
-HasForm MapWorst words = LacksFlag (codes "html") words × HasFlag (codes "worst") words × LacksFlag (codes "text") words
-HasForm MapWorstText words = LacksFlag (codes "html") words × HasFlag (codes "worst") words × HasFlag (codes "text") words
-HasForm Plot words = LacksFlag (codes "text") words
-HasForm PlotText words = HasFlag (codes "text") words
-HasForm Check words = ⊤
+-- the choice of a run with this line, 0 for none, where these words stand behind its command: it is asked for where no file is named, and
+-- else its tip is due
+abbrev pub IsRunOn : TraceRun → (line : ℕ) → (files : List Text) → Choice → Type 0
+IsRunOn run line files (Trace other) = (other ≡ run) × (files ≡ []) × (line ≡ 0)
+IsRunOn run line files (File other tip) = (other ≡ run) × IsTip run line files (string_bytes tip)
+IsRunOn run line files (At form k) = (run ≡ Map form) × (files ≡ []) × (k ≢ 0) × (k ≡ line)
+IsRunOn run line files TwoLines = IsWorst run × (line ≢ 0)
+IsRunOn run line files choice = ⊥
 
--- the run that `replay` asks for, by whether it has the flag `--kinds`, and `--held`
-abbrev pub replay_by : (kinds held : Bool) → TraceRun
-replay_by true held = HeldKinds
-replay_by false true = Held
-replay_by false false = Replay
+-- the command of this name reads a trace
+abbrev pub ReadsTrace : Text → Type 0
+ReadsTrace name = (name ≡ codes "replay") ⊎ ((name ≡ codes "race") ⊎ ((name ≡ codes "map") ⊎ ((name ≡ codes "plot") ⊎ (name ≡ codes "check"))))
 
--- the words give the flag of this form, or don't
-abbrev pub IsFormOf : Form → List Text → Type 0
-IsFormOf Svg words = LacksFlag (codes "text") words
-IsFormOf Characters words = HasFlag (codes "text") words
+-- this is the name of a command of the program
+abbrev pub IsCommand : Text → Type 0
+IsCommand name = ReadsTrace name ⊎ ((name ≡ codes "classes") ⊎ (name ≡ codes "size"))
 
--- the run by which heaps are drawn in this form
-abbrev pub run_in : Form → TraceRun
-run_in Svg = Map
-run_in Characters = MapText
+-- the run that is asked for by a command that reads a trace
+abbrev pub run_asked : Text → Arguments → TraceRun
+run_asked name given = run_by name (λ flag. is_set (given flag))
 
--- the run by which they are drawn so behind the line to look at
-abbrev pub worst_in : Form → TraceRun
-worst_in Svg = MapWorst
-worst_in Characters = MapWorstText
-
--- the line that the words give to a run, 0 where they give none: a page shows each one, and takes none
-abbrev pub line_for : TraceRun → List Text → ℕ
-line_for Map words = line_given words
-line_for MapText words = line_given words
-line_for MapWorst words = line_given words
-line_for MapWorstText words = line_given words
-line_for run words = 0
-
--- what the choice holds is of the flags and the texts that the words give: a run is asked for where no file is named, and else its tip is due
-abbrev pub HasParts : List Text → Choice → Type 0
-HasParts words (Trace run) = HasForm run words × (texts_given (codes "FILE") words ≡ []) × (line_for run words ≡ 0)
-HasParts words (File run tip) = HasForm run words × IsTip run (line_for run words) (texts_given (codes "FILE") words) (string_bytes tip)
-HasParts words (Classes question) = IsClassQuestion (texts_given (codes "N") words) (texts_given (codes "sli") words) question
-HasParts words (Size question) =
-    IsQuestion (texts_given (codes "B") words) (texts_given (codes "N") words) (texts_given (codes "sli") words) (texts_given (codes "split") words) question
-HasParts words (At form line) = HasForm (run_in form) words × (texts_given (codes "FILE") words ≡ []) × (line ≢ 0) × (line ≡ line_given words)
-HasParts words TwoLines = LacksFlag (codes "html") words × HasFlag (codes "worst") words × (line_given words ≢ 0)
+-- the choice is what the command of this name asks for by what is given to it
+abbrev pub IsAskedBy : Choice → Text → Arguments → Type 0
+IsAskedBy (Classes question) name given = (name ≡ codes "classes") × IsClassQuestion given question
+IsAskedBy (Size question) name given = (name ≡ codes "size") × IsQuestion given question
+IsAskedBy choice name given =
+    let run = run_asked name given in ReadsTrace name × IsRunOn run (line_for run given) (given (codes "FILE")) choice
 
 -- the size of the choice, where it has one, has a class, and a table has 1 to 64 kinds
 abbrev pub IsAnswerable : Choice → Type 0
@@ -281,22 +248,10 @@ IsAnswerable (Classes question) = HasClasses question
 IsAnswerable (Size question) = HasTable question
 IsAnswerable choice = ⊤
 
--- the choice of a run, where these words stand behind its command, and this line behind `--at`
-abbrev pub IsRunOn : TraceRun → (line : ℕ) → (files : List Text) → Choice → Type 0
-IsRunOn run line files (Trace other) = (other ≡ run) × (files ≡ [])
-IsRunOn run line files (File other tip) = (other ≡ run) × IsTip run line files (string_bytes tip)
-IsRunOn run line files choice = ⊥
-
--- the choice of a picture in this form, where these words stand behind `map`, and this line behind `--at`
-abbrev pub IsMapOn : Form → (line : ℕ) → (files : List Text) → Choice → Type 0
-IsMapOn form line files (At other k) = (other ≡ form) × (files ≡ []) × (k ≢ 0) × (k ≡ line)
-IsMapOn form line files choice = IsRunOn (run_in form) line files choice × (files ≡ [] → line ≡ 0)
-
 -- the words ask for this and nothing else
 pub record Asks (words : List Text) (choice : Choice) : Type 0 where
   pub faultless : faults_of words ≡ []
-  pub named : command_in words ≡ Some (name_of choice)
-  pub parts : HasParts words choice
+  pub asked : Names (IsAskedBy choice) (subcommand_of tlsf_app words)
 
 -- a word that begins with no hyphen
 abbrev pub IsPlainWord : Text → Type 0

@@ -1,3 +1,4 @@
+pub mod Arguments
 pub mod FaultLines
 pub mod ClassLines
 pub mod ClassQuestions

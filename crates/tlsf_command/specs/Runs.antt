@@ -1,5 +1,5 @@
 -- What a run of the program does.
-use Rattle.std.specs.Prelude.{◌≡◌, ◌⊎◌, ◌++◌, ⊤, ℕ, List, [], ◌∷◌, Option, Result, Ok, Err, IfSome, codes, string_bytes}
+use Rattle.std.specs.Prelude.{◌≡◌, ◌⊎◌, ◌++◌, ⊤, ℕ, List, [], ◌∷◌, Option, Result, Ok, Err, IfSome, string_bytes}
 use Rattle.std.specs.Io.KnownBytes.{Appends, Keeps}
 use Rattle.clap.specs.Words.{IsAmong, Text}
 use Rattle.clap.specs.declared.error.kind.ErrorKind.{ErrorKind}
@@ -8,25 +8,24 @@ use Rattle.tlsf_command.specs.ClassLines.{class_line, no_class_line}
 use Rattle.tlsf_command.specs.CommandLine.{Asks, faults_of, tip_line, two_lines_line}
 use Rattle.tlsf_command.specs.FaultLines.{check_tip, fault_line, status_of_fault}
 use Rattle.tlsf_command.specs.SizeLines.{no_split_line, size_line, split_lines, unpaired_line, unreached_line, unreached_table_line, AreReached, HasNoSplit, IsCheapest, IsFiner, IsFirstUnreached, IsGreatest, IsReached, IsSplitOf}
-use Rattle.tlsf_command.specs.SizeQuestions.{blocks_in, blocks_of, bytes_in, bytes_of, IsQuestion, Pair, SizeOption}
 use Rattle.tlsf_command.specs.declared.class_question.ClassQuestion.{ClassQuestion}
 use Rattle.tlsf_command.specs.declared.class_question.ClassQuestion.TheVariants.{Coarse, Fine, NoClass}
 use Rattle.tlsf_command.specs.declared.size_question.SizeQuestion.{SizeQuestion}
 use Rattle.tlsf_command.specs.declared.size_question.SizeQuestion.TheVariants.{Table, FineTable, Split as Splits, FineSplit as FineSplits, Unpaired}
-use Rattle.tlsf_laws.specs.declared.kind.Kind.{Kind}
-use Rattle.tlsf_pool.specs.Splits.{parts_of}
-use Rattle.tlsf_pool.specs.declared.split.Split.{Split}
+use Rattle.tlsf_pool.specs.declared.kind.Kind.{Kind}
+use Rattle.tlsf_pool.specs.sizes.Splits.{parts_of}
+use Rattle.tlsf_pool.specs.declared.sizes.split.Split.{Split}
 use Rattle.tlsf_command.specs.declared.command_line.Choice.{Choice}
 use Rattle.tlsf_command.specs.declared.command_line.Choice.TheVariants.{Trace, File, Classes, Size, At, TwoLines}
 use Rattle.tlsf_command.specs.declared.trace_run.TraceRun.{TraceRun}
-use Rattle.tlsf_command.specs.declared.trace_run.TraceRun.TheVariants.{Replay, Held, HeldKinds, Race, RaceQueues, Map, MapText, MapHtml, MapWorst, MapWorstText, Plot, PlotText, Check}
+use Rattle.tlsf_command.specs.declared.trace_run.TraceRun.TheVariants.{Replay, Held, HeldKinds, Race, RaceQueues, Map, MapHtml, MapWorst, Plot, Check}
 use Rattle.tlsf_check.specs.Checks.{Checks, Notes}
 use Rattle.tlsf_held.specs.Measures.{Measures, TellsKinds}
 use Rattle.tlsf_picture.specs.Drawn.{Draws, DrawsAt, DrawsText}
 use Rattle.tlsf_picture.specs.Pages.{DrawsPage}
 use Rattle.tlsf_picture.specs.declared.form.Form.TheVariants.{Svg, Text as Characters}
-use Rattle.tlsf_plot.specs.Plots.{Plots}
-use Rattle.tlsf_plot.specs.Worst.{DrawsWorst}
+use Rattle.tlsf_picture.specs.plots.Plots.{Plots}
+use Rattle.tlsf_picture.specs.plots.Worst.{DrawsWorst}
 use Rattle.tlsf_lines.specs.Prefixes.{AppendsFront}
 use Rattle.tlsf_trace.specs.Replay.{IsRun, Outputs, Races, RacesQueues, Replays}
 use Rattle.tlsf_lines.specs.TraceFaults.{no_memory_fault, write_fault}
@@ -76,13 +75,11 @@ puts_of Held = Measures
 puts_of HeldKinds = TellsKinds
 puts_of Race = Races
 puts_of RaceQueues = RacesQueues
-puts_of Map = Draws
-puts_of MapText = DrawsText
+puts_of (Map Svg) = Draws
+puts_of (Map Characters) = DrawsText
 puts_of MapHtml = DrawsPage
-puts_of MapWorst = DrawsWorst Svg
-puts_of MapWorstText = DrawsWorst Characters
-puts_of Plot = Plots Svg
-puts_of PlotText = Plots Characters
+puts_of (MapWorst form) = DrawsWorst form
+puts_of (Plot form) = Plots form
 puts_of Check = Checks
 
 -- the trace is run in this way, and the answer gives the status and the report
@@ -228,19 +225,3 @@ RunsOrLacksMemory run status old new = RunsAs run status old new ⊎ LacksMemory
 -- the tip about this file was reported, unless memory ran out before
 abbrev pub TipsOrLacksMemory : TraceRun → Text → ℕ → Streams → Streams → Type 0
 TipsOrLacksMemory run file status old new = Refuses (tip_line run 0 file) status old new ⊎ LacksMemory status old new
-
--- what `clap` gives for a flag that isn't among the words
-abbrev pub unset : List Text
-unset = codes "false" ∷ []
-
--- the question that the pairs make was answered, unless memory ran out before
-abbrev pub ShowsPairsOrLacksMemory : List Pair → ℕ → Streams → Streams → Type 0
-ShowsPairsOrLacksMemory pairs status old new =
-    ((question : SizeQuestion) × IsQuestion (blocks_of pairs) (bytes_of pairs) [] unset question × ShowsSize question status old new)
-    ⊎ LacksMemory status old new
-
--- the question that the options make was answered, unless memory ran out before
-abbrev pub ShowsOptionsOrLacksMemory : List SizeOption → ℕ → Streams → Streams → Type 0
-ShowsOptionsOrLacksMemory options status old new =
-    ((question : SizeQuestion) × IsQuestion (blocks_in options) (bytes_in options) [] unset question × ShowsSize question status old new)
-    ⊎ LacksMemory status old new

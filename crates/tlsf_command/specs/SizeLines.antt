@@ -4,11 +4,11 @@ use Rattle.std.specs.List.{AllByRecursion}
 use Rattle.std.specs.Fmt.{decimal}
 use Rattle.tlsf_class.specs.Classes.{most_words}
 use Rattle.tlsf_heap.specs.Blocks.{want}
-use Rattle.tlsf_laws.specs.Kinds.{kinds_words, HasClass}
-use Rattle.tlsf_laws.specs.Pools.{pool_words}
-use Rattle.tlsf_laws.specs.declared.kind.Kind.{Kind}
-use Rattle.tlsf_pool.specs.Splits.{words_together, HasNoCut, IsLeast}
-use Rattle.tlsf_pool.specs.declared.split.Split.{Split}
+use Rattle.tlsf_pool.specs.laws.Kinds.{kinds_words, HasClass}
+use Rattle.tlsf_pool.specs.laws.Pools.{pool_words}
+use Rattle.tlsf_pool.specs.declared.kind.Kind.{Kind}
+use Rattle.tlsf_pool.specs.sizes.Splits.{words_together, HasNoCut, IsLeast}
+use Rattle.tlsf_pool.specs.declared.sizes.split.Split.{Split}
 
 -- some region of the level has the words that the law asks for, for so many blocks of so many bytes
 abbrev pub IsReached : ℕ → ℕ → ℕ → Type 0

@@ -1,9 +1,7 @@
-ghost use Rattle.std.specs.Prelude.{◌≡◌, [], codes, option_map};
-ghost use Rattle.std.specs.Option.{unwrap_or};
-ghost use Rattle.clap.specs.Words.{found_of, matched_of, raw_values};
+ghost use Rattle.tlsf_command.specs.Arguments.{texts_of};
 ghost use Rattle.tlsf_command.specs.ClassQuestions.{IsClassQuestion, IsOfNumbers};
 
-use crate::size_question::{first_number, level_given};
+use crate::arguments::number_given;
 use clap::ArgMatches;
 use tlsf_class::most_words;
 
@@ -42,14 +40,8 @@ impl ClassQuestion {
     /// let question = ClassQuestion::given(&matches);     // ClassQuestion::Fine(460)
     /// ```
     pub fn given(given: &ArgMatches<'_>) -> ClassQuestion
-        ensures { IsClassQuestion
-            (unwrap_or (option_map raw_values (matched_of (found_of given.now) (codes "N"))) [])
-            (unwrap_or (option_map raw_values (matched_of (found_of given.now) (codes "sli"))) []) result }
+        ensures { IsClassQuestion (texts_of given.now) result }
     {
-        let words = match given.get_raw("N") {
-            Some(texts) => first_number(texts, 0),
-            None => 0,
-        };
-        ClassQuestion::of_numbers(words, level_given(given))
+        ClassQuestion::of_numbers(number_given(given, "N", 0), number_given(given, "sli", 4))
     }
 }

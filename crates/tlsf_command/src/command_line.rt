@@ -1,18 +1,15 @@
-ghost use Rattle.std.specs.Prelude.{◌≡◌, List, [], codes, false, map, option_map, IfOk};
-ghost use Rattle.std.specs.Option.{unwrap_or};
-ghost use Rattle.clap.specs.declared.builder.command.Command.{Command};
-ghost use Rattle.clap.specs.Words.{app_of, found_of, matched_of, new_app, raw_values, rule_of, subcommand_of, subcommand_rows_of, with_subcommand, FailsBy, Text};
-ghost use Rattle.clap.specs.declared.parser.matches.ArgMatches.{ArgMatches as Matches};
-ghost use Rattle.clap.specs.declared.builder.command.Command.TheViews.{out-Command};
-ghost use Rattle.tlsf_command.specs.SizeQuestions;
-ghost use Rattle.tlsf_command.specs.CommandLine.{bare_app, check_app, classes_app, count_rule, file_rule, flag_rule, level_rule, line_rule, map_app, plot_app, race_app, replay_app, size_app, size_rule, tlsf_app, trace_app, worst_in, faults_of, replay_by, run_in, Answers, Asks, Enters, IsFormOf, IsMapOn, IsRunOn, LacksFlag};
+ghost use Rattle.std.specs.Prelude.{◌≡◌, [], codes, false, map, IfOk};
+ghost use Rattle.clap.specs.Words.{app_of, new_app, subcommand_of, subcommand_rows_of, with_subcommand, App, FailsBy};
+ghost use Rattle.tlsf_command.specs.Arguments.{texts_of};
+ghost use Rattle.tlsf_command.specs.CommandLine.{bare_app, check_app, classes_app, count_rule, file_rule, flag_rule, level_rule, line_rule, map_app, plot_app, race_app, replay_app, size_app, size_rule, tlsf_app, trace_app, faults_of, form_by, line_for, map_by, race_by, replay_by, run_asked, takes_line, Asks, IsArg, IsAskedBy, IsCommand, IsOf, IsRunOn};
 
 use crate::VERSION;
+use crate::arguments::{is_given, number_given};
 use crate::class_question::ClassQuestion;
 use crate::help::{
     CHECK_HELP, CLASSES_HELP, MAP_HELP, PLOT_HELP, PROGRAM_HELP, RACE_HELP, REPLAY_HELP, SIZE_HELP,
 };
-use crate::size_question::{SizeQuestion, first_number};
+use crate::size_question::SizeQuestion;
 use crate::trace_run::TraceRun;
 use clap::{Arg, ArgAction, ArgMatches, Command, Error};
 use std::alloc::{AllocError, Global};
@@ -41,16 +38,14 @@ pub enum Choice {
 
 // A command of this name with its texts: one line, and the whole help.
 fn described<'a>(alloc: Global, name: &'a str, about: &'a str, help: &'a str) -> Command<'a>
-    ensures app { app_of result ≡ new_app name.entry.now }
-    ensures local { (out-Command result).has_globals ≡ false }
+    ensures { IsOf (new_app name.entry.now) result }
 {
     Command::new(alloc, name).about(about).after_help(help)
 }
 
 // The size that `classes` asks for.
 fn size_argument<'a>(alloc: Global) -> Arg<'a>
-    ensures rule { rule_of result ≡ size_rule }
-    ensures local { result.global ≡ false }
+    ensures { IsArg size_rule result }
 {
     Arg::new(alloc, "N")
         .help("A size in words")
@@ -61,8 +56,7 @@ fn size_argument<'a>(alloc: Global) -> Arg<'a>
 
 // The level of the classes, or of the heap.
 fn level_argument<'a>(alloc: Global) -> Arg<'a>
-    ensures rule { rule_of result ≡ level_rule }
-    ensures local { result.global ≡ false }
+    ensures { IsArg level_rule result }
 {
     Arg::new(alloc, "sli")
         .long("sli")
@@ -73,8 +67,7 @@ fn level_argument<'a>(alloc: Global) -> Arg<'a>
 
 // The command `classes`.
 fn classes_command<'a>(alloc: Global) -> Result<Command<'a>, AllocError>
-    ensures app { IfOk result (λ command. app_of command ≡ classes_app) }
-    ensures local { IfOk result (λ command. (out-Command command).has_globals ≡ false) }
+    ensures { IfOk result (IsOf classes_app) }
 {
     let about = "Write the class and the search class of a size in words";
     let command = described(alloc, "classes", about, CLASSES_HELP).arg(size_argument(alloc))?;
@@ -83,8 +76,7 @@ fn classes_command<'a>(alloc: Global) -> Result<Command<'a>, AllocError>
 
 // An option of `size`, which takes a number each time it is given.
 fn count_option<'a>(alloc: Global, id: &'a str, name: &'a str, help: &'static str) -> Arg<'a>
-    ensures rule { rule_of result ≡ count_rule id.entry.now name.entry.now }
-    ensures local { result.global ≡ false }
+    ensures { IsArg (count_rule id.entry.now name.entry.now) result }
 {
     Arg::new(alloc, id)
         .long(name)
@@ -96,8 +88,7 @@ fn count_option<'a>(alloc: Global, id: &'a str, name: &'a str, help: &'static st
 
 // A flag of a command.
 fn flag<'a>(alloc: Global, name: &'a str, help: &'static str) -> Arg<'a>
-    ensures rule { rule_of result ≡ flag_rule name.entry.now }
-    ensures local { result.global ≡ false }
+    ensures { IsArg (flag_rule name.entry.now) result }
 {
     Arg::new(alloc, name)
         .long(name)
@@ -107,8 +98,7 @@ fn flag<'a>(alloc: Global, name: &'a str, help: &'static str) -> Arg<'a>
 
 // A word behind a command that reads a trace, as the name of a file. The help doesn't tell of it, since no file is read.
 fn file_argument<'a>(alloc: Global) -> Arg<'a>
-    ensures rule { rule_of result ≡ file_rule }
-    ensures local { result.global ≡ false }
+    ensures { IsArg file_rule result }
 {
     Arg::new(alloc, "FILE").hide(true).action(ArgAction::Append)
 }
@@ -123,8 +113,7 @@ fn trace_command<'a>(
     flag_name: &'a str,
     flag_help: &'static str,
 ) -> Result<Command<'a>, AllocError>
-    ensures app { IfOk result (λ command. app_of command ≡ trace_app name.entry.now flag_name.entry.now) }
-    ensures local { IfOk result (λ command. (out-Command command).has_globals ≡ false) }
+    ensures { IfOk result (IsOf (trace_app name.entry.now flag_name.entry.now)) }
 {
     let plain = described(alloc, name, about, help).override_usage(usage);
     let command = plain.arg(flag(alloc, flag_name, flag_help))?;
@@ -133,8 +122,7 @@ fn trace_command<'a>(
 
 // The command `replay`.
 fn replay_command<'a>(alloc: Global) -> Result<Command<'a>, AllocError>
-    ensures app { IfOk result (λ command. app_of command ≡ replay_app) }
-    ensures local { IfOk result (λ command. (out-Command command).has_globals ≡ false) }
+    ensures { IfOk result (IsOf replay_app) }
 {
     let usage = "tlsf replay [OPTIONS] < TRACE";
     let about = "Run the trace on standard input, and write its replies";
@@ -154,8 +142,7 @@ fn replay_command<'a>(alloc: Global) -> Result<Command<'a>, AllocError>
 
 // The command `race`.
 fn race_command<'a>(alloc: Global) -> Result<Command<'a>, AllocError>
-    ensures app { IfOk result (λ command. app_of command ≡ race_app) }
-    ensures local { IfOk result (λ command. (out-Command command).has_globals ≡ false) }
+    ensures { IfOk result (IsOf race_app) }
 {
     let usage = "tlsf race [OPTIONS] < TRACE";
     let about = "Run the trace on standard input, with a thread for each worker";
@@ -165,8 +152,7 @@ fn race_command<'a>(alloc: Global) -> Result<Command<'a>, AllocError>
 
 // The line behind which `map` draws the heaps.
 fn line_argument<'a>(alloc: Global) -> Arg<'a>
-    ensures rule { rule_of result ≡ line_rule }
-    ensures local { result.global ≡ false }
+    ensures { IsArg line_rule result }
 {
     Arg::new(alloc, "K")
         .long("at")
@@ -177,8 +163,7 @@ fn line_argument<'a>(alloc: Global) -> Arg<'a>
 
 // The command `map`.
 fn map_command<'a>(alloc: Global) -> Result<Command<'a>, AllocError>
-    ensures app { IfOk result (λ command. app_of command ≡ map_app) }
-    ensures local { IfOk result (λ command. (out-Command command).has_globals ≡ false) }
+    ensures { IfOk result (IsOf map_app) }
 {
     let usage = "tlsf map [OPTIONS] < TRACE";
     let about = "Draw the heaps that the trace on standard input leaves";
@@ -193,8 +178,7 @@ fn map_command<'a>(alloc: Global) -> Result<Command<'a>, AllocError>
 
 // The command `plot`.
 fn plot_command<'a>(alloc: Global) -> Result<Command<'a>, AllocError>
-    ensures app { IfOk result (λ command. app_of command ≡ plot_app) }
-    ensures local { IfOk result (λ command. (out-Command command).has_globals ≡ false) }
+    ensures { IfOk result (IsOf plot_app) }
 {
     let usage = "tlsf plot [OPTIONS] < TRACE";
     let about = "Plot the heaps over the lines of the trace on standard input";
@@ -204,8 +188,7 @@ fn plot_command<'a>(alloc: Global) -> Result<Command<'a>, AllocError>
 
 // The command `check`.
 fn check_command<'a>(alloc: Global) -> Result<Command<'a>, AllocError>
-    ensures app { IfOk result (λ command. app_of command ≡ check_app) }
-    ensures local { IfOk result (λ command. (out-Command command).has_globals ≡ false) }
+    ensures { IfOk result (IsOf check_app) }
 {
     let about = "Say what is wrong with the trace on standard input, and where";
     let plain = described(alloc, "check", about, CHECK_HELP);
@@ -216,8 +199,7 @@ fn check_command<'a>(alloc: Global) -> Result<Command<'a>, AllocError>
 
 // The command `size`.
 fn size_command<'a>(alloc: Global) -> Result<Command<'a>, AllocError>
-    ensures app { IfOk result (λ command. app_of command ≡ size_app) }
-    ensures local { IfOk result (λ command. (out-Command command).has_globals ≡ false) }
+    ensures { IfOk result (IsOf size_app) }
 {
     let about = "Write how large a heap must be so that no request lacks room";
     let blocks_help = "The most blocks that are held at once";
@@ -249,9 +231,8 @@ fn with_command<'a>(
     program: Command<'a>,
     added: Result<Command<'a>, AllocError>,
 ) -> Result<Command<'a>, AllocError>
-    ensures { IfOk result (λ command. (sub : Command) × (added.entry ≡ Ok sub)
-        × ((out-Command sub).has_globals ≡ false
-        → app_of command ≡ with_subcommand (app_of program.entry) (app_of sub).top)) }
+    ensures { (app sub : App) → app_of program.entry ≡ app → IfOk added.entry (IsOf sub)
+        → IfOk result (λ command. app_of command ≡ with_subcommand app sub.top) }
 {
     program.subcommand(added?)
 }
@@ -278,121 +259,11 @@ fn parse<'a, S: AsStr>(alloc: Global, words: &'a [S]) -> Result<ArgMatches<'a>, 
     tlsf_command(alloc)?.try_get_matches_from(words)
 }
 
-// The choice of a run, where these words stand behind its command, and this line behind `--at`, 0 for none.
-fn run_on(alloc: Global, run: TraceRun, line: u32, files: &[&str]) -> Result<Choice, AllocError>
-    ensures { IfOk result (IsRunOn run line (map (λ text. text.now) files.now)) }
+// The form of a picture or a plot, by the flag `--text`.
+fn form_of(text: bool) -> Form
+    ensures { result ≡ form_by text }
 {
-    match files.first() {
-        Some(file) => Ok(Choice::File(run, run.tip(alloc, line, file)?)),
-        None => Ok(Choice::Trace(run)),
-    }
-}
-
-// The choice of a run by the matches of its command, of which no option gives a line.
-fn run_given(alloc: Global, run: TraceRun, given: &ArgMatches<'_>) -> Result<Choice, AllocError>
-    ensures { IfOk result (IsRunOn run 0
-        (unwrap_or (option_map raw_values (matched_of (found_of given.now) (codes "FILE"))) [])) }
-{
-    match given.get_raw("FILE") {
-        Some(files) => run_on(alloc, run, 0, files),
-        None => run_on(alloc, run, 0, &[]),
-    }
-}
-
-// The run by which heaps are drawn in a form.
-fn run_of(form: Form) -> TraceRun
-    ensures { result ≡ run_in form }
-{
-    match form {
-        Form::Svg => TraceRun::Map,
-        Form::Text => TraceRun::MapText,
-    }
-}
-
-// The run by which they are drawn in a form behind the line to look at.
-fn worst_run_of(form: Form) -> TraceRun
-    ensures { result ≡ worst_in form }
-{
-    match form {
-        Form::Svg => TraceRun::MapWorst,
-        Form::Text => TraceRun::MapWorstText,
-    }
-}
-
-// The line behind `--at`, 0 where none is given.
-fn line_given(given: &ArgMatches<'_>) -> u32
-    ensures { result ≡ SizeQuestions.first_number 0
-        (unwrap_or (option_map raw_values (matched_of (found_of given.now) (codes "K"))) []) }
-{
-    match given.get_raw("K") {
-        Some(texts) => first_number(texts, 0),
-        None => 0,
-    }
-}
-
-// The choice of a picture in a form behind a line, or at the end where that is 0, where these words stand behind `map`.
-fn map_on(alloc: Global, form: Form, line: u32, files: &[&str]) -> Result<Choice, AllocError>
-    ensures { IfOk result (IsMapOn form line (map (λ text. text.now) files.now)) }
-{
-    if line == 0 {
-        return run_on(alloc, run_of(form), line, files);
-    }
-    if files.is_empty() {
-        return Ok(Choice::At(form, line));
-    }
-    run_on(alloc, run_of(form), line, files)
-}
-
-// The choice of a picture in a form by the matches of `map`.
-fn map_given(alloc: Global, form: Form, given: &ArgMatches<'_>) -> Result<Choice, AllocError>
-    ensures { IfOk result (IsMapOn form
-        (SizeQuestions.first_number 0 (unwrap_or (option_map raw_values (matched_of (found_of given.now) (codes "K"))) []))
-        (unwrap_or (option_map raw_values (matched_of (found_of given.now) (codes "FILE"))) [])) }
-{
-    let line = line_given(given);
-    match given.get_raw("FILE") {
-        Some(files) => map_on(alloc, form, line, files),
-        None => map_on(alloc, form, line, &[]),
-    }
-}
-
-// The choice of a picture in a form by the matches of `map`, which hasn't the flag of the page.
-fn drawing_given(alloc: Global, form: Form, given: &ArgMatches<'_>) -> Result<Choice, AllocError>
-    ensures { (words : List Text) (matches : Matches) → Answers words matches → Enters matches (codes "map") given.now
-        → LacksFlag (codes "html") words → IsFormOf form words → IfOk result (Asks words) }
-{
-    if given.get_flag("worst") {
-        if line_given(given) != 0 {
-            return Ok(Choice::TwoLines);
-        }
-        return run_given(alloc, worst_run_of(form), given);
-    }
-    map_given(alloc, form, given)
-}
-
-// The choice of a picture or of a page by the matches of `map`.
-fn picture_given(alloc: Global, given: &ArgMatches<'_>) -> Result<Choice, AllocError>
-    ensures { (words : List Text) (matches : Matches) → Answers words matches → Enters matches (codes "map") given.now → IfOk result (Asks words) }
-{
-    if given.get_flag("html") {
-        return run_given(alloc, TraceRun::MapHtml, given);
-    }
-    if given.get_flag("text") {
-        return drawing_given(alloc, Form::Text, given);
-    }
-    drawing_given(alloc, Form::Svg, given)
-}
-
-// The choice of a plot by the matches of `plot`.
-fn plot_given(alloc: Global, given: &ArgMatches<'_>) -> Result<Choice, AllocError>
-    ensures { (words : List Text) (matches : Matches) → Answers words matches → Enters matches (codes "plot") given.now → IfOk result (Asks words) }
-{
-    let run = if given.get_flag("text") {
-        TraceRun::PlotText
-    } else {
-        TraceRun::Plot
-    };
-    run_given(alloc, run, given)
+    if text { Form::Text } else { Form::Svg }
 }
 
 // The run that `replay` asks for by its flags.
@@ -406,47 +277,104 @@ fn replay_of(kinds: bool, held: bool) -> TraceRun
     }
 }
 
-// The choice of a replay by the matches of `replay`.
-fn replay_given(alloc: Global, given: &ArgMatches<'_>) -> Result<Choice, AllocError>
-    ensures { (words : List Text) (matches : Matches) → Answers words matches → Enters matches (codes "replay") given.now → IfOk result (Asks words) }
+// The run that `race` asks for by its flag.
+fn race_of(queues: bool) -> TraceRun
+    ensures { result ≡ race_by queues }
 {
-    let kinds = given.get_flag("kinds");
-    let held = given.get_flag("held");
-    run_given(alloc, replay_of(kinds, held), given)
+    if queues {
+        TraceRun::RaceQueues
+    } else {
+        TraceRun::Race
+    }
 }
 
-// What matches of the words ask for.
-fn chosen(alloc: Global, matches: &ArgMatches<'_>) -> Result<Choice, AllocError>
-    requires { (words : List Text) × Answers words matches.now }
-    ensures { (words : List Text) → Answers words matches.now → IfOk result (Asks words) }
+// The run that `map` asks for by its flags.
+fn map_of(html: bool, worst: bool, form: Form) -> TraceRun
+    ensures { result ≡ map_by html worst form }
 {
-    if let Some(given) = matches.subcommand_matches("classes") {
-        return Ok(Choice::Classes(ClassQuestion::given(given)));
+    match (html, worst) {
+        (true, _) => TraceRun::MapHtml,
+        (false, true) => TraceRun::MapWorst(form),
+        (false, false) => TraceRun::Map(form),
     }
-    if let Some(given) = matches.subcommand_matches("race") {
-        let run = if given.get_flag("queues") {
-            TraceRun::RaceQueues
-        } else {
-            TraceRun::Race
-        };
-        return run_given(alloc, run, given);
+}
+
+// The run that a command which reads a trace asks for by its flags.
+fn run_of(name: &str, given: &ArgMatches<'_>) -> TraceRun
+    ensures { result ≡ run_asked name.now (texts_of given.now) }
+{
+    match name {
+        "race" => race_of(is_given(given, "queues")),
+        "map" => {
+            let form = form_of(is_given(given, "text"));
+            map_of(is_given(given, "html"), is_given(given, "worst"), form)
+        }
+        "plot" => TraceRun::Plot(form_of(is_given(given, "text"))),
+        "check" => TraceRun::Check,
+        // `replay` is the one that is left.
+        _ => replay_of(is_given(given, "kinds"), is_given(given, "held")),
     }
-    if let Some(given) = matches.subcommand_matches("size") {
-        return Ok(Choice::Size(SizeQuestion::given(alloc, given)?));
+}
+
+// The line that is given to a run, 0 where none is.
+fn line_of(run: TraceRun, given: &ArgMatches<'_>) -> u32
+    ensures { result ≡ line_for run (texts_of given.now) }
+{
+    match run {
+        TraceRun::Map(_) | TraceRun::MapWorst(_) => number_given(given, "K", 0),
+        _ => 0,
     }
-    if let Some(given) = matches.subcommand_matches("map") {
-        return picture_given(alloc, given);
+}
+
+// The choice of a run with this line, 0 for none, where no word stands behind its command.
+fn unnamed(run: TraceRun, line: u32) -> Choice
+    requires { takes_line run ≡ false → line ≡ 0 }
+    ensures { IsRunOn run line [] result }
+{
+    if line == 0 {
+        return Choice::Trace(run);
     }
-    if let Some(given) = matches.subcommand_matches("plot") {
-        return plot_given(alloc, given);
+    match run {
+        TraceRun::Map(form) => Choice::At(form, line),
+        // The other run that takes a line draws the heaps behind one of its own.
+        _ => Choice::TwoLines,
     }
-    if let Some(given) = matches.subcommand_matches("check") {
-        return run_given(alloc, TraceRun::Check, given);
+}
+
+// The choice of a run with this line, where these words stand behind its command.
+fn run_on(alloc: Global, run: TraceRun, line: u32, files: &[&str]) -> Result<Choice, AllocError>
+    requires { takes_line run ≡ false → line ≡ 0 }
+    ensures { IfOk result (IsRunOn run line (map (λ text. text.now) files.now)) }
+{
+    match files.first() {
+        None => Ok(unnamed(run, line)),
+        Some(file) => match run {
+            TraceRun::MapWorst(_) if line != 0 => Ok(Choice::TwoLines),
+            _ => Ok(Choice::File(run, run.tip(alloc, line, file)?)),
+        },
     }
-    match matches.subcommand_matches("replay") {
-        Some(given) => replay_given(alloc, given),
-        // A command is required, so words without one came to an error before.
-        None => unreachable!(),
+}
+
+// The choice of a run by the matches of its command.
+fn run_given(alloc: Global, run: TraceRun, given: &ArgMatches<'_>) -> Result<Choice, AllocError>
+    ensures { IfOk result (IsRunOn run (line_for run (texts_of given.now)) (texts_of given.now (codes "FILE"))) }
+{
+    let line = line_of(run, given);
+    match given.get_raw("FILE") {
+        Some(files) => run_on(alloc, run, line, files),
+        None => run_on(alloc, run, line, &[]),
+    }
+}
+
+// What the command of this name asks for by its matches.
+fn chosen(alloc: Global, name: &str, given: &ArgMatches<'_>) -> Result<Choice, AllocError>
+    requires { IsCommand name.now }
+    ensures { IfOk result (λ choice. IsAskedBy choice name.now (texts_of given.now)) }
+{
+    match name {
+        "classes" => Ok(Choice::Classes(ClassQuestion::given(given))),
+        "size" => Ok(Choice::Size(SizeQuestion::given(alloc, given)?)),
+        _ => run_given(alloc, run_of(name, given), given),
     }
 }
 
@@ -464,5 +392,9 @@ pub fn choose<'a, S: AsStr>(alloc: Global, words: &'a [S]) -> Result<Choice, Err
     ensures kinds { FailsBy (faults_of (map S.text words.entry.now)) result }
 {
     let matches = parse(alloc, words)?;
-    Ok(chosen(alloc, &matches)?)
+    // A command is required, so words without one came to an error before.
+    let Some((name, given)) = matches.subcommand() else {
+        unreachable!();
+    };
+    Ok(chosen(alloc, name, given)?)
 }

@@ -1,10 +1,9 @@
-ghost use Rattle.std.specs.Prelude.{◌≡◌, ◌++◌, ℕ, List, [], ◌∷◌, Option, codes, map, string_bytes};
+ghost use Rattle.std.specs.Prelude.{◌≡◌, ◌++◌, ℕ, List, [], ◌∷◌, Option, map, string_bytes};
 ghost use Rattle.clap.specs.Words.{kind_of};
 ghost use Rattle.tlsf_command.specs.FaultLines.{fault_line, status_of_fault};
 ghost use Rattle.tlsf_command.specs.CommandLine.{words_of, IsAnswerable, IsPlainWord};
 ghost use Rattle.tlsf_command.specs.Runs as told;
-ghost use Rattle.tlsf_command.specs.Runs.{puts_of, streams, status_of, ChecksNote, Does, Ends, IsNote, Reports, RunsAs, RunsBy, RunsOrLacksMemory, ShowsAnswer, ShowsOptionsOrLacksMemory, ShowsPairsOrLacksMemory, TipsOrLacksMemory};
-ghost use Rattle.tlsf_command.specs.SizeQuestions.{option_words, pair_words, AreOptions, ArePairs, Pair, SizeOption};
+ghost use Rattle.tlsf_command.specs.Runs.{puts_of, streams, status_of, ChecksNote, Does, Ends, IsNote, Reports, RunsAs, RunsBy, RunsOrLacksMemory, ShowsAnswer, TipsOrLacksMemory};
 ghost use Rattle.tlsf_command.specs.declared.trace_run.TraceRun.{TraceRun};
 ghost use Rattle.tlsf_lines.specs.Prefixes.{AppendsFront};
 ghost use Rattle.tlsf_picture.specs.Drawn.{DrawsAt};
@@ -26,8 +25,10 @@ use std::thread::Threads;
 use tlsf_check::{NUMBER_TIP, check_trace, have_marked_number};
 use tlsf_crew::Gate;
 use tlsf_held::{measure_kinds, measure_trace};
-use tlsf_picture::{Form, draw_trace, draw_trace_as_page, draw_trace_as_text, draw_trace_at};
-use tlsf_plot::{draw_trace_at_worst, plot_trace};
+use tlsf_picture::{
+    Form, draw_trace, draw_trace_as_page, draw_trace_as_text, draw_trace_at, draw_trace_at_worst,
+    plot_trace,
+};
 use tlsf_trace::{
     Summary, TraceFault, WriteError, race_trace, race_trace_over_queues, replay, write_out,
 };
@@ -116,13 +117,11 @@ fn traced<T: Threads + Wait + Sync, R: Read, W: Write, G: Gate>(
         TraceRun::HeldKinds => measure_kinds(alloc, reader, writer),
         TraceRun::Race => race_trace(rt, alloc, reader, writer, gate),
         TraceRun::RaceQueues => race_trace_over_queues(rt, alloc, reader, writer, gate),
-        TraceRun::Map => draw_trace(alloc, reader, writer),
-        TraceRun::MapText => draw_trace_as_text(alloc, reader, writer),
+        TraceRun::Map(Form::Svg) => draw_trace(alloc, reader, writer),
+        TraceRun::Map(Form::Text) => draw_trace_as_text(alloc, reader, writer),
         TraceRun::MapHtml => draw_trace_as_page(alloc, reader, writer),
-        TraceRun::MapWorst => draw_trace_at_worst(alloc, Form::Svg, reader, writer),
-        TraceRun::MapWorstText => draw_trace_at_worst(alloc, Form::Text, reader, writer),
-        TraceRun::Plot => plot_trace(alloc, Form::Svg, reader, writer),
-        TraceRun::PlotText => plot_trace(alloc, Form::Text, reader, writer),
+        TraceRun::MapWorst(form) => draw_trace_at_worst(alloc, form, reader, writer),
+        TraceRun::Plot(form) => plot_trace(alloc, form, reader, writer),
         TraceRun::Check => check_trace(alloc, reader, writer, note),
     }
 }
@@ -301,20 +300,6 @@ pub fn run<T: Threads + Wait + Sync, S: AsStr, R: Read, W: Write, E: Write, G: G
     ensures file { (program file : List ℕ) (run : TraceRun) → IsPlainWord file
         → map S.text words.now ≡ program ∷ (words_of run ++ file ∷ [])
         → TipsOrLacksMemory run file result
-        (streams (R.remaining reader.old) (W.contents writer.old) (E.contents errors.old))
-        (streams (R.remaining reader.new) (W.contents writer.new) (E.contents errors.new)) }
-
-    // Where they are the program's name, `size`, and one pair `--blocks B --bytes N` or more.
-    ensures size { (program : List ℕ) (pairs : List Pair) → ArePairs pairs
-        → map S.text words.now ≡ program ∷ codes "size" ∷ pair_words pairs
-        → ShowsPairsOrLacksMemory pairs result
-        (streams (R.remaining reader.old) (W.contents writer.old) (E.contents errors.old))
-        (streams (R.remaining reader.new) (W.contents writer.new) (E.contents errors.new)) }
-
-    // Where these options stand in any order, each once or more.
-    ensures options { (program : List ℕ) (options : List SizeOption) → AreOptions options
-        → map S.text words.now ≡ program ∷ codes "size" ∷ option_words options
-        → ShowsOptionsOrLacksMemory options result
         (streams (R.remaining reader.old) (W.contents writer.old) (E.contents errors.old))
         (streams (R.remaining reader.new) (W.contents writer.new) (E.contents errors.new)) }
 {

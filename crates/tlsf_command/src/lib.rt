@@ -22,6 +22,7 @@
 //! how numbers are written. A write to the error stream that fails changes nothing. [`FaultReport`] is the line of a fault, and its status.
 #![tactic(auto)]
 
+mod arguments;
 mod class_line;
 mod class_question;
 mod class_run;
@@ -47,4 +48,4 @@ pub use commands::run;
 pub use fault_report::FaultReport;
 
 /// The version of the program, which `tlsf --version` writes.
-pub const VERSION: &str = "0.3.0";
+pub const VERSION: &str = "0.4.0";

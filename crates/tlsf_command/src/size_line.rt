@@ -4,8 +4,8 @@ ghost use Rattle.std.specs.Io.KnownBytes.{Appends};
 ghost use Rattle.tlsf_class.specs.Classes.{IsLevel, most_words};
 ghost use Rattle.tlsf_command.specs.SizeLines.{size_line, unreached_line, AreReached, IsFiner, IsGreatest, IsReached, IsServable};
 ghost use Rattle.tlsf_command.specs.SizeLines as spelled;
-ghost use Rattle.tlsf_laws.specs.Kinds as table;
-ghost use Rattle.tlsf_pool.specs.Pools.{most_kinds};
+ghost use Rattle.tlsf_pool.specs.laws.Kinds as table;
+ghost use Rattle.tlsf_pool.specs.sizes.Limits.{most_kinds};
 ghost use Rattle.tlsf_lines.specs.Prefixes.{AppendsFront};
 
 use crate::counted::Counted;

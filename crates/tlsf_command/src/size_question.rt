@@ -1,9 +1,9 @@
-ghost use Rattle.std.specs.Prelude.{◌≡◌, [], codes, length, map, option_map, IfOk};
-ghost use Rattle.std.specs.Option.{option_map_or, unwrap_or};
-ghost use Rattle.clap.specs.Words.{found_of, matched_of, raw_values};
-ghost use Rattle.tlsf_command.specs.SizeQuestions;
+ghost use Rattle.std.specs.Prelude.{◌≡◌, length, map, IfOk};
+ghost use Rattle.std.specs.Option.{option_map_or};
+ghost use Rattle.tlsf_command.specs.Arguments.{texts_of};
 ghost use Rattle.tlsf_command.specs.SizeQuestions.{kinds_in, IsOfTexts, IsQuestion};
 
+use crate::arguments::{is_given, number_given, number_of};
 use clap::ArgMatches;
 use std::alloc::{AllocError, Global};
 use tlsf_pool::Kind;
@@ -25,55 +25,6 @@ pub enum SizeQuestion {
     FineSplit(Vec<Kind>),
     /// No table: so many times `--blocks`, and so many times `--bytes`.
     Unpaired(usize, usize),
-}
-
-/// The number that the text spells, 0 where it spells none of 32 bits.
-pub fn number_of(text: &str) -> u32
-    ensures { result ≡ SizeQuestions.number_of text.now }
-{
-    text.parse().unwrap_or(0)
-}
-
-/// The number that the first text spells, and another one where there is no text.
-pub fn first_number(texts: &[&str], none: u32) -> u32
-    ensures { result ≡ SizeQuestions.first_number none (map (λ text. text.now) texts.now) }
-{
-    match texts.first() {
-        Some(text) => number_of(text),
-        None => none,
-    }
-}
-
-/// The level behind `--sli`, 4 where none is given.
-pub fn level_given(given: &ArgMatches<'_>) -> u32
-    ensures { result ≡ SizeQuestions.first_number 4
-        (unwrap_or (option_map raw_values (matched_of (found_of given.now) (codes "sli"))) []) }
-{
-    match given.get_raw("sli") {
-        Some(texts) => first_number(texts, 4),
-        None => 4,
-    }
-}
-
-// Whether the first text says that a flag is given.
-fn is_set(texts: &[&str]) -> bool
-    ensures { result ≡ SizeQuestions.is_set (map (λ text. text.now) texts.now) }
-{
-    match texts.first() {
-        Some(text) => *text == "true",
-        None => false,
-    }
-}
-
-// Whether `--split` is given.
-fn split_given(given: &ArgMatches<'_>) -> bool
-    ensures { result ≡ SizeQuestions.is_set
-        (unwrap_or (option_map raw_values (matched_of (found_of given.now) (codes "split"))) []) }
-{
-    match given.get_raw("split") {
-        Some(texts) => is_set(texts),
-        None => false,
-    }
 }
 
 // The kinds of as many numbers of blocks as of bytes, the i-th of these with the i-th of those.
@@ -132,15 +83,13 @@ impl SizeQuestion {
     /// // question is about the table of 100 blocks of 64 bytes and 4 of 4096, at level 4, for one heap
     /// ```
     pub fn given(alloc: Global, given: &ArgMatches<'_>) -> Result<SizeQuestion, AllocError>
-        ensures { IfOk result (IsQuestion
-            (unwrap_or (option_map raw_values (matched_of (found_of given.now) (codes "B"))) [])
-            (unwrap_or (option_map raw_values (matched_of (found_of given.now) (codes "N"))) [])
-            (unwrap_or (option_map raw_values (matched_of (found_of given.now) (codes "sli"))) [])
-            (unwrap_or (option_map raw_values (matched_of (found_of given.now) (codes "split"))) [])) }
+        ensures { IfOk result (IsQuestion (texts_of given.now)) }
     {
+        let level = number_given(given, "sli", 4);
+        let split = is_given(given, "split");
         match (given.get_raw("B"), given.get_raw("N")) {
             (Some(blocks), Some(bytes)) => {
-                SizeQuestion::of_texts(alloc, blocks, bytes, level_given(given), split_given(given))
+                SizeQuestion::of_texts(alloc, blocks, bytes, level, split)
             }
             (blocks, bytes) => Ok(SizeQuestion::Unpaired(count_of(blocks), count_of(bytes))),
         }

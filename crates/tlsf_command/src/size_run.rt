@@ -3,7 +3,7 @@ ghost use Rattle.tlsf_class.specs.Classes.{IsLevel};
 ghost use Rattle.tlsf_command.specs.Runs.{streams, ReportsUnreached, ShowsHeaps, ShowsKinds, ShowsSize};
 ghost use Rattle.tlsf_command.specs.SizeLines.{AreReached};
 ghost use Rattle.tlsf_command.specs.SizeQuestions.{HasKinds, HasTable};
-ghost use Rattle.tlsf_pool.specs.Pools.{most_kinds};
+ghost use Rattle.tlsf_pool.specs.sizes.Limits.{most_kinds};
 
 use crate::commands::report;
 use crate::size_line::{words_for, write_size_line, write_unreached_line};

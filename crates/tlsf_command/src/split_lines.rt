@@ -4,7 +4,7 @@ ghost use Rattle.std.specs.List.{AllByRecursion};
 ghost use Rattle.std.specs.Io.KnownBytes.{Appends};
 ghost use Rattle.tlsf_class.specs.Classes.{IsLevel};
 ghost use Rattle.tlsf_command.specs.SizeLines.{heap_line, heap_lines, no_split_line, split_lines, HasNoSplit, IsCheapest, IsServable};
-ghost use Rattle.tlsf_pool.specs.Splits.{parts_of, IsPart};
+ghost use Rattle.tlsf_pool.specs.sizes.Splits.{parts_of, IsPart};
 ghost use Rattle.tlsf_lines.specs.Prefixes.{AppendsFront};
 
 use crate::region_size::RegionSize;

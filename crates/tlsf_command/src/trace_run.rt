@@ -1,6 +1,7 @@
 use crate::line_option::LineOption;
 use crate::quotes::quoted;
 use std::alloc::{AllocError, Global};
+use tlsf_picture::Form;
 
 /// What a command does with the trace that it reads from standard input.
 #[derive(Clone, Copy)]
@@ -15,20 +16,14 @@ pub enum TraceRun {
     Race,
     /// `tlsf race --queues`: do so over queues, one for each worker, in place of lanes.
     RaceQueues,
-    /// `tlsf map`: write a picture of the heaps that it leaves, as an SVG file.
-    Map,
-    /// `tlsf map --text`: write that picture in the characters of a terminal.
-    MapText,
+    /// `tlsf map`: write a picture of the heaps that it leaves, as an SVG file or, by `--text`, in the characters of a terminal.
+    Map(Form),
     /// `tlsf map --html`: write a page that shows its heaps at one moment at a time.
     MapHtml,
-    /// `tlsf map --worst`: write a picture of the heaps behind the line to look at, as an SVG file.
-    MapWorst,
-    /// `tlsf map --worst --text`: write that picture in the characters of a terminal.
-    MapWorstText,
-    /// `tlsf plot`: write a plot of each heap over its lines, as an SVG file.
-    Plot,
-    /// `tlsf plot --text`: write that plot in the characters of a terminal.
-    PlotText,
+    /// `tlsf map --worst`: write a picture of the heaps behind the line to look at, in this form.
+    MapWorst(Form),
+    /// `tlsf plot`: write a plot of each heap over its lines, in this form.
+    Plot(Form),
     /// `tlsf check`: say what it is, or where its first fault is and what was expected there.
     Check,
 }
@@ -47,13 +42,13 @@ impl TraceRun {
             TraceRun::HeldKinds => "replay --held --kinds",
             TraceRun::Race => "race",
             TraceRun::RaceQueues => "race --queues",
-            TraceRun::Map => "map",
-            TraceRun::MapText => "map --text",
+            TraceRun::Map(Form::Svg) => "map",
+            TraceRun::Map(Form::Text) => "map --text",
             TraceRun::MapHtml => "map --html",
-            TraceRun::MapWorst => "map --worst",
-            TraceRun::MapWorstText => "map --worst --text",
-            TraceRun::Plot => "plot",
-            TraceRun::PlotText => "plot --text",
+            TraceRun::MapWorst(Form::Svg) => "map --worst",
+            TraceRun::MapWorst(Form::Text) => "map --worst --text",
+            TraceRun::Plot(Form::Svg) => "plot",
+            TraceRun::Plot(Form::Text) => "plot --text",
             TraceRun::Check => "check",
         }
     }
@@ -62,7 +57,7 @@ impl TraceRun {
     /// The word `-` is no file: it says that standard input is read without it. An `Err` says that memory ran out.
     ///
     /// ```
-    /// let tip = TraceRun::Map.tip(alloc, 2, "my file.trace")?;
+    /// let tip = TraceRun::Map(Form::Svg).tip(alloc, 2, "my file.trace")?;
     /// // tip is "tlsf: a trace is read from standard input: tlsf map --at 2 < 'my file.trace'\n"
     /// ```
     pub fn tip(self, alloc: Global, line: u32, file: &str) -> Result<String, AllocError>

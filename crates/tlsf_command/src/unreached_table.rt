@@ -1,9 +1,9 @@
 ghost use Rattle.std.specs.Prelude.{◌≡◌, ◌≤◌, ◌<◌, ℕ, Option, Some, length, slice_get, IfOk};
 ghost use Rattle.tlsf_class.specs.Classes.{IsLevel};
 ghost use Rattle.tlsf_command.specs.SizeLines.{unpaired_line, unreached_table_line, AreReached, IsFiner, IsFirstUnreached, IsSplitOf};
-ghost use Rattle.tlsf_laws.specs.declared.kind.Kind.{Kind};
-ghost use Rattle.tlsf_pool.specs.Pools.{most_kinds};
-ghost use Rattle.tlsf_pool.specs.declared.split.Split.{Split};
+ghost use Rattle.tlsf_pool.specs.declared.kind.Kind.{Kind};
+ghost use Rattle.tlsf_pool.specs.sizes.Limits.{most_kinds};
+ghost use Rattle.tlsf_pool.specs.declared.sizes.split.Split.{Split};
 ghost use Rattle.tlsf_lines.specs.Prefixes.{AppendsFront};
 
 use crate::counted::Counted;

@@ -14,5 +14,5 @@ commanded app = record app { top = record app.top { subcommand_required = true }
 pub returns : goal.returns
 returns c =
     let versioned_is : app_of c.version.result ≡ versioned (new_app (codes "tlsf")) =
-    ap app_of_fields c.version.ensures ∙ ap versioned c.described.ensures.app in
+    ap app_of_fields c.version.ensures ∙ ap versioned c.described.ensures.0 in
     ap app_of_fields c.subcommand_required.ensures ∙ ap commanded versioned_is

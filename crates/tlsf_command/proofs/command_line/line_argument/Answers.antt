@@ -12,13 +12,10 @@ some_text c =
     ap rule_of c.action.ensures ∙ ap (λ (rule : Rule). record rule { action = Some Set })
     (ap rule_of c.help.ensures ∙ (ap rule_of c.long.ensures ∙ ap (λ (rule : Rule). record rule { long = Some (codes "at") }) c.new.ensures.rule))
 
-pub returns-clause-rule : goal.returns-clause-rule
-returns-clause-rule c =
+pub returns : goal.returns
+returns c =
     let number : c.value_parser-2.result.value_parser ≡ Some (Signed (pos 1) (pos 4294967295)) = search rules in
-    ap rule_of c.value_parser-2.ensures.others ∙ rw number (ap (λ (rule : Rule). record rule { parser = Some (Signed (pos 1) (pos 4294967295)) }) (some_text c))
-
-pub returns-clause-local : goal.returns-clause-local
-returns-clause-local c =
-    let global = λ (arg : Arg). arg.global in
-    ap global c.value_parser-2.ensures.others ∙ (ap global c.action.ensures ∙ (ap global c.help.ensures
-    ∙ (ap global c.long.ensures ∙ c.new.ensures.optional.1)))
+    let global = λ (arg : Arg). arg.global in (
+      ap rule_of c.value_parser-2.ensures.others ∙ rw number (ap (λ (rule : Rule). record rule { parser = Some (Signed (pos 1) (pos 4294967295)) }) (some_text c)),
+      ap global c.value_parser-2.ensures.others ∙ (ap global c.action.ensures ∙ (ap global c.help.ensures ∙ (ap global c.long.ensures ∙ c.new.ensures.optional.1))),
+    )

@@ -1,4 +1,4 @@
-use Rattle.tlsf_command.proofs.NamedCommands.{parsed_fails, parsed_named}
+use Rattle.tlsf_command.proofs.ChosenCommands.{parsed_fails, parsed_named}
 use Rattle.tlsf_command.proofs.command_line.parse.Goals as goal
 
 pub returns-clause-named : goal.returns-clause-named

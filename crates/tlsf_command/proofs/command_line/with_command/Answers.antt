@@ -1,5 +1,9 @@
+use Rattle.std.proofs.Common.{◌∙◌, ap₂}
 use Rattle.std.proofs.lemmas.Result.{IfOk-weaker}
+use Rattle.clap.specs.Words.{App, with_subcommand}
 use Rattle.tlsf_command.proofs.command_line.with_command.Goals as goal
 
 pub returns : goal.returns
-returns c = IfOk-weaker c.subcommand.result _ _ (λ command joined. (_, c.in_ok-added.was, joined.shape)) c.subcommand.ensures
+returns c = λ app sub program added.
+    let is = rw c.in_ok-added.was at added in
+    IfOk-weaker c.subcommand.result _ _ (λ command joined. joined.shape is.1 ∙ ap₂ (λ (a s : App). with_subcommand a s.top) program is.0) c.subcommand.ensures

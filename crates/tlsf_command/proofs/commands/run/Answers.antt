@@ -1,7 +1,7 @@
 use Rattle.std.proofs.Common.{rules, map, inl, inr}
 use Rattle.tlsf_command.specs.Runs.{streams}
 use Rattle.tlsf_command.proofs.ChosenCommands.{answerable}
-use Rattle.tlsf_command.proofs.RunEnds.{Run, answer_ends, does, ends_file, ends_options, ends_pairs, ends_run, fails}
+use Rattle.tlsf_command.proofs.RunEnds.{Run, answer_ends, does, ends_file, ends_run, fails}
 use Rattle.tlsf_command.proofs.commands.run.Goals as goal
 
 pub act-requires : goal.act-requires
@@ -17,8 +17,6 @@ returns-in-Ok g c =
       ends = inr (inl (c.in-Ok.choice, c.in-Ok.ensures.asked, c.act.ensures));
       trace = λ called wanted is. ends_run words called status old new run wanted is;
       file = λ called file wanted plain is. ends_file words called status old new run wanted file plain is;
-      size = λ called pairs are is. ends_pairs words called status old new run pairs are is;
-      options = λ called options are is. ends_options words called status old new run options are is;
     }
 
 pub returns-in-Err : goal.returns-in-Err
@@ -32,6 +30,4 @@ returns-in-Err g c =
       ends = answer_ends words _ status old new shows c.in-Err.ensures.kinds;
       trace = λ called wanted is. ends_run words called status old new run wanted is;
       file = λ called file wanted plain is. ends_file words called status old new run wanted file plain is;
-      size = λ called pairs are is. ends_pairs words called status old new run pairs are is;
-      options = λ called options are is. ends_options words called status old new run options are is;
     }

@@ -1,4 +1,7 @@
-use Rattle.std.proofs.Common.{string_bytes}
+use Rattle.std.proofs.Common.{◌≡◌, ◌∙◌, ap, string_bytes}
+use Rattle.tlsf_picture.specs.declared.form.Form.{Form}
+use Rattle.tlsf_picture.specs.declared.form.Form.TheVariants.{Svg, Text as Characters}
+use Rattle.tlsf_command.specs.declared.trace_run.TraceRun.TheVariants.{Map}
 use Rattle.tlsf_command.proofs.Notes.{check_notes}
 use Rattle.tlsf_command.proofs.commands.traced.Goals as goal
 
@@ -32,17 +35,23 @@ returns-in-RaceQueues-clause-ran g c = rw c.in-RaceQueues.is c.race_trace_over_q
 pub returns-in-RaceQueues-clause-noted : goal.returns-in-RaceQueues-clause-noted
 returns-in-RaceQueues-clause-noted g c = rw c.in-RaceQueues.is tt
 
-pub returns-in-Map-clause-ran : goal.returns-in-Map-clause-ran
-returns-in-Map-clause-ran g c = rw c.in-Map.is c.draw_trace.ensures
+pub returns-in-Map-Svg-clause-ran : goal.returns-in-Map-Svg-clause-ran
+returns-in-Map-Svg-clause-ran g c =
+    let form : c.in-Map-Svg.field-0 ≡ Svg = rw c.in-Map-Svg.is at c.in-Map-Svg.field-0-is in
+    let asked : c.args.run ≡ Map Svg = c.in-Map-Svg.is ∙ ap (λ (f : Form). Map f) form in
+    rw asked c.draw_trace.ensures
 
-pub returns-in-Map-clause-noted : goal.returns-in-Map-clause-noted
-returns-in-Map-clause-noted g c = rw c.in-Map.is tt
+pub returns-in-Map-Svg-clause-noted : goal.returns-in-Map-Svg-clause-noted
+returns-in-Map-Svg-clause-noted g c = rw c.in-Map-Svg.is tt
 
-pub returns-in-MapText-clause-ran : goal.returns-in-MapText-clause-ran
-returns-in-MapText-clause-ran g c = rw c.in-MapText.is c.draw_trace_as_text.ensures
+pub returns-in-Map-Text-clause-ran : goal.returns-in-Map-Text-clause-ran
+returns-in-Map-Text-clause-ran g c =
+    let form : c.in-Map-Text.field-0 ≡ Characters = rw c.in-Map-Text.is at c.in-Map-Text.field-0-is in
+    let asked : c.args.run ≡ Map Characters = c.in-Map-Text.is ∙ ap (λ (f : Form). Map f) form in
+    rw asked c.draw_trace_as_text.ensures
 
-pub returns-in-MapText-clause-noted : goal.returns-in-MapText-clause-noted
-returns-in-MapText-clause-noted g c = rw c.in-MapText.is tt
+pub returns-in-Map-Text-clause-noted : goal.returns-in-Map-Text-clause-noted
+returns-in-Map-Text-clause-noted g c = rw c.in-Map-Text.is tt
 
 pub returns-in-MapHtml-clause-ran : goal.returns-in-MapHtml-clause-ran
 returns-in-MapHtml-clause-ran g c = rw c.in-MapHtml.is c.draw_trace_as_page.ensures
@@ -56,23 +65,11 @@ returns-in-MapWorst-clause-ran g c = rw c.in-MapWorst.is c.draw_trace_at_worst.e
 pub returns-in-MapWorst-clause-noted : goal.returns-in-MapWorst-clause-noted
 returns-in-MapWorst-clause-noted g c = rw c.in-MapWorst.is tt
 
-pub returns-in-MapWorstText-clause-ran : goal.returns-in-MapWorstText-clause-ran
-returns-in-MapWorstText-clause-ran g c = rw c.in-MapWorstText.is c.draw_trace_at_worst-in-MapWorstText.ensures
-
-pub returns-in-MapWorstText-clause-noted : goal.returns-in-MapWorstText-clause-noted
-returns-in-MapWorstText-clause-noted g c = rw c.in-MapWorstText.is tt
-
 pub returns-in-Plot-clause-ran : goal.returns-in-Plot-clause-ran
 returns-in-Plot-clause-ran g c = rw c.in-Plot.is c.plot_trace.ensures
 
 pub returns-in-Plot-clause-noted : goal.returns-in-Plot-clause-noted
 returns-in-Plot-clause-noted g c = rw c.in-Plot.is tt
-
-pub returns-in-PlotText-clause-ran : goal.returns-in-PlotText-clause-ran
-returns-in-PlotText-clause-ran g c = rw c.in-PlotText.is c.plot_trace-in-PlotText.ensures
-
-pub returns-in-PlotText-clause-noted : goal.returns-in-PlotText-clause-noted
-returns-in-PlotText-clause-noted g c = rw c.in-PlotText.is tt
 
 pub returns-in-Check-clause-ran : goal.returns-in-Check-clause-ran
 returns-in-Check-clause-ran g c = rw c.in-Check.is c.check_trace.ensures.run
