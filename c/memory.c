@@ -33,8 +33,10 @@ HIDDEN void tlsf_memory_dealloc(void *at);
 #define WEAK __attribute__((weak, visibility("hidden")))
 WEAK void *tlsf_memory_set(void *to, int byte, size_t n);
 WEAK void *tlsf_memory_cpy(void *to, const void *from, size_t n);
+WEAK void *tlsf_memory_move(void *to, const void *from, size_t n);
 void *memset(void *to, int byte, size_t n);
 void *memcpy(void *restrict to, const void *restrict from, size_t n);
+void *memmove(void *to, const void *from, size_t n);
 
 #ifndef TLSF_NO_MALLOC
 void *malloc(size_t bytes);
@@ -97,6 +99,8 @@ void tlsf_memory_dealloc(void *at) {
 void *tlsf_memory_set(void *to, int byte, size_t n) { return memset(to, byte, n); }
 
 void *tlsf_memory_cpy(void *to, const void *from, size_t n) { return memcpy(to, from, n); }
+
+void *tlsf_memory_move(void *to, const void *from, size_t n) { return memmove(to, from, n); }
 
 /* --- What is opened in memory of the caller's ---------------------------------------------------------------------- */
 

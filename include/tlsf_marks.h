@@ -73,6 +73,7 @@ static inline void *tlsf_mark_at(const struct tlsf_heap *heap, uint32_t at) TLSF
 #define TLSF_UNCHECKED __attribute__((weak, noinline, no_sanitize_address))
 TLSF_UNCHECKED void *tlsf_memory_set(void *to, int byte, size_t n);
 TLSF_UNCHECKED void *tlsf_memory_cpy(void *to, const void *from, size_t n);
+TLSF_UNCHECKED void *tlsf_memory_move(void *to, const void *from, size_t n);
 void *tlsf_memory_set(void *to, int byte, size_t n) {
     volatile unsigned char *p = (volatile unsigned char *)to;
     while (n-- != 0) *p++ = (unsigned char)byte;
@@ -84,6 +85,8 @@ void *tlsf_memory_cpy(void *to, const void *from, size_t n) {
     while (n-- != 0) *p++ = *q++;
     return to;
 }
+/* The library moves payload between blocks alone, which never overlap. */
+void *tlsf_memory_move(void *to, const void *from, size_t n) { return tlsf_memory_cpy(to, from, n); }
 #endif
 
 /* --- Looks ---------------------------------------------------------------------------------------------------------- */

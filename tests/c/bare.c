@@ -1,4 +1,4 @@
-/* A program with no C library: it links libtlsf_nomalloc.a, two functions of its own that fill and copy, and nothing else. It
+/* A program with no C library: it links libtlsf_nomalloc.a, three functions of its own that fill and copy, and nothing else. It
  * allocates, writes, frees and closes in a static array, and ends with 0 where all is as it should be.
  * Build with -nostdlib -static -O2, for x86-64 Linux. */
 #include "tlsf.h"
@@ -13,6 +13,16 @@ void *memset(void *to, int byte, size_t n) {
 void *memcpy(void *restrict to, const void *restrict from, size_t n) {
     const char *q = from;
     for (volatile char *p = to; n--; p++) *p = *q++;
+    return to;
+}
+
+void *memmove(void *to, const void *from, size_t n) {
+    volatile char *p = to;
+    const volatile char *q = from;
+    if ((uintptr_t)to - (uintptr_t)from >= n)
+        for (size_t i = 0; i < n; i++) p[i] = q[i];
+    else
+        while (n--) p[n] = q[n];
     return to;
 }
 

@@ -29,6 +29,8 @@ FILLS void *memcpy(void *restrict to, const void *restrict from, size_t n) {
     return to;
 }
 
+FILLS void *memmove(void *to, const void *from, size_t n) { return memcpy(to, from, n); } /* blocks lie apart */
+
 static struct {
     const char *name;
     uintptr_t at;
@@ -37,6 +39,8 @@ static struct {
     {"tlsf_allocate", (uintptr_t)tlsf_allocate, 0, 0}, {"tlsf_release", (uintptr_t)tlsf_release, 0, 0},
     {"tlsf_resize", (uintptr_t)tlsf_resize, 0, 0},     {"tlsf_locate", (uintptr_t)tlsf_locate, 0, 0},
     {"tlsf_put", (uintptr_t)tlsf_put, 0, 0},           {"tlsf_take", (uintptr_t)tlsf_take, 0, 0},
+    {"tlsf_reallocate", (uintptr_t)tlsf_reallocate, 0, 0},
+    {"tlsf_resize_place", (uintptr_t)tlsf_resize_place, 0, 0},
     {"tlsf_allocate_place", (uintptr_t)tlsf_allocate_place, 0, 0},
     {"tlsf_allocate_aligned", (uintptr_t)tlsf_allocate_aligned, 0, 0},
     {"tlsf_release_place", (uintptr_t)tlsf_release_place, 0, 0},
@@ -73,6 +77,8 @@ static void call_by_place(uint32_t kind, uint32_t k, uint32_t size) {
         if (tlsf_block_at(&heap, below(2) && live ? names[k].at : below(1u << 15), &block)) return;
     } else if (kind == 8) {
         tlsf_release_place(&heap, below(1u << 16) | 1u);
+    } else if (live && below(4)) {
+        if (!tlsf_resize_place(&heap, names[k].at, size, &at) && tlsf_place(&heap, at, &names[k], &len)) live--;
     } else if (tlsf_counts(&heap, &counts)) return;
 }
 
@@ -94,7 +100,7 @@ static int make_calls(long calls) {
         } else if (kind < 7 && live) {
             if (!tlsf_release(&heap, &names[k])) names[k] = names[--live];
         } else if (kind == 7 && live) {
-            if (tlsf_resize(&heap, &names[k], size)) continue;
+            if (below(2) ? tlsf_resize(&heap, &names[k], size) : tlsf_reallocate(&heap, &names[k], size)) continue;
         } else if (kind == 8) {
             name.serial = (uint64_t)below(1000);
             (void)(below(2) ? tlsf_release(&heap, &name) : tlsf_locate(&heap, live ? &names[k] : &name, &base, &len));

@@ -4,25 +4,28 @@ use Rattle.std.specs.Prelude.{IfOk, OnErr}
 use Rattle.tlsf_class.specs.Classes.{IsLevel}
 use Rattle.tlsf_heap.specs.Aligned.{words_aligned}
 use Rattle.tlsf_heap.specs.Blocks.{HeapState, want}
-use Rattle.tlsf_heap.specs.Calls.{refused, allocated, allocated_words, resized_words, written}
+use Rattle.tlsf_heap.specs.Calls.{Release, Write, refused, allocated, allocated_words, resized_words, written}
 use Rattle.tlsf_heap.specs.Lawful.{IsLawful}
 use Rattle.tlsf_heap.specs.Laws.{IsLive}
 use Rattle.tlsf_heap.specs.Moved.{copied, resized_or_moved}
 use Rattle.tlsf_heap.specs.Named.{RefusesName}
 use Rattle.tlsf_heap.specs.Touched.{FollowsNoForgery}
 use Rattle.tlsf_heap.specs.Image.{Image}
-use Rattle.tlsf_heap.specs.Unset.{lying, unset_from, with_payload}
+use Rattle.tlsf_heap.specs.Kept.{IsAsBefore}
+use Rattle.tlsf_heap.specs.Shown.{Shown}
+use Rattle.tlsf_heap.specs.Unset.{GivesUnset, lying, unset_from}
 use Rattle.tlsf_heap.specs.WordsInUse.{words_in_use, words_at}
 use Rattle.tlsf_heap.specs.declared.name.Name.{Name}
 use Rattle.tlsf_heap.specs.declared.refusal.Refusal.{Refusal}
-use Rattle.tlsf_heap.proofs.AlignedWords.{in_use_aligned, in_use_payload, words_payload}
-use Rattle.tlsf_heap.proofs.Alterings.{named_of}
-use Rattle.tlsf_heap.proofs.MovedWords.{by_moved, in_use_moved}
-use Rattle.tlsf_heap.proofs.Moves.{refuses}
-use Rattle.tlsf_heap.proofs.Naming.{named_stands, named_live, not_forged}
-use Rattle.tlsf_heap.proofs.Outcomes.{by_allocated, by_allocated_words, by_released, by_resized, by_written}
-use Rattle.tlsf_heap.proofs.Resizing.{resized_refused}
-use Rattle.tlsf_heap.proofs.WordsInUse.{words_named, words_part, words_within, in_use_allocated, in_use_resized, in_use_written, words_written}
+use Rattle.tlsf_heap.proofs.lemmas.laws.AlignedWords.{in_use_aligned, in_use_payload, words_payload}
+use Rattle.tlsf_heap.proofs.lemmas.calls.Alter.{named_of}
+use Rattle.tlsf_heap.proofs.lemmas.laws.Live.{given_words, kept}
+use Rattle.tlsf_heap.proofs.lemmas.laws.MovedWords.{by_moved, moved_live, in_use_moved}
+use Rattle.tlsf_heap.proofs.lemmas.calls.ResizeOrMove.{refuses}
+use Rattle.tlsf_heap.proofs.lemmas.calls.Named.{named_stands, named_live, not_forged}
+use Rattle.tlsf_heap.proofs.lemmas.calls.Outcomes.{by_allocated, by_allocated_words, by_released, by_resized, by_written}
+use Rattle.tlsf_heap.proofs.lemmas.calls.Resize.{resized_refused}
+use Rattle.tlsf_heap.proofs.lemmas.laws.WordsInUse.{words_named, words_part, words_within, in_use_allocated, in_use_resized, in_use_written, words_written}
 use Rattle.tlsf_c.specs.Counting.{counted, AreCounts}
 use Rattle.tlsf_c.specs.declared.counts.Counts.{Counts}
 
@@ -41,14 +44,21 @@ pub moved_refused : (sli : ℕ) (h : HeapState) (name : Name) (len : ℕ) (why :
 moved_refused sli h name len why r =
     refuses sli h name len why (λ same. subst (RefusesName h name) same r) (sym (ap (λ o. o.answer) (resized_refused h name (want len) len why r)))
 
+-- a write leaves it live
+written_live : (h : HeapState) (name : Name) (at : ℕ) (bytes : List ℕ) → IsLive h name → IsLive (written h name at bytes).heap name
+written_live h name at bytes = kept 0 h name (Write name at bytes) (λ taken. let bad : Write name at bytes ≡ Release name = taken.0 in cc)
+
 -- what a request is counted by: a block was given, or nothing changed
 pub given : (sli : ℕ) → IsLevel sli → (h : HeapState) (c : Counts) → AreCounts h c → (n len : ℕ) → want len ≤ n → IsLawful h → (answer : Result Name Refusal) → answer ≡ (allocated_words sli h n len).answer
     → (k : HeapState) → k ≡ (allocated_words sli h n len).heap
-    → IfOk answer (λ name. words_in_use k ≡ c.words + words_at k name.at) × OnErr answer (words_in_use k ≡ c.words)
-given sli level h c are n len wanted lawful (Ok name) e k is =
-    (subst (λ (s : HeapState). words_in_use s ≡ c.words + words_at s name.at) (sym is) (omega (arith, are.words, in_use_allocated sli level h n len name wanted lawful (sym e))), tt)
+    → IfOk answer (IsLive k) × IfOk answer (λ name. words_in_use k ≡ c.words + words_at k name.at) × OnErr answer (words_in_use k ≡ c.words)
+given sli level h c are n len wanted lawful (Ok name) e k is = (
+  subst (λ (s : HeapState). IsLive s name) (sym is) (given_words sli h n len name (sym e)),
+  subst (λ (s : HeapState). words_in_use s ≡ c.words + words_at s name.at) (sym is) (omega (arith, are.words, in_use_allocated sli level h n len name wanted lawful (sym e))),
+  tt,
+)
 given sli level h c are n len wanted lawful (Err why) e k is =
-    (tt, by_allocated_words sli (λ o. Err why ≡ o.answer → k ≡ o.heap → words_in_use k ≡ c.words) h n len (λ other same left. ap words_in_use left ∙ sym are.words) (λ s site fit bad left. absurd cc) e is)
+    (tt, tt, by_allocated_words sli (λ o. Err why ≡ o.answer → k ≡ o.heap → words_in_use k ≡ c.words) h n len (λ other same left. ap words_in_use left ∙ sym are.words) (λ s site fit bad left. absurd cc) e is)
 
 -- a write changes none of it
 pub counts_written : (h : HeapState) (name : Name) (at : ℕ) (bytes : List ℕ) (c : Counts) → AreCounts h c → AreCounts (written h name at bytes).heap c
@@ -57,25 +67,27 @@ counts_written h name at bytes c are = record { words = omega (arith, are.words,
 -- the same where nothing is filled
 pub given_unset : (sli : ℕ) → IsLevel sli → (h : HeapState) (c : Counts) → AreCounts h c → (len : ℕ) → IsLawful h → (m : Image) (answer : Result Name Refusal) → answer ≡ (allocated sli h len).answer
     → (k : HeapState) → IfOk answer (λ name. k ≡ unset_from (allocated sli h len).heap name m 0 len) → OnErr answer (k ≡ h)
-    → IfOk answer (λ name. words_in_use k ≡ c.words + words_at k name.at) × OnErr answer (words_in_use k ≡ c.words)
+    → IfOk answer (IsLive k) × IfOk answer (λ name. words_in_use k ≡ c.words + words_at k name.at) × OnErr answer (words_in_use k ≡ c.words)
 given_unset sli level h c are len lawful m (Ok name) e k is same =
     let full = (allocated sli h len).heap in
     let bytes = drop 0 (lying m name.at len) in
-    let filled = (given sli level h c are (want len) len (omega arith) lawful (Ok name) e full refl).0 in
-    (subst (λ (s : HeapState). words_in_use s ≡ c.words + words_at s name.at) (sym is) (omega (arith, filled, in_use_written full name 0 bytes, words_written name.at full name 0 bytes)), tt)
-given_unset sli level h c are len lawful m (Err why) e k is same = (tt, ap words_in_use same ∙ sym are.words)
+    let filled = given sli level h c are (want len) len (omega arith) lawful (Ok name) e full refl in (
+      subst (λ (s : HeapState). IsLive s name) (sym is) (written_live full name 0 bytes filled.0),
+      subst (λ (s : HeapState). words_in_use s ≡ c.words + words_at s name.at) (sym is) (omega (arith, filled.1, in_use_written full name 0 bytes, words_written name.at full name 0 bytes)),
+      tt,
+    )
+given_unset sli level h c are len lawful m (Err why) e k is same = (tt, tt, ap words_in_use same ∙ sym are.words)
 
 -- and where the payload is aligned too
-pub given_aligned : (sli : ℕ) → IsLevel sli → (h : HeapState) (c : Counts) → AreCounts h c → (len step skew : ℕ) → IsLawful h → (m : Image) (answer : Result Name Refusal)
-    → answer ≡ (words_aligned sli h (want len) (max step 1) skew).answer → (k : HeapState)
-    → IfOk answer (λ name. k ≡ with_payload (words_aligned sli h (want len) (max step 1) skew).heap name (lying m name.at len)) → OnErr answer (k ≡ h)
-    → IfOk answer (λ name. words_in_use k ≡ c.words + words_at k name.at) × OnErr answer (words_in_use k ≡ c.words)
-given_aligned sli level h c are len step skew lawful m (Ok name) e k is same =
-    let full = (words_aligned sli h (want len) (max step 1) skew).heap in
-    let bytes = lying m name.at len in
-    let sum = in_use_aligned sli level h (want len) (max step 1) skew lawful (omega arith) (omega arith) name (sym e) in
-    (subst (λ (s : HeapState). words_in_use s ≡ c.words + words_at s name.at) (sym is) (omega (arith, are.words, sum, in_use_payload full name bytes, words_payload name.at full name bytes)), tt)
-given_aligned sli level h c are len step skew lawful m (Err why) e k is same = (tt, ap words_in_use same ∙ sym are.words)
+pub given_aligned : (sli : ℕ) → IsLevel sli → (old new : Shown) (c : Counts) → AreCounts old.heap c → (len step skew : ℕ) → IsLawful old.heap → (answer : Result Name Refusal)
+    → answer ≡ (words_aligned sli old.heap (want len) (max step 1) skew).answer → IfOk answer (GivesUnset old new (words_aligned sli old.heap (want len) (max step 1) skew).heap len) → OnErr answer (IsAsBefore old new)
+    → IfOk answer (IsLive new.heap) × IfOk answer (λ name. words_in_use new.heap ≡ c.words + words_at new.heap name.at) × OnErr answer (words_in_use new.heap ≡ c.words)
+given_aligned sli level old new c are len step skew lawful (Ok name) e gives same =
+    let full = (words_aligned sli old.heap (want len) (max step 1) skew).heap in
+    let bytes = lying new.stored name.at len in
+    let sum = in_use_aligned sli level old.heap (want len) (max step 1) skew lawful (omega arith) (omega arith) name (sym e) in
+    (gives.given.0, subst (λ (s : HeapState). words_in_use s ≡ c.words + words_at s name.at) (sym gives.heap) (omega (arith, are.words, sum, in_use_payload full name bytes, words_payload name.at full name bytes)), tt)
+given_aligned sli level old new c are len step skew lawful (Err why) e gives same = (tt, tt, ap words_in_use same.heap ∙ sym are.words)
 
 -- ---- a resize: j is the heap behind a look at the block, k that behind the resize, and l that behind a look at the block that is left
 
@@ -100,6 +112,7 @@ moved_words sli h name len = by_moved sli (λ o. o.heap.words ≡ h.words) h nam
 
 -- what it is counted by, of the heap k that it leaves
 pub record Moves (h k : HeapState) (c : Counts) (before : ℕ) (answer : Result Name Refusal) : Type 0 where
+  pub live : IfOk answer (IsLive k)
   pub sum : IfOk answer (λ new. words_in_use k + before ≡ c.words + words_at k new.at)
   pub refused : OnErr answer (words_in_use k ≡ c.words)
   pub small : before ≤ c.words
@@ -117,12 +130,14 @@ module _ (sli : ℕ) (level : IsLevel sli) (h : HeapState) (c : Counts) (are : A
 
   pub moves : (answer : Result Name Refusal) → answer ≡ (resized_or_moved sli h name len).answer → (k : HeapState) → k ≡ (resized_or_moved sli h name len).heap → OnErr answer (k ≡ h) → Moves h k c before answer
   moves (Ok new) e k is same = record {
+    live = subst (λ (s : HeapState). IsLive s new) (sym is) (moved_live sli h name new len lawful live (sym e));
     sum = by_sum k new (sym e) (ap words_in_use is) (ap (λ (s : HeapState). words_at s new.at) is);
     refused = tt;
     small = omega (arith, held, are.words);
     room = omega (arith, held, words_within h lawful, ap (λ (s : HeapState). s.words) is, moved_words sli h name len);
   }
   moves (Err why) e k is same = record {
+    live = tt;
     sum = tt;
     refused = ap words_in_use same ∙ sym are.words;
     small = omega (arith, held, are.words);
@@ -136,12 +151,14 @@ module _ (sli : ℕ) (level : IsLevel sli) (h : HeapState) (c : Counts) (are : A
       let bytes = drop from (lying m new.at len) in
       let written_words : (written full new from bytes).heap.words ≡ full.words = by_written (λ o. o.heap.words ≡ full.words) full new from bytes (λ why. refl) (λ s site fits. refl) in
       record {
+        live = subst (λ (s : HeapState). IsLive s new) (sym is) (written_live full new from bytes (moved_live sli h name new len lawful live (sym e)));
         sum = by_sum k new (sym e) (ap words_in_use is ∙ in_use_written full new from bytes) (ap (λ (s : HeapState). words_at s new.at) is ∙ words_written new.at full new from bytes);
         refused = tt;
         small = omega (arith, held, are.words);
         room = omega (arith, held, words_within h lawful, ap (λ (s : HeapState). s.words) is, written_words, moved_words sli h name len);
       }
   moves_unset m from (Err why) e k is same = record {
+    live = tt;
     sum = tt;
     refused = ap words_in_use same ∙ sym are.words;
     small = omega (arith, held, are.words);

@@ -1,6 +1,6 @@
 -- What C's calls by place say of a heap.
-use Rattle.std.specs.Prelude.{◌≡◌, ℕ, ◌+◌, ◌≤◌, List, Option, Some, None, length, min}
-use Rattle.tlsf_heap.specs.Blocks.{Block, HeapState, IsPlace}
+use Rattle.std.specs.Prelude.{ℕ, List, Option, Some, None, length, min}
+use Rattle.tlsf_heap.specs.Blocks.{Block, HeapState}
 use Rattle.tlsf_heap.specs.ByPlace.{call_by, name_at}
 use Rattle.tlsf_heap.specs.Calls.{Outcome}
 use Rattle.tlsf_heap.specs.InPlace.{payload_of}
@@ -35,9 +35,3 @@ kept_of h len (Some name) = min (length (payload_of h name)) len
 
 abbrev pub kept_at : HeapState → ℕ → ℕ → ℕ
 kept_at h at len = kept_of h len (name_at h at)
-
--- a place from outside is not followed, as the touches before a call and behind it show: not even a start bit is read unless it lies in the
--- region, and no word unless a block begins there
-pub record FollowsNoPlace (h : HeapState) (at before behind : ℕ) : Type 0 where
-  pub outside : h.words ≤ at → behind ≡ before
-  pub nowhere : ¬ (IsPlace h.blocks at) → behind ≤ before + 1

@@ -5,14 +5,14 @@ ghost use Rattle.tlsf_heap.specs.Aligned.{words_aligned};
 ghost use Rattle.tlsf_heap.specs.Blocks;
 ghost use Rattle.tlsf_heap.specs.Calls.{allocated, released, resized};
 ghost use Rattle.tlsf_heap.specs.Given.{payload_words_given, payload_words_left};
+ghost use Rattle.tlsf_heap.specs.Laws.{IsLive};
 ghost use Rattle.tlsf_heap.specs.Moved.{resized_or_moved, payload_words_moved};
-ghost use Rattle.tlsf_heap.specs.Touched.{FollowsNoForgery};
+ghost use Rattle.tlsf_heap.specs.Touched.{FollowsNoForgery, FollowsNoPlace};
 ghost use Rattle.tlsf_heap.specs.ByPlace.{released_by_place};
 ghost use Rattle.tlsf_heap.specs.InPlace.{payload_of};
 ghost use Rattle.tlsf_heap.specs.Unset.{lying, unset_from, with_payload};
 ghost use Rattle.tlsf_heap.specs.WordsInUse.{words_in_use, words_at};
 ghost use Rattle.tlsf_c.specs.Counting.{AreCounts, counted, counted_request, counted_move};
-ghost use Rattle.tlsf_c.specs.Places.{FollowsNoPlace};
 
 use crate::counts::Counts;
 use tlsf_heap::{Heap, Name, Refusal, want};
@@ -26,6 +26,7 @@ impl Counts {
         answer: &Result<Name, Refusal>,
         len: u32,
     )
+        requires live { IfOk answer.now (IsLive heap.old.heap) }
         requires given { IfOk answer.now (λ name. words_in_use heap.old.heap ≡ self.old.words + words_at heap.old.heap name.at) }
         requires refused { OnErr answer.now (words_in_use heap.old.heap ≡ self.old.words) }
         requires most { self.old.words ≤ self.old.most_words }
@@ -33,11 +34,11 @@ impl Counts {
         ensures are_counts { AreCounts heap.new.heap self.new }
         ensures heap { heap.new.heap ≡ heap.old.heap }
         ensures stored { heap.new.stored ≡ heap.old.stored }
-        ensures touches { heap.new.touches ≤ heap.old.touches + 2 }
+        ensures touches { heap.new.touches ≤ heap.old.touches + 1 }
     {
         match answer {
             Ok(name) => {
-                let words = heap.words_at(name.at);
+                let words = heap.words_of_live(*name);
                 self.give(words);
             }
             Err(why) => self.refuse(*why, len),
@@ -54,6 +55,7 @@ impl Counts {
         answer: &Result<Name, Refusal>,
         len: u32,
     )
+        requires live { IfOk answer.now (IsLive heap.old.heap) }
         requires sum { IfOk answer.now (λ new. words_in_use heap.old.heap + before ≡ self.old.words + words_at heap.old.heap new.at) }
         requires refused { OnErr answer.now (words_in_use heap.old.heap ≡ self.old.words) }
         requires before { before ≤ self.old.words }
@@ -63,11 +65,11 @@ impl Counts {
         ensures are_counts { AreCounts heap.new.heap self.new }
         ensures heap { heap.new.heap ≡ heap.old.heap }
         ensures stored { heap.new.stored ≡ heap.old.stored }
-        ensures touches { heap.new.touches ≤ heap.old.touches + 2 }
+        ensures touches { heap.new.touches ≤ heap.old.touches + 1 }
     {
         match answer {
             Ok(new) => {
-                let after = heap.words_at(new.at);
+                let after = heap.words_of_live(*new);
                 if new.at == name.at {
                     self.take_back(before);
                     self.give(after);
@@ -216,7 +218,7 @@ impl Counts {
         };
         match heap.resize_words(name, want(len), len) {
             Ok(()) => {
-                let after = heap.words_at(name.at);
+                let after = heap.words_of_live(name);
                 self.take_back(before);
                 self.give(after);
                 Ok(())

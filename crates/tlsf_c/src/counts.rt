@@ -38,7 +38,11 @@ impl Counts {
         ensures { self.new ≡ record self.old { words = self.old.words + words; most_words = max self.old.most_words (self.old.words + words) } }
     {
         self.words += words;
-        self.most_words = self.most_words.max(self.words);
+
+        // A branch: where as many were in use before, nothing is stored.
+        if self.most_words < self.words {
+            self.most_words = self.words;
+        }
     }
 
     /// So many words came back.

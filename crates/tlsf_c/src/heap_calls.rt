@@ -2,7 +2,7 @@
 ghost use Rattle.std.specs.Prelude.{◌≡◌, ℕ, true, false, ◌<◌, ◌≤◌, ◌+◌, ◌*◌, ◌/◌, length, Result, Ok, Err, Some, None};
 ghost use Rattle.std.specs.Result.{result_unwrap_or};
 ghost use Rattle.tlsf_heap.specs.Lawful.{IsRegion};
-ghost use Rattle.tlsf_laws.specs.Pools.{pool_region};
+ghost use Rattle.tlsf_pool.specs.laws.Pools.{pool_region};
 ghost use Rattle.tlsf_heap.specs.Calls.{opened, allocated, released, resized, written, read_of, read_answer};
 ghost use Rattle.tlsf_heap.specs.InPlace.{IsPayloadCheck};
 ghost use Rattle.tlsf_heap.specs.Given.{payload_words_given, payload_words_left};

@@ -18,7 +18,8 @@ ghost use Rattle.tlsf_c.specs.Handles.{counts_in, heap_in, level_in, stored_in, 
 ghost use Rattle.tlsf_heap.specs.WordsInUse.{words_in_use};
 ghost use Rattle.tlsf_c.specs.Counting.{counted_request, counted_move};
 ghost use Rattle.tlsf_c.specs.Names.{name_of, info_of};
-ghost use Rattle.tlsf_c.specs.Places.{length_at, kept_at, resized_or_moved_by_place, FollowsNoPlace};
+ghost use Rattle.tlsf_c.specs.Places.{length_at, kept_at, resized_or_moved_by_place};
+ghost use Rattle.tlsf_heap.specs.Touched.{FollowsNoPlace};
 ghost use Rattle.tlsf_c.specs.Refusals.{status_of, closed, damage};
 
 use crate::call_fault::{CallFault, check_status, status};

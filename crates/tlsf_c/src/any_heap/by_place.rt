@@ -10,11 +10,11 @@ ghost use Rattle.tlsf_heap.specs.InPlace.{payload_of};
 ghost use Rattle.tlsf_heap.specs.Laws.{IsLive};
 ghost use Rattle.tlsf_heap.specs.Moved.{resized_or_moved, payload_words_moved};
 ghost use Rattle.tlsf_heap.specs.Placed.{placed_at};
-ghost use Rattle.tlsf_heap.specs.Touched.{FollowsNoForgery};
+ghost use Rattle.tlsf_heap.specs.Touched.{FollowsNoForgery, FollowsNoPlace};
 ghost use Rattle.tlsf_heap.specs.Unset.{lying, unset_from, with_payload};
 ghost use Rattle.tlsf_heap.specs.WordsInUse.{words_in_use};
 ghost use Rattle.tlsf_c.specs.Counting.{counted_request, counted_move};
-ghost use Rattle.tlsf_c.specs.Places.{FollowsNoPlace, kept_at, resized_or_moved_by_place};
+ghost use Rattle.tlsf_c.specs.Places.{kept_at, resized_or_moved_by_place};
 
 use super::{AnyHeap, OfLevel};
 use tlsf_heap::{Checked, Name, PlacedBlock, Refusal};

@@ -1,7 +1,7 @@
 use Rattle.std.proofs.Common.{◌≡◌, Some, ap, sym, ◌∙◌, arith}
 use Rattle.std.proofs.lemmas.Option.{none-some}
 use Rattle.tlsf_heap.specs.ByPlace.{name_with}
-use Rattle.tlsf_heap.proofs.ByPlace.{serial_nowhere}
+use Rattle.tlsf_heap.proofs.lemmas.calls.ByPlace.{serial_nowhere}
 use Rattle.tlsf_c.proofs.any_heap.AnyHeap.resize_place.Goals as goal
 
 -- a block lives there, so the place is not from outside

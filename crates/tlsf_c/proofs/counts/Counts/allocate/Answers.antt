@@ -5,6 +5,6 @@ use Rattle.tlsf_c.proofs.counts.Counts.allocate.Goals as goal
 pub request-requires : goal.request-requires
 request-requires g c =
     let e = c.allocate_words-answer.ensures in
-    let r = given g.row.SLI c.requires.level c.args.heap.now.heap c.args.self.now c.requires.are_counts c.want.result c.args.len (omega (arith, c.want.ensures)) e.was_lawful c.allocate_words-answer.result
+    let r = given g.row.SLI c.requires.level c.args.heap.now.heap c.args.self.now c.requires.are_counts c.want.result c.args.len (omega (arith, c.want.ensures)) e.keeps.was_lawful c.allocate_words-answer.result
     e.answer c.allocate_words-answer.new.self.heap e.heap in
-    (omega arith, (r.0, (r.1, c.requires.are_counts.most)))
+    (omega arith, (r.0, (r.1, (r.2, c.requires.are_counts.most))))

@@ -5,6 +5,5 @@ use Rattle.tlsf_c.proofs.counts.Counts.allocate_aligned.Goals as goal
 pub request-requires : goal.request-requires
 request-requires g c =
     let e = c.allocate_aligned-answer.ensures in
-    let r = given_aligned g.row.SLI c.requires.level c.args.heap.now.heap c.args.self.now c.requires.are_counts c.args.len c.args.step c.args.skew e.was_lawful c.allocate_aligned-answer.new.self.stored c.allocate_aligned-answer.result e.answer
-    c.allocate_aligned-answer.new.self.heap e.heap e.err in
-    (omega arith, (r.0, (r.1, c.requires.are_counts.most)))
+    let r = given_aligned g.row.SLI c.requires.level _ _ c.args.self.now c.requires.are_counts c.args.len c.args.step c.args.skew e.keeps.was_lawful c.allocate_aligned-answer.result e.answer e.gives e.err in
+    (omega arith, (r.0, (r.1, (r.2, c.requires.are_counts.most))))

@@ -1,4 +1,5 @@
 use Rattle.std.proofs.Common.{sym, ap, ◌∙◌, arith}
+use Rattle.tlsf_heap.proofs.lemmas.calls.Kept.{heap_as_before}
 use Rattle.tlsf_c.proofs.CountSums.{live_not_forged, moved_refused, Moves, moves}
 use Rattle.tlsf_c.proofs.counts.Counts.resize_or_move.Goals as goal
 
@@ -6,16 +7,16 @@ pub returns-in-Err-clause-answer : goal.returns-in-Err-clause-answer
 returns-in-Err-clause-answer g c = sym (ap (λ o. o.answer) (moved_refused g.row.SLI c.args.heap.now.heap c.args.name c.args.len c.in-Err.why c.in-Err.ensures.words))
 
 pub returns-in-Err-clause-heap : goal.returns-in-Err-clause-heap
-returns-in-Err-clause-heap g c = c.in-Err.ensures.heap ∙ sym (ap (λ o. o.heap) (moved_refused g.row.SLI c.args.heap.now.heap c.args.name c.args.len c.in-Err.why c.in-Err.ensures.words))
+returns-in-Err-clause-heap g c = c.in-Err.ensures.same.heap ∙ sym (ap (λ o. o.heap) (moved_refused g.row.SLI c.args.heap.now.heap c.args.name c.args.len c.in-Err.why c.in-Err.ensures.words))
 
 pub moved-requires : goal.moved-requires
 moved-requires g c =
     let h = c.args.heap.now.heap in
-    let done = rw c.in-Ok.ensures.heap at c.resize_or_move-answer.ensures in
+    let done = rw c.in-Ok.ensures.same.heap at c.resize_or_move-answer.ensures in
     let m : Moves h c.resize_or_move-answer.new.self.heap c.args.self.now c.in-Ok.words c.resize_or_move-answer.result =
-    moves g.row.SLI c.requires.level h c.args.self.now c.requires.are_counts c.args.name c.args.len c.in-Ok.words c.in-Ok.ensures.was_lawful c.in-Ok.ensures.live c.in-Ok.ensures.words
-    c.resize_or_move-answer.result done.answer c.resize_or_move-answer.new.self.heap done.heap done.err in
-    (omega arith, (m.sum, (m.refused, (m.small, (c.requires.are_counts.most, m.room)))))
+    moves g.row.SLI c.requires.level h c.args.self.now c.requires.are_counts c.args.name c.args.len c.in-Ok.words c.in-Ok.ensures.keeps.was_lawful c.in-Ok.ensures.live c.in-Ok.ensures.words
+    c.resize_or_move-answer.result done.answer c.resize_or_move-answer.new.self.heap done.heap (rw c.in-Ok.ensures.same.heap at (heap_as_before _ _ _ c.resize_or_move-answer.ensures.err)) in
+    (omega arith, (m.live, (m.sum, (m.refused, (m.small, (c.requires.are_counts.most, m.room))))))
 
 pub returns-clause-forged : goal.returns-clause-forged
-returns-clause-forged g c = live_not_forged c.args.heap.now.heap c.args.name c.in-Ok.ensures.was_lawful c.in-Ok.ensures.live _ _
+returns-clause-forged g c = live_not_forged c.args.heap.now.heap c.args.name c.in-Ok.ensures.keeps.was_lawful c.in-Ok.ensures.live _ _
