@@ -1,22 +1,4 @@
-# Sourced: what C's library is made of, and where its files go.
-
-# merge_library KIT TREE ARCHIVE TO: makes the archive that C links alone, of the one that is proved and built and of
-# c/memory.c in that tree, by which it takes memory. TO.nomalloc is for programs that have no malloc.
-merge_library() {
-    add_memory "$1" "$2" "$3" "$4.nomalloc" -DTLSF_NO_MALLOC && add_memory "$1" "$2" "$3" "$4"
-}
-
-add_memory() {
-    rm -rf "$4" "$4.made" && mkdir "$4.made" && compile_memory "$1" "$2" "$4.made/memory.o" "${5-}" &&
-        printf 'CREATE %s\nADDLIB %s\nADDMOD %s\nSAVE\nEND\n' "$4" "$3" "$4.made/memory.o" | "$1/toolchain/bin/llvm-ar" -M &&
-        [ -s "$4" ] && rm -rf "$4.made"
-}
-
-# compile_memory KIT TREE OBJECT [FLAG]: for baseline x86-64, as what is proved, and with .eh_frame.
-compile_memory() {
-    "$1/toolchain/bin/clang" --target=x86_64-unknown-linux-gnu -march=x86-64 -std=c11 -O2 -fPIC -ffreestanding \
-        -fno-stack-protector -fasynchronous-unwind-tables ${4:+"$4"} -c "$2/c/memory.c" -o "$3"
-}
+# Sourced: where the files of C's library go.
 
 # put_library TOP ARCHIVE PREFIX: puts that archive and the one beside it, the headers, and what pkg-config and CMake read
 # there. No file has the prefix in it, so the folder can be moved.

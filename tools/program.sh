@@ -1,4 +1,4 @@
-# Sourced, with $top, the repository, and tools/crates.sh: where what is proved and built lies, and how far its build is.
+# Sourced, with $top, the repository: where what is proved and built lies, and how far its build is.
 # $goal names the crate that it is built of: tlsf_tool, the program, if nothing else was set, or tlsf_c, C's library.
 #
 # Builds lie outside the repository, in a folder of this user's own, $builds: `rt ci` reads the whole checkout, and
@@ -122,6 +122,13 @@ note_key() {
     mkdir -p "$builds/seen" && echo "$key" > "$builds/seen/$goal-$places" || return 0
 } 2>/dev/null
 
+# Sets all of these, with `stop` of the caller's.
+find_text() {
+    find_key || stop "the sources under $top can't be read"
+    find_product || find_builds || stop "no folder for builds can be written: set XDG_CACHE_HOME to one"
+    note_key
+}
+
 # Whether a process that builds in this folder, or begins to, lives; those whose leader was killed don't count.
 is_building() {
     [ -e "$1/lock" ] && ! flock -n -s "$1/lock" true || return 1
@@ -194,4 +201,40 @@ find_progress() {
     unit=seconds
     [ "$seconds" -ne 1 ] || unit=second
     progress="$proved of $(($(wc -l < "$build/all"))) crates proved, after $seconds $unit"
+}
+
+# crates_below TREE CRATE..: prints these crates and those that they stand on, lowest first.
+crates_below() {
+    tree_of=$1
+    shift
+    sed -e 's/#.*//' "$tree_of/crates.txt" | awk -v asked="$*" '
+        BEGIN { n = split(asked, names, " "); for (i = 1; i <= n; i++) needed[names[i]] = 1 }
+        NF { name = $1; sub(/:.*/, "", name); sub(/^[^:]*:/, ""); listed[++count] = name; below[name] = $0 }
+        END {
+            for (i = count; i > 0; i--) if (needed[listed[i]]) {
+                n = split(below[listed[i]], names, " ")
+                for (k = 1; k <= n; k++) needed[names[k]] = 1
+            }
+            for (i = 1; i <= count; i++) if (needed[listed[i]]) print listed[i]
+        }'
+}
+
+# crate_lines TREE CRATE..: prints the lines of crates.txt for these crates, without comments.
+crate_lines() {
+    tree_of=$1
+    shift
+    awk -v named="$*" '
+        BEGIN { n = split(named, names, " "); for (i = 1; i <= n; i++) there[names[i]] = 1 }
+        { sub(/#.*/, ""); name = $1; sub(/:.*/, "", name) }
+        name in there' "$tree_of/crates.txt"
+}
+
+# The megabytes of memory that are free, under the limit of the control group too.
+free_megabytes() {
+    free=$(awk '/^MemAvailable:/ { print int($2 / 1024) }' /proc/meminfo)
+    group=/sys/fs/cgroup
+    limit=$(cat "$group/memory.max" 2>/dev/null) && [ "$limit" != max ] && [ -n "$limit" ] &&
+        held=$(awk '$1 == "anon" { print $2 }' "$group/memory.stat" 2>/dev/null) &&
+        limit=$(((limit - held) / 1048576)) && [ "$limit" -lt "$free" ] && free=$limit
+    echo "$free"
 }

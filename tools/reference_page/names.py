@@ -3,10 +3,12 @@ import dataclasses
 import pathlib
 import re
 
-from sources import IMPL, Definition, Item, Reader, Specs
+from tree import lines_of_crates, needed
+
+from .sources import IMPL, Definition, Item, Reader, Specs
 
 # Crates that nobody stands on.
-NO_LIBRARY = re.compile(r"tlsf_checks|example_\w+")
+NO_LIBRARY = re.compile(r"tlsf_checks\w*|example_\w+|uses")
 WORD = re.compile(r"[^\W\d][\w']*")
 # Words of the logic and of Rust, which no line brings in.
 BUILT_IN = set(
@@ -271,8 +273,7 @@ class Tree:
 
     def __init__(self, top):
         self.top, self.index, self.specs = top, {}, {}
-        lines = [it.split("#")[0].strip() for it in (top / "crates.txt").read_text(encoding="utf-8").split("\n")]
-        self.lines = {re.split(r"[ :]", it)[0]: it for it in lines if it}
+        self.lines = lines_of_crates(top)
         self.all_crates = set(self.lines)
         names = [it for it in self.lines if (top / "crates" / it / "src" / "lib.rt").exists() and not NO_LIBRARY.fullmatch(it)]
         self.crates = {name: Crate(self, name, self.lines[name]) for name in names}
@@ -290,13 +291,7 @@ class Tree:
 
     def needed(self, crate):
         """The lines of crates.txt that a crate needs, lowest first."""
-        names, left = set(), [crate]
-        while left:
-            name = left.pop()
-            if name in self.lines and name not in names:
-                names.add(name)
-                left += self.lines[name].partition(":")[2].split()
-        return [line for name, line in self.lines.items() if name in names]
+        return [self.lines[it] for it in needed(self.lines, crate)]
 
     def find(self, crate, path):
         """The public item of a path in a crate, None where there is none."""

@@ -5,9 +5,9 @@ import re
 import subprocess
 import urllib.parse
 
-from names import DOC_LINK, WORD, Public, outside_code, shown
-from sources import Definition
-from text import derives
+from .names import DOC_LINK, WORD, Public, outside_code, shown
+from .sources import Definition
+from .text import derives
 
 FOLDER = pathlib.Path(__file__).resolve().parent
 PANDOC = ["pandoc", "-f", "commonmark+pipe_tables", "-t", "html5", "--wrap=none", "--no-highlight", "--shift-heading-level-by=3"]
@@ -305,6 +305,12 @@ def clause_anchor(public, clause):
 
 def definition_anchor(one):
     return f"{one.crate}.specs.{one.module}.{one.name}"
+
+
+def full_name(one):
+    if isinstance(one, Public):
+        return f"{one.crate}::{one.path}"
+    return definition_anchor(one).replace(".", "::")
 
 
 def broken(path):

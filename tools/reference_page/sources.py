@@ -7,6 +7,8 @@ import itertools
 import pathlib
 import re
 
+from tree import read
+
 ITEM = re.compile(
     r"(?P<pub>pub(?:\([a-z]+\))? )?(?:unsafe (?=impl|trait))?(?:(?:const|unsafe|final|extern \"C\") (?=.*\bfn ))*"
     r"(?P<kind>fn|struct|enum|trait|impl|mod|use|const|static|type|ghost use|ghost)\b ?(?P<name>\w*)"
@@ -77,7 +79,7 @@ class Reader:
 
     def __init__(self, file):
         self.file = file
-        self.lines = file.read_text(encoding="utf-8").split("\n")
+        self.lines = read(file).split("\n")
 
     def docs(self):
         """The docs of the whole file."""
@@ -238,7 +240,7 @@ class Specs:
 
     def __init__(self, crate, module, file):
         self.crate, self.module, self.scope = crate, module, None
-        lines = file.read_text(encoding="utf-8").split("\n")
+        lines = read(file).split("\n")
         self.uses = [it for it in joined(lines) if it.startswith("use ")]
         self.passed = [it.removeprefix("pub ") for it in joined(lines) if it.startswith("pub use ")]
         self.bound = bound_by_module(lines)

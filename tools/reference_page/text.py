@@ -2,7 +2,7 @@
 import re
 import textwrap
 
-from names import DOC_LINK, outside_code, shown
+from .names import DOC_LINK, outside_code, shown
 
 WIDTH = 80
 

@@ -1,7 +1,4 @@
-#!/usr/bin/env python3
-"""usage: tools/check_pages
-
-Checks what the repository says of itself, in a second and with no prover:
+"""What the pages say of the tree is so, and reads well:
 
 - each link of a page leads to a file, and to a heading where it names one;
 - each path, file name and wrong body in backticks is there (words in capitals,
@@ -16,27 +13,15 @@ Checks what the repository says of itself, in a second and with no prover:
 - a function in backticks with a number behind it, as `tlsf_put` 56, has the
   bound of tools/longest_path.bounds;
 - a trace that a page shows beside its replies is examples/two_workers.trace,
-  with the reply lines of cases/two_workers.stdout;
-- no function but a test, which may be a table, is longer than 40 lines from
-  brace to brace, no source file longer than 800, and each example shorter than
-  80.
-
-A line for each fault goes to standard error. The exit status is 0 where there
-is none, and 1 where there is one.
-"""
-import pathlib
+  with the reply lines of cases/two_workers.stdout."""
+import functools
 import re
-import sys
 
-sys.dont_write_bytecode = True
-import edits
+import tree
 
 MOST_LINE = 120
 MOST_SENTENCE_WORDS = 25
 MOST_SENTENCE_NUMBERS = 2
-MOST_BODY_LINES = 40
-MOST_FILE_LINES = 800
-MOST_EXAMPLE_LINES = 79
 
 LINK = re.compile(r"(?<!!)\[[^\]]*\]\(([^)\s]+)\)|!\[[^\]]*\]\(([^)\s]+)\)")
 CODE = re.compile(r"`([^`\n]+)`")
@@ -75,8 +60,8 @@ def slug(heading):
 class Page:
     def __init__(self, file):
         self.file = file
-        self.name = file.relative_to(edits.TOP).as_posix()
-        self.text = file.read_text(encoding="utf-8")
+        self.name = file.relative_to(tree.TOP).as_posix()
+        self.text = tree.read(file)
         self.lines = self.text.split("\n")
         if not self.lines[-1]:
             self.lines.pop()
@@ -124,12 +109,12 @@ class Page:
 
 class Repository:
     def __init__(self):
-        files = [it for it in edits.TOP.rglob("*") if not MADE.search(it.relative_to(edits.TOP).as_posix())]
+        files = [it for it in tree.TOP.rglob("*") if not MADE.search(it.relative_to(tree.TOP).as_posix())]
         self.files = [it for it in files if it.is_file()]
         self.names = {it.name for it in files}
         self.pages = {it: Page(it) for it in self.files if it.suffix == ".md"}
         self.edits = {it.stem for it in self.files if it.suffix == ".edit"}
-        self.tops = {it.name for it in edits.TOP.iterdir()}
+        self.tops = {it.name for it in tree.TOP.iterdir()}
 
     def link_fault(self, page, target):
         path, _, anchor = target.partition("#")
@@ -142,7 +127,7 @@ class Repository:
 
     def has_path(self, page, path):
         """Whether the path is there from the top, from the page, or from the folder of a crate or of its sources."""
-        folders = [edits.TOP, page.file.parent, *edits.crates(), *(it / part for it in edits.crates() for part in edits.PARTS)]
+        folders = [tree.TOP, page.file.parent, *tree.crates(), *(it / part for it in tree.crates() for part in tree.PARTS)]
         patterns = {path.rstrip("/"), ANY_NAME.sub("*", path.rstrip("/"))}
         return any(next(folder.glob(pattern), None) for folder in folders for pattern in patterns)
 
@@ -189,7 +174,7 @@ class Repository:
 
     def bound_faults(self):
         """Bounds of machine code that are quoted otherwise than they are stored; and stored ones that MEASURED lacks."""
-        lines = [line.split() for line in (edits.TOP / "tools" / "longest_path.bounds").read_text(encoding="utf-8").split("\n")]
+        lines = [line.split() for line in tree.read(tree.TOP / "tools" / "longest_path.bounds").split("\n")]
         bounds = {words[1]: words[2] for words in lines if words and words[0] != "#"}
         quoted = set()
         for page in self.pages.values():
@@ -203,8 +188,8 @@ class Repository:
                 yield f"docs/MEASURED.md: lacks the bound of {name}"
 
     def trace_faults(self):
-        trace = (edits.TOP / "examples" / "two_workers.trace").read_text(encoding="utf-8").split("\n")
-        told = (edits.TOP / "cases" / "two_workers.stdout").read_text(encoding="utf-8").split("\n")
+        trace = tree.read(tree.TOP / "examples" / "two_workers.trace").split("\n")
+        told = tree.read(tree.TOP / "cases" / "two_workers.stdout").split("\n")
         showing = set()
         for page in self.pages.values():
             for shown in TRACE_BLOCK.finditer(page.text):
@@ -219,26 +204,10 @@ class Repository:
             yield "no page shows a trace beside its replies"
 
     def version_faults(self):
-        newest = NEWEST.search(self.pages[edits.TOP / "CHANGELOG.md"].text)
-        named = VERSION.search((edits.TOP / "crates" / "tlsf_command" / "src" / "lib.rt").read_text(encoding="utf-8"))
+        newest = NEWEST.search(self.pages[tree.TOP / "CHANGELOG.md"].text)
+        named = VERSION.search(tree.read(tree.TOP / "crates" / "tlsf_command" / "src" / "lib.rt"))
         if not newest or not named or newest[1] != named[1]:
             yield f"CHANGELOG.md: its newest version is {newest and newest[1]}, and the program's {named and named[1]}"
-
-    def source_faults(self):
-        for file in self.files:
-            name = file.relative_to(edits.TOP).as_posix()
-            if file.suffix not in (".rt", ".antt") or not name.startswith("crates/"):
-                continue
-            text = file.read_text(encoding="utf-8")
-            most = MOST_EXAMPLE_LINES if name.startswith("crates/example_") else MOST_FILE_LINES
-            if (count := text.count("\n")) > most:
-                yield f"{name}: {count} lines, more than {most}"
-            if file.suffix == ".rt":
-                lines = text.split("\n")
-                for body in edits.bodies_in(name, text):
-                    is_test = "#[test]" in lines[body.first : body.opens]
-                    if (count := body.last - body.opens - 1) > MOST_BODY_LINES and not is_test:
-                        yield f"{name}:{body.opens + 1}: {body.name} has {count} lines, more than {MOST_BODY_LINES}"
 
     def faults(self):
         for _, page in sorted(self.pages.items()):
@@ -247,21 +216,16 @@ class Repository:
         yield from self.bound_faults()
         yield from self.trace_faults()
         yield from self.version_faults()
-        yield from self.source_faults()
 
 
-def main():
-    repository = Repository()
-    found = list(repository.faults())
-    for fault in found:
-        print(f"check_pages: {fault}", file=sys.stderr)
-    print(f"check_pages: {len(repository.pages)} pages, {len(found)} faults")
-    return 1 if found else 0
+@functools.cache
+def repository():
+    return Repository()
 
 
-if __name__ == "__main__":
-    if len(sys.argv) > 1:
-        asked = sys.argv[1] in ("-h", "--help")
-        print(__doc__.strip(), file=sys.stdout if asked else sys.stderr)
-        sys.exit(0 if asked else 2)
-    sys.exit(main())
+def faults():
+    return repository().faults()
+
+
+def looked_at():
+    return f"{len(repository().pages)} pages"

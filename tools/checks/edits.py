@@ -1,0 +1,56 @@
+"""Each wrong body in must-fail/ and attack/ still applies: each text that it
+changes stands once in its file, it changes something, and no other edit of its
+crate has its name. Where it turns a law, of a folder laws/ or of
+tlsf_yard_laws, its line `shown:` says what shows that the law is false then."""
+import pathlib
+
+import tree
+
+
+def is_of_law(crate, changes):
+    return crate.name == "tlsf_yard_laws" or any(pathlib.PurePath(file).parts[1] == "laws" for file, _, _ in changes)
+
+
+def faults_of(crate, edit):
+    """Why the edit does not apply to the crate; nothing where it does."""
+    lines = tree.read(edit).split("\n")
+    for line in lines:
+        if line and not line.startswith(("shown: ", "file: ", "old: ", "new:")):
+            yield f"has a line that is read as nothing: {line[:60]}"
+    texts = {}
+    changes = list(tree.changes_in("\n".join(lines)))
+    for file, old, new in changes:
+        if not file or not old or pathlib.PurePath(file).parts[0] not in tree.PARTS:
+            yield "has a 'new:' with no 'old:', or with no 'file:' below src/, specs/ or proofs/"
+            return
+        if not (crate / file).is_file():
+            yield f"names {file}, which isn't there"
+            return
+        text = texts.get(file) or tree.read(crate / file)
+        if text.count(old) != 1:
+            yield f"changes a text that stands {text.count(old)} times in {file}, and not once: {old}"
+            return
+        texts[file] = text.replace(old, new)
+    if all(old == new for _, old, new in changes):
+        yield "changes nothing"
+    if is_of_law(crate, changes) and not lines[0].startswith("shown: "):
+        yield "doesn't begin with what shows that the law is false"
+
+
+def faults():
+    for crate in tree.crates():
+        names = {}
+        for edit in tree.edits_of(crate):
+            told = edit.relative_to(tree.TOP)
+            if other := names.get(edit.name):
+                yield f"{told}: has the name of {other}"
+            names[edit.name] = told
+            yield from (f"{told}: {fault}" for fault in faults_of(crate, edit))
+        for folder in tree.FOLDERS:
+            for file in sorted((crate / folder).glob("*")):
+                if file.suffix not in (".edit", ".md"):
+                    yield f"{file.relative_to(tree.TOP)}: no edit: its name ends in neither .edit nor .md"
+
+
+def looked_at():
+    return f"{sum(len(tree.edits_of(it)) for it in tree.crates())} wrong bodies"
