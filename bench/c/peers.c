@@ -1,0 +1,327 @@
+/* Counts, times and fills heaps of the C library, and others beside them. bench/peers builds and runs it.
+ *
+ * PEERS WAY COLUMN, where COLUMN is level4, level5, system (calloc, free, realloc and memcpy of what is loaded) or, with -DAUTHORS, authors
+ * (TLSF 2.4 of its authors). Payload is made zero in each. A call that is refused ends the program with status 1. WAY is one of these:
+ *   calls   prints 'CALL, REQUESTS: MEAN WORST' in instructions: the processor traps behind each. What is counted begins with the first
+ *           instruction of the function that a program calls, and ends with its return; what fills and copies payload is part of it.
+ *   holes   prints 'worst call, N holes: WORST' so, where blocks are made and released beside N holes in which none fits.
+ *   time    prints 'time, REQUESTS: NANOSECONDS' of an allocate and a release, of a resize, and of a write or a read.
+ *   full    prints 'full, REQUESTS: FRESH AGED', the bytes asked for in thousandths of 8 MiB: at the first refusal, and in the mean where
+ *           100,000 blocks have come and gone before. Of the system it is so much resident memory, and its peak while blocks come and go. */
+#define _GNU_SOURCE
+#include "tlsf.h"
+
+#include <fcntl.h>
+#include <signal.h>
+#include <stdio.h>
+#include <stdlib.h>
+#include <sys/wait.h>
+#include <time.h>
+#include <ucontext.h>
+#include <unistd.h>
+
+#ifdef AUTHORS
+size_t init_memory_pool(size_t bytes, void *pool);
+/* Inline calls of tlsf.h have these names too. */
+void *authors_calloc(size_t count, size_t bytes) __asm__("tlsf_calloc");
+void authors_free(void *block) __asm__("tlsf_free");
+void *authors_realloc(void *block, size_t bytes) __asm__("tlsf_realloc");
+#endif
+
+enum { ROUNDS = 1000, WARM = 20000, LIVE = 1000, MOST_HOLES = 100000, MOST_BLOCKS = 1 << 20, WORDS = 1 << 20, TRAP = 0x100 };
+static enum { LEVEL_4, LEVEL_5, SYSTEM, AUTHORS_OWN } column;
+static int is_stepped; /* else no call is counted */
+
+/* Calls function(a, b, c, d, e), with a trap behind each instruction while `trap` is TRAP, not 0. */
+uint64_t call_stepped(uintptr_t function, uintptr_t a, uintptr_t b, uintptr_t c, uintptr_t d, uintptr_t e);
+extern char returned[];
+extern char two_instructions[];
+uint64_t trap;
+__asm__(".text\ntwo_instructions:\n  nop\n  ret\n"
+        "call_stepped:\n"
+        "  push %rbp\n  mov %rdi, %rax\n  mov %rsi, %rdi\n  mov %rdx, %rsi\n  mov %rcx, %rdx\n  mov %r8, %rcx\n  mov %r9, %r8\n"
+        "  mov trap(%rip), %r10\n  pushfq\n  or %r10, (%rsp)\n  popfq\n"
+        "  call *%rax\n" /* the first trap */
+        "returned:\n  pop %rbp\n  ret\n");
+static volatile uint64_t traps;
+
+static void count_trap(int number, siginfo_t *info, void *context) {
+    greg_t *registers = ((ucontext_t *)context)->uc_mcontext.gregs;
+    (void)number;
+    (void)info;
+    if (registers[REG_RIP] == (greg_t)(uintptr_t)returned) registers[REG_EFL] &= ~(greg_t)TRAP;
+    else traps++;
+}
+
+struct tally {
+    uint64_t sum, calls, worst;
+};
+
+/* A call, which is added to a tally where there is one. */
+static uint64_t call(struct tally *tally, uintptr_t function, uintptr_t a, uintptr_t b, uintptr_t c, uintptr_t d, uintptr_t e) {
+    if (!is_stepped) tally = NULL;
+    trap = tally ? TRAP : 0;
+    traps = 0;
+    const uint64_t answer = call_stepped(function, a, b, c, d, e);
+    if (tally) {
+        tally->sum += traps;
+        tally->calls++;
+        if (traps > tally->worst) tally->worst = traps;
+    }
+    return answer;
+}
+
+static void print(const char *name, const char *requests, const struct tally *of) {
+    if (of->calls) printf("%s, %s: %.0f %lu\n", name, requests, (double)of->sum / (double)of->calls, of->worst);
+}
+
+static void ends_if(int refused, const char *what) {
+    if (!refused) return;
+    fprintf(stderr, "peers: %s is refused\n", what);
+    exit(1);
+}
+
+struct block {
+    struct tlsf_name name;
+    uintptr_t at;
+    uint32_t len;
+};
+static struct tlsf_heap heap;
+static struct tally allocates, releases, resizes;
+
+/* Says whether there was room. */
+static int gives(struct block *block, uint32_t len, int counts) {
+    struct tally *tally = counts ? &allocates : NULL;
+    block->len = len;
+    if (column == SYSTEM) block->at = call(tally, (uintptr_t)calloc, 1, len, 0, 0, 0);
+#ifdef AUTHORS
+    else if (column == AUTHORS_OWN) block->at = call(tally, (uintptr_t)authors_calloc, 1, len, 0, 0, 0);
+#endif
+    else block->at = !(uint32_t)call(tally, (uintptr_t)tlsf_allocate, (uintptr_t)&heap, len, (uintptr_t)&block->name, 0, 0);
+    return block->at != 0;
+}
+
+static void allocate(struct block *block, uint32_t len, int counts) { ends_if(!gives(block, len, counts), "allocate"); }
+
+static void release(struct block *block, int counts) {
+    struct tally *tally = counts ? &releases : NULL;
+    if (column == SYSTEM) call(tally, (uintptr_t)free, block->at, 0, 0, 0, 0);
+#ifdef AUTHORS
+    else if (column == AUTHORS_OWN) call(tally, (uintptr_t)authors_free, block->at, 0, 0, 0, 0);
+#endif
+    else ends_if((int)call(tally, (uintptr_t)tlsf_release, (uintptr_t)&heap, (uintptr_t)&block->name, 0, 0, 0), "release");
+}
+
+static void resize(struct block *block, uint32_t len, int counts) {
+    struct tally *tally = counts ? &resizes : NULL;
+    if (column == SYSTEM) block->at = call(tally, (uintptr_t)realloc, block->at, len, 0, 0, 0);
+#ifdef AUTHORS
+    else if (column == AUTHORS_OWN) block->at = call(tally, (uintptr_t)authors_realloc, block->at, len, 0, 0, 0);
+#endif
+    else block->at = !(uint32_t)call(tally, (uintptr_t)tlsf_reallocate, (uintptr_t)&heap, (uintptr_t)&block->name, len, 0, 0);
+    ends_if(!block->at, "resize");
+}
+
+/* Numbers that look random, the same in each run. */
+static uint32_t state;
+static uint32_t between(uint32_t least, uint32_t most) {
+    state = state * 1103515245 + 12345;
+    return least + (state >> 16) % (most - least + 1);
+}
+
+static struct block blocks[MOST_BLOCKS], others[LIVE / 4];
+
+static double nanoseconds(void) {
+    struct timespec now;
+    clock_gettime(CLOCK_MONOTONIC, &now);
+    return (double)now.tv_sec * 1e9 + (double)now.tv_nsec;
+}
+
+static void print_time(const char *requests, double since, int rounds) {
+    if (!is_stepped) printf("time, %s: %.1f\n", requests, (nanoseconds() - since) / rounds);
+}
+
+/* Keeps so many blocks live, and puts another in the place of one of them, or resizes one, again and again, WARM times before any counts. */
+static void replace(const char *requests, int live, uint32_t least, uint32_t most, int rounds, int resizes_them) {
+    double since = 0;
+    if (!is_stepped) rounds *= 100;
+    for (int i = 0; i < live; i++) allocate(&blocks[i], between(least, most), 0);
+    for (int i = -WARM; i < rounds; i++) {
+        struct block *block = &blocks[between(0, (uint32_t)live - 1)];
+        if (!i) since = nanoseconds();
+        if (resizes_them) resize(block, between(least, most), i >= 0);
+        else {
+            release(block, i >= 0);
+            allocate(block, between(least, most), i >= 0);
+        }
+    }
+    print_time(requests, since, rounds);
+    for (int i = 0; i < live; i++) release(&blocks[i], 0);
+}
+
+/* Leaves holes of 8 bytes, and makes and releases larger blocks, in two rounds, both of which are counted. */
+static void pass_holes(int holes) {
+    for (int i = 0; i < 2 * holes; i++) allocate(&blocks[i], 8, 0);
+    for (int i = 0; i < 2 * holes; i += 2) release(&blocks[i], 0);
+    for (int round = 0; round < 2; round++) {
+        for (int i = 0; i < LIVE / 4; i++) allocate(&others[i], between(48, 1008), 1);
+        for (int i = 0; i < LIVE / 4; i++) release(&others[i], 1);
+    }
+    for (int i = 1; i < 2 * holes; i += 2) release(&blocks[i], 0);
+}
+
+static void print_both(const char *requests) {
+    print("allocate", requests, &allocates);
+    print("release", requests, &releases);
+    print("resize", requests, &resizes);
+    allocates = releases = resizes = (struct tally){0, 0, 0};
+}
+
+static _Alignas(64) uint8_t plain[2 * 4096], bytes[4096];
+static void *(*volatile copy)(void *, const void *, size_t) = memcpy; /* a call for each, as of the others */
+
+/* Writes or reads n bytes of a payload again and again or, of the system, copies such bytes. */
+static void time_moves(const char *call, const char *requests, const struct tlsf_name *name, uint32_t at, uintptr_t n) {
+    const int writes = call[0] == 'w', rounds = (1 << 26) / (int)(n + 64);
+    const double since = nanoseconds();
+    for (int i = 0; i < rounds; i++) {
+        if (column == SYSTEM) copy(writes ? plain + at : bytes, writes ? bytes : plain + at, n);
+        else ends_if((int)(writes ? tlsf_write(&heap, name, at, bytes, n) : tlsf_read(&heap, name, at, bytes, n)), call);
+    }
+    printf("time, %s, %s: %.1f\n", call, requests, (nanoseconds() - since) / rounds);
+}
+
+/* Counts or times writes and reads of a payload or, of the system, memcpy to and from such bytes. */
+static void move(uint32_t at, uintptr_t n) {
+    struct tally writes = {0, 0, 0}, reads = {0, 0, 0};
+    char requests[64];
+    struct block block = {.len = 0};
+    if (n < 1000) snprintf(requests, sizeof requests, "%lu bytes at %u", n, at);
+    else snprintf(requests, sizeof requests, "%lu,%03lu bytes at %u", n / 1000, n % 1000, at);
+    if (column != SYSTEM) allocate(&block, sizeof plain, 0);
+    const uintptr_t name = (uintptr_t)&block.name;
+    if (!is_stepped) {
+        time_moves("write", requests, &block.name, at, n);
+        time_moves("read", requests, &block.name, at, n);
+    } else if (column == SYSTEM) {
+        call(&writes, (uintptr_t)memcpy, (uintptr_t)(plain + at), (uintptr_t)bytes, n, 0, 0);
+        call(&reads, (uintptr_t)memcpy, (uintptr_t)bytes, (uintptr_t)(plain + at), n, 0, 0);
+    } else {
+        ends_if((int)call(&writes, (uintptr_t)tlsf_write, (uintptr_t)&heap, name, at, (uintptr_t)bytes, n), "write");
+        ends_if((int)call(&reads, (uintptr_t)tlsf_read, (uintptr_t)&heap, name, at, (uintptr_t)bytes, n), "read");
+    }
+    if (column != SYSTEM) release(&block, 0);
+    print("write", requests, &writes);
+    print("read", requests, &reads);
+}
+
+static void open_all(const char *name) {
+    struct sigaction action = {.sa_sigaction = count_trap, .sa_flags = SA_SIGINFO};
+    struct tally two = {0, 0, 0};
+    if (is_stepped) {
+        ends_if(sigaction(SIGTRAP, &action, NULL), "a handler of traps");
+        call(&two, (uintptr_t)two_instructions, 0, 0, 0, 0, 0);
+        ends_if(two.sum != 2, "a trap behind each instruction");
+    }
+    column = !strcmp(name, "level4") ? LEVEL_4 : !strcmp(name, "level5") ? LEVEL_5 : !strcmp(name, "system") ? SYSTEM : AUTHORS_OWN;
+    if (column <= LEVEL_5) ends_if((int)tlsf_open(&heap, column == LEVEL_4 ? 4 : 5, 0, WORDS), "the heap");
+#ifdef AUTHORS
+    static char pool[8 * WORDS];
+    if (column == AUTHORS_OWN) ends_if(init_memory_pool(sizeof pool, pool) == (size_t)-1, "the pool");
+#else
+    ends_if(column == AUTHORS_OWN, "a column that isn't built");
+#endif
+}
+
+/* Resident bytes of the program. */
+static double resident(void) {
+    char text[128] = "";
+    long all = 0, there = 0;
+    const int file = open("/proc/self/statm", O_RDONLY);
+    ends_if(file < 0 || read(file, text, sizeof text - 1) < 0 || sscanf(text, "%ld %ld", &all, &there) != 2, "the memory's size");
+    close(file);
+    return (double)there * (double)sysconf(_SC_PAGESIZE);
+}
+
+/* Blocks of 8 to `most` bytes until 8 MiB are full; then others in the place of some, and what is live in the mean. */
+static void fill(const char *requests, uint32_t most) {
+    memset(blocks, 1, sizeof blocks);
+    const double base = resident();
+    double bytes = 0, sum = 0, peak = 8.0 * WORDS;
+    int count = 0;
+    for (; count < MOST_BLOCKS && !(column == SYSTEM && (count % 64 == 0 || most > 4096) && resident() - base >= peak); count++) {
+        if (!gives(&blocks[count], between(8, most), 0)) break;
+        if (column == SYSTEM) memset((void *)blocks[count].at, 1, blocks[count].len);
+        bytes += blocks[count].len;
+    }
+    const double fresh = bytes;
+    for (int i = 0; i < 200000; i++) {
+        const uint32_t len = between(8, most);
+        struct block next;
+        while (column == SYSTEM ? bytes > fresh : !gives(&next, len, 0)) {
+            const uint32_t at = (uint32_t)(((uint64_t)between(0, 65535) << 16 | between(0, 65535)) % (uint64_t)count);
+            release(&blocks[at], 0);
+            bytes -= blocks[at].len;
+            blocks[at] = blocks[--count];
+        }
+        if (column == SYSTEM) {
+            ends_if(!gives(&next, len, 0), "allocate");
+            memset((void *)next.at, 1, len);
+            if (i % 1000 == 0 && resident() - base > peak) peak = resident() - base;
+        }
+        blocks[count++] = next;
+        bytes += len;
+        if (i >= 100000) sum += bytes;
+    }
+    for (int i = 0; i < count; i++) release(&blocks[i], 0);
+    printf("full, %s: %.0f %.0f\n", requests, 1000 * fresh / (8.0 * WORDS), 1000 * sum / 100000 / peak);
+}
+
+/* In a process of its own, which no earlier block has given memory to. */
+static void fill_apart(const char *requests, uint32_t most) {
+    int status = 1;
+    const pid_t child = fork();
+    if (!child) {
+        fill(requests, most);
+        fflush(stdout);
+        _exit(0);
+    }
+    ends_if(child < 0 || waitpid(child, &status, 0) < 0 || status, "a process for it");
+}
+
+static void run_all(void) {
+    replace("64 bytes in pairs", 1, 64, 64, ROUNDS, 0);
+    print_both("64 bytes in pairs");
+    replace("8 bytes, 1,000 live", LIVE, 8, 8, ROUNDS, 0);
+    print_both("8 bytes, 1,000 live");
+    replace("8..512 bytes, 1,000 live", LIVE, 8, 512, ROUNDS, 0);
+    print_both("8..512 bytes, 1,000 live");
+    replace("8..512 bytes, 10,000 live", 10 * LIVE, 8, 512, ROUNDS, 0);
+    print_both("8..512 bytes, 10,000 live");
+    replace("8..65,536 bytes, 100 live", 100, 8, 65536, ROUNDS / 4, 0); /* most of what is counted there fills payload */
+    print_both("8..65,536 bytes, 100 live");
+    replace("resize, 8..512 bytes, 1,000 live", LIVE, 8, 512, ROUNDS, 1);
+    print_both("8..512 bytes, 1,000 live");
+}
+
+int main(int argc, char **argv) {
+    const char *way = argc == 3 ? argv[1] : "";
+    is_stepped = way[0] == 'c' || way[0] == 'h';
+    open_all(argc == 3 ? argv[2] : "");
+    if (way[0] == 'c' || way[0] == 't') {
+        run_all();
+        for (uint32_t at = 0; at <= 3 && column != AUTHORS_OWN; at += 3)
+            for (uintptr_t n = 8; n <= 4096; n *= 8) move(at, n);
+    } else if (way[0] == 'h') {
+        for (int holes = 100; holes <= MOST_HOLES; holes *= 10) {
+            pass_holes(holes);
+            printf("worst call, %d holes: %lu\n", holes, allocates.worst > releases.worst ? allocates.worst : releases.worst);
+            allocates = releases = (struct tally){0, 0, 0};
+        }
+    } else if (way[0] == 'f') {
+        fill_apart("8 bytes", 8);
+        fill_apart("8..512 bytes", 512);
+        fill_apart("8..65,536 bytes", 65536);
+    } else return 2;
+    return 0;
+}
