@@ -52,7 +52,8 @@ inline std::string words_text(const Asked& asked, const Classes& classes) {
     if (asked.most == 0) return "4";
     const uint64_t want = want_of(asked.longest);
     if (classes.search_of(want) == classes.count()) return "none";
-    const uint64_t words = (asked.most - 1) * (want + 3) + asked.most * (classes.low(classes.search_of(want)) - 1) + 1;
+    // Blocks of up to 8 bytes have four words each, and every free block serves one.
+    const uint64_t words = want == 4 ? 4 * asked.most : (asked.most - 1) * (want + 3) + asked.most * (classes.low(classes.search_of(want)) - 1) + 1;
     return words > classes.most ? "none" : std::to_string(std::max<uint64_t>(4, words));
 }
 
@@ -221,7 +222,8 @@ inline std::string race_text(const Trace& trace) {
 inline Answer fault_answer(const Fault& fault) {
     static const std::map<int, std::string> words = {{11, "bad header"}, {12, "bad line"}, {13, "bad number"}, {14, "label out of order"}, {15, "trace too long"}};
     const std::string where = fault.line ? "line " + std::to_string(fault.line) + ": " : "";
-    return {1, "", "tlsf: " + where + words.at(fault.number) + " (" + std::to_string(fault.number) + ")\n"};
+    const std::string tip = fault.number >= 11 && fault.number <= 15 ? "tip: 'tlsf check < TRACE' says more\n" : "";
+    return {1, "", "tlsf: " + where + words.at(fault.number) + " (" + std::to_string(fault.number) + ")\n" + tip};
 }
 
 inline bool has_drain_lines(const Trace& trace) {
