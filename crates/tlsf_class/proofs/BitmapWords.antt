@@ -3,12 +3,13 @@ use Rattle.std.proofs.Common.{◌≡◌, ◌≢◌, ℕ, ◌+◌, ◌*◌, ◌/�
 use Rattle.std.specs.Prelude.{◌↔◌, Contains}
 use Rattle.std.specs.Int.{bit_at}
 use Rattle.std.proofs.lemmas.List.{length-set}
-use Rattle.std.proofs.lemmas.Bool.{cases_eq, cases_lt, eq-eqb, ne_eqb, cases_order}
+use Rattle.std.proofs.lemmas.Bool.{cases_eq, cases_lt, eq-eqb, eqb-true, ne_eqb, cases_order}
 use Rattle.std.proofs.lemmas.Nat.Bits.{bit_at-zero}
+use Rattle.std.proofs.lemmas.List.Elements.{filter_agree}
 use Rattle.tlsf_class.specs.Classes.{IsLevel, level_classes, last_class, classes}
 use Rattle.tlsf_class.proofs.TwoLevels.{by_level, split, first_at, second_at, second_below, first_inside, first_rises, second_more, same_class, first_below, second_less}
 use Rattle.tlsf_class.specs.Members.{with_member, without_member, next_member}
-use Rattle.tlsf_class.specs.Bitmaps.{is_set, members_of, AreLevels}
+use Rattle.tlsf_class.specs.Bitmaps.{is_set, members_of, marked_in, AreLevels}
 use Rattle.tlsf_class.proofs.Members.{filter-classes_same, Contains-filter, with_member-filter, without_member-filter, next_member-filter, next_member-filter_none}
 
 module _ (sli : ℕ) (level : IsLevel sli) where
@@ -74,6 +75,19 @@ module _ (sli : ℕ) (level : IsLevel sli) where
     | inl e ↦ absurd (omega (arith, bit_at-zero bit, sym h ∙ ap (λ w. bit_at w bit) e))
     | inr other ↦ elim other [ inl below ↦ absurd (omega arith) | inr above ↦ above ]
   ]
+
+  -- where the levels are in step, a bit that is set in the second is set in the first
+  pub marked_in-members : (first : ℕ) (second : List ℕ) → AreLevels sli first second → marked_in sli first second ≡ members_of sli second
+  unfolding members_of marked_in
+  marked_in-members first second levels =
+      filter_agree (λ c. is_set sli second c && eqb (bit_at first (c / level_classes sli)) 1) (is_set sli second) (λ c. both c (is_set sli second c) refl) (classes sli)
+    where
+      both : (c : ℕ) (b : Bool) → is_set sli second c ≡ b → (b && eqb (bit_at first (c / level_classes sli)) 1) ≡ b
+      both c true is =
+          let word = get_or second (c / level_classes sli) 0 in
+          let some = some_bit word (c % level_classes sli) (eqb-true (bit_at word (c % level_classes sli)) 1 is) in
+          eq-eqb (bit_at first (c / level_classes sli)) 1 (levels.first_bits (c / level_classes sli) ∙ omega (arith, some))
+      both c false is = refl
 
   -- the two levels stay in step where the bit of c is set in both
   pub AreLevels-set : (first next : ℕ) (second : List ℕ) (c first_level second_level word : ℕ) → AreLevels sli first second → SetsBit second c first_level second_level word → bit_at next first_level ≡ 1 → ((k : ℕ) → k ≢ first_level → bit_at next k ≡ bit_at first k) → AreLevels sli next (set second first_level word)
@@ -268,13 +282,13 @@ module _ (sli : ℕ) (level : IsLevel sli) where
       ap (λ b. eqb b 1) zero)
 
 -- no bit is set, and there is no member
-zeros_4 : members_of 4 (replicate 21 0) ≡ []
-unfolding members_of classes
+zeros_4 : marked_in 4 0 (replicate 21 0) ≡ []
+unfolding marked_in classes
 zeros_4 = refl
 
-zeros_5 : members_of 5 (replicate 21 0) ≡ []
-unfolding members_of classes
+zeros_5 : marked_in 5 0 (replicate 21 0) ≡ []
+unfolding marked_in classes
 zeros_5 = refl
 
-pub members_of-zeros : (sli : ℕ) → IsLevel sli → members_of sli (replicate 21 0) ≡ []
-members_of-zeros = by_level (λ sli. members_of sli (replicate 21 0) ≡ []) zeros_4 zeros_5
+pub marked_in-zeros : (sli : ℕ) → IsLevel sli → marked_in sli 0 (replicate 21 0) ≡ []
+marked_in-zeros = by_level (λ sli. marked_in sli 0 (replicate 21 0) ≡ []) zeros_4 zeros_5

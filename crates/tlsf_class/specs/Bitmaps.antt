@@ -1,6 +1,6 @@
 -- The words of two levels of bitmaps: one word with a bit for each first level, and for each first level a word with a bit for
 -- each of its classes, at the class's second level.
-use Rattle.std.specs.Prelude.{◌≡◌, ℕ, ◌+◌, ◌*◌, ◌/◌, ◌%◌, ◌<◌, ◌≤◌, List, Bool, ◌==◌, length, slice_index, min, filter}
+use Rattle.std.specs.Prelude.{◌≡◌, ℕ, ◌+◌, ◌*◌, ◌/◌, ◌%◌, ◌<◌, ◌≤◌, List, Bool, ◌==◌, ◌&&◌, length, slice_index, min, filter}
 use Rattle.std.specs.Int.{bit_at}
 use Rattle.tlsf_class.specs.Classes.{IsLevel, level_classes, last_class, classes}
 
@@ -8,9 +8,13 @@ use Rattle.tlsf_class.specs.Classes.{IsLevel, level_classes, last_class, classes
 abbrev pub is_set : ℕ → List ℕ → ℕ → Bool
 is_set sli second class = bit_at (slice_index second (class / level_classes sli)) (class % level_classes sli) == 1
 
--- the classes whose bits are set, rising
+-- the classes whose bits are set in the words of their first levels, rising
 unfoldable pub members_of : ℕ → List ℕ → List ℕ
 members_of sli second = filter (is_set sli second) (classes sli)
+
+-- the classes whose bits are set in both levels, rising
+unfoldable pub marked_in : ℕ → ℕ → List ℕ → List ℕ
+marked_in sli first second = filter (λ class. is_set sli second class && bit_at first (class / level_classes sli) == 1) (classes sli)
 
 -- the bit of a first level is set exactly where its word isn't zero, and only classes in use have bits
 pub record AreLevels (sli first : ℕ) (second : List ℕ) : Type 0 where

@@ -24,12 +24,12 @@ pub struct Bitmaps<const SLI: u32> {
 }
 
 impl<const SLI: u32> Model for Bitmaps<SLI> {
-    ghost use Rattle.tlsf_class.specs.Bitmaps.{members_of, AreLevels};
+    ghost use Rattle.tlsf_class.specs.Bitmaps.{marked_in, AreLevels};
     ghost use Rattle.tlsf_class.specs.Members.{ClassSet};
 
     ghost Value = { ClassSet };
 
-    ghost view = { λ b. record { members = members_of SLI b.levels.second; touches = b.levels.touches } };
+    ghost view = { λ b. record { members = marked_in SLI b.levels.first b.levels.second; touches = b.levels.touches } };
 
     ghost invariant = { λ b. AreLevels SLI b.levels.first b.levels.second };
 }

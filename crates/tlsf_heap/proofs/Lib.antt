@@ -1,2 +1,4 @@
 -- The lemmas, by the folder of what they are on.
 pub mod lemmas
+-- How many blocks are live after each call, and that a counted heap stays counted.
+pub mod LiveBlocks

@@ -98,10 +98,11 @@ Tells m from most (Damaged at) = MeetDamage m from most at
 abbrev pub IsCheck : Image → ℕ → ℕ → Option Checked → Type 0
 IsCheck m from most answer = MatchOption answer (¬ (Begins m from)) (λ checked. Begins m from × Tells m from most checked)
 
--- a look leaves the words and the start bits as they are, and touches rise by `most` at most
+-- a look leaves the words, the start bits and the memory of both as they are, and touches rise by `most` at most
 pub record OnlyLooks (old new : Memory) (most : ℕ) : Type 0 where
   pub words : new.words ≡ old.words
   pub starts : new.starts ≡ old.starts
+  pub stays : new.extents ≡ old.extents
   pub touches : new.touches ≤ old.touches + most
   pub rise : old.touches ≤ new.touches
 

@@ -1,5 +1,5 @@
 -- The free blocks by their places, the list of those of a class, and the links that the words of a region have for it.
-use Rattle.std.specs.Prelude.{◌≡◌, ℕ, ◌+◌, ◌<◌, List, [], ◌∷◌, ◌==◌, filter, map, IsPermutation, ⊤}
+use Rattle.std.specs.Prelude.{◌≡◌, ◌↔◌, ℕ, ◌+◌, ◌<◌, List, [], ◌∷◌, ◌==◌, filter, map, Contains, IsPermutation, ⊤}
 use Rattle.std.specs.List.{AllByRecursion}
 use Rattle.tlsf_class.specs.Classes.{class_of}
 use Rattle.tlsf_words.specs.Lists.{nowhere, LinkedFrom}
@@ -38,9 +38,14 @@ pub record IsFreeList (class : ℕ) (free : List FreePlace) (places : List ℕ) 
 abbrev pub AreFreeLists : ℕ → List Block → (ℕ → List ℕ) → Type 0
 AreFreeLists sli blocks lists = (class : ℕ) → IsFreeList class (free_places sli 0 blocks) (lists class)
 
+-- a class is marked exactly where its list isn't empty
+abbrev pub AreMarked : List ℕ → (ℕ → List ℕ) → Type 0
+AreMarked marked lists = (class : ℕ) → Contains marked class ↔ ¬ (lists class ≡ [])
+
 -- the third word of each free block names the next and the previous one of its class, in the order in which they became free, the last
--- first; where there is none, it names nowhere
-pub record ShowsLists (sli : ℕ) (m : Image) (blocks : List Block) : Type 0 where
+-- first; where there is none, it names nowhere. The bit of a class is set exactly where it has a free block
+pub record ShowsLists (sli : ℕ) (m : Image) (marked : List ℕ) (blocks : List Block) : Type 0 where
   pub places : ℕ → List ℕ
   pub are : AreFreeLists sli blocks places
   pub linked : (class : ℕ) → LinkedFrom m.words nowhere (places class)
+  pub bits : AreMarked marked places

@@ -5,15 +5,17 @@ use Rattle.tlsf_heap.specs.Image.{Shows}
 use Rattle.tlsf_heap.specs.Lawful.{IsLawful}
 use Rattle.tlsf_heap.specs.Shown.{Shown}
 
--- the heap is lawful before and after, what is stored shows its blocks and the links of its free ones, and the touches never fall
+-- the heap is lawful before and after, what is stored shows its blocks, and the links and the bits its free ones; it takes no memory and
+-- gives none back, so no word moves, and the touches never fall
 pub record Keeps (sli : ℕ) (old new : Shown) : Type 0 where
   pub was_lawful : IsLawful old.heap
   pub lawful : IsLawful new.heap
   pub shows : Shows new.stored new.heap.blocks
-  pub lists : ShowsLists sli new.stored new.heap.blocks
+  pub lists : ShowsLists sli new.stored new.marked new.heap.blocks
+  pub stays : new.extents ≡ old.extents
   pub touches_rise : old.touches ≤ new.touches
 
--- the same heap and the same stored words: only the touches may differ
+-- the same heap and the same stored words
 pub record IsAsBefore (old new : Shown) : Type 0 where
   pub heap : new.heap ≡ old.heap
   pub stored : new.stored ≡ old.stored

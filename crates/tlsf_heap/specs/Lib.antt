@@ -1,4 +1,5 @@
 pub use Rattle.tlsf_class.specs.Classes
+pub use Rattle.tlsf_words.specs.Memory
 pub mod Blocks
 pub mod Lawful
 pub mod GoodFit
@@ -29,3 +30,4 @@ pub mod Moved
 pub mod WordsInUse
 pub mod Checks
 pub mod Aligned
+pub mod ledger

@@ -1,21 +1,25 @@
 -- A region as its blocks and the lists of its free blocks.
 use Rattle.std.specs.Prelude.{◌≡◌, ◌≢◌, ℕ, ◌+◌, ◌-◌, ◌<◌, ◌≤◌, ◌==◌, List, [], ◌∷◌, ◌++◌, nat_le, if◌then◌else◌, length, slice_index, slice_index_or, true, false}
 use Rattle.std.specs.List.{AllByRecursion}
-use Rattle.tlsf_words.specs.Memory.{Memory}
+use Rattle.tlsf_words.specs.Memory.{Memory, Extents}
 use Rattle.tlsf_words.specs.Lists.{nowhere, without_place, LinkedFrom, IsUnlisted}
 use Rattle.tlsf_words.specs.declared.tag.Tag.{Tag}
 use Rattle.tlsf_heap.specs.Blocks.{Block, Live, Free, size_of, is_free, bytes_of, words_for, StandsAt}
 use Rattle.tlsf_heap.specs.Calls.{first_free, past_free, last_free, before_free}
 use Rattle.tlsf_heap.specs.GoodFit.{Site, site_at, place_of}
+use Rattle.tlsf_heap.specs.FreePlaces.{AreMarked}
 use Rattle.tlsf_heap.specs.Image.{Image, back_behind, Shows}
 use Rattle.tlsf_heap.specs.Lawful.{IsRegion}
 
--- what a region shows: how many words it has, its blocks, for each class the places in its free list, from the head, what is stored in it, and its touches
+-- what a region shows: how many words it has, its blocks, for each class the places in its free list, from the head, the classes whose bits
+-- are set, what is stored in it, the memory that it has, and its touches
 pub record RegionState : Type 0 where
   pub words : ℕ
   pub blocks : List Block
   pub lists : List (List ℕ)
+  pub marked : List ℕ
   pub stored : Image
+  pub extents : Extents
   pub touches : ℕ
 
 -- each block has a number of words that a region of a level may have
@@ -127,15 +131,19 @@ pub record OnlyReads (old new : RegionState) (most : ℕ) : Type 0 where
   pub words : new.words ≡ old.words
   pub blocks : new.blocks ≡ old.blocks
   pub lists : new.lists ≡ old.lists
+  pub marked : new.marked ≡ old.marked
   pub stored : new.stored ≡ old.stored
+  pub stays : new.extents ≡ old.extents
   pub touches : new.touches ≤ old.touches + most
   pub rise : old.touches ≤ new.touches
 
--- the words show the blocks and thread the lists, are as many as they were, and the touches rise by `most` at most
+-- the words show the blocks and thread the lists, the bits mark these, the memory is what it was, and the touches rise by `most` at most
 pub record Edits (old new : RegionState) (most : ℕ) : Type 0 where
   pub words : new.words ≡ old.words
   pub shows : Shows new.stored new.blocks
   pub linked : AreLinked (list_in new.lists) new.stored.words
+  pub bits : AreMarked new.marked (list_in new.lists)
+  pub stays : new.extents ≡ old.extents
   pub touches : new.touches ≤ old.touches + most
   pub rise : old.touches ≤ new.touches
 

@@ -4,7 +4,7 @@ use Rattle.tlsf_class.specs.Classes.{IsLevel, most_words}
 use Rattle.tlsf_heap.specs.Blocks.{HeapState}
 use Rattle.tlsf_heap.specs.Lawful.{IsLawful}
 use Rattle.tlsf_heap.specs.Image.{Shows}
-use Rattle.tlsf_heap.specs.FreePlaces.{AreFreeLists}
+use Rattle.tlsf_heap.specs.FreePlaces.{AreFreeLists, AreMarked}
 use Rattle.tlsf_heap.specs.Regions.{list_in, AreLinked}
 use Rattle.tlsf_heap.specs.declared.heap.Heap.TheInside.{Inside}
 
@@ -12,7 +12,8 @@ use Rattle.tlsf_heap.specs.declared.heap.Heap.TheInside.{Inside}
 abbrev pub state_of : (sli : ℕ) → Inside sli → HeapState
 state_of sli h = record { id = h.id; words = h.region.words; tick = h.tick; blocks = h.region.blocks }
 
--- the heap has a level and is lawful, its words show its blocks, each class has the list of its free blocks, and the words thread it
+-- the heap has a level and is lawful, its words show its blocks, each class has the list of its free blocks, the words
+-- thread it, and its bit marks it
 pub record IsStored (sli : ℕ) (h : Inside sli) : Type 0 where
   pub level : IsLevel sli
   pub lawful : IsLawful (state_of sli h)
@@ -20,3 +21,4 @@ pub record IsStored (sli : ℕ) (h : Inside sli) : Type 0 where
   pub small : h.region.words ≤ most_words sli
   pub listed : AreFreeLists sli h.region.blocks (list_in h.region.lists)
   pub linked : AreLinked (list_in h.region.lists) h.region.stored.words
+  pub bits : AreMarked h.region.marked (list_in h.region.lists)

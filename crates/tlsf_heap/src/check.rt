@@ -25,6 +25,7 @@ pub fn check_words(words: &mut Words, from: u32, most: u32) -> Option<Checked>
     ensures answer { IsCheck (image_of words.old) from most result }
     ensures words { words.new.words ≡ words.old.words }
     ensures starts { words.new.starts ≡ words.old.starts }
+    ensures stays { words.new.extents ≡ words.old.extents }
 
     // At most 13 for each block looked at, and one for the first start bit. No two blocks that are looked at begin within four words.
     ensures touches { words.new.touches ≤ words.old.touches + 1 + block_touches * most }

@@ -15,6 +15,7 @@ fn set_back(words: &mut Words, own: Tag, at: u32, back: u32)
     ensures header { NamesBefore words.old.words words.new.words at back }
     ensures only { OnlyFrom words.old.words words.new.words at (at + 1) }
     ensures starts { words.new.starts ≡ words.old.starts }
+    ensures stays { words.new.extents ≡ words.old.extents }
     ensures touches { RisesBy words.old.touches words.new.touches 2 }
 {
     if own.is_last() {
@@ -31,6 +32,7 @@ pub fn free_header(words: &mut Words, at: u32, tag: Tag, stamp: u64)
     ensures header { HasFree words.new.words at tag.size tag.last tag.back stamp }
     ensures only { OnlyFrom words.old.words words.new.words at (at + 2) }
     ensures starts { words.new.starts ≡ words.old.starts }
+    ensures stays { words.new.extents ≡ words.old.extents }
     ensures touches { words.new.touches ≡ words.old.touches + 2 }
 {
     words.set_tag_and_mark(at, tag, stamp);
@@ -41,6 +43,7 @@ pub fn first_header(words: &mut Words, stamp: u64)
     ensures header { HasFree words.new.words 0 (length words.old.words) true nowhere stamp }
     ensures only { OnlyFrom words.old.words words.new.words 0 2 }
     ensures starts { words.new.starts ≡ slice_set words.old.starts 0 true }
+    ensures stays { words.new.extents ≡ words.old.extents }
     ensures touches { words.new.touches ≡ words.old.touches + 3 }
 {
     let tag = Tag::new(words.len(), true, true, NO_PLACE);
@@ -54,6 +57,7 @@ pub fn live_header(words: &mut Words, at: u32, tag: Tag, serial: u64, len: u32)
     requires least { 4 ≤ tag.size }
     requires within { at + tag.size ≤ length words.old.words }
     ensures change { Wholes (image_of words.old) (image_of words.new) at tag serial len }
+    ensures stays { words.new.extents ≡ words.old.extents }
     ensures touches { words.new.touches ≡ words.old.touches + 4 }
 {
     words.set_header(at, tag, serial, len);
@@ -78,6 +82,7 @@ pub fn split_header(
     requires last { tag.last ≡ (at + tag.size == length words.old.words) }
     requires small { length words.old.words ≤ 2 ^ 24 }
     ensures change { Splits (image_of words.old) (image_of words.new) at tag size serial len }
+    ensures stays { words.new.extents ≡ words.old.extents }
     ensures touches { RisesBy words.old.touches words.new.touches 9 }
 {
     let place = at + size;
@@ -111,6 +116,7 @@ pub fn merge_headers(
     requires last { tag.last ≡ (at - before + tag.size == length words.old.words) }
     requires small { length words.old.words ≤ 2 ^ 24 }
     ensures change { Merges (image_of words.old) (image_of words.new) at before after tag stamp }
+    ensures stays { words.new.extents ≡ words.old.extents }
     ensures touches { RisesBy words.old.touches words.new.touches 6 }
 {
     let place = at - before;
@@ -130,6 +136,7 @@ pub fn widen_header(words: &mut Words, at: u32, both: u32, tag: Tag, after: u32)
     requires last { tag.last ≡ (at + tag.size == length words.old.words) }
     requires small { length words.old.words ≤ 2 ^ 24 }
     ensures change { Widens (image_of words.old) (image_of words.new) at tag after }
+    ensures stays { words.new.extents ≡ words.old.extents }
     ensures touches { RisesBy words.old.touches words.new.touches 4 }
 {
     let end = at + both;
@@ -159,6 +166,7 @@ pub fn recut_header(
     requires last { tag.last ≡ (at + tag.size == length words.old.words) }
     requires small { length words.old.words ≤ 2 ^ 24 }
     ensures change { Recuts (image_of words.old) (image_of words.new) at tag after size stamp }
+    ensures stays { words.new.extents ≡ words.old.extents }
     ensures touches { RisesBy words.old.touches words.new.touches 7 }
 {
     let behind = at + both;
@@ -180,6 +188,7 @@ fn clear_start(words: &mut Words, at: u32, size: u32, is_merged: bool)
     requires within { 0 < size → at < length words.old.words }
     ensures starts { words.new.starts ≡ without_start words.old.starts at size }
     ensures words { words.new.words ≡ words.old.words }
+    ensures stays { words.new.extents ≡ words.old.extents }
     ensures touches { RisesBy words.old.touches words.new.touches 1 }
 {
     if is_merged {

@@ -23,6 +23,7 @@ ghost use Rattle.tlsf_heap.specs.Kept.{IsAsBefore, Keeps};
 mod aligned;
 mod by_place;
 mod check;
+mod live;
 mod unset;
 mod words_in_use;
 
@@ -66,7 +67,7 @@ impl<const SLI: u32> Model for Heap<SLI> {
 
     ghost use Rattle.tlsf_heap.specs.Stored.{IsStored, state_of};
 
-    ghost view = { λ h. record { heap = state_of SLI h; stored = h.region.stored; touches = h.region.touches } };
+    ghost view = { λ h. record { heap = state_of SLI h; stored = h.region.stored; marked = h.region.marked; extents = h.region.extents; touches = h.region.touches } };
 
     ghost invariant = { IsStored SLI };
 }
@@ -100,7 +101,7 @@ impl<const SLI: u32> Heap<SLI> {
         ensures heap { IfOk result (λ heap. heap.heap ≡ opened id words first) }
         ensures lawful { IfOk result (λ heap. IsLawful heap.heap) }
         ensures shows { IfOk result (λ heap. Shows heap.stored heap.heap.blocks) }
-        ensures lists { IfOk result (λ heap. ShowsLists SLI heap.stored heap.heap.blocks) }
+        ensures lists { IfOk result (λ heap. ShowsLists SLI heap.stored heap.marked heap.heap.blocks) }
 
         // The refusals, in their order. Memory is refused only where no other refusal comes.
         ensures bad_size { IsErrOf result OpenFault.BadSize ↔ ¬ (IsRegion SLI words) }
@@ -459,6 +460,7 @@ impl<const SLI: u32> Heap<SLI> {
     /// let base = heap.base();                         // that which `heap.payload(name)` answers with a length
     /// ```
     pub fn base(&mut self) -> *mut u64
+        ensures address { result ≡ self.old.extents.words.address }
         ensures heap { self.new ≡ self.old }
         ensures keeps { Keeps SLI self.old self.new }
     {
@@ -475,6 +477,7 @@ impl<const SLI: u32> Heap<SLI> {
     /// let (base, len) = heap.payload(name)?;          // 16 bytes, from `base + 8 * (name.at + 3)` on
     /// ```
     pub fn payload(&mut self, name: Name) -> Result<(*mut u64, u32), Refusal>
+        ensures address { IfOk result (λ p. p.0 ≡ self.old.extents.words.address) }
         ensures payload { MatchResult result (λ p. IsPayloadCheck self.old.heap name (Ok p.1)) (λ why. IsPayloadCheck self.old.heap name (Err why)) }
         ensures same { IsAsBefore self.old self.new }
         ensures keeps { Keeps SLI self.old self.new }
@@ -562,10 +565,12 @@ impl<const SLI: u32> Heap<SLI> {
     /// ```
     pub fn into_words(self) -> Words
         ensures stored { image_of result ≡ self.entry.stored }
+        ensures stays { result.extents ≡ self.entry.extents }
+        ensures touches { result.touches ≤ self.entry.touches }
         ensures shows { Shows self.entry.stored self.entry.heap.blocks }
 
         // The links of the free blocks: each class has one list, that which became free last first.
-        ensures lists { ShowsLists SLI self.entry.stored self.entry.heap.blocks }
+        ensures lists { ShowsLists SLI self.entry.stored self.entry.marked self.entry.heap.blocks }
     {
         self.region.into_words()
     }

@@ -38,6 +38,7 @@ mod fitting;
 mod headers;
 mod heap;
 mod laws;
+mod ledger;
 mod name;
 mod open_fault;
 mod payload;
@@ -56,6 +57,9 @@ pub use laws::{
     payloads_stay, places_name_blocks, refused_only_where_nothing_fits, words_in_use_add_up,
     words_keep_laws,
 };
+pub use ledger::Ledger;
+pub use ledger::counts::Counts;
+pub use ledger::ledgered::Ledgered;
 pub use name::Name;
 pub use open_fault::OpenFault;
 pub use placed_block::{Content, PlacedBlock};

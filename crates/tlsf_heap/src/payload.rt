@@ -18,6 +18,7 @@ pub fn set_payload(words: &mut Words, at: u32, len: u32)
     ensures bytes { bytes_in words.new.words (8 * (at + 3)) len ≡ fitted (bytes_in words.old.words (8 * (at + 3)) (low_half (slice_index words.old.words (at + 2)))) len }
     ensures only { OnlyFrom words.old.words words.new.words (at + 2) (at + words_for len) }
     ensures starts { words.new.starts ≡ words.old.starts }
+    ensures stays { words.new.extents ≡ words.old.extents }
     ensures touches { RisesBy words.old.touches words.new.touches (words_for len) }
 
     // Of the payload it touches no word that has only old bytes.
@@ -39,6 +40,7 @@ fn zero_bytes(words: &mut Words, at: u32, from: u32, to: u32)
     ensures before { (k : ℕ) → k < payload_byte at from → byte_in words.new.words k ≡ byte_in words.old.words k }
     ensures only { OnlyFrom words.old.words words.new.words (at + 3) (at + words_for to) }
     ensures starts { words.new.starts ≡ words.old.starts }
+    ensures stays { words.new.extents ≡ words.old.extents }
     ensures touches { RisesBy words.old.touches words.new.touches (1 + (to + 7) / 8) }
     ensures grown { words.new.touches ≤ words.old.touches + 2 + ((to + 7) / 8 - (from + 7) / 8) }
 {

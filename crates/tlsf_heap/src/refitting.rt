@@ -42,6 +42,7 @@ fn forget<const SLI: u32>(region: &mut Region<SLI>, at: u32, size: u32)
     ensures none { size ≡ 0 → region.new.lists ≡ region.old.lists }
     ensures blocks { region.new.blocks ≡ region.old.blocks }
     ensures words { region.new.words ≡ region.old.words }
+    ensures stays { region.new.extents ≡ region.old.extents }
     ensures touches { region.new.touches ≤ region.old.touches + 6 }
     ensures rise { region.old.touches ≤ region.new.touches }
 {

@@ -50,7 +50,7 @@ impl<const SLI: u32> Model for Region<SLI> {
 
     ghost Value = { RegionState };
 
-    ghost view = { λ r. record { words = length r.words.words; blocks = blocks_of r.words.words; lists = lists_of r.lists.heads r.words.words; stored = image_of r.words; touches = r.words.touches + r.lists.touches } };
+    ghost view = { λ r. record { words = length r.words.words; blocks = blocks_of r.words.words; lists = lists_of r.lists.heads r.words.words; marked = r.lists.members; stored = image_of r.words; extents = r.words.extents; touches = r.words.touches + r.lists.touches } };
 
     ghost invariant = { λ r. HoldsLists SLI (image_of r.words) r.lists };
 }
@@ -81,6 +81,8 @@ impl<const SLI: u32> Region<SLI> {
     /// The words and the start bits as they stand.
     pub fn into_words(self) -> Words
         ensures stored { image_of result ≡ self.entry.stored }
+        ensures stays { result.extents ≡ self.entry.extents }
+        ensures touches { result.touches ≤ self.entry.touches }
     {
         self.words
     }
@@ -256,7 +258,8 @@ impl<const SLI: u32> Region<SLI> {
 
     /// The address of the first word.
     pub fn base(&mut self) -> *mut u64
-        ensures { self.new ≡ self.old }
+        ensures address { result ≡ self.old.extents.words.address }
+        ensures same { self.new ≡ self.old }
     {
         self.words.base()
     }

@@ -72,6 +72,7 @@ impl<const SLI: u32> FreeLists<SLI> {
         ensures words { OnlyLinksChange (list_of self.new.heads words.new.words) words.old.words words.new.words }
         ensures length { length words.new.words ≡ length words.old.words }
         ensures starts { words.new.starts ≡ words.old.starts }
+        ensures stays { words.new.extents ≡ words.old.extents }
         ensures touches { self.new.touches + words.new.touches ≤ self.old.touches + words.old.touches + 7 }
         ensures rise { self.old.touches ≤ self.new.touches }
         ensures words_rise { words.old.touches ≤ words.new.touches }
@@ -115,6 +116,7 @@ impl<const SLI: u32> FreeLists<SLI> {
         ensures words { OnlyLinksChange (list_of self.new.heads words.new.words) words.old.words words.new.words }
         ensures length { length words.new.words ≡ length words.old.words }
         ensures starts { words.new.starts ≡ words.old.starts }
+        ensures stays { words.new.extents ≡ words.old.extents }
         ensures touches { self.new.touches + words.new.touches ≤ self.old.touches + words.old.touches + 6 }
         ensures rise { self.old.touches ≤ self.new.touches }
         ensures words_rise { words.old.touches ≤ words.new.touches }
@@ -143,6 +145,7 @@ impl<const SLI: u32> FreeLists<SLI> {
         ensures words { OnlyLinksChange (list_of self.new.heads words.new.words) words.old.words words.new.words }
         ensures length { length words.new.words ≡ length words.old.words }
         ensures starts { words.new.starts ≡ words.old.starts }
+        ensures stays { words.new.extents ≡ words.old.extents }
         ensures touches { self.new.touches + words.new.touches ≤ self.old.touches + words.old.touches + 6 }
         ensures rise { self.old.touches ≤ self.new.touches }
         ensures words_rise { words.old.touches ≤ words.new.touches }
@@ -173,6 +176,7 @@ impl<const SLI: u32> FreeLists<SLI> {
         ensures words { OnlyLinksChange (list_of self.new.heads words.new.words) words.old.words words.new.words }
         ensures length { length words.new.words ≡ length words.old.words }
         ensures starts { words.new.starts ≡ words.old.starts }
+        ensures stays { words.new.extents ≡ words.old.extents }
         ensures touches { self.new.touches + words.new.touches ≤ self.old.touches + words.old.touches + 7 }
         ensures rise { self.old.touches ≤ self.new.touches }
         ensures words_rise { words.old.touches ≤ words.new.touches }
@@ -225,6 +229,7 @@ impl<const SLI: u32> FreeLists<SLI> {
         ensures tied { AreTied words.old.words words.new.words next nowhere }
         ensures length { length words.new.words ≡ length words.old.words }
         ensures starts { words.new.starts ≡ words.old.starts }
+        ensures stays { words.new.extents ≡ words.old.extents }
         ensures touches { self.new.touches + words.new.touches ≤ self.old.touches + words.old.touches + 5 }
         ensures rise { self.old.touches ≤ self.new.touches }
         ensures words_rise { words.old.touches ≤ words.new.touches }
@@ -259,6 +264,7 @@ fn tie(words: &mut Words, links: Links)
     ensures tied { AreTied words.old.words words.new.words links.next links.previous }
     ensures length { length words.new.words ≡ length words.old.words }
     ensures starts { words.new.starts ≡ words.old.starts }
+    ensures stays { words.new.extents ≡ words.old.extents }
     ensures touches { words.new.touches ≤ words.old.touches + 4 }
     ensures rise { words.old.touches ≤ words.new.touches }
 {
@@ -281,6 +287,7 @@ fn set_next(words: &mut Words, at: u32, next: u32)
     requires { at + 2 < length words.old.words }
     ensures words { words.new.words ≡ slice_set words.old.words (at + 2) (links_word next (high_half (slice_index words.old.words (at + 2)))) }
     ensures starts { words.new.starts ≡ words.old.starts }
+    ensures stays { words.new.extents ≡ words.old.extents }
     ensures touches { words.new.touches ≡ words.old.touches + 2 }
 {
     let links = words.links(at);
@@ -292,6 +299,7 @@ fn set_previous(words: &mut Words, at: u32, previous: u32)
     requires { at + 2 < length words.old.words }
     ensures words { words.new.words ≡ slice_set words.old.words (at + 2) (links_word (low_half (slice_index words.old.words (at + 2))) previous) }
     ensures starts { words.new.starts ≡ words.old.starts }
+    ensures stays { words.new.extents ≡ words.old.extents }
     ensures touches { words.new.touches ≡ words.old.touches + 2 }
 {
     let links = words.links(at);

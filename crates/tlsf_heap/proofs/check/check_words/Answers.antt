@@ -33,6 +33,7 @@ loop-count-preserved c =
       looks = record {
         words = looks.words ∙ before.words;
         starts = looks.starts ∙ before.starts;
+        stays = looks.stays ∙ before.stays;
         touches = omega (arith, looks.touches, before.touches);
         rise = omega (arith, looks.rise, before.rise);
       };

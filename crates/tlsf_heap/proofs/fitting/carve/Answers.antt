@@ -35,4 +35,4 @@ returns-clause-edits g c i stands =
     let reads = c.tag-own.ensures.reads in
     let out = c.pop_first-at.ensures.change.edits in
     let given = c.give.ensures.edits i (rw (reads.blocks ∙ c.pop_first-at.ensures.change.blocks) stands) in
-    record { words = given.words ∙ reads.words ∙ out.words; shows = given.shows; linked = given.linked; touches = omega (arith, given.touches, reads.touches, out.touches); rise = omega (arith, given.rise, reads.rise, out.rise) }
+    record { words = given.words ∙ reads.words ∙ out.words; shows = given.shows; linked = given.linked; bits = given.bits; stays = given.stays ∙ reads.stays ∙ out.stays; touches = omega (arith, given.touches, reads.touches, out.touches); rise = omega (arith, given.rise, reads.rise, out.rise) }

@@ -146,6 +146,8 @@ returns-clause-edits g c i stands =
       words = zeros.edits.words ∙ ready.edits.words;
       shows = zeros.edits.shows;
       linked = zeros.edits.linked;
+      bits = zeros.edits.bits;
+      stays = zeros.edits.stays ∙ ready.edits.stays;
       touches = omega (arith, zeros.edits.touches, ready.edits.touches, size, ready.given.room, c.requires.payload);
       rise = omega (arith, zeros.edits.rise, ready.edits.rise);
     }

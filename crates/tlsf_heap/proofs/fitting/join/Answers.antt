@@ -2,6 +2,7 @@ use Rattle.std.proofs.Common.{◌+◌, refl, sym, ap, ◌∙◌, arith}
 use Rattle.std.proofs.lemmas.Bool.{false≢true}
 use Rattle.tlsf_class.proofs.TwoLevels.{most_words_any}
 use Rattle.tlsf_heap.proofs.lemmas.blocks.Neighbours.{inner_is}
+use Rattle.tlsf_heap.proofs.lemmas.calls.Kept.{edits_both}
 use Rattle.tlsf_heap.proofs.lemmas.words.Free.{with_previous_are, with_next_are, with_both_are}
 use Rattle.tlsf_heap.proofs.lemmas.lists.Withheld.{tagged, ahead_is, ahead_within, ahead_region, ahead_out, behind_region, behind_listed, behind_out, nothing_out, end_within, before_within, contains_previous, withheld_listed, rest_unlisted, none_ahead}
 use Rattle.tlsf_heap.proofs.fitting.join.Goals as goal
@@ -74,6 +75,11 @@ returns-then-not-is_free-clause-listed g c =
     let some = c.requires.some unfree in
     let change = (rw c.remove.ensures.blocks at c.merge.ensures) t.i t.between.stands in
     withheld_listed g.row.SLI t.between (nothing_out g.row.SLI (t.tags.is_next.live unfree)) (ahead_out g.row.SLI t some c.size-before.ensures.value c.remove.ensures) change.lists
+
+pub returns-then-not-is_free-clause-edits : goal.returns-then-not-is_free-clause-edits
+returns-then-not-is_free-clause-edits g c =
+    let t = tagged g.row.SLI c.requires.live c.requires.tags c.requires.sized c.requires.stamped c.requires.listed in
+    edits_both (omega arith) c.remove.ensures.edits (c.merge.ensures t.i (rw c.remove.ensures.blocks t.between.stands)).edits
 
 -- ---- only the block behind is free
 
@@ -217,3 +223,10 @@ returns-clause-listed g c =
     let blocks = c.remove-3.ensures.blocks ∙ c.remove-2.ensures.blocks in
     let change = (rw blocks at c.merge-2.ensures) t.i t.between.stands in
     withheld_listed g.row.SLI t.between (behind_out g.row.SLI t next_free c.size-after.ensures.value c.size-2.ensures.value c.remove-2.ensures) (ahead_out g.row.SLI t previous_free c.size-before-2.ensures.value c.remove-3.ensures) change.lists
+
+pub returns-clause-edits : goal.returns-clause-edits
+returns-clause-edits g c =
+    let t = tagged g.row.SLI c.requires.live c.requires.tags c.requires.sized c.requires.stamped c.requires.listed in
+    let blocks = c.remove-3.ensures.blocks ∙ c.remove-2.ensures.blocks in
+    let change = c.merge-2.ensures t.i (rw blocks t.between.stands) in
+    edits_both (omega arith) c.remove-2.ensures.edits (edits_both {most = 12} (omega arith) c.remove-3.ensures.edits change.edits)

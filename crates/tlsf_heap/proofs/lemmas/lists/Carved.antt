@@ -222,7 +222,7 @@ module _ (sli : ℕ) {old : RegionState} {at i tick : ℕ} {own : Tag} (t : IsOu
         subst (λ (s : RegionState). IsReady sli old at i words tick len n s) (sym joined)
         (subst (λ (k : ℕ). IsReady sli old at i words tick len k v) (sym (sized ∙ t.is_own.size)) (record {
           given = given_whole sli t.here tick t.past (list_in old.lists) t.withheld words len bytes v many first (omega (arith, t.is_own.size, fits)) (omega (arith, t.is_own.size, small)) w.blocks w.lists;
-          edits = record { words = w.edits.words; shows = w.edits.shows; linked = w.edits.linked; touches = omega (arith, w.edits.touches); rise = w.edits.rise };
+          edits = record { words = w.edits.words; shows = w.edits.shows; linked = w.edits.linked; bits = w.edits.bits; stays = w.edits.stays; touches = omega (arith, w.edits.touches); rise = w.edits.rise };
         }))
 
     -- or split
@@ -246,7 +246,7 @@ module _ (sli : ℕ) {old : RegionState} {at i tick : ℕ} {own : Tag} (t : IsOu
           subst (λ (s : RegionState). IsReady sli old at i words tick len n s) (sym joined)
           (subst (λ (k : ℕ). IsReady sli old at i words tick len k u) (sym sized) (record {
             given = given_split sli t.here tick t.past (list_in old.lists) t.withheld words bytes wide v.blocks w.blocks (list_in v.lists) w.lists len u many first push.blocks came (is_class ∙ ap (λ (k : ℕ). class_of sli (k - words)) t.is_own.size) push.list push.others;
-            edits = record { words = push.edits.words ∙ w.edits.words; shows = push.edits.shows; linked = push.edits.linked; touches = omega (arith, push.edits.touches, w.edits.touches); rise = omega (arith, push.edits.rise, w.edits.rise) };
+            edits = record { words = push.edits.words ∙ w.edits.words; shows = push.edits.shows; linked = push.edits.linked; bits = push.edits.bits; stays = push.edits.stays ∙ w.edits.stays; touches = omega (arith, push.edits.touches, w.edits.touches); rise = omega (arith, push.edits.rise, w.edits.rise) };
           }))
 
 -- a free block that is taken out of the list of its class

@@ -255,5 +255,5 @@ listed_first sli words first class old new empty is_class came others =
 
 -- ---- what a heap shows of its lists
 
-pub stored_lists : (sli : ℕ) (h : Inside sli) → IsStored sli h → ShowsLists sli h.region.stored h.region.blocks
-stored_lists sli h is = record { places = list_in h.region.lists; are = is.listed; linked = is.linked }
+pub stored_lists : (sli : ℕ) (h : Inside sli) → IsStored sli h → ShowsLists sli h.region.stored h.region.marked h.region.blocks
+stored_lists sli h is = record { places = list_in h.region.lists; are = is.listed; linked = is.linked; bits = is.bits }

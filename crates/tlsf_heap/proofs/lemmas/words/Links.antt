@@ -4,17 +4,22 @@ use Rattle.std.specs.Prelude.{◌==◌, Contains}
 use Rattle.std.specs.List.{AllByRecursion}
 use Rattle.std.proofs.Math.ListN.{get_or-map}
 use Rattle.std.proofs.lemmas.Bool.{false≢true, cases_eq, cases_order}
+use Rattle.tlsf_class.specs.Classes.{classes}
+use Rattle.tlsf_words.specs.Memory.{Extents}
 use Rattle.tlsf_words.specs.Fields.{tag_word}
 use Rattle.tlsf_heap.specs.Image.{Image, HoldsPayload, StartsOnce, BlockAt, ShowsFrom, Shows}
 use Rattle.tlsf_words.specs.Lists.{ListHeads, nowhere, places_from, list_of, without_place, LinkedFrom, AreThreaded, OnlyLinksChange}
+use Rattle.tlsf_words.proofs.ListedClasses.{are_some, some-cons}
 use Rattle.tlsf_words.proofs.PlaceLists.{member_cases, without_within}
 use Rattle.tlsf_words.proofs.Threads.{kept}
 use Rattle.tlsf_heap.specs.Blocks.{Block, Live, Free, size_of, words_in, is_free, StandsAt}
 use Rattle.tlsf_heap.specs.GoodFit.{block_at}
 use Rattle.tlsf_heap.specs.Read.{blocks_of}
 use Rattle.tlsf_heap.specs.Lawful.{HasRoom}
+use Rattle.tlsf_heap.specs.FreePlaces.{AreMarked}
 use Rattle.tlsf_heap.specs.Listed.{AreFreeBlocks, lists_of, HoldsLists}
 use Rattle.tlsf_heap.specs.Regions.{RegionState, SameLists, AreUnlisted, AreLinked, list_in}
+use Rattle.tlsf_heap.proofs.lemmas.lists.FreeLists.{from_filter, to_filter}
 use Rattle.tlsf_heap.proofs.lemmas.blocks.Order.{ends_before}
 use Rattle.tlsf_heap.proofs.lemmas.words.Image.{Replaces, word_at, least, same_payload, four_here, blocks_of-shown, blocks_replaced}
 use Rattle.tlsf_heap.proofs.lemmas.blocks.Lawful.{all_left, all_right}
@@ -30,6 +35,25 @@ list_in-lists_of heads words class = get_or-map (places_from (suc (length words)
 pub linked_lists : (sli : ℕ) (m : Image) (l : ListHeads) → HoldsLists sli m l → AreLinked (list_in (lists_of l.heads m.words)) m.words
 linked_lists sli m l holds class = subst (LinkedFrom m.words nowhere) (sym (list_in-lists_of l.heads m.words class)) (holds.threaded.linked class)
 
+-- and its bits mark them
+pub marked_lists : (sli : ℕ) (m : Image) (l : ListHeads) → HoldsLists sli m l → AreMarked l.members (list_in (lists_of l.heads m.words))
+marked_lists sli m l holds class =
+    let lists = list_of l.heads m.words in
+    let some : ℕ → Bool = λ other. are_some (lists other) in
+    let here = list_in-lists_of l.heads m.words class in (
+      λ listed none.
+          let full = (from_filter some (classes sli) class (subst (λ (members : List ℕ). Contains members class) holds.threaded.marked listed)).1 in
+          false≢true (sym (ap are_some (sym here ∙ none)) ∙ full),
+      λ full.
+          let filled : ¬ (lists class ≡ []) = λ none. full (here ∙ none) in
+          subst (λ (members : List ℕ). Contains members class) (sym holds.threaded.marked)
+          (to_filter some (classes sli) class (holds.threaded.in_use class filled) (are_filled (lists class) filled)),
+    )
+  where
+    are_filled : (places : List ℕ) → ¬ (places ≡ []) → are_some places ≡ true
+    are_filled [] full = absurd (full refl)
+    are_filled (at ∷ places) full = some-cons at places
+
 -- the words of a region hold the blocks and the lists that it shows
 pub record HoldsState (sli : ℕ) (m : Image) (l : ListHeads) (r : RegionState) : Type 0 where
   pub shows : Shows m r.blocks
@@ -37,8 +61,8 @@ pub record HoldsState (sli : ℕ) (m : Image) (l : ListHeads) (r : RegionState) 
   pub free : AreFreeBlocks (list_of l.heads m.words) r.blocks
   pub lists : (class : ℕ) → list_in r.lists class ≡ list_of l.heads m.words class
 
-pub holds_state : (sli : ℕ) {m : Image} {l : ListHeads} {r : RegionState} {touches : ℕ} → HoldsLists sli m l
-    → record { words = length m.words; blocks = blocks_of m.words; lists = lists_of l.heads m.words; stored = m; touches = touches } ≡ r → HoldsState sli m l r
+pub holds_state : (sli : ℕ) {m : Image} {l : ListHeads} {r : RegionState} {extents : Extents} {touches : ℕ} → HoldsLists sli m l
+    → record { words = length m.words; blocks = blocks_of m.words; lists = lists_of l.heads m.words; marked = l.members; stored = m; extents = extents; touches = touches } ≡ r → HoldsState sli m l r
 holds_state sli {m = m} {l = l} holds same =
     subst (HoldsState sli m l) same (record { shows = holds.shows; threaded = holds.threaded; free = holds.free; lists = list_in-lists_of l.heads m.words })
 

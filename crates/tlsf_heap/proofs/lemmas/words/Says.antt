@@ -4,6 +4,7 @@ use Rattle.std.specs.Prelude.{◌==◌}
 use Rattle.std.specs.List.{AllByRecursion}
 use Rattle.std.proofs.lemmas.Bool.{false≢true, eq-eqb, eqb-true}
 use Rattle.tlsf_heap.specs.Image.{Image, mark_of, StartsOnce, back_behind, Shows}
+use Rattle.tlsf_words.specs.Memory.{Extents}
 use Rattle.tlsf_words.specs.Fields.{size_in, last_in, free_in, back_in}
 use Rattle.tlsf_words.proofs.FieldLaws.{size_in-tag_word, last_in-tag_word, free_in-tag_word, back_in-tag_word}
 use Rattle.tlsf_heap.specs.Blocks.{Block, Live, Free, size_of, words_in, is_free, StandsAt, IsPlace}
@@ -20,8 +21,8 @@ use Rattle.tlsf_heap.proofs.lemmas.words.Image.{word_at, start_at, shown_here, f
 use Rattle.tlsf_heap.proofs.lemmas.words.Links.{shows_linked}
 
 -- the words of a region show its blocks
-pub shows_state : (sli : ℕ) {m : Image} {l : ListHeads} {r : RegionState} {touches : ℕ} → HoldsLists sli m l
-    → record { words = length m.words; blocks = blocks_of m.words; lists = lists_of l.heads m.words; stored = m; touches = touches } ≡ r → Shows m r.blocks
+pub shows_state : (sli : ℕ) {m : Image} {l : ListHeads} {r : RegionState} {extents : Extents} {touches : ℕ} → HoldsLists sli m l
+    → record { words = length m.words; blocks = blocks_of m.words; lists = lists_of l.heads m.words; marked = l.members; stored = m; extents = extents; touches = touches } ≡ r → Shows m r.blocks
 shows_state sli {m = m} holds same = subst (Shows m) (ap (λ (s : RegionState). s.blocks) same) holds.shows
 
 -- words that were only read hold what they held, at any number of touches

@@ -88,7 +88,7 @@ returns-then-words-held-clause-edits g c =
     let room = room_here c.requires.own c.requires.next c.requires.room live.1 in
     let set = (c.set_payload.ensures.change live.0 (recut_stands live.1 live.2 c.args.tick room (c.recut.ensures.blocks live.0 live.1))).edits in
     let cut = c.recut.ensures.edits in
-    record { words = set.words ∙ cut.words; shows = set.shows; linked = set.linked; touches = omega (arith, set.touches, cut.touches); rise = omega (arith, set.rise, cut.rise) }
+    record { words = set.words ∙ cut.words; shows = set.shows; linked = set.linked; bits = set.bits; stays = set.stays ∙ cut.stays; touches = omega (arith, set.touches, cut.touches); rise = omega (arith, set.rise, cut.rise) }
 
 pub returns-then-words-held-clause-grown : goal.returns-then-words-held-clause-grown
 returns-then-words-held-clause-grown g c i stands =

@@ -1,6 +1,6 @@
 use Rattle.std.proofs.Common.{◌≡◌, ap, refl, ◌∙◌, arith}
 use Rattle.std.specs.Int.{bit_at}
-use Rattle.tlsf_class.proofs.BitmapWords.{ClearsBit, ClearsBit-read, members_of-clear, AreLevels-clear, first_bit-kept}
+use Rattle.tlsf_class.proofs.BitmapWords.{ClearsBit, ClearsBit-read, members_of-clear, marked_in-members, AreLevels-clear, first_bit-kept}
 use Rattle.tlsf_class.proofs.bitmaps.Bitmaps.clear.Given.{Over}
 use Rattle.tlsf_class.proofs.bitmaps.Bitmaps.clear.Goals as goal
 
@@ -32,10 +32,12 @@ invariant_of-self-else-word-eq0 g c =
 
 pub returns-then-word-eq0-clause-members : goal.returns-then-word-eq0-clause-members
 returns-then-word-eq0-clause-members g c =
-    rw (c.set_first_word.ensures.second, c.first_word-first_word.ensures.second, c.set_second_word.ensures.second, c.second_word.ensures.second, ← c.self.view_is)
+    marked_in-members g.row.SLI c.self.invariant.level _ _ (invariant_of-self g c)
+    ∙ rw (c.set_first_word.ensures.second, c.first_word-first_word.ensures.second, c.set_second_word.ensures.second, c.second_word.ensures.second, ← c.self.view_is, marked_in-members g.row.SLI c.self.invariant.level _ _ c.self.invariant)
     (members_of-clear g.row.SLI c.self.invariant.level _ _ _ _ _ (clears_then g c))
 
 pub returns-else-word-eq0-clause-members : goal.returns-else-word-eq0-clause-members
 returns-else-word-eq0-clause-members g c =
-    rw (c.set_second_word.ensures.second, c.second_word.ensures.second, ← c.self.view_is)
+    marked_in-members g.row.SLI c.self.invariant.level _ _ (invariant_of-self-else-word-eq0 g c)
+    ∙ rw (c.set_second_word.ensures.second, c.second_word.ensures.second, ← c.self.view_is, marked_in-members g.row.SLI c.self.invariant.level _ _ c.self.invariant)
     (members_of-clear g.row.SLI c.self.invariant.level _ _ _ _ _ (clears_else g c))

@@ -1,6 +1,6 @@
 use Rattle.std.proofs.Common.{◌≡◌, ◌+◌, ◌-◌, sym, ap, refl, ◌∙◌, arith}
 use Rattle.std.specs.Int.{bit_at}
-use Rattle.tlsf_class.proofs.BitmapWords.{further, next-same_level, next-later_level, next-none}
+use Rattle.tlsf_class.proofs.BitmapWords.{further, next-same_level, next-later_level, next-none, marked_in-members}
 use Rattle.tlsf_class.proofs.bitmaps.Bitmaps.next_from.Goals as goal
 
 pub below_plus-requires : goal.below_plus-requires
@@ -21,7 +21,7 @@ returns-in-Some-clause-least g c =
     let below : c.args.class - 1 + 1 ≡ c.args.class = omega (arith, e.least) in
     let word = sym c.second_word-word.ensures.value in
     let found = c.in-Some.ensures in
-    rw (c.below_plus.ensures, ← c.self.view_is)
+    rw (c.below_plus.ensures, ← c.self.view_is, marked_in-members g.row.SLI c.self.invariant.level _ _ c.self.invariant)
     (sym (rw below at (next-same_level g.row.SLI c.self.invariant.level _ _ (c.args.class - 1) c.first_level_below-first_level.result c.second_level_below.result c.in-Some.n c.self.invariant
     e.value c.second_level_below.ensures.value found.above
     (ap (λ w. bit_at w (c.second_level_below.result + c.in-Some.n)) word ∙ found.set)
@@ -35,7 +35,7 @@ returns-in_err-first_level-clause-least g c =
     let first_word : c.self.inside.levels.first ≡ c.first_word-first_word.result =
     sym (c.first_word-first_word.ensures.value ∙ rw c.second_word-word.ensures.first refl)
     in
-    rw (c.from_residual.ensures, ← c.self.view_is)
+    rw (c.from_residual.ensures, ← c.self.view_is, marked_in-members g.row.SLI c.self.invariant.level _ _ c.self.invariant)
     (sym (rw below at (next-none g.row.SLI c.self.invariant.level _ _ (c.args.class - 1) c.first_level_below-first_level.result c.second_level_below.result c.self.invariant e.value c.second_level_below.ensures.value
     (λ k above. ap (λ w. bit_at w k) word ∙ c.in_default.ensures.none k above)
     (λ k above. ap (λ w. bit_at w k) first_word ∙ c.in_err-first_level.ensures.none k above))))
@@ -49,7 +49,7 @@ returns-clause-least g c =
     sym (c.first_word-first_word.ensures.value ∙ rw c.second_word-word.ensures.first refl)
     in
     let later = sym (c.second_word-word-2.ensures.value ∙ rw (c.first_word-first_word.ensures.second, c.second_word-word.ensures.second) refl) in
-    rw (c.at.ensures, ← c.self.view_is)
+    rw (c.at.ensures, ← c.self.view_is, marked_in-members g.row.SLI c.self.invariant.level _ _ c.self.invariant)
     (sym (rw below at (next-later_level g.row.SLI c.self.invariant.level _ _ (c.args.class - 1) c.first_level_below-first_level.result c.second_level_below.result c.in_ok-first_level.first_level c.lowest_bit.result c.self.invariant
     e.value c.second_level_below.ensures.value
     (λ k above. ap (λ w. bit_at w k) word ∙ c.in_default.ensures.none k above)

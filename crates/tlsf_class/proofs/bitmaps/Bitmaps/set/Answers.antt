@@ -1,6 +1,6 @@
 use Rattle.std.proofs.Common.{◌≡◌, ap, refl, ◌∙◌, arith}
 use Rattle.std.specs.Int.{bit_at}
-use Rattle.tlsf_class.proofs.BitmapWords.{SetsBit, SetsBit-read, members_of-set, AreLevels-set, first_bit-set}
+use Rattle.tlsf_class.proofs.BitmapWords.{SetsBit, SetsBit-read, members_of-set, marked_in-members, AreLevels-set, first_bit-set}
 use Rattle.tlsf_class.proofs.bitmaps.Bitmaps.set.Given.{Over}
 use Rattle.tlsf_class.proofs.bitmaps.Bitmaps.set.Goals as goal
 
@@ -31,10 +31,12 @@ invariant_of-self-else-word-eq0 g c =
 
 pub returns-then-word-eq0-clause-members : goal.returns-then-word-eq0-clause-members
 returns-then-word-eq0-clause-members g c =
-    rw (c.set_first_word.ensures.second, c.first_word-first_word.ensures.second, c.set_second_word.ensures.second, c.second_word-word.ensures.second, ← c.self.view_is)
+    marked_in-members g.row.SLI c.self.invariant.level _ _ (invariant_of-self g c)
+    ∙ rw (c.set_first_word.ensures.second, c.first_word-first_word.ensures.second, c.set_second_word.ensures.second, c.second_word-word.ensures.second, ← c.self.view_is, marked_in-members g.row.SLI c.self.invariant.level _ _ c.self.invariant)
     (members_of-set g.row.SLI c.self.invariant.level _ _ _ _ _ (sets_then g c))
 
 pub returns-else-word-eq0-clause-members : goal.returns-else-word-eq0-clause-members
 returns-else-word-eq0-clause-members g c =
-    rw (c.set_second_word.ensures.second, c.second_word-word.ensures.second, ← c.self.view_is)
+    marked_in-members g.row.SLI c.self.invariant.level _ _ (invariant_of-self-else-word-eq0 g c)
+    ∙ rw (c.set_second_word.ensures.second, c.second_word-word.ensures.second, ← c.self.view_is, marked_in-members g.row.SLI c.self.invariant.level _ _ c.self.invariant)
     (members_of-set g.row.SLI c.self.invariant.level _ _ _ _ _ (sets_else g c))

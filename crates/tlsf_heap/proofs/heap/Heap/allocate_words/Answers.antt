@@ -136,6 +136,7 @@ invariant_of-self-2 g c = record {
   lawful = (given g c).lawful;
   shows = (carved g c).shows;
   linked = (carved g c).linked;
+  bits = (carved g c).bits;
   level = c.self.invariant.level;
   small = omega (arith, (carved g c).words, c.choose.ensures.reads.words, c.self.invariant.small);
   listed = c.carve-at.ensures.listed;
@@ -184,7 +185,7 @@ returns-clause-room g c =
 -- ---- what is kept
 
 pub returns-clause-keeps : goal.returns-clause-keeps
-returns-clause-keeps g c = keeps_stored g.row.SLI c.self.inside c.self.view_is c.self.invariant _ (invariant_of-self-2 g c) (omega (arith, (carved g c).rise, c.choose.ensures.reads.rise))
+returns-clause-keeps g c = keeps_stored g.row.SLI c.self.inside c.self.view_is c.self.invariant _ (invariant_of-self-2 g c) (omega (arith, (carved g c).rise, c.choose.ensures.reads.rise)) ((carved g c).stays ∙ c.choose.ensures.reads.stays)
 
 pub returns-in_default-clause-keeps : goal.returns-in_default-clause-keeps
 returns-in_default-clause-keeps g c = keeps_read g.row.SLI c.self.inside c.self.view_is c.self.invariant _ c.choose.ensures.reads

@@ -50,6 +50,7 @@ invariant_of-self g c =
       lawful = (wrote g c).lawful;
       shows = change.edits.shows;
       linked = change.edits.linked;
+      bits = change.edits.bits;
       level = c.self.invariant.level;
       small = omega (arith, change.edits.words, c.self.invariant.small);
       listed = rw places (same_lists (free_places g.row.SLI 0 c.self.inside.region.blocks) (list_in c.self.inside.region.lists) (list_in c.copy.new.self.lists) change.lists c.self.invariant.listed);
@@ -68,4 +69,6 @@ returns-clause-touches g c = omega (arith, (c.copy.ensures (stood g c).0 (stood 
 -- ---- what is kept
 
 pub returns-clause-keeps : goal.returns-clause-keeps
-returns-clause-keeps g c = keeps_stored g.row.SLI c.self.inside c.self.view_is c.self.invariant _ (invariant_of-self g c) (c.copy.ensures (stood g c).0 (stood g c).1).edits.rise
+returns-clause-keeps g c =
+    let edits = (c.copy.ensures (stood g c).0 (stood g c).1).edits in
+    keeps_stored g.row.SLI c.self.inside c.self.view_is c.self.invariant _ (invariant_of-self g c) edits.rise edits.stays

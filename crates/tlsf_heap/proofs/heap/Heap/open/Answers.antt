@@ -23,6 +23,7 @@ invariant_of-result g c =
       lawful = rw (c.push.ensures.edits.words, c.push.ensures.blocks, made.words, made.blocks) (opened_lawful c.args.id c.args.words c.args.first (omega arith));
       shows = c.push.ensures.edits.shows;
       linked = c.push.ensures.edits.linked;
+      bits = c.push.ensures.edits.bits;
       level = c.requires;
       small = omega (arith, c.push.ensures.edits.words, made.words);
       listed = rw (c.push.ensures.blocks, made.blocks) (listed_first g.row.SLI c.args.words c.args.first c.class_of.result (list_in c.in-Ok.region.lists) (list_in c.push.new.self.lists) made.lists c.class_of.ensures c.push.ensures.list c.push.ensures.others);

@@ -103,6 +103,7 @@ invariant_of-self g c = record {
   lawful = (freed g c).lawful;
   shows = c.coalesce.ensures.edits.shows;
   linked = c.coalesce.ensures.edits.linked;
+  bits = c.coalesce.ensures.edits.bits;
   level = c.self.invariant.level;
   small = omega (arith, c.coalesce.ensures.edits.words, c.self.invariant.small);
   listed = c.coalesce.ensures.listed;
@@ -119,4 +120,4 @@ returns-clause-forged g c = not_forged c.args.self.now.heap c.args.name c.in_ok-
 -- ---- what is kept
 
 pub returns-clause-keeps : goal.returns-clause-keeps
-returns-clause-keeps g c = keeps_both c.in_ok-own.ensures.keeps (keeps_stored g.row.SLI c.self.inside c.self.view_is c.self.invariant _ (invariant_of-self g c) c.coalesce.ensures.edits.rise)
+returns-clause-keeps g c = keeps_both c.in_ok-own.ensures.keeps (keeps_stored g.row.SLI c.self.inside c.self.view_is c.self.invariant _ (invariant_of-self g c) c.coalesce.ensures.edits.rise c.coalesce.ensures.edits.stays)

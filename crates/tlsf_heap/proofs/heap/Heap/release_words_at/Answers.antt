@@ -124,13 +124,14 @@ invariant_of-self-2 g c = record {
   lawful = (freed g c).lawful;
   shows = c.coalesce.ensures.edits.shows;
   linked = c.coalesce.ensures.edits.linked;
+  bits = c.coalesce.ensures.edits.bits;
   level = c.self.invariant.level;
   small = omega (arith, c.coalesce.ensures.edits.words, c.live_at.ensures.reads.words, c.self.invariant.small);
   listed = c.coalesce.ensures.listed;
 }
 
 pub returns-clause-keeps : goal.returns-clause-keeps
-returns-clause-keeps g c = keeps_stored g.row.SLI c.self.inside c.self.view_is c.self.invariant _ (invariant_of-self-2 g c) (omega (arith, c.coalesce.ensures.edits.rise, c.live_at.ensures.reads.rise))
+returns-clause-keeps g c = keeps_stored g.row.SLI c.self.inside c.self.view_is c.self.invariant _ (invariant_of-self-2 g c) (omega (arith, c.coalesce.ensures.edits.rise, c.live_at.ensures.reads.rise)) (c.coalesce.ensures.edits.stays ∙ c.live_at.ensures.reads.stays)
 
 -- ---- the place is one of the region
 

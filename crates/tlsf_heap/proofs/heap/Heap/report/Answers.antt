@@ -31,6 +31,20 @@ report-requires-clause-part g c = (sums g c).part
 pub report-requires-clause-past : goal.report-requires-clause-past
 report-requires-clause-past g c = (sums g c).past
 
+pub invariant_of-self : goal.invariant_of-self
+invariant_of-self g c =
+    let was = c.self.invariant in
+    let reads = c.of.ensures.reads in
+    record {
+      level = was.level;
+      lawful = rw (reads.words, reads.blocks) was.lawful;
+      shows = rw (reads.stored, reads.blocks) was.shows;
+      small = rw reads.words was.small;
+      listed = rw (reads.blocks, reads.lists) was.listed;
+      linked = rw (reads.stored, reads.lists) was.linked;
+      bits = rw (reads.marked, reads.lists) was.bits;
+    }
+
 -- ---- the report
 
 shown : (g : Over) (c : goal.After-report g) → state_of g.row.SLI c.self.inside ≡ c.args.self.now.heap

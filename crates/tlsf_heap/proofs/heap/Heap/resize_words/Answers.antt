@@ -165,6 +165,7 @@ invariant_of-self-2 g c = record {
   lawful = (fits g c).resizes.lawful;
   shows = c.refit.ensures.edits.shows;
   linked = c.refit.ensures.edits.linked;
+  bits = c.refit.ensures.edits.bits;
   level = c.self.invariant.level;
   small = omega (arith, c.refit.ensures.edits.words, c.look_behind-next.ensures.reads.words, c.self.invariant.small);
   listed = c.refit.ensures.listed;
@@ -203,4 +204,4 @@ returns-clause-forged g c = not_forged c.args.self.now.heap c.args.name c.in_ok-
 -- ---- what is kept
 
 pub returns-clause-keeps : goal.returns-clause-keeps
-returns-clause-keeps g c = keeps_both c.in_ok-own.ensures.keeps (keeps_stored g.row.SLI c.self.inside c.self.view_is c.self.invariant _ (invariant_of-self-2 g c) (omega (arith, c.refit.ensures.edits.rise, c.look_behind-next.ensures.reads.rise)))
+returns-clause-keeps g c = keeps_both c.in_ok-own.ensures.keeps (keeps_stored g.row.SLI c.self.inside c.self.view_is c.self.invariant _ (invariant_of-self-2 g c) (omega (arith, c.refit.ensures.edits.rise, c.look_behind-next.ensures.reads.rise)) (c.refit.ensures.edits.stays ∙ c.look_behind-next.ensures.reads.stays))

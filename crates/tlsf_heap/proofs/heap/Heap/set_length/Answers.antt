@@ -52,6 +52,7 @@ invariant_of-self g c =
       lawful = (set g c).lawful;
       shows = change.edits.shows;
       linked = change.edits.linked;
+      bits = change.edits.bits;
       level = c.self.invariant.level;
       small = omega (arith, change.edits.words, c.self.invariant.small);
       listed = rw places (same_lists (free_places g.row.SLI 0 c.self.inside.region.blocks) (list_in c.self.inside.region.lists) (list_in c.set_length.new.self.lists) change.lists c.self.invariant.listed);
@@ -72,4 +73,7 @@ returns-clause-touches g c = let t = there g c in omega (arith, (c.set_length.en
 -- ---- what is kept
 
 pub returns-clause-keeps : goal.returns-clause-keeps
-returns-clause-keeps g c = let t = there g c in keeps_stored g.row.SLI c.self.inside c.self.view_is c.self.invariant _ (invariant_of-self g c) (c.set_length.ensures.change t.0.1.0 (named_stands _ _ _ _ t.0.1.1)).edits.rise
+returns-clause-keeps g c =
+    let t = there g c in
+    let edits = (c.set_length.ensures.change t.0.1.0 (named_stands _ _ _ _ t.0.1.1)).edits in
+    keeps_stored g.row.SLI c.self.inside c.self.view_is c.self.invariant _ (invariant_of-self g c) edits.rise edits.stays

@@ -153,6 +153,7 @@ invariant_of-self-2 g c =
       lawful = (given g c).lawful;
       shows = edits.shows;
       linked = edits.linked;
+      bits = edits.bits;
       level = c.self.invariant.level;
       small = omega (arith, edits.words, c.remove.ensures.edits.words, reads.words, c.self.invariant.small);
       listed = c.give.ensures.listed;
@@ -171,7 +172,7 @@ pub returns-clause-keeps : goal.returns-clause-keeps
 returns-clause-keeps g c =
     let l = c.in-Some.ensures.answer in
     let edits = c.give.ensures.edits l.0 (rw (c.remove.ensures.blocks ∙ c.free_at.ensures.reads.blocks) l.1.stands) in
-    keeps_stored g.row.SLI c.self.inside c.self.view_is c.self.invariant _ (invariant_of-self-2 g c) (omega (arith, edits.rise, c.remove.ensures.edits.rise, c.free_at.ensures.reads.rise))
+    keeps_stored g.row.SLI c.self.inside c.self.view_is c.self.invariant _ (invariant_of-self-2 g c) (omega (arith, edits.rise, c.remove.ensures.edits.rise, c.free_at.ensures.reads.rise)) (edits.stays ∙ c.remove.ensures.edits.stays ∙ c.free_at.ensures.reads.stays)
 
 -- 2 to find the block, 6 to take it out, 9 for the headers, 7 to list the rest, and three words at most that are made zero
 

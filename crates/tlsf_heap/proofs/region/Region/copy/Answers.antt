@@ -8,7 +8,7 @@ use Rattle.tlsf_heap.proofs.lemmas.words.Says.{shows_state}
 use Rattle.tlsf_heap.proofs.lemmas.words.Bytes.{held_within, length-bytes_in, payload_inside, rewritten}
 use Rattle.tlsf_heap.proofs.lemmas.words.Image.{room_here}
 use Rattle.tlsf_heap.proofs.lemmas.blocks.Order.{ends_before}
-use Rattle.tlsf_heap.proofs.lemmas.words.Links.{linked_lists, Relists, holds_state}
+use Rattle.tlsf_heap.proofs.lemmas.words.Links.{linked_lists, marked_lists, Relists, holds_state}
 use Rattle.tlsf_heap.proofs.lemmas.words.KeptLinks.{relisted_bytes}
 use Rattle.tlsf_heap.proofs.lemmas.blocks.Stands.{behind_one}
 use Rattle.tlsf_heap.proofs.lemmas.words.Edit.{Leaves}
@@ -74,5 +74,5 @@ returns g c i stands =
     record {
       blocks = (left g c).blocks i stands ∙ behind_one i _ c.args.self.now.blocks;
       lists = (relists g c).same;
-      edits = record { words = new.length ∙ words; shows = (relists g c).holds.shows; linked = linked_lists g.row.SLI _ _ (relists g c).holds; touches = omega (arith, new.touches, touches); rise = omega (arith, new.rise, touches) };
+      edits = record { words = new.length ∙ words; shows = (relists g c).holds.shows; linked = linked_lists g.row.SLI _ _ (relists g c).holds; bits = marked_lists g.row.SLI _ _ (relists g c).holds; stays = c.copy_payload.ensures.stays ∙ ap (λ (r : RegionState). r.extents) c.self.view_is; touches = omega (arith, new.touches, touches); rise = omega (arith, new.rise, touches) };
     }

@@ -5,7 +5,7 @@ use Rattle.tlsf_heap.specs.Calls.{coalesced}
 use Rattle.tlsf_heap.specs.GoodFit.{site_at}
 use Rattle.tlsf_heap.specs.Regions.{RegionState, AreNeighbours, IsTagOf, image_of}
 use Rattle.tlsf_heap.proofs.lemmas.words.Free.{merged, alone_are, merges_alone}
-use Rattle.tlsf_heap.proofs.lemmas.words.Links.{linked_lists, Reshapes, holds_state}
+use Rattle.tlsf_heap.proofs.lemmas.words.Links.{linked_lists, marked_lists, Reshapes, holds_state}
 use Rattle.tlsf_heap.proofs.lemmas.words.Says.{shows_state, at_index, in_region}
 use Rattle.tlsf_heap.proofs.region.Region.free.Given.{Over}
 use Rattle.tlsf_heap.proofs.region.Region.free.Goals as goal
@@ -42,5 +42,5 @@ returns g c i stands =
     record {
       blocks = left.blocks;
       lists = left.same;
-      edits = record { words = c.free_header.ensures.only.length ∙ words; shows = left.holds.shows; linked = linked_lists g.row.SLI _ _ left.holds; touches = omega (arith, c.free_header.ensures.touches, touches); rise = omega (arith, c.free_header.ensures.touches, touches) };
+      edits = record { words = c.free_header.ensures.only.length ∙ words; shows = left.holds.shows; linked = linked_lists g.row.SLI _ _ left.holds; bits = marked_lists g.row.SLI _ _ left.holds; stays = c.free_header.ensures.stays ∙ ap (λ (r : RegionState). r.extents) c.self.view_is; touches = omega (arith, c.free_header.ensures.touches, touches); rise = omega (arith, c.free_header.ensures.touches, touches) };
     }

@@ -4,7 +4,7 @@ use Rattle.tlsf_heap.specs.Blocks.{Live, size_of, StandsAt}
 use Rattle.tlsf_heap.specs.GoodFit.{block_at, site_at}
 use Rattle.tlsf_heap.specs.Regions.{RegionState, IsTagOf, image_of}
 use Rattle.tlsf_heap.proofs.lemmas.words.Says.{shows_state, says_here, at_index}
-use Rattle.tlsf_heap.proofs.lemmas.words.Links.{linked_lists, Reshapes, holds_state}
+use Rattle.tlsf_heap.proofs.lemmas.words.Links.{linked_lists, marked_lists, Reshapes, holds_state}
 use Rattle.tlsf_heap.proofs.lemmas.words.Split.{stored_bytes, begins_zero, tag_here, left_whole}
 use Rattle.tlsf_heap.proofs.region.Region.grant.Given.{Over}
 use Rattle.tlsf_heap.proofs.region.Region.grant.Goals as goal
@@ -40,6 +40,8 @@ returns-clause-change g c i stands =
         words = c.live_header.ensures.change.only.length ∙ words;
         shows = left.holds.shows;
         linked = linked_lists g.row.SLI _ _ left.holds;
+        bits = marked_lists g.row.SLI _ _ left.holds;
+        stays = c.live_header.ensures.stays ∙ ap (λ (r : RegionState). r.extents) c.self.view_is;
         touches = omega (arith, c.live_header.ensures.touches, touches);
         rise = omega (arith, c.live_header.ensures.touches, touches);
       };

@@ -6,7 +6,7 @@ use Rattle.tlsf_heap.specs.GoodFit.{site_at}
 use Rattle.tlsf_heap.proofs.lemmas.words.Says.{shows_state, at_index}
 use Rattle.tlsf_heap.proofs.lemmas.words.Free.{merged}
 use Rattle.tlsf_heap.proofs.lemmas.words.Merge.{merge_within, merge_last, merge_before, merge_after}
-use Rattle.tlsf_heap.proofs.lemmas.words.Links.{linked_lists, Reshapes, holds_state}
+use Rattle.tlsf_heap.proofs.lemmas.words.Links.{linked_lists, marked_lists, Reshapes, holds_state}
 use Rattle.tlsf_heap.specs.Regions.{RegionState, AreNeighbours, image_of}
 use Rattle.tlsf_heap.proofs.region.Region.merge.Given.{Over}
 use Rattle.tlsf_heap.proofs.region.Region.merge.Goals as goal
@@ -38,5 +38,5 @@ returns g c i stands =
     record {
       blocks = left.blocks;
       lists = left.same;
-      edits = record { words = c.merge_headers.ensures.change.only.length ∙ words; shows = left.holds.shows; linked = linked_lists g.row.SLI _ _ left.holds; touches = omega (arith, c.merge_headers.ensures.touches.within, touches); rise = omega (arith, c.merge_headers.ensures.touches.rise, touches) };
+      edits = record { words = c.merge_headers.ensures.change.only.length ∙ words; shows = left.holds.shows; linked = linked_lists g.row.SLI _ _ left.holds; bits = marked_lists g.row.SLI _ _ left.holds; stays = c.merge_headers.ensures.stays ∙ ap (λ (r : RegionState). r.extents) c.self.view_is; touches = omega (arith, c.merge_headers.ensures.touches.within, touches); rise = omega (arith, c.merge_headers.ensures.touches.rise, touches) };
     }

@@ -3,7 +3,7 @@ use Rattle.tlsf_heap.specs.Blocks.{StandsAt, is_free, bytes_of, words_for}
 use Rattle.tlsf_heap.specs.Calls.{recut}
 use Rattle.tlsf_heap.specs.GoodFit.{block_at}
 use Rattle.tlsf_heap.specs.Regions.{RegionState, image_of}
-use Rattle.tlsf_heap.proofs.lemmas.words.Links.{linked_lists, Reshapes, holds_state}
+use Rattle.tlsf_heap.proofs.lemmas.words.Links.{linked_lists, marked_lists, Reshapes, holds_state}
 use Rattle.tlsf_heap.proofs.lemmas.words.Says.{shows_state, at_index}
 use Rattle.tlsf_heap.proofs.lemmas.words.Recut.{whole_is, whole_ends, whole_last, whole_least, left_wide, left_recut}
 use Rattle.tlsf_heap.proofs.region.Region.recut.Goals.{After-recut_header}
@@ -39,7 +39,7 @@ returns-then-both-size-clause-change g c i stands =
     record {
       blocks = left.blocks;
       lists = left.same;
-      edits = record { words = c.widen_header.ensures.change.only.length ∙ words; shows = left.holds.shows; linked = linked_lists g.row.SLI _ _ left.holds; touches = omega (arith, rises.within, touches); rise = omega (arith, rises.rise, touches) };
+      edits = record { words = c.widen_header.ensures.change.only.length ∙ words; shows = left.holds.shows; linked = linked_lists g.row.SLI _ _ left.holds; bits = marked_lists g.row.SLI _ _ left.holds; stays = c.widen_header.ensures.stays ∙ ap (λ (r : RegionState). r.extents) c.self.view_is; touches = omega (arith, rises.within, touches); rise = omega (arith, rises.rise, touches) };
     }
 
 pub recut_header-requires-clause-within : goal.recut_header-requires-clause-within
@@ -75,5 +75,5 @@ returns-clause-change g c i stands =
     record {
       blocks = left.blocks;
       lists = left.same;
-      edits = record { words = c.recut_header.ensures.change.only.length ∙ words; shows = left.holds.shows; linked = linked_lists g.row.SLI _ _ left.holds; touches = omega (arith, rises.within, touches); rise = omega (arith, rises.rise, touches) };
+      edits = record { words = c.recut_header.ensures.change.only.length ∙ words; shows = left.holds.shows; linked = linked_lists g.row.SLI _ _ left.holds; bits = marked_lists g.row.SLI _ _ left.holds; stays = c.recut_header.ensures.stays ∙ ap (λ (r : RegionState). r.extents) c.self.view_is; touches = omega (arith, rises.within, touches); rise = omega (arith, rises.rise, touches) };
     }

@@ -4,7 +4,7 @@ use Rattle.tlsf_words.specs.Fields.{length_word}
 use Rattle.tlsf_heap.specs.Headers.{OnlyFrom}
 use Rattle.tlsf_heap.specs.Regions.{RegionState, image_of}
 use Rattle.tlsf_heap.proofs.lemmas.words.NewLength.{SetsLength, length_leaves, length_relists}
-use Rattle.tlsf_heap.proofs.lemmas.words.Links.{linked_lists, Relists, holds_state}
+use Rattle.tlsf_heap.proofs.lemmas.words.Links.{linked_lists, marked_lists, Relists, holds_state}
 use Rattle.tlsf_heap.proofs.lemmas.words.Says.{shows_state, says_here}
 use Rattle.tlsf_heap.proofs.lemmas.blocks.Stands.{behind_one}
 use Rattle.tlsf_heap.proofs.region.Region.set_length.Given.{Over}
@@ -48,7 +48,7 @@ returns-clause-change g c i stands =
     record {
       blocks = left.blocks i stands ∙ behind_one i _ c.args.self.now.blocks;
       lists = (relists g c).same;
-      edits = record { words = only.length ∙ words; shows = (relists g c).holds.shows; linked = linked_lists g.row.SLI _ _ (relists g c).holds; touches = omega (arith, new.touches, touches); rise = omega (arith, new.touches, touches) };
+      edits = record { words = only.length ∙ words; shows = (relists g c).holds.shows; linked = linked_lists g.row.SLI _ _ (relists g c).holds; bits = marked_lists g.row.SLI _ _ (relists g c).holds; stays = c.set_length.ensures.stays ∙ ap (λ (r : RegionState). r.extents) c.self.view_is; touches = omega (arith, new.touches, touches); rise = omega (arith, new.touches, touches) };
     }
 
 pub returns-clause-only : goal.returns-clause-only

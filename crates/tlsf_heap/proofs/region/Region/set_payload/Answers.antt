@@ -1,6 +1,6 @@
 use Rattle.std.proofs.Common.{ap, ◌∙◌, arith}
 use Rattle.tlsf_heap.specs.Regions.{RegionState, image_of}
-use Rattle.tlsf_heap.proofs.lemmas.words.Links.{linked_lists, Relists, holds_state}
+use Rattle.tlsf_heap.proofs.lemmas.words.Links.{linked_lists, marked_lists, Relists, holds_state}
 use Rattle.tlsf_heap.proofs.lemmas.words.Bytes.{held_within, length_read}
 use Rattle.tlsf_heap.proofs.lemmas.words.Says.{shows_state, says_here}
 use Rattle.tlsf_heap.proofs.lemmas.words.NewPayload.{Refills, refilled, relisted_refill}
@@ -39,7 +39,7 @@ returns-clause-change g c i stands =
     record {
       blocks = left.blocks i stands ∙ behind_one i _ c.args.self.now.blocks;
       lists = (relists g c).same;
-      edits = record { words = new.only.length ∙ words; shows = (relists g c).holds.shows; linked = linked_lists g.row.SLI _ _ (relists g c).holds; touches = omega (arith, new.touches.within, touches); rise = omega (arith, new.touches.rise, touches) };
+      edits = record { words = new.only.length ∙ words; shows = (relists g c).holds.shows; linked = linked_lists g.row.SLI _ _ (relists g c).holds; bits = marked_lists g.row.SLI _ _ (relists g c).holds; stays = c.set_payload.ensures.stays ∙ ap (λ (r : RegionState). r.extents) c.self.view_is; touches = omega (arith, new.touches.within, touches); rise = omega (arith, new.touches.rise, touches) };
     }
 
 pub returns-clause-grown : goal.returns-clause-grown

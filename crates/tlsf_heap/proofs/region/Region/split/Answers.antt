@@ -4,7 +4,7 @@ use Rattle.tlsf_heap.specs.Blocks.{Live, Free, size_of, StandsAt}
 use Rattle.tlsf_heap.specs.GoodFit.{block_at, site_at}
 use Rattle.tlsf_heap.specs.Regions.{RegionState, IsTagOf, image_of}
 use Rattle.tlsf_heap.proofs.lemmas.words.Says.{shows_state, says_here, at_index}
-use Rattle.tlsf_heap.proofs.lemmas.words.Links.{linked_lists, Reshapes, holds_state}
+use Rattle.tlsf_heap.proofs.lemmas.words.Links.{linked_lists, marked_lists, Reshapes, holds_state}
 use Rattle.tlsf_heap.proofs.lemmas.words.Split.{stored_bytes, begins_zero, tag_here, left_split}
 use Rattle.tlsf_heap.proofs.region.Region.split.Given.{Over}
 use Rattle.tlsf_heap.proofs.region.Region.split.Goals as goal
@@ -50,6 +50,8 @@ returns-clause-change g c i stands =
         words = c.split_header.ensures.change.only.length ∙ words;
         shows = left.holds.shows;
         linked = linked_lists g.row.SLI _ _ left.holds;
+        bits = marked_lists g.row.SLI _ _ left.holds;
+        stays = c.split_header.ensures.stays ∙ ap (λ (r : RegionState). r.extents) c.self.view_is;
         touches = omega (arith, c.split_header.ensures.touches.within, touches);
         rise = omega (arith, c.split_header.ensures.touches.rise, touches);
       };

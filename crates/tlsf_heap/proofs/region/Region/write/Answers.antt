@@ -4,7 +4,7 @@ use Rattle.tlsf_heap.specs.Calls.{overwritten}
 use Rattle.tlsf_heap.specs.GoodFit.{block_at}
 use Rattle.tlsf_heap.proofs.lemmas.words.Says.{shows_state}
 use Rattle.tlsf_heap.proofs.lemmas.words.Bytes.{payload_inside, rewritten}
-use Rattle.tlsf_heap.proofs.lemmas.words.Links.{linked_lists, Relists, holds_state}
+use Rattle.tlsf_heap.proofs.lemmas.words.Links.{linked_lists, marked_lists, Relists, holds_state}
 use Rattle.tlsf_heap.proofs.lemmas.words.KeptLinks.{relisted_bytes}
 use Rattle.tlsf_heap.proofs.lemmas.blocks.Stands.{behind_one}
 use Rattle.tlsf_heap.specs.Regions.{RegionState, image_of}
@@ -34,5 +34,5 @@ returns g c i stands =
     record {
       blocks = left.blocks i stands ∙ behind_one i _ c.args.self.now.blocks;
       lists = (relists g c).same;
-      edits = record { words = new.length ∙ words; shows = (relists g c).holds.shows; linked = linked_lists g.row.SLI _ _ (relists g c).holds; touches = omega (arith, new.touches, touches); rise = omega (arith, new.rise, touches) };
+      edits = record { words = new.length ∙ words; shows = (relists g c).holds.shows; linked = linked_lists g.row.SLI _ _ (relists g c).holds; bits = marked_lists g.row.SLI _ _ (relists g c).holds; stays = c.copy_in.ensures.stays ∙ ap (λ (r : RegionState). r.extents) c.self.view_is; touches = omega (arith, new.touches, touches); rise = omega (arith, new.rise, touches) };
     }

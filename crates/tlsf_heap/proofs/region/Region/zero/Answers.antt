@@ -3,7 +3,7 @@ use Rattle.tlsf_heap.specs.GoodFit.{block_at}
 use Rattle.tlsf_heap.specs.Regions.{RegionState, image_of}
 use Rattle.tlsf_heap.proofs.lemmas.words.ClearPayload.{ClearsBehind, clears_length, zeroed_block, cleared_payload, relisted_payload}
 use Rattle.tlsf_heap.proofs.lemmas.words.Edit.{Leaves}
-use Rattle.tlsf_heap.proofs.lemmas.words.Links.{linked_lists, Relists, holds_state}
+use Rattle.tlsf_heap.proofs.lemmas.words.Links.{linked_lists, marked_lists, Relists, holds_state}
 use Rattle.tlsf_heap.proofs.lemmas.words.Says.{shows_state, says_here}
 use Rattle.tlsf_heap.proofs.lemmas.blocks.Stands.{behind_one}
 use Rattle.tlsf_heap.proofs.region.Region.zero.Given.{Over}
@@ -44,6 +44,8 @@ returns g c i stands =
         words = clears_length (clears g c) ∙ words;
         shows = (relists g c).holds.shows;
         linked = linked_lists g.row.SLI _ _ (relists g c).holds;
+        bits = marked_lists g.row.SLI _ _ (relists g c).holds;
+        stays = c.zero.ensures.stays ∙ ap (λ (r : RegionState). r.extents) c.self.view_is;
         touches = omega (arith, c.zero.ensures.touches, touches);
         rise = omega (arith, c.zero.ensures.touches, touches);
       };

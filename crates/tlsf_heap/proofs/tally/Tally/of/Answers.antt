@@ -19,7 +19,9 @@ returns-clause-reads g c =
       words = reads.words;
       blocks = reads.blocks;
       lists = reads.lists;
+      marked = reads.marked;
       stored = reads.stored;
+      stays = reads.stays;
       touches = omega (arith, reads.touches, ap (λ (t : Tally). t.live_blocks + t.free_blocks) (summed g c), counts_apart c.args.region.now.blocks);
       rise = reads.rise;
     }
