@@ -1,1 +1,1 @@
-pub mod Grants
+pub use Rattle.tlsf_heap.specs.ledger.Grants

@@ -12,8 +12,6 @@
 //! heap: a release at most 64, an allocate at most 64 and one for each payload word of the block that it gives.
 #![tactic(auto)]
 
-mod counted;
 mod locked_heap;
 
-pub use counted::Counted;
-pub use locked_heap::LockedHeap;
+pub use locked_heap::{Counted, LockedHeap};

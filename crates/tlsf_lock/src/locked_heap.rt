@@ -3,12 +3,14 @@ ghost use Rattle.std.specs.Sync.Mutex.{mutex_guard_value};
 ghost use Rattle.tlsf_class.specs.Classes.{IsLevel};
 ghost use Rattle.tlsf_heap.specs.Lawful.{IsRegion};
 ghost use Rattle.tlsf_heap.specs.Calls.{last_tick};
-ghost use Rattle.tlsf_lock.specs.Grants.{IsCounted};
+ghost use Rattle.tlsf_heap.specs.ledger.Grants.{IsCounted};
 
-use crate::counted::Counted;
 use std::alloc::Global;
 use std::sync::{Mutex, MutexGuard, Wait};
-use tlsf_heap::OpenFault;
+use tlsf_heap::{Counts, Ledgered, OpenFault};
+
+/// A heap that counts the allocates and the releases that it accepts: what the lock of a [`LockedHeap`] keeps.
+pub type Counted<const SLI: u32> = Ledgered<SLI, Counts>;
 
 /// A heap without an owner, outside any yard: any thread that has a reference to it may lock it.
 #[derive(Drop)]

@@ -1,4 +1,4 @@
 -- What the heaps that never refuse show and keep.
-pub mod Pools
+pub mod Bounds
 pub mod Tables
 pub mod Parts

@@ -3,9 +3,9 @@
 //! # Heaps
 //!
 //! Who opens a [`Pool`] writes two numbers: how many blocks are held at once, at most, and how many bytes a request has, at
-//! most. The pool takes a region of just so many words as [`pool_never_refuses`] asks for, and its
-//! [`allocate`](Pool::allocate) then gives a block whenever fewer are held, the request is no longer, and the tick isn't at
-//! its last value. No other refusal is left: `NoFit` is no answer that it has.
+//! most. The pool takes a region of just so many words as [`pool_never_refuses`] asks for. An allocate then gives a block whenever
+//! fewer are held, the request is no longer, and the tick isn't at its last value. No other refusal is left: `NoFit` is no answer
+//! that it has.
 //!
 //! ```text
 //! let mut pool = Pool::<4>::open(alloc, 0, 100, 512, 0)?;    // 100 blocks of up to 512 bytes: 13,631 words
@@ -63,10 +63,10 @@ pub use laws::one_large::one_large_suffices;
 pub use laws::places::{names_share_no_word, whole_again};
 pub use laws::pools::pool_never_refuses;
 pub use laws::room::{blocks_are_snug, enough_free_words_serve};
-pub use pools::pool::Pool;
+pub use pools::one::{One, Pool, PoolCalls};
 pub use pools::pool_refusal::PoolRefusal;
 pub use pools::pools::Pools;
-pub use pools::table_pool::TablePool;
+pub use pools::table::{Table, TablePool, TablePoolCalls};
 pub use sizes::greatest::{longest_request, most_blocks};
 pub use sizes::one_large::one_large_words;
 pub use sizes::region::pool_region;

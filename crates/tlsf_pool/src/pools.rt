@@ -1,8 +1,8 @@
 //! Heaps of so many words, that never refuse for want of room.
 
+pub(crate) mod one;
 pub(crate) mod opening;
-pub(crate) mod pool;
 pub(crate) mod pool_refusal;
 pub(crate) mod pools;
 pub(crate) mod rows;
-pub(crate) mod table_pool;
+pub(crate) mod table;

@@ -1,11 +1,11 @@
 //! The chords of an organ, under a contract of the organ's own: where enough pipes are free a chord sounds whole, memory is never the reason
 //! why a note stays silent, and each note has a bounded cost.
 ghost use Rattle.std.specs.Prelude.{◌≡◌, ◌+◌, ◌*◌, ◌≤◌, length, OnOk, IsErrOf};
-ghost use Rattle.tlsf_pool.specs.pools.Pools.{SameBounds};
+ghost use Rattle.tlsf_pool.specs.pools.Bounds.{SameBounds};
 
 use anyhow::Error;
 use std::alloc::Global;
-use tlsf_pool::{Pool, PoolRefusal};
+use tlsf_pool::{Pool, PoolCalls, PoolRefusal};
 
 /// How many pipes sound at once.
 pub const PIPES: u32 = 8;
@@ -15,10 +15,10 @@ pub const PIPE_BYTES: u32 = 48;
 
 /// Opens a pipe for each note of a chord, and stores the note there.
 pub fn strike(organ: &mut Pool<4>, chord: &[u8]) -> Result<(), PoolRefusal>
-    requires free { organ.old.held + length chord.now ≤ organ.old.most }
-    requires long { organ.old.longest ≡ PIPE_BYTES }
-    ensures whole { OnOk result (organ.new.held ≡ organ.old.held + length chord.now) }
-    ensures bounds { SameBounds organ.old organ.new }
+    requires free { organ.old.ledger.held + length chord.now ≤ organ.old.ledger.most }
+    requires long { organ.old.ledger.longest ≡ PIPE_BYTES }
+    ensures whole { OnOk result (organ.new.ledger.held ≡ organ.old.ledger.held + length chord.now) }
+    ensures bounds { SameBounds organ.old.ledger organ.new.ledger }
     ensures never_full { ¬ (IsErrOf result PoolRefusal.Full) }
     ensures never_too_long { ¬ (IsErrOf result PoolRefusal.TooLong) }
     ensures touches { organ.new.touches ≤ organ.old.touches + 43 * length chord.now }

@@ -3,7 +3,7 @@
 use anyhow::Error;
 use std::alloc::Global;
 use tlsf_heap::Name;
-use tlsf_pool::{Kind, TablePool};
+use tlsf_pool::{Kind, TablePool, TablePoolCalls};
 
 /// Four readings of up to 16 bytes at once, and one picture of up to 400.
 const TABLE: [Kind; 2] = [Kind { most: 4, len: 16 }, Kind { most: 1, len: 400 }];

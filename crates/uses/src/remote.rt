@@ -1,7 +1,7 @@
 //! Packets in the memory of a bounded arena. The owner lends each packet room as it comes in; other threads send the packets and drop them,
 //! with no wait and no refusal; and the owner's drain has the room again. While fewer packets are under way than may be, none lacks room.
 ghost use Rattle.std.specs.Prelude.{◌≡◌};
-ghost use Rattle.tlsf_returns.specs.Ends.{id_of};
+ghost use Rattle.tlsf_pool_arena.specs.returns.Ends.{id_of};
 
 use anyhow::Error;
 use std::alloc::Global;

@@ -1,12 +1,12 @@
 //! Tables that an owner lends to workers, with a ticket for each. A worker reads its table in its own thread and puts it back by the ticket,
 //! which is never refused and never waits; the owner takes what came home. It is the very table that went out.
 ghost use Rattle.std.specs.Prelude.{◌≡◌, ◌<◌, length};
-ghost use Rattle.tlsf_returns.specs.Ends.{IsOwnerOf, IsTicketFor, away_by};
+ghost use Rattle.tlsf_pool_arena.specs.returns.Ends.{IsOwnerOf, IsTicketFor, away_by};
 
 use anyhow::Error;
 use std::alloc::Global;
 use std::thread::{Threads, join};
-use tlsf_returns::{OwnerEnd, Places, Ticket, open_places};
+use tlsf_pool_arena::{OwnerEnd, Places, Ticket, open_places};
 
 type Table = Vec<u32>;
 

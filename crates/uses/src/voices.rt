@@ -3,7 +3,7 @@
 use anyhow::Error;
 use std::alloc::Global;
 use tlsf_heap::Name;
-use tlsf_pool::Pool;
+use tlsf_pool::{Pool, PoolCalls};
 
 /// How many voices sound at once, and the bytes of each.
 const VOICES: u32 = 3;

@@ -4,14 +4,18 @@
 --   Heaps: several heaps stay heaps for the parts of a table
 --   Opened: new heaps for the parts of a table
 --   PoolKept: a pool stays one through its calls
+--   PoolTells: what the answers of a pool tell
 --   Served: a request that has a place finds room
 --   TableKept: a table stays one through its calls
+--   TableTells: what the answers of a table tell
 --   WholeTable: the rows of the whole table, and the part that has each
 pub mod Answering
 pub mod Counts
 pub mod Heaps
 pub mod Opened
 pub mod PoolKept
+pub mod PoolTells
 pub mod Served
 pub mod TableKept
+pub mod TableTells
 pub mod WholeTable

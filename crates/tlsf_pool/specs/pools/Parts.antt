@@ -1,38 +1,46 @@
 -- Several heaps, one for each part of a table.
-use Rattle.std.specs.Prelude.{◌≡◌, ℕ, ◌+◌, ◌-◌, ◌*◌, ◌/◌, ◌<◌, ◌≤◌, List, [], ◌∷◌, ◌++◌, Option, Some, None, Result, Ok, IfOk, OnErr, OnOk, is_some, length, nat_le, nat_lt, position, replicate, set, slice_index_or, sum, take, ⊤, ◌&&◌, if◌then◌else◌}
+use denote.RawPtr.{null_ptr}
+use Rattle.std.specs.Prelude.{◌≡◌, ℕ, ◌+◌, ◌-◌, ◌*◌, ◌/◌, ◌<◌, ◌≤◌, ◌↔◌, Bool, List, [], ◌∷◌, ◌++◌, Option, Some, None, Result, Ok, IfOk, OnErr, OnOk, is_some, IsTrue, length, nat_le, nat_lt, position, replicate, set, slice_index_or, sum, take, ⊤, ◌&&◌, if◌then◌else◌}
 use Rattle.std.specs.List.{AllByRecursion}
 use Rattle.std.specs.Result.{result_unwrap_or}
 use Rattle.tlsf_heap.specs.Blocks.{want}
 use Rattle.tlsf_heap.specs.Calls.{allocated, opened, read_answer, read_of, released, written}
 use Rattle.tlsf_heap.specs.Given.{payload_words_given}
 use Rattle.tlsf_heap.specs.InPlace.{payload_of}
+use Rattle.tlsf_heap.specs.Laws.{IsLive}
 use Rattle.tlsf_heap.specs.Placed.{placed_at}
 use Rattle.tlsf_heap.specs.Reports.{report_of}
-use Rattle.tlsf_heap.specs.Touched.{FollowsNoForgery, allocate_touches}
+use Rattle.tlsf_heap.specs.Memory.{Extent}
+use Rattle.tlsf_heap.specs.Touched.{FollowsNoForgery, FollowsNoPlace, allocate_touches}
 use Rattle.tlsf_heap.specs.declared.name.Name.{Name}
 use Rattle.tlsf_heap.specs.declared.placed_block.PlacedBlock.{PlacedBlock}
 use Rattle.tlsf_heap.specs.declared.refusal.Refusal.{Refusal}
 use Rattle.tlsf_heap.specs.declared.report.Report.{Report}
+use Rattle.tlsf_heap.specs.ledger.Ledgers.{SameLedger}
 use Rattle.tlsf_pool.specs.laws.Kinds.{kinds_words}
 use Rattle.tlsf_pool.specs.declared.kind.Kind.{Kind}
 use Rattle.tlsf_pool.specs.declared.pools.pool_refusal.PoolRefusal.{PoolRefusal}
-use Rattle.tlsf_pool.specs.pools.Tables.{TableState, IsTable, SameTable, HasPlace, HoldsOneMore, row_of}
+use Rattle.tlsf_pool.specs.pools.Tables.{TableState, CountsOneMore, IsTabled, HasPlace, row_of}
 
 -- what several heaps show: the number of the first, and each with its part of the table
 pub record PoolsState : Type 0 where
   pub id : ℕ
   pub parts : List TableState
 
+-- no memory
+abbrev pub no_memory : Extent
+no_memory = record { address = null_ptr; capacity = 0 }
+
 -- no heap
 abbrev pub no_part : TableState
-no_part = record { heap = record { id = 0; words = 0; tick = 0; blocks = [] }; kinds = []; held = []; touches = 0 }
+no_part = record { heap = record { id = 0; words = 0; tick = 0; blocks = [] }; ledger = record { kinds = []; held = [] }; extents = record { words = no_memory; starts = no_memory }; touches = 0 }
 
 abbrev pub part_at : PoolsState → ℕ → TableState
 part_at p i = slice_index_or p.parts i no_part
 
 -- the part for which a length counts: the first that has a row long enough for it
 abbrev pub part_in : List TableState → ℕ → Option ℕ
-part_in parts len = position (λ t. is_some (row_of t.kinds len)) parts
+part_in parts len = position (λ t. is_some (row_of t.ledger.kinds len)) parts
 
 abbrev pub part_of : PoolsState → ℕ → Option ℕ
 part_of p len = part_in p.parts len
@@ -47,12 +55,12 @@ part_named p name = named_in p.id p.parts name
 -- the rows of these parts, one part behind the other
 abbrev pub rows_in : List TableState → List Kind
 rows_in [] = []
-rows_in (t ∷ parts) = t.kinds ++ rows_in parts
+rows_in (t ∷ parts) = t.ledger.kinds ++ rows_in parts
 
 -- how many blocks are held of each of these rows
 abbrev pub held_in : List TableState → List ℕ
 held_in [] = []
-held_in (t ∷ parts) = t.held ++ held_in parts
+held_in (t ∷ parts) = t.ledger.held ++ held_in parts
 
 -- how many rows stand before those of a part
 abbrev pub rows_before : List TableState → ℕ → ℕ
@@ -67,19 +75,19 @@ held_by p = held_in p.parts
 
 -- this row of the whole table is one of a part
 abbrev pub HasRow : PoolsState → ℕ → ℕ → Type 0
-HasRow p row i = (rows_before p.parts i ≤ row) × (row < rows_before p.parts i + length (part_at p i).kinds)
+HasRow p row i = (rows_before p.parts i ≤ row) × (row < rows_before p.parts i + length (part_at p i).ledger.kinds)
 
 -- each part is a heap for its table, and their numbers follow one another
 pub record ArePools (sli : ℕ) (p : PoolsState) : Type 0 where
-  pub tables : AllByRecursion (IsTable sli) p.parts
+  pub tables : AllByRecursion (IsTabled sli) p.parts
   pub numbers : (i : ℕ) → i < length p.parts → (part_at p i).heap.id ≡ p.id + i
   pub few : length p.parts ≤ 8
 
 -- a new heap of that number for a table: nothing is held
 pub record IsNew (sli id first : ℕ) (table : List Kind) (t : TableState) : Type 0 where
   pub heap : t.heap ≡ opened id (kinds_words sli table) first
-  pub kinds : t.kinds ≡ table
-  pub held : t.held ≡ replicate (length table) 0
+  pub kinds : t.ledger.kinds ≡ table
+  pub held : t.ledger.held ≡ replicate (length table) 0
 
 -- new heaps for these tables, in their order, with numbers one behind the other
 abbrev pub AreNew : ℕ → ℕ → ℕ → List (List Kind) → List TableState → Type 0
@@ -98,9 +106,9 @@ pub record OnlyPart (old new : PoolsState) (i : ℕ) : Type 0 where
 pub record Allocates (sli : ℕ) (old new : TableState) (len : ℕ) (answer : Result Name PoolRefusal) : Type 0 where
   pub answer_is : IfOk answer (λ name. (allocated sli old.heap len).answer ≡ Ok name)
   pub heap : OnOk answer (new.heap ≡ (allocated sli old.heap len).heap)
-  pub held : OnOk answer (HoldsOneMore old.kinds len old.held new.held)
-  pub err : OnErr answer (SameTable old new)
-  pub kinds : new.kinds ≡ old.kinds
+  pub counts : OnOk answer (CountsOneMore len old.ledger new.ledger)
+  pub err : OnErr answer (SameLedger old new)
+  pub kinds : new.ledger.kinds ≡ old.ledger.kinds
   pub touches : new.touches ≤ old.touches + allocate_touches answer new.heap
   pub given : payload_words_given answer new.heap ≤ want len
   pub rise : old.touches ≤ new.touches
@@ -109,9 +117,9 @@ pub record Allocates (sli : ℕ) (old new : TableState) (len : ℕ) (answer : Re
 pub record Releases (old new : TableState) (name : Name) (answer : Result (Unit {0}) Refusal) : Type 0 where
   pub answer_is : answer ≡ (released old.heap name).answer
   pub heap : new.heap ≡ (released old.heap name).heap
-  pub held : OnOk answer (HoldsOneMore old.kinds (length (payload_of old.heap name)) new.held old.held)
-  pub err : OnErr answer (SameTable old new)
-  pub kinds : new.kinds ≡ old.kinds
+  pub counts : OnOk answer (CountsOneMore (length (payload_of old.heap name)) new.ledger old.ledger)
+  pub err : OnErr answer (SameLedger old new)
+  pub kinds : new.ledger.kinds ≡ old.ledger.kinds
   pub touches : new.touches ≤ old.touches + 34
   pub rise : old.touches ≤ new.touches
   pub forged : FollowsNoForgery old.heap name old.touches new.touches
@@ -120,8 +128,7 @@ pub record Releases (old new : TableState) (name : Name) (answer : Result (Unit 
 pub record Writes (old new : TableState) (name : Name) (at : ℕ) (bytes : List ℕ) (answer : Result (Unit {0}) Refusal) : Type 0 where
   pub answer_is : answer ≡ (written old.heap name at bytes).answer
   pub heap : new.heap ≡ (written old.heap name at bytes).heap
-  pub held : new.held ≡ old.held
-  pub kinds : new.kinds ≡ old.kinds
+  pub ledger : new.ledger ≡ old.ledger
   pub touches : new.touches ≤ old.touches + 4 + 2 * (length bytes / 8 + 2)
   pub rise : old.touches ≤ new.touches
   pub forged : FollowsNoForgery old.heap name old.touches new.touches
@@ -130,17 +137,25 @@ pub record Writes (old new : TableState) (name : Name) (at : ℕ) (bytes : List 
 pub record Reads (old new : TableState) (name : Name) (at : ℕ) (bytes filled : List ℕ) (answer : Result (Unit {0}) Refusal) : Type 0 where
   pub answer_is : answer ≡ read_answer (read_of old.heap name at (length bytes))
   pub bytes_are : filled ≡ result_unwrap_or (read_of old.heap name at (length bytes)) bytes
-  pub same : SameTable old new
+  pub same : SameLedger old new
   pub touches : new.touches ≤ old.touches + 4 + (length bytes / 8 + 2)
+  pub rise : old.touches ≤ new.touches
+  pub forged : FollowsNoForgery old.heap name old.touches new.touches
+
+-- a question to one whether a live block has this name
+pub record AsksLive (old new : TableState) (name : Name) (answer : Bool) : Type 0 where
+  pub live : IsTrue answer ↔ IsLive old.heap name
+  pub same : SameLedger old new
+  pub touches : new.touches ≤ old.touches + 3
   pub rise : old.touches ≤ new.touches
   pub forged : FollowsNoForgery old.heap name old.touches new.touches
 
 -- a report on one, which counts the blocks that are held; no request that has a place is longer than its grant
 pub record Reports (sli : ℕ) (old new : TableState) (report : Report) : Type 0 where
   pub report_is : report ≡ report_of sli old.heap
-  pub held : report.live_blocks ≡ sum old.held
-  pub grant : (len : ℕ) → HasPlace old len → len ≤ report.grant
-  pub same : SameTable old new
+  pub held : report.live_blocks ≡ sum old.ledger.held
+  pub grant : (len : ℕ) → HasPlace old.ledger len → len ≤ report.grant
+  pub same : SameLedger old new
   pub touches : new.touches ≤ old.touches + 2 * length old.heap.blocks
   pub few : 4 * length old.heap.blocks ≤ old.heap.words
   pub rise : old.touches ≤ new.touches
@@ -148,6 +163,7 @@ pub record Reports (sli : ℕ) (old new : TableState) (report : Report) : Type 0
 -- a look at what begins at a place of one
 pub record Looks (old new : TableState) (at : ℕ) (answer : Option PlacedBlock) : Type 0 where
   pub answer_is : answer ≡ placed_at old.heap.blocks at
-  pub same : SameTable old new
+  pub same : SameLedger old new
   pub touches : new.touches ≤ old.touches + 4
+  pub wild : FollowsNoPlace old.heap at old.touches new.touches
   pub rise : old.touches ≤ new.touches

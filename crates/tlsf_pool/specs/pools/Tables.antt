@@ -1,14 +1,24 @@
 -- A heap for a table of kinds: for which kind a block counts, and how many are held of each.
-use Rattle.std.specs.Prelude.{◌≡◌, ℕ, ◌+◌, ◌<◌, ◌≤◌, List, [], ◌∷◌, Option, IsSomeAnd, IsTrue, length, map, filter, position, slice_index, slice_index_or, set, nat_le, nat_lt}
+use Rattle.std.specs.Prelude.{◌≡◌, ◌≢◌, ℕ, ◌+◌, ◌<◌, ◌≤◌, ◌↔◌, List, [], ◌∷◌, Option, Some, None, Result, Ok, Err, IfOk, IsOk, IsErrOf, IsSomeAnd, IsTrue, length, map, filter, position, slice_index, slice_index_or, set, sum, nat_le, nat_lt, if◌then◌else◌}
 use Rattle.std.specs.List.{AllByRecursion}
 use Rattle.tlsf_class.specs.Classes.{IsLevel}
-use Rattle.tlsf_heap.specs.Blocks.{Block, HeapState, bytes_of}
+use Rattle.tlsf_heap.specs.Blocks.{Block, HeapState, bytes_of, want}
+use Rattle.tlsf_heap.specs.Calls.{allocated, last_tick}
+use Rattle.tlsf_heap.specs.Given.{payload_words_given}
 use Rattle.tlsf_heap.specs.Lawful.{IsLawful}
 use Rattle.tlsf_heap.specs.Reports.{live_among}
+use Rattle.tlsf_heap.specs.declared.name.Name.{Name}
+use Rattle.tlsf_heap.specs.declared.refusal.Refusal.{Refusal}
+use Rattle.tlsf_heap.specs.declared.refusal.Refusal.TheVariants.{NoFit}
+use Rattle.tlsf_heap.specs.declared.report.Report.{Report}
+use Rattle.tlsf_heap.specs.ledger.Ledgers.{LedgerState, IsLedgered}
+use Rattle.tlsf_pool.specs.declared.kind.Kind.{Kind}
+use Rattle.tlsf_pool.specs.declared.pools.pool_refusal.PoolRefusal.{PoolRefusal}
+use Rattle.tlsf_pool.specs.declared.pools.pool_refusal.PoolRefusal.TheVariants.{TooLong, Full}
 use Rattle.tlsf_pool.specs.laws.Kinds.{kinds_words, are_fours, AreOfKinds, HasClass}
 use Rattle.tlsf_pool.specs.laws.Pools.{BeginAtFours, IsSmall}
 use Rattle.tlsf_pool.specs.laws.Room.{IsSnug}
-use Rattle.tlsf_pool.specs.declared.kind.Kind.{Kind}
+use Rattle.tlsf_pool.specs.pools.Bounds.{or_worn}
 
 -- the bytes of each live block
 abbrev pub lengths_in : List Block → List ℕ
@@ -27,12 +37,14 @@ held_of (kind ∷ kinds) lens = length (filter (λ n. nat_le n kind.len) lens) �
 abbrev pub most_at : List Kind → ℕ → ℕ
 most_at kinds row = (slice_index_or kinds row (record { most = 0; len = 0 })).most
 
--- what a heap for a table shows: the heap, the table, how many blocks are held of each row, and the heap's touches
-pub record TableState : Type 0 where
-  pub heap : HeapState
+-- what the ledger of a table shows: the table, and how many blocks are held of each row
+pub record TableRows : Type 0 where
   pub kinds : List Kind
   pub held : List ℕ
-  pub touches : ℕ
+
+-- what a heap for a table shows
+abbrev pub TableState : Type 0
+TableState = LedgerState TableRows
 
 -- no block has more than seven words, and each begins at a multiple of four
 abbrev pub AreFours : List Block → Type 0
@@ -40,31 +52,58 @@ AreFours blocks = AllByRecursion (IsSmall 7) blocks × BeginAtFours 0 blocks
 
 -- the heap has a level, is lawful and has the words of the table. Its live blocks fit the table, and so many count for each row as are held.
 -- None has four words more than it wants; where the table wants four words for each, all begin at multiples of four
-pub record IsTable (sli : ℕ) (t : TableState) : Type 0 where
+pub record IsTable (sli : ℕ) (h : HeapState) (t : TableRows) : Type 0 where
   pub level : IsLevel sli
-  pub lawful : IsLawful t.heap
-  pub words : t.heap.words ≡ kinds_words sli t.kinds
+  pub lawful : IsLawful h
+  pub words : h.words ≡ kinds_words sli t.kinds
   pub classes : AllByRecursion (HasClass sli) t.kinds
   pub few : length t.kinds ≤ 64
-  pub held : t.held ≡ held_of t.kinds (lengths_in t.heap.blocks)
-  pub fit : AreOfKinds t.kinds (lengths_in t.heap.blocks)
-  pub snug : AllByRecursion IsSnug t.heap.blocks
-  pub fours : IsTrue (are_fours t.kinds) → AreFours t.heap.blocks
+  pub held : t.held ≡ held_of t.kinds (lengths_in h.blocks)
+  pub fit : AreOfKinds t.kinds (lengths_in h.blocks)
+  pub snug : AllByRecursion IsSnug h.blocks
+  pub fours : IsTrue (are_fours t.kinds) → AreFours h.blocks
+
+-- so it is of a heap with its ledger
+abbrev pub IsTabled : ℕ → TableState → Type 0
+IsTabled sli = IsLedgered (IsTable sli)
 
 -- fewer blocks are held than may be of the row for which a length counts
-abbrev pub HasPlace : TableState → ℕ → Type 0
+abbrev pub HasPlace : TableRows → ℕ → Type 0
 HasPlace t len = IsSomeAnd (row_of t.kinds len) (λ row. slice_index t.held row < most_at t.kinds row)
 
 -- as many are held as may be
-abbrev pub IsFull : TableState → ℕ → Type 0
+abbrev pub IsFull : TableRows → ℕ → Type 0
 IsFull t len = IsSomeAnd (row_of t.kinds len) (λ row. slice_index t.held row ≡ most_at t.kinds row)
 
 -- of the row for which a length counts one more is held after, of all others as many as before
 abbrev pub HoldsOneMore : List Kind → ℕ → List ℕ → List ℕ → Type 0
 HoldsOneMore kinds len before after = IsSomeAnd (row_of kinds len) (λ row. after ≡ set before row (slice_index before row + 1))
 
--- the same heap, with as many blocks held, for the same table. Only the touches may differ
-pub record SameTable (old new : TableState) : Type 0 where
-  pub heap : new.heap ≡ old.heap
-  pub kinds : new.kinds ≡ old.kinds
-  pub held : new.held ≡ old.held
+-- how a request that counts for this row is answered, by the heap's answer
+abbrev pub answered_in : TableRows → Result Name Refusal → Option ℕ → Result Name PoolRefusal
+answered_in t answer None = Err TooLong
+answered_in t answer (Some row) = if nat_lt (slice_index t.held row) (most_at t.kinds row) then or_worn answer else Err Full
+
+abbrev pub answered_by_table : TableRows → ℕ → Result Name Refusal → Result Name PoolRefusal
+answered_by_table t len answer = answered_in t answer (row_of t.kinds len)
+
+-- a request is given whenever its row has a place, while the tick isn't at its last value: the law lets a program make just such requests.
+-- The refusals in their order: there is none for want of room. The block has no more payload words than the request wants
+pub record TellsTable (sli : ℕ) (h : HeapState) (t : TableRows) (len : ℕ) (answer : Result Name PoolRefusal) : Type 0 where
+  pub ok : IsOk answer ↔ (HasPlace t len × ¬ (h.tick ≡ last_tick))
+  pub planned : HasPlace t len ↔ AreOfKinds t.kinds (len ∷ lengths_in h.blocks)
+  pub too_long : IsErrOf answer TooLong ↔ (row_of t.kinds len ≡ None)
+  pub full : IsErrOf answer Full ↔ IsFull t len
+  pub room : HasPlace t len → (allocated sli h len).answer ≢ Err NoFit
+  pub given : payload_words_given answer (allocated sli h len).heap ≤ want len
+  pub name : IfOk answer (λ name. (allocated sli h len).answer ≡ Ok name)
+
+-- as many blocks are live as are held of all rows, and no request that has a place is longer than the grant
+pub record ReportsTable (t : TableRows) (report : Report) : Type 0 where
+  pub held : report.live_blocks ≡ sum t.held
+  pub grant : (len : ℕ) → HasPlace t len → len ≤ report.grant
+
+-- the same table, and one block more held after of the row for which a length counts
+pub record CountsOneMore (len : ℕ) (before after : TableRows) : Type 0 where
+  pub kinds : after.kinds ≡ before.kinds
+  pub held : HoldsOneMore before.kinds len before.held after.held

@@ -1,13 +1,13 @@
-ghost use Rattle.std.specs.Prelude.{◌≡◌, ◌≤◌, ◌+◌, ◌^◌, length, IfOk, IsErrOf};
+ghost use Rattle.std.specs.Prelude.{◌≡◌, ◌≤◌, ◌+◌, ◌^◌, length, IfOk, IfErr};
 ghost use Rattle.std.specs.List.{AllByRecursion};
 ghost use Rattle.tlsf_class.specs.Classes.{IsLevel};
 ghost use Rattle.tlsf_heap.specs.Calls.{last_tick};
 ghost use Rattle.tlsf_pool.specs.sizes.Splits.{IsPart, parts_of};
-ghost use Rattle.tlsf_pool.specs.pools.Tables.{IsTable};
+ghost use Rattle.tlsf_pool.specs.pools.Tables.{IsTabled};
 ghost use Rattle.tlsf_pool.specs.pools.Parts.{AreNew};
 
 use crate::kind::Kind;
-use crate::pools::table_pool::TablePool;
+use crate::pools::table::{TablePool, TablePoolCalls};
 use crate::sizes::split::Split;
 use std::alloc::Global;
 use tlsf_heap::OpenFault;
@@ -25,10 +25,10 @@ pub(crate) fn open_parts<const SLI: u32>(
     requires numbers { id + 8 ≤ 2 ^ 32 }
     requires heaps { split.now.heaps ≤ 8 }
     requires parts { AllByRecursion (IsPart SLI) (parts_of split.now kinds.now) }
+    requires fresh { ¬ (first ≡ last_tick) }
     ensures new { IfOk result (λ parts. AreNew SLI id first (parts_of split.now kinds.now) parts.items) }
-    ensures tables { IfOk result (λ parts. AllByRecursion (IsTable SLI) parts.items) }
-    ensures large_enough { ¬ (IsErrOf result OpenFault.BadSize) }
-    ensures worn { IsErrOf result OpenFault.Worn → first ≡ last_tick }
+    ensures tables { IfOk result (λ parts. AllByRecursion (IsTabled SLI) parts.items) }
+    ensures no_memory { IfErr result (λ fault. fault ≡ OpenFault.NoMemory) }
 {
     let mut parts = Vec::new(alloc);
     let mut rest = kinds;

@@ -7,10 +7,12 @@ ghost use Rattle.tlsf_pool.specs.pools.Tables.{HasPlace, HoldsOneMore, IsFull, r
 ghost use Rattle.tlsf_pool.specs.pools.Parts as cut;
 ghost use Rattle.tlsf_pool.specs.pools.Parts.{Allocates, AreNew, ArePools, HasRow, Looks, OnlyPart, Reads, Releases, Reports, Writes, held_by, part_at, table_of};
 
+mod live;
+
 use crate::kind::Kind;
 use crate::pools::opening::open_parts;
 use crate::pools::pool_refusal::PoolRefusal;
-use crate::pools::table_pool::TablePool;
+use crate::pools::table::TablePool;
 use crate::sizes::split::{MOST_HEAPS, cheapest_split};
 use std::alloc::Global;
 use std::marker::Model;
@@ -41,7 +43,7 @@ fn part_of<const SLI: u32>(parts: &[TablePool<SLI>], len: u32) -> Option<usize>
     ensures { result ≡ cut.part_in parts.now len }
 {
     for at in 0..parts.len() {
-        if parts[at].serves(len) {
+        if parts[at].ledger().serves(len) {
             return Some(at);
         }
     }
@@ -61,7 +63,8 @@ impl<const SLI: u32> Pools<SLI> {
     /// has the number `id`, and the others those behind it; each is one free block, stamped with the tick `first`.
     ///
     /// Refused as `BadSize` where no way to cut the table gives each heap a region, else as `Worn` where `first` is the last tick,
-    /// 2^64 - 1, else as `NoMemory` where the memory was not granted. No later call takes memory.
+    /// 2^64 - 1, even for an empty table, which has no heap, else as `NoMemory` where the memory was not granted. No later call takes
+    /// memory.
     ///
     /// ```text
     /// let kinds = [Kind { most: 2000, len: 64 }, Kind { most: 1, len: 65_536 }];
@@ -79,17 +82,20 @@ impl<const SLI: u32> Pools<SLI> {
 
         // The refusals.
         ensures bad_size { IsErrOf result OpenFault.BadSize ↔ HasNoCut SLI 8 kinds.now }
-        ensures worn { IsErrOf result OpenFault.Worn → first ≡ last_tick }
+        ensures worn { ¬ (HasNoCut SLI 8 kinds.now) → (IsErrOf result OpenFault.Worn ↔ (first ≡ last_tick)) }
     {
         let Some(split) = cheapest_split::<SLI>(kinds, MOST_HEAPS) else {
             return Err(OpenFault::BadSize);
         };
+        if first == u64::MAX {
+            return Err(OpenFault::Worn);
+        }
         let parts = open_parts(alloc, id, kinds, &split, first)?;
         Ok(Pools { id, parts })
     }
 
     /// Gives a block that holds `len` bytes of payload, all zero, in the heap of the first part of the table that has a row long enough
-    /// for it, as [`TablePool::allocate`] does.
+    /// for it, as [`Ledgered::allocate`](tlsf_heap::Ledgered::allocate) does.
     ///
     /// It is given whenever there is such a row, fewer blocks of it are held than may be, and the tick of that heap isn't at its last
     /// value. Else it is refused as `TooLong`, `Full` or `Worn`, in this order. Takes no memory.
@@ -98,12 +104,12 @@ impl<const SLI: u32> Pools<SLI> {
     /// let name = pools.allocate(64)?;
     /// ```
     pub fn allocate(&mut self, len: u32) -> Result<Name, PoolRefusal>
-        ensures ok { IsOk result ↔ IsSomeAnd (cut.part_of self.old len) (λ i. HasPlace (part_at self.old i) len × ¬ ((part_at self.old i).heap.tick ≡ last_tick)) }
+        ensures ok { IsOk result ↔ IsSomeAnd (cut.part_of self.old len) (λ i. HasPlace (part_at self.old i).ledger len × ¬ ((part_at self.old i).heap.tick ≡ last_tick)) }
 
         // The refusals, in their order: there is none for want of room, since no heap has none.
         ensures too_long { IsErrOf result PoolRefusal.TooLong ↔ (cut.part_of self.old len ≡ None) }
-        ensures full { IsErrOf result PoolRefusal.Full ↔ IsSomeAnd (cut.part_of self.old len) (λ i. IsFull (part_at self.old i) len) }
-        ensures room { IfSome (cut.part_of self.old len) (λ i. HasPlace (part_at self.old i) len → (allocated SLI (part_at self.old i).heap len).answer ≢ Err Refusal.NoFit) }
+        ensures full { IsErrOf result PoolRefusal.Full ↔ IsSomeAnd (cut.part_of self.old len) (λ i. IsFull (part_at self.old i).ledger len) }
+        ensures room { IfSome (cut.part_of self.old len) (λ i. HasPlace (part_at self.old i).ledger len → (allocated SLI (part_at self.old i).heap len).answer ≢ Err Refusal.NoFit) }
 
         // The heap of that part allocates, and all others are as they were.
         ensures allocates { IfSome (cut.part_of self.old len) (λ i. Allocates SLI (part_at self.old i) (part_at self.new i) len result) }
@@ -125,7 +131,7 @@ impl<const SLI: u32> Pools<SLI> {
         self.parts[part].allocate(len)
     }
 
-    /// Takes back the block of that name into the heap that it names, as [`TablePool::release`] does.
+    /// Takes back the block of that name into the heap that it names, as [`Ledgered::release`](tlsf_heap::Ledgered::release) does.
     ///
     /// Refused as `Foreign` where the name is of no heap of these, else `Stale` where no live block has that place and serial, else
     /// `Worn` where the tick of the heap is at its last value. Takes no memory.
@@ -148,7 +154,7 @@ impl<const SLI: u32> Pools<SLI> {
         self.parts[part].release(name)
     }
 
-    /// Writes bytes into the payload of the block of that name, from byte `at` of it on, as [`TablePool::write`] does.
+    /// Writes bytes into the payload of the block of that name, from byte `at` of it on, as [`Ledgered::write`](tlsf_heap::Ledgered::write) does.
     ///
     /// Refused as `Foreign` where the name is of no heap of these, else `Stale`, else `Range` where the bytes would go past the end of
     /// the payload. No byte changes then. Takes no memory.
@@ -171,7 +177,7 @@ impl<const SLI: u32> Pools<SLI> {
     }
 
     /// Reads bytes of the payload of the block of that name, from byte `at` of it on, and fills `out` with them, as
-    /// [`TablePool::read`] does.
+    /// [`Ledgered::read`](tlsf_heap::Ledgered::read) does.
     ///
     /// Refused as `Foreign` where the name is of no heap of these, else `Stale`, else `Range` where the bytes would go past the end of
     /// the payload. `out` is then as before. Takes no memory.
@@ -194,7 +200,7 @@ impl<const SLI: u32> Pools<SLI> {
         self.parts[part].read(name, at, out)
     }
 
-    /// What the heap of a part holds, and how well it serves, as [`TablePool::report`] tells. The parts have numbers from 0 on, in the
+    /// What the heap of a part holds, and how well it serves, as [`Ledgered::report`](tlsf_heap::Ledgered::report) tells. The parts have numbers from 0 on, in the
     /// order of the table. None where there is no such part, so that a walk from 0 on meets all. Takes no memory.
     ///
     /// ```text
@@ -217,7 +223,7 @@ impl<const SLI: u32> Pools<SLI> {
     }
 
     /// The block that begins at a place in the heap of a part, None where none does or there is no such part, as
-    /// [`TablePool::block_at`] looks. Takes no memory.
+    /// [`Ledgered::block_at`](tlsf_heap::Ledgered::block_at) looks. Takes no memory.
     ///
     /// ```text
     /// pools.block_at(1, 0)                    // of new pools as above: Some, with a free block of 8,704 words

@@ -4,7 +4,7 @@ use crate::{name, same};
 use std::process::Abort;
 use tlsf_heap::{Heap, Name, Refusal};
 use tlsf_lock::LockedHeap;
-use tlsf_pool::Pool;
+use tlsf_pool::{Pool, PoolCalls};
 
 /// Writes a word at each end of a payload, and tells how many words it was handed.
 fn mark_ends(words: &mut [u64]) -> usize {

@@ -4,8 +4,8 @@ use crate::{name, same};
 use std::process::Abort;
 use tlsf_heap::{Name, OpenFault, Refusal};
 use tlsf_pool::{
-    Kind, Pool, PoolRefusal, cheapest_split, kinds_words, longest_request, most_blocks, most_bytes,
-    pool_region,
+    Kind, Pool, PoolCalls, PoolRefusal, cheapest_split, kinds_words, longest_request, most_blocks,
+    most_bytes, pool_region,
 };
 
 /// The most bytes of a request that some region of level 4 serves.

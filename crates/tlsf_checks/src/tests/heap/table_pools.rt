@@ -4,7 +4,7 @@ use crate::{name, same};
 use std::alloc::Global;
 use std::process::Abort;
 use tlsf_heap::{Name, OpenFault, Refusal};
-use tlsf_pool::{Kind, PoolRefusal, Pools, TablePool};
+use tlsf_pool::{Kind, PoolRefusal, Pools, TablePool, TablePoolCalls};
 
 const SHORT: Kind = Kind { most: 2, len: 16 };
 

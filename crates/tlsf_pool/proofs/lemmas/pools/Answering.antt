@@ -1,22 +1,22 @@
 -- What the clauses of a table's calls say.
-use Rattle.std.proofs.Common.{◌≡◌, ◌≢◌, ℕ, zero, suc, ◌+◌, ◌<◌, ◌≤◌, ◌↔◌, true, false, List, [], ◌∷◌, length, get_or, set, Option, Some, None, Ok, Err, refl, sym, ap, ◌∙◌, subst, inl, inr, arith}
+use Rattle.std.proofs.Common.{◌≡◌, ◌≢◌, ℕ, zero, suc, ◌+◌, ◌<◌, ◌≤◌, ◌↔◌, List, [], ◌∷◌, length, get_or, set, Option, Some, None, Ok, Err, refl, sym, ap, ◌∙◌, subst, inl, inr, arith}
 use Rattle.std.specs.List.{sum}
 use Rattle.std.specs.Prelude.{IsSomeAnd, slice_index}
 use Rattle.std.proofs.lemmas.Bool.{cases_lt}
 use Rattle.tlsf_heap.specs.Blocks.{HeapState, bytes_of, want}
 use Rattle.tlsf_heap.specs.Given.{payload_words_at}
-use Rattle.tlsf_heap.specs.GoodFit.{block_at, fits}
+use Rattle.tlsf_heap.specs.GoodFit.{block_at}
 use Rattle.tlsf_heap.specs.InPlace.{payload_of}
 use Rattle.tlsf_heap.specs.Named.{IsNamed}
 use Rattle.tlsf_heap.specs.Reports.{IsGrant, live_among}
-use Rattle.tlsf_heap.specs.Calls.{Allocate, allocated, last_tick, named, released}
+use Rattle.tlsf_heap.specs.Calls.{Allocate, allocated, named, released}
 use Rattle.tlsf_heap.specs.declared.name.Name.{Name}
 use Rattle.tlsf_heap.specs.declared.refusal.Refusal.TheVariants.{NoFit}
 use Rattle.tlsf_heap.proofs.lemmas.calls.Alter.{payload_is}
 use Rattle.tlsf_heap.proofs.lemmas.laws.NoFit.{no_fit}
 use Rattle.tlsf_pool.specs.laws.Kinds.{AreOfKinds}
 use Rattle.tlsf_pool.proofs.lemmas.laws.Snug.{snug_kept}
-use Rattle.tlsf_pool.specs.pools.Tables.{HasPlace, HoldsOneMore, IsFull, IsTable, TableState, held_of, lengths_in, most_at, row_of}
+use Rattle.tlsf_pool.specs.pools.Tables.{HasPlace, HoldsOneMore, IsFull, IsTable, TableRows, held_of, lengths_in, most_at, row_of}
 use Rattle.tlsf_pool.proofs.lemmas.pools.Counts.{HasOneMore, fit_less, fit_more, held_few, held_length, held_more, held_sum, none, place, row_is, row_within, same_held, this_row}
 use Rattle.tlsf_pool.proofs.lemmas.pools.TableKept.{given_small, given_table, taken_fit, taken_lengths, taken_table}
 use Rattle.tlsf_pool.proofs.lemmas.laws.PlannedCalls.{live_lengths}
@@ -59,48 +59,44 @@ same_but_one (x ∷ xs) (y ∷ ys) (suc i) same =
     let rest : xs ≡ ys = same_but_one xs ys i cc in
     cc
 
-module _ (sli : ℕ) (t : TableState) (is : IsTable sli t) where
+module _ (sli : ℕ) (h : HeapState) (t : TableRows) (is : IsTable sli h t) where
   -- a request has a place just where the law lets a program make it
-  pub planned : (len : ℕ) → HasPlace t len → AreOfKinds t.kinds (len ∷ lengths_in t.heap.blocks)
+  pub planned : (len : ℕ) → HasPlace t len → AreOfKinds t.kinds (len ∷ lengths_in h.blocks)
   planned len has =
       let row = some_of (λ (row : ℕ). slice_index t.held row < most_at t.kinds row) (row_of t.kinds len) has in
       let at = row_is t.kinds len row.0 row.1 in
       let few : get_or t.held row.0 0 < (get_or t.kinds row.0 none).most = row.2 in
-      let has : HasOneMore t.kinds (held_of t.kinds (lengths_in t.heap.blocks)) row.0 = subst (λ (held : List ℕ). HasOneMore t.kinds held row.0) is.held (at.1, few) in
-      fit_more t.kinds len (lengths_in t.heap.blocks) is.fit (subst (HasOneMore t.kinds (held_of t.kinds (lengths_in t.heap.blocks))) at.0 has)
+      let has : HasOneMore t.kinds (held_of t.kinds (lengths_in h.blocks)) row.0 = subst (λ (held : List ℕ). HasOneMore t.kinds held row.0) is.held (at.1, few) in
+      fit_more t.kinds len (lengths_in h.blocks) is.fit (subst (HasOneMore t.kinds (held_of t.kinds (lengths_in h.blocks))) at.0 has)
 
-  pub has_place : (len : ℕ) → AreOfKinds t.kinds (len ∷ lengths_in t.heap.blocks) → HasPlace t len
+  pub has_place : (len : ℕ) → AreOfKinds t.kinds (len ∷ lengths_in h.blocks) → HasPlace t len
   has_place len fit =
-      let has = (fit_less t.kinds len (lengths_in t.heap.blocks) fit).1 in
+      let has = (fit_less t.kinds len (lengths_in h.blocks) fit).1 in
       let own : HasOneMore t.kinds t.held (place t.kinds len) = subst (λ (held : List ℕ). HasOneMore t.kinds held (place t.kinds len)) (sym is.held) has in
       of_some (λ (row : ℕ). slice_index t.held row < most_at t.kinds row) (row_of t.kinds len) (place t.kinds len) (row_within t.kinds len has.0) own.1
 
-  pub is_planned : (len : ℕ) → HasPlace t len ↔ AreOfKinds t.kinds (len ∷ lengths_in t.heap.blocks)
+  pub is_planned : (len : ℕ) → HasPlace t len ↔ AreOfKinds t.kinds (len ∷ lengths_in h.blocks)
   is_planned len = (planned len, has_place len)
 
   -- a request with a place finds room
-  pub room : (len : ℕ) → HasPlace t len → (allocated sli t.heap len).answer ≢ Err NoFit
-  room len has = has_room sli t is len (planned len has)
+  pub room : (len : ℕ) → HasPlace t len → (allocated sli h len).answer ≢ Err NoFit
+  room len has = has_room sli h t is len (planned len has)
 
   -- and is no longer than the grant
-  pub granted : (grant : ℕ) → IsGrant sli t.heap.blocks grant → (len : ℕ) → HasPlace t len → len ≤ grant
-  granted grant served len has = served.greatest len (λ empty. room len has ((no_fit sli t.heap len).1 empty))
+  pub granted : (grant : ℕ) → IsGrant sli h.blocks grant → (len : ℕ) → HasPlace t len → len ≤ grant
+  granted grant served len has = served.greatest len (λ empty. room len has ((no_fit sli h len).1 empty))
 
   -- as many blocks are live as are held
-  pub live_held : length (live_among t.heap.blocks) ≡ sum t.held
-  live_held = live_lengths t.heap.blocks (lengths_in t.heap.blocks) (λ f. lengths_load f t.heap.blocks) ∙ (sym (held_sum t.kinds (lengths_in t.heap.blocks) is.fit) ∙ ap sum (sym is.held))
+  pub live_held : length (live_among h.blocks) ≡ sum t.held
+  live_held = live_lengths h.blocks (lengths_in h.blocks) (λ f. lengths_load f h.blocks) ∙ (sym (held_sum t.kinds (lengths_in h.blocks) is.fit) ∙ ap sum (sym is.held))
 
   -- no more are held of a row than may be
   pub few_held : (row : ℕ) → slice_index t.held row ≤ most_at t.kinds row
-  few_held row = subst (λ (held : List ℕ). get_or held row 0 ≤ (get_or t.kinds row none).most) (sym is.held) (held_few t.kinds (lengths_in t.heap.blocks) is.fit row)
+  few_held row = subst (λ (held : List ℕ). get_or held row 0 ≤ (get_or t.kinds row none).most) (sym is.held) (held_few t.kinds (lengths_in h.blocks) is.fit row)
 
   -- each row has a count
   pub as_long : length t.held ≡ length t.kinds
-  as_long = ap length is.held ∙ held_length t.kinds (lengths_in t.heap.blocks)
-
-  -- where a heap refuses a request with a place, its tick is at its last value
-  pub worn : (len : ℕ) → ((¬ (fits sli (want len) t.heap.blocks ≡ []) × ¬ (t.heap.tick ≡ last_tick)) → false ≡ true) → HasPlace t len × ¬ (t.heap.tick ≡ last_tick) → false ≡ true
-  worn len refused h = refused (λ empty. room len h.0 ((no_fit sli t.heap len).1 empty), h.1)
+  as_long = ap length is.held ∙ held_length t.kinds (lengths_in h.blocks)
 
   -- the row of a length has a count
   pub row_held : (len row : ℕ) → row_of t.kinds len ≡ Some row → row < length t.held
@@ -113,43 +109,41 @@ module _ (sli : ℕ) (t : TableState) (is : IsTable sli t) where
       (elim (cases_lt (slice_index t.held row) (most_at t.kinds row)) [ inl less ↦ absurd (not less) | inr above ↦ omega (arith, above, few_held row) ])
 
   -- an allocate in a row where fewer are held than may be leaves a table
-  pub given_at : (row len : ℕ) (name : Name) (left : HeapState) (held : List ℕ) (touches : ℕ) → row_of t.kinds len ≡ Some row → slice_index t.held row < most_at t.kinds row
-      → held ≡ set t.held row (slice_index t.held row + 1) → Ok name ≡ (allocated sli t.heap len).answer → left ≡ (allocated sli t.heap len).heap
-      → IsTable sli (record { heap = left; kinds = t.kinds; held = held; touches = touches })
-  given_at row len name left held touches found few counts answer heap =
-      given_table sli t len name left held touches is (planned len (of_some (λ (row : ℕ). slice_index t.held row < most_at t.kinds row) (row_of t.kinds len) row found few))
-      (subst (λ (r : ℕ). held ≡ set t.held r (slice_index t.held r + 1)) (row_is t.kinds len row found).0 counts) answer heap
+  pub given_at : (row len : ℕ) (name : Name) (held : List ℕ) → row_of t.kinds len ≡ Some row → slice_index t.held row < most_at t.kinds row
+      → held ≡ set t.held row (slice_index t.held row + 1) → Ok name ≡ (allocated sli h len).answer → IsTable sli (allocated sli h len).heap (record { kinds = t.kinds; held = held })
+  given_at row len name held found few counts answer =
+      given_table sli h t is len name held (planned len (of_some (λ (row : ℕ). slice_index t.held row < most_at t.kinds row) (row_of t.kinds len) row found few))
+      (subst (λ (r : ℕ). held ≡ set t.held r (slice_index t.held r + 1)) (row_is t.kinds len row found).0 counts) answer
 
   -- before a release that was done, its block counted for a row
-  pub take_one : (name : Name) (len : ℕ) → len ≡ length (payload_of t.heap name) → Ok tt ≡ (released t.heap name).answer → IsSomeAnd (row_of t.kinds len) (λ (row : ℕ). (row < length t.held) × (0 < slice_index t.held row))
+  pub take_one : (name : Name) (len : ℕ) → len ≡ length (payload_of h name) → Ok tt ≡ (released h name).answer → IsSomeAnd (row_of t.kinds len) (λ (row : ℕ). (row < length t.held) × (0 < slice_index t.held row))
   take_one name len same answer =
-      let left : List ℕ = lengths_in (released t.heap name).heap.blocks in
-      let n : ℕ = length (payload_of t.heap name) in
-      let has = (fit_less t.kinds n left (taken_fit sli t name is answer)).1 in
+      let left : List ℕ = lengths_in (released h name).heap.blocks in
+      let n : ℕ = length (payload_of h name) in
+      let has = (fit_less t.kinds n left (taken_fit sli h t is name answer)).1 in
       let p : ℕ = place t.kinds n in
-      let counts : t.held ≡ set (held_of t.kinds left) p (get_or (held_of t.kinds left) p 0 + 1) = is.held ∙ (sym (same_held t.kinds (n ∷ left) (lengths_in t.heap.blocks) (taken_lengths t.heap name answer)) ∙ held_more t.kinds n left) in
+      let counts : t.held ≡ set (held_of t.kinds left) p (get_or (held_of t.kinds left) p 0 + 1) = is.held ∙ (sym (same_held t.kinds (n ∷ left) (lengths_in h.blocks) (taken_lengths h name answer)) ∙ held_more t.kinds n left) in
       let within : p < length (held_of t.kinds left) = subst (λ (m : ℕ). p < m) (sym (held_length t.kinds left)) has.0 in
       let here : get_or t.held p 0 ≡ get_or (held_of t.kinds left) p 0 + 1 = ap (λ (xs : List ℕ). get_or xs p 0) counts ∙ set_here (held_of t.kinds left) p (get_or (held_of t.kinds left) p 0 + 1) within in
       subst (λ (m : ℕ). IsSomeAnd (row_of t.kinds m) (λ (row : ℕ). (row < length t.held) × (0 < slice_index t.held row))) (sym same)
       (of_some (λ (row : ℕ). (row < length t.held) × (0 < slice_index t.held row)) (row_of t.kinds n) p (row_within t.kinds n has.0) (subst (λ (m : ℕ). p < m) (sym as_long) has.0, omega (arith, here)))
 
   -- after one fewer is held of that row it is a table
-  pub taken_at : (name : Name) (len : ℕ) (left : HeapState) (held : List ℕ) (touches : ℕ) → len ≡ length (payload_of t.heap name) → HoldsOneMore t.kinds len held t.held
-      → Ok tt ≡ (released t.heap name).answer → left ≡ (released t.heap name).heap → IsTable sli (record { heap = left; kinds = t.kinds; held = held; touches = touches })
-  taken_at name len left held touches same holds answer heap =
-      let rest : List ℕ = lengths_in (released t.heap name).heap.blocks in
-      let n : ℕ = length (payload_of t.heap name) in
+  pub taken_at : (name : Name) (len : ℕ) (held : List ℕ) → len ≡ length (payload_of h name) → HoldsOneMore t.kinds len held t.held → Ok tt ≡ (released h name).answer
+      → IsTable sli (released h name).heap (record { kinds = t.kinds; held = held })
+  taken_at name len held same holds answer =
+      let rest : List ℕ = lengths_in (released h name).heap.blocks in
+      let n : ℕ = length (payload_of h name) in
       let own = subst (λ (m : ℕ). HoldsOneMore t.kinds m held t.held) same holds in
       let row = some_of (λ (row : ℕ). t.held ≡ set held row (slice_index held row + 1)) (row_of t.kinds n) own in
       let counts : t.held ≡ set (held_of t.kinds rest) (place t.kinds n) (get_or (held_of t.kinds rest) (place t.kinds n) 0 + 1) =
-      is.held ∙ (sym (same_held t.kinds (n ∷ rest) (lengths_in t.heap.blocks) (taken_lengths t.heap name answer)) ∙ held_more t.kinds n rest) in
+      is.held ∙ (sym (same_held t.kinds (n ∷ rest) (lengths_in h.blocks) (taken_lengths h name answer)) ∙ held_more t.kinds n rest) in
       let at : t.held ≡ set held (place t.kinds n) (get_or held (place t.kinds n) 0 + 1) = subst (λ (r : ℕ). t.held ≡ set held r (get_or held r 0 + 1)) (row_is t.kinds n row.0 row.1).0 row.2 in
-      taken_table sli t name left held touches is answer heap (same_but_one held (held_of t.kinds rest) (place t.kinds n) (sym at ∙ counts))
+      taken_table sli h t is name held answer (same_but_one held (held_of t.kinds rest) (place t.kinds n) (sym at ∙ counts))
 
   -- what the heap gave is small
-  pub given_words : (n : ℕ) (name : Name) (left : HeapState) → Ok name ≡ (allocated sli t.heap n).answer → left ≡ (allocated sli t.heap n).heap → payload_words_at (named name left.blocks) ≤ want n
-  given_words n name left answer heap =
-      subst (λ (h : HeapState). payload_words_at (named name h.blocks) ≤ want n) (sym heap) (given_small sli t.heap n name is.lawful (snug_kept sli t.heap (Allocate n) is.snug) answer)
+  pub given_words : (n : ℕ) (name : Name) → Ok name ≡ (allocated sli h n).answer → payload_words_at (named name (allocated sli h n).heap.blocks) ≤ want n
+  given_words n name answer = given_small sli h n name is.lawful (snug_kept sli h (Allocate n) is.snug) answer
 
 -- the bytes of the block of a name
 pub len_is : (h : HeapState) (name : Name) (len : ℕ) (check : (is_named : IsNamed h name) × (len ≡ length (bytes_of (block_at h.blocks is_named.1.0)))) → len ≡ length (payload_of h name)

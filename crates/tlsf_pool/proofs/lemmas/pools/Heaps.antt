@@ -1,7 +1,7 @@
 -- Several heaps stay heaps for the parts of a table, whichever of them a call changes.
 use Rattle.std.proofs.Common.{◌≡◌, ◌≢◌, ℕ, zero, suc, ◌+◌, ◌-◌, ◌<◌, ◌≤◌, ◌↔◌, ◌&&◌, Bool, true, false, cond, List, [], ◌∷◌, length, get_or, set, nat_le, nat_lt, Option, Some, None, Result, Ok, Err, refl, sym, ap, ◌∙◌, subst, inl, inr, arith}
 use Rattle.std.specs.List.{AllByRecursion}
-use Rattle.std.specs.Prelude.{IfSome, IsSomeAnd, OnErr, OnOk, is_some}
+use Rattle.std.specs.Prelude.{IfSome, IsOk, IsSomeAnd, OnErr, OnOk, is_some}
 use Rattle.std.proofs.lemmas.Bool.{cases_lt, false≢true, le-ltb, lt-ltb}
 use Rattle.std.proofs.lemmas.List.Sums.{position_or_len_is}
 use Rattle.std.proofs.lemmas.Bool.Decides.{nat_tests}
@@ -11,7 +11,8 @@ use Rattle.tlsf_heap.specs.Calls.{Allocate, Release, Write, allocated, released,
 use Rattle.tlsf_heap.specs.declared.name.Name.{Name}
 use Rattle.tlsf_heap.proofs.lemmas.calls.Outcomes.{ids}
 use Rattle.tlsf_pool.specs.declared.pools.pool_refusal.PoolRefusal.{PoolRefusal}
-use Rattle.tlsf_pool.specs.pools.Tables.{IsTable, SameTable, TableState, row_of}
+use Rattle.tlsf_heap.specs.ledger.Ledgers.{SameLedger}
+use Rattle.tlsf_pool.specs.pools.Tables.{IsTabled, TableState, row_of}
 use Rattle.tlsf_pool.specs.pools.Parts.{ArePools, OnlyPart, PoolsState, named_in, no_part, part_at, part_in}
 use Rattle.tlsf_pool.proofs.lemmas.pools.Counts.{this_row}
 
@@ -57,16 +58,16 @@ pub only_part : (p : PoolsState) (i : ℕ) (t : TableState) → i < length p.par
 only_part p i t within = record { id = refl; parts = ap (λ (x : TableState). set p.parts i x) (new_part p.id i p.parts t within) }
 
 -- so all are heaps for their tables, as before
-pub kept : (sli : ℕ) (p : PoolsState) (i : ℕ) (t : TableState) → ArePools sli p → IsTable sli t → t.heap.id ≡ (part_at p i).heap.id → ArePools sli (record { id = p.id; parts = set p.parts i t })
+pub kept : (sli : ℕ) (p : PoolsState) (i : ℕ) (t : TableState) → ArePools sli p → IsTabled sli t → t.heap.id ≡ (part_at p i).heap.id → ArePools sli (record { id = p.id; parts = set p.parts i t })
 kept sli p i t are is same = record {
-  tables = all_set (IsTable sli) p.parts i t are.tables is;
+  tables = all_set (IsTabled sli) p.parts i t are.tables is;
   numbers = λ j within. number_set p.parts i j t no_part same ∙ are.numbers j (subst (λ (n : ℕ). j < n) (length_set p.parts i t) within);
   few = subst (λ (n : ℕ). n ≤ 8) (sym (length_set p.parts i t)) are.few;
 }
 
 -- ---- a heap keeps its number
 
-pub given_number : (sli : ℕ) (old new : TableState) (len : ℕ) (answer : Result Name PoolRefusal) → OnOk answer (new.heap ≡ (allocated sli old.heap len).heap) → OnErr answer (SameTable old new) → new.heap.id ≡ old.heap.id
+pub given_number : (sli : ℕ) (old new : TableState) (len : ℕ) (answer : Result Name PoolRefusal) → OnOk answer (new.heap ≡ (allocated sli old.heap len).heap) → OnErr answer (SameLedger old new) → new.heap.id ≡ old.heap.id
 given_number sli old new len (Ok name) ok err = ap (λ (h : HeapState). h.id) ok ∙ ids sli old.heap (Allocate len)
 given_number sli old new len (Err why) ok err = ap (λ (h : HeapState). h.id) err.heap
 
@@ -76,6 +77,12 @@ taken_number old new name is = ap (λ (h : HeapState). h.id) is ∙ ids 4 old.he
 pub written_number : (old new : TableState) (name : Name) (at : ℕ) (bytes : List ℕ) → new.heap ≡ (written old.heap name at bytes).heap → new.heap.id ≡ old.heap.id
 written_number old new name at bytes is = ap (λ (h : HeapState). h.id) is ∙ ids 4 old.heap (Write name at bytes)
 
+-- ---- an allocate by its answer
+
+pub on_ok : {A B : Type 0} (P : Type 0) (answer : Result Name PoolRefusal) → IsOk answer ↔ (A × B) → (A → P) → OnOk answer P
+on_ok P (Ok name) is p = p (is.0 refl).0
+on_ok P (Err why) is p = tt
+
 -- ---- which part
 
 some_row : (o : Option ℕ) → is_some o ≡ true → o ≢ None
@@ -83,10 +90,10 @@ some_row None is = λ e. false≢true is
 some_row (Some row) is = λ e. cc
 
 -- the part for which a length counts is there, and has a row for it
-pub part_has : (parts : List TableState) (len i : ℕ) → part_in parts len ≡ Some i → (i < length parts) × (row_of (get_or parts i no_part).kinds len ≢ None)
+pub part_has : (parts : List TableState) (len i : ℕ) → part_in parts len ≡ Some i → (i < length parts) × (row_of (get_or parts i no_part).ledger.kinds len ≢ None)
 part_has parts len i is =
-    let found = position-Some (λ t. is_some (row_of t.kinds len)) parts i no_part is in
-    (found.0, some_row (row_of (get_or parts i no_part).kinds len) found.1)
+    let found = position-Some (λ t. is_some (row_of t.ledger.kinds len)) parts i no_part is in
+    (found.0, some_row (row_of (get_or parts i no_part).ledger.kinds len) found.1)
 
 pub named_within : (id : ℕ) (parts : List TableState) (name : Name) (i : ℕ) → named_in id parts name ≡ Some i → (i < length parts) × (id + i ≡ name.heap)
 named_within id parts name i is = at (nat_le id name.heap) (nat_lt (name.heap - id) (length parts)) refl refl is
@@ -124,28 +131,28 @@ module _ (p : PoolsState) (part : ℕ) (old new : TableState) (o : Option ℕ) (
       if_part (λ i. R (part_at p i) (part_at left i)) o part found
       (subst (λ (t : TableState). R (part_at p part) t) (new_part p.id part p.parts new within) (subst (λ (t : TableState). R t new) (is_part p part old within is) here))
 
-  pub lift_kept : (sli : ℕ) → ArePools sli p → IsTable sli new → new.heap.id ≡ old.heap.id → ArePools sli left
+  pub lift_kept : (sli : ℕ) → ArePools sli p → IsTabled sli new → new.heap.id ≡ old.heap.id → ArePools sli left
   lift_kept sli are table same = kept sli p part new are table (same ∙ ap (λ (t : TableState). t.heap.id) (is_part p part old within is))
 
 -- ---- the search for a part
 
 module _ (parts : List TableState) (len at : ℕ) where
   abbrev pub Has : ℕ → Bool → Type 0
-  Has i b = is_some (row_of (get_or parts i no_part).kinds len) ≡ b
+  Has i b = is_some (row_of (get_or parts i no_part).ledger.kinds len) ≡ b
 
   -- whether the part that was read has a row
-  pub has_at : (t : TableState) (b : Bool) → at < length parts → t ≡ get_or parts at t → is_some (row_of t.kinds len) ≡ b → Has at b
-  has_at t b within is serves = subst (λ (x : TableState). is_some (row_of x.kinds len) ≡ b) (is ∙ any_else parts at t no_part within) serves
+  pub has_at : (t : TableState) (b : Bool) → at < length parts → t ≡ get_or parts at t → is_some (row_of t.ledger.kinds len) ≡ b → Has at b
+  has_at t b within is serves = subst (λ (x : TableState). is_some (row_of x.ledger.kinds len) ≡ b) (is ∙ any_else parts at t no_part within) serves
 
   pub none_before : ((k : ℕ) → k < at → Has k false) → Has at false → (k : ℕ) → k < at + 1 → Has k false
   none_before before here k below = elim (cases_lt k at) [ inl less ↦ before k less | inr above ↦ subst (λ (i : ℕ). Has i false) (omega (arith, below, above)) here ]
 
   pub found_at : at < length parts → ((k : ℕ) → k < at → Has k false) → Has at true → part_in parts len ≡ Some at
   found_at within before here =
-      ap (λ (i : ℕ). cond {A = Option ℕ} (nat_lt i (length parts)) (Some i) None) (position_or_len_is (λ t. is_some (row_of t.kinds len)) parts at no_part (omega (arith, within)) before (λ _. here))
+      ap (λ (i : ℕ). cond {A = Option ℕ} (nat_lt i (length parts)) (Some i) None) (position_or_len_is (λ t. is_some (row_of t.ledger.kinds len)) parts at no_part (omega (arith, within)) before (λ _. here))
       ∙ ap (λ (c : Bool). cond {A = Option ℕ} c (Some at) None) (lt-ltb at (length parts) within)
 
   pub found_none : at ≡ length parts → ((k : ℕ) → k < at → Has k false) → part_in parts len ≡ None
   found_none end before =
-      ap (λ (i : ℕ). cond {A = Option ℕ} (nat_lt i (length parts)) (Some i) None) (position_or_len_is (λ t. is_some (row_of t.kinds len)) parts at no_part (omega (arith, end)) before (λ within. absurd (omega (arith, within, end))))
+      ap (λ (i : ℕ). cond {A = Option ℕ} (nat_lt i (length parts)) (Some i) None) (position_or_len_is (λ t. is_some (row_of t.ledger.kinds len)) parts at no_part (omega (arith, end)) before (λ within. absurd (omega (arith, within, end))))
       ∙ ap (λ (c : Bool). cond {A = Option ℕ} c (Some at) None) (le-ltb at (length parts) (omega (arith, end)))

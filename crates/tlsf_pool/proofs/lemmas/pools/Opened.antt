@@ -7,7 +7,7 @@ use Rattle.tlsf_pool.specs.laws.Kinds.{kinds_words}
 use Rattle.tlsf_pool.specs.declared.kind.Kind.{Kind}
 use Rattle.tlsf_pool.specs.sizes.Splits.{IsLeast, IsPart, HasWords, cut_by, parts_of}
 use Rattle.tlsf_pool.specs.declared.sizes.split.Split.{Split}
-use Rattle.tlsf_pool.specs.pools.Tables.{IsTable, TableState}
+use Rattle.tlsf_pool.specs.pools.Tables.{IsTabled, TableState}
 use Rattle.tlsf_pool.specs.pools.Parts.{AreNew, ArePools, IsNew, no_part}
 
 module _ (sli first : ℕ) where
@@ -58,7 +58,7 @@ pub record OpenedSoFar (sli id first : ℕ) (all : List (List Kind)) (left : ℕ
   pub done : List (List Kind)
   pub whole : all ≡ done ++ cut_by left lens rest
   pub are : AreNew sli id first done parts
-  pub tables : AllByRecursion (IsTable sli) parts
+  pub tables : AllByRecursion (IsTabled sli) parts
   pub few : length rest ≤ 64
   pub cut : AllByRecursion (IsPart sli) (cut_by left lens rest)
 
@@ -67,7 +67,7 @@ module _ (sli id first : ℕ) (all : List (List Kind)) (lens : List ℕ) (rest :
   pub next_part : IsPart sli (take (min (get_or lens k 0) (length rest)) rest)
   next_part = subst (IsPart sli) (sym (take_least (get_or lens k 0) rest)) so_far.cut.0
 
-  pub opened_next : (t : TableState) → IsNew sli (id + length parts) first (take (min (get_or lens k 0) (length rest)) rest) t → IsTable sli t
+  pub opened_next : (t : TableState) → IsNew sli (id + length parts) first (take (min (get_or lens k 0) (length rest)) rest) t → IsTabled sli t
       → OpenedSoFar sli id first all k lens (drop (min (get_or lens k 0) (length rest)) rest) (parts ++ t ∷ [])
   opened_next t new is =
       let len : ℕ = get_or lens k 0 in
@@ -78,7 +78,7 @@ module _ (sli id first : ℕ) (all : List (List Kind)) (lens : List ℕ) (rest :
         done = so_far.done ++ take len rest ∷ [];
         whole = so_far.whole ∙ sym (append_assoc so_far.done (take len rest ∷ []) (cut_by k lens (drop len rest)));
         are = new_more sli first id so_far.done parts (take len rest) t so_far.are placed;
-        tables = all_more (IsTable sli) parts t so_far.tables is;
+        tables = all_more (IsTabled sli) parts t so_far.tables is;
         few = fewer;
         cut = so_far.cut.1;
       } in
@@ -93,8 +93,8 @@ module _ (sli id first : ℕ) (all : List (List Kind)) (lens : List ℕ) (rest :
   pub part_words : HasWords sli (take len rest)
   part_words = (subst (λ (n : ℕ). IsPart sli (take n rest)) (sym least) (next_part sli id first all lens rest parts (heaps - 1 - at) one_left)).1
 
-  pub opened_step : (t : TableState) (left : List Kind) (now : List TableState) → length parts ≡ at → t.heap ≡ opened (id + at) (kinds_words sli (take len rest)) first → t.kinds ≡ take len rest → t.held ≡ replicate (length (take len rest)) 0
-      → IsTable sli t → left ≡ drop len rest → now ≡ parts ++ t ∷ [] → OpenedSoFar sli id first all (heaps - (at + 1)) lens left now
+  pub opened_step : (t : TableState) (left : List Kind) (now : List TableState) → length parts ≡ at → t.heap ≡ opened (id + at) (kinds_words sli (take len rest)) first → t.ledger.kinds ≡ take len rest → t.ledger.held ≡ replicate (length (take len rest)) 0
+      → IsTabled sli t → left ≡ drop len rest → now ≡ parts ++ t ∷ [] → OpenedSoFar sli id first all (heaps - (at + 1)) lens left now
   opened_step t left now many heap kinds held table is_left is_now =
       let new : IsNew sli (id + at) first (take len rest) t = record { heap = heap; kinds = kinds; held = held } in
       let placed = subst (λ (n : ℕ). IsNew sli (id + n) first (take len rest) t) (sym many) new in
@@ -107,7 +107,7 @@ module _ (sli id first : ℕ) (all : List (List Kind)) (lens : List ℕ) (rest :
       (subst (λ (ts : List TableState). OpenedSoFar sli id first all (heaps - (at + 1)) lens (drop len rest) ts) (sym is_now) here)
 
 -- new heaps are those of a table
-pub new_pools : (sli id first : ℕ) (kinds : List Kind) (split : Split) (parts : List TableState) → IsLeast sli 8 kinds split → AreNew sli id first (parts_of split kinds) parts → AllByRecursion (IsTable sli) parts
+pub new_pools : (sli id first : ℕ) (kinds : List Kind) (split : Split) (parts : List TableState) → IsLeast sli 8 kinds split → AreNew sli id first (parts_of split kinds) parts → AllByRecursion (IsTabled sli) parts
     → ArePools sli (record { id = id; parts = parts })
 new_pools sli id first kinds split parts is are tables = record {
   tables = tables;

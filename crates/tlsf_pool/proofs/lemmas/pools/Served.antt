@@ -2,12 +2,12 @@
 use Rattle.std.proofs.Common.{◌≡◌, ◌≢◌, ℕ, ◌+◌, ◌*◌, ◌≤◌, Bool, true, false, max, List, [], ◌∷◌, length, map, Err, refl, ap, arith}
 use Rattle.tlsf_class.specs.Classes.{IsLevel, most_words}
 use Rattle.tlsf_class.proofs.TwoLevels.{by_level}
-use Rattle.tlsf_heap.specs.Blocks.{Block, Live, Free, want}
+use Rattle.tlsf_heap.specs.Blocks.{Block, HeapState, Live, Free, want}
 use Rattle.tlsf_heap.specs.Calls.{allocated}
 use Rattle.tlsf_heap.specs.declared.refusal.Refusal.TheVariants.{NoFit}
 use Rattle.tlsf_pool.specs.laws.Kinds.{AreOfKinds, are_fours, count_in, used, words_with, kinds_words}
 use Rattle.tlsf_pool.specs.declared.kind.Kind.{Kind}
-use Rattle.tlsf_pool.specs.pools.Tables.{IsTable, TableState, lengths_in}
+use Rattle.tlsf_pool.specs.pools.Tables.{IsTable, TableRows, lengths_in}
 use Rattle.tlsf_pool.proofs.lemmas.laws.Ledgers.{sum_of}
 use Rattle.tlsf_pool.proofs.lemmas.laws.Loads.{load}
 use Rattle.tlsf_pool.proofs.lemmas.laws.ModestCalls.{InPool}
@@ -32,17 +32,17 @@ words_least sli kinds = at (are_fours kinds) refl
     at true fours = omega (arith, kinds_of_fours sli kinds fours)
     at false more = omega (arith, kinds_of_more sli kinds more, best_least 4 (map (words_with sli kinds) (used kinds)))
 
-pub four_words : (sli : ℕ) (t : TableState) → IsTable sli t → are_fours t.kinds ≡ true → max 4 (count_in t.kinds * 4) ≤ t.heap.words
-four_words sli t is fours = omega (arith, is.words, kinds_of_fours sli t.kinds fours)
+pub four_words : (sli : ℕ) (h : HeapState) (t : TableRows) → IsTable sli h t → are_fours t.kinds ≡ true → max 4 (count_in t.kinds * 4) ≤ h.words
+four_words sli h t is fours = omega (arith, is.words, kinds_of_fours sli t.kinds fours)
 
-pub in_pool : (sli : ℕ) (t : TableState) → IsTable sli t → are_fours t.kinds ≡ true → InPool t.heap.words 7 t.heap
-in_pool sli t is fours = record { lawful = is.lawful; words_are = refl; small = (is.fours fours).0; fours = λ _. (is.fours fours).1 }
+pub in_pool : (sli : ℕ) (h : HeapState) (t : TableRows) → IsTable sli h t → are_fours t.kinds ≡ true → InPool h.words 7 h
+in_pool sli h t is fours = record { lawful = is.lawful; words_are = refl; small = (is.fours fours).0; fours = λ _. (is.fours fours).1 }
 
-pub has_room : (sli : ℕ) (t : TableState) → IsTable sli t → (n : ℕ) → AreOfKinds t.kinds (n ∷ lengths_in t.heap.blocks) → (allocated sli t.heap n).answer ≢ Err NoFit
-has_room sli t is n fit = at (are_fours t.kinds) refl
+pub has_room : (sli : ℕ) (h : HeapState) (t : TableRows) → IsTable sli h t → (n : ℕ) → AreOfKinds t.kinds (n ∷ lengths_in h.blocks) → (allocated sli h n).answer ≢ Err NoFit
+has_room sli h t is n fit = at (are_fours t.kinds) refl
   where
-    at : (c : Bool) → are_fours t.kinds ≡ c → (allocated sli t.heap n).answer ≢ Err NoFit
+    at : (c : Bool) → are_fours t.kinds ≡ c → (allocated sli h n).answer ≢ Err NoFit
     at true fours =
-        let short = is_short t.kinds t.heap.blocks (lengths_in t.heap.blocks) n fours (λ f. lengths_load f t.heap.blocks) fit in
-        modest.has_room sli is.level t.heap.words (count_in t.kinds) 8 (four_class sli is.level) (four_words sli t is fours) t.heap n (in_pool sli t is fours) short.0 short.1
-    at false more = holes_room sli is.level t.heap t.kinds (lengths_in t.heap.blocks) n is.lawful is.snug is.classes (λ f. lengths_load f t.heap.blocks) fit (omega (arith, is.words, kinds_of_more sli t.kinds more))
+        let short = is_short t.kinds h.blocks (lengths_in h.blocks) n fours (λ f. lengths_load f h.blocks) fit in
+        modest.has_room sli is.level h.words (count_in t.kinds) 8 (four_class sli is.level) (four_words sli h t is fours) h n (in_pool sli h t is fours) short.0 short.1
+    at false more = holes_room sli is.level h t.kinds (lengths_in h.blocks) n is.lawful is.snug is.classes (λ f. lengths_load f h.blocks) fit (omega (arith, is.words, kinds_of_more sli t.kinds more))

@@ -26,7 +26,7 @@ use Rattle.tlsf_pool.proofs.lemmas.laws.ModestCalls as modest
 use Rattle.tlsf_pool.proofs.lemmas.laws.Names.{same_self}
 use Rattle.tlsf_pool.proofs.lemmas.laws.PlannedCalls.{is_short}
 use Rattle.tlsf_pool.proofs.lemmas.laws.Snug.{snug_kept}
-use Rattle.tlsf_pool.specs.pools.Tables.{IsTable, TableState, held_of, lengths_in}
+use Rattle.tlsf_pool.specs.pools.Tables.{IsTable, TableRows, held_of, lengths_in}
 use Rattle.tlsf_pool.proofs.lemmas.pools.Counts.{SameTotals, same_fit, same_held, held_none, fit_none, fit_less, held_more, place}
 use Rattle.tlsf_pool.proofs.lemmas.pools.Served.{lengths_load, four_class, four_words, in_pool}
 
@@ -54,10 +54,10 @@ written_lengths h name at bytes = by_written (λ o. SameTotals (lengths_in h.blo
 
 -- ---- a new table
 
-pub new_table : (sli id first touches : ℕ) (kinds : List Kind) (held : List ℕ) (h : HeapState) → IsLevel sli → AllByRecursion (HasClass sli) kinds → length kinds ≤ 64 → held ≡ replicate (length kinds) 0
-    → IsLawful h → h ≡ opened id (kinds_words sli kinds) first → IsTable sli (record { heap = h; kinds = kinds; held = held; touches = touches })
-new_table sli id first touches kinds held h level classes few none lawful is =
-    subst (λ (x : HeapState). IsLawful x → IsTable sli (record { heap = x; kinds = kinds; held = held; touches = touches })) (sym is) (λ lawful. record {
+pub new_table : (sli id first : ℕ) (kinds : List Kind) (held : List ℕ) (h : HeapState) → IsLevel sli → AllByRecursion (HasClass sli) kinds → length kinds ≤ 64 → held ≡ replicate (length kinds) 0
+    → IsLawful h → h ≡ opened id (kinds_words sli kinds) first → IsTable sli h (record { kinds = kinds; held = held })
+new_table sli id first kinds held h level classes few none lawful is =
+    subst (λ (x : HeapState). IsLawful x → IsTable sli x (record { kinds = kinds; held = held })) (sym is) (λ lawful. record {
       level = level;
       lawful = lawful;
       words = refl;
@@ -69,61 +69,53 @@ new_table sli id first touches kinds held h level classes few none lawful is =
       fours = λ _. (((λ f. absurd (false≢true (sym f))), tt), (refl, tt));
     }) lawful
 
-module _ (sli : ℕ) where
+module _ (sli : ℕ) (h : HeapState) (t : TableRows) (is : IsTable sli h t) where
   -- after a call that leaves lengths which fit the table
-  after : (t : TableState) (call : Call) (held : List ℕ) (touches : ℕ) → IsTable sli t → AreOfKinds t.kinds (lengths_in (answered sli t.heap call).1.blocks)
-      → held ≡ held_of t.kinds (lengths_in (answered sli t.heap call).1.blocks) → (are_fours t.kinds ≡ true → IsModest (count_in t.kinds) 8 (live_count t.heap) call)
-      → IsTable sli (record { heap = (answered sli t.heap call).1; kinds = t.kinds; held = held; touches = touches })
-  after t call held touches is fit counts modestly = record {
+  after : (call : Call) (held : List ℕ) → AreOfKinds t.kinds (lengths_in (answered sli h call).1.blocks)
+      → held ≡ held_of t.kinds (lengths_in (answered sli h call).1.blocks) → (are_fours t.kinds ≡ true → IsModest (count_in t.kinds) 8 (live_count h) call)
+      → IsTable sli (answered sli h call).1 (record { kinds = t.kinds; held = held })
+  after call held fit counts modestly = record {
     level = is.level;
-    lawful = lawful_run sli is.level t.heap (call ∷ []) is.lawful;
-    words = words_kept sli t.heap call ∙ is.words;
+    lawful = lawful_run sli is.level h (call ∷ []) is.lawful;
+    words = words_kept sli h call ∙ is.words;
     classes = is.classes;
     few = is.few;
     held = counts;
     fit = fit;
-    snug = snug_kept sli t.heap call is.snug;
+    snug = snug_kept sli h call is.snug;
     fours = λ fours.
-        let left = modest.kept sli is.level t.heap.words (count_in t.kinds) 8 (four_class sli is.level) (four_words sli t is fours) t.heap call (in_pool sli t is fours) (modestly fours) in
+        let left = modest.kept sli is.level h.words (count_in t.kinds) 8 (four_class sli is.level) (four_words sli h t is fours) h call (in_pool sli h t is fours) (modestly fours) in
         (left.small, left.fours (omega arith));
   }
 
-  on : (t : TableState) (h left : HeapState) (held : List ℕ) (touches : ℕ) → left ≡ h → IsTable sli (record { heap = h; kinds = t.kinds; held = held; touches = touches })
-      → IsTable sli (record { heap = left; kinds = t.kinds; held = held; touches = touches })
-  on t h left held touches same is = subst (λ (x : HeapState). IsTable sli (record { heap = x; kinds = t.kinds; held = held; touches = touches })) (sym same) is
-
   -- after an allocate that gave a name
-  pub given_table : (t : TableState) (n : ℕ) (name : Name) (left : HeapState) (held : List ℕ) (touches : ℕ) → IsTable sli t → AreOfKinds t.kinds (n ∷ lengths_in t.heap.blocks)
-      → held ≡ set t.held (place t.kinds n) (get_or t.held (place t.kinds n) 0 + 1) → Ok name ≡ (allocated sli t.heap n).answer → left ≡ (allocated sli t.heap n).heap
-      → IsTable sli (record { heap = left; kinds = t.kinds; held = held; touches = touches })
-  given_table t n name left held touches is fit counts answer heap =
-      let totals = given_lengths sli t.heap n name answer in
-      let back : SameTotals (n ∷ lengths_in t.heap.blocks) (lengths_in (allocated sli t.heap n).heap.blocks) = λ f. sym (totals f) in
-      on t (allocated sli t.heap n).heap left held touches heap
-      (after t (Allocate n) held touches is (same_fit t.kinds (n ∷ lengths_in t.heap.blocks) (lengths_in (allocated sli t.heap n).heap.blocks) back fit)
-      (counts ∙ (ap (λ (xs : List ℕ). set xs (place t.kinds n) (get_or xs (place t.kinds n) 0 + 1)) is.held ∙ (sym (held_more t.kinds n (lengths_in t.heap.blocks)) ∙ same_held t.kinds (n ∷ lengths_in t.heap.blocks) (lengths_in (allocated sli t.heap n).heap.blocks) back)))
-      (λ fours. is_short t.kinds t.heap.blocks (lengths_in t.heap.blocks) n fours (λ f. lengths_load f t.heap.blocks) fit))
+  pub given_table : (n : ℕ) (name : Name) (held : List ℕ) → AreOfKinds t.kinds (n ∷ lengths_in h.blocks) → held ≡ set t.held (place t.kinds n) (get_or t.held (place t.kinds n) 0 + 1)
+      → Ok name ≡ (allocated sli h n).answer → IsTable sli (allocated sli h n).heap (record { kinds = t.kinds; held = held })
+  given_table n name held fit counts answer =
+      let totals = given_lengths sli h n name answer in
+      let back : SameTotals (n ∷ lengths_in h.blocks) (lengths_in (allocated sli h n).heap.blocks) = λ f. sym (totals f) in
+      after (Allocate n) held (same_fit t.kinds (n ∷ lengths_in h.blocks) (lengths_in (allocated sli h n).heap.blocks) back fit)
+      (counts ∙ (ap (λ (xs : List ℕ). set xs (place t.kinds n) (get_or xs (place t.kinds n) 0 + 1)) is.held ∙ (sym (held_more t.kinds n (lengths_in h.blocks)) ∙ same_held t.kinds (n ∷ lengths_in h.blocks) (lengths_in (allocated sli h n).heap.blocks) back)))
+      (λ fours. is_short t.kinds h.blocks (lengths_in h.blocks) n fours (λ f. lengths_load f h.blocks) fit)
 
   -- a release that was done leaves lengths to which that of its block is one more
-  pub taken_fit : (t : TableState) (name : Name) → IsTable sli t → Ok tt ≡ (released t.heap name).answer → AreOfKinds t.kinds (length (payload_of t.heap name) ∷ lengths_in (released t.heap name).heap.blocks)
-  taken_fit t name is answer =
-      same_fit t.kinds (lengths_in t.heap.blocks) (length (payload_of t.heap name) ∷ lengths_in (released t.heap name).heap.blocks) (λ f. sym (taken_lengths t.heap name answer f)) is.fit
+  pub taken_fit : (name : Name) → Ok tt ≡ (released h name).answer → AreOfKinds t.kinds (length (payload_of h name) ∷ lengths_in (released h name).heap.blocks)
+  taken_fit name answer = same_fit t.kinds (lengths_in h.blocks) (length (payload_of h name) ∷ lengths_in (released h name).heap.blocks) (λ f. sym (taken_lengths h name answer f)) is.fit
 
   -- after a release that was done
-  pub taken_table : (t : TableState) (name : Name) (left : HeapState) (held : List ℕ) (touches : ℕ) → IsTable sli t → Ok tt ≡ (released t.heap name).answer → left ≡ (released t.heap name).heap
-      → held ≡ held_of t.kinds (lengths_in (released t.heap name).heap.blocks) → IsTable sli (record { heap = left; kinds = t.kinds; held = held; touches = touches })
-  taken_table t name left held touches is answer heap counts =
-      on t (released t.heap name).heap left held touches heap (after t (Release name) held touches is (fit_less t.kinds (length (payload_of t.heap name)) (lengths_in (released t.heap name).heap.blocks) (taken_fit t name is answer)).0 counts (λ fours. tt))
+  pub taken_table : (name : Name) (held : List ℕ) → Ok tt ≡ (released h name).answer → held ≡ held_of t.kinds (lengths_in (released h name).heap.blocks)
+      → IsTable sli (released h name).heap (record { kinds = t.kinds; held = held })
+  taken_table name held answer counts =
+      after (Release name) held (fit_less t.kinds (length (payload_of h name)) (lengths_in (released h name).heap.blocks) (taken_fit name answer)).0 counts (λ fours. tt)
 
   -- after a write
-  pub written_table : (t : TableState) (name : Name) (at : ℕ) (bytes : List ℕ) (left : HeapState) (touches : ℕ) → IsTable sli t → left ≡ (written t.heap name at bytes).heap
-      → IsTable sli (record { heap = left; kinds = t.kinds; held = t.held; touches = touches })
-  written_table t name at bytes left touches is heap =
-      let totals = written_lengths t.heap name at bytes in
-      on t (written t.heap name at bytes).heap left t.held touches heap
-      (after t (Write name at bytes) t.held touches is (same_fit t.kinds (lengths_in t.heap.blocks) (lengths_in (written t.heap name at bytes).heap.blocks) totals is.fit)
-      (is.held ∙ same_held t.kinds (lengths_in t.heap.blocks) (lengths_in (written t.heap name at bytes).heap.blocks) totals) (λ fours. tt))
+  pub written_table : (name : Name) (at : ℕ) (bytes : List ℕ) → IsTable sli (written h name at bytes).heap t
+  written_table name at bytes =
+      let totals = written_lengths h name at bytes in
+      after (Write name at bytes) t.held (same_fit t.kinds (lengths_in h.blocks) (lengths_in (written h name at bytes).heap.blocks) totals is.fit)
+      (is.held ∙ same_held t.kinds (lengths_in h.blocks) (lengths_in (written h name at bytes).heap.blocks) totals) (λ fours. tt)
 
+module _ (sli : ℕ) where
   -- ---- the block that was given
 
   small_block : (n : ℕ) (b : Block) (serial : ℕ) → has_serial serial b ≡ true → IsSnug b → bytes_of b ≡ replicate n 0 → size_of b - 3 ≤ want n

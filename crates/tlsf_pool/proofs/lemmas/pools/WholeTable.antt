@@ -15,7 +15,7 @@ use Rattle.tlsf_heap.proofs.lemmas.calls.Outcomes.{by_allocated}
 use Rattle.tlsf_pool.specs.declared.kind.Kind.{Kind}
 use Rattle.tlsf_pool.specs.sizes.Splits.{joined}
 use Rattle.tlsf_pool.specs.declared.pools.pool_refusal.PoolRefusal.{PoolRefusal}
-use Rattle.tlsf_pool.specs.pools.Tables.{HoldsOneMore, IsTable, TableState, lengths_in, row_of}
+use Rattle.tlsf_pool.specs.pools.Tables.{CountsOneMore, HoldsOneMore, IsTabled, TableState, lengths_in, row_of}
 use Rattle.tlsf_pool.specs.pools.Parts.{AreNew, ArePools, HasRow, PoolsState, held_by, held_in, named_in, no_part, part_at, part_in, part_named, part_of, rows_before, rows_in, table_of}
 use Rattle.tlsf_pool.proofs.lemmas.pools.Answering.{of_some, some_of}
 use Rattle.tlsf_pool.proofs.lemmas.pools.Counts.{held_length, next_row, place, row_is, this_row}
@@ -25,8 +25,8 @@ use Rattle.tlsf_pool.proofs.lemmas.pools.Heaps.{is_part, part_has}
 before_none : (parts : List TableState) (row : ℕ) → row ≡ rows_before parts 0 + row
 before_none parts row = omega arith
 
-before_more : (t : TableState) (parts : List TableState) (i row : ℕ) → length t.kinds + (rows_before parts i + row) ≡ rows_before (t ∷ parts) (suc i) + row
-before_more t parts i row = omega (arith, length-append t.kinds (rows_in (take i parts)))
+before_more : (t : TableState) (parts : List TableState) (i row : ℕ) → length t.ledger.kinds + (rows_before parts i + row) ≡ rows_before (t ∷ parts) (suc i) + row
+before_more t parts i row = omega (arith, length-append t.ledger.kinds (rows_in (take i parts)))
 
 -- ---- the row for which a length counts
 
@@ -104,27 +104,27 @@ module _ (len : ℕ) where
   -- ---- of the parts
 
   abbrev Lacks : List TableState → ℕ → Type 0
-  Lacks parts k = is_some (row_of (get_or parts k no_part).kinds len) ≡ false
+  Lacks parts k = is_some (row_of (get_or parts k no_part).ledger.kinds len) ≡ false
 
-  first_in : (parts : List TableState) (i row : ℕ) → i < length parts → ((k : ℕ) → k < i → Lacks parts k) → IsFirst (get_or parts i no_part).kinds row → IsFirst (rows_in parts) (rows_before parts i + row)
+  first_in : (parts : List TableState) (i row : ℕ) → i < length parts → ((k : ℕ) → k < i → Lacks parts k) → IsFirst (get_or parts i no_part).ledger.kinds row → IsFirst (rows_in parts) (rows_before parts i + row)
   first_in [] i row within before first = absurd (omega (arith, within))
-  first_in (t ∷ parts) zero row within before first = subst (IsFirst (t.kinds ++ rows_in parts)) (before_none (t ∷ parts) row) (first_left t.kinds (rows_in parts) row first)
+  first_in (t ∷ parts) zero row within before first = subst (IsFirst (t.ledger.kinds ++ rows_in parts)) (before_none (t ∷ parts) row) (first_left t.ledger.kinds (rows_in parts) row first)
   first_in (t ∷ parts) (suc i) row within before first =
       let rest = first_in parts i row (this_row _ _ within) (λ k less. before (suc k) (next_row _ _ less)) first in
-      subst (IsFirst (t.kinds ++ rows_in parts)) (before_more t parts i row) (first_right t.kinds (rows_in parts) (rows_before parts i + row) (are_short t.kinds (before zero (omega arith))) rest)
+      subst (IsFirst (t.ledger.kinds ++ rows_in parts)) (before_more t parts i row) (first_right t.ledger.kinds (rows_in parts) (rows_before parts i + row) (are_short t.ledger.kinds (before zero (omega arith))) rest)
 
   short_in : (parts : List TableState) → ((k : ℕ) → k < length parts → Lacks parts k) → AreShort (rows_in parts)
   short_in [] none = λ k less. absurd (omega (arith, less))
-  short_in (t ∷ parts) none = short_both t.kinds (rows_in parts) (are_short t.kinds (none zero (omega arith))) (short_in parts (λ k less. none (suc k) (next_row _ _ less)))
+  short_in (t ∷ parts) none = short_both t.ledger.kinds (rows_in parts) (are_short t.ledger.kinds (none zero (omega arith))) (short_in parts (λ k less. none (suc k) (next_row _ _ less)))
 
   -- the row of the whole table is that of the part for which the length counts
-  pub whole_row : (parts : List TableState) (i row : ℕ) → part_in parts len ≡ Some i → row_of (get_or parts i no_part).kinds len ≡ Some row → row_of (rows_in parts) len ≡ Some (rows_before parts i + row)
+  pub whole_row : (parts : List TableState) (i row : ℕ) → part_in parts len ≡ Some i → row_of (get_or parts i no_part).ledger.kinds len ≡ Some row → row_of (rows_in parts) len ≡ Some (rows_before parts i + row)
   whole_row parts i row is own =
-      let found = position-Some (λ t. is_some (row_of t.kinds len)) parts i no_part is in
-      row_first (rows_in parts) (rows_before parts i + row) (first_in parts i row found.0 found.2 (is_first (get_or parts i no_part).kinds row own))
+      let found = position-Some (λ t. is_some (row_of t.ledger.kinds len)) parts i no_part is in
+      row_first (rows_in parts) (rows_before parts i + row) (first_in parts i row found.0 found.2 (is_first (get_or parts i no_part).ledger.kinds row own))
 
   abbrev first_part : List TableState → ℕ
-  first_part parts = position_or_len (λ t. is_some (row_of t.kinds len)) parts
+  first_part parts = position_or_len (λ t. is_some (row_of t.ledger.kinds len)) parts
 
   -- and there is none where no part has one
   pub no_whole_row : (parts : List TableState) → part_in parts len ≡ None → row_of (rows_in parts) len ≡ None
@@ -134,51 +134,51 @@ module _ (len : ℕ) where
       at true within none = absurd cc
       at false past none = λ k less.
           let end : length parts ≤ first_part parts = grind (arith, nat_tests) in
-          fails_before_first (λ t. is_some (row_of t.kinds len)) parts k no_part (omega (arith, less, end))
+          fails_before_first (λ t. is_some (row_of t.ledger.kinds len)) parts k no_part (omega (arith, less, end))
 
 -- ---- what is held of each row
 
 -- as many numbers as rows
 abbrev AreCounts : TableState → Type 0
-AreCounts t = length t.held ≡ length t.kinds
+AreCounts t = length t.ledger.held ≡ length t.ledger.kinds
 
-are_counts : (sli : ℕ) (parts : List TableState) → AllByRecursion (IsTable sli) parts → AllByRecursion AreCounts parts
+are_counts : (sli : ℕ) (parts : List TableState) → AllByRecursion (IsTabled sli) parts → AllByRecursion AreCounts parts
 are_counts sli [] are = tt
-are_counts sli (t ∷ parts) are = (ap length are.0.held ∙ held_length t.kinds (lengths_in t.heap.blocks), are_counts sli parts are.1)
+are_counts sli (t ∷ parts) are = (ap length are.0.holds.held ∙ held_length t.ledger.kinds (lengths_in t.heap.blocks), are_counts sli parts are.1)
 
-held_set : (parts : List TableState) (i row v : ℕ) (new : TableState) → AllByRecursion AreCounts parts → i < length parts → row < length (get_or parts i no_part).kinds
-    → new.held ≡ set (get_or parts i no_part).held row v → held_in (set parts i new) ≡ set (held_in parts) (rows_before parts i + row) v
+held_set : (parts : List TableState) (i row v : ℕ) (new : TableState) → AllByRecursion AreCounts parts → i < length parts → row < length (get_or parts i no_part).ledger.kinds
+    → new.ledger.held ≡ set (get_or parts i no_part).ledger.held row v → held_in (set parts i new) ≡ set (held_in parts) (rows_before parts i + row) v
 held_set [] i row v new counts within short is = absurd (omega (arith, within))
 held_set (t ∷ parts) zero row v new counts within short is =
     ap (λ (xs : List ℕ). xs ++ held_in parts) is
-    ∙ (sym (set-append_left t.held (held_in parts) row v (omega (arith, counts.0, short))) ∙ ap (λ (n : ℕ). set (t.held ++ held_in parts) n v) (before_none (t ∷ parts) row))
+    ∙ (sym (set-append_left t.ledger.held (held_in parts) row v (omega (arith, counts.0, short))) ∙ ap (λ (n : ℕ). set (t.ledger.held ++ held_in parts) n v) (before_none (t ∷ parts) row))
 held_set (t ∷ parts) (suc i) row v new counts within short is =
     let rest = held_set parts i row v new counts.1 (this_row _ _ within) short is in
-    let row_is : length t.kinds + (rows_before parts i + row) ≡ rows_before (t ∷ parts) (suc i) + row = before_more t parts i row in
-    let behind : length t.held ≤ rows_before (t ∷ parts) (suc i) + row = omega (arith, row_is, counts.0) in
-    let left : rows_before (t ∷ parts) (suc i) + row - length t.held ≡ rows_before parts i + row = omega (arith, row_is, counts.0) in
-    ap (λ (xs : List ℕ). t.held ++ xs) rest
-    ∙ sym (set-append_right t.held (held_in parts) (length t.held) (rows_before (t ∷ parts) (suc i) + row) v refl behind ∙ ap (λ (n : ℕ). t.held ++ set (held_in parts) n v) left)
+    let row_is : length t.ledger.kinds + (rows_before parts i + row) ≡ rows_before (t ∷ parts) (suc i) + row = before_more t parts i row in
+    let behind : length t.ledger.held ≤ rows_before (t ∷ parts) (suc i) + row = omega (arith, row_is, counts.0) in
+    let left : rows_before (t ∷ parts) (suc i) + row - length t.ledger.held ≡ rows_before parts i + row = omega (arith, row_is, counts.0) in
+    ap (λ (xs : List ℕ). t.ledger.held ++ xs) rest
+    ∙ sym (set-append_right t.ledger.held (held_in parts) (length t.ledger.held) (rows_before (t ∷ parts) (suc i) + row) v refl behind ∙ ap (λ (n : ℕ). t.ledger.held ++ set (held_in parts) n v) left)
 
-held_get : (parts : List TableState) (i row : ℕ) → AllByRecursion AreCounts parts → i < length parts → row < length (get_or parts i no_part).kinds
-    → get_or (held_in parts) (rows_before parts i + row) 0 ≡ get_or (get_or parts i no_part).held row 0
+held_get : (parts : List TableState) (i row : ℕ) → AllByRecursion AreCounts parts → i < length parts → row < length (get_or parts i no_part).ledger.kinds
+    → get_or (held_in parts) (rows_before parts i + row) 0 ≡ get_or (get_or parts i no_part).ledger.held row 0
 held_get [] i row counts within short = absurd (omega (arith, within))
 held_get (t ∷ parts) zero row counts within short =
-    ap (λ (n : ℕ). get_or (t.held ++ held_in parts) n 0) (sym (before_none (t ∷ parts) row)) ∙ get_or_append_left t.held (held_in parts) 0 row (omega (arith, counts.0, short))
+    ap (λ (n : ℕ). get_or (t.ledger.held ++ held_in parts) n 0) (sym (before_none (t ∷ parts) row)) ∙ get_or_append_left t.ledger.held (held_in parts) 0 row (omega (arith, counts.0, short))
 held_get (t ∷ parts) (suc i) row counts within short =
-    let row_is : length t.kinds + (rows_before parts i + row) ≡ rows_before (t ∷ parts) (suc i) + row = before_more t parts i row in
-    let same : rows_before (t ∷ parts) (suc i) + row ≡ length t.held + (rows_before parts i + row) = omega (arith, row_is, counts.0) in
-    ap (λ (n : ℕ). get_or (t.held ++ held_in parts) n 0) same ∙ (get_or-append-add t.held (held_in parts) (rows_before parts i + row) 0 ∙ held_get parts i row counts.1 (this_row _ _ within) short)
+    let row_is : length t.ledger.kinds + (rows_before parts i + row) ≡ rows_before (t ∷ parts) (suc i) + row = before_more t parts i row in
+    let same : rows_before (t ∷ parts) (suc i) + row ≡ length t.ledger.held + (rows_before parts i + row) = omega (arith, row_is, counts.0) in
+    ap (λ (n : ℕ). get_or (t.ledger.held ++ held_in parts) n 0) same ∙ (get_or-append-add t.ledger.held (held_in parts) (rows_before parts i + row) 0 ∙ held_get parts i row counts.1 (this_row _ _ within) short)
 
 -- ---- the table stays
 
-rows_set : (parts : List TableState) (i : ℕ) (t : TableState) → i < length parts → t.kinds ≡ (get_or parts i no_part).kinds → rows_in (set parts i t) ≡ rows_in parts
+rows_set : (parts : List TableState) (i : ℕ) (t : TableState) → i < length parts → t.ledger.kinds ≡ (get_or parts i no_part).ledger.kinds → rows_in (set parts i t) ≡ rows_in parts
 rows_set [] i t within same = absurd (omega (arith, within))
 rows_set (x ∷ parts) zero t within same = ap (λ (ks : List Kind). ks ++ rows_in parts) same
-rows_set (x ∷ parts) (suc i) t within same = ap (λ (ks : List Kind). x.kinds ++ ks) (rows_set parts i t (this_row _ _ within) same)
+rows_set (x ∷ parts) (suc i) t within same = ap (λ (ks : List Kind). x.ledger.kinds ++ ks) (rows_set parts i t (this_row _ _ within) same)
 
-pub rows_kept : (p : PoolsState) (part : ℕ) (old new : TableState) → part < length p.parts → old ≡ get_or p.parts part old → new.kinds ≡ old.kinds → rows_in (set p.parts part new) ≡ rows_in p.parts
-rows_kept p part old new within is same = rows_set p.parts part new within (same ∙ ap (λ (t : TableState). t.kinds) (is_part p part old within is))
+pub rows_kept : (p : PoolsState) (part : ℕ) (old new : TableState) → part < length p.parts → old ≡ get_or p.parts part old → new.ledger.kinds ≡ old.ledger.kinds → rows_in (set p.parts part new) ≡ rows_in p.parts
+rows_kept p part old new within is same = rows_set p.parts part new within (same ∙ ap (λ (t : TableState). t.ledger.kinds) (is_part p part old within is))
 
 -- new heaps have the rows of the tables for which they were opened
 pub new_rows : (sli from first : ℕ) (tables : List (List Kind)) (parts : List TableState) → AreNew sli from first tables parts → rows_in parts ≡ joined tables
@@ -208,53 +208,53 @@ module _ (sli : ℕ) (p : PoolsState) (len part : ℕ) (old new : TableState) (a
   own : old ≡ part_at p part
   own = is_part p part old within is
 
-  whole : (row : ℕ) → row_of old.kinds len ≡ Some row → row_of (table_of p) len ≡ Some (rows_before p.parts part + row)
-  whole row at = whole_row len p.parts part row found (subst (λ (t : TableState). row_of t.kinds len ≡ Some row) own at)
+  whole : (row : ℕ) → row_of old.ledger.kinds len ≡ Some row → row_of (table_of p) len ≡ Some (rows_before p.parts part + row)
+  whole row at = whole_row len p.parts part row found (subst (λ (t : TableState). row_of t.ledger.kinds len ≡ Some row) own at)
 
   -- one more is held of the row of the whole table
-  pub one_more : HoldsOneMore old.kinds len old.held new.held → HoldsOneMore (table_of p) len (held_by p) (held_in (set p.parts part new))
+  pub one_more : HoldsOneMore old.ledger.kinds len old.ledger.held new.ledger.held → HoldsOneMore (table_of p) len (held_by p) (held_in (set p.parts part new))
   one_more more =
-      let one = some_of (λ (row : ℕ). new.held ≡ set old.held row (get_or old.held row 0 + 1)) (row_of old.kinds len) more in
+      let one = some_of (λ (row : ℕ). new.ledger.held ≡ set old.ledger.held row (get_or old.ledger.held row 0 + 1)) (row_of old.ledger.kinds len) more in
       let row = one.0 in
       let counts = are_counts sli p.parts are.tables in
-      let short : row < length (part_at p part).kinds = subst (λ (t : TableState). row < length t.kinds) own (row_is old.kinds len row one.1).1 in
-      let set_is : new.held ≡ set (part_at p part).held row (get_or (part_at p part).held row 0 + 1) = subst (λ (t : TableState). new.held ≡ set t.held row (get_or t.held row 0 + 1)) own one.2 in
-      let now = held_set p.parts part row (get_or (part_at p part).held row 0 + 1) new counts within short set_is in
+      let short : row < length (part_at p part).ledger.kinds = subst (λ (t : TableState). row < length t.ledger.kinds) own (row_is old.ledger.kinds len row one.1).1 in
+      let set_is : new.ledger.held ≡ set (part_at p part).ledger.held row (get_or (part_at p part).ledger.held row 0 + 1) = subst (λ (t : TableState). new.ledger.held ≡ set t.ledger.held row (get_or t.ledger.held row 0 + 1)) own one.2 in
+      let now = held_set p.parts part row (get_or (part_at p part).ledger.held row 0 + 1) new counts within short set_is in
       of_some (λ (r : ℕ). held_in (set p.parts part new) ≡ set (held_by p) r (get_or (held_by p) r 0 + 1)) (row_of (table_of p) len) (rows_before p.parts part + row) (whole row one.1)
       (now ∙ ap (λ (v : ℕ). set (held_by p) (rows_before p.parts part + row) (v + 1)) (sym (held_get p.parts part row counts within short)))
 
   -- the block is of the heap that has this row
-  pub of_row : (name : Name) → Ok name ≡ (allocated sli old.heap len).answer → HoldsOneMore old.kinds len old.held new.held → IsSomeAnd (row_of (table_of p) len) (λ row. IsSomeAnd (part_named p name) (HasRow p row))
+  pub of_row : (name : Name) → Ok name ≡ (allocated sli old.heap len).answer → HoldsOneMore old.ledger.kinds len old.ledger.held new.ledger.held → IsSomeAnd (row_of (table_of p) len) (λ row. IsSomeAnd (part_named p name) (HasRow p row))
   of_row name answer more =
-      let one = some_of (λ (row : ℕ). new.held ≡ set old.held row (get_or old.held row 0 + 1)) (row_of old.kinds len) more in
+      let one = some_of (λ (row : ℕ). new.ledger.held ≡ set old.ledger.held row (get_or old.ledger.held row 0 + 1)) (row_of old.ledger.kinds len) more in
       let row = one.0 in
-      let short : row < length (part_at p part).kinds = subst (λ (t : TableState). row < length t.kinds) own (row_is old.kinds len row one.1).1 in
+      let short : row < length (part_at p part).ledger.kinds = subst (λ (t : TableState). row < length t.ledger.kinds) own (row_is old.ledger.kinds len row one.1).1 in
       let number : name.heap ≡ p.id + part = given_heap sli old.heap len name answer ∙ (ap (λ (t : TableState). t.heap.id) own ∙ are.numbers part within) in
       of_some (λ (r : ℕ). IsSomeAnd (part_named p name) (HasRow p r)) (row_of (table_of p) len) (rows_before p.parts part + row) (whole row one.1)
       (of_some (HasRow p (rows_before p.parts part + row)) (part_named p name) part (named_at p.id part p.parts name number within) (omega arith, omega (arith, short)))
 
   -- the same by the answer
-  pub row_given : (answer : Result Name PoolRefusal) → IfOk answer (λ name. (allocated sli old.heap len).answer ≡ Ok name) → OnOk answer (HoldsOneMore old.kinds len old.held new.held)
+  pub row_given : (answer : Result Name PoolRefusal) → IfOk answer (λ name. (allocated sli old.heap len).answer ≡ Ok name) → OnOk answer (CountsOneMore len old.ledger new.ledger)
       → IfOk answer (λ name. IsSomeAnd (row_of (table_of p) len) (λ row. IsSomeAnd (part_named p name) (HasRow p row)))
-  row_given (Ok name) ok more = of_row name (sym ok) more
+  row_given (Ok name) ok more = of_row name (sym ok) more.held
   row_given (Err why) ok more = tt
 
-  pub held_given : (answer : Result Name PoolRefusal) → OnOk answer (HoldsOneMore old.kinds len old.held new.held) → OnOk answer (HoldsOneMore (table_of p) len (held_by p) (held_in (set p.parts part new)))
-  held_given (Ok name) more = one_more more
+  pub held_given : (answer : Result Name PoolRefusal) → OnOk answer (CountsOneMore len old.ledger new.ledger) → OnOk answer (HoldsOneMore (table_of p) len (held_by p) (held_in (set p.parts part new)))
+  held_given (Ok name) more = one_more more.held
   held_given (Err why) more = tt
 
 -- a request is too long for its part just where it is for the whole table
 pub long_row : {A : Type 0} (p : PoolsState) (len part : ℕ) (old : TableState) → part_of p len ≡ Some part → part < length p.parts → old ≡ get_or p.parts part old
-    → A ↔ (row_of old.kinds len ≡ None) → A ↔ (row_of (table_of p) len ≡ None)
+    → A ↔ (row_of old.ledger.kinds len ≡ None) → A ↔ (row_of (table_of p) len ≡ None)
 long_row {A} p len part old found within is both =
     let own = is_part p part old within is in
     let has = (part_has p.parts len part found).1 in
-    let row_there : row_of old.kinds len ≢ None = subst (λ (t : TableState). row_of t.kinds len ≢ None) (sym own) has in
-    (λ a. absurd (row_there (both.0 a)), λ none. absurd (at (row_of old.kinds len) refl none))
+    let row_there : row_of old.ledger.kinds len ≢ None = subst (λ (t : TableState). row_of t.ledger.kinds len ≢ None) (sym own) has in
+    (λ a. absurd (row_there (both.0 a)), λ none. absurd (at (row_of old.ledger.kinds len) refl none))
   where
-    at : (o : Option ℕ) → row_of old.kinds len ≡ o → row_of (table_of p) len ≡ None → ⊥
-    at None e none = subst (λ (t : TableState). row_of t.kinds len ≢ None) (sym (is_part p part old within is)) (part_has p.parts len part found).1 e
+    at : (o : Option ℕ) → row_of old.ledger.kinds len ≡ o → row_of (table_of p) len ≡ None → ⊥
+    at None e none = subst (λ (t : TableState). row_of t.ledger.kinds len ≢ None) (sym (is_part p part old within is)) (part_has p.parts len part found).1 e
     at (Some row) e none =
-        let some = whole_row len p.parts part row found (subst (λ (t : TableState). row_of t.kinds len ≡ Some row) (is_part p part old within is) e) in
+        let some = whole_row len p.parts part row found (subst (λ (t : TableState). row_of t.ledger.kinds len ≡ Some row) (is_part p part old within is) e) in
         let bad : Some (rows_before p.parts part + row) ≡ None = sym some ∙ none in
         cc

@@ -4,6 +4,6 @@ use Rattle.uses.proofs.chord.strike.Given as goal
 
 abbrev pub invariant-loop-note : goal.invariant-loop-note
 invariant-loop-note l =
-    (l.organ.held ≡ l.initial.organ.held + l.note-index) × (l.organ.most ≡ l.initial.organ.most)
-    × (l.organ.longest ≡ l.initial.organ.longest)
+    (l.organ.ledger.held ≡ l.initial.organ.ledger.held + l.note-index) × (l.organ.ledger.most ≡ l.initial.organ.ledger.most)
+    × (l.organ.ledger.longest ≡ l.initial.organ.ledger.longest)
     × (l.organ.touches ≤ l.initial.organ.touches + 43 * l.note-index)

@@ -1,4 +1,6 @@
-use Rattle.std.proofs.Common.{◌≡◌, ◌<◌, length, sym, ◌∙◌, true, arith}
+use Rattle.std.proofs.Common.{◌≡◌, ◌<◌, length, sym, ap, ◌∙◌, true, arith}
+use Rattle.std.specs.Prelude.{is_some}
+use Rattle.tlsf_pool.specs.pools.Tables.{TableRows, row_of}
 use Rattle.tlsf_pool.proofs.lemmas.pools.Heaps.{found_at, found_none, has_at}
 use Rattle.tlsf_pool.proofs.pools.pools.part_of.Goals as goal
 
@@ -6,7 +8,7 @@ pub returns-then-serves : goal.returns-then-serves
 returns-then-serves g c =
     let within : c.loop-at.at < length c.args.parts.now = omega (arith, c.loop-at-test.true) in
     sym (found_at c.args.parts.now c.args.len c.loop-at.at within c.loop-at.invariant.before
-    (has_at c.args.parts.now c.args.len c.loop-at.at c.index-parts-at.result true within c.index-parts-at.is (sym c.serves.ensures ∙ c.if-serves.true)))
+    (has_at c.args.parts.now c.args.len c.loop-at.at c.index-parts-at.result true within c.index-parts-at.is (ap (λ (t : TableRows). is_some (row_of t.kinds c.args.len)) (sym c.ledger.ensures.ledger) ∙ (sym c.serves.ensures ∙ c.if-serves.true))))
 
 pub returns : goal.returns
 returns g c =

@@ -8,5 +8,5 @@ use Rattle.tlsf_pool.proofs.pools.pools.part_of.Given as goal
 abbrev pub invariant-loop-at : goal.invariant-loop-at
 invariant-loop-at g l = record {
   within : l.at ≤ length l.parts;
-  before : (k : ℕ) → k < l.at → is_some (row_of (get_or l.parts k no_part).kinds l.len) ≡ false;
+  before : (k : ℕ) → k < l.at → is_some (row_of (get_or l.parts k no_part).ledger.kinds l.len) ≡ false;
 }

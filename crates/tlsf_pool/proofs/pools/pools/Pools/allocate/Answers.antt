@@ -1,10 +1,11 @@
-use Rattle.std.proofs.Common.{◌≡◌, ◌≢◌, ◌↔◌, List, Some, None, set, refl, sym, ap, ◌∙◌, subst}
-use Rattle.std.specs.Prelude.{IfOk, IsErrOf, IsOk, IsSomeAnd, OnOk}
-use Rattle.tlsf_heap.specs.Calls.{last_tick}
+use Rattle.std.proofs.Common.{◌≡◌, ◌≢◌, ◌↔◌, List, Some, None, Err, set, refl, sym, ap, ◌∙◌, subst}
+use Rattle.std.specs.Prelude.{IfOk, IfSome, IsErrOf, IsOk, IsSomeAnd, OnOk}
+use Rattle.tlsf_heap.specs.Calls.{allocated, last_tick}
+use Rattle.tlsf_heap.specs.declared.refusal.Refusal.TheVariants.{NoFit}
 use Rattle.tlsf_pool.specs.declared.pools.pool_refusal.PoolRefusal.TheVariants.{Full, TooLong}
 use Rattle.tlsf_pool.specs.pools.Parts.{HasRow, PoolsState, held_by, held_in, part_at, part_in, part_named, part_of, rows_in, table_of}
 use Rattle.tlsf_pool.specs.pools.Tables.{HasPlace, HoldsOneMore, IsFull, TableState, row_of}
-use Rattle.tlsf_pool.proofs.lemmas.pools.Heaps.{given_number, is_part, lift_iff, lift_kept, not_none, part_has}
+use Rattle.tlsf_pool.proofs.lemmas.pools.Heaps.{given_number, if_part, is_part, lift_iff, lift_kept, not_none, on_ok, part_has}
 use Rattle.tlsf_pool.proofs.lemmas.pools.WholeTable.{held_given, long_row, no_whole_row, row_given, rows_kept}
 use Rattle.tlsf_pool.proofs.pools.pools.Pools.allocate.Goals as goal
 
@@ -13,8 +14,8 @@ invariant_of-self g c =
     let p : PoolsState = record { id = c.self.inside.id; parts = c.self.inside.parts.items } in
     let found : part_in p.parts c.args.len ≡ Some c.in-Some.part = sym (c.in-Some.ensures ∙ ap (λ (parts : List TableState). part_in parts c.args.len) c.deref.ensures.value) in
     let e = c.allocate.ensures in
-    lift_kept p c.in-Some.part c.index_mut.result.now c.allocate.new.self (part_of p c.args.len) found (part_has p.parts c.args.len c.in-Some.part found).0 c.index_mut.ensures.value g.row.SLI c.self.invariant e.table
-    (given_number g.row.SLI c.index_mut.result.now c.allocate.new.self c.args.len c.allocate.result e.heap e.err)
+    lift_kept p c.in-Some.part c.index_mut.result.now c.allocate.new.self (part_of p c.args.len) found (part_has p.parts c.args.len c.in-Some.part found).0 c.index_mut.ensures.value g.row.SLI c.self.invariant e.keeps.is
+    (given_number g.row.SLI c.index_mut.result.now c.allocate.new.self c.args.len c.allocate.result (on_ok _ c.allocate.result e.tells.ok e.heap) e.err)
 
 pub returns-clause-pools : goal.returns-clause-pools
 returns-clause-pools g c = invariant_of-self g c
@@ -23,27 +24,36 @@ pub returns-clause-ok : goal.returns-clause-ok
 returns-clause-ok g c =
     let p : PoolsState = record { id = c.self.inside.id; parts = c.self.inside.parts.items } in
     let found : part_in p.parts c.args.len ≡ Some c.in-Some.part = sym (c.in-Some.ensures ∙ ap (λ (parts : List TableState). part_in parts c.args.len) c.deref.ensures.value) in
-    subst (λ (q : PoolsState). IsOk c.allocate.result ↔ IsSomeAnd (part_of q c.args.len) (λ i. HasPlace (part_at q i) c.args.len × ¬ ((part_at q i).heap.tick ≡ last_tick))) c.self.view_is
+    subst (λ (q : PoolsState). IsOk c.allocate.result ↔ IsSomeAnd (part_of q c.args.len) (λ i. HasPlace (part_at q i).ledger c.args.len × ¬ ((part_at q i).heap.tick ≡ last_tick))) c.self.view_is
     (lift_iff p c.in-Some.part c.index_mut.result.now c.allocate.new.self (part_of p c.args.len) found (part_has p.parts c.args.len c.in-Some.part found).0 c.index_mut.ensures.value
-    (λ t. HasPlace t c.args.len × ¬ (t.heap.tick ≡ last_tick)) c.allocate.ensures.ok)
+    (λ t. HasPlace t.ledger c.args.len × ¬ (t.heap.tick ≡ last_tick)) c.allocate.ensures.tells.ok)
 
 pub returns-clause-full : goal.returns-clause-full
 returns-clause-full g c =
     let p : PoolsState = record { id = c.self.inside.id; parts = c.self.inside.parts.items } in
     let found : part_in p.parts c.args.len ≡ Some c.in-Some.part = sym (c.in-Some.ensures ∙ ap (λ (parts : List TableState). part_in parts c.args.len) c.deref.ensures.value) in
-    subst (λ (q : PoolsState). IsErrOf c.allocate.result Full ↔ IsSomeAnd (part_of q c.args.len) (λ i. IsFull (part_at q i) c.args.len)) c.self.view_is
+    subst (λ (q : PoolsState). IsErrOf c.allocate.result Full ↔ IsSomeAnd (part_of q c.args.len) (λ i. IsFull (part_at q i).ledger c.args.len)) c.self.view_is
     (lift_iff p c.in-Some.part c.index_mut.result.now c.allocate.new.self (part_of p c.args.len) found (part_has p.parts c.args.len c.in-Some.part found).0 c.index_mut.ensures.value
-    (λ t. IsFull t c.args.len) c.allocate.ensures.full)
+    (λ t. IsFull t.ledger c.args.len) c.allocate.ensures.tells.full)
+
+pub returns-clause-room : goal.returns-clause-room
+returns-clause-room g c =
+    let p : PoolsState = record { id = c.self.inside.id; parts = c.self.inside.parts.items } in
+    let found : part_in p.parts c.args.len ≡ Some c.in-Some.part = sym (c.in-Some.ensures ∙ ap (λ (parts : List TableState). part_in parts c.args.len) c.deref.ensures.value) in
+    let own = is_part p c.in-Some.part c.index_mut.result.now (part_has p.parts c.args.len c.in-Some.part found).0 c.index_mut.ensures.value in
+    subst (λ (q : PoolsState). IfSome (part_of q c.args.len) (λ i. HasPlace (part_at q i).ledger c.args.len → (allocated g.row.SLI (part_at q i).heap c.args.len).answer ≢ Err NoFit)) c.self.view_is
+    (if_part (λ i. HasPlace (part_at p i).ledger c.args.len → (allocated g.row.SLI (part_at p i).heap c.args.len).answer ≢ Err NoFit) (part_of p c.args.len) c.in-Some.part found
+    (subst (λ (t : TableState). HasPlace t.ledger c.args.len → (allocated g.row.SLI t.heap c.args.len).answer ≢ Err NoFit) own c.allocate.ensures.tells.room))
 
 pub returns-clause-too_long : goal.returns-clause-too_long
 returns-clause-too_long g c =
     let p : PoolsState = record { id = c.self.inside.id; parts = c.self.inside.parts.items } in
     let found : part_in p.parts c.args.len ≡ Some c.in-Some.part = sym (c.in-Some.ensures ∙ ap (λ (parts : List TableState). part_in parts c.args.len) c.deref.ensures.value) in
     let has = part_has p.parts c.args.len c.in-Some.part found in
-    let row : row_of c.index_mut.result.now.kinds c.args.len ≢ None =
-    subst (λ (t : TableState). row_of t.kinds c.args.len ≢ None) (sym (is_part p c.in-Some.part c.index_mut.result.now has.0 c.index_mut.ensures.value)) has.1 in
+    let row : row_of c.index_mut.result.now.ledger.kinds c.args.len ≢ None =
+    subst (λ (t : TableState). row_of t.ledger.kinds c.args.len ≢ None) (sym (is_part p c.in-Some.part c.index_mut.result.now has.0 c.index_mut.ensures.value)) has.1 in
     subst (λ (q : PoolsState). IsErrOf c.allocate.result TooLong ↔ (part_of q c.args.len ≡ None)) c.self.view_is
-    (λ e. absurd (row (c.allocate.ensures.too_long.0 e)), λ none. absurd (not_none (part_of p c.args.len) c.in-Some.part found none))
+    (λ e. absurd (row (c.allocate.ensures.tells.too_long.0 e)), λ none. absurd (not_none (part_of p c.args.len) c.in-Some.part found none))
 
 pub returns-clause-no_row : goal.returns-clause-no_row
 returns-clause-no_row g c =
@@ -51,7 +61,7 @@ returns-clause-no_row g c =
     let found : part_in p.parts c.args.len ≡ Some c.in-Some.part = sym (c.in-Some.ensures ∙ ap (λ (parts : List TableState). part_in parts c.args.len) c.deref.ensures.value) in
     let has = part_has p.parts c.args.len c.in-Some.part found in
     subst (λ (q : PoolsState). IsErrOf c.allocate.result TooLong ↔ (row_of (table_of q) c.args.len ≡ None)) c.self.view_is
-    (long_row p c.args.len c.in-Some.part c.index_mut.result.now found has.0 c.index_mut.ensures.value c.allocate.ensures.too_long)
+    (long_row p c.args.len c.in-Some.part c.index_mut.result.now found has.0 c.index_mut.ensures.value c.allocate.ensures.tells.too_long)
 
 pub returns-clause-row : goal.returns-clause-row
 returns-clause-row g c =
@@ -60,7 +70,7 @@ returns-clause-row g c =
     let has = part_has p.parts c.args.len c.in-Some.part found in
     let e = c.allocate.ensures in
     subst (λ (q : PoolsState). IfOk c.allocate.result (λ name. IsSomeAnd (row_of (table_of q) c.args.len) (λ row. IsSomeAnd (part_named q name) (HasRow q row)))) c.self.view_is
-    (row_given g.row.SLI p c.args.len c.in-Some.part c.index_mut.result.now c.allocate.new.self c.self.invariant found has.0 c.index_mut.ensures.value c.allocate.result e.answer e.held)
+    (row_given g.row.SLI p c.args.len c.in-Some.part c.index_mut.result.now c.allocate.new.self c.self.invariant found has.0 c.index_mut.ensures.value c.allocate.result e.tells.name e.given)
 
 pub returns-clause-held : goal.returns-clause-held
 returns-clause-held g c =
@@ -68,7 +78,7 @@ returns-clause-held g c =
     let found : part_in p.parts c.args.len ≡ Some c.in-Some.part = sym (c.in-Some.ensures ∙ ap (λ (parts : List TableState). part_in parts c.args.len) c.deref.ensures.value) in
     let has = part_has p.parts c.args.len c.in-Some.part found in
     subst (λ (q : PoolsState). OnOk c.allocate.result (HoldsOneMore (table_of q) c.args.len (held_by q) (held_in (set p.parts c.in-Some.part c.allocate.new.self)))) c.self.view_is
-    (held_given g.row.SLI p c.args.len c.in-Some.part c.index_mut.result.now c.allocate.new.self c.self.invariant found has.0 c.index_mut.ensures.value c.allocate.result c.allocate.ensures.held)
+    (held_given g.row.SLI p c.args.len c.in-Some.part c.index_mut.result.now c.allocate.new.self c.self.invariant found has.0 c.index_mut.ensures.value c.allocate.result c.allocate.ensures.given)
 
 pub returns-clause-kinds : goal.returns-clause-kinds
 returns-clause-kinds g c =
@@ -76,7 +86,7 @@ returns-clause-kinds g c =
     let found : part_in p.parts c.args.len ≡ Some c.in-Some.part = sym (c.in-Some.ensures ∙ ap (λ (parts : List TableState). part_in parts c.args.len) c.deref.ensures.value) in
     let within = (part_has p.parts c.args.len c.in-Some.part found).0 in
     subst (λ (q : PoolsState). rows_in (set p.parts c.in-Some.part c.allocate.new.self) ≡ table_of q) c.self.view_is
-    (rows_kept p c.in-Some.part c.index_mut.result.now c.allocate.new.self within c.index_mut.ensures.value c.allocate.ensures.kinds)
+    (rows_kept p c.in-Some.part c.index_mut.result.now c.allocate.new.self within c.index_mut.ensures.value c.allocate.ensures.limits)
 
 pub returns-in_default-clause-no_row : goal.returns-in_default-clause-no_row
 returns-in_default-clause-no_row g c =

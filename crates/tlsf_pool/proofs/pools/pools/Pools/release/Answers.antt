@@ -1,4 +1,4 @@
-use Rattle.std.proofs.Common.{◌≡◌, List, Some, set, sym, ap, ◌∙◌, subst}
+use Rattle.std.proofs.Common.{◌≡◌, List, Some, set, sym, ap, ◌∙◌, subst, arith}
 use Rattle.std.specs.Prelude.{IfSome}
 use Rattle.tlsf_pool.specs.pools.Parts.{PoolsState, Releases, named_in, part_at, part_named, rows_in, table_of}
 use Rattle.tlsf_pool.specs.pools.Tables.{TableState}
@@ -11,7 +11,7 @@ invariant_of-self g c =
     let p : PoolsState = record { id = c.self.inside.id; parts = c.self.inside.parts.items } in
     let found : named_in p.id p.parts c.args.name ≡ Some c.in-Some.part = sym (c.in-Some.ensures ∙ ap (λ (parts : List TableState). named_in p.id parts c.args.name) c.deref.ensures.value) in
     let within = (named_within p.id p.parts c.args.name c.in-Some.part found).0 in
-    lift_kept p c.in-Some.part c.index_mut.result.now c.release.new.self (named_in p.id p.parts c.args.name) found within c.index_mut.ensures.value g.row.SLI c.self.invariant c.release.ensures.table
+    lift_kept p c.in-Some.part c.index_mut.result.now c.release.new.self (named_in p.id p.parts c.args.name) found within c.index_mut.ensures.value g.row.SLI c.self.invariant c.release.ensures.keeps.is
     (taken_number c.index_mut.result.now c.release.new.self c.args.name c.release.ensures.heap)
 
 pub returns-clause-pools : goal.returns-clause-pools
@@ -24,7 +24,7 @@ returns-clause-releases g c =
     let within = (named_within p.id p.parts c.args.name c.in-Some.part found).0 in
     let e = c.release.ensures in
     let made : Releases c.index_mut.result.now c.release.new.self c.args.name c.release.result =
-    record { answer_is = e.answer; heap = e.heap; held = e.held; err = e.err; kinds = e.kinds; touches = e.touches; rise = e.touches_rise; forged = e.forged } in
+    record { answer_is = e.answer; heap = e.heap; counts = e.returned; err = e.err; kinds = e.limits; touches = omega (arith, e.most_touches); rise = e.keeps.touches_rise; forged = e.forged } in
     subst (λ (q : PoolsState). IfSome (part_named q c.args.name) (λ i. Releases (part_at q i) (part_at (record { id = p.id; parts = set p.parts c.in-Some.part c.release.new.self }) i) c.args.name c.release.result)) c.self.view_is
     (lift_both p c.in-Some.part c.index_mut.result.now c.release.new.self (named_in p.id p.parts c.args.name) found within c.index_mut.ensures.value (λ a b. Releases a b c.args.name c.release.result) made)
 
@@ -33,4 +33,4 @@ returns-clause-kinds g c =
     let p : PoolsState = record { id = c.self.inside.id; parts = c.self.inside.parts.items } in
     let found : named_in p.id p.parts c.args.name ≡ Some c.in-Some.part = sym (c.in-Some.ensures ∙ ap (λ (parts : List TableState). named_in p.id parts c.args.name) c.deref.ensures.value) in
     subst (λ (q : PoolsState). rows_in (set p.parts c.in-Some.part c.release.new.self) ≡ table_of q) c.self.view_is
-    (rows_kept p c.in-Some.part c.index_mut.result.now c.release.new.self (named_within p.id p.parts c.args.name c.in-Some.part found).0 c.index_mut.ensures.value c.release.ensures.kinds)
+    (rows_kept p c.in-Some.part c.index_mut.result.now c.release.new.self (named_within p.id p.parts c.args.name c.in-Some.part found).0 c.index_mut.ensures.value c.release.ensures.limits)

@@ -1,0 +1,31 @@
+use Rattle.std.proofs.Common.{Ok, Err, refl, sym, ◌∙◌, rules}
+use Rattle.std.proofs.lemmas.Bool.{false≢true}
+use Rattle.std.specs.Prelude.{◌↔◌, Result, IsOk}
+use Rattle.tlsf_heap.specs.Blocks.{HeapState}
+use Rattle.tlsf_heap.specs.Laws.{IsLive}
+use Rattle.tlsf_heap.specs.Named.{IsNamed, IsNameCheck, RefusesName}
+use Rattle.tlsf_heap.specs.declared.name.Name.{Name}
+use Rattle.tlsf_heap.specs.declared.refusal.Refusal.{Refusal}
+use Rattle.tlsf_heap.specs.declared.refusal.Refusal.TheVariants.{NoFit, Worn, Foreign, Stale, Range, NoRoom}
+use Rattle.tlsf_words.specs.declared.tag.Tag.{Tag}
+use Rattle.tlsf_heap.proofs.lemmas.calls.Alter.{live_is, named_of}
+use Rattle.tlsf_heap.proofs.heap.Heap.is_live.Goals as goal
+
+-- where a name is refused, no live block has it
+not_named : (h : HeapState) (name : Name) (why : Refusal) → RefusesName h name why → IsNamed h name → ⊥
+not_named h name Foreign r is_named = r is_named.0
+not_named h name Stale r is_named = false≢true (sym (r.1 is_named.1.0 is_named.1.1.within) ∙ is_named.1.1.here)
+not_named h name NoFit r is_named = absurd r
+not_named h name Worn r is_named = absurd r
+not_named h name Range r is_named = absurd r
+not_named h name NoRoom r is_named = absurd r
+
+-- the check of a name tells whether it is live
+live_if_found : (h : HeapState) (name : Name) (found : Result Tag Refusal) → IsNameCheck h name found → IsOk found ↔ IsLive h name
+live_if_found h name (Ok tag) check = (λ _. live_is h name check.0, λ _. refl)
+live_if_found h name (Err why) refuses = (λ e. absurd (false≢true e), λ live. absurd (not_named h name why refuses (named_of h name live)))
+
+pub returns-clause-live : goal.returns-clause-live
+returns-clause-live g c =
+    let both = live_if_found c.args.self.now.heap c.args.name c.check.result c.check.ensures.answer in
+    search (rules, both.0, both.1)

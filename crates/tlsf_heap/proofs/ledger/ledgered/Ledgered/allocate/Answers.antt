@@ -1,0 +1,25 @@
+use Rattle.std.proofs.Common.{◌∙◌, Ok, Err, ap, sym, subst, rules}
+use Rattle.tlsf_heap.specs.Blocks.{HeapState}
+use Rattle.tlsf_heap.proofs.ledger.ledgered.Ledgered.allocate.Goals as goal
+
+pub invariant_of-self-2 : goal.invariant_of-self-2
+invariant_of-self-2 g c = let e = c.in-Ok-allocate.ensures in record {
+  lawful = e.keeps.lawful;
+  holds = subst (λ (h : HeapState). g.L.Ledger.holds g.row.SLI h c.give.new.self) (sym e.heap) (c.give.ensures.holds g.row.SLI _ c.in-Ok-allocate.name c.self.invariant.holds e.answer);
+}
+
+pub returns-clause-keeps : goal.returns-clause-keeps
+returns-clause-keeps g c = record { was = search rules; is = invariant_of-self-2 g c; stays = search rules; touches_rise = search rules }
+
+pub returns-clause-tells : goal.returns-clause-tells
+returns-clause-tells g c =
+    let law = c.laws.ensures.tells g.row.SLI c.self.inside.heap.heap c.self.inside.ledger c.args.len c.self.invariant.holds in
+    let is = ap (g.L.Ledger.answered c.self.inside.ledger c.args.len) (sym c.in-Ok-allocate.ensures.answer) ∙ c.give.ensures.answer c.in-Ok-allocate.name in
+    let here = subst (λ r. g.L.Ledger.tells g.row.SLI c.self.inside.heap.heap c.self.inside.ledger c.args.len r) is law in
+    subst (λ s. g.L.Ledger.tells g.row.SLI s.heap s.ledger c.args.len (Ok c.in-Ok-allocate.name)) c.self.view_is here
+
+pub returns-in-Err-clause-tells : goal.returns-in-Err-clause-tells
+returns-in-Err-clause-tells g c =
+    let law = c.laws.ensures.tells g.row.SLI c.self.inside.heap.heap c.self.inside.ledger c.args.len c.self.invariant.holds in
+    let here = subst (λ r. g.L.Ledger.tells g.row.SLI c.self.inside.heap.heap c.self.inside.ledger c.args.len r) (c.in-Err.ensures.refuses.1 _) law in
+    subst (λ s. g.L.Ledger.tells g.row.SLI s.heap s.ledger c.args.len (Err c.in-Err.why)) c.self.view_is here

@@ -1,0 +1,167 @@
+ghost use Rattle.std.specs.Prelude.{◌≡◌, ◌+◌, ◌≤◌, ◌↔◌, IfOk, OnErr, IsErrOf, ⊤};
+ghost use Rattle.tlsf_class.specs.Classes.{IsLevel};
+ghost use Rattle.tlsf_heap.specs.Calls.{opened, resized, last_tick};
+ghost use Rattle.tlsf_heap.specs.Given.{payload_words_left};
+ghost use Rattle.tlsf_heap.specs.Lawful.{IsRegion};
+ghost use Rattle.tlsf_heap.specs.Touched.{FollowsNoForgery, resize_touches};
+ghost use Rattle.tlsf_heap.specs.ledger.Grants.{AreCounts, IsCounted, TellsFit};
+ghost use Rattle.tlsf_heap.specs.ledger.Ledgers.{KeepsLedger, SameLedger};
+
+use crate::heap::Heap;
+use crate::ledger::Ledger;
+use crate::ledger::ledgered::Ledgered;
+use crate::name::Name;
+use crate::open_fault::OpenFault;
+use crate::refusal::Refusal;
+use std::alloc::Global;
+use std::marker::Model;
+
+/// How many allocates and how many releases a heap accepted.
+///
+/// Its live blocks are always the grants less the returns. Both together stay below the heap's tick, so neither number overflows.
+#[derive(Drop)]
+pub struct Counts {
+    grants: u64,
+    returns: u64,
+}
+
+impl Model for Counts {
+    ghost use Rattle.tlsf_heap.specs.ledger.Grants.{GrantCount};
+
+    ghost Value = { GrantCount };
+
+    ghost view = { λ c. record { grants = c.grants; returns = c.returns } };
+}
+
+impl<const SLI: u32> Ledger<SLI> for Counts {
+    type Why = Refusal;
+
+    type Place = ();
+
+    type Seen = ();
+
+    ghost holds = { λ sli h c. AreCounts h c };
+
+    ghost answered = { λ c len answer. answer };
+
+    ghost admits = { λ c len. ⊤ };
+
+    ghost places = { λ c len place. ⊤ };
+
+    ghost tells = { λ sli h c len answer. TellsFit sli h len answer };
+
+    ghost reports = { λ c report. report.live_blocks + c.returns ≡ c.grants };
+
+    ghost given = { λ c len d. d ≡ record c { grants = c.grants + 1 } };
+
+    ghost returned = { λ c len d. d ≡ record c { returns = c.returns + 1 } };
+
+    ghost same_limits = { λ c d. ⊤ };
+
+    ghost sees = { λ h name seen. ⊤ };
+
+    ghost look_touches = { 0 };
+
+    fn admit(&self, _len: u32) -> Result<(), Refusal> {
+        Ok(())
+    }
+
+    fn refused(&self, _len: u32, why: Refusal) -> Refusal {
+        why
+    }
+
+    fn give(&mut self, _len: u32, _place: ()) {
+        self.grants += 1;
+    }
+
+    fn look(_heap: &mut Heap<SLI>, _name: Name) -> Result<(), Refusal> {
+        Ok(())
+    }
+
+    fn take_back(&mut self, _seen: ()) {
+        // Read for its range: no more may be returned than were granted.
+        let _grants = self.grants;
+        self.returns += 1;
+    }
+
+    fn laws() {}
+}
+
+impl<const SLI: u32> Ledgered<SLI, Counts> {
+    /// Opens a heap of which nothing was granted. It is refused as `Heap::open` refuses.
+    pub fn open(
+        alloc: Global,
+        id: u32,
+        words: u32,
+        first: u64,
+    ) -> Result<Ledgered<SLI, Counts>, OpenFault>
+        requires { IsLevel SLI }
+        ensures heap { IfOk result (λ c. c.heap ≡ opened id words first) }
+        ensures none { IfOk result (λ c. (c.ledger.grants ≡ 0) × (c.ledger.returns ≡ 0)) }
+        ensures bad_size { IsErrOf result OpenFault.BadSize ↔ ¬ (IsRegion SLI words) }
+        ensures worn { IsRegion SLI words → (IsErrOf result OpenFault.Worn ↔ (first ≡ last_tick)) }
+        ensures touches { IfOk result (λ c. c.touches ≤ 10) }
+    {
+        let heap = Heap::open(alloc, id, words, first)?;
+        Ok(Ledgered::new(
+            heap,
+            Counts {
+                grants: 0,
+                returns: 0,
+            },
+        ))
+    }
+
+    /// Makes the payload of the block of that name `len` bytes long, where the block stands: the name stays live, the bytes up to the
+    /// smaller length stay, and new ones are zero. It is counted neither as a grant nor as a return.
+    ///
+    /// Refused as `Heap::resize` refuses: `Foreign` where the name is of another heap, else `Stale` where no live block has that
+    /// place and serial, else `NoRoom` where the block and a free one behind it have fewer words than wanted, else `Worn` where the
+    /// tick is at its last value. Nothing changes then. Takes no memory.
+    ///
+    /// ```
+    /// let name = guard.allocate(8)?;
+    /// guard.resize(name, 100)?; // the same block, with 100 bytes
+    /// ```
+    pub fn resize(&mut self, name: Name, len: u32) -> Result<(), Refusal>
+        ensures answer { result ≡ (resized self.old.heap name len).answer }
+        ensures heap { self.new.heap ≡ (resized self.old.heap name len).heap }
+        ensures ledger { self.new.ledger ≡ self.old.ledger }
+        ensures err { OnErr result (SameLedger self.old self.new) }
+        ensures keeps { KeepsLedger AreCounts self.old self.new }
+
+        // Accepted or refused, and whatever the region holds: at most 64 touches, and one for each payload word of the block that is left.
+        ensures touches { self.new.touches ≤ self.old.touches + 64 + payload_words_left result self.new.heap name }
+        ensures most_touches { self.new.touches ≤ self.old.touches + resize_touches result self.new.heap name }
+        ensures forged { FollowsNoForgery self.old.heap name self.old.touches self.new.touches }
+    {
+        self.heap.resize(name, len)
+    }
+
+    /// How many allocates were accepted, by whichever thread.
+    ///
+    /// ```
+    /// guard.allocate(8)?;
+    /// assert_eq!((guard.grants(), guard.returns()), (1, 0)); // of a new heap
+    /// ```
+    pub fn grants(&self) -> u64
+        ensures grants { result ≡ self.now.ledger.grants }
+        ensures counted { IsCounted self.now }
+    {
+        self.ledger.grants
+    }
+
+    /// How many releases were accepted, by whichever thread.
+    ///
+    /// ```
+    /// let name = guard.allocate(8)?;
+    /// guard.release(name)?;
+    /// assert_eq!((guard.grants(), guard.returns()), (1, 1)); // of a new heap
+    /// ```
+    pub fn returns(&self) -> u64
+        ensures returns { result ≡ self.now.ledger.returns }
+        ensures counted { IsCounted self.now }
+    {
+        self.ledger.returns
+    }
+}

@@ -1,0 +1,308 @@
+ghost use Rattle.std.specs.Fn.{FnOnceTakesAt, FnOnceTakesAtMut};
+ghost use Rattle.std.specs.Prelude.{◌≡◌, ℕ, List, ◌+◌, ◌*◌, ◌/◌, ◌≤◌, ◌↔◌, length, IfOk, IsTrue, OnOk, OnErr};
+ghost use Rattle.std.specs.Result.{result_unwrap_or};
+ghost use Rattle.tlsf_heap.specs.Calls.{allocated, released, written, read_of, read_answer};
+ghost use Rattle.tlsf_heap.specs.Given.{payload_words_given};
+ghost use Rattle.tlsf_heap.specs.InPlace.{ArePayload, Alters, Inspects, IsRefusedAsRead, payload_of};
+ghost use Rattle.tlsf_heap.specs.Laws.{IsLive};
+ghost use Rattle.tlsf_heap.specs.Placed.{placed_at};
+ghost use Rattle.tlsf_heap.specs.Reports.{report_of, IsGrant};
+ghost use Rattle.tlsf_heap.specs.Touched.{FollowsNoForgery, FollowsNoPlace, allocate_touches, release_touches};
+ghost use Rattle.tlsf_heap.specs.ledger.Ledgers.{IsLedgered, KeepsLedger, SameLedger};
+
+use crate::heap::Heap;
+use crate::ledger::Ledger;
+use crate::name::Name;
+use crate::placed_block::PlacedBlock;
+use crate::refusal::Refusal;
+use crate::report::Report;
+use std::marker::Model;
+
+/// A heap with a ledger, which notes what is given and what comes back. Its level is that of its heap, 4 or 5.
+///
+/// Contracts see it as its heap, the ledger, and the heap's touches. The ledger is always one of the heap (`IsLedgered`): what it
+/// notes is true of the live blocks. A call that is refused changes neither. Places and sizes are in words of 8 bytes, lengths in
+/// bytes.
+#[derive(Drop)]
+pub struct Ledgered<const SLI: u32, L: Ledger<SLI>> {
+    pub(crate) heap: Heap<SLI>,
+    pub(crate) ledger: L,
+}
+
+impl<const SLI: u32, L: Ledger<SLI>> Model for Ledgered<SLI, L> {
+    ghost use Rattle.tlsf_heap.specs.ledger.Ledgers.{LedgerState, IsLedgered};
+
+    ghost Value = { LedgerState L };
+
+    ghost view = { λ c. record { heap = c.heap.heap; ledger = c.ledger; extents = c.heap.extents; touches = c.heap.touches } };
+
+    ghost invariant = { λ c. IsLedgered (L.holds SLI) (record { heap = c.heap.heap; ledger = c.ledger; extents = c.heap.extents; touches = c.heap.touches }) };
+}
+
+impl<const SLI: u32, L: Ledger<SLI>> Ledgered<SLI, L> {
+    /// Puts a heap and a ledger of it together.
+    ///
+    /// ```text
+    /// let counted = Ledgered::new(heap, counts);       // of a new heap: no grant and no return
+    /// ```
+    pub fn new(heap: Heap<SLI>, ledger: L) -> Ledgered<SLI, L>
+        requires { IsLedgered (L.holds SLI) (record { heap = heap.heap; ledger = ledger; extents = heap.extents; touches = heap.touches }) }
+        ensures heap { result.heap ≡ heap.entry.heap }
+        ensures ledger { result.ledger ≡ ledger }
+        ensures extents { result.extents ≡ heap.entry.extents }
+        ensures touches { result.touches ≡ heap.entry.touches }
+    {
+        Ledgered { heap, ledger }
+    }
+
+    /// What is noted of the heap.
+    ///
+    /// ```text
+    /// counted.ledger()                        // of a `Counted`: how many allocates and releases were accepted
+    /// ```
+    pub fn ledger(&self) -> &L
+        ensures ledger { result.now ≡ self.now.ledger }
+        ensures ledgered { IsLedgered (L.holds SLI) self.now }
+    {
+        &self.ledger
+    }
+
+    /// Gives a block that holds `len` bytes of payload, all zero, by good fit (ECRTS 2004, sections 3 and 4), and notes it.
+    ///
+    /// Refused by the ledger, if that admits no such request; then as `Heap::allocate` refuses: `NoFit` where no free block lies in a
+    /// class at or above the search class of the words wanted, else `Worn` where the tick is at its last value. Nothing is noted
+    /// then. Takes no memory.
+    ///
+    /// ```
+    /// let mut guard = heap.lock(&rt); // a heap of 4 words, the least
+    /// let name = guard.allocate(0)?; // 0 bytes of payload: a block of 4 words
+    /// assert_eq!(guard.allocate(0), Err(Refusal::NoFit)); // nothing is free: counted as no grant
+    /// ```
+    pub fn allocate(&mut self, len: u32) -> Result<Name, L::Why>
+        ensures answer { result ≡ L.answered self.old.ledger len (allocated SLI self.old.heap len).answer }
+        ensures heap { L.admits self.old.ledger len → self.new.heap ≡ (allocated SLI self.old.heap len).heap }
+
+        // What that comes to: when each refusal comes, and when it is a name.
+        ensures tells { L.tells SLI self.old.heap self.old.ledger len result }
+        ensures given { OnOk result (L.given self.old.ledger len self.new.ledger) }
+        ensures limits { L.same_limits self.old.ledger self.new.ledger }
+        ensures err { OnErr result (SameLedger self.old self.new) }
+        ensures keeps { KeepsLedger (L.holds SLI) self.old self.new }
+
+        // Accepted or refused, and whatever the region holds: at most 64 touches, and one for each payload word of the block given.
+        ensures touches { self.new.touches ≤ self.old.touches + 64 + payload_words_given result self.new.heap }
+        ensures most_touches { self.new.touches ≤ self.old.touches + allocate_touches result self.new.heap }
+    {
+        L::laws();
+        let place = match self.ledger.admit(len) {
+            Ok(place) => place,
+            Err(why) => return Err(why),
+        };
+        let name = match self.heap.allocate(len) {
+            Ok(name) => name,
+            Err(why) => return Err(self.ledger.refused(len, why)),
+        };
+        self.ledger.give(len, place);
+        Ok(name)
+    }
+
+    /// Takes back the block of that name, merges it with its free neighbours (at once: ECRTS 2004, section 4), and notes that.
+    ///
+    /// Refused as `Heap::release` refuses: `Foreign` where the name is of another heap, else `Stale` where no live block
+    /// has that place and serial, else `Worn` where the tick is at its last value. Nothing is noted then. Takes no memory.
+    ///
+    /// ```
+    /// guard.release(name)?;
+    /// assert_eq!(guard.release(name), Err(Refusal::Stale)); // it is released already: counted as no return
+    /// ```
+    pub fn release(&mut self, name: Name) -> Result<(), Refusal>
+        ensures answer { result ≡ (released self.old.heap name).answer }
+        ensures heap { self.new.heap ≡ (released self.old.heap name).heap }
+        ensures returned { OnOk result (L.returned self.old.ledger (length (payload_of self.old.heap name)) self.new.ledger) }
+        ensures limits { L.same_limits self.old.ledger self.new.ledger }
+        ensures err { OnErr result (SameLedger self.old self.new) }
+        ensures keeps { KeepsLedger (L.holds SLI) self.old self.new }
+
+        // Accepted or refused, and whatever the region holds: at most 64 touches.
+        ensures touches { self.new.touches ≤ self.old.touches + 64 }
+        ensures most_touches { self.new.touches ≤ self.old.touches + L.look_touches + release_touches }
+        ensures forged { FollowsNoForgery self.old.heap name self.old.touches self.new.touches }
+    {
+        L::laws();
+        let seen = match L::look(&mut self.heap, name) {
+            Ok(seen) => seen,
+            Err(why) => return Err(why),
+        };
+        if let Err(why) = self.heap.release(name) {
+            return Err(why);
+        }
+        self.ledger.take_back(seen);
+        Ok(())
+    }
+
+    /// Writes bytes into the payload of the block of that name, from byte `at` of it on.
+    ///
+    /// Refused as `Heap::write` refuses: `Foreign` where the name is of another heap, else `Stale` where no live block has
+    /// that place and serial, else `Range` where the bytes would go past the end of the payload. No byte changes then.
+    /// Takes no memory.
+    ///
+    /// ```
+    /// let name = guard.allocate(4)?;
+    /// guard.write(name, 1, &[5, 6])?; // bytes 1 and 2 of the payload
+    /// assert_eq!(guard.write(name, 3, &[5, 6]), Err(Refusal::Range));
+    /// ```
+    pub fn write(&mut self, name: Name, at: u32, bytes: &[u8]) -> Result<(), Refusal>
+        ensures answer { result ≡ (written self.old.heap name at bytes.now).answer }
+        ensures heap { self.new.heap ≡ (written self.old.heap name at bytes.now).heap }
+        ensures ledger { self.new.ledger ≡ self.old.ledger }
+        ensures err { OnErr result (SameLedger self.old self.new) }
+        ensures keeps { KeepsLedger (L.holds SLI) self.old self.new }
+        ensures touches { self.new.touches ≤ self.old.touches + 4 + 2 * (length bytes.now / 8 + 2) }
+        ensures forged { FollowsNoForgery self.old.heap name self.old.touches self.new.touches }
+    {
+        L::laws();
+        self.heap.write(name, at, bytes)
+    }
+
+    /// Reads bytes of the payload of the block of that name, from byte `at` of it on, and fills `out` with them.
+    ///
+    /// Refused as `Heap::read` refuses: `Foreign` where the name is of another heap, else `Stale` where no live block has
+    /// that place and serial, else `Range` where the bytes would go past the end of the payload. `out` is then as before.
+    /// Takes no memory.
+    ///
+    /// ```
+    /// let name = guard.allocate(4)?;
+    /// let mut out = [9u8; 2];
+    /// guard.read(name, 2, &mut out)?; // bytes 2 and 3 of the payload
+    /// assert_eq!(out, [0, 0]);
+    /// ```
+    pub fn read(&mut self, name: Name, at: u32, out: &mut [u8]) -> Result<(), Refusal>
+        ensures answer { result ≡ read_answer (read_of self.old.heap name at (length out.old)) }
+        ensures bytes { out.new ≡ result_unwrap_or (read_of self.old.heap name at (length out.old)) out.old }
+        ensures same { SameLedger self.old self.new }
+        ensures keeps { KeepsLedger (L.holds SLI) self.old self.new }
+        ensures touches { self.new.touches ≤ self.old.touches + 4 + (length out.old / 8 + 2) }
+        ensures forged { FollowsNoForgery self.old.heap name self.old.touches self.new.touches }
+    {
+        self.heap.read(name, at, out)
+    }
+
+    /// Hands the payload of the block of that name to `f`, which reads and writes it where it stands, and gives back what `f` answers.
+    /// `f` gets the words that hold it, as [`Heap::alter`] hands them out. Behind a lock others wait for it; what it does there is
+    /// counted in no touch, and noted neither as a grant nor as a return.
+    ///
+    /// Refused as `Heap::alter` refuses: `Foreign` where the name is of another heap, else `Stale` where no live block has that
+    /// place and serial; `f` is then not called. Takes no memory.
+    ///
+    /// ```
+    /// let name = guard.allocate(8)?;
+    /// guard.alter(name, |words| words[0] = 0x6948)?; // bytes 0 and 1 of the payload are 0x48 and 0x69
+    /// ```
+    pub fn alter<R, F: FnOnce(&mut [u64]) -> R>(&mut self, name: Name, f: F) -> Result<R, Refusal>
+        requires { IsLive self.old.heap name → (words : List ℕ) → ArePayload self.old.heap name words → FnOnceTakesAtMut F.FnOnce f words }
+        ensures answer { IsRefusedAsRead self.old.heap name result }
+        ensures altered { IfOk result (λ r. Alters F.FnOnce f self.old.heap name r self.new.heap) }
+        ensures ledger { self.new.ledger ≡ self.old.ledger }
+        ensures err { OnErr result (SameLedger self.old self.new) }
+        ensures keeps { KeepsLedger (L.holds SLI) self.old self.new }
+        ensures touches { self.new.touches ≤ self.old.touches + 4 }
+        ensures forged { FollowsNoForgery self.old.heap name self.old.touches self.new.touches }
+    {
+        L::laws();
+        self.heap.alter(name, f)
+    }
+
+    /// Shows the payload of the block of that name to `f`, where it stands, and gives back what `f` answers. `f` gets the words that
+    /// hold it, as [`Heap::inspect`] shows them. Behind a lock others wait for it; what it reads is counted in no touch.
+    ///
+    /// Refused as `Heap::inspect` refuses: `Foreign` where the name is of another heap, else `Stale` where no live block has that
+    /// place and serial; `f` is then not called. Takes no memory.
+    ///
+    /// ```
+    /// let first = guard.inspect(name, |words| words[0])?; // after the alter above
+    /// assert_eq!(first, 0x6948);
+    /// ```
+    pub fn inspect<R, F: FnOnce(&[u64]) -> R>(&mut self, name: Name, f: F) -> Result<R, Refusal>
+        requires { IsLive self.old.heap name → (words : List ℕ) → ArePayload self.old.heap name words → FnOnceTakesAt F.FnOnce f words }
+        ensures answer { IsRefusedAsRead self.old.heap name result }
+        ensures inspected { IfOk result (λ r. Inspects F.FnOnce f self.old.heap name r) }
+        ensures same { SameLedger self.old self.new }
+        ensures keeps { KeepsLedger (L.holds SLI) self.old self.new }
+        ensures touches { self.new.touches ≤ self.old.touches + 4 }
+        ensures forged { FollowsNoForgery self.old.heap name self.old.touches self.new.touches }
+    {
+        self.heap.inspect(name, f)
+    }
+
+    /// What the heap holds, and how well it serves: blocks, words of 8 bytes, payload bytes. It goes over all blocks, is
+    /// never refused, and takes no memory.
+    ///
+    /// ```
+    /// let report = heap.lock(&rt).report(); // of a new heap of 1024 words
+    /// assert_eq!((report.live_blocks, report.free_words), (0, 1024));
+    /// ```
+    pub fn report(&mut self) -> Report
+        ensures report { result ≡ report_of SLI self.old.heap }
+
+        // What the grant comes to: no request for more is served, and one for so much is, unless nothing is free.
+        ensures grant { IsGrant SLI self.old.heap.blocks result.grant }
+
+        // And what it comes to by the ledger.
+        ensures reports { L.reports self.old.ledger result }
+        ensures same { SameLedger self.old self.new }
+        ensures keeps { KeepsLedger (L.holds SLI) self.old self.new }
+
+        // Two for each block, and no block has fewer than four words.
+        ensures touches { self.new.touches ≤ self.old.touches + 2 * length self.old.heap.blocks }
+        ensures few { 4 * length self.old.heap.blocks ≤ self.old.heap.words }
+    {
+        L::laws();
+        self.heap.report()
+    }
+
+    /// The block that begins at a place, None where none does: a number from outside is not followed. The next begins at its end,
+    /// `at + size`, so that a walk from place 0 meets all blocks. Takes no memory.
+    ///
+    /// ```
+    /// let block = heap.lock(&rt).block_at(0); // of a new heap of 1024 words
+    /// assert_eq!(block.map(|block| block.size), Some(1024));
+    /// ```
+    pub fn block_at(&mut self, at: u32) -> Option<PlacedBlock>
+        ensures block { result ≡ placed_at self.old.heap.blocks at }
+        ensures same { SameLedger self.old self.new }
+        ensures keeps { KeepsLedger (L.holds SLI) self.old self.new }
+        ensures touches { self.new.touches ≤ self.old.touches + 4 }
+        ensures wild { FollowsNoPlace self.old.heap at self.old.touches self.new.touches }
+    {
+        self.heap.block_at(at)
+    }
+
+    /// Whether a live block of the heap has that name. A forged name is not followed. Takes no memory.
+    ///
+    /// ```
+    /// let name = guard.allocate(8)?;
+    /// assert!(guard.is_live(name));
+    /// ```
+    pub fn is_live(&mut self, name: Name) -> bool
+        ensures live { IsTrue result ↔ IsLive self.old.heap name }
+        ensures same { SameLedger self.old self.new }
+        ensures keeps { KeepsLedger (L.holds SLI) self.old self.new }
+        ensures touches { self.new.touches ≤ self.old.touches + 3 }
+        ensures forged { FollowsNoForgery self.old.heap name self.old.touches self.new.touches }
+    {
+        self.heap.is_live(name)
+    }
+
+    /// The tick of the heap: that which the next accepted allocate or release stamps, 1 to 2^64 - 1. A block that is free since tick s
+    /// has been free for `tick - s` ticks.
+    ///
+    /// ```text
+    /// guard.tick()                            // of a heap opened at 0: 1, and 2 after an accepted allocate
+    /// ```
+    pub fn tick(&self) -> u64
+        ensures tick { result ≡ self.now.heap.tick }
+        ensures ledgered { IsLedgered (L.holds SLI) self.now }
+    {
+        self.heap.tick()
+    }
+}

@@ -1,0 +1,176 @@
+ghost use Rattle.std.specs.Prelude.{◌≡◌, ◌+◌, ◌-◌, ◌<◌, ◌≤◌, ◌^◌, ◌↔◌, Some, length, slice_index, replicate, is_some, IfOk, IsErrOf};
+ghost use Rattle.tlsf_class.specs.Classes.{IsLevel};
+ghost use Rattle.tlsf_heap.specs.Calls.{opened, last_tick};
+ghost use Rattle.tlsf_heap.specs.InPlace.{payload_of};
+ghost use Rattle.tlsf_pool.specs.laws.Kinds;
+ghost use Rattle.tlsf_pool.specs.sizes.Splits.{HasWords};
+ghost use Rattle.tlsf_pool.specs.pools.Tables as tables;
+ghost use Rattle.tlsf_pool.specs.pools.Tables.{CountsOneMore, HasPlace, IsTable, IsTabled, ReportsTable, TableState, TellsTable, answered_by_table, most_at};
+
+use crate::kind::Kind;
+use crate::pools::pool_refusal::PoolRefusal;
+use crate::pools::rows::{count_down, count_up, has_place, row_of};
+use crate::sizes::region::region_words;
+use std::alloc::Global;
+use std::marker::Model;
+use tlsf_heap::{Heap, Ledger, Ledgered, Name, OpenFault, Refusal};
+
+/// The ledger of a [`TablePool`]: a table of kinds, and how many blocks are held of each. A block counts for the first row that is
+/// long enough for it.
+#[derive(Drop)]
+pub struct Table {
+    kinds: Vec<Kind>,
+    held: Vec<u32>,
+}
+
+impl Model for Table {
+    ghost use Rattle.tlsf_pool.specs.pools.Tables.{TableRows};
+
+    ghost Value = { TableRows };
+
+    ghost view = { λ t. record { kinds = t.kinds.items; held = t.held.items } };
+}
+
+impl Table {
+    // Whether some row is long enough.
+    pub(crate) fn serves(&self, len: u32) -> bool
+        ensures { result ≡ is_some (tables.row_of self.now.kinds len) }
+    {
+        row_of(&self.kinds, len).is_some()
+    }
+}
+
+impl<const SLI: u32> Ledger<SLI> for Table {
+    type Why = PoolRefusal;
+
+    type Place = usize;
+
+    type Seen = u32;
+
+    ghost holds = { λ sli h t. IsTable sli h t };
+
+    ghost answered = { λ t len answer. answered_by_table t len answer };
+
+    ghost admits = { λ t len. HasPlace t len };
+
+    ghost places = { λ t len row. (tables.row_of t.kinds len ≡ Some row) × (slice_index t.held row < most_at t.kinds row) × (slice_index t.held row < 2 ^ 32 - 1) };
+
+    ghost tells = { λ sli h t len answer. TellsTable sli h t len answer };
+
+    ghost reports = { λ t report. ReportsTable t report };
+
+    ghost given = { λ t len u. CountsOneMore len t u };
+
+    ghost returned = { λ t len u. CountsOneMore len u t };
+
+    ghost same_limits = { λ t u. u.kinds ≡ t.kinds };
+
+    ghost sees = { λ h name len. len ≡ length (payload_of h name) };
+
+    ghost look_touches = { 4 };
+
+    fn admit(&self, len: u32) -> Result<usize, PoolRefusal> {
+        let Some(row) = row_of(&self.kinds, len) else {
+            return Err(PoolRefusal::TooLong);
+        };
+        if !has_place(&self.kinds, &self.held, row) {
+            return Err(PoolRefusal::Full);
+        }
+        Ok(row)
+    }
+
+    // Room there is, so the tick is at its last value.
+    fn refused(&self, _len: u32, _why: Refusal) -> PoolRefusal {
+        PoolRefusal::Worn
+    }
+
+    fn give(&mut self, _len: u32, row: usize) {
+        count_up(&mut self.held, row);
+    }
+
+    fn look(heap: &mut Heap<SLI>, name: Name) -> Result<u32, Refusal> {
+        match heap.payload(name) {
+            Ok((_, len)) => Ok(len),
+            Err(why) => Err(why),
+        }
+    }
+
+    fn take_back(&mut self, len: u32) {
+        count_down(&self.kinds, &mut self.held, len);
+    }
+
+    fn laws() {}
+}
+
+/// A heap for a table of kinds, that never refuses for want of room: for each kind it is opened by the most blocks that are held at
+/// once and the longest request ([`TablePoolCalls::open`]). A block counts for the first row of the table that is long enough for it. Its
+/// level is that of its heap, 4 or 5. What is read of the table, 64 rows at most, counts no touch.
+///
+/// An allocate is given whenever there is such a row, fewer blocks of it are held than may be, and the tick isn't at its last value. Else
+/// it is refused as `TooLong`, `Full` or `Worn`, in this order.
+pub type TablePool<const SLI: u32> = Ledgered<SLI, Table>;
+
+/// The calls that a [`TablePool`] has beside those of each [`Ledgered`].
+pub trait TablePoolCalls<const SLI: u32>: Sized {
+    // What contracts see of it.
+    ghost shown: { Self → TableState };
+
+    /// Opens a heap of number `id` for a table of at most 64 kinds. Its region has `kinds_words` of the table, and is one free block,
+    /// stamped with the tick `first`.
+    ///
+    /// Refused as `BadSize` where no class has blocks for one of the kinds or no region has so many words (4 to 2^20, or to 2^24 at level
+    /// 5), else as `Worn` where `first` is the last tick, 2^64 - 1, else as `NoMemory` where the memory was not granted. No later call
+    /// takes memory.
+    ///
+    /// ```text
+    /// let kinds = [Kind { most: 100, len: 64 }, Kind { most: 4, len: 4096 }];
+    /// let pool = TablePool::<4>::open(alloc, 0, &kinds, 0)?;                  // 59,427 words
+    /// ```
+    fn open(alloc: Global, id: u32, kinds: &[Kind], first: u64) -> Result<Self, OpenFault>
+        requires level { IsLevel SLI }
+        requires few { length kinds.now ≤ 64 }
+        ensures heap { IfOk result (λ pool. (shown pool).heap ≡ opened id (Kinds.kinds_words SLI kinds.now) first) }
+        ensures kinds { IfOk result (λ pool. (shown pool).ledger.kinds ≡ kinds.now) }
+        ensures none { IfOk result (λ pool. (shown pool).ledger.held ≡ replicate (length kinds.now) 0) }
+        ensures table { IfOk result (λ pool. IsTabled SLI (shown pool)) }
+
+        // The refusals, in their order. Memory is refused only where no other refusal comes.
+        ensures bad_size { IsErrOf result OpenFault.BadSize ↔ ¬ (HasWords SLI kinds.now) }
+        ensures worn { HasWords SLI kinds.now → (IsErrOf result OpenFault.Worn ↔ (first ≡ last_tick)) }
+        ensures touches { IfOk result (λ pool. (shown pool).touches ≤ 10) };
+
+    /// How many blocks are held of a row of the table: those that count for it. 0 where the table has no such row.
+    ///
+    /// ```text
+    /// pool.allocate(8)?;
+    /// pool.held(0) == 1                       // of a new pool whose first row is long enough
+    /// ```
+    fn held(&self, row: usize) -> u32
+        ensures held { result ≡ slice_index (shown self.now).ledger.held row }
+
+        // No more than may be.
+        ensures few { result ≤ most_at (shown self.now).ledger.kinds row }
+        ensures table { IsTabled SLI (shown self.now) };
+}
+
+impl<const SLI: u32> TablePoolCalls<SLI> for TablePool<SLI> {
+    ghost shown = { λ pool. pool };
+
+    fn open(alloc: Global, id: u32, kinds: &[Kind], first: u64) -> Result<Self, OpenFault> {
+        let Some(words) = region_words::<SLI>(kinds) else {
+            return Err(OpenFault::BadSize);
+        };
+        let heap = Heap::open(alloc, id, words, first)?;
+        let Ok(rows) = Vec::from_slice(alloc, kinds) else {
+            return Err(OpenFault::NoMemory);
+        };
+        let Ok(held) = Vec::from_elem(alloc, 0, kinds.len()) else {
+            return Err(OpenFault::NoMemory);
+        };
+        Ok(Ledgered::new(heap, Table { kinds: rows, held }))
+    }
+
+    fn held(&self, row: usize) -> u32 {
+        self.ledger().held.get(row).copied().unwrap_or(0)
+    }
+}
