@@ -16,3 +16,4 @@ pub mod Stretches
 pub mod Taken
 pub mod UnitCases
 pub mod Ways
+pub mod Worn

@@ -1,4 +1,4 @@
-ghost use Rattle.std.specs.Prelude.{true, ◌≡◌, ◌≢◌, ℕ, ◌+◌, ◌-◌, ◌*◌, ◌/◌, ◌%◌, ◌^◌, ◌<◌, ◌≤◌, ◌↔◌, false, [], length, Ok, Err, IfOk, IfErr, IfSome, IsOk, IsErrOf, OnErr, OnOk, MatchResult, Some, option_map};
+ghost use Rattle.std.specs.Prelude.{true, ◌≡◌, ◌≢◌, ℕ, ◌+◌, ◌-◌, ◌*◌, ◌/◌, ◌%◌, ◌^◌, ◌<◌, ◌≤◌, ◌↔◌, false, [], length, Ok, Err, IfOk, IfErr, IfSome, IsOk, IsSome, IsErrOf, OnErr, OnOk, MatchResult, Some, option_map};
 ghost use denote.RawPtr.{block_of, count_of, InBlock};
 ghost use Rattle.linked_list_allocator.specs.Region.{region_of};
 ghost use Rattle.tlsf_class.specs.Classes.{IsLevel};
@@ -8,14 +8,15 @@ ghost use Rattle.tlsf_heap.specs.GoodFit.{fits};
 ghost use Rattle.tlsf_heap.specs.Lawful.{IsLawful, IsRegion};
 ghost use Rattle.tlsf_heap.specs.Placed.{placed_at};
 ghost use Rattle.tlsf_heap.specs.Reports.{report_of};
+ghost use Rattle.tlsf_heap.specs.Touched.{FollowsNoPlace};
 ghost use Rattle.tlsf_heap.specs.declared.name.Name.{Name};
-ghost use Rattle.tlsf_arena.specs.Arenas.{Holds, SameArena, SameHome, refitted, requested};
+ghost use Rattle.tlsf_arena.specs.Arenas.{Holds, IsMapped, SameArena, SameHome, refitted, requested};
 ghost use Rattle.tlsf_arena.specs.Loans.{IsLoan, loan_of, name_of, units_of};
 ghost use Rattle.tlsf_arena.specs.Places.{IsPiece, IsUnit, lacking, units_for, piece_size, held_at, serial_at, free_in};
 
 use crate::block::Block;
 use crate::book::{Book, Entry, Refit, lend_entry, refit_entry};
-use crate::memory::{GRAIN, Lease, Memory};
+use crate::memory::{Freed, GRAIN, Lease, Memory};
 use crate::piece::Piece;
 use crate::right::Right;
 use crate::search::unit_at;
@@ -157,6 +158,9 @@ impl<const SLI: u32, const UNIT: usize> Arena<SLI, UNIT> {
         ensures place { IfOk result (λ m. count_of m.ptr + m.size < 2 ^ 63) }
         ensures whole { IsOk result ↔ (self.entry.region.end ≡ self.entry.region.start + UNIT * free_in (placed_at self.entry.heap.blocks 0)) }
         ensures err { IfErr result (λ a. SameArena self.entry a) }
+
+        // Where a block is out, it has looked at the first block.
+        ensures touches { IfErr result (λ a. (a.touches ≤ self.entry.touches + 4) × (a.compared ≡ self.entry.compared)) }
     {
         let Arena {
             heap,
@@ -218,6 +222,7 @@ impl<const SLI: u32, const UNIT: usize> Arena<SLI, UNIT> {
         // Accepted or refused, whatever the length: at most 64 touches.
         ensures touches { self.new.touches ≤ self.old.touches + 64 }
         ensures touches_rise { self.old.touches ≤ self.new.touches }
+        ensures compared { self.new.compared ≡ self.old.compared }
     {
         let heap = &mut self.heap;
         let units = units_of(len as usize, UNIT) as u32;
@@ -254,6 +259,7 @@ impl<const SLI: u32, const UNIT: usize> Arena<SLI, UNIT> {
         ensures home { SameHome self.old self.new }
         ensures touches { self.new.touches ≤ self.old.touches + 60 }
         ensures touches_rise { self.old.touches ≤ self.new.touches }
+        ensures compared { self.new.compared ≡ self.old.compared }
     {
         let Block { name, piece, right } = block;
         match self.give(name, piece, right) {
@@ -395,6 +401,7 @@ impl<const SLI: u32, const UNIT: usize> Arena<SLI, UNIT> {
         ensures home { SameHome self.old self.new }
         ensures touches { self.new.touches ≤ self.old.touches + 64 }
         ensures touches_rise { self.old.touches ≤ self.new.touches }
+        ensures compared { self.new.compared ≡ self.old.compared }
     {
         let Block { name, piece, right } = block;
         match self.refit(name, len, piece, right) {
@@ -426,6 +433,7 @@ impl<const SLI: u32, const UNIT: usize> Arena<SLI, UNIT> {
         ensures home { SameHome self.old self.new }
         ensures touches { self.new.touches ≤ self.old.touches + 64 }
         ensures touches_rise { self.old.touches ≤ self.new.touches }
+        ensures compared { self.new.compared ≡ self.old.compared }
     {
         let right = replace_with(&mut self.book, right, Book::beside);
         let units = units_of(len as usize, UNIT) as u32;
@@ -614,6 +622,7 @@ impl<const SLI: u32, const UNIT: usize> Arena<SLI, UNIT> {
         ensures same { SameArena self.old self.new }
         ensures touches { self.new.touches ≤ self.old.touches + 2 * length self.old.heap.blocks }
         ensures touches_rise { self.old.touches ≤ self.new.touches }
+        ensures compared { self.new.compared ≡ self.old.compared }
     {
         self.heap.report()
     }
@@ -628,11 +637,12 @@ impl<const SLI: u32, const UNIT: usize> Arena<SLI, UNIT> {
         ensures same { SameArena self.old self.new }
         ensures touches { self.new.touches ≤ self.old.touches + 2 * length self.old.heap.blocks }
         ensures touches_rise { self.old.touches ≤ self.new.touches }
+        ensures compared { self.new.compared ≡ self.old.compared }
     {
         self.report().free_words
     }
 
-    /// The block that begins at a unit, None where none does. Its size is in units, those that good fit gave it beyond the wanted ones with
+    /// The block that begins at a unit, None where none does: a number from outside is not followed (`wild`). Its size is in units, those that good fit gave it beyond the wanted ones with
     /// them. The next begins at its end, `at + size`, so that a walk from unit 0 meets all blocks. Takes no memory.
     ///
     /// ```text
@@ -644,6 +654,8 @@ impl<const SLI: u32, const UNIT: usize> Arena<SLI, UNIT> {
         ensures same { SameArena self.old self.new }
         ensures touches { self.new.touches ≤ self.old.touches + 4 }
         ensures touches_rise { self.old.touches ≤ self.new.touches }
+        ensures wild { FollowsNoPlace self.old.heap at self.old.touches self.new.touches }
+        ensures compared { self.new.compared ≡ self.old.compared }
     {
         self.heap.block_at(at)
     }
@@ -706,6 +718,7 @@ impl<const SLI: u32, const UNIT: usize> Arena<SLI, UNIT> {
 fn free_at_start<const SLI: u32>(heap: &mut Heap<SLI>) -> u32
     ensures size { result ≡ free_in (placed_at heap.old.heap.blocks 0) }
     ensures same { heap.new.heap ≡ heap.old.heap }
+    ensures touches { heap.new.touches ≤ heap.old.touches + 4 }
 {
     match heap.block_at(0) {
         Some(
@@ -719,7 +732,37 @@ fn free_at_start<const SLI: u32>(heap: &mut Heap<SLI>) -> u32
     }
 }
 
-// The memory is leaked while a block is out, and where it is the caller's.
+/// Gives the memory of an arena back to `Global`, where it was taken there and no block is out. Else it is leaked: a block's bytes are its
+/// holder's, and memory that was handed in is the caller's.
+fn give_back<const SLI: u32, const UNIT: usize>(
+    heap: Box<Heap<SLI>, Global>,
+    space: Space,
+    units: u32,
+    alloc: Global,
+    lease: Option<Lease<Global>>,
+) -> Option<Freed>
+    requires mapped { IsMapped SLI UNIT units heap.value.heap space.free }
+    requires lease { IfSome lease (λ l. (l.alloc ≡ alloc) × ((l.ptr ≡ space.base) × (l.size ≡ UNIT * units))) }
+    ensures freed { IsSome result ↔ ((free_in (placed_at heap.entry.value.heap.blocks 0) ≡ units) × IsSome lease) }
+    ensures size { IfSome result (λ f. f.size ≡ UNIT * units) }
+{
+    let mut heap = heap;
+    let free = free_at_start(&mut heap);
+    drop(heap);
+    let Some(lease) = lease else {
+        space.leak();
+        return None;
+    };
+    if free == units {
+        let size = bytes_of(units, UNIT);
+        let memory = space.into_memory(size);
+        return Some(memory.give_back(size, lease, &alloc));
+    }
+    space.leak();
+    let _leaked = unsafe { ManuallyDrop::new_unchecked(lease) };
+    None
+}
+
 impl<const SLI: u32, const UNIT: usize> Drop for Arena<SLI, UNIT> {
     fn drop(self) {
         let Arena {
@@ -733,20 +776,6 @@ impl<const SLI: u32, const UNIT: usize> Drop for Arena<SLI, UNIT> {
             lease,
             compared: _,
         } = self;
-        let mut heap = heap;
-        let free = free_at_start(&mut heap);
-        drop(heap);
-        if free == units {
-            let memory = space.into_memory(bytes_of(units, UNIT));
-            match lease {
-                Some(lease) => memory.free(lease, &alloc),
-                None => memory.leak(),
-            }
-        } else {
-            space.leak();
-            if let Some(lease) = lease {
-                let _leaked = unsafe { ManuallyDrop::new_unchecked(lease) };
-            }
-        }
+        drop(give_back::<SLI, UNIT>(heap, space, units, alloc, lease));
     }
 }

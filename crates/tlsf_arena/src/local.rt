@@ -1,4 +1,4 @@
-ghost use Rattle.std.specs.Prelude.{◌≡◌, ◌+◌, ◌*◌, ◌^◌, ◌<◌, ◌≤◌, IfSome, IsErrOf, ◌↔◌, MatchResult};
+ghost use Rattle.std.specs.Prelude.{◌≡◌, ◌+◌, ◌*◌, ◌^◌, ◌<◌, ◌≤◌, IfOk, IfSome, IsErrOf, ◌↔◌, MatchResult};
 ghost use Rattle.std.specs.Mem.{type_size};
 ghost use Rattle.tlsf_class.specs.Classes.{IsLevel};
 ghost use Rattle.tlsf_heap.specs.Lawful.{IsRegion};
@@ -39,7 +39,9 @@ pub struct LocalArena<const SLI: u32, const UNIT: usize> {
 pub type DefaultArena = LocalArena<4, 16>;
 
 impl<const SLI: u32, const UNIT: usize> LocalArena<SLI, UNIT> {
-    /// Opens an arena as [`Arena::open`] does, and is refused as it is.
+    ghost use Rattle.tlsf_arena.specs.Locals.{memory_of};
+
+    /// Opens an arena as [`Arena::open`] does, over `UNIT * units` bytes (`region`), and is refused as it is.
     ///
     /// ```text
     /// let arena = LocalArena::<4, 16>::open(alloc, 0, 1 << 16)?;       // 1 MiB in units of 16 bytes
@@ -48,6 +50,7 @@ impl<const SLI: u32, const UNIT: usize> LocalArena<SLI, UNIT> {
     pub fn open(alloc: Global, id: u32, units: u32) -> Result<LocalArena<SLI, UNIT>, OpenFault>
         requires level { IsLevel SLI }
         requires unit { IsUnit UNIT }
+        ensures region { IfOk result (λ a. (memory_of a).end ≡ (memory_of a).start + UNIT * units) }
         ensures bad_size { IsErrOf result OpenFault.BadSize ↔ ¬ (IsRegion SLI units) }
         ensures not_worn { ¬ (IsErrOf result OpenFault.Worn) }
     {
@@ -103,12 +106,8 @@ impl<const SLI: u32, const UNIT: usize> LocalArena<SLI, UNIT> {
     {
         match self.slot.replace(None) {
             Some(mut boxed) => {
-                let answer = boxed.arena.release_at(piece, right, self.guesses());
+                let _given = boxed.give(piece, right, self.guesses());
                 self.slot.replace(Some(boxed));
-                // At the last tick alone.
-                if let Err((_, piece, right)) = answer {
-                    let _lost = unsafe { ManuallyDrop::new_unchecked((piece, right)) };
-                }
             }
             None => {
                 let _lost = unsafe { ManuallyDrop::new_unchecked((piece, right)) };

@@ -7,7 +7,6 @@ ghost use Rattle.linked_list_allocator.specs.Ownership.{bytes_at, units_of};
 
 use std::alloc::{Allocator, Global};
 use std::marker::{Model, PhantomData};
-use std::mem::ManuallyDrop;
 
 // The bytes to which `Global` aligns what it grants.
 pub(crate) const GRAIN: usize = 16;
@@ -29,6 +28,12 @@ pub(crate) struct Lease<A: Allocator> {
     ghost alloc: { A },
     ghost ptr: { Ptr },
     ghost size: { ℕ },
+}
+
+// What shows that memory of so many bytes went back to its parent.
+#[derive(Drop)]
+pub(crate) struct Freed {
+    size: usize,
 }
 
 impl<A: Allocator> Model for Lease<A> {
@@ -80,11 +85,17 @@ impl Memory {
         (ptr, Memory { ptr, size })
     }
 
-    pub(crate) fn leak(self) {
-        let _leaked = unsafe { ManuallyDrop::new_unchecked(self) };
+    // Gives it back to the parent, all of its bytes. Nothing else makes a `Freed`.
+    pub(crate) fn give_back<A: Allocator>(self, size: usize, lease: Lease<A>, alloc: &A) -> Freed
+        requires size { size ≡ self.size }
+        requires lease { (lease.alloc ≡ alloc.now) × (lease.ptr ≡ self.ptr) × (lease.size ≡ self.size) }
+        ensures { result.size ≡ size }
+    {
+        self.free(lease, alloc);
+        Freed { size }
     }
 
-    pub(crate) fn free<A: Allocator>(self, lease: Lease<A>, alloc: &A)
+    fn free<A: Allocator>(self, lease: Lease<A>, alloc: &A)
         requires { (lease.alloc ≡ alloc.now) × (lease.ptr ≡ self.ptr) × (lease.size ≡ self.size) }
     {
         let Memory { ptr, size } = self;

@@ -1,4 +1,4 @@
-// At which unit of an arena's memory an address lies. Each comparison of it with the address of a unit is counted.
+// At which unit of an arena's memory an address lies.
 ghost use Rattle.std.specs.Prelude.{◌≡◌, ◌≢◌, ℕ, ◌+◌, ◌-◌, ◌*◌, ◌^◌, ◌<◌, ◌≤◌, MatchOption};
 ghost use Rattle.std.specs.Bool.{Decides};
 ghost use denote.RawPtr.{block_of, count_of, InBlock};
@@ -57,8 +57,7 @@ fn is_unit_at(
     if at >= units {
         return false;
     }
-    compared.add_one();
-    begins_at(ptr, base, grains_before(at, unit))
+    begins_at(ptr, base, grains_before(at, unit), compared)
 }
 
 /// The one unit that can begin at an address: each comparison halves the units in question.
@@ -76,8 +75,7 @@ fn sought(ptr: *mut u8, base: *mut u8, units: u32, unit: usize, compared: &mut T
     'halves: while count > 1 {
         let half = count / 2;
         let middle = at + half;
-        compared.add_one();
-        if !lies_before(ptr, base, grains_before(middle, unit)) {
+        if !lies_before(ptr, base, grains_before(middle, unit), compared) {
             at = middle;
         }
         count -= half;

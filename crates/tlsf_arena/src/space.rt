@@ -10,6 +10,7 @@ use crate::memory::{GRAIN, Memory};
 use crate::piece::Piece;
 use std::marker::Model;
 use std::mem::ManuallyDrop;
+use tlsf_class::Touches;
 
 // The free grains of a region, sixteen bytes each: their bytes, and no others of it. `free` has one entry for each.
 pub(crate) struct Space {
@@ -66,8 +67,27 @@ impl Space {
     }
 }
 
-// Whether `ptr` lies before grain `at` of the memory at `base`.
-pub(crate) fn lies_before(ptr: *mut u8, base: *mut u8, at: usize) -> bool
+// Whether `ptr` lies before grain `at` of the memory at `base`. Each such comparison is here, and is counted.
+pub(crate) fn lies_before(ptr: *mut u8, base: *mut u8, at: usize, compared: &mut Touches) -> bool
+    requires { InBlock base × InBlock ptr × (block_of ptr ≡ block_of base) × (count_of base + 16 * at < 2 ^ 63) × (count_of ptr < 2 ^ 63) }
+    ensures order { Decides result (count_of ptr < count_of base + 16 * at) }
+    ensures counted { compared.new.count ≡ compared.old.count + 1 }
+{
+    compared.add_one();
+    precedes_grain(ptr, base, at)
+}
+
+// Whether grain `at` of the memory at `base` begins at `ptr`. Each such comparison is here, and is counted.
+pub(crate) fn begins_at(ptr: *mut u8, base: *mut u8, at: usize, compared: &mut Touches) -> bool
+    requires { InBlock base × InBlock ptr × (block_of ptr ≡ block_of base) × (count_of base + 16 * at < 2 ^ 63) × (count_of ptr < 2 ^ 63) }
+    ensures place { Decides result (count_of ptr ≡ count_of base + 16 * at) }
+    ensures counted { compared.new.count ≡ compared.old.count + 1 }
+{
+    compared.add_one();
+    equals_grain(ptr, base, at)
+}
+
+fn precedes_grain(ptr: *mut u8, base: *mut u8, at: usize) -> bool
     requires { InBlock base × InBlock ptr × (block_of ptr ≡ block_of base) × (count_of base + 16 * at < 2 ^ 63) × (count_of ptr < 2 ^ 63) }
     ensures { Decides result (count_of ptr < count_of base + 16 * at) }
 {
@@ -75,8 +95,7 @@ pub(crate) fn lies_before(ptr: *mut u8, base: *mut u8, at: usize) -> bool
     ptr < grain
 }
 
-// Whether grain `at` of the memory at `base` begins at `ptr`.
-pub(crate) fn begins_at(ptr: *mut u8, base: *mut u8, at: usize) -> bool
+fn equals_grain(ptr: *mut u8, base: *mut u8, at: usize) -> bool
     requires { InBlock base × InBlock ptr × (block_of ptr ≡ block_of base) × (count_of base + 16 * at < 2 ^ 63) × (count_of ptr < 2 ^ 63) }
     ensures { Decides result (count_of ptr ≡ count_of base + 16 * at) }
 {

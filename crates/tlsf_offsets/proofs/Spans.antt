@@ -1,6 +1,6 @@
 -- Spans that an arena of offsets holds: they lie apart, and calls leave those of other names.
 use Rattle.std.proofs.Common.{◌≡◌, ◌≢◌, ℕ, zero, suc, ◌+◌, ◌-◌, ◌*◌, ◌/◌, ◌%◌, ◌<◌, ◌≤◌, Bool, true, cond, eqb, List, [], ◌∷◌, ◌++◌, length, take, min, max, Option, Some, None, Result, Ok, Err, sym, ◌∙◌, ap, subst, refl, inl, inr, arith, append_assoc, eq-eqb, mul-le-mul_left, mul-add, mul_comm, div-add-mod', mod-lt}
-use Rattle.std.specs.Prelude.{nat_lt, ◌^◌, ◌↔◌, IsOk, IsErrOf, MatchResult, OnOk, is_ok}
+use Rattle.std.specs.Prelude.{nat_lt, ◌^◌, ◌↔◌, IsOk, IsErrOf, IsSome, MatchResult, OnOk, is_ok}
 use Rattle.std.specs.List.{AllByRecursion}
 use Rattle.std.proofs.lemmas.Bool.{eqb-true, false≢true, cases_lt}
 use Rattle.std.proofs.lemmas.Bool.Decides.{nat_tests}
@@ -12,6 +12,7 @@ use Rattle.tlsf_heap.specs.GoodFit.{Site, block_at, fits, place_of}
 use Rattle.tlsf_heap.specs.Lawful.{HasRoom, IsLawful}
 use Rattle.tlsf_heap.specs.Laws.{IsLive}
 use Rattle.tlsf_heap.specs.Placed.{placed, placed_at}
+use Rattle.tlsf_heap.specs.Touched.{FollowsNoForgery}
 use Rattle.tlsf_heap.specs.declared.name.Name.{Name}
 use Rattle.tlsf_heap.specs.declared.refusal.Refusal.{Refusal}
 use Rattle.tlsf_heap.specs.declared.refusal.Refusal.TheVariants.{NoFit, NoRoom, Worn, Foreign}
@@ -25,7 +26,9 @@ use Rattle.tlsf_heap.proofs.lemmas.laws.Lasting.{HasFrom, in_left, in_right, in_
 use Rattle.tlsf_heap.proofs.lemmas.blocks.Lawful.{words_in-append}
 use Rattle.tlsf_heap.proofs.lemmas.laws.Live.{lives, new_words, shown, one_serial, same_name, words_carved, no_serial}
 use Rattle.tlsf_heap.proofs.lemmas.blocks.Order.{ends_before, inside}
-use Rattle.tlsf_heap.proofs.lemmas.calls.Outcomes.{by_allocated_words, by_released, by_resized_words, gives_words, named_site, resizes}
+use Rattle.tlsf_heap.proofs.lemmas.calls.Alter.{named_of}
+use Rattle.tlsf_heap.proofs.lemmas.calls.Named.{not_forged}
+use Rattle.tlsf_heap.proofs.lemmas.calls.Outcomes.{by_allocated_words, by_released, by_resized_found, by_resized_words, gives_words, named_site, resizes}
 use Rattle.tlsf_heap.proofs.lemmas.blocks.ByPlace.{placed_found}
 use Rattle.tlsf_heap.proofs.lemmas.words.Recut.{cut_small, cut_large}
 use Rattle.tlsf_heap.proofs.lemmas.lists.Refit.{refitted_grown, refitted_cut, refitted_kept}
@@ -539,3 +542,9 @@ module _ (sli : ℕ) (o p : Offsets) (name : Name) (len : ℕ) (a : Alters sli o
 
     pub alters_close : span.size < o.unit * (units_for o.unit len + 4)
     alters_close = subst (λ (u : ℕ). span.size < u * (units_for o.unit len + 4)) a.unit_is (close sli p span (units_for o.unit len) a.after h respanned.0 respanned.1)
+
+-- the name of a resize that was done is not forged, whatever the call touched
+pub resized_not_forged : (h : HeapState) (name : Name) (n : ℕ) → IsLawful h → (resized_words h name n 0).answer ≡ Ok tt → (before behind : ℕ) → FollowsNoForgery h name before behind
+resized_not_forged h name n lawful =
+    by_resized_found (λ o. o.answer ≡ Ok tt → (before behind : ℕ) → FollowsNoForgery h name before behind) h name n 0 (λ why e. absurd cc)
+    (λ s own found room done before behind. not_forged h name lawful (named_of h name (own, subst (λ (o : Option Site). IsSome o) (sym found) refl)) before behind)

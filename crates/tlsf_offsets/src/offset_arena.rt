@@ -3,6 +3,7 @@ ghost use Rattle.tlsf_class.specs.Classes.{IsLevel};
 ghost use Rattle.tlsf_heap.specs.Calls.{opened, allocated_words, released, resized_words, last_tick};
 ghost use Rattle.tlsf_heap.specs.GoodFit.{fits};
 ghost use Rattle.tlsf_heap.specs.Lawful.{IsRegion};
+ghost use Rattle.tlsf_heap.specs.Touched.{FollowsNoForgery};
 ghost use Rattle.tlsf_offsets.specs.Offsets.{IsOffsets, IsHeld, KeepsOthers, units_for, usage_of};
 ghost use Rattle.tlsf_heap.specs.Laws.{IsLive};
 ghost use Rattle.tlsf_offsets.specs.declared.span.Span.{Span};
@@ -131,6 +132,9 @@ impl<const SLI: u32> OffsetArena<SLI> {
         ensures lawful { IsOffsets SLI self.new }
         ensures touches { self.new.touches ≤ self.old.touches + 64 }
         ensures touches_rise { self.old.touches ≤ self.new.touches }
+
+        // A forged name is not followed.
+        ensures forged { FollowsNoForgery self.old.heap name self.old.touches self.new.touches }
     {
         self.heap.release(name)
     }
@@ -159,10 +163,13 @@ impl<const SLI: u32> OffsetArena<SLI> {
         ensures lawful { IsOffsets SLI self.new }
         ensures touches { self.new.touches ≤ self.old.touches + 68 }
         ensures touches_rise { self.old.touches ≤ self.new.touches }
+
+        // A forged name is not followed.
+        ensures forged { FollowsNoForgery self.old.heap name self.old.touches self.new.touches }
     {
         match self.heap.resize_words(name, units_of(self.unit, len), 0) {
             Ok(()) => Ok(self.span_of(name)),
-            Err(why) => Err(why),
+            Err(refusal) => Err(refusal),
         }
     }
 

@@ -1,72 +1,187 @@
 -- What a look at each place in turn leaves.
-use Rattle.std.proofs.Common.{◌≡◌, ℕ, zero, suc, ◌+◌, ◌*◌, ◌≤◌, Bool, true, false, List, [], ◌∷◌, ◌++◌, length, length-set, set, slice_get, Option, Some, None, refl, sym, ap, ◌∙◌, ◌⊎◌, inl, inr, ⊎_elim, append_assoc, arith}
-use Rattle.std.specs.List.{range_with_len}
-use Rattle.std.proofs.lemmas.Bool.{false≢true}
+use Rattle.std.proofs.Common.{◌≡◌, ℕ, suc, ◌+◌, ◌*◌, ◌≤◌, Bool, true, false, List, [], ◌∷◌, ◌++◌, length, length-append, length-set, set, slice_get, Option, Some, None, refl, sym, ap, ◌∙◌, inl, inr, append_assoc, append-nil, arith}
+use Rattle.std.proofs.lemmas.Bool.{cases_eq, false≢true}
 use Rattle.tlsf_heap.specs.Blocks.{HeapState}
 use Rattle.tlsf_heap.specs.Calls.{last_tick, released}
 use Rattle.tlsf_pool_arena.specs.PoolArenas.{SamePlan}
-use Rattle.tlsf_pool_arena.specs.Remotes.{RemoteState}
+use Rattle.tlsf_pool_arena.specs.Remotes.{RemoteState, TakesHome, home_from, home_released, looks_from, still_away}
 use Rattle.tlsf_pool_arena.specs.declared.parcel.Parcel.{Parcel}
 
--- the first n places were looked at
+-- ---- what one look more comes to
+
+next_place : (k : ℕ) (seen : List Bool) → k + 1 + length seen ≡ k + suc (length seen)
+next_place k seen = omega arith
+
+looks_on : (k : ℕ) (seen : List Bool) (home : Bool) → looks_from k (seen ++ home ∷ []) ≡ looks_from k seen ++ (k + length seen, home) ∷ []
+looks_on k [] home = ap (λ (j : ℕ). (j, home) ∷ []) (let e : k ≡ k + 0 = omega arith in e)
+looks_on k (was ∷ seen) home =
+    ap (λ (l : List (ℕ × Bool)). (k, was) ∷ l) (looks_on (k + 1) seen home ∙ ap (λ (j : ℕ). looks_from (k + 1) seen ++ (j, home) ∷ []) (next_place k seen))
+
+home_on : (k : ℕ) (seen : List Bool) → home_from k (seen ++ true ∷ []) ≡ home_from k seen ++ (k + length seen) ∷ []
+home_on k [] = ap (λ (j : ℕ). j ∷ []) (let e : k ≡ k + 0 = omega arith in e)
+home_on k (true ∷ seen) = ap (λ (l : List ℕ). k ∷ l) (home_on (k + 1) seen ∙ ap (λ (j : ℕ). home_from (k + 1) seen ++ j ∷ []) (next_place k seen))
+home_on k (false ∷ seen) = home_on (k + 1) seen ∙ ap (λ (j : ℕ). home_from (k + 1) seen ++ j ∷ []) (next_place k seen)
+
+home_off : (k : ℕ) (seen : List Bool) → home_from k (seen ++ false ∷ []) ≡ home_from k seen
+home_off k [] = refl
+home_off k (true ∷ seen) = ap (λ (l : List ℕ). k ∷ l) (home_off (k + 1) seen)
+home_off k (false ∷ seen) = home_off (k + 1) seen
+
+abbrev Away : ℕ → Type 0
+Away u = List (Option (Parcel u))
+
+module _ {u : ℕ} where
+  -- the next place is as it was
+  away_next : (away : Away u) (seen : List Bool) → slice_get (still_away away seen) (length seen) ≡ slice_get away (length seen)
+  away_next [] seen = refl
+  away_next (b ∷ away) [] = refl
+  away_next (b ∷ away) (true ∷ seen) = away_next away seen
+  away_next (b ∷ away) (false ∷ seen) = away_next away seen
+
+  away_on : (away : Away u) (seen : List Bool) → still_away away (seen ++ true ∷ []) ≡ set (still_away away seen) (length seen) None
+  away_on [] seen = refl
+  away_on (b ∷ []) [] = refl
+  away_on (b ∷ (d ∷ away)) [] = refl
+  away_on (b ∷ away) (true ∷ seen) = ap (λ (l : Away u). None ∷ l) (away_on away seen)
+  away_on (b ∷ away) (false ∷ seen) = ap (λ (l : Away u). b ∷ l) (away_on away seen)
+
+  away_off : (away : Away u) (seen : List Bool) → still_away away (seen ++ false ∷ []) ≡ still_away away seen
+  away_off [] seen = refl
+  away_off (b ∷ []) [] = refl
+  away_off (b ∷ (d ∷ away)) [] = refl
+  away_off (b ∷ away) (true ∷ seen) = ap (λ (l : Away u). None ∷ l) (away_off away seen)
+  away_off (b ∷ away) (false ∷ seen) = ap (λ (l : Away u). b ∷ l) (away_off away seen)
+
+  none_taken : (away : Away u) → still_away away [] ≡ away
+  none_taken [] = refl
+  none_taken (b ∷ away) = refl
+
+  nothing_seen : (h : HeapState) (away : Away u) → home_released h away [] ≡ h
+  nothing_seen h [] = refl
+  nothing_seen h (b ∷ away) = refl
+
+  heap_on : (h : HeapState) (away : Away u) (seen : List Bool) (b : Parcel u) → slice_get away (length seen) ≡ Some (Some b) → home_released h away (seen ++ true ∷ []) ≡ (released (home_released h away seen) b.block.name).heap
+  heap_on h [] seen b here = absurd (let no : ⊥ = cc in no)
+  heap_on h (None ∷ away) [] b here = absurd (let no : ⊥ = cc in no)
+  heap_on h (Some d ∷ away) [] b here = let same : d ≡ b = cc in nothing_seen (released h d.block.name).heap away ∙ ap (λ (d : Parcel u). (released h d.block.name).heap) same
+  heap_on h (None ∷ away) (true ∷ seen) b here = heap_on h away seen b here
+  heap_on h (Some d ∷ away) (true ∷ seen) b here = heap_on (released h d.block.name).heap away seen b here
+  heap_on h (d ∷ away) (false ∷ seen) b here = heap_on h away seen b here
+
+  heap_off : (h : HeapState) (away : Away u) (seen : List Bool) → home_released h away (seen ++ false ∷ []) ≡ home_released h away seen
+  heap_off h [] seen = refl
+  heap_off h (d ∷ away) [] = nothing_seen h away
+  heap_off h (None ∷ away) (true ∷ seen) = heap_off h away seen
+  heap_off h (Some d ∷ away) (true ∷ seen) = heap_off (released h d.block.name).heap away seen
+  heap_off h (d ∷ away) (false ∷ seen) = heap_off h away seen
+
+-- the first n places were looked at, unless the last tick came
 pub record Drained {u : ℕ} (first now : RemoteState u) (n : ℕ) : Type 0 where
   pub own : now.places ≡ first.places
   pub held : now.arena.held ≤ first.arena.held
-  pub away : (k : ℕ) → (slice_get now.away k ≡ slice_get first.away k) ⊎ (slice_get now.away k ≡ Some None)
-  pub looks : ¬ (now.arena.heap.tick ≡ last_tick) → now.looks ≡ first.looks ++ range_with_len 0 n
   pub plan : SamePlan first.arena now.arena
   pub long : length now.away ≡ length first.away
   pub touches : now.arena.touches ≤ first.arena.touches + 60 * n
+  pub steps : now.steps ≤ first.steps + n
+  pub seen : List Bool
+  pub looks : now.looks ≡ first.looks ++ looks_from 0 seen
+  pub away : now.away ≡ still_away first.away seen
+  pub heap : now.arena.heap ≡ home_released first.arena.heap first.away seen
+  pub idle : now.idle ≡ first.idle ++ home_from 0 seen
+  pub whole : ¬ (now.arena.heap.tick ≡ last_tick) → length seen ≡ n
 
--- an entry that changed, or another
-either_way : {A : Type 0} (l : List A) (at k : ℕ) (a : A) → (slice_get (set l at a) k ≡ slice_get l k) ⊎ (slice_get (set l at a) k ≡ Some a)
-either_way [] at k a = inl refl
-either_way (x ∷ l) zero zero a = inr refl
-either_way (x ∷ l) zero (suc k) a = inl refl
-either_way (x ∷ l) (suc at) zero a = inl refl
-either_way (x ∷ l) (suc at) (suc k) a = either_way l at k a
+-- before the first look
+pub none_drained : {u : ℕ} (first : RemoteState u) → Drained first first 0
+none_drained first = record {
+  own = refl;
+  held = omega arith;
+  plan = record { region = refl; book = refl; most = refl; longest = refl };
+  long = refl;
+  touches = omega arith;
+  steps = omega arith;
+  seen = [];
+  looks = sym (append-nil first.looks);
+  away = sym (none_taken first.away);
+  heap = sym (nothing_seen first.arena.heap first.away);
+  idle = sym (append-nil first.idle);
+  whole = λ _. refl;
+}
 
-one_more : (a n : ℕ) → range_with_len a (suc n) ≡ range_with_len a n ++ (a + n) ∷ []
-one_more a zero = ap (λ (j : ℕ). j ∷ []) (let e : a ≡ a + 0 = omega arith in e)
-one_more a (suc n) = ap (λ (l : List ℕ). a ∷ l) (one_more (a + 1) n ∙ ap (λ (j : ℕ). range_with_len (a + 1) n ++ j ∷ []) (let e : a + 1 + n ≡ a + suc n = omega arith in e))
+-- after the last
+pub all_drained : {u : ℕ} (first now : RemoteState u) (n : ℕ) → Drained first now n → n ≡ length first.away → (seen : List Bool) × TakesHome first now seen
+all_drained first now n d long = (d.seen, record { looks = d.looks; away = d.away; heap = d.heap; idle = d.idle; whole = λ fresh. d.whole fresh ∙ long })
 
-pub next_range : (at : ℕ) → range_with_len 0 at ++ at ∷ [] ≡ range_with_len 0 (at + 1)
-next_range at =
-    sym (one_more 0 at ∙ ap (λ (j : ℕ). range_with_len 0 at ++ j ∷ []) (let e : 0 + at ≡ at = omega arith in e)) ∙ ap (λ (j : ℕ). range_with_len 0 j) (let e : suc at ≡ at + 1 = omega arith in e)
-
-module _ {u : ℕ} (first old new : RemoteState u) (at : ℕ) (was : Drained first old at) (own : new.places ≡ old.places) (plan : SamePlan old.arena new.arena) (touches : new.arena.touches ≤ old.arena.touches + 60) where
+module _ {u : ℕ} (first old new : RemoteState u) (at : ℕ) (was : Drained first old at) (own : new.places ≡ old.places) (plan : SamePlan old.arena new.arena) (touches : new.arena.touches ≤ old.arena.touches + 60) (steps : new.steps ≤ old.steps + 1) where
   plans : SamePlan first.arena new.arena
   plans = record { region = plan.region ∙ was.plan.region; book = plan.book ∙ was.plan.book; most = plan.most ∙ was.plan.most; longest = plan.longest ∙ was.plan.longest }
 
-  seen : (¬ (old.arena.heap.tick ≡ last_tick) → new.looks ≡ old.looks ++ at ∷ []) → ¬ (old.arena.heap.tick ≡ last_tick) → new.looks ≡ first.looks ++ range_with_len 0 (at + 1)
-  seen looks fresh =
-      looks fresh ∙ ap (λ (l : List ℕ). l ++ at ∷ []) (was.looks fresh) ∙ append_assoc first.looks (range_with_len 0 at) (at ∷ []) ∙ ap (λ (l : List ℕ). first.looks ++ l) (next_range at)
+  from_first : length was.seen ≡ at → at ≡ 0 + length was.seen
+  from_first long = omega (arith, long)
+
+  -- one look more, that saw this
+  seen_on : (home : Bool) → length was.seen ≡ at → new.looks ≡ old.looks ++ (at, home) ∷ [] → new.looks ≡ first.looks ++ looks_from 0 (was.seen ++ home ∷ [])
+  seen_on home long looks =
+      looks ∙ ap (λ (l : List (ℕ × Bool)). l ++ (at, home) ∷ []) was.looks ∙ append_assoc first.looks (looks_from 0 was.seen) ((at, home) ∷ [])
+      ∙ ap (λ (j : ℕ). first.looks ++ (looks_from 0 was.seen ++ (j, home) ∷ [])) (from_first long) ∙ ap (λ (l : List (ℕ × Bool)). first.looks ++ l) (sym (looks_on 0 was.seen home))
+
+  one_longer : (home : Bool) → length was.seen ≡ at → length (was.seen ++ home ∷ []) ≡ at + 1
+  one_longer home long = length-append was.seen (home ∷ []) ∙ ap (λ (j : ℕ). j + 1) long
 
   pub one_drained : (result : Bool)
-      → (result ≡ true → (b : Parcel u) × (slice_get old.away at ≡ Some (Some b)) × (new.away ≡ set old.away at None) × (new.arena.heap ≡ (released old.arena.heap b.block.name).heap) × (new.arena.held + 1 ≡ old.arena.held))
-      → (result ≡ false → (new.away ≡ old.away) × (new.arena.heap ≡ old.arena.heap) × (new.arena.held ≡ old.arena.held))
-      → (¬ (old.arena.heap.tick ≡ last_tick) → new.looks ≡ old.looks ++ at ∷ []) → (old.arena.heap.tick ≡ last_tick → result ≡ false) → Drained first new (at + 1)
+      → (result ≡ true → (b : Parcel u) × (slice_get old.away at ≡ Some (Some b)) × (new.away ≡ set old.away at None) × (new.arena.heap ≡ (released old.arena.heap b.block.name).heap) × (new.arena.held + 1 ≡ old.arena.held) × (new.idle ≡ old.idle ++ at ∷ []))
+      → (result ≡ false → (new.away ≡ old.away) × (new.arena.heap ≡ old.arena.heap) × (new.arena.held ≡ old.arena.held) × (new.idle ≡ old.idle))
+      → (¬ (old.arena.heap.tick ≡ last_tick) → new.looks ≡ old.looks ++ (at, result) ∷ []) → (old.arena.heap.tick ≡ last_tick → (result ≡ false) × (new.looks ≡ old.looks)) → Drained first new (at + 1)
   one_drained true home none looks worn =
       let h = home refl in
-      let fresh : ¬ (old.arena.heap.tick ≡ last_tick) = λ last. false≢true (sym (worn last)) in
+      let fresh : ¬ (old.arena.heap.tick ≡ last_tick) = λ last. false≢true (sym (worn last).0) in
+      let long : length was.seen ≡ at = was.whole fresh in
+      let there : slice_get first.away (length was.seen) ≡ Some (Some h.0) =
+      sym (away_next first.away was.seen) ∙ ap (λ (l : List (Option (Parcel u))). slice_get l (length was.seen)) (sym was.away) ∙ ap (λ (j : ℕ). slice_get old.away j) long ∙ h.1 in
       record {
         own = own ∙ was.own;
         held = omega (arith, was.held, h.4);
-        away = λ k. let now : slice_get new.away k ≡ slice_get (set old.away at None) k = ap (λ (l : List (Option (Parcel u))). slice_get l k) h.2 in
-            ⊎_elim (λ e. ⊎_elim (λ f. inl (now ∙ e ∙ f)) (λ f. inr (now ∙ e ∙ f)) (was.away k)) (λ e. inr (now ∙ e)) (either_way old.away at k None);
-        looks = λ last. seen looks fresh;
         plan = plans;
         long = ap (λ (l : List (Option (Parcel u))). length l) h.2 ∙ length-set old.away at None ∙ was.long;
         touches = omega (arith, was.touches, touches);
+        steps = omega (arith, was.steps, steps);
+        seen = was.seen ++ true ∷ [];
+        looks = seen_on true long (looks fresh);
+        away = h.2 ∙ (λ i. set (was.away i) (sym long i) None) ∙ sym (away_on first.away was.seen);
+        heap = h.3 ∙ ap (λ (s : HeapState). (released s h.0.block.name).heap) was.heap ∙ sym (heap_on first.arena.heap first.away was.seen h.0 there);
+        idle = h.5 ∙ ap (λ (l : List ℕ). l ++ at ∷ []) was.idle ∙ append_assoc first.idle (home_from 0 was.seen) (at ∷ [])
+            ∙ ap (λ (j : ℕ). first.idle ++ (home_from 0 was.seen ++ j ∷ [])) (from_first long) ∙ ap (λ (l : List ℕ). first.idle ++ l) (sym (home_on 0 was.seen));
+        whole = λ _. one_longer true long;
       }
-  one_drained false home none looks worn =
-      let h = none refl in record {
-        own = own ∙ was.own;
-        held = omega (arith, was.held, h.2);
-        away = λ k. let now : slice_get new.away k ≡ slice_get old.away k = ap (λ (l : List (Option (Parcel u))). slice_get l k) h.0 in
-            ⊎_elim (λ f. inl (now ∙ f)) (λ f. inr (now ∙ f)) (was.away k);
-        looks = λ last. seen looks (λ before. last (ap (λ (h : HeapState). h.tick) h.1 ∙ before));
-        plan = plans;
-        long = ap (λ (l : List (Option (Parcel u))). length l) h.0 ∙ was.long;
-        touches = omega (arith, was.touches, touches);
-      }
+  one_drained false home none looks worn = elim (cases_eq old.arena.heap.tick last_tick) [
+    | inl last ↦
+        let h = none refl in record {
+          own = own ∙ was.own;
+          held = omega (arith, was.held, h.2);
+          plan = plans;
+          long = ap (λ (l : List (Option (Parcel u))). length l) h.0 ∙ was.long;
+          touches = omega (arith, was.touches, touches);
+          steps = omega (arith, was.steps, steps);
+          seen = was.seen;
+          looks = (worn last).1 ∙ was.looks;
+          away = h.0 ∙ was.away;
+          heap = h.1 ∙ was.heap;
+          idle = h.3 ∙ was.idle;
+          whole = λ fresh. absurd (fresh (ap (λ (s : HeapState). s.tick) h.1 ∙ last));
+        }
+    | inr fresh ↦
+        let h = none refl in
+        let long : length was.seen ≡ at = was.whole fresh in record {
+          own = own ∙ was.own;
+          held = omega (arith, was.held, h.2);
+          plan = plans;
+          long = ap (λ (l : List (Option (Parcel u))). length l) h.0 ∙ was.long;
+          touches = omega (arith, was.touches, touches);
+          steps = omega (arith, was.steps, steps);
+          seen = was.seen ++ false ∷ [];
+          looks = seen_on false long (looks fresh);
+          away = h.0 ∙ was.away ∙ sym (away_off first.away was.seen);
+          heap = h.1 ∙ was.heap ∙ sym (heap_off first.arena.heap first.away was.seen);
+          idle = h.3 ∙ was.idle ∙ ap (λ (l : List ℕ). first.idle ++ l) (sym (home_off 0 was.seen));
+          whole = λ _. one_longer false long;
+        }
+  ]

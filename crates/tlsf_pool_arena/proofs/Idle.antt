@@ -1,5 +1,5 @@
 -- The places by which no block is away, while blocks go out and come home.
-use Rattle.std.proofs.Common.{◌≡◌, ◌≢◌, ◌↔◌, ℕ, zero, suc, ◌+◌, ◌-◌, ◌<◌, ◌≤◌, cond, List, [], ◌∷◌, length, length-set, set, slice_get, slice_index_or, replicate, Option, Some, None, is_none, Result, IsErrOf, Err, refl, sym, ap, subst, ◌∙◌, ◌⊎◌, inl, inr, ⊎_elim, arith}
+use Rattle.std.proofs.Common.{◌≡◌, ◌≢◌, ◌↔◌, ℕ, zero, suc, ◌+◌, ◌-◌, ◌<◌, ◌≤◌, cond, List, [], ◌∷◌, ◌++◌, length, length-set, set, take, slice_get, slice_index_or, replicate, Option, Some, None, is_none, Result, IsErrOf, Err, refl, sym, ap, subst, ◌∙◌, ◌⊎◌, inl, inr, ⊎_elim, arith}
 use Rattle.std.specs.List.{range_with_len}
 use Rattle.std.proofs.lemmas.List.FromFn.{length-range_with_len}
 use Rattle.std.proofs.lemmas.List.Sums.{sum_by-cons, sum_by-set}
@@ -10,6 +10,21 @@ use Rattle.tlsf_pool.specs.declared.pools.pool_refusal.PoolRefusal.TheVariants.{
 use Rattle.tlsf_pool_arena.specs.declared.parcel.Parcel.{Parcel}
 use Rattle.tlsf_pool_arena.specs.Remotes.{AreIdle, NoneLost, RemoteState, idle_places}
 use Rattle.tlsf_pool_arena.proofs.Lent.{got_set}
+
+one_more : (a n : ℕ) → range_with_len a (suc n) ≡ range_with_len a n ++ (a + n) ∷ []
+one_more a zero = ap (λ (j : ℕ). j ∷ []) (let e : a ≡ a + 0 = omega arith in e)
+one_more a (suc n) = ap (λ (l : List ℕ). a ∷ l) (one_more (a + 1) n ∙ ap (λ (j : ℕ). range_with_len (a + 1) n ++ j ∷ []) (let e : a + 1 + n ≡ a + suc n = omega arith in e))
+
+pub next_range : (at : ℕ) → range_with_len 0 at ++ at ∷ [] ≡ range_with_len 0 (at + 1)
+next_range at =
+    sym (one_more 0 at ∙ ap (λ (j : ℕ). range_with_len 0 at ++ j ∷ []) (let e : 0 + at ≡ at = omega arith in e)) ∙ ap (λ (j : ℕ). range_with_len 0 j) (let e : suc at ≡ at + 1 = omega arith in e)
+
+-- all of a list
+pub take_all : (l : List ℕ) (n : ℕ) → n ≡ length l → take n l ≡ l
+take_all [] zero e = refl
+take_all [] (suc n) e = refl
+take_all (x ∷ l) zero e = absurd (omega (arith, e))
+take_all (x ∷ l) (suc n) e = ap (λ (l : List ℕ). x ∷ l) (take_all l n (omega (arith, e)))
 
 got_range : (a n k at : ℕ) → slice_get (range_with_len a n) k ≡ Some at → at ≡ a + k
 got_range a zero k at e = absurd (let no : ⊥ = cc in no)
@@ -24,6 +39,17 @@ got_copy : {A : Type 0} (n k : ℕ) (a : A) → k < n → slice_get (replicate n
 got_copy zero k a lt = absurd (omega (arith, lt))
 got_copy (suc n) zero a lt = refl
 got_copy (suc n) (suc k) a lt = got_copy n k a (omega (arith, lt))
+
+-- the entries up to one, with it
+up_to : (l : List ℕ) (m at : ℕ) → slice_get l m ≡ Some at → take (suc m) l ≡ take m l ++ at ∷ []
+up_to [] m at e = absurd (let no : ⊥ = cc in no)
+up_to (x ∷ l) zero at e = let same : x ≡ at = cc in ap (λ (j : ℕ). j ∷ []) same
+up_to (x ∷ l) (suc m) at e = ap (λ (l : List ℕ). x ∷ l) (up_to l m at e)
+
+up_to_set : (l : List ℕ) (m at : ℕ) → m < length l → take (suc m) (set l m at) ≡ take m l ++ at ∷ []
+up_to_set [] m at lt = absurd (omega (arith, lt))
+up_to_set (x ∷ l) zero at lt = refl
+up_to_set (x ∷ l) (suc m) at lt = ap (λ (l : List ℕ). x ∷ l) (up_to_set l m at (omega (arith, lt)))
 
 -- an entry that was changed, or another
 same_or_other : {A : Type 0} (l : List A) (at k : ℕ) (a : A) → (k ≡ at) ⊎ (slice_get (set l at a) k ≡ slice_get l k)
@@ -84,22 +110,14 @@ module _ {u : ℕ} where
   pub as_many : (count n m : ℕ) (idle : List ℕ) (away : List (Option (Parcel u))) → n ≡ m → AreIdle u count n idle away → AreIdle u count m idle away
   as_many count n m idle away e is = subst (λ (k : ℕ). AreIdle u count k idle away) e is
 
-  -- the last of them
-  pub last_of : (count m at : ℕ) (idle : List ℕ) (away : List (Option (Parcel u))) → AreIdle u count (suc m) idle away → m < count → at ≡ slice_index_or idle m at → slice_get idle m ≡ Some at
-  last_of count m at idle away is lt e = slice_get-get_or idle m at (omega (arith, lt, is.long)) ∙ ap Some (sym e)
-
-  -- none is away by it
-  pub last_free : (count m at : ℕ) (idle : List ℕ) (away : List (Option (Parcel u))) → AreIdle u count (suc m) idle away → m < count → at ≡ slice_index_or idle m at → slice_get away at ≡ Some None
-  last_free count m at idle away is lt e = is.free m at (omega arith) (last_of count m at idle away is lt e)
-
   -- it is one of those that were opened
   pub is_there : (at : ℕ) (away : List (Option (Parcel u))) → slice_get away at ≡ Some None → at < length away
   is_there at away free = slice_get_within away at None free
 
   -- a block went out by the last of them
-  pub last_lent : (count m : ℕ) (idle : List ℕ) (away now : List (Option (Parcel u))) (at : ℕ) (b : Parcel u) → AreIdle u count (suc m) idle away → m < count → at ≡ slice_index_or idle m at → now ≡ set away at (Some b) → AreIdle u count m idle now
-  last_lent count m idle away now at b is inside e now_is =
-      let last : slice_get idle m ≡ Some at = last_of count m at idle away is inside e in record {
+  pub last_lent : (count m : ℕ) (idle : List ℕ) (away now : List (Option (Parcel u))) (at : ℕ) (b : Parcel u) → AreIdle u count (suc m) idle away → slice_get idle m ≡ Some at → now ≡ set away at (Some b) → AreIdle u count m idle now
+  last_lent count m idle away now at b is last now_is =
+      record {
         long = is.long;
         all = ap (λ (l : List (Option (Parcel u))). idle_places l) now_is ∙ (let one = one_out away at b (is.free m at (omega arith) last) in omega (arith, one, is.all));
         free = λ k x lt found.
@@ -144,28 +162,40 @@ module _ {u : ℕ} where
     }
 
   -- one more is held, and went out by the place that stands behind those that are idle from now on
-  module _ (count most held more at : ℕ) (idle : List ℕ) (away : List (Option (Parcel u))) (is : AreIdle u count (count - held) idle away) (same : count ≡ most) (one : more ≡ held + 1) (few : more ≤ most) (at_is : at ≡ slice_index_or idle (count - more) at) where
+  module _ (count most held more at : ℕ) (idle : List ℕ) (away : List (Option (Parcel u))) (is : AreIdle u count (count - held) idle away) (same : count ≡ most) (one : more ≡ held + 1) (few : more ≤ most) (at_is : slice_get idle (count - more) ≡ Some at) where
     before : AreIdle u count (suc (count - more)) idle away
     before = as_many count (count - held) (suc (count - more)) idle away (one_more_held count most held more same one few).0 is
 
     pub lent_from : slice_get away at ≡ Some None
-    lent_from = last_free count (count - more) at idle away before (one_more_held count most held more same one few).1 at_is
+    lent_from = before.free (count - more) at (omega arith) at_is
 
     pub lent_idle : (now : List (Option (Parcel u))) (b : Parcel u) → now ≡ set away at (Some b) → AreIdle u count (count - more) idle now
-    lent_idle now b now_is = last_lent count (count - more) idle away now at b before (one_more_held count most held more same one few).1 at_is now_is
+    lent_idle now b now_is = last_lent count (count - more) idle away now at b before at_is now_is
+
+    -- they are those before it
+    pub lent_last : take (count - held) idle ≡ take (count - more) idle ++ at ∷ []
+    lent_last = ap (λ (j : ℕ). take j idle) (one_more_held count most held more same one few).0 ∙ up_to idle (count - more) at at_is
 
   -- one fewer is held, and came home
-  pub home_idle : (count most held fewer at : ℕ) (idle : List ℕ) (away now : List (Option (Parcel u))) (b : Parcel u) → AreIdle u count (count - held) idle away → count ≡ most → fewer + 1 ≡ held → held ≤ most → slice_get away at ≡ Some (Some b) → now ≡ set away at None
-      → AreIdle u count (count - fewer) (set idle (count - held) at) now
-  home_idle count most held fewer at idle away now b is same one few here now_is =
-      as_many count (suc (count - held)) (count - fewer) (set idle (count - held) at) now (sym (one_fewer_held count most held fewer same one few).0) (one_home count (count - held) idle (set idle (count - held) at) away now at b is here refl now_is)
+  pub home_idle : (count most held fewer at : ℕ) (idle next : List ℕ) (away now : List (Option (Parcel u))) (b : Parcel u) → AreIdle u count (count - held) idle away → count ≡ most → fewer + 1 ≡ held → held ≤ most → slice_get away at ≡ Some (Some b) → next ≡ set idle (count - held) at → now ≡ set away at None
+      → AreIdle u count (count - fewer) next now
+  home_idle count most held fewer at idle next away now b is same one few here next_is now_is =
+      as_many count (suc (count - held)) (count - fewer) next now (sym (one_fewer_held count most held fewer same one few).0) (one_home count (count - held) idle next away now at b is here next_is now_is)
+
+  -- it stands last of them
+  pub home_last : (count most held fewer at : ℕ) (idle : List ℕ) (away : List (Option (Parcel u))) → AreIdle u count (count - held) idle away → count ≡ most → fewer + 1 ≡ held → held ≤ most
+      → take (count - fewer) (set idle (count - held) at) ≡ take (count - held) idle ++ at ∷ []
+  home_last count most held fewer at idle away is same one few =
+      let one_less = one_fewer_held count most held fewer same one few in
+      ap (λ (j : ℕ). take j (set idle (count - held) at)) one_less.0 ∙ up_to_set idle (count - held) at (omega (arith, one_less.1, is.long))
 
   -- no place is lost
   pub kept_places : (count most held : ℕ) (idle : List ℕ) (away : List (Option (Parcel u))) → AreIdle u count (count - held) idle away → count ≡ length away → count ≡ most → held ≤ count → (length away ≡ most) × (idle_places away + held ≡ most)
   kept_places count most held idle away is long same few = (sym long ∙ same, let all = is.all in omega (arith, all, same, few))
 
-  pub none_lost : (r : RemoteState u) (count : ℕ) (idle : List ℕ) → AreIdle u count (count - r.arena.held) idle r.away → count ≡ length r.away → count ≡ r.arena.most → r.arena.held ≤ count → NoneLost r
-  none_lost r count idle is long same few = let k = kept_places count r.arena.most r.arena.held idle r.away is long same few in record { all = k.0; idle = k.1 }
+  pub none_lost : (r now : RemoteState u) (count : ℕ) (idle : List ℕ) → r ≡ now → AreIdle u count (count - r.arena.held) idle r.away → count ≡ length r.away → count ≡ r.arena.most → r.arena.held ≤ count → NoneLost now
+  none_lost r now count idle view is long same few =
+      subst (λ (r : RemoteState u). NoneLost r) view (let k = kept_places count r.arena.most r.arena.held idle r.away is long same few in record { all = k.0; idle = k.1 })
 
   -- while fewer are held than may be, one is idle, and while as many are, none is
   pub none_idle : (r : RemoteState u) → NoneLost r → (idle_places r.away ≡ 0) ↔ (r.arena.held ≡ r.arena.most)

@@ -1,13 +1,7 @@
 -- The blocks that are away are the arena's, and are taken back.
-use Rattle.std.proofs.Common.{◌≡◌, ◌≢◌, ◌==◌, ℕ, zero, suc, Bool, true, false, if◌then◌else◌, List, [], ◌∷◌, set, slice_get, replicate, Option, Some, None, Ok, Err, refl, sym, ap, subst, ◌∙◌, ◌⊎◌, inl, inr, ⊎_elim, eqb-true}
+use Rattle.std.proofs.Common.{◌≡◌, ◌≢◌, ℕ, zero, suc, List, [], ◌∷◌, set, slice_get, replicate, Option, Some, None, refl, sym, ap, subst, ◌⊎◌, inl, inr, ⊎_elim}
 use base.Fml.{GName}
 use Rattle.linked_list_allocator.specs.Region.{Region}
-use Rattle.tlsf_heap.specs.Blocks.{HeapState}
-use Rattle.tlsf_heap.specs.Calls.{Outcome, coalesced, is_worn, last_tick, named, refused, released, released_at, ticked}
-use Rattle.tlsf_heap.specs.GoodFit.{Site}
-use Rattle.tlsf_heap.specs.declared.refusal.Refusal.{Refusal}
-use Rattle.tlsf_heap.specs.declared.refusal.Refusal.TheVariants.{Worn, Foreign}
-use Rattle.tlsf_heap.specs.declared.name.Name.{Name}
 use Rattle.tlsf_pool_arena.specs.declared.parcel.Parcel.{Parcel}
 use Rattle.tlsf_arena.specs.declared.block.Block.{Block}
 use Rattle.tlsf_pool_arena.specs.Remotes.{AreAway, IsFrom}
@@ -45,20 +39,3 @@ none_away (suc n) (suc k) b e = none_away n k b e
 -- at first none is away
 pub fresh : {u : ℕ} (region : Region) (book : GName) (n : ℕ) → AreAway u region book (replicate n None)
 fresh region book n = record { from = λ k b e. absurd (none_away n k b e) }
-
--- ---- a release that answers Worn is one at the last tick
-
-own_case : (b : Bool) (h : HeapState) (x : Outcome (Unit {0})) → (if b then x else refused h Foreign).answer ≡ Err Worn → x.answer ≡ Err Worn
-own_case true h x e = e
-own_case false h x e = absurd (let no : ⊥ = cc in no)
-
-worn_case : (b : Bool) (h : HeapState) (x : Outcome (Unit {0})) → x.answer ≡ Ok tt → (if b then refused h Worn else x).answer ≡ Err Worn → b ≡ true
-worn_case true h x ok e = refl
-worn_case false h x ok e = absurd (let clash = sym ok ∙ e in let no : ⊥ = cc in no)
-
-at_worn : (h : HeapState) (o : Option Site) → ¬ (h.tick ≡ last_tick) → (released_at h o).answer ≡ Err Worn → ⊥
-at_worn h None fresh e = cc
-at_worn h (Some s) fresh e = fresh (eqb-true h.tick last_tick (worn_case (is_worn h) h (record { answer = Ok tt; heap = ticked h (coalesced h.tick s) }) refl e))
-
-pub never_refused : (h : HeapState) (name : Name) (why : Refusal) → ¬ (h.tick ≡ last_tick) → why ≡ Worn → (released h name).answer ≡ Err why → ⊥
-never_refused h name why fresh worn answer = at_worn h (named name h.blocks) fresh (own_case (name.heap == h.id) h (released_at h (named name h.blocks)) (answer ∙ ap Err worn))

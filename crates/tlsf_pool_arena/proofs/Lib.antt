@@ -7,3 +7,5 @@ pub mod Lent
 pub mod Idle
 --   Drained: what a drain of all places comes to
 pub mod Drained
+--   PlaceSteps: each step keeps the rule of the places by which values come home
+pub mod PlaceSteps

@@ -1,9 +1,9 @@
 -- What a receipt for a block shows.
 use Rattle.std.specs.Prelude.{ℕ}
 use Rattle.tlsf_pool_arena.specs.declared.parcel.Parcel.{Parcel}
-use Rattle.tlsf_returns.specs.Ends.{IsReceiptFor}
-use Rattle.tlsf_returns.specs.declared.places.Places.{Places}
-use Rattle.tlsf_returns.specs.declared.receipt.Receipt.{Receipt}
+use Rattle.tlsf_pool_arena.specs.returns.Ends.{IsReceiptFor}
+use Rattle.tlsf_pool_arena.specs.declared.returns.places.Places.{Places}
+use Rattle.tlsf_pool_arena.specs.declared.returns.receipt.Receipt.{Receipt}
 
 -- by some place the block was given back
 abbrev pub IsGivenBack : {u : ℕ} → Places (Parcel u) → Parcel u → Receipt (Parcel u) → Type 0

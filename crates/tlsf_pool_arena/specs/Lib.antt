@@ -1,3 +1,5 @@
 pub mod Given
 pub mod PoolArenas
 pub mod Remotes
+-- Places by which values come home from other threads.
+pub mod returns

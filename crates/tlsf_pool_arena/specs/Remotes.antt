@@ -1,16 +1,27 @@
 -- An arena whose blocks are away by places.
-use Rattle.std.specs.Prelude.{◌≡◌, ℕ, ◌+◌, ◌<◌, List, length, count_by, Option, Some, None, is_none, slice_get, slice_set}
+use Rattle.std.specs.Prelude.{◌≡◌, ℕ, ◌+◌, ◌<◌, Bool, true, false, List, [], ◌∷◌, ◌++◌, length, count_by, Option, Some, None, is_none, slice_get, slice_set}
 use base.Fml.{GName}
 use Rattle.linked_list_allocator.specs.Region.{Region}
 use Rattle.atomic_table.specs.Seated.{TableId}
+use Rattle.tlsf_heap.specs.Blocks.{HeapState}
+use Rattle.tlsf_heap.specs.Calls.{last_tick, released}
 use Rattle.tlsf_pool_arena.specs.PoolArenas.{PoolArenaState}
 use Rattle.tlsf_pool_arena.specs.declared.parcel.Parcel.{Parcel}
 
--- what the arena shows: the pool's arena, the block that is away by each place, the places that it looked at, and which places they are
+-- numbers of places, and how often one was read or written
+pub record CountedPlaces : Type 0 where
+  pub places : List ℕ
+  pub steps : ℕ
+
+-- what the arena shows: the pool's arena, the block that is away by each place, and the looks that it had at places, each with whether the
+-- block was home then. Also the places by which none is away, of which the next block goes out by the last, how often an entry of that list
+-- was read or written, and which places they are
 pub record RemoteState (u : ℕ) : Type 0 where
   pub arena : PoolArenaState
   pub away : List (Option (Parcel u))
-  pub looks : List ℕ
+  pub looks : List (ℕ × Bool)
+  pub idle : List ℕ
+  pub steps : ℕ
   pub places : TableId
 
 -- a block of this memory, whose right is of this book
@@ -40,3 +51,39 @@ pub record AreIdle (u count n : ℕ) (idle : List ℕ) (away : List (Option (Par
   pub all : idle_places away ≡ n
   pub free : (k at : ℕ) → k < n → slice_get idle k ≡ Some at → slice_get away at ≡ Some None
   pub apart : (j k at : ℕ) → j < n → k < n → slice_get idle j ≡ Some at → slice_get idle k ≡ Some at → j ≡ k
+
+-- ---- a look at each place in turn, and what each saw
+
+-- the looks, from place k on
+abbrev pub looks_from : ℕ → List Bool → List (ℕ × Bool)
+looks_from k [] = []
+looks_from k (home ∷ seen) = (k, home) ∷ looks_from (k + 1) seen
+
+-- the places whose block was home, from place k on
+abbrev pub home_from : ℕ → List Bool → List ℕ
+home_from k [] = []
+home_from k (true ∷ seen) = k ∷ home_from (k + 1) seen
+home_from k (false ∷ seen) = home_from (k + 1) seen
+
+-- what is away by each place once the blocks that were home are taken
+abbrev pub still_away : {u : ℕ} → List (Option (Parcel u)) → List Bool → List (Option (Parcel u))
+still_away [] seen = []
+still_away (b ∷ away) [] = b ∷ away
+still_away (b ∷ away) (true ∷ seen) = None ∷ still_away away seen
+still_away (b ∷ away) (false ∷ seen) = b ∷ still_away away seen
+
+-- the heap once they are released, in this order
+abbrev pub home_released : {u : ℕ} → HeapState → List (Option (Parcel u)) → List Bool → HeapState
+home_released h [] seen = h
+home_released h (b ∷ away) [] = h
+home_released h (Some b ∷ away) (true ∷ seen) = home_released (released h b.block.name).heap away seen
+home_released h (None ∷ away) (true ∷ seen) = home_released h away seen
+home_released h (b ∷ away) (false ∷ seen) = home_released h away seen
+
+-- each block that was home when it was looked at is taken and released, and no other. All places are looked at, unless the last tick came
+pub record TakesHome {u : ℕ} (old new : RemoteState u) (seen : List Bool) : Type 0 where
+  pub looks : new.looks ≡ old.looks ++ looks_from 0 seen
+  pub away : new.away ≡ still_away old.away seen
+  pub heap : new.arena.heap ≡ home_released old.arena.heap old.away seen
+  pub idle : new.idle ≡ old.idle ++ home_from 0 seen
+  pub whole : ¬ (new.arena.heap.tick ≡ last_tick) → length seen ≡ length old.away

@@ -20,17 +20,34 @@
 //! drop(block);                                                                // by any thread
 //! arena.drain(&places) == 1
 //! ```
+//!
+//! The places serve values of any type. [`open_places`] opens so many, and answers them with the one [`OwnerEnd`]. The owner sends a value out
+//! by a free place and gets a [`Ticket`] for it, which goes with the value. Whoever has both puts the value back, in three steps on memory of
+//! the places, whatever the other threads do: the place is the value's own for as long as it is away, so it is never full. The owner looks
+//! at the places, and takes what came home.
+//!
+//! ```text
+//! let (places, mut owner) = open_places(alloc, 4)?;
+//! let (value, ticket) = owner.send_out(&places, 0, value);
+//! ticket.put(&places, value);                     // by any thread
+//! owner.take(&places, 0)                          // Some(value)
+//! ```
 #![tactic(auto)]
 
 mod parcel;
+mod place_list;
 mod pool_arena;
 mod remote_arena;
 mod remote_block;
+mod returns;
 
 pub use parcel::Parcel;
 pub use pool_arena::{PoolArena, pool_units};
 pub use remote_arena::RemoteArena;
 pub use remote_block::RemoteBlock;
+pub use returns::owner_end::OwnerEnd;
+pub use returns::places::{Places, open_places};
+pub use returns::receipt::Receipt;
+pub use returns::ticket::Ticket;
 pub use tlsf_arena::Block;
 pub use tlsf_pool::PoolRefusal;
-pub use tlsf_returns::{OwnerEnd, Places, Receipt, open_places};

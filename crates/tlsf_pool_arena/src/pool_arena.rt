@@ -5,6 +5,7 @@ ghost use Rattle.tlsf_heap.specs.Calls.{last_tick, opened, released};
 ghost use Rattle.tlsf_heap.specs.GoodFit.{fits};
 ghost use Rattle.tlsf_heap.specs.Placed.{placed_at};
 ghost use Rattle.tlsf_heap.specs.Reports.{report_of};
+ghost use Rattle.tlsf_heap.specs.Touched.{FollowsNoPlace};
 ghost use Rattle.tlsf_heap.specs.declared.name.Name.{Name};
 ghost use Rattle.tlsf_arena.specs.Arenas.{Holds, requested};
 ghost use Rattle.tlsf_arena.specs.Loans.{units_of};
@@ -252,7 +253,7 @@ impl<const SLI: u32, const UNIT: usize> PoolArena<SLI, UNIT> {
         self.report().free_words
     }
 
-    /// The block that begins at a unit, None where none does. Its size is in units, those that good fit gave it beyond the wanted ones with
+    /// The block that begins at a unit, None where none does: a number from outside is not followed (`wild`). Its size is in units, those that good fit gave it beyond the wanted ones with
     /// them. The next begins at its end, `at + size`, so that a walk from unit 0 meets all blocks. Takes no memory.
     ///
     /// ```text
@@ -264,6 +265,7 @@ impl<const SLI: u32, const UNIT: usize> PoolArena<SLI, UNIT> {
         ensures same { SamePoolArena self.old self.new }
         ensures touches { self.new.touches ≤ self.old.touches + 4 }
         ensures touches_rise { self.old.touches ≤ self.new.touches }
+        ensures wild { FollowsNoPlace self.old.heap at self.old.touches self.new.touches }
     {
         self.arena.block_at(at)
     }

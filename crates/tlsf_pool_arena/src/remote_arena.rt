@@ -1,45 +1,48 @@
-ghost use Rattle.std.specs.Prelude.{◌≡◌, ◌↔◌, ◌⊎◌, ℕ, ◌+◌, ◌*◌, ◌<◌, ◌≤◌, [], ◌∷◌, ◌++◌, length, true, false, Some, None, IfOk, IsOk, IsErrOf, OnOk, OnErr, Ok, replicate, slice_get, slice_set};
+ghost use Rattle.std.specs.Prelude.{◌≡◌, ◌↔◌, ℕ, ◌+◌, ◌*◌, ◌<◌, ◌≤◌, Bool, List, [], ◌∷◌, ◌++◌, true, false, Some, None, IfOk, IsOk, IsErrOf, OnOk, OnErr, Ok, replicate, slice_get, slice_set};
 ghost use Rattle.std.specs.List.{range_with_len};
 ghost use Rattle.tlsf_class.specs.Classes.{IsLevel};
 ghost use Rattle.tlsf_heap.specs.Calls.{last_tick, opened, released};
 ghost use Rattle.tlsf_arena.specs.Arenas.{Holds, requested};
 ghost use Rattle.tlsf_arena.specs.Places.{IsUnit, piece_size, units_for};
 ghost use Rattle.tlsf_pool_arena.specs.PoolArenas.{SamePlan, SamePoolArena, units_of_pool};
-ghost use Rattle.tlsf_pool_arena.specs.Remotes.{IsAwayBy, NoneLost, idle_places};
+ghost use Rattle.tlsf_pool_arena.specs.Remotes.{IsAwayBy, NoneLost, TakesHome, idle_places};
 ghost use Rattle.tlsf_pool_arena.specs.declared.parcel.Parcel as parcel;
-ghost use Rattle.tlsf_returns.specs.Ends.{away_by, id_of, looks_of, owner_id, place_by};
+ghost use Rattle.tlsf_pool_arena.specs.returns.Ends.{away_by, id_of, looks_of, owner_id, place_by};
 
 use crate::parcel::Parcel;
+use crate::place_list::PlaceList;
 use crate::pool_arena::PoolArena;
 use crate::remote_block::RemoteBlock;
-use std::alloc::{AllocError, Global};
+use crate::returns::owner_end::OwnerEnd;
+use crate::returns::places::Places;
+use std::alloc::Global;
 use std::marker::Model;
 use tlsf_heap::OpenFault;
 use tlsf_pool::PoolRefusal;
-use tlsf_returns::{OwnerEnd, Places};
 
 /// A pool's arena that lends its blocks by places: it never refuses for want of room, and any thread may give a block back.
 ///
-/// Contracts see it as its arena, the block that is away by each place, and the places that it looked at, in order.
+/// Contracts see it as its arena, the block that is away by each place, and the looks that it had at places, each with whether the block was
+/// home then. They also see the places by which none is away, and how often an entry of that list was read or written.
 #[derive(Drop)]
 pub struct RemoteArena<const SLI: u32, const UNIT: usize> {
     arena: PoolArena<SLI, UNIT>,
     owner: OwnerEnd<Parcel<UNIT>>,
     // As many entries from the first on as blocks may be lent besides: the places by which none is away.
-    idle: Vec<u32, Global>,
+    idle: PlaceList,
     count: u32,
 }
 
 impl<const SLI: u32, const UNIT: usize> Model for RemoteArena<SLI, UNIT> {
-    ghost use Rattle.std.specs.Prelude.{◌≡◌, ◌-◌, ◌≤◌, length};
-    ghost use Rattle.tlsf_returns.specs.Ends.{owner_id, away_by, looks_of};
+    ghost use Rattle.std.specs.Prelude.{◌≡◌, ◌-◌, ◌≤◌, length, take};
+    ghost use Rattle.tlsf_pool_arena.specs.returns.Ends.{owner_id, away_by, looks_of};
     ghost use Rattle.tlsf_pool_arena.specs.Remotes.{AreAway, AreIdle, RemoteState};
 
     ghost Value = { RemoteState UNIT };
 
-    ghost view = { λ r. record { arena = r.arena; away = away_by r.owner; looks = looks_of r.owner; places = owner_id r.owner } };
+    ghost view = { λ r. record { arena = r.arena; away = away_by r.owner; looks = looks_of r.owner; idle = take (r.count - r.arena.held) r.idle.places; steps = r.idle.steps; places = owner_id r.owner } };
 
-    ghost invariant = { λ r. AreAway UNIT r.arena.region r.arena.book (away_by r.owner) × (r.count ≡ length (away_by r.owner)) × (r.count ≡ r.arena.most) × AreIdle UNIT r.count (r.count - r.arena.held) r.idle.items (away_by r.owner) × (r.arena.held ≤ r.count) };
+    ghost invariant = { λ r. AreAway UNIT r.arena.region r.arena.book (away_by r.owner) × (r.count ≡ length (away_by r.owner)) × (r.count ≡ r.arena.most) × AreIdle UNIT r.count (r.count - r.arena.held) r.idle.places (away_by r.owner) × (r.arena.held ≤ r.count) };
 }
 
 impl<const SLI: u32, const UNIT: usize> RemoteArena<SLI, UNIT> {
@@ -55,15 +58,15 @@ impl<const SLI: u32, const UNIT: usize> RemoteArena<SLI, UNIT> {
         requires level { IsLevel SLI }
         requires unit { IsUnit UNIT }
         requires fresh { away_by owner ≡ replicate most None }
-        ensures heap { IfOk result (λ r. (units : ℕ) → units_of_pool SLI UNIT most longest ≡ Some units → r.arena.heap ≡ opened id units 0) }
+        ensures heap { IfOk result (λ r. (units : ℕ) → units_of_pool SLI UNIT most longest ≡ Some units → (r.arena.heap ≡ opened id units 0) × (r.arena.region.end ≡ r.arena.region.start + UNIT * units)) }
         ensures bounds { IfOk result (λ r. (r.arena.most ≡ most) × (r.arena.longest ≡ longest) × (r.arena.held ≡ 0)) }
-        ensures idle { IfOk result (λ r. NoneLost r) }
+        ensures idle { IfOk result (λ r. NoneLost r × (r.idle ≡ range_with_len 0 most)) }
         ensures places { IfOk result (λ r. (r.places ≡ owner_id owner.entry) × (r.away ≡ away_by owner.entry) × (r.looks ≡ looks_of owner.entry)) }
         ensures bad_size { IsErrOf result OpenFault.BadSize ↔ (units_of_pool SLI UNIT most longest ≡ None) }
         ensures not_worn { ¬ (IsErrOf result OpenFault.Worn) }
     {
         let arena = PoolArena::<SLI, UNIT>::open(alloc, id, most, longest)?;
-        let Ok(idle) = all_places(alloc, most) else {
+        let Ok(idle) = PlaceList::all(alloc, most) else {
             return Err(OpenFault::NoMemory);
         };
         Ok(RemoteArena {
@@ -74,8 +77,8 @@ impl<const SLI: u32, const UNIT: usize> RemoteArena<SLI, UNIT> {
         })
     }
 
-    /// Lends a block of `len` bytes or more, by a place by which none is away: the one that came home last, or one that was never used. It is
-    /// found in one step, whatever the number of places.
+    /// Lends a block of `len` bytes or more, by a place by which none is away: the one that came home last, or one that was never used (`last`).
+    /// It is found in one step on the list of these, whatever the number of places (`steps`).
     ///
     /// It is lent whenever `len` is at most the longest request, a place is idle, as one is while fewer blocks are held than may be, and the
     /// tick isn't at its last value. Else it is refused as `TooLong`, `Full` or `Worn`, in this order, and nothing changes: never for want of
@@ -98,7 +101,7 @@ impl<const SLI: u32, const UNIT: usize> RemoteArena<SLI, UNIT> {
         // The refusals, in their order, and that nothing changes then.
         ensures too_long { IsErrOf result PoolRefusal.TooLong ↔ (self.old.arena.longest < len) }
         ensures full { IsErrOf result PoolRefusal.Full ↔ ((len ≤ self.old.arena.longest) × (idle_places self.old.away ≡ 0)) }
-        ensures err { OnErr result (SamePoolArena self.old.arena self.new.arena × (self.new.away ≡ self.old.away)) }
+        ensures err { OnErr result (SamePoolArena self.old.arena self.new.arena × (self.new.away ≡ self.old.away) × (self.new.idle ≡ self.old.idle)) }
 
         // The block is the arena's, and is away by one of the places by which none was.
         ensures answer { IfOk result (λ b. (requested SLI UNIT self.old.arena.heap len).answer ≡ Ok b.parcel.block.name) }
@@ -107,15 +110,17 @@ impl<const SLI: u32, const UNIT: usize> RemoteArena<SLI, UNIT> {
         ensures holds { IfOk result (λ b. Holds self.new.arena.heap b.parcel.block.name (units_for UNIT len)) }
         ensures away { IfOk result (λ b. IsAwayBy self.old.away self.new.away (place_by b.ticket) b.parcel) }
         ensures place { IfOk result (λ b. place_by b.ticket < self.new.arena.most) }
+        ensures last { IfOk result (λ b. self.old.idle ≡ self.new.idle ++ place_by b.ticket ∷ []) }
         ensures held { IfOk result (λ _. self.new.arena.held ≡ self.old.arena.held + 1) }
         ensures idle { NoneLost self.new }
         ensures plan { SamePlan self.old.arena self.new.arena }
         ensures looks { self.new.looks ≡ self.old.looks }
         ensures touches { self.new.arena.touches ≤ self.old.arena.touches + 64 }
+        ensures steps { self.new.steps ≤ self.old.steps + 1 }
     {
         let block = self.arena.allocate(len)?;
         let last = (self.count - self.arena.held()) as usize;
-        let at = self.idle[last];
+        let at = self.idle.read(last);
         let parcel = Parcel { block };
         let (parcel, ticket) = self.owner.send_out(places, at as usize, parcel);
         Ok(RemoteBlock {
@@ -137,13 +142,16 @@ impl<const SLI: u32, const UNIT: usize> RemoteArena<SLI, UNIT> {
         requires own { self.old.places ≡ id_of places.now }
         requires place { at < self.old.arena.most }
         ensures own { self.new.places ≡ self.old.places }
-        ensures home { result ≡ true → (b : parcel.Parcel UNIT) × (slice_get self.old.away at ≡ Some (Some b)) × (self.new.away ≡ slice_set self.old.away at None) × (self.new.arena.heap ≡ (released self.old.arena.heap b.block.name).heap) × (self.new.arena.held + 1 ≡ self.old.arena.held) }
-        ensures none { result ≡ false → (self.new.away ≡ self.old.away) × (self.new.arena.heap ≡ self.old.arena.heap) × (self.new.arena.held ≡ self.old.arena.held) }
+        ensures home { result ≡ true → (b : parcel.Parcel UNIT) × (slice_get self.old.away at ≡ Some (Some b)) × (self.new.away ≡ slice_set self.old.away at None) × (self.new.arena.heap ≡ (released self.old.arena.heap b.block.name).heap) × (self.new.arena.held + 1 ≡ self.old.arena.held) × (self.new.idle ≡ self.old.idle ++ at ∷ []) }
+        ensures none { result ≡ false → (self.new.away ≡ self.old.away) × (self.new.arena.heap ≡ self.old.arena.heap) × (self.new.arena.held ≡ self.old.arena.held) × (self.new.idle ≡ self.old.idle) }
         ensures plan { SamePlan self.old.arena self.new.arena }
-        ensures looks { ¬ (self.old.arena.heap.tick ≡ last_tick) → self.new.looks ≡ self.old.looks ++ at ∷ [] }
-        ensures worn { self.old.arena.heap.tick ≡ last_tick → result ≡ false }
+
+        // Until the last tick it looks at the place once, and takes the block exactly where it was home at that look.
+        ensures looks { ¬ (self.old.arena.heap.tick ≡ last_tick) → self.new.looks ≡ self.old.looks ++ (at, result) ∷ [] }
+        ensures worn { self.old.arena.heap.tick ≡ last_tick → (result ≡ false) × (self.new.looks ≡ self.old.looks) }
         ensures idle { NoneLost self.new }
         ensures touches { self.new.arena.touches ≤ self.old.arena.touches + 60 }
+        ensures steps { self.new.steps ≤ self.old.steps + 1 }
     {
         if self.arena.tick() == u64::MAX {
             return false;
@@ -154,14 +162,15 @@ impl<const SLI: u32, const UNIT: usize> RemoteArena<SLI, UNIT> {
         let idle = (self.count - self.arena.held()) as usize;
         match self.arena.release(parcel.into_block()) {
             Ok(()) => {
-                self.idle[idle] = at;
+                self.idle.write(idle, at);
                 true
             }
             Err(_) => unreachable!(),
         }
     }
 
-    /// Releases each block that came home, and answers how many did. It looks at each place once, in order, and takes no memory.
+    /// Releases each block that is home when it is looked at, and answers how many were (`taken`). It looks at each place once, in order, unless
+    /// the last tick comes, and takes no memory.
     ///
     /// ```text
     /// arena.drain(&places) == 1                // one block came home
@@ -170,13 +179,13 @@ impl<const SLI: u32, const UNIT: usize> RemoteArena<SLI, UNIT> {
         requires own { self.old.places ≡ id_of places.now }
         ensures own { self.new.places ≡ self.old.places }
         ensures held { self.new.arena.held + result ≡ self.old.arena.held }
-        ensures away { (k : ℕ) → (slice_get self.new.away k ≡ slice_get self.old.away k) ⊎ (slice_get self.new.away k ≡ Some None) }
-        ensures looks { ¬ (self.new.arena.heap.tick ≡ last_tick) → self.new.looks ≡ self.old.looks ++ range_with_len 0 (length self.old.away) }
+        ensures taken { (seen : List Bool) × TakesHome self.old self.new seen }
         ensures idle { NoneLost self.new }
         ensures plan { SamePlan self.old.arena self.new.arena }
 
-        // At most 60 touches for each place.
+        // At most 60 touches for each place, and one step on the list of idle places.
         ensures touches { self.new.arena.touches ≤ self.old.arena.touches + 60 * self.old.arena.most }
+        ensures steps { self.new.steps ≤ self.old.steps + self.old.arena.most }
     {
         let before = self.arena.held();
         for at in 0..self.count {
@@ -195,15 +204,4 @@ impl<const SLI: u32, const UNIT: usize> RemoteArena<SLI, UNIT> {
     {
         self.arena.held()
     }
-}
-
-/// So many places, from 0 on.
-fn all_places(alloc: Global, count: u32) -> Result<Vec<u32, Global>, AllocError>
-    ensures { IfOk result (λ v. v.items ≡ range_with_len 0 count) }
-{
-    let mut places = Vec::with_capacity(alloc, count as usize)?;
-    for at in 0..count {
-        places.push(at)?;
-    }
-    Ok(places)
 }

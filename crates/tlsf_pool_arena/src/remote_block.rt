@@ -1,10 +1,12 @@
 ghost use Rattle.std.specs.Prelude.{◌≡◌, ◌^◌, ◌<◌, Some};
-ghost use Rattle.tlsf_returns.specs.Ends.{id_of, place_by, ticket_id, value_for};
+ghost use Rattle.tlsf_pool_arena.specs.returns.Ends.{id_of, place_by, ticket_id, value_for};
 ghost use Rattle.tlsf_pool_arena.specs.Given.{IsGivenBack};
 
 use crate::parcel::Parcel;
+use crate::returns::places::Places;
+use crate::returns::receipt::Receipt;
+use crate::returns::ticket::Ticket;
 use tlsf_arena::Block;
-use tlsf_returns::{Places, Receipt, Ticket};
 
 /// A block that any thread may give back: whoever has it is the only one who can reach its bytes. Once it is dropped, or given back, it is
 /// home: the arena's next `drain` releases it. That is never refused, takes no memory and doesn't wait.

@@ -1,6 +1,6 @@
 use std::test::Fail;
 use std::thread::join;
-use tlsf_returns::open_places;
+use tlsf_pool_arena::open_places;
 
 #[test]
 fn a_value_comes_home_from_another_thread(rt: HostRuntime) -> Result<(), Fail> {

@@ -10,14 +10,14 @@ halves-preserved c =
     let p = count_of c.args.ptr in
     let g = c.grains_before.result in
     let start = c.args.compared.now.count in
-    let next = c.add_one.new.self.count in
+    let next = c.lies_before.new.compared.count in
     let left : ℕ → Type 0 = λ at. Halves start next c.args.units c.args.unit b p at (c.halves.count - c.halves.count / 2) in
     elim c.if-not-lies_before.branch [
       | then-not-lies_before w ↦ let off : c.lies_before.result ≡ false = first_of (cc, search rules) in
           subst left (sym w.at-is)
-          (higher start c.halves.compared.count next c.args.units c.args.unit b p c.halves.at c.halves.count g c.halves.invariant c.halves-test.true c.add_one.ensures c.requires.unit c.grains_before.ensures.bytes
-          (not_before c.lies_before.result p (b + 16 * g) c.lies_before.ensures off))
+          (higher start c.halves.compared.count next c.args.units c.args.unit b p c.halves.at c.halves.count g c.halves.invariant c.halves-test.true c.lies_before.ensures.counted c.requires.unit c.grains_before.ensures.bytes
+          (not_before c.lies_before.result p (b + 16 * g) c.lies_before.ensures.order off))
       | else-not-lies_before w ↦ let on : c.lies_before.result ≡ true = first_of (cc, search rules) in
           subst left (sym w.at-is)
-          (lower start c.halves.compared.count next c.args.units c.args.unit b p c.halves.at c.halves.count g c.halves.invariant c.halves-test.true c.add_one.ensures c.requires.unit c.grains_before.ensures.bytes (c.lies_before.ensures.0 on))
+          (lower start c.halves.compared.count next c.args.units c.args.unit b p c.halves.at c.halves.count g c.halves.invariant c.halves-test.true c.lies_before.ensures.counted c.requires.unit c.grains_before.ensures.bytes (c.lies_before.ensures.order.0 on))
     ]

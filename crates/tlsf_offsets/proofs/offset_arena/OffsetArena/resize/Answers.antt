@@ -1,19 +1,19 @@
 use Rattle.std.proofs.Common.{rules, arith, sym, ◌∙◌, refl, Ok, Err}
 use Rattle.tlsf_offsets.specs.Offsets.{IsOffsets, units_for}
-use Rattle.tlsf_offsets.proofs.Spans.{Alters, alters, alters_close, alters_enough, alters_made, kept_resized, made_live}
+use Rattle.tlsf_offsets.proofs.Spans.{Alters, alters, alters_close, alters_enough, alters_made, kept_resized, made_live, resized_not_forged}
 use Rattle.tlsf_offsets.proofs.offset_arena.OffsetArena.resize.Goals as goal
 
 pub returns-in-Err-clause-answer : goal.returns-in-Err-clause-answer
 returns-in-Err-clause-answer g c =
     let is : IsOffsets g.row.SLI c.args.self.now = search rules in
-    let a : Alters g.row.SLI c.args.self.now (record { heap = c.resize_words.new.self.heap; unit = c.self.inside.unit; touches = c.resize_words.new.self.touches }) c.args.name c.args.len (Err c.in-Err.why) =
+    let a : Alters g.row.SLI c.args.self.now (record { heap = c.resize_words.new.self.heap; unit = c.self.inside.unit; touches = c.resize_words.new.self.touches }) c.args.name c.args.len (Err c.in-Err.refusal) =
     alters g.row.SLI _ c.args.self.now _ c.args.name c.args.len c.units_of.result _ is c.self.view_is c.units_of.ensures (sym c.in-Err.is ∙ c.resize_words.ensures.answer) c.resize_words.ensures.heap refl c.resize_words.ensures.keeps.lawful in
     a.answer_is
 
 pub returns-in-Err-clause-heap : goal.returns-in-Err-clause-heap
 returns-in-Err-clause-heap g c =
     let is : IsOffsets g.row.SLI c.args.self.now = search rules in
-    let a : Alters g.row.SLI c.args.self.now (record { heap = c.resize_words.new.self.heap; unit = c.self.inside.unit; touches = c.resize_words.new.self.touches }) c.args.name c.args.len (Err c.in-Err.why) =
+    let a : Alters g.row.SLI c.args.self.now (record { heap = c.resize_words.new.self.heap; unit = c.self.inside.unit; touches = c.resize_words.new.self.touches }) c.args.name c.args.len (Err c.in-Err.refusal) =
     alters g.row.SLI _ c.args.self.now _ c.args.name c.args.len c.units_of.result _ is c.self.view_is c.units_of.ensures (sym c.in-Err.is ∙ c.resize_words.ensures.answer) c.resize_words.ensures.heap refl c.resize_words.ensures.keeps.lawful in
     a.heap_is
 
@@ -58,3 +58,10 @@ returns-in-Ok-clause-others g c =
     let a : Alters g.row.SLI c.args.self.now (record { heap = c.resize_words.new.self.heap; unit = c.self.inside.unit; touches = c.resize_words.new.self.touches }) c.args.name c.args.len (Ok tt) =
     alters g.row.SLI _ c.args.self.now _ c.args.name c.args.len c.units_of.result _ is c.self.view_is c.units_of.ensures (sym c.in-Ok.is ∙ c.resize_words.ensures.answer) c.resize_words.ensures.heap refl c.resize_words.ensures.keeps.lawful in
     kept_resized c.args.self.now c.span_of.new.self (c.span_of.ensures.same.1 ∙ a.unit_is) c.args.name (units_for c.args.self.now.unit c.args.len) (c.span_of.ensures.same.0 ∙ a.heap_is)
+
+pub returns-in-Ok-clause-forged : goal.returns-in-Ok-clause-forged
+returns-in-Ok-clause-forged g c =
+    let is : IsOffsets g.row.SLI c.args.self.now = search rules in
+    let a : Alters g.row.SLI c.args.self.now (record { heap = c.resize_words.new.self.heap; unit = c.self.inside.unit; touches = c.resize_words.new.self.touches }) c.args.name c.args.len (Ok tt) =
+    alters g.row.SLI _ c.args.self.now _ c.args.name c.args.len c.units_of.result _ is c.self.view_is c.units_of.ensures (sym c.in-Ok.is ∙ c.resize_words.ensures.answer) c.resize_words.ensures.heap refl c.resize_words.ensures.keeps.lawful in
+    resized_not_forged c.args.self.now.heap c.args.name (units_for c.args.self.now.unit c.args.len) is.lawful a.answer_is _ _

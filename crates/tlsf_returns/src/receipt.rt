@@ -1,7 +1,0 @@
-use crate::rule::PlaceSeat;
-
-/// What shows that a value was put back by its place. It has no bytes.
-#[derive(Drop)]
-pub struct Receipt<T> {
-    pub(crate) seat: PlaceSeat<T>,
-}
