@@ -1,6 +1,5 @@
 //! The threads of a race: a job for each worker, its record and what it hands back.
 
-pub(crate) mod done;
 pub(crate) mod fan_out;
 pub(crate) mod gate;
 pub(crate) mod job;

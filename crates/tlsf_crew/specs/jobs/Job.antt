@@ -4,7 +4,6 @@ use Rattle.tlsf_crew.specs.declared.worker.worker.Worker.{Worker}
 use Rattle.tlsf_crew.specs.model.Sums.{sum_of}
 use Rattle.tlsf_crew.specs.scripts.Scripts.{ScriptRun, ScriptPromise, at_stage}
 use Rattle.tlsf_crew.specs.declared.jobs.job.Job.{Job}
-use Rattle.tlsf_crew.specs.declared.jobs.done.Done.{Done}
 
 -- the worker is one of some count
 abbrev pub KnowsSome : {sli : ℕ} {P : Type 0} → (ℕ → Worker sli P → Type 0) → Worker sli P → Type 0
@@ -20,7 +19,7 @@ pub record IsReady {sli : ℕ} {P : Type 0} (by : ScriptPromise sli P) (job : Jo
   pub room : vec_len job.script + sum_of job.limits ≤ vec_capacity job.entries
 
 -- what a thread that was given this job hands back
-pub record IsDone {sli : ℕ} {P : Type 0} (by : ScriptPromise sli P) (job : Job sli P) (d : Done sli P) : Type 0 where
+pub record IsDone {sli : ℕ} {P : Type 0} (by : ScriptPromise sli P) (job : Job sli P) (d : Job sli P) : Type 0 where
   pub left : List ℕ
   pub ran : (n : ℕ) → by.knows n job.worker → ScriptRun by n job.worker job.limits job.script.items d.made.items (at_stage d.worker left d.entries.items)
   pub room : vec_capacity d.entries ≡ vec_capacity job.entries

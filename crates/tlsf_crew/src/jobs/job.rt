@@ -1,6 +1,5 @@
 ghost use Rattle.tlsf_crew.specs.jobs.Job.{IsReady, IsDone};
 
-use crate::jobs::done::Done;
 use crate::jobs::gate::Gate;
 use crate::jobs::work::Work;
 use crate::scripts::executor::run_call;
@@ -11,12 +10,12 @@ use crate::worker::worker::Worker;
 use tlsf_calls::{Call, Entry};
 use tlsf_heap::Name;
 
-/// What the thread of one worker of a race is given.
+/// What the thread of one worker of a race is given, and hands back.
 #[derive(Drop)]
 pub(crate) struct Job<const SLI: u32, P = Lanes> {
     pub(crate) worker: Worker<SLI, P>,
     pub(crate) script: Vec<Call>,
-    // How many posts it may take of each source.
+    // How many posts it may still take of each source.
     pub(crate) limits: [u64; 8],
     // The names that its calls make, with the room for them.
     pub(crate) made: Vec<Option<Name>>,
@@ -25,14 +24,12 @@ pub(crate) struct Job<const SLI: u32, P = Lanes> {
 }
 
 impl<const SLI: u32, R, P: Scripted<R>> Work<R> for Job<SLI, P> {
-    type Done = Done<SLI, P>;
-
     ghost is_ready = { λ job. IsReady (P.promise SLI) job };
 
     ghost is_done = { λ job done. IsDone (P.promise SLI) job done };
 
     /// Runs the script. The gate is passed before each call, and once after the last.
-    fn run<G: Gate>(self, rt: &R, gate: &G) -> Done<SLI, P> {
+    fn run<G: Gate>(self, rt: &R, gate: &G) -> Job<SLI, P> {
         P::laws();
         let Job {
             mut worker,
@@ -49,8 +46,10 @@ impl<const SLI: u32, R, P: Scripted<R>> Work<R> for Job<SLI, P> {
             index += 1;
         }
         gate.pass(worker.id, index);
-        Done {
+        Job {
             worker,
+            script,
+            limits: journal.limits,
             made,
             entries: journal.entries,
         }

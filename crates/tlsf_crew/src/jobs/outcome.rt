@@ -1,12 +1,10 @@
-ghost use Rattle.std.specs.Prelude.{◌≡◌, ◌≤◌, [], map, vec_len, vec_capacity, IfOk};
+ghost use Rattle.std.specs.Prelude.{◌≡◌, ◌≤◌, [], map, vec_len, vec_capacity};
 
-use crate::jobs::done::Done;
+use crate::jobs::job::Job;
 use crate::queues::queues::Queues;
 use crate::worker::lanes::Lanes;
 use crate::worker::worker::Worker;
-use std::alloc::Global;
 use tlsf_calls::Entry;
-use tlsf_post::NoMemory;
 
 /// What comes back of a race of workers of this level, over lanes where nothing else is said.
 #[derive(Drop)]
@@ -21,30 +19,15 @@ pub struct Outcome<const SLI: u32, P = Lanes> {
 pub type QueueOutcome<const SLI: u32> = Outcome<SLI, Queues>;
 
 impl<const SLI: u32, P: Drop> Outcome<SLI, P> {
-    /// Room for what so many workers hand back.
-    pub(crate) fn with_room(alloc: Global, count: usize) -> Result<Outcome<SLI, P>, NoMemory>
-        ensures empty { IfOk result (λ out. (out.workers.items ≡ []) × (out.records.items ≡ [])) }
-        ensures room { IfOk result (λ out. (count ≤ vec_capacity out.workers) × (count ≤ vec_capacity out.records)) }
-    {
-        let workers = Vec::with_capacity(alloc, count)?;
-        let records = Vec::with_capacity(alloc, count)?;
-        Ok(Outcome { workers, records })
-    }
-
     /// Adds what each worker's thread handed back.
-    pub(crate) fn add_all(&mut self, done: Vec<Done<SLI, P>>)
+    pub(crate) fn add_all(&mut self, done: Vec<Job<SLI, P>>)
         requires empty { (self.old.workers.items ≡ []) × (self.old.records.items ≡ []) }
         requires room { (vec_len done ≤ vec_capacity self.old.workers) × (vec_len done ≤ vec_capacity self.old.records) }
         ensures parts { (self.new.workers.items ≡ map (λ d. d.worker) done.items) × (self.new.records.items ≡ map (λ d. d.entries) done.items) }
     {
         for each in done {
-            let Done {
-                worker,
-                made: _,
-                entries,
-            } = each;
-            self.workers.push_reserved(worker);
-            self.records.push_reserved(entries);
+            self.workers.push_reserved(each.worker);
+            self.records.push_reserved(each.entries);
         }
     }
 }

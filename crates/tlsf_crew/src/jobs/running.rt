@@ -3,7 +3,6 @@ ghost use Rattle.std.specs.Prelude.{◌≡◌, ◌^◌, ◌<◌, ◌≤◌, map,
 ghost use Rattle.tlsf_crew.specs.jobs.Job.{KnowsSome};
 ghost use Rattle.tlsf_crew.specs.jobs.Parts.{EachJobRan};
 
-use crate::jobs::done::Done;
 use crate::jobs::fan_out::run_all;
 use crate::jobs::gate::Gate;
 use crate::jobs::job::Job;
@@ -30,7 +29,7 @@ pub(crate) fn run_scripts<
     workers: Vec<Worker<SLI, P>>,
     scripts: Vec<Vec<Call>>,
     gate: &G,
-    _jobs: PhantomData<(Job<SLI, P>, Done<SLI, P>)>,
+    _jobs: PhantomData<Job<SLI, P>>,
 ) -> Result<Outcome<SLI, P>, NoMemory>
     requires yard { All (KnowsSome (P.promise SLI).knows) workers.items }
     requires few { length workers.items ≤ 8 }
@@ -40,8 +39,13 @@ pub(crate) fn run_scripts<
 {
     let releases = count_all(&scripts);
     let jobs = prepare::<SLI, R, P>(alloc, workers, scripts, &releases)?;
-    let mut outcome = Outcome::with_room(alloc, jobs.len())?;
-    let done = run_all(rt, alloc, jobs, gate)?;
+    let returned = Vec::with_capacity(alloc, jobs.len())?;
+    let records = Vec::with_capacity(alloc, jobs.len())?;
+    let mut outcome = Outcome {
+        workers: returned,
+        records,
+    };
+    let done = run_all(rt, jobs, gate)?;
     outcome.add_all(done);
     Ok(outcome)
 }

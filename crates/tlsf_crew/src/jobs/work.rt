@@ -6,17 +6,14 @@ use crate::jobs::gate::Gate;
 /// it. That code has type parameters alone, since a function with a const parameter gets no proof of a call of
 /// `thread::scope`.
 pub(crate) trait Work<R> {
-    /// What the job hands back.
-    type Done;
-
     // When the job may start.
     ghost is_ready: { Self → Type 0 };
 
-    // What holds of the job and of what it hands back.
-    ghost is_done: { Self → Self.Done → Type 0 };
+    // What holds of the job as it was given, and as it is handed back.
+    ghost is_done: { Self → Self → Type 0 };
 
-    /// Does the job in this thread. The jobs that are done at once pass the same gate.
-    fn run<G: Gate>(self, rt: &R, gate: &G) -> Self::Done
+    /// Does the job in this thread, and hands it back. The jobs that are done at once pass the same gate.
+    fn run<G: Gate>(self, rt: &R, gate: &G) -> Self
         requires { is_ready self }
         ensures { is_done self result };
 }

@@ -10,6 +10,6 @@ pub(crate) struct WorkPromise<R, W> {
     pub(crate) with: PhantomData<R>,
 }
 
-impl<R, W: Work<R>> Promise<W::Done> for WorkPromise<R, W> {
+impl<R, W: Work<R>> Promise<W> for WorkPromise<R, W> {
     ghost kept_by = { λ p d. W.is_done p.work.value d };
 }

@@ -1,17 +1,14 @@
-ghost use Rattle.std.specs.Prelude.{◌≡◌, ◌≢◌, ◌↔◌, ◌+◌, ◌<◌, Some, None, length, vec_len, slice_set, replicate, IfOk, OnOk, IsErrOf};
+ghost use Rattle.std.specs.Prelude.{◌≡◌, ◌≢◌, ◌↔◌, ◌+◌, ◌<◌, Some, length, vec_len, slice_set, IfOk, OnOk, IsErrOf};
 ghost use Rattle.tlsf_class.specs.Classes.{IsLevel};
-ghost use Rattle.tlsf_heap.specs.Calls.{opened};
-ghost use Rattle.tlsf_heap.specs.Lawful.{IsRegion};
 ghost use Rattle.tlsf_crew.specs.worker.Sizes.{AreSizes};
 ghost use Rattle.tlsf_crew.specs.model.Opening.{opened_world};
 ghost use Rattle.tlsf_crew.specs.lanes.LaneOpening.{KnowFree, AreFresh};
 ghost use Rattle.tlsf_crew.specs.lanes.Yard.{world_of, IsYard};
 ghost use Rattle.tlsf_crew.specs.lanes.NewLanes.{IsLaid};
-ghost use Rattle.tlsf_crew.specs.worker.Workers.{heap_of};
 ghost use Rattle.tlsf_crew.specs.lanes.LaneWorkers.{id_and_capacity};
 
 use crate::worker::lanes::Lanes;
-use crate::worker::opening::{check_sizes, no_ends, open_heap};
+use crate::worker::opening::{check_sizes, no_ends, open_worker};
 use crate::worker::worker::Worker;
 use std::alloc::Global;
 use tlsf_heap::OpenFault;
@@ -21,6 +18,8 @@ use tlsf_post::{NoMemory, PostEnd, TakeEnd, lane};
 /// 4 to 2^20 at level 4 and to 2^24 at level 5, and from each to each other goes a lane that holds up to `capacity` posts, 1
 /// to 1,024. Each end that posts knows all its slots to be free, so the first `capacity` posts into a lane are never refused
 /// as `Full`. No end has sent or taken a post, so what it has sent or taken later is all since the yard was opened.
+///
+/// - `count`: there are `n` workers, so a number below `n` is the index of one.
 ///
 /// Refused as `BadSize` where a number is out of range, else as `NoMemory` where memory was not granted.
 ///
@@ -40,37 +39,23 @@ pub fn open_yard<const SLI: u32>(
     ensures world { IfOk result (λ workers. world_of workers.items ≡ opened_world n words capacity) }
     ensures free { IfOk result (λ workers. KnowFree workers.items capacity) }
     ensures fresh { IfOk result (λ workers. AreFresh workers.items) }
+    ensures count { IfOk result (λ workers. vec_len workers ≡ n) }
 
     // The refusals.
     ensures bad_size { IsErrOf result OpenFault.BadSize ↔ ¬ (AreSizes SLI n words capacity) }
     ensures never_worn { ¬ (IsErrOf result OpenFault.Worn) }
 {
     check_sizes::<SLI>(n, words, capacity)?;
-    match open_all(alloc, n, words, capacity) {
-        Ok(workers) => Ok(workers),
+    let Ok(mut workers) = open_alone(alloc, n, words, capacity) else {
+        return Err(OpenFault::NoMemory);
+    };
+    match lay_all(alloc, &mut workers, words, capacity) {
+        Ok(()) => Ok(workers),
         Err(_) => Err(OpenFault::NoMemory),
     }
 }
 
-fn open_all<const SLI: u32>(
-    alloc: Global,
-    n: u32,
-    words: u32,
-    capacity: u32,
-) -> Result<Vec<Worker<SLI>>, NoMemory>
-    requires level { IsLevel SLI }
-    requires sizes { AreSizes SLI n words capacity }
-    ensures yard { IfOk result (λ workers. IsYard workers.items) }
-    ensures world { IfOk result (λ workers. world_of workers.items ≡ opened_world n words capacity) }
-    ensures free { IfOk result (λ workers. KnowFree workers.items capacity) }
-    ensures fresh { IfOk result (λ workers. AreFresh workers.items) }
-{
-    let mut workers = open_alone(alloc, n, words, capacity)?;
-    lay_all(alloc, &mut workers, words, capacity)?;
-    Ok(workers)
-}
-
-/// Opens workers with no lanes.
+/// Opens workers with room for lanes to `n` workers, and no lanes.
 fn open_alone<const SLI: u32>(
     alloc: Global,
     n: u32,
@@ -83,38 +68,19 @@ fn open_alone<const SLI: u32>(
 {
     let mut workers = Vec::with_capacity(alloc, n as usize)?;
     for id in 0..n {
-        workers.push_reserved(open_worker(alloc, id, n, words, capacity)?);
+        let posts = no_ends(alloc, n)?;
+        let takes = no_ends(alloc, n)?;
+        let ports = Lanes {
+            capacity,
+            posts,
+            takes,
+        };
+        workers.push_reserved(open_worker(alloc, id, words, ports)?);
     }
     Ok(workers)
 }
 
-/// Opens a worker with room for lanes to `n` workers.
-fn open_worker<const SLI: u32>(
-    alloc: Global,
-    id: u32,
-    n: u32,
-    words: u32,
-    capacity: u32,
-) -> Result<Worker<SLI>, NoMemory>
-    requires level { IsLevel SLI }
-    requires region { IsRegion SLI words }
-    ensures heap { IfOk result (λ worker. heap_of worker ≡ opened id words 0) }
-    ensures numbers { IfOk result (λ worker. id_and_capacity worker ≡ (id, capacity)) }
-    ensures posts { IfOk result (λ worker. worker.ports.posts.items ≡ replicate n None) }
-    ensures takes { IfOk result (λ worker. worker.ports.takes.items ≡ replicate n None) }
-{
-    let posts = no_ends(alloc, n)?;
-    let takes = no_ends(alloc, n)?;
-    let heap = open_heap(alloc, id, words)?;
-    let ports = Lanes {
-        capacity,
-        posts,
-        takes,
-    };
-    Ok(Worker { heap, id, ports })
-}
-
-/// Lays all lanes.
+/// Lays all lanes, row by row.
 fn lay_all<const SLI: u32>(
     alloc: Global,
     workers: &mut [Worker<SLI>],
@@ -126,27 +92,10 @@ fn lay_all<const SLI: u32>(
     ensures { OnOk result (IsLaid workers.new (length workers.old) words capacity (length workers.old) 0) }
 {
     for i in 0..workers.len() {
-        lay_row(alloc, workers, i, words, capacity)?;
-    }
-    Ok(())
-}
-
-/// Lays the lanes from worker i.
-fn lay_row<const SLI: u32>(
-    alloc: Global,
-    workers: &mut [Worker<SLI>],
-    i: usize,
-    words: u32,
-    capacity: u32,
-) -> Result<(), NoMemory>
-    requires sizes { AreSizes SLI (length workers.old) words capacity }
-    requires inside { i < length workers.old }
-    requires laid { IsLaid workers.old (length workers.old) words capacity i 0 }
-    ensures { OnOk result (IsLaid workers.new (length workers.old) words capacity (i + 1) 0) }
-{
-    for j in 0..workers.len() {
-        if i != j {
-            lay_lane(alloc, workers, i, j, words, capacity)?;
+        for j in 0..workers.len() {
+            if i != j {
+                lay_lane(alloc, workers, i, j, words, capacity)?;
+            }
         }
     }
     Ok(())

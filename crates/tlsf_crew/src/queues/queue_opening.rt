@@ -1,21 +1,17 @@
 //! How a yard over queues is opened.
-ghost use Rattle.std.specs.Prelude.{◌≡◌, ◌≢◌, ◌↔◌, ℕ, ◌<◌, ◌≤◌, Some, None, length, map, vec_len, vec_capacity, slice_get, slice_set, replicate, IfOk, IsErrOf};
+ghost use Rattle.std.specs.Prelude.{◌≡◌, ◌≢◌, ◌↔◌, ℕ, ◌<◌, ◌≤◌, Some, length, map, vec_len, vec_capacity, slice_get, slice_set, IfOk, IsErrOf};
 ghost use Rattle.tlsf_class.specs.Classes.{IsLevel};
-ghost use Rattle.tlsf_heap.specs.Calls.{opened};
-ghost use Rattle.tlsf_heap.specs.Lawful.{IsRegion};
 ghost use Rattle.tlsf_post.specs.Mailboxes.{number_of, below_but};
 ghost use Rattle.tlsf_crew.specs.worker.Sizes.{AreSizes};
 ghost use Rattle.tlsf_crew.specs.model.Opening.{opened_world};
-ghost use Rattle.tlsf_crew.specs.worker.Workers.{heap_of, id_of};
 ghost use Rattle.tlsf_crew.specs.queues.QueueYard.{IsQueueYard, queue_world_of};
 ghost use Rattle.tlsf_crew.specs.queues.QueueOpening.{AreFreshQueues, AreGiven, AreUngiven, GaveEnds, HaveSlotsFor};
 
 use crate::queues::queues::{QueueWorker, Queues};
-use crate::worker::opening::{check_sizes, no_ends, open_heap};
-use crate::worker::worker::Worker;
+use crate::worker::opening::{check_sizes, no_ends, open_worker};
 use std::alloc::Global;
 use tlsf_heap::OpenFault;
-use tlsf_post::{NoMemory, OwnerEnd, PosterEnd, mailbox};
+use tlsf_post::{NoMemory, PosterEnd, mailbox};
 
 /// Opens a yard over queues of level 4 or 5, of `n` workers, 1 to 8, numbered from 0: each owns a heap of its number over
 /// `words` words, 4 to 2^20 at level 4 and to 2^24 at level 5, and a queue into which all others post, of up to `capacity`
@@ -24,6 +20,7 @@ use tlsf_post::{NoMemory, OwnerEnd, PosterEnd, mailbox};
 /// Refused as `BadSize` where a number is out of range, else as `NoMemory` where memory was not granted.
 ///
 /// - `fresh`: nothing was put into a queue or taken out of one.
+/// - `count`: there are `n` workers, so a number below `n` is the index of one.
 ///
 /// ```
 /// let mut workers = open_queue_yard::<4>(alloc, 3, 1024, 16)?; // three heaps of 8 KiB, and three queues of up to 16 posts
@@ -40,33 +37,20 @@ pub fn open_queue_yard<const SLI: u32>(
     ensures yard { IfOk result (λ workers. IsQueueYard workers.items) }
     ensures world { IfOk result (λ workers. queue_world_of workers.items ≡ opened_world n words capacity) }
     ensures fresh { IfOk result (λ workers. AreFreshQueues workers.items) }
+    ensures count { IfOk result (λ workers. vec_len workers ≡ n) }
 
     // The refusals.
     ensures bad_size { IsErrOf result OpenFault.BadSize ↔ ¬ (AreSizes SLI n words capacity) }
     ensures never_worn { ¬ (IsErrOf result OpenFault.Worn) }
 {
     check_sizes::<SLI>(n, words, capacity)?;
-    match open_all_queues(alloc, n, words, capacity) {
-        Ok(workers) => Ok(workers),
+    match open_without_ends(alloc, n, words, capacity) {
+        Ok((mut workers, mut ends)) => {
+            give_all(&mut workers, &mut ends);
+            Ok(workers)
+        }
         Err(_) => Err(OpenFault::NoMemory),
     }
-}
-
-fn open_all_queues<const SLI: u32>(
-    alloc: Global,
-    n: u32,
-    words: u32,
-    capacity: u32,
-) -> Result<Vec<QueueWorker<SLI>>, NoMemory>
-    requires level { IsLevel SLI }
-    requires sizes { AreSizes SLI n words capacity }
-    ensures yard { IfOk result (λ workers. IsQueueYard workers.items) }
-    ensures world { IfOk result (λ workers. queue_world_of workers.items ≡ opened_world n words capacity) }
-    ensures fresh { IfOk result (λ workers. AreFreshQueues workers.items) }
-{
-    let (mut workers, mut ends) = open_without_ends(alloc, n, words, capacity)?;
-    give_all(&mut workers, &mut ends);
-    Ok(workers)
 }
 
 /// Opens workers with no ends to others' queues, and answers these ends apart, queue by queue.
@@ -85,30 +69,11 @@ fn open_without_ends<const SLI: u32>(
     let mut ends = Vec::with_capacity(alloc, n as usize)?;
     for id in 0..n {
         let (own, posters) = mailbox(alloc, id, n, capacity)?;
-        workers.push_reserved(open_queue_worker(alloc, id, n, words, own)?);
+        let posts = no_ends(alloc, n)?;
+        workers.push_reserved(open_worker(alloc, id, words, Queues { own, posts })?);
         ends.push_reserved(posters);
     }
     Ok((workers, ends))
-}
-
-/// Opens a worker with room for ends to `n` queues.
-fn open_queue_worker<const SLI: u32>(
-    alloc: Global,
-    id: u32,
-    n: u32,
-    words: u32,
-    own: OwnerEnd,
-) -> Result<QueueWorker<SLI>, NoMemory>
-    requires level { IsLevel SLI }
-    requires region { IsRegion SLI words }
-    ensures heap { IfOk result (λ worker. heap_of worker ≡ opened id words 0) }
-    ensures numbers { IfOk result (λ worker. (id_of worker ≡ id) × (worker.ports.own ≡ own)) }
-    ensures posts { IfOk result (λ worker. worker.ports.posts.items ≡ replicate n None) }
-{
-    let posts = no_ends(alloc, n)?;
-    let heap = open_heap(alloc, id, words)?;
-    let ports = Queues { own, posts };
-    Ok(Worker { heap, id, ports })
 }
 
 /// Gives each worker its end to each other queue, the last one first.

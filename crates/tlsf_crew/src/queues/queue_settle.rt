@@ -1,10 +1,12 @@
 //! Settling of queues: each owner learns all that was put into its queue.
-ghost use Rattle.std.specs.Prelude.{◌≡◌, ◌+◌, ◌++◌, ◌<◌, ◌≤◌, [], length, vec_len, vec_capacity, OnOk, OnErr};
+ghost use Rattle.std.specs.Prelude.{◌≡◌, ℕ, ◌+◌, ◌++◌, ◌<◌, ◌≤◌, [], Some, slice_get, length, vec_len, vec_capacity, OnOk, OnErr};
 ghost use Rattle.std.specs.Option.{option_to_list};
 ghost use Rattle.tlsf_post.specs.Mailboxes.{IsWhole, AllBeside};
 ghost use Rattle.tlsf_crew.specs.queues.QueueWorkers.{queue_end_to};
 ghost use Rattle.tlsf_crew.specs.queues.QueueYard.{IsQueueYard, queue_world_of};
-ghost use Rattle.tlsf_crew.specs.queues.QueueSettle.{AllKnown, GaveUpEnd, Gathered, QueueSettled, EachQueueSettled};
+ghost use Rattle.tlsf_crew.specs.queues.QueueSettle.{AllKnown, GaveUpEnd, Gathered, QueueSettled, EachQueueSettled, StaysPut};
+ghost use Rattle.tlsf_crew.specs.declared.worker.worker.Worker.{Worker};
+ghost use Rattle.tlsf_crew.specs.declared.queues.queues.Queues.{Queues};
 
 use crate::queues::queue_opening::give_ends;
 use crate::queues::queues::QueueWorker;
@@ -97,10 +99,11 @@ pub(crate) fn settle_each_queue<const SLI: u32>(
     }
 }
 
-/// Settles each queue of a whole yard: its owner learns all that was put into it. So the `None` of its next take, and a drain of it
-/// that takes fewer than it may, then say that all that was put before was taken.
+/// Settles each queue of a whole yard: its owner learns all that was put into it. So the `None` of a later take, and a later drain
+/// that takes fewer than it may, say that all that was put before the settling was taken.
 ///
 /// - `known`: each owner knows, of each other worker, all that this has ever put into its queue.
+/// - `stays`: what each worker has put into each queue and taken out of its own stays the same, and so do its heap and its number.
 /// - `world`: what the yard shows stays the same. No heap changes, and in each queue the same posts wait.
 ///
 /// Refused as `NoMemory` where room for the ends to one queue was refused. Nothing has changed then.
@@ -116,6 +119,7 @@ pub fn settle_queues<const SLI: u32>(
 ) -> Result<(), NoMemory>
     requires { IsQueueYard workers.old }
     ensures known { OnOk result (AllKnown workers.new) }
+    ensures stays { (i : ℕ) (a v : Worker SLI Queues) → slice_get workers.old i ≡ Some a → slice_get workers.new i ≡ Some v → StaysPut a v }
     ensures yard { IsQueueYard workers.new }
     ensures count { length workers.new ≡ length workers.old }
     ensures world { queue_world_of workers.new ≡ queue_world_of workers.old }

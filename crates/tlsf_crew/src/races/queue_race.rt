@@ -1,17 +1,11 @@
 //! Workers over queues that run their scripts at once.
-ghost use Rattle.std.specs.Prelude.{◌≡◌, ℕ, ◌+◌, ◌^◌, ◌<◌, ◌≤◌, List, Option, length, map, vec_len, vec_capacity, IfOk, All};
+ghost use Rattle.std.specs.Prelude.{◌≡◌, ℕ, ◌^◌, ◌<◌, ◌≤◌, length, map, vec_len, vec_capacity, IfOk, All};
 ghost use Rattle.tlsf_crew.specs.queues.QueueYard.{IsQueueYard, queue_world_of};
 ghost use Rattle.tlsf_crew.specs.races.QueueRace.{IsQueueRace};
-ghost use Rattle.tlsf_crew.specs.queues.QueueWorkers.{KnowsQueueYard, queue_end_to};
-ghost use Rattle.tlsf_crew.specs.scripts.QueueMoves.{QueueStepped};
-ghost use Rattle.tlsf_crew.specs.model.Sums.{sum_of};
-ghost use Rattle.tlsf_crew.specs.scripts.Journals.{HasTakePlaces};
-ghost use Rattle.tlsf_heap.specs.declared.name.Name.{Name};
-ghost use Rattle.tlsf_calls.specs.declared.call.Call.TheVariants.{Drain};
+ghost use Rattle.tlsf_crew.specs.queues.QueueWorkers.{KnowsQueueYard};
 ghost use Rattle.tlsf_crew.specs.races.LaneTasks.{KeepRooms};
 ghost use Rattle.tlsf_crew.specs.races.Rooms.{HaveQueueRecordRooms};
 ghost use Rattle.tlsf_crew.specs.races.QueueTasks.{QueueLastDrained, SettledAndDrained, HasPlace, KnowsSomeYard, EachQueueLastDrained};
-ghost use Rattle.tlsf_crew.specs.scripts.Scripts.{stage_of};
 
 use crate::jobs::gate::Gate;
 use crate::jobs::outcome::QueueOutcome;
@@ -130,44 +124,15 @@ fn drain_one<const SLI: u32, R: Wait>(
     ensures drained { (n : ℕ) → KnowsQueueYard n worker.old → QueueLastDrained n worker.old worker.new entries.old.items entries.new.items }
     ensures capacity { vec_capacity entries.new ≡ vec_capacity entries.old }
 {
-    let limits = [last_limit(entries), 0, 0, 0, 0, 0, 0, 0];
-    let mut journal = Journal::resume(alloc, entries, limits);
-    let taken = drain_into_queue_journal(rt, worker, &mut journal, MOST_DRAINED);
+    let room = (entries.capacity() - entries.len() - 1) as u64;
+    // Fewer than it asks for, so that it goes on until its queue is empty.
+    let most = room.min(MOST_DRAINED as u64 - 1);
+    let mut journal = Journal::resume(alloc, entries, [most, 0, 0, 0, 0, 0, 0, 0]);
+    let drained = drain_source(worker, rt, 0, MOST_DRAINED, &mut journal);
     journal.entries.push_reserved(Entry {
         worker: worker.id,
         call: Call::Drain { most: MOST_DRAINED },
-        reply: Reply::Drained(taken),
+        reply: Reply::Drained(drained.taken),
     });
     *entries = journal.entries;
-}
-
-/// Takes from the own queue, each post with an entry, until `most` were taken or the queue is empty. Answers how many.
-fn drain_into_queue_journal<const SLI: u32, R: Wait>(
-    rt: &R,
-    worker: &mut QueueWorker<SLI>,
-    journal: &mut Journal,
-    most: u32,
-) -> u32
-    requires room { HasTakePlaces journal.old }
-    ensures stepped { (n : ℕ) (made : List (Option Name)) → KnowsQueueYard n worker.old
-        → QueueStepped n (stage_of worker.old journal.old) (Drain most) made (stage_of worker.new journal.new) (Reply.Drained result) }
-    ensures few { result ≤ sum_of journal.old.limits }
-    ensures ends { (n : ℕ) → KnowsQueueYard n worker.old → queue_end_to worker.new ≡ queue_end_to worker.old }
-    ensures capacity { vec_capacity journal.new.entries ≡ vec_capacity journal.old.entries }
-{
-    drain_source(worker, rt, 0, most, journal).taken
-}
-
-/// How many posts a last drain may take: fewer than it asks for, so that it goes on until its queue is empty.
-fn last_limit(entries: &Vec<Entry>) -> u64
-    requires { HasPlace entries.now }
-    ensures few { result < 8192 }
-    ensures room { vec_len entries.now + result + 1 ≤ vec_capacity entries.now }
-{
-    let room = entries.capacity() - entries.len() - 1;
-    if room < MOST_DRAINED as usize {
-        room as u64
-    } else {
-        MOST_DRAINED as u64 - 1
-    }
 }

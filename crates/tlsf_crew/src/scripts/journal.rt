@@ -1,5 +1,5 @@
 //! The record of a worker, while it is written.
-ghost use Rattle.std.specs.Prelude.{◌≡◌, ◌<◌, vec_capacity};
+ghost use Rattle.std.specs.Prelude.{◌≡◌, ◌<◌, [], vec_capacity};
 ghost use Rattle.tlsf_crew.specs.scripts.Journals.{IsAdmitted, HasTakePlaces, EntersTake};
 
 use crate::worker::notes::Notes;
@@ -16,13 +16,14 @@ pub(crate) struct Journal {
 }
 
 impl Journal {
-    /// Goes on with a record, whose entries it has until they are given back. None are left there.
-    pub(crate) fn resume(alloc: Global, record: &mut Vec<Entry>, limits: [u64; 8]) -> Journal
-        ensures { (result.limits ≡ limits) × (result.entries ≡ record.old) }
+    /// Goes on with these entries, which it has until they are given back. None are left there.
+    pub(crate) fn resume(alloc: Global, told: &mut Vec<Entry>, limits: [u64; 8]) -> Journal
+        ensures journal { (result.limits ≡ limits) × (result.entries ≡ told.old) }
+        ensures left { told.new.items ≡ [] }
     {
         Journal {
             limits,
-            entries: mem::replace(record, Vec::new(alloc)),
+            entries: mem::replace(told, Vec::new(alloc)),
         }
     }
 }

@@ -14,22 +14,6 @@ use crate::worker::worker::Worker;
 use tlsf_calls::{Call, Chunk, CrewRefusal, Reply, Target};
 use tlsf_heap::{Name, Refusal};
 
-/// The name that a target means.
-fn named(target: Target, made: &[Option<Name>]) -> Option<Name>
-    ensures { result ≡ name_of made.now target }
-{
-    match target {
-        Target::Named(name) => Some(name),
-        Target::Made(k) => {
-            if (k as usize) < made.len() {
-                return made[k as usize];
-            }
-            None
-        }
-        Target::Absent => None,
-    }
-}
-
 /// The name that the target of a call means, None where the call has no target or its target means none.
 pub(crate) fn target_name(call: &Call, made: &[Option<Name>]) -> Option<Name>
     ensures { result ≡ target_name made.now call.now }
@@ -38,7 +22,16 @@ pub(crate) fn target_name(call: &Call, made: &[Option<Name>]) -> Option<Name>
         Call::Release { target }
         | Call::Write { target, .. }
         | Call::Read { target, .. }
-        | Call::Resize { target, .. } => named(*target, made),
+        | Call::Resize { target, .. } => match target {
+            Target::Named(name) => Some(*name),
+            Target::Made(k) => {
+                if (*k as usize) < made.len() {
+                    return made[*k as usize];
+                }
+                None
+            }
+            Target::Absent => None,
+        },
         Call::Allocate { .. } | Call::Take { .. } | Call::Drain { .. } => None,
     }
 }

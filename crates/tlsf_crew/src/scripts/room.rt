@@ -15,17 +15,11 @@ pub(crate) fn room_for<const SLI: u32>(workers: &[Worker<SLI>], events: &[Event]
     requires { length workers.now ≤ 8 }
     ensures { result ≡ length events.now + releases_in events.now + ready_in workers.now }
 {
-    events.len() + releases_in(events) + count_ready(workers)
-}
-
-/// How many of the events are releases.
-fn releases_in(events: &[Event]) -> usize
-    ensures { result ≡ releases_in events.now }
-{
-    events
+    let releases = events
         .iter()
         .filter(|event| matches!(event.call, Call::Release { .. }))
-        .count()
+        .count();
+    events.len() + releases + count_ready(workers)
 }
 
 /// How many posts are ready in the yard.

@@ -4,7 +4,9 @@ ghost use Rattle.tlsf_class.specs.Classes.{IsLevel};
 ghost use Rattle.tlsf_heap.specs.Calls.{opened};
 ghost use Rattle.tlsf_heap.specs.Lawful.{IsRegion};
 ghost use Rattle.tlsf_crew.specs.worker.Sizes.{AreSizes};
+ghost use Rattle.tlsf_crew.specs.worker.Workers.{heap_of, id_of};
 
+use crate::worker::worker::Worker;
 use std::alloc::Global;
 use tlsf_class::most_words;
 use tlsf_heap::{Heap, OpenFault};
@@ -39,18 +41,20 @@ pub(crate) fn check_sizes<const SLI: u32>(
     Ok(())
 }
 
-/// Opens the heap of a worker.
-pub(crate) fn open_heap<const SLI: u32>(
+/// Opens a worker over these ports.
+pub(crate) fn open_worker<const SLI: u32, P: Drop>(
     alloc: Global,
     id: u32,
     words: u32,
-) -> Result<Heap<SLI>, NoMemory>
+    ports: P,
+) -> Result<Worker<SLI, P>, NoMemory>
     requires level { IsLevel SLI }
     requires region { IsRegion SLI words }
-    ensures { IfOk result (λ heap. heap.heap ≡ opened id words 0) }
+    ensures heap { IfOk result (λ worker. heap_of worker ≡ opened id words 0) }
+    ensures numbers { IfOk result (λ worker. (id_of worker ≡ id) × (worker.ports ≡ ports)) }
 {
     match Heap::open(alloc, id, words, 0) {
-        Ok(heap) => Ok(heap),
+        Ok(heap) => Ok(Worker { heap, id, ports }),
         // The words are in range and the tick is 0, so a refusal is a want of memory.
         Err(_) => Err(NoMemory),
     }

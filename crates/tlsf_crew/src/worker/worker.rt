@@ -9,7 +9,7 @@ ghost use Rattle.tlsf_heap.specs.Lawful.{IsLawful};
 ghost use Rattle.tlsf_heap.specs.Laws.{IsLive};
 ghost use Rattle.tlsf_heap.specs.Placed.{placed_at};
 ghost use Rattle.tlsf_heap.specs.Reports.{report_of};
-ghost use Rattle.tlsf_heap.specs.Touched.{FollowsNoForgery};
+ghost use Rattle.tlsf_heap.specs.Touched.{FollowsNoForgery, FollowsNoPlace};
 ghost use Rattle.tlsf_calls.specs.declared.took.Took.{Took};
 ghost use Rattle.tlsf_crew.specs.declared.worker.worker.Worker.{Worker};
 ghost use Rattle.tlsf_crew.specs.worker.Workers.{heap_of, touches_of, id_of, SameButHeap, KeepsHeap};
@@ -355,7 +355,8 @@ impl<const SLI: u32, P: Ports> Worker<SLI, P> {
         self.heap.tick()
     }
 
-    /// The block of the own heap that begins at a place, None where none does. The next begins at its end, `at + size`.
+    /// The block of the own heap that begins at a place, None where none does: a number from outside is not followed. The next begins at
+    /// its end, `at + size`.
     ///
     /// ```
     /// let first = worker.block_at(0);         // each heap has a block at place 0
@@ -369,6 +370,7 @@ impl<const SLI: u32, P: Ports> Worker<SLI, P> {
         ensures yard { P.keeps_yards SLI self.old self.new }
         ensures touches { touches_of self.new ≤ touches_of self.old + 4 }
         ensures touches_rise { touches_of self.old ≤ touches_of self.new }
+        ensures wild { FollowsNoPlace (heap_of self.old) at (touches_of self.old) (touches_of self.new) }
     {
         P::heap_keeps();
         self.heap.block_at(at)

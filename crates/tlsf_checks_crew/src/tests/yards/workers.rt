@@ -194,6 +194,28 @@ fn payloads_of_a_worker(rt: HostRuntime) -> Result<(), Fail> {
     Ok(())
 }
 
+// The own name is refused, and one of no worker's heap is a stranger's. The yard has as many workers as were asked for.
+#[test]
+fn posts_of_a_worker(rt: HostRuntime) -> Result<(), Fail> {
+    let mut workers = open_yard::<4>(rt.alloc(), 2, 64, 1)?;
+    let found = [
+        workers[1].post(BLOCK),
+        workers[1].post(BLOCK),
+        workers[1].post(name!(1, 0, 1)),
+        workers[1].post(name!(2, 0, 1)),
+    ];
+    let foreign = CrewRefusal::Heap(Refusal::Foreign);
+    let wanted = [
+        Ok(()),
+        Err(CrewRefusal::Full(BLOCK)),
+        Err(foreign),
+        Err(CrewRefusal::Stranger),
+    ];
+    same(found, wanted).expect(&rt, "differ");
+    same(workers[0].drain(8).taken, 1).expect(&rt, "differ");
+    Ok(())
+}
+
 /// What the first of two workers answers to a drain of no post and to one of up to 8, once the second has posted a name.
 fn drained(rt: &impl Abort, alloc: Global, posted: Name) -> Result<[Drained; 2], Fail> {
     let rows = [(release_of!(1, posted), Reply::Posted)];

@@ -13,7 +13,7 @@ returns-clause-done g t c =
     let d = c.join.result in
     let items : c.args.jobs.now.items ≡ c.pop.new.self.items ++ job ∷ [] = c.in-Some.ensures.items in
     let same : c.in_ok-child.child.promise.work.value ≡ job = grind (arith, common_steps) in
-    let rest : AllDone is_done c.pop.new.self.items c.fan_out.new.done.items = c.in_ok-fan_out.ensures.done in
+    let rest : AllDone is_done c.pop.new.self.items c.fan_out.new.jobs.items = c.in_ok-fan_out.ensures.done in
     rw (items, c.push_reserved.ensures.items) (done_last is_done _ _ _ _ rest (subst (λ j. is_done j d) same c.join.ensures))
 
 pub fan_out-requires-clause-ready : goal.fan_out-requires-clause-ready
@@ -23,4 +23,6 @@ pub returns-in_default-clause-done : goal.returns-in_default-clause-done
 returns-in_default-clause-done g t c =
     let l = c.args.jobs.now.ok in
     let e : c.args.jobs.now.items ≡ [] = nil_from_length _ (omega (arith, c.in_default.ensures.cases.0)) in
-    rw (e, c.requires.room.0) tt
+    let m = c.pop.new.self.ok in
+    let f : c.pop.new.self.items ≡ [] = nil_from_length _ (omega (arith, c.in_default.ensures.cases.1)) in
+    rw (e, f) tt

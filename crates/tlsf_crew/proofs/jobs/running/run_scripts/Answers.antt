@@ -1,5 +1,5 @@
 use Rattle.std.proofs.Common.{arith}
-use Rattle.tlsf_crew.proofs.lemmas.jobs.Gathering.{jobs_gathered, room_of_done}
+use Rattle.tlsf_crew.proofs.lemmas.jobs.Gathering.{jobs_gathered}
 use Rattle.tlsf_crew.proofs.jobs.running.run_scripts.Goals as goal
 
 pub returns : goal.returns
@@ -13,7 +13,7 @@ prepare-requires g c = (omega arith, (omega arith, (c.requires.yard, (c.requires
 
 pub add_all-requires : goal.add_all-requires
 add_all-requires g c =
-    (omega arith, (omega arith, (c.in_ok-outcome.ensures.empty, room_of_done _ _ _ _ _ c.in_ok-done.ensures.len c.len.ensures c.in_ok-outcome.ensures.room)))
+    (omega arith, (omega arith, ((c.in_ok-returned.ensures.items, c.in_ok-records.ensures.items), (omega (arith, c.in_ok-done.ensures.len, c.len.ensures, c.in_ok-returned.ensures.capacity), omega (arith, c.in_ok-done.ensures.len, c.len-2.ensures, c.in_ok-records.ensures.capacity)))))
 
 pub count_all-releases-requires-clause-short : goal.count_all-releases-requires-clause-short
 count_all-releases-requires-clause-short g c = rw c.deref.ensures.value c.requires.short

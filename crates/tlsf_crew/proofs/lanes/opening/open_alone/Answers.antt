@@ -1,4 +1,4 @@
-use Rattle.std.proofs.Common.{◌≡◌, length, ap, ◌∙◌, arith}
+use Rattle.std.proofs.Common.{◌≡◌, length, ap, ◌∙◌, arith, refl}
 use Rattle.tlsf_heap.specs.Calls.{opened}
 use Rattle.tlsf_crew.specs.model.Opening.{opened_heaps}
 use Rattle.tlsf_crew.specs.worker.Workers.{heap_of}
@@ -16,8 +16,8 @@ loop-id-preserved g c =
       count = omega (arith, i.count, c.push_reserved.ensures.len);
       room = omega (arith, i.room, c.push_reserved.ensures.capacity);
       heaps = rw e (map_push heap_of (λ j. opened j c.args.words 0) _ _ _ i.heaps own.heap);
-      numbers = rw e (map_push id_and_capacity (λ j. (j, c.args.capacity)) _ _ _ i.numbers own.numbers);
-      alone = rw e (alone_push _ _ _ i.alone own.posts own.takes);
+      numbers = rw e (map_push id_and_capacity (λ j. (j, c.args.capacity)) _ _ _ i.numbers (rw (own.numbers.0, own.numbers.1) refl));
+      alone = rw e (alone_push _ _ _ i.alone (rw own.numbers.1 c.in_ok-posts.ensures) (rw own.numbers.1 c.in_ok-takes.ensures));
     }
 
 pub returns : goal.returns

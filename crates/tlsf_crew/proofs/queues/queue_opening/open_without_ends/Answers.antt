@@ -1,4 +1,5 @@
-use Rattle.std.proofs.Common.{◌≡◌, length, ap, arith}
+use Rattle.std.proofs.Common.{◌≡◌, ◌∙◌, length, ap, arith}
+use Rattle.tlsf_crew.specs.declared.queues.queues.Queues.{Queues}
 use Rattle.tlsf_crew.proofs.lemmas.queues.QueueOpened.{bare_none, bare_more, bare_given}
 use Rattle.tlsf_crew.proofs.queues.queue_opening.open_without_ends.Goals as goal
 
@@ -12,7 +13,7 @@ loop-id-init g c = record {
 pub loop-id-preserved : goal.loop-id-preserved
 loop-id-preserved g c =
     let i = c.loop-id.invariant in
-    let made = c.in_ok-open_queue_worker.ensures in
+    let made = c.in_ok-open_worker.ensures in
     let box = c.in_ok-own.ensures in
     let len : length c.loop-id.workers.items ≡ c.loop-id.id = omega (arith, i.count.0, c.loop-id.workers.ok) in
     record {
@@ -20,7 +21,7 @@ loop-id-preserved g c =
       room = (omega (arith, i.room.0, c.push_reserved.ensures.capacity), omega (arith, i.room.1, c.push_reserved-in-loop-id.ensures.capacity));
       bare = rw (c.push_reserved.ensures.items, c.push_reserved-in-loop-id.ensures.items)
           (bare_more c.args.n c.args.words c.args.capacity c.loop-id.id _ _ _ _ _ i.bare len
-          (record { heap = made.heap; numbers = made.numbers; posts = made.posts; owner = box.owner; whole = box.whole; fresh = box.fresh }));
+          (record { heap = made.heap; numbers = (made.numbers.0, ap (λ (q : Queues). q.own) made.numbers.1); posts = ap (λ (q : Queues). q.posts.items) made.numbers.1 ∙ c.in_ok-posts.ensures; owner = box.owner; whole = box.whole; fresh = box.fresh }));
     }
 
 pub returns-clause-given : goal.returns-clause-given

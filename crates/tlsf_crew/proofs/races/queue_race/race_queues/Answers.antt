@@ -63,4 +63,4 @@ run_scripts-requires-after_bounds g c κs within =
     let settled = c.settle_each_queue.ensures.settled in
     let yard = settled.yard in
     let first = written_back c.args.workers.len ws c.args.workers.items (omega (arith, settled.count, c.deref_mut.ensures.len)) in
-    (omega arith, (omega arith, (omega arith, (omega arith, (rw first (each_knows_some ws yard), (rw first yard.few, (c.requires.count, c.requires.short)))))))
+    (omega arith, (omega arith, (omega arith, (rw first (each_knows_some ws yard), (rw first yard.few, (c.requires.count, c.requires.short))))))

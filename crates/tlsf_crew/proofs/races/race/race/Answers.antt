@@ -88,4 +88,4 @@ run_scripts-requires-after_bounds g c κs within =
     let ws = c.settle.new.workers in
     let yard = c.settle.ensures.yard in
     let first = written_back c.args.workers.len ws c.args.workers.items (omega (arith, c.settle.ensures.count, c.deref_mut.ensures.len)) in
-    (omega arith, (omega arith, (omega arith, (omega arith, (rw first (each_knows_some ws yard), (rw first yard.few, (c.requires.count, c.requires.short)))))))
+    (omega arith, (omega arith, (omega arith, (rw first (each_knows_some ws yard), (rw first yard.few, (c.requires.count, c.requires.short))))))

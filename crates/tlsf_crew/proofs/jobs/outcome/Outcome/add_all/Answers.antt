@@ -1,6 +1,6 @@
 use Rattle.std.proofs.Common.{◌≡◌, ◌∷◌, [], ◌++◌, List, map, ap, sym, ◌∙◌, append_assoc, append-nil, arith}
 use Rattle.std.proofs.lemmas.List.{nil_from_length}
-use Rattle.tlsf_crew.specs.declared.jobs.done.Done.{Done}
+use Rattle.tlsf_crew.specs.declared.jobs.job.Job.{Job}
 use Rattle.tlsf_crew.proofs.jobs.outcome.Outcome.add_all.Goals as goal
 
 -- the first that is still to come was added
@@ -16,8 +16,8 @@ loop-each-preserved g c =
     let was = c.loop-each.invariant in
     let first = c.in-Some.ensures.steps.0 in
     record {
-      workers = one_more (λ (d : Done g.row.SLI _). d.worker) _ _ _ _ _ _ c.push_reserved.ensures.items first was.workers;
-      records = one_more (λ (d : Done g.row.SLI _). d.entries) _ _ _ _ _ _ c.push_reserved-in-loop-each.ensures.items first was.records;
+      workers = one_more (λ (d : Job g.row.SLI _). d.worker) _ _ _ _ _ _ c.push_reserved.ensures.items first was.workers;
+      records = one_more (λ (d : Job g.row.SLI _). d.entries) _ _ _ _ _ _ c.push_reserved-in-loop-each.ensures.items first was.records;
       room = (
         omega (arith, was.room.0, c.in-Some.ensures.steps.1, c.push_reserved.ensures.len, c.push_reserved.ensures.capacity),
         omega (arith, was.room.1, c.in-Some.ensures.steps.1, c.push_reserved-in-loop-each.ensures.len, c.push_reserved-in-loop-each.ensures.capacity),
@@ -29,4 +29,4 @@ returns g c =
     let was = c.loop-each.invariant in
     let ok = c.loop-each.each-iterator.rest.ok in
     let none = nil_from_length _ (omega (arith, c.in-None.ensures.steps.0)) in
-    record { parts = (nothing_left (λ (d : Done g.row.SLI _). d.worker) _ _ _ none was.workers, nothing_left (λ (d : Done g.row.SLI _). d.entries) _ _ _ none was.records) }
+    record { parts = (nothing_left (λ (d : Job g.row.SLI _). d.worker) _ _ _ none was.workers, nothing_left (λ (d : Job g.row.SLI _). d.entries) _ _ _ none was.records) }

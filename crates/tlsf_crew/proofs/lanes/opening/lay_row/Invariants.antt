@@ -1,6 +1,0 @@
-use Rattle.std.proofs.Common.{length}
-use Rattle.tlsf_crew.specs.lanes.NewLanes.{IsLaid}
-use Rattle.tlsf_crew.proofs.lanes.opening.lay_row.Given as goal
-
-abbrev pub invariant-loop-j : goal.invariant-loop-j
-invariant-loop-j g l = IsLaid l.workers (length l.fn.workers) l.words l.capacity l.i l.j
