@@ -8,3 +8,4 @@ pub mod PieceSteps  -- the pieces of a text, one after another
 pub mod TextSpots  -- the field of a text's fault
 pub mod UnreadRuns  -- a trace that was not read whole
 pub mod NoteSteps  -- what is noted of a fault
+pub mod FieldSteps  -- the fields of a line as bytes of it, and the rows that show it

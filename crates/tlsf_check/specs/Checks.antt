@@ -7,6 +7,7 @@ use Rattle.tlsf_trace.specs.Replay.{Outputs}
 use Rattle.tlsf_check.specs.CheckLines.{check_line}
 use Rattle.tlsf_check.specs.FieldFaults.{IsFoundIn}
 use Rattle.tlsf_check.specs.PassedLimits.{NotesLimit}
+use Rattle.tlsf_check.specs.Shown.{ShowsField}
 
 -- of a good trace one line is put out
 abbrev pub Checks : Outputs
@@ -16,10 +17,11 @@ Checks trace output = output ≡ check_line trace
 abbrev pub field_text : ℕ → List ℕ → List ℕ
 field_text n words = codes "  field " ++ decimal n ++ words ++ codes "\n"
 
--- a note names a field, behind the line that it shows
-pub record NamesField (n : ℕ) (note : List ℕ) : Type 0 where
+-- a note shows line number `line` of a text with a mark in field n, and names the field below
+pub record NamesField (text : List ℕ) (line n : ℕ) (note : List ℕ) : Type 0 where
   pub shown : List ℕ
   pub words : List ℕ
+  pub shows : ShowsField text line n shown
   pub note_is : note ≡ shown ++ field_text n words
 
 -- a note was added that names the field in which the fault of a text is found
@@ -27,7 +29,7 @@ pub record NotesField (text : List ℕ) (fault : TraceFault) (old new : List ℕ
   pub n : ℕ
   pub note : List ℕ
   pub found : IsFoundIn text fault n
-  pub named : NamesField n note
+  pub named : NamesField text fault.line n note
   pub added : new ≡ old ++ note
 
 -- so where a line is at fault, and where the trace is too long the limit that it passes; else nothing was added

@@ -1,4 +1,6 @@
 //! What was wanted in a field, and what stands there.
+ghost use Rattle.std.specs.Prelude.{◌≡◌, ◌≤◌, length, IfSome, false, true};
+
 use crate::judge::{Judge, is_all_digits, passes};
 use crate::kind::{Kind, kinds_behind};
 use crate::line_view::push_bytes;
@@ -87,18 +89,25 @@ fn word_meant(field: &[u8]) -> Option<&'static str> {
 }
 
 // Where the first byte is that no line has: one that isn't printable.
-fn unprintable_in(field: &[u8]) -> Option<usize> {
+fn unprintable_in(field: &[u8]) -> Option<usize>
+    ensures { IfSome result (λ place. place ≤ length field.now) }
+{
     field.iter().position(|byte| !matches!(*byte, b' '..=b'~'))
 }
 
 // Where the first byte is that isn't as wanted.
-fn unwanted_in(field: &[u8], wanted: Wanted) -> usize {
+fn unwanted_in(field: &[u8], wanted: Wanted) -> usize
+    ensures { result ≤ length field.now }
+{
     let place = match wanted {
         Wanted::Value(Kind::Payload) => field.iter().position(|byte| !byte.is_ascii_hexdigit()),
         Wanted::Value(_) => field.iter().position(|byte| !byte.is_ascii_digit()),
         Wanted::Name | Wanted::Version | Wanted::Word | Wanted::Nothing(_) => None,
     };
-    place.unwrap_or(0)
+    match place {
+        Some(place) => place,
+        None => 0,
+    }
 }
 
 // Whether the field says what it should, where there are so many workers.
@@ -112,19 +121,23 @@ fn is_as_wanted(field: &[u8], wanted: Wanted, workers: u32) -> bool {
 }
 
 /// Whether nothing is wrong but that the line feed is missing behind the field.
-pub fn lacks_feed_alone(spot: Spot, wanted: Wanted, workers: u32) -> bool {
+pub fn lacks_feed_alone(spot: Spot, wanted: Wanted, workers: u32) -> bool
+    ensures { result ≡ true → spot.entry.is_ended ≡ false }
+{
     !spot.is_ended
         && spot
             .field
             .is_some_and(|field| is_as_wanted(field, wanted, workers))
 }
 
-/// The byte of the field that is marked.
-pub fn mark_at(spot: Spot, wanted: Wanted) -> usize {
-    let within = spot.field.map_or(0, |field| {
-        unprintable_in(field).unwrap_or(unwanted_in(field, wanted))
-    });
-    spot.start.saturating_add(within)
+/// The byte of the field that is marked: its first that isn't as wanted, or its first.
+pub fn mark_in(field: &[u8], wanted: Wanted) -> usize
+    ensures { result ≤ length field.now }
+{
+    match unprintable_in(field) {
+        Some(place) => place,
+        None => unwanted_in(field, wanted),
+    }
 }
 
 // Whether there is more than one such number: a worker may be the only one.

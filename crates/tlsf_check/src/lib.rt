@@ -9,7 +9,8 @@
 //! on numbers, [`NUMBER_TIP`], which a note has too.
 //!
 //! Contracts see the fault of a text as `fault_of` of `tlsf_lines`, its field as `IsFoundIn` of `specs/FieldFaults.antt`, and the limit as
-//! `NotesLimit` of `specs/PassedLimits.antt`. The words of a note, and where its mark stands, are shown by tests.
+//! `NotesLimit` of `specs/PassedLimits.antt`. They see the rows that show the line, with the mark below, as `ShowsField` of
+//! `specs/Shown.antt`. The words of a note are shown by tests.
 #![tactic(auto)]
 
 mod checking;

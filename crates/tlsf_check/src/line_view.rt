@@ -1,5 +1,7 @@
 //! A line as it is shown: what isn't printable is escaped, and a long line is cut on both sides of its mark.
-ghost use Rattle.std.specs.Prelude.{◌≤◌, length};
+ghost use Rattle.std.specs.Prelude.{◌≡◌, ◌≤◌, ◌<◌, ◌++◌, length, replicate, min, string_bytes, IfOk, OnOk, if◌then◌else◌};
+ghost use Rattle.std.specs.List.{flat_map};
+ghost use Rattle.tlsf_check.specs.Shown.{ShowsAt, dots_for, rows_text, shown_byte};
 
 use std::alloc::{AllocError, Global};
 
@@ -19,7 +21,9 @@ fn columns_of(byte: u8) -> usize {
 }
 
 /// Adds a byte as it is shown: itself, `\t`, `\r`, or as `\x07`.
-fn push_byte(text: &mut String, byte: u8) -> Result<(), AllocError> {
+fn push_byte(text: &mut String, byte: u8) -> Result<(), AllocError>
+    ensures { OnOk result (string_bytes text.new ≡ string_bytes text.old ++ shown_byte byte) }
+{
     match byte {
         b' '..=b'~' => text.push(char::from(byte)),
         b'\t' => text.push_str("\\t"),
@@ -29,21 +33,21 @@ fn push_byte(text: &mut String, byte: u8) -> Result<(), AllocError> {
 }
 
 /// Adds bytes as they are shown.
-pub fn push_bytes(text: &mut String, bytes: &[u8]) -> Result<(), AllocError> {
+pub fn push_bytes(text: &mut String, bytes: &[u8]) -> Result<(), AllocError>
+    ensures { OnOk result (string_bytes text.new ≡ string_bytes text.old ++ flat_map shown_byte bytes.now) }
+{
     for byte in bytes {
         push_byte(text, *byte)?;
     }
     Ok(())
 }
 
-// Adds spaces, as many as the bytes are shown in.
-fn push_spaces(text: &mut String, bytes: &[u8]) -> Result<(), AllocError> {
-    for byte in bytes {
-        match columns_of(*byte) {
-            1 => text.push_str(" ")?,
-            2 => text.push_str("  ")?,
-            _ => text.push_str("    ")?,
-        }
+// Adds so many spaces.
+fn push_spaces(text: &mut String, count: usize) -> Result<(), AllocError>
+    ensures { OnOk result (string_bytes text.new ≡ string_bytes text.old ++ replicate count 32) }
+{
+    for _i in 0..count {
+        text.push_str(" ")?;
     }
     Ok(())
 }
@@ -80,19 +84,50 @@ fn last_shown(bytes: &[u8], columns: usize) -> usize
     from
 }
 
-/// The line in a row of its own, and below it a mark under the byte at `at`, or behind the line.
-pub fn view(alloc: Global, line: &[u8], at: usize) -> Result<String, AllocError> {
+// The dots that stand for bytes that are left out, where there are any.
+fn dots(left_out: usize) -> &'static str
+    ensures { result.now ≡ dots_for left_out }
+{
+    if left_out == 0 { "" } else { ".." }
+}
+
+// Bytes as they are shown, in a text of their own.
+fn shown(alloc: Global, bytes: &[u8]) -> Result<String, AllocError>
+    ensures { IfOk result (λ text. string_bytes text ≡ flat_map shown_byte bytes.now) }
+{
+    let mut text = String::new(alloc);
+    push_bytes(&mut text, bytes)?;
+    Ok(text)
+}
+
+// The two rows of a line: these bytes before the mark and from it on, each with these dots beside them.
+#[tactic(auto, unfolding(crate::specs::Shown::rows_text))]
+fn rows(
+    alloc: Global,
+    first: &str,
+    before: &[u8],
+    behind: &[u8],
+    last: &str,
+) -> Result<String, AllocError>
+    ensures { IfOk result (λ rows. string_bytes rows ≡ rows_text first.now before.now behind.now last.now) }
+{
+    let begin = shown(alloc, before)?;
+    let end = shown(alloc, behind)?;
+    let mut text = format!(in alloc; "  {first}{begin}{end}{last}\n  ")?;
+    push_spaces(&mut text, first.len())?;
+    push_spaces(&mut text, begin.len())?;
+    text.push_str("^\n")?;
+    Ok(text)
+}
+
+/// The line in a row of its own, and below it a mark under the byte at `at`, or after the line.
+pub fn view(alloc: Global, line: &[u8], at: usize) -> Result<String, AllocError>
+    ensures { IfOk result (λ rows. ShowsAt line.now (min at (length line.now)) (string_bytes rows)) }
+{
     let (before, behind) = line.split_at(at.min(line.len()));
     let from = last_shown(before, COLUMNS_BEFORE);
     let to = first_shown(behind, COLUMNS_BEHIND);
-    let before = &before[from..];
-    let cut = if from > 0 { ".." } else { "" };
-    let mut text = format!(in alloc; "  {cut}")?;
-    push_bytes(&mut text, before)?;
-    push_bytes(&mut text, &behind[..to])?;
-    text.push_str(if to < behind.len() { "..\n  " } else { "\n  " })?;
-    text.push_str(if from > 0 { "  " } else { "" })?;
-    push_spaces(&mut text, before)?;
-    text.push_str("^\n")?;
+    let last = dots(behind.len() - to);
+    let text = rows(alloc, dots(from), &before[from..], &behind[..to], last)?;
     Ok(text)
 }

@@ -1,10 +1,11 @@
 //! The note on a fault.
-ghost use Rattle.std.specs.Prelude.{◌≡◌, ◌++◌, IfOk, OnOk, string_bytes};
+ghost use Rattle.std.specs.Prelude.{◌≡◌, ◌≤◌, ◌++◌, length, IfOk, OnOk, string_bytes};
 ghost use Rattle.tlsf_check.specs.Checks.{NamesField, field_text};
+ghost use Rattle.tlsf_check.specs.Shown.{MarksField, without_feed};
 
 use crate::field_spots::piece_at;
 use crate::findings::{
-    Wanted, lacks_feed_alone, mark_at, push_found, push_tip, push_wanted, wanted_in_header,
+    Wanted, lacks_feed_alone, mark_in, push_found, push_tip, push_wanted, wanted_in_header,
     wanted_in_line,
 };
 use crate::labels::making_of;
@@ -76,11 +77,18 @@ fn words_on(
 }
 
 // The byte of the line that is marked: one of the field, or where the line feed alone is missing the end of the line.
-fn marked(text: &[u8], spot: Spot, wanted: Wanted) -> usize {
-    if lacks_feed_alone(spot, wanted, workers_of(text)) {
-        spot.line.len()
-    } else {
-        mark_at(spot, wanted)
+fn marked(piece: &[u8], field: usize, wanted: Wanted, workers: u32) -> usize
+    ensures marks { MarksField piece.now field result }
+    ensures within { result ≤ length (without_feed piece.now) }
+{
+    let spot = Spot::of(piece, field);
+    let end = spot.line.len();
+    if lacks_feed_alone(spot, wanted, workers) {
+        return end;
+    }
+    match spot.field {
+        None => end,
+        Some(found) => spot.start + mark_in(found, wanted),
     }
 }
 
@@ -113,7 +121,7 @@ pub fn explain(
     fault: TraceFault,
     field: usize,
 ) -> Result<String, AllocError>
-    ensures { IfOk result (λ note. NamesField field (string_bytes note)) }
+    ensures { IfOk result (λ note. NamesField text.now fault.line field (string_bytes note)) }
 {
     let piece = piece_at(text, fault.line);
     let spot = Spot::of(piece, field);
@@ -123,7 +131,8 @@ pub fn explain(
         wanted_in_line(piece, field)
     };
     let words = words_on(alloc, text, fault, spot, wanted)?;
-    let mut note = view(alloc, spot.line, marked(text, spot, wanted))?;
+    let mark = marked(piece, field, wanted, workers_of(text));
+    let mut note = view(alloc, spot.line, mark)?;
     push_field(&mut note, field, &words)?;
     Ok(note)
 }

@@ -1,5 +1,5 @@
 -- What the words ask for, by the command that they name.
-use Rattle.std.proofs.Common.{◌≡◌, ◌≢◌, ◌⊎◌, ◌∙◌, ℕ, Bool, false, true, true≢false, cond, List, [], ◌∷◌, Option, Some, None, Result, Ok, Err, codes, inl, inr, length, option_map, refl, sym, ap, ap₂, subst, arith}
+use Rattle.std.proofs.Common.{◌≡◌, ◌≢◌, ◌∙◌, ℕ, Bool, false, true, true≢false, cond, List, [], ◌∷◌, Option, Some, None, Result, Ok, Err, codes, inl, inr, length, option_map, refl, sym, ap, ap₂, subst, arith}
 use Rattle.std.specs.Option.{unwrap_or}
 use Rattle.std.specs.Box.{box_value}
 use Rattle.std.specs.Prelude.{string_bytes, IfOk}

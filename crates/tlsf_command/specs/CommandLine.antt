@@ -218,7 +218,7 @@ IsWorst run = ⊥
 -- else its tip is due
 abbrev pub IsRunOn : TraceRun → (line : ℕ) → (files : List Text) → Choice → Type 0
 IsRunOn run line files (Trace other) = (other ≡ run) × (files ≡ []) × (line ≡ 0)
-IsRunOn run line files (File other tip) = (other ≡ run) × IsTip run line files (string_bytes tip)
+IsRunOn run line files (File other tip) = (other ≡ run) × IsTip run line files (string_bytes tip) × (IsWorst run → line ≡ 0)
 IsRunOn run line files (At form k) = (run ≡ Map form) × (files ≡ []) × (k ≢ 0) × (k ≡ line)
 IsRunOn run line files TwoLines = IsWorst run × (line ≢ 0)
 IsRunOn run line files choice = ⊥

@@ -32,14 +32,14 @@ pub struct Script {
     pub labels: Vec<Option<u32>>,
     /// How many lines are calls of a worker, 0 to 32,767.
     pub calls: u32,
-    /// How many events there are up to each line behind the header, those of the line included.
+    /// How many events there are up to each line after the header, those of the line included.
     pub ends: Vec<usize>,
     /// The block that each line behind the header asks for, None where it asks for none.
     pub requests: Vec<Option<Request>>,
 }
 
 impl Script {
-    /// How many events there are up to a line of the text, whose header is line 1; behind the last line these are all, with the
+    /// How many events there are up to a line of the text, whose header is line 1; after the last line these are all, with the
     /// drains at the end.
     ///
     /// ```

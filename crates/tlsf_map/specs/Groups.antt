@@ -112,9 +112,7 @@ groups_text grid free [] = []
 groups_text grid free (group ∷ groups) = group_text grid free group ++ groups_text (below_group grid group) free groups
 
 -- the legend's line on so many blocks that are drawn as one with others, where there are any
-unfoldable pub note_line : ℕ → List ℕ
-note_line count =
-    codes "<text class='numbers' text-anchor='end' x='16384' y='320'>" ++ (decimal count ++ codes " blocks, each under 4 pixels wide, are drawn as one with neighbours</text>\n")
-
 unfoldable pub note_text : ℕ → List ℕ
-note_text count = if count == 0 then [] else note_line count
+note_text count =
+    if count == 0 then []
+    else (codes "<text class='numbers' text-anchor='end' x='16384' y='320'>" ++ (decimal count ++ codes " blocks, each under 4 pixels wide, are drawn as one with neighbours</text>\n"))

@@ -3,7 +3,7 @@ use Rattle.std.specs.Prelude.{ℕ, List, [], ◌∷◌, ◌++◌, Option, Some, 
 use Rattle.std.specs.Fmt.{decimal}
 use Rattle.tlsf_heap.specs.declared.placed_block.Content.{Content}
 use Rattle.tlsf_heap.specs.declared.placed_block.Content.TheVariants.{Free, Live}
-use Rattle.tlsf_map.specs.Numbers.{age_numbers, free_numbers, live_numbers}
+use Rattle.tlsf_map.specs.Numbers.{report_numbers}
 use Rattle.tlsf_map.specs.declared.mapped_heap.LabelledBlock.{LabelledBlock}
 use Rattle.tlsf_map.specs.declared.mapped_heap.MappedHeap.{MappedHeap}
 
@@ -14,27 +14,12 @@ pub record Moment : Type 0 where
 
 -- ---- its data, each block told by its words alone, so that its place is the words of all before it
 
--- a free block: its words, and the tick since which it is free
-unfoldable pub free_item : ℕ → ℕ → List ℕ
-free_item size stamp = codes "f" ++ (decimal size ++ (codes "," ++ (decimal stamp ++ codes ";")))
-
--- a live one: its words, its bytes, its serial, and its label where it has one
-unfoldable pub live_begin : ℕ → ℕ → ℕ → List ℕ
-live_begin size length serial = codes "l" ++ (decimal size ++ (codes "," ++ (decimal length ++ (codes "," ++ decimal serial))))
-
-unfoldable pub label_item : ℕ → List ℕ
-label_item label = codes "," ++ (decimal label ++ codes ";")
-
-abbrev pub item_end : Option ℕ → List ℕ
-item_end None = codes ";"
-item_end (Some label) = label_item label
-
-unfoldable pub live_item : ℕ → ℕ → ℕ → Option ℕ → List ℕ
-live_item size length serial label = live_begin size length serial ++ item_end label
-
+-- a free block: its words, and the tick since which it is free; a live one: its words, its bytes, its serial, and its label where it has one
 abbrev pub content_item : ℕ → Option ℕ → Content → List ℕ
-content_item size label (Free stamp) = free_item size stamp
-content_item size label (Live serial length) = live_item size length serial label
+content_item size label (Free stamp) = codes "f" ++ (decimal size ++ (codes "," ++ (decimal stamp ++ codes ";")))
+content_item size None (Live serial length) = codes "l" ++ (decimal size ++ (codes "," ++ (decimal length ++ (codes "," ++ (decimal serial ++ codes ";")))))
+content_item size (Some label) (Live serial length) =
+    codes "l" ++ (decimal size ++ (codes "," ++ (decimal length ++ (codes "," ++ (decimal serial ++ (codes "," ++ (decimal label ++ codes ";")))))))
 
 abbrev pub item_of : LabelledBlock → List ℕ
 item_of drawn = content_item drawn.block.size drawn.label drawn.block.content
@@ -45,25 +30,18 @@ items_of [] = []
 items_of (drawn ∷ others) = item_of drawn ++ items_of others
 
 -- a heap with so many words: its number and its tick, the numbers of its report, and its blocks, a line each
-unfoldable pub name_item : ℕ → MappedHeap → List ℕ
-name_item words heap =
-    codes "heap " ++ (decimal heap.id ++ (codes ": " ++ (decimal words ++ (codes " words at tick " ++ (decimal heap.tick ++ codes "\n")))))
-
 unfoldable pub heap_data : ℕ → MappedHeap → List ℕ
 heap_data words heap =
-    name_item words heap ++ live_numbers heap.report ++ codes "; " ++ free_numbers heap.report ++ codes "; " ++ age_numbers heap.report ++ codes "\n"
-    ++ items_of heap.blocks.items ++ codes "\n"
+    codes "heap " ++ (decimal heap.id ++ (codes ": " ++ (decimal words ++ (codes " words at tick " ++ (decimal heap.tick ++ codes "\n")))))
+    ++ report_numbers (codes "; ") heap.report ++ codes "\n" ++ items_of heap.blocks.items ++ codes "\n"
 
 abbrev pub heaps_data : ℕ → List MappedHeap → List ℕ
 heaps_data words [] = []
 heaps_data words (heap ∷ heaps) = heap_data words heap ++ heaps_data words heaps
 
 -- a moment: its line, and its heaps
-unfoldable pub line_item : ℕ → List ℕ
-line_item line = codes "line " ++ (decimal line ++ codes "\n")
-
 unfoldable pub moment_data : ℕ → Moment → List ℕ
-moment_data words moment = line_item moment.line ++ heaps_data words moment.heaps
+moment_data words moment = codes "line " ++ (decimal moment.line ++ codes "\n") ++ heaps_data words moment.heaps
 
 abbrev pub moments_data : ℕ → List Moment → List ℕ
 moments_data words [] = []

@@ -21,8 +21,9 @@ free_numbers report =
     codes "free " ++ amount_text report.free_blocks (codes "block") (codes "blocks") ++ codes ", " ++ amount_text report.free_words (codes "word") (codes "words")
     ++ codes "; largest " ++ amount_text report.largest (codes "word") (codes "words") ++ codes ", grant " ++ amount_text report.grant (codes "byte") (codes "bytes")
 
-unfoldable pub share_text : ℕ → List ℕ
-share_text fragmentation = codes "fragmentation " ++ (decimal fragmentation ++ codes "/1000; age ")
-
 unfoldable pub age_numbers : Report → List ℕ
-age_numbers report = share_text report.fragmentation ++ amount_text report.age (codes "tick") (codes "ticks")
+age_numbers report = codes "fragmentation " ++ (decimal report.fragmentation ++ codes "/1000; age ") ++ amount_text report.age (codes "tick") (codes "ticks")
+
+-- all of them, with a text between the three
+unfoldable pub report_numbers : List ℕ → Report → List ℕ
+report_numbers between report = live_numbers report ++ between ++ free_numbers report ++ between ++ age_numbers report

@@ -1,36 +1,24 @@
 -- The picture as a whole, as the text of an SVG file. Lengths are in sixteenths of a pixel.
 use Rattle.std.specs.Prelude.{ℕ, ◌+◌, ◌/◌, List, [], ◌∷◌, ◌++◌, codes}
 use Rattle.std.specs.Fmt.{decimal}
-use Rattle.tlsf_heap.specs.declared.report.Report.{Report}
 use Rattle.tlsf_map.specs.Ages.{free_blocks_of}
 use Rattle.tlsf_map.specs.Grids.{grid_of, heap_height}
 use Rattle.tlsf_map.specs.Groups.{groups_of, groups_text, joined_of, note_text}
-use Rattle.tlsf_map.specs.Numbers.{age_numbers, free_numbers, live_numbers}
+use Rattle.tlsf_map.specs.Numbers.{report_numbers}
 use Rattle.tlsf_map.specs.declared.grid.Grid.{Grid}
 use Rattle.tlsf_map.specs.declared.mapped_heap.MappedHeap.{MappedHeap}
 
--- the begin of the group of a heap, at this height, with its name and the words of its rows
+-- the begin of the group of a heap, at this height, with its name and the words of its rows, and that of its numbers
 unfoldable pub begin_text : ℕ → ℕ → ℕ → MappedHeap → List ℕ
 begin_text y words row heap =
     codes "<g transform='translate(1024 " ++ (decimal y ++ (codes ")'><text class='name' y='320'>heap " ++ (decimal heap.id
-    ++ (codes ": " ++ (decimal words ++ (codes " words at tick " ++ (decimal heap.tick ++ (codes ", " ++ (decimal row ++ codes " words a row</text>\n")))))))))
+    ++ (codes ": " ++ (decimal words ++ (codes " words at tick " ++ (decimal heap.tick ++ (codes ", " ++ (decimal row ++ codes " words a row</text>\n<text class='numbers' y='608'>")))))))))
 
--- the numbers of its report
-unfoldable pub numbers_text : Report → List ℕ
-numbers_text report =
-    codes "<text class='numbers' y='608'>" ++ live_numbers report ++ codes "; " ++ free_numbers report ++ codes "; " ++ age_numbers report ++ codes "</text>\n"
-
-unfoldable pub heap_head : ℕ → ℕ → ℕ → MappedHeap → List ℕ
-heap_head y words row heap = begin_text y words row heap ++ numbers_text heap.report
-
--- its blocks in their order, narrow neighbours as one, and how many those are
-unfoldable pub blocks_text : Grid → MappedHeap → List ℕ
-blocks_text grid heap =
-    groups_text grid (free_blocks_of heap) (groups_of grid heap.blocks.items) ++ note_text (joined_of (groups_of grid heap.blocks.items))
-
--- a heap in this grid: its name, its numbers, and its blocks
+-- a heap in this grid: its numbers, its blocks in their order, narrow neighbours as one, and how many those are
 unfoldable pub heap_in : Grid → ℕ → ℕ → MappedHeap → List ℕ
-heap_in grid y words heap = heap_head y words grid.row heap ++ blocks_text grid heap ++ codes "</g>\n"
+heap_in grid y words heap =
+    begin_text y words grid.row heap ++ report_numbers (codes "; ") heap.report ++ codes "</text>\n" ++ groups_text grid (free_blocks_of heap) (groups_of grid heap.blocks.items)
+    ++ note_text (joined_of (groups_of grid heap.blocks.items)) ++ codes "</g>\n"
 
 unfoldable pub heap_text : ℕ → ℕ → MappedHeap → List ℕ
 heap_text y words heap = heap_in (grid_of words heap.blocks.items) y words heap

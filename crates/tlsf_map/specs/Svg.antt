@@ -47,12 +47,10 @@ unfoldable pub fold_text : Grid → Fold → List ℕ
 fold_text grid fold = place_text grid fold.at ++ bar_text (top_of grid fold.at) fold.rows (fold.end - fold.at)
 
 -- the words of a block with these rows among them, of which one is drawn for all where there are three or more
-unfoldable pub folded_text : Grid → Fold → ℕ → ℕ → List ℕ
-folded_text grid fold at words =
-    spread_text grid true at (fold.at - at) ++ fold_text grid fold ++ spread_text (below grid (hidden_in fold)) true fold.end (at + words - fold.end)
-
 unfoldable pub rows_text : Grid → Fold → ℕ → ℕ → List ℕ
-rows_text grid fold at words = if hidden_in fold == 0 then spread_text grid true at words else folded_text grid fold at words
+rows_text grid fold at words =
+    if hidden_in fold == 0 then spread_text grid true at words
+    else spread_text grid true at (fold.at - at) ++ fold_text grid fold ++ spread_text (below grid (hidden_in fold)) true fold.end (at + words - fold.end)
 
 -- all words of a block
 unfoldable pub block_rows : Grid → PlacedBlock → List ℕ
@@ -63,20 +61,17 @@ abbrev pub label_text : Option ℕ → List ℕ → List ℕ
 label_text (Some label) name = codes "label " ++ decimal label
 label_text None name = name
 
--- around the two lines of a caption, at these places
-unfoldable pub upper_text : ℕ → ℕ → List ℕ
-upper_text x y = codes "<g class='caption'><text x='" ++ (decimal x ++ (codes "' y='" ++ (decimal y ++ codes "'>")))
+-- the two lines of a caption, at these places
+unfoldable pub caption_at : ℕ → ℕ → ℕ → Option ℕ → List ℕ → ℕ → List ℕ → List ℕ
+caption_at x y below label name amount unit =
+    codes "<g class='caption'><text x='" ++ (decimal x ++ (codes "' y='" ++ (decimal y ++ codes "'>"))) ++ label_text label name
+    ++ (codes "</text><text x='" ++ (decimal x ++ (codes "' y='" ++ (decimal below ++ (codes "'>" ++ (decimal amount ++ (codes " " ++ (unit ++ codes "</text></g>"))))))))
 
-unfoldable pub lower_text : ℕ → ℕ → ℕ → List ℕ → List ℕ
-lower_text x y amount unit =
-    codes "</text><text x='" ++ (decimal x ++ (codes "' y='" ++ (decimal y ++ (codes "'>" ++ (decimal amount ++ (codes " " ++ (unit ++ codes "</text></g>")))))))
-
--- two lines on a block, where its first piece is at least 80 pixels wide
+-- they stand on a block where its first piece is at least 80 pixels wide
 unfoldable pub caption_text : Grid → ℕ → ℕ → Option ℕ → List ℕ → ℕ → List ℕ → List ℕ
 caption_text grid at words label name amount unit =
     if nat_lt (width_of grid at (words_here grid at words)) 1280 then []
-    else upper_text (left_of grid at + 64) (top_of grid at + 240) ++ label_text label name
-    ++ lower_text (left_of grid at + 64) (top_of grid at + 240 + 224) amount unit
+    else caption_at (left_of grid at + 64) (top_of grid at + 240) (top_of grid at + 240 + 224) label name amount unit
 
 unfoldable pub free_title : PlacedBlock → ℕ → List ℕ → ℕ → List ℕ
 free_title block stamp class shade =
@@ -97,11 +92,6 @@ free_text grid free block stamp =
     free_title block stamp (class_of_free block.size free.largest) (shade_by free stamp)
     ++ block_rows grid block ++ end_text grid block None (codes "free") block.size (codes "words")
 
-unfoldable pub live_title : PlacedBlock → ℕ → ℕ → List ℕ
-live_title block serial length =
-    codes ", place " ++ (decimal block.at ++ (codes ", " ++ (decimal block.size ++ (codes " words, " ++ (decimal length ++ (codes " " ++ (plural_of length (codes "byte") (codes "bytes")
-    ++ (codes ", serial " ++ (decimal serial ++ codes "</title>")))))))))
-
 -- some words of a live block that hold no payload
 unfoldable pub part_text : List ℕ → Grid → ℕ → ℕ → List ℕ
 part_text class grid at words = codes "<g class='" ++ class ++ codes "'>" ++ spread_text grid false at words ++ codes "</g>"
@@ -114,7 +104,9 @@ fill_text grid fold at size length =
 
 -- the begin of the group of a live block, with what is told of it
 unfoldable pub live_begin : PlacedBlock → Option ℕ → ℕ → ℕ → List ℕ
-live_begin block label serial length = codes "<g class='live'><title>" ++ label_text label (codes "live") ++ live_title block serial length
+live_begin block label serial length =
+    codes "<g class='live'><title>" ++ label_text label (codes "live") ++ (codes ", place " ++ (decimal block.at ++ (codes ", " ++ (decimal block.size ++ (codes " words, " ++ (decimal length
+    ++ (codes " " ++ (plural_of length (codes "byte") (codes "bytes") ++ (codes ", serial " ++ (decimal serial ++ codes "</title>"))))))))))
 
 -- a live block
 unfoldable pub live_text : Grid → PlacedBlock → Option ℕ → ℕ → ℕ → List ℕ

@@ -7,19 +7,16 @@ use Rattle.tlsf_heap.specs.declared.placed_block.Content.TheVariants.{Free, Live
 use Rattle.tlsf_map.specs.Ages.{free_blocks_of, shade_by}
 use Rattle.tlsf_map.specs.Columns.{columns_before, gap_of, space_of, span_of}
 use Rattle.tlsf_map.specs.Folds.{fold_between, hidden_in, used_words}
-use Rattle.tlsf_map.specs.Numbers.{age_numbers, free_numbers, live_numbers, plural_of}
+use Rattle.tlsf_map.specs.Numbers.{plural_of, report_numbers}
 use Rattle.tlsf_map.specs.declared.fold.Fold.{Fold}
 use Rattle.tlsf_map.specs.declared.free_blocks.FreeBlocks.{FreeBlocks}
 use Rattle.tlsf_map.specs.declared.mapped_heap.LabelledBlock.{LabelledBlock}
 use Rattle.tlsf_map.specs.declared.mapped_heap.MappedHeap.{MappedHeap}
 
--- the begin of a row: the place of its first word
-unfoldable pub line_begin : ℕ → List ℕ
-line_begin place = codes "\n" ++ (gap_of place ++ (decimal place ++ (space_of place ++ codes "|")))
-
--- the character of this number, in a new row behind each 64
+-- the character of this number, in a new row behind each 64, which begins with the place of its first word
 unfoldable pub row_begin : ℕ → ℕ → List ℕ
-row_begin span number = if number % 64 == 0 then line_begin (number * span) else []
+row_begin span number =
+    if number % 64 == 0 then codes "\n" ++ (gap_of (number * span) ++ (decimal (number * span) ++ (space_of (number * span) ++ codes "|"))) else []
 
 -- so many characters alike, from this number on
 abbrev pub marks_text : ℕ → ℕ → ℕ → List ℕ → List ℕ
@@ -31,19 +28,15 @@ abbrev pub up_to : ℕ → ℕ → ℕ → List ℕ → List ℕ
 up_to span from end mark = marks_text span from (end - from) mark
 
 -- the line that is written for all of some rows of characters alike, and what it stands for
-unfoldable pub fold_line : ℕ → ℕ → ℕ → List ℕ → List ℕ
-fold_line place rows words mark =
-    codes "\n" ++ (gap_of place ++ (decimal place ++ (space_of place ++ (codes "~ " ++ (decimal rows ++ (codes " rows of " ++ (mark ++ (codes " alone, " ++ (decimal words ++ codes " words")))))))))
-
 unfoldable pub lines_text : ℕ → Fold → List ℕ → List ℕ
-lines_text span lines mark = fold_line (lines.at * span) lines.rows ((lines.end - lines.at) * span) mark
+lines_text span lines mark =
+    codes "\n" ++ (gap_of (lines.at * span) ++ (decimal (lines.at * span) ++ (space_of (lines.at * span) ++ (codes "~ " ++ (decimal lines.rows
+    ++ (codes " rows of " ++ (mark ++ (codes " alone, " ++ (decimal ((lines.end - lines.at) * span) ++ codes " words")))))))))
 
 -- characters alike from this number up to that with these rows among them, of which one is written for all where there are three or more
-unfoldable pub folded_marks : ℕ → Fold → ℕ → ℕ → List ℕ → List ℕ
-folded_marks span lines from end mark = up_to span from lines.at mark ++ lines_text span lines mark ++ up_to span lines.end end mark
-
-unfoldable pub rows_marks : ℕ → Fold → ℕ → ℕ → List ℕ → List ℕ
-rows_marks span lines from end mark = if hidden_in lines == 0 then up_to span from end mark else folded_marks span lines from end mark
+abbrev pub rows_marks : ℕ → Fold → ℕ → ℕ → List ℕ → List ℕ
+rows_marks span lines from end mark =
+    if hidden_in lines == 0 then up_to span from end mark else up_to span from lines.at mark ++ lines_text span lines mark ++ up_to span lines.end end mark
 
 unfoldable pub alike_text : ℕ → ℕ → ℕ → List ℕ → List ℕ
 alike_text span from end mark = rows_marks span (fold_between 64 from end) from end mark
@@ -99,28 +92,23 @@ abbrev pub blocks_marks : ℕ → FreeBlocks → List LabelledBlock → List ℕ
 blocks_marks span free [] = []
 blocks_marks span free (drawn ∷ others) = block_marks span free drawn ++ blocks_marks span free others
 
--- the lines above the rows of a heap
+-- the first line above the rows of a heap
 unfoldable pub name_line : ℕ → ℕ → MappedHeap → List ℕ
 name_line span words heap =
     codes "\nheap " ++ (decimal heap.id ++ (codes ": " ++ (decimal words ++ (codes " words at tick " ++ (decimal heap.tick
     ++ (codes ", words a character: " ++ (decimal span ++ codes "\n")))))))
 
-unfoldable pub head_lines : ℕ → ℕ → MappedHeap → List ℕ
-head_lines span words heap =
-    name_line span words heap ++ live_numbers heap.report ++ codes "\n" ++ free_numbers heap.report ++ codes "\n" ++ age_numbers heap.report
-
 -- the line below them on so many blocks in which no character begins, where there are any
-unfoldable pub unseen_line : ℕ → List ℕ
-unseen_line count =
-    codes "\n" ++ (decimal count ++ plural_of count (codes " block is not shown: it has the first word of no character") (codes " blocks are not shown: none of them has the first word of a character"))
-
 unfoldable pub unseen_text : ℕ → List ℕ
-unseen_text count = if count == 0 then [] else unseen_line count
+unseen_text count =
+    if count == 0 then []
+    else (codes "\n" ++ (decimal count ++ plural_of count (codes " block is not shown: it has the first word of no character") (codes " blocks are not shown: none of them has the first word of a character")))
 
--- a heap, with so many words a character
+-- a heap, with so many words a character: its name, the numbers of its report, and its rows
 unfoldable pub heap_with : ℕ → ℕ → MappedHeap → List ℕ
 heap_with span words heap =
-    head_lines span words heap ++ blocks_marks span (free_blocks_of heap) heap.blocks.items ++ unseen_text (count_by (is_unseen span) heap.blocks.items) ++ codes "\n"
+    name_line span words heap ++ report_numbers (codes "\n") heap.report
+    ++ blocks_marks span (free_blocks_of heap) heap.blocks.items ++ unseen_text (count_by (is_unseen span) heap.blocks.items) ++ codes "\n"
 
 unfoldable pub heap_lines : ℕ → MappedHeap → List ℕ
 heap_lines words heap = heap_with (span_of words heap.blocks.items) words heap

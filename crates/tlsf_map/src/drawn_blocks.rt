@@ -1,7 +1,7 @@
 //! The parts of a picture that show a block.
 ghost use Rattle.std.specs.Prelude.{◌≡◌, ◌++◌, ◌≤◌, ◌^◌, OnOk, string_bytes};
 ghost use Rattle.tlsf_map.specs.Grids.{IsGrid};
-ghost use Rattle.tlsf_map.specs.Svg.{block_rows, free_title, class_of_free, end_text, free_text, live_title, live_begin, part_text, fill_text, live_text, block_text};
+ghost use Rattle.tlsf_map.specs.Svg.{block_rows, class_of_free, end_text, free_text, free_title, live_begin, part_text, fill_text, live_text, block_text};
 
 use crate::fold::{Fold, used_words};
 use crate::free_blocks::FreeBlocks;
@@ -101,23 +101,6 @@ fn write_free(
     write_end(text, grid, block, &caption)
 }
 
-fn write_live_title(
-    text: &mut String,
-    block: PlacedBlock,
-    serial: u64,
-    length: u32,
-) -> Result<(), AllocError>
-    ensures { OnOk result (string_bytes text.new ≡ string_bytes text.old ++ live_title block serial length) }
-{
-    let at = block.at;
-    let size = block.size;
-    let name = plural(length as u64, "byte", "bytes");
-    write!(
-        text,
-        ", place {at}, {size} words, {length} {name}, serial {serial}</title>"
-    )
-}
-
 // Adds the rectangles of some words of a live block that hold no payload.
 #[tactic(auto, unfolding(crate::specs::Svg::part_text))]
 fn write_part(
@@ -175,7 +158,13 @@ fn write_live_begin(
 {
     text.push_str("<g class='live'><title>")?;
     write_label(text, label, "live")?;
-    write_live_title(text, block, serial, length)
+    let at = block.at;
+    let size = block.size;
+    let name = plural(length as u64, "byte", "bytes");
+    write!(
+        text,
+        ", place {at}, {size} words, {length} {name}, serial {serial}</title>"
+    )
 }
 
 // Adds a live block.

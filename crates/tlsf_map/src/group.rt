@@ -1,6 +1,6 @@
 ghost use Rattle.std.specs.Prelude.{◌≡◌, ◌++◌, ◌+◌, ◌≤◌, ◌<◌, ◌*◌, ◌^◌, ◌&&◌, [], ◌∷◌, ℕ, List, OnOk, true, nat_lt, string_bytes};
 ghost use Rattle.tlsf_map.specs.Grids.{IsGrid};
-ghost use Rattle.tlsf_map.specs.Groups.{below_group, is_narrow, live_size, joined_in, share_of, joined_title, joined_text, group_text, IsGroup};
+ghost use Rattle.tlsf_map.specs.Groups.{below_group, is_narrow, live_size, share_of, joined_in, joined_title, joined_text, group_text, IsGroup};
 ghost use Rattle.tlsf_map.specs.declared.mapped_heap.LabelledBlock.{LabelledBlock};
 
 use crate::drawn_blocks::write_block;

@@ -1,9 +1,9 @@
 //! The heaps at some moments, as an HTML page that shows one of them at a time.
 ghost use Rattle.std.specs.Prelude.{◌≡◌, ◌++◌, ◌≤◌, length, OnOk, string_bytes};
-ghost use Rattle.tlsf_map.specs.Html.{Moment, content_item, drawing_part, free_item, heap_data, heaps_data, item_end, item_of, items_of, label_item, line_item, live_begin, live_item, moment_data, name_item, page_foot, page_head, reading_part, showing_part, slider_part, style_part};
+ghost use Rattle.tlsf_map.specs.Html.{Moment, content_item, heap_data, heaps_data, item_of, items_of, moment_data, page_foot, page_head, slider_part, style_part};
 
 use crate::mapped_heap::{LabelledBlock, MappedHeap};
-use crate::numbers::{write_age_numbers, write_free_numbers, write_live_numbers};
+use crate::numbers::write_numbers;
 use std::alloc::AllocError;
 use tlsf_heap::Content;
 
@@ -29,65 +29,16 @@ const DRAWING: &str =
 const SHOWING: &str =
     "const slider=element('slider'),tip=element('tip');let moment=0,heaps=[];\nconst atPointer=(event,canvas,heap)=>{const {row,high,pitch}=grid(heap.words),box=canvas.getBoundingClientRect(),across=event.clientX-box.left-64,down=event.clientY-box.top;if(across<0||across>=1024||down%pitch>=high)return;const place=Math.floor(down/pitch)*row+Math.floor(across*row/1024);return heap.blocks.find(block=>block.place<=place&&place<block.place+block.size)};\nconst point=(event,canvas,heap)=>{const block=atPointer(event,canvas,heap);tip.hidden=!block;if(block){tip.textContent=told(block);tip.style.transform='translate('+Math.max(0,Math.min(event.clientX+12,innerWidth-tip.offsetWidth-8))+'px,'+(event.clientY+16)+'px)'}};\nconst redraw=()=>document.querySelectorAll('canvas').forEach((canvas,at)=>draw(canvas,heaps[at]));\nconst section=heap=>{const part=document.createElement('section');[['h2',heap.name],...heap.report.split(/; (?=free )/).map(part=>['p',part]),['canvas','']].forEach(([kind,text])=>{const child=document.createElement(kind);child.textContent=text;part.append(child)});const canvas=part.lastChild;canvas.setAttribute('role','img');canvas.setAttribute('aria-label',heap.blocks.length+' blocks');canvas.onpointermove=canvas.onpointerdown=event=>point(event,canvas,heap);canvas.onpointerleave=()=>{tip.hidden=true};return part};\nconst show=wanted=>{moment=Math.max(0,Math.min(last,wanted));slider.value=moment;heaps=heapsIn(moment);tip.hidden=true;element('moment').textContent='Moment '+(moment+1)+' of '+(last+1)+(moment==last?', at the end':', after line '+lineOf(moment)+' of '+(lineOf(last)-1));element('heaps').replaceChildren(...heaps.map(section));redraw()};\nconst steps={ArrowLeft:-1,ArrowRight:1,Home:-Infinity,End:Infinity};\nslider.max=last;slider.oninput=()=>show(Number(slider.value));addEventListener('keydown',event=>{const step=steps[event.key];if(step&&!event.altKey&&!event.ctrlKey&&!event.metaKey){event.preventDefault();show(moment+(event.shiftKey?10:1)*step)}});\nmatchMedia('(prefers-color-scheme: dark)').addEventListener('change',redraw);addEventListener('resize',redraw);\nconst opened=()=>{const line=Number(location.hash.slice(1));show(line>0?begins.findLastIndex((begin,at)=>lineOf(at)<=line):0)};\naddEventListener('hashchange',opened);opened();</script></body></html>\n";
 
-fn write_free_item(text: &mut String, size: u32, stamp: u64) -> Result<(), AllocError>
-    ensures { OnOk result (string_bytes text.new ≡ string_bytes text.old ++ free_item size stamp) }
-{
-    write!(text, "f{size},{stamp};")
-}
-
-fn write_live_begin(
-    text: &mut String,
-    size: u32,
-    length: u32,
-    serial: u64,
-) -> Result<(), AllocError>
-    ensures { OnOk result (string_bytes text.new ≡ string_bytes text.old ++ live_begin size length serial) }
-{
-    write!(text, "l{size},{length},{serial}")
-}
-
-fn write_label_item(text: &mut String, label: u32) -> Result<(), AllocError>
-    ensures { OnOk result (string_bytes text.new ≡ string_bytes text.old ++ label_item label) }
-{
-    write!(text, ",{label};")
-}
-
-fn write_item_end(text: &mut String, label: Option<u32>) -> Result<(), AllocError>
-    ensures { OnOk result (string_bytes text.new ≡ string_bytes text.old ++ item_end label) }
-{
-    match label {
-        None => text.push_str(";"),
-        Some(label) => write_label_item(text, label),
-    }
-}
-
-#[tactic(auto, unfolding(crate::specs::Html::live_item))]
-fn write_live_item(
-    text: &mut String,
-    size: u32,
-    length: u32,
-    serial: u64,
-    label: Option<u32>,
-) -> Result<(), AllocError>
-    ensures { OnOk result (string_bytes text.new ≡ string_bytes text.old ++ live_item size length serial label) }
-{
-    write_live_begin(text, size, length, serial)?;
-    write_item_end(text, label)
-}
-
 fn write_item(text: &mut String, drawn: LabelledBlock) -> Result<(), AllocError>
     ensures { OnOk result (string_bytes text.new ≡ string_bytes text.old ++ item_of drawn) }
 {
     let size = drawn.block.size;
     match drawn.block.content {
-        Content::Free { stamp } => write_free_item(text, size, stamp),
-        Content::Live { serial, length } => write_live_item(
-            text,
-            size,
-            length,
-            serial,
-            drawn.label,
-        ),
+        Content::Free { stamp } => write!(text, "f{size},{stamp};"),
+        Content::Live { serial, length } => match drawn.label {
+            None => write!(text, "l{size},{length},{serial};"),
+            Some(label) => write!(text, "l{size},{length},{serial},{label};"),
+        },
     }
 }
 
@@ -100,24 +51,14 @@ fn write_items(text: &mut String, blocks: &[LabelledBlock]) -> Result<(), AllocE
     Ok(())
 }
 
-fn write_name_item(text: &mut String, words: u32, heap: &MappedHeap) -> Result<(), AllocError>
-    ensures { OnOk result (string_bytes text.new ≡ string_bytes text.old ++ name_item words heap.now) }
-{
-    let id = heap.id;
-    let tick = heap.tick;
-    write!(text, "heap {id}: {words} words at tick {tick}\n")
-}
-
 #[tactic(auto, unfolding(crate::specs::Html::heap_data))]
 fn write_heap_data(text: &mut String, words: u32, heap: &MappedHeap) -> Result<(), AllocError>
     ensures { OnOk result (string_bytes text.new ≡ string_bytes text.old ++ heap_data words heap.now) }
 {
-    write_name_item(text, words, heap)?;
-    write_live_numbers(text, &heap.report)?;
-    text.push_str("; ")?;
-    write_free_numbers(text, &heap.report)?;
-    text.push_str("; ")?;
-    write_age_numbers(text, &heap.report)?;
+    let id = heap.id;
+    let tick = heap.tick;
+    write!(text, "heap {id}: {words} words at tick {tick}\n")?;
+    write_numbers(text, &heap.report, "; ")?;
     text.push_str("\n")?;
     write_items(text, &heap.blocks)?;
     text.push_str("\n")
@@ -130,12 +71,6 @@ fn write_heaps_data(text: &mut String, words: u32, heaps: &[MappedHeap]) -> Resu
         write_heap_data(text, words, &heaps[number])?;
     }
     Ok(())
-}
-
-fn write_line_item(text: &mut String, line: u32) -> Result<(), AllocError>
-    ensures { OnOk result (string_bytes text.new ≡ string_bytes text.old ++ line_item line) }
-{
-    write!(text, "line {line}\n")
 }
 
 /// Adds to the page a moment of heaps with so many words each: how they stand behind a line of their trace.
@@ -158,7 +93,7 @@ pub fn write_moment(
 ) -> Result<(), AllocError>
     ensures { OnOk result (string_bytes text.new ≡ string_bytes text.old ++ moment_data words (record { line = line; heaps = heaps.now })) }
 {
-    write_line_item(text, line)?;
+    write!(text, "line {line}\n")?;
     write_heaps_data(text, words, heaps)
 }
 

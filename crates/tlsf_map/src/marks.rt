@@ -2,7 +2,7 @@
 ghost use Rattle.std.specs.Prelude.{◌≡◌, ◌++◌, ◌+◌, ◌≤◌, ◌^◌, decimal, length, IfOk, OnOk, string_bytes};
 ghost use Rattle.tlsf_map.specs.Columns.{columns_before, IsSpan};
 ghost use Rattle.tlsf_map.specs.Text as lines;
-ghost use Rattle.tlsf_map.specs.Text.{age_mark, alike_text, block_marks, content_marks, fill_marks, fits_behind, fold_line, folded_marks, free_marks, is_unseen, label_marks, line_begin, lines_text, live_marks, row_begin, rows_marks, up_to};
+ghost use Rattle.tlsf_map.specs.Text.{age_mark, alike_text, block_marks, fill_marks, free_marks, is_unseen, label_marks, lines_text, live_marks, row_begin, up_to};
 
 use crate::columns::{columns, gap, space};
 use crate::fold::{Fold, used_words};
@@ -10,14 +10,6 @@ use crate::free_blocks::FreeBlocks;
 use crate::mapped_heap::LabelledBlock;
 use std::alloc::AllocError;
 use tlsf_heap::{Content, PlacedBlock};
-
-fn write_line_begin(text: &mut String, place: u64) -> Result<(), AllocError>
-    ensures { OnOk result (string_bytes text.new ≡ string_bytes text.old ++ line_begin place) }
-{
-    let gap = gap(place);
-    let space = space(place);
-    write!(text, "\n{gap}{place}{space}|")
-}
 
 // Begins a row where the character of this number is the first of one.
 #[tactic(auto, unfolding(crate::specs::Text::row_begin))]
@@ -27,7 +19,10 @@ fn write_row_begin(text: &mut String, span: u64, number: u64) -> Result<(), Allo
     ensures { OnOk result (string_bytes text.new ≡ string_bytes text.old ++ row_begin span number) }
 {
     if number % 64 == 0 {
-        return write_line_begin(text, number * span);
+        let place = number * span;
+        let gap = gap(place);
+        let space = space(place);
+        return write!(text, "\n{gap}{place}{space}|");
     }
     Ok(())
 }
@@ -51,23 +46,6 @@ fn write_up_to(
     Ok(())
 }
 
-fn write_fold_line(
-    text: &mut String,
-    place: u64,
-    rows: u64,
-    words: u64,
-    mark: &str,
-) -> Result<(), AllocError>
-    ensures { OnOk result (string_bytes text.new ≡ string_bytes text.old ++ fold_line place rows words mark.now) }
-{
-    let gap = gap(place);
-    let space = space(place);
-    write!(
-        text,
-        "\n{gap}{place}{space}~ {rows} rows of {mark} alone, {words} words"
-    )
-}
-
 // Adds the line that is written for all of some rows of characters alike.
 #[tactic(auto, unfolding(crate::specs::Text::lines_text))]
 fn write_lines(text: &mut String, span: u64, lines: Fold, mark: &str) -> Result<(), AllocError>
@@ -76,55 +54,15 @@ fn write_lines(text: &mut String, span: u64, lines: Fold, mark: &str) -> Result<
     requires ends { lines.end ≤ 2 ^ 37 }
     ensures { OnOk result (string_bytes text.new ≡ string_bytes text.old ++ lines_text span lines mark.now) }
 {
-    write_fold_line(
+    let place = lines.at * span;
+    let rows = lines.rows;
+    let words = lines.end.saturating_sub(lines.at) * span;
+    let gap = gap(place);
+    let space = space(place);
+    write!(
         text,
-        lines.at * span,
-        lines.rows,
-        lines.end.saturating_sub(lines.at) * span,
-        mark,
+        "\n{gap}{place}{space}~ {rows} rows of {mark} alone, {words} words"
     )
-}
-
-#[tactic(auto, unfolding(crate::specs::Text::folded_marks))]
-fn write_folded(
-    text: &mut String,
-    span: u64,
-    lines: Fold,
-    from: u64,
-    end: u64,
-    mark: &str,
-) -> Result<(), AllocError>
-    requires span { IsSpan span }
-    requires begins { lines.at ≤ 2 ^ 37 }
-    requires ends { lines.end ≤ 2 ^ 37 }
-    requires end { end ≤ 2 ^ 37 }
-    ensures { OnOk result (string_bytes text.new ≡ string_bytes text.old ++ folded_marks span lines from end mark.now) }
-{
-    write_up_to(text, span, from, lines.at, mark)?;
-    write_lines(text, span, lines, mark)?;
-    write_up_to(text, span, lines.end, end, mark)
-}
-
-#[tactic(auto, unfolding(crate::specs::Text::rows_marks))]
-fn write_rows_of(
-    text: &mut String,
-    span: u64,
-    lines: Fold,
-    from: u64,
-    end: u64,
-    mark: &str,
-) -> Result<(), AllocError>
-    requires span { IsSpan span }
-    requires begins { lines.at ≤ 2 ^ 37 }
-    requires ends { lines.end ≤ 2 ^ 37 }
-    requires end { end ≤ 2 ^ 37 }
-    ensures { OnOk result (string_bytes text.new ≡ string_bytes text.old ++ rows_marks span lines from end mark.now) }
-{
-    if lines.hidden() == 0 {
-        write_up_to(text, span, from, end, mark)
-    } else {
-        write_folded(text, span, lines, from, end, mark)
-    }
 }
 
 // Adds characters alike, from a number up to another; where they fill three rows or more, a line stands for these.
@@ -141,7 +79,13 @@ fn write_alike(
     requires end { end ≤ 2 ^ 36 }
     ensures { OnOk result (string_bytes text.new ≡ string_bytes text.old ++ alike_text span from end mark.now) }
 {
-    write_rows_of(text, span, Fold::between(64, from, end), from, end, mark)
+    let lines = Fold::between(64, from, end);
+    if lines.hidden() == 0 {
+        return write_up_to(text, span, from, end, mark);
+    }
+    write_up_to(text, span, from, lines.at, mark)?;
+    write_lines(text, span, lines, mark)?;
+    write_up_to(text, span, lines.end, end, mark)
 }
 
 // How many digits a number has.
@@ -156,15 +100,6 @@ fn digits_of(number: u32) -> u64
         width += 1;
     }
     width
-}
-
-// Whether a text of this width fits behind the first character of a block, in its row and in the characters of the block.
-fn fits(first: u64, end: u64, width: u64) -> bool
-    requires first { first ≤ 2 ^ 35 }
-    requires width { width ≤ 2 ^ 32 }
-    ensures { result ≡ fits_behind first end width }
-{
-    first % 64 + 1 + width <= 64 && first + 1 + width <= end
 }
 
 // Adds the label of a block where it fits, and says how many characters it takes.
@@ -183,11 +118,12 @@ fn write_label_marks(
         return Ok(0);
     };
     let width = digits_of(label);
-    if !fits(first, end, width) {
-        return Ok(0);
+    // Behind the first character of the block, in its row and in the characters of the block.
+    if first % 64 + 1 + width <= 64 && first + 1 + width <= end {
+        write!(text, "{label}")?;
+        return Ok(width);
     }
-    write!(text, "{label}")?;
-    Ok(width)
+    Ok(0)
 }
 
 // Adds what a live block holds, from a number on: its header and its payload, each up to its end, and what that leaves empty.
@@ -273,30 +209,6 @@ fn write_free_marks(
     write_alike(text, span, first + 1, end, age)
 }
 
-// Adds a block with characters from this one up to that.
-fn write_content_marks(
-    text: &mut String,
-    span: u64,
-    free: FreeBlocks,
-    drawn: LabelledBlock,
-    first: u64,
-    end: u64,
-) -> Result<(), AllocError>
-    requires span { IsSpan span }
-    requires first { first ≤ 2 ^ 35 }
-    requires end { end ≤ 2 ^ 35 }
-    ensures { OnOk result (string_bytes text.new ≡ string_bytes text.old ++ content_marks span free drawn.block drawn.label first end drawn.block.content) }
-{
-    match drawn.block.content {
-        Content::Free { stamp } => {
-            write_free_marks(text, span, free, drawn.block, stamp, first, end)
-        }
-        Content::Live { length, .. } => {
-            write_live_marks(text, span, drawn.block, drawn.label, length, first, end)
-        }
-    }
-}
-
 /// Adds the characters that begin in a block of a heap, whose free ones these tell apart, and says whether none does.
 #[tactic(auto, unfolding(crate::specs::Text::block_marks))]
 pub fn write_block_marks(
@@ -315,6 +227,14 @@ pub fn write_block_marks(
     if first == end {
         return Ok(true);
     }
-    write_content_marks(text, span, free, drawn, first, end)?;
-    Ok(false)
+    match drawn.block.content {
+        Content::Free { stamp } => {
+            write_free_marks(text, span, free, drawn.block, stamp, first, end)?;
+            Ok(false)
+        }
+        Content::Live { length, .. } => {
+            write_live_marks(text, span, drawn.block, drawn.label, length, first, end)?;
+            Ok(false)
+        }
+    }
 }

@@ -1,6 +1,6 @@
 //! The numbers of a heap's report, in words.
 ghost use Rattle.std.specs.Prelude.{◌≡◌, ◌++◌, OnOk, string_bytes};
-ghost use Rattle.tlsf_map.specs.Numbers.{age_numbers, amount_text, free_numbers, live_numbers, plural_of, share_text};
+ghost use Rattle.tlsf_map.specs.Numbers.{age_numbers, amount_text, free_numbers, live_numbers, plural_of, report_numbers};
 
 use std::alloc::AllocError;
 use tlsf_heap::Report;
@@ -26,9 +26,9 @@ fn write_amount(
     write!(text, "{count} {name}")
 }
 
-/// Adds what the live blocks are.
+// Adds what the live blocks are.
 #[tactic(auto, unfolding(crate::specs::Numbers::live_numbers))]
-pub fn write_live_numbers(text: &mut String, report: &Report) -> Result<(), AllocError>
+fn write_live_numbers(text: &mut String, report: &Report) -> Result<(), AllocError>
     ensures { OnOk result (string_bytes text.new ≡ string_bytes text.old ++ live_numbers report.now) }
 {
     text.push_str("live ")?;
@@ -41,9 +41,9 @@ pub fn write_live_numbers(text: &mut String, report: &Report) -> Result<(), Allo
     write_amount(text, u64::from(report.waste), "byte", "bytes")
 }
 
-/// Adds what the free blocks are, and what they serve.
+// Adds what the free blocks are, and what they serve.
 #[tactic(auto, unfolding(crate::specs::Numbers::free_numbers))]
-pub fn write_free_numbers(text: &mut String, report: &Report) -> Result<(), AllocError>
+fn write_free_numbers(text: &mut String, report: &Report) -> Result<(), AllocError>
     ensures { OnOk result (string_bytes text.new ≡ string_bytes text.old ++ free_numbers report.now) }
 {
     text.push_str("free ")?;
@@ -56,17 +56,24 @@ pub fn write_free_numbers(text: &mut String, report: &Report) -> Result<(), Allo
     write_amount(text, u64::from(report.grant), "byte", "bytes")
 }
 
-fn write_share(text: &mut String, fragmentation: u32) -> Result<(), AllocError>
-    ensures { OnOk result (string_bytes text.new ≡ string_bytes text.old ++ share_text fragmentation) }
-{
-    write!(text, "fragmentation {fragmentation}/1000; age ")
-}
-
-/// Adds how well the free words lie together, and since when the oldest are free.
+// Adds how well the free words lie together, and since when the oldest are free.
 #[tactic(auto, unfolding(crate::specs::Numbers::age_numbers))]
-pub fn write_age_numbers(text: &mut String, report: &Report) -> Result<(), AllocError>
+fn write_age_numbers(text: &mut String, report: &Report) -> Result<(), AllocError>
     ensures { OnOk result (string_bytes text.new ≡ string_bytes text.old ++ age_numbers report.now) }
 {
-    write_share(text, report.fragmentation)?;
+    let fragmentation = report.fragmentation;
+    write!(text, "fragmentation {fragmentation}/1000; age ")?;
     write_amount(text, report.age, "tick", "ticks")
+}
+
+/// Adds all of them, with a text between what the live blocks are, what the free ones are, and how these lie.
+#[tactic(auto, unfolding(crate::specs::Numbers::report_numbers))]
+pub fn write_numbers(text: &mut String, report: &Report, between: &str) -> Result<(), AllocError>
+    ensures { OnOk result (string_bytes text.new ≡ string_bytes text.old ++ report_numbers between.now report.now) }
+{
+    write_live_numbers(text, report)?;
+    text.push_str(between)?;
+    write_free_numbers(text, report)?;
+    text.push_str(between)?;
+    write_age_numbers(text, report)
 }

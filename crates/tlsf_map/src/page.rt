@@ -1,16 +1,15 @@
 //! The picture as a whole: its style, a key to its colours, and the heaps, one below the other.
 ghost use Rattle.std.specs.Prelude.{◌≡◌, ◌++◌, ◌≤◌, ◌^◌, ◌*◌, ◌+◌, length, IfOk, OnOk, string_bytes};
 ghost use Rattle.tlsf_map.specs.Grids.{IsGrid};
-ghost use Rattle.tlsf_map.specs.Groups.{groups_of, groups_text, joined_of, note_line, note_text};
-ghost use Rattle.tlsf_map.specs.Page.{begin_text, blocks_text, heap_head, heap_in, heap_text, heaps_end, heaps_text, height_of, key_text, numbers_text, page_begin, svg_text};
+ghost use Rattle.tlsf_map.specs.Groups.{groups_of, groups_text, joined_of, note_text};
+ghost use Rattle.tlsf_map.specs.Page.{begin_text, heap_in, heap_text, heaps_end, heaps_text, height_of, key_text, page_begin, svg_text};
 
 use crate::free_blocks::FreeBlocks;
 use crate::grid::Grid;
 use crate::group::Group;
 use crate::mapped_heap::MappedHeap;
-use crate::numbers::{write_age_numbers, write_free_numbers, write_live_numbers};
+use crate::numbers::write_numbers;
 use std::alloc::AllocError;
-use tlsf_heap::Report;
 
 // Colours by the reader's scheme: dark blue, blue and orange for header, payload and what it leaves empty, green for free words,
 // violet for neighbours that are drawn as one.
@@ -37,35 +36,8 @@ fn write_begin(
     let tick = heap.tick;
     write!(
         text,
-        "<g transform='translate(1024 {y})'><text class='name' y='320'>heap {id}: {words} words at tick {tick}, {row} words a row</text>\n"
+        "<g transform='translate(1024 {y})'><text class='name' y='320'>heap {id}: {words} words at tick {tick}, {row} words a row</text>\n<text class='numbers' y='608'>"
     )
-}
-
-#[tactic(auto, unfolding(crate::specs::Page::numbers_text))]
-fn write_numbers(text: &mut String, report: &Report) -> Result<(), AllocError>
-    ensures { OnOk result (string_bytes text.new ≡ string_bytes text.old ++ numbers_text report.now) }
-{
-    text.push_str("<text class='numbers' y='608'>")?;
-    write_live_numbers(text, report)?;
-    text.push_str("; ")?;
-    write_free_numbers(text, report)?;
-    text.push_str("; ")?;
-    write_age_numbers(text, report)?;
-    text.push_str("</text>\n")
-}
-
-#[tactic(auto, unfolding(crate::specs::Page::heap_head))]
-fn write_head(
-    text: &mut String,
-    y: u64,
-    words: u32,
-    row: u64,
-    heap: &MappedHeap,
-) -> Result<(), AllocError>
-    ensures { OnOk result (string_bytes text.new ≡ string_bytes text.old ++ heap_head y words row heap.now) }
-{
-    write_begin(text, y, words, row, heap)?;
-    write_numbers(text, &heap.report)
 }
 
 // Adds the groups of a heap's blocks, whose free ones these tell apart, and says how many blocks are drawn as one with others.
@@ -100,15 +72,6 @@ fn write_groups(
     Ok(joined + group.joined())
 }
 
-fn write_note_line(text: &mut String, count: u64) -> Result<(), AllocError>
-    ensures { OnOk result (string_bytes text.new ≡ string_bytes text.old ++ note_line count) }
-{
-    write!(
-        text,
-        "<text class='numbers' text-anchor='end' x='16384' y='320'>{count} blocks, each under 4 pixels wide, are drawn as one with neighbours</text>\n"
-    )
-}
-
 // Adds the legend's line on blocks that are drawn as one with others, where there are any.
 #[tactic(auto, unfolding(crate::specs::Groups::note_text))]
 fn write_note(text: &mut String, count: u64) -> Result<(), AllocError>
@@ -117,19 +80,13 @@ fn write_note(text: &mut String, count: u64) -> Result<(), AllocError>
     if count == 0 {
         return Ok(());
     }
-    write_note_line(text, count)
+    write!(
+        text,
+        "<text class='numbers' text-anchor='end' x='16384' y='320'>{count} blocks, each under 4 pixels wide, are drawn as one with neighbours</text>\n"
+    )
 }
 
-#[tactic(auto, unfolding(crate::specs::Page::blocks_text))]
-fn write_blocks(text: &mut String, grid: Grid, heap: &MappedHeap) -> Result<(), AllocError>
-    requires { IsGrid grid }
-    ensures { OnOk result (string_bytes text.new ≡ string_bytes text.old ++ blocks_text grid heap.now) }
-{
-    let joined = write_groups(text, grid, FreeBlocks::of(heap), heap)?;
-    write_note(text, joined)
-}
-
-// Adds a heap in a grid, with its numbers above it.
+// Adds a heap in a grid, with its name and its numbers above it.
 #[tactic(auto, unfolding(crate::specs::Page::heap_in))]
 fn write_heap_in(
     text: &mut String,
@@ -141,8 +98,11 @@ fn write_heap_in(
     requires { IsGrid grid }
     ensures { OnOk result (string_bytes text.new ≡ string_bytes text.old ++ heap_in grid y words heap.now) }
 {
-    write_head(text, y, words, grid.row, heap)?;
-    write_blocks(text, grid, heap)?;
+    write_begin(text, y, words, grid.row, heap)?;
+    write_numbers(text, &heap.report, "; ")?;
+    text.push_str("</text>\n")?;
+    let joined = write_groups(text, grid, FreeBlocks::of(heap), heap)?;
+    write_note(text, joined)?;
     text.push_str("</g>\n")
 }
 

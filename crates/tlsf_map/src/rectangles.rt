@@ -1,7 +1,7 @@
 //! Rectangles and lines of text. Lengths are in sixteenths of a pixel, so that each is a whole number.
 ghost use Rattle.std.specs.Prelude.{◌≡◌, ◌++◌, ◌≤◌, ◌^◌, true, OnOk, string_bytes};
 ghost use Rattle.tlsf_map.specs.Grids.{IsGrid};
-ghost use Rattle.tlsf_map.specs.Svg.{bar_text, begun_text, caption_text, fold_text, folded_text, label_text, lower_text, piece_text, place_text, rectangle_text, rows_text, spread_text, upper_text};
+ghost use Rattle.tlsf_map.specs.Svg.{bar_text, begun_text, caption_at, caption_text, fold_text, label_text, piece_text, place_text, rectangle_text, rows_text, spread_text};
 
 use crate::fold::Fold;
 use crate::grid::Grid;
@@ -116,34 +116,6 @@ fn write_fold(text: &mut String, grid: Grid, fold: Fold) -> Result<(), AllocErro
     )
 }
 
-#[tactic(auto, unfolding(crate::specs::Svg::folded_text))]
-fn write_folded(
-    text: &mut String,
-    grid: Grid,
-    fold: Fold,
-    at: u64,
-    words: u64,
-) -> Result<(), AllocError>
-    requires grid { IsGrid grid }
-    requires begins { fold.at ≤ 2 ^ 33 }
-    requires ends { fold.end ≤ 2 ^ 33 }
-    requires rows { fold.rows ≤ 2 ^ 33 }
-    requires place { at ≤ 2 ^ 32 }
-    requires few { words ≤ 2 ^ 32 }
-    ensures { OnOk result (string_bytes text.new ≡ string_bytes text.old ++ folded_text grid fold at words) }
-{
-    let below = grid.below(fold.hidden());
-    write_spread(text, grid, true, at, fold.at.saturating_sub(at))?;
-    write_fold(text, grid, fold)?;
-    write_spread(
-        text,
-        below,
-        true,
-        fold.end,
-        (at + words).saturating_sub(fold.end),
-    )
-}
-
 /// Adds the words of a block with these rows among them, of which one is drawn for all where there are three or more.
 #[tactic(auto, unfolding(crate::specs::Svg::rows_text))]
 pub fn write_rows(
@@ -162,10 +134,18 @@ pub fn write_rows(
     ensures { OnOk result (string_bytes text.new ≡ string_bytes text.old ++ rows_text grid fold at words) }
 {
     if fold.hidden() == 0 {
-        write_spread(text, grid, true, at, words)
-    } else {
-        write_folded(text, grid, fold, at, words)
+        return write_spread(text, grid, true, at, words);
     }
+    let below = grid.below(fold.hidden());
+    write_spread(text, grid, true, at, fold.at.saturating_sub(at))?;
+    write_fold(text, grid, fold)?;
+    write_spread(
+        text,
+        below,
+        true,
+        fold.end,
+        (at + words).saturating_sub(fold.end),
+    )
 }
 
 /// Adds a label, or this name where there is none.
@@ -178,21 +158,6 @@ pub fn write_label(text: &mut String, label: Option<u32>, name: &str) -> Result<
     }
 }
 
-fn write_upper(text: &mut String, x: u64, y: u64) -> Result<(), AllocError>
-    ensures { OnOk result (string_bytes text.new ≡ string_bytes text.old ++ upper_text x y) }
-{
-    write!(text, "<g class='caption'><text x='{x}' y='{y}'>")
-}
-
-fn write_lower(text: &mut String, x: u64, y: u64, amount: u32, unit: &str) -> Result<(), AllocError>
-    ensures { OnOk result (string_bytes text.new ≡ string_bytes text.old ++ lower_text x y amount unit.now) }
-{
-    write!(
-        text,
-        "</text><text x='{x}' y='{y}'>{amount} {unit}</text></g>"
-    )
-}
-
 /// What a block shows of itself, in two lines: its label or a name, and an amount.
 #[derive(Clone, Copy)]
 pub struct Caption<'a> {
@@ -200,6 +165,27 @@ pub struct Caption<'a> {
     pub name: &'a str,
     pub amount: u32,
     pub unit: &'a str,
+}
+
+// Adds the two lines of a caption, at these places.
+#[tactic(auto, unfolding(crate::specs::Svg::caption_at))]
+fn write_caption_at(
+    text: &mut String,
+    x: u64,
+    y: u64,
+    below: u64,
+    caption: &Caption,
+) -> Result<(), AllocError>
+    ensures { OnOk result (string_bytes text.new ≡ string_bytes text.old ++ caption_at x y below caption.now.label caption.now.name.now caption.now.amount caption.now.unit.now) }
+{
+    write!(text, "<g class='caption'><text x='{x}' y='{y}'>")?;
+    write_label(text, caption.label, caption.name)?;
+    let amount = caption.amount;
+    let unit = caption.unit;
+    write!(
+        text,
+        "</text><text x='{x}' y='{below}'>{amount} {unit}</text></g>"
+    )
 }
 
 /// Adds the caption of a block, where its first piece is at least 80 pixels wide.
@@ -222,7 +208,5 @@ pub fn write_caption(
     }
     let x = grid.left(at) + 64;
     let y = grid.top(at) + 240;
-    write_upper(text, x, y)?;
-    write_label(text, caption.label, caption.name)?;
-    write_lower(text, x, y + 224, caption.amount, caption.unit)
+    write_caption_at(text, x, y, y + 224, caption)
 }

@@ -1,14 +1,13 @@
 //! The picture in characters as a whole: a key to them, and the heaps, one below the other.
 ghost use Rattle.std.specs.Prelude.{◌≡◌, ◌++◌, count_by, IfOk, OnOk, string_bytes};
 ghost use Rattle.tlsf_map.specs.Columns.{IsSpan};
-ghost use Rattle.tlsf_map.specs.Text as lines;
-ghost use Rattle.tlsf_map.specs.Text.{blocks_marks, head_lines, heap_lines, heap_with, heaps_lines, is_unseen, key_line, name_line, text_of, unseen_text};
+ghost use Rattle.tlsf_map.specs.Text.{blocks_marks, heap_lines, heap_with, heaps_lines, is_unseen, key_line, name_line, text_of, unseen_text};
 
 use crate::columns::span;
 use crate::free_blocks::FreeBlocks;
 use crate::mapped_heap::{LabelledBlock, MappedHeap};
 use crate::marks::write_block_marks;
-use crate::numbers::{plural, write_age_numbers, write_free_numbers, write_live_numbers};
+use crate::numbers::{plural, write_numbers};
 use std::alloc::AllocError;
 
 // What each character is.
@@ -28,23 +27,6 @@ fn write_name_line(
         text,
         "\nheap {id}: {words} words at tick {tick}, words a character: {span}\n"
     )
-}
-
-#[tactic(auto, unfolding(crate::specs::Text::head_lines))]
-fn write_head_lines(
-    text: &mut String,
-    span: u64,
-    words: u32,
-    heap: &MappedHeap,
-) -> Result<(), AllocError>
-    ensures { OnOk result (string_bytes text.new ≡ string_bytes text.old ++ head_lines span words heap.now) }
-{
-    write_name_line(text, span, words, heap)?;
-    write_live_numbers(text, &heap.report)?;
-    text.push_str("\n")?;
-    write_free_numbers(text, &heap.report)?;
-    text.push_str("\n")?;
-    write_age_numbers(text, &heap.report)
 }
 
 // Adds the blocks of a heap, whose free ones these tell apart, and says in how many no character begins.
@@ -67,17 +49,6 @@ fn write_rows(
     Ok(unseen)
 }
 
-fn write_unseen_line(text: &mut String, count: u64) -> Result<(), AllocError>
-    ensures { OnOk result (string_bytes text.new ≡ string_bytes text.old ++ lines.unseen_line count) }
-{
-    let are = plural(
-        count,
-        " block is not shown: it has the first word of no character",
-        " blocks are not shown: none of them has the first word of a character",
-    );
-    write!(text, "\n{count}{are}")
-}
-
 // Adds the line on so many blocks that aren't shown, where there are any.
 #[tactic(auto, unfolding(crate::specs::Text::unseen_text))]
 fn write_unseen(text: &mut String, count: u64) -> Result<(), AllocError>
@@ -86,7 +57,12 @@ fn write_unseen(text: &mut String, count: u64) -> Result<(), AllocError>
     if count == 0 {
         return Ok(());
     }
-    write_unseen_line(text, count)
+    let are = plural(
+        count,
+        " block is not shown: it has the first word of no character",
+        " blocks are not shown: none of them has the first word of a character",
+    );
+    write!(text, "\n{count}{are}")
 }
 
 // Adds a heap, with so many words a character.
@@ -100,7 +76,8 @@ fn write_heap_with(
     requires { IsSpan span }
     ensures { OnOk result (string_bytes text.new ≡ string_bytes text.old ++ heap_with span words heap.now) }
 {
-    write_head_lines(text, span, words, heap)?;
+    write_name_line(text, span, words, heap)?;
+    write_numbers(text, &heap.report, "\n")?;
     let unseen = write_rows(text, span, FreeBlocks::of(heap), &heap.blocks)?;
     write_unseen(text, unseen)?;
     text.push_str("\n")

@@ -60,7 +60,7 @@ impl<const SLI: u32> Player<SLI> {
         })
     }
 
-    /// Runs on to a line of the script, whose header is line 1, and behind the last line to the end, with the drains there. Answers
+    /// Runs on to a line of the script, whose header is line 1, and after the last line to the end, with the drains there. Answers
     /// what its events were answered.
     ///
     /// # Errors

@@ -85,7 +85,7 @@ impl<const SLI: u32> Plays<SLI> for WorstDrawing {
     }
 }
 
-/// Reads a whole trace, and writes a picture of each heap as it stands behind the line to look at.
+/// Reads a whole trace, and writes a picture of each heap as it stands after the line to look at.
 ///
 /// [`plot_trace`](crate::plot_trace) names a line above each heap. Of these it is the one after which a heap stands worst: without room
 /// for the longest request of its worker, with the most free words; or, where each finds room after each line, with the most live words
