@@ -3,8 +3,8 @@
 //
 // Header-only; libtlsf.a is all that is linked. What the caller owes is said in tlsf.h. Constructors and heap::for_blocks
 // throw std::bad_alloc where malloc says no, and std::invalid_argument where no region or lane is of that size. resource and
-// allocator throw
-// std::bad_alloc where there is no room. Everything else is noexcept. Where exceptions are off, what would throw aborts.
+// allocator throw std::bad_alloc where there is no room. Everything else is noexcept. Where exceptions are off, what would
+// throw aborts.
 #ifndef TLSF_HPP
 #define TLSF_HPP
 

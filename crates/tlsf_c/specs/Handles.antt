@@ -1,5 +1,6 @@
 -- What lies behind C's handles.
 use Rattle.std.specs.Prelude.{◌≡◌, ℕ, true, List, [], Option, Some, None}
+use denote.RawPtr.{Ptr}
 use Rattle.tlsf_heap.specs.Blocks.{HeapState}
 use Rattle.tlsf_heap.specs.Image.{Image}
 use Rattle.tlsf_heap.specs.declared.name.Name.{Name}
@@ -7,6 +8,7 @@ use Rattle.tlsf_post.specs.Lanes.{posts_sent, free_slots, taken, ready, IsLane}
 use Rattle.tlsf_post.specs.declared.post.Post.{Post}
 use Rattle.tlsf_post.specs.declared.post_end.PostEnd.{PostEnd}
 use Rattle.tlsf_post.specs.declared.take_end.TakeEnd.{TakeEnd}
+use Rattle.tlsf_c.specs.Levels.{GoesOn}
 use Rattle.tlsf_c.specs.declared.counts.Counts.{Counts}
 use Rattle.tlsf_c.specs.declared.heap_slot.HeapSlot.{HeapSlot}
 use Rattle.tlsf_c.specs.declared.post_slot.PostSlot.{PostSlot}
@@ -22,6 +24,10 @@ heap_in h = h.held.value.heap
 abbrev pub stored_in : HeapSlot → Image
 stored_in h = h.held.value.stored
 
+-- the address of its region's first word
+abbrev pub address_in : HeapSlot → Ptr
+address_in h = h.held.value.extents.words.address
+
 -- its level
 abbrev pub level_in : HeapSlot → ℕ
 level_in h = h.held.value.level
@@ -34,9 +40,11 @@ touches_in h = h.held.value.touches
 abbrev pub counts_in : HeapSlot → Counts
 counts_in h = h.held.value.counts
 
--- an open handle stays open, with a heap of the same level, and the address of its region stays
-abbrev pub StaysOpen : HeapSlot → HeapSlot → Type 0
-StaysOpen old new = (new.is_open ≡ true) × (level_in new ≡ level_in old) × (new.base ≡ old.base)
+-- an open handle stays open, its heap keeps its level and its memory, touches never fall, and the address of its region stays
+pub record StaysOpen (old new : HeapSlot) : Type 0 where
+  pub is_open : new.is_open ≡ true
+  pub heap : GoesOn old.held.value new.held.value
+  pub base : new.base ≡ old.base
 
 -- ---- ends of lanes
 

@@ -10,6 +10,7 @@ ghost use Rattle.tlsf_heap.specs.Reports.{report_of};
 ghost use Rattle.tlsf_heap.specs.Touched.{FollowsNoForgery};
 ghost use Rattle.tlsf_heap.specs.WordsInUse.{words_in_use};
 ghost use Rattle.tlsf_c.specs.Counting.{no_counts, counted, counted_request};
+ghost use Rattle.tlsf_c.specs.Levels.{GoesOn};
 
 mod by_place;
 
@@ -78,7 +79,7 @@ impl AnyHeap {
     pub fn allocate(&mut self, len: u32) -> Result<Name, Refusal>
         ensures answer { result ≡ (allocated self.old.level self.old.heap len).answer }
         ensures heap { self.new.heap ≡ (allocated self.old.level self.old.heap len).heap }
-        ensures level { self.new.level ≡ self.old.level }
+        ensures goes_on { GoesOn self.old self.new }
         ensures counts { self.new.counts ≡ counted_request self.old.counts result len self.new.heap }
         ensures touches { self.new.touches ≤ self.old.touches + 64 + payload_words_given result self.new.heap }
     {
@@ -92,7 +93,7 @@ impl AnyHeap {
     pub fn release(&mut self, name: Name) -> Result<(), Refusal>
         ensures answer { result ≡ (released self.old.heap name).answer }
         ensures heap { self.new.heap ≡ (released self.old.heap name).heap }
-        ensures level { self.new.level ≡ self.old.level }
+        ensures goes_on { GoesOn self.old self.new }
         ensures counts { self.new.counts ≡ record self.old.counts { words = words_in_use self.new.heap } }
         ensures touches { self.new.touches ≤ self.old.touches + 64 }
         ensures forged { FollowsNoForgery self.old.heap name self.old.touches self.new.touches }
@@ -107,7 +108,7 @@ impl AnyHeap {
     pub fn resize(&mut self, name: Name, len: u32) -> Result<(), Refusal>
         ensures answer { result ≡ (resized self.old.heap name len).answer }
         ensures heap { self.new.heap ≡ (resized self.old.heap name len).heap }
-        ensures level { self.new.level ≡ self.old.level }
+        ensures goes_on { GoesOn self.old self.new }
         ensures counts { self.new.counts ≡ counted self.old.counts self.new.heap }
         ensures touches { self.new.touches ≤ self.old.touches + 64 + payload_words_left result self.new.heap name }
         ensures forged { FollowsNoForgery self.old.heap name self.old.touches self.new.touches }
@@ -122,7 +123,7 @@ impl AnyHeap {
     pub fn write(&mut self, name: Name, at: u32, bytes: &[u8]) -> Result<(), Refusal>
         ensures answer { result ≡ (written self.old.heap name at bytes.now).answer }
         ensures heap { self.new.heap ≡ (written self.old.heap name at bytes.now).heap }
-        ensures level { self.new.level ≡ self.old.level }
+        ensures goes_on { GoesOn self.old self.new }
         ensures counts { self.new.counts ≡ self.old.counts }
         ensures touches { self.new.touches ≤ self.old.touches + 4 + 2 * (length bytes.now / 8 + 2) }
         ensures forged { FollowsNoForgery self.old.heap name self.old.touches self.new.touches }
@@ -138,7 +139,7 @@ impl AnyHeap {
         ensures answer { result ≡ read_answer (read_of self.old.heap name at (length out.old)) }
         ensures bytes { out.new ≡ result_unwrap_or (read_of self.old.heap name at (length out.old)) out.old }
         ensures heap { self.new.heap ≡ self.old.heap }
-        ensures level { self.new.level ≡ self.old.level }
+        ensures goes_on { GoesOn self.old self.new }
         ensures counts { self.new.counts ≡ self.old.counts }
         ensures touches { self.new.touches ≤ self.old.touches + 4 + (length out.old / 8 + 2) }
         ensures forged { FollowsNoForgery self.old.heap name self.old.touches self.new.touches }
@@ -151,9 +152,10 @@ impl AnyHeap {
 
     /// `Heap::payload`.
     pub fn payload(&mut self, name: Name) -> Result<(*mut u64, u32), Refusal>
+        ensures address { IfOk result (λ p. p.0 ≡ self.old.extents.words.address) }
         ensures payload { MatchResult result (λ p. IsPayloadCheck self.old.heap name (Ok p.1)) (λ why. IsPayloadCheck self.old.heap name (Err why)) }
         ensures heap { self.new.heap ≡ self.old.heap }
-        ensures level { self.new.level ≡ self.old.level }
+        ensures goes_on { GoesOn self.old self.new }
         ensures counts { self.new.counts ≡ self.old.counts }
         ensures touches { self.new.touches ≤ self.old.touches + 4 }
         ensures forged { FollowsNoForgery self.old.heap name self.old.touches self.new.touches }
@@ -168,7 +170,7 @@ impl AnyHeap {
     pub fn report(&mut self) -> Report
         ensures report { result ≡ report_of self.old.level self.old.heap }
         ensures heap { self.new.heap ≡ self.old.heap }
-        ensures level { self.new.level ≡ self.old.level }
+        ensures goes_on { GoesOn self.old self.new }
         ensures counts { self.new.counts ≡ self.old.counts }
         ensures touches { self.new.touches ≤ self.old.touches + 2 * length self.old.heap.blocks }
     {

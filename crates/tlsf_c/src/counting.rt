@@ -34,6 +34,8 @@ impl Counts {
         ensures are_counts { AreCounts heap.new.heap self.new }
         ensures heap { heap.new.heap ≡ heap.old.heap }
         ensures stored { heap.new.stored ≡ heap.old.stored }
+        ensures stays { heap.new.extents ≡ heap.old.extents }
+        ensures touches_rise { heap.old.touches ≤ heap.new.touches }
         ensures touches { heap.new.touches ≤ heap.old.touches + 1 }
     {
         match answer {
@@ -65,6 +67,8 @@ impl Counts {
         ensures are_counts { AreCounts heap.new.heap self.new }
         ensures heap { heap.new.heap ≡ heap.old.heap }
         ensures stored { heap.new.stored ≡ heap.old.stored }
+        ensures stays { heap.new.extents ≡ heap.old.extents }
+        ensures touches_rise { heap.old.touches ≤ heap.new.touches }
         ensures touches { heap.new.touches ≤ heap.old.touches + 1 }
     {
         match answer {
@@ -95,6 +99,8 @@ impl Counts {
         ensures heap { heap.new.heap ≡ (allocated SLI heap.old.heap len).heap }
         ensures counts { self.new ≡ counted_request self.old result len heap.new.heap }
         ensures are_counts { AreCounts heap.new.heap self.new }
+        ensures stays { heap.new.extents ≡ heap.old.extents }
+        ensures touches_rise { heap.old.touches ≤ heap.new.touches }
         ensures touches { heap.new.touches ≤ heap.old.touches + 64 + payload_words_given result heap.new.heap }
     {
         let answer = heap.allocate_words(want(len), len);
@@ -116,6 +122,8 @@ impl Counts {
         ensures err { OnErr result (heap.new.heap ≡ heap.old.heap) }
         ensures counts { self.new ≡ counted_request self.old result len heap.new.heap }
         ensures are_counts { AreCounts heap.new.heap self.new }
+        ensures stays { heap.new.extents ≡ heap.old.extents }
+        ensures touches_rise { heap.old.touches ≤ heap.new.touches }
         ensures touches { heap.new.touches ≤ heap.old.touches + 33 }
     {
         let answer = heap.allocate_unset(len);
@@ -141,6 +149,8 @@ impl Counts {
         ensures err { OnErr result (heap.new.heap ≡ heap.old.heap) }
         ensures counts { self.new ≡ counted_request self.old result len heap.new.heap }
         ensures are_counts { AreCounts heap.new.heap self.new }
+        ensures stays { heap.new.extents ≡ heap.old.extents }
+        ensures touches_rise { heap.old.touches ≤ heap.new.touches }
         ensures touches { heap.new.touches ≤ heap.old.touches + 118 }
     {
         let answer = heap.allocate_aligned(len, step, skew);
@@ -160,6 +170,8 @@ impl Counts {
         ensures heap { heap.new.heap ≡ (released heap.old.heap name).heap }
         ensures counts { self.new ≡ record self.old { words = words_in_use heap.new.heap } }
         ensures are_counts { AreCounts heap.new.heap self.new }
+        ensures stays { heap.new.extents ≡ heap.old.extents }
+        ensures touches_rise { heap.old.touches ≤ heap.new.touches }
         ensures touches { heap.new.touches ≤ heap.old.touches + 64 }
         ensures forged { FollowsNoForgery heap.old.heap name heap.old.touches heap.new.touches }
     {
@@ -184,6 +196,8 @@ impl Counts {
         ensures heap { heap.new.heap ≡ (released_by_place heap.old.heap at).heap }
         ensures counts { self.new ≡ record self.old { words = words_in_use heap.new.heap } }
         ensures are_counts { AreCounts heap.new.heap self.new }
+        ensures stays { heap.new.extents ≡ heap.old.extents }
+        ensures touches_rise { heap.old.touches ≤ heap.new.touches }
         ensures touches { heap.new.touches ≤ heap.old.touches + 29 }
         ensures wild { FollowsNoPlace heap.old.heap at heap.old.touches heap.new.touches }
     {
@@ -209,6 +223,8 @@ impl Counts {
         ensures heap { heap.new.heap ≡ (resized heap.old.heap name len).heap }
         ensures counts { self.new ≡ counted self.old heap.new.heap }
         ensures are_counts { AreCounts heap.new.heap self.new }
+        ensures stays { heap.new.extents ≡ heap.old.extents }
+        ensures touches_rise { heap.old.touches ≤ heap.new.touches }
         ensures touches { heap.new.touches ≤ heap.old.touches + 64 + payload_words_left result heap.new.heap name }
         ensures forged { FollowsNoForgery heap.old.heap name heap.old.touches heap.new.touches }
     {
@@ -241,6 +257,8 @@ impl Counts {
         ensures heap { heap.new.heap ≡ (resized_or_moved SLI heap.old.heap name len).heap }
         ensures counts { self.new ≡ counted_move self.old name.at result len heap.new.heap }
         ensures are_counts { AreCounts heap.new.heap self.new }
+        ensures stays { heap.new.extents ≡ heap.old.extents }
+        ensures touches_rise { heap.old.touches ≤ heap.new.touches }
         ensures touches { heap.new.touches ≤ heap.old.touches + 133 + payload_words_left (resized heap.old.heap name len).answer (resized heap.old.heap name len).heap name
             + 3 * payload_words_moved SLI heap.old.heap len }
         ensures forged { FollowsNoForgery heap.old.heap name heap.old.touches heap.new.touches }
@@ -270,6 +288,8 @@ impl Counts {
         ensures err { OnErr result (heap.new.heap ≡ heap.old.heap) }
         ensures counts { self.new ≡ counted_move self.old name.at result len heap.new.heap }
         ensures are_counts { AreCounts heap.new.heap self.new }
+        ensures stays { heap.new.extents ≡ heap.old.extents }
+        ensures touches_rise { heap.old.touches ≤ heap.new.touches }
         ensures touches { heap.new.touches ≤ heap.old.touches + 104 + 2 * (min (length (payload_of heap.old.heap name)) len / 8) }
         ensures forged { FollowsNoForgery heap.old.heap name heap.old.touches heap.new.touches }
     {

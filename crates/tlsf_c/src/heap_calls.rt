@@ -14,7 +14,7 @@ ghost use Rattle.tlsf_heap.specs.declared.refusal.Refusal.{Refusal};
 ghost use Rattle.tlsf_heap.specs.WordsInUse.{words_in_use};
 ghost use Rattle.tlsf_c.specs.Counting.{no_counts, counted, counted_request, counted_move};
 ghost use Rattle.tlsf_c.specs.Names.{name_of, report_in};
-ghost use Rattle.tlsf_c.specs.Handles.{counts_in, heap_in, level_in, touches_in, StaysOpen};
+ghost use Rattle.tlsf_c.specs.Handles.{address_in, counts_in, heap_in, level_in, touches_in, StaysOpen};
 ghost use Rattle.tlsf_c.specs.Refusals.{status_of, bad_size, no_memory, closed, in_use, bad_level};
 
 use crate::any_heap::AnyHeap;
@@ -49,6 +49,7 @@ pub extern "C" fn tlsf_open(
     ensures refused { ¬ (result ≡ 0) → heap.new ≡ heap.old }
     ensures open { result ≡ 0 → heap.new.is_open ≡ true }
     ensures heap { result ≡ 0 → (level_in heap.new ≡ level) × (heap_in heap.new ≡ opened id words 0) }
+    ensures base { result ≡ 0 → heap.new.base ≡ address_in heap.new }
     ensures counts { result ≡ 0 → counts_in heap.new ≡ no_counts }
     ensures touches { result ≡ 0 → touches_in heap.new ≤ 10 }
 {
@@ -337,6 +338,7 @@ pub extern "C" fn tlsf_locate(
 ) -> u32
     ensures closed { heap.old.is_open ≡ false → (result ≡ closed) × (heap.new ≡ heap.old) }
     ensures open { heap.old.is_open ≡ true → StaysOpen heap.old heap.new }
+    ensures base { heap.old.is_open ≡ true → result ≡ 0 → base.new ≡ address_in heap.old }
     ensures len { heap.old.is_open ≡ true → result ≡ 0 → IsPayloadCheck (heap_in heap.old) (name_of name.now) (Ok len.new) }
     ensures refused { heap.old.is_open ≡ true → ¬ (result ≡ 0) → (why : Refusal)
         × IsPayloadCheck (heap_in heap.old) (name_of name.now) (Err why) × (result ≡ number_of why) }

@@ -14,6 +14,7 @@ ghost use Rattle.tlsf_heap.specs.Touched.{FollowsNoForgery, FollowsNoPlace};
 ghost use Rattle.tlsf_heap.specs.Unset.{lying, unset_from, with_payload};
 ghost use Rattle.tlsf_heap.specs.WordsInUse.{words_in_use};
 ghost use Rattle.tlsf_c.specs.Counting.{counted_request, counted_move};
+ghost use Rattle.tlsf_c.specs.Levels.{GoesOn};
 ghost use Rattle.tlsf_c.specs.Places.{kept_at, resized_or_moved_by_place};
 
 use super::{AnyHeap, OfLevel};
@@ -32,7 +33,8 @@ impl AnyHeap {
 
     /// `Heap::base`.
     pub fn base(&mut self) -> *mut u64
-        ensures { self.new ≡ self.old }
+        ensures address { result ≡ self.old.extents.words.address }
+        ensures same { self.new ≡ self.old }
     {
         match &mut self.of_level {
             OfLevel::Four(heap) => heap.base(),
@@ -45,7 +47,7 @@ impl AnyHeap {
         ensures answer { result ≡ (allocated self.old.level self.old.heap len).answer }
         ensures heap { IfOk result (λ name. self.new.heap ≡ unset_from (allocated self.old.level self.old.heap len).heap name self.new.stored 0 len) }
         ensures err { OnErr result (self.new.heap ≡ self.old.heap) }
-        ensures level { self.new.level ≡ self.old.level }
+        ensures goes_on { GoesOn self.old self.new }
         ensures counts { self.new.counts ≡ counted_request self.old.counts result len self.new.heap }
         ensures touches { self.new.touches ≤ self.old.touches + 33 }
     {
@@ -62,7 +64,7 @@ impl AnyHeap {
             ≡ with_payload (words_aligned self.old.level self.old.heap (want len) (max step 1) skew).heap name (lying self.new.stored name.at len)) }
         ensures aligned { IfOk result (λ name. (name.at + 3 + skew) % max step 1 ≡ 0) }
         ensures err { OnErr result (self.new.heap ≡ self.old.heap) }
-        ensures level { self.new.level ≡ self.old.level }
+        ensures goes_on { GoesOn self.old self.new }
         ensures counts { self.new.counts ≡ counted_request self.old.counts result len self.new.heap }
         ensures touches { self.new.touches ≤ self.old.touches + 118 }
     {
@@ -76,7 +78,7 @@ impl AnyHeap {
     pub fn block_at(&mut self, at: u32) -> Option<PlacedBlock>
         ensures block { result ≡ placed_at self.old.heap.blocks at }
         ensures heap { self.new.heap ≡ self.old.heap }
-        ensures level { self.new.level ≡ self.old.level }
+        ensures goes_on { GoesOn self.old self.new }
         ensures counts { self.new.counts ≡ self.old.counts }
         ensures touches { self.new.touches ≤ self.old.touches + 4 }
         ensures wild { FollowsNoPlace self.old.heap at self.old.touches self.new.touches }
@@ -92,7 +94,7 @@ impl AnyHeap {
         ensures answer { MatchOption result (¬ (IsPlace self.old.heap.blocks from)) (FindsSound self.old.heap.blocks from most) }
         ensures looks { IsCheck self.old.stored from most result }
         ensures heap { self.new.heap ≡ self.old.heap }
-        ensures level { self.new.level ≡ self.old.level }
+        ensures goes_on { GoesOn self.old self.new }
         ensures counts { self.new.counts ≡ self.old.counts }
         ensures touches { self.new.touches ≤ self.old.touches + 1 + block_touches * most }
         ensures wild { FollowsNoPlace self.old.heap from self.old.touches self.new.touches }
@@ -108,7 +110,7 @@ impl AnyHeap {
         ensures name { result ≡ name_at self.old.heap at }
         ensures live { IfSome result (λ name. IsLive self.old.heap name × (name.at ≡ at) × (at < self.old.heap.words)) }
         ensures heap { self.new.heap ≡ self.old.heap }
-        ensures level { self.new.level ≡ self.old.level }
+        ensures goes_on { GoesOn self.old self.new }
         ensures counts { self.new.counts ≡ self.old.counts }
         ensures touches { self.new.touches ≤ self.old.touches + 3 }
         ensures wild { FollowsNoPlace self.old.heap at self.old.touches self.new.touches }
@@ -123,7 +125,7 @@ impl AnyHeap {
     pub fn release_at(&mut self, at: u32) -> Result<(), Refusal>
         ensures answer { result ≡ (released_by_place self.old.heap at).answer }
         ensures heap { self.new.heap ≡ (released_by_place self.old.heap at).heap }
-        ensures level { self.new.level ≡ self.old.level }
+        ensures goes_on { GoesOn self.old self.new }
         ensures counts { self.new.counts ≡ record self.old.counts { words = words_in_use self.new.heap } }
         ensures touches { self.new.touches ≤ self.old.touches + 29 }
         ensures wild { FollowsNoPlace self.old.heap at self.old.touches self.new.touches }
@@ -140,7 +142,7 @@ impl AnyHeap {
         ensures heap { IfOk result (λ new. self.new.heap
             ≡ unset_from (resized_or_moved self.old.level self.old.heap name len).heap new self.new.stored (min (length (payload_of self.old.heap name)) len) len) }
         ensures err { OnErr result (self.new.heap ≡ self.old.heap) }
-        ensures level { self.new.level ≡ self.old.level }
+        ensures goes_on { GoesOn self.old self.new }
         ensures counts { self.new.counts ≡ counted_move self.old.counts name.at result len self.new.heap }
         ensures touches { self.new.touches ≤ self.old.touches + 104 + 2 * (min (length (payload_of self.old.heap name)) len / 8) }
         ensures forged { FollowsNoForgery self.old.heap name self.old.touches self.new.touches }
@@ -157,7 +159,7 @@ impl AnyHeap {
         ensures heap { IfOk result (λ new. self.new.heap
             ≡ unset_from (resized_or_moved_by_place self.old.level self.old.heap at len).heap new self.new.stored (kept_at self.old.heap at len) len) }
         ensures err { OnErr result (self.new.heap ≡ self.old.heap) }
-        ensures level { self.new.level ≡ self.old.level }
+        ensures goes_on { GoesOn self.old self.new }
         ensures counts { self.new.counts ≡ counted_move self.old.counts at result len self.new.heap }
         ensures touches { self.new.touches ≤ self.old.touches + 107 + 2 * (kept_at self.old.heap at len / 8) }
         ensures wild { FollowsNoPlace self.old.heap at self.old.touches self.new.touches }
@@ -172,7 +174,7 @@ impl AnyHeap {
     pub fn resize_or_move(&mut self, name: Name, len: u32) -> Result<Name, Refusal>
         ensures answer { result ≡ (resized_or_moved self.old.level self.old.heap name len).answer }
         ensures heap { self.new.heap ≡ (resized_or_moved self.old.level self.old.heap name len).heap }
-        ensures level { self.new.level ≡ self.old.level }
+        ensures goes_on { GoesOn self.old self.new }
         ensures counts { self.new.counts ≡ counted_move self.old.counts name.at result len self.new.heap }
         ensures touches { self.new.touches ≤ self.old.touches + 133 + payload_words_left (resized self.old.heap name len).answer (resized self.old.heap name len).heap name
             + 3 * payload_words_moved self.old.level self.old.heap len }

@@ -18,10 +18,14 @@ loop-count-preserved c =
     let open_still = c.tlsf_release.ensures.open i.heap in
     let touches = c.tlsf_release.ensures.touches i.heap in
     record {
-      heap = open_still.0;
+      heap = open_still.is_open;
       take = c.tlsf_take.ensures.open i.take;
-      level = open_still.1 ∙ i.level;
-      base = open_still.2 ∙ i.base;
+      goes_on = record {
+        level = open_still.heap.level ∙ i.goes_on.level;
+        stays = open_still.heap.stays ∙ i.goes_on.stays;
+        touches_rise = omega (arith, i.goes_on.touches_rise, open_still.heap.touches_rise);
+      };
+      base = open_still.base ∙ i.base;
       few = omega (arith, c.loop-count-test.true);
       no_counts = λ none. absurd (omega (arith, none));
       counts = λ some.

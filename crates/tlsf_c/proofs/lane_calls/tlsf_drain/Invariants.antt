@@ -3,14 +3,15 @@ use Rattle.tlsf_heap.specs.WordsInUse.{words_in_use}
 use Rattle.tlsf_post.specs.declared.post.Post.{Post}
 use Rattle.tlsf_post.specs.declared.post_end.PostEnd.{PostEnd}
 use Rattle.tlsf_c.specs.Drains.{drained}
-use Rattle.tlsf_c.specs.Handles.{counts_in, heap_in, level_in, touches_in, taken_in, ready_in, AreEnds}
+use Rattle.tlsf_c.specs.Levels.{GoesOn}
+use Rattle.tlsf_c.specs.Handles.{counts_in, heap_in, touches_in, taken_in, ready_in, AreEnds}
 use Rattle.tlsf_c.proofs.lane_calls.tlsf_drain.Given as goal
 
 abbrev pub invariant-loop-count : goal.invariant-loop-count
 invariant-loop-count l = record {
   heap : l.heap.is_open ≡ true;
   take : l.take.is_open ≡ true;
-  level : level_in l.heap ≡ level_in l.fn.heap;
+  goes_on : GoesOn l.fn.heap.held.value l.heap.held.value;
   base : l.heap.base ≡ l.fn.heap.base;
   few : l.count ≤ l.most;
   no_counts : l.count ≡ 0 → counts_in l.heap ≡ counts_in l.fn.heap;

@@ -1,0 +1,167 @@
+/* No call takes memory or gives it back but one that opens or closes: each public call on open heaps and lanes, accepted and refused,
+ * many times. With `takes`, one turn does, which has to be told.
+ * Link with -Wl,--wrap=malloc,--wrap=free,--wrap=tlsf_memory_alloc,--wrap=tlsf_memory_dealloc. */
+#include "chance.h"
+#include "tlsf.h"
+
+enum { BLOCKS = 64, TURNS = 40000, KINDS = 36 };
+
+static size_t calls; /* of malloc and free, and of what the proved code asks for */
+static int is_counted;
+
+struct piece {
+    uint64_t is_there;
+    void *at;
+};
+void *__real_malloc(size_t n);
+void __real_free(void *p);
+struct piece __real_tlsf_memory_alloc(size_t bytes, size_t align);
+void __real_tlsf_memory_dealloc(void *at);
+void *__wrap_malloc(size_t n);
+void __wrap_free(void *p);
+struct piece __wrap_tlsf_memory_alloc(size_t bytes, size_t align);
+void __wrap_tlsf_memory_dealloc(void *at);
+
+static void count(void) {
+    if (is_counted) calls++;
+}
+void *__wrap_malloc(size_t n) {
+    count();
+    return __real_malloc(n);
+}
+void __wrap_free(void *p) {
+    count();
+    __real_free(p);
+}
+struct piece __wrap_tlsf_memory_alloc(size_t bytes, size_t align) {
+    count();
+    return __real_tlsf_memory_alloc(bytes, align);
+}
+void __wrap_tlsf_memory_dealloc(void *at) {
+    count();
+    __real_tlsf_memory_dealloc(at);
+}
+
+static struct tlsf_heap heap, closed;
+static struct tlsf_post_end post, closed_post;
+static struct tlsf_take_end take, closed_take;
+static struct tlsf_name names[BLOCKS];
+static void *pointers[BLOCKS];
+static uint8_t bytes[256];
+static uint64_t sum; /* of what comes, so that none of it is ignored */
+
+/* One call of each kind. A name or a pointer may be stale, and one in eight names is forged. */
+static void do_calls_by_name(uint32_t kind, struct tlsf_name *name) {
+    const uint32_t len = below(below(8) ? 200 : 40000);
+    uint64_t *base = NULL;
+    struct tlsf_name other = *name;
+    uint32_t n = 0;
+    if (!below(8)) other.at = below(UINT32_MAX);
+    switch (kind) {
+    case 0: sum += tlsf_allocate(&heap, len, name); break;
+    case 1: sum += tlsf_release(&heap, &other); break;
+    case 2: sum += tlsf_resize(&heap, &other, len); break;
+    case 3: sum += tlsf_reallocate(&heap, name, len); break;
+    case 4: sum += tlsf_write(&heap, &other, below(300), bytes, below(256)); break;
+    case 5: sum += tlsf_read(&heap, &other, below(300), bytes, below(256)); break;
+    case 6: sum += tlsf_locate(&heap, &other, &base, &n); break;
+    case 7: sum += tlsf_payload(&heap, &other, &n) != NULL; break;
+    case 8: sum += tlsf_put(&post, &other); break;
+    case 9: sum += tlsf_take(&take, name); break;
+    default: sum += tlsf_drain(&heap, &take, below(4), &n); break;
+    }
+}
+
+static void do_calls_by_pointer(uint32_t kind, void **p) {
+    const size_t len = below(below(8) ? 200 : 40000), align = (size_t)1 << below(14);
+    struct tlsf_name name = {0, 0, 0};
+    switch (kind) {
+    case 11: if (!*p) *p = tlsf_malloc(&heap, len); break;
+    case 12: if (!*p) *p = tlsf_calloc(&heap, len, 1 + below(3)); break;
+    case 13: {
+        void *moved = tlsf_realloc(&heap, *p, len + 1);
+        if (moved) *p = moved;
+        break;
+    }
+    case 14: if (!*p) *p = tlsf_aligned_alloc(&heap, align, len); break;
+    case 15: sum += tlsf_free(&heap, *p); *p = NULL; break;
+    case 16: sum += tlsf_usable_size(&heap, *p); break;
+    case 17: sum += tlsf_name_at(&heap, *p, &name); break;
+    default: if (!*p) sum += tlsf_allocate_at(&heap, len, align, below(2), &name, p); break;
+    }
+}
+
+static void do_calls_by_place(uint32_t kind, uint32_t *at) {
+    const uint32_t len = tlsf_rounded(below(300));
+    struct tlsf_block_info block;
+    struct tlsf_name name;
+    uint32_t n = 0;
+    switch (kind) {
+    case 19: sum += tlsf_allocate_place(&heap, len, at); break;
+    case 20: sum += tlsf_allocate_aligned(&heap, len, below(64), below(4), at); break;
+    case 21: sum += tlsf_release_place(&heap, *at); break;
+    case 22: sum += tlsf_resize_place(&heap, *at, len, at); break;
+    case 23: sum += tlsf_place(&heap, *at, &name, &n); break;
+    case 24: sum += tlsf_block_at(&heap, *at, &block); break;
+    case 25: sum += tlsf_check(&heap, 0, below(100), &n, &n); break;
+    default: sum += tlsf_check(&heap, below(5000), 3, &n, &n); break;
+    }
+}
+
+/* What a heap holds, sizes, and calls that are refused before they open or close. */
+static void do_other_calls(uint32_t kind, uint32_t level) {
+    struct tlsf_heap_report report;
+    struct tlsf_heap_counts counts;
+    uint32_t n = 0;
+    switch (kind) {
+    case 27: sum += tlsf_report(&heap, &report); break;
+    case 28: sum += tlsf_counts(&heap, &counts); break;
+    case 29: sum += tlsf_words(level, below(100), below(1000), &n); break;
+    case 30: sum += tlsf_bytes(level, below(5000)) + tlsf_lane_bytes(below(1030)); break;
+    case 31: sum += tlsf_open(&heap, level, 1, 64) + tlsf_open(&closed, 6, 1, 64) + tlsf_open(&closed, level, 1, 3); break;
+    case 32: sum += tlsf_open_in(&heap, level, 1, bytes, 256) + tlsf_open_in(&closed, level, 1, bytes, 8); break;
+    case 33: sum += tlsf_lane_open(&post, &take, 4) + tlsf_lane_open(&closed_post, &closed_take, 0); break;
+    case 34: sum += tlsf_lane_open_in(&closed_post, &closed_take, 4, bytes, 8); break;
+    default: sum += tlsf_close(&closed) + tlsf_post_close(&closed_post) + tlsf_take_close(&closed_take) + (tlsf_text_of(below(15)) != NULL); break;
+    }
+}
+
+static void do_call(uint32_t kind, uint32_t level) {
+    static uint32_t place;
+    const uint32_t which = below(BLOCKS);
+    if (kind < 11) do_calls_by_name(kind, &names[which]);
+    else if (kind < 19) do_calls_by_pointer(kind, &pointers[which]);
+    else if (kind < 27) do_calls_by_place(kind, &place);
+    else do_other_calls(kind, level);
+}
+
+static void all_calls(uint32_t level, int takes) {
+    memset(names, 0, sizeof names);
+    memset(pointers, 0, sizeof pointers);
+    is_counted = 1;
+    wants("open", tlsf_open(&heap, level, 7, 5000) + tlsf_lane_open(&post, &take, 8), TLSF_OK);
+    wants("opening takes memory", calls > 0, 1);
+    for (turn = 0; turn < TURNS; turn++) {
+        const uint32_t kind = below(KINDS);
+        calls = 0;
+        do_call(kind, level);
+        if (takes && turn == TURNS / 2) {
+            void *volatile taken = malloc(8); /* a compiler leaves out what it sees to be of no use */
+            free(taken);
+        }
+        wants("calls of malloc and free in one of kind", calls ? kind : KINDS, KINDS);
+    }
+    wants("close", tlsf_close(&heap) + tlsf_post_close(&post) + tlsf_take_close(&take), TLSF_OK);
+    wants("closing gives memory back", calls > 0, 1);
+    is_counted = 0;
+    calls = 0;
+}
+
+int main(int argc, char **argv) {
+    const int takes = argc > 1 && !strcmp(argv[1], "takes");
+    state = 88172645463325252u;
+    all_calls(4, takes);
+    all_calls(5, takes);
+    printf("%d calls on each level take no memory: %s\n", TURNS, sum ? "all as said" : "none was answered");
+    return 0;
+}
