@@ -1,4 +1,4 @@
-"""Each wrong body in must-fail/ and attack/ still applies: each text that it
+"""Each wrong body in gate/ and attack/ still applies: each text that it
 changes stands once in its file, it changes something, and no other edit of its
 crate has its name. Where it turns a law, of a folder laws/ or of
 tlsf_yard_laws, its line `shown:` says what shows that the law is false then."""
