@@ -9,15 +9,14 @@
  *   full    prints 'full, REQUESTS: FRESH AGED', the bytes asked for in thousandths of 8 MiB: at the first refusal, and in the mean where
  *           100,000 blocks have come and gone before. Of the system it is so much resident memory, and its peak while blocks come and go. */
 #define _GNU_SOURCE
+#include "stepped.h"
 #include "tlsf.h"
 
 #include <fcntl.h>
-#include <signal.h>
 #include <stdio.h>
 #include <stdlib.h>
 #include <sys/wait.h>
 #include <time.h>
-#include <ucontext.h>
 #include <unistd.h>
 
 #ifdef AUTHORS
@@ -28,30 +27,9 @@ void authors_free(void *block) __asm__("tlsf_free");
 void *authors_realloc(void *block, size_t bytes) __asm__("tlsf_realloc");
 #endif
 
-enum { ROUNDS = 1000, WARM = 20000, LIVE = 1000, MOST_HOLES = 100000, MOST_BLOCKS = 1 << 20, WORDS = 1 << 20, TRAP = 0x100 };
+enum { ROUNDS = 1000, WARM = 20000, LIVE = 1000, MOST_HOLES = 100000, MOST_BLOCKS = 1 << 20, WORDS = 1 << 20 };
 static enum { LEVEL_4, LEVEL_5, SYSTEM, AUTHORS_OWN } column;
 static int is_stepped; /* else no call is counted */
-
-/* Calls function(a, b, c, d, e), with a trap behind each instruction while `trap` is TRAP, not 0. */
-uint64_t call_stepped(uintptr_t function, uintptr_t a, uintptr_t b, uintptr_t c, uintptr_t d, uintptr_t e);
-extern char returned[];
-extern char two_instructions[];
-uint64_t trap;
-__asm__(".text\ntwo_instructions:\n  nop\n  ret\n"
-        "call_stepped:\n"
-        "  push %rbp\n  mov %rdi, %rax\n  mov %rsi, %rdi\n  mov %rdx, %rsi\n  mov %rcx, %rdx\n  mov %r8, %rcx\n  mov %r9, %r8\n"
-        "  mov trap(%rip), %r10\n  pushfq\n  or %r10, (%rsp)\n  popfq\n"
-        "  call *%rax\n" /* the first trap */
-        "returned:\n  pop %rbp\n  ret\n");
-static volatile uint64_t traps;
-
-static void count_trap(int number, siginfo_t *info, void *context) {
-    greg_t *registers = ((ucontext_t *)context)->uc_mcontext.gregs;
-    (void)number;
-    (void)info;
-    if (registers[REG_RIP] == (greg_t)(uintptr_t)returned) registers[REG_EFL] &= ~(greg_t)TRAP;
-    else traps++;
-}
 
 struct tally {
     uint64_t sum, calls, worst;
@@ -137,8 +115,11 @@ static double nanoseconds(void) {
     return (double)now.tv_sec * 1e9 + (double)now.tv_nsec;
 }
 
-static void print_time(const char *requests, double since, int rounds) {
-    if (!is_stepped) printf("time, %s: %.1f\n", requests, (nanoseconds() - since) / rounds);
+static void print_both(const char *requests) {
+    print("allocate", requests, &allocates);
+    print("release", requests, &releases);
+    print("resize", requests, &resizes);
+    allocates = releases = resizes = (struct tally){0, 0, 0};
 }
 
 /* Keeps so many blocks live, and puts another in the place of one of them, or resizes one, again and again, WARM times before any counts. */
@@ -155,8 +136,9 @@ static void replace(const char *requests, int live, uint32_t least, uint32_t mos
             allocate(block, between(least, most), i >= 0);
         }
     }
-    print_time(requests, since, rounds);
+    if (!is_stepped) printf("time, %s%s: %.1f\n", resizes_them ? "resize, " : "", requests, (nanoseconds() - since) / rounds);
     for (int i = 0; i < live; i++) release(&blocks[i], 0);
+    print_both(requests);
 }
 
 /* Leaves holes of 8 bytes, and makes and releases larger blocks, in two rounds, both of which are counted. */
@@ -168,13 +150,6 @@ static void pass_holes(int holes) {
         for (int i = 0; i < LIVE / 4; i++) release(&others[i], 1);
     }
     for (int i = 1; i < 2 * holes; i += 2) release(&blocks[i], 0);
-}
-
-static void print_both(const char *requests) {
-    print("allocate", requests, &allocates);
-    print("release", requests, &releases);
-    print("resize", requests, &resizes);
-    allocates = releases = resizes = (struct tally){0, 0, 0};
 }
 
 static _Alignas(64) uint8_t plain[2 * 4096], bytes[4096];
@@ -216,13 +191,7 @@ static void move(uint32_t at, uintptr_t n) {
 }
 
 static void open_all(const char *name) {
-    struct sigaction action = {.sa_sigaction = count_trap, .sa_flags = SA_SIGINFO};
-    struct tally two = {0, 0, 0};
-    if (is_stepped) {
-        ends_if(sigaction(SIGTRAP, &action, NULL), "a handler of traps");
-        call(&two, (uintptr_t)two_instructions, 0, 0, 0, 0, 0);
-        ends_if(two.sum != 2, "a trap behind each instruction");
-    }
+    if (is_stepped) ends_if(!counts_traps(), "a trap behind each instruction");
     column = !strcmp(name, "level4") ? LEVEL_4 : !strcmp(name, "level5") ? LEVEL_5 : !strcmp(name, "system") ? SYSTEM : AUTHORS_OWN;
     if (column <= LEVEL_5) ends_if((int)tlsf_open(&heap, column == LEVEL_4 ? 4 : 5, 0, WORDS), "the heap");
 #ifdef AUTHORS
@@ -291,17 +260,11 @@ static void fill_apart(const char *requests, uint32_t most) {
 
 static void run_all(void) {
     replace("64 bytes in pairs", 1, 64, 64, ROUNDS, 0);
-    print_both("64 bytes in pairs");
     replace("8 bytes, 1,000 live", LIVE, 8, 8, ROUNDS, 0);
-    print_both("8 bytes, 1,000 live");
     replace("8..512 bytes, 1,000 live", LIVE, 8, 512, ROUNDS, 0);
-    print_both("8..512 bytes, 1,000 live");
     replace("8..512 bytes, 10,000 live", 10 * LIVE, 8, 512, ROUNDS, 0);
-    print_both("8..512 bytes, 10,000 live");
     replace("8..65,536 bytes, 100 live", 100, 8, 65536, ROUNDS / 4, 0); /* most of what is counted there fills payload */
-    print_both("8..65,536 bytes, 100 live");
-    replace("resize, 8..512 bytes, 1,000 live", LIVE, 8, 512, ROUNDS, 1);
-    print_both("8..512 bytes, 1,000 live");
+    replace("8..512 bytes, 1,000 live", LIVE, 8, 512, ROUNDS, 1);
 }
 
 int main(int argc, char **argv) {

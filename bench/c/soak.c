@@ -7,37 +7,18 @@
  * by instruction, but for those of memset and memcpy: the jump there counts one. With WRONG the program makes one fault of its own, which it has to notice:
  * 1 a byte, 2 a length, 3 a released block. The first thing that is wrong ends it with status 1. */
 #define _GNU_SOURCE
+#include "stepped.h"
 #include "tlsf.h"
 
 #include <pthread.h>
-#include <signal.h>
 #include <stdatomic.h>
 #include <stdio.h>
 #include <stdlib.h>
 #include <time.h>
-#include <ucontext.h>
 #include <unistd.h>
 
 enum { WORKERS = 8, WORDS = 1 << 18, CAPACITY = 256, MOST_HELD = 4096, MOST_SIZES = 1 << 17, OLD = 64 };
-enum { TURNS = 500, PAUSE = 4000, STEP_ONE_IN = 4096, TRAP = 0x100, CALLS = 3, MOST_LENGTH = 1 << 16 };
-
-/* A call with a trap behind each instruction, of which those in this program count; memset and memcpy stand elsewhere. */
-uint64_t call_stepped(uintptr_t function, const void *heap, uintptr_t b, uintptr_t c);
-extern char returned[], __executable_start[], etext[];
-__asm__(".text\ncall_stepped:\n"
-        "  push %rbp\n  mov %rdi, %rax\n  mov %rsi, %rdi\n  mov %rdx, %rsi\n  mov %rcx, %rdx\n"
-        "  pushfq\n  orq $0x100, (%rsp)\n  popfq\n  call *%rax\n"
-        "returned:\n  pop %rbp\n  ret\n");
-static __thread volatile uint64_t traps;
-
-static void count_trap(int number, siginfo_t *info, void *context) {
-    greg_t *registers = ((ucontext_t *)context)->uc_mcontext.gregs;
-    const uintptr_t at = (uintptr_t)registers[REG_RIP];
-    (void)number;
-    (void)info;
-    if (at == (uintptr_t)returned) registers[REG_EFL] &= ~(greg_t)TRAP;
-    else if (at >= (uintptr_t)__executable_start && at < (uintptr_t)etext) traps++;
-}
+enum { TURNS = 500, PAUSE = 4000, STEP_ONE_IN = 4096, CALLS = 3, MOST_LENGTH = 1 << 16 };
 
 /* What is known of the block at a place: its length, where it stands among the live ones, and whether another has its name. */
 struct entry {
@@ -89,9 +70,9 @@ static uint32_t below(struct worker *own, uint32_t bound) {
 static uint32_t called(struct worker *own, enum call kind, uintptr_t function, uintptr_t b, uintptr_t c) {
     own->figures.calls++;
     if (below(own, STEP_ONE_IN)) return (uint32_t)((uint64_t (*)(void *, uintptr_t, uintptr_t))function)(&own->heap, b, c);
-    traps = 0;
-    const uint32_t answer = (uint32_t)call_stepped(function, &own->heap, b, c);
-    if (traps > own->figures.worst[kind]) own->figures.worst[kind] = traps;
+    traps_within = 0;
+    const uint32_t answer = (uint32_t)call_stepped(function, (uintptr_t)&own->heap, b, c, 0, 0);
+    if (traps_within > own->figures.worst[kind]) own->figures.worst[kind] = traps_within;
     return answer;
 }
 
@@ -352,9 +333,8 @@ static void write_line(double since) {
 }
 
 static void open_all(const char *path) {
-    struct sigaction action = {.sa_sigaction = count_trap, .sa_flags = SA_SIGINFO};
     FILE *file = fopen(path, "r");
-    bool is_open = file && !sigaction(SIGTRAP, &action, NULL);
+    bool is_open = file && counts_traps();
     while (is_open && size_count < MOST_SIZES && fscanf(file, "%u", &sizes[size_count]) == 1)
         if (sizes[size_count] <= MOST_LENGTH) size_count++;
     if (file) fclose(file);
@@ -367,7 +347,7 @@ static void open_all(const char *path) {
                                  !tlsf_lane_open(&back[i][k].post, &back[i][k].take, CAPACITY));
     }
     if (is_open && size_count) return;
-    fprintf(stderr, "soak: no sizes, no memory, or no handler of traps\n");
+    fprintf(stderr, "soak: no sizes, no memory, or no trap behind each instruction\n");
     exit(1);
 }
 

@@ -5,11 +5,12 @@ the text has them. What was posted in a phase is what was taken in it, poster by
 posts and takes keeps every lane, or every queue, within its capacity; and a look that found one full or empty isn't
 behind what it would have had to see (order.py). The report lines are those of the heaps that this leaves.
 """
+import functools
+
 from judge import order
 from judge.order import Act, Illegal
-from model.heap import FOREIGN, Heap
-
-FULL, UNMADE, LAST = 8, 18, 8192
+from model.answers import FULL, LAST, Calls
+from model.trace import Line, trace_in
 
 
 class Text:
@@ -31,63 +32,26 @@ class Text:
         return line
 
 
-class Race:
-    """The heaps, and the names of the labels: the heap, the place and the serial, or none where it was refused."""
-
-    def __init__(self, header, over_queues):
-        _, version, count, words, capacity = header.split(" ")
-        self.count, self.capacity, self.over_queues = int(count), int(capacity), over_queues
-        self.heaps = [Heap(int(words), int(version) + 3) for _ in range(self.count)]
-        self.labels = {}
+class Race(Calls):
+    def __init__(self, trace, over_queues):
+        super().__init__(trace)
+        self.count, self.capacity, self.over_queues = trace.workers, trace.capacity, over_queues
 
     def port(self, poster, owner):
         """What a poster's posts to an owner go through, in words."""
         return f"the queue of {owner}" if self.over_queues else f"the lane from {poster} to {owner}"
 
-    def run(self, text, worker, line):
+    def run(self, text, line):
         """Judges the lines of a call, and tells what it did to ports."""
-        kind, _, *fields = line.split(" ")
-        if kind == "d":
-            return self.drain(text, worker, int(fields[0]))
-        label = fields[0]
-        start = f"{worker} {kind} {label} "
-        if kind == "a":
-            answer = self.heaps[worker].allocate(int(fields[1]))
-            made = isinstance(answer, tuple)
-            self.labels[label] = (worker, answer) if made else None
-            text.expect(start + (f"at {answer[0]} serial {answer[1]}" if made else f"refused {answer}"))
-        elif self.labels[label] is None:
-            text.expect(f"{start}refused {UNMADE}")
-        elif kind == "f":
-            return self.release(text, worker, start, *self.labels[label])
-        elif self.labels[label][0] != worker:
-            text.expect(f"{start}refused {FOREIGN}")
-        else:
-            text.expect(start + self.touch(worker, kind, self.labels[label][1], fields))
-        return []
-
-    def release(self, text, worker, start, owner, name):
-        if owner == worker:
-            refused = self.heaps[worker].release(name)
-            text.expect(start + (f"refused {refused}" if refused else "freed"))
+        if line.kind == "d":
+            return self.drain(text, line.worker, line.count)
+        start, answer = f"{line.worker} {line.kind} {line.label} ", self.answer(line)
+        if answer is not None:
+            text.expect(start + answer)
             return []
+        owner, name = self.labels[line.label]
         posted = text.expect(f"{start}posted", f"{start}refused {FULL}").endswith("posted")
-        return [Act("post" if posted else "full", self.port(worker, owner), worker, name)]
-
-    def touch(self, worker, kind, name, fields):
-        """What a resize, a write or a read of an own block is answered."""
-        if kind == "r":
-            refused = self.heaps[worker].resize(name, int(fields[1]))
-            return f"refused {refused}" if refused else "resized"
-        given = bytes.fromhex(fields[2]) if kind == "p" else b""
-        start, count = int(fields[1]), len(given) if kind == "p" else int(fields[2])
-        payload = self.heaps[worker].payload(name, start, count)
-        if isinstance(payload, int):
-            return f"refused {payload}"
-        if kind == "g":
-            return f"got {payload[start:start + count].hex()}"
-        payload[start:start + count] = given
-        return f"wrote {count}"
+        return [Act("post" if posted else "full", self.port(line.worker, owner), line.worker, name)]
 
     def drain(self, text, worker, most):
         took, acts, lane = 0, [], 0
@@ -117,12 +81,9 @@ class Race:
         return [Act("empty", port) for port in ports]
 
     def phase(self, text, lines):
-        own = [[] for _ in range(self.count)]
-        for line in lines:
-            own[int(line.split(" ", 2)[1])].append(line)
         scripts, drains = [], []
         for worker in range(self.count):
-            scripts.append([act for line in own[worker] for act in self.run(text, worker, line)])
+            scripts.append([act for line in lines if line.worker == worker for act in self.run(text, line)])
             drains.append(self.drain(text, worker, LAST))
         try:
             order.check(scripts, drains, self.capacity)
@@ -130,12 +91,18 @@ class Race:
             raise Illegal(f"{why}, in the phase that ends at line {text.at}") from None
 
 
+@functools.lru_cache(1)
+def read(text):
+    return trace_in(text)
+
+
 def judge(trace, lines, over_queues):
     """Raises Illegal where the lines are none that a race of the trace may write."""
-    race, text = Race(trace[0], over_queues), Text(lines)
+    trace = read("".join(f"{line}\n" for line in trace))
+    race, text = Race(trace, over_queues), Text(lines)
     phase = []
-    for line in trace[1:] + ["phase"]:
-        if line == "phase":
+    for line in [*trace.lines, Line("phase")]:
+        if line.kind == "phase":
             race.phase(text, phase)
             phase = []
         else:

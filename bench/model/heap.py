@@ -32,14 +32,16 @@ class Block:
     """A live block has the tick of its allocate, its serial; a free one that of the call that made it."""
 
     def __init__(self, place, size):
-        self.place, self.size, self.tick, self.is_free, self.payload = place, size, 0, True, None
+        self.place, self.size, self.tick, self.is_free = place, size, 0, True
+        # The bytes of its payload, and by their offsets those that were written: all others are zero.
+        self.length, self.written = 0, {}
 
 
 class Heap:
     """Its blocks by their places, and of each class the free ones, the newest last."""
 
     def __init__(self, words, level=4):
-        self.level, self.tick = level, 0
+        self.level, self.tick, self.words, self.free_words = level, 0, words, 0
         self.blocks, self.free_ends, self.lists = {}, {}, {}
         self.filled = 0     # a bit for each class that has a free block
         self.enlist(Block(0, words))
@@ -49,11 +51,13 @@ class Heap:
         self.lists.setdefault(number, {})[block.place] = block
         self.filled |= 1 << number
         self.blocks[block.place] = self.free_ends[block.place + block.size] = block
-        block.is_free, block.tick, block.payload = True, self.tick, None
+        self.free_words += block.size
+        block.is_free, block.tick, block.length, block.written = True, self.tick, 0, {}
 
     def unlist(self, block):
         number = class_of(block.size, self.level)
         del self.lists[number][block.place], self.blocks[block.place], self.free_ends[block.place + block.size]
+        self.free_words -= block.size
         if not self.lists[number]:
             self.filled ^= 1 << number
 
@@ -111,7 +115,7 @@ class Heap:
         block = self.take(want(length))
         if block is None:
             return NO_FIT
-        block.payload = bytearray(length)
+        block.length = length
         return block.place, block.tick
 
     def release(self, name):
@@ -135,24 +139,42 @@ class Heap:
             self.unlist(behind)
             block.size += behind.size
         self.cut(block, words)
-        block.payload = block.payload[:length] + bytes(max(0, length - len(block.payload)))
+        block.length, block.written = length, {at: byte for at, byte in block.written.items() if at < length}
         return None
 
-    def payload(self, name, at, count):
-        """The payload of a block that has so many bytes from a byte on, or a refusal's number."""
+    def reached(self, name, end):
+        """The live block of that name whose payload reaches to that byte, or a refusal's number."""
         block = self.live(name)
         if block is None:
             return STALE
-        return RANGE if at + count > len(block.payload) else block.payload
+        return RANGE if end > block.length else block
+
+    def write(self, name, at, given):
+        """Nothing, or a refusal's number."""
+        block = self.reached(name, at + len(given))
+        if isinstance(block, int):
+            return block
+        block.written.update(enumerate(given, at))
+        return None
+
+    def read(self, name, at, count):
+        """The bytes, or a refusal's number."""
+        block = self.reached(name, at + count)
+        return block if isinstance(block, int) else bytes(block.written.get(it, 0) for it in range(at, at + count))
+
+    def room(self):
+        """The words of the largest free block, the bytes that it grants for sure, and the fragmentation in thousandths."""
+        if not self.filled:
+            return 0, 0, 0
+        largest = max(block.size for block in self.lists[self.filled.bit_length() - 1].values())
+        return largest, 8 * (low(class_of(largest, self.level), self.level) - 3), 1000 - 1000 * largest // self.free_words
 
     def report(self, number):
         """The report line of the heap."""
         live = [block for block in self.blocks.values() if not block.is_free]
         free = [block for block in self.blocks.values() if block.is_free]
-        words, size = sum(block.size for block in live), sum(len(block.payload) for block in live)
-        left, largest = sum(block.size for block in free), max((block.size for block in free), default=0)
-        grant = 8 * (low(class_of(largest, self.level), self.level) - 3) if free else 0
-        apart = 1000 - 1000 * largest // left if free else 0
+        words, size = self.words - self.free_words, sum(block.length for block in live)
+        largest, grant, apart = self.room()
         age = self.tick + 1 - min((block.tick for block in free), default=self.tick + 1)
-        return (f"heap {number} live {len(live)} {words} {size} free {len(free)} {left} largest {largest} "
+        return (f"heap {number} live {len(live)} {words} {size} free {len(free)} {self.free_words} largest {largest} "
                 f"grant {grant} fragmentation {apart} waste {8 * words - size} age {age}")

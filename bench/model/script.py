@@ -1,12 +1,19 @@
 """What the scripts of bench/ share: their help, the programs that they run, and what they say where something lacks."""
+import collections
 import functools
+import multiprocessing
 import os
 import pathlib
+import re
 import shutil
 import subprocess
 import sys
+import time
 
 TOP = pathlib.Path(__file__).resolve().parents[2]
+TUNABLES = "glibc.cpu.x86_rep_stosb_threshold=1073741824:glibc.cpu.x86_rep_movsb_threshold=1073741824"
+# What counts instructions, and where its output has them.
+CALLGRIND = ["valgrind", "--tool=callgrind", "--callgrind-out-file=/dev/null"], rb"Collected *: *(\d+)"
 
 
 def words(doc, are_well=lambda given: not given):
@@ -19,6 +26,11 @@ def words(doc, are_well=lambda given: not given):
         print(doc.strip(), file=sys.stderr)
         sys.exit(2)
     return given
+
+
+def are_counts(given, most):
+    """Whether the words are COUNT, SEED and JOBS, or the first of them, and then a PROGRAM, as its place says."""
+    return len(given) <= most and all(word.isdecimal() and word != "0" for word in given[: most - 1])
 
 
 def stop(text):
@@ -49,8 +61,61 @@ def tlsf(*given, text="", status=0):
     return done.stdout if done.returncode == status else stop(f"tlsf {' '.join(given)} ended with {done.returncode}: {done.stderr.strip()}")
 
 
-def own_program(name, folder):
-    """The path of a program of bench/programs, proved and built in a folder."""
+def own_program(name, folder, named=None):
+    """The path of a program of bench/programs: that which is named, or else proved and built in a folder."""
+    if named:
+        return program(named)
     need("rt")
     done = subprocess.run([TOP / "bench/own_program", name, folder], stdout=subprocess.PIPE, text=True, check=False)
     return done.stdout.strip() if done.returncode == 0 else stop(f"bench/programs/{name} isn't proved or built")
+
+
+def counted(counter, command, **how):
+    """The instructions of a run of a command, whose memset and memcpy are kept from instructions that move many bytes each."""
+    words, pattern = counter
+    done = subprocess.run([*words, *command], capture_output=True, env={**os.environ, "GLIBC_TUNABLES": TUNABLES}, check=False, **how)
+    return int(re.search(pattern, done.stderr)[1]) if done.returncode == 0 else stop(f"{command[0]} ended with {done.returncode}")
+
+
+class Runner:
+    """Runs a built program with no environment. Its streams are files without a name, so many runs take little time."""
+
+    def __init__(self, path):
+        self.path = path
+        self.streams = [os.memfd_create(name) for name in ("input", "output", "errors")]
+
+    def run(self, words, text):
+        """The status, the output and the errors."""
+        for stream in self.streams:
+            os.ftruncate(stream, 0)
+            os.lseek(stream, 0, os.SEEK_SET)
+        os.pwrite(self.streams[0], text, 0)
+        actions = [(os.POSIX_SPAWN_DUP2, stream, number) for number, stream in enumerate(self.streams)]
+        child = os.posix_spawn(self.path, ["tlsf", *words], {}, file_actions=actions)
+        status = os.waitstatus_to_exitcode(os.waitpid(child, 0)[1])
+        return status, *(os.pread(stream, os.fstat(stream).st_size, 0) for stream in self.streams[1:])
+
+
+def in_share(share):
+    judge, path, seed, numbers = share
+    runner, tally, faults = Runner(path), collections.Counter(), []
+    for number in numbers:
+        faults += judge(runner, seed, number, tally)
+    return len(numbers), tally, faults
+
+
+def in_shares(judge, path, seed, count, jobs):
+    """Has so many processes judge numbers below a count, each of which may add to a tally and tells what is wrong. The tally, and how much is
+    wrong. Lines tell how far it is."""
+    done, tally, faults, told = 0, collections.Counter(), 0, time.monotonic()
+    shares = [(judge, path, seed, range(first, min(first + 500, count))) for first in range(0, count, 500)]
+    with multiprocessing.Pool(jobs) as pool:
+        for some, seen, wrong in pool.imap_unordered(in_share, shares):
+            done += some
+            tally += seen
+            faults += len(wrong)
+            print("".join(f"{it}\n" for it in wrong), end="")
+            if time.monotonic() - told > 20:
+                told = time.monotonic()
+                print(f"{done:,} of {count:,} traces, {faults} faults", flush=True)
+    return tally, faults

@@ -2,6 +2,7 @@
 folder is what has one name in src/, in specs/, in proofs/lemmas/ and in proofs/
 (proofs of its functions), and names what its files bring in by `use`. Each
 crate with folders in src/ is looked at, but for its tests."""
+import graphlib
 import re
 
 import tree
@@ -33,13 +34,11 @@ def named_in(crate, folder, folders):
 
 def circle_in(names):
     """Folders of which each names the next, and the last the first; nothing where no such are there."""
-    left = dict(names)
-    while ends := [it for it, named in left.items() if not set(named) & set(left)]:
-        left = {it: named for it, named in left.items() if it not in ends}
-    way = [next(iter(left))] if left else []
-    while way and way[-1] not in way[:-1]:
-        way.append(next(it for it in names[way[-1]] if it in left))
-    return way[way.index(way[-1]) :] if way else []
+    try:
+        graphlib.TopologicalSorter(names).prepare()
+    except graphlib.CycleError as found:
+        return found.args[1][::-1]
+    return []
 
 
 def faults():

@@ -1,4 +1,4 @@
-"""The calls of crates as text, which is Markdown too."""
+"""The calls of crates as text, which is Markdown. `Plain` writes it for a terminal; `page.Linked` writes the same for a page, with links."""
 import re
 import textwrap
 
@@ -22,7 +22,7 @@ def wrapped(docs):
             lines.extend(textwrap.wrap(text, WIDTH, subsequent_indent=" " * hang.end(), break_long_words=False, break_on_hyphens=False))
             paragraph.clear()
 
-    for line in outside_code(docs, lambda it: DOC_LINK.sub(lambda one: f"`{shown(one[1])}`", it)).split("\n"):
+    for line in docs.split("\n"):
         if line.startswith("```"):
             fence = not fence
         if fence or line.startswith(("```", "|", "#", "    ")) or not line.strip():
@@ -36,41 +36,65 @@ def wrapped(docs):
     return "\n".join(lines)
 
 
-def heading(text, mark):
-    return f"{text}\n{mark * len(text)}"
+class Plain:
+    """How each kind of text is written: code of Rust in a scope, code of the logic whose names are cited, a name with a place of its own."""
+
+    def code(self, text, scope=None, own=None):
+        return text
+
+    def logic(self, text, cited):
+        return text
+
+    def place(self, name, anchor):
+        return name
+
+    def block(self, text, anchor=""):
+        return indented(text)
+
+    def docs(self, text, scope=None, public=None):
+        return wrapped(outside_code(text, lambda it: DOC_LINK.sub(lambda one: f"`{shown(one[1])}`", it)))
+
+    def heading(self, level, text, anchor, kind=""):
+        return f"{text}\n{'=-'[level - 1] * len(text)}"
 
 
-def contract(item):
+def clause_anchor(public, clause):
+    return f"{public.anchor}.{clause.kind.rstrip('*')}.{clause.name}"
+
+
+def definition_anchor(one):
+    return f"{one.crate}.specs.{one.module}.{one.name}"
+
+
+def contract(public, by):
     """A function's clauses, as they are written."""
     groups = []
-    for group in item.contract:
-        lines = [f"// {it}" for it in group.comment.split("\n") if it]
+    for group in public.item.contract:
+        lines = [by.code(f"// {it}") for it in group.comment.split("\n") if it]
         for clause in group.clauses:
-            name = f" {clause.name}" if clause.name else ""
+            name = f" {by.place(clause.name, clause_anchor(public, clause))}" if clause.name else ""
             colon = ":" if clause.kind == "ghost" else ""
-            lines += f"{clause.kind}{name}{colon} {{ {clause.text} }}".split("\n")
+            lines += f"{clause.kind}{name}{colon} {{ {by.logic(clause.text, public.scope.cited(clause.text))} }}".split("\n")
         groups.append(indented("\n".join(lines)))
     return "\n\n".join(groups)
 
 
-def derives(item):
-    return [it for it in item.attributes if it.startswith(("#[derive", "#[repr"))]
-
-
-def declaration(public):
+def declaration(public, by):
     """An item as it is written, without its body and without what isn't public of it."""
     item = public.item
-    lines = [*derives(item), item.head]
+    lines = [it for it in item.attributes if it.startswith(("#[derive", "#[repr"))] + [by.code(item.head, public.scope, public)]
     if item.kind == "fn":
-        return "\n".join([*lines, *([contract(item)] if item.contract else [])])
+        return "\n".join([*lines, *([contract(public, by)] if item.contract else [])])
     if item.kind not in ("struct", "enum", "trait") or item.head.endswith(";"):
         return "\n".join(lines)
     mark = "//" if item.kind == "trait" else "///"
     inside = []
     for part in item.parts:
-        inside += [f"{mark} {it}" for it in part.docs.split("\n") if it]
-        inside += [part.shown] if part.shown else []
-        inside.append(part.text + ("" if item.kind == "trait" else ","))
+        inside += [by.code(f"{mark} {it}") for it in part.docs.split("\n") if it]
+        inside += [by.code(part.shown)] if part.shown else []
+        before, name, after = part.text.partition(part.name)
+        inside.append(by.code(before) + by.place(name, f"{public.anchor}.{name}") + by.code(after, None if part.ghost else public.scope)
+                      + ("" if item.kind == "trait" else ","))
     if item.kind == "trait":
         inside.append("// and the functions below" if inside else "// the functions below")
     if item.hides:
@@ -80,49 +104,42 @@ def declaration(public):
     return "\n".join([*lines[:-1], lines[-1] + " {", indented("\n".join(inside)), "}"])
 
 
-def parts_of(public):
+def item_parts(public, by, alone=False):
     """The paragraphs on one item."""
     item = public.item
-    yield heading(f"{public.crate}::{public.path}", "-")
+    yield by.heading(2, f"{public.crate}::{public.path}", public.anchor, public.kind)
     if item.docs:
-        yield wrapped(item.docs)
-    yield indented(declaration(public))
+        yield by.docs(item.docs, public.scope, public)
+    yield by.block(declaration(public, by))
     if public.model:
         yield "Contracts see it as:"
-        yield indented("\n".join(f"ghost {name} = {{ {text} }};" for name, text, _ in public.model))
+        yield by.block("\n".join(f"ghost {name} = {{ {by.logic(text, scope.cited(text))} }};" for name, text, scope in public.model))
     if public.traits:
-        yield wrapped("Implements " + ", ".join(f"`{it}`" for it in public.traits) + ".")
-
-
-def item_text(public, alone=False):
-    parts = list(parts_of(public))
+        yield by.docs("Implements " + ", ".join(f"`{it}`" for it in public.traits) + ".")
     if alone and public.members:
-        heads = "\n".join(re.sub(r"\s+", " ", it.item.head) for it in public.members)
-        parts += ["Its methods:", indented(heads)]
-    return "\n\n".join(parts)
+        yield "Its methods:"
+        yield by.block("\n".join(re.sub(r"\s+", " ", it.item.head) for it in public.members))
 
 
-def crate_parts(crate):
-    yield heading(crate.name, "=")
-    yield wrapped(crate.docs)
+def crate_parts(crate, by):
+    yield by.heading(1, crate.name, crate.name)
+    yield by.docs(crate.docs, crate.scopes[crate.root])
     yield "The lines of crates.txt that it needs:"
-    yield indented("\n".join(crate.tree.needed(crate.name)))
+    yield by.block("\n".join(crate.tree.needed(crate.name)))
     for other in dict.fromkeys(it[1] for it in crate.passed_on):
         names = ", ".join(f"`{name}`" for name, one, _ in crate.passed_on if one == other)
-        yield wrapped(f"It hands on {names} of `{other}`.")
+        yield by.docs(f"It hands on {names} of `{other}`.")
     for public in crate.publics():
-        yield item_text(public)
+        yield from item_parts(public, by)
 
 
-def definition_text(one):
-    comment = "\n".join(f"-- {it}" for it in textwrap.wrap(one.comment, WIDTH - 7))
-    return indented(f"{comment}\n{one.text}" if comment else one.text)
-
-
-def definitions_parts(files):
+def definitions_parts(tree, files, by):
     """The paragraphs on the definitions of some files."""
     for specs, some in files:
-        yield heading(f"{specs.crate}, specs/{specs.module.replace('.', '/')}.antt", "-")
+        path = f"{specs.crate}, specs/{specs.module.replace('.', '/')}.antt"
+        yield by.heading(2, path, f"{specs.crate}.specs.{specs.module}")
         if specs.comment:
-            yield wrapped(specs.comment)
-        yield from (definition_text(it) for it in some)
+            yield by.docs(specs.comment)
+        for one in some:
+            comment = "".join(f"-- {it}\n" for it in textwrap.wrap(one.comment, WIDTH - 7))
+            yield by.block(by.code(comment) + by.logic(one.text, tree.cited_by(one)), definition_anchor(one))
