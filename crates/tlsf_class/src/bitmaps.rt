@@ -50,7 +50,7 @@ impl<const SLI: u32> Bitmaps<SLI> {
         }
     }
 
-    /// Makes a class a member, if it isn't one. Two touches where its first level has a member, else four.
+    /// Makes a class a member, if it isn't one. Four touches at most.
     ///
     /// ```
     /// bitmaps.set(class_of(20));
@@ -72,7 +72,7 @@ impl<const SLI: u32> Bitmaps<SLI> {
         }
     }
 
-    /// Takes a class out, if it is a member. Two touches where its first level keeps another member, else four.
+    /// Takes a class out, if it is a member. Four touches at most.
     ///
     /// ```
     /// bitmaps.clear(class_of(20));
@@ -108,8 +108,8 @@ impl<const SLI: u32> Bitmaps<SLI> {
         is_bit_set(word, class.second_level())
     }
 
-    /// The least member at or above a class, `None` where there is none. One touch where the first level of the number below
-    /// has it, else two or three, however many classes lie between (ECRTS 2004, section 3).
+    /// The least member at or above a class, `None` where there is none. Three touches at most, however
+    /// many classes lie between (ECRTS 2004, section 3).
     ///
     /// ```
     /// let class = bitmaps.next_from(search_of(33))?;     // of blocks of 34 words or more

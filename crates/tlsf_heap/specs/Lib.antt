@@ -27,6 +27,7 @@ pub mod Tallies
 pub mod Laws
 pub mod InPlace
 pub mod Moved
+pub mod Footprint
 pub mod WordsInUse
 pub mod Checks
 pub mod Aligned

@@ -10,6 +10,7 @@ use Rattle.tlsf_heap.specs.GoodFit.{Site, site_at, place_of}
 use Rattle.tlsf_heap.specs.FreePlaces.{AreMarked}
 use Rattle.tlsf_heap.specs.Image.{Image, back_behind, Shows}
 use Rattle.tlsf_heap.specs.Lawful.{IsRegion}
+use Rattle.tlsf_heap.specs.Footprint.{LeavesLive}
 
 -- what a region shows: how many words it has, its blocks, for each class the places in its free list, from the head, the classes whose bits
 -- are set, what is stored in it, the memory that it has, and its touches
@@ -21,6 +22,7 @@ pub record RegionState : Type 0 where
   pub stored : Image
   pub extents : Extents
   pub touches : ℕ
+  pub touched : List ℕ
 
 -- each block has a number of words that a region of a level may have
 abbrev pub AreRegions : ℕ → List Block → Type 0
@@ -159,6 +161,7 @@ pub record PutInFront (old new : RegionState) (class at most : ℕ) : Type 0 whe
   pub list : list_in new.lists class ≡ at ∷ list_in old.lists class
   pub others : (other : ℕ) → other ≢ class → list_in new.lists other ≡ list_in old.lists other
   pub edits : Edits old new most
+  pub touched : LeavesLive old.blocks old.touched new.touched
 
 -- a place is taken out of the list of a class
 pub record TakenOut (old new : RegionState) (class at most : ℕ) : Type 0 where
@@ -166,3 +169,4 @@ pub record TakenOut (old new : RegionState) (class at most : ℕ) : Type 0 where
   pub list : list_in new.lists class ≡ without_place at (list_in old.lists class)
   pub others : (other : ℕ) → other ≢ class → list_in new.lists other ≡ list_in old.lists other
   pub edits : Edits old new most
+  pub touched : LeavesLive old.blocks old.touched new.touched

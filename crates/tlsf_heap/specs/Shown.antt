@@ -11,3 +11,4 @@ pub record Shown : Type 0 where
   pub marked : List ℕ
   pub extents : Extents
   pub touches : ℕ
+  pub touched : List ℕ

@@ -1,7 +1,8 @@
 -- What stays of the blocks that a call is not about.
-use Rattle.std.specs.Prelude.{◌≡◌, ◌≢◌, ◌⊎◌, ℕ, ◌-◌, ◌%◌, ◌<◌, ◌≤◌, List, ⊤, false}
+use Rattle.std.specs.Prelude.{◌≡◌, ◌≢◌, ◌⊎◌, ℕ, ◌-◌, ◌%◌, ◌<◌, ◌≤◌, List, ⊤, false, true}
 use Rattle.tlsf_heap.specs.Blocks.{Block, Live, Free, HeapState, is_free, want, StandsAt}
-use Rattle.tlsf_heap.specs.Calls.{Call, Allocate, Release, Resize, Write, Read}
+use Rattle.tlsf_heap.specs.Calls.{has_serial, Call, Allocate, Release, Resize, Write, Read}
+use Rattle.tlsf_heap.specs.Footprint.{IsWordOf}
 use Rattle.tlsf_heap.specs.GoodFit.{block_at}
 use Rattle.tlsf_heap.specs.declared.name.Name.{Name}
 
@@ -15,6 +16,10 @@ Holds serial bytes (Free size stamp) = ⊥
 -- the heap has a live block of this name, and these bytes are its payload
 abbrev pub HasPayload : HeapState → Name → List ℕ → Type 0
 HasPayload h name bytes = (name.heap ≡ h.id) × ((i : ℕ) × StandsAt h.blocks name.at i × Holds name.serial bytes (block_at h.blocks i))
+
+-- word k is one of the payload of the live block of a name: any of the block but the three of its header
+abbrev pub IsPayloadWord : HeapState → Name → ℕ → Type 0
+IsPayloadWord h name k = (name.heap ≡ h.id) × ((i : ℕ) × IsWordOf h.blocks i name.at 3 k × (has_serial name.serial (block_at h.blocks i) ≡ true))
 
 -- the call is no release, resize or write of this name
 abbrev pub IsOfOthers : Name → Call → Type 0

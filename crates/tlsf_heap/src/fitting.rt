@@ -4,6 +4,7 @@ ghost use Rattle.std.specs.List.{AllByRecursion};
 ghost use Rattle.tlsf_heap.specs.Blocks.{size_of, words_in, payload_words, is_free, stamps, want, StandsAt};
 ghost use Rattle.tlsf_class.specs.Classes.{IsLevel, most_words};
 ghost use Rattle.tlsf_heap.specs.Regions.{AreRegions, EachAt, HasAt, IsTagOf, IsNextTag, IsPreviousTag, AreTagsAround, withheld, withheld_alone, list_in, OnlyReads, Edits};
+ghost use Rattle.tlsf_heap.specs.Footprint.{LeavesLive, LeavesPayloads};
 ghost use Rattle.tlsf_heap.specs.GoodFit.{block_at};
 ghost use Rattle.tlsf_heap.specs.Headers.{IsRest};
 ghost use Rattle.tlsf_heap.specs.Chosen.{IsHead, IsBestClass};
@@ -22,6 +23,7 @@ pub fn choose<const SLI: u32>(region: &mut Region<SLI>, words: u32) -> Option<Cl
     requires listed { AreFreeLists SLI region.old.blocks (list_in region.old.lists) }
     ensures best { IsBestClass SLI words region.old.blocks (list_in region.old.lists) result }
     ensures reads { OnlyReads region.old region.new 3 }
+    ensures touched { LeavesLive region.old.blocks region.old.touched region.new.touched }
 {
     if words > most_words::<SLI>() {
         return None;
@@ -53,6 +55,7 @@ pub fn carve<const SLI: u32>(
     ensures blocks { EachAt region.old.blocks result (λ s. region.new.blocks ≡ s.before ++ carved (size_of s.block) words tick.old len ++ s.after) }
     ensures listed { AreFreeLists SLI region.new.blocks (list_in region.new.lists) }
     ensures tick { tick.new ≡ tick.old }
+    ensures touched { LeavesLive region.old.blocks region.old.touched region.new.touched }
     ensures edits { (i : ℕ) → StandsAt region.old.blocks result i → Edits region.old region.new (23 + (payload_words (block_at region.new.blocks i) - spare)) }
 {
     let at = region.pop_first(class);
@@ -86,6 +89,7 @@ pub fn give<const SLI: u32>(
     requires stamped { AllByRecursion (λ s. s < serial) (stamps region.old.blocks) }
     ensures blocks { EachAt region.old.blocks at (λ s. region.new.blocks ≡ s.before ++ carved (size_of s.block) words serial len ++ s.after) }
     ensures listed { AreFreeLists SLI region.new.blocks (list_in region.new.lists) }
+    ensures touched { LeavesLive region.old.blocks region.old.touched region.new.touched }
     ensures edits { (i : ℕ) → StandsAt region.old.blocks at i → Edits region.old region.new (15 + (payload_words (block_at region.new.blocks i) - spare)) }
 {
     let (rest, left) = rest_of(own, words, at);
@@ -130,6 +134,7 @@ pub fn coalesce<const SLI: u32>(region: &mut Region<SLI>, tick: &mut u64, at: u3
     ensures blocks { EachAt region.old.blocks at (λ s. region.new.blocks ≡ coalesced tick.old s) }
     ensures listed { AreFreeLists SLI region.new.blocks (list_in region.new.lists) }
     ensures edits { Edits region.old region.new 27 }
+    ensures touched { LeavesPayloads region.old.blocks at region.old.touched region.new.touched }
     ensures tick { tick.new ≡ tick.old + 1 }
 {
     let next = next_tag(region, at, own);
@@ -154,6 +159,7 @@ pub fn next_tag<const SLI: u32>(region: &mut Region<SLI>, at: u32, own: Tag) -> 
     requires small { words_in region.old.blocks ≤ most_words SLI }
     ensures tag { EachAt region.old.blocks at (λ s. IsNextTag region.old.words s result) }
     ensures reads { OnlyReads region.old region.new 1 }
+    ensures touched { LeavesLive region.old.blocks region.old.touched region.new.touched }
 {
     if own.is_last() {
         return Tag::new(0, false, false, 0);
@@ -170,6 +176,7 @@ fn previous_tag<const SLI: u32>(region: &mut Region<SLI>, at: u32, own: Tag) -> 
     requires small { words_in region.old.blocks ≤ most_words SLI }
     ensures tag { EachAt region.old.blocks at (λ s. IsPreviousTag s result) }
     ensures reads { OnlyReads region.old region.new 1 }
+    ensures touched { LeavesLive region.old.blocks region.old.touched region.new.touched }
 {
     // No block is before the one at place 0, whose tag names none: a compare with 0 takes no constant.
     if at == 0 {
@@ -203,6 +210,7 @@ fn merge<const SLI: u32>(
     ensures blocks { EachAt region.old.blocks at (λ s. region.new.blocks ≡ coalesced tick s) }
     ensures listed { AreFreeLists SLI region.new.blocks (list_in region.new.lists) }
     ensures edits { Edits region.old region.new 25 }
+    ensures touched { LeavesPayloads region.old.blocks at region.old.touched region.new.touched }
 {
     let (place, size) = join(region, at, own, next, previous, tick);
     region.push(class_of(size), place);
@@ -234,6 +242,7 @@ fn join<const SLI: u32>(
     ensures blocks { EachAt region.old.blocks at (λ s. region.new.blocks ≡ coalesced tick s) }
     ensures listed { EachAt region.old.blocks at (λ s. AreFreeLists SLI (withheld s) (list_in region.new.lists)) }
     ensures edits { Edits region.old region.new 18 }
+    ensures touched { LeavesLive region.old.blocks region.old.touched region.new.touched }
 {
     if !next.is_free() {
         let before = previous.size();

@@ -1,14 +1,15 @@
 //! The words of headers: what is written where a block is given or taken back. Each word is written once. Sizes and places are in
 //! words.
-ghost use Rattle.std.specs.Prelude.{◌≡◌, ℕ, ◌+◌, ◌-◌, ◌<◌, ◌≤◌, ◌==◌, ◌^◌, false, true, length, slice_set};
+ghost use Rattle.std.specs.Prelude.{◌≡◌, ◌≢◌, ℕ, ◌∷◌, ◌+◌, ◌-◌, ◌<◌, ◌≤◌, ◌==◌, ◌^◌, false, true, length, slice_set};
 ghost use Rattle.tlsf_heap.specs.Headers.{HasFree, HasLive, IsRest, NamesBefore, OnlyFrom, RisesBy, Wholes, Splits, Merges, Widens, Recuts, without_start};
 ghost use Rattle.tlsf_heap.specs.Regions.{image_of};
 ghost use Rattle.tlsf_words.specs.Lists.{nowhere};
+ghost use Rattle.tlsf_words.specs.Touched.{times};
 
 use tlsf_words::{NO_PLACE, Tag, Words};
 
 /// Writes the place of the block before into the header at a place, where a block of tag `own` ends, unless that is the last one.
-#[tactic(auto, using(crate::proofs::lemmas::words::Headers::size_in_below, crate::proofs::lemmas::words::Headers::inner_below), unfolding(crate::specs::Headers::with_back))]
+#[tactic(auto, using(crate::proofs::lemmas::words::Headers::size_in_below, crate::proofs::lemmas::words::Headers::inner_below, tlsf_words::proofs::Touching::times_other), unfolding(crate::specs::Headers::with_back))]
 fn set_back(words: &mut Words, own: Tag, at: u32, back: u32)
     requires last { own.last ≡ (at == length words.old.words) }
     requires within { at ≤ length words.old.words }
@@ -17,6 +18,7 @@ fn set_back(words: &mut Words, own: Tag, at: u32, back: u32)
     ensures starts { words.new.starts ≡ words.old.starts }
     ensures stays { words.new.extents ≡ words.old.extents }
     ensures touches { RisesBy words.old.touches words.new.touches 2 }
+    ensures touched { (k : ℕ) → k ≢ at → times words.new.touched k ≡ times words.old.touched k }
 {
     if own.is_last() {
         return;
@@ -34,6 +36,7 @@ pub fn free_header(words: &mut Words, at: u32, tag: Tag, stamp: u64)
     ensures starts { words.new.starts ≡ words.old.starts }
     ensures stays { words.new.extents ≡ words.old.extents }
     ensures touches { words.new.touches ≡ words.old.touches + 2 }
+    ensures touched { words.new.touched ≡ (at + 1) ∷ at ∷ words.old.touched }
 {
     words.set_tag_and_mark(at, tag, stamp);
 }
@@ -59,12 +62,14 @@ pub fn live_header(words: &mut Words, at: u32, tag: Tag, serial: u64, len: u32)
     ensures change { Wholes (image_of words.old) (image_of words.new) at tag serial len }
     ensures stays { words.new.extents ≡ words.old.extents }
     ensures touches { words.new.touches ≡ words.old.touches + 4 }
+    ensures touched { words.new.touched ≡ (at + 3) ∷ (at + 2) ∷ (at + 1) ∷ at ∷ words.old.touched }
 {
     words.set_header(at, tag, serial, len);
 }
 
 /// Makes the free block at a place, of this tag, a live one of `size` words with `len` bytes of payload, of which the first word is zero,
 /// and a free rest of its tag. The serial of the first is the stamp of the rest.
+#[tactic(auto, using(tlsf_words::proofs::Touching::times_other))]
 pub fn split_header(
     words: &mut Words,
     at: u32,
@@ -84,6 +89,8 @@ pub fn split_header(
     ensures change { Splits (image_of words.old) (image_of words.new) at tag size serial len }
     ensures stays { words.new.extents ≡ words.old.extents }
     ensures touches { RisesBy words.old.touches words.new.touches 9 }
+    ensures touched_before { (k : ℕ) → k < at → times words.new.touched k ≡ times words.old.touched k }
+    ensures touched_behind { (k : ℕ) → at + tag.size < k → times words.new.touched k ≡ times words.old.touched k }
 {
     let place = at + size;
     words.set_headers(at, tag.without(rest), serial, len, place, rest);
@@ -95,6 +102,7 @@ pub fn split_header(
 /// the one of `after` words behind it. Where there is none, that is 0. `previous` and `next` say whether there is one: callers know, so
 /// that no size is tested.
 #[inline(always)]
+#[tactic(auto, using(tlsf_words::proofs::Touching::times_other))]
 pub fn merge_headers(
     words: &mut Words,
     at: u32,
@@ -118,6 +126,7 @@ pub fn merge_headers(
     ensures change { Merges (image_of words.old) (image_of words.new) at before after tag stamp }
     ensures stays { words.new.extents ≡ words.old.extents }
     ensures touches { RisesBy words.old.touches words.new.touches 6 }
+    ensures touched { (k : ℕ) → k ≢ at - before → k ≢ at - before + 1 → k ≢ at - before + tag.size → times words.new.touched k ≡ times words.old.touched k }
 {
     let place = at - before;
     let end = place + tag.size();
@@ -129,6 +138,7 @@ pub fn merge_headers(
 
 /// Writes the header of the live block of this tag that a live block at a place and the `after` free words behind it, `both`
 /// words together, become. Its mark, its length and its payload stay.
+#[tactic(auto, using(tlsf_words::proofs::Touching::times_other))]
 pub fn widen_header(words: &mut Words, at: u32, both: u32, tag: Tag, after: u32)
     requires both { both ≡ tag.size }
     requires after { after + 4 ≤ tag.size }
@@ -138,6 +148,7 @@ pub fn widen_header(words: &mut Words, at: u32, both: u32, tag: Tag, after: u32)
     ensures change { Widens (image_of words.old) (image_of words.new) at tag after }
     ensures stays { words.new.extents ≡ words.old.extents }
     ensures touches { RisesBy words.old.touches words.new.touches 4 }
+    ensures touched { (k : ℕ) → k ≢ at → k ≢ at + tag.size → times words.new.touched k ≡ times words.old.touched k }
 {
     let end = at + both;
     clear_start(words, end - after, after, after > 0);
@@ -148,6 +159,7 @@ pub fn widen_header(words: &mut Words, at: u32, both: u32, tag: Tag, after: u32)
 
 /// Makes the live block at a place and the `after` free words behind it, `both` words of this free tag together, a live block of
 /// `size` words and a free rest. The mark, the length and the payload of the first stay.
+#[tactic(auto, using(tlsf_words::proofs::Touching::times_other))]
 pub fn recut_header(
     words: &mut Words,
     at: u32,
@@ -168,6 +180,7 @@ pub fn recut_header(
     ensures change { Recuts (image_of words.old) (image_of words.new) at tag after size stamp }
     ensures stays { words.new.extents ≡ words.old.extents }
     ensures touches { RisesBy words.old.touches words.new.touches 7 }
+    ensures touched { (k : ℕ) → k ≢ at → k ≢ at + size → k ≢ at + size + 1 → k ≢ at + tag.size → times words.new.touched k ≡ times words.old.touched k }
 {
     let behind = at + both;
     clear_start(words, behind - after, after, after > 0);
@@ -190,6 +203,7 @@ fn clear_start(words: &mut Words, at: u32, size: u32, is_merged: bool)
     ensures words { words.new.words ≡ words.old.words }
     ensures stays { words.new.extents ≡ words.old.extents }
     ensures touches { RisesBy words.old.touches words.new.touches 1 }
+    ensures touched { words.new.touched ≡ words.old.touched }
 {
     if is_merged {
         words.set_start(at, false);

@@ -3,6 +3,7 @@ ghost use Rattle.std.specs.Prelude.{◌≡◌, ◌≢◌, ℕ, List, ◌+◌, �
 ghost use Rattle.std.specs.Result.{result_unwrap_or};
 ghost use Rattle.tlsf_class.specs.Classes.{IsLevel, most_words};
 ghost use Rattle.tlsf_heap.specs.Blocks;
+ghost use Rattle.tlsf_heap.specs.Footprint.{LeavesBoth, LeavesLive, LeavesPayloads};
 ghost use Rattle.tlsf_heap.specs.FreePlaces.{ShowsLists};
 ghost use Rattle.tlsf_heap.specs.Image.{Shows};
 ghost use Rattle.tlsf_heap.specs.InPlace.{payload_of, ArePayload, Alters, Inspects, IsPayloadCheck, IsRefusedAsRead};
@@ -48,16 +49,18 @@ use tlsf_words::{Tag, Words};
 ///
 /// Contracts see it as its number, its words, its tick and its blocks in the order of their places. The tick begins
 /// one above the first, rises by one with each accepted allocate, release or resize, and stamps what they change. Beside them
-/// they see what is stored in its region, each word and start bit, and its touches: how many times a stored word, a start
-/// bit, the head of a list or a word of the bitmaps was read or written.
+/// they see what is stored in its region, each word and start bit; the classes whose bits are set (`marked`); where its memory lies
+/// and how large it is (`extents`); and its touches: how many times a stored word, a start bit, the head of a list or a word of the
+/// bitmaps was read or written.
 ///
 /// Places and sizes are in words of 8 bytes, lengths in bytes.
 #[derive(Drop)]
 pub struct Heap<const SLI: u32> {
-    // First, so that the address of the heap is that of its region.
-    region: Region<SLI>,
+    // Fields lie as they stand here. What each call reads comes first, in few cache lines: these two, where the words and the map
+    // of starts lie, and the bitmaps. The heads of the lists are long, and last.
     id: u32,
     tick: u64,
+    region: Region<SLI>,
 }
 
 impl<const SLI: u32> Model for Heap<SLI> {
@@ -67,7 +70,7 @@ impl<const SLI: u32> Model for Heap<SLI> {
 
     ghost use Rattle.tlsf_heap.specs.Stored.{IsStored, state_of};
 
-    ghost view = { λ h. record { heap = state_of SLI h; stored = h.region.stored; marked = h.region.marked; extents = h.region.extents; touches = h.region.touches } };
+    ghost view = { λ h. record { heap = state_of SLI h; stored = h.region.stored; marked = h.region.marked; extents = h.region.extents; touches = h.region.touches; touched = h.region.touched } };
 
     ghost invariant = { IsStored SLI };
 }
@@ -151,6 +154,7 @@ impl<const SLI: u32> Heap<SLI> {
         // Accepted or refused, and whatever the region holds: at most 64 touches, and one for each payload word of the block given.
         ensures touches { self.new.touches ≤ self.old.touches + 64 + payload_words_given result self.new.heap }
         ensures most_touches { self.new.touches ≤ self.old.touches + allocate_touches result self.new.heap }
+        ensures leaves { LeavesLive self.old.heap.blocks self.old.touched self.new.touched }
     {
         // Taken apart, so that each answer is written where it is made: handed on whole, it takes four instructions more.
         let name = match self.allocate_words(want(len), len) {
@@ -191,6 +195,7 @@ impl<const SLI: u32> Heap<SLI> {
         // Accepted or refused, and whatever the region holds: at most 64 touches for 8 bytes or fewer, however many words, and one for each
         // further word of the payload.
         ensures touches { TouchesForWords len result self.new.heap self.old.touches self.new.touches }
+        ensures leaves { LeavesLive self.old.heap.blocks self.old.touched self.new.touched }
     {
         let spare = words - want(len);
         let Some(class) = choose(&mut self.region, words) else {
@@ -232,6 +237,8 @@ impl<const SLI: u32> Heap<SLI> {
         // Accepted or refused, and whatever the region holds: at most 64 touches.
         ensures touches { self.new.touches ≤ self.old.touches + 64 }
         ensures most_touches { self.new.touches ≤ self.old.touches + release_touches }
+        ensures leaves { LeavesPayloads self.old.heap.blocks name.at self.old.touched self.new.touched }
+        ensures refused { OnErr result (LeavesLive self.old.heap.blocks self.old.touched self.new.touched) }
         ensures forged { FollowsNoForgery self.old.heap name self.old.touches self.new.touches }
     {
         match self.release_words(name) {
@@ -267,6 +274,8 @@ impl<const SLI: u32> Heap<SLI> {
         // Accepted or refused, and whatever the region holds: at most 64 touches, and one for each payload word of the block that is left.
         ensures touches { self.new.touches ≤ self.old.touches + 64 + payload_words_left result self.new.heap name }
         ensures most_touches { self.new.touches ≤ self.old.touches + resize_touches result self.new.heap name }
+        ensures leaves { LeavesPayloads self.old.heap.blocks name.at self.old.touched self.new.touched }
+        ensures refused { OnErr result (LeavesLive self.old.heap.blocks self.old.touched self.new.touched) }
         ensures forged { FollowsNoForgery self.old.heap name self.old.touches self.new.touches }
     {
         self.resize_words(name, want(len), len)
@@ -297,6 +306,8 @@ impl<const SLI: u32> Heap<SLI> {
         // further word of the payload.
         ensures touches { self.new.touches ≤ self.old.touches + 60 + Blocks.want len }
         ensures most_touches { self.new.touches ≤ self.old.touches + resize_touches result self.new.heap name }
+        ensures leaves { LeavesPayloads self.old.heap.blocks name.at self.old.touched self.new.touched }
+        ensures refused { OnErr result (LeavesLive self.old.heap.blocks self.old.touched self.new.touched) }
 
         // So a payload that doesn't grow takes no more, however long: of the words that the old bytes have, one is touched at most.
         ensures grown_touches { self.new.touches ≤ self.old.touches + 28 + (Blocks.words_for len - Blocks.words_for (length (payload_of self.old.heap name))) }
@@ -343,6 +354,8 @@ impl<const SLI: u32> Heap<SLI> {
         // it stands, and three for each of that which it moves to.
         ensures touches { self.new.touches ≤ self.old.touches + 128 + payload_words_left (resized self.old.heap name len).answer (resized self.old.heap name len).heap name
             + 3 * payload_words_moved SLI self.old.heap len }
+        ensures leaves { LeavesPayloads self.old.heap.blocks name.at self.old.touched self.new.touched }
+        ensures refused { OnErr result (LeavesLive self.old.heap.blocks self.old.touched self.new.touched) }
         ensures forged { FollowsNoForgery self.old.heap name self.old.touches self.new.touches }
     {
         match self.resize(name, len) {
@@ -370,6 +383,8 @@ impl<const SLI: u32> Heap<SLI> {
         ensures err { OnErr result (IsAsBefore self.old self.new) }
         ensures keeps { Keeps SLI self.old self.new }
         ensures touches { self.new.touches ≤ self.old.touches + 4 + 2 * (length bytes.now / 8 + 2) }
+        ensures leaves { LeavesPayloads self.old.heap.blocks name.at self.old.touched self.new.touched }
+        ensures refused { OnErr result (LeavesLive self.old.heap.blocks self.old.touched self.new.touched) }
         ensures forged { FollowsNoForgery self.old.heap name self.old.touches self.new.touches }
     {
         self.check_range(name, at, bytes.len())?;
@@ -393,6 +408,8 @@ impl<const SLI: u32> Heap<SLI> {
         ensures same { IsAsBefore self.old self.new }
         ensures keeps { Keeps SLI self.old self.new }
         ensures touches { self.new.touches ≤ self.old.touches + 4 + (length out.old / 8 + 2) }
+        ensures leaves { LeavesPayloads self.old.heap.blocks name.at self.old.touched self.new.touched }
+        ensures refused { OnErr result (LeavesLive self.old.heap.blocks self.old.touched self.new.touched) }
         ensures forged { FollowsNoForgery self.old.heap name self.old.touches self.new.touches }
     {
         self.check_range(name, at, out.len())?;
@@ -423,6 +440,7 @@ impl<const SLI: u32> Heap<SLI> {
         ensures err { OnErr result (IsAsBefore self.old self.new) }
         ensures keeps { Keeps SLI self.old self.new }
         ensures touches { self.new.touches ≤ self.old.touches + 4 }
+        ensures leaves { LeavesLive self.old.heap.blocks self.old.touched self.new.touched }
         ensures forged { FollowsNoForgery self.old.heap name self.old.touches self.new.touches }
     {
         let len = self.check_payload(name)?;
@@ -447,6 +465,7 @@ impl<const SLI: u32> Heap<SLI> {
         ensures same { IsAsBefore self.old self.new }
         ensures keeps { Keeps SLI self.old self.new }
         ensures touches { self.new.touches ≤ self.old.touches + 4 }
+        ensures leaves { LeavesLive self.old.heap.blocks self.old.touched self.new.touched }
         ensures forged { FollowsNoForgery self.old.heap name self.old.touches self.new.touches }
     {
         let len = self.check_payload(name)?;
@@ -482,6 +501,7 @@ impl<const SLI: u32> Heap<SLI> {
         ensures same { IsAsBefore self.old self.new }
         ensures keeps { Keeps SLI self.old self.new }
         ensures touches { self.new.touches ≤ self.old.touches + 4 }
+        ensures leaves { LeavesLive self.old.heap.blocks self.old.touched self.new.touched }
         ensures forged { FollowsNoForgery self.old.heap name self.old.touches self.new.touches }
     {
         let len = self.check_payload(name)?;
@@ -506,6 +526,7 @@ impl<const SLI: u32> Heap<SLI> {
         // Two for each block, and no block has fewer than four words.
         ensures touches { self.new.touches ≤ self.old.touches + 2 * length self.old.heap.blocks }
         ensures few { 4 * length self.old.heap.blocks ≤ self.old.heap.words }
+        ensures leaves { LeavesLive self.old.heap.blocks self.old.touched self.new.touched }
     {
         let tick = self.tick;
         Tally::of(&mut self.region, tick).report::<SLI>(tick)
@@ -525,6 +546,7 @@ impl<const SLI: u32> Heap<SLI> {
         ensures keeps { Keeps SLI self.old self.new }
         ensures most { self.old.heap.words ≤ most_words SLI }
         ensures touches { self.new.touches ≤ self.old.touches + 4 }
+        ensures leaves { LeavesLive self.old.heap.blocks self.old.touched self.new.touched }
 
         // Not even a start bit is read unless the place lies in the region, and no word unless a block begins there.
         ensures wild { FollowsNoPlace self.old.heap at self.old.touches self.new.touches }
@@ -548,7 +570,7 @@ impl<const SLI: u32> Heap<SLI> {
     ///
     /// ```text
     /// let mut heap = Heap::<4>::open(alloc, 0, 64, 0)?;
-    /// heap.tick()                                      // 1, and 2 behind an accepted allocate
+    /// heap.tick()                                      // 1, and 2 after an accepted allocate
     /// ```
     pub fn tick(&self) -> u64
         ensures { result ≡ self.now.heap.tick }
@@ -582,6 +604,7 @@ impl<const SLI: u32> Heap<SLI> {
         ensures same { IsAsBefore self.old self.new }
         ensures keeps { Keeps SLI self.old self.new }
         ensures touches { self.new.touches ≤ self.old.touches + 3 }
+        ensures leaves { LeavesLive self.old.heap.blocks self.old.touched self.new.touched }
         ensures forged { FollowsNoForgery self.old.heap name self.old.touches self.new.touches }
     {
         if name.heap != self.id {
@@ -599,6 +622,7 @@ impl<const SLI: u32> Heap<SLI> {
         ensures same { IsAsBefore self.old self.new }
         ensures keeps { Keeps SLI self.old self.new }
         ensures touches { self.new.touches ≤ self.old.touches + 4 }
+        ensures leaves { LeavesLive self.old.heap.blocks self.old.touched self.new.touched }
         ensures forged { FollowsNoForgery self.old.heap name self.old.touches self.new.touches }
     {
         self.check(name)?;
@@ -616,6 +640,7 @@ impl<const SLI: u32> Heap<SLI> {
         ensures same { IsAsBefore self.old self.new }
         ensures keeps { Keeps SLI self.old self.new }
         ensures touches { self.new.touches ≤ self.old.touches + 4 }
+        ensures leaves { LeavesLive self.old.heap.blocks self.old.touched self.new.touched }
         ensures forged { FollowsNoForgery self.old.heap name self.old.touches self.new.touches }
     {
         self.check(name)?;
@@ -634,6 +659,8 @@ impl<const SLI: u32> Heap<SLI> {
         ensures err { OnErr result (IsAsBefore self.old self.new) }
         ensures keeps { Keeps SLI self.old self.new }
         ensures touches { self.new.touches ≤ self.old.touches + 61 + 3 * payload_words_moved SLI self.old.heap len }
+        ensures leaves { LeavesPayloads self.old.heap.blocks name.at self.old.touched self.new.touched }
+        ensures refused { OnErr result (LeavesLive self.old.heap.blocks self.old.touched self.new.touched) }
     {
         if self.tick >= u64::MAX - 1 {
             return Err(Refusal::Worn);
@@ -651,6 +678,7 @@ impl<const SLI: u32> Heap<SLI> {
         ensures heap { self.new.heap ≡ (released (copied self.old.heap name new).heap name).heap }
         ensures keeps { Keeps SLI self.old self.new }
         ensures touches { self.new.touches ≤ self.old.touches + 35 + 2 * (min (length (payload_of self.old.heap name)) (length (payload_of self.old.heap new)) / 8) }
+        ensures leaves { LeavesBoth self.old.heap.blocks name.at new.at self.old.touched self.new.touched }
     {
         let len = self.length(name).min(self.length(new));
         self.copy(name, new, len);
@@ -665,6 +693,7 @@ impl<const SLI: u32> Heap<SLI> {
         ensures same { IsAsBefore self.old self.new }
         ensures keeps { Keeps SLI self.old self.new }
         ensures touches { self.new.touches ≤ self.old.touches + 1 }
+        ensures leaves { LeavesLive self.old.heap.blocks self.old.touched self.new.touched }
     {
         self.region.length(name.at)
     }
@@ -678,6 +707,7 @@ impl<const SLI: u32> Heap<SLI> {
         ensures heap { self.new.heap ≡ (written self.old.heap to 0 (take len (payload_of self.old.heap from))).heap }
         ensures keeps { Keeps SLI self.old self.new }
         ensures touches { self.new.touches ≤ self.old.touches + 2 * (len / 8) + 3 }
+        ensures leaves { LeavesBoth self.old.heap.blocks from.at to.at self.old.touched self.new.touched }
     {
         self.region.copy(from.at, to.at, len);
     }
@@ -693,6 +723,7 @@ impl<const SLI: u32> Heap<SLI> {
         ensures level { IsLevel SLI }
         ensures keeps { Keeps SLI self.old self.new }
         ensures touches { self.new.touches ≤ self.old.touches + 1 }
+        ensures leaves { LeavesLive self.old.heap.blocks self.old.touched self.new.touched }
     {
         self.region.set_length(name.at, len);
     }

@@ -1,10 +1,11 @@
 ghost use Rattle.std.specs.Prelude.{◌≡◌, ◌≢◌, ◌↔◌, ℕ, ◌+◌, ◌*◌, ◌-◌, ◌<◌, ◌≤◌, List, [], ◌∷◌, Ok, Err, Some, IsOk, length};
 ghost use Rattle.std.specs.List.{AllByRecursion};
 ghost use Rattle.tlsf_class.specs.Classes.{IsLevel, low, class_of};
+ghost use Rattle.tlsf_heap.specs.Footprint.{IsLiveWord, IsOthersWord};
 ghost use Rattle.tlsf_heap.specs.Blocks.{Block, HeapState, StandsAt, IsPlace, size_of, want};
 ghost use Rattle.tlsf_heap.specs.Aligned.{words_from, words_aligned};
 ghost use Rattle.tlsf_heap.specs.ByPlace.{name_at};
-ghost use Rattle.tlsf_heap.specs.Steady.{HasPayload, IsEven, IsOfOthers, AreEvenFrom, IsEvenCall};
+ghost use Rattle.tlsf_heap.specs.Steady.{HasPayload, IsEven, IsOfOthers, AreEvenFrom, IsEvenCall, IsPayloadWord};
 ghost use Rattle.tlsf_heap.specs.Calls.{Call, allocated, allocated_words, answered, last_tick, opened, released, resized_words, run, written, read_of, resized};
 ghost use Rattle.tlsf_heap.specs.Unset.{unset_from, with_payload};
 ghost use Rattle.tlsf_heap.specs.Image.{Image};
@@ -150,6 +151,29 @@ pub fn payloads_stay()
 
     // So it stays through every list of calls of which none is a release, resize or write of that name.
     ensures run { (sli : ℕ) (h : HeapState) (name : Name) (bytes : List ℕ) (calls : List Call) → AllByRecursion (IsOfOthers name) calls → HasPayload h name bytes → HasPayload (run sli h calls).1 name bytes }
+{}
+
+/// The words of a payload are those of no other live name, and stay its own until the block is released or resized. So what clauses
+/// `leaves` and `refused` of the calls say of other blocks' words is said of these, through every list of calls: none of them is read or
+/// written but by a call on this name.
+///
+/// ```text
+/// let name = heap.allocate_unset(8)?;     // word 3 of the region
+/// let other = heap.allocate(100)?;        // no word is touched there
+/// heap.release(other)?;                   // nor here
+/// ```
+pub fn payload_words_stay()
+    ensures live { (h : HeapState) (name : Name) (k : ℕ) → IsPayloadWord h name k → IsLiveWord h.blocks k }
+    ensures others { (h : HeapState) (name other : Name) (k : ℕ) → IsLawful h → IsPayloadWord h name k → IsLive h other → other ≢ name → IsOthersWord h.blocks other.at k }
+
+    // They stay through each call.
+    ensures allocated { (sli : ℕ) (h : HeapState) (name : Name) (k n len : ℕ) → IsPayloadWord h name k → IsPayloadWord (allocated_words sli h n len).heap name k }
+    ensures released { (h : HeapState) (other name : Name) (k : ℕ) → other ≢ name → IsPayloadWord h name k → IsPayloadWord (released h other).heap name k }
+    ensures resized { (h : HeapState) (other name : Name) (k n len : ℕ) → other ≢ name → IsPayloadWord h name k → IsPayloadWord (resized_words h other n len).heap name k }
+    ensures written { (h : HeapState) (other name : Name) (k at : ℕ) (bytes : List ℕ) → IsPayloadWord h name k → IsPayloadWord (written h other at bytes).heap name k }
+
+    // And through every list of calls of which none is a release, resize or write of that name.
+    ensures run { (sli : ℕ) (h : HeapState) (name : Name) (k : ℕ) (calls : List Call) → AllByRecursion (IsOfOthers name) calls → IsPayloadWord h name k → IsPayloadWord (run sli h calls).1 name k }
 {}
 
 /// Where each call wants an even number of words, each block begins at an even place, whatever the calls: so each payload, three words

@@ -13,6 +13,9 @@
 //! words and start bits show the blocks before and after each call, and a refused call leaves every one of them. The words also
 //! thread the free blocks of each class into a list: the one that became free last is its head.
 //!
+//! A [`Ledgered`] heap notes what is given and what comes back, by a [`Ledger`]: [`Counts`] are one. [`Heap::is_live`] tells whether a
+//! live block has a name.
+//!
 //! A const parameter is the level of a heap, 4 or 5: how many bits of a size tell the second level of its class. A heap of level 5 has
 //! finer classes and may have a greater region. All that contracts say, they say of both.
 //!
@@ -54,8 +57,8 @@ pub use checked::Checked;
 pub use heap::{Heap, want};
 pub use laws::{
     blocks_never_overlap, even_blocks_stay_even, grant_is_greatest, names_live_until_released,
-    payloads_stay, places_name_blocks, refused_only_where_nothing_fits, words_in_use_add_up,
-    words_keep_laws,
+    payload_words_stay, payloads_stay, places_name_blocks, refused_only_where_nothing_fits,
+    words_in_use_add_up, words_keep_laws,
 };
 pub use ledger::Ledger;
 pub use ledger::counts::Counts;

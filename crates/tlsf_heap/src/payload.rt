@@ -2,6 +2,7 @@
 ghost use Rattle.std.specs.Prelude.{◌≡◌, ℕ, ◌+◌, ◌-◌, ◌*◌, ◌/◌, ◌<◌, ◌≤◌, ◌^◌, length, slice_index};
 ghost use Rattle.tlsf_words.specs.Bytes.{byte_in, bytes_in, payload_byte};
 ghost use Rattle.tlsf_words.specs.Fields.{low_half, length_word};
+ghost use Rattle.tlsf_words.specs.Touched.{times};
 ghost use Rattle.tlsf_heap.specs.Blocks.{words_for};
 ghost use Rattle.tlsf_heap.specs.Calls.{fitted};
 ghost use Rattle.tlsf_heap.specs.Headers.{OnlyFrom, RisesBy};
@@ -10,6 +11,7 @@ use tlsf_words::Words;
 
 /// Writes the payload length of the live block at a place. The bytes up to the smaller length stay, and new ones are zero. Bytes of a
 /// word past the length have no meaning, so a payload that grows within a word has them made zero too.
+#[tactic(auto, using(tlsf_words::proofs::Touching::times_other))]
 pub fn set_payload(words: &mut Words, at: u32, len: u32)
     requires old { at + words_for (low_half (slice_index words.old.words (at + 2))) ≤ length words.old.words }
     requires new { at + words_for len ≤ length words.old.words }
@@ -23,6 +25,8 @@ pub fn set_payload(words: &mut Words, at: u32, len: u32)
 
     // Of the payload it touches no word that has only old bytes.
     ensures grown { words.new.touches ≤ words.old.touches + 4 + (words_for len - words_for (low_half (slice_index words.old.words (at + 2)))) }
+    ensures touched_before { (k : ℕ) → k < at + 2 → times words.new.touched k ≡ times words.old.touched k }
+    ensures touched_behind { (k : ℕ) → at + words_for len ≤ k → times words.new.touched k ≡ times words.old.touched k }
 {
     let old = words.length(at);
     words.set_length(at, len);
@@ -32,6 +36,7 @@ pub fn set_payload(words: &mut Words, at: u32, len: u32)
 }
 
 /// Makes the bytes of a payload zero from number `from` up to `to`, and those behind them in the same word.
+#[tactic(auto, using(tlsf_words::proofs::Touching::times_other))]
 fn zero_bytes(words: &mut Words, at: u32, from: u32, to: u32)
     requires some { from < to }
     requires within { at + words_for to ≤ length words.old.words }
@@ -43,6 +48,8 @@ fn zero_bytes(words: &mut Words, at: u32, from: u32, to: u32)
     ensures stays { words.new.extents ≡ words.old.extents }
     ensures touches { RisesBy words.old.touches words.new.touches (1 + (to + 7) / 8) }
     ensures grown { words.new.touches ≤ words.old.touches + 2 + ((to + 7) / 8 - (from + 7) / 8) }
+    ensures touched_before { (k : ℕ) → k < at + 3 → times words.new.touched k ≡ times words.old.touched k }
+    ensures touched_behind { (k : ℕ) → at + words_for to ≤ k → times words.new.touched k ≡ times words.old.touched k }
 {
     if from % 8 > 0 {
         words.zero_rest(at, from);

@@ -7,6 +7,7 @@ ghost use Rattle.tlsf_heap.specs.Lawful.{IsRegion, HasRoom};
 ghost use Rattle.tlsf_heap.specs.Blocks.{size_of, words_in, is_free, bytes_of, stamps, words_for};
 ghost use Rattle.tlsf_heap.specs.Calls;
 ghost use Rattle.tlsf_heap.specs.FreePlaces.{AreFreeLists};
+ghost use Rattle.tlsf_heap.specs.Footprint.{LeavesLive, LeavesPayloads};
 ghost use Rattle.tlsf_heap.specs.Regions.{AreRegions, EachAt, HasAt, IsTagOf, IsTagBehind, list_in, OnlyReads, Edits};
 
 use crate::fitting::next_tag;
@@ -23,6 +24,7 @@ pub fn look_behind<const SLI: u32>(region: &mut Region<SLI>, at: u32, own: Tag) 
     requires small { words_in region.old.blocks ≤ most_words SLI }
     ensures tag { EachAt region.old.blocks at (λ s. IsTagBehind region.old.words s result) }
     ensures reads { OnlyReads region.old region.new 1 }
+    ensures touched { LeavesLive region.old.blocks region.old.touched region.new.touched }
 {
     let next = next_tag(region, at, own);
     if next.is_free() {
@@ -45,6 +47,7 @@ fn forget<const SLI: u32>(region: &mut Region<SLI>, at: u32, size: u32)
     ensures stays { region.new.extents ≡ region.old.extents }
     ensures touches { region.new.touches ≤ region.old.touches + 6 }
     ensures rise { region.old.touches ≤ region.new.touches }
+    ensures touched { LeavesLive region.old.blocks region.old.touched region.new.touched }
 {
     if size > 0 {
         region.remove(size, at);
@@ -74,6 +77,7 @@ fn recut<const SLI: u32>(
     ensures blocks { EachAt region.old.blocks at (λ s. region.new.blocks ≡ s.before ++ Calls.recut tick words s.block s.after) }
     ensures listed { AreFreeLists SLI region.new.blocks (list_in region.new.lists) }
     ensures edits { Edits region.old region.new 20 }
+    ensures touched { LeavesPayloads region.old.blocks at region.old.touched region.new.touched }
 {
     forget(region, at + own.size(), next.size());
     let rest = region.recut(at, own, next, words, tick);
@@ -108,6 +112,7 @@ pub fn refit<const SLI: u32>(
     ensures blocks { EachAt region.old.blocks at (λ s. region.new.blocks ≡ s.before ++ Calls.refitted tick words len s.block s.after) }
     ensures listed { AreFreeLists SLI region.new.blocks (list_in region.new.lists) }
     ensures edits { Edits region.old region.new (20 + words_for len) }
+    ensures touched { LeavesPayloads region.old.blocks at region.old.touched region.new.touched }
     ensures grown { EachAt region.old.blocks at (λ s. region.new.touches ≤ region.old.touches + 24 + (words_for len - words_for (length (bytes_of s.block)))) }
 {
     let held = own.size();

@@ -9,6 +9,7 @@ ghost use Rattle.tlsf_heap.specs.Aligned.{IsFreeTest};
 ghost use Rattle.tlsf_heap.specs.Blocks.{Live, Free, size_of, is_free, bytes_of, words_for, want, StandsAt, IsPlace};
 ghost use Rattle.tlsf_heap.specs.GoodFit.{block_at};
 ghost use Rattle.tlsf_heap.specs.ByPlace.{IsPlaceTest};
+ghost use Rattle.tlsf_heap.specs.Footprint.{LeavesBoth, LeavesLive, LeavesPayloads};
 ghost use Rattle.tlsf_heap.specs.Calls;
 ghost use Rattle.tlsf_heap.specs.Calls.{first_free, last_free};
 ghost use Rattle.tlsf_heap.specs.Checks.{Begins, IsCheck, block_touches};
@@ -50,7 +51,7 @@ impl<const SLI: u32> Model for Region<SLI> {
 
     ghost Value = { RegionState };
 
-    ghost view = { λ r. record { words = length r.words.words; blocks = blocks_of r.words.words; lists = lists_of r.lists.heads r.words.words; marked = r.lists.members; stored = image_of r.words; extents = r.words.extents; touches = r.words.touches + r.lists.touches } };
+    ghost view = { λ r. record { words = length r.words.words; blocks = blocks_of r.words.words; lists = lists_of r.lists.heads r.words.words; marked = r.lists.members; stored = image_of r.words; extents = r.words.extents; touches = r.words.touches + r.lists.touches; touched = r.words.touched } };
 
     ghost invariant = { λ r. HoldsLists SLI (image_of r.words) r.lists };
 }
@@ -92,6 +93,7 @@ impl<const SLI: u32> Region<SLI> {
         requires { IsPlace self.old.blocks at }
         ensures value { EachAt self.old.blocks at (λ s. result ≡ mark_of s.block) }
         ensures reads { OnlyReads self.old self.new 1 }
+        ensures touched { LeavesLive self.old.blocks self.old.touched self.new.touched }
     {
         self.words.mark(at)
     }
@@ -101,6 +103,7 @@ impl<const SLI: u32> Region<SLI> {
     pub fn find_live(&mut self, at: u32, serial: u64) -> Option<Tag>
         ensures answer { IsNameTest at serial self.old.words self.old.blocks result }
         ensures reads { OnlyReads self.old self.new 3 }
+        ensures touched { LeavesLive self.old.blocks self.old.touched self.new.touched }
         ensures outside { self.old.words ≤ at → self.new.touches ≡ self.old.touches }
         ensures nowhere { at < self.old.words → ¬ (IsPlace self.old.blocks at) → self.new.touches ≡ self.old.touches + 1 }
     {
@@ -119,6 +122,7 @@ impl<const SLI: u32> Region<SLI> {
     pub fn live_at(&mut self, at: u32) -> Option<Tag>
         ensures answer { IsPlaceTest at self.old.words self.old.blocks result }
         ensures reads { OnlyReads self.old self.new 2 }
+        ensures touched { LeavesLive self.old.blocks self.old.touched self.new.touched }
         ensures outside { self.old.words ≤ at → self.new.touches ≡ self.old.touches }
         ensures nowhere { ¬ (IsPlace self.old.blocks at) → self.new.touches ≤ self.old.touches + 1 }
     {
@@ -137,6 +141,7 @@ impl<const SLI: u32> Region<SLI> {
     pub fn free_at(&mut self, at: u32) -> Option<Tag>
         ensures answer { IsFreeTest at self.old.words self.old.blocks result }
         ensures reads { OnlyReads self.old self.new 2 }
+        ensures touched { LeavesLive self.old.blocks self.old.touched self.new.touched }
         ensures outside { self.old.words ≤ at → self.new.touches ≡ self.old.touches }
         ensures nowhere { ¬ (IsPlace self.old.blocks at) → self.new.touches ≤ self.old.touches + 1 }
     {
@@ -157,6 +162,7 @@ impl<const SLI: u32> Region<SLI> {
         ensures inside { result ≡ true → at < self.old.words }
         ensures rooms { AllByRecursion HasRoom self.old.blocks }
         ensures reads { OnlyReads self.old self.new 1 }
+        ensures touched { LeavesLive self.old.blocks self.old.touched self.new.touched }
         ensures outside { self.old.words ≤ at → self.new.touches ≡ self.old.touches }
         ensures one { at < self.old.words → self.new.touches ≡ self.old.touches + 1 }
     {
@@ -168,6 +174,7 @@ impl<const SLI: u32> Region<SLI> {
     pub fn block_at(&mut self, at: u32) -> Option<PlacedBlock>
         ensures answer { result ≡ placed_at self.old.blocks at }
         ensures reads { OnlyReads self.old self.new 4 }
+        ensures touched { LeavesLive self.old.blocks self.old.touched self.new.touched }
         ensures outside { self.old.words ≤ at → self.new.touches ≡ self.old.touches }
         ensures nowhere { ¬ (IsPlace self.old.blocks at) → self.new.touches ≤ self.old.touches + 1 }
     {
@@ -204,6 +211,7 @@ impl<const SLI: u32> Region<SLI> {
         requires { IsPlace self.old.blocks at }
         ensures value { EachAt self.old.blocks at (λ s. IsTagOf self.old.words s result) }
         ensures reads { OnlyReads self.old self.new 1 }
+        ensures touched { LeavesLive self.old.blocks self.old.touched self.new.touched }
     {
         self.words.tag(at)
     }
@@ -213,6 +221,7 @@ impl<const SLI: u32> Region<SLI> {
         requires { (i : ℕ) × StandsAt self.old.blocks at i × (is_free (block_at self.old.blocks i) ≡ false) }
         ensures value { EachAt self.old.blocks at (λ s. result ≡ length (bytes_of s.block)) }
         ensures reads { OnlyReads self.old self.new 1 }
+        ensures touched { LeavesLive self.old.blocks self.old.touched self.new.touched }
     {
         self.words.length(at)
     }
@@ -222,6 +231,7 @@ impl<const SLI: u32> Region<SLI> {
         requires { (i : ℕ) × StandsAt self.old.blocks at i × (offset + length out.old ≤ length (bytes_of (block_at self.old.blocks i))) }
         ensures bytes { EachAt self.old.blocks at (λ s. out.new ≡ take (length out.old) (drop offset (bytes_of s.block))) }
         ensures reads { OnlyReads self.old self.new (length out.old / 8 + 2) }
+        ensures touched { LeavesPayloads self.old.blocks at self.old.touched self.new.touched }
     {
         self.words.copy_out(at, offset, out);
     }
@@ -229,8 +239,9 @@ impl<const SLI: u32> Region<SLI> {
     /// Writes payload bytes of the live block at a place, from byte `offset` of it on.
     pub fn write(&mut self, at: u32, offset: u32, bytes: &[u8])
         requires { (i : ℕ) × StandsAt self.old.blocks at i × (offset + length bytes.now ≤ length (bytes_of (block_at self.old.blocks i))) }
-        ensures { EachAt self.old.blocks at (λ s. Rewrites self.old self.new
+        ensures change { EachAt self.old.blocks at (λ s. Rewrites self.old self.new
             (s.before ++ (Calls.with_bytes s.block (Calls.overwritten (bytes_of s.block) offset bytes.now) ∷ []) ++ s.after) (2 * (length bytes.now / 8 + 2))) }
+        ensures touched { LeavesPayloads self.old.blocks at self.old.touched self.new.touched }
     {
         self.words.copy_in(at, offset, bytes);
     }
@@ -241,6 +252,7 @@ impl<const SLI: u32> Region<SLI> {
         requires live { (i : ℕ) × StandsAt self.old.blocks at i × (len ≡ length (bytes_of (block_at self.old.blocks i))) }
         requires calls { FnOnceTakesAtMut F.FnOnce f (payload_at self.old.stored at len) }
         ensures called { FnOnceReturnsAtMut F.FnOnce f (payload_at self.old.stored at len) result (payload_at self.new.stored at len) }
+        ensures touched { self.new.touched ≡ self.old.touched }
         ensures change { EachAt self.old.blocks at (λ s. Rewrites self.old self.new
             (s.before ++ (Calls.with_bytes s.block (Calls.overwritten (bytes_of s.block) 0 (bytes_in self.new.stored.words (payload_byte at 0) len)) ∷ []) ++ s.after) 0) }
     {
@@ -268,7 +280,8 @@ impl<const SLI: u32> Region<SLI> {
     pub fn copy(&mut self, from: u32, to: u32, len: u32)
         requires from { (i : ℕ) × StandsAt self.old.blocks from i × (len ≤ length (bytes_of (block_at self.old.blocks i))) }
         requires to { (i : ℕ) × StandsAt self.old.blocks to i × (len ≤ length (bytes_of (block_at self.old.blocks i))) }
-        ensures { EachAt self.old.blocks to (λ s. Rewrites self.old self.new
+        ensures touched { LeavesBoth self.old.blocks from to self.old.touched self.new.touched }
+        ensures change { EachAt self.old.blocks to (λ s. Rewrites self.old self.new
             (s.before ++ (Calls.with_bytes s.block (Calls.overwritten (bytes_of s.block) 0 (bytes_in self.old.stored.words (payload_byte from 0) len)) ∷ []) ++ s.after) (2 * (len / 8) + 3)) }
     {
         self.words.copy_payload(from, to, len);
@@ -281,6 +294,7 @@ impl<const SLI: u32> Region<SLI> {
         ensures change { EachAt self.old.blocks at (λ s. Rewrites self.old self.new
             (s.before ++ (Calls.with_bytes s.block (Calls.fitted (bytes_of s.block) len) ∷ []) ++ s.after) (words_for len)) }
         ensures grown { EachAt self.old.blocks at (λ s. self.new.touches ≤ self.old.touches + 4 + (words_for len - words_for (length (bytes_of s.block)))) }
+        ensures touched { LeavesPayloads self.old.blocks at self.old.touched self.new.touched }
     {
         set_payload(&mut self.words, at, len);
     }
@@ -291,6 +305,7 @@ impl<const SLI: u32> Region<SLI> {
         requires { HasAt self.old.blocks at (λ s. (is_free s.block ≡ false) × (words_for len ≤ size_of s.block)) }
         ensures change { EachAt self.old.blocks at (λ s. Rewrites self.old self.new (s.before ++ (Calls.with_bytes s.block (lying self.new.stored at len) ∷ []) ++ s.after) 1) }
         ensures only { OnlyFrom self.old.stored.words self.new.stored.words (at + 2) (at + 3) }
+        ensures touched { LeavesLive self.old.blocks self.old.touched self.new.touched }
     {
         self.words.set_length(at, len);
     }
@@ -306,6 +321,7 @@ impl<const SLI: u32> Region<SLI> {
         requires small { own.size + next.size ≤ 2 ^ 24 }
         requires unlisted { AreUnlisted (list_in self.old.lists) at (at + own.size + next.size) }
         ensures rest { result ≡ rest_of (own.size + next.size) size }
+        ensures touched { LeavesPayloads self.old.blocks at self.old.touched self.new.touched }
         ensures change { EachAt self.old.blocks at (λ s. Rewrites self.old self.new (s.before ++ Calls.recut stamp size s.block s.after) 7) }
     {
         let after = next.size();
@@ -328,6 +344,7 @@ impl<const SLI: u32> Region<SLI> {
         requires unlisted { EachAt self.old.blocks at (λ s. AreUnlisted (list_in self.old.lists) at (at + size_of s.block)) }
         ensures size { result ≡ own.size }
         ensures first { BeginsZero (bytes_in self.new.stored.words (payload_byte at 0) len) }
+        ensures touched { LeavesLive self.old.blocks self.old.touched self.new.touched }
         ensures change { EachAt self.old.blocks at (λ s. Rewrites self.old self.new
             (s.before ++ (Live (size_of s.block) serial (bytes_in self.new.stored.words (payload_byte at 0) len) ∷ []) ++ s.after) 4) }
     {
@@ -346,6 +363,7 @@ impl<const SLI: u32> Region<SLI> {
         requires room { size + 4 ≤ own.size }
         requires unlisted { EachAt self.old.blocks at (λ s. AreUnlisted (list_in self.old.lists) at (at + size_of s.block)) }
         ensures first { BeginsZero (bytes_in self.new.stored.words (payload_byte at 0) len) }
+        ensures touched { LeavesLive self.old.blocks self.old.touched self.new.touched }
         ensures change { EachAt self.old.blocks at (λ s. Rewrites self.old self.new
             (s.before ++ (Live size serial (bytes_in self.new.stored.words (payload_byte at 0) len) ∷ Free (size_of s.block - size) serial ∷ []) ++ s.after) 9) }
     {
@@ -355,8 +373,9 @@ impl<const SLI: u32> Region<SLI> {
     /// Makes the payload of the live block at a place zero, whose first word is: `n` words behind that one.
     pub fn zero(&mut self, at: u32, n: u32)
         requires { HasAt self.old.blocks at (λ s. AwaitsZeros s.block n) }
-        ensures { EachAt self.old.blocks at (λ s. Rewrites self.old self.new
+        ensures change { EachAt self.old.blocks at (λ s. Rewrites self.old self.new
             (s.before ++ (Calls.with_bytes s.block (replicate (length (bytes_of s.block)) 0) ∷ []) ++ s.after) n) }
+        ensures touched { LeavesPayloads self.old.blocks at self.old.touched self.new.touched }
     {
         self.words.zero(at + 4, n);
     }
@@ -366,7 +385,8 @@ impl<const SLI: u32> Region<SLI> {
         requires own { HasAt self.old.blocks at (λ s. IsTagOf self.old.words s own) }
         requires alone { EachAt self.old.blocks at (λ s. (last_free s.before ≡ 0) × (first_free s.after ≡ 0)) }
         requires unlisted { EachAt self.old.blocks at (λ s. AreUnlisted (list_in self.old.lists) at (at + size_of s.block)) }
-        ensures { EachAt self.old.blocks at (λ s. Rewrites self.old self.new (Calls.coalesced stamp s) 2) }
+        ensures change { EachAt self.old.blocks at (λ s. Rewrites self.old self.new (Calls.coalesced stamp s) 2) }
+        ensures touched { LeavesLive self.old.blocks self.old.touched self.new.touched }
     {
         free_header(&mut self.words, at, own.as_free(), stamp);
     }
@@ -390,7 +410,8 @@ impl<const SLI: u32> Region<SLI> {
         requires no_next { next ≡ false → after ≡ 0 }
         requires around { HasAt self.old.blocks at (λ s. AreNeighbours self.old.words s before after tag) }
         requires unlisted { AreUnlisted (list_in self.old.lists) (at - before) (at - before + tag.size) }
-        ensures { EachAt self.old.blocks at (λ s. Rewrites self.old self.new (Calls.coalesced stamp s) 6) }
+        ensures change { EachAt self.old.blocks at (λ s. Rewrites self.old self.new (Calls.coalesced stamp s) 6) }
+        ensures touched { LeavesLive self.old.blocks self.old.touched self.new.touched }
     {
         merge_headers(
             &mut self.words,
@@ -437,6 +458,7 @@ impl<const SLI: u32> Region<SLI> {
     pub fn next_from(&mut self, class: Class<SLI>) -> Option<Class<SLI>>
         ensures least { result ≡ next_member (listed_classes SLI (list_in self.old.lists)) class.entry }
         ensures reads { OnlyReads self.old self.new 3 }
+        ensures touched { LeavesLive self.old.blocks self.old.touched self.new.touched }
     {
         self.lists.next_from(class)
     }

@@ -3,6 +3,7 @@ ghost use Rattle.std.specs.Prelude.{◌≡◌, ℕ, ◌*◌, ◌+◌, ◌<◌, �
 ghost use Rattle.std.specs.List.{AllByRecursion};
 ghost use Rattle.tlsf_class.specs.Classes.{IsLevel};
 ghost use Rattle.tlsf_heap.specs.Blocks.{words_in};
+ghost use Rattle.tlsf_heap.specs.Footprint.{LeavesLive};
 ghost use Rattle.tlsf_heap.specs.Lawful.{HasRoom, IsRegion};
 ghost use Rattle.tlsf_heap.specs.Regions.{OnlyReads};
 ghost use Rattle.tlsf_heap.specs.Reports.{fragmentation_of};
@@ -34,6 +35,7 @@ impl Tally {
         requires whole { words_in region.old.blocks ≡ region.old.words }
         ensures sums { result ≡ tally_of tick region.old.blocks }
         ensures reads { OnlyReads region.old region.new (2 * length region.old.blocks) }
+        ensures touched { LeavesLive region.old.blocks region.old.touched region.new.touched }
     {
         let words = region.len();
         let mut tally = Tally::new(tick);
@@ -69,6 +71,7 @@ impl Tally {
         ensures one { self.new.live_blocks + self.new.free_blocks ≡ self.old.live_blocks + self.old.free_blocks + 1 }
         ensures behind { at < result }
         ensures reads { OnlyReads region.old region.new 2 }
+        ensures touched { LeavesLive region.old.blocks region.old.touched region.new.touched }
     {
         let tag = region.tag(at);
         let size = tag.size();

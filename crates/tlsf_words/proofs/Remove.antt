@@ -134,6 +134,13 @@ module _ (sli : ℕ) (heads members w : List ℕ) (class at : ℕ) (t : AreThrea
         let e : previous ≡ last_of nowhere prefix = previous_is ∙ previous_last in
         subst (Contains (prefix ++ rest)) (sym e) (Contains-append_left prefix rest (last_of nowhere prefix) (last_member prefix (λ f. some (e ∙ f))))
 
+    -- the neighbours, where there are any, are in the list
+    pub next_listed : next ≢ nowhere → Contains old next
+    next_listed some = left_listed next (next_left some)
+
+    pub previous_listed : previous ≢ nowhere → Contains old previous
+    previous_listed some = left_listed previous (previous_left some)
+
     -- the neighbours, where there are any, have their links inside, and they differ
     pub next_within : next ≢ nowhere → next + 2 < length w
     next_within some = listed_within sli heads members w t class next (left_listed next (next_left some))

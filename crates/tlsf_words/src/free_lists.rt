@@ -4,6 +4,7 @@ ghost use Rattle.tlsf_class.specs.Members.{next_member, without_member};
 ghost use Rattle.tlsf_words.specs.Fields.{links_word, low_half, high_half};
 ghost use Rattle.tlsf_words.specs.Lists.{nowhere, list_of, without_place, AreThreaded, IsUnlisted, OnlyLinksChange};
 ghost use Rattle.tlsf_words.specs.Ties.{AreTied};
+ghost use Rattle.tlsf_words.specs.Touched.{OnlyLinks, OnlyTied};
 
 use crate::heads::{Heads, NO_PLACE};
 use crate::links::Links;
@@ -24,8 +25,9 @@ use tlsf_class::{Bitmaps, Class, class_of, low};
 /// ```
 #[derive(Drop)]
 pub struct FreeLists<const SLI: u32> {
-    heads: Heads<SLI>,
+    // First: see `Heap`.
     bitmaps: Bitmaps<SLI>,
+    heads: Heads<SLI>,
 }
 
 impl<const SLI: u32> Model for FreeLists<SLI> {
@@ -74,6 +76,7 @@ impl<const SLI: u32> FreeLists<SLI> {
         ensures starts { words.new.starts ≡ words.old.starts }
         ensures stays { words.new.extents ≡ words.old.extents }
         ensures touches { self.new.touches + words.new.touches ≤ self.old.touches + words.old.touches + 7 }
+        ensures touched { OnlyLinks (list_of self.old.heads words.old.words) at words.old.touched words.new.touched }
         ensures rise { self.old.touches ≤ self.new.touches }
         ensures words_rise { words.old.touches ≤ words.new.touches }
     {
@@ -118,6 +121,7 @@ impl<const SLI: u32> FreeLists<SLI> {
         ensures starts { words.new.starts ≡ words.old.starts }
         ensures stays { words.new.extents ≡ words.old.extents }
         ensures touches { self.new.touches + words.new.touches ≤ self.old.touches + words.old.touches + 6 }
+        ensures touched { OnlyLinks (list_of self.old.heads words.old.words) at words.old.touched words.new.touched }
         ensures rise { self.old.touches ≤ self.new.touches }
         ensures words_rise { words.old.touches ≤ words.new.touches }
     {
@@ -147,6 +151,7 @@ impl<const SLI: u32> FreeLists<SLI> {
         ensures starts { words.new.starts ≡ words.old.starts }
         ensures stays { words.new.extents ≡ words.old.extents }
         ensures touches { self.new.touches + words.new.touches ≤ self.old.touches + words.old.touches + 6 }
+        ensures touched { OnlyLinks (list_of self.old.heads words.old.words) at words.old.touched words.new.touched }
         ensures rise { self.old.touches ≤ self.new.touches }
         ensures words_rise { words.old.touches ≤ words.new.touches }
     {
@@ -178,6 +183,7 @@ impl<const SLI: u32> FreeLists<SLI> {
         ensures starts { words.new.starts ≡ words.old.starts }
         ensures stays { words.new.extents ≡ words.old.extents }
         ensures touches { self.new.touches + words.new.touches ≤ self.old.touches + words.old.touches + 7 }
+        ensures touched { OnlyLinks (list_of self.old.heads words.old.words) result words.old.touched words.new.touched }
         ensures rise { self.old.touches ≤ self.new.touches }
         ensures words_rise { words.old.touches ≤ words.new.touches }
     {
@@ -220,6 +226,7 @@ impl<const SLI: u32> FreeLists<SLI> {
 
     /// Makes the list of a class begin at the place behind its head, with none before it. The class is no member where that is
     /// `NO_PLACE`. A head goes so, and `tie` takes out what has a place before it: the proof of each has few cases.
+    #[tactic(auto, using(crate::proofs::Touching::times_other))]
     fn begin_at(&mut self, words: &mut Words, class: Class<SLI>, next: u32)
         requires { next ≢ nowhere → next + 2 < length words.old.words }
         ensures head { slice_index_or self.new.heads class.entry nowhere ≡ next }
@@ -231,6 +238,7 @@ impl<const SLI: u32> FreeLists<SLI> {
         ensures starts { words.new.starts ≡ words.old.starts }
         ensures stays { words.new.extents ≡ words.old.extents }
         ensures touches { self.new.touches + words.new.touches ≤ self.old.touches + words.old.touches + 5 }
+        ensures touched { OnlyTied next nowhere words.old.touched words.new.touched }
         ensures rise { self.old.touches ≤ self.new.touches }
         ensures words_rise { words.old.touches ≤ words.new.touches }
     {
@@ -256,6 +264,7 @@ fn is_place(at: u32) -> bool
 }
 
 /// Ties a place and the one that comes next, which may be `NO_PLACE`, to each other.
+#[tactic(auto, using(crate::proofs::Touching::times_other))]
 fn tie(words: &mut Words, links: Links)
     requires next { links.next ≢ nowhere → links.next + 2 < length words.old.words }
     requires some { links.previous ≢ nowhere }
@@ -266,6 +275,7 @@ fn tie(words: &mut Words, links: Links)
     ensures starts { words.new.starts ≡ words.old.starts }
     ensures stays { words.new.extents ≡ words.old.extents }
     ensures touches { words.new.touches ≤ words.old.touches + 4 }
+    ensures touched { OnlyTied links.next links.previous words.old.touched words.new.touched }
     ensures rise { words.old.touches ≤ words.new.touches }
 {
     if links.next == NO_PLACE {
@@ -289,6 +299,7 @@ fn set_next(words: &mut Words, at: u32, next: u32)
     ensures starts { words.new.starts ≡ words.old.starts }
     ensures stays { words.new.extents ≡ words.old.extents }
     ensures touches { words.new.touches ≡ words.old.touches + 2 }
+    ensures touched { words.new.touched ≡ (at + 2) ∷ (at + 2) ∷ words.old.touched }
 {
     let links = words.links(at);
     words.set_links(at, Links { next, ..links });
@@ -301,6 +312,7 @@ fn set_previous(words: &mut Words, at: u32, previous: u32)
     ensures starts { words.new.starts ≡ words.old.starts }
     ensures stays { words.new.extents ≡ words.old.extents }
     ensures touches { words.new.touches ≡ words.old.touches + 2 }
+    ensures touched { words.new.touched ≡ (at + 2) ∷ (at + 2) ∷ words.old.touched }
 {
     let links = words.links(at);
     words.set_links(at, Links { previous, ..links });

@@ -1,6 +1,7 @@
 ghost use Rattle.std.specs.Fn.{FnOnceReturnsAt, FnOnceReturnsAtMut, FnOnceTakesAt, FnOnceTakesAtMut};
-ghost use Rattle.std.specs.Prelude.{◌≡◌, ℕ, ◌+◌, ◌<◌, ◌≤◌, ◌^◌, ◌++◌, false, length, take, drop, replicate, slice_index, slice_index_or, slice_set, IfOk};
+ghost use Rattle.std.specs.Prelude.{◌≡◌, ℕ, ◌+◌, ◌<◌, ◌≤◌, ◌^◌, [], ◌∷◌, ◌++◌, false, length, take, drop, replicate, slice_index, slice_index_or, slice_set, IfOk};
 ghost use Rattle.tlsf_words.specs.Fields.{tag_word, size_in, last_in, free_in, back_in, length_word, links_word, low_half, high_half};
+ghost use Rattle.tlsf_words.specs.Touched.{times};
 
 mod bytes;
 
@@ -35,7 +36,7 @@ impl Model for Words {
 
     ghost Value = { Memory };
 
-    ghost view = { λ w. record { words = w.words.words; starts = w.starts.starts; extents = record { words = w.words.extent; starts = w.starts.extent }; touches = w.words.touches + w.starts.touches } };
+    ghost view = { λ w. record { words = w.words.words; starts = w.starts.starts; extents = record { words = w.words.extent; starts = w.starts.extent }; touches = w.words.touches + w.starts.touches; touched = w.words.touched } };
 
     ghost invariant = { λ w. IsRegion w.words.words w.starts.starts };
 }
@@ -53,6 +54,7 @@ impl Words {
         ensures words { IfOk result (λ region. region.words ≡ replicate n 0) }
         ensures starts { IfOk result (λ region. region.starts ≡ replicate n false) }
         ensures touches { IfOk result (λ region. region.touches ≡ 0) }
+        ensures touched { IfOk result (λ region. region.touched ≡ []) }
     {
         let words = Cells::open(alloc, n)?;
         let starts = StartMap::open(alloc, n)?;
@@ -87,6 +89,7 @@ impl Words {
         ensures starts { self.new.starts ≡ self.old.starts }
         ensures stays { self.new.extents ≡ self.old.extents }
         ensures touches { self.new.touches ≡ self.old.touches + 1 }
+        ensures touched { self.new.touched ≡ at ∷ self.old.touched }
     {
         self.read(at as usize)
     }
@@ -108,6 +111,7 @@ impl Words {
         ensures starts { self.new.starts ≡ self.old.starts }
         ensures stays { self.new.extents ≡ self.old.extents }
         ensures touches { self.new.touches ≡ self.old.touches + 1 }
+        ensures touched { self.new.touched ≡ at ∷ self.old.touched }
     {
         Tag::of_word(self.read(at as usize))
     }
@@ -125,6 +129,7 @@ impl Words {
         ensures starts { self.new.starts ≡ self.old.starts }
         ensures stays { self.new.extents ≡ self.old.extents }
         ensures touches { self.new.touches ≡ self.old.touches + 1 }
+        ensures touched { self.new.touched ≡ at ∷ self.old.touched }
     {
         self.write(at as usize, tag.to_word());
     }
@@ -142,6 +147,7 @@ impl Words {
         ensures starts { self.new.starts ≡ self.old.starts }
         ensures stays { self.new.extents ≡ self.old.extents }
         ensures touches { self.new.touches ≡ self.old.touches + 1 }
+        ensures touched { self.new.touched ≡ (at + 1) ∷ self.old.touched }
     {
         self.read(at as usize + 1)
     }
@@ -174,6 +180,7 @@ impl Words {
         ensures starts { self.new.starts ≡ self.old.starts }
         ensures stays { self.new.extents ≡ self.old.extents }
         ensures touches { self.new.touches ≡ self.old.touches + 2 }
+        ensures touched { self.new.touched ≡ (at + 1) ∷ at ∷ self.old.touched }
     {
         self.words.write_two(at as usize, tag.to_word(), mark);
     }
@@ -192,6 +199,7 @@ impl Words {
         ensures starts { self.new.starts ≡ self.old.starts }
         ensures stays { self.new.extents ≡ self.old.extents }
         ensures touches { self.new.touches ≡ self.old.touches + 4 }
+        ensures touched { self.new.touched ≡ (at + 3) ∷ (at + 2) ∷ (at + 1) ∷ at ∷ self.old.touched }
     {
         self.words
             .write_four(at as usize, tag.to_word(), mark, u64::from(bytes));
@@ -212,6 +220,7 @@ impl Words {
         ensures starts { self.new.starts ≡ self.old.starts }
         ensures stays { self.new.extents ≡ self.old.extents }
         ensures touches { self.new.touches ≡ self.old.touches + 6 }
+        ensures touched { self.new.touched ≡ (place + 1) ∷ place ∷ (at + 3) ∷ (at + 2) ∷ (at + 1) ∷ at ∷ self.old.touched }
     {
         self.words.write_both(
             at as usize,
@@ -236,6 +245,7 @@ impl Words {
         ensures starts { self.new.starts ≡ self.old.starts }
         ensures stays { self.new.extents ≡ self.old.extents }
         ensures touches { self.new.touches ≡ self.old.touches + 1 }
+        ensures touched { self.new.touched ≡ (at + 2) ∷ self.old.touched }
     {
         low_half(self.read(at as usize + 2))
     }
@@ -253,6 +263,7 @@ impl Words {
         ensures starts { self.new.starts ≡ self.old.starts }
         ensures stays { self.new.extents ≡ self.old.extents }
         ensures touches { self.new.touches ≡ self.old.touches + 1 }
+        ensures touched { self.new.touched ≡ (at + 2) ∷ self.old.touched }
     {
         self.write(at as usize + 2, u64::from(bytes));
     }
@@ -272,6 +283,7 @@ impl Words {
         ensures starts { self.new.starts ≡ self.old.starts }
         ensures stays { self.new.extents ≡ self.old.extents }
         ensures touches { self.new.touches ≡ self.old.touches + 1 }
+        ensures touched { self.new.touched ≡ (at + 2) ∷ self.old.touched }
     {
         Links::of_word(self.read(at as usize + 2))
     }
@@ -289,6 +301,7 @@ impl Words {
         ensures starts { self.new.starts ≡ self.old.starts }
         ensures stays { self.new.extents ≡ self.old.extents }
         ensures touches { self.new.touches ≡ self.old.touches + 1 }
+        ensures touched { self.new.touched ≡ (at + 2) ∷ self.old.touched }
     {
         self.write(at as usize + 2, links.to_word());
     }
@@ -304,6 +317,7 @@ impl Words {
         ensures starts { self.new.starts ≡ self.old.starts }
         ensures stays { self.new.extents ≡ self.old.extents }
         ensures touches { self.new.touches ≡ self.old.touches + 3 }
+        ensures touched { self.new.touched ≡ (links.next + 2) ∷ (links.next + 2) ∷ (at + 2) ∷ self.old.touched }
     {
         self.words.write_and_upper(
             at as usize + 2,
@@ -326,6 +340,7 @@ impl Words {
         ensures starts { self.new.starts ≡ self.old.starts }
         ensures stays { self.new.extents ≡ self.old.extents }
         ensures touches { self.new.touches ≡ self.old.touches + 1 }
+        ensures touched { self.new.touched ≡ self.old.touched }
     {
         self.starts.has(at)
     }
@@ -342,6 +357,7 @@ impl Words {
         ensures starts { self.new.starts ≡ slice_set self.old.starts at starts }
         ensures stays { self.new.extents ≡ self.old.extents }
         ensures touches { self.new.touches ≡ self.old.touches + 1 }
+        ensures touched { self.new.touched ≡ self.old.touched }
     {
         self.starts.set(at, starts);
     }
@@ -358,6 +374,8 @@ impl Words {
         ensures starts { self.new.starts ≡ self.old.starts }
         ensures stays { self.new.extents ≡ self.old.extents }
         ensures touches { self.new.touches ≡ self.old.touches + n }
+        ensures touched_before { (k : ℕ) → k < at → times self.new.touched k ≡ times self.old.touched k }
+        ensures touched_behind { (k : ℕ) → at + n ≤ k → times self.new.touched k ≡ times self.old.touched k }
     {
         self.words.zero(at as usize, n as usize);
     }
@@ -381,6 +399,7 @@ impl Words {
         ensures starts { self.new.starts ≡ self.old.starts }
         ensures stays { self.new.extents ≡ self.old.extents }
         ensures touches { self.new.touches ≡ self.old.touches }
+        ensures touched { self.new.touched ≡ self.old.touched }
     {
         self.words.alter(at as usize + 3, n as usize, f)
     }
@@ -398,7 +417,7 @@ impl Words {
         self.words.inspect(at as usize + 3, n as usize, f)
     }
 
-    /// The address of the first word, aligned to 8 bytes. It stays while the region does. No touch.
+    /// The address of the first word. It stays while the region does. No touch.
     ///
     /// ```
     /// let base = words.base();     // the payload of the block at a place begins 8 * (at + 3) bytes from there
@@ -421,6 +440,7 @@ impl Words {
         ensures starts { self.new.starts ≡ self.old.starts }
         ensures stays { self.new.extents ≡ self.old.extents }
         ensures touches { self.new.touches ≡ self.old.touches + 1 }
+        ensures touched { self.new.touched ≡ at ∷ self.old.touched }
     {
         self.words.read(at)
     }
@@ -434,6 +454,7 @@ impl Words {
         ensures starts { self.new.starts ≡ self.old.starts }
         ensures stays { self.new.extents ≡ self.old.extents }
         ensures touches { self.new.touches ≡ self.old.touches + 1 }
+        ensures touched { self.new.touched ≡ at ∷ self.old.touched }
     {
         self.words.write(at, word);
     }

@@ -6,6 +6,7 @@ pub mod Write
 pub mod Alter
 pub mod Resize
 pub mod Outcomes
+pub mod Leaves
 pub mod GivenBlock
 pub mod LeftBlock
 pub mod AllocateFrom
@@ -14,4 +15,5 @@ pub mod ResizeOrMove
 pub mod Unset
 pub mod OtherBytes
 pub mod AllocateAligned
+pub mod LeavesAligned
 pub mod Reports

@@ -7,3 +7,4 @@ pub mod EvenPlaces
 pub mod WordsInUse
 pub mod MovedWords
 pub mod AlignedWords
+pub mod PayloadWords

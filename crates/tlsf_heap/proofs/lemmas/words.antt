@@ -1,5 +1,6 @@
 pub mod Image
 pub mod Says
+pub mod Footprint
 pub mod Headers
 pub mod Zeros
 pub mod Links

@@ -4,6 +4,7 @@ ghost use Rattle.tlsf_heap.specs.Aligned.{words_from, gap_of, moved_on, words_al
 ghost use Rattle.tlsf_heap.specs.Blocks;
 ghost use Rattle.tlsf_heap.specs.Calls.{last_tick, named};
 ghost use Rattle.tlsf_heap.specs.Given.{payload_words_at};
+ghost use Rattle.tlsf_heap.specs.Footprint.{LeavesLive, LeavesPayloads};
 ghost use Rattle.tlsf_heap.specs.Laws.{IsLive};
 ghost use Rattle.tlsf_heap.specs.Unset.{GivesUnset};
 ghost use Rattle.tlsf_heap.specs.declared.name.Name.{Name};
@@ -59,6 +60,7 @@ impl<const SLI: u32> Heap<SLI> {
 
         // Accepted or refused, whatever the region holds, and however many bytes.
         ensures touches { self.new.touches ≤ self.old.touches + 28 }
+        ensures leaves { LeavesLive self.old.heap.blocks self.old.touched self.new.touched }
         ensures wild { FollowsNoPlace self.old.heap at self.old.touches self.new.touches }
     {
         let name = match self.words_from(at, want(len)) {
@@ -96,6 +98,7 @@ impl<const SLI: u32> Heap<SLI> {
 
         // Accepted or refused, whatever the region holds, and however many bytes.
         ensures touches { self.new.touches ≤ self.old.touches + 116 }
+        ensures leaves { LeavesLive self.old.heap.blocks self.old.touched self.new.touched }
     {
         if self.tick >= u64::MAX - 3 {
             return Err(Refusal::Worn);
@@ -129,6 +132,7 @@ impl<const SLI: u32> Heap<SLI> {
         ensures ok { IsOk result }
         ensures keeps { Keeps SLI self.old self.new }
         ensures touches { self.new.touches ≤ self.old.touches + 85 }
+        ensures leaves { LeavesPayloads self.old.heap.blocks name.at self.old.touched self.new.touched }
     {
         if gap == 0 {
             self.resize_words(name, words, 0)?;
@@ -149,6 +153,7 @@ impl<const SLI: u32> Heap<SLI> {
         ensures err { OnErr result (IsAsBefore self.old self.new) }
         ensures keeps { Keeps SLI self.old self.new }
         ensures touches { self.new.touches ≤ self.old.touches + 27 }
+        ensures leaves { LeavesLive self.old.heap.blocks self.old.touched self.new.touched }
         ensures wild { FollowsNoPlace self.old.heap at self.old.touches self.new.touches }
     {
         let Some(own) = self.region.free_at(at) else {

@@ -1,4 +1,5 @@
 ghost use Rattle.std.specs.Prelude.{◌+◌, ◌≤◌, ◌↔◌, IsTrue};
+ghost use Rattle.tlsf_heap.specs.Footprint.{LeavesLive};
 ghost use Rattle.tlsf_heap.specs.Kept.{IsAsBefore, Keeps};
 ghost use Rattle.tlsf_heap.specs.Laws.{IsLive};
 ghost use Rattle.tlsf_heap.specs.Touched.{FollowsNoForgery};
@@ -23,6 +24,7 @@ impl<const SLI: u32> Heap<SLI> {
 
         // A start bit, a header and a serial.
         ensures touches { self.new.touches ≤ self.old.touches + 3 }
+        ensures leaves { LeavesLive self.old.heap.blocks self.old.touched self.new.touched }
         ensures forged { FollowsNoForgery self.old.heap name self.old.touches self.new.touches }
     {
         self.check(name).is_ok()

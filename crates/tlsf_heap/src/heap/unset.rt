@@ -3,6 +3,7 @@ ghost use Rattle.tlsf_heap.specs.Blocks;
 ghost use Rattle.tlsf_heap.specs.Calls.{allocated, last_tick, resized};
 ghost use Rattle.tlsf_heap.specs.GoodFit.{fits};
 ghost use Rattle.tlsf_heap.specs.InPlace.{payload_of};
+ghost use Rattle.tlsf_heap.specs.Footprint.{LeavesLive, LeavesPayloads};
 ghost use Rattle.tlsf_heap.specs.Laws.{IsLive};
 ghost use Rattle.tlsf_heap.specs.Moved.{moved, resized_or_moved};
 ghost use Rattle.tlsf_heap.specs.Touched.{FollowsNoForgery};
@@ -40,6 +41,7 @@ impl<const SLI: u32> Heap<SLI> {
 
         // Accepted or refused, whatever the region holds, and however many bytes.
         ensures touches { self.new.touches ≤ self.old.touches + 31 }
+        ensures leaves { LeavesLive self.old.heap.blocks self.old.touched self.new.touched }
     {
         let name = match self.allocate_words(want(len), 0) {
             Ok(name) => name,
@@ -70,6 +72,8 @@ impl<const SLI: u32> Heap<SLI> {
 
         // Accepted or refused, whatever the region holds, and however many bytes.
         ensures touches { self.new.touches ≤ self.old.touches + 33 }
+        ensures leaves { LeavesPayloads self.old.heap.blocks name.at self.old.touched self.new.touched }
+        ensures refused { OnErr result (LeavesLive self.old.heap.blocks self.old.touched self.new.touched) }
         ensures forged { FollowsNoForgery self.old.heap name self.old.touches self.new.touches }
     {
         let kept = self.check_payload(name)?.min(len);
@@ -102,6 +106,8 @@ impl<const SLI: u32> Heap<SLI> {
 
         // Accepted or refused, and whatever the region holds: at most 99 touches, and two for each word of the bytes that stay.
         ensures touches { self.new.touches ≤ self.old.touches + 99 + 2 * (min (length (payload_of self.old.heap name)) len / 8) }
+        ensures leaves { LeavesPayloads self.old.heap.blocks name.at self.old.touched self.new.touched }
+        ensures refused { OnErr result (LeavesLive self.old.heap.blocks self.old.touched self.new.touched) }
         ensures forged { FollowsNoForgery self.old.heap name self.old.touches self.new.touches }
     {
         match self.resize_unset(name, len) {
@@ -119,6 +125,8 @@ impl<const SLI: u32> Heap<SLI> {
         ensures err { OnErr result (IsAsBefore self.old self.new) }
         ensures keeps { Keeps SLI self.old self.new }
         ensures touches { self.new.touches ≤ self.old.touches + 66 + 2 * (min (length (payload_of self.old.heap name)) len / 8) }
+        ensures leaves { LeavesPayloads self.old.heap.blocks name.at self.old.touched self.new.touched }
+        ensures refused { OnErr result (LeavesLive self.old.heap.blocks self.old.touched self.new.touched) }
     {
         if self.tick >= u64::MAX - 1 {
             return Err(Refusal::Worn);

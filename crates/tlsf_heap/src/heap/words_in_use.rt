@@ -2,6 +2,7 @@ ghost use Rattle.std.specs.Prelude.{◌≡◌, ◌+◌, ◌≤◌, Ok, Err, IfOk
 ghost use Rattle.tlsf_class.specs.Classes.{most_words};
 ghost use Rattle.tlsf_heap.specs.ByPlace.{released_by_place};
 ghost use Rattle.tlsf_heap.specs.Calls.{released};
+ghost use Rattle.tlsf_heap.specs.Footprint.{LeavesLive, LeavesPayloads};
 ghost use Rattle.tlsf_heap.specs.Laws.{IsLive};
 ghost use Rattle.tlsf_heap.specs.Named.{RefusesName};
 ghost use Rattle.tlsf_heap.specs.Touched.{FollowsNoForgery, release_touches, FollowsNoPlace};
@@ -33,6 +34,7 @@ impl<const SLI: u32> Heap<SLI> {
         ensures same { IsAsBefore self.old self.new }
         ensures keeps { Keeps SLI self.old self.new }
         ensures touches { self.new.touches ≤ self.old.touches + 1 }
+        ensures leaves { LeavesLive self.old.heap.blocks self.old.touched self.new.touched }
     {
         let own = self.region.tag(name.at);
         own.size()
@@ -54,6 +56,7 @@ impl<const SLI: u32> Heap<SLI> {
         ensures same { IsAsBefore self.old self.new }
         ensures keeps { Keeps SLI self.old self.new }
         ensures touches { self.new.touches ≤ self.old.touches + 3 }
+        ensures leaves { LeavesLive self.old.heap.blocks self.old.touched self.new.touched }
         ensures forged { FollowsNoForgery self.old.heap name self.old.touches self.new.touches }
     {
         let own = self.check(name)?;
@@ -81,6 +84,8 @@ impl<const SLI: u32> Heap<SLI> {
         // Accepted or refused, and whatever the region holds: at most 64 touches.
         ensures touches { self.new.touches ≤ self.old.touches + 64 }
         ensures most_touches { self.new.touches ≤ self.old.touches + release_touches }
+        ensures leaves { LeavesPayloads self.old.heap.blocks name.at self.old.touched self.new.touched }
+        ensures refused { OnErr result (LeavesLive self.old.heap.blocks self.old.touched self.new.touched) }
         ensures forged { FollowsNoForgery self.old.heap name self.old.touches self.new.touches }
     {
         let own = self.check(name)?;
@@ -111,6 +116,8 @@ impl<const SLI: u32> Heap<SLI> {
 
         // Accepted or refused, and whatever the region holds: one fewer than `release_words`, since no serial is read.
         ensures touches { self.new.touches ≤ self.old.touches + 29 }
+        ensures leaves { LeavesPayloads self.old.heap.blocks at self.old.touched self.new.touched }
+        ensures refused { OnErr result (LeavesLive self.old.heap.blocks self.old.touched self.new.touched) }
         ensures wild { FollowsNoPlace self.old.heap at self.old.touches self.new.touches }
     {
         let Some(own) = self.region.live_at(at) else {

@@ -88,7 +88,14 @@ impl<const SLI: u32> Ledger<SLI> for Counts {
 }
 
 impl<const SLI: u32> Ledgered<SLI, Counts> {
-    /// Opens a heap of which nothing was granted. It is refused as `Heap::open` refuses.
+    /// Opens a heap of number `id` over `words` words of 8 bytes, stamped with the tick `first`. Nothing of it was granted.
+    ///
+    /// Refused as `Heap::open` refuses: `BadSize` where `words` is below 4, or above 2^20 at level 4 and 2^24 at level 5, else `Worn` where `first` is
+    /// the last tick, 2^64 - 1, else `NoMemory` where the memory was not granted.
+    ///
+    /// ```text
+    /// let mut heap = Ledgered::<4, Counts>::open(alloc, 0, 1024, 0)?;     // heap 0: 8 KiB, of which nothing was granted
+    /// ```
     pub fn open(
         alloc: Global,
         id: u32,
@@ -120,8 +127,8 @@ impl<const SLI: u32> Ledgered<SLI, Counts> {
     /// tick is at its last value. Nothing changes then. Takes no memory.
     ///
     /// ```
-    /// let name = guard.allocate(8)?;
-    /// guard.resize(name, 100)?; // the same block, with 100 bytes
+    /// let name = heap.allocate(8)?;
+    /// heap.resize(name, 100)?; // the same block, with 100 bytes
     /// ```
     pub fn resize(&mut self, name: Name, len: u32) -> Result<(), Refusal>
         ensures answer { result ≡ (resized self.old.heap name len).answer }
@@ -141,8 +148,8 @@ impl<const SLI: u32> Ledgered<SLI, Counts> {
     /// How many allocates were accepted, by whichever thread.
     ///
     /// ```
-    /// guard.allocate(8)?;
-    /// assert_eq!((guard.grants(), guard.returns()), (1, 0)); // of a new heap
+    /// heap.allocate(8)?;
+    /// assert_eq!((heap.grants(), heap.returns()), (1, 0)); // of a new heap
     /// ```
     pub fn grants(&self) -> u64
         ensures grants { result ≡ self.now.ledger.grants }
@@ -154,9 +161,9 @@ impl<const SLI: u32> Ledgered<SLI, Counts> {
     /// How many releases were accepted, by whichever thread.
     ///
     /// ```
-    /// let name = guard.allocate(8)?;
-    /// guard.release(name)?;
-    /// assert_eq!((guard.grants(), guard.returns()), (1, 1)); // of a new heap
+    /// let name = heap.allocate(8)?;
+    /// heap.release(name)?;
+    /// assert_eq!((heap.grants(), heap.returns()), (1, 1)); // of a new heap
     /// ```
     pub fn returns(&self) -> u64
         ensures returns { result ≡ self.now.ledger.returns }

@@ -20,7 +20,7 @@ use std::marker::Model;
 
 /// A heap with a ledger, which notes what is given and what comes back. Its level is that of its heap, 4 or 5.
 ///
-/// Contracts see it as its heap, the ledger, and the heap's touches. The ledger is always one of the heap (`IsLedgered`): what it
+/// Contracts see it as its heap, the ledger, the heap's memory (`extents`) and its touches. The ledger is always one of the heap (`IsLedgered`): what it
 /// notes is true of the live blocks. A call that is refused changes neither. Places and sizes are in words of 8 bytes, lengths in
 /// bytes.
 #[derive(Drop)]
@@ -58,7 +58,7 @@ impl<const SLI: u32, L: Ledger<SLI>> Ledgered<SLI, L> {
     /// What is noted of the heap.
     ///
     /// ```text
-    /// counted.ledger()                        // of a `Counted`: how many allocates and releases were accepted
+    /// counted.ledger()                        // of one with `Counts`: how many allocates and releases were accepted
     /// ```
     pub fn ledger(&self) -> &L
         ensures ledger { result.now ≡ self.now.ledger }
@@ -74,9 +74,9 @@ impl<const SLI: u32, L: Ledger<SLI>> Ledgered<SLI, L> {
     /// then. Takes no memory.
     ///
     /// ```
-    /// let mut guard = heap.lock(&rt); // a heap of 4 words, the least
-    /// let name = guard.allocate(0)?; // 0 bytes of payload: a block of 4 words
-    /// assert_eq!(guard.allocate(0), Err(Refusal::NoFit)); // nothing is free: counted as no grant
+    /// let mut heap = Ledgered::<4, Counts>::open(alloc, 0, 4, 0)?; // a heap of 4 words, the least
+    /// let name = heap.allocate(0)?; // 0 bytes of payload: a block of 4 words
+    /// assert_eq!(heap.allocate(0), Err(Refusal::NoFit)); // nothing is free: counted as no grant
     /// ```
     pub fn allocate(&mut self, len: u32) -> Result<Name, L::Why>
         ensures answer { result ≡ L.answered self.old.ledger len (allocated SLI self.old.heap len).answer }
@@ -112,8 +112,8 @@ impl<const SLI: u32, L: Ledger<SLI>> Ledgered<SLI, L> {
     /// has that place and serial, else `Worn` where the tick is at its last value. Nothing is noted then. Takes no memory.
     ///
     /// ```
-    /// guard.release(name)?;
-    /// assert_eq!(guard.release(name), Err(Refusal::Stale)); // it is released already: counted as no return
+    /// heap.release(name)?;
+    /// assert_eq!(heap.release(name), Err(Refusal::Stale)); // it is released already: counted as no return
     /// ```
     pub fn release(&mut self, name: Name) -> Result<(), Refusal>
         ensures answer { result ≡ (released self.old.heap name).answer }
@@ -147,9 +147,9 @@ impl<const SLI: u32, L: Ledger<SLI>> Ledgered<SLI, L> {
     /// Takes no memory.
     ///
     /// ```
-    /// let name = guard.allocate(4)?;
-    /// guard.write(name, 1, &[5, 6])?; // bytes 1 and 2 of the payload
-    /// assert_eq!(guard.write(name, 3, &[5, 6]), Err(Refusal::Range));
+    /// let name = heap.allocate(4)?;
+    /// heap.write(name, 1, &[5, 6])?; // bytes 1 and 2 of the payload
+    /// assert_eq!(heap.write(name, 3, &[5, 6]), Err(Refusal::Range));
     /// ```
     pub fn write(&mut self, name: Name, at: u32, bytes: &[u8]) -> Result<(), Refusal>
         ensures answer { result ≡ (written self.old.heap name at bytes.now).answer }
@@ -171,9 +171,9 @@ impl<const SLI: u32, L: Ledger<SLI>> Ledgered<SLI, L> {
     /// Takes no memory.
     ///
     /// ```
-    /// let name = guard.allocate(4)?;
+    /// let name = heap.allocate(4)?;
     /// let mut out = [9u8; 2];
-    /// guard.read(name, 2, &mut out)?; // bytes 2 and 3 of the payload
+    /// heap.read(name, 2, &mut out)?; // bytes 2 and 3 of the payload
     /// assert_eq!(out, [0, 0]);
     /// ```
     pub fn read(&mut self, name: Name, at: u32, out: &mut [u8]) -> Result<(), Refusal>
@@ -195,8 +195,8 @@ impl<const SLI: u32, L: Ledger<SLI>> Ledgered<SLI, L> {
     /// place and serial; `f` is then not called. Takes no memory.
     ///
     /// ```
-    /// let name = guard.allocate(8)?;
-    /// guard.alter(name, |words| words[0] = 0x6948)?; // bytes 0 and 1 of the payload are 0x48 and 0x69
+    /// let name = heap.allocate(8)?;
+    /// heap.alter(name, |words| words[0] = 0x6948)?; // bytes 0 and 1 of the payload are 0x48 and 0x69
     /// ```
     pub fn alter<R, F: FnOnce(&mut [u64]) -> R>(&mut self, name: Name, f: F) -> Result<R, Refusal>
         requires { IsLive self.old.heap name → (words : List ℕ) → ArePayload self.old.heap name words → FnOnceTakesAtMut F.FnOnce f words }
@@ -219,7 +219,7 @@ impl<const SLI: u32, L: Ledger<SLI>> Ledgered<SLI, L> {
     /// place and serial; `f` is then not called. Takes no memory.
     ///
     /// ```
-    /// let first = guard.inspect(name, |words| words[0])?; // after the alter above
+    /// let first = heap.inspect(name, |words| words[0])?; // after the alter above
     /// assert_eq!(first, 0x6948);
     /// ```
     pub fn inspect<R, F: FnOnce(&[u64]) -> R>(&mut self, name: Name, f: F) -> Result<R, Refusal>
@@ -238,7 +238,7 @@ impl<const SLI: u32, L: Ledger<SLI>> Ledgered<SLI, L> {
     /// never refused, and takes no memory.
     ///
     /// ```
-    /// let report = heap.lock(&rt).report(); // of a new heap of 1024 words
+    /// let report = heap.report(); // of a new heap of 1024 words
     /// assert_eq!((report.live_blocks, report.free_words), (0, 1024));
     /// ```
     pub fn report(&mut self) -> Report
@@ -264,7 +264,7 @@ impl<const SLI: u32, L: Ledger<SLI>> Ledgered<SLI, L> {
     /// `at + size`, so that a walk from place 0 meets all blocks. Takes no memory.
     ///
     /// ```
-    /// let block = heap.lock(&rt).block_at(0); // of a new heap of 1024 words
+    /// let block = heap.block_at(0); // of a new heap of 1024 words
     /// assert_eq!(block.map(|block| block.size), Some(1024));
     /// ```
     pub fn block_at(&mut self, at: u32) -> Option<PlacedBlock>
@@ -280,8 +280,8 @@ impl<const SLI: u32, L: Ledger<SLI>> Ledgered<SLI, L> {
     /// Whether a live block of the heap has that name. A forged name is not followed. Takes no memory.
     ///
     /// ```
-    /// let name = guard.allocate(8)?;
-    /// assert!(guard.is_live(name));
+    /// let name = heap.allocate(8)?;
+    /// assert!(heap.is_live(name));
     /// ```
     pub fn is_live(&mut self, name: Name) -> bool
         ensures live { IsTrue result ↔ IsLive self.old.heap name }
@@ -297,7 +297,7 @@ impl<const SLI: u32, L: Ledger<SLI>> Ledgered<SLI, L> {
     /// has been free for `tick - s` ticks.
     ///
     /// ```text
-    /// guard.tick()                            // of a heap opened at 0: 1, and 2 after an accepted allocate
+    /// heap.tick()                            // of a heap opened at 0: 1, and 2 after an accepted allocate
     /// ```
     pub fn tick(&self) -> u64
         ensures tick { result ≡ self.now.heap.tick }

@@ -1,5 +1,6 @@
-ghost use Rattle.std.specs.Prelude.{◌≡◌, ℕ, ◌+◌, ◌-◌, ◌*◌, ◌/◌, ◌<◌, ◌≤◌, ◌≢◌, ◌^◌, length, slice_index};
+ghost use Rattle.std.specs.Prelude.{◌≡◌, ℕ, ◌+◌, ◌-◌, ◌*◌, ◌/◌, ◌<◌, ◌≤◌, ◌≢◌, ◌^◌, ◌⊎◌, ◌∷◌, length, slice_index};
 ghost use Rattle.tlsf_words.specs.Bytes.{AreApart, byte_in, bytes_in, payload_byte};
+ghost use Rattle.tlsf_words.specs.Touched.{times};
 
 use super::Words;
 use crate::run::Run;
@@ -26,6 +27,8 @@ impl Words {
         ensures starts { self.new.starts ≡ self.old.starts }
         ensures stays { self.new.extents ≡ self.old.extents }
         ensures touches { self.new.touches ≤ self.old.touches + 2 * (length bytes.now / 8 + 2) }
+        ensures touched_before { (k : ℕ) → 8 * k + 8 ≤ payload_byte at offset → times self.new.touched k ≡ times self.old.touched k }
+        ensures touched_behind { (k : ℕ) → payload_byte at offset + length bytes.now ≤ 8 * k → times self.new.touched k ≡ times self.old.touched k }
         ensures rise { self.old.touches ≤ self.new.touches }
     {
         let start = 8 * (at as usize + 3) + offset as usize;
@@ -45,6 +48,7 @@ impl Words {
     /// ```
     /// words.zero_rest(at, 13);     // bytes 13, 14 and 15 of the payload
     /// ```
+    #[tactic(auto, using(crate::proofs::Touching::times_other))]
     pub fn zero_rest(&mut self, at: u32, offset: u32)
         requires { payload_byte at offset < 8 * length self.old.words }
         ensures zero { (k : ℕ) → payload_byte at offset ≤ k → k < 8 * (payload_byte at offset / 8 + 1) → byte_in self.new.words k ≡ 0 }
@@ -54,6 +58,7 @@ impl Words {
         ensures starts { self.new.starts ≡ self.old.starts }
         ensures stays { self.new.extents ≡ self.old.extents }
         ensures touches { self.new.touches ≡ self.old.touches + 2 }
+        ensures touched { (k : ℕ) → k ≢ payload_byte at offset / 8 → times self.new.touched k ≡ times self.old.touched k }
     {
         let start = 8 * (at as usize + 3) + offset as usize;
         let first = start % 8;
@@ -74,6 +79,8 @@ impl Words {
         ensures starts { self.new.starts ≡ self.old.starts }
         ensures stays { self.new.extents ≡ self.old.extents }
         ensures touches { self.new.touches ≤ self.old.touches + (length out.old / 8 + 2) }
+        ensures touched_before { (k : ℕ) → 8 * k + 8 ≤ payload_byte at offset → times self.new.touched k ≡ times self.old.touched k }
+        ensures touched_behind { (k : ℕ) → payload_byte at offset + length out.old ≤ 8 * k → times self.new.touched k ≡ times self.old.touched k }
         ensures rise { self.old.touches ≤ self.new.touches }
     {
         let start = 8 * (at as usize + 3) + offset as usize;
@@ -94,6 +101,7 @@ impl Words {
     /// ```
     /// words.copy_payload(0, 16, 13);     // a whole word and five bytes of the next, from place 3 on, to place 19 and the next
     /// ```
+    #[tactic(auto, using(crate::proofs::Touching::times_other))]
     pub fn copy_payload(&mut self, from: u32, to: u32, len: u32)
         requires from { payload_byte from len ≤ 8 * length self.old.words }
         requires to { payload_byte to len ≤ 8 * length self.old.words }
@@ -107,6 +115,7 @@ impl Words {
         ensures starts { self.new.starts ≡ self.old.starts }
         ensures stays { self.new.extents ≡ self.old.extents }
         ensures touches { self.new.touches ≤ self.old.touches + 2 * (len / 8) + 3 }
+        ensures touched { (k : ℕ) → (k < from + 3) ⊎ (payload_byte from len ≤ 8 * k) → (k < to + 3) ⊎ (payload_byte to len ≤ 8 * k) → times self.new.touched k ≡ times self.old.touched k }
         ensures rise { self.old.touches ≤ self.new.touches }
     {
         let source = from as usize + 3;
@@ -139,6 +148,7 @@ impl Words {
         ensures starts { self.new.starts ≡ self.old.starts }
         ensures stays { self.new.extents ≡ self.old.extents }
         ensures touches { self.new.touches ≡ self.old.touches + 2 * n }
+        ensures touched { (k : ℕ) → (k < from) ⊎ (from + n ≤ k) → (k < to) ⊎ (to + n ≤ k) → times self.new.touched k ≡ times self.old.touched k }
     {
         self.words.copy(from, to, n);
     }
@@ -156,6 +166,7 @@ impl Words {
         ensures starts { self.new.starts ≡ self.old.starts }
         ensures stays { self.new.extents ≡ self.old.extents }
         ensures touches { self.new.touches ≡ self.old.touches + 2 }
+        ensures touched { self.new.touched ≡ place ∷ place ∷ self.old.touched }
     {
         let mut word = self.read(place).to_le_bytes();
         word[first..first + bytes.len()].copy_from_slice(bytes);
@@ -172,6 +183,7 @@ impl Words {
         ensures starts { self.new.starts ≡ self.old.starts }
         ensures stays { self.new.extents ≡ self.old.extents }
         ensures touches { self.new.touches ≡ self.old.touches + 1 }
+        ensures touched { self.new.touched ≡ place ∷ self.old.touched }
     {
         let word = self.read(place).to_le_bytes();
         out.copy_from_slice(&word[first..first + out.len()]);
@@ -179,6 +191,7 @@ impl Words {
 
     /// Writes bytes into one word, as `write_piece`, or none at all: then there need not be such a word.
     #[inline]
+    #[tactic(auto, using(crate::proofs::Touching::times_other))]
     fn write_edge(&mut self, place: usize, first: usize, bytes: &[u8])
         requires inside { 0 < length bytes.now → place < length self.old.words }
         requires within { first + length bytes.now ≤ 8 }
@@ -191,6 +204,8 @@ impl Words {
         ensures starts { self.new.starts ≡ self.old.starts }
         ensures stays { self.new.extents ≡ self.old.extents }
         ensures touches { self.new.touches ≤ self.old.touches + 2 }
+        ensures touched_before { (k : ℕ) → k < place → times self.new.touched k ≡ times self.old.touched k }
+        ensures touched_behind { (k : ℕ) → 8 * place + first + length bytes.now ≤ 8 * k → times self.new.touched k ≡ times self.old.touched k }
         ensures rise { self.old.touches ≤ self.new.touches }
     {
         if !bytes.is_empty() {
@@ -200,6 +215,7 @@ impl Words {
 
     /// Reads bytes of one word, as `read_piece`, or none at all: then there need not be such a word.
     #[inline]
+    #[tactic(auto, using(crate::proofs::Touching::times_other))]
     fn read_edge(&mut self, place: usize, first: usize, out: &mut [u8])
         requires inside { 0 < length out.old → place < length self.old.words }
         requires within { first + length out.old ≤ 8 }
@@ -208,6 +224,8 @@ impl Words {
         ensures starts { self.new.starts ≡ self.old.starts }
         ensures stays { self.new.extents ≡ self.old.extents }
         ensures touches { self.new.touches ≤ self.old.touches + 1 }
+        ensures touched_before { (k : ℕ) → k < place → times self.new.touched k ≡ times self.old.touched k }
+        ensures touched_behind { (k : ℕ) → 8 * place + first + length out.old ≤ 8 * k → times self.new.touched k ≡ times self.old.touched k }
         ensures rise { self.old.touches ≤ self.new.touches }
     {
         if !out.is_empty() {
@@ -229,6 +247,8 @@ impl Words {
         ensures starts { self.new.starts ≡ self.old.starts }
         ensures stays { self.new.extents ≡ self.old.extents }
         ensures touches { self.new.touches ≤ self.old.touches + 4 }
+        ensures touched_before { (k : ℕ) → 8 * k + 8 ≤ start → times self.new.touched k ≡ times self.old.touched k }
+        ensures touched_behind { (k : ℕ) → start + length bytes.now ≤ 8 * k → times self.new.touched k ≡ times self.old.touched k }
         ensures rise { self.old.touches ≤ self.new.touches }
     {
         let first = bytes.len().min(8 - start % 8);
@@ -246,6 +266,8 @@ impl Words {
         ensures starts { self.new.starts ≡ self.old.starts }
         ensures stays { self.new.extents ≡ self.old.extents }
         ensures touches { self.new.touches ≤ self.old.touches + 2 }
+        ensures touched_before { (k : ℕ) → 8 * k + 8 ≤ start → times self.new.touched k ≡ times self.old.touched k }
+        ensures touched_behind { (k : ℕ) → start + length out.old ≤ 8 * k → times self.new.touched k ≡ times self.old.touched k }
         ensures rise { self.old.touches ≤ self.new.touches }
     {
         let first = out.len().min(8 - start % 8);
@@ -268,6 +290,8 @@ impl Words {
         ensures starts { self.new.starts ≡ self.old.starts }
         ensures stays { self.new.extents ≡ self.old.extents }
         ensures touches { self.new.touches ≤ self.old.touches + 2 * (length bytes.now / 8 + 2) }
+        ensures touched_before { (k : ℕ) → 8 * k + 8 ≤ start → times self.new.touched k ≡ times self.old.touched k }
+        ensures touched_behind { (k : ℕ) → start + length bytes.now ≤ 8 * k → times self.new.touched k ≡ times self.old.touched k }
         ensures rise { self.old.touches ≤ self.new.touches }
     {
         let run = Run::of(start, bytes.len());
@@ -288,6 +312,8 @@ impl Words {
         ensures starts { self.new.starts ≡ self.old.starts }
         ensures stays { self.new.extents ≡ self.old.extents }
         ensures touches { self.new.touches ≤ self.old.touches + (length out.old / 8 + 2) }
+        ensures touched_before { (k : ℕ) → 8 * k + 8 ≤ start → times self.new.touched k ≡ times self.old.touched k }
+        ensures touched_behind { (k : ℕ) → start + length out.old ≤ 8 * k → times self.new.touched k ≡ times self.old.touched k }
         ensures rise { self.old.touches ≤ self.new.touches }
     {
         let run = Run::of(start, out.len());
@@ -299,6 +325,7 @@ impl Words {
 
     /// Writes the first of eight bytes or more into one word, from byte `first` of it on, where it isn't to be written whole.
     #[inline]
+    #[tactic(auto, using(crate::proofs::Touching::times_other))]
     fn write_head(&mut self, place: usize, first: usize, bytes: &[u8])
         requires inside { 0 < first → place < length self.old.words }
         requires within { first < 8 }
@@ -311,6 +338,7 @@ impl Words {
         ensures starts { self.new.starts ≡ self.old.starts }
         ensures stays { self.new.extents ≡ self.old.extents }
         ensures touches { self.new.touches ≤ self.old.touches + 2 }
+        ensures touched { (k : ℕ) → k ≢ place → times self.new.touched k ≡ times self.old.touched k }
         ensures rise { self.old.touches ≤ self.new.touches }
     {
         if first == 0 {
@@ -322,6 +350,7 @@ impl Words {
 
     /// Writes the last `n` of eight bytes or more into one word, from its first byte on, where it isn't to be written whole.
     #[inline]
+    #[tactic(auto, using(crate::proofs::Touching::times_other))]
     fn write_tail(&mut self, place: usize, n: usize, bytes: &[u8])
         requires inside { 0 < n → place < length self.old.words }
         requires within { n < 8 }
@@ -335,6 +364,8 @@ impl Words {
         ensures starts { self.new.starts ≡ self.old.starts }
         ensures stays { self.new.extents ≡ self.old.extents }
         ensures touches { self.new.touches ≤ self.old.touches + 2 }
+        ensures touched_before { (k : ℕ) → k < place → times self.new.touched k ≡ times self.old.touched k }
+        ensures touched_behind { (k : ℕ) → 8 * place + n ≤ 8 * k → times self.new.touched k ≡ times self.old.touched k }
         ensures rise { self.old.touches ≤ self.new.touches }
     {
         if n == 0 {
@@ -347,6 +378,7 @@ impl Words {
 
     /// Reads bytes of one word, from byte `first` of it on, into the first of eight bytes or more, where it isn't to be read whole.
     #[inline]
+    #[tactic(auto, using(crate::proofs::Touching::times_other))]
     fn read_head(&mut self, place: usize, first: usize, out: &mut [u8])
         requires inside { 0 < first → place < length self.old.words }
         requires within { first < 8 }
@@ -356,6 +388,7 @@ impl Words {
         ensures starts { self.new.starts ≡ self.old.starts }
         ensures stays { self.new.extents ≡ self.old.extents }
         ensures touches { self.new.touches ≤ self.old.touches + 1 }
+        ensures touched { (k : ℕ) → k ≢ place → times self.new.touched k ≡ times self.old.touched k }
         ensures rise { self.old.touches ≤ self.new.touches }
     {
         if first == 0 {
@@ -367,6 +400,7 @@ impl Words {
 
     /// Reads the first `n` bytes of one word into the last of eight bytes or more, where it isn't to be read whole.
     #[inline]
+    #[tactic(auto, using(crate::proofs::Touching::times_other))]
     fn read_tail(&mut self, place: usize, n: usize, out: &mut [u8])
         requires inside { 0 < n → place < length self.old.words }
         requires within { n < 8 }
@@ -377,6 +411,8 @@ impl Words {
         ensures starts { self.new.starts ≡ self.old.starts }
         ensures stays { self.new.extents ≡ self.old.extents }
         ensures touches { self.new.touches ≤ self.old.touches + 1 }
+        ensures touched_before { (k : ℕ) → k < place → times self.new.touched k ≡ times self.old.touched k }
+        ensures touched_behind { (k : ℕ) → 8 * place + n ≤ 8 * k → times self.new.touched k ≡ times self.old.touched k }
         ensures rise { self.old.touches ≤ self.new.touches }
     {
         if n == 0 {
@@ -402,6 +438,8 @@ impl Words {
         ensures starts { self.new.starts ≡ self.old.starts }
         ensures stays { self.new.extents ≡ self.old.extents }
         ensures touches { self.new.touches ≡ self.old.touches + n }
+        ensures touched_before { (k : ℕ) → k < place → times self.new.touched k ≡ times self.old.touched k }
+        ensures touched_behind { (k : ℕ) → place + n ≤ k → times self.new.touched k ≡ times self.old.touched k }
     {
         self.words.write_bytes(place, n, bytes);
     }
@@ -416,6 +454,8 @@ impl Words {
         ensures starts { self.new.starts ≡ self.old.starts }
         ensures stays { self.new.extents ≡ self.old.extents }
         ensures touches { self.new.touches ≡ self.old.touches + n }
+        ensures touched_before { (k : ℕ) → k < place → times self.new.touched k ≡ times self.old.touched k }
+        ensures touched_behind { (k : ℕ) → place + n ≤ k → times self.new.touched k ≡ times self.old.touched k }
     {
         self.words.read_bytes(place, n, out);
     }

@@ -36,3 +36,9 @@ returns-clause-edits g c i stands =
     let out = c.pop_first-at.ensures.change.edits in
     let given = c.give.ensures.edits i (rw (reads.blocks ∙ c.pop_first-at.ensures.change.blocks) stands) in
     record { words = given.words ∙ reads.words ∙ out.words; shows = given.shows; linked = given.linked; bits = given.bits; stays = given.stays ∙ reads.stays ∙ out.stays; touches = omega (arith, given.touches, reads.touches, out.touches); rise = omega (arith, given.rise, reads.rise, out.rise) }
+
+pub returns-clause-touched : goal.returns-clause-touched
+returns-clause-touched g c k live =
+    let reads = c.tag-own.ensures.reads in
+    let out = c.pop_first-at.ensures.change in
+    (rw (reads.blocks ∙ out.blocks) at c.give.ensures.touched) k live ∙ (rw out.blocks at c.tag-own.ensures.touched) k live ∙ out.touched k live

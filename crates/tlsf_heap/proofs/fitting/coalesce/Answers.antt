@@ -1,4 +1,4 @@
-use Rattle.std.proofs.Common.{◌≡◌, ℕ, ◌+◌, ◌-◌, true, suc, take, drop, refl, sym, ap, ◌∙◌, subst, arith}
+use Rattle.std.proofs.Common.{List, ◌≡◌, ℕ, ◌+◌, ◌-◌, true, suc, take, drop, refl, sym, ap, ◌∙◌, subst, arith}
 use Rattle.tlsf_class.specs.Classes.{class_of}
 use Rattle.tlsf_heap.specs.Blocks.{size_of, is_free, StandsAt}
 use Rattle.tlsf_heap.specs.Calls.{first_free, last_free}
@@ -6,6 +6,9 @@ use Rattle.tlsf_heap.specs.GoodFit.{block_at}
 use Rattle.tlsf_heap.specs.Regions.{AreUnlisted, list_in}
 use Rattle.tlsf_heap.proofs.lemmas.lists.Withheld.{is_between, nothing_out, size_region, rest_unlisted, withheld_listed, merged_free, merged_listed}
 use Rattle.tlsf_heap.proofs.lemmas.blocks.Around.{one_index}
+use Rattle.tlsf_heap.specs.Blocks.{Block}
+use Rattle.tlsf_heap.specs.Footprint.{IsLiveWord}
+use Rattle.tlsf_heap.proofs.lemmas.words.Footprint.{others_last}
 use Rattle.tlsf_heap.proofs.fitting.coalesce.Goals as goal
 
 pub free-requires : goal.free-requires
@@ -52,7 +55,7 @@ push-requires g c =
     let none_ahead = (ahead live.0 live.1).live previous_live in
     let out = nothing_out g.row.SLI none_behind in
     let out_too = nothing_out g.row.SLI none_ahead in
-    let change = (rw blocks at c.free.ensures) live.0 live.1 in
+    let change = (rw blocks at c.free.ensures.change) live.0 live.1 in
     let left = withheld_listed g.row.SLI f out out_too (λ class. change.lists class ∙ ap (λ l. list_in l class) lists) live.0 live.1 in
     let here : c.args.at - last_free (take live.0 c.args.region.now.blocks) ≡ c.args.at = omega (arith, none_ahead) in (
       omega arith,
@@ -80,7 +83,7 @@ returns-clause-listed g c =
     let none_ahead = (ahead live.0 live.1).live previous_live in
     let out = nothing_out g.row.SLI none_behind in
     let out_too = nothing_out g.row.SLI none_ahead in
-    let change = (rw blocks at c.free.ensures) live.0 live.1 in
+    let change = (rw blocks at c.free.ensures.change) live.0 live.1 in
     let left = withheld_listed g.row.SLI f out out_too (λ class. change.lists class ∙ ap (λ l. list_in l class) lists) live.0 live.1 in
     let here : c.args.at - last_free (take live.0 c.args.region.now.blocks) ≡ c.args.at = omega (arith, none_ahead) in
     let is = c.requires.own live.0 live.1 in
@@ -88,3 +91,16 @@ returns-clause-listed g c =
     let size : c.size.result ≡ last_free (take live.0 bs) + size_of (block_at bs live.0) + first_free (drop (suc live.0) bs) = omega (arith, c.size.ensures.value, is.size, none_ahead, none_behind) in
     merged_listed g.row.SLI f left c.push.new.self.blocks (c.push.ensures.blocks ∙ change.blocks) c.class_of.result (list_in c.free.new.self.lists) (list_in c.push.new.self.lists)
     (c.class_of.ensures ∙ ap (class_of g.row.SLI) size) (λ class. refl) (rw here c.push.ensures.list) c.push.ensures.others
+
+pub returns-clause-touched : goal.returns-clause-touched
+returns-clause-touched g c k o =
+    let live = c.requires.live in
+    let next = c.next_tag-next.ensures in
+    let previous = c.previous_tag-previous.ensures in
+    let blocks = previous.reads.blocks ∙ next.reads.blocks in
+    let change = (rw blocks at c.free.ensures.change) live.0 live.1 in
+    let word : IsLiveWord c.args.region.now.blocks k = (o.0, o.1, o.2, o.3) in
+    c.push.ensures.touched k (subst (λ (bs : List Block). IsLiveWord bs k) (sym change.blocks) (others_last c.args.tick.now c.args.region.now.blocks c.args.at live.0 k live.1 o))
+    ∙ (rw blocks at c.free.ensures.touched) k word
+    ∙ (rw next.reads.blocks at previous.touched) k word
+    ∙ next.touched k word

@@ -2,14 +2,17 @@ use Rattle.std.proofs.Common.{◌≡◌, ℕ, ◌+◌, ◌-◌, ◌<◌, ◌≤�
 use Rattle.tlsf_class.proofs.TwoLevels.{most_words_any}
 use Rattle.tlsf_class.specs.Classes.{class_of}
 use Rattle.tlsf_words.specs.Bytes.{bytes_in, payload_byte}
-use Rattle.tlsf_heap.specs.Blocks.{size_of, StandsAt}
+use Rattle.tlsf_heap.specs.Blocks.{size_of, StandsAt, Block}
 use Rattle.tlsf_heap.specs.Calls.{carved}
 use Rattle.tlsf_heap.specs.GoodFit.{block_at}
 use Rattle.tlsf_heap.proofs.lemmas.words.ClearPayload.{zeroed_block}
-use Rattle.tlsf_heap.specs.Regions.{Rewrites, list_in}
+use Rattle.tlsf_heap.specs.Regions.{Rewrites, list_in, RegionState}
 use Rattle.tlsf_heap.proofs.lemmas.lists.Carved.{IsReady, is_out, out_unlisted, end_within, by_grant, by_split, split_rest_free, split_rest_unlisted, zeroed_around, zeroed_carved, zeroed_listed}
 use Rattle.tlsf_heap.proofs.lemmas.words.Bytes.{length-bytes_in}
-use Rattle.tlsf_heap.proofs.lemmas.blocks.Around.{block_around, stands_around, one_index}
+use Rattle.tlsf_heap.proofs.lemmas.blocks.Around.{block_around, stands_around, one_index, around, region_around}
+use Rattle.tlsf_words.specs.Touched.{times}
+use Rattle.tlsf_heap.specs.Footprint.{IsOthersWord}
+use Rattle.tlsf_heap.proofs.lemmas.words.Footprint.{kept_others, free_elsewhere, any_word}
 use Rattle.tlsf_heap.proofs.fitting.give.Given.{Over}
 use Rattle.tlsf_heap.proofs.fitting.give.Goals.{then-left-lt4, else-left-lt4}
 use Rattle.tlsf_heap.proofs.fitting.give.Goals as goal
@@ -121,7 +124,7 @@ was_ready g c =
 
 -- what the zeros leave
 zeroed : (g : Over) (c : goal.After-zero g) → Rewrites c.if-left-lt4.region c.zero.new.self (take c.requires.free.0 c.if-left-lt4.region.blocks ++ (zeroed_block (block_at c.if-left-lt4.region.blocks c.requires.free.0) ∷ []) ++ drop (suc c.requires.free.0) c.if-left-lt4.region.blocks) (c.args.words - 4 - c.args.spare)
-zeroed g c = c.zero.ensures c.requires.free.0 (stands_around (was_ready g c).1.given.around)
+zeroed g c = c.zero.ensures.change c.requires.free.0 (stands_around (was_ready g c).1.given.around)
 
 -- the block begins at one place
 one : (g : Over) (c : goal.After-zero g) (i : ℕ) → StandsAt c.args.region.now.blocks c.args.at i → c.requires.free.0 ≡ i
@@ -151,3 +154,35 @@ returns-clause-edits g c i stands =
       touches = omega (arith, zeros.edits.touches, ready.edits.touches, size, ready.given.room, c.requires.payload);
       rise = omega (arith, zeros.edits.rise, ready.edits.rise);
     }
+
+-- ---- the payloads of live blocks
+
+-- where the block has its header and its rest is listed, the word is still another block's, and was not touched
+left_word : (g : Over) (c : goal.After-zero g) (k : ℕ) → IsOthersWord c.args.region.now.blocks c.args.at k
+    → IsOthersWord c.if-left-lt4.region.blocks c.args.at k × (times c.if-left-lt4.region.touched k ≡ times c.args.region.now.touched k)
+left_word g c k o =
+    let bs = c.args.region.now.blocks in
+    let free = c.requires.free in
+    let at = c.args.at in
+    let live = any_word bs at k o in
+    let own = (c.requires.own free.0 free.1).size in
+    elim c.if-left-lt4.branch [
+      | then-left-lt4 w ↦ let change = w.grant.ensures.change free.0 free.1 in
+          let last = kept_others bs w.grant.new.self.blocks _ at free.0 k free.1 change.blocks (omega arith) o in
+          (subst (λ (r : RegionState). IsOthersWord r.blocks at k) (sym w.region-is) last, ap (λ (r : RegionState). times r.touched k) w.region-is ∙ w.grant.ensures.touched k live)
+      | else-left-lt4 w ↦ let change = w.split.ensures.change free.0 free.1 in
+          let large : c.args.words + 4 ≤ c.args.own.size = omega (arith, w.if-left-lt4.false, c.rest_of-rest.ensures.left) in
+          let last = kept_others bs w.split.new.self.blocks _ at free.0 k free.1 change.blocks (omega (arith, large, own)) o in
+          let put = w.push.ensures in (
+            subst (λ (r : RegionState). IsOthersWord r.blocks at k) (sym w.region-is) (subst (λ (l : List Block). IsOthersWord l at k) (sym put.blocks) last),
+            ap (λ (r : RegionState). times r.touched k) w.region-is ∙ put.touched k (any_word w.split.new.self.blocks at k last) ∙ w.split.ensures.touched k live,
+          )
+    ]
+
+pub returns-clause-touched : goal.returns-clause-touched
+returns-clause-touched g c k live =
+    let bs = c.args.region.now.blocks in
+    let free = c.requires.free in
+    let some = (region_around g.row.SLI (around bs c.args.at free.0 free.1) c.requires.sized).0 in
+    let left = left_word g c k (free_elsewhere bs c.args.at free.0 k free.1 free.2.0 (omega (arith, some)) live) in
+    c.zero.ensures.touched k left.0 ∙ left.1

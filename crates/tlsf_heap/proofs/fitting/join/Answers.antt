@@ -73,13 +73,13 @@ returns-then-not-is_free-clause-listed g c =
     let t = tagged g.row.SLI c.requires.live c.requires.tags c.requires.sized c.requires.stamped c.requires.listed in
     let unfree = sym c.is_free.ensures ∙ c.if-not-is_free.true in
     let some = c.requires.some unfree in
-    let change = (rw c.remove.ensures.blocks at c.merge.ensures) t.i t.between.stands in
+    let change = (rw c.remove.ensures.blocks at c.merge.ensures.change) t.i t.between.stands in
     withheld_listed g.row.SLI t.between (nothing_out g.row.SLI (t.tags.is_next.live unfree)) (ahead_out g.row.SLI t some c.size-before.ensures.value c.remove.ensures) change.lists
 
 pub returns-then-not-is_free-clause-edits : goal.returns-then-not-is_free-clause-edits
 returns-then-not-is_free-clause-edits g c =
     let t = tagged g.row.SLI c.requires.live c.requires.tags c.requires.sized c.requires.stamped c.requires.listed in
-    edits_both (omega arith) c.remove.ensures.edits (c.merge.ensures t.i (rw c.remove.ensures.blocks t.between.stands)).edits
+    edits_both (omega arith) c.remove.ensures.edits (c.merge.ensures.change t.i (rw c.remove.ensures.blocks t.between.stands)).edits
 
 -- ---- only the block behind is free
 
@@ -140,7 +140,7 @@ returns-then-not-is_free-2-clause-listed g c =
     let t = tagged g.row.SLI c.requires.live c.requires.tags c.requires.sized c.requires.stamped c.requires.listed in
     let next_free = sym c.is_free.ensures ∙ c.if-not-is_free.false in
     let previous_live = sym c.is_free-2.ensures ∙ c.if-not-is_free-2.true in
-    let change = (rw c.remove-2.ensures.blocks at c.merge-then-not-is_free-2.ensures) t.i t.between.stands in
+    let change = (rw c.remove-2.ensures.blocks at c.merge-then-not-is_free-2.ensures.change) t.i t.between.stands in
     withheld_listed g.row.SLI t.between (behind_out g.row.SLI t next_free c.size-after.ensures.value c.size-2.ensures.value c.remove-2.ensures) (nothing_out g.row.SLI (t.tags.is_previous.live previous_live)) change.lists
 
 -- ---- both are free
@@ -221,12 +221,23 @@ returns-clause-listed g c =
     let next_free = sym c.is_free.ensures ∙ c.if-not-is_free.false in
     let previous_free = sym c.is_free-2.ensures ∙ c.if-not-is_free-2.false in
     let blocks = c.remove-3.ensures.blocks ∙ c.remove-2.ensures.blocks in
-    let change = (rw blocks at c.merge-2.ensures) t.i t.between.stands in
+    let change = (rw blocks at c.merge-2.ensures.change) t.i t.between.stands in
     withheld_listed g.row.SLI t.between (behind_out g.row.SLI t next_free c.size-after.ensures.value c.size-2.ensures.value c.remove-2.ensures) (ahead_out g.row.SLI t previous_free c.size-before-2.ensures.value c.remove-3.ensures) change.lists
 
 pub returns-clause-edits : goal.returns-clause-edits
 returns-clause-edits g c =
     let t = tagged g.row.SLI c.requires.live c.requires.tags c.requires.sized c.requires.stamped c.requires.listed in
     let blocks = c.remove-3.ensures.blocks ∙ c.remove-2.ensures.blocks in
-    let change = c.merge-2.ensures t.i (rw blocks t.between.stands) in
+    let change = c.merge-2.ensures.change t.i (rw blocks t.between.stands) in
     edits_both (omega arith) c.remove-2.ensures.edits (edits_both {most = 12} (omega arith) c.remove-3.ensures.edits change.edits)
+
+pub returns-then-not-is_free-clause-touched : goal.returns-then-not-is_free-clause-touched
+returns-then-not-is_free-clause-touched g c k live = (rw c.remove.ensures.blocks at c.merge.ensures.touched) k live ∙ c.remove.ensures.touched k live
+
+pub returns-then-not-is_free-2-clause-touched : goal.returns-then-not-is_free-2-clause-touched
+returns-then-not-is_free-2-clause-touched g c k live = (rw c.remove-2.ensures.blocks at c.merge-then-not-is_free-2.ensures.touched) k live ∙ c.remove-2.ensures.touched k live
+
+pub returns-clause-touched : goal.returns-clause-touched
+returns-clause-touched g c k live =
+    let blocks = c.remove-3.ensures.blocks ∙ c.remove-2.ensures.blocks in
+    (rw blocks at c.merge-2.ensures.touched) k live ∙ (rw c.remove-2.ensures.blocks at c.remove-3.ensures.touched) k live ∙ c.remove-2.ensures.touched k live

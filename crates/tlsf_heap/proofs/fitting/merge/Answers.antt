@@ -1,8 +1,11 @@
-use Rattle.std.proofs.Common.{refl, sym, ap, ◌∙◌, arith}
+use Rattle.std.proofs.Common.{subst, List, refl, sym, ap, ◌∙◌, arith}
 use Rattle.tlsf_class.specs.Classes.{class_of}
 use Rattle.tlsf_class.proofs.TwoLevels.{most_words_any}
 use Rattle.tlsf_heap.specs.Regions.{list_in}
 use Rattle.tlsf_heap.proofs.lemmas.lists.Withheld.{is_between, size_region, end_within, before_within, rest_unlisted, merged_free, merged_listed}
+use Rattle.tlsf_heap.specs.Blocks.{Block}
+use Rattle.tlsf_heap.specs.Footprint.{IsLiveWord}
+use Rattle.tlsf_heap.proofs.lemmas.words.Footprint.{others_last}
 use Rattle.tlsf_heap.proofs.fitting.merge.Goals as goal
 
 pub class_of-requires : goal.class_of-requires
@@ -43,3 +46,10 @@ returns-clause-listed g c =
     let e = c.join-place.ensures in
     merged_listed g.row.SLI f (e.listed live.0 live.1) c.push.new.self.blocks (c.push.ensures.blocks ∙ e.blocks live.0 live.1) c.class_of.result (list_in c.join-place.new.region.lists) (list_in c.push.new.self.lists)
     (c.class_of.ensures ∙ ap (class_of g.row.SLI) (e.size live.0 live.1)) (λ class. refl) (rw (sym (e.place live.0 live.1)) c.push.ensures.list) c.push.ensures.others
+
+pub returns-clause-touched : goal.returns-clause-touched
+returns-clause-touched g c k o =
+    let live = c.requires.live in
+    let e = c.join-place.ensures in
+    c.push.ensures.touched k (subst (λ (bs : List Block). IsLiveWord bs k) (sym (e.blocks live.0 live.1)) (others_last c.args.tick c.args.region.now.blocks c.args.at live.0 k live.1 o))
+    ∙ e.touched k (o.0, o.1, o.2, o.3)

@@ -22,7 +22,7 @@ use Rattle.tlsf_heap.specs.declared.refusal.Refusal.TheVariants.{NoFit, Stale, W
 use Rattle.tlsf_heap.proofs.lemmas.calls.Alter.{named_of}
 use Rattle.tlsf_heap.proofs.lemmas.calls.Allocate.{fits_size}
 use Rattle.tlsf_heap.proofs.lemmas.blocks.Find.{and_left, and_right, not_true}
-use Rattle.tlsf_heap.proofs.lemmas.laws.Lasting.{HasFrom, in_left, in_right, edited, released_lasts}
+use Rattle.tlsf_heap.proofs.lemmas.laws.Lasting.{HasFrom, of_index, to_index, in_left, in_right, edited, released_lasts}
 use Rattle.tlsf_heap.proofs.lemmas.laws.Live.{shown, lives, serial_of, words_carved}
 use Rattle.tlsf_heap.proofs.lemmas.calls.ResizeOrMove.{released_live}
 use Rattle.tlsf_heap.proofs.lemmas.calls.Named.{named_is, named_stands, at_name}
@@ -33,7 +33,7 @@ use Rattle.tlsf_heap.proofs.lemmas.lists.Refit.{refitted_cut}
 use Rattle.tlsf_heap.proofs.lemmas.calls.Resize.{by_refitted}
 use Rattle.tlsf_heap.proofs.lemmas.blocks.Sites.{choice_none}
 use Rattle.tlsf_heap.proofs.lemmas.blocks.Around.{Around, around, around_next, stands_around, block_around, words_around}
-use Rattle.tlsf_heap.proofs.lemmas.laws.Payloads.{of_index, to_index, holds, not_free, one_holds, stays_allocated, stays_resized, stays_released}
+use Rattle.tlsf_heap.proofs.lemmas.laws.Payloads.{holds, not_free, one_holds, stays_allocated, stays_resized, stays_released}
 use Rattle.tlsf_heap.proofs.lemmas.laws.Payloads as steady
 
 -- ---- a live block of n words or more

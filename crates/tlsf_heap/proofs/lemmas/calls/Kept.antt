@@ -11,7 +11,7 @@ use Rattle.tlsf_heap.proofs.lemmas.lists.FreeLists.{stored_lists}
 
 -- what a heap shows
 abbrev pub shown_of : (sli : ℕ) → Inside sli → Shown
-shown_of sli h = record { heap = state_of sli h; stored = h.region.stored; marked = h.region.marked; extents = h.region.extents; touches = h.region.touches }
+shown_of sli h = record { heap = state_of sli h; stored = h.region.stored; marked = h.region.marked; extents = h.region.extents; touches = h.region.touches; touched = h.region.touched }
 
 -- a refused call left the heap
 pub heap_as_before : {A E : Type 0} (old new : Shown) (answer : Result A E) → OnErr answer (IsAsBefore old new) → OnErr answer (new.heap ≡ old.heap)
@@ -29,8 +29,8 @@ module _ (sli : ℕ) (h : Inside sli) {old : Shown} (same : shown_of sli h ≡ o
       subst (λ (s : Shown). Keeps sli s (shown_of sli k)) same (record { was_lawful = was.lawful; lawful = is.lawful; shows = is.shows; lists = stored_lists sli k is; stays = stays; touches_rise = rise })
 
   -- the region was only read
-  pub keeps_read : (region : RegionState) {n : ℕ} → OnlyReads h.region region n → Keeps sli old (record { heap = with_region (state_of sli h) h.tick region; stored = region.stored; marked = region.marked; extents = region.extents; touches = region.touches })
-  keeps_read region reads = subst (λ (s : Shown). Keeps sli s (record { heap = with_region (state_of sli h) h.tick region; stored = region.stored; marked = region.marked; extents = region.extents; touches = region.touches })) same (record {
+  pub keeps_read : (region : RegionState) {n : ℕ} → OnlyReads h.region region n → Keeps sli old (record { heap = with_region (state_of sli h) h.tick region; stored = region.stored; marked = region.marked; extents = region.extents; touches = region.touches; touched = region.touched })
+  keeps_read region reads = subst (λ (s : Shown). Keeps sli s (record { heap = with_region (state_of sli h) h.tick region; stored = region.stored; marked = region.marked; extents = region.extents; touches = region.touches; touched = region.touched })) same (record {
     was_lawful = was.lawful;
     lawful = rw (reads.words, reads.blocks) was.lawful;
     shows = rw (reads.stored, reads.blocks) was.shows;

@@ -1,8 +1,9 @@
 -- Which live blocks last: a block at a place, of which something holds that holds of no free block, through the changes that calls make.
-use Rattle.std.proofs.Common.{◌≡◌, ℕ, ◌+◌, ◌≤◌, List, [], ◌∷◌, ◌++◌, subst, inl, inr, arith, refl}
+use Rattle.std.proofs.Common.{◌≡◌, ℕ, zero, suc, ◌+◌, ◌<◌, ◌≤◌, List, [], ◌∷◌, ◌++◌, length, take, subst, inl, inr, arith, refl}
 use Rattle.std.specs.Prelude.{◌⊎◌}
 use Rattle.tlsf_heap.specs.Blocks.{Block, Live, Free, size_of, words_in}
 use Rattle.tlsf_heap.specs.Calls.{first_free, past_free, last_free, before_free, coalesced, room_of, is_sized, refitted}
+use Rattle.tlsf_heap.specs.GoodFit.{block_at}
 use Rattle.tlsf_heap.proofs.lemmas.blocks.Lawful.{words_in-append}
 use Rattle.tlsf_heap.proofs.lemmas.blocks.Coalesce.{by_last}
 use Rattle.tlsf_heap.proofs.lemmas.calls.Outcomes.{by_test}
@@ -13,6 +14,19 @@ module _ (P : Block → Type 0) (at : ℕ) where
   abbrev pub HasFrom : ℕ → List Block → Type 0
   HasFrom place [] = ⊥
   HasFrom place (b ∷ bs) = (P b × (place ≡ at)) ⊎ HasFrom (place + size_of b) bs
+
+  -- the block at an index begins there
+  pub of_index : (place : ℕ) (bs : List Block) (i : ℕ) → i < length bs → place + words_in (take i bs) ≡ at → P (block_at bs i) → HasFrom place bs
+  of_index place [] i within e p = absurd (omega (arith, within))
+  of_index place (b ∷ bs) zero within e p = inl (p, omega (arith, e))
+  of_index place (b ∷ bs) (suc i) within e p = inr (of_index (place + size_of b) bs i (omega arith) (omega (arith, e)) p)
+
+  pub to_index : (place : ℕ) (bs : List Block) → HasFrom place bs → (i : ℕ) × (i < length bs) × (place + words_in (take i bs) ≡ at) × P (block_at bs i)
+  to_index place [] h = absurd h
+  to_index place (b ∷ bs) h = elim h [
+    | inl e ↦ (0, omega arith, omega (arith, e.1), e.0)
+    | inr t ↦ let r = to_index (place + size_of b) bs t in (suc r.0, omega (arith, r.1), omega (arith, r.2), r.3)
+  ]
 
   pub moved : (j k : ℕ) (bs : List Block) → j ≡ k → HasFrom j bs → HasFrom k bs
   moved j k bs e h = subst (λ (i : ℕ). HasFrom i bs) e h

@@ -1,5 +1,5 @@
 -- Payloads that stay through each call that isn't about them.
-use Rattle.std.proofs.Common.{◌≡◌, ◌≢◌, ℕ, zero, suc, ◌+◌, ◌<◌, List, [], ◌∷◌, ◌++◌, length, take, true, refl, sym, ◌∙◌, subst, inl, inr, arith, append_assoc, Ok, ap, eq-eqb}
+use Rattle.std.proofs.Common.{◌≡◌, ◌≢◌, ℕ, ◌+◌, List, [], ◌∷◌, ◌++◌, length, take, true, refl, sym, ◌∙◌, subst, inl, inr, arith, append_assoc, Ok, ap, eq-eqb}
 use Rattle.std.specs.List.{AllByRecursion}
 use Rattle.std.proofs.lemmas.Bool.{false≢true, eqb-true}
 use Rattle.tlsf_heap.specs.Blocks.{Block, Live, Free, HeapState, size_of, words_in, bytes_of, want}
@@ -8,7 +8,7 @@ use Rattle.tlsf_heap.specs.Calls.{carved, has_serial, allocated_words, released,
 use Rattle.tlsf_heap.specs.Steady.{Holds, HasPayload, IsOfOthers}
 use Rattle.tlsf_heap.specs.declared.name.Name.{Name}
 use Rattle.tlsf_heap.proofs.lemmas.blocks.Find.{and_left, and_right}
-use Rattle.tlsf_heap.proofs.lemmas.laws.Lasting.{HasFrom, in_left, in_right, in_either, edited, released_lasts, refitted_lasts, moved}
+use Rattle.tlsf_heap.proofs.lemmas.laws.Lasting.{HasFrom, of_index, to_index, in_left, in_right, in_either, edited, released_lasts, refitted_lasts, moved}
 use Rattle.tlsf_heap.proofs.lemmas.laws.Live.{words_carved, same_name, new_words}
 use Rattle.tlsf_heap.proofs.lemmas.calls.Outcomes.{IsSiteOf, by_allocated_words, by_released, by_resized_words, writes, by_written_named}
 use Rattle.std.proofs.Math.Seq.{take-length}
@@ -24,19 +24,6 @@ use Rattle.tlsf_heap.proofs.lemmas.calls.ResizeOrMove.{by_resized_or_moved}
 use Rattle.tlsf_heap.proofs.lemmas.words.Bytes.{size_of-with_bytes}
 use Rattle.tlsf_heap.proofs.lemmas.words.Says.{named_here}
 use Rattle.tlsf_heap.proofs.lemmas.calls.Write.{read_if}
-
-module _ (P : Block → Type 0) (at : ℕ) where
-  pub of_index : (place : ℕ) (bs : List Block) (i : ℕ) → i < length bs → place + words_in (take i bs) ≡ at → P (block_at bs i) → HasFrom P at place bs
-  of_index place [] i within e p = absurd (omega (arith, within))
-  of_index place (b ∷ bs) zero within e p = inl (p, omega (arith, e))
-  of_index place (b ∷ bs) (suc i) within e p = inr (of_index (place + size_of b) bs i (omega arith) (omega (arith, e)) p)
-
-  pub to_index : (place : ℕ) (bs : List Block) → HasFrom P at place bs → (i : ℕ) × (i < length bs) × (place + words_in (take i bs) ≡ at) × P (block_at bs i)
-  to_index place [] h = absurd h
-  to_index place (b ∷ bs) h = elim h [
-    | inl e ↦ (0, omega arith, omega (arith, e.1), e.0)
-    | inr t ↦ let r = to_index (place + size_of b) bs t in (suc r.0, omega (arith, r.1), omega (arith, r.2), r.3)
-  ]
 
 -- what holds of blocks of one serial, and of no free block, lasts of the block of a name through each call that is not about it
 module _ (P : Block → Type 0) (name : Name) (not_free : (m s : ℕ) → P (Free m s) → ⊥) (one : (a : ℕ) (b : Block) → has_serial a b ≡ true → P b → a ≡ name.serial) where

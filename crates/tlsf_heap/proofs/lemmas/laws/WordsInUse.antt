@@ -17,7 +17,7 @@ use Rattle.tlsf_heap.specs.WordsInUse.{AnswersAs, words_in_use, words_held, live
 use Rattle.tlsf_heap.specs.ByPlace.{released_by_place, IsLiveAt}
 use Rattle.tlsf_heap.specs.declared.placed_block.PlacedBlock.{PlacedBlock}
 use Rattle.tlsf_heap.specs.declared.refusal.Refusal.{Refusal}
-use Rattle.tlsf_heap.proofs.lemmas.laws.Payloads.{of_index, to_index, lasts_allocated, lasts_released}
+use Rattle.tlsf_heap.proofs.lemmas.laws.Payloads.{lasts_allocated, lasts_released}
 use Rattle.tlsf_heap.proofs.lemmas.blocks.Sums.{words_apart}
 use Rattle.tlsf_heap.specs.declared.name.Name.{Name}
 use Rattle.tlsf_heap.proofs.lemmas.calls.Alter.{named_of}
@@ -25,7 +25,7 @@ use Rattle.tlsf_heap.proofs.lemmas.calls.ByPlace.{name_here, call_found}
 use Rattle.tlsf_heap.proofs.lemmas.blocks.Coalesce.{by_last}
 use Rattle.tlsf_heap.proofs.lemmas.blocks.Replace.{carved_small, carved_large}
 use Rattle.tlsf_heap.proofs.lemmas.blocks.Find.{and_left, and_right}
-use Rattle.tlsf_heap.proofs.lemmas.laws.Lasting.{HasFrom}
+use Rattle.tlsf_heap.proofs.lemmas.laws.Lasting.{HasFrom, of_index, to_index}
 use Rattle.tlsf_heap.proofs.lemmas.blocks.Lawful.{words_in-append}
 use Rattle.tlsf_heap.proofs.lemmas.calls.Named.{named_stands, named_live}
 use Rattle.tlsf_heap.proofs.lemmas.calls.Outcomes.{IsSiteOf, gives_words, by_allocated_words, takes, by_released, by_resized_words, by_written, lawful_site, lawful_allocated_words, lawful_resized_words}

@@ -61,8 +61,8 @@ pub record HoldsState (sli : ℕ) (m : Image) (l : ListHeads) (r : RegionState) 
   pub free : AreFreeBlocks (list_of l.heads m.words) r.blocks
   pub lists : (class : ℕ) → list_in r.lists class ≡ list_of l.heads m.words class
 
-pub holds_state : (sli : ℕ) {m : Image} {l : ListHeads} {r : RegionState} {extents : Extents} {touches : ℕ} → HoldsLists sli m l
-    → record { words = length m.words; blocks = blocks_of m.words; lists = lists_of l.heads m.words; marked = l.members; stored = m; extents = extents; touches = touches } ≡ r → HoldsState sli m l r
+pub holds_state : (sli : ℕ) {m : Image} {l : ListHeads} {r : RegionState} {extents : Extents} {touches : ℕ} {touched : List ℕ} → HoldsLists sli m l
+    → record { words = length m.words; blocks = blocks_of m.words; lists = lists_of l.heads m.words; marked = l.members; stored = m; extents = extents; touches = touches; touched = touched } ≡ r → HoldsState sli m l r
 holds_state sli {m = m} {l = l} holds same =
     subst (HoldsState sli m l) same (record { shows = holds.shows; threaded = holds.threaded; free = holds.free; lists = list_in-lists_of l.heads m.words })
 

@@ -21,8 +21,8 @@ use Rattle.tlsf_heap.proofs.lemmas.words.Image.{word_at, start_at, shown_here, f
 use Rattle.tlsf_heap.proofs.lemmas.words.Links.{shows_linked}
 
 -- the words of a region show its blocks
-pub shows_state : (sli : ℕ) {m : Image} {l : ListHeads} {r : RegionState} {extents : Extents} {touches : ℕ} → HoldsLists sli m l
-    → record { words = length m.words; blocks = blocks_of m.words; lists = lists_of l.heads m.words; marked = l.members; stored = m; extents = extents; touches = touches } ≡ r → Shows m r.blocks
+pub shows_state : (sli : ℕ) {m : Image} {l : ListHeads} {r : RegionState} {extents : Extents} {touches : ℕ} {touched : List ℕ} → HoldsLists sli m l
+    → record { words = length m.words; blocks = blocks_of m.words; lists = lists_of l.heads m.words; marked = l.members; stored = m; extents = extents; touches = touches; touched = touched } ≡ r → Shows m r.blocks
 shows_state sli {m = m} holds same = subst (Shows m) (ap (λ (s : RegionState). s.blocks) same) holds.shows
 
 -- words that were only read hold what they held, at any number of touches

@@ -8,6 +8,7 @@ use Rattle.tlsf_heap.specs.Regions.{list_in}
 use Rattle.tlsf_heap.proofs.lemmas.blocks.Replace.{rest_some, rest_none}
 use Rattle.tlsf_heap.proofs.lemmas.lists.Recut.{own_unlisted, wide_listed, cut_free, cut_unlisted, cut_listed}
 use Rattle.tlsf_heap.proofs.lemmas.lists.Withheld.{is_between, forgets, end_within, next_region, contains_next}
+use Rattle.tlsf_heap.proofs.lemmas.words.Footprint.{recut_lasts, any_word}
 use Rattle.tlsf_heap.proofs.refitting.recut.Goals as goal
 
 pub overflow_add-at : goal.overflow_add-at
@@ -134,3 +135,19 @@ returns-else-rest-gt0-clause-listed g c =
     let change = (rw e.blocks at c.recut-rest.ensures.change) live.0 live.1 in
     let none = rest_none (c.args.own.size + c.args.next.size) c.args.words (omega (arith, c.if-rest-gt0.false, c.recut-rest.ensures.rest)) in
     wide_listed g.row.SLI f out c.args.words c.recut-rest.new.self.blocks change.blocks (list_in c.recut-rest.new.self.lists) change.lists (omega (arith, none, is.size, next.size))
+
+pub returns-then-rest-gt0-clause-touched : goal.returns-then-rest-gt0-clause-touched
+returns-then-rest-gt0-clause-touched g c k o =
+    let live = c.requires.live in
+    let bs = c.args.region.now.blocks in
+    let is = c.requires.own live.0 live.1 in
+    let next = c.requires.next live.0 live.1 in
+    let e = c.forget.ensures in
+    let new = c.recut-rest.new.self.blocks in
+    let change = (rw e.blocks at c.recut-rest.ensures.change) live.0 live.1 in
+    let last = recut_lasts bs new c.args.at live.0 k c.args.words c.args.tick live.1 live.2.0 (omega (arith, c.requires.room, is.size, next.size)) change.blocks o in
+    c.push.ensures.touched k (any_word new c.args.at k last) ∙ (rw e.blocks at c.recut-rest.ensures.touched) k o ∙ e.touched k (any_word bs c.args.at k o)
+
+pub returns-else-rest-gt0-clause-touched : goal.returns-else-rest-gt0-clause-touched
+returns-else-rest-gt0-clause-touched g c k o =
+    (rw c.forget.ensures.blocks at c.recut-rest.ensures.touched) k o ∙ c.forget.ensures.touched k (any_word c.args.region.now.blocks c.args.at k o)

@@ -1,4 +1,4 @@
-use Rattle.std.proofs.Common.{◌≡◌, ℕ, suc, ◌+◌, ◌<◌, ◌≤◌, List, ◌++◌, take, drop, false, length, sym, ap, ◌∙◌, subst, arith}
+use Rattle.std.proofs.Common.{◌≡◌, ℕ, suc, ◌+◌, ◌<◌, ◌≤◌, List, ◌++◌, take, drop, false, length, sym, ap, ◌∙◌, subst, arith, ◌∷◌, []}
 use Rattle.std.specs.List.{AllByRecursion}
 use Rattle.tlsf_words.specs.declared.tag.Tag.{Tag}
 use Rattle.tlsf_heap.specs.Blocks.{Block, StandsAt, size_of, is_free, bytes_of, words_for}
@@ -7,10 +7,11 @@ use Rattle.tlsf_heap.specs.GoodFit.{Site, block_at, site_at}
 use Rattle.tlsf_heap.specs.Regions.{AreRegions, EachAt, IsTagOf, IsTagBehind, list_in}
 use Rattle.tlsf_heap.proofs.lemmas.calls.Allocate.{regions_of}
 use Rattle.tlsf_heap.proofs.lemmas.words.NewBytes.{length-fitted}
-use Rattle.tlsf_heap.proofs.lemmas.words.Bytes.{is_free-with_bytes}
+use Rattle.tlsf_heap.proofs.lemmas.words.Bytes.{is_free-with_bytes, size_of-with_bytes}
 use Rattle.tlsf_heap.proofs.lemmas.lists.Refit.{tag_rebytes, behind_rebytes, payload_room, bytes_of-with_bytes, rebytes_around, rebytes_site, rebytes_listed, rebytes_stamps, rebytes_words, refitted_grown, refitted_cut, recut_stands, recut_bytes, recut_takes, recut_rebytes}
 use Rattle.tlsf_heap.proofs.lemmas.words.Image.{stands_once}
 use Rattle.tlsf_heap.proofs.lemmas.blocks.Around.{one_index, stands_around, block_around}
+use Rattle.tlsf_heap.proofs.lemmas.words.Footprint.{kept_others, recut_lasts}
 use Rattle.tlsf_heap.proofs.refitting.refit.Goals as goal
 
 -- the room that the tags say
@@ -156,3 +157,22 @@ returns-else-held-words-clause-listed g c =
     let live = c.requires.live in
     let set = c.set_payload-2.ensures.change live.0 live.1 in
     rebytes_listed g.row.SLI live.1 (fitted (bytes_of (block_at c.args.region.now.blocks live.0)) c.args.len) set.blocks (list_in c.args.region.now.lists) (list_in c.set_payload-2.new.self.lists) set.lists c.requires.listed
+
+-- ---- the payloads of other blocks
+
+pub returns-then-words-held-clause-touched : goal.returns-then-words-held-clause-touched
+returns-then-words-held-clause-touched g c k o =
+    let live = c.requires.live in
+    let bs = c.args.region.now.blocks in
+    let room = room_here c.requires.own c.requires.next c.requires.room live.1 in
+    let last = recut_lasts bs c.recut.new.region.blocks c.args.at live.0 k c.args.words c.args.tick live.1 live.2 room (c.recut.ensures.blocks live.0 live.1) o in
+    c.set_payload.ensures.touched k last ∙ c.recut.ensures.touched k o
+
+pub returns-then-held-words-clause-touched : goal.returns-then-held-words-clause-touched
+returns-then-held-words-clause-touched g c k o =
+    let live = c.requires.live in
+    let bs = c.args.region.now.blocks in
+    let b = block_at bs live.0 in
+    let new = with_bytes b (fitted (bytes_of b) c.args.len) in
+    let last = kept_others bs c.set_payload-2.new.self.blocks (new ∷ []) c.args.at live.0 k live.1 (c.set_payload-2.ensures.change live.0 live.1).blocks (omega (arith, size_of-with_bytes b (fitted (bytes_of b) c.args.len))) o in
+    c.recut-then-held-words.ensures.touched k last ∙ c.set_payload-2.ensures.touched k o

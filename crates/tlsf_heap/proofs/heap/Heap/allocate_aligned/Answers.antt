@@ -1,4 +1,4 @@
-use Rattle.std.proofs.Common.{◌≡◌, ◌+◌, ◌≤◌, ◌<◌, max, [], refl, arith, sym, ap, ◌∙◌, subst}
+use Rattle.std.proofs.Common.{◌≡◌, ◌+◌, ◌≤◌, ◌<◌, max, [], refl, arith, sym, ap, ◌∙◌, subst, suc}
 use Rattle.std.proofs.lemmas.Bool.{false≢true}
 use Rattle.tlsf_class.proofs.TwoLevels.{most_words_any}
 use Rattle.tlsf_heap.specs.Aligned.{aligned_words}
@@ -12,6 +12,9 @@ use Rattle.tlsf_heap.specs.declared.name.Name.{Name}
 use Rattle.tlsf_heap.proofs.lemmas.calls.AllocateAligned.{IsAligned, has_live, has_room, none_fits, aligned_past, first_moves, first_moved, gives_name, gives_payload, gives_others}
 use Rattle.tlsf_heap.proofs.lemmas.blocks.Sites.{fits_nothing}
 use Rattle.tlsf_heap.proofs.lemmas.calls.Kept.{keeps_same}
+use Rattle.tlsf_heap.specs.Footprint.{IsOthersWord, IsLiveWord}
+use Rattle.tlsf_heap.proofs.lemmas.calls.Leaves.{given_word}
+use Rattle.tlsf_heap.proofs.lemmas.calls.LeavesAligned.{moved_word}
 use Rattle.tlsf_heap.proofs.heap.Heap.allocate_aligned.Given.{Over}
 use Rattle.tlsf_heap.proofs.heap.Heap.allocate_aligned.Goals as goal
 
@@ -117,3 +120,27 @@ returns-clause-gives g c =
       payload = gives_payload h c.move_on.new.self.heap name c.want-words.result (done g c).gives lawful bytes c.set_length.new.self.heap is;
       others = gives_others h c.move_on.new.self.heap name c.want-words.result (done g c).gives lawful bytes c.set_length.new.self.heap is;
     }
+
+-- ---- the payloads of other blocks
+
+pub returns-in-Err-clause-leaves : goal.returns-in-Err-clause-leaves
+returns-in-Err-clause-leaves g c k live = c.allocate_words.ensures.leaves k live
+
+pub returns-in_err-name-clause-leaves : goal.returns-in_err-name-clause-leaves
+returns-in_err-name-clause-leaves g c k live =
+    let h = c.args.self.now.heap in
+    let first = c.in-Ok.first in
+    let e = c.allocate_words.ensures in
+    let given = given_word h (suc live.1) k (live.0, live.1, live.2, live.3, λ e. omega (arith, e)) g.row.SLI _ 0 e.keeps.was_lawful in
+    let left = subst (λ (s : HeapState). IsOthersWord s.blocks first.at k) (sym e.heap) (given.1 first (sym e.answer ∙ c.in-Ok.is)) in
+    c.move_on.ensures.leaves k left ∙ e.leaves k live
+
+pub returns-clause-leaves : goal.returns-clause-leaves
+returns-clause-leaves g c k live =
+    let h = c.args.self.now.heap in
+    let first = c.in-Ok.first in
+    let e = c.allocate_words.ensures in
+    let given = given_word h (suc live.1) k (live.0, live.1, live.2, live.3, λ e. omega (arith, e)) g.row.SLI _ 0 e.keeps.was_lawful in
+    let left = subst (λ (s : HeapState). IsOthersWord s.blocks first.at k) (sym e.heap) (given.1 first (sym e.answer ∙ c.in-Ok.is)) in
+    let after = subst (λ (s : HeapState). IsLiveWord s.blocks k) (sym c.move_on.ensures.heap) (moved_word c.allocate_words.new.self.heap first c.gap-gap.result c.want-words.result k left) in
+    c.set_length.ensures.leaves k after ∙ c.move_on.ensures.leaves k left ∙ e.leaves k live

@@ -3,6 +3,8 @@ use Rattle.tlsf_heap.specs.Blocks.{HeapState}
 use Rattle.tlsf_heap.specs.Unset.{lying, with_payload}
 use Rattle.tlsf_heap.proofs.lemmas.calls.AllocateAligned.{Gives, has_live, has_room, from_has, from_gives, gives_name, gives_payload, gives_others}
 use Rattle.tlsf_heap.proofs.lemmas.calls.AllocateFrom.{free_not_wild}
+use Rattle.tlsf_heap.specs.Footprint.{IsLiveWord}
+use Rattle.tlsf_heap.proofs.lemmas.calls.LeavesAligned.{given_from_live}
 use Rattle.tlsf_heap.proofs.heap.Heap.allocate_from.Given.{Over}
 use Rattle.tlsf_heap.proofs.heap.Heap.allocate_from.Goals as goal
 
@@ -50,3 +52,13 @@ pub returns-clause-wild : goal.returns-clause-wild
 returns-clause-wild g c =
     let room = (c.in-Ok.ensures.cases.ok.0 refl).0 in
     free_not_wild refl c.words_from.ensures.keeps.was_lawful (room.0, room.1) _ _
+
+-- ---- the payloads of other blocks
+
+pub returns-in-Err-clause-leaves : goal.returns-in-Err-clause-leaves
+returns-in-Err-clause-leaves g c k live = c.words_from.ensures.leaves k live
+
+pub returns-clause-leaves : goal.returns-clause-leaves
+returns-clause-leaves g c k live =
+    c.set_length.ensures.leaves k (subst (λ (s : HeapState). IsLiveWord s.blocks k) (sym c.words_from.ensures.heap) (given_from_live c.args.self.now.heap k live c.args.at c.want.result))
+    ∙ c.words_from.ensures.leaves k live

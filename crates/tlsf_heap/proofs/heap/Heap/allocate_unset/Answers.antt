@@ -9,6 +9,8 @@ use Rattle.tlsf_heap.specs.declared.refusal.Refusal.{Refusal}
 use Rattle.tlsf_heap.proofs.lemmas.laws.Live.{given_words}
 use Rattle.tlsf_heap.proofs.lemmas.calls.OtherBytes.{allocated_answers}
 use Rattle.tlsf_heap.proofs.lemmas.calls.Unset.{given_answer, allocated_unset}
+use Rattle.tlsf_heap.specs.Footprint.{IsLiveWord}
+use Rattle.tlsf_heap.proofs.lemmas.calls.Leaves.{given_live}
 use Rattle.tlsf_heap.proofs.heap.Heap.allocate_unset.Goals as goal
 
 pub returns-in-Err-clause-answer : goal.returns-in-Err-clause-answer
@@ -50,3 +52,14 @@ returns-clause-heap g c =
     ∙ ap (λ (s : HeapState). with_payload s name (lying m name.at c.args.len)) is
     ∙ allocated_unset g.row.SLI h c.args.len name c.in-Ok.ensures.keeps.was_lawful (given g.row.SLI _ c.args.len h name _ c.want.ensures c.allocate_words.ensures.answer c.in-Ok.is) m
     c.set_length.ensures.level (subst IsLawful is c.in-Ok.ensures.keeps.lawful)
+
+-- ---- the payloads of other blocks
+
+pub returns-in-Err-clause-leaves : goal.returns-in-Err-clause-leaves
+returns-in-Err-clause-leaves g c k live = c.allocate_words.ensures.leaves k live
+
+pub returns-clause-leaves : goal.returns-clause-leaves
+returns-clause-leaves g c k live =
+    let h = c.args.self.now.heap in
+    c.set_length.ensures.leaves k (subst (λ (s : HeapState). IsLiveWord s.blocks k) (sym c.allocate_words.ensures.heap) (given_live h k live g.row.SLI c.want.result 0 c.in-Ok.ensures.keeps.was_lawful))
+    ∙ c.allocate_words.ensures.leaves k live

@@ -19,6 +19,7 @@ use Rattle.tlsf_heap.proofs.lemmas.calls.GivenBlock.{carved_stands, named_payloa
 use Rattle.tlsf_heap.proofs.lemmas.laws.Live as living
 use Rattle.tlsf_heap.proofs.lemmas.calls.Unset.{given_block}
 use Rattle.tlsf_heap.proofs.lemmas.calls.Kept.{keeps_stored, keeps_read}
+use Rattle.tlsf_heap.proofs.lemmas.calls.Leaves.{seen_live}
 use Rattle.tlsf_heap.proofs.heap.Heap.allocate_words.Given.{Over}
 use Rattle.tlsf_heap.proofs.heap.Heap.allocate_words.Goals as goal
 
@@ -192,3 +193,14 @@ returns-in_default-clause-keeps g c = keeps_read g.row.SLI c.self.inside c.self.
 
 pub returns-then-self-clause-keeps : goal.returns-then-self-clause-keeps
 returns-then-self-clause-keeps g c = keeps_read g.row.SLI c.self.inside c.self.view_is c.self.invariant _ c.choose.ensures.reads
+
+-- ---- the payloads of other blocks
+
+pub returns-in_default-clause-leaves : goal.returns-in_default-clause-leaves
+returns-in_default-clause-leaves g c = seen_live g.row.SLI c.self.inside c.self.view_is _ c.choose.ensures.touched
+
+pub returns-then-self-clause-leaves : goal.returns-then-self-clause-leaves
+returns-then-self-clause-leaves g c = seen_live g.row.SLI c.self.inside c.self.view_is _ c.choose.ensures.touched
+
+pub returns-clause-leaves : goal.returns-clause-leaves
+returns-clause-leaves g c = seen_live g.row.SLI c.self.inside c.self.view_is _ (λ k live. (rw c.choose.ensures.reads.blocks at c.carve-at.ensures.touched) k live ∙ c.choose.ensures.touched k live)

@@ -17,6 +17,7 @@ use Rattle.tlsf_heap.proofs.lemmas.words.Bytes.{length-bytes_in}
 use Rattle.tlsf_heap.proofs.lemmas.calls.Write.{Writes, writes, read_none, read_refused, range_is}
 use Rattle.tlsf_heap.proofs.lemmas.blocks.Stands.{behind_one}
 use Rattle.tlsf_heap.proofs.lemmas.calls.Kept.{keeps_both, keeps_stored}
+use Rattle.tlsf_words.specs.Touched.{times}
 use Rattle.tlsf_heap.proofs.heap.Heap.alter.Given.{Over}
 use Rattle.tlsf_heap.proofs.heap.Heap.alter.Goals as goal
 
@@ -112,3 +113,8 @@ pub returns-clause-keeps : goal.returns-clause-keeps
 returns-clause-keeps g c =
     let edits = (c.alter.ensures.change (stood g c).0 (stood g c).1).edits in
     keeps_both c.in_ok-len.ensures.keeps (keeps_stored g.row.SLI c.self.inside c.self.view_is c.self.invariant _ (invariant_of-self g c) edits.rise edits.stays)
+
+-- ---- the payloads of other blocks
+
+pub returns-clause-leaves : goal.returns-clause-leaves
+returns-clause-leaves g c k live = ap (λ (l : List ℕ). times l k) c.alter.ensures.touched ∙ ap (λ (s : Shown). times s.touched k) c.self.view_is ∙ c.in_ok-len.ensures.leaves k live

@@ -14,6 +14,7 @@ use Rattle.tlsf_heap.proofs.lemmas.words.Bytes.{length-bytes_in}
 use Rattle.tlsf_heap.proofs.lemmas.calls.Write.{Writes, writes, range_is}
 use Rattle.tlsf_heap.proofs.lemmas.blocks.Stands.{behind_one}
 use Rattle.tlsf_heap.proofs.lemmas.calls.Kept.{keeps_stored}
+use Rattle.tlsf_heap.proofs.lemmas.calls.Leaves.{seen_both}
 use Rattle.tlsf_heap.proofs.heap.Heap.copy.Given.{Over}
 use Rattle.tlsf_heap.proofs.heap.Heap.copy.Goals as goal
 
@@ -38,14 +39,14 @@ wrote g c =
     let many = length-bytes_in c.self.inside.region.stored.words (payload_byte c.args.from.at 0) c.args.len in
     let ranged = range_is k c.args.to 0 (length (source g c)) is_named (omega (arith, many, c.requires.room, ap length (payload_is k c.args.to is_named))) in
     writes g.row.SLI (state_of g.row.SLI c.self.inside) k c.args.to 0 (source g c) (ap (λ (s : Shown). s.heap) c.self.view_is)
-    ranged.is_answer ranged.range c.copy.new.self c.self.invariant.lawful (c.copy.ensures (stood g c).0 (stood g c).1).edits.words
-    (λ i stands. (c.copy.ensures i stands).blocks ∙ sym (behind_one i _ c.self.inside.region.blocks))
+    ranged.is_answer ranged.range c.copy.new.self c.self.invariant.lawful (c.copy.ensures.change (stood g c).0 (stood g c).1).edits.words
+    (λ i stands. (c.copy.ensures.change i stands).blocks ∙ sym (behind_one i _ c.self.inside.region.blocks))
 
 pub invariant_of-self : goal.invariant_of-self
 invariant_of-self g c =
     let same : state_of g.row.SLI c.self.inside ≡ c.args.self.now.heap = ap (λ (s : Shown). s.heap) c.self.view_is in
     let places : free_places g.row.SLI 0 c.copy.new.self.blocks ≡ free_places g.row.SLI 0 c.self.inside.region.blocks = (wrote g c).places ∙ sym (ap (λ (h : HeapState). free_places g.row.SLI 0 h.blocks) same) in
-    let change = c.copy.ensures (stood g c).0 (stood g c).1 in
+    let change = c.copy.ensures.change (stood g c).0 (stood g c).1 in
     record {
       lawful = (wrote g c).lawful;
       shows = change.edits.shows;
@@ -64,11 +65,16 @@ returns-clause-heap g c =
     ∙ ap (λ (bytes : List ℕ). (written k c.args.to 0 bytes).heap) (first_bytes h k c.args.from c.args.len (ap (λ (s : Shown). s.heap) c.self.view_is) c.self.invariant.shows c.requires.from c.requires.least)
 
 pub returns-clause-touches : goal.returns-clause-touches
-returns-clause-touches g c = omega (arith, (c.copy.ensures (stood g c).0 (stood g c).1).edits.touches, ap (λ (s : Shown). s.touches) c.self.view_is)
+returns-clause-touches g c = omega (arith, (c.copy.ensures.change (stood g c).0 (stood g c).1).edits.touches, ap (λ (s : Shown). s.touches) c.self.view_is)
 
 -- ---- what is kept
 
 pub returns-clause-keeps : goal.returns-clause-keeps
 returns-clause-keeps g c =
-    let edits = (c.copy.ensures (stood g c).0 (stood g c).1).edits in
+    let edits = (c.copy.ensures.change (stood g c).0 (stood g c).1).edits in
     keeps_stored g.row.SLI c.self.inside c.self.view_is c.self.invariant _ (invariant_of-self g c) edits.rise edits.stays
+
+-- ---- the payloads of other blocks
+
+pub returns-clause-leaves : goal.returns-clause-leaves
+returns-clause-leaves g c = seen_both g.row.SLI c.self.inside c.self.view_is _ c.args.from.at c.args.to.at c.copy.ensures.touched

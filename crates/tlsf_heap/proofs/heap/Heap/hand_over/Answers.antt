@@ -1,9 +1,12 @@
-use Rattle.std.proofs.Common.{◌≡◌, Result, Ok, Err, take, ap, ◌∙◌}
+use Rattle.std.proofs.Common.{◌≡◌, Result, Ok, Err, take, ap, ◌∙◌, sym, subst}
 use Rattle.tlsf_heap.specs.Blocks.{HeapState}
 use Rattle.tlsf_heap.specs.Calls.{released, written}
 use Rattle.tlsf_heap.specs.InPlace.{payload_of}
 use Rattle.tlsf_heap.specs.declared.refusal.Refusal.{Refusal}
 use Rattle.tlsf_heap.proofs.lemmas.calls.ResizeOrMove.{release_done}
+use Rattle.tlsf_heap.specs.Footprint.{IsOthersWord, IsLiveWord}
+use Rattle.tlsf_heap.proofs.lemmas.words.Footprint.{any_word}
+use Rattle.tlsf_heap.proofs.lemmas.calls.Leaves.{written_word}
 use Rattle.tlsf_heap.proofs.heap.Heap.hand_over.Goals as goal
 
 -- the release isn't refused
@@ -15,3 +18,33 @@ returns-in_err-release-clause-answer g c =
     let copied = c.copy.ensures.heap ∙ ap (λ (s : HeapState). (written s c.args.new 0 bytes).heap) same in
     let done = ap (λ (s : HeapState). (released s c.args.name).answer) copied ∙ release_done g.row.SLI h c.args.name c.args.new bytes c.requires.from c.requires.tick in
     let bad : ◌≡◌ {A = Result (Unit {0}) Refusal} (Err c.in_err-release.field-0.0) (Ok tt) = c.in_err-release.ensures.answer ∙ done in cc
+
+-- ---- the payloads of other blocks
+
+pub returns-in_err-release-clause-leaves : goal.returns-in_err-release-clause-leaves
+returns-in_err-release-clause-leaves g c k o p =
+    let h = c.args.self.now.heap in
+    let name = c.args.name in
+    let new = c.args.new in
+    let once = c.length.ensures.same.heap in
+    let same = c.length-2.ensures.same.heap ∙ once in
+    let was = subst (λ (s : HeapState). IsOthersWord s.blocks name.at k) (sym same) o in
+    let left = subst (λ (s : HeapState). IsOthersWord s.blocks name.at k) (sym c.copy.ensures.heap) (written_word c.length-2.new.self.heap name.at k was new 0 _) in
+    c.in_err-release.ensures.leaves k left
+    ∙ c.copy.ensures.leaves k was (subst (λ (s : HeapState). IsOthersWord s.blocks new.at k) (sym same) p)
+    ∙ c.length-2.ensures.leaves k (subst (λ (s : HeapState). IsLiveWord s.blocks k) (sym once) (any_word h.blocks name.at k o))
+    ∙ c.length.ensures.leaves k (any_word h.blocks name.at k o)
+
+pub returns-clause-leaves : goal.returns-clause-leaves
+returns-clause-leaves g c k o p =
+    let h = c.args.self.now.heap in
+    let name = c.args.name in
+    let new = c.args.new in
+    let once = c.length.ensures.same.heap in
+    let same = c.length-2.ensures.same.heap ∙ once in
+    let was = subst (λ (s : HeapState). IsOthersWord s.blocks name.at k) (sym same) o in
+    let left = subst (λ (s : HeapState). IsOthersWord s.blocks name.at k) (sym c.copy.ensures.heap) (written_word c.length-2.new.self.heap name.at k was new 0 _) in
+    c.in_ok-release.ensures.leaves k left
+    ∙ c.copy.ensures.leaves k was (subst (λ (s : HeapState). IsOthersWord s.blocks new.at k) (sym same) p)
+    ∙ c.length-2.ensures.leaves k (subst (λ (s : HeapState). IsLiveWord s.blocks k) (sym once) (any_word h.blocks name.at k o))
+    ∙ c.length.ensures.leaves k (any_word h.blocks name.at k o)

@@ -1,6 +1,11 @@
-use Rattle.std.proofs.Common.{◌+◌, arith}
+use Rattle.std.proofs.Common.{◌+◌, arith, sym, ◌∙◌, subst}
 use Rattle.std.proofs.lemmas.Bool.{false≢true}
 use Rattle.tlsf_heap.proofs.lemmas.calls.AllocateAligned.{room_has, has_within, shrink_done, from_done_there, moved_done}
+use Rattle.tlsf_heap.specs.Blocks.{HeapState}
+use Rattle.tlsf_heap.specs.Footprint.{IsOthersWord}
+use Rattle.tlsf_heap.proofs.lemmas.words.Footprint.{any_word}
+use Rattle.tlsf_heap.proofs.lemmas.calls.Leaves.{resized_word}
+use Rattle.tlsf_heap.proofs.lemmas.calls.LeavesAligned.{from_word}
 use Rattle.tlsf_heap.proofs.heap.Heap.move_on.Given.{Over}
 use Rattle.tlsf_heap.proofs.heap.Heap.move_on.Goals as goal
 
@@ -60,3 +65,34 @@ returns-in_err-release-clause-answer g c = absurd (freed g c)
 
 pub returns-in_err-release-clause-ok : goal.returns-in_err-release-clause-ok
 returns-in_err-release-clause-ok g c = absurd (freed g c)
+
+-- ---- the payloads of other blocks
+
+pub returns-in_err-moved-clause-leaves : goal.returns-in_err-moved-clause-leaves
+returns-in_err-moved-clause-leaves g c k o =
+    let h = c.args.self.now.heap in
+    let name = c.args.name in
+    let cut = c.resize_words-2.ensures in
+    let small = c.resize_words-2.new.self.heap in
+    let left = subst (λ (s : HeapState). IsOthersWord s.blocks name.at k) (sym cut.heap) (resized_word h name.at k o name c.args.gap 0 o.4) in
+    c.words_from.ensures.leaves k (any_word small.blocks name.at k left) ∙ cut.leaves k o
+
+pub returns-in_err-release-clause-leaves : goal.returns-in_err-release-clause-leaves
+returns-in_err-release-clause-leaves g c k o =
+    let h = c.args.self.now.heap in
+    let name = c.args.name in
+    let cut = c.resize_words-2.ensures in
+    let small = c.resize_words-2.new.self.heap in
+    let left = subst (λ (s : HeapState). IsOthersWord s.blocks name.at k) (sym cut.heap) (resized_word h name.at k o name c.args.gap 0 o.4) in
+    let given = subst (λ (s : HeapState). IsOthersWord s.blocks name.at k) (sym c.words_from.ensures.heap) (from_word small name.at k left (name.at + c.args.gap) c.args.words) in
+    c.release.ensures.leaves k given ∙ c.words_from.ensures.leaves k (any_word small.blocks name.at k left) ∙ cut.leaves k o
+
+pub returns-clause-leaves : goal.returns-clause-leaves
+returns-clause-leaves g c k o =
+    let h = c.args.self.now.heap in
+    let name = c.args.name in
+    let cut = c.resize_words-2.ensures in
+    let small = c.resize_words-2.new.self.heap in
+    let left = subst (λ (s : HeapState). IsOthersWord s.blocks name.at k) (sym cut.heap) (resized_word h name.at k o name c.args.gap 0 o.4) in
+    let given = subst (λ (s : HeapState). IsOthersWord s.blocks name.at k) (sym c.words_from.ensures.heap) (from_word small name.at k left (name.at + c.args.gap) c.args.words) in
+    c.release.ensures.leaves k given ∙ c.words_from.ensures.leaves k (any_word small.blocks name.at k left) ∙ cut.leaves k o

@@ -5,6 +5,7 @@ use Rattle.tlsf_heap.specs.Shown.{Shown}
 use Rattle.tlsf_heap.specs.Stored.{state_of}
 use Rattle.tlsf_heap.proofs.lemmas.calls.ByPlace.{name_found, live_here, live_not_wild}
 use Rattle.tlsf_heap.proofs.lemmas.calls.Kept.{keeps_read, reads_both}
+use Rattle.tlsf_heap.proofs.lemmas.calls.Leaves.{seen_live}
 use Rattle.tlsf_heap.proofs.heap.Heap.name_at.Goals as goal
 
 pub returns-clause-name : goal.returns-clause-name
@@ -32,3 +33,11 @@ returns-in_default-clause-keeps g c = keeps_read g.row.SLI c.self.inside c.self.
 
 pub returns-clause-keeps : goal.returns-clause-keeps
 returns-clause-keeps g c = keeps_read g.row.SLI c.self.inside c.self.view_is c.self.invariant _ (reads_both c.live_at.ensures.reads c.mark-serial.ensures.reads)
+
+-- ---- the payloads of other blocks
+
+pub returns-in_default-clause-leaves : goal.returns-in_default-clause-leaves
+returns-in_default-clause-leaves g c = seen_live g.row.SLI c.self.inside c.self.view_is _ c.live_at.ensures.touched
+
+pub returns-clause-leaves : goal.returns-clause-leaves
+returns-clause-leaves g c = seen_live g.row.SLI c.self.inside c.self.view_is _ (λ k live. (rw c.live_at.ensures.reads.blocks at c.mark-serial.ensures.touched) k live ∙ c.live_at.ensures.touched k live)

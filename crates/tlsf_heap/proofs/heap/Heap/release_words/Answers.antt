@@ -1,6 +1,8 @@
 use Rattle.std.proofs.Common.{◌≡◌, ℕ, sym, ap, ◌∙◌, subst, Ok, Err, arith}
 use Rattle.std.proofs.lemmas.Result.{err_from_is_err_and}
 use Rattle.tlsf_heap.specs.Blocks.{HeapState}
+use Rattle.tlsf_words.specs.Touched.{times}
+use Rattle.tlsf_heap.specs.Footprint.{IsOthersWord}
 use Rattle.tlsf_heap.specs.GoodFit.{site_at}
 use Rattle.tlsf_heap.specs.Named.{IsNameCheck}
 use Rattle.tlsf_heap.specs.Regions.{IsTagOf}
@@ -121,3 +123,21 @@ returns-clause-forged g c = not_forged c.args.self.now.heap c.args.name c.in_ok-
 
 pub returns-clause-keeps : goal.returns-clause-keeps
 returns-clause-keeps g c = keeps_both c.in_ok-own.ensures.keeps (keeps_stored g.row.SLI c.self.inside c.self.view_is c.self.invariant _ (invariant_of-self g c) c.coalesce.ensures.edits.rise c.coalesce.ensures.edits.stays)
+
+-- ---- the payloads of other blocks
+
+pub returns-in_err-own-clause-leaves : goal.returns-in_err-own-clause-leaves
+returns-in_err-own-clause-leaves g c k o = c.in_err-own.ensures.leaves k (o.0, o.1, o.2, o.3)
+
+pub returns-then-self-clause-leaves : goal.returns-then-self-clause-leaves
+returns-then-self-clause-leaves g c k o = c.in_ok-own.ensures.leaves k (o.0, o.1, o.2, o.3)
+
+pub returns-clause-leaves : goal.returns-clause-leaves
+returns-clause-leaves g c k o =
+    let same : state_of g.row.SLI c.self.inside ≡ c.args.self.now.heap = ap (λ (s : Shown). s.heap) c.self.view_is ∙ c.in_ok-own.ensures.same.heap in
+    c.coalesce.ensures.touched k (subst (λ (h : HeapState). IsOthersWord h.blocks c.args.name.at k) (sym same) o)
+    ∙ ap (λ (s : Shown). times s.touched k) c.self.view_is
+    ∙ c.in_ok-own.ensures.leaves k (o.0, o.1, o.2, o.3)
+
+pub returns-then-self-clause-refused : goal.returns-then-self-clause-refused
+returns-then-self-clause-refused g c k live = c.in_ok-own.ensures.leaves k live

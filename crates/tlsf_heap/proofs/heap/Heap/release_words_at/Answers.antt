@@ -15,6 +15,8 @@ use Rattle.tlsf_heap.proofs.lemmas.words.Says.{at_index}
 use Rattle.tlsf_heap.proofs.lemmas.calls.Release.{Releases, releases_worn, releases_block}
 use Rattle.tlsf_heap.proofs.lemmas.laws.WordsInUse.{answers_refused, words_live, in_use_placed}
 use Rattle.tlsf_heap.proofs.lemmas.calls.Kept.{keeps_stored, keeps_read}
+use Rattle.tlsf_heap.proofs.lemmas.calls.Leaves.{seen_live, seen_others}
+use Rattle.tlsf_heap.proofs.lemmas.words.Footprint.{any_word}
 use Rattle.tlsf_heap.proofs.heap.Heap.release_words_at.Given.{Over}
 use Rattle.tlsf_heap.proofs.heap.Heap.release_words_at.Goals as goal
 
@@ -140,3 +142,20 @@ returns-then-self-clause-wild g c = live_not_wild (ap (λ (s : Shown). s.heap) c
 
 pub returns-clause-wild : goal.returns-clause-wild
 returns-clause-wild g c = live_not_wild (ap (λ (s : Shown). s.heap) c.self.view_is) c.self.invariant.lawful c.in-Some.ensures.answer.1 _ _
+
+-- ---- the payloads of other blocks
+
+pub returns-in_default-clause-leaves : goal.returns-in_default-clause-leaves
+returns-in_default-clause-leaves g c k o = seen_live g.row.SLI c.self.inside c.self.view_is _ c.live_at.ensures.touched k (any_word c.args.self.now.heap.blocks c.args.at k o)
+
+pub returns-then-self-clause-leaves : goal.returns-then-self-clause-leaves
+returns-then-self-clause-leaves g c k o = seen_live g.row.SLI c.self.inside c.self.view_is _ c.live_at.ensures.touched k (any_word c.args.self.now.heap.blocks c.args.at k o)
+
+pub returns-clause-leaves : goal.returns-clause-leaves
+returns-clause-leaves g c = seen_others g.row.SLI c.self.inside c.self.view_is _ c.args.at (λ k o. (rw c.live_at.ensures.reads.blocks at c.coalesce.ensures.touched) k o ∙ c.live_at.ensures.touched k (any_word c.self.inside.region.blocks c.args.at k o))
+
+pub returns-in_default-clause-refused : goal.returns-in_default-clause-refused
+returns-in_default-clause-refused g c = seen_live g.row.SLI c.self.inside c.self.view_is _ c.live_at.ensures.touched
+
+pub returns-then-self-clause-refused : goal.returns-then-self-clause-refused
+returns-then-self-clause-refused g c = seen_live g.row.SLI c.self.inside c.self.view_is _ c.live_at.ensures.touched

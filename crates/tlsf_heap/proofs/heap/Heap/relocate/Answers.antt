@@ -1,5 +1,5 @@
 use Rattle.std.proofs.Common.{◌≡◌, ◌+◌, ◌<◌, Result, sym, ap, ◌∙◌, subst, arith}
-use Rattle.tlsf_heap.specs.Blocks.{HeapState}
+use Rattle.tlsf_heap.specs.Blocks.{HeapState, want}
 use Rattle.tlsf_heap.specs.Calls.{allocated, last_tick, named}
 use Rattle.tlsf_heap.specs.Given.{payload_words_at, payload_words_given}
 use Rattle.tlsf_heap.specs.Laws.{IsLive}
@@ -8,6 +8,9 @@ use Rattle.tlsf_heap.specs.declared.name.Name.{Name}
 use Rattle.tlsf_heap.specs.declared.refusal.Refusal.{Refusal}
 use Rattle.tlsf_heap.proofs.lemmas.calls.ResizeOrMove.{new_lives, old_lives, payload_fits, ticks}
 use Rattle.tlsf_heap.proofs.lemmas.calls.Kept.{keeps_same}
+use Rattle.tlsf_heap.specs.Footprint.{IsOthersWord}
+use Rattle.tlsf_heap.proofs.lemmas.words.Footprint.{any_word}
+use Rattle.tlsf_heap.proofs.lemmas.calls.Leaves.{given_word}
 use Rattle.tlsf_heap.proofs.heap.Heap.relocate.Goals as goal
 
 -- ---- both names are live behind the allocate, and a tick is left
@@ -46,3 +49,18 @@ returns-clause-touches g c =
 
 pub returns-then-self-clause-keeps : goal.returns-then-self-clause-keeps
 returns-then-self-clause-keeps g c = keeps_same g.row.SLI c.self.inside c.self.view_is c.self.invariant
+
+-- ---- the payloads of other blocks
+
+pub returns-in_err-new-clause-leaves : goal.returns-in_err-new-clause-leaves
+returns-in_err-new-clause-leaves g c k o = c.in_err-new.ensures.leaves k (any_word c.args.self.now.heap.blocks c.args.name.at k o)
+
+pub returns-clause-leaves : goal.returns-clause-leaves
+returns-clause-leaves g c k o =
+    let h = c.args.self.now.heap in
+    let name = c.args.name in
+    let new = c.in_ok-new.new in
+    let e = c.in_ok-new.ensures in
+    let left = given_word h name.at k o g.row.SLI (want c.args.len) c.args.len e.keeps.was_lawful in
+    c.hand_over.ensures.leaves k (subst (λ (s : HeapState). IsOthersWord s.blocks name.at k) (sym e.heap) left.0) (subst (λ (s : HeapState). IsOthersWord s.blocks new.at k) (sym e.heap) (left.1 new (sym e.answer)))
+    ∙ e.leaves k (any_word h.blocks name.at k o)

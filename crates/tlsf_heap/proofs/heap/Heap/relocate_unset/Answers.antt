@@ -1,7 +1,7 @@
-use Rattle.std.proofs.Common.{◌≡◌, ◌+◌, ◌<◌, Result, length, min, sym, ap, ◌∙◌, subst, arith}
+use Rattle.std.proofs.Common.{◌≡◌, ℕ, ◌+◌, ◌<◌, Result, length, min, sym, ap, ◌∙◌, subst, arith}
 use Rattle.std.specs.Prelude.{IfOk}
-use Rattle.tlsf_heap.specs.Blocks.{HeapState}
-use Rattle.tlsf_heap.specs.Calls.{Outcome, last_tick}
+use Rattle.tlsf_heap.specs.Blocks.{HeapState, want}
+use Rattle.tlsf_heap.specs.Calls.{allocated, Outcome, last_tick}
 use Rattle.tlsf_heap.specs.InPlace.{payload_of}
 use Rattle.tlsf_heap.specs.Moved.{moved}
 use Rattle.tlsf_heap.specs.Shown.{Shown}
@@ -11,6 +11,9 @@ use Rattle.tlsf_heap.specs.declared.refusal.Refusal.{Refusal}
 use Rattle.tlsf_heap.proofs.lemmas.calls.ResizeOrMove.{moved_done}
 use Rattle.tlsf_heap.proofs.lemmas.calls.Unset.{first_lives, first_holds, moved_unset}
 use Rattle.tlsf_heap.proofs.lemmas.calls.Kept.{keeps_same}
+use Rattle.tlsf_heap.specs.Footprint.{IsOthersWord}
+use Rattle.tlsf_heap.proofs.lemmas.words.Footprint.{any_word}
+use Rattle.tlsf_heap.proofs.lemmas.calls.Leaves.{given_word, written_word}
 use Rattle.tlsf_heap.proofs.heap.Heap.relocate_unset.Goals as goal
 
 -- ---- both names are live behind the request, and a tick is left
@@ -52,3 +55,21 @@ returns-clause-touches g c =
 
 pub returns-then-self-clause-keeps : goal.returns-then-self-clause-keeps
 returns-then-self-clause-keeps g c = keeps_same g.row.SLI c.self.inside c.self.view_is c.self.invariant
+
+-- ---- the payloads of other blocks
+
+pub returns-in_err-new-clause-leaves : goal.returns-in_err-new-clause-leaves
+returns-in_err-new-clause-leaves g c k o = c.in_err-new.ensures.leaves k (any_word c.args.self.now.heap.blocks c.args.name.at k o)
+
+pub returns-clause-leaves : goal.returns-clause-leaves
+returns-clause-leaves g c k o =
+    let h = c.args.self.now.heap in
+    let name = c.args.name in
+    let new = c.in_ok-new.new in
+    let e = c.in_ok-new.ensures in
+    let left = given_word h name.at k o g.row.SLI (want c.args.len) c.args.len e.keeps.was_lawful in
+    let given = (allocated g.row.SLI h c.args.len).heap in
+    let wrote : (at : ℕ) → IsOthersWord given.blocks at k → IsOthersWord c.allocate_unset.new.self.heap.blocks at k = λ at w.
+    subst (λ (s : HeapState). IsOthersWord s.blocks at k) (sym e.heap) (written_word given at k w new 0 _) in
+    c.hand_over.ensures.leaves k (wrote name.at left.0) (wrote new.at (left.1 new (sym e.answer)))
+    ∙ e.leaves k (any_word h.blocks name.at k o)

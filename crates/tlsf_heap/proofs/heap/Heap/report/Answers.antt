@@ -7,6 +7,7 @@ use Rattle.tlsf_heap.specs.declared.report.Report.{Report}
 use Rattle.tlsf_heap.proofs.lemmas.calls.Kept.{keeps_read}
 use Rattle.tlsf_heap.proofs.lemmas.blocks.Sums.{four_each}
 use Rattle.tlsf_heap.proofs.lemmas.calls.Reports.{AreSums, sums_are, told_is, greatest_length}
+use Rattle.tlsf_heap.proofs.lemmas.calls.Leaves.{seen_live}
 use Rattle.tlsf_heap.proofs.heap.Heap.report.Given.{Over}
 use Rattle.tlsf_heap.proofs.heap.Heap.report.Goals as goal
 
@@ -73,3 +74,8 @@ returns-clause-few g c =
 
 pub returns-clause-keeps : goal.returns-clause-keeps
 returns-clause-keeps g c = keeps_read g.row.SLI c.self.inside c.self.view_is c.self.invariant _ c.of.ensures.reads
+
+-- ---- the payloads of other blocks
+
+pub returns-clause-leaves : goal.returns-clause-leaves
+returns-clause-leaves g c = seen_live g.row.SLI c.self.inside c.self.view_is _ c.of.ensures.touched

@@ -1,6 +1,9 @@
 use Rattle.tlsf_heap.proofs.lemmas.calls.Alter.{named_of}
 use Rattle.tlsf_heap.proofs.lemmas.calls.ResizeOrMove.{no_room_live}
 use Rattle.tlsf_heap.proofs.lemmas.calls.Named.{not_forged}
+use Rattle.std.proofs.Common.{sym, ◌∙◌, subst}
+use Rattle.tlsf_heap.specs.Blocks.{HeapState}
+use Rattle.tlsf_heap.specs.Footprint.{IsOthersWord}
 use Rattle.tlsf_heap.proofs.heap.Heap.resize_or_move_unset.Goals as goal
 
 pub returns-in-Err-NoRoom-clause-forged : goal.returns-in-Err-NoRoom-clause-forged
@@ -8,3 +11,9 @@ returns-in-Err-NoRoom-clause-forged g c =
     let h = c.args.self.now.heap in
     let refused = rw c.in-Err-NoRoom.field-0-is at c.in-Err-NoRoom.ensures.answer in
     not_forged h c.args.name c.in-Err-NoRoom.ensures.keeps.was_lawful (named_of h c.args.name (no_room_live h c.args.name c.args.len refused)) _ _
+
+-- ---- the payloads of other blocks
+
+pub returns-in-Err-NoRoom-clause-leaves : goal.returns-in-Err-NoRoom-clause-leaves
+returns-in-Err-NoRoom-clause-leaves g c k o =
+    c.relocate_unset.ensures.leaves k (subst (λ (s : HeapState). IsOthersWord s.blocks c.args.name.at k) (sym c.in-Err-NoRoom.ensures.err.heap) o) ∙ c.resize_unset.ensures.leaves k o

@@ -16,6 +16,9 @@ use Rattle.tlsf_heap.proofs.lemmas.calls.Named.{not_forged}
 use Rattle.tlsf_heap.proofs.lemmas.calls.OtherBytes.{resized_answers}
 use Rattle.tlsf_heap.proofs.lemmas.calls.Resize.{resized_refused}
 use Rattle.tlsf_heap.proofs.lemmas.calls.Unset.{shorter_lives, left_answer, left_room, resized_unset}
+use Rattle.tlsf_heap.specs.Footprint.{IsOthersWord, IsLiveWord}
+use Rattle.tlsf_heap.proofs.lemmas.words.Footprint.{any_word}
+use Rattle.tlsf_heap.proofs.lemmas.calls.Leaves.{resized_word}
 use Rattle.tlsf_heap.proofs.heap.Heap.resize_unset.Goals as goal
 
 -- ---- the name is refused
@@ -101,3 +104,26 @@ returns-clause-touches g c =
 
 pub returns-clause-forged : goal.returns-clause-forged
 returns-clause-forged g c = not_forged c.args.self.now.heap c.args.name c.in_ok-check_payload.ensures.keeps.was_lawful c.in_ok-check_payload.ensures.answer.0 _ _
+
+-- ---- the payloads of other blocks
+
+pub returns-in_err-check_payload-clause-leaves : goal.returns-in_err-check_payload-clause-leaves
+returns-in_err-check_payload-clause-leaves g c k o = c.in_err-check_payload.ensures.leaves k (any_word c.args.self.now.heap.blocks c.args.name.at k o)
+
+pub returns-in_err-resize_words-clause-leaves : goal.returns-in_err-resize_words-clause-leaves
+returns-in_err-resize_words-clause-leaves g c k o =
+    let seen = c.in_ok-check_payload.ensures in
+    c.in_err-resize_words.ensures.leaves k (subst (λ (s : HeapState). IsOthersWord s.blocks c.args.name.at k) (sym seen.same.heap) o)
+    ∙ seen.leaves k (any_word c.args.self.now.heap.blocks c.args.name.at k o)
+
+pub returns-clause-leaves : goal.returns-clause-leaves
+returns-clause-leaves g c k o =
+    let h = c.args.self.now.heap in
+    let name = c.args.name in
+    let seen = c.in_ok-check_payload.ensures in
+    let cut = c.in_ok-resize_words.ensures in
+    let was = subst (λ (s : HeapState). IsOthersWord s.blocks name.at k) (sym seen.same.heap) o in
+    let left = resized_word c.check_payload.new.self.heap name.at k was name c.want.result c.min-kept.result was.4 in
+    c.set_length.ensures.leaves k (subst (λ (s : HeapState). IsLiveWord s.blocks k) (sym cut.heap) (any_word _ name.at k left))
+    ∙ cut.leaves k was
+    ∙ seen.leaves k (any_word h.blocks name.at k o)

@@ -20,6 +20,9 @@ use Rattle.tlsf_heap.proofs.lemmas.calls.Named.{named_same, named_stands, named_
 use Rattle.tlsf_heap.proofs.lemmas.words.Says.{at_index}
 use Rattle.tlsf_heap.proofs.lemmas.calls.Resize.{Resizes, resized_refused, resizes_refused}
 use Rattle.tlsf_heap.proofs.lemmas.calls.Kept.{keeps_both, keeps_stored}
+use Rattle.tlsf_words.specs.Touched.{times}
+use Rattle.tlsf_heap.specs.Footprint.{IsOthersWord, IsLiveWord}
+use Rattle.tlsf_heap.proofs.lemmas.words.Footprint.{any_word}
 use Rattle.tlsf_heap.proofs.heap.Heap.resize_words.Given.{Over}
 use Rattle.tlsf_heap.proofs.heap.Heap.resize_words.Goals as goal
 
@@ -205,3 +208,44 @@ returns-clause-forged g c = not_forged c.args.self.now.heap c.args.name c.in_ok-
 
 pub returns-clause-keeps : goal.returns-clause-keeps
 returns-clause-keeps g c = keeps_both c.in_ok-own.ensures.keeps (keeps_stored g.row.SLI c.self.inside c.self.view_is c.self.invariant _ (invariant_of-self-2 g c) (omega (arith, c.refit.ensures.edits.rise, c.look_behind-next.ensures.reads.rise)) (c.refit.ensures.edits.stays ∙ c.look_behind-next.ensures.reads.stays))
+
+-- ---- the payloads of other blocks
+
+pub returns-in_err-own-clause-leaves : goal.returns-in_err-own-clause-leaves
+returns-in_err-own-clause-leaves g c k o = c.in_err-own.ensures.leaves k (any_word c.args.self.now.heap.blocks c.args.name.at k o)
+
+pub returns-then-room-words-clause-leaves : goal.returns-then-room-words-clause-leaves
+returns-then-room-words-clause-leaves g c k o =
+    let same : state_of g.row.SLI c.self.inside ≡ c.args.self.now.heap = ap (λ (s : Shown). s.heap) c.self.view_is ∙ c.in_ok-own.ensures.same.heap in
+    let there : IsOthersWord c.self.inside.region.blocks c.args.name.at k = subst (λ (h : HeapState). IsOthersWord h.blocks c.args.name.at k) (sym same) o in
+    c.look_behind-next.ensures.touched k (any_word c.self.inside.region.blocks c.args.name.at k there)
+    ∙ ap (λ (s : Shown). times s.touched k) c.self.view_is ∙ c.in_ok-own.ensures.leaves k (any_word c.args.self.now.heap.blocks c.args.name.at k o)
+
+pub returns-then-self-clause-leaves : goal.returns-then-self-clause-leaves
+returns-then-self-clause-leaves g c k o =
+    let same : state_of g.row.SLI c.self.inside ≡ c.args.self.now.heap = ap (λ (s : Shown). s.heap) c.self.view_is ∙ c.in_ok-own.ensures.same.heap in
+    let there : IsOthersWord c.self.inside.region.blocks c.args.name.at k = subst (λ (h : HeapState). IsOthersWord h.blocks c.args.name.at k) (sym same) o in
+    c.look_behind-next.ensures.touched k (any_word c.self.inside.region.blocks c.args.name.at k there)
+    ∙ ap (λ (s : Shown). times s.touched k) c.self.view_is ∙ c.in_ok-own.ensures.leaves k (any_word c.args.self.now.heap.blocks c.args.name.at k o)
+
+pub returns-clause-leaves : goal.returns-clause-leaves
+returns-clause-leaves g c k o =
+    let same : state_of g.row.SLI c.self.inside ≡ c.args.self.now.heap = ap (λ (s : Shown). s.heap) c.self.view_is ∙ c.in_ok-own.ensures.same.heap in
+    let there : IsOthersWord c.self.inside.region.blocks c.args.name.at k = subst (λ (h : HeapState). IsOthersWord h.blocks c.args.name.at k) (sym same) o in
+    (rw c.look_behind-next.ensures.reads.blocks at c.refit.ensures.touched) k there
+    ∙ c.look_behind-next.ensures.touched k (any_word c.self.inside.region.blocks c.args.name.at k there)
+    ∙ ap (λ (s : Shown). times s.touched k) c.self.view_is ∙ c.in_ok-own.ensures.leaves k (any_word c.args.self.now.heap.blocks c.args.name.at k o)
+
+pub returns-then-room-words-clause-refused : goal.returns-then-room-words-clause-refused
+returns-then-room-words-clause-refused g c k live =
+    let same : state_of g.row.SLI c.self.inside ≡ c.args.self.now.heap = ap (λ (s : Shown). s.heap) c.self.view_is ∙ c.in_ok-own.ensures.same.heap in
+    let there : IsLiveWord c.self.inside.region.blocks k = subst (λ (h : HeapState). IsLiveWord h.blocks k) (sym same) live in
+    c.look_behind-next.ensures.touched k there
+    ∙ ap (λ (s : Shown). times s.touched k) c.self.view_is ∙ c.in_ok-own.ensures.leaves k live
+
+pub returns-then-self-clause-refused : goal.returns-then-self-clause-refused
+returns-then-self-clause-refused g c k live =
+    let same : state_of g.row.SLI c.self.inside ≡ c.args.self.now.heap = ap (λ (s : Shown). s.heap) c.self.view_is ∙ c.in_ok-own.ensures.same.heap in
+    let there : IsLiveWord c.self.inside.region.blocks k = subst (λ (h : HeapState). IsLiveWord h.blocks k) (sym same) live in
+    c.look_behind-next.ensures.touched k there
+    ∙ ap (λ (s : Shown). times s.touched k) c.self.view_is ∙ c.in_ok-own.ensures.leaves k live

@@ -15,6 +15,7 @@ use Rattle.tlsf_heap.proofs.lemmas.lists.FreeLists.{same_lists}
 use Rattle.tlsf_heap.proofs.lemmas.calls.Named.{named_stands}
 use Rattle.tlsf_heap.proofs.lemmas.words.Bytes.{length-bytes_in}
 use Rattle.tlsf_heap.proofs.lemmas.calls.Kept.{keeps_stored}
+use Rattle.tlsf_heap.proofs.lemmas.calls.Leaves.{seen_live}
 use Rattle.tlsf_heap.proofs.heap.Heap.set_length.Given.{Over}
 use Rattle.tlsf_heap.proofs.heap.Heap.set_length.Goals as goal
 
@@ -77,3 +78,8 @@ returns-clause-keeps g c =
     let t = there g c in
     let edits = (c.set_length.ensures.change t.0.1.0 (named_stands _ _ _ _ t.0.1.1)).edits in
     keeps_stored g.row.SLI c.self.inside c.self.view_is c.self.invariant _ (invariant_of-self g c) edits.rise edits.stays
+
+-- ---- the payloads of other blocks
+
+pub returns-clause-leaves : goal.returns-clause-leaves
+returns-clause-leaves g c = seen_live g.row.SLI c.self.inside c.self.view_is _ c.set_length.ensures.touched

@@ -13,6 +13,7 @@ use Rattle.tlsf_heap.proofs.lemmas.calls.GivenBlock.{carved_stands}
 use Rattle.tlsf_heap.proofs.lemmas.blocks.Lawful.{with_region}
 use Rattle.tlsf_heap.proofs.lemmas.words.Says.{at_index}
 use Rattle.tlsf_heap.proofs.lemmas.calls.Kept.{keeps_stored, keeps_read}
+use Rattle.tlsf_heap.proofs.lemmas.calls.Leaves.{seen_live}
 use Rattle.tlsf_heap.proofs.heap.Heap.words_from.Given.{Over}
 use Rattle.tlsf_heap.proofs.heap.Heap.words_from.Goals as goal
 
@@ -197,3 +198,19 @@ returns-then-self-clause-wild g c = free_not_wild (ap (λ (s : Shown). s.heap) c
 
 pub returns-clause-wild : goal.returns-clause-wild
 returns-clause-wild g c = free_not_wild (ap (λ (s : Shown). s.heap) c.self.view_is) c.self.invariant.lawful (c.in-Some.ensures.answer.0, c.in-Some.ensures.answer.1) _ _
+
+-- ---- the payloads of other blocks
+
+pub returns-in_default-clause-leaves : goal.returns-in_default-clause-leaves
+returns-in_default-clause-leaves g c = seen_live g.row.SLI c.self.inside c.self.view_is _ c.free_at.ensures.touched
+
+pub returns-then-size-words-clause-leaves : goal.returns-then-size-words-clause-leaves
+returns-then-size-words-clause-leaves g c = seen_live g.row.SLI c.self.inside c.self.view_is _ c.free_at.ensures.touched
+
+pub returns-then-self-clause-leaves : goal.returns-then-self-clause-leaves
+returns-then-self-clause-leaves g c = seen_live g.row.SLI c.self.inside c.self.view_is _ c.free_at.ensures.touched
+
+pub returns-clause-leaves : goal.returns-clause-leaves
+returns-clause-leaves g c = seen_live g.row.SLI c.self.inside c.self.view_is _ (λ k live.
+    let blocks = c.free_at.ensures.reads.blocks in
+    (rw (c.remove.ensures.blocks ∙ blocks) at c.give.ensures.touched) k live ∙ (rw blocks at c.remove.ensures.touched) k live ∙ c.free_at.ensures.touched k live)

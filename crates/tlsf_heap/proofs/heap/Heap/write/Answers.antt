@@ -1,4 +1,4 @@
-use Rattle.std.proofs.Common.{◌≡◌, ℕ, length, sym, ap, ◌∙◌, arith}
+use Rattle.std.proofs.Common.{◌≡◌, ℕ, length, sym, ap, ◌∙◌, arith, subst}
 use Rattle.std.proofs.lemmas.Result.{err_from_is_err_and}
 use Rattle.tlsf_heap.specs.Blocks.{HeapState, StandsAt}
 use Rattle.tlsf_heap.specs.Shown.{Shown}
@@ -12,6 +12,9 @@ use Rattle.tlsf_heap.proofs.lemmas.calls.Named.{not_forged}
 use Rattle.tlsf_heap.proofs.lemmas.calls.Write.{range_named, range_stands, unwritten, Writes, writes}
 use Rattle.tlsf_heap.proofs.lemmas.blocks.Stands.{behind_one}
 use Rattle.tlsf_heap.proofs.lemmas.calls.Kept.{keeps_both, keeps_stored}
+use Rattle.tlsf_words.specs.Touched.{times}
+use Rattle.tlsf_heap.specs.Footprint.{IsOthersWord}
+use Rattle.tlsf_heap.proofs.lemmas.words.Footprint.{any_word}
 use Rattle.tlsf_heap.proofs.heap.Heap.write.Given.{Over}
 use Rattle.tlsf_heap.proofs.heap.Heap.write.Goals as goal
 
@@ -42,13 +45,13 @@ stood g c =
 wrote : (g : Over) (c : goal.After-write g) → Writes g.row.SLI c.args.self.now.heap c.args.name c.args.at c.args.bytes.now (with_region (state_of g.row.SLI c.self.inside) c.self.inside.tick c.write.new.self)
 wrote g c =
     writes g.row.SLI (state_of g.row.SLI c.self.inside) c.args.self.now.heap c.args.name c.args.at c.args.bytes.now (ap (λ (s : Shown). s.heap) c.self.view_is ∙ c.in_ok-check_range.ensures.same.heap)
-    c.in_ok-check_range.ensures.answer c.in_ok-check_range.ensures.place c.write.new.self c.self.invariant.lawful (c.write.ensures (stood g c).0 (stood g c).1).edits.words (λ i stands. (c.write.ensures i stands).blocks ∙ sym (behind_one i _ c.self.inside.region.blocks))
+    c.in_ok-check_range.ensures.answer c.in_ok-check_range.ensures.place c.write.new.self c.self.invariant.lawful (c.write.ensures.change (stood g c).0 (stood g c).1).edits.words (λ i stands. (c.write.ensures.change i stands).blocks ∙ sym (behind_one i _ c.self.inside.region.blocks))
 
 pub invariant_of-self : goal.invariant_of-self
 invariant_of-self g c =
     let same : state_of g.row.SLI c.self.inside ≡ c.args.self.now.heap = ap (λ (s : Shown). s.heap) c.self.view_is ∙ c.in_ok-check_range.ensures.same.heap in
     let places : free_places g.row.SLI 0 c.write.new.self.blocks ≡ free_places g.row.SLI 0 c.self.inside.region.blocks = (wrote g c).places ∙ sym (ap (λ (h : HeapState). free_places g.row.SLI 0 h.blocks) same) in
-    let change = c.write.ensures (stood g c).0 (stood g c).1 in
+    let change = c.write.ensures.change (stood g c).0 (stood g c).1 in
     record {
       lawful = (wrote g c).lawful;
       shows = change.edits.shows;
@@ -67,7 +70,7 @@ returns-clause-heap g c = (wrote g c).is_heap
 
 pub returns-clause-touches : goal.returns-clause-touches
 returns-clause-touches g c =
-    omega (arith, (c.write.ensures (stood g c).0 (stood g c).1).edits.touches, c.in_ok-check_range.ensures.touches, ap (λ (s : Shown). s.touches) c.self.view_is)
+    omega (arith, (c.write.ensures.change (stood g c).0 (stood g c).1).edits.touches, c.in_ok-check_range.ensures.touches, ap (λ (s : Shown). s.touches) c.self.view_is)
 
 -- ---- the name was not forged
 
@@ -78,5 +81,17 @@ returns-clause-forged g c = not_forged c.args.self.now.heap c.args.name c.in_ok-
 
 pub returns-clause-keeps : goal.returns-clause-keeps
 returns-clause-keeps g c =
-    let edits = (c.write.ensures (stood g c).0 (stood g c).1).edits in
+    let edits = (c.write.ensures.change (stood g c).0 (stood g c).1).edits in
     keeps_both c.in_ok-check_range.ensures.keeps (keeps_stored g.row.SLI c.self.inside c.self.view_is c.self.invariant _ (invariant_of-self g c) edits.rise edits.stays)
+
+-- ---- the payloads of other blocks
+
+pub returns-in_err-check_range-clause-leaves : goal.returns-in_err-check_range-clause-leaves
+returns-in_err-check_range-clause-leaves g c k o = c.in_err-check_range.ensures.leaves k (any_word c.args.self.now.heap.blocks c.args.name.at k o)
+
+pub returns-clause-leaves : goal.returns-clause-leaves
+returns-clause-leaves g c k o =
+    let same : state_of g.row.SLI c.self.inside ≡ c.args.self.now.heap = ap (λ (s : Shown). s.heap) c.self.view_is ∙ c.in_ok-check_range.ensures.same.heap in
+    let there : IsOthersWord c.self.inside.region.blocks c.args.name.at k = subst (λ (h : HeapState). IsOthersWord h.blocks c.args.name.at k) (sym same) o in
+    c.write.ensures.touched k there
+    ∙ ap (λ (s : Shown). times s.touched k) c.self.view_is ∙ c.in_ok-check_range.ensures.leaves k (any_word c.args.self.now.heap.blocks c.args.name.at k o)

@@ -13,6 +13,8 @@ use Rattle.tlsf_heap.proofs.lemmas.words.KeptLinks.{relisted_bytes}
 use Rattle.tlsf_heap.proofs.lemmas.blocks.Stands.{behind_one}
 use Rattle.tlsf_heap.proofs.lemmas.words.Edit.{Leaves}
 use Rattle.tlsf_heap.specs.Regions.{RegionState, image_of}
+use Rattle.tlsf_words.specs.Touched.{times}
+use Rattle.tlsf_heap.proofs.lemmas.words.Footprint.{others_apart}
 use Rattle.tlsf_heap.proofs.region.Region.copy.Given.{Over}
 use Rattle.tlsf_heap.proofs.region.Region.copy.Goals as goal
 
@@ -66,8 +68,8 @@ relists g c =
 pub invariant_of-self : goal.invariant_of-self
 invariant_of-self g c = (relists g c).holds
 
-pub returns : goal.returns
-returns g c i stands =
+pub returns-clause-change : goal.returns-clause-change
+returns-clause-change g c i stands =
     let new = c.copy_payload.ensures in
     let touches = ap (λ (r : RegionState). r.touches) c.self.view_is in
     let words = ap (λ (r : RegionState). r.words) c.self.view_is in
@@ -76,3 +78,16 @@ returns g c i stands =
       lists = (relists g c).same;
       edits = record { words = new.length ∙ words; shows = (relists g c).holds.shows; linked = linked_lists g.row.SLI _ _ (relists g c).holds; bits = marked_lists g.row.SLI _ _ (relists g c).holds; stays = c.copy_payload.ensures.stays ∙ ap (λ (r : RegionState). r.extents) c.self.view_is; touches = omega (arith, new.touches, touches); rise = omega (arith, new.rise, touches) };
     }
+
+pub returns-clause-touched : goal.returns-clause-touched
+returns-clause-touched g c k o p =
+    let bs = c.args.self.now.blocks in
+    let shows = shows_state g.row.SLI c.self.invariant c.self.view_is in
+    let from = c.requires.from in
+    let to = c.requires.to in
+    let first = held_within (block_at bs from.0) (room_here _ bs shows c.args.from from.0 from.1) in
+    let second = held_within (block_at bs to.0) (room_here _ bs shows c.args.to to.0 to.1) in
+    c.copy_payload.ensures.touched k
+    (elim (others_apart bs c.args.from from.0 k from.1 o) [ inl below ↦ inl (omega (arith, below)) | inr above ↦ inr (omega (arith, above, first, from.2)) ])
+    (elim (others_apart bs c.args.to to.0 k to.1 p) [ inl below ↦ inl (omega (arith, below)) | inr above ↦ inr (omega (arith, above, second, to.2)) ])
+    ∙ ap (λ (r : RegionState). times r.touched k) c.self.view_is

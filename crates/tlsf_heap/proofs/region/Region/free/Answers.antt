@@ -1,5 +1,5 @@
 -- The header of a free block of the words is one of the blocks, and leaves the lists.
-use Rattle.std.proofs.Common.{ℕ, length, sym, ap, ◌∙◌, subst, arith}
+use Rattle.std.proofs.Common.{◌∷◌, ◌+◌, List, ℕ, length, sym, ap, ◌∙◌, subst, arith}
 use Rattle.tlsf_heap.specs.Blocks.{StandsAt}
 use Rattle.tlsf_heap.specs.Calls.{coalesced}
 use Rattle.tlsf_heap.specs.GoodFit.{site_at}
@@ -7,6 +7,9 @@ use Rattle.tlsf_heap.specs.Regions.{RegionState, AreNeighbours, IsTagOf, image_o
 use Rattle.tlsf_heap.proofs.lemmas.words.Free.{merged, alone_are, merges_alone}
 use Rattle.tlsf_heap.proofs.lemmas.words.Links.{linked_lists, marked_lists, Reshapes, holds_state}
 use Rattle.tlsf_heap.proofs.lemmas.words.Says.{shows_state, at_index, in_region}
+use Rattle.tlsf_words.specs.Touched.{times}
+use Rattle.tlsf_words.proofs.Touching.{times_other}
+use Rattle.tlsf_heap.proofs.lemmas.words.Footprint.{header_apart}
 use Rattle.tlsf_heap.proofs.region.Region.free.Given.{Over}
 use Rattle.tlsf_heap.proofs.region.Region.free.Goals as goal
 
@@ -34,8 +37,8 @@ reshapes g c i stands =
 pub invariant_of-self : goal.invariant_of-self
 invariant_of-self g c = (reshapes g c c.requires.own.0 c.requires.own.1).holds
 
-pub returns : goal.returns
-returns g c i stands =
+pub returns-clause-change : goal.returns-clause-change
+returns-clause-change g c i stands =
     let left = reshapes g c i stands in
     let touches = ap (λ (r : RegionState). r.touches) c.self.view_is in
     let words = ap (λ (r : RegionState). r.words) c.self.view_is in
@@ -44,3 +47,11 @@ returns g c i stands =
       lists = left.same;
       edits = record { words = c.free_header.ensures.only.length ∙ words; shows = left.holds.shows; linked = linked_lists g.row.SLI _ _ left.holds; bits = marked_lists g.row.SLI _ _ left.holds; stays = c.free_header.ensures.stays ∙ ap (λ (r : RegionState). r.extents) c.self.view_is; touches = omega (arith, c.free_header.ensures.touches, touches); rise = omega (arith, c.free_header.ensures.touches, touches) };
     }
+
+pub returns-clause-touched : goal.returns-clause-touched
+returns-clause-touched g c k live =
+    let apart = header_apart (shows_state g.row.SLI c.self.invariant c.self.view_is) c.requires.own.1 in
+    ap (λ (l : List ℕ). times l k) c.free_header.ensures.touched
+    ∙ times_other (c.args.at + 1) k (c.args.at ∷ c.self.inside.words.touched) (apart 1 (omega arith) k live)
+    ∙ times_other c.args.at k c.self.inside.words.touched (λ e. apart 0 (omega arith) k live (omega (arith, e)))
+    ∙ ap (λ (r : RegionState). times r.touched k) c.self.view_is

@@ -1,11 +1,14 @@
 -- A block that is made a live one whole: the words show it, and leave the lists.
-use Rattle.std.proofs.Common.{ℕ, [], ◌∷◌, ◌++◌, take, drop, suc, ap, ◌∙◌, arith}
-use Rattle.tlsf_heap.specs.Blocks.{Live, size_of, StandsAt}
+use Rattle.std.proofs.Common.{ℕ, ◌+◌, [], ◌∷◌, ◌++◌, take, drop, suc, ap, ◌∙◌, arith, ◌≡◌, ◌≢◌, ◌<◌, true, sym, List, inl, inr}
+use Rattle.tlsf_heap.specs.Blocks.{Live, size_of, StandsAt, is_free}
 use Rattle.tlsf_heap.specs.GoodFit.{block_at, site_at}
 use Rattle.tlsf_heap.specs.Regions.{RegionState, IsTagOf, image_of}
 use Rattle.tlsf_heap.proofs.lemmas.words.Says.{shows_state, says_here, at_index}
 use Rattle.tlsf_heap.proofs.lemmas.words.Links.{linked_lists, marked_lists, Reshapes, holds_state}
 use Rattle.tlsf_heap.proofs.lemmas.words.Split.{stored_bytes, begins_zero, tag_here, left_whole}
+use Rattle.tlsf_words.specs.Touched.{times}
+use Rattle.tlsf_words.proofs.Touching.{times_other}
+use Rattle.tlsf_heap.proofs.lemmas.words.Footprint.{free_elsewhere, others_apart}
 use Rattle.tlsf_heap.proofs.region.Region.grant.Given.{Over}
 use Rattle.tlsf_heap.proofs.region.Region.grant.Goals as goal
 
@@ -46,3 +49,21 @@ returns-clause-change g c i stands =
         rise = omega (arith, c.live_header.ensures.touches, touches);
       };
     }
+
+pub returns-clause-touched : goal.returns-clause-touched
+returns-clause-touched g c k live =
+    let bs = c.args.self.now.blocks in
+    let own = c.requires.own in
+    let least = (says_here (shows_state g.row.SLI c.self.invariant c.self.view_is) own.1).least in
+    let free : is_free (block_at bs own.0) ≡ true = sym own.2.free ∙ c.requires.free in
+    let apart : (d : ℕ) → d < 4 → k ≢ c.args.at + d = λ d low e. elim (others_apart bs c.args.at own.0 k own.1 (free_elsewhere bs c.args.at own.0 k own.1 free (omega (arith, least)) live)) [
+      | inl below ↦ omega (arith, below, e)
+      | inr above ↦ omega (arith, above, e, low, least)
+    ] in
+    let old = c.self.inside.words.touched in
+    ap (λ (l : List ℕ). times l k) c.live_header.ensures.touched
+    ∙ times_other (c.args.at + 3) k ((c.args.at + 2) ∷ (c.args.at + 1) ∷ c.args.at ∷ old) (apart 3 (omega arith))
+    ∙ times_other (c.args.at + 2) k ((c.args.at + 1) ∷ c.args.at ∷ old) (apart 2 (omega arith))
+    ∙ times_other (c.args.at + 1) k (c.args.at ∷ old) (apart 1 (omega arith))
+    ∙ times_other c.args.at k old (λ e. apart 0 (omega arith) (omega (arith, e)))
+    ∙ ap (λ (r : RegionState). times r.touched k) c.self.view_is

@@ -1,6 +1,9 @@
-use Rattle.std.proofs.Common.{◌∙◌, arith}
+use Rattle.std.proofs.Common.{◌∙◌, arith, ◌+◌, refl, ap}
 use Rattle.tlsf_heap.proofs.lemmas.words.Says.{shows_state, holds_read, in_region}
 use Rattle.tlsf_heap.proofs.lemmas.words.Bytes.{length_read}
+use Rattle.tlsf_words.specs.Touched.{times}
+use Rattle.tlsf_heap.proofs.lemmas.words.Footprint.{reads_header}
+use Rattle.tlsf_heap.specs.Regions.{RegionState}
 use Rattle.tlsf_heap.proofs.region.Region.length.Goals as goal
 
 pub length-requires : goal.length-requires
@@ -11,3 +14,8 @@ invariant_of-self g c = holds_read g.row.SLI c.length.ensures.words c.length.ens
 
 pub returns-clause-value : goal.returns-clause-value
 returns-clause-value g c i stands = c.length.ensures.value ∙ length_read (shows_state g.row.SLI c.self.invariant c.self.view_is) stands c.requires
+
+pub returns-clause-touched : goal.returns-clause-touched
+returns-clause-touched g c k live =
+    reads_header (shows_state g.row.SLI c.self.invariant c.self.view_is) c.requires.1 2 (c.args.at + 2) (omega arith) refl c.self.inside.words.touched c.length.new.self.touched c.length.ensures.touched k live
+    ∙ ap (λ (r : RegionState). times r.touched k) c.self.view_is

@@ -1,5 +1,8 @@
-use Rattle.std.proofs.Common.{◌∙◌, arith}
+use Rattle.std.proofs.Common.{◌∙◌, arith, ◌+◌, refl, ap}
 use Rattle.tlsf_heap.proofs.lemmas.words.Says.{shows_state, holds_read, in_region, says_here}
+use Rattle.tlsf_words.specs.Touched.{times}
+use Rattle.tlsf_heap.proofs.lemmas.words.Footprint.{reads_header}
+use Rattle.tlsf_heap.specs.Regions.{RegionState}
 use Rattle.tlsf_heap.proofs.region.Region.mark.Goals as goal
 
 pub mark-requires : goal.mark-requires
@@ -10,3 +13,8 @@ invariant_of-self g c = holds_read g.row.SLI c.mark.ensures.words c.mark.ensures
 
 pub returns-clause-value : goal.returns-clause-value
 returns-clause-value g c i stands = c.mark.ensures.value ∙ (says_here (shows_state g.row.SLI c.self.invariant c.self.view_is) stands).mark
+
+pub returns-clause-touched : goal.returns-clause-touched
+returns-clause-touched g c k live =
+    reads_header (shows_state g.row.SLI c.self.invariant c.self.view_is) c.requires.1 1 (c.args.at + 1) (omega arith) refl c.self.inside.words.touched c.mark.new.self.touched c.mark.ensures.touched k live
+    ∙ ap (λ (r : RegionState). times r.touched k) c.self.view_is

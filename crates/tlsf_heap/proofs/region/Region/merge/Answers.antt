@@ -8,6 +8,8 @@ use Rattle.tlsf_heap.proofs.lemmas.words.Free.{merged}
 use Rattle.tlsf_heap.proofs.lemmas.words.Merge.{merge_within, merge_last, merge_before, merge_after}
 use Rattle.tlsf_heap.proofs.lemmas.words.Links.{linked_lists, marked_lists, Reshapes, holds_state}
 use Rattle.tlsf_heap.specs.Regions.{RegionState, AreNeighbours, image_of}
+use Rattle.tlsf_words.specs.Touched.{times}
+use Rattle.tlsf_heap.proofs.lemmas.words.Footprint.{front_apart, end_apart}
 use Rattle.tlsf_heap.proofs.region.Region.merge.Given.{Over}
 use Rattle.tlsf_heap.proofs.region.Region.merge.Goals as goal
 
@@ -30,8 +32,8 @@ reshapes g c i stands = merged g.row.SLI (holds_state g.row.SLI c.self.invariant
 pub invariant_of-self : goal.invariant_of-self
 invariant_of-self g c = (reshapes g c c.requires.around.0 c.requires.around.1).holds
 
-pub returns : goal.returns
-returns g c i stands =
+pub returns-clause-change : goal.returns-clause-change
+returns-clause-change g c i stands =
     let left = reshapes g c i stands in
     let touches = ap (λ (r : RegionState). r.touches) c.self.view_is in
     let words = ap (λ (r : RegionState). r.words) c.self.view_is in
@@ -40,3 +42,12 @@ returns g c i stands =
       lists = left.same;
       edits = record { words = c.merge_headers.ensures.change.only.length ∙ words; shows = left.holds.shows; linked = linked_lists g.row.SLI _ _ left.holds; bits = marked_lists g.row.SLI _ _ left.holds; stays = c.merge_headers.ensures.stays ∙ ap (λ (r : RegionState). r.extents) c.self.view_is; touches = omega (arith, c.merge_headers.ensures.touches.within, touches); rise = omega (arith, c.merge_headers.ensures.touches.rise, touches) };
     }
+
+pub returns-clause-touched : goal.returns-clause-touched
+returns-clause-touched g c k live =
+    let shows = shows_state g.row.SLI c.self.invariant c.self.view_is in
+    let stands = c.requires.around.1 in
+    let is = c.requires.around.2 in
+    let front = front_apart shows stands {before = c.args.before} {tag_size = c.args.tag.size} is.before is.size in
+    c.merge_headers.ensures.touched k (λ e. front 0 (omega arith) k live (omega (arith, e))) (front 1 (omega arith) k live) (end_apart shows stands is.before is.size k live)
+    ∙ ap (λ (r : RegionState). times r.touched k) c.self.view_is

@@ -1,9 +1,12 @@
+use Rattle.std.specs.List.{Contains}
 -- The free lists without the head of one: only links have changed.
-use Rattle.std.proofs.Common.{ℕ, List, sym, ap, ◌∙◌, arith}
+use Rattle.std.proofs.Common.{subst, refl, zero, ℕ, List, sym, ap, ◌∙◌, arith}
 use Rattle.std.specs.Prelude.{slice_get}
 use Rattle.tlsf_words.specs.Lists.{without_place}
 use Rattle.tlsf_heap.proofs.lemmas.words.Links.{linked_lists, marked_lists, Relinks, holds_state, list_in-lists_of, relinked, free_removed}
 use Rattle.tlsf_heap.specs.Regions.{RegionState, image_of}
+use Rattle.tlsf_words.specs.Touched.{times}
+use Rattle.tlsf_heap.proofs.lemmas.words.Footprint.{header_apart}
 use Rattle.tlsf_heap.proofs.region.Region.pop_first.Given.{Over}
 use Rattle.tlsf_heap.proofs.region.Region.pop_first.Goals as goal
 
@@ -40,5 +43,10 @@ returns-clause-change g c =
       list = list_in-lists_of c.pop_first.new.self.heads c.pop_first.new.words.words c.args.class ∙ c.pop_first.ensures.list
           ∙ ap (without_place c.pop_first.result) (sym ((holds_state g.row.SLI c.self.invariant c.self.view_is).lists c.args.class));
       others = λ other differs. list_in-lists_of c.pop_first.new.self.heads c.pop_first.new.words.words other ∙ c.pop_first.ensures.others other differs ∙ sym ((holds_state g.row.SLI c.self.invariant c.self.view_is).lists other);
+      touched = λ k live.
+          let state = holds_state g.row.SLI c.self.invariant c.self.view_is in
+          c.pop_first.ensures.touched k (header_apart state.shows (state.free c.args.class c.pop_first.result (subst (λ (places : List ℕ). Contains places c.pop_first.result) (sym c.pop_first.ensures.first) (zero, omega arith, refl))).1 2 (omega arith) k live)
+          (λ class other there. header_apart state.shows (state.free class other there).1 2 (omega arith) k live)
+          ∙ ap (λ (r : RegionState). times r.touched k) c.self.view_is;
       edits = record { words = c.pop_first.ensures.length ∙ words; shows = (relinks g c).holds.shows; linked = linked_lists g.row.SLI _ _ (relinks g c).holds; bits = marked_lists g.row.SLI _ _ (relinks g c).holds; stays = c.pop_first.ensures.stays ∙ ap (λ (r : RegionState). r.extents) c.self.view_is; touches = omega (arith, c.pop_first.ensures.touches, touches); rise = omega (arith, c.pop_first.ensures.rise, c.pop_first.ensures.words_rise, touches) };
     }

@@ -4,6 +4,8 @@ use Rattle.std.specs.Prelude.{Contains}
 use Rattle.tlsf_heap.proofs.lemmas.words.Says.{shows_state, in_region}
 use Rattle.tlsf_heap.proofs.lemmas.words.Links.{linked_lists, marked_lists, Relinks, holds_state, list_in-lists_of, relinked, free_pushed}
 use Rattle.tlsf_heap.specs.Regions.{RegionState, image_of}
+use Rattle.tlsf_words.specs.Touched.{times}
+use Rattle.tlsf_heap.proofs.lemmas.words.Footprint.{header_apart}
 use Rattle.tlsf_heap.proofs.region.Region.push.Given.{Over}
 use Rattle.tlsf_heap.proofs.region.Region.push.Goals as goal
 
@@ -40,5 +42,10 @@ returns g c =
       list = list_in-lists_of c.push.new.self.heads c.push.new.words.words c.args.class ∙ c.push.ensures.list
           ∙ ap (λ (places : List ℕ). c.args.at ∷ places) (sym ((holds_state g.row.SLI c.self.invariant c.self.view_is).lists c.args.class));
       others = λ other differs. list_in-lists_of c.push.new.self.heads c.push.new.words.words other ∙ c.push.ensures.others other differs ∙ sym ((holds_state g.row.SLI c.self.invariant c.self.view_is).lists other);
+      touched = λ k live.
+          let state = holds_state g.row.SLI c.self.invariant c.self.view_is in
+          c.push.ensures.touched k (header_apart state.shows c.requires.free.1 2 (omega arith) k live)
+          (λ class other there. header_apart state.shows (state.free class other there).1 2 (omega arith) k live)
+          ∙ ap (λ (r : RegionState). times r.touched k) c.self.view_is;
       edits = record { words = c.push.ensures.length ∙ words; shows = (relinks g c).holds.shows; linked = linked_lists g.row.SLI _ _ (relinks g c).holds; bits = marked_lists g.row.SLI _ _ (relinks g c).holds; stays = c.push.ensures.stays ∙ ap (λ (r : RegionState). r.extents) c.self.view_is; touches = omega (arith, c.push.ensures.touches, touches); rise = omega (arith, c.push.ensures.rise, c.push.ensures.words_rise, touches) };
     }

@@ -1,4 +1,4 @@
-use Rattle.std.proofs.Common.{◌≡◌, ℕ, suc, ◌+◌, ◌++◌, ◌≤◌, take, drop, length, false, ap, ◌∙◌, arith}
+use Rattle.std.proofs.Common.{◌≡◌, ℕ, suc, ◌+◌, ◌++◌, ◌≤◌, take, drop, length, false, ap, ◌∙◌, arith, inl, inr}
 use Rattle.tlsf_heap.specs.Blocks.{StandsAt, is_free, bytes_of, words_for}
 use Rattle.tlsf_heap.specs.Calls.{recut}
 use Rattle.tlsf_heap.specs.GoodFit.{block_at}
@@ -6,6 +6,8 @@ use Rattle.tlsf_heap.specs.Regions.{RegionState, image_of}
 use Rattle.tlsf_heap.proofs.lemmas.words.Links.{linked_lists, marked_lists, Reshapes, holds_state}
 use Rattle.tlsf_heap.proofs.lemmas.words.Says.{shows_state, at_index}
 use Rattle.tlsf_heap.proofs.lemmas.words.Recut.{whole_is, whole_ends, whole_last, whole_least, left_wide, left_recut}
+use Rattle.tlsf_words.specs.Touched.{times}
+use Rattle.tlsf_heap.proofs.lemmas.words.Footprint.{past_apart}
 use Rattle.tlsf_heap.proofs.region.Region.recut.Goals.{After-recut_header}
 use Rattle.tlsf_heap.proofs.region.Region.recut.Given.{Over}
 use Rattle.tlsf_heap.proofs.region.Region.recut.Goals as goal
@@ -77,3 +79,27 @@ returns-clause-change g c i stands =
       lists = left.same;
       edits = record { words = c.recut_header.ensures.change.only.length ∙ words; shows = left.holds.shows; linked = linked_lists g.row.SLI _ _ left.holds; bits = marked_lists g.row.SLI _ _ left.holds; stays = c.recut_header.ensures.stays ∙ ap (λ (r : RegionState). r.extents) c.self.view_is; touches = omega (arith, rises.within, touches); rise = omega (arith, rises.rise, touches) };
     }
+
+pub returns-then-both-size-clause-touched : goal.returns-then-both-size-clause-touched
+returns-then-both-size-clause-touched g c k o =
+    let live = c.requires.live in
+    let own = (c.requires.own live.0 live.1).size in
+    let next = (c.requires.next live.0 live.1).size in
+    let lies = past_apart c.args.self.now.blocks c.args.at live.0 k live.1 o in
+    c.widen_header.ensures.touched k
+    (λ e. elim lies [ inl below ↦ omega (arith, below, e) | inr above ↦ omega (arith, above, e) ])
+    (λ e. elim lies [ inl below ↦ omega (arith, below, e) | inr above ↦ omega (arith, above, e, own, next, c.new-whole.ensures.size, c.size.ensures.value, c.size-after.ensures.value) ])
+    ∙ ap (λ (r : RegionState). times r.touched k) c.self.view_is
+
+pub returns-clause-touched : goal.returns-clause-touched
+returns-clause-touched g c k o =
+    let live = c.requires.live in
+    let own = (c.requires.own live.0 live.1).size in
+    let next = (c.requires.next live.0 live.1).size in
+    let lies = past_apart c.args.self.now.blocks c.args.at live.0 k live.1 o in
+    c.recut_header.ensures.touched k
+    (λ e. elim lies [ inl below ↦ omega (arith, below, e) | inr above ↦ omega (arith, above, e) ])
+    (λ e. elim lies [ inl below ↦ omega (arith, below, e) | inr above ↦ omega (arith, above, e, own, next, c.if-both-size.false, c.size.ensures.value, c.size-after.ensures.value) ])
+    (λ e. elim lies [ inl below ↦ omega (arith, below, e) | inr above ↦ omega (arith, above, e, own, next, c.if-both-size.false, c.size.ensures.value, c.size-after.ensures.value) ])
+    (λ e. elim lies [ inl below ↦ omega (arith, below, e) | inr above ↦ omega (arith, above, e, own, next, c.new-whole.ensures.size, c.size.ensures.value, c.size-after.ensures.value) ])
+    ∙ ap (λ (r : RegionState). times r.touched k) c.self.view_is

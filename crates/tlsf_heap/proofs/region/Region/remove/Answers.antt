@@ -5,6 +5,8 @@ use Rattle.tlsf_class.specs.Classes.{class_of}
 use Rattle.tlsf_words.specs.Lists.{without_place}
 use Rattle.tlsf_heap.proofs.lemmas.words.Links.{linked_lists, marked_lists, Relinks, holds_state, list_in-lists_of, relinked, free_removed}
 use Rattle.tlsf_heap.specs.Regions.{RegionState, image_of}
+use Rattle.tlsf_words.specs.Touched.{times}
+use Rattle.tlsf_heap.proofs.lemmas.words.Footprint.{header_apart}
 use Rattle.tlsf_heap.proofs.region.Region.remove.Given.{Over}
 use Rattle.tlsf_heap.proofs.region.Region.remove.Goals as goal
 
@@ -44,5 +46,10 @@ returns g c =
       list = list_in-lists_of c.unlink.new.self.heads c.unlink.new.words.words (class_of g.row.SLI c.args.size) ∙ c.unlink.ensures.list
           ∙ ap (without_place c.args.at) (sym ((holds_state g.row.SLI c.self.invariant c.self.view_is).lists (class_of g.row.SLI c.args.size)));
       others = λ other differs. list_in-lists_of c.unlink.new.self.heads c.unlink.new.words.words other ∙ c.unlink.ensures.others other differs ∙ sym ((holds_state g.row.SLI c.self.invariant c.self.view_is).lists other);
+      touched = λ k live.
+          let state = holds_state g.row.SLI c.self.invariant c.self.view_is in
+          c.unlink.ensures.touched k (header_apart state.shows (state.free (class_of g.row.SLI c.args.size) c.args.at (subst (λ (places : List ℕ). Contains places c.args.at) (state.lists (class_of g.row.SLI c.args.size)) c.requires.listed)).1 2 (omega arith) k live)
+          (λ class other there. header_apart state.shows (state.free class other there).1 2 (omega arith) k live)
+          ∙ ap (λ (r : RegionState). times r.touched k) c.self.view_is;
       edits = record { words = c.unlink.ensures.length ∙ words; shows = (relinks g c).holds.shows; linked = linked_lists g.row.SLI _ _ (relinks g c).holds; bits = marked_lists g.row.SLI _ _ (relinks g c).holds; stays = c.unlink.ensures.stays ∙ ap (λ (r : RegionState). r.extents) c.self.view_is; touches = omega (arith, c.unlink.ensures.touches, touches); rise = omega (arith, c.unlink.ensures.rise, c.unlink.ensures.words_rise, touches) };
     }

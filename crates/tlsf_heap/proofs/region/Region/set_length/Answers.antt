@@ -1,4 +1,4 @@
-use Rattle.std.proofs.Common.{◌≡◌, ◌≢◌, ◌+◌, ◌<◌, List, ℕ, length, get_or, ap, ◌∙◌, subst, arith}
+use Rattle.std.proofs.Common.{◌≡◌, ◌≢◌, ◌+◌, ◌<◌, List, ℕ, length, get_or, ap, ◌∙◌, subst, arith, refl}
 use Rattle.std.proofs.lemmas.List.{length-set, get_or-set_other, get_or-set_same}
 use Rattle.tlsf_words.specs.Fields.{length_word}
 use Rattle.tlsf_heap.specs.Headers.{OnlyFrom}
@@ -7,6 +7,8 @@ use Rattle.tlsf_heap.proofs.lemmas.words.NewLength.{SetsLength, length_leaves, l
 use Rattle.tlsf_heap.proofs.lemmas.words.Links.{linked_lists, marked_lists, Relists, holds_state}
 use Rattle.tlsf_heap.proofs.lemmas.words.Says.{shows_state, says_here}
 use Rattle.tlsf_heap.proofs.lemmas.blocks.Stands.{behind_one}
+use Rattle.tlsf_words.specs.Touched.{times}
+use Rattle.tlsf_heap.proofs.lemmas.words.Footprint.{reads_header}
 use Rattle.tlsf_heap.proofs.region.Region.set_length.Given.{Over}
 use Rattle.tlsf_heap.proofs.region.Region.set_length.Goals as goal
 
@@ -53,3 +55,8 @@ returns-clause-change g c i stands =
 
 pub returns-clause-only : goal.returns-clause-only
 returns-clause-only g c = subst (λ (r : RegionState). OnlyFrom r.stored.words c.set_length.new.self.words (c.args.at + 2) (c.args.at + 3)) c.self.view_is (sets g c).only
+
+pub returns-clause-touched : goal.returns-clause-touched
+returns-clause-touched g c k live =
+    reads_header (shows_state g.row.SLI c.self.invariant c.self.view_is) c.requires.1 2 (c.args.at + 2) (omega arith) refl c.self.inside.words.touched c.set_length.new.self.touched c.set_length.ensures.touched k live
+    ∙ ap (λ (r : RegionState). times r.touched k) c.self.view_is

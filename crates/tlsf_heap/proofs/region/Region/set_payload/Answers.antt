@@ -1,4 +1,4 @@
-use Rattle.std.proofs.Common.{ap, ◌∙◌, arith}
+use Rattle.std.proofs.Common.{ap, ◌∙◌, arith, inl, inr}
 use Rattle.tlsf_heap.specs.Regions.{RegionState, image_of}
 use Rattle.tlsf_heap.proofs.lemmas.words.Links.{linked_lists, marked_lists, Relists, holds_state}
 use Rattle.tlsf_heap.proofs.lemmas.words.Bytes.{held_within, length_read}
@@ -6,6 +6,8 @@ use Rattle.tlsf_heap.proofs.lemmas.words.Says.{shows_state, says_here}
 use Rattle.tlsf_heap.proofs.lemmas.words.NewPayload.{Refills, refilled, relisted_refill}
 use Rattle.tlsf_heap.proofs.lemmas.words.Image.{room_here}
 use Rattle.tlsf_heap.proofs.lemmas.blocks.Stands.{behind_one}
+use Rattle.tlsf_words.specs.Touched.{times}
+use Rattle.tlsf_heap.proofs.lemmas.words.Footprint.{others_apart}
 use Rattle.tlsf_heap.proofs.region.Region.set_payload.Given.{Over}
 use Rattle.tlsf_heap.proofs.region.Region.set_payload.Goals as goal
 
@@ -46,3 +48,11 @@ pub returns-clause-grown : goal.returns-clause-grown
 returns-clause-grown g c i stands =
     let shows = shows_state g.row.SLI c.self.invariant c.self.view_is in
     omega (arith, c.set_payload.ensures.grown, length_read shows stands (c.requires.0, c.requires.1, c.requires.2.0), ap (λ (r : RegionState). r.touches) c.self.view_is)
+
+pub returns-clause-touched : goal.returns-clause-touched
+returns-clause-touched g c k o =
+    elim (others_apart c.args.self.now.blocks c.args.at c.requires.0 k c.requires.1 o) [
+      | inl below ↦ c.set_payload.ensures.touched_before k (omega (arith, below))
+      | inr above ↦ c.set_payload.ensures.touched_behind k (omega (arith, above, c.requires.2.1))
+    ]
+    ∙ ap (λ (r : RegionState). times r.touched k) c.self.view_is

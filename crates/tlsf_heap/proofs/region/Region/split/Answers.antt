@@ -1,11 +1,13 @@
 -- A block that is split into a live one and a free rest: the words show them, and leave the lists.
-use Rattle.std.proofs.Common.{ℕ, ◌+◌, ◌-◌, eqb, [], ◌∷◌, ◌++◌, take, drop, length, suc, sym, ap, ◌∙◌, refl, arith}
-use Rattle.tlsf_heap.specs.Blocks.{Live, Free, size_of, StandsAt}
+use Rattle.std.proofs.Common.{ℕ, ◌+◌, ◌-◌, eqb, [], ◌∷◌, ◌++◌, take, drop, length, suc, sym, ap, ◌∙◌, refl, arith, ◌≡◌, true, inl, inr}
+use Rattle.tlsf_heap.specs.Blocks.{Live, Free, size_of, StandsAt, is_free}
 use Rattle.tlsf_heap.specs.GoodFit.{block_at, site_at}
 use Rattle.tlsf_heap.specs.Regions.{RegionState, IsTagOf, image_of}
 use Rattle.tlsf_heap.proofs.lemmas.words.Says.{shows_state, says_here, at_index}
 use Rattle.tlsf_heap.proofs.lemmas.words.Links.{linked_lists, marked_lists, Reshapes, holds_state}
 use Rattle.tlsf_heap.proofs.lemmas.words.Split.{stored_bytes, begins_zero, tag_here, left_split}
+use Rattle.tlsf_words.specs.Touched.{times}
+use Rattle.tlsf_heap.proofs.lemmas.words.Footprint.{free_elsewhere, others_apart}
 use Rattle.tlsf_heap.proofs.region.Region.split.Given.{Over}
 use Rattle.tlsf_heap.proofs.region.Region.split.Goals as goal
 
@@ -56,3 +58,14 @@ returns-clause-change g c i stands =
         rise = omega (arith, c.split_header.ensures.touches.rise, touches);
       };
     }
+
+pub returns-clause-touched : goal.returns-clause-touched
+returns-clause-touched g c k live =
+    let bs = c.args.self.now.blocks in
+    let own = c.requires.own in
+    let free : is_free (block_at bs own.0) ≡ true = sym own.2.free ∙ c.requires.free in
+    elim (others_apart bs c.args.at own.0 k own.1 (free_elsewhere bs c.args.at own.0 k own.1 free (omega (arith, (says_here (shows_state g.row.SLI c.self.invariant c.self.view_is) own.1).least)) live)) [
+      | inl below ↦ c.split_header.ensures.touched_before k below
+      | inr above ↦ c.split_header.ensures.touched_behind k (omega (arith, above, own.2.size))
+    ]
+    ∙ ap (λ (r : RegionState). times r.touched k) c.self.view_is

@@ -1,6 +1,8 @@
 use Rattle.std.proofs.Common.{refl, ap, ◌∙◌, arith}
 use Rattle.tlsf_heap.specs.Regions.{RegionState}
 use Rattle.tlsf_heap.proofs.lemmas.words.Says.{shows_state, holds_read, in_region, says_here}
+use Rattle.tlsf_words.specs.Touched.{times}
+use Rattle.tlsf_heap.proofs.lemmas.words.Footprint.{reads_header}
 use Rattle.tlsf_heap.proofs.region.Region.tag.Goals as goal
 
 pub tag-requires : goal.tag-requires
@@ -19,3 +21,8 @@ returns-clause-value g c i stands =
       last = tag.last ∙ says.last ∙ rw (stands.place, ap (λ (r : RegionState). r.words) c.self.view_is) refl;
       back = tag.back ∙ says.before;
     }
+
+pub returns-clause-touched : goal.returns-clause-touched
+returns-clause-touched g c k live =
+    reads_header (shows_state g.row.SLI c.self.invariant c.self.view_is) c.requires.1 0 c.args.at (omega arith) (omega arith) c.self.inside.words.touched c.tag.new.self.touched c.tag.ensures.touched k live
+    ∙ ap (λ (r : RegionState). times r.touched k) c.self.view_is

@@ -1,13 +1,16 @@
-use Rattle.std.proofs.Common.{length, arith, ap, ◌∙◌}
+use Rattle.std.proofs.Common.{length, arith, ap, ◌∙◌, inl, inr}
 use Rattle.tlsf_heap.specs.Blocks.{bytes_of}
 use Rattle.tlsf_heap.specs.Calls.{overwritten}
 use Rattle.tlsf_heap.specs.GoodFit.{block_at}
 use Rattle.tlsf_heap.proofs.lemmas.words.Says.{shows_state}
-use Rattle.tlsf_heap.proofs.lemmas.words.Bytes.{payload_inside, rewritten}
+use Rattle.tlsf_heap.proofs.lemmas.words.Bytes.{payload_inside, rewritten, held_within}
 use Rattle.tlsf_heap.proofs.lemmas.words.Links.{linked_lists, marked_lists, Relists, holds_state}
 use Rattle.tlsf_heap.proofs.lemmas.words.KeptLinks.{relisted_bytes}
 use Rattle.tlsf_heap.proofs.lemmas.blocks.Stands.{behind_one}
 use Rattle.tlsf_heap.specs.Regions.{RegionState, image_of}
+use Rattle.tlsf_words.specs.Touched.{times}
+use Rattle.tlsf_heap.proofs.lemmas.words.Image.{room_here}
+use Rattle.tlsf_heap.proofs.lemmas.words.Footprint.{others_apart}
 use Rattle.tlsf_heap.proofs.region.Region.write.Given.{Over}
 use Rattle.tlsf_heap.proofs.region.Region.write.Goals as goal
 
@@ -25,8 +28,8 @@ relists g c =
 pub invariant_of-self : goal.invariant_of-self
 invariant_of-self g c = (relists g c).holds
 
-pub returns : goal.returns
-returns g c i stands =
+pub returns-clause-change : goal.returns-clause-change
+returns-clause-change g c i stands =
     let new = c.copy_in.ensures in
     let left = rewritten {v = image_of c.copy_in.new.self} c.args.offset (shows_state g.row.SLI c.self.invariant c.self.view_is) c.requires new.bytes new.before new.behind new.words_before new.words_behind new.length new.starts in
     let touches = ap (λ (r : RegionState). r.touches) c.self.view_is in
@@ -36,3 +39,13 @@ returns g c i stands =
       lists = (relists g c).same;
       edits = record { words = new.length ∙ words; shows = (relists g c).holds.shows; linked = linked_lists g.row.SLI _ _ (relists g c).holds; bits = marked_lists g.row.SLI _ _ (relists g c).holds; stays = c.copy_in.ensures.stays ∙ ap (λ (r : RegionState). r.extents) c.self.view_is; touches = omega (arith, new.touches, touches); rise = omega (arith, new.rise, touches) };
     }
+
+pub returns-clause-touched : goal.returns-clause-touched
+returns-clause-touched g c k o =
+    let bs = c.args.self.now.blocks in
+    let held = held_within (block_at bs c.requires.0) (room_here _ bs (shows_state g.row.SLI c.self.invariant c.self.view_is) c.args.at c.requires.0 c.requires.1) in
+    elim (others_apart bs c.args.at c.requires.0 k c.requires.1 o) [
+      | inl below ↦ c.copy_in.ensures.touched_before k (omega (arith, below))
+      | inr above ↦ c.copy_in.ensures.touched_behind k (omega (arith, above, held, c.requires.2))
+    ]
+    ∙ ap (λ (r : RegionState). times r.touched k) c.self.view_is

@@ -1,4 +1,4 @@
-use Rattle.std.proofs.Common.{◌+◌, [], ◌∷◌, ◌++◌, take, drop, ap, ◌∙◌, arith}
+use Rattle.std.proofs.Common.{◌+◌, [], ◌∷◌, ◌++◌, take, drop, ap, ◌∙◌, arith, inl, inr}
 use Rattle.tlsf_heap.specs.GoodFit.{block_at}
 use Rattle.tlsf_heap.specs.Regions.{RegionState, image_of}
 use Rattle.tlsf_heap.proofs.lemmas.words.ClearPayload.{ClearsBehind, clears_length, zeroed_block, cleared_payload, relisted_payload}
@@ -6,6 +6,8 @@ use Rattle.tlsf_heap.proofs.lemmas.words.Edit.{Leaves}
 use Rattle.tlsf_heap.proofs.lemmas.words.Links.{linked_lists, marked_lists, Relists, holds_state}
 use Rattle.tlsf_heap.proofs.lemmas.words.Says.{shows_state, says_here}
 use Rattle.tlsf_heap.proofs.lemmas.blocks.Stands.{behind_one}
+use Rattle.tlsf_words.specs.Touched.{times}
+use Rattle.tlsf_heap.proofs.lemmas.words.Footprint.{others_apart}
 use Rattle.tlsf_heap.proofs.region.Region.zero.Given.{Over}
 use Rattle.tlsf_heap.proofs.region.Region.zero.Goals as goal
 
@@ -33,8 +35,8 @@ relists g c = relisted_payload g.row.SLI (holds_state g.row.SLI c.self.invariant
 pub invariant_of-self : goal.invariant_of-self
 invariant_of-self g c = (relists g c).holds
 
-pub returns : goal.returns
-returns g c i stands =
+pub returns-clause-change : goal.returns-clause-change
+returns-clause-change g c i stands =
     let touches = ap (λ (r : RegionState). r.touches) c.self.view_is in
     let words = ap (λ (r : RegionState). r.words) c.self.view_is in
     record {
@@ -50,3 +52,11 @@ returns g c i stands =
         rise = omega (arith, c.zero.ensures.touches, touches);
       };
     }
+
+pub returns-clause-touched : goal.returns-clause-touched
+returns-clause-touched g c k o =
+    elim (others_apart c.args.self.now.blocks c.args.at c.requires.0 k c.requires.1 o) [
+      | inl below ↦ c.zero.ensures.touched_before k (omega (arith, below))
+      | inr above ↦ c.zero.ensures.touched_behind k (omega (arith, above, c.requires.2.within))
+    ]
+    ∙ ap (λ (r : RegionState). times r.touched k) c.self.view_is

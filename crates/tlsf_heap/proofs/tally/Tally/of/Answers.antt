@@ -25,3 +25,6 @@ returns-clause-reads g c =
       touches = omega (arith, reads.touches, ap (λ (t : Tally). t.live_blocks + t.free_blocks) (summed g c), counts_apart c.args.region.now.blocks);
       rise = reads.rise;
     }
+
+pub returns-clause-touched : goal.returns-clause-touched
+returns-clause-touched g c = c.loop-at.invariant.leaves

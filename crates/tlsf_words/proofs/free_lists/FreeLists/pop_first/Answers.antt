@@ -4,8 +4,10 @@ use Rattle.tlsf_class.specs.Members.{without_member}
 use Rattle.tlsf_words.specs.Lists.{ListHeads, nowhere, list_of}
 use Rattle.tlsf_words.specs.Fields.{high_half}
 use Rattle.tlsf_words.specs.Ties.{AreTied}
+use Rattle.tlsf_words.specs.Touched.{times}
+use Rattle.tlsf_words.proofs.Touching.{times_other}
 use Rattle.tlsf_words.proofs.Threads.{listed_within}
-use Rattle.tlsf_words.proofs.Remove.{RemoveWrites, next_within, head_member, head_previous, head_then_left, remove-threaded, remove-list, remove-others, remove-words}
+use Rattle.tlsf_words.proofs.Remove.{RemoveWrites, next_within, next_listed, head_member, head_previous, head_then_left, remove-threaded, remove-list, remove-others, remove-words}
 use Rattle.tlsf_words.proofs.free_lists.FreeLists.pop_first.Given.{Over}
 use Rattle.tlsf_words.proofs.free_lists.FreeLists.pop_first.Goals as goal
 
@@ -72,3 +74,11 @@ returns-clause-others g c = remove-others g.row.SLI c.args.self.now.heads c.args
 
 pub returns-clause-words : goal.returns-clause-words
 returns-clause-words g c = remove-words g.row.SLI c.args.self.now.heads c.args.self.now.members c.args.words.now.words c.args.class c.place-head.result c.requires.threaded c.links-next.ensures.small (is_member g c) c.links-next.result.next nowhere c.begin_at.new.self.heads c.begin_at.new.self.members c.begin_at.new.words.words (writes g c)
+
+pub returns-clause-touched : goal.returns-clause-touched
+returns-clause-touched g c = λ k own others.
+    c.begin_at.ensures.touched k
+    (λ some. absurd (some refl))
+    (λ some. others c.args.class c.links-next.result.next (next_listed g.row.SLI c.args.self.now.heads c.args.self.now.members c.args.words.now.words c.args.class c.place-head.result c.requires.threaded c.links-next.ensures.small (is_member g c)
+    c.links-next.result.next nowhere c.links-next.ensures.next (none_before g c) some))
+    ∙ ap (λ (l : List ℕ). times l k) c.links-next.ensures.touched ∙ times_other (c.place-head.result + 2) k c.args.words.now.touched own

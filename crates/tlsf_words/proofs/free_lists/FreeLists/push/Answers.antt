@@ -1,8 +1,13 @@
-use Rattle.std.proofs.Common.{◌≡◌, ◌+◌, ℕ, List, length, get_or, set, refl, sym, ap, ◌∙◌, subst, arith}
+use Rattle.std.proofs.Common.{◌≡◌, ◌+◌, ◌∷◌, ℕ, List, length, get_or, set, refl, sym, ap, ◌∙◌, subst, arith}
 use Rattle.std.proofs.lemmas.List.{length-set}
 use Rattle.tlsf_class.specs.Members.{with_member}
 use Rattle.tlsf_words.specs.Fields.{links_word}
 use Rattle.tlsf_words.specs.Lists.{ListHeads, nowhere}
+use Rattle.tlsf_words.specs.Lists.{list_of}
+use Rattle.tlsf_words.specs.Touched.{times}
+use Rattle.std.specs.List.{Contains}
+use Rattle.tlsf_words.proofs.Threads.{head_listed}
+use Rattle.tlsf_words.proofs.Touching.{times_other}
 use Rattle.tlsf_words.proofs.Push.{IsAtHead, IsAtHead-alone, IsAtHead-more, class_in_use, next_within, next_apart, PushWrites, push-threaded, push-list, push-others, push-words}
 use Rattle.tlsf_words.proofs.free_lists.FreeLists.push.Given.{Over}
 use Rattle.tlsf_words.proofs.free_lists.FreeLists.push.Goals as goal
@@ -89,3 +94,20 @@ returns-else-not-is_place-clause-others g c = push-others g.row.SLI c.args.self.
 
 pub returns-else-not-is_place-clause-words : goal.returns-else-not-is_place-clause-words
 returns-else-not-is_place-clause-words g c = push-words g.row.SLI c.args.self.now.heads c.args.self.now.members c.args.words.now.words c.args.class c.args.at c.set_place.new.self.places c.self.inside.bitmaps.members c.link.new.self.words c.requires.threaded (writes_to_more g c)
+
+pub returns-then-not-is_place-clause-touched : goal.returns-then-not-is_place-clause-touched
+returns-then-not-is_place-clause-touched g c = λ k own others.
+    ap (λ (l : List ℕ). times l k) c.set_links.ensures.touched ∙ times_other (c.args.at + 2) k c.args.words.now.touched own
+
+pub returns-else-not-is_place-clause-touched : goal.returns-else-not-is_place-clause-touched
+returns-else-not-is_place-clause-touched g c = λ k own others.
+    let head : c.place-next.result ≡ head_of c.args.class c.args.self.now = c.place-next.ensures.value ∙ ap (head_of c.args.class) c.self.view_is in
+    let listed : Contains (list_of c.args.self.now.heads c.args.words.now.words c.args.class) c.place-next.result =
+    subst (Contains (list_of c.args.self.now.heads c.args.words.now.words c.args.class)) (sym head) (head_listed c.args.self.now.heads c.args.words.now.words c.args.class (λ none. (c.is_place.ensures.yes c.if-not-is_place.false) (head ∙ none))) in
+    let apart = others c.args.class c.place-next.result listed in
+    let next = c.place-next.result + 2 in
+    let place = c.args.at + 2 in
+    ap (λ (l : List ℕ). times l k) c.link.ensures.touched
+    ∙ times_other next k (next ∷ place ∷ c.args.words.now.touched) apart
+    ∙ times_other next k (place ∷ c.args.words.now.touched) apart
+    ∙ times_other place k c.args.words.now.touched own

@@ -3,7 +3,9 @@ use Rattle.tlsf_class.specs.Classes.{class_of}
 use Rattle.tlsf_words.specs.Lists.{nowhere}
 use Rattle.tlsf_words.specs.Ties.{AreTied}
 use Rattle.tlsf_words.proofs.Threads.{listed_within}
-use Rattle.tlsf_words.proofs.Remove.{RemoveWrites, next_within, previous_within, neighbours_apart, remove-threaded, remove-list, remove-others, remove-words}
+use Rattle.tlsf_words.proofs.Touching.{times_other}
+use Rattle.tlsf_words.specs.Touched.{times}
+use Rattle.tlsf_words.proofs.Remove.{RemoveWrites, next_within, previous_within, next_listed, previous_listed, neighbours_apart, remove-threaded, remove-list, remove-others, remove-words}
 use Rattle.tlsf_words.proofs.free_lists.FreeLists.unlink.Given.{Over}
 use Rattle.tlsf_words.proofs.free_lists.FreeLists.unlink.Goals as goal
 use Rattle.tlsf_words.proofs.free_lists.FreeLists.unlink.Goals.{After-begin_at, After-tie}
@@ -112,3 +114,20 @@ returns-else-is_place-clause-others g c = remove-others g.row.SLI c.args.self.no
 pub returns-else-is_place-clause-words : goal.returns-else-is_place-clause-words
 returns-else-is_place-clause-words g c = remove-words g.row.SLI c.args.self.now.heads c.args.self.now.members c.args.words.now.words (class_of g.row.SLI c.args.size) c.args.at c.requires.threaded c.links-links.ensures.small c.requires.listed
     c.links-links.result.next nowhere c.begin_at.new.self.heads c.begin_at.new.self.members c.begin_at.new.words.words (writes_first g c)
+
+pub returns-then-is_place-clause-touched : goal.returns-then-is_place-clause-touched
+returns-then-is_place-clause-touched g c = λ k own others.
+    c.tie.ensures.touched k
+    (λ some. others (class_of g.row.SLI c.args.size) c.links-links.result.previous (previous_listed g.row.SLI c.args.self.now.heads c.args.self.now.members c.args.words.now.words (class_of g.row.SLI c.args.size) c.args.at c.requires.threaded c.links-links.ensures.small c.requires.listed
+    c.links-links.result.next c.links-links.result.previous c.links-links.ensures.next c.links-links.ensures.previous some))
+    (λ some. others (class_of g.row.SLI c.args.size) c.links-links.result.next (next_listed g.row.SLI c.args.self.now.heads c.args.self.now.members c.args.words.now.words (class_of g.row.SLI c.args.size) c.args.at c.requires.threaded c.links-links.ensures.small c.requires.listed
+    c.links-links.result.next c.links-links.result.previous c.links-links.ensures.next c.links-links.ensures.previous some))
+    ∙ ap (λ (l : List ℕ). times l k) c.links-links.ensures.touched ∙ times_other (c.args.at + 2) k c.args.words.now.touched own
+
+pub returns-else-is_place-clause-touched : goal.returns-else-is_place-clause-touched
+returns-else-is_place-clause-touched g c = λ k own others.
+    c.begin_at.ensures.touched k
+    (λ some. absurd (some refl))
+    (λ some. others (class_of g.row.SLI c.args.size) c.links-links.result.next (next_listed g.row.SLI c.args.self.now.heads c.args.self.now.members c.args.words.now.words (class_of g.row.SLI c.args.size) c.args.at c.requires.threaded c.links-links.ensures.small c.requires.listed
+    c.links-links.result.next c.links-links.result.previous c.links-links.ensures.next c.links-links.ensures.previous some))
+    ∙ ap (λ (l : List ℕ). times l k) c.links-links.ensures.touched ∙ times_other (c.args.at + 2) k c.args.words.now.touched own

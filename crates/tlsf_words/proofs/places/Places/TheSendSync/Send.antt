@@ -1,0 +1,6 @@
+-- It owns nothing, so it may go to another thread.
+use denote.Param.Send.{IsSend, owning_send}
+use Rattle.tlsf_words.specs.contracts.places.Places.{the_row, the_type}
+
+pub send : IsSend the_row
+send = owning_send the_type tt (λ d. tt) (λ k x w. tt)

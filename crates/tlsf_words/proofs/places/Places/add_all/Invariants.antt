@@ -1,0 +1,6 @@
+use Rattle.std.proofs.Common.{◌≡◌, ℕ, ◌+◌, ◌<◌, ◌≤◌}
+use Rattle.tlsf_words.specs.Touched.{times}
+use Rattle.tlsf_words.proofs.places.Places.add_all.Given as goal
+
+abbrev pub invariant-loop-i : goal.invariant-loop-i
+invariant-loop-i l = ((k : ℕ) → k < l.from → times l.self.list k ≡ times l.initial.self.list k) × ((k : ℕ) → l.from + l.i ≤ k → times l.self.list k ≡ times l.initial.self.list k)
