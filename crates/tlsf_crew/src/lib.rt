@@ -19,7 +19,7 @@
 //! (`IsRace`). A [`Gate`] is passed before each call, where a test can have the threads meet. Where no script takes posts,
 //! [`race_without_takes`] says which records and which world each schedule leads to.
 //!
-//! Each call of a `Worker` over lanes takes no memory and doesn't wait, and keeps its yard whole. A worker of either kind is `Send`,
+//! Each call of a `Worker` over lanes doesn't wait, and keeps its yard whole. A worker of either kind is `Send`,
 //! at each level: a `move` closure takes it into a thread, and its caller proves nothing of that.
 //!
 //! [`open_queue_yard`] opens a yard of another kind, with one queue for each owner, into which all others post. A worker is a heap

@@ -34,6 +34,11 @@ pub laid_taken : (r : Option Post) (v w : View) (N : Type 0) (owner capacity : �
 laid_taken None v w N owner capacity m laid = laid_still v w owner capacity m.0 laid
 laid_taken (Some x) v w N owner capacity m laid = subst (λ (u : View). u.plan ≡ plan_for owner u.number capacity) (sym m.0) laid
 
+-- the same of one attempt
+pub laid_tried : (r : Option Post) (v w : View) (owner capacity : ℕ) → MatchOption r (w ≡ v) (λ x. HasTaken v x w) → v.plan ≡ plan_for owner v.number capacity → w.plan ≡ plan_for owner w.number capacity
+laid_tried None v w owner capacity m laid = laid_still v w owner capacity m laid
+laid_tried (Some x) v w owner capacity m laid = subst (λ (u : View). u.plan ≡ plan_for owner u.number capacity) (sym m.0) laid
+
 -- ---- one poster
 
 -- of two workers one alone may put

@@ -15,7 +15,7 @@ use std::alloc::Global;
 use std::sync::Arc;
 use tlsf_words::NoMemory;
 
-/// Opens the mailbox of worker `owner` of `n` workers, 1 to 8, which holds up to `capacity` posts, 1 to 1,024. It
+/// Opens the mailbox of worker `owner` of `n` workers, 1 to 1,025, which holds up to `capacity` posts, 1 to 1,024. It
 /// answers the owner's end, and an end for each other worker, in rising number. It fails only for want of memory, which
 /// no later call takes.
 ///
@@ -35,7 +35,7 @@ pub fn mailbox(
     n: u32,
     capacity: u32,
 ) -> Result<(OwnerEnd, Vec<PosterEnd>), NoMemory>
-    requires count { (owner < n) × (n ≤ 8) }
+    requires count { (owner < n) × (n ≤ 1025) }
     requires capacity { (0 < capacity) × (capacity ≤ 1024) }
     ensures whole { IfOk result (λ r. IsWhole r.0 r.1.items) }
     ensures owner { IfOk result (λ r. (owner_of r.0 ≡ owner) × (out_of r.0 ≡ n) × (most_of r.0 ≡ capacity)

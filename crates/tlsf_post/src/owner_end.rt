@@ -61,6 +61,30 @@ impl OwnerEnd {
         self.queue.pop_as::<OneTake, R>(rt, &mut self.pass)
     }
 
+    /// Takes the post that has waited longest by one attempt. It answers `None` where the mailbox is empty, and where another
+    /// thread is half through putting that post: [`OwnerEnd::is_empty`] tells these apart. It never waits.
+    ///
+    /// - `mailbox`: it stays the owner's end of its mailbox.
+    /// - `some`: the post stands behind those taken before.
+    /// - `waited`: no more posts waited than the mailbox holds, and it before the others.
+    /// - `from`: it is of another worker, for which the mailbox has an end.
+    /// - `none`: nothing was taken.
+    ///
+    /// ```
+    /// while let Some(post) = owner_end.try_take() {
+    ///     let _ = heap.release(post.name);
+    /// }
+    /// ```
+    pub fn try_take(&mut self) -> Option<Post>
+        ensures mailbox { KeepsOwner self.old self.new }
+        ensures some { IfSome result (λ p. got_by self.new ≡ got_by self.old ++ p ∷ []) }
+        ensures waited { IfSome result (λ p. (others : List Post) × OwnerSaw self.old (p ∷ others)) }
+        ensures from { IfSome result (λ p. (p.from < out_of self.old) × (p.from ≢ owner_of self.old)) }
+        ensures none { IfNone result (got_by self.new ≡ got_by self.old) }
+    {
+        self.queue.try_pop_as::<OneTake>(&mut self.pass)
+    }
+
     /// Whether the mailbox was empty at one moment of the call. A post may have come since.
     ///
     /// - `mailbox`, `same`: it stays the owner's end of its mailbox, and nothing is taken.

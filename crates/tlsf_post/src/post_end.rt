@@ -23,7 +23,7 @@ pub struct PostEnd {
 
 #[tactic(auto, unfolding(crate::specs::Lanes::posts_sent, crate::specs::Lanes::free_slots, crate::specs::Lanes::capacity_of, crate::specs::Lanes::IsLane))]
 impl PostEnd {
-    ghost use Rattle.std.specs.Prelude.{◌≡◌, ◌-◌, ◌<◌, [], ◌∷◌, ◌++◌, IsOk, OnOk, IfErr};
+    ghost use Rattle.std.specs.Prelude.{◌≡◌, ◌-◌, ◌<◌, ◌≤◌, [], ◌∷◌, ◌++◌, length, take, IsOk, OnOk, IfErr};
     ghost use Rattle.tlsf_post.specs.Lanes.{posts_sent, free_slots, KeepsPost};
 
     /// Sends a post, or gives it back where the lane is full as far as this end knows. The other end may take it at once.
@@ -52,5 +52,28 @@ impl PostEnd {
         }
         self.ring.push_reserved(post);
         Ok(())
+    }
+
+    /// Sends as many of the posts, from the first on, as this end sees slots for, and answers how many went. The other end
+    /// sees them together, after one store.
+    ///
+    /// - `lane`: it stays an end of its lane.
+    /// - `most`: no more go than there are.
+    /// - `sent`: those that went, in their order, stand behind those sent before.
+    /// - `slots`: for each that went one free slot less is known.
+    /// - `succeeds`: where some did not go, at least as many went as free slots were known.
+    ///
+    /// ```
+    /// let count = post_end.put_all(&posts);     // posts[count..] are to be sent again later
+    /// ```
+    pub fn put_all(&mut self, posts: &[Post]) -> usize
+        ensures lane { KeepsPost self.old self.new }
+        ensures most { result ≤ length posts.now }
+        ensures sent { posts_sent self.new ≡ posts_sent self.old ++ take result posts.now }
+        ensures slots { free_slots self.new ≡ free_slots self.old - result }
+        ensures succeeds { result < length posts.now → free_slots self.old ≤ result }
+    {
+        let (went, _) = self.ring.push_partial_slice(posts);
+        went.len()
     }
 }

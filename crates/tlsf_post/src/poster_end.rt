@@ -34,7 +34,7 @@ pub struct PosterEnd {
 }
 
 impl PosterEnd {
-    ghost use Rattle.std.specs.Prelude.{◌≡◌, List, [], ◌∷◌, ◌++◌, length, OnOk, IfErr};
+    ghost use Rattle.std.specs.Prelude.{◌≡◌, List, [], ◌∷◌, ◌++◌, length, false, IsTrue, OnOk, IfErr};
     ghost use Rattle.tlsf_post.specs.declared.post.Post.{Post};
     ghost use Rattle.tlsf_post.specs.Mailboxes.{number_of, put_by, plan_of, PosterSaw, IsOnlyPoster, HasFilled, KeepsPoster};
 
@@ -72,5 +72,51 @@ impl PosterEnd {
             Ok(()) => Ok(()),
             Err(back) => Err(back.name),
         }
+    }
+
+    /// Puts a post that names a block by one attempt, and says whether it went in. It fails where the mailbox is full, and where
+    /// another thread is half through a step of its own: [`PosterEnd::is_full`] tells these apart. It never waits.
+    ///
+    /// - `mailbox`: it stays an end of its mailbox, with its number.
+    /// - `went`: at `true` a post of this end's number, with the name, stands behind those put before.
+    /// - `waits`: no more posts waited with it than the mailbox holds, each of a poster of it, and it behind the others.
+    /// - `missed`: at `false` what was put doesn't change.
+    ///
+    /// ```
+    /// if !poster_end.try_put(name) {
+    ///     keep(name);                   // full, or in another's way: to be put again later
+    /// }
+    /// ```
+    pub fn try_put(&mut self, name: Name) -> bool
+        ensures mailbox { KeepsPoster self.old self.new }
+        ensures went { IsTrue result → put_by self.new ≡ put_by self.old ++ record { from = number_of self.old; name = name } ∷ [] }
+        ensures waits { IsTrue result → (others : List Post) × PosterSaw self.new (others ++ record { from = number_of self.old; name = name } ∷ []) }
+        ensures missed { result ≡ false → put_by self.new ≡ put_by self.old }
+    {
+        let from = self.from;
+        let post = Post { from, name };
+        match self.queue.try_push_as::<OnePut>(&mut self.pass, post) {
+            Ok(()) => true,
+            Err(_) => false,
+        }
+    }
+
+    /// Whether the mailbox was full at one moment of the call. It never waits, and a post may have been taken since.
+    ///
+    /// - `mailbox`, `same`: it stays an end of its mailbox, and nothing is put.
+    /// - `full`: at `true` so many posts waited as the mailbox holds, each of a poster of it; this end's were the last that it had
+    ///   put.
+    /// - `alone`: where nobody else puts into the mailbox, it had put as many besides those that it knows to have been taken.
+    ///
+    /// ```
+    /// let full = poster_end.is_full();         // false right after `mailbox`
+    /// ```
+    pub fn is_full(&mut self) -> bool
+        ensures mailbox { KeepsPoster self.old self.new }
+        ensures same { put_by self.new ≡ put_by self.old }
+        ensures full { IsTrue result → (waiting : List Post) × (length waiting ≡ (plan_of self.old).capacity) × PosterSaw self.old waiting }
+        ensures alone { IsTrue result → IsOnlyPoster self.old → HasFilled self.old }
+    {
+        self.queue.is_full_as::<OnePut>(&mut self.pass)
     }
 }

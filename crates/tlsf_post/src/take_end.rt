@@ -21,7 +21,7 @@ pub struct TakeEnd {
 
 #[tactic(auto, unfolding(crate::specs::Lanes::waited, crate::specs::Lanes::taken, crate::specs::Lanes::ready, crate::specs::Lanes::IsLane))]
 impl TakeEnd {
-    ghost use Rattle.std.specs.Prelude.{◌≡◌, ◌<◌, [], ◌∷◌, ◌++◌, length, IsSome, IfSome, IfNone};
+    ghost use Rattle.std.specs.Prelude.{◌≡◌, ◌<◌, ◌≤◌, [], ◌∷◌, ◌++◌, length, take, drop, IsSome, IfSome, IfNone};
     ghost use mathlib.Core.List.{IsPrefix};
     ghost use Rattle.tlsf_post.specs.Lanes.{waited, taken, ready, KeepsTake};
 
@@ -51,6 +51,36 @@ impl TakeEnd {
             return None;
         }
         Some(self.ring.pop_known())
+    }
+
+    /// Takes as many posts as are ready and have a place in `posts`, and answers how many came. Their places are handed
+    /// back together, with one store, so that a sender who spins disturbs the taking less. It fits where many wait; 64
+    /// places are enough.
+    ///
+    /// - `lane`, `waited`: as for `take`.
+    /// - `most`: no more come than `posts` has places.
+    /// - `came`: the posts in the first places, in their order, stand behind those taken before. They were the first of
+    ///   the ready ones, the others stay ready in their order, and more may have come behind them.
+    /// - `rest`: the other places stay as they were.
+    /// - `left`: where a place is left, none is ready afterwards, and all that were known to be ready came. So 0 for some
+    ///   places says that none was ready at this look.
+    ///
+    /// ```
+    /// let count = take_end.take_slice(&mut posts);     // 0: none was ready at this look
+    /// for post in &posts[..count] {
+    ///     let _ = heap.release(post.name);
+    /// }
+    /// ```
+    pub fn take_slice(&mut self, posts: &mut [Post]) -> usize
+        ensures lane { KeepsTake self.old self.new }
+        ensures waited { waited self.new ≡ waited self.old }
+        ensures most { result ≤ length posts.old }
+        ensures came { (taken self.new ≡ taken self.old ++ take result posts.new)
+            × IsPrefix (ready self.old) (take result posts.new ++ ready self.new) }
+        ensures rest { drop result posts.new ≡ drop result posts.old }
+        ensures left { result < length posts.old → (ready self.new ≡ []) × (length (ready self.old) ≤ result) }
+    {
+        self.ring.pop_partial_slice(posts)
     }
 
     /// How many posts are known to be ready, 0 to 1,024. So many takes in a row each answer one.

@@ -5,3 +5,4 @@ mod lanes;
 mod locked_heaps;
 mod mailbox_threads;
 mod mailboxes;
+mod slices;

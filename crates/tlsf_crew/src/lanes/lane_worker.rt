@@ -155,7 +155,7 @@ impl<const SLI: u32> Worker<SLI> {
     /// - `touches`: at most 64 touches of the own heap's memory for each post that is taken.
     ///
     /// ```
-    /// let drained = worker.drain(64); // no more than 64 posts: a bound on the time that it takes
+    /// let drained = worker.drain(64); // no more than 64 posts: a bound on the touches that it makes
     /// let refused = drained.taken - drained.freed;
     /// ```
     pub fn drain(&mut self, most: u32) -> Drained

@@ -164,7 +164,7 @@ impl<const SLI: u32> QueueWorker<SLI> {
     /// - `touches`: at most 64 touches of the own heap's memory for each post that is taken.
     ///
     /// ```
-    /// let drained = worker.drain(rt, 64); // no more than 64 posts: a bound on the time that it takes
+    /// let drained = worker.drain(rt, 64); // no more than 64 posts: a bound on the touches that it makes
     /// ```
     pub fn drain<R: Wait>(&mut self, rt: &R, most: u32) -> Drained
         ensures drained { DrainedQueue self.old self.new most result }
