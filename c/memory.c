@@ -3,8 +3,11 @@
  * in front, which agrees.
  *
  * The proved code takes memory only to open, and gives it back only to close. Each piece lies 8 bytes behind a multiple of 16,
- * so that payloads at even places are aligned to 16. The word in front of it says whether malloc gave it. With TLSF_NO_MALLOC
- * there is no other memory than the caller's. */
+ * so that payloads at even places are aligned to 16. The word in front of it has the address that malloc gave, or 0. With
+ * TLSF_NO_MALLOC there is no other memory than the caller's.
+ *
+ * Two threads that write one cache line take it from each other each time. So each piece of malloc's, and in the caller's memory
+ * each piece of a lane, has its lines to itself. */
 typedef __SIZE_TYPE__ size_t;
 typedef __UINT32_TYPE__ uint32_t;
 typedef __UINT64_TYPE__ uint64_t;
@@ -20,7 +23,18 @@ uint32_t tlsf_open_in(struct tlsf_heap *heap, uint32_t level, uint32_t number, v
 size_t tlsf_lane_bytes(uint32_t capacity);
 uint32_t tlsf_lane_open_in(struct tlsf_post_end *post, struct tlsf_take_end *take, uint32_t capacity, void *memory, size_t bytes);
 
-/* What the proved code calls: the toolchain's functions, by names of this library's. */
+/* What the proved code calls: functions of the toolchain's C library, rattle_alloc, _dealloc and _realloc, by names of this library's.
+ * The proofs rest on their contracts, which its `Global` passes on:
+ * - alloc is asked for less than 2^63 bytes, aligned to 1, 2, 4, 8 or 16. Where it answers 1, so many bytes lie at `at`, so
+ *   aligned, which are the caller's alone until it gives them back. It may answer 0 to any request, and `at` is then some
+ *   pointer that isn't null, to which nothing is written.
+ * - dealloc is called once for each such piece, with its `at`.
+ * - realloc is asked to make a piece one of `bytes`, whose first `kept` stay. It may move it; where it answers 0, all is as before.
+ *   A vector that has its room from the beginning, as each here, never asks for it.
+ * The toolchain has them for x86-64 alone, over malloc and free: for 0 bytes it asks malloc for as many as the alignment has.
+ * Those here are for each processor, since they are C. They refuse an alignment of 16 and what is longer than MOST_BYTES, and
+ * what they give lies behind a mark, so only dealloc can give it back. A request for 0 bytes is one for the mark. C answers the
+ * pair in two registers, as the proved code takes it: rax and rdx, or x0 and x1. */
 struct tlsf_piece {
     uint64_t is_there;
     void *at;
@@ -28,6 +42,7 @@ struct tlsf_piece {
 #define HIDDEN __attribute__((visibility("hidden")))
 HIDDEN struct tlsf_piece tlsf_memory_alloc(size_t bytes, size_t align);
 HIDDEN void tlsf_memory_dealloc(void *at);
+HIDDEN struct tlsf_piece tlsf_memory_realloc(void *at, size_t kept, size_t bytes, size_t align);
 
 /* The same for what fills and copies payload. They are weak: a program with marks has its own (tlsf_marks.h). */
 #define WEAK __attribute__((weak, visibility("hidden")))
@@ -46,6 +61,7 @@ void free(void *at);
 enum {
     MARK = 8,          /* bytes in front of a piece */
     HEAP = 2752,       /* bytes of a heap beside its words and the bits that say where blocks begin */
+    LINES = 128,       /* two cache lines: a processor may fetch both where it needs one */
     LANE = 384,        /* bytes of a lane beside its names, and of each of its two ends */
     LANE_NAME = 24,
     LANE_END = 40,
@@ -56,25 +72,31 @@ enum {
 
 /* What is left of the memory in which this thread opens something now. */
 static _Thread_local unsigned char *lent, *lent_end;
+static _Thread_local size_t lent_step; /* each piece lies 8 bytes behind a multiple of this: 16 or LINES */
 
-/* The bytes up to where the piece begins that comes behind one of so many. */
-static size_t with_mark(size_t bytes) { return (MARK + bytes + 15) / 16 * 16; }
+/* The bytes of a piece with its mark, up to a multiple of `step`. */
+static size_t with_mark(size_t bytes, size_t step) { return (MARK + bytes + step - 1) / step * step; }
+
+/* The bytes in front of the first multiple of `step`. */
+static size_t skipped(const void *memory, size_t step) { return (size_t)(-(uintptr_t)memory % step); }
 
 static void *lend(size_t bytes) {
     unsigned char *const at = lent + MARK;
+    const size_t all = with_mark(bytes, lent_step);
     if (bytes > MOST_BYTES || MARK + bytes > (size_t)(lent_end - lent)) return 0;
     /* The last piece may end nearer to the end than the next one would begin. */
-    lent = with_mark(bytes) < (size_t)(lent_end - lent) ? lent + with_mark(bytes) : lent_end;
-    ((uint64_t *)(void *)at)[-1] = 1;
+    lent = all < (size_t)(lent_end - lent) ? lent + all : lent_end;
+    ((uint64_t *)(void *)at)[-1] = 0;
     return at;
 }
 
 static void *take(size_t bytes) {
 #ifndef TLSF_NO_MALLOC
-    unsigned char *const from = bytes > MOST_BYTES ? 0 : malloc(MARK + bytes);
+    unsigned char *const from = bytes > MOST_BYTES ? 0 : malloc(LINES - 16 + with_mark(bytes, LINES)), *at;
     if (!from) return 0;
-    *(uint64_t *)(void *)from = 0;
-    return from + MARK;
+    at = from + skipped(from, LINES) + MARK;
+    ((uint64_t *)(void *)at)[-1] = (uint64_t)(uintptr_t)from;
+    return at;
 #else
     (void)bytes;
     return 0;
@@ -90,13 +112,57 @@ struct tlsf_piece tlsf_memory_alloc(size_t bytes, size_t align) {
 
 void tlsf_memory_dealloc(void *at) {
 #ifndef TLSF_NO_MALLOC
-    if (((uint64_t *)at)[-1] == 0) free((unsigned char *)at - MARK);
+    const uint64_t from = ((uint64_t *)at)[-1];
+    if (from) free((void *)(uintptr_t)from);
 #else
     (void)at;
 #endif
 }
 
-void *tlsf_memory_set(void *to, int byte, size_t n) { return memset(to, byte, n); }
+struct tlsf_piece tlsf_memory_realloc(void *at, size_t kept, size_t bytes, size_t align) {
+    const struct tlsf_piece piece = tlsf_memory_alloc(bytes, align);
+    if (piece.is_there) {
+        memcpy(piece.at, at, kept);
+        tlsf_memory_dealloc(at);
+    }
+    return piece;
+}
+
+/* One word and two. Volatile, so that no compiler makes a call of memset of several. */
+typedef volatile uint64_t word __attribute__((aligned(1), may_alias));
+typedef volatile uint64_t two_words __attribute__((vector_size(16), aligned(1), may_alias));
+
+/* Zeros from the front on and up to the end, `pairs` times two words each: they may overlap. */
+static inline __attribute__((always_inline)) void zero_ends(unsigned char *at, size_t n, size_t pairs) {
+    for (size_t i = 0; i < 16 * pairs; i += 16) {
+        *(two_words *)(void *)(at + i) = (two_words){0, 0};
+        *(two_words *)(void *)(at + n - 16 - i) = (two_words){0, 0};
+    }
+}
+
+/* 8 to 512 zeros, and with them most payloads, are filled here: the call of memset reads two cache lines more, one of the
+ * program's for its address and one of the C library's. Where all is in a cache memset is faster by some nanoseconds. */
+void *tlsf_memory_set(void *to, int byte, size_t n) {
+    unsigned char *const at = to;
+    if (__builtin_expect(n > 512, 0) || __builtin_expect(byte != 0, 0)) return memset(to, byte, n);
+    if (n > 256)
+        zero_ends(at, n, 16);
+    else if (n > 128)
+        zero_ends(at, n, 8);
+    else if (n > 64)
+        zero_ends(at, n, 4);
+    else if (n > 32)
+        zero_ends(at, n, 2);
+    else if (n > 16)
+        zero_ends(at, n, 1);
+    else if (n < 8)
+        return memset(to, 0, n);
+    else {
+        *(word *)to = 0;
+        *(word *)(void *)(at + n - 8) = 0;
+    }
+    return to;
+}
 
 void *tlsf_memory_cpy(void *to, const void *from, size_t n) { return memcpy(to, from, n); }
 
@@ -107,19 +173,18 @@ void *tlsf_memory_move(void *to, const void *from, size_t n) { return memmove(to
 static size_t most_words(uint32_t level) { return level == 4 ? 1u << 20 : level == 5 ? 1u << 24 : 0; }
 
 /* The bytes of a heap of so many words, from a multiple of 16 on. */
-static size_t heap_bytes(size_t words) { return with_mark(8 * words) + with_mark((words + 63) / 64 * 8) + MARK + HEAP; }
+static size_t heap_bytes(size_t words) { return with_mark(8 * words, 16) + with_mark((words + 63) / 64 * 8, 16) + MARK + HEAP; }
 
+/* The bytes of a lane, from a multiple of LINES on, with all lines of its last piece. */
 static size_t lane_bytes(size_t capacity) {
-    return with_mark(LANE) + with_mark(LANE_NAME * capacity) + with_mark(LANE_END) + MARK + LANE_END;
+    return with_mark(LANE, LINES) + with_mark(LANE_NAME * capacity, LINES) + 2 * with_mark(LANE_END, LINES);
 }
 
-/* The bytes in front of the first multiple of 16. */
-static size_t skipped(const void *memory) { return (size_t)(-(uintptr_t)memory % 16); }
-
-static void begin_in(void *memory, size_t bytes) {
-    const size_t skip = skipped(memory);
+static void begin_in(void *memory, size_t bytes, size_t step) {
+    const size_t skip = skipped(memory, step);
     lent = (unsigned char *)memory + (skip < bytes ? skip : bytes);
     lent_end = (unsigned char *)memory + bytes;
+    lent_step = step;
 }
 
 size_t tlsf_bytes(uint32_t level, uint32_t words) {
@@ -137,21 +202,21 @@ static size_t words_in(size_t bytes, size_t most) {
 }
 
 uint32_t tlsf_open_in(struct tlsf_heap *heap, uint32_t level, uint32_t number, void *memory, size_t bytes) {
-    const size_t skip = skipped(memory), words = bytes < skip ? 0 : words_in(bytes - skip, most_words(level));
+    const size_t skip = skipped(memory, 16), words = bytes < skip ? 0 : words_in(bytes - skip, most_words(level));
     uint32_t answer;
-    begin_in(memory, bytes);
+    begin_in(memory, bytes, 16);
     answer = tlsf_open(heap, level, number, (uint32_t)words);
     lent = 0;
     return answer;
 }
 
-size_t tlsf_lane_bytes(uint32_t capacity) { return capacity == 0 || capacity > MOST_NAMES ? 0 : 15 + lane_bytes(capacity); }
+size_t tlsf_lane_bytes(uint32_t capacity) { return capacity == 0 || capacity > MOST_NAMES ? 0 : LINES - 1 + lane_bytes(capacity); }
 
 uint32_t tlsf_lane_open_in(struct tlsf_post_end *post, struct tlsf_take_end *take_end, uint32_t capacity, void *memory, size_t bytes) {
-    const size_t skip = skipped(memory);
+    const size_t skip = skipped(memory, LINES);
     uint32_t answer;
     if (capacity <= MOST_NAMES && (bytes < skip || bytes - skip < lane_bytes(capacity))) capacity = 0; /* which is refused in its turn */
-    begin_in(memory, bytes);
+    begin_in(memory, bytes, LINES);
     answer = tlsf_lane_open(post, take_end, capacity);
     lent = 0;
     return answer;

@@ -1,10 +1,11 @@
-// tlsf.h for C++17 and later: heaps and lane ends that close themselves, blocks that release themselves, and the heap
-// under the containers of std, as a std::pmr::memory_resource and as an allocator.
+// tlsf.h for C++17 and later: heaps, ends of lanes and queues, and arenas of offsets that close themselves; blocks that release
+// themselves, and objects whose std::unique_ptr may die in any thread (home); and the heap under the containers of std, as a
+// std::pmr::memory_resource and as an allocator.
 //
-// Header-only; libtlsf.a is all that is linked. What the caller owes is said in tlsf.h. Constructors and heap::for_blocks
-// throw std::bad_alloc where malloc says no, and std::invalid_argument where no region or lane is of that size. resource and
-// allocator throw std::bad_alloc where there is no room. Everything else is noexcept. Where exceptions are off, what would
-// throw aborts.
+// Header-only; libtlsf.a is all that is linked. What the caller owes is said in tlsf.h. Constructors, heap::for_blocks and
+// queue::open_poster throw std::bad_alloc where malloc says no. Constructors and for_blocks throw std::invalid_argument where no
+// region, lane, queue or arena is of that size. resource and allocator throw std::bad_alloc where there is no room, and home::make
+// what the object's constructor throws. Everything else is noexcept. Where exceptions are off, what would throw aborts.
 #ifndef TLSF_HPP
 #define TLSF_HPP
 
@@ -70,9 +71,10 @@ public:
     friend bool operator==(const heap_reference &a, const heap_reference &b) noexcept { return a.state_ == b.state_; }
 };
 
-// The end of a lane that is closed at the end of its life. It lies still, whoever holds it.
+// The end of a lane that is closed at the end of its life. It lies still, whoever holds it, on cache lines that the other end
+// doesn't write.
 template <typename End, std::uint32_t (*Close)(End *)>
-struct end_state {
+struct alignas(128) end_state {
     End raw{};
 
     end_state() noexcept = default;
@@ -82,6 +84,9 @@ struct end_state {
 };
 using post_state = end_state<tlsf_post_end, tlsf_post_close>;
 using take_state = end_state<tlsf_take_end, tlsf_take_close>;
+using queue_state = end_state<tlsf_queue, tlsf_queue_close>;
+using poster_state = end_state<tlsf_poster, tlsf_poster_close>;
+using offsets_state = end_state<tlsf_offsets, tlsf_offsets_close>;
 
 constexpr std::uint32_t closed = TLSF_IS_CLOSED;
 constexpr std::size_t word = sizeof(std::uint64_t);
@@ -119,6 +124,8 @@ class heap {
     friend class resource;
     template <typename T>
     friend class allocator;
+    template <typename T>
+    friend class home;
 
     template <typename Open>
     std::uint32_t open_by(std::uint32_t number, Open opens) noexcept {
@@ -213,6 +220,9 @@ public:
 class block {
     detail::heap_reference heap_;
     tlsf_name name_{};
+    template <typename T>
+    friend class home;
+    block(detail::heap_reference owner, const tlsf_name &name) noexcept : heap_(std::move(owner)), name_(name) {}
 
 public:
     block() noexcept = default;
@@ -274,6 +284,11 @@ public:
     tlsf_post_end *get() noexcept { return state_ ? &state_->raw : nullptr; }
     // Whether it was put: false where the lane is full or the end closed.
     [[nodiscard]] bool put(const tlsf_name &name) noexcept { return state_ && tlsf_put(get(), &name) == TLSF_OK; }
+    // Puts `n` names, the first of them first, until the lane is full, and says how many went: none where the end is closed.
+    [[nodiscard]] std::size_t put_all(const tlsf_name *names, std::size_t n) noexcept {
+        std::size_t went = 0;
+        return state_ && tlsf_put_all(get(), names, n, &went) == TLSF_OK ? went : 0;
+    }
     // The block's name goes, and the block is empty then; where it can't be put, the block stays as it is.
     [[nodiscard]] bool put(block &&sent) noexcept {
         if (!sent || !put(sent.name())) return false;
@@ -315,6 +330,178 @@ struct lane {
         const std::uint32_t answer = tlsf_lane_open(post.get(), take.get(), capacity);
         if (answer == TLSF_NO_MEMORY) detail::no_room();
         if (answer != TLSF_OK) detail::bad_size("tlsf: a lane has 1 to 1,024 names");
+    }
+};
+
+// A poster's end of a queue, for one thread at a time. It can be moved, and not copied, and is closed at the end of its life.
+class poster {
+    std::unique_ptr<detail::poster_state> state_;
+    friend class queue;
+
+public:
+    poster() noexcept = default;
+    tlsf_poster *get() noexcept { return state_ ? &state_->raw : nullptr; }
+    // One attempt: TLSF_OK, TLSF_FULL, TLSF_BUSY where another thread is in the way, or TLSF_IS_CLOSED.
+    [[nodiscard]] std::uint32_t post(const tlsf_name &name) noexcept {
+        return state_ ? tlsf_queue_post(get(), &name) : detail::closed;
+    }
+    // The block's name goes, and the block is empty then; where it isn't posted, the block stays as it is.
+    [[nodiscard]] std::uint32_t post(block &&sent) noexcept {
+        if (!sent) return TLSF_STALE;
+        const std::uint32_t answer = post(sent.name());
+        if (answer == TLSF_OK) sent.detach();
+        return answer;
+    }
+};
+
+// The owner's end of a queue. It can be moved, and not copied, and is closed at the end of its life; posters' ends stay open.
+class queue {
+    std::unique_ptr<detail::queue_state> state_;
+
+public:
+    queue() noexcept = default;
+    queue(std::uint32_t posters, std::uint32_t capacity) : state_(new (std::nothrow) detail::queue_state) {
+        if (!state_) detail::no_room();
+        const std::uint32_t answer = tlsf_queue_open(get(), posters, capacity);
+        if (answer == TLSF_NO_MEMORY) detail::no_room();
+        if (answer != TLSF_OK) detail::bad_size("tlsf: a queue has 1 to 1,024 posters and 1 to 1,024 names");
+    }
+    tlsf_queue *get() noexcept { return state_ ? &state_->raw : nullptr; }
+    // The next poster's end, for any thread; one that isn't open where all were given. std::bad_alloc where malloc says no.
+    [[nodiscard]] poster open_poster() {
+        poster given;
+        given.state_.reset(new (std::nothrow) detail::poster_state);
+        if (!given.state_) detail::no_room();
+        if (!state_ || tlsf_poster_open(get(), given.get()) != TLSF_OK) given.state_.reset();
+        return given;
+    }
+    // The first name, or none where the queue is empty, its first name half put, or the end closed.
+    [[nodiscard]] std::optional<tlsf_name> take() noexcept {
+        tlsf_name name{};
+        if (!state_ || tlsf_queue_take(get(), &name) != TLSF_OK) return std::nullopt;
+        return name;
+    }
+    // Releases the blocks whose names came, at most `most`, and says how many came.
+    std::uint32_t drain(heap &owner, std::uint32_t most) noexcept {
+        std::uint32_t came = 0;
+        if (state_ && owner.is_open()) tlsf_queue_drain(owner.get(), get(), most, &came);
+        return came;
+    }
+};
+
+// Objects of one type in a heap, each held by a std::unique_ptr that may die in any thread: it sends the object's name home,
+// and `collect`, in the thread of the heap, destroys the object and frees its block. A pointer that dies tries until its post goes
+// in, so it may spin while another thread is half through one. The object itself is another thread's to use as the payload of any
+// block is (rule 4 of tlsf.h). A home dies in the heap's thread, before its heap and after all its pointers.
+template <typename T>
+class home {
+    // A poster's end that one thread at a time has, while `taken`.
+    struct desk {
+        poster end;
+        std::atomic<bool> taken{false};
+    };
+
+    detail::heap_reference heap_;
+    queue queue_;
+    std::unique_ptr<desk[]> desks_;
+    std::uint32_t threads_, most_, out_ = 0;
+
+    // Goes over the desks until one is free and its post goes in. With a desk for each thread one always is free, and the queue
+    // has room for each object that is out, so this ends as soon as no other thread stands still in the midst of a post.
+    void send(const tlsf_name &name) noexcept {
+        for (std::uint32_t i = 0;; i = (i + 1) % threads_) {
+            desk &here = desks_[i];
+            if (here.taken.exchange(true)) continue;
+            const std::uint32_t answer = here.end.post(name);
+            here.taken.store(false);
+            if (answer == TLSF_OK) return;
+        }
+    }
+
+public:
+    class send_home {
+        home *home_ = nullptr;
+        tlsf_name name_{};
+        friend class home;
+        send_home(home *to, const tlsf_name &name) noexcept : home_(to), name_(name) {}
+
+    public:
+        send_home() noexcept = default;
+        void operator()(T *) const noexcept { home_->send(name_); }
+    };
+    using pointer = std::unique_ptr<T, send_home>;
+
+    // For at most `objects` objects at once, and pointers that die in at most `threads` threads, each 1 to 1,024.
+    home(heap &owner, std::uint32_t objects, std::uint32_t threads)
+        : heap_(owner.state_), queue_(threads, objects), desks_(new (std::nothrow) desk[threads]), threads_(threads), most_(objects) {
+        if (!desks_) detail::no_room();
+        for (std::uint32_t i = 0; i < threads; i++) desks_[i].end = queue_.open_poster();
+    }
+    home(const home &) = delete;
+    home &operator=(const home &) = delete;
+    ~home() { collect(); }
+
+    // In the heap's thread. An empty pointer where the heap has no room, or as many objects are out as may be. What the
+    // constructor of T throws comes through.
+    template <typename... Args>
+    [[nodiscard]] pointer make(Args &&...args) {
+        tlsf_name name{};
+        void *at = nullptr;
+        if (out_ == most_) collect();
+        if (out_ == most_ || !heap_ || tlsf_allocate_at(&heap_->raw, sizeof(T), alignof(T), TLSF_UNFILLED, &name, &at) != TLSF_OK)
+            return pointer();
+        block held(heap_, name); // goes back where the constructor throws
+        T *made = ::new (at) T(std::forward<Args>(args)...);
+        held.detach();
+        out_++;
+        return pointer(made, send_home(this, name));
+    }
+    // In the heap's thread: destroys the objects whose pointers have died, and frees their blocks. How many they were.
+    std::uint32_t collect() noexcept {
+        std::uint32_t came = 0;
+        while (const auto name = queue_.take()) {
+            void *at = tlsf_payload(&heap_->raw, &*name, nullptr);
+            if (at) static_cast<T *>(at)->~T();
+            tlsf_release(&heap_->raw, &*name);
+            out_--, came++;
+        }
+        return came;
+    }
+    // How many objects are out: made, and not yet collected.
+    std::uint32_t out() const noexcept { return out_; }
+};
+
+// Spans of memory that the processor never touches, as a graphics card's: the calls tlsf_offsets_*. It can be moved, and not
+// copied, and is closed at the end of its life.
+class offsets {
+    std::unique_ptr<detail::offsets_state> state_;
+
+public:
+    offsets() noexcept = default;
+    // `units` units of `unit` bytes each.
+    offsets(level l, std::uint32_t number, std::uint32_t unit, std::uint32_t units)
+        : state_(new (std::nothrow) detail::offsets_state) {
+        if (!state_) detail::no_room();
+        const std::uint32_t answer = tlsf_offsets_open(get(), static_cast<std::uint32_t>(l), number, unit, units);
+        if (answer == TLSF_NO_MEMORY) detail::no_room();
+        if (answer != TLSF_OK) detail::bad_size("tlsf: no arena has so many units of so many bytes");
+    }
+    tlsf_offsets *get() noexcept { return state_ ? &state_->raw : nullptr; }
+    [[nodiscard]] std::optional<tlsf_span> allocate(std::uint64_t bytes) noexcept {
+        tlsf_span span{};
+        if (!state_ || tlsf_offsets_allocate(get(), bytes, &span) != TLSF_OK) return std::nullopt;
+        return span;
+    }
+    std::uint32_t release(const tlsf_span &span) noexcept {
+        return state_ ? tlsf_offsets_release(get(), &span.name) : detail::closed;
+    }
+    [[nodiscard]] std::uint32_t resize(tlsf_span &span, std::uint64_t bytes) noexcept {
+        return state_ ? tlsf_offsets_resize(get(), &span, bytes) : detail::closed;
+    }
+    tlsf_offsets_usage report() noexcept {
+        tlsf_offsets_usage usage{};
+        if (state_) (void)tlsf_offsets_report(get(), &usage);
+        return usage;
     }
 };
 

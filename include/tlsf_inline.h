@@ -223,9 +223,34 @@ TLSF_ANSWER static inline uint32_t tlsf_put_copied(struct tlsf_post_end *post, c
     const struct tlsf_name own = *name;
     return tlsf_put(post, &own);
 }
+TLSF_ANSWER static inline uint32_t tlsf_put_all_copied(struct tlsf_post_end *post, const struct tlsf_name *names, size_t n,
+                                                       size_t *went) TLSF_NOEXCEPT {
+    struct tlsf_name own[32];
+    size_t count = 0, some, part;
+    do {
+        part = 0;
+        for (some = 0; some < 32 && some < n - count; some++) own[some] = names[count + some];
+        const uint32_t answer = tlsf_put_all(post, own, some, &part);
+        if (answer != TLSF_OK) return answer;
+        count += part;
+    } while (part == 32 && count < n);
+    *went = count;
+    return TLSF_OK;
+}
 TLSF_ANSWER static inline uint32_t tlsf_take_copied(struct tlsf_take_end *take, struct tlsf_name *name) TLSF_NOEXCEPT {
     struct tlsf_name own = {0, 0, 0};
     const uint32_t answer = tlsf_take(take, &own);
+    if (answer == TLSF_OK) *name = own;
+    return answer;
+}
+TLSF_ANSWER static inline uint32_t tlsf_queue_post_copied(struct tlsf_poster *poster,
+                                                          const struct tlsf_name *name) TLSF_NOEXCEPT {
+    const struct tlsf_name own = *name;
+    return tlsf_queue_post(poster, &own);
+}
+TLSF_ANSWER static inline uint32_t tlsf_queue_take_copied(struct tlsf_queue *queue, struct tlsf_name *name) TLSF_NOEXCEPT {
+    struct tlsf_name own = {0, 0, 0};
+    const uint32_t answer = tlsf_queue_take(queue, &own);
     if (answer == TLSF_OK) *name = own;
     return answer;
 }
@@ -239,6 +264,7 @@ TLSF_ANSWER static inline uint32_t tlsf_take_copied(struct tlsf_take_end *take, 
 #undef tlsf_read
 #undef tlsf_locate
 #undef tlsf_put
+#undef tlsf_put_all
 #undef tlsf_take
 #define tlsf_close(...) tlsf_close_noted(__VA_ARGS__)
 #define tlsf_allocate(...) tlsf_allocate_copied(__VA_ARGS__)
@@ -249,7 +275,10 @@ TLSF_ANSWER static inline uint32_t tlsf_take_copied(struct tlsf_take_end *take, 
 #define tlsf_read(...) tlsf_read_copied(__VA_ARGS__)
 #define tlsf_locate(...) tlsf_locate_copied(__VA_ARGS__)
 #define tlsf_put(...) tlsf_put_copied(__VA_ARGS__)
+#define tlsf_put_all(...) tlsf_put_all_copied(__VA_ARGS__)
 #define tlsf_take(...) tlsf_take_copied(__VA_ARGS__)
+#define tlsf_queue_post(...) tlsf_queue_post_copied(__VA_ARGS__)
+#define tlsf_queue_take(...) tlsf_queue_take_copied(__VA_ARGS__)
 #endif
 
 static inline void *tlsf_payload(struct tlsf_heap *heap, const struct tlsf_name *name, uint32_t *len) TLSF_NOEXCEPT {
@@ -264,7 +293,7 @@ static inline const char *tlsf_text_of(uint32_t answer) TLSF_NOEXCEPT {
     static const char *const said[] = {"done", "no free block fits", "the ticks are used up", "a name of another heap",
         "no live block has that name or address", "a size out of range", "no memory", "bytes past the end of the payload",
         "the handle is closed", "the handle is open already", "no room where the block stands", "a level is 4 or 5",
-        "the lane is full", "the lane is empty", "a header is damaged"};
+        "the lane or queue is full", "the lane or queue is empty", "a header is damaged", "another thread is in the way: try again"};
     return answer < sizeof said / sizeof *said ? said[answer] : "no answer of this library";
 }
 

@@ -254,6 +254,16 @@ static inline uint32_t tlsf_marked_drain(struct tlsf_heap *heap, struct tlsf_tak
     return TLSF_OK;
 }
 
+static inline uint32_t tlsf_marked_queue_drain(struct tlsf_heap *heap, struct tlsf_queue *queue, uint32_t most,
+                                               uint32_t *came) TLSF_NOEXCEPT {
+    struct tlsf_name name = {0, 0, 0};
+    uint32_t count = 0;
+    if (!heap->is_open || !queue->is_open) return tlsf_queue_drain(heap, queue, most, came);
+    for (; count < most && tlsf_queue_take(queue, &name) == TLSF_OK; count++) tlsf_marked_release(heap, &name);
+    *came = count;
+    return TLSF_OK;
+}
+
 /* --- What resizes ----------------------------------------------------------------------------------------------------- */
 
 /* Whether the live block at a place may have so many bytes where it stands; `*had` is what it has. */
@@ -340,6 +350,7 @@ TLSF_ANSWER static inline uint32_t tlsf_marked_reallocate(struct tlsf_heap *heap
 #undef tlsf_resize_place
 #undef tlsf_reallocate
 #undef tlsf_drain
+#undef tlsf_queue_drain
 #define tlsf_open tlsf_marked_open
 #define tlsf_open_in tlsf_marked_open_in
 #define tlsf_close tlsf_marked_close
@@ -352,6 +363,7 @@ TLSF_ANSWER static inline uint32_t tlsf_marked_reallocate(struct tlsf_heap *heap
 #define tlsf_resize_place tlsf_marked_resize_place
 #define tlsf_reallocate tlsf_marked_reallocate
 #define tlsf_drain tlsf_marked_drain
+#define tlsf_queue_drain tlsf_marked_queue_drain
 #define tlsf_place tlsf_marked_place
 #define tlsf_locate tlsf_marked_locate
 #define tlsf_read tlsf_marked_read

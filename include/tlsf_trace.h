@@ -279,6 +279,17 @@ static inline uint32_t tlsf_traced_drain(struct tlsf_heap *heap, struct tlsf_tak
     return TLSF_OK;
 }
 
+static inline uint32_t tlsf_traced_queue_drain(struct tlsf_heap *heap, struct tlsf_queue *queue, uint32_t most,
+                                               uint32_t *came) TLSF_NOEXCEPT {
+    struct tlsf_name name = {0, 0, 0};
+    uint32_t count = 0;
+    const uint32_t answer = tlsf_queue_drain(heap, queue, 0, came);
+    if (answer != TLSF_OK) return answer;
+    for (; count < most && tlsf_queue_take(queue, &name) == TLSF_OK; count++) tlsf_traced_release(heap, &name);
+    *came = count;
+    return TLSF_OK;
+}
+
 #define tlsf_open tlsf_traced_open
 #define tlsf_open_in tlsf_traced_open_in
 #define tlsf_close tlsf_traced_close
@@ -291,5 +302,6 @@ static inline uint32_t tlsf_traced_drain(struct tlsf_heap *heap, struct tlsf_tak
 #define tlsf_reallocate tlsf_traced_reallocate
 #define tlsf_resize_place tlsf_traced_resize_place
 #define tlsf_drain tlsf_traced_drain
+#define tlsf_queue_drain tlsf_traced_queue_drain
 
 #endif

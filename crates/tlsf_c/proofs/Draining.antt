@@ -1,25 +1,41 @@
--- A drain goes on by one post.
-use Rattle.std.proofs.Common.{◌≡◌, ℕ, ◌+◌, ◌≤◌, List, [], ◌∷◌, ◌++◌, length, ap, sym, ◌∙◌, arith, append_assoc, length-append}
-use Rattle.std.proofs.lemmas.List.Sums.{fold_push}
+-- A drain goes on by some posts.
+use Rattle.std.proofs.Common.{◌≡◌, ℕ, ◌+◌, ◌<◌, ◌≤◌, inl, inr, List, [], ◌∷◌, ◌++◌, length, refl, ap, sym, ◌∙◌, arith, append_assoc, length-append}
+use Rattle.std.proofs.lemmas.List.Sums.{fold-append}
+use Rattle.std.proofs.lemmas.Bool.{cases_lt}
 use mathlib.Core.List.{IsPrefix}
 use Rattle.tlsf_heap.specs.Blocks.{HeapState}
 use Rattle.tlsf_heap.specs.Calls.{released}
 use Rattle.tlsf_post.specs.declared.post.Post.{Post}
 use Rattle.tlsf_c.specs.Drains.{drained}
+use Rattle.tlsf_c.specs.declared.counts.Counts.{Counts}
 
--- one post more was taken
-pub taken_more : (first last now posts : List Post) (post : Post) → last ≡ first ++ posts → now ≡ last ++ post ∷ [] → now ≡ first ++ (posts ++ post ∷ [])
-taken_more first last now posts post before more = more ∙ (ap (λ xs. xs ++ post ∷ []) before ∙ append_assoc first posts (post ∷ []))
+-- more posts were taken
+pub taken_more : (first last now posts more : List Post) → last ≡ first ++ posts → now ≡ last ++ more → now ≡ first ++ (posts ++ more)
+taken_more first last now posts more before came = came ∙ (ap (λ xs. xs ++ more) before ∙ append_assoc first posts more)
 
--- and its block was released
-pub released_more : (first last now : HeapState) (posts : List Post) (post : Post)
-    → last ≡ drained first posts → now ≡ (released last post.name).heap → now ≡ drained first (posts ++ post ∷ [])
-released_more first last now posts post before more =
-    more ∙ (ap (λ (h : HeapState). (released h post.name).heap) before ∙ sym (fold_push (λ (h : HeapState) (p : Post). (released h p.name).heap) first posts post))
+-- and their blocks were released
+pub released_more : (first last now : HeapState) (posts more : List Post) → last ≡ drained first posts → now ≡ drained last more → now ≡ drained first (posts ++ more)
+released_more first last now posts more before gone =
+    gone ∙ (ap (λ (h : HeapState). drained h more) before ∙ sym (fold-append (λ (h : HeapState) (p : Post). (released h p.name).heap) first posts more))
 
-pub one_more : (posts : List Post) (post : Post) (came : ℕ) → length posts ≡ came → length (posts ++ post ∷ []) ≡ came + 1
-one_more posts post came before = length-append posts (post ∷ []) ∙ ap (λ n. n + 1) before
+-- no post releases nothing
+pub drained_none : (h : HeapState) (posts : List Post) → length posts ≡ 0 → drained h posts ≡ h
+drained_none h [] none = refl
+drained_none h (x ∷ xs) none = absurd (omega (arith, none))
 
--- of those that were ready, all but the one taken still are
-pub still_ready : (before after : List Post) (post : Post) → IsPrefix before (post ∷ after) → length before ≤ 1 + length after
-still_ready before after post p = omega (arith, sym (ap length p.1) ∙ length-append before p.0)
+-- what is counted once `came` posts and then `more` were released, where a heap has so many words in use
+pub counts_more : (first last now : Counts) (last_words now_words came more : ℕ)
+    → (came ≡ 0 → last ≡ first) → (0 < came → last ≡ record first { words = last_words })
+    → (more ≡ 0 → now ≡ last) → (more ≡ 0 → now_words ≡ last_words) → (0 < more → now ≡ record last { words = now_words })
+    → 0 < came + more → now ≡ record first { words = now_words }
+counts_more first last now last_words now_words came more none some same same_words then sum = elim (cases_lt 0 more) [
+  | inl m ↦ then m ∙ elim (cases_lt 0 came) [
+    | inl c ↦ ap (λ (k : Counts). record k { words = now_words }) (some c)
+    | inr z ↦ ap (λ (k : Counts). record k { words = now_words }) (none (omega (arith, z)))
+  ]
+  | inr z ↦ same (omega (arith, z)) ∙ (some (omega (arith, z, sum)) ∙ ap (λ (w : ℕ). record first { words = w }) (sym (same_words (omega (arith, z)))))
+]
+
+-- of those that were ready, all but those taken still are
+pub still_ready : (before after more : List Post) → IsPrefix before (more ++ after) → length before ≤ length more + length after
+still_ready before after more p = omega (arith, sym (ap length p.1) ∙ length-append before p.0, length-append more after)

@@ -1,7 +1,13 @@
 pub mod HeapBox
 pub mod PostBox
 pub mod TakeBox
+pub mod PosterBox
+pub mod QueueBox
+pub mod OffsetsBox
 pub mod Unwrapping
 mod Draining
+mod Putting
 pub mod CountSums
 mod Carried
+mod QueueKept
+mod CarriedOffsets

@@ -1,5 +1,5 @@
 -- What lies behind C's handles.
-use Rattle.std.specs.Prelude.{◌≡◌, ℕ, true, List, [], Option, Some, None}
+use Rattle.std.specs.Prelude.{◌≡◌, ℕ, true, List, [], Option, Some, None, map}
 use denote.RawPtr.{Ptr}
 use Rattle.tlsf_heap.specs.Blocks.{HeapState}
 use Rattle.tlsf_heap.specs.Image.{Image}
@@ -9,7 +9,9 @@ use Rattle.tlsf_post.specs.declared.post.Post.{Post}
 use Rattle.tlsf_post.specs.declared.post_end.PostEnd.{PostEnd}
 use Rattle.tlsf_post.specs.declared.take_end.TakeEnd.{TakeEnd}
 use Rattle.tlsf_c.specs.Levels.{GoesOn}
+use Rattle.tlsf_c.specs.Names.{name_of}
 use Rattle.tlsf_c.specs.declared.counts.Counts.{Counts}
+use Rattle.tlsf_c.specs.declared.names.BlockName.{BlockName}
 use Rattle.tlsf_c.specs.declared.heap_slot.HeapSlot.{HeapSlot}
 use Rattle.tlsf_c.specs.declared.post_slot.PostSlot.{PostSlot}
 use Rattle.tlsf_c.specs.declared.take_slot.TakeSlot.{TakeSlot}
@@ -51,6 +53,10 @@ pub record StaysOpen (old new : HeapSlot) : Type 0 where
 -- what C posts of a name
 abbrev pub post_of : Name → Post
 post_of name = record { from = 0; name = name }
+
+-- and of several
+abbrev pub posts_named : List BlockName → List Post
+posts_named names = map (λ n. post_of (name_of n)) names
 
 -- the posts sent since the lane was opened
 abbrev pub sent_by : Option PostEnd → List Post

@@ -3,6 +3,14 @@ pub mod LevelOf
 pub mod HeapOwned
 pub mod PostOwned
 pub mod TakeOwned
+pub mod PosterOwned
+pub mod QueueOwned
+pub mod Ends
+pub mod Queues
+pub mod OffsetLevels
+pub mod OffsetsOf
+pub mod OffsetsOwned
+pub mod OffsetHandles
 pub mod Handles
 pub mod Refusals
 pub mod Names
@@ -10,3 +18,4 @@ pub mod Drains
 pub mod Places
 pub mod Counting
 pub mod Checked
+pub mod Lending

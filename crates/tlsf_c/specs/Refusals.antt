@@ -42,6 +42,10 @@ empty = 13
 abbrev pub damage : ℕ
 damage = 14
 
+-- another thread was half through a step on the queue
+abbrev pub busy : ℕ
+busy = 15
+
 abbrev pub call_number_of : CallFault → ℕ
 call_number_of fault.BadSize = bad_size
 call_number_of fault.NoMemory = no_memory
@@ -51,3 +55,4 @@ call_number_of fault.BadLevel = bad_level
 call_number_of fault.Full = full
 call_number_of fault.Empty = empty
 call_number_of fault.Damaged = damage
+call_number_of fault.Busy = busy

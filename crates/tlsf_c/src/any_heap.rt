@@ -30,8 +30,9 @@ pub enum OfLevel {
 /// heap, its touches and its counts.
 #[derive(Drop)]
 pub struct AnyHeap {
-    of_level: OfLevel,
+    // First, so that they lie in the first cache line, beside the heap's number, its tick and where its words are.
     counts: Counts,
+    of_level: OfLevel,
 }
 
 impl Model for AnyHeap {
@@ -63,14 +64,14 @@ impl AnyHeap {
         if level == 4 {
             let heap = Heap::<4>::open(alloc, id, words, 0)?;
             Ok(AnyHeap {
-                of_level: OfLevel::Four(heap),
                 counts: Counts::new(),
+                of_level: OfLevel::Four(heap),
             })
         } else {
             let heap = Heap::<5>::open(alloc, id, words, 0)?;
             Ok(AnyHeap {
-                of_level: OfLevel::Five(heap),
                 counts: Counts::new(),
+                of_level: OfLevel::Five(heap),
             })
         }
     }

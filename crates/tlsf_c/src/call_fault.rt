@@ -24,6 +24,8 @@ pub enum CallFault {
     Empty,
     /// A block is damaged: other code has written past the end of a payload.
     Damaged,
+    /// Another thread was half through a step on the queue.
+    Busy,
 }
 
 impl CallFault {
@@ -42,6 +44,7 @@ impl CallFault {
             CallFault::Full => 12,
             CallFault::Empty => 13,
             CallFault::Damaged => 14,
+            CallFault::Busy => 15,
         }
     }
 }

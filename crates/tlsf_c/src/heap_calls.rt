@@ -134,12 +134,7 @@ pub extern "C" fn tlsf_close(alloc: Global, heap: &mut HeapSlot) -> u32
 /// tlsf_allocate(&heap, 100, &name) == TLSF_OK  // 16 words of the region
 /// ```
 #[unsafe(no_mangle)]
-pub extern "C" fn tlsf_allocate(
-    alloc: Global,
-    heap: &mut HeapSlot,
-    len: u32,
-    name: &mut BlockName,
-) -> u32
+pub extern "C" fn tlsf_allocate(heap: &mut HeapSlot, len: u32, name: &mut BlockName) -> u32
     ensures closed { heap.old.is_open ≡ false → (result ≡ closed) × (heap.new ≡ heap.old) }
     ensures open { heap.old.is_open ≡ true → StaysOpen heap.old heap.new }
     ensures status { heap.old.is_open ≡ true → result ≡ status_of (allocated (level_in heap.old) (heap_in heap.old) len).answer }
@@ -149,11 +144,13 @@ pub extern "C" fn tlsf_allocate(
     ensures counts { heap.old.is_open ≡ true → counts_in heap.new ≡ counted_request (counts_in heap.old) (allocated (level_in heap.old) (heap_in heap.old) len).answer len (heap_in heap.new) }
     ensures touches { heap.old.is_open ≡ true → touches_in heap.new ≤ touches_in heap.old + 64 + payload_words_given (allocated (level_in heap.old) (heap_in heap.old) len).answer (heap_in heap.new) }
 {
-    let Some(mut owned) = heap.take_out(alloc) else {
+    if !heap.is_open {
         return CallFault::Closed.number();
-    };
+    }
+    heap.is_open = false;
+    let owned = heap.held.lend();
     let answer = owned.allocate(len);
-    heap.put_in(owned);
+    heap.is_open = true;
     match answer {
         Ok(new) => {
             *name = BlockName::of(new);
@@ -172,7 +169,7 @@ pub extern "C" fn tlsf_allocate(
 /// tlsf_release(&heap, &name) == TLSF_STALE
 /// ```
 #[unsafe(no_mangle)]
-pub extern "C" fn tlsf_release(alloc: Global, heap: &mut HeapSlot, name: &BlockName) -> u32
+pub extern "C" fn tlsf_release(heap: &mut HeapSlot, name: &BlockName) -> u32
     ensures closed { heap.old.is_open ≡ false → (result ≡ closed) × (heap.new ≡ heap.old) }
     ensures open { heap.old.is_open ≡ true → StaysOpen heap.old heap.new }
     ensures status { heap.old.is_open ≡ true → result ≡ status_of (released (heap_in heap.old) (name_of name.now)).answer }
@@ -181,11 +178,13 @@ pub extern "C" fn tlsf_release(alloc: Global, heap: &mut HeapSlot, name: &BlockN
     ensures counts { heap.old.is_open ≡ true → counts_in heap.new ≡ record (counts_in heap.old) { words = words_in_use (heap_in heap.new) } }
     ensures touches { heap.old.is_open ≡ true → touches_in heap.new ≤ touches_in heap.old + 64 }
 {
-    let Some(mut owned) = heap.take_out(alloc) else {
+    if !heap.is_open {
         return CallFault::Closed.number();
-    };
+    }
+    heap.is_open = false;
+    let owned = heap.held.lend();
     let answer = owned.release(name.name());
-    heap.put_in(owned);
+    heap.is_open = true;
     status(answer)
 }
 
@@ -197,7 +196,7 @@ pub extern "C" fn tlsf_release(alloc: Global, heap: &mut HeapSlot, name: &BlockN
 /// tlsf_resize(&heap, &name, 200) == TLSF_OK    // bytes 100 to 199 are zero
 /// ```
 #[unsafe(no_mangle)]
-pub extern "C" fn tlsf_resize(alloc: Global, heap: &mut HeapSlot, name: &BlockName, len: u32) -> u32
+pub extern "C" fn tlsf_resize(heap: &mut HeapSlot, name: &BlockName, len: u32) -> u32
     ensures closed { heap.old.is_open ≡ false → (result ≡ closed) × (heap.new ≡ heap.old) }
     ensures open { heap.old.is_open ≡ true → StaysOpen heap.old heap.new }
     ensures status { heap.old.is_open ≡ true → result ≡ status_of (resized (heap_in heap.old) (name_of name.now) len).answer }
@@ -206,11 +205,13 @@ pub extern "C" fn tlsf_resize(alloc: Global, heap: &mut HeapSlot, name: &BlockNa
     ensures counts { heap.old.is_open ≡ true → counts_in heap.new ≡ counted (counts_in heap.old) (heap_in heap.new) }
     ensures touches { heap.old.is_open ≡ true → touches_in heap.new ≤ touches_in heap.old + 64 + payload_words_left (resized (heap_in heap.old) (name_of name.now) len).answer (heap_in heap.new) (name_of name.now) }
 {
-    let Some(mut owned) = heap.take_out(alloc) else {
+    if !heap.is_open {
         return CallFault::Closed.number();
-    };
+    }
+    heap.is_open = false;
+    let owned = heap.held.lend();
     let answer = owned.resize(name.name(), len);
-    heap.put_in(owned);
+    heap.is_open = true;
     status(answer)
 }
 
@@ -223,12 +224,7 @@ pub extern "C" fn tlsf_resize(alloc: Global, heap: &mut HeapSlot, name: &BlockNa
 /// tlsf_reallocate(&heap, &name, 500) == TLSF_OK
 /// ```
 #[unsafe(no_mangle)]
-pub extern "C" fn tlsf_reallocate(
-    alloc: Global,
-    heap: &mut HeapSlot,
-    name: &mut BlockName,
-    len: u32,
-) -> u32
+pub extern "C" fn tlsf_reallocate(heap: &mut HeapSlot, name: &mut BlockName, len: u32) -> u32
     ensures closed { heap.old.is_open ≡ false → (result ≡ closed) × (heap.new ≡ heap.old) }
     ensures open { heap.old.is_open ≡ true → StaysOpen heap.old heap.new }
     ensures status { heap.old.is_open ≡ true → result ≡ status_of (resized_or_moved (level_in heap.old) (heap_in heap.old) (name_of name.old) len).answer }
@@ -241,11 +237,13 @@ pub extern "C" fn tlsf_reallocate(
         + payload_words_left (resized (heap_in heap.old) (name_of name.old) len).answer (resized (heap_in heap.old) (name_of name.old) len).heap (name_of name.old)
         + 3 * payload_words_moved (level_in heap.old) (heap_in heap.old) len }
 {
-    let Some(mut owned) = heap.take_out(alloc) else {
+    if !heap.is_open {
         return CallFault::Closed.number();
-    };
+    }
+    heap.is_open = false;
+    let owned = heap.held.lend();
     let answer = owned.resize_or_move(name.name(), len);
-    heap.put_in(owned);
+    heap.is_open = true;
     match answer {
         Ok(moved) => {
             *name = BlockName::of(moved);
@@ -264,13 +262,7 @@ pub extern "C" fn tlsf_reallocate(
 /// tlsf_write(&heap, &name, 99, bytes, 2) == TLSF_RANGE
 /// ```
 #[unsafe(no_mangle)]
-pub extern "C" fn tlsf_write(
-    alloc: Global,
-    heap: &mut HeapSlot,
-    name: &BlockName,
-    at: u32,
-    bytes: &[u8],
-) -> u32
+pub extern "C" fn tlsf_write(heap: &mut HeapSlot, name: &BlockName, at: u32, bytes: &[u8]) -> u32
     ensures closed { heap.old.is_open ≡ false → (result ≡ closed) × (heap.new ≡ heap.old) }
     ensures open { heap.old.is_open ≡ true → StaysOpen heap.old heap.new }
     ensures status { heap.old.is_open ≡ true → result ≡ status_of (written (heap_in heap.old) (name_of name.now) at bytes.now).answer }
@@ -279,11 +271,13 @@ pub extern "C" fn tlsf_write(
     ensures counts { heap.old.is_open ≡ true → counts_in heap.new ≡ counts_in heap.old }
     ensures touches { heap.old.is_open ≡ true → touches_in heap.new ≤ touches_in heap.old + 4 + 2 * (length bytes.now / 8 + 2) }
 {
-    let Some(mut owned) = heap.take_out(alloc) else {
+    if !heap.is_open {
         return CallFault::Closed.number();
-    };
+    }
+    heap.is_open = false;
+    let owned = heap.held.lend();
     let answer = owned.write(name.name(), at, bytes);
-    heap.put_in(owned);
+    heap.is_open = true;
     status(answer)
 }
 
@@ -295,13 +289,7 @@ pub extern "C" fn tlsf_write(
 /// tlsf_read(&heap, &name, 98, out, 2) == TLSF_OK
 /// ```
 #[unsafe(no_mangle)]
-pub extern "C" fn tlsf_read(
-    alloc: Global,
-    heap: &mut HeapSlot,
-    name: &BlockName,
-    at: u32,
-    out: &mut [u8],
-) -> u32
+pub extern "C" fn tlsf_read(heap: &mut HeapSlot, name: &BlockName, at: u32, out: &mut [u8]) -> u32
     ensures closed { heap.old.is_open ≡ false → (result ≡ closed) × (heap.new ≡ heap.old) × (out.new ≡ out.old) }
     ensures open { heap.old.is_open ≡ true → StaysOpen heap.old heap.new }
     ensures status { heap.old.is_open ≡ true → result ≡ status_of (read_answer (read_of (heap_in heap.old) (name_of name.now) at (length out.old))) }
@@ -311,11 +299,13 @@ pub extern "C" fn tlsf_read(
     ensures counts { heap.old.is_open ≡ true → counts_in heap.new ≡ counts_in heap.old }
     ensures touches { heap.old.is_open ≡ true → touches_in heap.new ≤ touches_in heap.old + 4 + (length out.old / 8 + 2) }
 {
-    let Some(mut owned) = heap.take_out(alloc) else {
+    if !heap.is_open {
         return CallFault::Closed.number();
-    };
+    }
+    heap.is_open = false;
+    let owned = heap.held.lend();
     let answer = owned.read(name.name(), at, out);
-    heap.put_in(owned);
+    heap.is_open = true;
     status(answer)
 }
 
@@ -330,7 +320,6 @@ pub extern "C" fn tlsf_read(
 /// ```
 #[unsafe(no_mangle)]
 pub extern "C" fn tlsf_locate(
-    alloc: Global,
     heap: &mut HeapSlot,
     name: &BlockName,
     base: &mut *mut u64,
@@ -348,11 +337,13 @@ pub extern "C" fn tlsf_locate(
     ensures counts { heap.old.is_open ≡ true → counts_in heap.new ≡ counts_in heap.old }
     ensures touches { heap.old.is_open ≡ true → touches_in heap.new ≤ touches_in heap.old + 4 }
 {
-    let Some(mut owned) = heap.take_out(alloc) else {
+    if !heap.is_open {
         return CallFault::Closed.number();
-    };
+    }
+    heap.is_open = false;
+    let owned = heap.held.lend();
     let answer = owned.payload(name.name());
-    heap.put_in(owned);
+    heap.is_open = true;
     match answer {
         Ok((at, n)) => {
             *base = at;
@@ -371,7 +362,7 @@ pub extern "C" fn tlsf_locate(
 /// tlsf_report(&heap, &report) == TLSF_OK       // of a new heap of 64 words: report.free_words == 64
 /// ```
 #[unsafe(no_mangle)]
-pub extern "C" fn tlsf_report(alloc: Global, heap: &mut HeapSlot, report: &mut HeapReport) -> u32
+pub extern "C" fn tlsf_report(heap: &mut HeapSlot, report: &mut HeapReport) -> u32
     ensures closed { heap.old.is_open ≡ false → (result ≡ closed) × (heap.new ≡ heap.old) × (report.new ≡ report.old) }
     ensures open { heap.old.is_open ≡ true → (result ≡ 0) × StaysOpen heap.old heap.new }
     ensures report { heap.old.is_open ≡ true → report_in report.new ≡ report_of (level_in heap.old) (heap_in heap.old) }
@@ -379,11 +370,13 @@ pub extern "C" fn tlsf_report(alloc: Global, heap: &mut HeapSlot, report: &mut H
     ensures counts { heap.old.is_open ≡ true → counts_in heap.new ≡ counts_in heap.old }
     ensures touches { heap.old.is_open ≡ true → touches_in heap.new ≤ touches_in heap.old + 2 * length (heap_in heap.old).blocks }
 {
-    let Some(mut owned) = heap.take_out(alloc) else {
+    if !heap.is_open {
         return CallFault::Closed.number();
-    };
+    }
+    heap.is_open = false;
+    let owned = heap.held.lend();
     *report = HeapReport::of(owned.report());
-    heap.put_in(owned);
+    heap.is_open = true;
     0
 }
 
@@ -395,7 +388,7 @@ pub extern "C" fn tlsf_report(alloc: Global, heap: &mut HeapSlot, report: &mut H
 /// tlsf_counts(&heap, &counts) == TLSF_OK       // of a new heap: four zeros
 /// ```
 #[unsafe(no_mangle)]
-pub extern "C" fn tlsf_counts(alloc: Global, heap: &mut HeapSlot, counts: &mut Counts) -> u32
+pub extern "C" fn tlsf_counts(heap: &mut HeapSlot, counts: &mut Counts) -> u32
     ensures closed { heap.old.is_open ≡ false → (result ≡ closed) × (heap.new ≡ heap.old) × (counts.new ≡ counts.old) }
     ensures open { heap.old.is_open ≡ true → (result ≡ 0) × StaysOpen heap.old heap.new }
     ensures counts { heap.old.is_open ≡ true → counts.new ≡ counts_in heap.old }
@@ -407,10 +400,12 @@ pub extern "C" fn tlsf_counts(alloc: Global, heap: &mut HeapSlot, counts: &mut C
     ensures stay { heap.old.is_open ≡ true → counts_in heap.new ≡ counts_in heap.old }
     ensures touches { heap.old.is_open ≡ true → touches_in heap.new ≡ touches_in heap.old }
 {
-    let Some(owned) = heap.take_out(alloc) else {
+    if !heap.is_open {
         return CallFault::Closed.number();
-    };
+    }
+    heap.is_open = false;
+    let owned = heap.held.lend();
     *counts = owned.counts();
-    heap.put_in(owned);
+    heap.is_open = true;
     0
 }

@@ -1,11 +1,12 @@
 //! C's calls of a lane: one thread puts names in, another takes them out.
-ghost use Rattle.std.specs.Prelude.{◌≡◌, ℕ, true, false, ◌+◌, ◌*◌, ◌-◌, ◌<◌, ◌≤◌, [], ◌∷◌, ◌++◌, List, Option, length};
+ghost use Rattle.std.specs.Prelude.{◌≡◌, ℕ, true, false, ◌+◌, ◌*◌, ◌-◌, ◌<◌, ◌≤◌, [], ◌∷◌, ◌++◌, List, Option, length, take};
 ghost use mathlib.Core.List.{IsPrefix};
 ghost use Rattle.tlsf_post.specs.declared.post.Post.{Post};
 ghost use Rattle.tlsf_post.specs.declared.post_end.PostEnd.{PostEnd};
 ghost use Rattle.tlsf_post.specs.declared.take_end.TakeEnd.{TakeEnd};
 ghost use Rattle.tlsf_heap.specs.WordsInUse.{words_in_use};
-ghost use Rattle.tlsf_c.specs.Handles.{counts_in, heap_in, touches_in, StaysOpen, post_of, sent_in, free_in, taken_in, ready_in, AreEnds, AreLane};
+ghost use Rattle.tlsf_post.specs.Lanes.{posts_sent, free_slots, IsLane};
+ghost use Rattle.tlsf_c.specs.Handles.{counts_in, heap_in, touches_in, StaysOpen, post_of, posts_named, sent_in, free_in, taken_in, ready_in, AreEnds, AreLane};
 ghost use Rattle.tlsf_c.specs.Drains.{drained};
 ghost use Rattle.tlsf_c.specs.Names.{name_of};
 ghost use Rattle.tlsf_c.specs.Refusals.{bad_size, no_memory, closed, in_use, full, empty};
@@ -17,7 +18,22 @@ use crate::names::BlockName;
 use crate::post_slot::PostSlot;
 use crate::take_slot::TakeSlot;
 use std::alloc::Global;
-use tlsf_post::{Post, lane};
+use tlsf_heap::Name;
+use tlsf_post::{Post, PostEnd, lane};
+
+/// How many names a drain takes out of a lane at once. Each time writes a line that a poster reads who finds the lane full, so a drain of a
+/// full lane beside such a poster is quicker by slices than by single names. An empty drain fills so many places in vain.
+const AT_ONCE: usize = 32;
+
+/// What stands in a place that no post came into.
+const NO_POST: Post = Post {
+    from: 0,
+    name: Name {
+        heap: 0,
+        at: 0,
+        serial: 0,
+    },
+};
 
 /// Opens a lane for up to `capacity` names, 1 to 1,024, in two closed handles: the end that puts names in, and the one that takes them out.
 ///
@@ -139,6 +155,78 @@ pub extern "C" fn tlsf_put(alloc: Global, post: &mut PostSlot, name: &BlockName)
     }
 }
 
+/// Puts names into a lane, from the first on, as many as this end sees slots for. The other end sees up to 32 of them after one store, so many
+/// names cost it less than each by itself. How many went goes to `went`: the others may be put again later. Never waits.
+///
+/// Refused as Closed where the handle isn't open.
+///
+/// ```text
+/// tlsf_put_all(&post, names, 40, &went) == TLSF_OK
+/// ```
+#[unsafe(no_mangle)]
+pub extern "C" fn tlsf_put_all(
+    alloc: Global,
+    post: &mut PostSlot,
+    names: &[BlockName],
+    went: &mut usize,
+) -> u32
+    ensures closed { post.old.is_open ≡ false → (result ≡ closed) × (post.new ≡ post.old) × (went.new ≡ went.old) }
+    ensures open { post.old.is_open ≡ true → (result ≡ 0) × (post.new.is_open ≡ true) }
+    ensures lane { (t : Option TakeEnd) → AreEnds post.old.held.value t → AreEnds post.new.held.value t }
+    ensures most { result ≡ 0 → went.new ≤ length names.now }
+    ensures sent { result ≡ 0 → sent_in post.new ≡ sent_in post.old ++ posts_named (take went.new names.now) }
+    ensures slots { result ≡ 0 → free_in post.new ≡ free_in post.old - went.new }
+    ensures succeeds { result ≡ 0 → went.new < length names.now → free_in post.old ≤ went.new }
+{
+    let Some(mut end) = post.take_out(alloc) else {
+        return CallFault::Closed.number();
+    };
+    let count = put_names(&mut end, names);
+    post.put_in(end);
+    *went = count;
+    0
+}
+
+/// Puts names in by slices, until one doesn't go whole, and answers how many went.
+fn put_names(end: &mut PostEnd, names: &[BlockName]) -> usize
+    ensures lane { (t : TakeEnd) → IsLane end.old t → IsLane end.new t }
+    ensures most { result ≤ length names.now }
+    ensures sent { posts_sent end.new ≡ posts_sent end.old ++ posts_named (take result names.now) }
+    ensures slots { free_slots end.new ≡ free_slots end.old - result }
+    ensures succeeds { result < length names.now → free_slots end.old ≤ result }
+{
+    let mut count = 0;
+    let mut is_full = false;
+    while count < names.len() && !is_full {
+        let (_, rest) = names.split_at(count);
+        let (some, _) = rest.split_at(AT_ONCE.min(rest.len()));
+        let sent = put_slice(end, some);
+        count += sent;
+        is_full = sent < some.len();
+    }
+    count
+}
+
+/// Puts up to 32 names in with one store, from the first on, and answers how many went.
+fn put_slice(end: &mut PostEnd, names: &[BlockName]) -> usize
+    requires { length names.now ≤ 32 }
+    ensures lane { (t : TakeEnd) → IsLane end.old t → IsLane end.new t }
+    ensures most { result ≤ length names.now }
+    ensures sent { posts_sent end.new ≡ posts_sent end.old ++ posts_named (take result names.now) }
+    ensures slots { free_slots end.new ≡ free_slots end.old - result }
+    ensures succeeds { result < length names.now → free_slots end.old ≤ result }
+{
+    let mut posts = [NO_POST; AT_ONCE];
+    for (k, block) in names.iter().enumerate() {
+        posts[k] = Post {
+            name: block.name(),
+            ..NO_POST
+        };
+    }
+    let (named, _) = posts.split_at(names.len());
+    end.put_all(named)
+}
+
 /// Takes the next name out of a lane. It goes to `name`. Never waits.
 ///
 /// Refused as Closed where the handle isn't open, else as Empty where this end sees none.
@@ -204,19 +292,64 @@ pub extern "C" fn tlsf_drain(
     if !heap.is_open || !take.is_open {
         return CallFault::Closed.number();
     }
-    let mut name = BlockName {
-        heap: 0,
-        at: 0,
-        serial: 0,
-    };
+    let mut posts = [NO_POST; AT_ONCE];
     let mut count = 0;
-    while count < most {
-        if tlsf_take(alloc, take, &mut name) != 0 {
-            break;
-        }
-        let _ = tlsf_release(alloc, heap, &name);
-        count += 1;
+    let mut left = most;
+    while left > 0 {
+        let wanted = AT_ONCE.min(left as usize);
+        let (places, _) = posts.split_at_mut(wanted);
+        let taken = take_posts(alloc, take, places);
+        let (names, _) = places.split_at(taken);
+        release_posts(heap, names);
+        count += taken as u32;
+        left = left_after(left, wanted, taken);
     }
     *came = count;
     0
+}
+
+/// How many names may still come of `left`: none after a look that showed fewer than were wanted.
+fn left_after(left: u32, wanted: usize, taken: usize) -> u32
+    requires { (taken ≤ wanted) × (wanted ≤ left) }
+    ensures fewer { taken < wanted → result ≡ 0 }
+    ensures all { taken ≡ wanted → result + taken ≡ left }
+    ensures most { result + taken ≤ left }
+{
+    if taken < wanted {
+        0
+    } else {
+        left - taken as u32
+    }
+}
+
+/// Takes as many names out of an open lane as there are places, and answers how many came.
+fn take_posts(alloc: Global, lane: &mut TakeSlot, places: &mut [Post]) -> usize
+    requires { lane.old.is_open ≡ true }
+    ensures open { lane.new.is_open ≡ true }
+    ensures lane { (p : Option PostEnd) → AreEnds p lane.old.held.value → AreEnds p lane.new.held.value }
+    ensures most { result ≤ length places.old }
+    ensures came { (taken_in lane.new ≡ taken_in lane.old ++ take result places.new)
+        × IsPrefix (ready_in lane.old) (take result places.new ++ ready_in lane.new) }
+    ensures left { result < length places.old → ready_in lane.new ≡ [] }
+{
+    let Some(mut end) = lane.take_out(alloc) else {
+        unreachable!()
+    };
+    let count = end.take_slice(places);
+    lane.put_in(end);
+    count
+}
+
+/// Releases the block that each post names, in their order, whatever the heap answers. The heap is open.
+pub(crate) fn release_posts(heap: &mut HeapSlot, posts: &[Post])
+    requires { heap.old.is_open ≡ true }
+    ensures open { StaysOpen heap.old heap.new }
+    ensures drained { heap_in heap.new ≡ drained (heap_in heap.old) posts.now }
+    ensures no_counts { length posts.now ≡ 0 → counts_in heap.new ≡ counts_in heap.old }
+    ensures counts { 0 < length posts.now → counts_in heap.new ≡ record (counts_in heap.old) { words = words_in_use (heap_in heap.new) } }
+    ensures touches { touches_in heap.new ≤ touches_in heap.old + 64 * length posts.now }
+{
+    for post in posts {
+        let _ = tlsf_release(heap, &BlockName::of(post.name));
+    }
 }

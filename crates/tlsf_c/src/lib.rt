@@ -5,23 +5,37 @@
 #![tactic(auto)]
 
 mod any_heap;
+mod any_offsets;
 mod call_fault;
 mod counting;
 mod counts;
 mod heap_calls;
 mod heap_slot;
 mod held_heap;
+mod held_offsets;
 mod held_post_end;
+mod held_poster;
+mod held_queue;
 mod held_take_end;
 mod lane_calls;
 mod names;
+mod offset_calls;
+mod offsets_slot;
 mod parts;
 mod place_calls;
 mod post_slot;
+mod poster_slot;
+mod queue_calls;
+mod queue_end;
+mod queue_slot;
+mod spans;
 mod take_slot;
 
 use crate::heap_slot::HeapSlot;
+use crate::offsets_slot::OffsetsSlot;
 use crate::post_slot::PostSlot;
+use crate::poster_slot::PosterSlot;
+use crate::queue_slot::QueueSlot;
 use crate::take_slot::TakeSlot;
 
 fn asks_send<T: Send>() {}
@@ -31,4 +45,7 @@ pub fn handles_may_cross() {
     asks_send::<HeapSlot>();
     asks_send::<PostSlot>();
     asks_send::<TakeSlot>();
+    asks_send::<PosterSlot>();
+    asks_send::<QueueSlot>();
+    asks_send::<OffsetsSlot>();
 }

@@ -25,7 +25,6 @@ ghost use Rattle.tlsf_c.specs.Refusals.{status_of, closed, damage};
 use crate::call_fault::{CallFault, check_status, status};
 use crate::heap_slot::HeapSlot;
 use crate::names::{BlockInfo, BlockName};
-use std::alloc::Global;
 use tlsf_heap::{Content, PlacedBlock, Refusal};
 
 /// Gives a block that holds `len` bytes of payload, and fills nothing: its bytes are those that lie there. Its place goes to `at`. It takes no
@@ -37,12 +36,7 @@ use tlsf_heap::{Content, PlacedBlock, Refusal};
 /// tlsf_allocate_place(&heap, 100, &at) == TLSF_OK  // the payload is words at + 3 to at + 15 of the region
 /// ```
 #[unsafe(no_mangle)]
-pub extern "C" fn tlsf_allocate_place(
-    alloc: Global,
-    heap: &mut HeapSlot,
-    len: u32,
-    at: &mut u32,
-) -> u32
+pub extern "C" fn tlsf_allocate_place(heap: &mut HeapSlot, len: u32, at: &mut u32) -> u32
     ensures closed { heap.old.is_open ≡ false → (result ≡ closed) × (heap.new ≡ heap.old) }
     ensures open { heap.old.is_open ≡ true → StaysOpen heap.old heap.new }
     ensures status { heap.old.is_open ≡ true → result ≡ status_of (allocated (level_in heap.old) (heap_in heap.old) len).answer }
@@ -53,11 +47,13 @@ pub extern "C" fn tlsf_allocate_place(
     ensures counts { heap.old.is_open ≡ true → counts_in heap.new ≡ counted_request (counts_in heap.old) (allocated (level_in heap.old) (heap_in heap.old) len).answer len (heap_in heap.new) }
     ensures touches { heap.old.is_open ≡ true → touches_in heap.new ≤ touches_in heap.old + 33 }
 {
-    let Some(mut owned) = heap.take_out(alloc) else {
+    if !heap.is_open {
         return CallFault::Closed.number();
-    };
+    }
+    heap.is_open = false;
+    let owned = heap.held.lend();
     let answer = owned.allocate_unset(len);
-    heap.put_in(owned);
+    heap.is_open = true;
     match answer {
         Ok(name) => {
             *at = name.at;
@@ -79,7 +75,6 @@ pub extern "C" fn tlsf_allocate_place(
 /// ```
 #[unsafe(no_mangle)]
 pub extern "C" fn tlsf_allocate_aligned(
-    alloc: Global,
     heap: &mut HeapSlot,
     len: u32,
     step: u32,
@@ -98,11 +93,13 @@ pub extern "C" fn tlsf_allocate_aligned(
     ensures counts { heap.old.is_open ≡ true → counts_in heap.new ≡ counted_request (counts_in heap.old) (words_aligned (level_in heap.old) (heap_in heap.old) (want len) (max step 1) skew).answer len (heap_in heap.new) }
     ensures touches { heap.old.is_open ≡ true → touches_in heap.new ≤ touches_in heap.old + 118 }
 {
-    let Some(mut owned) = heap.take_out(alloc) else {
+    if !heap.is_open {
         return CallFault::Closed.number();
-    };
+    }
+    heap.is_open = false;
+    let owned = heap.held.lend();
     let answer = owned.allocate_aligned(len, step, skew);
-    heap.put_in(owned);
+    heap.is_open = true;
     match answer {
         Ok(name) => {
             *at = name.at;
@@ -121,7 +118,7 @@ pub extern "C" fn tlsf_allocate_aligned(
 /// tlsf_release_place(&heap, name.at) == TLSF_STALE
 /// ```
 #[unsafe(no_mangle)]
-pub extern "C" fn tlsf_release_place(alloc: Global, heap: &mut HeapSlot, at: u32) -> u32
+pub extern "C" fn tlsf_release_place(heap: &mut HeapSlot, at: u32) -> u32
     ensures closed { heap.old.is_open ≡ false → (result ≡ closed) × (heap.new ≡ heap.old) }
     ensures open { heap.old.is_open ≡ true → StaysOpen heap.old heap.new }
     ensures status { heap.old.is_open ≡ true → result ≡ status_of (released_by_place (heap_in heap.old) at).answer }
@@ -130,11 +127,13 @@ pub extern "C" fn tlsf_release_place(alloc: Global, heap: &mut HeapSlot, at: u32
     ensures counts { heap.old.is_open ≡ true → counts_in heap.new ≡ record (counts_in heap.old) { words = words_in_use (heap_in heap.new) } }
     ensures touches { heap.old.is_open ≡ true → touches_in heap.new ≤ touches_in heap.old + 29 }
 {
-    let Some(mut owned) = heap.take_out(alloc) else {
+    if !heap.is_open {
         return CallFault::Closed.number();
-    };
+    }
+    heap.is_open = false;
+    let owned = heap.held.lend();
     let answer = owned.release_at(at);
-    heap.put_in(owned);
+    heap.is_open = true;
     status(answer)
 }
 
@@ -149,13 +148,7 @@ pub extern "C" fn tlsf_release_place(alloc: Global, heap: &mut HeapSlot, at: u32
 /// tlsf_resize_place(&heap, at, 500, &at) == TLSF_OK
 /// ```
 #[unsafe(no_mangle)]
-pub extern "C" fn tlsf_resize_place(
-    alloc: Global,
-    heap: &mut HeapSlot,
-    at: u32,
-    len: u32,
-    new_at: &mut u32,
-) -> u32
+pub extern "C" fn tlsf_resize_place(heap: &mut HeapSlot, at: u32, len: u32, new_at: &mut u32) -> u32
     ensures closed { heap.old.is_open ≡ false → (result ≡ closed) × (heap.new ≡ heap.old) }
     ensures open { heap.old.is_open ≡ true → StaysOpen heap.old heap.new }
     ensures status { heap.old.is_open ≡ true → result ≡ status_of (resized_or_moved_by_place (level_in heap.old) (heap_in heap.old) at len).answer }
@@ -168,11 +161,13 @@ pub extern "C" fn tlsf_resize_place(
     ensures counts { heap.old.is_open ≡ true → counts_in heap.new ≡ counted_move (counts_in heap.old) at (resized_or_moved_by_place (level_in heap.old) (heap_in heap.old) at len).answer len (heap_in heap.new) }
     ensures touches { heap.old.is_open ≡ true → touches_in heap.new ≤ touches_in heap.old + 107 + 2 * (kept_at (heap_in heap.old) at len / 8) }
 {
-    let Some(mut owned) = heap.take_out(alloc) else {
+    if !heap.is_open {
         return CallFault::Closed.number();
-    };
+    }
+    heap.is_open = false;
+    let owned = heap.held.lend();
     let answer = owned.resize_place(at, len);
-    heap.put_in(owned);
+    heap.is_open = true;
     match answer {
         Ok(name) => {
             *new_at = name.at;
@@ -192,7 +187,6 @@ pub extern "C" fn tlsf_resize_place(
 /// ```
 #[unsafe(no_mangle)]
 pub extern "C" fn tlsf_place(
-    alloc: Global,
     heap: &mut HeapSlot,
     at: u32,
     name: &mut BlockName,
@@ -209,12 +203,14 @@ pub extern "C" fn tlsf_place(
     ensures counts { heap.old.is_open ≡ true → counts_in heap.new ≡ counts_in heap.old }
     ensures touches { heap.old.is_open ≡ true → touches_in heap.new ≤ touches_in heap.old + 4 }
 {
-    let Some(mut owned) = heap.take_out(alloc) else {
+    if !heap.is_open {
         return CallFault::Closed.number();
-    };
+    }
+    heap.is_open = false;
+    let owned = heap.held.lend();
     let id = owned.id();
     let found = owned.block_at(at);
-    heap.put_in(owned);
+    heap.is_open = true;
     match found {
         Some(
             PlacedBlock {
@@ -243,12 +239,7 @@ pub extern "C" fn tlsf_place(
 /// tlsf_block_at(&heap, 64, &block) == TLSF_STALE
 /// ```
 #[unsafe(no_mangle)]
-pub extern "C" fn tlsf_block_at(
-    alloc: Global,
-    heap: &mut HeapSlot,
-    at: u32,
-    block: &mut BlockInfo,
-) -> u32
+pub extern "C" fn tlsf_block_at(heap: &mut HeapSlot, at: u32, block: &mut BlockInfo) -> u32
     ensures closed { heap.old.is_open ≡ false → (result ≡ closed) × (heap.new ≡ heap.old) }
     ensures open { heap.old.is_open ≡ true → StaysOpen heap.old heap.new }
     ensures block { heap.old.is_open ≡ true → result ≡ 0 → (b : PlacedBlock) × (placed_at (heap_in heap.old).blocks at ≡ Some b) × (block.new ≡ info_of b) }
@@ -259,11 +250,13 @@ pub extern "C" fn tlsf_block_at(
     ensures counts { heap.old.is_open ≡ true → counts_in heap.new ≡ counts_in heap.old }
     ensures touches { heap.old.is_open ≡ true → touches_in heap.new ≤ touches_in heap.old + 4 }
 {
-    let Some(mut owned) = heap.take_out(alloc) else {
+    if !heap.is_open {
         return CallFault::Closed.number();
-    };
+    }
+    heap.is_open = false;
+    let owned = heap.held.lend();
     let found = owned.block_at(at);
-    heap.put_in(owned);
+    heap.is_open = true;
     match found {
         Some(there) => {
             *block = BlockInfo::of(there);
@@ -285,7 +278,6 @@ pub extern "C" fn tlsf_block_at(
 /// ```
 #[unsafe(no_mangle)]
 pub extern "C" fn tlsf_check(
-    alloc: Global,
     heap: &mut HeapSlot,
     from: u32,
     most: u32,
@@ -305,10 +297,12 @@ pub extern "C" fn tlsf_check(
     ensures counts { heap.old.is_open ≡ true → counts_in heap.new ≡ counts_in heap.old }
     ensures touches { heap.old.is_open ≡ true → touches_in heap.new ≤ touches_in heap.old + 1 + block_touches * most }
 {
-    let Some(mut owned) = heap.take_out(alloc) else {
+    if !heap.is_open {
         return CallFault::Closed.number();
-    };
+    }
+    heap.is_open = false;
+    let owned = heap.held.lend();
     let found = owned.check_blocks(from, most);
-    heap.put_in(owned);
+    heap.is_open = true;
     check_status(found, next, damaged)
 }

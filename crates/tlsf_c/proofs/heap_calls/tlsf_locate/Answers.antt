@@ -1,4 +1,4 @@
-use Rattle.std.proofs.Common.{Ok, refl, ap, subst, ◌∙◌}
+use Rattle.std.proofs.Common.{Ok, ap, subst}
 use Rattle.tlsf_heap.specs.Blocks.{HeapState}
 use Rattle.tlsf_heap.specs.InPlace.{IsPayloadCheck}
 use Rattle.tlsf_heap.specs.declared.name.Name.{Name}
@@ -8,6 +8,5 @@ use Rattle.tlsf_c.proofs.heap_calls.tlsf_locate.Goals as goal
 
 pub returns-in-Ok-clause-len : goal.returns-in-Ok-clause-len
 returns-in-Ok-clause-len c is_open done =
-    let held = (c.in-Some.ensures.some c.in-Some.owned refl).1 in
-    subst (λ (h : HeapState). IsPayloadCheck h (name_of c.args.name.now) (Ok c.in-Ok.n)) (ap (λ (a : LevelHeap). a.heap) (c.deref_mut.ensures.value ∙ held))
-    (subst (λ (n : Name). IsPayloadCheck c.deref_mut.result.now.heap n (Ok c.in-Ok.n)) c.name.ensures c.in-Ok.ensures.payload)
+    subst (λ (h : HeapState). IsPayloadCheck h (name_of c.args.name.now) (Ok c.in-Ok.n)) (ap (λ (a : LevelHeap). a.heap) c.lend-owned.ensures.heap)
+    (subst (λ (n : Name). IsPayloadCheck c.lend-owned.result.now.heap n (Ok c.in-Ok.n)) c.name.ensures c.in-Ok.ensures.payload)

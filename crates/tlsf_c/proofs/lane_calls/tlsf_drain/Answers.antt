@@ -1,46 +1,48 @@
-use Rattle.std.proofs.Common.{◌≡◌, ◌∷◌, ◌++◌, [], arith, ap, inl, inr, ◌∙◌}
+use Rattle.std.proofs.Common.{◌≡◌, ◌++◌, arith, ap, sym, subst, inl, inr, ◌∙◌, List, length, length-append}
 use Rattle.std.proofs.lemmas.Bool.{cases_lt}
+use mathlib.Core.List.{IsPrefix}
 use Rattle.tlsf_heap.specs.WordsInUse.{words_in_use}
-use Rattle.tlsf_c.specs.declared.counts.Counts.{Counts}
 use Rattle.tlsf_post.specs.declared.post.Post.{Post}
 use Rattle.tlsf_c.specs.Handles.{heap_in, taken_in, ready_in}
-use Rattle.tlsf_c.specs.Names.{name_of}
-use Rattle.tlsf_c.proofs.Draining.{taken_more, released_more, one_more, still_ready}
+use Rattle.tlsf_c.proofs.Draining.{taken_more, released_more, drained_none, counts_more, still_ready}
 use Rattle.tlsf_c.proofs.lane_calls.tlsf_drain.Goals as goal
 
-pub loop-count-preserved : goal.loop-count-preserved
-loop-count-preserved c =
-    let i = c.loop-count.invariant in
-    let done : c.tlsf_take.result ≡ 0 = omega (arith, c.if-tlsf_take-ne0.false) in
-    let came = c.tlsf_take.ensures.taken i.take done in
-    let post : Post = record { from = came.0; name = name_of c.tlsf_take.new.name } in
-    let still = still_ready (ready_in c.loop-count.take) (ready_in c.tlsf_take.new.take) post came.2 in
-    let open_still = c.tlsf_release.ensures.open i.heap in
-    let touches = c.tlsf_release.ensures.touches i.heap in
+pub loop-left-preserved : goal.loop-left-preserved
+loop-left-preserved c =
+    let i = c.loop-left.invariant in
+    let took = c.take_posts-taken.ensures in
+    let gone = c.release_posts.ensures in
+    let names = c.split_at.result.0.now in
+    let front = c.split_at.ensures.front in
+    let many : length names ≡ c.take_posts-taken.result = c.split_at.ensures.front_len in
+    let still = still_ready (ready_in c.loop-left.take) (ready_in c.take_posts-taken.new.lane) names
+    (subst (λ l. IsPrefix (ready_in c.loop-left.take) (l ++ ready_in c.take_posts-taken.new.lane)) (sym front) took.came.1) in
     record {
-      heap = open_still.is_open;
-      take = c.tlsf_take.ensures.open i.take;
+      heap = gone.open.is_open;
+      take = took.open;
       goes_on = record {
-        level = open_still.heap.level ∙ i.goes_on.level;
-        stays = open_still.heap.stays ∙ i.goes_on.stays;
-        touches_rise = omega (arith, i.goes_on.touches_rise, open_still.heap.touches_rise);
+        level = gone.open.heap.level ∙ i.goes_on.level;
+        stays = gone.open.heap.stays ∙ i.goes_on.stays;
+        touches_rise = omega (arith, i.goes_on.touches_rise, gone.open.heap.touches_rise);
       };
-      base = open_still.base ∙ i.base;
-      few = omega (arith, c.loop-count-test.true);
-      no_counts = λ none. absurd (omega (arith, none));
-      counts = λ some.
-          let words = words_in_use (heap_in c.tlsf_release.new.heap) in
-          c.tlsf_release.ensures.counts i.heap ∙ elim (cases_lt 0 c.loop-count.count) [
-            | inl more ↦ ap (λ (k : Counts). record k { words = words }) (i.counts more)
-            | inr first ↦ ap (λ (k : Counts). record k { words = words }) (i.no_counts (omega (arith, first)))
-          ];
+      base = gone.open.base ∙ i.base;
+      few = omega (arith, i.few, c.left_after-left.ensures.most);
+      ended = λ lt. elim (cases_lt c.take_posts-taken.result c.min-wanted.result) [
+        | inl fewer ↦ omega (arith, i.ready, still, many, ap length (took.left (omega (arith, fewer, c.split_at_mut-places.ensures.front_len))))
+        | inr all ↦ omega (arith, i.ended (omega (arith, lt, c.left_after-left.ensures.all (omega (arith, all, took.most, c.split_at_mut-places.ensures.front_len)))))
+      ];
+      no_counts = λ none. gone.no_counts (omega (arith, none, many)) ∙ i.no_counts (omega (arith, none));
+      counts = λ some. counts_more _ _ _ (words_in_use (heap_in c.loop-left.heap)) (words_in_use (heap_in c.release_posts.new.heap)) c.loop-left.count c.take_posts-taken.result
+          i.no_counts i.counts (λ none. gone.no_counts (many ∙ none))
+          (λ none. ap words_in_use (gone.drained ∙ drained_none (heap_in c.loop-left.heap) names (many ∙ none)))
+          (λ more. gone.counts (omega (arith, more, many))) some;
       posts = (
-        i.posts.0 ++ post ∷ [],
-        taken_more (taken_in c.args.take.now) (taken_in c.loop-count.take) (taken_in c.tlsf_take.new.take) i.posts.0 post i.posts.1 came.1,
-        released_more (heap_in c.args.heap.now) (heap_in c.loop-count.heap) (heap_in c.tlsf_release.new.heap) i.posts.0 post i.posts.2 (c.tlsf_release.ensures.heap i.heap),
-        one_more i.posts.0 post c.loop-count.count i.posts.3,
+        i.posts.0 ++ names,
+        taken_more (taken_in c.args.take.now) (taken_in c.loop-left.take) (taken_in c.take_posts-taken.new.lane) i.posts.0 names i.posts.1 (took.came.0 ∙ ap (λ (l : List Post). taken_in c.loop-left.take ++ l) (sym front)),
+        released_more (heap_in c.args.heap.now) (heap_in c.loop-left.heap) (heap_in c.release_posts.new.heap) i.posts.0 names i.posts.2 gone.drained,
+        omega (arith, length-append i.posts.0 names, i.posts.3, many),
       );
-      ready = omega (arith, i.ready, still);
-      lane = λ p is. c.tlsf_take.ensures.lane p (i.lane p is);
-      touches = omega (arith, i.touches, touches);
+      ready = omega (arith, i.ready, still, many);
+      lane = λ p is. took.lane p (i.lane p is);
+      touches = omega (arith, i.touches, gone.touches, many);
     }

@@ -1,4 +1,4 @@
-use Rattle.std.proofs.Common.{◌≡◌, ◌-◌, ◌+◌, ◌*◌, ◌<◌, ◌≤◌, true, List, ◌++◌, Option, length}
+use Rattle.std.proofs.Common.{◌≡◌, ◌+◌, ◌*◌, ◌<◌, ◌≤◌, true, List, ◌++◌, Option, length}
 use Rattle.tlsf_heap.specs.WordsInUse.{words_in_use}
 use Rattle.tlsf_post.specs.declared.post.Post.{Post}
 use Rattle.tlsf_post.specs.declared.post_end.PostEnd.{PostEnd}
@@ -7,13 +7,14 @@ use Rattle.tlsf_c.specs.Levels.{GoesOn}
 use Rattle.tlsf_c.specs.Handles.{counts_in, heap_in, touches_in, taken_in, ready_in, AreEnds}
 use Rattle.tlsf_c.proofs.lane_calls.tlsf_drain.Given as goal
 
-abbrev pub invariant-loop-count : goal.invariant-loop-count
-invariant-loop-count l = record {
+abbrev pub invariant-loop-left : goal.invariant-loop-left
+invariant-loop-left l = record {
   heap : l.heap.is_open ≡ true;
   take : l.take.is_open ≡ true;
   goes_on : GoesOn l.fn.heap.held.value l.heap.held.value;
   base : l.heap.base ≡ l.fn.heap.base;
-  few : l.count ≤ l.most;
+  few : l.count + l.left ≤ l.most;
+  ended : l.count + l.left < l.most → length (ready_in l.fn.take) ≤ l.count;
   no_counts : l.count ≡ 0 → counts_in l.heap ≡ counts_in l.fn.heap;
   counts : 0 < l.count → counts_in l.heap ≡ record (counts_in l.fn.heap) { words = words_in_use (heap_in l.heap) };
   posts : (posts : List Post) × (taken_in l.take ≡ taken_in l.fn.take ++ posts) × (heap_in l.heap ≡ drained (heap_in l.fn.heap) posts) × (length posts ≡ l.count);
@@ -22,5 +23,5 @@ invariant-loop-count l = record {
   touches : touches_in l.heap ≤ touches_in l.fn.heap + 64 * l.count;
 }
 
-abbrev pub decreases-loop-count : goal.decreases-loop-count
-decreases-loop-count l = l.most - l.count
+abbrev pub decreases-loop-left : goal.decreases-loop-left
+decreases-loop-left l = l.left

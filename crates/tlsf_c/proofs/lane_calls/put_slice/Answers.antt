@@ -1,0 +1,11 @@
+use Rattle.std.proofs.Common.{◌≡◌, ℕ, ◌∙◌, arith, ap, sym, length, take}
+use Rattle.tlsf_post.specs.Lanes.{posts_sent}
+use Rattle.tlsf_c.proofs.Putting.{sent_named}
+use Rattle.tlsf_c.proofs.lane_calls.put_slice.Goals as goal
+
+pub returns-clause-sent : goal.returns-clause-sent
+returns-clause-sent c =
+    let all : c.loop-k.k ≡ length c.args.names.now = omega (arith, c.loop-k.auto.k-end, c.loop-k-test.false) in
+    sent_named (posts_sent c.args.end.now) (posts_sent c.put_all.new.self) c.loop-k.posts c.split_at.result.0.now c.args.names.now
+    c.put_all.result c.loop-k.k (c.split_at.ensures.front ∙ ap (λ (n : ℕ). take n c.loop-k.posts) (sym all)) c.loop-k.invariant.named
+    (omega (arith, all, c.put_all.ensures.most, c.split_at.ensures.front_len)) c.put_all.ensures.sent

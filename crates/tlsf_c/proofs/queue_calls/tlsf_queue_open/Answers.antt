@@ -1,0 +1,11 @@
+use Rattle.std.proofs.Common.{◌≡◌, ap, sym, subst, ◌∙◌}
+use Rattle.std.specs.Prelude.{Option, Some}
+use Rattle.tlsf_c.specs.Queues.{owner_of_end, left_of, IsNew}
+use Rattle.tlsf_c.specs.declared.queue_end.QueueEnd.{QueueEnd}
+use Rattle.tlsf_c.proofs.queue_calls.tlsf_queue_open.Goals as goal
+
+pub returns-clause-queue : goal.returns-clause-queue
+returns-clause-queue c done =
+    let held : c.put_in.new.self.held.value ≡ Some c.in-Ok.end = c.put_in.ensures.value ∙ ap Some c.in-Ok-new.ensures.ok in
+    let e = c.in-Ok.ensures in
+    subst (λ (v : Option QueueEnd). IsNew (owner_of_end v) (left_of v) c.args.posters c.args.capacity) (sym held) (e.whole, e.owner.1, e.owner.2, e.owner.3, e.fresh)

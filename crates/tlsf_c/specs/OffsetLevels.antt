@@ -1,0 +1,13 @@
+-- An arena of offsets with its level.
+use Rattle.std.specs.Prelude.{◌≡◌, ℕ, ◌≤◌}
+use Rattle.tlsf_offsets.specs.Offsets.{Offsets}
+
+pub record LevelOffsets : Type 0 where
+  pub level : ℕ
+  pub offsets : Offsets
+
+-- the level and the unit are as before, and the touches never fall
+pub record OffsetsGoOn (old new : LevelOffsets) : Type 0 where
+  pub level : new.level ≡ old.level
+  pub unit : new.offsets.unit ≡ old.offsets.unit
+  pub touches_rise : old.offsets.touches ≤ new.offsets.touches

@@ -1,0 +1,132 @@
+//! An arena of offsets whose level is told when it is opened.
+ghost use Rattle.std.specs.Prelude.{◌≡◌, ◌≢◌, ◌+◌, ◌*◌, ◌<◌, ◌≤◌, ◌↔◌, length, IfOk, OnOk, OnErr, IfErr, IsErrOf, MatchResult, Ok, Err};
+ghost use Rattle.tlsf_heap.specs.Calls.{opened, allocated_words, released, resized_words};
+ghost use Rattle.tlsf_heap.specs.Lawful.{IsRegion};
+ghost use Rattle.tlsf_heap.specs.Touched.{FollowsNoForgery};
+ghost use Rattle.tlsf_offsets.specs.Offsets.{IsHeld, KeepsOthers, units_for, usage_of};
+ghost use Rattle.tlsf_offsets.specs.declared.span.Span.{Span};
+ghost use Rattle.tlsf_c.specs.OffsetLevels.{OffsetsGoOn};
+
+use std::alloc::Global;
+use std::marker::Model;
+use tlsf_offsets::{Name, OffsetArena, OpenFault, Refusal, Span, Usage};
+
+/// An arena of one of the two levels.
+#[derive(Drop)]
+pub enum OffsetsOfLevel {
+    Four(OffsetArena<4>),
+    Five(OffsetArena<5>),
+}
+
+/// An arena whose level, 4 or 5, is told when it is opened. Contracts see it as its level and what the arena shows.
+#[derive(Drop)]
+pub struct AnyOffsets {
+    of_level: OffsetsOfLevel,
+}
+
+impl Model for AnyOffsets {
+    ghost use Rattle.tlsf_c.specs.OffsetLevels.{LevelOffsets};
+
+    ghost Value = { LevelOffsets };
+
+    ghost use Rattle.tlsf_c.specs.OffsetsOf.{offsets_shown};
+
+    ghost view = { λ a. offsets_shown a.of_level };
+}
+
+impl AnyOffsets {
+    /// Opens an arena of a level, 4 or 5, over `units` units of `unit` bytes: number `id`.
+    pub fn open(
+        alloc: Global,
+        level: u32,
+        id: u32,
+        unit: u32,
+        units: u32,
+    ) -> Result<AnyOffsets, OpenFault>
+        requires least { 4 ≤ level }
+        requires most { level ≤ 5 }
+        ensures heap { IfOk result (λ a. a.offsets.heap ≡ opened id units 0) }
+        ensures level { IfOk result (λ a. a.level ≡ level) }
+        ensures unit { IfOk result (λ a. a.offsets.unit ≡ unit) }
+        ensures bad_size { IsErrOf result OpenFault.BadSize ↔ ¬ ((0 < unit) × IsRegion level units) }
+        ensures not_worn { ¬ (IsErrOf result OpenFault.Worn) }
+        ensures touches { IfOk result (λ a. a.offsets.touches ≤ 10) }
+    {
+        if level == 4 {
+            let arena = OffsetArena::<4>::open(alloc, id, unit, units)?;
+            Ok(AnyOffsets {
+                of_level: OffsetsOfLevel::Four(arena),
+            })
+        } else {
+            let arena = OffsetArena::<5>::open(alloc, id, unit, units)?;
+            Ok(AnyOffsets {
+                of_level: OffsetsOfLevel::Five(arena),
+            })
+        }
+    }
+
+    /// `OffsetArena::allocate`.
+    pub fn allocate(&mut self, len: u64) -> Result<Span, Refusal>
+        ensures answer { MatchResult result (λ span. (allocated_words self.old.level self.old.offsets.heap (units_for self.old.offsets.unit len) 0).answer ≡ Ok span.name) (λ why. (allocated_words self.old.level self.old.offsets.heap (units_for self.old.offsets.unit len) 0).answer ≡ Err why) }
+        ensures heap { self.new.offsets.heap ≡ (allocated_words self.old.level self.old.offsets.heap (units_for self.old.offsets.unit len) 0).heap }
+        ensures err { OnErr result (self.new.offsets.heap ≡ self.old.offsets.heap) }
+        ensures held { IfOk result (λ span. IsHeld self.new.offsets span) }
+        ensures enough { IfOk result (λ span. len ≤ span.size) }
+        ensures others { (other : Span) → IsHeld self.old.offsets other → IsHeld self.new.offsets other }
+        ensures fresh { IfOk result (λ span. (other : Span) → IsHeld self.old.offsets other → other.name ≢ span.name) }
+        ensures goes_on { OffsetsGoOn self.old self.new }
+        ensures touches { self.new.offsets.touches ≤ self.old.offsets.touches + 64 }
+    {
+        match &mut self.of_level {
+            OffsetsOfLevel::Four(arena) => arena.allocate(len),
+            OffsetsOfLevel::Five(arena) => arena.allocate(len),
+        }
+    }
+
+    /// `OffsetArena::release`.
+    pub fn release(&mut self, name: Name) -> Result<(), Refusal>
+        ensures answer { result ≡ (released self.old.offsets.heap name).answer }
+        ensures heap { self.new.offsets.heap ≡ (released self.old.offsets.heap name).heap }
+        ensures err { OnErr result (self.new.offsets.heap ≡ self.old.offsets.heap) }
+        ensures others { KeepsOthers self.old.offsets self.new.offsets name }
+        ensures gone { OnOk result ((span : Span) → IsHeld self.new.offsets span → span.name ≢ name) }
+        ensures goes_on { OffsetsGoOn self.old self.new }
+        ensures touches { self.new.offsets.touches ≤ self.old.offsets.touches + 64 }
+        ensures forged { FollowsNoForgery self.old.offsets.heap name self.old.offsets.touches self.new.offsets.touches }
+    {
+        match &mut self.of_level {
+            OffsetsOfLevel::Four(arena) => arena.release(name),
+            OffsetsOfLevel::Five(arena) => arena.release(name),
+        }
+    }
+
+    /// `OffsetArena::resize`.
+    pub fn resize(&mut self, name: Name, len: u64) -> Result<Span, Refusal>
+        ensures answer { MatchResult result (λ span. ((resized_words self.old.offsets.heap name (units_for self.old.offsets.unit len) 0).answer ≡ Ok tt) × (span.name ≡ name)) (λ why. (resized_words self.old.offsets.heap name (units_for self.old.offsets.unit len) 0).answer ≡ Err why) }
+        ensures heap { self.new.offsets.heap ≡ (resized_words self.old.offsets.heap name (units_for self.old.offsets.unit len) 0).heap }
+        ensures err { OnErr result (self.new.offsets.heap ≡ self.old.offsets.heap) }
+        ensures held { IfOk result (λ span. IsHeld self.new.offsets span) }
+        ensures enough { IfOk result (λ span. len ≤ span.size) }
+        ensures others { KeepsOthers self.old.offsets self.new.offsets name }
+        ensures goes_on { OffsetsGoOn self.old self.new }
+        ensures touches { self.new.offsets.touches ≤ self.old.offsets.touches + 68 }
+        ensures forged { FollowsNoForgery self.old.offsets.heap name self.old.offsets.touches self.new.offsets.touches }
+    {
+        match &mut self.of_level {
+            OffsetsOfLevel::Four(arena) => arena.resize(name, len),
+            OffsetsOfLevel::Five(arena) => arena.resize(name, len),
+        }
+    }
+
+    /// `OffsetArena::usage`.
+    pub fn usage(&mut self) -> Usage
+        ensures usage { result ≡ usage_of self.old.level self.old.offsets }
+        ensures same { (self.new.level ≡ self.old.level) × (self.new.offsets.heap ≡ self.old.offsets.heap) × (self.new.offsets.unit ≡ self.old.offsets.unit) }
+        ensures touches { self.new.offsets.touches ≤ self.old.offsets.touches + 2 * length self.old.offsets.heap.blocks }
+    {
+        match &mut self.of_level {
+            OffsetsOfLevel::Four(arena) => arena.usage(),
+            OffsetsOfLevel::Five(arena) => arena.usage(),
+        }
+    }
+}

@@ -1,0 +1,226 @@
+//! C's calls of an arena of offsets, into memory that the processor never touches.
+ghost use Rattle.std.specs.Prelude.{◌≡◌, ◌≢◌, true, false, ◌+◌, ◌*◌, ◌<◌, ◌≤◌, length};
+ghost use Rattle.tlsf_heap.specs.Calls.{opened, allocated_words, released, resized_words};
+ghost use Rattle.tlsf_heap.specs.Lawful.{IsRegion};
+ghost use Rattle.tlsf_heap.specs.Touched.{FollowsNoForgery};
+ghost use Rattle.tlsf_offsets.specs.Offsets.{IsHeld, KeepsOthers, units_for, usage_of};
+ghost use Rattle.tlsf_offsets.specs.declared.span.Span.{Span};
+ghost use Rattle.tlsf_c.specs.Names.{name_of};
+ghost use Rattle.tlsf_c.specs.OffsetHandles.{offsets_in, offsets_level, OffsetsStayOpen, span_of, usage_told};
+ghost use Rattle.tlsf_c.specs.Refusals.{status_of, bad_size, no_memory, closed, in_use, bad_level};
+
+use crate::any_offsets::AnyOffsets;
+use crate::call_fault::CallFault;
+use crate::names::BlockName;
+use crate::offsets_slot::OffsetsSlot;
+use crate::spans::{OffsetSpan, OffsetUsage};
+use std::alloc::Global;
+
+/// Opens an arena of a level, 4 or 5, and number `id` over memory of `units` units of `unit` bytes, in a closed handle. It never touches
+/// that memory.
+///
+/// Refused as InUse where the handle is open, else as BadLevel where there is no such level, else as BadSize where `unit` is 0, or `units` is
+/// below 4, or above 2^20 at level 4 and 2^24 at level 5, else as NoMemory where the memory for its heap was not granted, 8 bytes a unit and
+/// some. No later call takes memory.
+///
+/// ```text
+/// tlsf_offsets_open(&offsets, 4, 1, 65536, 4096) == TLSF_OK     // 256 MiB in units of 64 KiB
+/// ```
+#[unsafe(no_mangle)]
+pub extern "C" fn tlsf_offsets_open(
+    alloc: Global,
+    offsets: &mut OffsetsSlot,
+    level: u32,
+    id: u32,
+    unit: u32,
+    units: u32,
+) -> u32
+    ensures in_use { offsets.old.is_open ≡ true → result ≡ in_use }
+    ensures bad_level { offsets.old.is_open ≡ false → ¬ (level ≡ 4) → ¬ (level ≡ 5) → result ≡ bad_level }
+    ensures bad_size { offsets.old.is_open ≡ false → 4 ≤ level → level ≤ 5 → ¬ ((0 < unit) × IsRegion level units) → result ≡ bad_size }
+    ensures no_memory { offsets.old.is_open ≡ false → 4 ≤ level → level ≤ 5 → (0 < unit) × IsRegion level units → ¬ (result ≡ 0) → result ≡ no_memory }
+    ensures refused { ¬ (result ≡ 0) → offsets.new ≡ offsets.old }
+    ensures open { result ≡ 0 → offsets.new.is_open ≡ true }
+    ensures arena { result ≡ 0 → (offsets_level offsets.new ≡ level) × ((offsets_in offsets.new).heap ≡ opened id units 0) × ((offsets_in offsets.new).unit ≡ unit) }
+    ensures touches { result ≡ 0 → (offsets_in offsets.new).touches ≤ 10 }
+{
+    if offsets.is_open {
+        return CallFault::InUse.number();
+    }
+    if level < 4 || level > 5 {
+        return CallFault::BadLevel.number();
+    }
+    match AnyOffsets::open(alloc, level, id, unit, units) {
+        Err(fault) => fault.number(),
+        Ok(opened) => match Box::new(alloc, opened) {
+            Err(_) => CallFault::NoMemory.number(),
+            Ok(owned) => {
+                offsets.put_in(owned);
+                0
+            }
+        },
+    }
+}
+
+/// Closes an arena. No name of its spans is of use from then on.
+///
+/// Refused as Closed where the handle isn't open.
+///
+/// ```text
+/// tlsf_offsets_close(&offsets) == TLSF_OK
+/// ```
+#[unsafe(no_mangle)]
+pub extern "C" fn tlsf_offsets_close(alloc: Global, offsets: &mut OffsetsSlot) -> u32
+    ensures after { offsets.new.is_open ≡ false }
+    ensures closed { offsets.old.is_open ≡ false → (result ≡ closed) × (offsets.new ≡ offsets.old) }
+    ensures open { offsets.old.is_open ≡ true → result ≡ 0 }
+{
+    match offsets.take_out(alloc) {
+        None => CallFault::Closed.number(),
+        Some(owned) => {
+            drop(owned);
+            0
+        }
+    }
+}
+
+/// Gives a span of at least `bytes` bytes, by good fit. It goes to `span`.
+///
+/// Refused as Closed where the handle isn't open, else as `OffsetArena::allocate` refuses: NoFit, Worn.
+///
+/// ```text
+/// tlsf_offsets_allocate(&offsets, 1000000, &span) == TLSF_OK    // units of 64 KiB: span.size == 1048576
+/// ```
+#[unsafe(no_mangle)]
+pub extern "C" fn tlsf_offsets_allocate(
+    alloc: Global,
+    offsets: &mut OffsetsSlot,
+    bytes: u64,
+    span: &mut OffsetSpan,
+) -> u32
+    ensures closed { offsets.old.is_open ≡ false → (result ≡ closed) × (offsets.new ≡ offsets.old) }
+    ensures open { offsets.old.is_open ≡ true → OffsetsStayOpen offsets.old offsets.new }
+    ensures status { offsets.old.is_open ≡ true → result ≡ status_of (allocated_words (offsets_level offsets.old) (offsets_in offsets.old).heap (units_for (offsets_in offsets.old).unit bytes) 0).answer }
+    ensures heap { offsets.old.is_open ≡ true → (offsets_in offsets.new).heap ≡ (allocated_words (offsets_level offsets.old) (offsets_in offsets.old).heap (units_for (offsets_in offsets.old).unit bytes) 0).heap }
+    ensures refused { ¬ (result ≡ 0) → offsets.old.is_open ≡ true → (offsets_in offsets.new).heap ≡ (offsets_in offsets.old).heap }
+    ensures no_span { ¬ (result ≡ 0) → span.new ≡ span.old }
+    ensures held { result ≡ 0 → IsHeld (offsets_in offsets.new) (span_of span.new) }
+    ensures enough { result ≡ 0 → bytes ≤ span.new.size }
+    ensures others { offsets.old.is_open ≡ true → (other : Span) → IsHeld (offsets_in offsets.old) other → IsHeld (offsets_in offsets.new) other }
+    ensures fresh { result ≡ 0 → (other : Span) → IsHeld (offsets_in offsets.old) other → other.name ≢ name_of span.new.name }
+    ensures touches { offsets.old.is_open ≡ true → (offsets_in offsets.new).touches ≤ (offsets_in offsets.old).touches + 64 }
+{
+    let Some(mut owned) = offsets.take_out(alloc) else {
+        return CallFault::Closed.number();
+    };
+    let answer = owned.allocate(bytes);
+    offsets.put_in(owned);
+    match answer {
+        Ok(given) => {
+            *span = OffsetSpan::of(given);
+            0
+        }
+        Err(why) => why.number(),
+    }
+}
+
+/// Takes the span of that name back.
+///
+/// Refused as Closed where the handle isn't open, else as `OffsetArena::release` refuses: Foreign, Stale, Worn.
+///
+/// ```text
+/// tlsf_offsets_release(&offsets, &span.name) == TLSF_OK
+/// tlsf_offsets_release(&offsets, &span.name) == TLSF_STALE
+/// ```
+#[unsafe(no_mangle)]
+pub extern "C" fn tlsf_offsets_release(
+    alloc: Global,
+    offsets: &mut OffsetsSlot,
+    name: &BlockName,
+) -> u32
+    ensures closed { offsets.old.is_open ≡ false → (result ≡ closed) × (offsets.new ≡ offsets.old) }
+    ensures open { offsets.old.is_open ≡ true → OffsetsStayOpen offsets.old offsets.new }
+    ensures status { offsets.old.is_open ≡ true → result ≡ status_of (released (offsets_in offsets.old).heap (name_of name.now)).answer }
+    ensures heap { offsets.old.is_open ≡ true → (offsets_in offsets.new).heap ≡ (released (offsets_in offsets.old).heap (name_of name.now)).heap }
+    ensures others { offsets.old.is_open ≡ true → KeepsOthers (offsets_in offsets.old) (offsets_in offsets.new) (name_of name.now) }
+    ensures gone { result ≡ 0 → (span : Span) → IsHeld (offsets_in offsets.new) span → span.name ≢ name_of name.now }
+    ensures touches { offsets.old.is_open ≡ true → (offsets_in offsets.new).touches ≤ (offsets_in offsets.old).touches + 64 }
+    ensures forged { offsets.old.is_open ≡ true → FollowsNoForgery (offsets_in offsets.old).heap (name_of name.now) (offsets_in offsets.old).touches (offsets_in offsets.new).touches }
+{
+    let Some(mut owned) = offsets.take_out(alloc) else {
+        return CallFault::Closed.number();
+    };
+    let answer = owned.release(name.name());
+    offsets.put_in(owned);
+    match answer {
+        Ok(()) => 0,
+        Err(why) => why.number(),
+    }
+}
+
+/// Makes a span hold `bytes` bytes where it lies, by its name. What it is then goes to `span`: its offset and its name stay.
+///
+/// Refused as Closed where the handle isn't open, else as `OffsetArena::resize` refuses: Foreign, Stale, NoRoom, Worn.
+///
+/// ```text
+/// tlsf_offsets_resize(&offsets, &span, 3000000) == TLSF_OK
+/// ```
+#[unsafe(no_mangle)]
+pub extern "C" fn tlsf_offsets_resize(
+    alloc: Global,
+    offsets: &mut OffsetsSlot,
+    span: &mut OffsetSpan,
+    bytes: u64,
+) -> u32
+    ensures closed { offsets.old.is_open ≡ false → (result ≡ closed) × (offsets.new ≡ offsets.old) }
+    ensures open { offsets.old.is_open ≡ true → OffsetsStayOpen offsets.old offsets.new }
+    ensures status { offsets.old.is_open ≡ true → result ≡ status_of (resized_words (offsets_in offsets.old).heap (name_of span.old.name) (units_for (offsets_in offsets.old).unit bytes) 0).answer }
+    ensures heap { offsets.old.is_open ≡ true → (offsets_in offsets.new).heap ≡ (resized_words (offsets_in offsets.old).heap (name_of span.old.name) (units_for (offsets_in offsets.old).unit bytes) 0).heap }
+    ensures no_span { ¬ (result ≡ 0) → span.new ≡ span.old }
+    ensures held { result ≡ 0 → IsHeld (offsets_in offsets.new) (span_of span.new) × (span.new.name ≡ span.old.name) }
+    ensures enough { result ≡ 0 → bytes ≤ span.new.size }
+    ensures others { offsets.old.is_open ≡ true → KeepsOthers (offsets_in offsets.old) (offsets_in offsets.new) (name_of span.old.name) }
+    ensures touches { offsets.old.is_open ≡ true → (offsets_in offsets.new).touches ≤ (offsets_in offsets.old).touches + 68 }
+    ensures forged { offsets.old.is_open ≡ true → FollowsNoForgery (offsets_in offsets.old).heap (name_of span.old.name) (offsets_in offsets.old).touches (offsets_in offsets.new).touches }
+{
+    let Some(mut owned) = offsets.take_out(alloc) else {
+        return CallFault::Closed.number();
+    };
+    let answer = owned.resize(span.name.name(), bytes);
+    offsets.put_in(owned);
+    match answer {
+        Ok(grown) => {
+            *span = OffsetSpan::of(grown);
+            0
+        }
+        Err(why) => why.number(),
+    }
+}
+
+/// What is held and what is free, by a walk over all blocks. It goes to `usage`.
+///
+/// Refused as Closed where the handle isn't open.
+///
+/// ```text
+/// tlsf_offsets_report(&offsets, &usage) == TLSF_OK
+/// ```
+#[unsafe(no_mangle)]
+pub extern "C" fn tlsf_offsets_report(
+    alloc: Global,
+    offsets: &mut OffsetsSlot,
+    usage: &mut OffsetUsage,
+) -> u32
+    ensures closed { offsets.old.is_open ≡ false → (result ≡ closed) × (offsets.new ≡ offsets.old) × (usage.new ≡ usage.old) }
+    ensures open { offsets.old.is_open ≡ true → (result ≡ 0) × (offsets.new.is_open ≡ true) }
+    ensures usage { result ≡ 0 → usage_told usage.new ≡ usage_of (offsets_level offsets.old) (offsets_in offsets.old) }
+    ensures same { offsets.old.is_open ≡ true → (offsets_level offsets.new ≡ offsets_level offsets.old) × ((offsets_in offsets.new).heap ≡ (offsets_in offsets.old).heap) × ((offsets_in offsets.new).unit ≡ (offsets_in offsets.old).unit) }
+    ensures touches { offsets.old.is_open ≡ true → (offsets_in offsets.new).touches ≤ (offsets_in offsets.old).touches + 2 * length (offsets_in offsets.old).heap.blocks }
+{
+    let Some(mut owned) = offsets.take_out(alloc) else {
+        return CallFault::Closed.number();
+    };
+    let found = owned.usage();
+    offsets.put_in(owned);
+    *usage = OffsetUsage::of(found);
+    0
+}

@@ -1,0 +1,80 @@
+//! The owner's end of a queue, with the posters' ends that nobody was given yet.
+ghost use Rattle.std.specs.Prelude.{◌≡◌, ◌⊎◌, ◌+◌, ◌<◌, ◌≤◌, [], ◌∷◌, ◌++◌, map, true, false, All, IfOk, IfErr, MatchResult};
+ghost use Rattle.tlsf_post.specs.declared.post_end.PostEnd.{PostEnd};
+ghost use Rattle.tlsf_post.specs.Mailboxes.{number_of, put_by, owner_of, out_of, most_of, got_by, known_to, KeepsOwner, KeepsPoster, OwnerSaw, IsAllTaken, IsWhole};
+ghost use Rattle.tlsf_c.specs.Ends.{ends_in, HasPut, WasFull};
+ghost use Rattle.tlsf_c.specs.declared.call_fault.CallFault.TheVariants.{Full, Empty, Busy};
+
+use crate::call_fault::CallFault;
+use std::alloc::Global;
+use tlsf_heap::Name;
+use tlsf_post::{NoMemory, OwnerEnd, Post, PosterEnd, mailbox};
+
+/// The owner's end of a queue, with the posters' ends that nobody was given yet.
+#[derive(Drop)]
+pub struct QueueEnd {
+    pub owner: OwnerEnd,
+    pub left: Vec<Box<PosterEnd, Global>, Global>,
+}
+
+impl QueueEnd {
+    /// Opens a queue for so many posters, 1 to 1,024, which holds up to `capacity` names, 1 to 1,024.
+    pub fn open(alloc: Global, posters: u32, capacity: u32) -> Result<QueueEnd, NoMemory>
+        requires posters { (0 < posters) × (posters ≤ 1024) }
+        requires capacity { (0 < capacity) × (capacity ≤ 1024) }
+        ensures whole { IfOk result (λ q. IsWhole q.owner (ends_in q)) }
+        ensures owner { IfOk result (λ q. (owner_of q.owner ≡ 0) × (out_of q.owner ≡ posters + 1) × (most_of q.owner ≡ capacity)
+            × (got_by q.owner ≡ []) × (known_to q.owner ≡ [])) }
+        ensures fresh { IfOk result (λ q. All (λ p. put_by p ≡ []) (ends_in q)) }
+    {
+        let (owner, ends) = mailbox(alloc, 0, posters + 1, capacity)?;
+        let left = boxed(alloc, ends)?;
+        Ok(QueueEnd { owner, left })
+    }
+}
+
+/// Each end in a box of its own, in the same order.
+fn boxed(alloc: Global, ends: Vec<PosterEnd>) -> Result<Vec<Box<PosterEnd, Global>>, NoMemory>
+    ensures { IfOk result (λ boxes. map (λ b. b.value) boxes.items ≡ ends.items) }
+{
+    let mut boxes = Vec::with_capacity(alloc, ends.len())?;
+    for end in ends {
+        let Ok(owned) = Box::new(alloc, end) else {
+            return Err(NoMemory);
+        };
+        boxes.push_reserved(owned);
+    }
+    Ok(boxes)
+}
+
+/// Puts a name by one attempt. It is Busy where another thread was half through a step, as far as it saw.
+pub fn put_once(end: &mut PosterEnd, name: Name) -> Result<(), CallFault>
+    ensures queue { KeepsPoster end.old end.new }
+    ensures put { MatchResult result (λ _. HasPut end.old end.new name) (λ why. (put_by end.new ≡ put_by end.old) × ((why ≡ Full) ⊎ (why ≡ Busy))) }
+    ensures full { IfErr result (λ why. why ≡ Full → WasFull end.old) }
+{
+    if end.try_put(name) {
+        return Ok(());
+    }
+    if end.is_full() {
+        Err(CallFault::Full)
+    } else {
+        Err(CallFault::Busy)
+    }
+}
+
+/// Takes a post by one attempt. It is Busy where another thread was half through putting it, as far as it saw.
+pub fn take_once(owner: &mut OwnerEnd) -> Result<Post, CallFault>
+    ensures queue { KeepsOwner owner.old owner.new }
+    ensures taken { MatchResult result (λ p. got_by owner.new ≡ got_by owner.old ++ p ∷ []) (λ why. (got_by owner.new ≡ got_by owner.old) × ((why ≡ Empty) ⊎ (why ≡ Busy))) }
+    ensures empty { IfErr result (λ why. why ≡ Empty → IsAllTaken owner.new) }
+{
+    if let Some(post) = owner.try_take() {
+        return Ok(post);
+    }
+    if owner.is_empty() {
+        Err(CallFault::Empty)
+    } else {
+        Err(CallFault::Busy)
+    }
+}
