@@ -1,0 +1,19 @@
+use core::ffi::c_void;
+
+/// The handle of a heap. Its fields are the library's own.
+#[repr(C)]
+#[derive(Debug)]
+pub struct tlsf_heap {
+    pub held: *mut c_void,
+    pub is_open: bool,
+    /// The region's first word, 8 bytes after a multiple of 16.
+    pub base: *mut u64,
+    /// A block by name has had an odd number of words.
+    pub is_mixed: bool,
+}
+
+impl tlsf_heap {
+    /// A handle that isn't open, to begin with.
+    pub const CLOSED: Self =
+        Self { held: core::ptr::null_mut(), is_open: false, base: core::ptr::null_mut(), is_mixed: false };
+}

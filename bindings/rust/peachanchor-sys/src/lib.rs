@@ -1,0 +1,123 @@
+//! C's calls of the heap Peachanchor, as `tlsf.h` has them. The header says what each does, and what the caller owes.
+//!
+//! Calls that are inline in the header are written here in Rust: those by pointer in `by_pointer.rs`, those by name in
+//! `by_name.rs`. The others are in the archive. `proved` has them with their plain names, so `tlsf_allocate` here is
+//! the header's inline call over `proved::tlsf_allocate`.
+//!
+//! `libtlsf.a` is looked for in `$PEACHANCHOR_PREFIX/lib`, or by pkg-config. Without the feature `malloc` it is
+//! `libtlsf_nomalloc.a`.
+//!
+//! Each function here is unsafe, as C is. Its caller keeps the rules of `tlsf.h`. A body passes pointers on to calls
+//! that have the same rules.
+#![no_std]
+#![allow(non_camel_case_types)]
+
+mod block_info;
+mod by_name;
+mod by_pointer;
+mod heap;
+mod heap_counts;
+mod heap_report;
+mod name;
+mod offsets;
+mod offsets_usage;
+mod post_end;
+mod poster;
+pub mod proved;
+mod queue;
+mod span;
+mod take_end;
+
+pub use block_info::tlsf_block_info;
+pub use by_name::*;
+pub use by_pointer::*;
+pub use heap::tlsf_heap;
+pub use heap_counts::tlsf_heap_counts;
+pub use heap_report::tlsf_heap_report;
+pub use name::tlsf_name;
+pub use offsets::tlsf_offsets;
+pub use offsets_usage::tlsf_offsets_usage;
+pub use post_end::tlsf_post_end;
+pub use poster::tlsf_poster;
+pub use proved::{
+    tlsf_allocate_aligned, tlsf_allocate_place, tlsf_block_at, tlsf_bytes, tlsf_check, tlsf_counts, tlsf_drain,
+    tlsf_lane_bytes, tlsf_lane_open_in, tlsf_offsets_allocate, tlsf_offsets_close, tlsf_offsets_release,
+    tlsf_offsets_report, tlsf_offsets_resize, tlsf_open_in, tlsf_place, tlsf_post_close, tlsf_poster_close,
+    tlsf_poster_open, tlsf_queue_close, tlsf_queue_drain, tlsf_release_place, tlsf_report, tlsf_resize_place,
+    tlsf_take_close, tlsf_words,
+};
+#[cfg(feature = "malloc")]
+pub use proved::{tlsf_lane_open, tlsf_offsets_open, tlsf_open, tlsf_queue_open};
+pub use queue::tlsf_queue;
+pub use span::tlsf_span;
+pub use take_end::tlsf_take_end;
+
+/// The answers of `enum tlsf_answer`.
+pub const TLSF_OK: u32 = 0;
+/// No free block is large enough, by the classes that are searched.
+pub const TLSF_NO_FIT: u32 = 1;
+/// Too few ticks are left.
+pub const TLSF_WORN: u32 = 2;
+/// The name is of a heap with another number.
+pub const TLSF_FOREIGN: u32 = 3;
+/// No live block has that name, that place or that pointer.
+pub const TLSF_STALE: u32 = 4;
+/// A region, a lane or an alignment has no such size.
+pub const TLSF_BAD_SIZE: u32 = 5;
+/// malloc said no.
+pub const TLSF_NO_MEMORY: u32 = 6;
+/// The bytes go past the end of the payload.
+pub const TLSF_RANGE: u32 = 7;
+/// The handle isn't open, or an interrupted call is using it.
+pub const TLSF_IS_CLOSED: u32 = 8;
+/// The handle is open already.
+pub const TLSF_IN_USE: u32 = 9;
+/// The block would have to move.
+pub const TLSF_NO_ROOM: u32 = 10;
+/// A level is 4 or 5.
+pub const TLSF_BAD_LEVEL: u32 = 11;
+/// The lane or the queue is full.
+pub const TLSF_FULL: u32 = 12;
+/// The lane or the queue is empty, or all posters' ends of a queue were given.
+pub const TLSF_EMPTY: u32 = 13;
+/// A header doesn't agree with its neighbours or its size.
+pub const TLSF_DAMAGED: u32 = 14;
+/// Another thread is half through a step on the queue: the call may be made again.
+pub const TLSF_BUSY: u32 = 15;
+
+/// In `flags` of `tlsf_allocate_at`: nothing is filled.
+pub const TLSF_UNFILLED: u32 = 1;
+/// No region has so many bytes.
+pub const TLSF_LONGEST: usize = 1 << 27;
+
+/// What an answer says, in a few words.
+///
+/// ```
+/// assert_eq!(peachanchor_sys::tlsf_text_of(12), "the lane or queue is full");
+/// ```
+#[must_use]
+pub const fn tlsf_text_of(answer: u32) -> &'static str {
+    const SAID: [&str; 16] = [
+        "done",
+        "no free block fits",
+        "the ticks are used up",
+        "a name of another heap",
+        "no live block has that name or address",
+        "a size out of range",
+        "no memory",
+        "bytes past the end of the payload",
+        "the handle is closed",
+        "the handle is open already",
+        "no room where the block stands",
+        "a level is 4 or 5",
+        "the lane or queue is full",
+        "the lane or queue is empty",
+        "a header is damaged",
+        "another thread is in the way: try again",
+    ];
+    if (answer as usize) < SAID.len() {
+        SAID[answer as usize]
+    } else {
+        "no answer of this library"
+    }
+}

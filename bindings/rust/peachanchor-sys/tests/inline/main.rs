@@ -1,0 +1,28 @@
+//! The calls that are inline in `tlsf.h` answer in Rust as they do in C: by chance on two heaps, one for each. It needs `cc`,
+//! and the library in `PEACHANCHOR_PREFIX`.
+
+mod in_c;
+mod pair;
+
+use in_c::InC;
+use pair::Pair;
+use peachanchor_sys::{tlsf_heap, tlsf_text_of};
+use std::ffi::{c_void, CStr};
+
+type Heap = *mut tlsf_heap;
+type Pointer = *mut c_void;
+
+#[test]
+fn calls_answer_as_in_c() {
+    let Some(in_c) = InC::load() else {
+        return eprintln!("no cc or no PEACHANCHOR_PREFIX: the inline calls of C are not compared");
+    };
+    for answer in 0..20 {
+        // SAFETY: C answers a string that stays.
+        assert_eq!(unsafe { CStr::from_ptr((in_c.text_of)(answer)) }.to_str(), Ok(tlsf_text_of(answer)));
+    }
+    for (level, by_name) in [(4, false), (4, true), (5, false), (5, true)] {
+        // SAFETY: one thread calls both heaps, with pointers and names that may be any.
+        unsafe { Pair::new(&in_c, level).call(40_000, by_name) };
+    }
+}

@@ -1,0 +1,89 @@
+//! The calls by name, with names that lie in payloads, as in a list of nodes.
+#![cfg(feature = "malloc")]
+
+use peachanchor_sys::*;
+use std::ptr::null_mut;
+
+#[test]
+fn names_lie_in_payloads() {
+    let mut heap = tlsf_heap::CLOSED;
+    let heap = &raw mut heap;
+    unsafe {
+        assert_eq!(tlsf_open(heap, 5, 3, 4096), TLSF_OK);
+        let (mut first, mut len) = (tlsf_name::default(), 0);
+        assert_eq!(tlsf_allocate(heap, size_of::<tlsf_name>() as u32, &mut first), TLSF_OK);
+        let link = tlsf_payload(heap, &first, &mut len).cast::<tlsf_name>();
+        assert_eq!((len, (*heap).is_mixed), (16, true));
+        assert_eq!(tlsf_allocate(heap, 40, link), TLSF_OK); // the name of the second block lies in the first
+        assert_eq!(tlsf_write(heap, link, 2, [5; 40].as_ptr(), 38), TLSF_OK);
+        assert_eq!(tlsf_write(heap, link, 3, [5; 40].as_ptr(), 38), TLSF_RANGE);
+        let second = *link;
+        assert_eq!((tlsf_reallocate(heap, link, 400), tlsf_resize(heap, link, 48)), (TLSF_OK, TLSF_OK));
+        let mut bytes = [9_u8; 6];
+        assert_eq!((tlsf_read(heap, link, 36, bytes.as_mut_ptr(), 6), bytes), (TLSF_OK, [5, 5, 5, 5, 0, 0]));
+        let base = (*heap).base;
+        let mut found = null_mut();
+        assert_eq!((tlsf_locate(heap, link, &mut found, &mut len), found, len), (TLSF_OK, base, 48));
+        assert_eq!((*link == second, tlsf_release(heap, link)), (true, TLSF_OK));
+        assert!(tlsf_payload(heap, link, null_mut()).is_null());
+        *link = first;
+        assert_eq!((tlsf_release(heap, link), tlsf_release(heap, &first)), (TLSF_OK, TLSF_STALE));
+        let mut counts = tlsf_heap_counts::default();
+        assert_eq!((tlsf_counts(heap, &mut counts), counts.words), (TLSF_OK, 0));
+        assert_eq!(tlsf_close(heap), TLSF_OK);
+    }
+}
+
+#[test]
+fn names_go_through_a_lane_in_their_order() {
+    let (mut post, mut take) = (tlsf_post_end::CLOSED, tlsf_take_end::CLOSED);
+    let name = tlsf_name { heap: 1, at: 2, serial: 3 };
+    let mut came = tlsf_name::default();
+    unsafe {
+        assert_eq!(tlsf_lane_open(&mut post, &mut take, 1), TLSF_OK);
+        assert_eq!((tlsf_take(&mut take, &mut came), came), (TLSF_EMPTY, tlsf_name::default()));
+        assert_eq!((tlsf_put(&mut post, &name), tlsf_put(&mut post, &name)), (TLSF_OK, TLSF_FULL));
+        assert_eq!((tlsf_take(&mut take, &mut came), came), (TLSF_OK, name));
+        let (names, mut went) = ([name; 3], 9);
+        assert_eq!((tlsf_put_all(&mut post, names.as_ptr(), 3, &mut went), went), (TLSF_OK, 1));
+        assert_eq!((tlsf_put_all(&mut post, names.as_ptr(), 0, &mut went), went), (TLSF_OK, 0));
+        assert_eq!((tlsf_post_close(&mut post), tlsf_take_close(&mut take)), (TLSF_OK, TLSF_OK));
+        assert_eq!(tlsf_take_close(&mut take), TLSF_IS_CLOSED);
+    }
+}
+
+#[test]
+fn names_of_two_posters_go_through_a_queue() {
+    let (mut queue, mut one, mut two) = (tlsf_queue::CLOSED, tlsf_poster::CLOSED, tlsf_poster::CLOSED);
+    let name = tlsf_name { heap: 1, at: 2, serial: 3 };
+    let mut came = tlsf_name::default();
+    unsafe {
+        assert_eq!(tlsf_queue_open(&mut queue, 1025, 2), TLSF_BAD_SIZE);
+        assert_eq!(tlsf_queue_open(&mut queue, 2, 2), TLSF_OK);
+        assert_eq!(
+            (tlsf_poster_open(&mut queue, &mut one), tlsf_poster_open(&mut queue, &mut two)),
+            (TLSF_OK, TLSF_OK)
+        );
+        assert_eq!((tlsf_queue_take(&mut queue, &mut came), came), (TLSF_EMPTY, tlsf_name::default()));
+        assert_eq!((tlsf_queue_post(&mut one, &name), tlsf_queue_post(&mut two, &name)), (TLSF_OK, TLSF_OK));
+        assert_eq!(tlsf_queue_post(&mut one, &name), TLSF_FULL);
+        assert_eq!((tlsf_queue_take(&mut queue, &mut came), came), (TLSF_OK, name));
+        assert_eq!((tlsf_poster_close(&mut one), tlsf_queue_close(&mut queue)), (TLSF_OK, TLSF_OK));
+        assert_eq!((tlsf_poster_close(&mut two), tlsf_queue_close(&mut queue)), (TLSF_OK, TLSF_IS_CLOSED));
+    }
+}
+
+#[test]
+fn spans_of_an_arena_of_offsets() {
+    let mut offsets = tlsf_offsets::CLOSED;
+    let (mut span, mut usage) = (tlsf_span::default(), tlsf_offsets_usage::default());
+    unsafe {
+        assert_eq!(tlsf_offsets_open(&mut offsets, 4, 1, 256, 64), TLSF_OK);
+        assert_eq!((tlsf_offsets_allocate(&mut offsets, 2000, &mut span), span.size), (TLSF_OK, 2048));
+        assert_eq!((tlsf_offsets_resize(&mut offsets, &mut span, 4000), span.size), (TLSF_OK, 4096));
+        assert_eq!((tlsf_offsets_report(&mut offsets, &mut usage), usage.held, usage.spans), (TLSF_OK, 4096, 1));
+        assert_eq!(tlsf_offsets_release(&mut offsets, &span.name), TLSF_OK);
+        assert_eq!(tlsf_offsets_release(&mut offsets, &span.name), TLSF_STALE);
+        assert_eq!(tlsf_offsets_close(&mut offsets), TLSF_OK);
+    }
+}

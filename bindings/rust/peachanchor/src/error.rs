@@ -1,0 +1,95 @@
+use core::fmt;
+use peachanchor_sys::{tlsf_text_of, TLSF_OK};
+
+/// Why a call was refused. It has then changed no block.
+///
+/// ```
+/// use peachanchor::Error;
+/// assert_eq!(Error::NoFit.to_string(), "no free block fits");
+/// ```
+#[derive(Clone, Copy, Debug, PartialEq, Eq, Hash)]
+#[non_exhaustive]
+pub enum Error {
+    /// No free block is large enough, by the classes that are searched.
+    NoFit = 1,
+    /// Too few of 2^64 - 2 ticks are left.
+    Worn = 2,
+    /// The name is of a heap with another number.
+    Foreign = 3,
+    /// No live block has that name.
+    Stale = 4,
+    /// No region or lane has such a size, or no block such an alignment.
+    BadSize = 5,
+    /// `malloc` said no.
+    NoMemory = 6,
+    /// The bytes go past the end of the payload.
+    Range = 7,
+    /// A signal handler called a heap or a lane that the interrupted call is using.
+    Closed = 8,
+    /// The handle is open already.
+    InUse = 9,
+    /// The block and a free one after it are too small: it would have to move.
+    NoRoom = 10,
+    /// A level is 4 or 5.
+    BadLevel = 11,
+    /// The lane or the queue is full.
+    Full = 12,
+    /// The lane or the queue is empty.
+    Empty = 13,
+    /// A header doesn't agree with its neighbours or its size, as after a write past a payload.
+    Damaged = 14,
+    /// Another thread is half through a step on the queue.
+    Busy = 15,
+    /// The library gave an answer that this crate doesn't know.
+    Unknown = 16,
+}
+
+impl Error {
+    const ALL: [Self; 15] = [
+        Self::NoFit,
+        Self::Worn,
+        Self::Foreign,
+        Self::Stale,
+        Self::BadSize,
+        Self::NoMemory,
+        Self::Range,
+        Self::Closed,
+        Self::InUse,
+        Self::NoRoom,
+        Self::BadLevel,
+        Self::Full,
+        Self::Empty,
+        Self::Damaged,
+        Self::Busy,
+    ];
+
+    /// What an answer of the library says.
+    pub(crate) fn check(answer: u32) -> Result<(), Self> {
+        if answer == TLSF_OK {
+            return Ok(());
+        }
+        Err(Self::ALL.into_iter().find(|it| *it as u32 == answer).unwrap_or(Self::Unknown))
+    }
+}
+
+impl fmt::Display for Error {
+    fn fmt(&self, f: &mut fmt::Formatter<'_>) -> fmt::Result {
+        f.write_str(tlsf_text_of(*self as u32))
+    }
+}
+
+impl core::error::Error for Error {}
+
+#[cfg(test)]
+mod tests {
+    use super::Error;
+
+    #[test]
+    fn each_answer_has_its_error() {
+        assert_eq!(Error::check(0), Ok(()));
+        for answer in 1..16 {
+            assert_eq!(Error::check(answer).map_err(|it| it as u32), Err(answer));
+        }
+        assert_eq!(Error::check(99), Err(Error::Unknown));
+    }
+}

@@ -1,0 +1,72 @@
+//! A real-time heap over memory of your own. No call on an open heap takes memory or waits, and none that allocates, resizes
+//! or releases a block walks a list of blocks.
+//!
+//! ```
+//! # #[cfg(feature = "malloc")] {
+//! use peachanchor::{Error, Heap, Level};
+//! let mut heap = Heap::open(Level::Four, 1, 4096)?; // 4,096 words of 8 bytes; its number is 1
+//! let name = {
+//!     let block = heap.allocate(100)?; // 100 bytes, all zero
+//!     block[0].set(42);
+//!     block.into_name()
+//! };
+//! assert_eq!(heap.payload(name)?[0], 42);
+//! heap.release(name)?;
+//! assert_eq!(heap.release(name), Err(Error::Stale)); // a double free
+//! # }
+//! # Ok::<(), peachanchor::Error>(())
+//! ```
+//!
+//! # How the rules of `tlsf.h` are kept
+//!
+//! The proofs of the heap rest on six rules. Here the types keep them:
+//!
+//! 1. A handle lies still, where nobody else reaches it: a [`Heap`] holds its address. It is closed when it is dropped.
+//! 2. A heap is `Send` and not `Sync`, so one thread at a time calls it. `Send` stands for any order of two threads that
+//!    Rust knows. The header names thread starts, thread ends, locks and sequentially consistent atomics, so to keep it to
+//!    the letter hand a heap over by these.
+//! 3. What the library gets by pointer lies on the stack of a call here. Bytes of yours are copied here, not there.
+//! 4. No other thread touches a payload while its heap may be in a call. A [`Block`] is neither `Send` nor `Sync`, and shows
+//!    its bytes as `[Cell<u8>]`, which no thread can share. [`Heap::payload`] lends plain bytes, and the heap with them. The
+//!    ways around this are `unsafe`, and say so: [`Block::bytes_mut`], [`Heap::in_place`], [`GlobalHeap::new`].
+//! 5. To set a signal handler or to fork is `unsafe` in Rust. Who does so keeps this rule.
+//! 6. Memory is given for ever: it is `'static`, or from C's `malloc`.
+#![no_std]
+#![cfg_attr(feature = "allocator_api", feature(allocator_api))]
+#![deny(missing_docs, missing_debug_implementations, unsafe_op_in_unsafe_fn, clippy::undocumented_unsafe_blocks)]
+
+mod block;
+mod counts;
+mod error;
+mod global_heap;
+mod handle;
+mod heap;
+mod in_place;
+mod lane;
+mod level;
+mod name;
+mod post_end;
+mod region;
+mod report;
+mod take_end;
+
+pub use block::Block;
+pub use counts::Counts;
+pub use error::Error;
+pub use global_heap::GlobalHeap;
+pub use heap::Heap;
+pub use in_place::InPlace;
+#[cfg(feature = "malloc")]
+pub use lane::lane;
+pub use lane::{lane_in, lane_words};
+pub use level::Level;
+pub use name::Name;
+pub use post_end::PostEnd;
+pub use region::Region;
+pub use report::Report;
+pub use take_end::TakeEnd;
+
+/// The program of README.md, as a test.
+#[cfg(all(doctest, feature = "malloc"))]
+#[doc = include_str!("../../README.md")]
+struct Readme;

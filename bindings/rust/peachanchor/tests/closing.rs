@@ -1,0 +1,34 @@
+//! Heaps and lanes give back what they took from `malloc`. One test alone, since it counts what the process has.
+#![cfg(all(feature = "malloc", target_env = "gnu"))]
+
+use peachanchor::{lane, Heap, Level};
+
+/// As glibc's malloc.h has it.
+#[repr(C)]
+struct Mallinfo2 {
+    counts: [usize; 10],
+}
+
+extern "C" {
+    fn mallinfo2() -> Mallinfo2;
+}
+
+/// The bytes in use: those that were mapped, and those in arenas.
+fn in_use() -> usize {
+    // SAFETY: it takes nothing and fills what it answers.
+    let it = unsafe { mallinfo2() };
+    it.counts[4] + it.counts[7]
+}
+
+#[test]
+fn what_is_dropped_takes_no_memory() {
+    let before = in_use();
+    for _ in 0..100 {
+        drop((Heap::open(Level::Four, 1, 4096), lane(64)));
+        assert!(Heap::open(Level::Four, 1, 3).is_err() && lane(0).is_err());
+    }
+    assert!(in_use() < before + 2000, "{} bytes more", in_use() - before);
+    let heap = Heap::open(Level::Four, 1, 4096);
+    assert!(in_use() > before + 8 * 4096);
+    drop(heap);
+}
