@@ -1,5 +1,5 @@
-//! Collections on a bounded heap. All of them take their memory from one arena, whose calls make at most so many steps, however full it is
-//! and however large the block; what doesn't fit is an error, and what is dropped goes back.
+//! Collections on a bounded heap. All of them take their memory from one arena, which takes none later;
+//! what doesn't fit is an error, and what is dropped goes back.
 #![tactic(auto)]
 
 use anyhow::Error;

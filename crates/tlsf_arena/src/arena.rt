@@ -604,7 +604,7 @@ impl<const SLI: u32, const UNIT: usize> Arena<SLI, UNIT> {
     /// The tick of the arena's heap: that which the next accepted allocate, release or resize stamps, 1 to 2^64 - 1.
     ///
     /// ```text
-    /// arena.tick()                             // of a new arena: 1, and 2 behind an accepted allocate
+    /// arena.tick()                             // of a new arena: 1, and 2 after an accepted allocate
     /// ```
     pub fn tick(&self) -> u64
         ensures tick { result ≡ self.now.heap.tick }

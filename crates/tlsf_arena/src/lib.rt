@@ -2,7 +2,8 @@
 //!
 //! An [`Arena`] takes memory from `Global` once, cuts it into units, and lets a [`tlsf_heap::Heap`] decide who gets which: word p of
 //! the heap stands for unit p of the memory. The heap's words hold its headers and none of the memory's bytes, so nothing that is written
-//! into a [`Block`] can harm a header. Each call takes at most 64 touches of the heap, however large the block.
+//! into a [`Block`] can harm a header. Each call but `report` and `free_units` makes at
+//! most 64 touches of the heap, however large the block.
 //!
 //! [`LocalArena`] is one for std: a `&` to it is an allocator of one thread's collections. [`DefaultArena`] is that of level 4, in units of
 //! 16 bytes.

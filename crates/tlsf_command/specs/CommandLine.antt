@@ -88,7 +88,7 @@ line_rule = record (new_rule (codes "K")) {
   parser = Some (Signed (pos 1) (pos 4294967295));
 }
 
--- the command `map`, with the flags by which the heaps are drawn in characters, behind the line to look at, and on a page
+-- the command `map`, with the flags by which the heaps are drawn in characters, after the line to look at, and on a page
 abbrev pub map_app : App
 map_app = with_rule (with_rule (with_rule (trace_app (codes "map") (codes "text")) line_rule) (flag_rule (codes "worst"))) (flag_rule (codes "html"))
 
@@ -199,7 +199,7 @@ IsTip run line (file ∷ files) text = text ≡ tip_line run line file
 abbrev pub two_lines_line : Text
 two_lines_line = codes "tlsf: --at and --worst each choose a line of the trace: give one of them\n"
 
--- a picture is drawn behind a line, if one is given; a page shows each one, and takes none
+-- a picture is drawn after a line, if one is given; a page shows each one, and takes none
 abbrev pub takes_line : TraceRun → Bool
 takes_line (Map form) = true
 takes_line (MapWorst form) = true
@@ -209,7 +209,7 @@ takes_line run = false
 abbrev pub line_for : TraceRun → Arguments → ℕ
 line_for run given = if takes_line run then first_number 0 (given (codes "K")) else 0
 
--- a run draws the heaps behind the line to look at
+-- a run draws the heaps after the line to look at
 abbrev pub IsWorst : TraceRun → Type 0
 IsWorst (MapWorst form) = ⊤
 IsWorst run = ⊥

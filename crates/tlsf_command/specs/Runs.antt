@@ -68,7 +68,7 @@ IsNote Check text answer note = ChecksNote Check text answer note
 IsNote run text answer note = note ≡ tip_on answer
 
 -- what a run may put out: what a replay does, or what its workers asked of their heaps, or the kinds of blocks that these held; what a race does, each phase in threads, over lanes or over
--- queues; the heaps that the trace leaves, those behind the line to look at, or these over its lines, as an SVG file or in the characters of a terminal, and on a page; or what a check says of it
+-- queues; the heaps that the trace leaves, those after the line to look at, or these over its lines, as an SVG file or in the characters of a terminal, and on a page; or what a check says of it
 abbrev pub puts_of : TraceRun → Outputs
 puts_of Replay = Replays
 puts_of Held = Measures
@@ -203,7 +203,7 @@ ShowsAnswer OutOfMemory status old new = LacksMemory status old new
 ShowsAnswer _ status old new = ShowsUsage status old new
 
 -- what was chosen is done: a run of a trace, or its tip where a file is named, the classes of a size, the words of a region, or a picture
--- behind a line; two lines are refused
+-- after a line; two lines are refused
 abbrev pub Does : Choice → ℕ → Streams → Streams → Type 0
 Does (Trace run) = RunsAs run
 Does (File run tip) = Refuses (string_bytes tip)

@@ -30,7 +30,7 @@ pub enum Choice {
     /// program of at most B blocks of at most N bytes each at once, for each pair, to standard output. With `--split` those of
     /// several heaps.
     Size(SizeQuestion),
-    /// `tlsf map --at K`: write a picture of the heaps of a trace as they stand behind its line K, 1 to 2^32 - 1, in this form.
+    /// `tlsf map --at K`: write a picture of the heaps of a trace as they stand after its line K, 1 to 2^32 - 1, in this form.
     At(Form, u32),
     /// `tlsf map --at K --worst`: say that these are two lines. Nothing is read.
     TwoLines,

@@ -146,7 +146,7 @@ fn run_trace<T: Threads + Wait + Sync, R: Read, W: Write, E: Write, G: Gate>(
     ended(answer, noted, errors)
 }
 
-// Draws the heaps of the trace behind a line, and reports the fault that ended it.
+// Draws the heaps of the trace after a line, and reports the fault that ended it.
 fn run_at<R: Read, W: Write, E: Write>(
     alloc: Global,
     form: Form,
@@ -270,7 +270,7 @@ fn act<T: Threads + Wait + Sync, R: Read, W: Write, E: Write, G: Gate>(
 /// and 3 where memory ran out. A fault's line and the text on refused words go to `errors`, where
 /// a write that fails changes nothing. Help and version texts go to `writer`. Where the trace itself is faulty, a tip behind the
 /// line names `tlsf check`. Behind a refused number with a suffix or separators, as `64KiB` or `1,000`, a tip says that numbers are
-/// plain digits, and behind the lines of several workers, given to `size` at once, how they are given one at a time.
+/// plain digits, and after the lines of several workers, given to `size` at once, how they are given one at a time.
 ///
 /// ```
 /// // words are "tlsf", "classes" and "460"

@@ -20,7 +20,7 @@ pub enum TraceRun {
     Map(Form),
     /// `tlsf map --html`: write a page that shows its heaps at one moment at a time.
     MapHtml,
-    /// `tlsf map --worst`: write a picture of the heaps behind the line to look at, in this form.
+    /// `tlsf map --worst`: write a picture of the heaps after the line to look at, in this form.
     MapWorst(Form),
     /// `tlsf plot`: write a plot of each heap over its lines, in this form.
     Plot(Form),

@@ -7,7 +7,7 @@ use Rattle.tlsf_map.specs.Numbers.{report_numbers}
 use Rattle.tlsf_map.specs.declared.mapped_heap.LabelledBlock.{LabelledBlock}
 use Rattle.tlsf_map.specs.declared.mapped_heap.MappedHeap.{MappedHeap}
 
--- some heaps as they stand behind a line of their trace
+-- some heaps as they stand after a line of their trace
 pub record Moment : Type 0 where
   pub line : ℕ
   pub heaps : List MappedHeap
@@ -51,11 +51,11 @@ moments_data words (moment ∷ moments) = moment_data words moment ++ moments_da
 
 -- the colours
 unfoldable pub style_part : List ℕ
-style_part = codes "<!doctype html>\n<html lang='en'><head><meta charset='utf-8'><meta name='viewport' content='width=device-width'><title>tlsf: heaps over time</title>\n<style>:root{color-scheme:light dark;--page:#fff;--ink:#1f2328;--live:#4f83cc;--head:#2b4f86;--slack:#e3a04f;--free:#2e9e6b;--largest:#b4232a;--on-live:#fff}@media(prefers-color-scheme:dark){:root{--page:#0d1117;--ink:#e6edf3;--live:#3f6fb5;--head:#1d3c6b;--slack:#b97a2e;--largest:#ff7b72;--on-live:#e6edf3}}body{margin:16px;background:var(--page);color:var(--ink);font:13px ui-monospace,Menlo,Consolas,monospace}nav{position:sticky;top:0;padding:8px 0;background:var(--page);z-index:1}#slider{width:1088px;max-width:100%}h2{font-size:13px;margin:16px 0 4px}p{margin:4px 0}section p{white-space:pre}canvas{display:block;width:1088px}b{display:inline-block;width:16px;height:12px;margin:0 6px 0 16px;vertical-align:-1px}#tip{position:fixed;left:0;top:0;padding:4px 8px;background:var(--ink);color:var(--page);pointer-events:none;z-index:2}</style></head>\n"
+style_part = codes "<!doctype html>\n<html lang='en'><head><meta charset='utf-8'><meta name='viewport' content='width=device-width'><title>tlsf: heaps over time</title>\n<style>:root{color-scheme:light dark;--page:#fff;--ink:#1f2328;--live:#4f83cc;--head:#2b4f86;--slack:#e3a04f;--free:#2e9e6b;--largest:#b4232a;--on-live:#fff}@media(prefers-color-scheme:dark){:root{--page:#0d1117;--ink:#e6edf3;--live:#3f6fb5;--head:#1d3c6b;--slack:#b97a2e;--largest:#ff7b72;--on-live:#e6edf3}}body{margin:16px;background:var(--page);color:var(--ink);font:13px ui-monospace,Menlo,Consolas,monospace}nav{position:sticky;top:0;padding:8px 0;background:var(--page);z-index:1}#slider{width:1088px;max-width:100%}h2{font-size:13px;margin:16px 0 4px}p{margin:4px 0}section p{white-space:pre}canvas{display:block;width:1088px}#plot{margin-bottom:4px;cursor:crosshair}b{display:inline-block;width:16px;height:12px;margin:0 6px 0 16px;vertical-align:-1px}#tip{position:fixed;left:0;top:0;padding:4px 8px;background:var(--ink);color:var(--page);pointer-events:none;z-index:2}</style></head>\n"
 
 -- the slider, what each colour is, and where the heaps are drawn
 unfoldable pub slider_part : List ℕ
-slider_part = codes "<body><nav><input id='slider' type='range' min='0' value='0' aria-label='moment'><p><output id='moment'></output>. Arrow keys go one moment, with Shift ten; Home and End to the first and the last.</p><p><b style='background:var(--head);margin-left:0'></b>header<b style='background:var(--live)'></b>payload<b style='background:var(--slack)'></b>left empty<b style='background:var(--free)'></b>free, the stronger the longer<b style='box-sizing:border-box;border:2px solid var(--largest)'></b>largest free. Under the pointer: a block's label, place, words and bytes.</p></nav><main id='heaps'></main><div id='tip' hidden></div><noscript>This page draws by a script.</noscript>\n<script id='moments' type='text/plain'>\n"
+slider_part = codes "<body><nav><canvas id='plot' role='img' aria-label='live words over the lines'></canvas><input id='slider' type='range' min='0' value='0' aria-label='moment'><p><output id='moment'></output>. Arrow keys: one moment, with Shift ten; Home and End: the ends; P: the peak; or click above.</p><p><b style='background:var(--head);margin-left:0'></b>header<b style='background:var(--live)'></b>payload<b style='background:var(--slack)'></b>left empty<b style='background:var(--free)'></b>free, the stronger the longer<b style='box-sizing:border-box;border:2px solid var(--largest)'></b>largest free, a line above; dot: the peak. Point at a block for more.</p></nav><main id='heaps'></main><div id='tip' hidden></div><noscript>This page draws by a script.</noscript>\n<script id='moments' type='text/plain'>\n"
 
 -- the script: it reads the data
 unfoldable pub reading_part : List ℕ
@@ -63,17 +63,21 @@ reading_part = codes "</script><script>'use strict';\nconst element=id=>document
 
 -- it draws a heap
 unfoldable pub drawing_part : List ℕ
-drawing_part = codes "const grid=words=>{let row=64;while(words/row>64)row*=2;const rows=Math.ceil(words/row),high=rows>24?14:36;return{row,rows,high,pitch:high+4}};\nconst draw=(canvas,heap)=>{const {row,rows,high,pitch}=grid(heap.words),scale=devicePixelRatio||1,wide=1024/row,colors=getComputedStyle(document.documentElement),color=name=>colors.getPropertyValue('--'+name),ink=canvas.getContext('2d');canvas.width=1088*scale;canvas.height=rows*pitch*scale;ink.scale(scale,scale);ink.translate(64,0);\nconst spread=(place,words,paint)=>{for(let left=words,at=place;left>0;){const here=Math.min(left,row-at%row);paint(at%row*wide,Math.floor(at/row)*pitch,here*wide,here==left);at+=here;left-=here}};\nconst fill=(place,words,name,alpha)=>{ink.fillStyle=color(name);ink.globalAlpha=alpha;spread(place,words,(x,y,width)=>ink.fillRect(x,y,width,high));ink.globalAlpha=1};\nconst frame=(block,name,width)=>{ink.strokeStyle=color(name);ink.lineWidth=width;spread(block.place,block.size,(x,y,across)=>ink.strokeRect(x+width/2,y+width/2,Math.max(0,across-width),high-width))};\nink.font='10px ui-monospace,Menlo,Consolas,monospace';ink.textAlign='right';ink.fillStyle=color('ink');for(let at=0;at<rows;at++)ink.fillText(at*row,-8,at*pitch+high/2+4);ink.textAlign='left';ink.font='11px ui-monospace,Menlo,Consolas,monospace';\nfor(const block of heap.blocks){if(block.live){fill(block.place,block.size,'live',1);fill(block.place,3,'head',1);fill(block.place+used(block),block.size-used(block),'slack',1)}else fill(block.place,block.size,'free',shade(heap,block.numbers[1])/100);\nconst width=Math.min(block.size,row-block.place%row)*wide;if(block.size*wide>=4)frame(block,'page',1);if(width>=80&&high>24){const x=block.place%row*wide+4,y=Math.floor(block.place/row)*pitch;ink.fillStyle=color(block.live?'on-live':'ink');caption(block).forEach((text,line)=>ink.fillText(text,x,y+14+14*line))}}\nfor(const block of heap.blocks)if(!block.live&&block.size==heap.largest)frame(block,'largest',2)};\n"
+drawing_part = codes "const grid=words=>{let row=64;while(words/row>64)row*=2;const rows=Math.ceil(words/row),high=rows>24?14:36;return{row,rows,high,pitch:high+4}};\nconst draw=(canvas,heap)=>{const {row,rows,high,pitch}=grid(heap.words),scale=devicePixelRatio||1,wide=1024/row,colors=getComputedStyle(document.documentElement),color=name=>colors.getPropertyValue('--'+name),ink=canvas.getContext('2d');canvas.width=1088*scale;canvas.height=rows*pitch*scale;ink.scale(scale,scale);ink.translate(64,0);\nconst spread=(place,words,paint)=>{for(let left=words,at=place;left>0;){const here=Math.min(left,row-at%row);paint(at%row*wide,Math.floor(at/row)*pitch,here*wide,here==left);at+=here;left-=here}};\nconst fill=(place,words,name,alpha)=>{ink.fillStyle=color(name);ink.globalAlpha=alpha;spread(place,words,(x,y,width)=>ink.fillRect(x,y,width,high));ink.globalAlpha=1};\nconst frame=(block,name,width)=>{ink.strokeStyle=color(name);ink.lineWidth=width;spread(block.place,block.size,(x,y,across)=>ink.strokeRect(x+width/2,y+width/2,Math.max(0,across-width),high-width))};\nconst outline=block=>{ink.strokeStyle=color('largest');ink.lineWidth=2;ink.beginPath();spread(block.place,block.size,(x,y,width,ends)=>{const first=y==Math.floor(block.place/row)*pitch,foot=ends?y+high-1:y+pitch;for(const side of [x+1,x+width-1]){ink.moveTo(side,y);ink.lineTo(side,foot)}for(const edge of [first&&y+1,ends&&foot])if(edge!==false){ink.moveTo(x,edge);ink.lineTo(x+width,edge)}});ink.stroke()};\nink.font='10px ui-monospace,Menlo,Consolas,monospace';ink.textAlign='right';ink.fillStyle=color('ink');for(let at=0;at<rows;at++)ink.fillText(at*row,-8,at*pitch+high/2+4);ink.textAlign='left';ink.font='11px ui-monospace,Menlo,Consolas,monospace';\nfor(const block of heap.blocks){if(block.live){fill(block.place,block.size,'live',1);fill(block.place,3,'head',1);fill(block.place+used(block),block.size-used(block),'slack',1)}else fill(block.place,block.size,'free',shade(heap,block.numbers[1])/100);\nconst width=Math.min(block.size,row-block.place%row)*wide;if(block.size*wide>=4)frame(block,'page',1);if(width>=80&&high>24){const x=block.place%row*wide+4,y=Math.floor(block.place/row)*pitch;ink.fillStyle=color(block.live?'on-live':'ink');caption(block).forEach((text,line)=>ink.fillText(text,x,y+14+14*line))}}\nconst longest=heap.blocks.find(block=>!block.live&&block.size==heap.largest);if(longest)outline(longest)};\n"
+
+-- it plots the live words of each heap and its largest free block, over the lines
+unfoldable pub plotting_part : List ℕ
+plotting_part = codes "const curves=begins.map(begin=>{const rows=[];for(let at=begin+1;at+2<lines.length&&!lines[at].startsWith('line ');at+=3){const [live,largest]=[/ blocks?, ([0-9]+)/,/largest ([0-9]+)/].map(form=>Number(lines[at+1].match(form)[1]));rows.push({live,largest,words:Number(lines[at].match(/: ([0-9]+)/)[1])})}return rows});\nconst total=at=>curves[at].reduce((sum,row)=>sum+row.live,0),peak=begins.reduce((best,begin,at)=>total(at)>total(best)?at:best,0),plot=element('plot'),tall=Math.max(12,Math.floor(72/curves[0].length)),pitch=tall+4,deep=curves[0].length*pitch;\nconst across=at=>64+1024*(lineOf(at)-1)/Math.max(1,lineOf(last)-1),nearest=x=>begins.reduce((best,begin,at)=>Math.abs(across(at)-x)<Math.abs(across(best)-x)?at:best,0),stepOf=most=>{let step=1;while(most/step>10)step*=String(step)[0]=='2'?2.5:2;return step};\nconst curve=(ink,number,name)=>{const foot=number*pitch+tall,words=curves[0][number].words,high=at=>foot-tall*curves[at][number][name]/words;ink.beginPath();ink.moveTo(64,high(0));for(let at=1;at<=last;at++){ink.lineTo(across(at),high(at-1));ink.lineTo(across(at),high(at))}return {foot,peak:high(peak)}};\nconst drawPlot=()=>{const scale=devicePixelRatio||1,colors=getComputedStyle(document.documentElement),color=name=>colors.getPropertyValue('--'+name),ink=plot.getContext('2d');plot.width=1088*scale;plot.height=(deep+16)*scale;ink.scale(scale,scale);ink.font='10px ui-monospace,Menlo,Consolas,monospace';\ncurves[0].forEach((row,number)=>{const live=curve(ink,number,'live');ink.lineTo(1088,live.foot);ink.lineTo(64,live.foot);ink.fillStyle=color('live');ink.fill();curve(ink,number,'largest');ink.strokeStyle=color('largest');ink.lineWidth=1.5;ink.stroke();ink.strokeStyle=ink.fillStyle=color('ink');ink.lineWidth=1;ink.strokeRect(64.5,live.foot-tall+.5,1023,tall-1);ink.textAlign='right';ink.fillText('heap '+number,58,live.foot-tall/2+4);ink.beginPath();ink.arc(Math.min(1084,Math.max(68,across(peak))),Math.max(live.foot-tall+4,live.peak),3,0,7);ink.fill()});\nink.textAlign='center';const most=lineOf(last)-1,step=stepOf(most);for(let line=0;line<=most;line+=step)ink.fillText(line?line:1,Math.min(1076,64+1024*Math.max(0,line-1)/Math.max(1,most)),deep+12);ink.fillRect(across(moment)-1,0,2,deep)};\nconst pointPlot=event=>{const box=plot.getBoundingClientRect(),at=nearest(event.clientX-box.left),number=Math.max(0,Math.min(curves[0].length-1,Math.floor((event.clientY-box.top)/pitch))),row=curves[at][number];if(event.buttons)show(at);tell('heap '+number+(at==last?' at the end: ':' after line '+lineOf(at)+': ')+row.live+' of '+row.words+' words live, the largest free block has '+row.largest,event)};\nplot.onpointermove=plot.onpointerdown=pointPlot;plot.onpointerleave=()=>{tip.hidden=true};\n"
 
 -- and it shows the moment that is chosen, and the block under the pointer
 unfoldable pub showing_part : List ℕ
-showing_part = codes "const slider=element('slider'),tip=element('tip');let moment=0,heaps=[];\nconst atPointer=(event,canvas,heap)=>{const {row,high,pitch}=grid(heap.words),box=canvas.getBoundingClientRect(),across=event.clientX-box.left-64,down=event.clientY-box.top;if(across<0||across>=1024||down%pitch>=high)return;const place=Math.floor(down/pitch)*row+Math.floor(across*row/1024);return heap.blocks.find(block=>block.place<=place&&place<block.place+block.size)};\nconst point=(event,canvas,heap)=>{const block=atPointer(event,canvas,heap);tip.hidden=!block;if(block){tip.textContent=told(block);tip.style.transform='translate('+Math.max(0,Math.min(event.clientX+12,innerWidth-tip.offsetWidth-8))+'px,'+(event.clientY+16)+'px)'}};\nconst redraw=()=>document.querySelectorAll('canvas').forEach((canvas,at)=>draw(canvas,heaps[at]));\nconst section=heap=>{const part=document.createElement('section');[['h2',heap.name],...heap.report.split(/; (?=free )/).map(part=>['p',part]),['canvas','']].forEach(([kind,text])=>{const child=document.createElement(kind);child.textContent=text;part.append(child)});const canvas=part.lastChild;canvas.setAttribute('role','img');canvas.setAttribute('aria-label',heap.blocks.length+' blocks');canvas.onpointermove=canvas.onpointerdown=event=>point(event,canvas,heap);canvas.onpointerleave=()=>{tip.hidden=true};return part};\nconst show=wanted=>{moment=Math.max(0,Math.min(last,wanted));slider.value=moment;heaps=heapsIn(moment);tip.hidden=true;element('moment').textContent='Moment '+(moment+1)+' of '+(last+1)+(moment==last?', at the end':', after line '+lineOf(moment)+' of '+(lineOf(last)-1));element('heaps').replaceChildren(...heaps.map(section));redraw()};\nconst steps={ArrowLeft:-1,ArrowRight:1,Home:-Infinity,End:Infinity};\nslider.max=last;slider.oninput=()=>show(Number(slider.value));addEventListener('keydown',event=>{const step=steps[event.key];if(step&&!event.altKey&&!event.ctrlKey&&!event.metaKey){event.preventDefault();show(moment+(event.shiftKey?10:1)*step)}});\nmatchMedia('(prefers-color-scheme: dark)').addEventListener('change',redraw);addEventListener('resize',redraw);\nconst opened=()=>{const line=Number(location.hash.slice(1));show(line>0?begins.findLastIndex((begin,at)=>lineOf(at)<=line):0)};\naddEventListener('hashchange',opened);opened();</script></body></html>\n"
+showing_part = codes "const slider=element('slider'),tip=element('tip');let moment=0,heaps=[];\nconst atPointer=(event,canvas,heap)=>{const {row,high,pitch}=grid(heap.words),box=canvas.getBoundingClientRect(),across=event.clientX-box.left-64,down=event.clientY-box.top;if(across<0||across>=1024||down%pitch>=high)return;const place=Math.floor(down/pitch)*row+Math.floor(across*row/1024);return heap.blocks.find(block=>block.place<=place&&place<block.place+block.size)};\nconst tell=(text,event)=>{tip.hidden=!text;tip.textContent=text;tip.style.transform='translate('+Math.max(0,Math.min(event.clientX+12,innerWidth-tip.offsetWidth-8))+'px,'+(event.clientY+16)+'px)'};\nconst point=(event,canvas,heap)=>{const block=atPointer(event,canvas,heap);tell(block?told(block):'',event)};\nconst redraw=()=>{document.querySelectorAll('main canvas').forEach((canvas,at)=>draw(canvas,heaps[at]));drawPlot()};\nconst section=heap=>{const part=document.createElement('section');[['h2',heap.name],...heap.report.split(/; (?=free )/).map(part=>['p',part]),['canvas','']].forEach(([kind,text])=>{const child=document.createElement(kind);child.textContent=text;part.append(child)});const canvas=part.lastChild;canvas.setAttribute('role','img');canvas.setAttribute('aria-label',heap.blocks.length+' blocks');canvas.onpointermove=canvas.onpointerdown=event=>point(event,canvas,heap);canvas.onpointerleave=()=>{tip.hidden=true};return part};\nconst show=wanted=>{moment=Math.max(0,Math.min(last,wanted));slider.value=moment;heaps=heapsIn(moment);tip.hidden=true;element('moment').textContent='Moment '+(moment+1)+' of '+(last+1)+(moment==last?', at the end':', after line '+lineOf(moment)+' of '+(lineOf(last)-1));element('heaps').replaceChildren(...heaps.map(section));redraw()};\nconst steps={ArrowLeft:-1,ArrowRight:1,Home:-Infinity,End:Infinity};\nslider.max=last;slider.oninput=()=>show(Number(slider.value));addEventListener('keydown',event=>{const step=event.key=='p'?Infinity:steps[event.key];if(step&&!event.altKey&&!event.ctrlKey&&!event.metaKey){event.preventDefault();show(event.key=='p'?peak:moment+(event.shiftKey?10:1)*step)}});\nmatchMedia('(prefers-color-scheme: dark)').addEventListener('change',redraw);addEventListener('resize',redraw);\nconst opened=()=>{const line=Number(location.hash.slice(1));show(line>0?begins.findLastIndex((begin,at)=>lineOf(at)<=line):0)};\naddEventListener('hashchange',opened);opened();</script></body></html>\n"
 
 unfoldable pub page_head : List ℕ
 page_head = style_part ++ slider_part
 
 unfoldable pub page_foot : List ℕ
-page_foot = reading_part ++ drawing_part ++ showing_part
+page_foot = reading_part ++ drawing_part ++ plotting_part ++ showing_part
 
 -- the page of some moments of heaps with so many words each
 abbrev pub page_of : ℕ → List Moment → List ℕ

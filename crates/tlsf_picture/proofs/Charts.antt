@@ -29,7 +29,7 @@ one_more R n xs x all one =
 pub points_are : (trace : Trace) (sli j : ℕ) (points : List Point) → level_in trace.header ≡ sli → points ≡ points_of sli trace j → points ≡ heap_points trace j
 points_are trace sli j points level is = is ∙ ap (λ (n : ℕ). points_of n trace j) (sym level)
 
--- there is one behind each line and one behind the end
+-- there is one after each line and one after the end
 pub many_points : (trace : Trace) (j : ℕ) → length (heap_points trace j) ≡ length trace.lines + 2
 many_points trace j = length-map-range_with_len (point_at (level_in trace.header) trace j) 1 (length trace.lines + 2)
 

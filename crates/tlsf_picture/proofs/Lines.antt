@@ -34,7 +34,7 @@ told_is sli number trace entries told =
     sym (ap (λ (k : ℕ). drop (length (moment_at sli k trace).entries) (moment_at sli (number + 1) trace).entries) back
     ∙ (ap (λ (es : List Entry). drop (length before) es) told ∙ drop-append_seam before entries))
 
--- the point behind a line
+-- the point after a line
 pub point_is : (sli j number asked : ℕ) (trace : Trace) (requests : List (Option Request)) (entries : List Entry) (report : Report) (point : Point)
     → (moment_at sli (number + 1) trace).entries ≡ (moment_at sli number trace).entries ++ entries → requests ≡ map request_in trace.lines → asked ≡ asked_in j requests number
     → report ≡ report_of sli (heap_in (moment_at sli (number + 1) trace).world j) → point ≡ point_of report asked (has_refusal j entries)

@@ -42,7 +42,7 @@ map_more sli made labels heaps i d heap maps known mapped lt here id knows is so
     subst (λ (l : List HeapState). AreMaps sli made labels l (maps ++ mapped ∷ [])) (sym (take_more heaps i d lt))
     (push_both (IsMap sli made labels) (take i heaps) maps (get_or heaps i d) mapped so_far (subst (λ (h : HeapState). IsMap sli made labels h mapped) (sym here) own))
 
--- maps of the heaps of a yard that stands behind a line are maps of the heaps of its moment
+-- maps of the heaps of a yard that stands after a line are maps of the heaps of its moment
 pub maps_behind : {sli : ℕ} (line : ℕ) (trace : Trace) (script : Script) (player : Player sli) (maps : List MappedHeap) → level_in trace.header ≡ sli → IsScript script trace → Stands line trace player
     → AreMaps sli player.made.items script.labels.items (map heap_of player.workers.items) maps
     → AreMaps (level_in trace.header) (moment_of line trace).made (labels_of trace) (moment_of line trace).world.heaps maps

@@ -125,7 +125,7 @@ module _ (len n : ℕ) (points : List Point) (look : Look) (has : IsLook len poi
 
 -- ---- one heap more
 
--- at no point a heap stands worse than behind the line that is named above it
+-- at no point a heap stands worse than after the line that is named above it
 none_worse_than_named : (trace : Trace) (j number : ℕ) (look : Look) → IsNamed trace j look → number < length trace.lines + 2 → is_worse (standing_at trace j number) look.standing ≡ false
 none_worse_than_named trace j number look named lt = subst (λ (s : Standing). is_worse (standing_at trace j number) s ≡ false) (sym named.standing) (named.worst.most number lt)
 

@@ -39,7 +39,7 @@ abbrev pub picture_in : Form → ℕ → List MappedHeap → List ℕ
 picture_in Svg = svg_text
 picture_in Text = text_of
 
--- the text is a picture of the heaps of a trace as they stand behind a line
+-- the text is a picture of the heaps of a trace as they stand after a line
 pub record DrawsAt (form : Form) (line : ℕ) (trace : Trace) (text : List ℕ) : Type 0 where
   pub maps : List MappedHeap
   pub mapped : AreMaps (level_in trace.header) (moment_of line trace).made (labels_of trace) (moment_of line trace).world.heaps maps

@@ -1,4 +1,4 @@
--- The page of a trace: its heaps as they stand behind some of its lines.
+-- The page of a trace: its heaps as they stand after some of its lines.
 use Rattle.std.specs.Prelude.{◌≡◌, ℕ, ◌+◌, ◌-◌, ◌*◌, ◌/◌, min, List, length, map}
 use Rattle.std.specs.List.{AllZip, range_with_len}
 use Rattle.tlsf_lines.specs.Events.{labels_of}
@@ -8,7 +8,7 @@ use Rattle.tlsf_picture.specs.Drawn.{AreMaps}
 use Rattle.tlsf_trace.specs.Moments.{moment_of}
 use Rattle.tlsf_trace.specs.Output.{level_in}
 
--- how many moments the page of a trace with so many lines behind its header has: one behind each line of the text and one at the end, at most 200
+-- how many moments the page of a trace with so many lines behind its header has: one after each line of the text and one at the end, at most 200
 abbrev pub moments_in : ℕ → ℕ
 moments_in lines = min 200 (lines + 2)
 
@@ -19,7 +19,7 @@ line_of lines number = number * (lines + 1) / (moments_in lines - 1) + 1
 abbrev pub lines_shown : ℕ → List ℕ
 lines_shown lines = map (line_of lines) (range_with_len 0 (moments_in lines))
 
--- a moment of the page has maps of the heaps as they stand behind a line
+-- a moment of the page has maps of the heaps as they stand after a line
 pub record IsMoment (trace : Trace) (line : ℕ) (moment : Moment) : Type 0 where
   pub line_is : moment.line ≡ line
   pub mapped : AreMaps (level_in trace.header) (moment_of line trace).made (labels_of trace) (moment_of line trace).world.heaps moment.heaps

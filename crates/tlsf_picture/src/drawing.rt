@@ -1,4 +1,4 @@
-//! Pictures of the heaps of a trace, at its end and as they stand behind a line.
+//! Pictures of the heaps of a trace, at its end and as they stand after a line.
 ghost use Rattle.std.specs.Prelude.{◌≡◌, ◌≤◌, vec_len, IfOk, string_bytes};
 ghost use Rattle.tlsf_class.specs.Classes.{IsLevel};
 ghost use Rattle.tlsf_lines.specs.Ranges.{IsHeaderInRange};
@@ -15,7 +15,7 @@ use std::io::{Read, Write};
 use tlsf_lines::Script;
 use tlsf_trace::{Player, Plays, Puts, Summary, TraceFault, play};
 
-/// The picture behind a line, at the level of the script's version.
+/// The picture after a line, at the level of the script's version.
 pub fn picture_behind<const SLI: u32>(
     alloc: Global,
     script: &Script,
@@ -46,7 +46,7 @@ fn line_in(script: &Script, line: Option<u32>) -> u32
     }
 }
 
-// A picture in a form, behind a line or at the end.
+// A picture in a form, after a line or at the end.
 #[derive(Drop)]
 struct Drawing {
     form: Form,
@@ -134,7 +134,7 @@ pub fn draw_trace_as_text<R: Read, W: Write>(
 
 /// Reads a whole trace, runs it on a new yard of workers up to a line, and writes a picture of each heap as it stands then.
 ///
-/// Lines are counted as faults count them: the header is line 1, and behind it the heaps are new. Posts that wait behind the line
+/// Lines are counted as faults count them: the header is line 1, and behind it the heaps are new. Posts that wait after the line
 /// wait in the picture too. Behind the last line the trace is run to its end, with the drains there, so that the picture is that of
 /// [`draw_trace`]. The whole trace is checked, and what it is told and read is as there.
 ///

@@ -40,7 +40,7 @@ fn line_of(lines: usize, number: usize) -> u32
     ahead as u32 + 1
 }
 
-// Adds to the page the heaps of a yard that stands behind a line.
+// Adds to the page the heaps of a yard that stands after a line.
 fn add_moment<const SLI: u32>(
     alloc: Global,
     text: &mut String,
@@ -108,7 +108,7 @@ impl<const SLI: u32> Plays<SLI> for Page {
 
 /// Reads a whole trace, runs it on a new yard of workers, and writes an HTML page that shows its heaps at one moment at a time.
 ///
-/// A browser opens the page without a network. It has all blocks of each heap as they stand behind each line and at the end, in the
+/// A browser opens the page without a network. It has all blocks of each heap as they stand after each line and at the end, in the
 /// order of the places, a live one with its label, its bytes and its serial. Of a trace with more than 198 lines behind its header the
 /// page has 200 moments, spread evenly from line 1 to the end. A slider and the arrow keys choose the moment that is drawn.
 ///

@@ -22,8 +22,8 @@
 //! ```
 //!
 //! The places serve values of any type. [`open_places`] opens so many, and answers them with the one [`OwnerEnd`]. The owner sends a value out
-//! by a free place and gets a [`Ticket`] for it, which goes with the value. Whoever has both puts the value back, in three steps on memory of
-//! the places, whatever the other threads do: the place is the value's own for as long as it is away, so it is never full. The owner looks
+//! by a free place and gets a [`Ticket`] for it, which goes with the value. Whoever has both puts the value back, in one call that ends
+//! and never waits, whatever the other threads do: the place is the value's own for as long as it is away, so it is never full. The owner looks
 //! at the places, and takes what came home.
 //!
 //! ```text

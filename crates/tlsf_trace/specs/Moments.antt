@@ -1,4 +1,4 @@
--- The moments of a trace: what stands behind each of its lines.
+-- The moments of a trace: what stands after each of its lines.
 use Rattle.std.specs.Prelude.{ℕ, take}
 use Rattle.tlsf_crew.specs.model.World.{Replayed, replies}
 use Rattle.tlsf_lines.specs.Events.{events_by, events_of}

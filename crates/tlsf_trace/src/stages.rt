@@ -94,7 +94,7 @@ fn race_trace_over<T: Threads + Wait + Sync, R: Read, W: Write, G: Gate>(
 /// ```
 /// // reader gives "tlsf 1 2 64 1\na 0 1 8\nphase\nf 1 1\n"
 /// let summary = race_trace(rt, alloc, &mut reader, &mut writer, &OpenGate)?;
-/// // summary.calls is 2; writer holds, behind the first phase, "0 take 1 at 0 serial 1 freed\n0 d drained 1\n1 f 1 posted\n"
+/// // summary.calls is 2; writer holds, after the first phase, "0 take 1 at 0 serial 1 freed\n0 d drained 1\n1 f 1 posted\n"
 /// ```
 ///
 /// # Errors
@@ -123,7 +123,7 @@ pub fn race_trace<T: Threads + Wait + Sync, R: Read, W: Write, G: Gate>(
 /// ```
 /// // reader gives "tlsf 1 2 64 1\na 0 1 8\nphase\nf 1 1\n"
 /// let summary = race_trace_over_queues(rt, alloc, &mut reader, &mut writer, &OpenGate)?;
-/// // summary.calls is 2; writer holds, behind the first phase, "0 take 1 at 0 serial 1 freed\n0 d drained 1\n1 f 1 posted\n"
+/// // summary.calls is 2; writer holds, after the first phase, "0 take 1 at 0 serial 1 freed\n0 d drained 1\n1 f 1 posted\n"
 /// ```
 ///
 /// # Errors

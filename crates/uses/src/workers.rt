@@ -24,7 +24,7 @@ pub fn make<R: Wait>(rt: &R, mut worker: Worker<4>, mut ring: Producer<Name>) ->
         if back >= FRAMES {
             break;
         }
-        // At most four posts at once: a bound on the time that it takes.
+        // At most four posts at once: a bound on the touches that it makes.
         back += worker.drain(4).freed;
         // An allocate is refused while too many frames are under way, and goes well once some came back.
         if made < FRAMES

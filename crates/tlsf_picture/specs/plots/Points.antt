@@ -1,4 +1,4 @@
--- The points of a heap: how it stands behind each line of its trace.
+-- The points of a heap: how it stands after each line of its trace.
 use Rattle.std.specs.Prelude.{ℕ, ◌+◌, ◌-◌, ◌^◌, Bool, false, ◌==◌, ◌&&◌, ◌||◌, nat_lt, not, is_ok, max, min, List, ◌∷◌, length, map, drop, slice_index, count_by, fold, Option, Some, None, if◌then◌else◌}
 use Rattle.std.specs.List.{range_with_len}
 use Rattle.tlsf_calls.specs.declared.entry.Entry.{Entry}
@@ -70,7 +70,7 @@ longest_among worker requests = fold max 0 (map (λ request. bytes_asked (reques
 
 -- ---- a point
 
--- what a report tells, behind a line that asks for so many words
+-- what a report tells, after a line that asks for so many words
 abbrev pub point_of : Report → ℕ → Bool → Point
 point_of report asked refused = record {
   live = report.live_words;
@@ -90,12 +90,12 @@ told_at sli line trace = drop (length (moment_at sli (line - 1) trace).entries) 
 abbrev pub asked_at : ℕ → ℕ → Trace → ℕ
 asked_at j line trace = slice_index (0 ∷ map (words_by j) trace.lines) (line - 1)
 
--- the point of heap j behind a line: the report on the heap as it stands then, at a level
+-- the point of heap j after a line: the report on the heap as it stands then, at a level
 abbrev pub point_at : ℕ → Trace → ℕ → ℕ → Point
 point_at sli trace j line =
     point_of (report_of sli (heap_in (moment_at sli line trace).world j)) (asked_at j line trace) (has_refusal j (told_at sli line trace))
 
--- behind each line of the text, and behind the end, which counts as one line more
+-- after each line of the text, and after the end, which counts as one line more
 abbrev pub points_of : ℕ → Trace → ℕ → List Point
 points_of sli trace j = map (point_at sli trace j) (range_with_len 1 (length trace.lines + 2))
 

@@ -33,7 +33,7 @@ pub record IsWorst (len : ℕ) (points : List Point) (n number : ℕ) : Type 0 w
   pub most : (i : ℕ) → i < n → is_worse (standing_in len points i) (standing_in len points number) ≡ false
   pub first : (i : ℕ) → i < number → is_worse (standing_in len points number) (standing_in len points i) ≡ true
 
--- its line, and how the heap stands there; the first point stands behind line 1
+-- its line, and how the heap stands there; the first point stands after line 1
 pub record IsLook (len : ℕ) (points : List Point) (n : ℕ) (look : Look) : Type 0 where
   pub number : ℕ
   pub line : look.line ≡ number + 1

@@ -17,7 +17,7 @@ IsNamed trace j look = IsLook (longest_of j trace.lines) (heap_points trace j) (
 abbrev pub standing_at : Trace → ℕ → ℕ → Standing
 standing_at trace j number = standing_in (longest_of j trace.lines) (heap_points trace j) number
 
--- of the first n heaps none stands worse at any point than this one behind the line that the plot names above it, and it is the first of those
+-- of the first n heaps none stands worse at any point than this one after the line that the plot names above it, and it is the first of those
 pub record IsWorstHeap (trace : Trace) (n j : ℕ) (look : Look) : Type 0 where
   pub within : j < n
   pub named : IsNamed trace j look
@@ -28,7 +28,7 @@ pub record IsWorstHeap (trace : Trace) (n j : ℕ) (look : Look) : Type 0 where
 abbrev pub IsWorstOf : Trace → ℕ → Look → Type 0
 IsWorstOf trace n look = (j : ℕ) × IsWorstHeap trace n j look
 
--- the text is a picture of the heaps of a trace as they stand behind the line to look at
+-- the text is a picture of the heaps of a trace as they stand after the line to look at
 pub record DrawsWorst (form : Form) (trace : Trace) (text : List ℕ) : Type 0 where
   pub look : Look
   pub worst : IsWorstOf trace trace.header.workers look

@@ -99,7 +99,7 @@ impl<const SLI: u32> Plays<SLI> for Plot {
 
 /// Reads a whole trace, runs it on a new yard of workers, and writes a plot of each heap over its lines.
 ///
-/// A point is the report on the heap behind a line, which [`draw_trace_at`](crate::draw_trace_at) draws: words live and free, the
+/// A point is the report on the heap after a line, which [`draw_trace_at`](crate::draw_trace_at) draws: words live and free, the
 /// greatest free block, fragmentation, the words that the line asks for, and whether a call was refused. Of a long trace several lines are
 /// one point, which shows the worst of each number, so that no line has more than 2,000 in an SVG file, and 56 in characters.
 ///

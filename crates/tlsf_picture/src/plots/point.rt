@@ -3,7 +3,7 @@ ghost use Rattle.tlsf_picture.specs.plots.Points as told;
 
 use tlsf_heap::Report;
 
-/// How a heap stands behind a line of its trace, or at the worst behind some lines. Words are of 64 bits.
+/// How a heap stands after a line of its trace, or at the worst after some lines. Words are of 64 bits.
 #[derive(Clone, Copy)]
 pub struct Point {
     /// The words of the live blocks.
@@ -23,7 +23,7 @@ pub struct Point {
 }
 
 impl Point {
-    /// A report, behind a line that asks for so many words.
+    /// A report, after a line that asks for so many words.
     pub(crate) fn of(report: Report, asked: u32, refused: bool) -> Point
         ensures { result ≡ told.point_of report asked refused }
     {

@@ -138,7 +138,7 @@ fn next_point<const SLI: u32>(
     Ok(Point::of(report_on(&mut player.workers, heap), asked, refused))
 }
 
-/// The points of a heap of a trace, at its level: behind each line of the text, and behind the drains at its end.
+/// The points of a heap of a trace, at its level: after each line of the text, and after the drains at its end.
 pub fn points_of<const SLI: u32>(
     alloc: Global,
     script: &Script,

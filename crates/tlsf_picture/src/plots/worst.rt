@@ -60,7 +60,7 @@ fn worst_on<const SLI: u32>(alloc: Global, script: &Script) -> Result<Look, Allo
     Ok(worst)
 }
 
-// The picture of the heaps behind the line to look at, in a form.
+// The picture of the heaps after the line to look at, in a form.
 #[derive(Drop)]
 struct WorstDrawing {
     form: Form,
@@ -93,7 +93,7 @@ impl<const SLI: u32> Plays<SLI> for WorstDrawing {
 /// [`draw_trace_at`](crate::draw_trace_at); to find the line, the trace is run once for each heap.
 ///
 /// ```
-/// // reader gives "tlsf 1 1 64 1\na 0 7 400\nf 0 7\n", whose longest request finds no room behind line 2
+/// // reader gives "tlsf 1 1 64 1\na 0 7 400\nf 0 7\n", whose longest request finds no room after line 2
 /// let summary = draw_trace_at_worst(alloc, Form::Text, &mut reader, &mut writer)?;
 /// // the picture is that of draw_trace_at(alloc, Form::Text, 2, ..)
 /// ```

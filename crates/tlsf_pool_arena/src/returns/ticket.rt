@@ -29,7 +29,7 @@ impl<T> Ticket<T> {
         self.at
     }
 
-    /// Puts the value back. It is never refused, takes no memory and doesn't wait: two steps on the place's word, and between them the
+    /// Puts the value back. It is never refused, takes no memory and doesn't wait: it changes the place's word twice, and between them the
     /// value is written.
     ///
     /// - It requires the value that the ticket is for, and its places (`ticket`).

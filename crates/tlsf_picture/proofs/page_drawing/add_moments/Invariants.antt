@@ -9,7 +9,7 @@ use Rattle.tlsf_picture.proofs.page_drawing.add_moments.Given as goal
 use Rattle.tlsf_trace.specs.Output.{level_in}
 use Rattle.tlsf_trace.specs.Players.{Stands}
 
--- the yard stands behind a line that isn't behind the next that is shown, and those so far are shown
+-- the yard stands after a line that isn't behind the next that is shown, and those so far are shown
 abbrev pub invariant-loop-number : goal.invariant-loop-number
 invariant-loop-number g l = record {
   yard : IsYard l.player.workers.items;
