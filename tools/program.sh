@@ -1,11 +1,13 @@
 # Sourced, with $top, the repository: where what is proved and built lies, and how far its build is.
-# $goal names the crate that it is built of: tlsf_tool, the program, if nothing else was set, or tlsf_c, C's library.
+# $goal names the crate that it is built of: tlsf_tool, the program, if nothing else was set, or tlsf_c, C's library; and
+# $target the processor of that library, where it isn't x86-64.
 #
 # Builds lie outside the repository, in a folder of this user's own, $builds: `rt ci` reads the whole checkout, and
 # refuses a builder's tree there. What is proved is taken from any such folder, also from one that can't be written. Each
-# text of the sources has a folder, named by the checksum of all that the goal is proved from:
+# text of the sources has a folder, named by the checksum of all that the goal is proved from, and by the target:
 #
-#     KEY/tlsf       the proved program, there once it is whole; or KEY/libtlsf.a, the library, and the one without malloc
+#     KEY/tlsf       the proved program, there once it is whole; or KEY/libtlsf.a, the library, with the one without malloc
+#                    and the shared one beside it
 #     KEY/log        what the last build said
 #     KEY/start      when that build began, in seconds since 1970
 #     KEY/all, done  the crates to prove, of which the goal is the last, and those proved so far, a line each
@@ -20,8 +22,8 @@
 
 goal=${goal:-tlsf_tool}
 case $goal in
-tlsf_c) product=libtlsf.a what="the library" caller=library waits="./library PREFIX" no_answer=1 ;;
-*) product=tlsf what="the program" caller=tlsf waits="./tlsf --prove" no_answer=70 ;;
+tlsf_c) product=libtlsf.a what="the library" caller=library waits="./library ${target:+--target $target }PREFIX" no_answer=1 ;;
+*) target='' product=tlsf what="the program" caller=tlsf waits="./tlsf --prove" no_answer=70 ;;
 esac
 
 # The folder for builds that no other one takes.
@@ -67,7 +69,7 @@ has_product() {
 # lie_in FOLDER: sets $builds, $build, the folder of the text there, and $program, what is proved and built of it.
 lie_in() {
     builds=$1
-    build=$builds/$key
+    build=$builds/$key${target:+-$target}
     program=$build/$product
 }
 
@@ -82,7 +84,7 @@ text_sum() (
 
 # What C's library is built of besides.
 c_sum() {
-    [ "$goal" != tlsf_c ] || sha256sum c/memory.c
+    [ "$goal" != tlsf_c ] || sha256sum c/memory.c c/exports.map
 }
 
 # source_sums CRATE..: prints the checksum of each source of these crates, in the tree that is the current folder.
@@ -167,7 +169,7 @@ find_state() {
 await_program() {
     await_end
     if [ "$state" = interrupted ]; then
-        "$top/tools/first_build" "$goal" || exit "$no_answer"
+        "$top/tools/first_build" "$goal" ${target:+"$target"} || exit "$no_answer"
         await_end
     fi
     case $state in

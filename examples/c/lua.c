@@ -1,7 +1,7 @@
 /* Lua in a game: all that it takes comes from a heap in a static array, so a script can use that much and no more. Each frame
  * runs the script. What the heap's calls took in a frame is added up, to be held against the budget of a frame.
  *
- *   cc -std=c11 -O2 lua.c $(pkg-config --cflags --libs tlsf lua5.4) -o lua
+ *   cc -std=c11 -O2 lua.c $(pkg-config --cflags --libs peachanchor lua5.4) -o lua
  *
  * The line with times is of this run on this machine, as processor time: it shows no bound. */
 #define _POSIX_C_SOURCE 200809L

@@ -1,7 +1,7 @@
 /* SQLite with all its memory in a static array. A recorder writes a row for each frame, and asks now and then. What the worst of
  * the heap's calls took is shown.
  *
- *   cc -std=c11 -O2 sqlite.c $(pkg-config --cflags --libs tlsf sqlite3) -o sqlite
+ *   cc -std=c11 -O2 sqlite.c $(pkg-config --cflags --libs peachanchor sqlite3) -o sqlite
  *
  * The line with a time is of this run on this machine, as processor time: it shows no bound. */
 #define _POSIX_C_SOURCE 200809L

@@ -46,7 +46,7 @@ def words_of_tree():
         if file.suffix in (".md", ".svg"):
             continue
         found.update(re.findall(r"\w+", " ".join(parts)))
-        if parts[0] in ("crates", "tools", "bench", "examples", "include", "tests") or len(parts) == 1:
+        if parts[0] in ("crates", "tools", "bench", "bindings", "examples", "include", "tests") or len(parts) == 1:
             found.update(re.findall(r"[A-Za-z_]\w*", file.read_text(encoding="utf-8", errors="ignore")))
     return found
 

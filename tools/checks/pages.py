@@ -9,9 +9,10 @@
   no number that only names a thing, as in `level 4` or `Python 3.11`;
 - a sentence that begins with What or That asks, and no phrase is used that the
   list UNCLEAR has;
-- the newest version of CHANGELOG.md is the one that `tlsf --version` names;
+- the newest version of CHANGELOG.md is the one that `tlsf --version` names, and
+  so is the one that the macros TLSF_VERSION_ of include/tlsf.h make;
 - a function in backticks with a number behind it, as `tlsf_put` 56, has the
-  bound of tools/longest_path.bounds;
+  bound of tools/longest_path.bounds, and in the next column that on aarch64;
 - a trace that a page shows beside its replies is examples/two_workers.trace,
   with the reply lines of cases/two_workers.stdout."""
 import functools
@@ -40,11 +41,12 @@ NAMES = {"level", "levels", "line", "lines", "heap", "heaps", "worker", "workers
 UNCLEAR = re.compile(r"\b(so many|theirs|behind that|(?<=, )of which|as it were|else as|is had|are had)\b", re.I)
 NEWEST = re.compile(r"^## (\d+\.\d+\.\d+)$", re.M)
 VERSION = re.compile(r'const VERSION: &str = "(.*)"')
+MACRO = re.compile(r"^#define TLSF_VERSION_(?:MAJOR|MINOR|PATCH) (\d+)$", re.M)
 PATH = re.compile(r"\.?[\w.*-]+(?:/[\w.*+-]+)*/?")
 ENDINGS = (".rt", ".antt", ".md", ".sh", ".py", ".edit", ".txt", ".tsv", ".svg", ".source", ".c", ".h", ".cpp", ".hpp")
 ANY_NAME = re.compile(r"[A-Z][A-Z_]+")
 WRONG_BODY = re.compile(r"[a-z]\w*?__[a-z0-9]\w*")
-QUOTED_BOUND = re.compile(r"`([^`\s]+)` (?:\| |takes at most )?(\d+)\b")
+QUOTED_BOUND = re.compile(r"`([^`\s]+)` (?:\| |takes at most )?(\d+)\b(?: \| (\d+)\b)?")
 # A trace beside its replies: the columns of its lines, and of the reply lines.
 TRACE_BLOCK = re.compile(r"```text\n(tlsf 1 2 64 4 .*?)\n```", re.S)
 LINES, REPLIES = slice(0, 22), slice(22, 54)
@@ -175,15 +177,18 @@ class Repository:
     def bound_faults(self):
         """Bounds of machine code that are quoted otherwise than they are stored; and stored ones that MEASURED lacks."""
         lines = [line.split() for line in tree.read(tree.TOP / "tools" / "longest_path.bounds").split("\n")]
-        bounds = {words[1]: words[2] for words in lines if words and words[0] != "#"}
+        lines = [words for words in lines if words and words[0] != "#"]
+        of_arm = {words[1]: words[2] for words in lines if words[0] == "aarch64"}
+        bounds = {words[1]: words[2] for words in lines if words[0] != "aarch64"}
         quoted = set()
         for page in self.pages.values():
             for found in QUOTED_BOUND.finditer(page.text):
-                if found[1] in bounds:
-                    quoted.add((page.name, found[1]))
-                    if found[2] != bounds[found[1]]:
-                        yield f"{page.name}: says {found[2]} for {found[1]}, and {bounds[found[1]]} is stored"
-        for name in bounds:
+                for stored, kind, told in ((bounds, "", found[2]), (of_arm, " on aarch64", found[3])):
+                    if told and found[1] in stored:
+                        quoted.add((page.name, found[1] + kind))
+                        if told != stored[found[1]]:
+                            yield f"{page.name}: says {told} for {found[1]}{kind}, and {stored[found[1]]} is stored"
+        for name in [*bounds, *(f"{it} on aarch64" for it in of_arm)]:
             if ("docs/MEASURED.md", name) not in quoted:
                 yield f"docs/MEASURED.md: lacks the bound of {name}"
 
@@ -208,6 +213,9 @@ class Repository:
         named = VERSION.search(tree.read(tree.TOP / "crates" / "tlsf_command" / "src" / "lib.rt"))
         if not newest or not named or newest[1] != named[1]:
             yield f"CHANGELOG.md: its newest version is {newest and newest[1]}, and the program's {named and named[1]}"
+        macros = ".".join(MACRO.findall(tree.read(tree.TOP / "include" / "tlsf.h")))
+        if named and macros != named[1]:
+            yield f"include/tlsf.h: its macros make version {macros}, and the program's is {named[1]}"
 
     def faults(self):
         for _, page in sorted(self.pages.items()):

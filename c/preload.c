@@ -1,0 +1,186 @@
+/* For trying a program on the heap as it is: stands before the C library (LD_PRELOAD), and gives the process one heap of level 5 under
+ * a lock in place of malloc. Blocks of more than MOST_BYTES, those for which there is no room and those aligned above 4,096 come
+ * from the C library. docs/C.md shows how it is built and used.
+ *
+ * TLSF_PRELOAD_MIB in the environment says how large the heap is, from 1 to 128; TLSF_PRELOAD_REPORT that each process writes at its
+ * end to standard error what the heap did. A free of what isn't live ends the process.
+ *
+ * This is no more than a trial: under a lock one call waits for the others. All threads use payload while one of them is in a call,
+ * which tlsf.h forbids, and a forked child goes on with the heap. Both are tested here, and promised nowhere. */
+#define _GNU_SOURCE
+#include <dlfcn.h>
+#include <errno.h>
+#include <pthread.h>
+#include <stdatomic.h>
+#include <stdint.h>
+#include <stdio.h>
+#include <stdlib.h>
+#include <string.h>
+#include <sys/mman.h>
+#include <tlsf.h>
+#include <unistd.h>
+
+void *__libc_malloc(size_t);
+void *__libc_calloc(size_t, size_t);
+void *__libc_realloc(void *, size_t);
+void *__libc_memalign(size_t, size_t);
+void __libc_free(void *);
+
+enum { MOST_BYTES = 1 << 20, MOST_ALIGN = 4096, PAGE = 4096, MIB = 64, MOST_MIB = 128 };
+
+static pthread_mutex_t lock = PTHREAD_MUTEX_INITIALIZER;
+static struct tlsf_heap heap;
+static _Atomic uintptr_t begin = UINTPTR_MAX, end; /* of the heap's memory, once the first call has opened it */
+static bool is_tried;
+static atomic_ulong given, larger;
+
+static void enter(void) { pthread_mutex_lock(&lock); }
+static void leave(void) { pthread_mutex_unlock(&lock); }
+
+/* No other thread is in a call while one forks, so the child's heap is whole and its lock open. */
+__attribute__((constructor)) static void follow_forks(void) { (void)pthread_atfork(enter, leave, leave); }
+
+static void open_heap(void) {
+    const char *asked = getenv("TLSF_PRELOAD_MIB");
+    const unsigned long mib = asked ? strtoul(asked, NULL, 10) : MIB;
+    const size_t bytes = (mib == 0 || mib > MOST_MIB ? MIB : mib) << 20;
+    void *memory = mmap(NULL, bytes, PROT_READ | PROT_WRITE, MAP_PRIVATE | MAP_ANONYMOUS, -1, 0);
+    is_tried = true;
+    if (memory == MAP_FAILED || tlsf_open_in(&heap, 5, 1, memory, bytes) != TLSF_OK) return;
+    begin = (uintptr_t)memory;
+    end = (uintptr_t)memory + bytes;
+}
+
+static bool is_ours(const void *p) { return (uintptr_t)p >= begin && (uintptr_t)p < end; }
+
+/* Writes a line as long as snprintf says, in one piece. */
+static void tell(const char *line, int n) {
+    if (n > 0 && write(STDERR_FILENO, line, (size_t)n) < 0) errno = 0;
+}
+
+static _Noreturn void end_for(const void *p) {
+    char line[96];
+    tell(line, snprintf(line, sizeof line, "tlsf_preload: no live block begins at %p, which is freed or resized\n", p));
+    abort();
+}
+
+/* A block of the heap, or null where another has to give it. */
+static void *give(size_t align, size_t bytes, bool zeroed) {
+    void *p = NULL;
+    if (bytes > MOST_BYTES || align > MOST_ALIGN) {
+        larger++;
+        return NULL;
+    }
+    enter();
+    if (!is_tried) open_heap();
+    if (align > 16)
+        p = tlsf_aligned_alloc(&heap, align, bytes);
+    else
+        p = zeroed ? tlsf_calloc(&heap, bytes, 1) : tlsf_malloc(&heap, bytes);
+    leave();
+    if (p) given++;
+    return p;
+}
+
+void *malloc(size_t bytes) {
+    void *p = give(16, bytes, false);
+    return p ? p : __libc_malloc(bytes);
+}
+
+void *calloc(size_t count, size_t each) {
+    size_t bytes;
+    void *p = __builtin_mul_overflow(count, each, &bytes) ? NULL : give(16, bytes, true);
+    return p ? p : __libc_calloc(count, each);
+}
+
+void free(void *p) {
+    uint32_t answer;
+    if (!is_ours(p)) {
+        __libc_free(p);
+        return;
+    }
+    enter();
+    answer = tlsf_free(&heap, p);
+    leave();
+    if (answer != TLSF_OK) end_for(p);
+}
+
+void *realloc(void *p, size_t bytes) {
+    void *moved = NULL;
+    size_t had;
+    if (!p) return malloc(bytes);
+    if (!is_ours(p)) return __libc_realloc(p, bytes);
+    if (bytes == 0) {
+        free(p);
+        return NULL;
+    }
+    enter();
+    had = tlsf_usable_size(&heap, p);
+    if (had > 0 && bytes <= MOST_BYTES) moved = tlsf_realloc(&heap, p, bytes);
+    leave();
+    if (had == 0) end_for(p);
+    if (moved || !(moved = __libc_malloc(bytes))) return moved;
+    memcpy(moved, p, had < bytes ? had : bytes);
+    free(p);
+    return moved;
+}
+
+void *reallocarray(void *p, size_t count, size_t each) {
+    size_t bytes;
+    if (!__builtin_mul_overflow(count, each, &bytes)) return realloc(p, bytes);
+    errno = ENOMEM;
+    return NULL;
+}
+
+void *memalign(size_t align, size_t bytes) {
+    void *p = align == 0 || (align & (align - 1)) != 0 ? NULL : give(align, bytes, false);
+    return p ? p : __libc_memalign(align, bytes);
+}
+
+void *aligned_alloc(size_t align, size_t bytes) { return memalign(align, bytes); }
+
+int posix_memalign(void **to, size_t align, size_t bytes) {
+    void *p;
+    const int before = errno;
+    if (align % sizeof(void *) != 0 || align == 0 || (align & (align - 1)) != 0) return EINVAL;
+    p = memalign(align, bytes);
+    errno = before;
+    if (!p) return ENOMEM;
+    *to = p;
+    return 0;
+}
+
+void *valloc(size_t bytes) { return memalign(PAGE, bytes); }
+
+void *pvalloc(size_t bytes) {
+    if (bytes <= SIZE_MAX - PAGE) return memalign(PAGE, (bytes + PAGE - 1) / PAGE * PAGE);
+    errno = ENOMEM;
+    return NULL;
+}
+
+size_t malloc_usable_size(void *p) {
+    size_t (*of_system)(void *);
+    size_t bytes;
+    if (!p) return 0;
+    if (is_ours(p)) {
+        enter();
+        bytes = tlsf_usable_size(&heap, p);
+        leave();
+        return bytes;
+    }
+    *(void **)&of_system = dlsym(RTLD_NEXT, "malloc_usable_size");
+    return of_system ? of_system(p) : 0;
+}
+
+__attribute__((destructor)) static void report(void) {
+    char line[240];
+    struct tlsf_heap_counts counts;
+    if (!getenv("TLSF_PRELOAD_REPORT")) return;
+    enter();
+    if (tlsf_counts(&heap, &counts) != TLSF_OK) memset(&counts, 0, sizeof counts);
+    leave();
+    tell(line, snprintf(line, sizeof line,
+                        "tlsf_preload: %s: %lu blocks of the heap, at most %lu of its %lu bytes at once; %lu larger, %lu without room\n",
+                        program_invocation_short_name, (unsigned long)given, 8ul * counts.most_words, (unsigned long)(end ? end - begin : 0),
+                        (unsigned long)larger, (unsigned long)counts.refused));
+}

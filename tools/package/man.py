@@ -1,0 +1,73 @@
+#!/usr/bin/env python3
+"""usage: tools/package/man.py VERSION DATE FOLDER
+
+Writes the man pages of the program into FOLDER, one for it and one for each of
+its commands. They are made of the helps that are stored in cases/, which the
+gate holds to the program, so there is no other text to keep in step.
+"""
+import pathlib
+import re
+import sys
+
+CASES = pathlib.Path(__file__).resolve().parent.parent.parent / "cases"
+LISTED = ("Commands:", "Arguments:", "Options:")
+
+
+def roff(line):
+    """A line of text as roff reads it."""
+    line = line.replace("\\", "\\e").replace("-", "\\-").replace("'", "\\(aq")
+    return "\\&" + line if line.startswith(".") else line
+
+
+def rows(lines):
+    """The rows of a list of a help: a word and what it is, which may go on in further lines."""
+    for line in lines:
+        word, _, told = line.strip().partition("  ")
+        yield [".TP", f"\\fB{roff(word)}\\fR", roff(told.strip())]
+
+
+def text_of(block):
+    """A paragraph; what is indented stands as it is."""
+    if all(it.startswith("  ") for it in block):
+        return [".PP", ".RS 2", ".nf", *map(roff, (it[2:] for it in block)), ".fi", ".RE"]
+    return [".PP", *map(roff, block)]
+
+
+def page(name, help_text, version, date, others):
+    first, *blocks = [it.split("\n") for it in help_text.strip("\n").split("\n\n")]
+    told = first[0][0].lower() + first[0][1:]
+    lines = [f'.TH {roff(name.upper())} 1 "{date}" "peachanchor {version}" "User Commands"', ".SH NAME", f"{roff(name)} \\- {roff(told)}"]
+    lists, texts = [], []
+    for block in blocks:
+        if block[0].startswith("Usage: "):
+            lines += [".SH SYNOPSIS", f"\\fB{roff(block[0].removeprefix('Usage: '))}\\fR"]
+        elif block[0] in LISTED:
+            lists += [f".SH {block[0].rstrip(':').upper()}", *(it for row in rows(block[1:]) for it in row)]
+        else:
+            texts += text_of(block)
+    also = ", ".join(f"\\fB{roff(it)}\\fR(1)" for it in others if it != name)
+    return "\n".join([*lines, ".SH DESCRIPTION", *texts, *lists, ".SH SEE ALSO", also, ""])
+
+
+def main(version, date, folder):
+    helps = {it.stem: it.read_text(encoding="utf-8") for it in sorted(CASES.glob("help*.stdout"))}
+    commands = re.findall(r"^  ([a-z]+)  ", helps["help"].partition("Commands:\n")[2].partition("\n\n")[0], re.M)
+    names = {"help": "tlsf"} | {f"help_{it}": f"tlsf-{it}" for it in commands if it != "help"}
+    if lacks := names.keys() ^ helps.keys():
+        raise ValueError(f"cases/ has no help of its own, or one too many: {', '.join(sorted(lacks))}")
+    for stem, name in names.items():
+        (pathlib.Path(folder) / f"{name}.1").write_text(page(name, helps[stem], version, date, names.values()), encoding="utf-8")
+
+
+if __name__ == "__main__":
+    if sys.argv[1:] in (["-h"], ["--help"]):
+        print(__doc__.strip())
+        sys.exit(0)
+    if len(sys.argv) != 4:
+        print(__doc__.strip(), file=sys.stderr)
+        sys.exit(2)
+    try:
+        main(*sys.argv[1:])
+    except (OSError, ValueError) as why:
+        print(f"man.py: {why}", file=sys.stderr)
+        sys.exit(1)
