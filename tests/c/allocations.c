@@ -1,10 +1,10 @@
-/* No call takes memory or gives it back but one that opens or closes: each public call on open heaps and lanes, accepted and refused,
- * many times. With `takes`, one turn does, which has to be told.
+/* No call takes memory or gives it back but one that opens or closes: each public call on open heaps, lanes, queues and arenas, accepted
+ * and refused, many times. With `takes`, one turn does, which has to be told.
  * Link with -Wl,--wrap=malloc,--wrap=free,--wrap=tlsf_memory_alloc,--wrap=tlsf_memory_dealloc. */
 #include "chance.h"
 #include "tlsf.h"
 
-enum { BLOCKS = 64, TURNS = 40000, KINDS = 36 };
+enum { BLOCKS = 64, TURNS = 40000, KINDS = 46 };
 
 static size_t calls; /* of malloc and free, and of what the proved code asks for */
 static int is_counted;
@@ -45,6 +45,10 @@ void __wrap_tlsf_memory_dealloc(void *at) {
 static struct tlsf_heap heap, closed;
 static struct tlsf_post_end post, closed_post;
 static struct tlsf_take_end take, closed_take;
+static struct tlsf_queue queue, closed_queue;
+static struct tlsf_poster poster[4], closed_poster;
+static struct tlsf_offsets offsets, closed_offsets;
+static struct tlsf_span spans[BLOCKS];
 static struct tlsf_name names[BLOCKS];
 static void *pointers[BLOCKS];
 static uint8_t bytes[256];
@@ -55,6 +59,7 @@ static void do_calls_by_name(uint32_t kind, struct tlsf_name *name) {
     const uint32_t len = below(below(8) ? 200 : 40000);
     uint64_t *base = NULL;
     struct tlsf_name other = *name;
+    size_t went = 0;
     uint32_t n = 0;
     if (!below(8)) other.at = below(UINT32_MAX);
     switch (kind) {
@@ -66,7 +71,7 @@ static void do_calls_by_name(uint32_t kind, struct tlsf_name *name) {
     case 5: sum += tlsf_read(&heap, &other, below(300), bytes, below(256)); break;
     case 6: sum += tlsf_locate(&heap, &other, &base, &n); break;
     case 7: sum += tlsf_payload(&heap, &other, &n) != NULL; break;
-    case 8: sum += tlsf_put(&post, &other); break;
+    case 8: sum += below(2) ? tlsf_put(&post, &other) : tlsf_put_all(&post, names, below(4), &went); break;
     case 9: sum += tlsf_take(&take, name); break;
     default: sum += tlsf_drain(&heap, &take, below(4), &n); break;
     }
@@ -122,7 +127,26 @@ static void do_other_calls(uint32_t kind, uint32_t level) {
     case 32: sum += tlsf_open_in(&heap, level, 1, bytes, 256) + tlsf_open_in(&closed, level, 1, bytes, 8); break;
     case 33: sum += tlsf_lane_open(&post, &take, 4) + tlsf_lane_open(&closed_post, &closed_take, 0); break;
     case 34: sum += tlsf_lane_open_in(&closed_post, &closed_take, 4, bytes, 8); break;
-    default: sum += tlsf_close(&closed) + tlsf_post_close(&closed_post) + tlsf_take_close(&closed_take) + (tlsf_text_of(below(15)) != NULL); break;
+    default: sum += tlsf_close(&closed) + tlsf_post_close(&closed_post) + tlsf_take_close(&closed_take) + (tlsf_text_of(below(16)) != NULL); break;
+    }
+}
+
+/* Three of the four posters' handles get an end. */
+static void do_calls_of_queues_and_offsets(uint32_t kind, const struct tlsf_name *name, struct tlsf_span *span) {
+    struct tlsf_offsets_usage usage = {0, 0, 0, 0};
+    struct tlsf_name came = {0, 0, 0};
+    uint32_t n = 0;
+    switch (kind) {
+    case 36: sum += tlsf_poster_open(&queue, &poster[below(4)]); break;
+    case 37: sum += tlsf_queue_post(&poster[below(4)], name); break;
+    case 38: sum += tlsf_queue_take(&queue, &came); break;
+    case 39: sum += tlsf_queue_drain(&heap, &queue, below(4), &n); break;
+    case 40: sum += tlsf_offsets_allocate(&offsets, below(40000), span); break;
+    case 41: sum += tlsf_offsets_resize(&offsets, span, below(40000)); break;
+    case 42: sum += tlsf_offsets_release(&offsets, &span->name); break;
+    case 43: sum += tlsf_offsets_report(&offsets, &usage) + usage.held; break;
+    case 44: sum += tlsf_queue_open(&queue, 1, 1) + tlsf_queue_open(&closed_queue, 0, 1) + tlsf_offsets_open(&closed_offsets, 4, 1, 0, 64); break;
+    default: sum += tlsf_queue_close(&closed_queue) + tlsf_poster_close(&closed_poster) + tlsf_offsets_close(&closed_offsets); break;
     }
 }
 
@@ -132,7 +156,8 @@ static void do_call(uint32_t kind, uint32_t level) {
     if (kind < 11) do_calls_by_name(kind, &names[which]);
     else if (kind < 19) do_calls_by_pointer(kind, &pointers[which]);
     else if (kind < 27) do_calls_by_place(kind, &place);
-    else do_other_calls(kind, level);
+    else if (kind < 36) do_other_calls(kind, level);
+    else do_calls_of_queues_and_offsets(kind, &names[which], &spans[which]);
 }
 
 static void all_calls(uint32_t level, int takes) {
@@ -140,6 +165,8 @@ static void all_calls(uint32_t level, int takes) {
     memset(pointers, 0, sizeof pointers);
     is_counted = 1;
     wants("open", tlsf_open(&heap, level, 7, 5000) + tlsf_lane_open(&post, &take, 8), TLSF_OK);
+    wants("open a queue", tlsf_queue_open(&queue, 3, 8), TLSF_OK);
+    wants("open an arena of offsets", tlsf_offsets_open(&offsets, level, 7, 64, 5000), TLSF_OK);
     wants("opening takes memory", calls > 0, 1);
     for (turn = 0; turn < TURNS; turn++) {
         const uint32_t kind = below(KINDS);
@@ -152,6 +179,8 @@ static void all_calls(uint32_t level, int takes) {
         wants("calls of malloc and free in one of kind", calls ? kind : KINDS, KINDS);
     }
     wants("close", tlsf_close(&heap) + tlsf_post_close(&post) + tlsf_take_close(&take), TLSF_OK);
+    wants("close a queue", tlsf_queue_close(&queue) + tlsf_offsets_close(&offsets), TLSF_OK);
+    for (uint32_t i = 0; i < 4; i++) sum += tlsf_poster_close(&poster[i]);
     wants("closing gives memory back", calls > 0, 1);
     is_counted = 0;
     calls = 0;

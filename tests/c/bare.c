@@ -1,6 +1,6 @@
 /* A program with no C library: it links libtlsf_nomalloc.a, three functions of its own that fill and copy, and nothing else. It
  * allocates, writes, frees and closes in a static array, and ends with 0 where all is as it should be.
- * Build with -nostdlib -static -O2, for x86-64 Linux. */
+ * Build with -nostdlib -static -O2, for x86-64 or aarch64 Linux. */
 #include "tlsf.h"
 
 static _Alignas(16) unsigned char memory[1 << 16];
@@ -26,11 +26,36 @@ void *memmove(void *to, const void *from, size_t n) {
     return to;
 }
 
+#ifdef __x86_64__
 static long system_call(long number, long first, const void *second) {
     long answer;
     __asm__ volatile("syscall" : "=a"(answer) : "a"(number), "D"(first), "S"(second) : "rcx", "r11", "memory");
     return answer;
 }
+
+static void end(int status) { system_call(60, status, 0); }
+
+/* The thread's own variables lie in front of where fs points. */
+static void own_variables(void) {
+    static _Alignas(16) unsigned char own[256];
+    void **const thread = (void **)(void *)(own + sizeof own - 16);
+    *thread = thread;
+    if (system_call(158, 0x1002, thread) != 0) end(9); /* arch_prctl, ARCH_SET_FS */
+}
+#define BEGINS __attribute__((force_align_arg_pointer))
+#else
+static void end(int status) {
+    register long number __asm__("x8") = 93, first __asm__("x0") = status;
+    __asm__ volatile("svc 0" : : "r"(number), "r"(first) : "memory");
+}
+
+/* The thread's own variables lie 16 bytes behind where tpidr_el0 points. */
+static void own_variables(void) {
+    static _Alignas(16) unsigned char own[256];
+    __asm__ volatile("msr tpidr_el0, %0" : : "r"(own) : "memory");
+}
+#define BEGINS
+#endif
 
 static int uses_heap(void) {
     static struct tlsf_heap heap = TLSF_CLOSED;
@@ -44,12 +69,9 @@ static int uses_heap(void) {
     return tlsf_close(&heap) == TLSF_OK ? 0 : 5;
 }
 
-/* What a C library does at a program's start: the thread's own variables lie in front of where fs points. */
+/* What a C library does at a program's start. */
 void begin(void);
-__attribute__((force_align_arg_pointer)) void begin(void) {
-    static _Alignas(16) unsigned char own[256];
-    void **const thread = (void **)(void *)(own + sizeof own - 16);
-    *thread = thread;
-    if (system_call(158, 0x1002, thread) != 0) system_call(60, 9, 0); /* arch_prctl, ARCH_SET_FS; exit */
-    system_call(60, uses_heap(), 0);
+BEGINS void begin(void) {
+    own_variables();
+    end(uses_heap());
 }

@@ -93,6 +93,22 @@ static void used_after_drain(void) {
     read_at(p);
 }
 
+/* A pointer to what was released over a queue. */
+static unsigned char *drained(void) {
+    struct tlsf_queue queue = TLSF_QUEUE_CLOSED;
+    struct tlsf_poster poster = TLSF_POSTER_CLOSED;
+    struct tlsf_name name;
+    uint32_t came = 0;
+    unsigned char *p = get_named(40, &name);
+    if (tlsf_queue_open(&queue, 1, 2) || tlsf_poster_open(&queue, &poster) || tlsf_queue_post(&poster, &name)) stop("no queue");
+    if (tlsf_queue_drain(&heap, &queue, 2, &came) || came != 1) stop("no drain");
+    tlsf_queue_close(&queue);
+    tlsf_poster_close(&poster);
+    return p;
+}
+
+static void used_after_queue_drain(void) { read_at(drained()); }
+
 #ifdef TLSF_VALGRIND
 static void not_initialised(void) {
     unsigned char *p = get(40);
@@ -142,6 +158,7 @@ static void right(void) {
     struct tlsf_heap_report report;
     struct tlsf_heap_counts counts;
     for (int turn = 0; turn < 20; turn++) right_by_pointer(), right_by_name();
+    (void)drained();
     if (tlsf_report(&heap, &report) || tlsf_counts(&heap, &counts) || tlsf_close(&heap)) stop("no report");
     for (size_t k = 0; k < sizeof memory; k++) memory[k] = 1; /* the program's again */
 }
@@ -153,7 +170,7 @@ static const struct {
     {"overrun", overrun}, {"overrun_read", overrun_read}, {"underrun", underrun}, {"overrun_named", overrun_named},
     {"overrun_aligned", overrun_aligned}, {"used_after_free", used_after_free}, {"used_after_release", used_after_release},
     {"used_after_move", used_after_move}, {"used_behind_end", used_behind_end}, {"used_after_resize", used_after_resize},
-    {"used_after_drain", used_after_drain},
+    {"used_after_drain", used_after_drain}, {"used_after_queue_drain", used_after_queue_drain},
 #ifdef TLSF_VALGRIND
     {"not_initialised", not_initialised},
 #endif

@@ -1,5 +1,6 @@
 /* Heaps and lanes in memory of the program's, at each alignment: what they take, that nothing else is written, that no malloc
- * and no free is called, and that it is the program's again. With NO_MALLOC there is no malloc, and tlsf_open is refused.
+ * and no free is called, and that it is the program's again. No piece of a lane shares its lines with another piece. With NO_MALLOC
+ * there is no malloc, and tlsf_open is refused.
  * Link with -Wl,--wrap=malloc,--wrap=free,--wrap=tlsf_memory_alloc. */
 #include "tlsf.h"
 
@@ -7,9 +8,9 @@
 #include <stdio.h>
 #include <stdlib.h>
 
-enum { ROOM = 1 << 17, GUARD = 32, FILLED = 0xa5 };
+enum { ROOM = 1 << 17, GUARD = 128, FILLED = 0xa5, LINES = 128, PIECES = 4 };
 
-static _Alignas(16) unsigned char room[2][ROOM];
+static _Alignas(LINES) unsigned char room[2][ROOM];
 static int calls; /* of malloc and free */
 static int is_counted;
 
@@ -32,19 +33,26 @@ void __wrap_free(void *p) {
     __real_free(p);
 }
 
-/* What the proved code asks for: where the last piece ends, and where all would that lie as near together as they may. */
+/* What the proved code asks for: where the last piece ends, and where all would that lie as near together as they may; and the first
+ * and the last lines of the last pieces, each of two cache lines. */
 struct piece {
     uint64_t is_there;
     void *at;
 };
 static _Thread_local const unsigned char *last_end;
 static _Thread_local size_t near_end;
+static _Thread_local struct {
+    uintptr_t first, last;
+} lines[PIECES];
+static _Thread_local size_t pieces;
 struct piece __real_tlsf_memory_alloc(size_t bytes, size_t align);
 struct piece __wrap_tlsf_memory_alloc(size_t bytes, size_t align);
 struct piece __wrap_tlsf_memory_alloc(size_t bytes, size_t align) {
     const struct piece piece = __real_tlsf_memory_alloc(bytes, align);
     last_end = (const unsigned char *)piece.at + bytes;
     near_end = (near_end + 15) / 16 * 16 + 8 + bytes;
+    lines[pieces % PIECES].first = ((uintptr_t)piece.at - 8) / LINES;
+    lines[pieces++ % PIECES].last = ((uintptr_t)last_end - 1) / LINES;
     return piece;
 }
 
@@ -170,6 +178,12 @@ static void refusals(void) {
 
 /* --- Lanes ---------------------------------------------------------------------------------------------------------- */
 
+/* The four pieces of a lane lie on lines of their own: its ring, its names and its two ends. */
+static void check_lines(void) {
+    for (size_t k = 0; k < PIECES; k++)
+        for (size_t j = 0; j < k; j++) wants("lines apart", lines[j].last < lines[k].first || lines[k].last < lines[j].first, 1);
+}
+
 static uint32_t lane_in(uint32_t capacity, size_t align, size_t bytes) {
     struct tlsf_post_end post = TLSF_POST_CLOSED;
     struct tlsf_take_end take = TLSF_TAKE_CLOSED;
@@ -181,7 +195,8 @@ static uint32_t lane_in(uint32_t capacity, size_t align, size_t bytes) {
         check_outside(room[0], from, 0);
         return answer;
     }
-    if (align == 1) wants("the last byte", (size_t)(last_end - from), tlsf_lane_bytes(capacity));
+    check_lines();
+    if (align == 1) wants("the last line", ((uintptr_t)last_end + LINES - 1) / LINES * LINES - (uintptr_t)from, tlsf_lane_bytes(capacity));
     for (uint32_t k = 0; k < capacity; k++) wants("put", tlsf_put(&post, &name), TLSF_OK);
     wants("put one more", tlsf_put(&post, &name), TLSF_FULL);
     wants("take", tlsf_take(&take, &got), TLSF_OK);
@@ -196,12 +211,23 @@ static void lanes(void) {
     static const uint32_t sizes[] = {1, 2, 3, 64, 1023, 1024};
     for (size_t k = 0; k < sizeof sizes / sizeof *sizes; k++) {
         const size_t bytes = tlsf_lane_bytes(sizes[k]);
-        for (size_t align = 0; align < 16; align++) wants("a lane", lane_in(sizes[k], align, bytes + align), TLSF_OK);
+        for (size_t align = 0; align < LINES; align++) wants("a lane", lane_in(sizes[k], align, bytes + align), TLSF_OK);
         wants("one byte fewer", lane_in(sizes[k], 1, bytes - 1), TLSF_BAD_SIZE);
     }
     wants("no such lanes", tlsf_lane_bytes(0) + tlsf_lane_bytes(1025), 0);
     wants("for 0", lane_in(0, 0, ROOM / 2), TLSF_BAD_SIZE);
     wants("for 1,025", lane_in(1025, 0, ROOM / 2), TLSF_BAD_SIZE);
+}
+
+/* The same of lanes in memory of malloc's, beside which other memory is taken. */
+static void lanes_of_malloc(void) {
+    struct tlsf_post_end post[3] = {TLSF_POST_CLOSED, TLSF_POST_CLOSED, TLSF_POST_CLOSED};
+    struct tlsf_take_end take[3] = {TLSF_TAKE_CLOSED, TLSF_TAKE_CLOSED, TLSF_TAKE_CLOSED};
+    for (size_t k = 0; k < 3; k++) {
+        wants("a lane", tlsf_lane_open(&post[k], &take[k], 1 + 7 * (uint32_t)k), NEW_ANSWER);
+        if (NEW_ANSWER == TLSF_OK) check_lines();
+    }
+    for (size_t k = 0; k < 3; k++) wants("close", tlsf_post_close(&post[k]) + tlsf_take_close(&take[k]), NEW_ANSWER == TLSF_OK ? 0 : 16);
 }
 
 /* --- Two threads that open at once ---------------------------------------------------------------------------------- */
@@ -236,6 +262,7 @@ int main(void) {
     lanes();
     refusals();
     is_counted = 0;
+    lanes_of_malloc();
     threads();
     printf("heaps and lanes in memory of the program's: all as said\n");
     return 0;

@@ -1,6 +1,7 @@
 /* A plain heap and a plain lane that answer as tlsf.h says, by first fit over a table of blocks: what the tests beside it are
- * tried on, since one that passes on each library shows nothing. With WRONG from 1 to 14 one thing in it is wrong, and
- * random.c has to notice; from 15 to 24, and pointers.c has to. It is no real-time heap, and its lanes are for one thread. */
+ * tried on, since one that passes on each library shows nothing. With WRONG from 1 to 14, and of 25 and 26,
+ * one thing in it is wrong, and random.c has to notice; from 15 to 24, and pointers.c has to. It is no real-time heap, and its
+ * lanes are for one thread. */
 #define TLSF_NO_COPIES
 #include "tlsf.h"
 
@@ -388,6 +389,14 @@ uint32_t tlsf_put(struct tlsf_post_end *post, const struct tlsf_name *name) {
     if (!post->is_open) return TLSF_IS_CLOSED;
     if (ring->count == ring->capacity + (WRONG == 9)) return TLSF_FULL;
     ring->names[ring->count++] = *name;
+    return TLSF_OK;
+}
+
+uint32_t tlsf_put_all(struct tlsf_post_end *post, const struct tlsf_name *names, size_t n, size_t *went) {
+    size_t count = 0;
+    if (!post->is_open) return TLSF_IS_CLOSED;
+    while (count < n && tlsf_put(post, &names[WRONG == 25 ? 0 : count]) == TLSF_OK) count++;
+    *went = count + (WRONG == 26 && count != n);
     return TLSF_OK;
 }
 

@@ -179,10 +179,23 @@ static int forged(struct model *m) {
     return 1;
 }
 
-/* Names go through a lane in their order, and as many as it has slots. */
+/* Names go through a lane in their order, and as many as it has slots, one by one or many at once. */
+static int many_over_lane(struct tlsf_post_end *post, uint32_t n) {
+    struct tlsf_name sent[3 * CAPACITY];
+    size_t went = 77;
+    const uint32_t left = CAPACITY - in_lane;
+    for (uint32_t k = 0; k < n; k++) sent[k] = (struct tlsf_name){n, k, state};
+    wants("put all", tlsf_put_all(post, sent, n, &went), TLSF_OK);
+    wants("how many went", (uint32_t)went, n < left ? n : left);
+    memcpy(lane + in_lane, sent, went * sizeof *lane);
+    in_lane += (uint32_t)went;
+    return 1;
+}
+
 static int over_lane(struct tlsf_post_end *post, struct tlsf_take_end *take) {
     if (below(2)) {
         const struct tlsf_name sent = {below(9), below(99), state};
+        if (state % 4 == 0) return many_over_lane(post, (uint32_t)(state / 4 % (3 * CAPACITY + 1)));
         wants("put", tlsf_put(post, &sent), in_lane < CAPACITY ? TLSF_OK : TLSF_FULL);
         if (in_lane < CAPACITY) lane[in_lane++] = sent;
         return 1;

@@ -44,14 +44,20 @@ static uint32_t below(struct side *it, uint32_t n) {
 
 /* --- One call, by the program or by the handler --------------------------------------------------------------------- */
 
-/* They set and clear the trap flag: a signal comes after each instruction. The stack can be walked from within them too. */
+/* They set and clear the trap flag: a signal comes after each instruction. The stack can be walked from within them too. Only
+ * x86-64 has them here. */
 void start_steps(void);
 void stop_steps(void);
+#ifdef __x86_64__
 #define OF_FLAGS(name, change) \
     __asm__(".text\n" name ":\n .cfi_startproc\n pushfq\n .cfi_adjust_cfa_offset 8\n " change ", (%rsp)\n popfq\n" \
             " .cfi_adjust_cfa_offset -8\n ret\n .cfi_endproc\n")
 OF_FLAGS("start_steps", "orq $256");
 OF_FLAGS("stop_steps", "andq $-257");
+#else
+void start_steps(void) { abort(); }
+void stop_steps(void) { abort(); }
+#endif
 
 static void begins(const struct side *it) {
     if (it != &program) return;

@@ -1,16 +1,19 @@
 /* Counts the instructions of each call, one by one: a second process makes calls by chance, in heaps that are full of holes,
  * and this one stops it behind every instruction. What fills or copies payload isn't counted. Prints for each call the most
- * that one took. STEPS [CALLS] [SEED] */
+ * that one took. STEPS [CALLS] [SEED]
+ * On another processor than x86-64 it only makes the calls, and tests/c/counted counts. */
 #define _GNU_SOURCE
 #include "tlsf.h"
 
 #include <signal.h>
 #include <stdio.h>
 #include <stdlib.h>
+#ifdef __x86_64__
 #include <sys/ptrace.h>
 #include <sys/user.h>
 #include <sys/wait.h>
 #include <unistd.h>
+#endif
 
 /* Those that fill and copy payload, in place of the C library's, between addresses that are known. */
 #ifdef __clang__
@@ -31,25 +34,9 @@ FILLS void *memcpy(void *restrict to, const void *restrict from, size_t n) {
 
 FILLS void *memmove(void *to, const void *from, size_t n) { return memcpy(to, from, n); } /* blocks lie apart */
 
-static struct {
-    const char *name;
-    uintptr_t at;
-    unsigned calls, most;
-} counted[] = {
-    {"tlsf_allocate", (uintptr_t)tlsf_allocate, 0, 0}, {"tlsf_release", (uintptr_t)tlsf_release, 0, 0},
-    {"tlsf_resize", (uintptr_t)tlsf_resize, 0, 0},     {"tlsf_locate", (uintptr_t)tlsf_locate, 0, 0},
-    {"tlsf_put", (uintptr_t)tlsf_put, 0, 0},           {"tlsf_take", (uintptr_t)tlsf_take, 0, 0},
-    {"tlsf_reallocate", (uintptr_t)tlsf_reallocate, 0, 0},
-    {"tlsf_resize_place", (uintptr_t)tlsf_resize_place, 0, 0},
-    {"tlsf_allocate_place", (uintptr_t)tlsf_allocate_place, 0, 0},
-    {"tlsf_allocate_aligned", (uintptr_t)tlsf_allocate_aligned, 0, 0},
-    {"tlsf_release_place", (uintptr_t)tlsf_release_place, 0, 0},
-    {"tlsf_place", (uintptr_t)tlsf_place, 0, 0},
-    {"tlsf_block_at", (uintptr_t)tlsf_block_at, 0, 0},
-    {"tlsf_counts", (uintptr_t)tlsf_counts, 0, 0},
-};
-enum { COUNT = sizeof counted / sizeof *counted, MOST = 200 };
+enum { MOST = 200 };
 
+static int is_stopped; /* where the calls begin */
 static uint64_t state;
 
 static uint32_t below(uint32_t n) {
@@ -90,7 +77,7 @@ static int make_calls(long calls) {
     uint64_t *base = NULL;
     uint32_t len = 0;
     if (tlsf_open(&heap, 4 + below(2), 1, 1u << 15) || tlsf_lane_open(&post, &take, 8)) return 1;
-    raise(SIGSTOP); /* from here on each instruction is counted */
+    if (is_stopped) raise(SIGSTOP); /* from here on each instruction is counted */
     for (long i = 0; i < calls; i++) {
         const uint32_t kind = below(10), k = live ? below(live) : 0, size = below(3) ? below(64) : below(256);
         if (i % 2) {
@@ -111,14 +98,32 @@ static int make_calls(long calls) {
     return 0;
 }
 
+#ifdef __x86_64__
+static struct {
+    const char *name;
+    uintptr_t at;
+    unsigned calls, most;
+} counted[] = {
+    {"tlsf_allocate", (uintptr_t)tlsf_allocate, 0, 0}, {"tlsf_release", (uintptr_t)tlsf_release, 0, 0},
+    {"tlsf_resize", (uintptr_t)tlsf_resize, 0, 0},     {"tlsf_locate", (uintptr_t)tlsf_locate, 0, 0},
+    {"tlsf_put", (uintptr_t)tlsf_put, 0, 0},           {"tlsf_take", (uintptr_t)tlsf_take, 0, 0},
+    {"tlsf_reallocate", (uintptr_t)tlsf_reallocate, 0, 0},
+    {"tlsf_resize_place", (uintptr_t)tlsf_resize_place, 0, 0},
+    {"tlsf_allocate_place", (uintptr_t)tlsf_allocate_place, 0, 0},
+    {"tlsf_allocate_aligned", (uintptr_t)tlsf_allocate_aligned, 0, 0},
+    {"tlsf_release_place", (uintptr_t)tlsf_release_place, 0, 0},
+    {"tlsf_place", (uintptr_t)tlsf_place, 0, 0},
+    {"tlsf_block_at", (uintptr_t)tlsf_block_at, 0, 0},
+    {"tlsf_counts", (uintptr_t)tlsf_counts, 0, 0},
+};
+enum { COUNT = sizeof counted / sizeof *counted };
+
 static int refused(const char *what) {
     printf("steps: not counted, since %s is refused\n", what);
     return 77;
 }
 
-int main(int argc, char **argv) {
-    const long calls = argc > 1 ? atol(argv[1]) : 5000;
-    state = 88172645463325252ull + (argc > 2 ? strtoull(argv[2], NULL, 10) : 1) * 2654435761u;
+static int count(long calls) {
     struct user_regs_struct regs;
     unsigned long long back_at = 0;
     int status = 0, in = -1;
@@ -126,6 +131,7 @@ int main(int argc, char **argv) {
     const pid_t child = fork();
     if (child < 0) return refused("fork");
     if (!child) {
+        is_stopped = 1;
         if (ptrace(PTRACE_TRACEME, 0, NULL, NULL)) _exit(77);
         _exit(make_calls(calls));
     }
@@ -146,4 +152,13 @@ int main(int argc, char **argv) {
     }
     for (int k = 0; k < COUNT; k++) printf("%s %u in %u calls\n", counted[k].name, counted[k].most, counted[k].calls);
     return WIFEXITED(status) ? WEXITSTATUS(status) : 1;
+}
+#else
+#define count make_calls
+#endif
+
+int main(int argc, char **argv) {
+    const long calls = argc > 1 ? atol(argv[1]) : 5000;
+    state = 88172645463325252ull + (argc > 2 ? strtoull(argv[2], NULL, 10) : 1) * 2654435761u;
+    return count(calls);
 }

@@ -1,5 +1,5 @@
-/* Two threads over two lanes: one has the heap, and sends the names of its blocks over; the other sends them back, to be
- * released. With IN_PLACE 1 the other writes into each payload in place meanwhile, which tlsf.h does not allow while the
+/* Two threads over two lanes: one has the heap, and sends the names of its blocks over; the other sends them back, many at once
+ * where many came, to be released. With IN_PLACE 1 the other writes into each payload in place meanwhile, which tlsf.h does not allow while the
  * first may be in a call: nothing proves that it is well, so it is tried. THREADS [BLOCKS] [IN_PLACE] */
 #include "tlsf.h"
 
@@ -9,7 +9,7 @@
 #include <stdlib.h>
 #include <string.h>
 
-enum { UNDER_WAY = 1024, CAPACITY = 64, WORDS = 4096 };
+enum { UNDER_WAY = 1024, CAPACITY = 64, WORDS = 4096, AT_ONCE = 70 };
 
 static long blocks = 100000;
 
@@ -22,15 +22,23 @@ struct other {
 
 static void *send_back(void *given) {
     struct other *it = given;
-    struct tlsf_name name = {0, 0, 0};
-    for (long i = 0; i < blocks; i++) {
-        while (tlsf_take(&it->take, &name) != TLSF_OK) sched_yield();
-        if (it->base) {
-            uint64_t *payload = it->base + name.at + 3;
+    struct tlsf_name names[AT_ONCE];
+    for (long i = 0; i < blocks;) {
+        const size_t most = 1 + (size_t)i % AT_ONCE;
+        size_t n = 0, gone = 0;
+        for (; n < most && i < blocks && tlsf_take(&it->take, &names[n]) == TLSF_OK; n++, i++) {
+            if (!it->base) continue;
+            uint64_t *payload = it->base + names[n].at + 3;
             if (payload[0] != (uint64_t)i) it->wrong++;
             payload[0] = ~(uint64_t)i;
         }
-        while (tlsf_put(&it->post, &name) != TLSF_OK) sched_yield();
+        while (gone < n) {
+            size_t went = 0;
+            if (tlsf_put_all(&it->post, names + gone, n - gone, &went) != TLSF_OK || went > n - gone) it->wrong++;
+            gone += went;
+            if (!went) sched_yield();
+        }
+        if (!n) sched_yield();
     }
     tlsf_take_close(&it->take);
     tlsf_post_close(&it->post);

@@ -13,6 +13,8 @@ static _Alignas(4096) unsigned char memory[16384]; /* so that what is aligned li
 static struct tlsf_heap heap = TLSF_CLOSED;
 static struct tlsf_post_end post = TLSF_POST_CLOSED;
 static struct tlsf_take_end take = TLSF_TAKE_CLOSED;
+static struct tlsf_queue queue = TLSF_QUEUE_CLOSED;
+static struct tlsf_poster poster = TLSF_POSTER_CLOSED;
 
 static struct block {
     struct tlsf_name name;
@@ -108,7 +110,10 @@ static void change(uint32_t kind, uint32_t k, uint32_t len) {
     case 0: released(k, tlsf_free(&heap, blocks[k].p)); break;
     case 1: released(k, tlsf_release(&heap, &name)); break;
     case 2:
-        if (tlsf_put(&post, &name) || tlsf_drain(&heap, &take, 2, &came) || came != 1) exit(1);
+        if (k % 2 ? tlsf_queue_post(&poster, &name) || tlsf_queue_drain(&heap, &queue, 2, &came)
+                  : tlsf_put(&post, &name) || tlsf_drain(&heap, &take, 2, &came))
+            exit(1);
+        if (came != 1) exit(1);
         released(k, TLSF_OK);
         break;
     case 3: changed('r', &blocks[k], tlsf_resize(&heap, &name, len / 16 * 16 + 8)); break;
@@ -183,11 +188,14 @@ static void leave_out(const char *file) {
 int main(int argc, char **argv) {
     if (argc < 2 || !(trace = fopen(argv[1], "w"))) return 1;
     if (tlsf_open_in(&heap, 4, 1, memory, tlsf_bytes(4, 1201)) || tlsf_lane_open(&post, &take, 1)) return 1;
+    if (tlsf_queue_open(&queue, 1, 1) || tlsf_poster_open(&queue, &poster)) return 1;
     if (argc == 2) make_calls();
     else leave_out(argv[1]);
     tlsf_close(&heap);
     fclose(trace);
     tlsf_post_close(&post);
     tlsf_take_close(&take);
+    tlsf_queue_close(&queue);
+    tlsf_poster_close(&poster);
     return 0;
 }

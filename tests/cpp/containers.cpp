@@ -102,6 +102,11 @@ static void blocks(tlsf::heap &heap) {
     holds("a full lane leaves the block", !from.put(std::move(third)) && third.size() == 8);
     holds("drained", take.drain(heap, 1) == 1 && take.drain(heap, 9) == 1 && take.drain(heap, 9) == 0);
     holds("nothing to take", !take.take());
+    const tlsf_name names[] = {heap.make(8).detach(), heap.make(8).detach(), heap.make(8).detach()};
+    holds("as many as there are slots", from.put_all(names, 3) == 2 && from.put_all(names + 2, 1) == 0);
+    holds("in their order", take.take()->serial == names[0].serial && from.put_all(names + 2, 1) == 1 && take.take()->serial == names[1].serial);
+    holds("a closed end takes none", tlsf::post_end().put_all(names, 3) == 0);
+    holds("drained again", take.drain(heap, 9) == 1 && heap.release(names[0]) == TLSF_OK && heap.release(names[1]) == TLSF_OK);
     holds("too large, it is empty", !heap.make(1u << 30));
     tlsf::block adopted(heap, third.detach());
     holds("taken over", adopted.size() == 8 && heap.report().live_blocks == 1);

@@ -1,0 +1,181 @@
+// Objects whose std::unique_ptr dies in any thread come home; a queue's classes; spans of an arena of offsets; and a heap that
+// threads share behind a std::pmr::synchronized_pool_resource, or behind a mutex.
+#include "tlsf.hpp"
+
+#include <atomic>
+#include <cstdio>
+#include <cstdlib>
+#include <memory_resource>
+#include <mutex>
+#include <string>
+#include <thread>
+#include <utility>
+#include <vector>
+
+namespace {
+
+void wants(const char *what, std::size_t got, std::size_t wanted) {
+    if (got == wanted) return;
+    std::printf("%s: %zu, and not %zu\n", what, got, wanted);
+    std::exit(1);
+}
+
+// An object that knows which thread destroyed it.
+struct voice {
+    static std::thread::id owner;
+    static std::size_t made, destroyed;
+    std::size_t number;
+    std::string text;
+
+    explicit voice(std::size_t n) : number(n), text(std::to_string(n) + " is longer than a short string") { made++; }
+    voice(const voice &) = delete;
+    voice &operator=(const voice &) = delete;
+    ~voice() {
+        if (std::this_thread::get_id() != owner) std::abort();
+        destroyed++;
+    }
+};
+std::thread::id voice::owner;
+std::size_t voice::made = 0, voice::destroyed = 0;
+
+struct thrower {
+    thrower() { throw 7; }
+};
+
+void pointers_die_in_any_thread() {
+    constexpr std::uint32_t threads = 4, objects = 64;
+    constexpr std::size_t turns = 200;
+    voice::owner = std::this_thread::get_id();
+    auto heap = tlsf::heap::for_blocks(tlsf::level::four, 1, objects, sizeof(voice));
+    {
+        tlsf::home<voice> home(heap, objects, threads);
+        std::size_t sent = 0;
+        for (std::size_t turn = 0; turn < turns; turn++) {
+            std::vector<std::thread> others;
+            for (std::uint32_t i = 0; i < threads - 1; i++) {
+                std::vector<tlsf::home<voice>::pointer> some;
+                while (some.size() < 8)
+                    if (auto one = home.make(sent)) some.push_back(std::move(one)), sent++;
+                // Each thread drops what it was given, while this one makes and collects more.
+                others.emplace_back([given = std::move(some)]() mutable { given.clear(); });
+            }
+            if (auto own = home.make(sent)) sent++; // dies here
+            home.collect();
+            for (auto &it : others) it.join();
+        }
+        home.collect();
+        wants("all are home", home.out(), 0);
+        wants("made", voice::made, sent);
+        wants("destroyed at home", voice::destroyed, sent);
+    }
+    wants("none is live", heap.report().live_blocks, 0);
+}
+
+void no_more_than_may_be() {
+    auto heap = tlsf::heap::for_blocks(tlsf::level::four, 1, 3, sizeof(voice));
+    tlsf::home<voice> home(heap, 2, 1);
+    auto one = home.make(1u), two = home.make(2u), three = home.make(3u);
+    wants("two at once", one && two && !three, 1);
+    one.reset();
+    three = home.make(3u);
+    wants("one that came home makes room", static_cast<bool>(three), 1);
+    tlsf::home<thrower> throwers(heap, 2, 1);
+    std::size_t caught = 0;
+    try {
+        (void)throwers.make();
+    } catch (int) {
+        caught++;
+    }
+    wants("its constructor throws", caught, 1);
+    wants("and no block stays", heap.report().live_blocks, 2);
+    const tlsf::home<voice>::pointer none;
+    wants("an empty pointer dies", !none, 1);
+}
+
+void ends_of_a_queue() {
+    auto heap = tlsf::heap::for_blocks(tlsf::level::four, 2, 4, 40);
+    tlsf::queue queue(1, 2);
+    auto poster = queue.open_poster();
+    wants("one poster's end", poster.get() != nullptr, 1);
+    wants("and no more", queue.open_poster().get() == nullptr, 1);
+    auto first = heap.make(40), second = heap.make(40), third = heap.make(40);
+    const auto name = first.name();
+    wants("post", poster.post(std::move(first)), TLSF_OK);
+    wants("it is gone", !first, 1);
+    wants("post", poster.post(std::move(second)), TLSF_OK);
+    wants("full", poster.post(std::move(third)), TLSF_FULL);
+    wants("it stays", static_cast<bool>(third), 1);
+    const auto came = queue.take();
+    wants("the first comes", came && came->serial == name.serial, 1);
+    wants("release", heap.release(*came), TLSF_OK);
+    wants("drain", queue.drain(heap, 9), 1);
+    wants("empty", !queue.take(), 1);
+    auto moved = std::move(poster);
+    wants("an end that was moved from", poster.post(name), TLSF_IS_CLOSED);
+    wants("goes on", moved.post(name), TLSF_OK);
+    std::size_t caught = 0;
+    try {
+        const tlsf::queue too_large(1, 1025);
+    } catch (const std::invalid_argument &) {
+        caught++;
+    }
+    wants("no such queue", caught, 1);
+}
+
+void spans() {
+    tlsf::offsets memory(tlsf::level::four, 3, 256, 1024);
+    auto one = memory.allocate(10000), two = memory.allocate(5000);
+    wants("two spans", one && two && one->offset + one->size <= two->offset, 1);
+    wants("no room", memory.resize(*one, 20000), TLSF_NO_ROOM);
+    wants("release", memory.release(*two), TLSF_OK);
+    wants("grow", memory.resize(*one, 20000), TLSF_OK);
+    wants("enough", one->size >= 20000, 1);
+    wants("spans", memory.report().spans, 1);
+    wants("too much", !memory.allocate(1u << 20), 1);
+    tlsf::offsets closed;
+    wants("closed", closed.release(*one), TLSF_IS_CLOSED);
+}
+
+// A heap has one thread at a time; behind a lock any may call it. std has one: a synchronized_pool_resource calls what lies under
+// it under its own lock.
+void heap_behind_a_lock() {
+    tlsf::heap heap(tlsf::level::four, 4, 1 << 18);
+    tlsf::resource under(heap);
+    {
+        std::pmr::synchronized_pool_resource shared(&under);
+        std::vector<std::thread> threads;
+        for (std::size_t i = 0; i < 3; i++)
+            threads.emplace_back([&shared, i] {
+                std::pmr::vector<std::pmr::string> lines(&shared);
+                for (std::size_t k = 0; k < 500; k++) lines.emplace_back("a line that is too long to lie in its string").append(std::to_string(k + i));
+                wants("lines", lines.size(), 500);
+            });
+        for (auto &it : threads) it.join();
+    }
+    wants("all is back", heap.report().live_blocks, 0);
+    std::mutex lock;
+    std::vector<std::thread> threads;
+    for (std::size_t i = 0; i < 3; i++)
+        threads.emplace_back([&heap, &lock] {
+            for (std::uint32_t k = 0; k < 500; k++) {
+                const std::lock_guard<std::mutex> mine(lock); // for the payload too, by rule 4
+                auto *p = static_cast<unsigned char *>(tlsf_malloc(heap.get(), 8 + k));
+                if (!p) std::abort();
+                p[0] = p[k] = 1;
+                tlsf_free(heap.get(), p);
+            }
+        });
+    for (auto &it : threads) it.join();
+    wants("and by a mutex", heap.report().live_blocks, 0);
+}
+
+} // namespace
+
+int main() {
+    pointers_die_in_any_thread();
+    no_more_than_may_be();
+    ends_of_a_queue();
+    spans();
+    heap_behind_a_lock();
+    std::puts("objects come home from any thread, and none is lost");
+}

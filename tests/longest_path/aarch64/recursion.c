@@ -1,0 +1,2 @@
+/* -O1: f: no bound: a recursion */
+#include "../mutual_recursion.c"
