@@ -28,6 +28,21 @@ const judgeBlock = (canvas, heap, block) => {
     else want(near(pixel, rgb('free')) && Math.abs(pixel[3] / 2.55 - shade(heap, block.numbers[1])) < 1, 'colour of a free block: ' + pixel);
 };
 
+// The curves above the slider: they say of each moment what its blocks say. A click goes to a moment, P to the peak, and the moment's line is drawn.
+const judgePlot = () => {
+    const sums = begins.map((begin, at) => heapsIn(at).map(heap => most(heap.blocks.filter(block => !block.live).map(block => block.size))));
+    const lives = begins.map((begin, at) => heapsIn(at).map(heap => heap.blocks.reduce((sum, block) => sum + block.live * block.size, 0)));
+    want(lives.every((row, at) => row.every((live, number) => live === curves[at][number].live)), 'live words of a curve');
+    want(sums.every((row, at) => row.every((size, number) => size === curves[at][number].largest)), 'largest free block of a curve');
+    const high = lives.map(row => row.reduce((sum, live) => sum + live, 0));
+    press('p');
+    want(moment === high.indexOf(most(high)), 'peak at moment ' + moment);
+    const box = plot.getBoundingClientRect(), half = Math.floor(last / 2);
+    plot.dispatchEvent(new PointerEvent('pointerdown', { clientX: box.left + across(half), clientY: box.top + 4, buttons: 1 }));
+    want(moment === half && tip.textContent.startsWith('heap 0') && tip.textContent.includes(lives[half][0] + ' of '), 'click on the plot: ' + tip.textContent);
+    const scale = devicePixelRatio || 1, pixel = plot.getContext('2d').getImageData(across(half) * scale, (deep + 2) * scale - 4, 1, 1).data;
+    want(near(pixel, rgb('ink')), 'line of the moment: ' + pixel);
+};
 // The report above a picture: no line of it wraps, and each fits into the window, so that no picture jumps as the moments go by.
 const heights = [];
 const judgeReport = (canvas, number) => {
@@ -42,7 +57,7 @@ const toldOf = (heap, block) => told(block) + (block.live ? '' : ', ' + shade(he
 const judgeMoment = (at, telling) => {
     want(moment === at && Number(slider.value) === at, 'moment ' + moment + ' for ' + at);
     want(element('moment').textContent.startsWith('Moment ' + (at + 1) + ' of ' + begins.length), 'text ' + element('moment').textContent);
-    const canvases = document.querySelectorAll('canvas');
+    const canvases = document.querySelectorAll('main canvas');
     want(canvases.length === heaps.length && heaps.length > 0, canvases.length + ' pictures of ' + heaps.length + ' heaps');
     found.push('line ' + lineOf(at));
     heaps.forEach((heap, number) => {
@@ -63,6 +78,7 @@ press('ArrowRight', { shiftKey: true }); judgeMoment(Math.min(11, last), telling
 press('ArrowLeft'); judgeMoment(Math.min(11, last) - 1, telling);
 slider.value = middle; slider.dispatchEvent(new Event('input')); judgeMoment(middle, telling);
 press('End'); judgeMoment(last, telling);
+judgePlot();
 const begun = performance.now(); for (let at = 0; at < 20; at++) show(at * last / 19 | 0);
 const each = Math.round((performance.now() - begun) / 20);
 document.querySelectorAll('script, style').forEach(part => part.remove());
