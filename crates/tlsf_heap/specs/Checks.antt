@@ -3,6 +3,7 @@ use Rattle.std.specs.Prelude.{◌≡◌, ◌≢◌, ℕ, zero, suc, ◌+◌, ◌
 use Rattle.tlsf_words.specs.Fields.{size_in, last_in, free_in, back_in, low_half, high_half}
 use Rattle.tlsf_words.specs.Lists.{nowhere}
 use Rattle.tlsf_words.specs.Memory.{Memory}
+use Rattle.tlsf_words.specs.Touched.{times}
 use Rattle.tlsf_heap.specs.Blocks.{Block, words_in, words_for, StandsAt}
 use Rattle.tlsf_heap.specs.Image.{Image}
 use Rattle.tlsf_heap.specs.declared.checked.Checked.{Checked}
@@ -105,6 +106,17 @@ pub record OnlyLooks (old new : Memory) (most : ℕ) : Type 0 where
   pub stays : new.extents ≡ old.extents
   pub touches : new.touches ≤ old.touches + most
   pub rise : old.touches ≤ new.touches
+
+-- word k is one of the three of the header of a block, as the start bits say
+pub record IsHeaderWord (m : Image) (k : ℕ) : Type 0 where
+  pub at : ℕ
+  pub begins : Begins m at
+  pub behind : at ≤ k
+  pub within : k < at + 3
+
+-- no word was read or written but those of headers
+abbrev pub OnlyHeaders : Image → List ℕ → List ℕ → Type 0
+OnlyHeaders m old new = (k : ℕ) → ¬ (IsHeaderWord m k) → times new k ≡ times old k
 
 -- ---- the blocks of a heap
 

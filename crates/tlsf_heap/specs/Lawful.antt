@@ -15,18 +15,18 @@ HasRoom (Live size serial bytes) = (4 ≤ size) × (words_for (length bytes) ≤
 HasRoom (Free size stamp) = 4 ≤ size
 
 -- no two free blocks are neighbours
-abbrev pub AreApart : List Block → Type 0
-AreApart [] = ⊤
-AreApart (Live size serial bytes ∷ blocks) = AreApart blocks
-AreApart (Free size stamp ∷ []) = ⊤
-AreApart (Free size stamp ∷ Live m serial bytes ∷ blocks) = AreApart blocks
-AreApart (Free size stamp ∷ Free m s ∷ blocks) = ⊥
+abbrev pub FreeBlocksAreApart : List Block → Type 0
+FreeBlocksAreApart [] = ⊤
+FreeBlocksAreApart (Live size serial bytes ∷ blocks) = FreeBlocksAreApart blocks
+FreeBlocksAreApart (Free size stamp ∷ []) = ⊤
+FreeBlocksAreApart (Free size stamp ∷ Live m serial bytes ∷ blocks) = FreeBlocksAreApart blocks
+FreeBlocksAreApart (Free size stamp ∷ Free m s ∷ blocks) = ⊥
 
 -- the blocks fill the region, each with its room; free blocks don't touch; serials differ, stamps differ, and all are of past ticks
 pub record IsLawful (h : HeapState) : Type 0 where
   pub rooms : AllByRecursion HasRoom h.blocks
   pub whole : words_in h.blocks ≡ h.words
-  pub apart : AreApart h.blocks
+  pub apart : FreeBlocksAreApart h.blocks
   pub serials_differ : AreDistinct (serials h.blocks)
   pub stamps_differ : AreDistinct (stamps h.blocks)
   pub serials_past : AllByRecursion (λ s. s < h.tick) (serials h.blocks)

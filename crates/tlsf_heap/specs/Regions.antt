@@ -3,6 +3,7 @@ use Rattle.std.specs.Prelude.{◌≡◌, ◌≢◌, ℕ, ◌+◌, ◌-◌, ◌<�
 use Rattle.std.specs.List.{AllByRecursion}
 use Rattle.tlsf_words.specs.Memory.{Memory, Extents}
 use Rattle.tlsf_words.specs.Lists.{nowhere, without_place, LinkedFrom, IsUnlisted}
+use Rattle.tlsf_words.specs.Touched.{InGroups}
 use Rattle.tlsf_words.specs.declared.tag.Tag.{Tag}
 use Rattle.tlsf_heap.specs.Blocks.{Block, Live, Free, size_of, is_free, bytes_of, words_for, StandsAt}
 use Rattle.tlsf_heap.specs.Calls.{first_free, past_free, last_free, before_free}
@@ -162,6 +163,7 @@ pub record PutInFront (old new : RegionState) (class at most : ℕ) : Type 0 whe
   pub others : (other : ℕ) → other ≢ class → list_in new.lists other ≡ list_in old.lists other
   pub edits : Edits old new most
   pub touched : LeavesLive old.blocks old.touched new.touched
+  pub groups : InGroups 2 old.touched new.touched
 
 -- a place is taken out of the list of a class
 pub record TakenOut (old new : RegionState) (class at most : ℕ) : Type 0 where
@@ -170,3 +172,4 @@ pub record TakenOut (old new : RegionState) (class at most : ℕ) : Type 0 where
   pub others : (other : ℕ) → other ≢ class → list_in new.lists other ≡ list_in old.lists other
   pub edits : Edits old new most
   pub touched : LeavesLive old.blocks old.touched new.touched
+  pub groups : InGroups 3 old.touched new.touched

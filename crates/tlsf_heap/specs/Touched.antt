@@ -41,3 +41,8 @@ release_touches = 30
 -- list the rest, and for the payload of the block left 3 and one for each word
 abbrev pub resize_touches : Result (Unit {0}) Refusal → HeapState → Name → ℕ
 resize_touches answer left name = 27 + payload_words_left answer left name
+
+-- the groups of eight words in which all lies that a release touches: 2 of its own header, 1 of each neighbour's tag, 3 of the list of each of
+-- both that are free, 3 for the header of all and the tag behind, and 2 for the list that gets it
+abbrev pub release_groups : ℕ
+release_groups = 15

@@ -2,7 +2,7 @@
 ghost use Rattle.std.specs.Prelude.{◌≡◌, ◌≢◌, ◌+◌, ◌*◌, ◌/◌, ◌^◌, ◌≤◌, ◌<◌, true, false, length, slice_index, MatchOption};
 ghost use Rattle.tlsf_words.specs.Fields.{size_in, back_in, free_in};
 ghost use Rattle.tlsf_heap.specs.Blocks.{words_for};
-ghost use Rattle.tlsf_heap.specs.Checks.{Begins, BeginsFree, JoinsBefore, JoinsBehind, NextLeadsBack, PreviousLeadsBack, LeadsBack, IsSound, IsCheck, OnlyLooks, end_at, block_touches};
+ghost use Rattle.tlsf_heap.specs.Checks.{Begins, BeginsFree, JoinsBefore, JoinsBehind, NextLeadsBack, PreviousLeadsBack, LeadsBack, IsSound, IsCheck, OnlyLooks, OnlyHeaders, end_at, block_touches};
 ghost use Rattle.tlsf_heap.specs.Regions.{image_of};
 
 use crate::checked::Checked;
@@ -32,6 +32,9 @@ pub fn check_words(words: &mut Words, from: u32, most: u32) -> Option<Checked>
     ensures few { words.new.touches ≤ words.old.touches + 1 + block_touches * (length words.old.words / 4) }
     ensures touches_rise { words.old.touches ≤ words.new.touches }
 
+    // Whatever the words hold, none is read but those of headers: of no payload, and of no free block's rest.
+    ensures touched { OnlyHeaders (image_of words.old) words.old.touched words.new.touched }
+
     // Not even a start bit is read unless the place lies in the region, and no word unless a block begins there.
     ensures outside { length words.old.words ≤ from → words.new.touches ≡ words.old.touches }
     ensures nowhere { ¬ (Begins (image_of words.old) from) → words.new.touches ≤ words.old.touches + 1 }
@@ -56,6 +59,7 @@ pub fn check_words(words: &mut Words, from: u32, most: u32) -> Option<Checked>
 fn examine(words: &mut Words, at: u32) -> Option<u32>
     ensures answer { MatchOption result (¬ (IsSound (image_of words.old) at)) (λ end. IsSound (image_of words.old) at × (end ≡ end_at (image_of words.old) at)) }
     ensures looks { OnlyLooks words.old words.new block_touches }
+    ensures touched { OnlyHeaders (image_of words.old) words.old.touched words.new.touched }
 {
     if !begins(words, at) {
         return None;
@@ -87,6 +91,7 @@ fn begins(words: &mut Words, at: u32) -> bool
     ensures yes { result ≡ true → Begins (image_of words.old) at }
     ensures no { result ≡ false → ¬ (Begins (image_of words.old) at) }
     ensures looks { OnlyLooks words.old words.new 1 }
+    ensures touched { words.new.touched ≡ words.old.touched }
     ensures outside { length words.old.words ≤ at → words.new.touches ≡ words.old.touches }
     ensures small { length words.old.words ≤ 2 ^ 24 }
 {
@@ -98,6 +103,7 @@ fn begins_free(words: &mut Words, at: u32) -> bool
     ensures yes { result ≡ true → BeginsFree (image_of words.old) at }
     ensures no { result ≡ false → ¬ (BeginsFree (image_of words.old) at) }
     ensures looks { OnlyLooks words.old words.new 2 }
+    ensures touched { OnlyHeaders (image_of words.old) words.old.touched words.new.touched }
 {
     begins(words, at) && words.tag(at).is_free()
 }
@@ -107,6 +113,7 @@ fn joins_before(words: &mut Words, at: u32, back: u32) -> bool
     ensures yes { result ≡ true → JoinsBefore (image_of words.old) at back }
     ensures no { result ≡ false → ¬ (JoinsBefore (image_of words.old) at back) }
     ensures looks { OnlyLooks words.old words.new 2 }
+    ensures touched { OnlyHeaders (image_of words.old) words.old.touched words.new.touched }
 {
     if at == 0 {
         return back == NO_PLACE;
@@ -119,6 +126,7 @@ fn joins_behind(words: &mut Words, at: u32, end: u32, is_free: bool) -> bool
     ensures yes { result ≡ true → JoinsBehind (image_of words.old) at end is_free }
     ensures no { result ≡ false → ¬ (JoinsBehind (image_of words.old) at end is_free) }
     ensures looks { OnlyLooks words.old words.new 2 }
+    ensures touched { OnlyHeaders (image_of words.old) words.old.touched words.new.touched }
 {
     if !begins(words, end) {
         return false;
@@ -135,6 +143,7 @@ fn holds_length(words: &mut Words, at: u32, size: u32) -> bool
     ensures yes { result ≡ true → words_for (slice_index words.old.words (at + 2)) ≤ size }
     ensures no { result ≡ false → size < words_for (slice_index words.old.words (at + 2)) }
     ensures looks { OnlyLooks words.old words.new 1 }
+    ensures touched { Begins (image_of words.old) at → OnlyHeaders (image_of words.old) words.old.touched words.new.touched }
 {
     words.word(at + 2) <= 8 * (u64::from(size) - 3)
 }
@@ -145,6 +154,7 @@ fn leads_back(words: &mut Words, at: u32) -> bool
     ensures yes { result ≡ true → LeadsBack (image_of words.old) at }
     ensures no { result ≡ false → ¬ (LeadsBack (image_of words.old) at) }
     ensures looks { OnlyLooks words.old words.new 7 }
+    ensures touched { Begins (image_of words.old) at → OnlyHeaders (image_of words.old) words.old.touched words.new.touched }
 {
     let links = words.links(at);
     next_leads_back(words, at, links.next) && previous_leads_back(words, at, links.previous)
@@ -155,6 +165,7 @@ fn next_leads_back(words: &mut Words, at: u32, next: u32) -> bool
     ensures yes { result ≡ true → NextLeadsBack (image_of words.old) at next }
     ensures no { result ≡ false → ¬ (NextLeadsBack (image_of words.old) at next) }
     ensures looks { OnlyLooks words.old words.new 3 }
+    ensures touched { OnlyHeaders (image_of words.old) words.old.touched words.new.touched }
 {
     next == NO_PLACE || begins_free(words, next) && words.links(next).previous == at
 }
@@ -164,6 +175,7 @@ fn previous_leads_back(words: &mut Words, at: u32, previous: u32) -> bool
     ensures yes { result ≡ true → PreviousLeadsBack (image_of words.old) at previous }
     ensures no { result ≡ false → ¬ (PreviousLeadsBack (image_of words.old) at previous) }
     ensures looks { OnlyLooks words.old words.new 3 }
+    ensures touched { OnlyHeaders (image_of words.old) words.old.touched words.new.touched }
 {
     previous == NO_PLACE || begins_free(words, previous) && words.links(previous).next == at
 }

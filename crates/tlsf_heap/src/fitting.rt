@@ -10,6 +10,7 @@ ghost use Rattle.tlsf_heap.specs.Headers.{IsRest};
 ghost use Rattle.tlsf_heap.specs.Chosen.{IsHead, IsBestClass};
 ghost use Rattle.tlsf_heap.specs.Calls.{carved, coalesced, first_free, last_free, last_tick};
 ghost use Rattle.tlsf_heap.specs.FreePlaces.{AreFreeLists};
+ghost use Rattle.tlsf_words.specs.Touched.{InGroups};
 
 use crate::region::Region;
 use tlsf_class::{Class, class_of, most_words, search_of};
@@ -135,6 +136,7 @@ pub fn coalesce<const SLI: u32>(region: &mut Region<SLI>, tick: &mut u64, at: u3
     ensures listed { AreFreeLists SLI region.new.blocks (list_in region.new.lists) }
     ensures edits { Edits region.old region.new 27 }
     ensures touched { LeavesPayloads region.old.blocks at region.old.touched region.new.touched }
+    ensures groups { InGroups 13 region.old.touched region.new.touched }
     ensures tick { tick.new ≡ tick.old + 1 }
 {
     let next = next_tag(region, at, own);
@@ -160,6 +162,7 @@ pub fn next_tag<const SLI: u32>(region: &mut Region<SLI>, at: u32, own: Tag) -> 
     ensures tag { EachAt region.old.blocks at (λ s. IsNextTag region.old.words s result) }
     ensures reads { OnlyReads region.old region.new 1 }
     ensures touched { LeavesLive region.old.blocks region.old.touched region.new.touched }
+    ensures groups { InGroups 1 region.old.touched region.new.touched }
 {
     if own.is_last() {
         return Tag::new(0, false, false, 0);
@@ -177,6 +180,7 @@ fn previous_tag<const SLI: u32>(region: &mut Region<SLI>, at: u32, own: Tag) -> 
     ensures tag { EachAt region.old.blocks at (λ s. IsPreviousTag s result) }
     ensures reads { OnlyReads region.old region.new 1 }
     ensures touched { LeavesLive region.old.blocks region.old.touched region.new.touched }
+    ensures groups { InGroups 1 region.old.touched region.new.touched }
 {
     // No block is before the one at place 0, whose tag names none: a compare with 0 takes no constant.
     if at == 0 {
@@ -211,6 +215,7 @@ fn merge<const SLI: u32>(
     ensures listed { AreFreeLists SLI region.new.blocks (list_in region.new.lists) }
     ensures edits { Edits region.old region.new 25 }
     ensures touched { LeavesPayloads region.old.blocks at region.old.touched region.new.touched }
+    ensures groups { InGroups 11 region.old.touched region.new.touched }
 {
     let (place, size) = join(region, at, own, next, previous, tick);
     region.push(class_of(size), place);
@@ -243,6 +248,7 @@ fn join<const SLI: u32>(
     ensures listed { EachAt region.old.blocks at (λ s. AreFreeLists SLI (withheld s) (list_in region.new.lists)) }
     ensures edits { Edits region.old region.new 18 }
     ensures touched { LeavesLive region.old.blocks region.old.touched region.new.touched }
+    ensures groups { InGroups 9 region.old.touched region.new.touched }
 {
     if !next.is_free() {
         let before = previous.size();

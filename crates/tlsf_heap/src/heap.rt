@@ -17,9 +17,10 @@ ghost use Rattle.tlsf_heap.specs.Regions.{image_of};
 ghost use Rattle.tlsf_heap.specs.Reports.{report_of, IsGrant};
 ghost use Rattle.tlsf_heap.specs.Given.{payload_words_at, payload_words_given, payload_words_left};
 ghost use Rattle.tlsf_heap.specs.Unset.{lying, with_payload};
-ghost use Rattle.tlsf_heap.specs.Touched.{FollowsNoForgery, allocate_touches, release_touches, resize_touches, FollowsNoPlace, TouchesForWords};
+ghost use Rattle.tlsf_heap.specs.Touched.{FollowsNoForgery, allocate_touches, release_groups, release_touches, resize_touches, FollowsNoPlace, TouchesForWords};
 ghost use Rattle.tlsf_heap.specs.Calls.{opened, allocated, allocated_words, released, resized, resized_words, named, written, read_of, read_answer, has_bytes, last_tick};
 ghost use Rattle.tlsf_heap.specs.Kept.{IsAsBefore, Keeps};
+ghost use Rattle.tlsf_words.specs.Touched.{InGroups};
 
 mod aligned;
 mod by_place;
@@ -238,13 +239,16 @@ impl<const SLI: u32> Heap<SLI> {
         ensures touches { self.new.touches ≤ self.old.touches + 64 }
         ensures most_touches { self.new.touches ≤ self.old.touches + release_touches }
         ensures leaves { LeavesPayloads self.old.heap.blocks name.at self.old.touched self.new.touched }
+
+        // All lies in so many groups of eight words, but start bits and the lists.
+        ensures groups { InGroups release_groups self.old.touched self.new.touched }
         ensures refused { OnErr result (LeavesLive self.old.heap.blocks self.old.touched self.new.touched) }
         ensures forged { FollowsNoForgery self.old.heap name self.old.touches self.new.touches }
     {
-        match self.release_words(name) {
-            Ok(_words) => Ok(()),
-            Err(why) => Err(why),
-        }
+        // The tick is read for what is known of a heap, and nobody reads the count: it is more than any region has.
+        let _tick = self.tick;
+        let mut in_use = u32::MAX;
+        self.release_counted(name, &mut in_use)
     }
 
     /// Makes the payload of the block of that name `len` bytes long, where the block stands: its place and serial stay, so the name
@@ -605,6 +609,7 @@ impl<const SLI: u32> Heap<SLI> {
         ensures keeps { Keeps SLI self.old self.new }
         ensures touches { self.new.touches ≤ self.old.touches + 3 }
         ensures leaves { LeavesLive self.old.heap.blocks self.old.touched self.new.touched }
+        ensures groups { InGroups 2 self.old.touched self.new.touched }
         ensures forged { FollowsNoForgery self.old.heap name self.old.touches self.new.touches }
     {
         if name.heap != self.id {

@@ -1,6 +1,7 @@
 ghost use Rattle.std.specs.Prelude.{◌≡◌, ℕ, ◌+◌, ◌≤◌, ◌⊎◌, List, Result, Ok, Err, length, IfOk, IfErr, OnOk, OnErr, MatchResult};
 ghost use Rattle.tlsf_heap.specs.Blocks.{HeapState};
 ghost use Rattle.tlsf_heap.specs.Calls.{allocated, released, written, last_tick};
+ghost use Rattle.tlsf_heap.specs.Footprint.{LeavesLive};
 ghost use Rattle.tlsf_heap.specs.InPlace.{payload_of};
 ghost use Rattle.tlsf_heap.specs.Named.{IsNamed, RefusesName};
 ghost use Rattle.tlsf_heap.specs.Reports.{report_of, IsGrant};
@@ -88,6 +89,7 @@ pub trait Ledger<const SLI: u32>: Sized {
         ensures answer { MatchResult result (sees heap.old.heap name) (RefusesName heap.old.heap name) }
         ensures heap { heap.new.heap ≡ heap.old.heap }
         ensures stays { heap.new.extents ≡ heap.old.extents }
+        ensures leaves { LeavesLive heap.old.heap.blocks heap.old.touched heap.new.touched }
         ensures touches { heap.new.touches ≤ heap.old.touches + look_touches }
         ensures few { look_touches ≤ 4 }
         ensures rise { heap.old.touches ≤ heap.new.touches }

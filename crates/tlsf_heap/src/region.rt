@@ -4,6 +4,7 @@ ghost use Rattle.std.specs.List.{AllByRecursion};
 ghost use Rattle.tlsf_class.specs.Classes.{IsLevel, most_words, class_of};
 ghost use Rattle.tlsf_class.specs.Members.{next_member};
 ghost use Rattle.tlsf_words.specs.Bytes.{bytes_in, payload_byte};
+ghost use Rattle.tlsf_words.specs.Touched.{InGroups};
 ghost use Rattle.tlsf_words.specs.Lists.{listed_classes, IsUnlisted};
 ghost use Rattle.tlsf_heap.specs.Aligned.{IsFreeTest};
 ghost use Rattle.tlsf_heap.specs.Blocks.{Live, Free, size_of, is_free, bytes_of, words_for, want, StandsAt, IsPlace};
@@ -94,6 +95,7 @@ impl<const SLI: u32> Region<SLI> {
         ensures value { EachAt self.old.blocks at (λ s. result ≡ mark_of s.block) }
         ensures reads { OnlyReads self.old self.new 1 }
         ensures touched { LeavesLive self.old.blocks self.old.touched self.new.touched }
+        ensures groups { InGroups 1 self.old.touched self.new.touched }
     {
         self.words.mark(at)
     }
@@ -104,6 +106,7 @@ impl<const SLI: u32> Region<SLI> {
         ensures answer { IsNameTest at serial self.old.words self.old.blocks result }
         ensures reads { OnlyReads self.old self.new 3 }
         ensures touched { LeavesLive self.old.blocks self.old.touched self.new.touched }
+        ensures groups { InGroups 2 self.old.touched self.new.touched }
         ensures outside { self.old.words ≤ at → self.new.touches ≡ self.old.touches }
         ensures nowhere { at < self.old.words → ¬ (IsPlace self.old.blocks at) → self.new.touches ≡ self.old.touches + 1 }
     {
@@ -123,6 +126,7 @@ impl<const SLI: u32> Region<SLI> {
         ensures answer { IsPlaceTest at self.old.words self.old.blocks result }
         ensures reads { OnlyReads self.old self.new 2 }
         ensures touched { LeavesLive self.old.blocks self.old.touched self.new.touched }
+        ensures groups { InGroups 1 self.old.touched self.new.touched }
         ensures outside { self.old.words ≤ at → self.new.touches ≡ self.old.touches }
         ensures nowhere { ¬ (IsPlace self.old.blocks at) → self.new.touches ≤ self.old.touches + 1 }
     {
@@ -163,6 +167,7 @@ impl<const SLI: u32> Region<SLI> {
         ensures rooms { AllByRecursion HasRoom self.old.blocks }
         ensures reads { OnlyReads self.old self.new 1 }
         ensures touched { LeavesLive self.old.blocks self.old.touched self.new.touched }
+        ensures untouched { self.new.touched ≡ self.old.touched }
         ensures outside { self.old.words ≤ at → self.new.touches ≡ self.old.touches }
         ensures one { at < self.old.words → self.new.touches ≡ self.old.touches + 1 }
     {
@@ -202,6 +207,7 @@ impl<const SLI: u32> Region<SLI> {
         ensures few { self.new.touches ≤ self.old.touches + 1 + block_touches * (self.old.words / 4) }
         ensures outside { self.old.words ≤ from → self.new.touches ≡ self.old.touches }
         ensures nowhere { ¬ (Begins self.old.stored from) → self.new.touches ≤ self.old.touches + 1 }
+        ensures touched { LeavesLive self.old.blocks self.old.touched self.new.touched }
     {
         check_words(&mut self.words, from, most)
     }
@@ -212,6 +218,7 @@ impl<const SLI: u32> Region<SLI> {
         ensures value { EachAt self.old.blocks at (λ s. IsTagOf self.old.words s result) }
         ensures reads { OnlyReads self.old self.new 1 }
         ensures touched { LeavesLive self.old.blocks self.old.touched self.new.touched }
+        ensures groups { InGroups 1 self.old.touched self.new.touched }
     {
         self.words.tag(at)
     }
@@ -387,6 +394,7 @@ impl<const SLI: u32> Region<SLI> {
         requires unlisted { EachAt self.old.blocks at (λ s. AreUnlisted (list_in self.old.lists) at (at + size_of s.block)) }
         ensures change { EachAt self.old.blocks at (λ s. Rewrites self.old self.new (Calls.coalesced stamp s) 2) }
         ensures touched { LeavesLive self.old.blocks self.old.touched self.new.touched }
+        ensures groups { InGroups 2 self.old.touched self.new.touched }
     {
         free_header(&mut self.words, at, own.as_free(), stamp);
     }
@@ -412,6 +420,7 @@ impl<const SLI: u32> Region<SLI> {
         requires unlisted { AreUnlisted (list_in self.old.lists) (at - before) (at - before + tag.size) }
         ensures change { EachAt self.old.blocks at (λ s. Rewrites self.old self.new (Calls.coalesced stamp s) 6) }
         ensures touched { LeavesLive self.old.blocks self.old.touched self.new.touched }
+        ensures groups { InGroups 3 self.old.touched self.new.touched }
     {
         merge_headers(
             &mut self.words,

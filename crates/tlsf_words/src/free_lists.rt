@@ -4,7 +4,7 @@ ghost use Rattle.tlsf_class.specs.Members.{next_member, without_member};
 ghost use Rattle.tlsf_words.specs.Fields.{links_word, low_half, high_half};
 ghost use Rattle.tlsf_words.specs.Lists.{nowhere, list_of, without_place, AreThreaded, IsUnlisted, OnlyLinksChange};
 ghost use Rattle.tlsf_words.specs.Ties.{AreTied};
-ghost use Rattle.tlsf_words.specs.Touched.{OnlyLinks, OnlyTied};
+ghost use Rattle.tlsf_words.specs.Touched.{InGroups, OnlyLinks, OnlyTied};
 
 use crate::heads::{Heads, NO_PLACE};
 use crate::links::Links;
@@ -77,6 +77,7 @@ impl<const SLI: u32> FreeLists<SLI> {
         ensures stays { words.new.extents ≡ words.old.extents }
         ensures touches { self.new.touches + words.new.touches ≤ self.old.touches + words.old.touches + 7 }
         ensures touched { OnlyLinks (list_of self.old.heads words.old.words) at words.old.touched words.new.touched }
+        ensures groups { InGroups 2 words.old.touched words.new.touched }
         ensures rise { self.old.touches ≤ self.new.touches }
         ensures words_rise { words.old.touches ≤ words.new.touches }
     {
@@ -122,6 +123,7 @@ impl<const SLI: u32> FreeLists<SLI> {
         ensures stays { words.new.extents ≡ words.old.extents }
         ensures touches { self.new.touches + words.new.touches ≤ self.old.touches + words.old.touches + 6 }
         ensures touched { OnlyLinks (list_of self.old.heads words.old.words) at words.old.touched words.new.touched }
+        ensures groups { InGroups 3 words.old.touched words.new.touched }
         ensures rise { self.old.touches ≤ self.new.touches }
         ensures words_rise { words.old.touches ≤ words.new.touches }
     {
@@ -152,6 +154,7 @@ impl<const SLI: u32> FreeLists<SLI> {
         ensures stays { words.new.extents ≡ words.old.extents }
         ensures touches { self.new.touches + words.new.touches ≤ self.old.touches + words.old.touches + 6 }
         ensures touched { OnlyLinks (list_of self.old.heads words.old.words) at words.old.touched words.new.touched }
+        ensures groups { InGroups 3 words.old.touched words.new.touched }
         ensures rise { self.old.touches ≤ self.new.touches }
         ensures words_rise { words.old.touches ≤ words.new.touches }
     {
@@ -184,6 +187,7 @@ impl<const SLI: u32> FreeLists<SLI> {
         ensures stays { words.new.extents ≡ words.old.extents }
         ensures touches { self.new.touches + words.new.touches ≤ self.old.touches + words.old.touches + 7 }
         ensures touched { OnlyLinks (list_of self.old.heads words.old.words) result words.old.touched words.new.touched }
+        ensures groups { InGroups 2 words.old.touched words.new.touched }
         ensures rise { self.old.touches ≤ self.new.touches }
         ensures words_rise { words.old.touches ≤ words.new.touches }
     {

@@ -1,15 +1,16 @@
 -- A heap with a ledger.
-use Rattle.std.specs.Prelude.{◌≡◌, ℕ, ◌≤◌}
+use Rattle.std.specs.Prelude.{◌≡◌, ℕ, ◌≤◌, List}
 use Rattle.tlsf_words.specs.Memory.{Extents}
 use Rattle.tlsf_heap.specs.Blocks.{HeapState}
 use Rattle.tlsf_heap.specs.Lawful.{IsLawful}
 
--- what a heap with a ledger shows: its heap, the ledger, and the heap's memory and touches
+-- what a heap with a ledger shows: its heap, the ledger, and the heap's memory, touches and touched words
 pub record LedgerState (L : Type 0) : Type 0 where
   pub heap : HeapState
   pub ledger : L
   pub extents : Extents
   pub touches : ℕ
+  pub touched : List ℕ
 
 -- the heap is lawful, and the ledger is one of it
 pub record IsLedgered {L : Type 0} (IsOf : HeapState → L → Type 0) (s : LedgerState L) : Type 0 where

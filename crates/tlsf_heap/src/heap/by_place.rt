@@ -4,7 +4,8 @@ ghost use Rattle.tlsf_heap.specs.ByPlace.{name_at, released_by_place, resized_by
 ghost use Rattle.tlsf_heap.specs.Footprint.{LeavesLive, LeavesPayloads};
 ghost use Rattle.tlsf_heap.specs.Laws.{IsLive};
 ghost use Rattle.tlsf_heap.specs.Kept.{IsAsBefore, Keeps};
-ghost use Rattle.tlsf_heap.specs.Touched.{FollowsNoPlace};
+ghost use Rattle.tlsf_heap.specs.Touched.{FollowsNoPlace, release_groups};
+ghost use Rattle.tlsf_words.specs.Touched.{InGroups};
 
 use super::{Heap, want};
 use crate::name::Name;
@@ -63,13 +64,16 @@ impl<const SLI: u32> Heap<SLI> {
         // Accepted or refused, and whatever the region holds: one fewer than `release`, since no serial is read.
         ensures touches { self.new.touches ≤ self.old.touches + 29 }
         ensures leaves { LeavesPayloads self.old.heap.blocks at self.old.touched self.new.touched }
+
+        // All lies in so many groups of eight words, but start bits and the lists.
+        ensures groups { InGroups release_groups self.old.touched self.new.touched }
         ensures refused { OnErr result (LeavesLive self.old.heap.blocks self.old.touched self.new.touched) }
         ensures wild { FollowsNoPlace self.old.heap at self.old.touches self.new.touches }
     {
-        match self.release_words_at(at) {
-            Ok(_words) => Ok(()),
-            Err(why) => Err(why),
-        }
+        // As in `release`.
+        let _tick = self.tick;
+        let mut in_use = u32::MAX;
+        self.release_counted_at(at, &mut in_use)
     }
 
     /// Makes the payload of the live block that begins at a place `len` bytes long, where the block stands: a `resize` of the name that

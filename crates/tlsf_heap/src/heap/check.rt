@@ -1,6 +1,7 @@
 ghost use Rattle.std.specs.Prelude.{◌+◌, ◌*◌, ◌/◌, ◌≤◌, MatchOption};
 ghost use Rattle.tlsf_heap.specs.Blocks.{IsPlace};
 ghost use Rattle.tlsf_heap.specs.Checks.{IsCheck, FindsSound, block_touches};
+ghost use Rattle.tlsf_heap.specs.Footprint.{LeavesLive};
 ghost use Rattle.tlsf_heap.specs.Kept.{IsAsBefore, Keeps};
 ghost use Rattle.tlsf_heap.specs.Touched.{FollowsNoPlace};
 
@@ -31,6 +32,7 @@ impl<const SLI: u32> Heap<SLI> {
         // At most 13 for each block looked at, and one for the first start bit. No two blocks that are looked at begin within four words.
         ensures touches { self.new.touches ≤ self.old.touches + 1 + block_touches * most }
         ensures few { self.new.touches ≤ self.old.touches + 1 + block_touches * (self.old.heap.words / 4) }
+        ensures leaves { LeavesLive self.old.heap.blocks self.old.touched self.new.touched }
 
         // Not even a start bit is read unless the place lies in the region, and no word unless a block begins there.
         ensures wild { FollowsNoPlace self.old.heap from self.old.touches self.new.touches }

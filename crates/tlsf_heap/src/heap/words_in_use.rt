@@ -1,13 +1,14 @@
-ghost use Rattle.std.specs.Prelude.{◌≡◌, ◌+◌, ◌≤◌, Ok, Err, IfOk, OnOk, OnErr, MatchResult};
+ghost use Rattle.std.specs.Prelude.{◌≡◌, ◌+◌, ◌≤◌, Err, OnOk, OnErr, MatchResult};
 ghost use Rattle.tlsf_class.specs.Classes.{most_words};
 ghost use Rattle.tlsf_heap.specs.ByPlace.{released_by_place};
 ghost use Rattle.tlsf_heap.specs.Calls.{released};
 ghost use Rattle.tlsf_heap.specs.Footprint.{LeavesLive, LeavesPayloads};
 ghost use Rattle.tlsf_heap.specs.Laws.{IsLive};
 ghost use Rattle.tlsf_heap.specs.Named.{RefusesName};
-ghost use Rattle.tlsf_heap.specs.Touched.{FollowsNoForgery, release_touches, FollowsNoPlace};
-ghost use Rattle.tlsf_heap.specs.WordsInUse.{words_in_use, words_at, AnswersAs, CameBack};
+ghost use Rattle.tlsf_heap.specs.Touched.{FollowsNoForgery, release_groups, release_touches, FollowsNoPlace};
+ghost use Rattle.tlsf_heap.specs.WordsInUse.{words_in_use, words_at, CameOff};
 ghost use Rattle.tlsf_heap.specs.Kept.{IsAsBefore, Keeps};
+ghost use Rattle.tlsf_words.specs.Touched.{InGroups};
 
 use super::Heap;
 use crate::fitting::coalesce;
@@ -64,27 +65,38 @@ impl<const SLI: u32> Heap<SLI> {
         Ok(held)
     }
 
-    /// A `release`, refused as that is, that answers how many words came back: those of the block, its three of the header with them.
+    /// A `release`, refused as that is, that takes the words which come back off a count of those in use: the words of the block, its three
+    /// of the header with them. Where it is refused, the count stays. Takes no memory.
+    ///
+    /// `in_use` is at least the words in use.
     ///
     /// ```text
+    /// let mut in_use = 0;
     /// let name = heap.allocate(100)?;
-    /// heap.release_words(name) == Ok(16)
-    /// heap.release_words(name) == Err(Refusal::Stale)
+    /// in_use += heap.words_of_live(name);                         // 16
+    /// heap.release_counted(name, &mut in_use)?;                   // 0
+    /// heap.release_counted(name, &mut in_use) == Err(Refusal::Stale)
     /// ```
+    // The words are taken off in front of the merge, so that nothing of the count lives in a register over that.
     #[inline(always)]
-    pub fn release_words(&mut self, name: Name) -> Result<u32, Refusal>
-        ensures answer { AnswersAs (released self.old.heap name).answer result }
-        ensures back { IfOk result (CameBack self.old.heap self.new.heap name.at) }
+    pub fn release_counted(&mut self, name: Name, in_use: &mut u32) -> Result<(), Refusal>
+        requires counted { words_in_use self.old.heap ≤ in_use.old }
+        ensures answer { result ≡ (released self.old.heap name).answer }
         ensures heap { self.new.heap ≡ (released self.old.heap name).heap }
+        ensures off { OnOk result (CameOff self.old.heap self.new.heap name.at in_use.old in_use.new) }
 
         // A refusal changes nothing.
         ensures err { OnErr result (IsAsBefore self.old self.new) }
+        ensures count { OnErr result (in_use.new ≡ in_use.old) }
         ensures keeps { Keeps SLI self.old self.new }
 
         // Accepted or refused, and whatever the region holds: at most 64 touches.
         ensures touches { self.new.touches ≤ self.old.touches + 64 }
         ensures most_touches { self.new.touches ≤ self.old.touches + release_touches }
         ensures leaves { LeavesPayloads self.old.heap.blocks name.at self.old.touched self.new.touched }
+
+        // All lies in so many groups of eight words, but start bits and the lists.
+        ensures groups { InGroups release_groups self.old.touched self.new.touched }
         ensures refused { OnErr result (LeavesLive self.old.heap.blocks self.old.touched self.new.touched) }
         ensures forged { FollowsNoForgery self.old.heap name self.old.touches self.new.touches }
     {
@@ -92,31 +104,41 @@ impl<const SLI: u32> Heap<SLI> {
         if self.tick == u64::MAX {
             return Err(Refusal::Worn);
         }
+        *in_use -= own.size();
         coalesce(&mut self.region, &mut self.tick, name.at, own);
-        let words = own.size();
-        Ok(words)
+        Ok(())
     }
 
-    /// A `release_at`, refused as that is, that answers how many words came back: those of the block, its three of the header with them.
+    /// A `release_at`, refused as that is, that takes the words which come back off a count of those in use, as `release_counted` does. Where
+    /// it is refused, the count stays. Takes no memory.
+    ///
+    /// `in_use` is at least the words in use.
     ///
     /// ```text
+    /// let mut in_use = 0;
     /// let name = heap.allocate(100)?;
-    /// heap.release_words_at(name.at) == Ok(16)
-    /// heap.release_words_at(name.at) == Err(Refusal::Stale)
+    /// in_use += heap.words_of_live(name);                         // 16
+    /// heap.release_counted_at(name.at, &mut in_use)?;             // 0
+    /// heap.release_counted_at(name.at, &mut in_use) == Err(Refusal::Stale)
     /// ```
     #[inline(always)]
-    pub fn release_words_at(&mut self, at: u32) -> Result<u32, Refusal>
-        ensures answer { AnswersAs (released_by_place self.old.heap at).answer result }
-        ensures back { IfOk result (CameBack self.old.heap self.new.heap at) }
+    pub fn release_counted_at(&mut self, at: u32, in_use: &mut u32) -> Result<(), Refusal>
+        requires counted { words_in_use self.old.heap ≤ in_use.old }
+        ensures answer { result ≡ (released_by_place self.old.heap at).answer }
         ensures heap { self.new.heap ≡ (released_by_place self.old.heap at).heap }
+        ensures off { OnOk result (CameOff self.old.heap self.new.heap at in_use.old in_use.new) }
 
         // A refusal changes nothing.
         ensures err { OnErr result (IsAsBefore self.old self.new) }
+        ensures count { OnErr result (in_use.new ≡ in_use.old) }
         ensures keeps { Keeps SLI self.old self.new }
 
-        // Accepted or refused, and whatever the region holds: one fewer than `release_words`, since no serial is read.
+        // Accepted or refused, and whatever the region holds: one fewer than `release_counted`, since no serial is read.
         ensures touches { self.new.touches ≤ self.old.touches + 29 }
         ensures leaves { LeavesPayloads self.old.heap.blocks at self.old.touched self.new.touched }
+
+        // All lies in so many groups of eight words, but start bits and the lists.
+        ensures groups { InGroups release_groups self.old.touched self.new.touched }
         ensures refused { OnErr result (LeavesLive self.old.heap.blocks self.old.touched self.new.touched) }
         ensures wild { FollowsNoPlace self.old.heap at self.old.touches self.new.touches }
     {
@@ -126,7 +148,8 @@ impl<const SLI: u32> Heap<SLI> {
         if self.tick == u64::MAX {
             return Err(Refusal::Worn);
         }
+        *in_use -= own.size();
         coalesce(&mut self.region, &mut self.tick, at, own);
-        Ok(own.size())
+        Ok(())
     }
 }

@@ -1,6 +1,7 @@
 ghost use Rattle.std.specs.Prelude.{◌≡◌, ◌+◌, ◌≤◌, ◌↔◌, IfOk, OnErr, IsErrOf, ⊤};
 ghost use Rattle.tlsf_class.specs.Classes.{IsLevel};
 ghost use Rattle.tlsf_heap.specs.Calls.{opened, resized, last_tick};
+ghost use Rattle.tlsf_heap.specs.Footprint.{LeavesLive, LeavesPayloads};
 ghost use Rattle.tlsf_heap.specs.Given.{payload_words_left};
 ghost use Rattle.tlsf_heap.specs.Lawful.{IsRegion};
 ghost use Rattle.tlsf_heap.specs.Touched.{FollowsNoForgery, resize_touches};
@@ -136,6 +137,8 @@ impl<const SLI: u32> Ledgered<SLI, Counts> {
         ensures ledger { self.new.ledger ≡ self.old.ledger }
         ensures err { OnErr result (SameLedger self.old self.new) }
         ensures keeps { KeepsLedger AreCounts self.old self.new }
+        ensures leaves { LeavesPayloads self.old.heap.blocks name.at self.old.touched self.new.touched }
+        ensures refused { OnErr result (LeavesLive self.old.heap.blocks self.old.touched self.new.touched) }
 
         // Accepted or refused, and whatever the region holds: at most 64 touches, and one for each payload word of the block that is left.
         ensures touches { self.new.touches ≤ self.old.touches + 64 + payload_words_left result self.new.heap name }

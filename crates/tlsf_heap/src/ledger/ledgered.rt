@@ -2,6 +2,7 @@ ghost use Rattle.std.specs.Fn.{FnOnceTakesAt, FnOnceTakesAtMut};
 ghost use Rattle.std.specs.Prelude.{◌≡◌, ℕ, List, ◌+◌, ◌*◌, ◌/◌, ◌≤◌, ◌↔◌, length, IfOk, IsTrue, OnOk, OnErr};
 ghost use Rattle.std.specs.Result.{result_unwrap_or};
 ghost use Rattle.tlsf_heap.specs.Calls.{allocated, released, written, read_of, read_answer};
+ghost use Rattle.tlsf_heap.specs.Footprint.{LeavesLive, LeavesPayloads};
 ghost use Rattle.tlsf_heap.specs.Given.{payload_words_given};
 ghost use Rattle.tlsf_heap.specs.InPlace.{ArePayload, Alters, Inspects, IsRefusedAsRead, payload_of};
 ghost use Rattle.tlsf_heap.specs.Laws.{IsLive};
@@ -20,7 +21,7 @@ use std::marker::Model;
 
 /// A heap with a ledger, which notes what is given and what comes back. Its level is that of its heap, 4 or 5.
 ///
-/// Contracts see it as its heap, the ledger, the heap's memory (`extents`) and its touches. The ledger is always one of the heap (`IsLedgered`): what it
+/// Contracts see it as its heap, the ledger, the heap's memory (`extents`), its touches and the words that they touched. The ledger is always one of the heap (`IsLedgered`): what it
 /// notes is true of the live blocks. A call that is refused changes neither. Places and sizes are in words of 8 bytes, lengths in
 /// bytes.
 #[derive(Drop)]
@@ -34,9 +35,9 @@ impl<const SLI: u32, L: Ledger<SLI>> Model for Ledgered<SLI, L> {
 
     ghost Value = { LedgerState L };
 
-    ghost view = { λ c. record { heap = c.heap.heap; ledger = c.ledger; extents = c.heap.extents; touches = c.heap.touches } };
+    ghost view = { λ c. record { heap = c.heap.heap; ledger = c.ledger; extents = c.heap.extents; touches = c.heap.touches; touched = c.heap.touched } };
 
-    ghost invariant = { λ c. IsLedgered (L.holds SLI) (record { heap = c.heap.heap; ledger = c.ledger; extents = c.heap.extents; touches = c.heap.touches }) };
+    ghost invariant = { λ c. IsLedgered (L.holds SLI) (record { heap = c.heap.heap; ledger = c.ledger; extents = c.heap.extents; touches = c.heap.touches; touched = c.heap.touched }) };
 }
 
 impl<const SLI: u32, L: Ledger<SLI>> Ledgered<SLI, L> {
@@ -46,11 +47,12 @@ impl<const SLI: u32, L: Ledger<SLI>> Ledgered<SLI, L> {
     /// let counted = Ledgered::new(heap, counts);       // of a new heap: no grant and no return
     /// ```
     pub fn new(heap: Heap<SLI>, ledger: L) -> Ledgered<SLI, L>
-        requires { IsLedgered (L.holds SLI) (record { heap = heap.heap; ledger = ledger; extents = heap.extents; touches = heap.touches }) }
+        requires { IsLedgered (L.holds SLI) (record { heap = heap.heap; ledger = ledger; extents = heap.extents; touches = heap.touches; touched = heap.touched }) }
         ensures heap { result.heap ≡ heap.entry.heap }
         ensures ledger { result.ledger ≡ ledger }
         ensures extents { result.extents ≡ heap.entry.extents }
         ensures touches { result.touches ≡ heap.entry.touches }
+        ensures touched { result.touched ≡ heap.entry.touched }
     {
         Ledgered { heap, ledger }
     }
@@ -88,6 +90,7 @@ impl<const SLI: u32, L: Ledger<SLI>> Ledgered<SLI, L> {
         ensures limits { L.same_limits self.old.ledger self.new.ledger }
         ensures err { OnErr result (SameLedger self.old self.new) }
         ensures keeps { KeepsLedger (L.holds SLI) self.old self.new }
+        ensures leaves { LeavesLive self.old.heap.blocks self.old.touched self.new.touched }
 
         // Accepted or refused, and whatever the region holds: at most 64 touches, and one for each payload word of the block given.
         ensures touches { self.new.touches ≤ self.old.touches + 64 + payload_words_given result self.new.heap }
@@ -122,6 +125,8 @@ impl<const SLI: u32, L: Ledger<SLI>> Ledgered<SLI, L> {
         ensures limits { L.same_limits self.old.ledger self.new.ledger }
         ensures err { OnErr result (SameLedger self.old self.new) }
         ensures keeps { KeepsLedger (L.holds SLI) self.old self.new }
+        ensures leaves { LeavesPayloads self.old.heap.blocks name.at self.old.touched self.new.touched }
+        ensures refused { OnErr result (LeavesLive self.old.heap.blocks self.old.touched self.new.touched) }
 
         // Accepted or refused, and whatever the region holds: at most 64 touches.
         ensures touches { self.new.touches ≤ self.old.touches + 64 }
@@ -157,6 +162,8 @@ impl<const SLI: u32, L: Ledger<SLI>> Ledgered<SLI, L> {
         ensures ledger { self.new.ledger ≡ self.old.ledger }
         ensures err { OnErr result (SameLedger self.old self.new) }
         ensures keeps { KeepsLedger (L.holds SLI) self.old self.new }
+        ensures leaves { LeavesPayloads self.old.heap.blocks name.at self.old.touched self.new.touched }
+        ensures refused { OnErr result (LeavesLive self.old.heap.blocks self.old.touched self.new.touched) }
         ensures touches { self.new.touches ≤ self.old.touches + 4 + 2 * (length bytes.now / 8 + 2) }
         ensures forged { FollowsNoForgery self.old.heap name self.old.touches self.new.touches }
     {
@@ -181,6 +188,8 @@ impl<const SLI: u32, L: Ledger<SLI>> Ledgered<SLI, L> {
         ensures bytes { out.new ≡ result_unwrap_or (read_of self.old.heap name at (length out.old)) out.old }
         ensures same { SameLedger self.old self.new }
         ensures keeps { KeepsLedger (L.holds SLI) self.old self.new }
+        ensures leaves { LeavesPayloads self.old.heap.blocks name.at self.old.touched self.new.touched }
+        ensures refused { OnErr result (LeavesLive self.old.heap.blocks self.old.touched self.new.touched) }
         ensures touches { self.new.touches ≤ self.old.touches + 4 + (length out.old / 8 + 2) }
         ensures forged { FollowsNoForgery self.old.heap name self.old.touches self.new.touches }
     {
@@ -205,6 +214,7 @@ impl<const SLI: u32, L: Ledger<SLI>> Ledgered<SLI, L> {
         ensures ledger { self.new.ledger ≡ self.old.ledger }
         ensures err { OnErr result (SameLedger self.old self.new) }
         ensures keeps { KeepsLedger (L.holds SLI) self.old self.new }
+        ensures leaves { LeavesLive self.old.heap.blocks self.old.touched self.new.touched }
         ensures touches { self.new.touches ≤ self.old.touches + 4 }
         ensures forged { FollowsNoForgery self.old.heap name self.old.touches self.new.touches }
     {
@@ -228,6 +238,7 @@ impl<const SLI: u32, L: Ledger<SLI>> Ledgered<SLI, L> {
         ensures inspected { IfOk result (λ r. Inspects F.FnOnce f self.old.heap name r) }
         ensures same { SameLedger self.old self.new }
         ensures keeps { KeepsLedger (L.holds SLI) self.old self.new }
+        ensures leaves { LeavesLive self.old.heap.blocks self.old.touched self.new.touched }
         ensures touches { self.new.touches ≤ self.old.touches + 4 }
         ensures forged { FollowsNoForgery self.old.heap name self.old.touches self.new.touches }
     {
@@ -251,6 +262,7 @@ impl<const SLI: u32, L: Ledger<SLI>> Ledgered<SLI, L> {
         ensures reports { L.reports self.old.ledger result }
         ensures same { SameLedger self.old self.new }
         ensures keeps { KeepsLedger (L.holds SLI) self.old self.new }
+        ensures leaves { LeavesLive self.old.heap.blocks self.old.touched self.new.touched }
 
         // Two for each block, and no block has fewer than four words.
         ensures touches { self.new.touches ≤ self.old.touches + 2 * length self.old.heap.blocks }
@@ -271,6 +283,7 @@ impl<const SLI: u32, L: Ledger<SLI>> Ledgered<SLI, L> {
         ensures block { result ≡ placed_at self.old.heap.blocks at }
         ensures same { SameLedger self.old self.new }
         ensures keeps { KeepsLedger (L.holds SLI) self.old self.new }
+        ensures leaves { LeavesLive self.old.heap.blocks self.old.touched self.new.touched }
         ensures touches { self.new.touches ≤ self.old.touches + 4 }
         ensures wild { FollowsNoPlace self.old.heap at self.old.touches self.new.touches }
     {
@@ -287,6 +300,7 @@ impl<const SLI: u32, L: Ledger<SLI>> Ledgered<SLI, L> {
         ensures live { IsTrue result ↔ IsLive self.old.heap name }
         ensures same { SameLedger self.old self.new }
         ensures keeps { KeepsLedger (L.holds SLI) self.old self.new }
+        ensures leaves { LeavesLive self.old.heap.blocks self.old.touched self.new.touched }
         ensures touches { self.new.touches ≤ self.old.touches + 3 }
         ensures forged { FollowsNoForgery self.old.heap name self.old.touches self.new.touches }
     {

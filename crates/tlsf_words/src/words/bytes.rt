@@ -1,5 +1,5 @@
 ghost use Rattle.std.specs.Prelude.{◌≡◌, ℕ, ◌+◌, ◌-◌, ◌*◌, ◌/◌, ◌<◌, ◌≤◌, ◌≢◌, ◌^◌, ◌⊎◌, ◌∷◌, length, slice_index};
-ghost use Rattle.tlsf_words.specs.Bytes.{AreApart, byte_in, bytes_in, payload_byte};
+ghost use Rattle.tlsf_words.specs.Bytes.{RangesAreApart, byte_in, bytes_in, payload_byte};
 ghost use Rattle.tlsf_words.specs.Touched.{times};
 
 use super::Words;
@@ -105,7 +105,7 @@ impl Words {
     pub fn copy_payload(&mut self, from: u32, to: u32, len: u32)
         requires from { payload_byte from len ≤ 8 * length self.old.words }
         requires to { payload_byte to len ≤ 8 * length self.old.words }
-        requires apart { AreApart from to (len / 8) }
+        requires apart { RangesAreApart from to (len / 8) }
         ensures bytes { bytes_in self.new.words (payload_byte to 0) len ≡ bytes_in self.old.words (payload_byte from 0) len }
         ensures before { (k : ℕ) → k < payload_byte to 0 → byte_in self.new.words k ≡ byte_in self.old.words k }
         ensures behind { (k : ℕ) → payload_byte to len ≤ k → byte_in self.new.words k ≡ byte_in self.old.words k }
@@ -137,7 +137,7 @@ impl Words {
     fn copy_words(&mut self, from: usize, to: usize, n: usize)
         requires from { from + n ≤ length self.old.words }
         requires to { to + n ≤ length self.old.words }
-        requires apart { AreApart from to n }
+        requires apart { RangesAreApart from to n }
         requires small { (from < 2 ^ 40) × (to < 2 ^ 40) × (n < 2 ^ 40) }
         ensures copied { (k : ℕ) → k < 8 * n → byte_in self.new.words (8 * to + k) ≡ byte_in self.old.words (8 * from + k) }
         ensures before { (k : ℕ) → k < 8 * to → byte_in self.new.words k ≡ byte_in self.old.words k }

@@ -1,7 +1,8 @@
 use Rattle.std.proofs.Common.{◌≡◌, ◌+◌, List, ℕ, Bool, length, sym, ap, ◌∙◌, eq-eqb, cond, subst, arith}
-use Rattle.tlsf_heap.specs.Checks.{Begins}
+use Rattle.tlsf_heap.specs.Checks.{Begins, OnlyHeaders}
+use Rattle.tlsf_heap.specs.Image.{Image}
 use Rattle.tlsf_heap.specs.Regions.{image_of}
-use Rattle.tlsf_heap.proofs.lemmas.words.Checks.{sound_up_to}
+use Rattle.tlsf_heap.proofs.lemmas.words.Checks.{same_image, sound_up_to}
 use Rattle.tlsf_heap.proofs.check.check_words.Goals as goal
 
 pub returns-then-end-len-clause-answer : goal.returns-then-end-len-clause-answer
@@ -37,4 +38,5 @@ loop-count-preserved c =
         touches = omega (arith, looks.touches, before.touches);
         rise = omega (arith, looks.rise, before.rise);
       };
+      touched = λ k other. subst (λ (m : Image). OnlyHeaders m c.loop-count.words.touched c.examine.new.words.touched) (same_image before) c.examine.ensures.touched k other ∙ c.loop-count.invariant.touched k other;
     }

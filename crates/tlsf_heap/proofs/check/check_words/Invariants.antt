@@ -1,5 +1,5 @@
 use Rattle.std.proofs.Common.{◌+◌, ◌*◌, ◌≤◌}
-use Rattle.tlsf_heap.specs.Checks.{Begins, AreSound, OnlyLooks, block_touches}
+use Rattle.tlsf_heap.specs.Checks.{Begins, AreSound, OnlyLooks, OnlyHeaders, block_touches}
 use Rattle.tlsf_heap.specs.Regions.{image_of}
 use Rattle.tlsf_heap.proofs.check.check_words.Given as goal
 
@@ -10,4 +10,5 @@ invariant-loop-count l = record {
   begins : Begins (image_of l.fn.words) l.at;
   far : l.fn.from + 4 * l._count ≤ l.at;
   looks : OnlyLooks l.fn.words l.words (1 + block_touches * l._count);
+  touched : OnlyHeaders (image_of l.fn.words) l.fn.words.touched l.words.touched;
 }

@@ -9,6 +9,7 @@ use Rattle.tlsf_heap.proofs.lemmas.blocks.Around.{one_index}
 use Rattle.tlsf_heap.specs.Blocks.{Block}
 use Rattle.tlsf_heap.specs.Footprint.{IsLiveWord}
 use Rattle.tlsf_heap.proofs.lemmas.words.Footprint.{others_last}
+use Rattle.tlsf_words.proofs.Touching.{more_groups, groups_then}
 use Rattle.tlsf_heap.proofs.fitting.coalesce.Goals as goal
 
 pub free-requires : goal.free-requires
@@ -104,3 +105,20 @@ returns-clause-touched g c k o =
     ∙ (rw blocks at c.free.ensures.touched) k word
     ∙ (rw next.reads.blocks at previous.touched) k word
     ∙ next.touched k word
+
+pub returns-clause-groups : goal.returns-clause-groups
+returns-clause-groups g c =
+    more_groups (omega arith) (groups_then (groups_then (groups_then c.next_tag-next.ensures.groups c.previous_tag-previous.ensures.groups) c.free.ensures.groups) c.push.ensures.groups)
+
+-- ---- a neighbour is free
+
+pub returns-then-is_free-clause-touched : goal.returns-then-is_free-clause-touched
+returns-then-is_free-clause-touched g c k o =
+    let next = c.next_tag-next.ensures in
+    let previous = c.previous_tag-previous.ensures in
+    let blocks = previous.reads.blocks ∙ next.reads.blocks in
+    let word : IsLiveWord c.args.region.now.blocks k = (o.0, o.1, o.2, o.3) in
+    (rw blocks at c.merge.ensures.touched) k o ∙ (rw next.reads.blocks at previous.touched) k word ∙ next.touched k word
+
+pub returns-then-is_free-clause-groups : goal.returns-then-is_free-clause-groups
+returns-then-is_free-clause-groups g c = groups_then (groups_then c.next_tag-next.ensures.groups c.previous_tag-previous.ensures.groups) c.merge.ensures.groups

@@ -5,6 +5,7 @@ use Rattle.tlsf_heap.proofs.lemmas.blocks.Neighbours.{inner_is}
 use Rattle.tlsf_heap.proofs.lemmas.calls.Kept.{edits_both}
 use Rattle.tlsf_heap.proofs.lemmas.words.Free.{with_previous_are, with_next_are, with_both_are}
 use Rattle.tlsf_heap.proofs.lemmas.lists.Withheld.{tagged, ahead_is, ahead_within, ahead_region, ahead_out, behind_region, behind_listed, behind_out, nothing_out, end_within, before_within, contains_previous, withheld_listed, rest_unlisted, none_ahead}
+use Rattle.tlsf_words.proofs.Touching.{more_groups, groups_then}
 use Rattle.tlsf_heap.proofs.fitting.join.Goals as goal
 
 -- ---- only the block before is free
@@ -241,3 +242,12 @@ pub returns-clause-touched : goal.returns-clause-touched
 returns-clause-touched g c k live =
     let blocks = c.remove-3.ensures.blocks ∙ c.remove-2.ensures.blocks in
     (rw blocks at c.merge-2.ensures.touched) k live ∙ (rw c.remove-2.ensures.blocks at c.remove-3.ensures.touched) k live ∙ c.remove-2.ensures.touched k live
+
+pub returns-then-not-is_free-clause-groups : goal.returns-then-not-is_free-clause-groups
+returns-then-not-is_free-clause-groups g c = more_groups (omega arith) (groups_then c.remove.ensures.groups c.merge.ensures.groups)
+
+pub returns-then-not-is_free-2-clause-groups : goal.returns-then-not-is_free-2-clause-groups
+returns-then-not-is_free-2-clause-groups g c = more_groups (omega arith) (groups_then c.remove-2.ensures.groups c.merge-then-not-is_free-2.ensures.groups)
+
+pub returns-clause-groups : goal.returns-clause-groups
+returns-clause-groups g c = groups_then (groups_then c.remove-2.ensures.groups c.remove-3.ensures.groups) c.merge-2.ensures.groups

@@ -6,6 +6,7 @@ use Rattle.tlsf_heap.proofs.lemmas.lists.Withheld.{is_between, size_region, end_
 use Rattle.tlsf_heap.specs.Blocks.{Block}
 use Rattle.tlsf_heap.specs.Footprint.{IsLiveWord}
 use Rattle.tlsf_heap.proofs.lemmas.words.Footprint.{others_last}
+use Rattle.tlsf_words.proofs.Touching.{groups_then}
 use Rattle.tlsf_heap.proofs.fitting.merge.Goals as goal
 
 pub class_of-requires : goal.class_of-requires
@@ -53,3 +54,6 @@ returns-clause-touched g c k o =
     let e = c.join-place.ensures in
     c.push.ensures.touched k (subst (λ (bs : List Block). IsLiveWord bs k) (sym (e.blocks live.0 live.1)) (others_last c.args.tick c.args.region.now.blocks c.args.at live.0 k live.1 o))
     ∙ e.touched k (o.0, o.1, o.2, o.3)
+
+pub returns-clause-groups : goal.returns-clause-groups
+returns-clause-groups g c = groups_then c.join-place.ensures.groups c.push.ensures.groups

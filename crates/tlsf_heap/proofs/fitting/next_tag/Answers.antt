@@ -1,6 +1,7 @@
-use Rattle.std.proofs.Common.{sym, ◌∙◌, arith}
+use Rattle.std.proofs.Common.{sym, ◌∙◌, arith, refl}
 use Rattle.tlsf_class.proofs.TwoLevels.{most_words_any}
 use Rattle.tlsf_heap.proofs.lemmas.blocks.Neighbours.{tag_at, end_is, live_next, next_is, none_behind, place_behind, short_end, ends_within}
+use Rattle.tlsf_words.proofs.Touching.{no_groups, more_groups}
 use Rattle.tlsf_heap.proofs.fitting.next_tag.Goals as goal
 
 pub returns-then-is_last-clause-tag : goal.returns-then-is_last-clause-tag
@@ -23,3 +24,6 @@ returns-clause-tag g c i stands =
     let is = tag_at g.row.SLI c.args.own c.requires.sized c.requires.own stands in
     next_is c.requires.whole g.row.SLI c.requires.sized stands (short_end c.requires.whole stands is (sym c.is_last.ensures ∙ c.if-is_last.false))
     ((rw (c.size.ensures.value, is.size) at c.tag.ensures.value))
+
+pub returns-then-is_last-clause-groups : goal.returns-then-is_last-clause-groups
+returns-then-is_last-clause-groups g c = more_groups (omega arith) (no_groups {old = c.args.region.now.touched} refl)

@@ -1,6 +1,7 @@
-use Rattle.std.proofs.Common.{arith}
+use Rattle.std.proofs.Common.{arith, refl}
 use Rattle.tlsf_class.proofs.TwoLevels.{words_any}
 use Rattle.tlsf_heap.proofs.lemmas.blocks.Neighbours.{tag_at, live_previous, none_before, some_before, place_before, previous_is}
+use Rattle.tlsf_words.proofs.Touching.{no_groups, more_groups}
 use Rattle.tlsf_heap.proofs.fitting.previous_tag.Goals as goal
 
 pub returns-then-at-eq0-clause-tag : goal.returns-then-at-eq0-clause-tag
@@ -17,3 +18,6 @@ returns-clause-tag g c i stands =
     let is = tag_at g.row.SLI c.args.own c.requires.sized c.requires.own stands in
     let some = some_before c.requires.whole (words_any g.row.SLI _ c.requires.small) stands c.if-at-eq0.false in
     previous_is c.requires.whole g.row.SLI c.requires.sized stands some (rw (c.back.ensures, is.back) at c.tag.ensures.value)
+
+pub returns-then-at-eq0-clause-groups : goal.returns-then-at-eq0-clause-groups
+returns-then-at-eq0-clause-groups g c = more_groups (omega arith) (no_groups {old = c.args.region.now.touched} refl)

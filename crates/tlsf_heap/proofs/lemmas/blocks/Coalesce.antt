@@ -2,7 +2,7 @@
 use Rattle.std.proofs.Common.{◌≡◌, ◌≢◌, ℕ, ◌+◌, ◌<◌, ◌⊎◌, inl, inr, List, [], ◌∷◌, ◌++◌, refl, sym, ap, ◌∙◌, subst, arith, append_assoc, add_assoc, add-zero, zero-add}
 use Rattle.std.specs.List.{AllByRecursion}
 use Rattle.tlsf_heap.specs.Blocks.{Block, Live, Free, HeapState, words_in, serials, stamps}
-use Rattle.tlsf_heap.specs.Lawful.{IsLawful, HasRoom, AreApart}
+use Rattle.tlsf_heap.specs.Lawful.{IsLawful, HasRoom, FreeBlocksAreApart}
 use Rattle.tlsf_words.specs.Lists.{AreDistinct}
 use Rattle.tlsf_heap.specs.Calls.{with_blocks, ticked, first_free, past_free, last_free, before_free}
 use Rattle.tlsf_heap.proofs.lemmas.blocks.LastFree.{ends_free, ends_live}
@@ -114,7 +114,7 @@ joined_previous words tick front back m t =
 -- ---- free blocks stay apart
 
 -- what stands behind a live block may be replaced
-behind_live : (n u : ℕ) (ys : List ℕ) (front X Y : List Block) → (AreApart X → AreApart Y) → AreApart (front ++ Live n u ys ∷ X) → AreApart (front ++ Live n u ys ∷ Y)
+behind_live : (n u : ℕ) (ys : List ℕ) (front X Y : List Block) → (FreeBlocksAreApart X → FreeBlocksAreApart Y) → FreeBlocksAreApart (front ++ Live n u ys ∷ X) → FreeBlocksAreApart (front ++ Live n u ys ∷ Y)
 behind_live n u ys [] X Y f h = f h
 behind_live n u ys (Live a b c ∷ front) X Y f h = behind_live n u ys front X Y f h
 behind_live n u ys (Free a b ∷ []) X Y f h = f h
@@ -122,27 +122,27 @@ behind_live n u ys (Free a b ∷ Live c d e ∷ front) X Y f h = behind_live n u
 behind_live n u ys (Free a b ∷ Free c d ∷ front) X Y f h = absurd h
 
 -- and what begins with a free block, by what does too
-from_free : (n u k t : ℕ) (front X Y : List Block) → (AreApart (Free n u ∷ X) → AreApart (Free k t ∷ Y)) → AreApart (front ++ Free n u ∷ X) → AreApart (front ++ Free k t ∷ Y)
+from_free : (n u k t : ℕ) (front X Y : List Block) → (FreeBlocksAreApart (Free n u ∷ X) → FreeBlocksAreApart (Free k t ∷ Y)) → FreeBlocksAreApart (front ++ Free n u ∷ X) → FreeBlocksAreApart (front ++ Free k t ∷ Y)
 from_free n u k t [] X Y f h = f h
 from_free n u k t (Live a b c ∷ front) X Y f h = from_free n u k t front X Y f h
 from_free n u k t (Free a b ∷ []) X Y f h = absurd h
 from_free n u k t (Free a b ∷ Live c d e ∷ front) X Y f h = from_free n u k t front X Y f h
 from_free n u k t (Free a b ∷ Free c d ∷ front) X Y f h = absurd h
 
-pub free_first : (k t : ℕ) (back : List Block) → AreApart back → AreApart (Free k t ∷ past_free back)
+pub free_first : (k t : ℕ) (back : List Block) → FreeBlocksAreApart back → FreeBlocksAreApart (Free k t ∷ past_free back)
 free_first k t [] h = tt
 free_first k t (Live a b c ∷ back) h = h
 free_first k t (Free a b ∷ []) h = tt
 free_first k t (Free a b ∷ Live c d e ∷ back) h = h
 free_first k t (Free a b ∷ Free c d ∷ back) h = absurd h
 
-apart_coalesced : (front back : List Block) (m s k t : ℕ) (xs : List ℕ) → AreApart (front ++ Live m s xs ∷ back) → AreApart (before_free front ++ Free k t ∷ past_free back)
+apart_coalesced : (front back : List Block) (m s k t : ℕ) (xs : List ℕ) → FreeBlocksAreApart (front ++ Live m s xs ∷ back) → FreeBlocksAreApart (before_free front ++ Free k t ∷ past_free back)
 apart_coalesced front back m s k t xs =
-    by_last (λ bs _ left. AreApart (bs ++ Live m s xs ∷ back) → AreApart (left ++ Free k t ∷ past_free back)) front
+    by_last (λ bs _ left. FreeBlocksAreApart (bs ++ Live m s xs ∷ back) → FreeBlocksAreApart (left ++ Free k t ∷ past_free back)) front
     (free_first k t back)
-    (λ bs n u ys h. subst AreApart (sym (append_assoc bs (Live n u ys ∷ []) (Free k t ∷ past_free back)))
-    (behind_live n u ys bs (Live m s xs ∷ back) (Free k t ∷ past_free back) (free_first k t back) (subst AreApart (append_assoc bs (Live n u ys ∷ []) (Live m s xs ∷ back)) h)))
-    (λ bs n u h. from_free n u k t bs (Live m s xs ∷ back) (past_free back) (free_first k t back) (subst AreApart (append_assoc bs (Free n u ∷ []) (Live m s xs ∷ back)) h))
+    (λ bs n u ys h. subst FreeBlocksAreApart (sym (append_assoc bs (Live n u ys ∷ []) (Free k t ∷ past_free back)))
+    (behind_live n u ys bs (Live m s xs ∷ back) (Free k t ∷ past_free back) (free_first k t back) (subst FreeBlocksAreApart (append_assoc bs (Live n u ys ∷ []) (Live m s xs ∷ back)) h)))
+    (λ bs n u h. from_free n u k t bs (Live m s xs ∷ back) (past_free back) (free_first k t back) (subst FreeBlocksAreApart (append_assoc bs (Free n u ∷ []) (Live m s xs ∷ back)) h))
 
 -- ---- the whole
 

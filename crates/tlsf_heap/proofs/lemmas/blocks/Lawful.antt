@@ -3,7 +3,7 @@ use Rattle.std.proofs.Common.{◌≡◌, ◌≢◌, ℕ, ◌+◌, ◌-◌, ◌<�
 use Rattle.std.specs.List.{AllByRecursion}
 use Rattle.std.proofs.lemmas.List.{length-replicate}
 use Rattle.tlsf_heap.specs.Blocks.{Block, Live, Free, HeapState, words_in, serials, stamps, want}
-use Rattle.tlsf_heap.specs.Lawful.{IsLawful, HasRoom, AreApart}
+use Rattle.tlsf_heap.specs.Lawful.{IsLawful, HasRoom, FreeBlocksAreApart}
 use Rattle.tlsf_words.specs.Lists.{AreDistinct}
 use Rattle.tlsf_heap.specs.Regions.{RegionState}
 use Rattle.tlsf_heap.specs.Calls.{opened, with_blocks, ticked}
@@ -55,7 +55,7 @@ pub all_insert : (P : ℕ → Type 0) (s : ℕ) (xs ys : List ℕ) → P s → A
 all_insert P s xs ys p a = all_append P xs (s ∷ ys) (all_left P xs ys a) (p, all_right P xs ys a)
 
 -- a free block may be made live
-pub apart_live : (m s n t : ℕ) (b : List ℕ) (front back : List Block) → AreApart (front ++ Free m s ∷ back) → AreApart (front ++ Live n t b ∷ back)
+pub apart_live : (m s n t : ℕ) (b : List ℕ) (front back : List Block) → FreeBlocksAreApart (front ++ Free m s ∷ back) → FreeBlocksAreApart (front ++ Live n t b ∷ back)
 apart_live m s n t b [] [] h = tt
 apart_live m s n t b [] (Live a c d ∷ back) h = h
 apart_live m s n t b [] (Free a c ∷ back) h = absurd h
@@ -65,7 +65,7 @@ apart_live m s n t b (Free a c ∷ Live d e f ∷ front) back h = apart_live m s
 apart_live m s n t b (Free a c ∷ Free d e ∷ front) back h = absurd h
 
 -- and a free block may stand behind it
-pub apart_split : (m s n t r u : ℕ) (b : List ℕ) (front back : List Block) → AreApart (front ++ Free m s ∷ back) → AreApart (front ++ Live n t b ∷ Free r u ∷ back)
+pub apart_split : (m s n t r u : ℕ) (b : List ℕ) (front back : List Block) → FreeBlocksAreApart (front ++ Free m s ∷ back) → FreeBlocksAreApart (front ++ Live n t b ∷ Free r u ∷ back)
 apart_split m s n t r u b [] [] h = tt
 apart_split m s n t r u b [] (Live a c d ∷ back) h = h
 apart_split m s n t r u b [] (Free a c ∷ back) h = absurd h

@@ -5,7 +5,7 @@ use Rattle.std.proofs.lemmas.Bool.{false≢true, cases_lt}
 use Rattle.std.proofs.lemmas.Bool.Decides.{nat_tests}
 use Rattle.tlsf_words.specs.Lists.{AreDistinct}
 use Rattle.tlsf_heap.specs.Blocks.{Block, Live, Free, HeapState, words_in, serials, stamps, words_for, want}
-use Rattle.tlsf_heap.specs.Lawful.{IsLawful, HasRoom, AreApart}
+use Rattle.tlsf_heap.specs.Lawful.{IsLawful, HasRoom, FreeBlocksAreApart}
 use Rattle.tlsf_heap.specs.GoodFit.{block_at}
 use Rattle.tlsf_heap.specs.Calls.{with_blocks, Outcome, has_serial, ticked, refused, last_tick, first_free, past_free, fitted, recut, refitted, room_of, is_worn, resized_words, resized_at}
 use Rattle.tlsf_heap.specs.Regions.{RegionState}
@@ -55,7 +55,7 @@ past_rooms [] a = a
 past_rooms (Live m s xs ∷ bs) a = a
 past_rooms (Free m s ∷ bs) a = a.1
 
-past_apart : (bs : List Block) → AreApart bs → AreApart (past_free bs)
+past_apart : (bs : List Block) → FreeBlocksAreApart bs → FreeBlocksAreApart (past_free bs)
 past_apart [] a = a
 past_apart (Live m s xs ∷ bs) a = a
 past_apart (Free m s ∷ []) a = tt
@@ -78,7 +78,7 @@ past_stamps P xs (Live m s ys ∷ bs) a = a
 past_stamps P xs (Free m s ∷ bs) a = all_without P s xs (stamps bs) a
 
 -- a live block and those behind it may become others
-apart_resized : (m s k : ℕ) (xs ys : List ℕ) (front X Y : List Block) → (AreApart X → AreApart Y) → AreApart (front ++ Live m s xs ∷ X) → AreApart (front ++ Live k s ys ∷ Y)
+apart_resized : (m s k : ℕ) (xs ys : List ℕ) (front X Y : List Block) → (FreeBlocksAreApart X → FreeBlocksAreApart Y) → FreeBlocksAreApart (front ++ Live m s xs ∷ X) → FreeBlocksAreApart (front ++ Live k s ys ∷ Y)
 apart_resized m s k xs ys [] X Y f h = f h
 apart_resized m s k xs ys (Live a b c ∷ front) X Y f h = apart_resized m s k xs ys front X Y f h
 apart_resized m s k xs ys (Free a b ∷ []) X Y f h = f h
@@ -97,7 +97,7 @@ module _ (h : HeapState) (front back : List Block) (m s : ℕ) (xs : List ℕ) (
   later : (xs : List ℕ) → AllByRecursion (λ x. x < h.tick) xs → AllByRecursion (λ x. x < h.tick + 1) xs
   later xs a = all_weaker (λ x. x < h.tick) (λ x. x < h.tick + 1) (λ x l. omega arith) xs a
 
-  lawful_with : (k : ℕ) (rest : List Block) → n ≤ k → k + words_in rest ≡ m + words_in back → (AllByRecursion HasRoom back → AllByRecursion HasRoom rest) → (AreApart back → AreApart rest)
+  lawful_with : (k : ℕ) (rest : List Block) → n ≤ k → k + words_in rest ≡ m + words_in back → (AllByRecursion HasRoom back → AllByRecursion HasRoom rest) → (FreeBlocksAreApart back → FreeBlocksAreApart rest)
       → serials rest ≡ serials back → AreDistinct (stamps front ++ stamps rest) → AllByRecursion (λ x. x < h.tick + 1) (stamps front ++ stamps rest)
       → IsLawful (ticked h (front ++ Live k s (fitted xs len) ∷ rest))
   lawful_with k rest enough as_many rooms apart same differ past =

@@ -4,7 +4,7 @@ use Rattle.std.specs.Result.{result_unwrap_or}
 use Rattle.std.proofs.lemmas.Bool.{eqb-true}
 use Rattle.std.proofs.lemmas.Bool.Decides.{nat_tests}
 use Rattle.tlsf_heap.specs.Blocks.{Block, Live, Free, HeapState, bytes_of, words_in, serials, stamps, StandsAt}
-use Rattle.tlsf_heap.specs.Lawful.{IsLawful, HasRoom, AreApart}
+use Rattle.tlsf_heap.specs.Lawful.{IsLawful, HasRoom, FreeBlocksAreApart}
 use Rattle.tlsf_words.specs.Lists.{AreDistinct}
 use Rattle.std.specs.List.{AllByRecursion}
 use Rattle.tlsf_heap.specs.GoodFit.{Site, block_at}
@@ -28,7 +28,7 @@ length-overwritten bytes new at h =
     length-append (take at bytes ++ new) (drop (at + length new) bytes)
     ∙ omega (arith, front, length-append (take at bytes) new, length-drop (at + length new) bytes)
 
-pub apart_bytes : (m s : ℕ) (old new : List ℕ) (front back : List Block) → AreApart (front ++ Live m s old ∷ back) → AreApart (front ++ Live m s new ∷ back)
+pub apart_bytes : (m s : ℕ) (old new : List ℕ) (front back : List Block) → FreeBlocksAreApart (front ++ Live m s old ∷ back) → FreeBlocksAreApart (front ++ Live m s new ∷ back)
 apart_bytes m s old new [] back h = h
 apart_bytes m s old new (Live a c d ∷ front) back h = apart_bytes m s old new front back h
 apart_bytes m s old new (Free a c ∷ []) back h = h

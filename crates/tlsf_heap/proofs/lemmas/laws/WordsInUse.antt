@@ -1,5 +1,5 @@
 -- The words in use add up over the calls.
-use Rattle.std.proofs.Common.{◌≡◌, ◌≢◌, Bool, cond, eqb, find, ℕ, suc, false, take, drop, ◌+◌, ◌≤◌, List, [], ◌∷◌, ◌++◌, ◌-◌, length, replicate, true, Option, Some, Result, Ok, Err, refl, sym, ap, ◌∙◌, subst, inl, inr, arith, append_assoc}
+use Rattle.std.proofs.Common.{◌≡◌, ◌≢◌, Bool, cond, eqb, find, ℕ, suc, false, take, drop, ◌+◌, ◌≤◌, List, [], ◌∷◌, ◌++◌, ◌-◌, length, replicate, true, Option, Some, Ok, refl, sym, ap, ◌∙◌, subst, inl, inr, arith, append_assoc}
 use Rattle.std.specs.Prelude.{◌==◌}
 use Rattle.std.specs.List.{AllByRecursion}
 use Rattle.std.proofs.lemmas.List.Elements.{filter-append}
@@ -13,10 +13,9 @@ use Rattle.tlsf_heap.specs.Laws.{IsLive, IsTaken}
 use Rattle.tlsf_heap.specs.Placed.{placed, placed_from}
 use Rattle.tlsf_heap.specs.Named.{IsNamed}
 use Rattle.tlsf_heap.specs.Reports.{live_among}
-use Rattle.tlsf_heap.specs.WordsInUse.{AnswersAs, words_in_use, words_held, live_words, words_at}
+use Rattle.tlsf_heap.specs.WordsInUse.{words_in_use, words_held, live_words, words_at}
 use Rattle.tlsf_heap.specs.ByPlace.{released_by_place, IsLiveAt}
 use Rattle.tlsf_heap.specs.declared.placed_block.PlacedBlock.{PlacedBlock}
-use Rattle.tlsf_heap.specs.declared.refusal.Refusal.{Refusal}
 use Rattle.tlsf_heap.proofs.lemmas.laws.Payloads.{lasts_allocated, lasts_released}
 use Rattle.tlsf_heap.proofs.lemmas.blocks.Sums.{words_apart}
 use Rattle.tlsf_heap.specs.declared.name.Name.{Name}
@@ -247,7 +246,3 @@ words_released h other name differ lawful live =
     let size = words_at h name.at in
     words_sized name size (released h other).heap (lawful_released h other lawful)
     (lasts_released (Sized name.serial size) name (not_free name size) (one_sized name size) h other live.0 differ (sized name size h lawful live refl))
-
--- a refused call answers as the release
-pub answers_refused : {release : Result (Unit {0}) Refusal} (why : Refusal) → release ≡ Err why → AnswersAs release (Err why)
-answers_refused why is = record { ok = tt; refused = is }

@@ -1,5 +1,5 @@
 -- Each block of a heap that keeps its invariant is sound, so that a check from the place of one finds all of them so.
-use Rattle.std.proofs.Common.{◌≡◌, ◌≢◌, ℕ, zero, suc, ◌+◌, ◌^◌, ◌<◌, ◌≤◌, inl, inr, Bool, true, false, cond, eqb, ltb, List, [], ◌∷◌, length, take, get_or, Option, Some, None, refl, sym, ap, ◌∙◌, subst, arith}
+use Rattle.std.proofs.Common.{◌≡◌, ◌≢◌, ℕ, zero, suc, ◌+◌, ◌-◌, ◌^◌, ◌<◌, ◌≤◌, inl, inr, Bool, true, false, cond, eqb, ltb, List, [], ◌∷◌, length, take, get_or, Option, Some, None, refl, sym, ap, ◌∙◌, subst, arith}
 use Rattle.std.specs.Prelude.{Contains, MatchOption}
 use Rattle.std.proofs.lemmas.List.{take_all}
 use Rattle.std.proofs.lemmas.List.Sorted.{Contains-permutation}
@@ -11,16 +11,18 @@ use Rattle.tlsf_words.proofs.FieldLaws.{low_half-links_word, high_half-links_wor
 use Rattle.tlsf_words.proofs.Threads.{first_small}
 use Rattle.tlsf_words.proofs.PlaceLists.{member_here, member_behind, member_cases}
 use Rattle.tlsf_heap.specs.Blocks.{Block, Live, Free, size_of, words_in, words_for, is_free, StandsAt, IsPlace}
-use Rattle.tlsf_heap.specs.Checks.{Begins, BeginsFree, JoinsBefore, JoinsBehind, NextLeadsBack, PreviousLeadsBack, LeadsBack, IsSound, AreSound, GoSound, Tells, IsCheck, FindsSound, end_at, place_or_first}
+use Rattle.tlsf_heap.specs.Checks.{Begins, BeginsFree, JoinsBefore, JoinsBehind, NextLeadsBack, PreviousLeadsBack, LeadsBack, IsSound, AreSound, GoSound, Tells, IsCheck, FindsSound, OnlyHeaders, end_at, place_or_first}
 use Rattle.tlsf_heap.specs.declared.checked.Checked.{Checked}
 use Rattle.tlsf_heap.specs.declared.checked.Checked.TheVariants.{Sound, Damaged}
+use Rattle.tlsf_heap.specs.Footprint.{LeavesLive}
 use Rattle.tlsf_heap.specs.FreePlaces.{FreePlace, free_places, of_class, IsFreeList, AreFreeLists}
 use Rattle.tlsf_heap.specs.GoodFit.{block_at}
 use Rattle.tlsf_heap.specs.Image.{Image, HoldsPayload, back_behind, Shows}
-use Rattle.tlsf_heap.specs.Lawful.{HasRoom, AreApart}
+use Rattle.tlsf_heap.specs.Lawful.{HasRoom, FreeBlocksAreApart}
 use Rattle.tlsf_heap.specs.Regions.{AreLinked}
 use Rattle.tlsf_heap.proofs.lemmas.lists.FreeLists.{from_map, from_filter, is_of, listed_own}
 use Rattle.tlsf_heap.proofs.lemmas.lists.FreePlaces.{place_at, place_listed, listed_place}
+use Rattle.tlsf_heap.proofs.lemmas.words.Footprint.{header_apart}
 use Rattle.tlsf_heap.proofs.lemmas.words.Says.{says_here}
 use Rattle.tlsf_heap.proofs.lemmas.words.Image.{word_at, shown_here, room_here, place_of_start}
 use Rattle.tlsf_heap.proofs.lemmas.blocks.Stands.{words_up_to, back_next}
@@ -75,7 +77,7 @@ free_listed sli class bs places at list c =
 -- ---- neighbours
 
 -- the block behind a free one is live
-apart_at : (bs : List Block) → AreApart bs → (i : ℕ) → i + 1 < length bs → is_free (block_at bs i) ≡ true → is_free (block_at bs (suc i)) ≡ false
+apart_at : (bs : List Block) → FreeBlocksAreApart bs → (i : ℕ) → i + 1 < length bs → is_free (block_at bs i) ≡ true → is_free (block_at bs (suc i)) ≡ false
 apart_at [] h i within free = absurd (omega (arith, within))
 apart_at (Live size serial bytes ∷ bs) h zero within free = absurd (false≢true free)
 apart_at (Live size serial bytes ∷ bs) h (suc i) within free = apart_at bs h i (omega (arith, within)) free
@@ -123,7 +125,7 @@ module _ {m : Image} {bs : List Block} (shows : Shows m bs) where
         other = λ some. (begins_here place, ends_here place ∙ sym up_to ∙ stands.place);
       })
 
-  behind_here : {at i : ℕ} → AreApart bs → StandsAt bs at i → at + size_of (block_at bs i) < length m.words
+  behind_here : {at i : ℕ} → FreeBlocksAreApart bs → StandsAt bs at i → at + size_of (block_at bs i) < length m.words
       → JoinsBehind m at (at + size_of (block_at bs i)) (is_free (block_at bs i))
   behind_here {at = at} {i = i} apart stands more =
       let next = stands_there {i = i + 1} (words_up_to stands) more in
@@ -161,7 +163,7 @@ module _ {m : Image} {bs : List Block} (shows : Shows m bs) where
         (tied_from m.words places shows.small nowhere places (λ p c. c) (linked e.class) (λ some. absurd (some refl)) at own)
 
     -- a block of an undamaged heap is sound
-    pub sound_here : {at i : ℕ} → AreApart bs → StandsAt bs at i → IsSound m at
+    pub sound_here : {at i : ℕ} → FreeBlocksAreApart bs → StandsAt bs at i → IsSound m at
     sound_here {at = at} {i = i} apart stands =
         let says = says_here shows stands in
         let ends = ends_here stands in
@@ -224,7 +226,11 @@ module _ {m : Image} {bs : List Block} (shows : Shows m bs) where
   pub begins_there : {at : ℕ} → Begins m at → IsPlace bs at
   begins_there {at = at} begins = place_of_start m bs at shows (omega (arith, begins.room)) begins.start
 
-  module _ {lists : ℕ → List ℕ} (sli : ℕ) (listed : AreFreeLists sli bs lists) (linked : AreLinked lists m.words) (apart : AreApart bs) where
+  -- so words of headers are none of a live block's payload
+  pub headers_leave : (old new : List ℕ) → OnlyHeaders m old new → LeavesLive bs old new
+  headers_leave old new looks k live = looks k (λ h. header_apart shows (begins_there h.begins).1 (k - h.at) (omega (arith, h.within, h.behind)) k live (omega (arith, h.behind)))
+
+  module _ {lists : ℕ → List ℕ} (sli : ℕ) (listed : AreFreeLists sli bs lists) (linked : AreLinked lists m.words) (apart : FreeBlocksAreApart bs) where
     -- a look from the place of a block finds the blocks sound
     told_sound : {from most : ℕ} → (checked : Checked) → IsPlace bs from → Tells m from most checked → FindsSound bs from most checked
     told_sound (Sound next) place tells = record { index = place.0; stands = place.1; told = ap Sound (go_on place.0 place.1 tells) }

@@ -1,9 +1,11 @@
-use Rattle.std.proofs.Common.{ap, sym, ◌∙◌, subst, Ok}
+use Rattle.std.proofs.Common.{ap, sym, ◌∙◌, subst, Ok, arith, refl}
 use Rattle.tlsf_heap.specs.Blocks.{HeapState}
 use Rattle.tlsf_heap.specs.Named.{IsNameCheck, RefusesName}
 use Rattle.tlsf_heap.specs.declared.refusal.Refusal.TheVariants.{Stale}
 use Rattle.tlsf_heap.specs.Shown.{Shown}
 use Rattle.tlsf_heap.proofs.lemmas.calls.Kept.{keeps_same, keeps_read}
+use Rattle.tlsf_words.specs.Touched.{InGroups}
+use Rattle.tlsf_words.proofs.Touching.{no_groups, more_groups}
 use Rattle.tlsf_heap.proofs.heap.Heap.check.Goals as goal
 
 pub returns-clause-answer : goal.returns-clause-answer
@@ -30,3 +32,14 @@ returns-in_default-clause-keeps g c = keeps_read g.row.SLI c.self.inside c.self.
 
 pub returns-clause-keeps : goal.returns-clause-keeps
 returns-clause-keeps g c = keeps_read g.row.SLI c.self.inside c.self.view_is c.self.invariant _ c.find_live.ensures.reads
+
+-- ---- groups of eight words
+
+pub returns-then-name-self-clause-groups : goal.returns-then-name-self-clause-groups
+returns-then-name-self-clause-groups g c = more_groups (omega arith) (no_groups {old = c.args.self.now.touched} refl)
+
+pub returns-in_default-clause-groups : goal.returns-in_default-clause-groups
+returns-in_default-clause-groups g c = subst (λ (s : Shown). InGroups 2 s.touched c.find_live.new.self.touched) c.self.view_is c.find_live.ensures.groups
+
+pub returns-clause-groups : goal.returns-clause-groups
+returns-clause-groups g c = subst (λ (s : Shown). InGroups 2 s.touched c.find_live.new.self.touched) c.self.view_is c.find_live.ensures.groups

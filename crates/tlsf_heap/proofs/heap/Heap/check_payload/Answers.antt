@@ -1,9 +1,12 @@
-use Rattle.std.proofs.Common.{ap, ◌∙◌, arith}
+use Rattle.std.proofs.Common.{ap, ◌∙◌, arith, ◌≡◌, sym, subst}
 use Rattle.std.proofs.lemmas.Result.{err_from_is_err_and}
 use Rattle.tlsf_heap.specs.Shown.{Shown}
 use Rattle.tlsf_heap.specs.Stored.{state_of}
 use Rattle.tlsf_heap.proofs.lemmas.calls.Named.{named_same, named_stands, named_live, not_forged}
 use Rattle.tlsf_heap.proofs.lemmas.calls.Write.{length_is}
+use Rattle.tlsf_heap.specs.Blocks.{HeapState}
+use Rattle.tlsf_heap.specs.Footprint.{IsLiveWord}
+use Rattle.tlsf_words.specs.Touched.{times}
 use Rattle.tlsf_heap.proofs.heap.Heap.check_payload.Goals as goal
 
 pub returns-in_err-check-clause-answer : goal.returns-in_err-check-clause-answer
@@ -25,3 +28,12 @@ returns-clause-answer g c =
 
 pub returns-clause-forged : goal.returns-clause-forged
 returns-clause-forged g c = not_forged c.args.self.now.heap c.args.name c.in_ok-check.ensures.keeps.was_lawful c.in_ok-check.ensures.answer.0 _ _
+
+-- ---- the payloads of live blocks
+
+pub returns-clause-leaves : goal.returns-clause-leaves
+returns-clause-leaves g c k live =
+    let same : state_of g.row.SLI c.self.inside ≡ c.args.self.now.heap = ap (λ (s : Shown). s.heap) c.self.view_is ∙ c.in_ok-check.ensures.same.heap in
+    c.length.ensures.touched k (subst (λ (h : HeapState). IsLiveWord h.blocks k) (sym same) live)
+    ∙ ap (λ (s : Shown). times s.touched k) c.self.view_is
+    ∙ c.in_ok-check.ensures.leaves k live

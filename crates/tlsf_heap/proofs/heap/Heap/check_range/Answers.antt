@@ -1,10 +1,13 @@
-use Rattle.std.proofs.Common.{sym, ap, ◌∙◌, arith}
+use Rattle.std.proofs.Common.{sym, ap, ◌∙◌, arith, ◌≡◌, subst}
 use Rattle.std.proofs.lemmas.Result.{err_from_is_err_and}
 use Rattle.tlsf_heap.specs.Shown.{Shown}
 use Rattle.tlsf_heap.specs.Calls.{read_answer}
 use Rattle.tlsf_heap.specs.Stored.{state_of}
 use Rattle.tlsf_heap.proofs.lemmas.calls.Named.{named_same, named_stands, named_live, not_forged}
 use Rattle.tlsf_heap.proofs.lemmas.calls.Write.{Ranged, read_refused, range_past, range_within}
+use Rattle.tlsf_heap.specs.Blocks.{HeapState}
+use Rattle.tlsf_heap.specs.Footprint.{IsLiveWord}
+use Rattle.tlsf_words.specs.Touched.{times}
 use Rattle.tlsf_heap.proofs.heap.Heap.check_range.Given.{Over}
 use Rattle.tlsf_heap.proofs.heap.Heap.check_range.Goals as goal
 
@@ -41,3 +44,19 @@ returns-then-at-n-clause-forged g c = not_forged c.args.self.now.heap c.args.nam
 
 pub returns-clause-forged : goal.returns-clause-forged
 returns-clause-forged g c = not_forged c.args.self.now.heap c.args.name c.in_ok-check.ensures.keeps.was_lawful c.in_ok-check.ensures.answer.0 _ _
+
+-- ---- the payloads of live blocks
+
+pub returns-then-at-n-clause-leaves : goal.returns-then-at-n-clause-leaves
+returns-then-at-n-clause-leaves g c k live =
+    let same : state_of g.row.SLI c.self.inside ≡ c.args.self.now.heap = ap (λ (s : Shown). s.heap) c.self.view_is ∙ c.in_ok-check.ensures.same.heap in
+    c.length-length.ensures.touched k (subst (λ (h : HeapState). IsLiveWord h.blocks k) (sym same) live)
+    ∙ ap (λ (s : Shown). times s.touched k) c.self.view_is
+    ∙ c.in_ok-check.ensures.leaves k live
+
+pub returns-clause-leaves : goal.returns-clause-leaves
+returns-clause-leaves g c k live =
+    let same : state_of g.row.SLI c.self.inside ≡ c.args.self.now.heap = ap (λ (s : Shown). s.heap) c.self.view_is ∙ c.in_ok-check.ensures.same.heap in
+    c.length-length.ensures.touched k (subst (λ (h : HeapState). IsLiveWord h.blocks k) (sym same) live)
+    ∙ ap (λ (s : Shown). times s.touched k) c.self.view_is
+    ∙ c.in_ok-check.ensures.leaves k live

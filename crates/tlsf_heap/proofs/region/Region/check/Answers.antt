@@ -1,5 +1,14 @@
-use Rattle.tlsf_heap.proofs.lemmas.words.Says.{holds_read}
+use Rattle.std.proofs.Common.{ap, ◌∙◌}
+use Rattle.tlsf_words.specs.Touched.{times}
+use Rattle.tlsf_heap.specs.Regions.{RegionState}
+use Rattle.tlsf_heap.proofs.lemmas.words.Says.{shows_state, holds_read}
+use Rattle.tlsf_heap.proofs.lemmas.words.Undamaged.{headers_leave}
 use Rattle.tlsf_heap.proofs.region.Region.check.Goals as goal
 
 pub invariant_of-self : goal.invariant_of-self
 invariant_of-self g c = holds_read g.row.SLI c.check_words.ensures.words c.check_words.ensures.starts c.self.invariant
+
+pub returns-clause-touched : goal.returns-clause-touched
+returns-clause-touched g c k live =
+    headers_leave (shows_state g.row.SLI c.self.invariant c.self.view_is) c.self.inside.words.touched c.check_words.new.words.touched c.check_words.ensures.touched k live
+    ∙ ap (λ (r : RegionState). times r.touched k) c.self.view_is

@@ -1,7 +1,11 @@
-use Rattle.std.proofs.Common.{ℕ, sym, ap, ◌∙◌, eq-eqb}
+use Rattle.std.proofs.Common.{ℕ, sym, ap, ◌∙◌, eq-eqb, List, subst, arith}
 use Rattle.std.specs.Prelude.{◌==◌}
 use Rattle.tlsf_heap.proofs.lemmas.words.Says.{none_named, named_here, has_serial-live}
+use Rattle.tlsf_heap.specs.Regions.{RegionState}
+use Rattle.tlsf_words.specs.Touched.{InGroups}
+use Rattle.tlsf_words.proofs.Touching.{more_groups, groups_then}
 use Rattle.tlsf_heap.proofs.region.Region.find_live.Goals as goal
+use Rattle.tlsf_heap.proofs.region.Region.find_live.Goals.{then-is_free-via-then-is_free, then-is_free-via-else-is_free+then-mark-serial}
 
 pub returns-then-not-begins-clause-answer : goal.returns-then-not-begins-clause-answer
 returns-then-not-begins-clause-answer g c = none_named c.args.at c.args.serial (λ i stands. absurd (c.begins.ensures.no c.if-not-begins.true (i, stands)))
@@ -18,3 +22,18 @@ returns-clause-answer g c =
 
 pub returns-clause-nowhere : goal.returns-clause-nowhere
 returns-clause-nowhere g c inside none = absurd (none (c.begins.ensures.yes c.if-not-begins.false))
+
+-- ---- groups of eight words
+
+pub returns-then-is_free-clause-groups : goal.returns-then-is_free-clause-groups
+returns-then-is_free-clause-groups g c =
+    let tagged = subst (λ (l : List ℕ). InGroups 1 l c.tag-tag.new.self.touched) c.begins.ensures.untouched c.tag-tag.ensures.groups in
+    elim c.then-is_free.branch [
+      | then-is_free-via-then-is_free w ↦ subst (λ (r : RegionState). InGroups 2 c.args.self.now.touched r.touched) (sym w.self-is) (more_groups (omega arith) tagged)
+      | then-is_free-via-else-is_free+then-mark-serial w ↦ subst (λ (r : RegionState). InGroups 2 c.args.self.now.touched r.touched) (sym w.self-is) (groups_then tagged w.mark.ensures.groups)
+    ]
+
+pub returns-clause-groups : goal.returns-clause-groups
+returns-clause-groups g c =
+    let tagged = subst (λ (l : List ℕ). InGroups 1 l c.tag-tag.new.self.touched) c.begins.ensures.untouched c.tag-tag.ensures.groups in
+    groups_then tagged c.mark.ensures.groups

@@ -1,5 +1,5 @@
 -- The header of a free block of the words is one of the blocks, and leaves the lists.
-use Rattle.std.proofs.Common.{◌∷◌, ◌+◌, List, ℕ, length, sym, ap, ◌∙◌, subst, arith}
+use Rattle.std.proofs.Common.{◌∷◌, ◌+◌, List, ℕ, length, sym, ap, ◌∙◌, subst, arith, refl}
 use Rattle.tlsf_heap.specs.Blocks.{StandsAt}
 use Rattle.tlsf_heap.specs.Calls.{coalesced}
 use Rattle.tlsf_heap.specs.GoodFit.{site_at}
@@ -7,8 +7,8 @@ use Rattle.tlsf_heap.specs.Regions.{RegionState, AreNeighbours, IsTagOf, image_o
 use Rattle.tlsf_heap.proofs.lemmas.words.Free.{merged, alone_are, merges_alone}
 use Rattle.tlsf_heap.proofs.lemmas.words.Links.{linked_lists, marked_lists, Reshapes, holds_state}
 use Rattle.tlsf_heap.proofs.lemmas.words.Says.{shows_state, at_index, in_region}
-use Rattle.tlsf_words.specs.Touched.{times}
-use Rattle.tlsf_words.proofs.Touching.{times_other}
+use Rattle.tlsf_words.specs.Touched.{times, InGroups}
+use Rattle.tlsf_words.proofs.Touching.{times_other, one_touch, groups_then}
 use Rattle.tlsf_heap.proofs.lemmas.words.Footprint.{header_apart}
 use Rattle.tlsf_heap.proofs.region.Region.free.Given.{Over}
 use Rattle.tlsf_heap.proofs.region.Region.free.Goals as goal
@@ -55,3 +55,6 @@ returns-clause-touched g c k live =
     ∙ times_other (c.args.at + 1) k (c.args.at ∷ c.self.inside.words.touched) (apart 1 (omega arith) k live)
     ∙ times_other c.args.at k c.self.inside.words.touched (λ e. apart 0 (omega arith) k live (omega (arith, e)))
     ∙ ap (λ (r : RegionState). times r.touched k) c.self.view_is
+
+pub returns-clause-groups : goal.returns-clause-groups
+returns-clause-groups g c = subst (λ (r : RegionState). InGroups 2 r.touched c.free_header.new.words.touched) c.self.view_is (groups_then (one_touch c.args.at {old = c.self.inside.words.touched} refl) (one_touch (c.args.at + 1) c.free_header.ensures.touched))

@@ -1,5 +1,6 @@
-use Rattle.std.proofs.Common.{sym, ◌∙◌, arith}
+use Rattle.std.proofs.Common.{sym, ◌∙◌, arith, ℕ, List, subst}
 use Rattle.tlsf_heap.proofs.lemmas.calls.ByPlace.{serial_free, serial_nowhere}
+use Rattle.tlsf_words.specs.Touched.{InGroups}
 use Rattle.tlsf_heap.proofs.region.Region.live_at.Goals as goal
 
 pub returns-then-not-begins-clause-answer : goal.returns-then-not-begins-clause-answer
@@ -30,3 +31,11 @@ returns-then-is_free-clause-outside g c past = absurd (let inside = c.begins.ens
 
 pub returns-clause-outside : goal.returns-clause-outside
 returns-clause-outside g c past = absurd (let inside = c.begins.ensures.inside c.if-not-begins.false in omega (arith, inside, past))
+
+-- ---- groups of eight words
+
+pub returns-then-is_free-clause-groups : goal.returns-then-is_free-clause-groups
+returns-then-is_free-clause-groups g c = subst (λ (l : List ℕ). InGroups 1 l c.tag-tag.new.self.touched) c.begins.ensures.untouched c.tag-tag.ensures.groups
+
+pub returns-clause-groups : goal.returns-clause-groups
+returns-clause-groups g c = subst (λ (l : List ℕ). InGroups 1 l c.tag-tag.new.self.touched) c.begins.ensures.untouched c.tag-tag.ensures.groups

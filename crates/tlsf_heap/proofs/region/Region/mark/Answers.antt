@@ -1,8 +1,9 @@
-use Rattle.std.proofs.Common.{◌∙◌, arith, ◌+◌, refl, ap}
+use Rattle.std.proofs.Common.{◌∙◌, arith, ◌+◌, refl, ap, subst}
 use Rattle.tlsf_heap.proofs.lemmas.words.Says.{shows_state, holds_read, in_region, says_here}
-use Rattle.tlsf_words.specs.Touched.{times}
+use Rattle.tlsf_words.specs.Touched.{times, InGroups}
 use Rattle.tlsf_heap.proofs.lemmas.words.Footprint.{reads_header}
 use Rattle.tlsf_heap.specs.Regions.{RegionState}
+use Rattle.tlsf_words.proofs.Touching.{one_touch}
 use Rattle.tlsf_heap.proofs.region.Region.mark.Goals as goal
 
 pub mark-requires : goal.mark-requires
@@ -18,3 +19,6 @@ pub returns-clause-touched : goal.returns-clause-touched
 returns-clause-touched g c k live =
     reads_header (shows_state g.row.SLI c.self.invariant c.self.view_is) c.requires.1 1 (c.args.at + 1) (omega arith) refl c.self.inside.words.touched c.mark.new.self.touched c.mark.ensures.touched k live
     ∙ ap (λ (r : RegionState). times r.touched k) c.self.view_is
+
+pub returns-clause-groups : goal.returns-clause-groups
+returns-clause-groups g c = subst (λ (r : RegionState). InGroups 1 r.touched c.mark.new.self.touched) c.self.view_is (one_touch (c.args.at + 1) c.mark.ensures.touched)

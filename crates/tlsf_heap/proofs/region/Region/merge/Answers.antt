@@ -1,5 +1,5 @@
 -- A merge of the words is one of the blocks, and leaves the lists.
-use Rattle.std.proofs.Common.{ℕ, length, sym, ap, ◌∙◌, subst, arith}
+use Rattle.std.proofs.Common.{ℕ, length, sym, ap, ◌∙◌, subst, arith, ◌+◌, ◌-◌}
 use Rattle.tlsf_heap.specs.Calls.{coalesced}
 use Rattle.tlsf_heap.specs.Blocks.{StandsAt}
 use Rattle.tlsf_heap.specs.GoodFit.{site_at}
@@ -8,8 +8,9 @@ use Rattle.tlsf_heap.proofs.lemmas.words.Free.{merged}
 use Rattle.tlsf_heap.proofs.lemmas.words.Merge.{merge_within, merge_last, merge_before, merge_after}
 use Rattle.tlsf_heap.proofs.lemmas.words.Links.{linked_lists, marked_lists, Reshapes, holds_state}
 use Rattle.tlsf_heap.specs.Regions.{RegionState, AreNeighbours, image_of}
-use Rattle.tlsf_words.specs.Touched.{times}
+use Rattle.tlsf_words.specs.Touched.{times, InGroups}
 use Rattle.tlsf_heap.proofs.lemmas.words.Footprint.{front_apart, end_apart}
+use Rattle.tlsf_words.proofs.Touching.{three_words}
 use Rattle.tlsf_heap.proofs.region.Region.merge.Given.{Over}
 use Rattle.tlsf_heap.proofs.region.Region.merge.Goals as goal
 
@@ -51,3 +52,8 @@ returns-clause-touched g c k live =
     let front = front_apart shows stands {before = c.args.before} {tag_size = c.args.tag.size} is.before is.size in
     c.merge_headers.ensures.touched k (λ e. front 0 (omega arith) k live (omega (arith, e))) (front 1 (omega arith) k live) (end_apart shows stands is.before is.size k live)
     ∙ ap (λ (r : RegionState). times r.touched k) c.self.view_is
+
+pub returns-clause-groups : goal.returns-clause-groups
+returns-clause-groups g c =
+    let place = c.args.at - c.args.before in
+    subst (λ (r : RegionState). InGroups 3 r.touched c.merge_headers.new.words.touched) c.self.view_is (three_words place (place + 1) (place + c.args.tag.size) c.merge_headers.ensures.touched)

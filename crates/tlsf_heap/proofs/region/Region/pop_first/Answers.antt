@@ -5,7 +5,8 @@ use Rattle.std.specs.Prelude.{slice_get}
 use Rattle.tlsf_words.specs.Lists.{without_place}
 use Rattle.tlsf_heap.proofs.lemmas.words.Links.{linked_lists, marked_lists, Relinks, holds_state, list_in-lists_of, relinked, free_removed}
 use Rattle.tlsf_heap.specs.Regions.{RegionState, image_of}
-use Rattle.tlsf_words.specs.Touched.{times}
+use Rattle.tlsf_words.specs.Touched.{times, InGroups}
+use Rattle.tlsf_words.proofs.Touching.{more_groups}
 use Rattle.tlsf_heap.proofs.lemmas.words.Footprint.{header_apart}
 use Rattle.tlsf_heap.proofs.region.Region.pop_first.Given.{Over}
 use Rattle.tlsf_heap.proofs.region.Region.pop_first.Goals as goal
@@ -48,5 +49,6 @@ returns-clause-change g c =
           c.pop_first.ensures.touched k (header_apart state.shows (state.free c.args.class c.pop_first.result (subst (λ (places : List ℕ). Contains places c.pop_first.result) (sym c.pop_first.ensures.first) (zero, omega arith, refl))).1 2 (omega arith) k live)
           (λ class other there. header_apart state.shows (state.free class other there).1 2 (omega arith) k live)
           ∙ ap (λ (r : RegionState). times r.touched k) c.self.view_is;
+      groups = subst (λ (r : RegionState). InGroups 3 r.touched c.pop_first.new.words.touched) c.self.view_is (more_groups (omega arith) c.pop_first.ensures.groups);
       edits = record { words = c.pop_first.ensures.length ∙ words; shows = (relinks g c).holds.shows; linked = linked_lists g.row.SLI _ _ (relinks g c).holds; bits = marked_lists g.row.SLI _ _ (relinks g c).holds; stays = c.pop_first.ensures.stays ∙ ap (λ (r : RegionState). r.extents) c.self.view_is; touches = omega (arith, c.pop_first.ensures.touches, touches); rise = omega (arith, c.pop_first.ensures.rise, c.pop_first.ensures.words_rise, touches) };
     }

@@ -4,7 +4,7 @@ use Rattle.std.specs.Prelude.{Contains}
 use Rattle.tlsf_heap.proofs.lemmas.words.Says.{shows_state, in_region}
 use Rattle.tlsf_heap.proofs.lemmas.words.Links.{linked_lists, marked_lists, Relinks, holds_state, list_in-lists_of, relinked, free_pushed}
 use Rattle.tlsf_heap.specs.Regions.{RegionState, image_of}
-use Rattle.tlsf_words.specs.Touched.{times}
+use Rattle.tlsf_words.specs.Touched.{times, InGroups}
 use Rattle.tlsf_heap.proofs.lemmas.words.Footprint.{header_apart}
 use Rattle.tlsf_heap.proofs.region.Region.push.Given.{Over}
 use Rattle.tlsf_heap.proofs.region.Region.push.Goals as goal
@@ -47,5 +47,6 @@ returns g c =
           c.push.ensures.touched k (header_apart state.shows c.requires.free.1 2 (omega arith) k live)
           (λ class other there. header_apart state.shows (state.free class other there).1 2 (omega arith) k live)
           ∙ ap (λ (r : RegionState). times r.touched k) c.self.view_is;
+      groups = subst (λ (r : RegionState). InGroups 2 r.touched c.push.new.words.touched) c.self.view_is (c.push.ensures.groups);
       edits = record { words = c.push.ensures.length ∙ words; shows = (relinks g c).holds.shows; linked = linked_lists g.row.SLI _ _ (relinks g c).holds; bits = marked_lists g.row.SLI _ _ (relinks g c).holds; stays = c.push.ensures.stays ∙ ap (λ (r : RegionState). r.extents) c.self.view_is; touches = omega (arith, c.push.ensures.touches, touches); rise = omega (arith, c.push.ensures.rise, c.push.ensures.words_rise, touches) };
     }

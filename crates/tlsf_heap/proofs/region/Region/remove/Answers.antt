@@ -5,7 +5,7 @@ use Rattle.tlsf_class.specs.Classes.{class_of}
 use Rattle.tlsf_words.specs.Lists.{without_place}
 use Rattle.tlsf_heap.proofs.lemmas.words.Links.{linked_lists, marked_lists, Relinks, holds_state, list_in-lists_of, relinked, free_removed}
 use Rattle.tlsf_heap.specs.Regions.{RegionState, image_of}
-use Rattle.tlsf_words.specs.Touched.{times}
+use Rattle.tlsf_words.specs.Touched.{times, InGroups}
 use Rattle.tlsf_heap.proofs.lemmas.words.Footprint.{header_apart}
 use Rattle.tlsf_heap.proofs.region.Region.remove.Given.{Over}
 use Rattle.tlsf_heap.proofs.region.Region.remove.Goals as goal
@@ -51,5 +51,6 @@ returns g c =
           c.unlink.ensures.touched k (header_apart state.shows (state.free (class_of g.row.SLI c.args.size) c.args.at (subst (λ (places : List ℕ). Contains places c.args.at) (state.lists (class_of g.row.SLI c.args.size)) c.requires.listed)).1 2 (omega arith) k live)
           (λ class other there. header_apart state.shows (state.free class other there).1 2 (omega arith) k live)
           ∙ ap (λ (r : RegionState). times r.touched k) c.self.view_is;
+      groups = subst (λ (r : RegionState). InGroups 3 r.touched c.unlink.new.words.touched) c.self.view_is (c.unlink.ensures.groups);
       edits = record { words = c.unlink.ensures.length ∙ words; shows = (relinks g c).holds.shows; linked = linked_lists g.row.SLI _ _ (relinks g c).holds; bits = marked_lists g.row.SLI _ _ (relinks g c).holds; stays = c.unlink.ensures.stays ∙ ap (λ (r : RegionState). r.extents) c.self.view_is; touches = omega (arith, c.unlink.ensures.touches, touches); rise = omega (arith, c.unlink.ensures.rise, c.unlink.ensures.words_rise, touches) };
     }

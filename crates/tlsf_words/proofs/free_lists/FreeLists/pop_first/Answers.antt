@@ -5,7 +5,7 @@ use Rattle.tlsf_words.specs.Lists.{ListHeads, nowhere, list_of}
 use Rattle.tlsf_words.specs.Fields.{high_half}
 use Rattle.tlsf_words.specs.Ties.{AreTied}
 use Rattle.tlsf_words.specs.Touched.{times}
-use Rattle.tlsf_words.proofs.Touching.{times_other}
+use Rattle.tlsf_words.proofs.Touching.{times_other, one_touch, one_word, groups_then}
 use Rattle.tlsf_words.proofs.Threads.{listed_within}
 use Rattle.tlsf_words.proofs.Remove.{RemoveWrites, next_within, next_listed, head_member, head_previous, head_then_left, remove-threaded, remove-list, remove-others, remove-words}
 use Rattle.tlsf_words.proofs.free_lists.FreeLists.pop_first.Given.{Over}
@@ -82,3 +82,7 @@ returns-clause-touched g c = λ k own others.
     (λ some. others c.args.class c.links-next.result.next (next_listed g.row.SLI c.args.self.now.heads c.args.self.now.members c.args.words.now.words c.args.class c.place-head.result c.requires.threaded c.links-next.ensures.small (is_member g c)
     c.links-next.result.next nowhere c.links-next.ensures.next (none_before g c) some))
     ∙ ap (λ (l : List ℕ). times l k) c.links-next.ensures.touched ∙ times_other (c.place-head.result + 2) k c.args.words.now.touched own
+
+pub returns-clause-groups : goal.returns-clause-groups
+returns-clause-groups g c = groups_then (one_touch (c.place-head.result + 2) c.links-next.ensures.touched)
+    (one_word (c.links-next.result.next + 2) (λ k next. c.begin_at.ensures.touched k (λ some. absurd (some refl)) (λ some. next)))

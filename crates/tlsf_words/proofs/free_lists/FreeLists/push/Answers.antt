@@ -7,7 +7,7 @@ use Rattle.tlsf_words.specs.Lists.{list_of}
 use Rattle.tlsf_words.specs.Touched.{times}
 use Rattle.std.specs.List.{Contains}
 use Rattle.tlsf_words.proofs.Threads.{head_listed}
-use Rattle.tlsf_words.proofs.Touching.{times_other}
+use Rattle.tlsf_words.proofs.Touching.{times_other, one_touch, two_words, more_groups}
 use Rattle.tlsf_words.proofs.Push.{IsAtHead, IsAtHead-alone, IsAtHead-more, class_in_use, next_within, next_apart, PushWrites, push-threaded, push-list, push-others, push-words}
 use Rattle.tlsf_words.proofs.free_lists.FreeLists.push.Given.{Over}
 use Rattle.tlsf_words.proofs.free_lists.FreeLists.push.Goals as goal
@@ -111,3 +111,15 @@ returns-else-not-is_place-clause-touched g c = λ k own others.
     ∙ times_other next k (next ∷ place ∷ c.args.words.now.touched) apart
     ∙ times_other next k (place ∷ c.args.words.now.touched) apart
     ∙ times_other place k c.args.words.now.touched own
+
+pub returns-then-not-is_place-clause-groups : goal.returns-then-not-is_place-clause-groups
+returns-then-not-is_place-clause-groups g c = more_groups (omega arith) (one_touch (c.args.at + 2) c.set_links.ensures.touched)
+
+pub returns-else-not-is_place-clause-groups : goal.returns-else-not-is_place-clause-groups
+returns-else-not-is_place-clause-groups g c = two_words (c.args.at + 2) (c.place-next.result + 2) (λ k own apart.
+    let next = c.place-next.result + 2 in
+    let place = c.args.at + 2 in
+    ap (λ (l : List ℕ). times l k) c.link.ensures.touched
+    ∙ times_other next k (next ∷ place ∷ c.args.words.now.touched) apart
+    ∙ times_other next k (place ∷ c.args.words.now.touched) apart
+    ∙ times_other place k c.args.words.now.touched own)

@@ -3,7 +3,7 @@ use Rattle.tlsf_class.specs.Classes.{class_of}
 use Rattle.tlsf_words.specs.Lists.{nowhere}
 use Rattle.tlsf_words.specs.Ties.{AreTied}
 use Rattle.tlsf_words.proofs.Threads.{listed_within}
-use Rattle.tlsf_words.proofs.Touching.{times_other}
+use Rattle.tlsf_words.proofs.Touching.{times_other, one_touch, one_word, two_words, groups_then, more_groups}
 use Rattle.tlsf_words.specs.Touched.{times}
 use Rattle.tlsf_words.proofs.Remove.{RemoveWrites, next_within, previous_within, next_listed, previous_listed, neighbours_apart, remove-threaded, remove-list, remove-others, remove-words}
 use Rattle.tlsf_words.proofs.free_lists.FreeLists.unlink.Given.{Over}
@@ -131,3 +131,11 @@ returns-else-is_place-clause-touched g c = λ k own others.
     (λ some. others (class_of g.row.SLI c.args.size) c.links-links.result.next (next_listed g.row.SLI c.args.self.now.heads c.args.self.now.members c.args.words.now.words (class_of g.row.SLI c.args.size) c.args.at c.requires.threaded c.links-links.ensures.small c.requires.listed
     c.links-links.result.next c.links-links.result.previous c.links-links.ensures.next c.links-links.ensures.previous some))
     ∙ ap (λ (l : List ℕ). times l k) c.links-links.ensures.touched ∙ times_other (c.args.at + 2) k c.args.words.now.touched own
+
+pub returns-then-is_place-clause-groups : goal.returns-then-is_place-clause-groups
+returns-then-is_place-clause-groups g c = groups_then (one_touch (c.args.at + 2) c.links-links.ensures.touched)
+    (two_words (c.links-links.result.next + 2) (c.links-links.result.previous + 2) (λ k next previous. c.tie.ensures.touched k (λ some. previous) (λ some. next)))
+
+pub returns-else-is_place-clause-groups : goal.returns-else-is_place-clause-groups
+returns-else-is_place-clause-groups g c = more_groups (omega arith) (groups_then (one_touch (c.args.at + 2) c.links-links.ensures.touched)
+    (one_word (c.links-links.result.next + 2) (λ k next. c.begin_at.ensures.touched k (λ some. absurd (some refl)) (λ some. next))))

@@ -1,5 +1,5 @@
 -- An empty body. The borrow is opened, and closed with one place more.
-use Rattle.std.proofs.Common.{◌+◌, [], ◌∷◌, refl}
+use Rattle.std.proofs.Common.{[], ◌∷◌, refl}
 use mir.Syntax.{named, w64}
 use mir.Val.{vunit}
 use base.Logic.{id⊢}

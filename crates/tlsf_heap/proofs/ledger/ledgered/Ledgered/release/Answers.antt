@@ -2,10 +2,12 @@ use Rattle.std.proofs.Common.{◌≡◌, ◌∙◌, ℕ, inl, inr, sym, ap, subs
 use Rattle.std.specs.Prelude.{◌⊎◌}
 use Rattle.tlsf_heap.specs.Blocks.{HeapState}
 use Rattle.tlsf_heap.specs.Calls.{released}
+use Rattle.tlsf_heap.specs.Footprint.{IsOthersWord, LeavesPayloads}
 use Rattle.tlsf_heap.specs.Lawful.{IsLawful}
 use Rattle.tlsf_heap.specs.Named.{IsNamed}
 use Rattle.tlsf_heap.specs.Touched.{FollowsNoForgery}
 use Rattle.tlsf_heap.specs.declared.name.Name.{Name}
+use Rattle.tlsf_heap.specs.ledger.Ledgers.{LedgerState}
 use Rattle.tlsf_heap.proofs.lemmas.calls.Named.{not_forged}
 use Rattle.tlsf_heap.proofs.lemmas.calls.Release.{releases_refused}
 use Rattle.tlsf_heap.proofs.ledger.ledgered.Ledgered.release.Goals as goal
@@ -42,3 +44,10 @@ pub returns-clause-forged : goal.returns-clause-forged
 returns-clause-forged g c =
     subst (λ s. FollowsNoForgery s.heap c.args.name s.touches c.release.new.self.touches) c.self.view_is
     (looked c.self.inside.heap.heap c.look.new.heap.heap c.args.name c.self.inside.heap.touches c.look.new.heap.touches _ c.self.invariant.lawful c.in-Ok.ensures.heap c.in-Ok.ensures.live c.release.ensures.forged)
+
+-- ---- neither the look nor the release touches another block's payload
+
+pub returns-clause-leaves : goal.returns-clause-leaves
+returns-clause-leaves g c =
+    subst (λ (s : LedgerState _). LeavesPayloads s.heap.blocks c.args.name.at s.touched c.release.new.self.touched) c.self.view_is
+    (λ k other. c.release.ensures.leaves k (subst (λ (h : HeapState). IsOthersWord h.blocks c.args.name.at k) (sym c.in-Ok.ensures.heap) other) ∙ c.in-Ok.ensures.leaves k (other.0, other.1, other.2, other.3))

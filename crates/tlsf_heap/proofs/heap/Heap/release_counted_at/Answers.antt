@@ -1,7 +1,7 @@
-use Rattle.std.proofs.Common.{◌≡◌, ℕ, ◌+◌, refl, sym, ap, ◌∙◌, subst, Ok, Err, arith}
-use Rattle.tlsf_heap.specs.Blocks.{HeapState, words_in}
+use Rattle.std.proofs.Common.{◌≡◌, ℕ, ◌+◌, ◌≤◌, refl, sym, ap, ◌∙◌, subst, Ok, Err, arith}
+use Rattle.tlsf_heap.specs.Blocks.{HeapState, words_in, size_of}
 use Rattle.tlsf_heap.specs.ByPlace.{IsLiveAt}
-use Rattle.tlsf_heap.specs.GoodFit.{site_at}
+use Rattle.tlsf_heap.specs.GoodFit.{site_at, block_at}
 use Rattle.tlsf_heap.specs.Lawful.{IsLawful}
 use Rattle.tlsf_heap.specs.Regions.{IsTagOf}
 use Rattle.tlsf_heap.specs.Shown.{Shown}
@@ -13,12 +13,14 @@ use Rattle.tlsf_heap.proofs.lemmas.calls.ByPlace.{ReleasesPlace, name_here, is_n
 use Rattle.tlsf_heap.proofs.lemmas.blocks.Lawful.{with_region}
 use Rattle.tlsf_heap.proofs.lemmas.words.Says.{at_index}
 use Rattle.tlsf_heap.proofs.lemmas.calls.Release.{Releases, releases_worn, releases_block}
-use Rattle.tlsf_heap.proofs.lemmas.laws.WordsInUse.{answers_refused, words_live, in_use_placed}
+use Rattle.tlsf_heap.proofs.lemmas.laws.WordsInUse.{words_live, words_part, in_use_placed}
 use Rattle.tlsf_heap.proofs.lemmas.calls.Kept.{keeps_stored, keeps_read}
 use Rattle.tlsf_heap.proofs.lemmas.calls.Leaves.{seen_live, seen_others}
 use Rattle.tlsf_heap.proofs.lemmas.words.Footprint.{any_word}
-use Rattle.tlsf_heap.proofs.heap.Heap.release_words_at.Given.{Over}
-use Rattle.tlsf_heap.proofs.heap.Heap.release_words_at.Goals as goal
+use Rattle.tlsf_words.specs.Touched.{InGroups}
+use Rattle.tlsf_words.proofs.Touching.{more_groups, groups_then}
+use Rattle.tlsf_heap.proofs.heap.Heap.release_counted_at.Given.{Over}
+use Rattle.tlsf_heap.proofs.heap.Heap.release_counted_at.Goals as goal
 
 -- ---- no live block begins there
 
@@ -32,7 +34,7 @@ nobody g c =
     (place_free h k c.args.at same c.self.invariant.lawful c.in_default.ensures.answer)
 
 pub returns-in_default-clause-answer : goal.returns-in_default-clause-answer
-returns-in_default-clause-answer g c = answers_refused _ (sym (nobody g c).is_answer)
+returns-in_default-clause-answer g c = (nobody g c).is_answer
 
 pub returns-in_default-clause-heap : goal.returns-in_default-clause-heap
 returns-in_default-clause-heap g c = (nobody g c).is_heap
@@ -54,7 +56,7 @@ worn g c =
     (place_live h c.args.at l.0 (Err Worn) k rooms l.1 (releases_worn h k (name_here h c.args.at l.0) c.self.invariant.lawful same (is_named_here h rooms l.1) c.if-self.true))
 
 pub returns-then-self-clause-answer : goal.returns-then-self-clause-answer
-returns-then-self-clause-answer g c = answers_refused _ (sym (worn g c).is_answer)
+returns-then-self-clause-answer g c = (worn g c).is_answer
 
 pub returns-then-self-clause-heap : goal.returns-then-self-clause-heap
 returns-then-self-clause-heap g c = (worn g c).is_heap
@@ -93,7 +95,7 @@ coalesce-requires g c =
       ),
     )
 
-freed : (g : Over) (c : goal.After-size g) → ReleasesPlace c.args.self.now.heap c.args.at (Ok tt) (with_region (state_of g.row.SLI c.self.inside) c.coalesce.new.tick c.coalesce.new.region)
+freed : (g : Over) (c : goal.After-coalesce g) → ReleasesPlace c.args.self.now.heap c.args.at (Ok tt) (with_region (state_of g.row.SLI c.self.inside) c.coalesce.new.tick c.coalesce.new.region)
 freed g c =
     let reads = c.live_at.ensures.reads in
     let l = c.in-Some.ensures.answer in
@@ -107,16 +109,25 @@ freed g c =
     (place_live h c.args.at l.0 (Ok tt) (with_region h (h.tick + 1) c.coalesce.new.region) rooms l.1 done))
 
 pub returns-clause-answer : goal.returns-clause-answer
-returns-clause-answer g c = record { ok = sym (freed g c).is_answer; refused = tt }
+returns-clause-answer g c = (freed g c).is_answer
 
-pub returns-clause-back : goal.returns-clause-back
-returns-clause-back g c =
+-- the words in use have those of a live block, as a heap shows
+live_part : {h k : HeapState} {at : ℕ} → h ≡ k → (l : (i : ℕ) × IsLiveAt h.blocks at i) → size_of (block_at h.blocks l.0) ≤ words_in_use k
+live_part {h = h} {at = at} same l = subst (λ (s : HeapState). size_of (block_at h.blocks l.0) ≤ words_in_use s) same (words_part h {at = at} {i = l.0} l.1)
+
+pub overflow_sub-in_use : goal.overflow_sub-in_use
+overflow_sub-in_use g c =
+    let l = c.in-Some.ensures.answer in
+    omega (arith, c.size.ensures.value, l.2.size, live_part (ap (λ (s : Shown). s.heap) c.self.view_is) (l.0, l.1), c.requires.counted)
+
+pub returns-clause-off : goal.returns-clause-off
+returns-clause-off g c =
     let l = c.in-Some.ensures.answer in
     let same = ap (λ (s : Shown). s.heap) c.self.view_is in
     let words : c.size.result ≡ words_at c.args.self.now.heap c.args.at = subst (λ (s : Shown). c.size.result ≡ words_at s.heap c.args.at) c.self.view_is
     (c.size.ensures.value ∙ l.2.size ∙ sym (words_live (state_of g.row.SLI c.self.inside) c.self.invariant.lawful.rooms l.1)) in
     let sum = in_use_placed c.args.self.now.heap (subst IsLawful same c.self.invariant.lawful) (subst (λ (h : HeapState). IsLiveAt h.blocks c.args.at l.0) same l.1) (sym (freed g c).is_answer) in
-    record { words = words; sum = omega (arith, sum, words, ap words_in_use (freed g c).is_heap) }
+    record { sum = omega (arith, sum, ap words_in_use (freed g c).is_heap); count = omega (arith, words, c.size.ensures.value, l.2.size, live_part same (l.0, l.1), c.requires.counted) }
 
 pub returns-clause-heap : goal.returns-clause-heap
 returns-clause-heap g c = (freed g c).is_heap
@@ -159,3 +170,14 @@ returns-in_default-clause-refused g c = seen_live g.row.SLI c.self.inside c.self
 
 pub returns-then-self-clause-refused : goal.returns-then-self-clause-refused
 returns-then-self-clause-refused g c = seen_live g.row.SLI c.self.inside c.self.view_is _ c.live_at.ensures.touched
+
+-- ---- groups of eight words
+
+pub returns-in_default-clause-groups : goal.returns-in_default-clause-groups
+returns-in_default-clause-groups g c = subst (λ (s : Shown). InGroups 15 s.touched c.live_at.new.self.touched) c.self.view_is (more_groups (omega arith) c.live_at.ensures.groups)
+
+pub returns-then-self-clause-groups : goal.returns-then-self-clause-groups
+returns-then-self-clause-groups g c = subst (λ (s : Shown). InGroups 15 s.touched c.live_at.new.self.touched) c.self.view_is (more_groups (omega arith) c.live_at.ensures.groups)
+
+pub returns-clause-groups : goal.returns-clause-groups
+returns-clause-groups g c = subst (λ (s : Shown). InGroups 15 s.touched c.coalesce.new.region.touched) c.self.view_is (more_groups (omega arith) (groups_then c.live_at.ensures.groups c.coalesce.ensures.groups))

@@ -1,31 +1,33 @@
-use Rattle.std.proofs.Common.{◌≡◌, ℕ, sym, ap, ◌∙◌, subst, Ok, Err, arith}
+use Rattle.std.proofs.Common.{◌≡◌, ◌≤◌, ℕ, sym, ap, ◌∙◌, subst, Ok, Err, arith}
 use Rattle.std.proofs.lemmas.Result.{err_from_is_err_and}
-use Rattle.tlsf_heap.specs.Blocks.{HeapState}
-use Rattle.tlsf_words.specs.Touched.{times}
+use Rattle.tlsf_heap.specs.Blocks.{HeapState, size_of}
+use Rattle.tlsf_words.specs.Touched.{times, InGroups}
 use Rattle.tlsf_heap.specs.Footprint.{IsOthersWord}
-use Rattle.tlsf_heap.specs.GoodFit.{site_at}
-use Rattle.tlsf_heap.specs.Named.{IsNameCheck}
+use Rattle.tlsf_heap.specs.GoodFit.{site_at, block_at}
+use Rattle.tlsf_heap.specs.Named.{IsNamed, IsNameCheck}
 use Rattle.tlsf_heap.specs.Regions.{IsTagOf}
 use Rattle.tlsf_heap.specs.Shown.{Shown}
 use Rattle.tlsf_heap.specs.Stored.{state_of}
 use Rattle.tlsf_heap.specs.WordsInUse.{words_in_use, words_at}
+use Rattle.tlsf_heap.specs.declared.name.Name.{Name}
 use Rattle.tlsf_heap.specs.declared.refusal.Refusal.TheVariants.{Worn}
 use Rattle.tlsf_heap.proofs.lemmas.calls.Allocate.{lawful_regions}
 use Rattle.tlsf_heap.proofs.lemmas.blocks.Lawful.{with_region}
 use Rattle.tlsf_heap.proofs.lemmas.calls.Named.{named_same, named_stands, named_live, not_forged}
 use Rattle.tlsf_heap.proofs.lemmas.words.Says.{at_index}
 use Rattle.tlsf_heap.proofs.lemmas.calls.Release.{Releases, releases_refused, releases_worn, releases_block}
-use Rattle.tlsf_heap.proofs.lemmas.laws.WordsInUse.{answers_refused, words_named, in_use_released}
+use Rattle.tlsf_heap.proofs.lemmas.laws.WordsInUse.{words_named, words_part, in_use_released}
 use Rattle.tlsf_heap.proofs.lemmas.calls.Kept.{keeps_both, keeps_stored}
-use Rattle.tlsf_heap.proofs.heap.Heap.release_words.Given.{Over}
-use Rattle.tlsf_heap.proofs.heap.Heap.release_words.Goals as goal
+use Rattle.tlsf_words.proofs.Touching.{more_groups, groups_then}
+use Rattle.tlsf_heap.proofs.heap.Heap.release_counted.Given.{Over}
+use Rattle.tlsf_heap.proofs.heap.Heap.release_counted.Goals as goal
 
 -- ---- the name is refused
 
 pub returns-in_err-own-clause-answer : goal.returns-in_err-own-clause-answer
 returns-in_err-own-clause-answer g c =
     let p = err_from_is_err_and c.from_residual.result c.from_residual.ensures.1 in
-    rw (p.1, p.2) (answers_refused _ (sym (releases_refused c.args.self.now.heap c.check.new.self.heap c.args.name c.in_err-own.ensures.keeps.was_lawful c.in_err-own.ensures.same.heap _ c.in_err-own.ensures.answer).is_answer))
+    rw (p.1, p.2) (releases_refused c.args.self.now.heap c.check.new.self.heap c.args.name c.in_err-own.ensures.keeps.was_lawful c.in_err-own.ensures.same.heap _ c.in_err-own.ensures.answer).is_answer
 
 pub returns-in_err-own-clause-heap : goal.returns-in_err-own-clause-heap
 returns-in_err-own-clause-heap g c =
@@ -40,7 +42,7 @@ worn g c =
     (sym (ap (λ (s : HeapState). s.tick) same) ∙ c.if-self.true)
 
 pub returns-then-self-clause-answer : goal.returns-then-self-clause-answer
-returns-then-self-clause-answer g c = answers_refused _ (sym (worn g c).is_answer)
+returns-then-self-clause-answer g c = (worn g c).is_answer
 
 pub returns-then-self-clause-heap : goal.returns-then-self-clause-heap
 returns-then-self-clause-heap g c = (worn g c).is_heap
@@ -77,7 +79,7 @@ coalesce-requires g c =
       ),
     )
 
-freed : (g : Over) (c : goal.After-size-words g) → Releases c.args.self.now.heap c.args.name (Ok tt) (with_region (state_of g.row.SLI c.self.inside) c.coalesce.new.tick c.coalesce.new.region)
+freed : (g : Over) (c : goal.After-coalesce g) → Releases c.args.self.now.heap c.args.name (Ok tt) (with_region (state_of g.row.SLI c.self.inside) c.coalesce.new.tick c.coalesce.new.region)
 freed g c =
     let same : state_of g.row.SLI c.self.inside ≡ c.args.self.now.heap = ap (λ (s : Shown). s.heap) c.self.view_is ∙ c.in_ok-own.ensures.same.heap in
     let named = named_same (state_of g.row.SLI c.self.inside) c.args.self.now.heap c.args.name same c.in_ok-own.ensures.answer.0 in
@@ -87,15 +89,25 @@ freed g c =
     (c.coalesce.ensures.blocks named.1.0 (named_stands _ _ _ _ named.1.1)) c.if-self.false))
 
 pub returns-clause-answer : goal.returns-clause-answer
-returns-clause-answer g c = record { ok = sym (freed g c).is_answer; refused = tt }
+returns-clause-answer g c = (freed g c).is_answer
 
-pub returns-clause-back : goal.returns-clause-back
-returns-clause-back g c =
+-- the words in use have those of a named block
+named_part : (h : HeapState) (name : Name) (named : IsNamed h name) → size_of (block_at h.blocks named.1.0) ≤ words_in_use h
+named_part h name named = words_part h {at = name.at} {i = named.1.0} (record { stands = named_stands _ _ _ _ named.1.1; live = named_live _ _ _ _ named.1.1 })
+
+pub overflow_sub-in_use : goal.overflow_sub-in_use
+overflow_sub-in_use g c =
+    let found = c.in_ok-own.ensures.answer in
+    omega (arith, c.size.ensures.value, found.1.size, named_part c.args.self.now.heap c.args.name found.0, c.requires.counted)
+
+pub returns-clause-off : goal.returns-clause-off
+returns-clause-off g c =
     let h = c.args.self.now.heap in
     let found = c.in_ok-own.ensures.answer in
     let lawful = c.in_ok-own.ensures.keeps.was_lawful in
-    let words : c.size-words.result ≡ words_at h c.args.name.at = c.size-words.ensures.value ∙ found.1.size ∙ sym (words_named h c.args.name lawful found.0) in
-    record { words = words; sum = omega (arith, in_use_released h c.args.name lawful (sym (freed g c).is_answer), words, ap words_in_use (freed g c).is_heap) }
+    let words : c.size.result ≡ words_at h c.args.name.at = c.size.ensures.value ∙ found.1.size ∙ sym (words_named h c.args.name lawful found.0) in
+    let sum = in_use_released h c.args.name lawful (sym (freed g c).is_answer) in
+    record { sum = omega (arith, sum, ap words_in_use (freed g c).is_heap); count = omega (arith, words, c.size.ensures.value, found.1.size, named_part h c.args.name found.0, c.requires.counted) }
 
 pub returns-clause-heap : goal.returns-clause-heap
 returns-clause-heap g c = (freed g c).is_heap
@@ -141,3 +153,14 @@ returns-clause-leaves g c k o =
 
 pub returns-then-self-clause-refused : goal.returns-then-self-clause-refused
 returns-then-self-clause-refused g c k live = c.in_ok-own.ensures.leaves k live
+
+-- ---- groups of eight words
+
+pub returns-in_err-own-clause-groups : goal.returns-in_err-own-clause-groups
+returns-in_err-own-clause-groups g c = more_groups (omega arith) c.in_err-own.ensures.groups
+
+pub returns-then-self-clause-groups : goal.returns-then-self-clause-groups
+returns-then-self-clause-groups g c = more_groups (omega arith) c.in_ok-own.ensures.groups
+
+pub returns-clause-groups : goal.returns-clause-groups
+returns-clause-groups g c = groups_then c.in_ok-own.ensures.groups (subst (λ (s : Shown). InGroups 13 s.touched c.coalesce.new.region.touched) c.self.view_is c.coalesce.ensures.groups)

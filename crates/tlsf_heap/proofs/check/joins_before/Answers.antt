@@ -1,0 +1,8 @@
+use Rattle.std.proofs.Common.{arith}
+use Rattle.tlsf_heap.specs.Regions.{image_of}
+use Rattle.tlsf_heap.proofs.lemmas.words.Checks.{header_begun}
+use Rattle.tlsf_heap.proofs.check.joins_before.Goals as goal
+
+pub returns-then-begins-clause-touched : goal.returns-then-begins-clause-touched
+returns-then-begins-clause-touched c =
+    header_begun (image_of c.args.words.now) c.args.back 0 c.args.back (c.begins.ensures.yes c.if-begins.true) (omega arith) (omega arith) c.begins.ensures.touched c.tag.ensures.touched
