@@ -1,5 +1,5 @@
 -- What a worker shows: its heap and its number.
-use Rattle.std.specs.Prelude.{◌≡◌, ℕ, Option, Some, None, ◌<◌, ◌≢◌}
+use Rattle.std.specs.Prelude.{◌≡◌, ℕ, List, Option, Some, None, ◌<◌, ◌≢◌}
 use Rattle.tlsf_heap.specs.Blocks.{HeapState}
 use Rattle.tlsf_heap.specs.Lawful.{IsLawful}
 use Rattle.tlsf_crew.specs.declared.worker.worker.Worker.{Worker}
@@ -10,6 +10,10 @@ heap_of a = a.heap.heap
 -- how many times a worker's calls touched its heap's memory
 abbrev pub touches_of : {sli : ℕ} {P : Type 0} → Worker sli P → ℕ
 touches_of a = a.heap.touches
+
+-- which words of it they touched
+abbrev pub touched_of : {sli : ℕ} {P : Type 0} → Worker sli P → List ℕ
+touched_of a = a.heap.touched
 
 abbrev pub id_of : {sli : ℕ} {P : Type 0} → Worker sli P → ℕ
 id_of a = a.id

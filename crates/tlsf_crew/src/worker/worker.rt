@@ -3,6 +3,7 @@ ghost use Rattle.std.specs.Prelude.{◌≡◌, ◌≢◌, ℕ, ◌+◌, ◌*◌,
 ghost use Rattle.std.specs.Result.{result_unwrap_or};
 ghost use Rattle.tlsf_class.specs.Classes.{most_words};
 ghost use Rattle.tlsf_heap.specs.Calls.{allocated, released, written, read_of, read_answer, resized};
+ghost use Rattle.tlsf_heap.specs.Footprint.{LeavesLive, LeavesPayloads};
 ghost use Rattle.tlsf_heap.specs.Given.{payload_words_given, payload_words_left};
 ghost use Rattle.tlsf_heap.specs.InPlace.{ArePayload, Alters, Inspects};
 ghost use Rattle.tlsf_heap.specs.Lawful.{IsLawful};
@@ -12,7 +13,7 @@ ghost use Rattle.tlsf_heap.specs.Reports.{report_of};
 ghost use Rattle.tlsf_heap.specs.Touched.{FollowsNoForgery, FollowsNoPlace};
 ghost use Rattle.tlsf_calls.specs.declared.took.Took.{Took};
 ghost use Rattle.tlsf_crew.specs.declared.worker.worker.Worker.{Worker};
-ghost use Rattle.tlsf_crew.specs.worker.Workers.{heap_of, touches_of, id_of, SameButHeap, KeepsHeap};
+ghost use Rattle.tlsf_crew.specs.worker.Workers.{heap_of, touched_of, touches_of, id_of, SameButHeap, KeepsHeap};
 ghost use Rattle.tlsf_crew.specs.worker.Calls.{by_heap, IsRefusedByHeap, PostedThere, ReleasedHere, ReleasedThere, TakenFrom};
 ghost use Rattle.tlsf_crew.specs.worker.Drains.{IsCountOf};
 ghost use Rattle.tlsf_crew.specs.worker.Notes.{AllNoted, SourceNoted};
@@ -190,6 +191,7 @@ impl<const SLI: u32, P: Ports> Worker<SLI, P> {
         ensures yard { P.keeps_yards SLI self.old self.new }
         ensures touches { touches_of self.new ≤ touches_of self.old + 64 + payload_words_given (allocated SLI (heap_of self.old) len).answer (heap_of self.new) }
         ensures touches_rise { touches_of self.old ≤ touches_of self.new }
+        ensures leaves { LeavesLive (heap_of self.old).blocks (touched_of self.old) (touched_of self.new) }
     {
         as_crew::<P, _>(self.heap.allocate(len))
     }
@@ -208,6 +210,8 @@ impl<const SLI: u32, P: Ports> Worker<SLI, P> {
         ensures yard { P.keeps_yards SLI self.old self.new }
         ensures touches { touches_of self.new ≤ touches_of self.old + 64 }
         ensures touches_rise { touches_of self.old ≤ touches_of self.new }
+        ensures leaves { LeavesPayloads (heap_of self.old).blocks name.at (touched_of self.old) (touched_of self.new) }
+        ensures refused { OnErr result (LeavesLive (heap_of self.old).blocks (touched_of self.old) (touched_of self.new)) }
         ensures forged { FollowsNoForgery (heap_of self.old) name (touches_of self.old) (touches_of self.new) }
     {
         as_crew::<P, _>(self.heap.release(name))
@@ -225,6 +229,8 @@ impl<const SLI: u32, P: Ports> Worker<SLI, P> {
         ensures yard { P.keeps_yards SLI self.old self.new }
         ensures touches { touches_of self.new ≤ touches_of self.old + 4 + 2 * (length bytes.now / 8 + 2) }
         ensures touches_rise { touches_of self.old ≤ touches_of self.new }
+        ensures leaves { LeavesPayloads (heap_of self.old).blocks name.at (touched_of self.old) (touched_of self.new) }
+        ensures refused { OnErr result (LeavesLive (heap_of self.old).blocks (touched_of self.old) (touched_of self.new)) }
         ensures forged { FollowsNoForgery (heap_of self.old) name (touches_of self.old) (touches_of self.new) }
     {
         as_crew::<P, _>(self.heap.write(name, at, bytes))
@@ -244,6 +250,8 @@ impl<const SLI: u32, P: Ports> Worker<SLI, P> {
         ensures yard { P.keeps_yards SLI self.old self.new }
         ensures touches { touches_of self.new ≤ touches_of self.old + 4 + (length out.old / 8 + 2) }
         ensures touches_rise { touches_of self.old ≤ touches_of self.new }
+        ensures leaves { LeavesPayloads (heap_of self.old).blocks name.at (touched_of self.old) (touched_of self.new) }
+        ensures refused { OnErr result (LeavesLive (heap_of self.old).blocks (touched_of self.old) (touched_of self.new)) }
         ensures forged { FollowsNoForgery (heap_of self.old) name (touches_of self.old) (touches_of self.new) }
     {
         as_crew::<P, _>(self.heap.read(name, at, out))
@@ -272,6 +280,7 @@ impl<const SLI: u32, P: Ports> Worker<SLI, P> {
         ensures yard { P.keeps_yards SLI self.old self.new }
         ensures touches { touches_of self.new ≤ touches_of self.old + 4 }
         ensures touches_rise { touches_of self.old ≤ touches_of self.new }
+        ensures leaves { LeavesLive (heap_of self.old).blocks (touched_of self.old) (touched_of self.new) }
         ensures forged { FollowsNoForgery (heap_of self.old) name (touches_of self.old) (touches_of self.new) }
     {
         as_crew::<P, _>(self.heap.alter(name, f))
@@ -296,6 +305,7 @@ impl<const SLI: u32, P: Ports> Worker<SLI, P> {
         ensures yard { P.keeps_yards SLI self.old self.new }
         ensures touches { touches_of self.new ≤ touches_of self.old + 4 }
         ensures touches_rise { touches_of self.old ≤ touches_of self.new }
+        ensures leaves { LeavesLive (heap_of self.old).blocks (touched_of self.old) (touched_of self.new) }
         ensures forged { FollowsNoForgery (heap_of self.old) name (touches_of self.old) (touches_of self.new) }
     {
         as_crew::<P, _>(self.heap.inspect(name, f))
@@ -320,6 +330,8 @@ impl<const SLI: u32, P: Ports> Worker<SLI, P> {
         ensures yard { P.keeps_yards SLI self.old self.new }
         ensures touches { touches_of self.new ≤ touches_of self.old + 64 + payload_words_left (resized (heap_of self.old) name len).answer (heap_of self.new) name }
         ensures touches_rise { touches_of self.old ≤ touches_of self.new }
+        ensures leaves { LeavesPayloads (heap_of self.old).blocks name.at (touched_of self.old) (touched_of self.new) }
+        ensures refused { OnErr result (LeavesLive (heap_of self.old).blocks (touched_of self.old) (touched_of self.new)) }
         ensures forged { FollowsNoForgery (heap_of self.old) name (touches_of self.old) (touches_of self.new) }
     {
         as_crew::<P, _>(self.heap.resize(name, len))
@@ -339,6 +351,7 @@ impl<const SLI: u32, P: Ports> Worker<SLI, P> {
         ensures yard { P.keeps_yards SLI self.old self.new }
         ensures touches { touches_of self.new ≤ touches_of self.old + 2 * length (heap_of self.old).blocks }
         ensures touches_rise { touches_of self.old ≤ touches_of self.new }
+        ensures leaves { LeavesLive (heap_of self.old).blocks (touched_of self.old) (touched_of self.new) }
     {
         P::heap_keeps();
         self.heap.report()
@@ -370,6 +383,7 @@ impl<const SLI: u32, P: Ports> Worker<SLI, P> {
         ensures yard { P.keeps_yards SLI self.old self.new }
         ensures touches { touches_of self.new ≤ touches_of self.old + 4 }
         ensures touches_rise { touches_of self.old ≤ touches_of self.new }
+        ensures leaves { LeavesLive (heap_of self.old).blocks (touched_of self.old) (touched_of self.new) }
         ensures wild { FollowsNoPlace (heap_of self.old) at (touches_of self.old) (touches_of self.new) }
     {
         P::heap_keeps();

@@ -5,6 +5,7 @@ use Rattle.std.specs.List.{AllByRecursion}
 use Rattle.std.specs.Result.{result_unwrap_or}
 use Rattle.tlsf_heap.specs.Blocks.{want}
 use Rattle.tlsf_heap.specs.Calls.{allocated, opened, read_answer, read_of, released, written}
+use Rattle.tlsf_heap.specs.Footprint.{LeavesLive, LeavesPayloads}
 use Rattle.tlsf_heap.specs.Given.{payload_words_given}
 use Rattle.tlsf_heap.specs.InPlace.{payload_of}
 use Rattle.tlsf_heap.specs.Laws.{IsLive}
@@ -33,7 +34,7 @@ no_memory = record { address = null_ptr; capacity = 0 }
 
 -- no heap
 abbrev pub no_part : TableState
-no_part = record { heap = record { id = 0; words = 0; tick = 0; blocks = [] }; ledger = record { kinds = []; held = [] }; extents = record { words = no_memory; starts = no_memory }; touches = 0 }
+no_part = record { heap = record { id = 0; words = 0; tick = 0; blocks = [] }; ledger = record { kinds = []; held = [] }; extents = record { words = no_memory; starts = no_memory }; touches = 0; touched = [] }
 
 abbrev pub part_at : PoolsState → ℕ → TableState
 part_at p i = slice_index_or p.parts i no_part
@@ -112,6 +113,7 @@ pub record Allocates (sli : ℕ) (old new : TableState) (len : ℕ) (answer : Re
   pub touches : new.touches ≤ old.touches + allocate_touches answer new.heap
   pub given : payload_words_given answer new.heap ≤ want len
   pub rise : old.touches ≤ new.touches
+  pub leaves : LeavesLive old.heap.blocks old.touched new.touched
 
 -- a release in one
 pub record Releases (old new : TableState) (name : Name) (answer : Result (Unit {0}) Refusal) : Type 0 where
@@ -123,6 +125,8 @@ pub record Releases (old new : TableState) (name : Name) (answer : Result (Unit 
   pub touches : new.touches ≤ old.touches + 34
   pub rise : old.touches ≤ new.touches
   pub forged : FollowsNoForgery old.heap name old.touches new.touches
+  pub leaves : LeavesPayloads old.heap.blocks name.at old.touched new.touched
+  pub refused : OnErr answer (LeavesLive old.heap.blocks old.touched new.touched)
 
 -- a write in one
 pub record Writes (old new : TableState) (name : Name) (at : ℕ) (bytes : List ℕ) (answer : Result (Unit {0}) Refusal) : Type 0 where
@@ -132,6 +136,8 @@ pub record Writes (old new : TableState) (name : Name) (at : ℕ) (bytes : List 
   pub touches : new.touches ≤ old.touches + 4 + 2 * (length bytes / 8 + 2)
   pub rise : old.touches ≤ new.touches
   pub forged : FollowsNoForgery old.heap name old.touches new.touches
+  pub leaves : LeavesPayloads old.heap.blocks name.at old.touched new.touched
+  pub refused : OnErr answer (LeavesLive old.heap.blocks old.touched new.touched)
 
 -- a read in one, which fills these bytes with others
 pub record Reads (old new : TableState) (name : Name) (at : ℕ) (bytes filled : List ℕ) (answer : Result (Unit {0}) Refusal) : Type 0 where
@@ -141,6 +147,8 @@ pub record Reads (old new : TableState) (name : Name) (at : ℕ) (bytes filled :
   pub touches : new.touches ≤ old.touches + 4 + (length bytes / 8 + 2)
   pub rise : old.touches ≤ new.touches
   pub forged : FollowsNoForgery old.heap name old.touches new.touches
+  pub leaves : LeavesPayloads old.heap.blocks name.at old.touched new.touched
+  pub refused : OnErr answer (LeavesLive old.heap.blocks old.touched new.touched)
 
 -- a question to one whether a live block has this name
 pub record AsksLive (old new : TableState) (name : Name) (answer : Bool) : Type 0 where
@@ -149,6 +157,7 @@ pub record AsksLive (old new : TableState) (name : Name) (answer : Bool) : Type 
   pub touches : new.touches ≤ old.touches + 3
   pub rise : old.touches ≤ new.touches
   pub forged : FollowsNoForgery old.heap name old.touches new.touches
+  pub leaves : LeavesLive old.heap.blocks old.touched new.touched
 
 -- a report on one, which counts the blocks that are held; no request that has a place is longer than its grant
 pub record Reports (sli : ℕ) (old new : TableState) (report : Report) : Type 0 where
@@ -159,6 +168,7 @@ pub record Reports (sli : ℕ) (old new : TableState) (report : Report) : Type 0
   pub touches : new.touches ≤ old.touches + 2 * length old.heap.blocks
   pub few : 4 * length old.heap.blocks ≤ old.heap.words
   pub rise : old.touches ≤ new.touches
+  pub leaves : LeavesLive old.heap.blocks old.touched new.touched
 
 -- a look at what begins at a place of one
 pub record Looks (old new : TableState) (at : ℕ) (answer : Option PlacedBlock) : Type 0 where
@@ -167,3 +177,4 @@ pub record Looks (old new : TableState) (at : ℕ) (answer : Option PlacedBlock)
   pub touches : new.touches ≤ old.touches + 4
   pub wild : FollowsNoPlace old.heap at old.touches new.touches
   pub rise : old.touches ≤ new.touches
+  pub leaves : LeavesLive old.heap.blocks old.touched new.touched

@@ -10,14 +10,14 @@ use Rattle.tlsf_class.proofs.ClassOfSize.{IsSearchOf, class_of-is, search_of-is,
 use Rattle.tlsf_heap.specs.Blocks.{Block, Live, Free, HeapState, size_of, is_free, words_in, want}
 use Rattle.tlsf_heap.specs.GoodFit.{fits, is_fit}
 use Rattle.tlsf_heap.specs.Chosen.{NoneFits}
-use Rattle.tlsf_heap.specs.Lawful.{IsLawful, HasRoom, AreApart}
+use Rattle.tlsf_heap.specs.Lawful.{IsLawful, HasRoom, FreeBlocksAreApart}
 use Rattle.tlsf_heap.specs.Reports.{live_among, free_among}
 use Rattle.tlsf_heap.proofs.lemmas.blocks.Find.{not_true}
 use Rattle.tlsf_heap.proofs.lemmas.blocks.Grant.{fits_something}
 use Rattle.tlsf_pool.specs.laws.Room.{live_count, free_words, sure}
 
 -- free blocks don't touch, so at most one more is free than live
-pub few_free : (bs : List Block) → AreApart bs → length (free_among bs) ≤ length (live_among bs) + 1
+pub few_free : (bs : List Block) → FreeBlocksAreApart bs → length (free_among bs) ≤ length (live_among bs) + 1
 few_free [] a = omega arith
 few_free (Live m s xs ∷ bs) a = let e = few_free bs a in omega arith
 few_free (Free m s ∷ []) a = omega arith

@@ -4,7 +4,7 @@ use Rattle.std.proofs.lemmas.Bool.{eqb-true, cases_lt, false≢true}
 use Rattle.tlsf_class.specs.Classes.{IsLevel}
 use Rattle.tlsf_heap.specs.Blocks.{Block, Live, Free, HeapState, size_of, words_in}
 use Rattle.tlsf_heap.specs.GoodFit.{block_at}
-use Rattle.tlsf_heap.specs.Lawful.{IsLawful, AreApart}
+use Rattle.tlsf_heap.specs.Lawful.{IsLawful, FreeBlocksAreApart}
 use Rattle.tlsf_heap.specs.Calls.{has_serial, opened, run}
 use Rattle.tlsf_heap.specs.Reports.{live_among}
 use Rattle.tlsf_heap.specs.declared.name.Name.{Name}
@@ -19,7 +19,7 @@ use Rattle.tlsf_pool.proofs.lemmas.laws.Around.{words_run}
 use Rattle.tlsf_pool.proofs.lemmas.laws.Held.{holds}
 use Rattle.tlsf_pool.proofs.lemmas.laws.Names.{same_name}
 
-alone : (bs : List Block) → AreApart bs → live_among bs ≡ [] → 0 < words_in bs → (stamp : ℕ) × (bs ≡ Free (words_in bs) stamp ∷ [])
+alone : (bs : List Block) → FreeBlocksAreApart bs → live_among bs ≡ [] → 0 < words_in bs → (stamp : ℕ) × (bs ≡ Free (words_in bs) stamp ∷ [])
 alone [] a e h = absurd (omega arith)
 alone (Live m s xs ∷ bs) a e h = absurd cc
 alone (Free m s ∷ []) a e h = let z : m ≡ m + 0 = omega arith in (s, ap (λ (n : ℕ). Free n s ∷ []) z)

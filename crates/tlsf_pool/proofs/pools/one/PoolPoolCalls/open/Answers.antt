@@ -31,7 +31,7 @@ new-requires g c =
     let class : want c.args.longest ≤ most_words g.row.SLI = omega (arith, c.if-longest-most_bytes.false, c.most_bytes.ensures, some_words g.row.SLI c.requires) in
     let words = c.kinds_words-words.ensures ∙ one_kind g.row.SLI (record { most = c.args.most; len = c.args.longest }) in
     let heap : c.in_ok-heap.heap.heap ≡ opened c.args.id (pool_words g.row.SLI c.args.most c.args.longest) c.args.first = c.in_ok-heap.ensures.heap ∙ ap (λ (n : ℕ). opened c.args.id n c.args.first) words in
-    let is : IsLedgered (IsPool g.row.SLI) (record { heap = c.in_ok-heap.heap.heap; ledger = record { most = c.args.most; longest = c.args.longest; held = 0 }; extents = c.in_ok-heap.heap.extents; touches = c.in_ok-heap.heap.touches }) =
+    let is : IsLedgered (IsPool g.row.SLI) (record { heap = c.in_ok-heap.heap.heap; ledger = record { most = c.args.most; longest = c.args.longest; held = 0 }; extents = c.in_ok-heap.heap.extents; touches = c.in_ok-heap.heap.touches; touched = c.in_ok-heap.heap.touched }) =
     record { lawful = c.in_ok-heap.ensures.lawful; holds = new_pool g.row.SLI c.args.id c.args.most c.args.longest c.args.first c.in_ok-heap.heap.heap c.requires class heap } in
     (omega arith, (omega arith, is))
 

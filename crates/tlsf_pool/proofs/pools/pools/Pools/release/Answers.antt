@@ -24,7 +24,7 @@ returns-clause-releases g c =
     let within = (named_within p.id p.parts c.args.name c.in-Some.part found).0 in
     let e = c.release.ensures in
     let made : Releases c.index_mut.result.now c.release.new.self c.args.name c.release.result =
-    record { answer_is = e.answer; heap = e.heap; counts = e.returned; err = e.err; kinds = e.limits; touches = omega (arith, e.most_touches); rise = e.keeps.touches_rise; forged = e.forged } in
+    record { answer_is = e.answer; heap = e.heap; counts = e.returned; err = e.err; kinds = e.limits; touches = omega (arith, e.most_touches); rise = e.keeps.touches_rise; forged = e.forged; leaves = e.leaves; refused = e.refused } in
     subst (λ (q : PoolsState). IfSome (part_named q c.args.name) (λ i. Releases (part_at q i) (part_at (record { id = p.id; parts = set p.parts c.in-Some.part c.release.new.self }) i) c.args.name c.release.result)) c.self.view_is
     (lift_both p c.in-Some.part c.index_mut.result.now c.release.new.self (named_in p.id p.parts c.args.name) found within c.index_mut.ensures.value (λ a b. Releases a b c.args.name c.release.result) made)
 
