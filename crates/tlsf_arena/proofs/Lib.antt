@@ -2,6 +2,7 @@ pub mod Books
 pub mod Buffers
 pub mod Cell
 pub mod Holding
+pub mod Lodging
 pub mod Mapped
 pub mod Maps
 pub mod Named

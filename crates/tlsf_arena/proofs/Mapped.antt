@@ -11,7 +11,7 @@ use Rattle.tlsf_heap.specs.Lawful.{IsLawful}
 use Rattle.tlsf_heap.specs.Placed.{placed_at}
 use Rattle.tlsf_heap.specs.declared.name.Name.{Name}
 use Rattle.tlsf_arena.specs.Arenas.{IsMapped}
-use Rattle.tlsf_arena.specs.Places.{IsUnit, IsRun, lacking, marked, spread, free_map, held_at, free_in}
+use Rattle.tlsf_arena.specs.Places.{IsUnit, IsRun, lacking, marked, spread, free_map, held_at, free_units_in}
 use Rattle.tlsf_arena.proofs.Maps.{Tells, arena_carves, arena_frees, whole_map}
 use Rattle.tlsf_arena.proofs.Resizes.{arena_refits}
 use Rattle.tlsf_arena.proofs.Rooms.{marked_length}
@@ -130,7 +130,7 @@ opens sli u units id size heap free level unit least most is long all =
     }
 
 -- an arena whose heap is one free block is whole
-pub whole_arena : (sli u units size : ℕ) (heap : HeapState) (free : Bits) → IsMapped sli u units heap free → free_in (placed_at heap.blocks 0) ≡ units → size / 16 ≡ u / 16 * units → free ≡ replicate (size / 16) true
+pub whole_arena : (sli u units size : ℕ) (heap : HeapState) (free : Bits) → IsMapped sli u units heap free → free_units_in (placed_at heap.blocks 0) ≡ units → size / 16 ≡ u / 16 * units → free ≡ replicate (size / 16) true
 whole_arena sli u units size heap free mapped first long =
     let n = u / 16 in
     let blocks = free_map heap.blocks in

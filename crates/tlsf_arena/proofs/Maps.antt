@@ -21,7 +21,7 @@ use Rattle.tlsf_heap.proofs.lemmas.blocks.Lawful.{all_left, all_right}
 use Rattle.tlsf_heap.proofs.lemmas.blocks.ByPlace.{placed_found}
 use Rattle.tlsf_heap.proofs.lemmas.laws.Live.{given_words}
 use Rattle.tlsf_heap.proofs.lemmas.calls.Outcomes.{IsSiteOf, gives_words, takes, named_site, by_allocated_words, by_released}
-use Rattle.tlsf_arena.specs.Places.{IsRun, marked, spread, free_map, held_units, held_at, held_in, free_in}
+use Rattle.tlsf_arena.specs.Places.{IsRun, marked, spread, free_map, held_units, held_at, held_in, free_units_in}
 use Rattle.tlsf_arena.proofs.Rooms.{marked_run}
 use Rattle.tlsf_arena.proofs.Spread.{spread_run, spread_marked}
 
@@ -192,7 +192,7 @@ arena_frees n old new free k name mapped lawful held answer heap =
 
 -- ---- a heap that holds nothing
 
-first_is : (bs : List Block) → free_in (placed_at bs 0) ≡ first_free bs
+first_is : (bs : List Block) → free_units_in (placed_at bs 0) ≡ first_free bs
 first_is [] = refl
 first_is (Live m s xs ∷ bs) = refl
 first_is (Free m s ∷ bs) = refl
@@ -201,7 +201,7 @@ none_left : (l : Bits) → length l ≡ 0 → l ≡ []
 none_left [] e = refl
 none_left (b ∷ l) e = absurd (omega (arith, e))
 
-pub whole_map : (bs : List Block) (words : ℕ) → free_in (placed_at bs 0) ≡ words → length (free_map bs) ≡ words → free_map bs ≡ replicate words true
+pub whole_map : (bs : List Block) (words : ℕ) → free_units_in (placed_at bs 0) ≡ words → length (free_map bs) ≡ words → free_map bs ≡ replicate words true
 whole_map bs words first long =
     let size : first_free bs ≡ words = sym (first_is bs) ∙ first in
     let P : Bits = free_map (past_free bs) in

@@ -13,7 +13,8 @@ use Rattle.tlsf_heap.proofs.lemmas.blocks.Lawful.{all_right, words_in-append}
 use Rattle.tlsf_heap.proofs.lemmas.calls.Outcomes.{named_site}
 use Rattle.tlsf_heap.proofs.lemmas.blocks.ByPlace.{placed_found}
 use Rattle.tlsf_arena.specs.Arenas.{Holds, IsMapped}
-use Rattle.tlsf_arena.specs.Places.{free_map, held_at, serial_at, serial_in}
+use Rattle.tlsf_arena.specs.Places.{free_map, held_at}
+use Rattle.tlsf_heap.specs.ByPlace.{serial_at, serial_in}
 use Rattle.tlsf_arena.proofs.Maps.{held_of, length-map, stands}
 use Rattle.tlsf_arena.proofs.Spread.{length-spread}
 use Rattle.tlsf_arena.proofs.UnitCases.{by_unit, units_apart}

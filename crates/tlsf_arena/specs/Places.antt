@@ -82,24 +82,11 @@ held_in (Some block) = held_by block.size block.content
 abbrev pub held_at : List Block → ℕ → Option ℕ
 held_at blocks at = held_in (placed_at blocks at)
 
--- its serial, where it is live
-abbrev pub serial_by : Content → Option ℕ
-serial_by (content.Live serial len) = Some serial
-serial_by (content.Free stamp) = None
-
-abbrev pub serial_in : Option PlacedBlock → Option ℕ
-serial_in None = None
-serial_in (Some block) = serial_by block.content
-
--- the serial of the live block at a place
-abbrev pub serial_at : List Block → ℕ → Option ℕ
-serial_at blocks at = serial_in (placed_at blocks at)
-
 -- the size of a free block, or 0
 abbrev pub free_size : ℕ → Content → ℕ
 free_size size (content.Live serial len) = 0
 free_size size (content.Free stamp) = size
 
-abbrev pub free_in : Option PlacedBlock → ℕ
-free_in None = 0
-free_in (Some block) = free_size block.size block.content
+abbrev pub free_units_in : Option PlacedBlock → ℕ
+free_units_in None = 0
+free_units_in (Some block) = free_size block.size block.content

@@ -12,7 +12,8 @@ ghost use Rattle.tlsf_heap.specs.Touched.{FollowsNoPlace};
 ghost use Rattle.tlsf_heap.specs.declared.name.Name.{Name};
 ghost use Rattle.tlsf_arena.specs.Arenas.{Holds, IsMapped, SameArena, SameHome, refitted, requested};
 ghost use Rattle.tlsf_arena.specs.Loans.{IsLoan, loan_of, name_of, units_of};
-ghost use Rattle.tlsf_arena.specs.Places.{IsPiece, IsUnit, lacking, units_for, piece_size, held_at, serial_at, free_in};
+ghost use Rattle.tlsf_arena.specs.Places.{IsPiece, IsUnit, lacking, units_for, piece_size, held_at, free_units_in};
+ghost use Rattle.tlsf_heap.specs.ByPlace.{serial_at};
 
 use crate::block::Block;
 use crate::book::{Book, Entry, Refit, lend_entry, refit_entry};
@@ -156,7 +157,7 @@ impl<const SLI: u32, const UNIT: usize> Arena<SLI, UNIT> {
     pub fn into_memory(self) -> Result<Memory, Arena<SLI, UNIT>>
         ensures memory { IfOk result (λ m. region_of m.ptr m.size ≡ self.entry.region) }
         ensures place { IfOk result (λ m. count_of m.ptr + m.size < 2 ^ 63) }
-        ensures whole { IsOk result ↔ (self.entry.region.end ≡ self.entry.region.start + UNIT * free_in (placed_at self.entry.heap.blocks 0)) }
+        ensures whole { IsOk result ↔ (self.entry.region.end ≡ self.entry.region.start + UNIT * free_units_in (placed_at self.entry.heap.blocks 0)) }
         ensures err { IfErr result (λ a. SameArena self.entry a) }
 
         // Where a block is out, it has looked at the first block.
@@ -716,7 +717,7 @@ impl<const SLI: u32, const UNIT: usize> Arena<SLI, UNIT> {
 
 /// The words of the free block at place 0, or 0.
 fn free_at_start<const SLI: u32>(heap: &mut Heap<SLI>) -> u32
-    ensures size { result ≡ free_in (placed_at heap.old.heap.blocks 0) }
+    ensures size { result ≡ free_units_in (placed_at heap.old.heap.blocks 0) }
     ensures same { heap.new.heap ≡ heap.old.heap }
     ensures touches { heap.new.touches ≤ heap.old.touches + 4 }
 {
@@ -743,7 +744,7 @@ fn give_back<const SLI: u32, const UNIT: usize>(
 ) -> Option<Freed>
     requires mapped { IsMapped SLI UNIT units heap.value.heap space.free }
     requires lease { IfSome lease (λ l. (l.alloc ≡ alloc) × ((l.ptr ≡ space.base) × (l.size ≡ UNIT * units))) }
-    ensures freed { IsSome result ↔ ((free_in (placed_at heap.entry.value.heap.blocks 0) ≡ units) × IsSome lease) }
+    ensures freed { IsSome result ↔ ((free_units_in (placed_at heap.entry.value.heap.blocks 0) ≡ units) × IsSome lease) }
     ensures size { IfSome result (λ f. f.size ≡ UNIT * units) }
 {
     let mut heap = heap;

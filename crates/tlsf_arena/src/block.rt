@@ -1,6 +1,7 @@
 ghost use Rattle.std.specs.Prelude.{◌≡◌, ◌+◌, ◌*◌};
 ghost use Rattle.tlsf_arena.specs.Loans.{IsLoan};
 
+use crate::filled_block::FilledBlock;
 use crate::piece::Piece;
 use crate::right::Right;
 use std::fmt;
@@ -19,6 +20,28 @@ pub struct Block<const UNIT: usize> {
     pub right: Right,
     pub ghost matched: { piece.at ≡ piece.region.start + UNIT * name.at },
     pub ghost entered: { IsLoan UNIT right.loan name piece.size },
+}
+
+impl<const UNIT: usize> Block<UNIT> {
+    ghost use Rattle.std.specs.Prelude.{replicate};
+    ghost use Rattle.tlsf_arena.specs.FilledPieces.{bytes_of};
+    ghost use Rattle.tlsf_arena.specs.FilledBlocks.{block_of};
+
+    /// The block with `value` in each of its bytes. From then on they are read and written as a slice, in any thread.
+    ///
+    /// ```text
+    /// let mut block = arena.allocate(100)?.fill(0);
+    /// block.as_mut_slice()[99] = 7;
+    /// arena.release(block.into_block())
+    /// ```
+    pub fn fill(self, value: u8) -> FilledBlock<UNIT>
+        ensures bytes { bytes_of result.piece ≡ replicate self.entry.piece.size value }
+        ensures block { block_of result ≡ self.entry }
+    {
+        let Block { name, piece, right } = self;
+        let piece = piece.fill(value);
+        FilledBlock { name, piece, right }
+    }
 }
 
 impl<const UNIT: usize> fmt::Debug for Block<UNIT> {

@@ -4,6 +4,8 @@ ghost use Rattle.linked_list_allocator.specs.Region.{Region};
 ghost use Rattle.linked_list_allocator.specs.Ownership.{bytes_at};
 ghost use Rattle.tlsf_arena.specs.Places.{IsPiece};
 
+use crate::filled_piece::FilledPiece;
+use crate::husk::{Husk, set_all};
 use std::marker::Model;
 
 /// Bytes of an arena's memory that it gave out: whoever has the piece owns them. What they hold is in no clause.
@@ -23,6 +25,24 @@ impl Model for Piece {
 }
 
 impl Piece {
+    ghost use Rattle.std.specs.Prelude.{replicate};
+    ghost use Rattle.tlsf_arena.specs.FilledPieces.{bytes_of, piece_of};
+
+    /// The piece with `value` in each of its bytes. From then on they are read and written as a slice.
+    ///
+    /// ```text
+    /// let filled = block.piece.fill(0);
+    /// ```
+    pub fn fill(self, value: u8) -> FilledPiece
+        ensures bytes { bytes_of result ≡ replicate self.size value }
+        ensures piece { piece_of result ≡ self }
+    {
+        let (size, piece) = self.with_size();
+        let (vec, husk) = Husk::open(piece);
+        let vec = set_all(vec, size, value);
+        FilledPiece { vec, husk }
+    }
+
     /// The piece's size in bytes, a multiple of 16, of a whole block 64 or more, and the piece again.
     ///
     /// ```text

@@ -35,7 +35,7 @@ use Rattle.tlsf_heap.proofs.lemmas.lists.Refit.{refitted_grown, refitted_cut, re
 use Rattle.tlsf_heap.proofs.lemmas.laws.NoFit.{no_fit_words, ok_words}
 use Rattle.tlsf_heap.proofs.lemmas.words.Image.{least}
 use Rattle.tlsf_heap.proofs.lemmas.blocks.Sites.{choice_none}
-use Rattle.tlsf_offsets.specs.Offsets.{Offsets, IsOffsets, IsHeld, AreApart, KeepsOthers, units_for}
+use Rattle.tlsf_offsets.specs.Offsets.{Offsets, IsOffsets, IsHeld, SpansAreApart, KeepsOthers, span_units}
 use Rattle.tlsf_offsets.specs.declared.span.Span.{Span}
 
 -- ---- a block that has some property, by its index and by its place
@@ -100,7 +100,7 @@ names o a b x y e =
     same_name a.name b.name (x.own ∙ sym y.own) (sym x.stands.place ∙ ap (λ (i : ℕ). words_in (take i o.heap.blocks)) e ∙ y.stands.place)
     (one_serial a.name.serial b.name.serial (block_at o.heap.blocks x.index) x.live (ap (has_serial b.name.serial) block ∙ y.live))
 
-pub apart : (sli : ℕ) (o : Offsets) (a b : Span) → IsOffsets sli o → IsHeld o a → IsHeld o b → a.name ≢ b.name → AreApart a b
+pub apart : (sli : ℕ) (o : Offsets) (a b : Span) → IsOffsets sli o → IsHeld o a → IsHeld o b → a.name ≢ b.name → SpansAreApart a b
 apart sli o a b is x y other =
     elim (cases_lt x.index y.index) [
       | inl l ↦ inl (before o a b x y l)
@@ -350,12 +350,12 @@ units_hold unit len some =
           omega (arith, parts, none, ap (λ (k : ℕ). unit * k) up, mul_comm unit (len / unit))
     ]
 
-pub enough : (sli : ℕ) (p : Offsets) (span : Span) (len : ℕ) → IsOffsets sli p → IsHeld p span → Made span.name (units_for p.unit len) p.heap → len ≤ span.size
+pub enough : (sli : ℕ) (p : Offsets) (span : Span) (len : ℕ) → IsOffsets sli p → IsHeld p span → Made span.name (span_units p.unit len) p.heap → len ≤ span.size
 enough sli p span len is h made =
     let hold = units_hold p.unit len is.some in
     let four = mul-le-mul_left p.unit (max_right 4 (len / p.unit + min 1 (len % p.unit))) in
     let least = mul-le-mul_left p.unit made.least in
-    omega (arith, hold, four, least, made_size sli p span (units_for p.unit len) made is h)
+    omega (arith, hold, four, least, made_size sli p span (span_units p.unit len) made is h)
   where
     max_right : (a b : ℕ) → b ≤ max a b
     max_right a b = omega arith
@@ -470,17 +470,17 @@ told sli n h (Err why) e =
 -- ---- a call of allocate and one of resize, from the arena o, which the code shows as i, to the arena p
 
 pub record Asks (sli : ℕ) (o p : Offsets) (len : ℕ) (answer : Result Name Refusal) : Type 0 where
-  pub answer_is : (allocated_words sli o.heap (units_for o.unit len) 0).answer ≡ answer
-  pub heap_is : p.heap ≡ (allocated_words sli o.heap (units_for o.unit len) 0).heap
+  pub answer_is : (allocated_words sli o.heap (span_units o.unit len) 0).answer ≡ answer
+  pub heap_is : p.heap ≡ (allocated_words sli o.heap (span_units o.unit len) 0).heap
   pub unit_is : p.unit ≡ o.unit
   pub before : IsOffsets sli o
   pub after : IsOffsets sli p
 
-pub asks : (sli : ℕ) (i o p : Offsets) (len m : ℕ) (answer : Result Name Refusal) → IsOffsets sli o → i ≡ o → m ≡ min (units_for i.unit len) (2 ^ 32 - 1)
+pub asks : (sli : ℕ) (i o p : Offsets) (len m : ℕ) (answer : Result Name Refusal) → IsOffsets sli o → i ≡ o → m ≡ min (span_units i.unit len) (2 ^ 32 - 1)
     → answer ≡ (allocated_words sli i.heap m 0).answer → p.heap ≡ (allocated_words sli i.heap m 0).heap → p.unit ≡ i.unit → IsLawful p.heap → Asks sli o p len answer
 asks sli i o p len m answer is same units e f g lawful =
-    let all : allocated_words sli i.heap m 0 ≡ allocated_words sli o.heap (units_for o.unit len) 0 =
-    ap (λ (k : ℕ). allocated_words sli i.heap k 0) units ∙ allocated_clamped sli is.level i.heap (units_for i.unit len) ∙ ap (λ (x : Offsets). allocated_words sli x.heap (units_for x.unit len) 0) same in
+    let all : allocated_words sli i.heap m 0 ≡ allocated_words sli o.heap (span_units o.unit len) 0 =
+    ap (λ (k : ℕ). allocated_words sli i.heap k 0) units ∙ allocated_clamped sli is.level i.heap (span_units i.unit len) ∙ ap (λ (x : Offsets). allocated_words sli x.heap (span_units x.unit len) 0) same in
     let heap = f ∙ ap (λ (x : Outcome Name). x.heap) all in
     let unit = g ∙ ap (λ (x : Offsets). x.unit) same in
     record {
@@ -488,60 +488,60 @@ asks sli i o p len m answer is same units e f g lawful =
       heap_is = heap;
       unit_is = unit;
       before = is;
-      after = stays sli o p is unit (ap (λ (h : HeapState). h.words) heap ∙ words_allocated sli o.heap (units_for o.unit len)) lawful;
+      after = stays sli o p is unit (ap (λ (h : HeapState). h.words) heap ∙ words_allocated sli o.heap (span_units o.unit len)) lawful;
     }
 
 module _ (sli : ℕ) (o p : Offsets) (len : ℕ) (name : Name) (a : Asks sli o p len (Ok name)) where
-  pub asks_made : (made : Made name (units_for o.unit len) p.heap) × (made.size < units_for o.unit len + 4)
-  asks_made = subst (λ (h : HeapState). (made : Made name (units_for o.unit len) h) × (made.size < units_for o.unit len + 4)) (sym a.heap_is) (given_made sli (units_for o.unit len) o.heap a.before.level name a.answer_is)
+  pub asks_made : (made : Made name (span_units o.unit len) p.heap) × (made.size < span_units o.unit len + 4)
+  asks_made = subst (λ (h : HeapState). (made : Made name (span_units o.unit len) h) × (made.size < span_units o.unit len + 4)) (sym a.heap_is) (given_made sli (span_units o.unit len) o.heap a.before.level name a.answer_is)
 
   module _ (span : Span) (named : span.name ≡ name) (h : IsHeld p span) where
-    spanned : (made : Made span.name (units_for o.unit len) p.heap) × (made.size < units_for o.unit len + 4)
-    spanned = subst (λ (m : Name). (made : Made m (units_for o.unit len) p.heap) × (made.size < units_for o.unit len + 4)) (sym named) asks_made
+    spanned : (made : Made span.name (span_units o.unit len) p.heap) × (made.size < span_units o.unit len + 4)
+    spanned = subst (λ (m : Name). (made : Made m (span_units o.unit len) p.heap) × (made.size < span_units o.unit len + 4)) (sym named) asks_made
 
     pub asks_enough : len ≤ span.size
-    asks_enough = enough sli p span len a.after h (subst (λ (u : ℕ). Made span.name (units_for u len) p.heap) (sym a.unit_is) spanned.0)
+    asks_enough = enough sli p span len a.after h (subst (λ (u : ℕ). Made span.name (span_units u len) p.heap) (sym a.unit_is) spanned.0)
 
-    pub asks_close : span.size < o.unit * (units_for o.unit len + 4)
-    asks_close = subst (λ (u : ℕ). span.size < u * (units_for o.unit len + 4)) a.unit_is (close sli p span (units_for o.unit len) a.after h spanned.0 spanned.1)
+    pub asks_close : span.size < o.unit * (span_units o.unit len + 4)
+    asks_close = subst (λ (u : ℕ). span.size < u * (span_units o.unit len + 4)) a.unit_is (close sli p span (span_units o.unit len) a.after h spanned.0 spanned.1)
 
   pub asks_new : (other : Span) → IsHeld o other → other.name ≢ name
-  asks_new other h same = new_words sli o.heap (units_for o.unit len) 0 name a.before.lawful a.answer_is (subst (IsLive o.heap) same (live o other h))
+  asks_new other h same = new_words sli o.heap (span_units o.unit len) 0 name a.before.lawful a.answer_is (subst (IsLive o.heap) same (live o other h))
 
 pub record Alters (sli : ℕ) (o p : Offsets) (name : Name) (len : ℕ) (answer : Result (Unit {0}) Refusal) : Type 0 where
-  pub answer_is : (resized_words o.heap name (units_for o.unit len) 0).answer ≡ answer
-  pub heap_is : p.heap ≡ (resized_words o.heap name (units_for o.unit len) 0).heap
+  pub answer_is : (resized_words o.heap name (span_units o.unit len) 0).answer ≡ answer
+  pub heap_is : p.heap ≡ (resized_words o.heap name (span_units o.unit len) 0).heap
   pub unit_is : p.unit ≡ o.unit
   pub after : IsOffsets sli p
 
-pub alters : (sli : ℕ) (i o p : Offsets) (name : Name) (len m : ℕ) (answer : Result (Unit {0}) Refusal) → IsOffsets sli o → i ≡ o → m ≡ min (units_for i.unit len) (2 ^ 32 - 1)
+pub alters : (sli : ℕ) (i o p : Offsets) (name : Name) (len m : ℕ) (answer : Result (Unit {0}) Refusal) → IsOffsets sli o → i ≡ o → m ≡ min (span_units i.unit len) (2 ^ 32 - 1)
     → answer ≡ (resized_words i.heap name m 0).answer → p.heap ≡ (resized_words i.heap name m 0).heap → p.unit ≡ i.unit → IsLawful p.heap → Alters sli o p name len answer
 alters sli i o p name len m answer is same units e f g lawful =
     let is_i : IsOffsets sli i = subst (IsOffsets sli) (sym same) is in
-    let all : resized_words i.heap name m 0 ≡ resized_words o.heap name (units_for o.unit len) 0 =
-    ap (λ (k : ℕ). resized_words i.heap name k 0) units ∙ resized_clamped sli is.level i.heap name (units_for i.unit len) is_i.lawful is_i.words ∙ ap (λ (x : Offsets). resized_words x.heap name (units_for x.unit len) 0) same in
+    let all : resized_words i.heap name m 0 ≡ resized_words o.heap name (span_units o.unit len) 0 =
+    ap (λ (k : ℕ). resized_words i.heap name k 0) units ∙ resized_clamped sli is.level i.heap name (span_units i.unit len) is_i.lawful is_i.words ∙ ap (λ (x : Offsets). resized_words x.heap name (span_units x.unit len) 0) same in
     let heap = f ∙ ap (λ (x : Outcome (Unit {0})). x.heap) all in
     let unit = g ∙ ap (λ (x : Offsets). x.unit) same in
     record {
       answer_is = ap (λ (x : Outcome (Unit {0})). x.answer) (sym all) ∙ sym e;
       heap_is = heap;
       unit_is = unit;
-      after = stays sli o p is unit (ap (λ (h : HeapState). h.words) heap ∙ words_resized o.heap name (units_for o.unit len)) lawful;
+      after = stays sli o p is unit (ap (λ (h : HeapState). h.words) heap ∙ words_resized o.heap name (span_units o.unit len)) lawful;
     }
 
 module _ (sli : ℕ) (o p : Offsets) (name : Name) (len : ℕ) (a : Alters sli o p name len (Ok tt)) where
-  pub alters_made : MadeClose name (units_for o.unit len) p.heap
-  alters_made = subst (MadeClose name (units_for o.unit len)) (sym a.heap_is) (left_made o.heap name (units_for o.unit len) a.answer_is)
+  pub alters_made : MadeClose name (span_units o.unit len) p.heap
+  alters_made = subst (MadeClose name (span_units o.unit len)) (sym a.heap_is) (left_made o.heap name (span_units o.unit len) a.answer_is)
 
   module _ (span : Span) (named : span.name ≡ name) (h : IsHeld p span) where
-    respanned : MadeClose span.name (units_for o.unit len) p.heap
-    respanned = subst (λ (m : Name). MadeClose m (units_for o.unit len) p.heap) (sym named) alters_made
+    respanned : MadeClose span.name (span_units o.unit len) p.heap
+    respanned = subst (λ (m : Name). MadeClose m (span_units o.unit len) p.heap) (sym named) alters_made
 
     pub alters_enough : len ≤ span.size
-    alters_enough = enough sli p span len a.after h (subst (λ (u : ℕ). Made span.name (units_for u len) p.heap) (sym a.unit_is) respanned.0)
+    alters_enough = enough sli p span len a.after h (subst (λ (u : ℕ). Made span.name (span_units u len) p.heap) (sym a.unit_is) respanned.0)
 
-    pub alters_close : span.size < o.unit * (units_for o.unit len + 4)
-    alters_close = subst (λ (u : ℕ). span.size < u * (units_for o.unit len + 4)) a.unit_is (close sli p span (units_for o.unit len) a.after h respanned.0 respanned.1)
+    pub alters_close : span.size < o.unit * (span_units o.unit len + 4)
+    alters_close = subst (λ (u : ℕ). span.size < u * (span_units o.unit len + 4)) a.unit_is (close sli p span (span_units o.unit len) a.after h respanned.0 respanned.1)
 
 -- the name of a resize that was done is not forged, whatever the call touched
 pub resized_not_forged : (h : HeapState) (name : Name) (n : ℕ) → IsLawful h → (resized_words h name n 0).answer ≡ Ok tt → (before behind : ℕ) → FollowsNoForgery h name before behind

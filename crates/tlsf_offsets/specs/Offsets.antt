@@ -24,8 +24,8 @@ pub record IsOffsets (sli : ℕ) (o : Offsets) : Type 0 where
   pub some : 0 < o.unit
 
 -- the units that hold `len` bytes: no block has fewer than four
-abbrev pub units_for : ℕ → ℕ → ℕ
-units_for unit len = max 4 (len / unit + min 1 (len % unit))
+abbrev pub span_units : ℕ → ℕ → ℕ
+span_units unit len = max 4 (len / unit + min 1 (len % unit))
 
 -- the span has the bytes of the live block of its name, all of them
 pub record IsHeld (o : Offsets) (span : Span) : Type 0 where
@@ -37,8 +37,8 @@ pub record IsHeld (o : Offsets) (span : Span) : Type 0 where
   pub size : span.size ≡ o.unit * size_of (block_at o.heap.blocks index)
 
 -- one span ends before the other begins
-abbrev pub AreApart : Span → Span → Type 0
-AreApart a b = (a.offset + a.size ≤ b.offset) ⊎ (b.offset + b.size ≤ a.offset)
+abbrev pub SpansAreApart : Span → Span → Type 0
+SpansAreApart a b = (a.offset + a.size ≤ b.offset) ⊎ (b.offset + b.size ≤ a.offset)
 
 -- spans of other names are held as before
 abbrev pub KeepsOthers : Offsets → Offsets → Name → Type 0

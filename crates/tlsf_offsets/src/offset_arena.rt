@@ -4,7 +4,7 @@ ghost use Rattle.tlsf_heap.specs.Calls.{opened, allocated_words, released, resiz
 ghost use Rattle.tlsf_heap.specs.GoodFit.{fits};
 ghost use Rattle.tlsf_heap.specs.Lawful.{IsRegion};
 ghost use Rattle.tlsf_heap.specs.Touched.{FollowsNoForgery};
-ghost use Rattle.tlsf_offsets.specs.Offsets.{IsOffsets, IsHeld, KeepsOthers, units_for, usage_of};
+ghost use Rattle.tlsf_offsets.specs.Offsets.{IsOffsets, IsHeld, KeepsOthers, span_units, usage_of};
 ghost use Rattle.tlsf_heap.specs.Laws.{IsLive};
 ghost use Rattle.tlsf_offsets.specs.declared.span.Span.{Span};
 
@@ -37,7 +37,7 @@ impl<const SLI: u32> Model for OffsetArena<SLI> {
 /// The units for `len` bytes. More than a number of 32 bits tells are as many as that tells, which no memory has either.
 fn units_of(unit: u32, len: u64) -> u32
     requires { 0 < unit }
-    ensures { result ≡ min (units_for unit len) u32.MAX }
+    ensures { result ≡ min (span_units unit len) u32.MAX }
 {
     len.div_ceil(u64::from(unit)).clamp(4, u64::from(u32::MAX)) as u32
 }
@@ -82,18 +82,18 @@ impl<const SLI: u32> OffsetArena<SLI> {
     /// let span = arena.allocate(1_000_000)?;       // units of 64 KiB: 16 of them, 1,048,576 bytes
     /// ```
     pub fn allocate(&mut self, len: u64) -> Result<Span, Refusal>
-        ensures answer { MatchResult result (λ span. (allocated_words SLI self.old.heap (units_for self.old.unit len) 0).answer ≡ Ok span.name) (λ why. (allocated_words SLI self.old.heap (units_for self.old.unit len) 0).answer ≡ Err why) }
-        ensures heap { self.new.heap ≡ (allocated_words SLI self.old.heap (units_for self.old.unit len) 0).heap }
+        ensures answer { MatchResult result (λ span. (allocated_words SLI self.old.heap (span_units self.old.unit len) 0).answer ≡ Ok span.name) (λ why. (allocated_words SLI self.old.heap (span_units self.old.unit len) 0).answer ≡ Err why) }
+        ensures heap { self.new.heap ≡ (allocated_words SLI self.old.heap (span_units self.old.unit len) 0).heap }
 
         // What that comes to. A refusal changes nothing.
-        ensures no_fit { IsErrOf result Refusal.NoFit ↔ (fits SLI (units_for self.old.unit len) self.old.heap.blocks ≡ []) }
-        ensures ok { IsOk result ↔ (¬ (fits SLI (units_for self.old.unit len) self.old.heap.blocks ≡ []) × ¬ (self.old.heap.tick ≡ last_tick)) }
+        ensures no_fit { IsErrOf result Refusal.NoFit ↔ (fits SLI (span_units self.old.unit len) self.old.heap.blocks ≡ []) }
+        ensures ok { IsOk result ↔ (¬ (fits SLI (span_units self.old.unit len) self.old.heap.blocks ≡ []) × ¬ (self.old.heap.tick ≡ last_tick)) }
         ensures err { OnErr result (self.new.heap ≡ self.old.heap) }
 
         // The span is held, has the bytes asked for, and fewer than four units more; those that were held still are.
         ensures held { IfOk result (λ span. IsHeld self.new span) }
         ensures enough { IfOk result (λ span. len ≤ span.size) }
-        ensures close { IfOk result (λ span. span.size < self.old.unit * (units_for self.old.unit len + 4)) }
+        ensures close { IfOk result (λ span. span.size < self.old.unit * (span_units self.old.unit len + 4)) }
         ensures others { (other : Span) → IsHeld self.old other → IsHeld self.new other }
         ensures new { IfOk result (λ span. (other : Span) → IsHeld self.old other → other.name ≢ span.name) }
         ensures unit { self.new.unit ≡ self.old.unit }
@@ -149,14 +149,14 @@ impl<const SLI: u32> OffsetArena<SLI> {
     /// let longer = arena.resize(span.name, 3_000_000)?;    // the same offset, 3,014,656 bytes
     /// ```
     pub fn resize(&mut self, name: Name, len: u64) -> Result<Span, Refusal>
-        ensures answer { MatchResult result (λ span. ((resized_words self.old.heap name (units_for self.old.unit len) 0).answer ≡ Ok tt) × (span.name ≡ name)) (λ why. (resized_words self.old.heap name (units_for self.old.unit len) 0).answer ≡ Err why) }
-        ensures heap { self.new.heap ≡ (resized_words self.old.heap name (units_for self.old.unit len) 0).heap }
+        ensures answer { MatchResult result (λ span. ((resized_words self.old.heap name (span_units self.old.unit len) 0).answer ≡ Ok tt) × (span.name ≡ name)) (λ why. (resized_words self.old.heap name (span_units self.old.unit len) 0).answer ≡ Err why) }
+        ensures heap { self.new.heap ≡ (resized_words self.old.heap name (span_units self.old.unit len) 0).heap }
 
         // A refusal changes nothing. Spans of other names are held as before.
         ensures err { OnErr result (self.new.heap ≡ self.old.heap) }
         ensures held { IfOk result (λ span. IsHeld self.new span) }
         ensures enough { IfOk result (λ span. len ≤ span.size) }
-        ensures close { IfOk result (λ span. span.size < self.old.unit * (units_for self.old.unit len + 4)) }
+        ensures close { IfOk result (λ span. span.size < self.old.unit * (span_units self.old.unit len + 4)) }
         ensures others { KeepsOthers self.old self.new name }
         ensures unit { self.new.unit ≡ self.old.unit }
         ensures was_lawful { IsOffsets SLI self.old }

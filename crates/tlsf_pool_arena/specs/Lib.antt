@@ -1,3 +1,4 @@
+pub mod Filled
 pub mod Given
 pub mod PoolArenas
 pub mod Remotes

@@ -34,6 +34,7 @@
 //! ```
 #![tactic(auto)]
 
+mod filled_remote_block;
 mod parcel;
 mod place_list;
 mod pool_arena;
@@ -41,6 +42,7 @@ mod remote_arena;
 mod remote_block;
 mod returns;
 
+pub use filled_remote_block::FilledRemoteBlock;
 pub use parcel::Parcel;
 pub use pool_arena::{PoolArena, pool_units};
 pub use remote_arena::RemoteArena;
@@ -49,5 +51,5 @@ pub use returns::owner_end::OwnerEnd;
 pub use returns::places::{Places, open_places};
 pub use returns::receipt::Receipt;
 pub use returns::ticket::Ticket;
-pub use tlsf_arena::Block;
+pub use tlsf_arena::{Block, FilledBlock};
 pub use tlsf_pool::PoolRefusal;

@@ -2,6 +2,7 @@ ghost use Rattle.std.specs.Prelude.{◌≡◌, ◌^◌, ◌<◌, Some};
 ghost use Rattle.tlsf_pool_arena.specs.returns.Ends.{id_of, place_by, ticket_id, value_for};
 ghost use Rattle.tlsf_pool_arena.specs.Given.{IsGivenBack};
 
+use crate::filled_remote_block::FilledRemoteBlock;
 use crate::parcel::Parcel;
 use crate::returns::places::Places;
 use crate::returns::receipt::Receipt;
@@ -25,6 +26,34 @@ pub struct RemoteBlock<'a, const UNIT: usize> {
 }
 
 impl<'a, const UNIT: usize> RemoteBlock<'a, UNIT> {
+    ghost use Rattle.std.specs.Prelude.{replicate};
+    ghost use Rattle.tlsf_arena.specs.FilledPieces.{bytes_of};
+    ghost use Rattle.tlsf_pool_arena.specs.Filled.{parcel_of};
+
+    /// The block with `value` in each of its bytes. From then on they are read and written as a slice, in any thread.
+    ///
+    /// ```text
+    /// let mut message = arena.lend(&places, 512)?.fill(0);
+    /// message.block.as_mut_slice()[0] = 7;
+    /// ```
+    pub fn fill(self, value: u8) -> FilledRemoteBlock<'a, UNIT>
+        ensures bytes { bytes_of result.block.piece ≡ replicate self.entry.parcel.block.piece.size value }
+        ensures parcel { parcel_of result.block ≡ self.entry.parcel }
+        ensures home { (result.ticket ≡ self.entry.ticket) × (result.places ≡ self.entry.places) }
+    {
+        let RemoteBlock {
+            parcel,
+            ticket,
+            places,
+        } = self;
+        let block = parcel.into_block().fill(value);
+        FilledRemoteBlock {
+            block,
+            ticket,
+            places,
+        }
+    }
+
     /// The address of its bytes, a multiple of 16, their number, and the block again.
     ///
     /// ```text

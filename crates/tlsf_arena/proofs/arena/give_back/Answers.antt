@@ -1,6 +1,6 @@
 use Rattle.std.proofs.Common.{◌≡◌, sym, ap, ◌∙◌, arith}
 use Rattle.tlsf_heap.specs.Placed.{placed_at}
-use Rattle.tlsf_arena.specs.Places.{free_in}
+use Rattle.tlsf_arena.specs.Places.{free_units_in}
 use Rattle.tlsf_arena.proofs.Mapped.{whole_arena}
 use Rattle.tlsf_arena.proofs.arena.give_back.Goals as goal
 
@@ -8,7 +8,7 @@ pub into_memory-memory-requires : goal.into_memory-memory-requires
 into_memory-memory-requires g c =
     let a = c.args in
     let mapped = c.requires.mapped in
-    let first : free_in (placed_at a.heap.value.heap.blocks 0) ≡ a.units =
-    ap (λ s. free_in (placed_at s.heap.blocks 0)) (sym c.deref_mut.ensures.value) ∙ sym c.free_at_start-free.ensures.size ∙ c.if-free-units.true in
+    let first : free_units_in (placed_at a.heap.value.heap.blocks 0) ≡ a.units =
+    ap (λ s. free_units_in (placed_at s.heap.blocks 0)) (sym c.deref_mut.ensures.value) ∙ sym c.free_at_start-free.ensures.size ∙ c.if-free-units.true in
     let b = c.bytes_of-size.ensures in
     ((omega (arith, mapped.least, b.least), b.whole, omega (arith, mapped.most, b.most)), whole_arena g.row.SLI g.row.UNIT a.units c.bytes_of-size.result a.heap.value.heap a.space.free mapped first b.grains)

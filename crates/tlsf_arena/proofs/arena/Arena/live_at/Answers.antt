@@ -3,7 +3,8 @@ use Rattle.std.specs.Prelude.{option_map}
 use denote.RawPtr.{count_of}
 use Rattle.tlsf_heap.specs.Blocks.{HeapState}
 use Rattle.tlsf_arena.specs.Arenas.{Holds}
-use Rattle.tlsf_arena.specs.Places.{held_at, serial_at}
+use Rattle.tlsf_arena.specs.Places.{held_at}
+use Rattle.tlsf_heap.specs.ByPlace.{serial_at}
 use Rattle.tlsf_arena.proofs.Named.{at_a_unit, seen_there, the_one}
 use Rattle.tlsf_arena.proofs.Searching.{few_in_all}
 use Rattle.tlsf_arena.proofs.arena.Arena.live_at.Goals as goal

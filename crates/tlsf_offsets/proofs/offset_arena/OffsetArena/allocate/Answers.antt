@@ -1,5 +1,5 @@
 use Rattle.std.proofs.Common.{rules, arith, ap, sym, ◌∙◌, refl, Ok, Err}
-use Rattle.tlsf_offsets.specs.Offsets.{IsOffsets, units_for}
+use Rattle.tlsf_offsets.specs.Offsets.{IsOffsets, span_units}
 use Rattle.tlsf_offsets.proofs.Spans.{Asks, asks, asks_close, asks_enough, asks_made, asks_new, kept_allocated, made_live, told}
 use Rattle.tlsf_offsets.proofs.offset_arena.OffsetArena.allocate.Goals as goal
 
@@ -22,21 +22,21 @@ returns-in-Err-clause-no_fit g c =
     let is : IsOffsets g.row.SLI c.args.self.now = search rules in
     let a : Asks g.row.SLI c.args.self.now (record { heap = c.allocate_words.new.self.heap; unit = c.self.inside.unit; touches = c.allocate_words.new.self.touches }) c.args.len (Err c.in-Err.why) =
     asks g.row.SLI _ c.args.self.now _ c.args.len c.units_of.result _ is c.self.view_is c.units_of.ensures (sym c.in-Err.is ∙ c.allocate_words.ensures.answer) c.allocate_words.ensures.heap refl c.allocate_words.ensures.keeps.lawful in
-    (told g.row.SLI (units_for c.args.self.now.unit c.args.len) c.args.self.now.heap (Err c.in-Err.why) a.answer_is).0
+    (told g.row.SLI (span_units c.args.self.now.unit c.args.len) c.args.self.now.heap (Err c.in-Err.why) a.answer_is).0
 
 pub returns-in-Err-clause-ok : goal.returns-in-Err-clause-ok
 returns-in-Err-clause-ok g c =
     let is : IsOffsets g.row.SLI c.args.self.now = search rules in
     let a : Asks g.row.SLI c.args.self.now (record { heap = c.allocate_words.new.self.heap; unit = c.self.inside.unit; touches = c.allocate_words.new.self.touches }) c.args.len (Err c.in-Err.why) =
     asks g.row.SLI _ c.args.self.now _ c.args.len c.units_of.result _ is c.self.view_is c.units_of.ensures (sym c.in-Err.is ∙ c.allocate_words.ensures.answer) c.allocate_words.ensures.heap refl c.allocate_words.ensures.keeps.lawful in
-    (told g.row.SLI (units_for c.args.self.now.unit c.args.len) c.args.self.now.heap (Err c.in-Err.why) a.answer_is).1
+    (told g.row.SLI (span_units c.args.self.now.unit c.args.len) c.args.self.now.heap (Err c.in-Err.why) a.answer_is).1
 
 pub span_of-requires : goal.span_of-requires
 span_of-requires g c =
     let is : IsOffsets g.row.SLI c.args.self.now = search rules in
     let a : Asks g.row.SLI c.args.self.now (record { heap = c.allocate_words.new.self.heap; unit = c.self.inside.unit; touches = c.allocate_words.new.self.touches }) c.args.len (Ok c.in-Ok.name) =
     asks g.row.SLI _ c.args.self.now _ c.args.len c.units_of.result _ is c.self.view_is c.units_of.ensures (sym c.in-Ok.is ∙ c.allocate_words.ensures.answer) c.allocate_words.ensures.heap refl c.allocate_words.ensures.keeps.lawful in
-    (omega arith, made_live c.in-Ok.name (units_for c.args.self.now.unit c.args.len) c.allocate_words.new.self.heap (asks_made g.row.SLI c.args.self.now _ c.args.len c.in-Ok.name a).0)
+    (omega arith, made_live c.in-Ok.name (span_units c.args.self.now.unit c.args.len) c.allocate_words.new.self.heap (asks_made g.row.SLI c.args.self.now _ c.args.len c.in-Ok.name a).0)
 
 pub returns-in-Ok-clause-answer : goal.returns-in-Ok-clause-answer
 returns-in-Ok-clause-answer g c =
@@ -57,14 +57,14 @@ returns-in-Ok-clause-no_fit g c =
     let is : IsOffsets g.row.SLI c.args.self.now = search rules in
     let a : Asks g.row.SLI c.args.self.now (record { heap = c.allocate_words.new.self.heap; unit = c.self.inside.unit; touches = c.allocate_words.new.self.touches }) c.args.len (Ok c.in-Ok.name) =
     asks g.row.SLI _ c.args.self.now _ c.args.len c.units_of.result _ is c.self.view_is c.units_of.ensures (sym c.in-Ok.is ∙ c.allocate_words.ensures.answer) c.allocate_words.ensures.heap refl c.allocate_words.ensures.keeps.lawful in
-    (told g.row.SLI (units_for c.args.self.now.unit c.args.len) c.args.self.now.heap (Ok c.span_of.result) (a.answer_is ∙ ap Ok (sym c.span_of.ensures.name))).0
+    (told g.row.SLI (span_units c.args.self.now.unit c.args.len) c.args.self.now.heap (Ok c.span_of.result) (a.answer_is ∙ ap Ok (sym c.span_of.ensures.name))).0
 
 pub returns-in-Ok-clause-ok : goal.returns-in-Ok-clause-ok
 returns-in-Ok-clause-ok g c =
     let is : IsOffsets g.row.SLI c.args.self.now = search rules in
     let a : Asks g.row.SLI c.args.self.now (record { heap = c.allocate_words.new.self.heap; unit = c.self.inside.unit; touches = c.allocate_words.new.self.touches }) c.args.len (Ok c.in-Ok.name) =
     asks g.row.SLI _ c.args.self.now _ c.args.len c.units_of.result _ is c.self.view_is c.units_of.ensures (sym c.in-Ok.is ∙ c.allocate_words.ensures.answer) c.allocate_words.ensures.heap refl c.allocate_words.ensures.keeps.lawful in
-    (told g.row.SLI (units_for c.args.self.now.unit c.args.len) c.args.self.now.heap (Ok c.span_of.result) (a.answer_is ∙ ap Ok (sym c.span_of.ensures.name))).1
+    (told g.row.SLI (span_units c.args.self.now.unit c.args.len) c.args.self.now.heap (Ok c.span_of.result) (a.answer_is ∙ ap Ok (sym c.span_of.ensures.name))).1
 
 pub returns-in-Ok-clause-enough : goal.returns-in-Ok-clause-enough
 returns-in-Ok-clause-enough g c =
@@ -85,7 +85,7 @@ returns-in-Ok-clause-others g c =
     let is : IsOffsets g.row.SLI c.args.self.now = search rules in
     let a : Asks g.row.SLI c.args.self.now (record { heap = c.allocate_words.new.self.heap; unit = c.self.inside.unit; touches = c.allocate_words.new.self.touches }) c.args.len (Ok c.in-Ok.name) =
     asks g.row.SLI _ c.args.self.now _ c.args.len c.units_of.result _ is c.self.view_is c.units_of.ensures (sym c.in-Ok.is ∙ c.allocate_words.ensures.answer) c.allocate_words.ensures.heap refl c.allocate_words.ensures.keeps.lawful in
-    kept_allocated c.args.self.now c.span_of.new.self (c.span_of.ensures.same.1 ∙ a.unit_is) g.row.SLI (units_for c.args.self.now.unit c.args.len) (c.span_of.ensures.same.0 ∙ a.heap_is)
+    kept_allocated c.args.self.now c.span_of.new.self (c.span_of.ensures.same.1 ∙ a.unit_is) g.row.SLI (span_units c.args.self.now.unit c.args.len) (c.span_of.ensures.same.0 ∙ a.heap_is)
 
 pub returns-in-Ok-clause-new : goal.returns-in-Ok-clause-new
 returns-in-Ok-clause-new g c =

@@ -1,5 +1,5 @@
 use Rattle.std.proofs.Common.{rules, arith, sym, ◌∙◌, refl, Ok, Err}
-use Rattle.tlsf_offsets.specs.Offsets.{IsOffsets, units_for}
+use Rattle.tlsf_offsets.specs.Offsets.{IsOffsets, span_units}
 use Rattle.tlsf_offsets.proofs.Spans.{Alters, alters, alters_close, alters_enough, alters_made, kept_resized, made_live, resized_not_forged}
 use Rattle.tlsf_offsets.proofs.offset_arena.OffsetArena.resize.Goals as goal
 
@@ -22,7 +22,7 @@ span_of-requires g c =
     let is : IsOffsets g.row.SLI c.args.self.now = search rules in
     let a : Alters g.row.SLI c.args.self.now (record { heap = c.resize_words.new.self.heap; unit = c.self.inside.unit; touches = c.resize_words.new.self.touches }) c.args.name c.args.len (Ok tt) =
     alters g.row.SLI _ c.args.self.now _ c.args.name c.args.len c.units_of.result _ is c.self.view_is c.units_of.ensures (sym c.in-Ok.is ∙ c.resize_words.ensures.answer) c.resize_words.ensures.heap refl c.resize_words.ensures.keeps.lawful in
-    (omega arith, made_live c.args.name (units_for c.args.self.now.unit c.args.len) c.resize_words.new.self.heap (alters_made g.row.SLI c.args.self.now _ c.args.name c.args.len a).0)
+    (omega arith, made_live c.args.name (span_units c.args.self.now.unit c.args.len) c.resize_words.new.self.heap (alters_made g.row.SLI c.args.self.now _ c.args.name c.args.len a).0)
 
 pub returns-in-Ok-clause-answer : goal.returns-in-Ok-clause-answer
 returns-in-Ok-clause-answer g c =
@@ -57,11 +57,11 @@ returns-in-Ok-clause-others g c =
     let is : IsOffsets g.row.SLI c.args.self.now = search rules in
     let a : Alters g.row.SLI c.args.self.now (record { heap = c.resize_words.new.self.heap; unit = c.self.inside.unit; touches = c.resize_words.new.self.touches }) c.args.name c.args.len (Ok tt) =
     alters g.row.SLI _ c.args.self.now _ c.args.name c.args.len c.units_of.result _ is c.self.view_is c.units_of.ensures (sym c.in-Ok.is ∙ c.resize_words.ensures.answer) c.resize_words.ensures.heap refl c.resize_words.ensures.keeps.lawful in
-    kept_resized c.args.self.now c.span_of.new.self (c.span_of.ensures.same.1 ∙ a.unit_is) c.args.name (units_for c.args.self.now.unit c.args.len) (c.span_of.ensures.same.0 ∙ a.heap_is)
+    kept_resized c.args.self.now c.span_of.new.self (c.span_of.ensures.same.1 ∙ a.unit_is) c.args.name (span_units c.args.self.now.unit c.args.len) (c.span_of.ensures.same.0 ∙ a.heap_is)
 
 pub returns-in-Ok-clause-forged : goal.returns-in-Ok-clause-forged
 returns-in-Ok-clause-forged g c =
     let is : IsOffsets g.row.SLI c.args.self.now = search rules in
     let a : Alters g.row.SLI c.args.self.now (record { heap = c.resize_words.new.self.heap; unit = c.self.inside.unit; touches = c.resize_words.new.self.touches }) c.args.name c.args.len (Ok tt) =
     alters g.row.SLI _ c.args.self.now _ c.args.name c.args.len c.units_of.result _ is c.self.view_is c.units_of.ensures (sym c.in-Ok.is ∙ c.resize_words.ensures.answer) c.resize_words.ensures.heap refl c.resize_words.ensures.keeps.lawful in
-    resized_not_forged c.args.self.now.heap c.args.name (units_for c.args.self.now.unit c.args.len) is.lawful a.answer_is _ _
+    resized_not_forged c.args.self.now.heap c.args.name (span_units c.args.self.now.unit c.args.len) is.lawful a.answer_is _ _

@@ -1,0 +1,19 @@
+-- A husk owns the ways back to room alone, which name no thread.
+use Rattle.std.specs.Prelude.{ℕ, zero, suc, ◌+◌, ◌/◌}
+use base.Shift.{Keyless}
+use mir.Syntax.{w8}
+use denote.Struct.Struct.{exits_of}
+use denote.Struct.Owning.{shape, fields, to}
+use denote.Param.Send.{IsSend, AllSend, owning_send, struct_send, sendable}
+use Rattle.std_alloc.proofs.SendSync.{quiet}
+use Rattle.tlsf_arena.specs.Ownership.{ways}
+use Rattle.tlsf_arena.specs.contracts.husk.Husk.{the_row, the_type}
+
+room : (b x k : ℕ) → Keyless (ways w8 b x k)
+room b x zero = tt
+room b x (suc k) = ((tt, tt), room b (x + 16) k)
+
+pub send : IsSend the_row
+send =
+    let all : AllSend (fields the_type) = (search sendable, (search sendable, tt)) in
+    owning_send the_type all (λ d. room d.region.block d.at (d.size / 16)) (λ k. quiet (to the_type) (exits_of k (fields the_type)) ((struct_send (shape the_type) all).leaving k))

@@ -1,0 +1,58 @@
+ghost use Rattle.std.specs.Prelude.{◌≡◌, ◌^◌, ◌<◌, Some};
+ghost use Rattle.tlsf_pool_arena.specs.Filled.{parcel_of};
+ghost use Rattle.tlsf_pool_arena.specs.returns.Ends.{id_of, place_by, ticket_id, value_for};
+
+use crate::parcel::Parcel;
+use crate::remote_block::RemoteBlock;
+use crate::returns::places::Places;
+use crate::returns::ticket::Ticket;
+use tlsf_arena::FilledBlock;
+
+/// A [`RemoteBlock`] whose bytes are all set: whoever has it reads and writes them as a slice of its `block`, in any thread. It comes home
+/// when it is dropped.
+///
+/// ```text
+/// let mut message = arena.lend(&places, 512)?.fill(0);
+/// message.block.as_mut_slice()[0] = 7;
+/// queue.push(message)                                 // to another thread, with no byte copied
+/// ```
+pub struct FilledRemoteBlock<'a, const UNIT: usize> {
+    /// What was lent, whose slices are its bytes.
+    pub block: FilledBlock<UNIT>,
+    pub(crate) ticket: Ticket<Parcel<UNIT>>,
+    pub(crate) places: &'a Places<Parcel<UNIT>>,
+    ghost paired: { value_for ticket ≡ Some (parcel_of block) },
+    ghost own: { ticket_id ticket ≡ id_of places.now },
+    ghost small: { place_by ticket < 2 ^ 32 },
+}
+
+impl<'a, const UNIT: usize> FilledRemoteBlock<'a, UNIT> {
+    /// The block as it was lent. What its bytes hold is in no clause from here on.
+    ///
+    /// ```text
+    /// let receipt = message.into_remote().give_back();
+    /// ```
+    pub fn into_remote(self) -> RemoteBlock<'a, UNIT>
+        ensures parcel { result.parcel ≡ parcel_of self.entry.block }
+        ensures home { (result.ticket ≡ self.entry.ticket) × (result.places ≡ self.entry.places) }
+    {
+        let FilledRemoteBlock {
+            block,
+            ticket,
+            places,
+        } = self;
+        let block = block.into_block();
+        let parcel = Parcel { block };
+        RemoteBlock {
+            parcel,
+            ticket,
+            places,
+        }
+    }
+}
+
+impl<'a, const UNIT: usize> Drop for FilledRemoteBlock<'a, UNIT> {
+    fn drop(self) {
+        drop(self.into_remote());
+    }
+}
