@@ -15,41 +15,89 @@ const near = (pixel, color) => color.every((part, at) => Math.abs(part - pixel[a
 const dark = matchMedia('(prefers-color-scheme: dark)').matches;
 want((rgb('page')[0] < 128) === dark, 'scheme');
 
+// Since when a block is there: the first moment that has it, and so a line after the moment before that. All moments are read, where they are few bytes.
+const all = element('moments').textContent.length < 8e6 ? begins.map((begin, at) => heapsIn(at)) : [];
+const keyOf = block => block.live + ' ' + block.place + ' ' + block.numbers[block.live ? 2 : 1];
+const firsts = all.length ? all[0].map((heap, number) => {
+    const first = new Map();
+    all.forEach((row, at) => row[number].blocks.forEach(block => { if (!first.has(keyOf(block))) first.set(keyOf(block), at); }));
+    return first;
+}) : [];
+const sinceLine = (number, block) => {
+    const at = firsts[number].get(keyOf(block)), from = at ? lineOf(at - 1) + 1 : 1, to = lineOf(at), end = lineOf(last);
+    return from === to ? (to === end ? ', the end' : ', line ' + to) : ', line ' + from + ' to ' + (to === end ? 'the end' : to);
+};
 // The colour of a live block's first word, and what stands under the pointer there.
-const judgeBlock = (canvas, heap, block) => {
+const judgeBlock = (canvas, heap, block, number) => {
     const { row, pitch, high } = grid(heap.words), wide = 1024 / row, scale = devicePixelRatio || 1;
     const x = 64 + block.place % row * wide + wide / 2, y = Math.floor(block.place / row) * pitch + high - 4;
     const box = canvas.getBoundingClientRect();
     canvas.dispatchEvent(new PointerEvent('pointermove', { clientX: box.left + x, clientY: box.top + y }));
-    want(!tip.hidden && tip.textContent === told(block), 'tip at place ' + block.place + ': ' + tip.textContent);
+    const tells = !tip.hidden && tip.textContent.startsWith(told(block)) && (!all.length || tip.textContent === told(block) + sinceLine(number, block));
+    want(tells, 'tip at place ' + block.place + ': ' + tip.textContent);
     if (wide < 6) return;
     const pixel = canvas.getContext('2d').getImageData(x * scale, y * scale, 1, 1).data;
     if (block.live) want(near(pixel, rgb('head')), 'colour at place ' + block.place + ': ' + pixel);
     else want(near(pixel, rgb('free')) && Math.abs(pixel[3] / 2.55 - shade(heap, block.numbers[1])) < 1, 'colour of a free block: ' + pixel);
 };
 
-// The curves above the slider: they say of each moment what its blocks say. A click goes to a moment, P to the peak, and the moment's line is drawn.
+// Where a heap stands worst: without room for its longest request the more words are free, and with room the fuller it is.
+const standing = (at, number) => {
+    const { free, grant } = curves[at][number], report = heapsIn(at)[number].report;
+    const fragmentation = Number(report.match(/fragmentation (\d+)/)[1]), live = curves[at][number].live;
+    return free === 0 || grant < named[number][2] ? 1e12 + free : live * 1e4 + fragmentation;
+};
+// The moments that are named: the first with most live words, and the first that stands worst. A key or a button goes to each, and each is marked.
+const judgeNamed = lives => {
+    const ranks = begins.map((begin, at) => curves[at].map((row, number) => standing(at, number)));
+    const first = (rows, number) => { const column = rows.map(row => row[number]); return column.indexOf(most(column)); };
+    const buttons = [...document.querySelectorAll('button')], scale = devicePixelRatio || 1, ink = plot.getContext('2d');
+    want(buttons.length === 2 * named.length, buttons.length + ' buttons');
+    named.forEach((row, number) => {
+        const peak = first(lives, number), worst = first(ranks, number), without = ranks[worst][number] >= 1e12;
+        want(peaks[number] === peak && lineOf(peak) === row[0], 'peak of heap ' + number + ' at moment ' + peaks[number]);
+        want(worsts[number] === worst && lineOf(worst) === row[1], 'worst moment of heap ' + number + ': ' + worsts[number]);
+        [peak, worst].forEach((at, kind) => {
+            const button = buttons[2 * number + kind], name = kind === 0 ? 'peak' : without ? 'worst' : 'fullest';
+            show(0); button.click();
+            want(moment === at && button.textContent.startsWith(name), button.textContent + ' goes to moment ' + moment);
+            press('Home'); for (let times = 0; times <= 2 * named.length && moment !== at; times++) press(kind === 0 ? 'p' : 'w');
+            want(moment === at, (kind === 0 ? 'P' : 'W') + ' never goes to moment ' + at);
+        });
+        show(worst === last ? 0 : last);
+        const mark = ink.getImageData(across(worst) * scale, (number * pitch + 2) * scale, 1, 1).data;
+        const high = number * pitch + Math.max(4, tall - tall * lives[peak][number] / curves[0][number].words);
+        const dots = ink.getImageData((Math.min(1084, Math.max(68, across(peak))) - 2) * scale, (high - 2) * scale, 4 * scale, 4 * scale).data;
+        const dot = [...dots.keys()].filter(at => at % 4 === 0).map(at => dots.slice(at, at + 4));
+        want(near(mark, rgb('largest')) || near(mark, rgb('ink')), 'mark at the worst moment: ' + mark);
+        want(dot.some(pixel => near(pixel, rgb('ink'))), 'mark at the peak: ' + dot[0]);
+        const header = document.querySelectorAll('h2')[number].textContent, longest = (row[2] === 1 ? ' byte ' : ' bytes ');
+        const lacking = standing(moment, number) >= 1e12 ? (row[2] === 1 ? "doesn't fit" : "don't fit") : (row[2] === 1 ? 'fits' : 'fit');
+        want(header.endsWith('longest request: ' + row[2] + longest + lacking), 'header ' + header);
+    });
+};
+// The curves above the slider: they say of each moment what its blocks say. A click goes to a moment, and the moment's line is drawn.
 const judgePlot = () => {
     const sums = begins.map((begin, at) => heapsIn(at).map(heap => most(heap.blocks.filter(block => !block.live).map(block => block.size))));
     const lives = begins.map((begin, at) => heapsIn(at).map(heap => heap.blocks.reduce((sum, block) => sum + block.live * block.size, 0)));
     want(lives.every((row, at) => row.every((live, number) => live === curves[at][number].live)), 'live words of a curve');
     want(sums.every((row, at) => row.every((size, number) => size === curves[at][number].largest)), 'largest free block of a curve');
-    const high = lives.map(row => row.reduce((sum, live) => sum + live, 0));
-    press('p');
-    want(moment === high.indexOf(most(high)), 'peak at moment ' + moment);
+    judgeNamed(lives);
     const box = plot.getBoundingClientRect(), half = Math.floor(last / 2);
     plot.dispatchEvent(new PointerEvent('pointerdown', { clientX: box.left + across(half), clientY: box.top + 4, buttons: 1 }));
-    want(moment === half && tip.textContent.startsWith('heap 0') && tip.textContent.includes(lives[half][0] + ' of '), 'click on the plot: ' + tip.textContent);
+    want(moment === half && tip.textContent.startsWith('heap 0') && tip.textContent.includes(lives[half][0] + ' of ') && tip.textContent.includes(8 * lives[half][0] + ' bytes'), 'click on the plot: ' + tip.textContent);
     const scale = devicePixelRatio || 1, pixel = plot.getContext('2d').getImageData(across(half) * scale, (deep + 2) * scale - 4, 1, 1).data;
     want(near(pixel, rgb('ink')), 'line of the moment: ' + pixel);
 };
 // The report above a picture: no line of it wraps, and each fits into the window, so that no picture jumps as the moments go by.
-const heights = [];
+const heights = [], tops = [];
 const judgeReport = (canvas, number) => {
     const lines = [...canvas.parentNode.querySelectorAll('p')], height = canvas.offsetTop - canvas.parentNode.offsetTop;
     want(lines.length > 0 && lines.every(line => line.offsetHeight < 24), 'report wraps: ' + lines.map(line => line.textContent).join(' / '));
     want(lines.every(line => line.scrollWidth <= innerWidth - 16), 'report wider than the window');
     heights[number] ??= height;
+    tops[number] ??= canvas.offsetTop;
+    want(tops[number] === canvas.offsetTop, 'picture ' + number + ' moves from ' + tops[number] + ' to ' + canvas.offsetTop);
     want(heights[number] === height, 'picture ' + number + ' jumps from ' + heights[number] + ' to ' + height + ' pixels');
 };
 // What is told of a block: of a free one its shade too.
@@ -66,7 +114,7 @@ const judgeMoment = (at, telling) => {
         const report = heap.report.match(/live (\d+) blocks?.*free (\d+) blocks?/), live = heap.blocks.filter(block => block.live).length;
         want(Number(report[1]) === live && Number(report[2]) === heap.blocks.length - live, 'blocks of ' + heap.report);
         judgeReport(canvases[number], number);
-        heap.blocks.slice(0, 200).forEach(block => judgeBlock(canvases[number], heap, block));
+        heap.blocks.slice(0, 200).forEach(block => judgeBlock(canvases[number], heap, block, number));
         if (telling) heap.blocks.forEach(block => found.push(toldOf(heap, block)));
     });
 };
@@ -81,6 +129,7 @@ press('End'); judgeMoment(last, telling);
 judgePlot();
 const begun = performance.now(); for (let at = 0; at < 20; at++) show(at * last / 19 | 0);
 const each = Math.round((performance.now() - begun) / 20);
+want(each < 50, 'a step takes ' + each + ' ms');
 document.querySelectorAll('script, style').forEach(part => part.remove());
 const pre = document.createElement('pre');
 pre.textContent = 'judged ' + begins.length + ' moments, ' + each + ' ms each, ' + (dark ? 'dark' : 'light') + '\n' + found.join('\n') + '\n';

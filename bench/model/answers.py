@@ -219,18 +219,29 @@ def curve_of(points, most):
     return span, [Point(*(worst(numbers) for worst, numbers in zip(WORST, zip(*some)))) for some in spans]
 
 
-def look_lines(points, longest, length):
+def look_at(points, length):
     """Where to look: of the lines after which the longest request finds no room the first with the most free words; or, where there is none,
-    of those with the most live words the first with the most fragmentation."""
+    of those with the most live words the first with the most fragmentation. And whether it finds no room there."""
     lacking = [at for at, it in enumerate(points) if it.free == 0 or it.grant < length]
     if lacking:
-        at = max(lacking, key=lambda it: points[it].free)
-        yield f"worst moment, after line {at + 1}: {points[at].free} words free, no room for {longest}"
+        return max(lacking, key=lambda it: points[it].free), True
+    return max(range(len(points)), key=lambda it: (points[it].live, points[it].fragmentation)), False
+
+
+def peak_at(points):
+    """The first line after which most words are live."""
+    return max(range(len(points)), key=lambda it: points[it].live)
+
+
+def look_lines(points, length):
+    (at, is_worst), peak, of = look_at(points, length), peak_at(points), "byte" if length == 1 else "bytes"
+    if is_worst:
+        yield f"worst moment: line {at + 1}: {points[at].free} words free, and {length} {of} {'doesn' if length == 1 else 'don'}'t fit"
         yield f"  tlsf map --at {at + 1}"
-        return
-    at = max(range(len(points)), key=lambda it: (points[it].live, points[it].fragmentation))
-    yield f"fullest moment, after line {at + 1}: {points[at].live} words live, fragmentation {points[at].fragmentation}/1000"
-    yield f"  always room for {longest}: tlsf map --at {at + 1}"
+    else:
+        yield f"fullest moment: line {at + 1}: {points[at].live} words live, fragmentation {points[at].fragmentation}/1000"
+        yield f"  and {length} {of} always fit{'s' * (length == 1)}: tlsf map --at {at + 1}"
+    yield f"peak: line {peak + 1}: {points[peak].live} words ({8 * points[peak].live} bytes) live: tlsf map --at {peak + 1}"
 
 
 def heap_lines(heap, words, points, length):
@@ -238,7 +249,7 @@ def heap_lines(heap, words, points, length):
     longest = f"{length} byte" + "s" * (length != 1)
     yield ""
     yield f"heap {heap}: {words} words, longest request {longest}; lines a column: {span}"
-    yield from look_lines(points, longest, length)
+    yield from look_lines(points, length)
     top = max(1, *(max(it.live, it.asked) for it in curve))
     rows = {"live words": top, "asked for": top, "free words": words, "largest free": words, "fragmentation": 1000}
     for title, full in rows.items():
@@ -255,16 +266,25 @@ def plot_text(trace):
     return text_of(lines)
 
 
+def marks_line(points, length):
+    """The marks at the line to look at and at the peak, in the middle of what each has of 960 pixels."""
+    (look, _), peak = look_at(points, length), peak_at(points)
+    x, y = (80 + 480 * (2 * at + 1) // len(points) for at in (look, peak))
+    marks = f"<path class='mark' d='M{x} 78V580'/><text class='at' x='{x}' y='74'>line {look + 1}</text>"
+    return marks + f"<path class='peak' d='M{y} 80V264'/><text class='at' x='{y}' y='276'>peak: line {peak + 1}</text>"
+
+
 def path_text(trace):
-    """The paths of the SVG file, each on a line: one unit wide for a point, and as high as its number; and a mark for each refusal."""
+    """The lines of the SVG file that begin with a path: one unit wide for a point, and as high as its number; the words of the heap in both of
+    the frames of words; a mark for each refusal; and the marks of two lines."""
     lines = []
-    for points in curves_of(trace)[0]:
+    for points, length in zip(*curves_of(trace)):
         _, curve = curve_of(points, 2000)
-        for name in ("live", "asked", "free", "largest", "fragmentation"):
-            steps = "".join(f"V{getattr(it, name)}H{at}" for at, it in enumerate(curve, 1))
-            lines.append(f"<path class='{name}' d='M0 0{steps}V0'/>")
+        for name in ("", "live", "asked", "", "free", "largest", "fragmentation"):
+            steps = "".join(f"V{getattr(it, name)}H{at}" for at, it in enumerate(curve, 1)) if name else ""
+            lines.append(f"<path class='{name}' d='M0 0{steps}V0'/>" if name else f"<path class='capacity' d='M0 {trace.words}H{len(curve)}'/>")
         marks = "".join(f"M{at} 0h1v1h-1z" for at, it in enumerate(curve) if it.refused)
-        lines.append(f"<path class='refused' d='{marks}'/>")
+        lines += [f"<path class='refused' d='{marks}'/>", marks_line(points, length)]
     return text_of(lines)
 
 

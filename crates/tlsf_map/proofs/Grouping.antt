@@ -6,7 +6,7 @@ use Rattle.std.proofs.lemmas.List.{at_drop_all, at_drop_more, length-append}
 use Rattle.std.proofs.lemmas.List.Folds.{list_all-append}
 use Rattle.std.proofs.lemmas.List.Sums.{sum_by_push}
 use Rattle.tlsf_map.specs.Grids.{IsGrid}
-use Rattle.tlsf_map.specs.Groups.{AreApart, CannotJoin, IsAloneOrNarrow, IsGroup, below_group, blocks_in, group_text, groups_from, groups_of, groups_text, is_narrow, joined_in, joined_of, joins, live_size, words_of_all}
+use Rattle.tlsf_map.specs.Groups.{GroupsAreApart, CannotJoin, IsAloneOrNarrow, IsGroup, below_group, blocks_in, group_text, groups_from, groups_of, groups_text, is_narrow, joined_in, joined_of, joins, live_size, words_of_all}
 use Rattle.tlsf_map.specs.declared.free_blocks.FreeBlocks.{FreeBlocks}
 use Rattle.tlsf_map.specs.declared.grid.Grid.{Grid}
 use Rattle.tlsf_map.specs.declared.group.Group.{Group}
@@ -156,16 +156,16 @@ cannot : (grid : Grid) (group : List LabelledBlock) (drawn : LabelledBlock) (gro
 cannot grid group drawn groups begins does = subst (CannotJoin grid group) (sym begins.2) does
 
 by_apart : (grid : Grid) (group : List LabelledBlock) (drawn : LabelledBlock) (b : Bool) (grown apart : List (List LabelledBlock)) → joins grid group drawn ≡ b
-    → BeginsWith drawn apart → AreApart grid grown → AreApart grid apart → AreApart grid (cond b grown (group ∷ apart))
+    → BeginsWith drawn apart → GroupsAreApart grid grown → GroupsAreApart grid apart → GroupsAreApart grid (cond b grown (group ∷ apart))
 by_apart grid group drawn true grown apart does begins all others = all
 by_apart grid group drawn false grown apart does begins all others = (cannot grid group drawn apart begins does, others)
 
-from_apart : (grid : Grid) (group blocks : List LabelledBlock) → AreApart grid (groups_from grid group blocks)
+from_apart : (grid : Grid) (group blocks : List LabelledBlock) → GroupsAreApart grid (groups_from grid group blocks)
 from_apart grid group [] = (tt, tt)
 from_apart grid group (drawn ∷ others) =
     by_apart grid group drawn (joins grid group drawn) (groups_from grid (group ++ drawn ∷ []) others) (groups_from grid (drawn ∷ []) others) refl
     (from_begins grid drawn [] others) (from_apart grid (group ++ drawn ∷ []) others) (from_apart grid (drawn ∷ []) others)
 
-pub groups_apart : (grid : Grid) (blocks : List LabelledBlock) → AreApart grid (groups_of grid blocks)
+pub groups_apart : (grid : Grid) (blocks : List LabelledBlock) → GroupsAreApart grid (groups_of grid blocks)
 groups_apart grid [] = tt
 groups_apart grid (drawn ∷ others) = from_apart grid (drawn ∷ []) others

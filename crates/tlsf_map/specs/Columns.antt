@@ -1,5 +1,6 @@
--- How the words of a heap are laid out in rows of 64 characters. A character shows the first of its words.
-use Rattle.std.specs.Prelude.{ℕ, zero, suc, ◌+◌, ◌*◌, ◌-◌, ◌/◌, ◌≤◌, ◌^◌, List, [], ◌∷◌, max, min, nat_le, nat_lt, codes, if◌then◌else◌}
+-- How the words of a heap are laid out in rows of 64 characters. A character of up to 64 words shows the first of them, and one of more how many
+-- of them are live.
+use Rattle.std.specs.Prelude.{ℕ, Bool, zero, suc, ◌+◌, ◌*◌, ◌-◌, ◌/◌, ◌≤◌, ◌^◌, List, [], ◌∷◌, max, min, nat_le, nat_lt, codes, if◌then◌else◌}
 use Rattle.tlsf_heap.specs.declared.placed_block.PlacedBlock.{PlacedBlock}
 use Rattle.tlsf_heap.specs.declared.placed_block.Content.{Content}
 use Rattle.tlsf_heap.specs.declared.placed_block.Content.TheVariants.{Free, Live}
@@ -22,8 +23,16 @@ content_lines span at size (Free stamp) = fold_between 64 (columns_before span a
 content_lines span at size (Live serial length) =
     fold_between 64 (max (columns_before span at + 1) (columns_before span (at + 3))) (columns_before span (at + used_words length))
 
+-- whether so many words are too many for a character that shows the first of them
+abbrev pub is_dense : ℕ → Bool
+is_dense span = nat_lt 64 span
+
+-- those that lie in one block
+abbrev pub dense_lines : ℕ → ℕ → ℕ → Fold
+dense_lines span at size = fold_between 64 (columns_before span at) (columns_before span (at + size) - 1)
+
 abbrev pub lines_of : ℕ → PlacedBlock → Fold
-lines_of span block = content_lines span block.at block.size block.content
+lines_of span block = if is_dense span then dense_lines span block.at block.size else content_lines span block.at block.size block.content
 
 -- of so many rows, those that are written where these blocks lie in them
 abbrev pub shown_lines : ℕ → List LabelledBlock → ℕ → ℕ

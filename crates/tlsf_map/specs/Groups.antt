@@ -55,9 +55,9 @@ abbrev pub CannotJoin : Grid → List LabelledBlock → List (List LabelledBlock
 CannotJoin grid group ((drawn ∷ others) ∷ groups) = joins grid group drawn ≡ false
 CannotJoin grid group groups = ⊤
 
-abbrev pub AreApart : Grid → List (List LabelledBlock) → Type 0
-AreApart grid [] = ⊤
-AreApart grid (group ∷ groups) = CannotJoin grid group groups × AreApart grid groups
+abbrev pub GroupsAreApart : Grid → List (List LabelledBlock) → Type 0
+GroupsAreApart grid [] = ⊤
+GroupsAreApart grid (group ∷ groups) = CannotJoin grid group groups × GroupsAreApart grid groups
 
 -- the numbers of a group: its first block, how many they are, their words, and whether all are narrow
 pub record IsGroup (grid : Grid) (blocks : List LabelledBlock) (group : Group) : Type 0 where

@@ -7,4 +7,6 @@ pub mod Groups
 pub mod Page
 pub mod Columns
 pub mod Text
+pub mod Density
+pub mod TextPage
 pub mod Html

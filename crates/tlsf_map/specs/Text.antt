@@ -1,17 +1,15 @@
--- The picture of some heaps in the characters of a terminal, 80 columns wide.
-use Rattle.std.specs.Prelude.{ℕ, zero, suc, ◌+◌, ◌*◌, ◌-◌, ◌%◌, ◌==◌, ◌&&◌, Bool, List, [], ◌∷◌, ◌++◌, Option, Some, None, max, nat_le, nat_lt, length, codes, count_by, if◌then◌else◌}
+-- The characters of a terminal that show a block.
+use Rattle.std.specs.Prelude.{ℕ, zero, suc, ◌+◌, ◌*◌, ◌-◌, ◌%◌, ◌==◌, ◌&&◌, Bool, List, [], ◌∷◌, ◌++◌, Option, Some, None, max, nat_le, nat_lt, length, codes, if◌then◌else◌}
 use Rattle.std.specs.Fmt.{decimal}
 use Rattle.tlsf_heap.specs.declared.placed_block.PlacedBlock.{PlacedBlock}
 use Rattle.tlsf_heap.specs.declared.placed_block.Content.{Content}
 use Rattle.tlsf_heap.specs.declared.placed_block.Content.TheVariants.{Free, Live}
-use Rattle.tlsf_map.specs.Ages.{free_blocks_of, shade_by}
-use Rattle.tlsf_map.specs.Columns.{columns_before, gap_of, space_of, span_of}
+use Rattle.tlsf_map.specs.Ages.{shade_by}
+use Rattle.tlsf_map.specs.Columns.{columns_before, gap_of, space_of}
 use Rattle.tlsf_map.specs.Folds.{fold_between, hidden_in, used_words}
-use Rattle.tlsf_map.specs.Numbers.{plural_of, report_numbers}
 use Rattle.tlsf_map.specs.declared.fold.Fold.{Fold}
 use Rattle.tlsf_map.specs.declared.free_blocks.FreeBlocks.{FreeBlocks}
 use Rattle.tlsf_map.specs.declared.mapped_heap.LabelledBlock.{LabelledBlock}
-use Rattle.tlsf_map.specs.declared.mapped_heap.MappedHeap.{MappedHeap}
 
 -- the character of this number, in a new row behind each 64, which begins with the place of its first word
 unfoldable pub row_begin : ℕ → ℕ → List ℕ
@@ -91,36 +89,3 @@ block_marks span free drawn =
 abbrev pub blocks_marks : ℕ → FreeBlocks → List LabelledBlock → List ℕ
 blocks_marks span free [] = []
 blocks_marks span free (drawn ∷ others) = block_marks span free drawn ++ blocks_marks span free others
-
--- the first line above the rows of a heap
-unfoldable pub name_line : ℕ → ℕ → MappedHeap → List ℕ
-name_line span words heap =
-    codes "\nheap " ++ (decimal heap.id ++ (codes ": " ++ (decimal words ++ (codes " words at tick " ++ (decimal heap.tick
-    ++ (codes ", words a character: " ++ (decimal span ++ codes "\n")))))))
-
--- the line below them on so many blocks in which no character begins, where there are any
-unfoldable pub unseen_text : ℕ → List ℕ
-unseen_text count =
-    if count == 0 then []
-    else (codes "\n" ++ (decimal count ++ plural_of count (codes " block is not shown: it has the first word of no character") (codes " blocks are not shown: none of them has the first word of a character")))
-
--- a heap, with so many words a character: its name, the numbers of its report, and its rows
-unfoldable pub heap_with : ℕ → ℕ → MappedHeap → List ℕ
-heap_with span words heap =
-    name_line span words heap ++ report_numbers (codes "\n") heap.report
-    ++ blocks_marks span (free_blocks_of heap) heap.blocks.items ++ unseen_text (count_by (is_unseen span) heap.blocks.items) ++ codes "\n"
-
-unfoldable pub heap_lines : ℕ → MappedHeap → List ℕ
-heap_lines words heap = heap_with (span_of words heap.blocks.items) words heap
-
-abbrev pub heaps_lines : ℕ → List MappedHeap → List ℕ
-heaps_lines words [] = []
-heaps_lines words (heap ∷ heaps) = heap_lines words heap ++ heaps_lines words heaps
-
--- what each character is
-unfoldable pub key_line : List ℕ
-key_line = codes "[ live block  # header  = payload  - empty  ( free  * largest  . young  : old\n"
-
--- the picture of heaps with so many words each
-unfoldable pub text_of : ℕ → List MappedHeap → List ℕ
-text_of words heaps = key_line ++ heaps_lines words heaps

@@ -37,12 +37,24 @@ pub fn columns(span: u64, place: u64) -> u64
     (place + span - 1) / span
 }
 
-// The rows of a block that show its payload alone, or free words behind the first.
+/// Whether so many words are too many for a character that shows the first of them.
+pub fn is_dense(span: u64) -> bool
+    ensures { result ≡ layout.is_dense span }
+{
+    64 < span
+}
+
+// The rows of a block that show its payload alone, or free words behind the first; or those that lie in it, where a character shows
+// how many of its words are live.
 fn lines(span: u64, block: PlacedBlock) -> Fold
     requires { IsSpan span }
     ensures { result ≡ layout.lines_of span block }
 {
     let at = u64::from(block.at);
+    if is_dense(span) {
+        let end = columns(span, at + u64::from(block.size));
+        return Fold::between(64, columns(span, at), end.saturating_sub(1));
+    }
     let from = columns(span, at) + 1;
     match block.content {
         Content::Free { .. } => {

@@ -3,7 +3,7 @@ ghost use Rattle.std.specs.Prelude.{◌≡◌, ◌≤◌, ◌<◌, ℕ};
 ghost use Rattle.std.specs.List.{AllByRecursion};
 ghost use Rattle.tlsf_map.specs.Ages.{IsFreeSince, free_blocks_of, shade_by};
 ghost use Rattle.tlsf_map.specs.Grids.{AreInRows, AreOnward, IsGrid, block_pieces, words_of};
-ghost use Rattle.tlsf_map.specs.Groups.{AreApart, IsAloneOrNarrow, blocks_in, groups_of};
+ghost use Rattle.tlsf_map.specs.Groups.{GroupsAreApart, IsAloneOrNarrow, blocks_in, groups_of};
 ghost use Rattle.tlsf_map.specs.declared.grid.Grid.{Grid};
 
 use crate::mapped_heap::{LabelledBlock, MappedHeap};
@@ -25,7 +25,7 @@ pub fn pieces_are_the_block(block: PlacedBlock)
 pub fn groups_are_the_blocks(blocks: &[LabelledBlock])
     ensures all { (grid : Grid) → blocks_in (groups_of grid blocks.now) ≡ blocks.now }
     ensures narrow { (grid : Grid) → AllByRecursion (IsAloneOrNarrow grid) (groups_of grid blocks.now) }
-    ensures apart { (grid : Grid) → AreApart grid (groups_of grid blocks.now) }
+    ensures apart { (grid : Grid) → GroupsAreApart grid (groups_of grid blocks.now) }
 {
     let _ = blocks.len();
 }

@@ -7,16 +7,19 @@
 //! are framed. Above each heap stand the words of a row and the numbers of its [`Report`](tlsf_heap::Report). Neighbours that are
 //! too narrow to be seen are drawn as one.
 //!
-//! [`write_text`] makes one in the characters of a terminal, each for as many words as the picture says. [`write_page_head`],
-//! [`write_moment`] and [`write_page_foot`] make an HTML page that shows heaps at one moment at a time.
+//! [`write_text`] makes one in the characters of a terminal, each for as many words as the picture says: of up to 64 words it shows the
+//! first, and of more how many are live. [`write_page_head`],
+//! [`write_moment`] and [`write_page_foot`] make an HTML page that shows heaps at one moment at a time, and goes to the lines that
+//! are named of each.
 //!
-//! Contracts see the pictures as the texts that `svg_text` of `specs/Page.antt`, `text_of` of `specs/Text.antt`
+//! Contracts see the pictures as the texts that `svg_text` of `specs/Page.antt`, `text_of` of `specs/TextPage.antt`
 //! and `page_of` of `specs/Html.antt` spell. Rows and
 //! pieces are those of `specs/Grids.antt`, rows of which one is drawn for all those of `specs/Folds.antt`, neighbours that are drawn
-//! as one those of `specs/Groups.antt`, and characters those of `specs/Columns.antt`.
+//! as one those of `specs/Groups.antt`, and characters those of `specs/Columns.antt` and `specs/Density.antt`.
 #![tactic(auto)]
 
 mod columns;
+mod density;
 mod drawn_blocks;
 mod fold;
 mod free_blocks;
@@ -26,6 +29,7 @@ mod html;
 mod laws;
 mod mapped_heap;
 mod marks;
+mod named_lines;
 mod numbers;
 mod page;
 mod rectangles;
@@ -34,5 +38,6 @@ mod text_page;
 pub use html::{write_moment, write_page_foot, write_page_head};
 pub use laws::{free_blocks_are_drawn_by_age, groups_are_the_blocks, pieces_are_the_block};
 pub use mapped_heap::{LabelledBlock, MappedHeap};
+pub use named_lines::NamedLines;
 pub use page::write_svg;
 pub use text_page::write_text;

@@ -27,8 +27,8 @@ fn write_row_begin(text: &mut String, span: u64, number: u64) -> Result<(), Allo
     Ok(())
 }
 
-// Adds characters alike, from a number up to another.
-fn write_up_to(
+/// Adds characters alike, from a number up to another.
+pub fn write_up_to(
     text: &mut String,
     span: u64,
     from: u64,
@@ -65,9 +65,9 @@ fn write_lines(text: &mut String, span: u64, lines: Fold, mark: &str) -> Result<
     )
 }
 
-// Adds characters alike, from a number up to another; where they fill three rows or more, a line stands for these.
+/// Adds characters alike, from a number up to another; where they fill three rows or more, a line stands for these.
 #[tactic(auto, unfolding(crate::specs::Text::alike_text))]
-fn write_alike(
+pub fn write_alike(
     text: &mut String,
     span: u64,
     from: u64,

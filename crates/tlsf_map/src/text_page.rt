@@ -1,9 +1,13 @@
 //! The picture in characters as a whole: a key to them, and the heaps, one below the other.
 ghost use Rattle.std.specs.Prelude.{◌≡◌, ◌++◌, count_by, IfOk, OnOk, string_bytes};
 ghost use Rattle.tlsf_map.specs.Columns.{IsSpan};
-ghost use Rattle.tlsf_map.specs.Text.{blocks_marks, heap_lines, heap_with, heaps_lines, is_unseen, key_line, name_line, text_of, unseen_text};
+ghost use Rattle.tlsf_map.specs.Density.{dense_key};
+ghost use Rattle.tlsf_map.specs.Text.{blocks_marks, is_unseen};
+ghost use Rattle.tlsf_map.specs.TextPage as page;
+ghost use Rattle.tlsf_map.specs.TextPage.{dense_rows, heap_lines, heap_with, heaps_lines, key_line, name_line, seen_rows, text_of, unseen_text};
 
-use crate::columns::span;
+use crate::columns::{is_dense, span};
+use crate::density::write_dense_blocks;
 use crate::free_blocks::FreeBlocks;
 use crate::mapped_heap::{LabelledBlock, MappedHeap};
 use crate::marks::write_block_marks;
@@ -12,6 +16,9 @@ use std::alloc::AllocError;
 
 // What each character is.
 const KEY: &str = "[ live block  # header  = payload  - empty  ( free  * largest  . young  : old\n";
+
+// What they are where each tells how many of its words are live.
+const DENSE_KEY: &str = "\nlive words of a character: . none  : - = + * # % sevenths  @ all";
 
 fn write_name_line(
     text: &mut String,
@@ -30,7 +37,7 @@ fn write_name_line(
 }
 
 // Adds the blocks of a heap, whose free ones these tell apart, and says in how many no character begins.
-fn write_rows(
+fn write_blocks(
     text: &mut String,
     span: u64,
     free: FreeBlocks,
@@ -50,7 +57,7 @@ fn write_rows(
 }
 
 // Adds the line on so many blocks that aren't shown, where there are any.
-#[tactic(auto, unfolding(crate::specs::Text::unseen_text))]
+#[tactic(auto, unfolding(crate::specs::TextPage::unseen_text))]
 fn write_unseen(text: &mut String, count: u64) -> Result<(), AllocError>
     ensures { OnOk result (string_bytes text.new ≡ string_bytes text.old ++ unseen_text count) }
 {
@@ -65,8 +72,49 @@ fn write_unseen(text: &mut String, count: u64) -> Result<(), AllocError>
     write!(text, "\n{count}{are}")
 }
 
+#[tactic(auto, unfolding(crate::specs::TextPage::seen_rows))]
+fn write_seen_rows(text: &mut String, span: u64, heap: &MappedHeap) -> Result<(), AllocError>
+    requires { IsSpan span }
+    ensures { OnOk result (string_bytes text.new ≡ string_bytes text.old ++ seen_rows span heap.now) }
+{
+    let unseen = write_blocks(text, span, FreeBlocks::of(heap), &heap.blocks)?;
+    write_unseen(text, unseen)
+}
+
+#[tactic(auto, unfolding(crate::specs::Density::dense_key))]
+fn write_dense_key(text: &mut String) -> Result<(), AllocError>
+    ensures { OnOk result (string_bytes text.new ≡ string_bytes text.old ++ dense_key) }
+{
+    text.push_str(DENSE_KEY)
+}
+
+#[tactic(auto, unfolding(crate::specs::TextPage::dense_rows))]
+fn write_dense_rows(
+    text: &mut String,
+    span: u64,
+    words: u32,
+    heap: &MappedHeap,
+) -> Result<(), AllocError>
+    requires { IsSpan span }
+    ensures { OnOk result (string_bytes text.new ≡ string_bytes text.old ++ dense_rows span words heap.now) }
+{
+    write_dense_key(text)?;
+    write_dense_blocks(text, span, words, &heap.blocks)
+}
+
+// Adds the rows of a heap, with so many words a character.
+fn write_rows(text: &mut String, span: u64, words: u32, heap: &MappedHeap) -> Result<(), AllocError>
+    requires { IsSpan span }
+    ensures { OnOk result (string_bytes text.new ≡ string_bytes text.old ++ page.rows_text span words heap.now) }
+{
+    if is_dense(span) {
+        return write_dense_rows(text, span, words, heap);
+    }
+    write_seen_rows(text, span, heap)
+}
+
 // Adds a heap, with so many words a character.
-#[tactic(auto, unfolding(crate::specs::Text::heap_with))]
+#[tactic(auto, unfolding(crate::specs::TextPage::heap_with))]
 fn write_heap_with(
     text: &mut String,
     span: u64,
@@ -78,12 +126,11 @@ fn write_heap_with(
 {
     write_name_line(text, span, words, heap)?;
     write_numbers(text, &heap.report, "\n")?;
-    let unseen = write_rows(text, span, FreeBlocks::of(heap), &heap.blocks)?;
-    write_unseen(text, unseen)?;
+    write_rows(text, span, words, heap)?;
     text.push_str("\n")
 }
 
-#[tactic(auto, unfolding(crate::specs::Text::heap_lines))]
+#[tactic(auto, unfolding(crate::specs::TextPage::heap_lines))]
 fn write_heap_lines(text: &mut String, words: u32, heap: &MappedHeap) -> Result<(), AllocError>
     ensures { OnOk result (string_bytes text.new ≡ string_bytes text.old ++ heap_lines words heap.now) }
 {
@@ -99,7 +146,7 @@ fn write_heaps_lines(text: &mut String, words: u32, heaps: &[MappedHeap]) -> Res
     Ok(())
 }
 
-#[tactic(auto, unfolding(crate::specs::Text::key_line))]
+#[tactic(auto, unfolding(crate::specs::TextPage::key_line))]
 fn write_key_line(text: &mut String) -> Result<(), AllocError>
     ensures { OnOk result (string_bytes text.new ≡ string_bytes text.old ++ key_line) }
 {
@@ -116,7 +163,7 @@ fn write_key_line(text: &mut String) -> Result<(), AllocError>
 /// # Errors
 ///
 /// Where memory runs out.
-#[tactic(auto, unfolding(crate::specs::Text::text_of))]
+#[tactic(auto, unfolding(crate::specs::TextPage::text_of))]
 pub fn write_text(text: &mut String, words: u32, heaps: &[MappedHeap]) -> Result<(), AllocError>
     ensures { OnOk result (string_bytes text.new ≡ string_bytes text.old ++ text_of words heaps.now) }
 {

@@ -1,25 +1,25 @@
 -- A page, one moment after another.
-use Rattle.std.proofs.Common.{◌≡◌, ℕ, ◌+◌, ◌-◌, ◌*◌, ◌/◌, ◌<◌, ◌≤◌, List, [], ◌∷◌, ◌++◌, length, min, sym, ap, ◌∙◌, arith, append_assoc, append-nil}
-use Rattle.std.proofs.lemmas.Nat.{le-div}
-use Rattle.std.proofs.Math.Nat.{div-mul-le_self, mul-le-mul_right}
+use Rattle.std.proofs.Common.{◌≡◌, ℕ, suc, ◌+◌, Bool, false, true, cond, List, [], ◌∷◌, ◌++◌, length, sym, ap, ◌∙◌, arith, append_assoc, append-nil}
 use Rattle.tlsf_lines.specs.Trace.{Trace}
 use Rattle.tlsf_map.specs.Html.{Moment, moment_data, moments_data, page_foot, page_head}
-use Rattle.tlsf_picture.specs.Pages.{DrawsPage, IsMoment, line_of, lines_shown}
+use Rattle.tlsf_map.specs.declared.named_lines.NamedLines.{NamedLines}
+use Rattle.tlsf_picture.specs.Pages.{AreNoted, DrawsPage, IsMoment, is_shown, lines_shown, shown_until}
 use Rattle.tlsf_picture.specs.Steps.{AddsMoment, HasShown}
 use Rattle.tlsf_picture.proofs.Maps.{push_both}
 
--- a line that is shown is not before the one that is shown before it
-line_onward : (number next lines steps : ℕ) → 0 < steps → number ≤ next → number * (lines + 1) / steps ≤ next * (lines + 1) / steps
-line_onward number next lines steps some le =
-    let own : number * (lines + 1) / steps * steps ≤ number * (lines + 1) = div-mul-le_self (number * (lines + 1)) steps in
-    let more : number * (lines + 1) ≤ next * (lines + 1) = mul-le-mul_right (lines + 1) le in
-    le-div (number * (lines + 1) / steps) (next * (lines + 1)) steps some (omega (arith, own, more))
+-- a line without a moment, and one with it
+pub line_left : (lines : ℕ) (named : List NamedLines) (number : ℕ) → is_shown lines named (number + 1) ≡ false → shown_until lines named number ≡ shown_until lines named (number + 1)
+line_left lines named number none =
+    let next : suc number ≡ number + 1 = omega arith in
+    sym (sym (ap (λ (n : ℕ). shown_until lines named n) next)
+    ∙ ap (λ (b : Bool). cond b (shown_until lines named number ++ (number + 1) ∷ []) (shown_until lines named number)) none)
 
-up : (a b : ℕ) → a ≤ b → a + 1 ≤ b + 1
-up a b le = omega (arith, le)
-
-pub line_of_onward : (lines number : ℕ) → line_of lines number ≤ line_of lines (number + 1)
-line_of_onward lines number = up _ _ (line_onward number (number + 1) lines (min 200 (lines + 2) - 1) (omega arith) (omega arith))
+pub line_shown : (lines : ℕ) (named : List NamedLines) (number : ℕ) → is_shown lines named (number + 1) ≡ true
+    → shown_until lines named number ++ (number + 1) ∷ [] ≡ shown_until lines named (number + 1)
+line_shown lines named number some =
+    let next : suc number ≡ number + 1 = omega arith in
+    sym (sym (ap (λ (n : ℕ). shown_until lines named n) next)
+    ∙ ap (λ (b : Bool). cond b (shown_until lines named number ++ (number + 1) ∷ []) (shown_until lines named number)) some)
 
 data_more : (words : ℕ) (moments : List Moment) (moment : Moment) → moments_data words (moments ++ moment ∷ []) ≡ moments_data words moments ++ moment_data words moment
 data_more words [] moment = append-nil (moment_data words moment)
@@ -42,5 +42,7 @@ pub none_shown : (trace : Trace) (text : List ℕ) → text ≡ page_head → Ha
 none_shown trace text is = record { moments = []; shown = tt; so_far = is ∙ sym (append-nil page_head) }
 
 -- all of them
-pub page_shown : (trace : Trace) (before after : List ℕ) → HasShown (lines_shown (length trace.lines)) trace before → after ≡ before ++ page_foot → DrawsPage trace after
-page_shown trace before after shown foot = record { moments = shown.moments; shown = shown.shown; drawn = foot ∙ ap (λ (l : List ℕ). l ++ page_foot) shown.so_far }
+pub page_shown : (trace : Trace) (named : List NamedLines) (before after : List ℕ) → AreNoted trace named
+    → HasShown (lines_shown (length trace.lines) named) trace before → after ≡ before ++ page_foot named → DrawsPage trace after
+page_shown trace named before after noted shown foot =
+    record { named = named; noted = noted; moments = shown.moments; shown = shown.shown; drawn = foot ∙ ap (λ (l : List ℕ). l ++ page_foot named) shown.so_far }

@@ -73,7 +73,7 @@ none_worse_than new worst other more none = worse_one new other (worse_than new 
 
 -- ---- one point more
 
-last_or : (i n : ℕ) (P : ℕ → Type 0) → i < n + 1 → (i < n → P i) → P n → P i
+pub last_or : (i n : ℕ) (P : ℕ → Type 0) → i < n + 1 → (i < n → P i) → P n → P i
 last_or i n P lt below here = elim (cases_eq i n) [
   | inl is ↦ subst P (sym is) here
   | inr other ↦ below (omega (arith, lt, other))

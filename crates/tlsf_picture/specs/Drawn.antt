@@ -6,7 +6,7 @@ use Rattle.tlsf_heap.specs.Placed.{placed_blocks}
 use Rattle.tlsf_heap.specs.Reports.{report_of}
 use Rattle.tlsf_heap.specs.declared.name.Name.{Name}
 use Rattle.tlsf_map.specs.Page.{svg_text}
-use Rattle.tlsf_map.specs.Text.{text_of}
+use Rattle.tlsf_map.specs.TextPage.{text_of}
 use Rattle.tlsf_map.specs.declared.mapped_heap.MappedHeap.{MappedHeap}
 use Rattle.tlsf_picture.specs.Labelled.{label_of, labelled}
 use Rattle.tlsf_picture.specs.declared.form.Form.{Form}

@@ -1,6 +1,8 @@
 pub mod Points
 pub mod Curves
 pub mod Standings
+pub mod Peaks
+pub mod Axis
 pub mod Svg
 pub mod Rows
 pub mod Plots

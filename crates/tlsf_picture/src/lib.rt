@@ -18,6 +18,7 @@ mod block_labels;
 mod drawing;
 mod form;
 mod mapping;
+mod naming;
 mod page_drawing;
 mod plots;
 

@@ -13,13 +13,14 @@ ghost use Rattle.tlsf_trace.specs.Players.{Stands};
 ghost use Rattle.tlsf_trace.specs.Replay.{IsRun};
 
 use crate::mapping::map_heaps;
+use crate::naming::named_lines;
 use std::alloc::{AllocError, Global};
 use std::io::{Read, Write};
 use tlsf_lines::Script;
-use tlsf_map::{write_moment, write_page_foot, write_page_head};
+use tlsf_map::{NamedLines, write_moment, write_page_foot, write_page_head};
 use tlsf_trace::{Player, Plays, Puts, Summary, TraceFault, play};
 
-// How many moments the page of a trace with so many lines behind its header has.
+// How many moments are spread over a trace with so many lines behind its header.
 fn moments_in(lines: usize) -> usize
     requires { lines ≤ 32768 }
     ensures count { result ≡ pages.moments_in lines }
@@ -40,6 +41,44 @@ fn line_of(lines: usize, number: usize) -> u32
     ahead as u32 + 1
 }
 
+// Whether a line has one of those moments.
+fn is_spread(lines: usize, line: u32) -> bool
+    requires { lines ≤ 32768 }
+    ensures { result ≡ pages.is_spread lines line }
+{
+    let mut is_one = false;
+    for number in 0..moments_in(lines) {
+        is_one = is_one || line_of(lines, number) == line;
+    }
+    is_one
+}
+
+// Whether a line is named of a heap.
+fn is_named_by(line: u32, named: &NamedLines) -> bool
+    ensures { result ≡ pages.is_named_by line named.now }
+{
+    named.peak == line || named.look == line
+}
+
+// Whether it is named of one of some heaps.
+fn is_named(line: u32, named: &[NamedLines]) -> bool
+    ensures { result ≡ pages.is_named line named.now }
+{
+    let count = named
+        .iter()
+        .filter(|named| is_named_by(line, named))
+        .count();
+    0 < count
+}
+
+// Whether a line has a moment.
+fn is_shown(lines: usize, named: &[NamedLines], line: u32) -> bool
+    requires { lines ≤ 32768 }
+    ensures { result ≡ pages.is_shown lines named.now line }
+{
+    is_spread(lines, line) || is_named(line, named)
+}
+
 // Adds to the page the heaps of a yard that stands after a line.
 fn add_moment<const SLI: u32>(
     alloc: Global,
@@ -58,23 +97,47 @@ fn add_moment<const SLI: u32>(
     write_moment(text, script.header.words, line, &maps)
 }
 
+// Runs on to the line of a number, where the header's is 0, and adds its moment to the page, where it has one.
+fn add_line<const SLI: u32>(
+    alloc: Global,
+    text: &mut String,
+    player: &mut Player<SLI>,
+    script: &Script,
+    named: &[NamedLines],
+    number: usize,
+) -> Result<(), AllocError>
+    requires yard { IsYard player.old.workers.items }
+    requires lines { vec_len script.now.ends ≤ 32768 }
+    requires number { number ≤ 32769 }
+    ensures yard { IsYard player.new.workers.items }
+    ensures shown { (from : ℕ) (trace : Trace) → from ≤ number → level_in trace.header ≡ SLI → IsScript script.now trace → Stands from trace player.old
+        → HasShown (pages.shown_until (length trace.lines) named.now number) trace (string_bytes text.old)
+        → OnOk result ((to : ℕ) × (to ≤ number + 1) × Stands to trace player.new
+        × HasShown (pages.shown_until (length trace.lines) named.now (number + 1)) trace (string_bytes text.new)) }
+{
+    let line = number as u32 + 1;
+    if !is_shown(script.ends.len(), named, line) {
+        return Ok(());
+    }
+    player.step_to(alloc, script, line)?;
+    add_moment(alloc, text, player, script, line)
+}
+
 // Adds to the page each of its moments, from a new yard on.
 fn add_moments<const SLI: u32>(
     alloc: Global,
     text: &mut String,
     player: &mut Player<SLI>,
     script: &Script,
+    named: &[NamedLines],
 ) -> Result<(), AllocError>
     requires yard { IsYard player.old.workers.items }
     requires lines { vec_len script.now.ends ≤ 32768 }
     ensures { (trace : Trace) → level_in trace.header ≡ SLI → IsScript script.now trace → Stands 0 trace player.old → HasShown [] trace (string_bytes text.old)
-        → OnOk result (HasShown (pages.lines_shown (length trace.lines)) trace (string_bytes text.new)) }
+        → OnOk result (HasShown (pages.lines_shown (length trace.lines) named.now) trace (string_bytes text.new)) }
 {
-    let lines = script.ends.len();
-    for number in 0..moments_in(lines) {
-        let line = line_of(lines, number);
-        player.step_to(alloc, script, line)?;
-        add_moment(alloc, text, player, script, line)?;
+    for number in 0..script.ends.len() + 2 {
+        add_line(alloc, text, player, script, named, number)?;
     }
     Ok(())
 }
@@ -97,11 +160,12 @@ impl<const SLI: u32> Plays<SLI> for Page {
         ensures { (trace : Trace) → level_in trace.header ≡ SLI → IsScript script.now trace
             → IfOk result (λ text. DrawsPage trace (string_bytes text)) }
     {
+        let named = named_lines::<SLI>(alloc, script)?;
         let mut player = Player::<SLI>::open(alloc, script)?;
         let mut text = String::new(alloc);
         write_page_head(&mut text)?;
-        add_moments(alloc, &mut text, &mut player, script)?;
-        write_page_foot(&mut text)?;
+        add_moments(alloc, &mut text, &mut player, script, &named)?;
+        write_page_foot(&mut text, &named)?;
         Ok(text)
     }
 }
@@ -110,9 +174,11 @@ impl<const SLI: u32> Plays<SLI> for Page {
 ///
 /// A browser opens the page without a network. It has all blocks of each heap as they stand after each line and at the end, in the
 /// order of the places, a live one with its label, its bytes and its serial. Of a trace with more than 198 lines behind its header the
-/// page has 200 moments, spread evenly from line 1 to the end. A slider and the arrow keys choose the moment that is drawn.
+/// page has 200 moments, spread evenly from line 1 to the end, and besides these the peak of each heap and the line that
+/// [`plot_trace`](crate::plot_trace) names above it. A slider, keys and buttons choose the moment that is drawn.
 ///
-/// The trace is read to its end and checked before a line runs, it is run once, and the whole page is made before a byte is written.
+/// The trace is read to its end and checked before a line runs, it is run once and once more for each heap, and the whole page is made
+/// before a byte is written.
 /// What it is told and read is as at [`draw_trace`](crate::draw_trace). A moment has some 20 bytes for each block.
 ///
 /// ```

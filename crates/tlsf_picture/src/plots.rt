@@ -1,12 +1,14 @@
 //! Plots of the heaps of a trace over its lines, and the line to look at.
 
+mod axis;
 mod chart;
-mod curve;
+pub(crate) mod curve;
 mod look;
+mod peak;
 mod plot_form;
 pub(crate) mod plotting;
 mod point;
-mod points;
+pub(crate) mod points;
 mod rows;
 mod series;
 mod standing;

@@ -1,9 +1,10 @@
 -- The plot of some heaps in the characters of a terminal, 80 columns wide.
-use Rattle.std.specs.Prelude.{ℕ, ◌+◌, ◌-◌, ◌*◌, ◌/◌, ◌==◌, List, [], ◌∷◌, ◌++◌, codes, max, if◌then◌else◌}
+use Rattle.std.specs.Prelude.{ℕ, ◌+◌, ◌-◌, ◌*◌, ◌/◌, ◌==◌, List, [], ◌∷◌, ◌++◌, codes, fold, max, if◌then◌else◌}
 use Rattle.std.specs.Fmt.{decimal}
-use Rattle.tlsf_picture.specs.plots.Svg.{bytes_of, number_of, top_of}
+use Rattle.tlsf_picture.specs.plots.Svg.{always_of, bytes_of, no_fit_of, number_of}
 use Rattle.tlsf_picture.specs.declared.plots.chart.Chart.{Chart}
 use Rattle.tlsf_picture.specs.declared.plots.look.Look.{Look}
+use Rattle.tlsf_picture.specs.declared.plots.peak.Peak.{Peak}
 use Rattle.tlsf_picture.specs.declared.plots.point.Point.{Point}
 use Rattle.tlsf_picture.specs.declared.plots.series.Series.{Series}
 use Rattle.tlsf_picture.specs.declared.plots.series.Series.TheVariants.{Live, Asked, Free, Largest, Fragmentation}
@@ -58,6 +59,10 @@ flags_text (point ∷ points) = flag_of point ++ flags_text points
 unfoldable pub flags_row : List Point → List ℕ
 flags_row curve = codes "refused       |" ++ flags_text curve ++ codes "|\n"
 
+-- the most words that are live or asked for, 1 where there are none
+abbrev pub top_of : List Point → ℕ
+top_of curve = fold (λ top point. max top (max point.live point.asked)) 1 curve
+
 unfoldable pub rows_text : ℕ → List Point → List ℕ
 rows_text words curve =
     row_text Live (top_of curve) curve ++ row_text Asked (top_of curve) curve ++ row_text Free words curve ++ row_text Largest words curve
@@ -71,16 +76,16 @@ title_line chart =
 -- where to look: without room for the longest request, or where there is always room
 unfoldable pub worst_row : (line free longest : ℕ) → List ℕ
 worst_row line free longest =
-    codes "worst moment, after line " ++ (decimal line ++ (codes ": " ++ (decimal free ++ (codes " words free, no room for " ++ (decimal longest
-    ++ (codes " " ++ (bytes_of longest ++ (codes "\n  tlsf map --at " ++ (decimal line ++ codes "\n")))))))))
+    codes "worst moment: line " ++ (decimal line ++ (codes ": " ++ (decimal free ++ (codes " words free, and " ++ (decimal longest
+    ++ (codes " " ++ (no_fit_of longest ++ (codes "\n  tlsf map --at " ++ (decimal line ++ codes "\n")))))))))
 
 unfoldable pub full_row : (line live fragmentation : ℕ) → List ℕ
 full_row line live fragmentation =
-    codes "fullest moment, after line " ++ (decimal line ++ (codes ": " ++ (decimal live ++ (codes " words live, fragmentation " ++ (decimal fragmentation ++ codes "/1000\n")))))
+    codes "fullest moment: line " ++ (decimal line ++ (codes ": " ++ (decimal live ++ (codes " words live, fragmentation " ++ (decimal fragmentation ++ codes "/1000\n")))))
 
 unfoldable pub always_row : (line longest : ℕ) → List ℕ
 always_row line longest =
-    codes "  always room for " ++ (decimal longest ++ (codes " " ++ (bytes_of longest ++ (codes ": tlsf map --at " ++ (decimal line ++ codes "\n")))))
+    codes "  and " ++ (decimal longest ++ (codes " " ++ (always_of longest ++ (codes ": tlsf map --at " ++ (decimal line ++ codes "\n")))))
 
 unfoldable pub fullest_row : (line live fragmentation longest : ℕ) → List ℕ
 fullest_row line live fragmentation longest = full_row line live fragmentation ++ always_row line longest
@@ -92,8 +97,16 @@ standing_rows longest line (Room live fragmentation) = fullest_row line live fra
 abbrev pub look_rows : ℕ → Look → List ℕ
 look_rows longest look = standing_rows longest look.line look.standing
 
+-- where most words are live
+unfoldable pub peak_row : (line live bytes : ℕ) → List ℕ
+peak_row line live bytes =
+    codes "peak: line " ++ (decimal line ++ (codes ": " ++ (decimal live ++ (codes " words (" ++ (decimal bytes ++ (codes " bytes) live: tlsf map --at " ++ (decimal line ++ codes "\n")))))))
+
+unfoldable pub peak_rows : Peak → List ℕ
+peak_rows peak = peak_row peak.line peak.live (8 * peak.live)
+
 unfoldable pub heap_rows : Chart → List ℕ
-heap_rows chart = title_line chart ++ look_rows chart.longest chart.look ++ rows_text chart.words chart.curve.items
+heap_rows chart = title_line chart ++ look_rows chart.longest chart.look ++ peak_rows chart.peak ++ rows_text chart.words chart.curve.items
 
 abbrev pub heaps_rows : List Chart → List ℕ
 heaps_rows [] = []

@@ -1,9 +1,11 @@
 //! The curve of a heap: as many of its points as one as it takes.
 ghost use Rattle.std.specs.Prelude.{◌≡◌, ◌+◌, ◌<◌, ◌≤◌, ◌^◌, length, IfOk};
 ghost use Rattle.tlsf_picture.specs.plots.Curves as drawn;
+ghost use Rattle.tlsf_picture.specs.plots.Peaks.{IsPeak, live_in};
 ghost use Rattle.tlsf_picture.specs.plots.Standings.{IsLook, standing_in};
 
 use crate::plots::look::Look;
+use crate::plots::peak::Peak;
 use crate::plots::point::Point;
 use crate::plots::standing::Standing;
 use std::alloc::{AllocError, Global};
@@ -90,4 +92,44 @@ pub fn worst_line(len: u32, points: &[Point]) -> Look
         worst = worse_line(len, points, number, worst);
     }
     worst
+}
+
+// The live words of the point of a number.
+fn live_at(points: &[Point], number: usize) -> u32
+    requires { number < length points.now }
+    ensures { result ≡ live_in points.now number }
+{
+    points[number].live
+}
+
+// The peak among one point more than the first of these points.
+fn higher_peak(points: &[Point], number: usize, peak: Peak) -> Peak
+    requires within { number < length points.now }
+    requires few { length points.now ≤ 2 ^ 16 }
+    requires peak { IsPeak points.now number peak }
+    ensures { IsPeak points.now (number + 1) result }
+{
+    let live = live_at(points, number);
+    if peak.live < live {
+        Peak {
+            line: number as u32 + 1,
+            live,
+        }
+    } else {
+        peak
+    }
+}
+
+/// The peak of a heap: the first line after which most words are live.
+pub fn peak_of(points: &[Point]) -> Peak
+    requires some { 0 < length points.now }
+    requires few { length points.now ≤ 2 ^ 16 }
+    ensures { IsPeak points.now (length points.now) result }
+{
+    let live = live_at(points, 0);
+    let mut peak = Peak { line: 1, live };
+    for number in 1..points.len() {
+        peak = higher_peak(points, number, peak);
+    }
+    peak
 }

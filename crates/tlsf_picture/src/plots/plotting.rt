@@ -10,7 +10,7 @@ ghost use Rattle.tlsf_trace.specs.Replay.{IsRun};
 
 use crate::form::Form;
 use crate::plots::chart::Chart;
-use crate::plots::curve::{curve_of, span_for, worst_line};
+use crate::plots::curve::{curve_of, peak_of, span_for, worst_line};
 use crate::plots::plot_form::{most_points, write_plot};
 use crate::plots::points::{longest_of, points_of};
 use std::alloc::{AllocError, Global};
@@ -35,16 +35,20 @@ fn chart_of<const SLI: u32>(
 {
     let words = script.header.words;
     let points = points_of::<SLI>(alloc, script, heap)?;
-    let span = span_for(most, points.len());
+    let lines = points.len();
+    let span = span_for(most, lines);
     let longest = longest_of(heap, script);
     let look = worst_line(longest, &points);
+    let peak = peak_of(&points);
     let curve = curve_of(alloc, words, span, &points)?;
     Ok(Chart {
         heap,
         words,
+        lines: lines as u32,
         span,
         longest,
         look,
+        peak,
         curve,
     })
 }
@@ -105,7 +109,7 @@ impl<const SLI: u32> Plays<SLI> for Plot {
 ///
 /// Above a heap stands the line to look at: of those after which the longest request of its worker would find no room, the first with
 /// the most words free. Where it finds room after each line, it is the first of those with the most live words that has the most
-/// fragmentation among them.
+/// fragmentation among them. There also stands its peak, the first line after which most of its words are live.
 ///
 /// The trace is read to its end and checked before a line runs, it is run once for each heap, and the whole text is made before a byte is
 /// written. The limits are those of [`replay`](tlsf_trace::replay).

@@ -1,14 +1,15 @@
 //! The plot of some heaps in the characters of a terminal.
 ghost use Rattle.std.specs.Prelude.{◌≡◌, ◌<◌, ◌++◌, OnOk, string_bytes};
 ghost use Rattle.tlsf_picture.specs.plots.Rows as drawn;
-ghost use Rattle.tlsf_picture.specs.plots.Rows.{always_row, bars_text, flags_row, flags_text, full_row, fullest_row, heap_rows, heaps_rows, key_row, look_rows, row_end, row_text, rows_text, text_of, title_line, worst_row};
+ghost use Rattle.tlsf_picture.specs.plots.Rows.{always_row, bars_text, flags_row, flags_text, full_row, fullest_row, heap_rows, heaps_rows, key_row, look_rows, peak_row, peak_rows, row_end, row_text, rows_text, text_of, title_line, worst_row};
 
 use crate::plots::chart::Chart;
 use crate::plots::look::Look;
+use crate::plots::peak::Peak;
 use crate::plots::point::Point;
 use crate::plots::series::Series;
 use crate::plots::standing::Standing;
-use crate::plots::svg::{bytes, top_of};
+use crate::plots::svg::{always_fit, bytes, no_fit};
 use std::alloc::AllocError;
 
 // What the rows are.
@@ -116,6 +117,17 @@ fn write_flags_row(text: &mut String, curve: &[Point]) -> Result<(), AllocError>
     text.push_str("|\n")
 }
 
+// The most words that are live or asked for, 1 where there are none.
+fn top_of(curve: &[Point]) -> u32
+    ensures { result ≡ drawn.top_of curve.now }
+{
+    let mut top = 1;
+    for point in curve {
+        top = top.max(point.live.max(point.asked));
+    }
+    top
+}
+
 #[tactic(auto, unfolding(crate::specs::plots::Rows::rows_text))]
 fn write_rows(text: &mut String, words: u32, curve: &[Point]) -> Result<(), AllocError>
     ensures { OnOk result (string_bytes text.new ≡ string_bytes text.old ++ rows_text words curve.now) }
@@ -146,10 +158,10 @@ fn write_title_line(text: &mut String, chart: &Chart) -> Result<(), AllocError>
 fn write_worst_row(text: &mut String, line: u32, free: u32, longest: u32) -> Result<(), AllocError>
     ensures { OnOk result (string_bytes text.new ≡ string_bytes text.old ++ worst_row line free longest) }
 {
-    let bytes = bytes(longest);
+    let fit = no_fit(longest);
     write!(
         text,
-        "worst moment, after line {line}: {free} words free, no room for {longest} {bytes}\n  tlsf map --at {line}\n"
+        "worst moment: line {line}: {free} words free, and {longest} {fit}\n  tlsf map --at {line}\n"
     )
 }
 
@@ -158,18 +170,15 @@ fn write_full(text: &mut String, line: u32, live: u32, fragmentation: u32) -> Re
 {
     write!(
         text,
-        "fullest moment, after line {line}: {live} words live, fragmentation {fragmentation}/1000\n"
+        "fullest moment: line {line}: {live} words live, fragmentation {fragmentation}/1000\n"
     )
 }
 
 fn write_always(text: &mut String, line: u32, longest: u32) -> Result<(), AllocError>
     ensures { OnOk result (string_bytes text.new ≡ string_bytes text.old ++ always_row line longest) }
 {
-    let bytes = bytes(longest);
-    write!(
-        text,
-        "  always room for {longest} {bytes}: tlsf map --at {line}\n"
-    )
+    let fit = always_fit(longest);
+    write!(text, "  and {longest} {fit}: tlsf map --at {line}\n")
 }
 
 #[tactic(auto, unfolding(crate::specs::plots::Rows::fullest_row))]
@@ -199,12 +208,29 @@ fn write_look(text: &mut String, longest: u32, look: Look) -> Result<(), AllocEr
     }
 }
 
+fn write_peak(text: &mut String, line: u32, live: u32, bytes: u64) -> Result<(), AllocError>
+    ensures { OnOk result (string_bytes text.new ≡ string_bytes text.old ++ peak_row line live bytes) }
+{
+    write!(
+        text,
+        "peak: line {line}: {live} words ({bytes} bytes) live: tlsf map --at {line}\n"
+    )
+}
+
+#[tactic(auto, unfolding(crate::specs::plots::Rows::peak_rows))]
+fn write_peak_rows(text: &mut String, peak: Peak) -> Result<(), AllocError>
+    ensures { OnOk result (string_bytes text.new ≡ string_bytes text.old ++ peak_rows peak) }
+{
+    write_peak(text, peak.line, peak.live, 8 * u64::from(peak.live))
+}
+
 #[tactic(auto, unfolding(crate::specs::plots::Rows::heap_rows))]
 fn write_heap_rows(text: &mut String, chart: &Chart) -> Result<(), AllocError>
     ensures { OnOk result (string_bytes text.new ≡ string_bytes text.old ++ heap_rows chart.now) }
 {
     write_title_line(text, chart)?;
     write_look(text, chart.longest, chart.look)?;
+    write_peak_rows(text, chart.peak)?;
     write_rows(text, chart.words, &chart.curve)
 }
 

@@ -1,5 +1,5 @@
 use Rattle.std.proofs.Common.{◌≡◌, ◌++◌, drop, string_bytes}
-use Rattle.tlsf_map.specs.Text.{heaps_lines}
+use Rattle.tlsf_map.specs.TextPage.{heaps_lines}
 use Rattle.tlsf_map.proofs.text_page.write_heaps_lines.Given as goal
 
 -- what is written and the heaps that are left are the text of all

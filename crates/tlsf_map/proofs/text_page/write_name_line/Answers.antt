@@ -1,4 +1,4 @@
-use Rattle.tlsf_map.specs.Text.{name_line}
+use Rattle.tlsf_map.specs.TextPage.{name_line}
 use Rattle.tlsf_map.proofs.text_page.write_name_line.Goals as goal
 
 pub returns : goal.returns

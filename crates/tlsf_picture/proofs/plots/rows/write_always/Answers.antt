@@ -4,4 +4,4 @@ use Rattle.tlsf_picture.proofs.plots.rows.write_always.Goals as goal
 
 pub returns : goal.returns
 unfolding always_row
-returns c = rw (sym c.bytes-bytes.ensures) c.write.ensures.bytes
+returns c = rw (sym c.always_fit-fit.ensures) c.write.ensures.bytes

@@ -4,4 +4,4 @@ use Rattle.tlsf_picture.proofs.plots.svg.write_always.Goals as goal
 
 pub returns : goal.returns
 unfolding always_text
-returns c = rw (sym c.bytes-bytes.ensures) c.write.ensures.bytes
+returns c = rw (sym c.always_fit-fit.ensures) c.write.ensures.bytes

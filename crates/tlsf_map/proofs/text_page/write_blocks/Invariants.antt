@@ -1,7 +1,7 @@
 use Rattle.std.proofs.Common.{◌≡◌, ◌++◌, ◌≤◌, drop, string_bytes, take}
 use Rattle.std.specs.Prelude.{count_by}
 use Rattle.tlsf_map.specs.Text.{blocks_marks, is_unseen}
-use Rattle.tlsf_map.proofs.text_page.write_rows.Given as goal
+use Rattle.tlsf_map.proofs.text_page.write_blocks.Given as goal
 
 -- what is written and the blocks that are left are the text of all, and those that are not shown are counted
 abbrev pub invariant-loop-index : goal.invariant-loop-index

@@ -1,6 +1,6 @@
 use Rattle.std.proofs.Common.{◌≡◌, take}
-use Rattle.tlsf_picture.specs.plots.Svg.{top_of}
-use Rattle.tlsf_picture.proofs.plots.svg.top_of.Given as goal
+use Rattle.tlsf_picture.specs.plots.Rows.{top_of}
+use Rattle.tlsf_picture.proofs.plots.rows.top_of.Given as goal
 
 -- the most of those so far
 abbrev pub invariant-loop-point : goal.invariant-loop-point
