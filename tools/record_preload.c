@@ -2,10 +2,14 @@
  *
  * The environment names a folder in RECORD_FOLDER. Each process makes a file TIME.PID.NAME there, in microseconds: the number of notes, padded to 64 bytes, then
  * the notes in the order of the calls. A block's address is noted after it was given and before it is taken back, so at each note it means
- * one block, whatever the threads do. Behind the last note that the file has room for, no more are made. Nothing here takes memory. */
+ * one block, whatever the threads do. Behind the last note that the file has room for, no more are made. Nothing here takes memory.
+ *
+ * With RECORD_SITES the return addresses behind each note are kept too, in TIME.PID.NAME.sites, and where modules lie in TIME.PID.NAME.modules. */
 #define _GNU_SOURCE
 #include <errno.h>
+#include <execinfo.h>
 #include <fcntl.h>
+#include <link.h>
 #include <pthread.h>
 #include <stdatomic.h>
 #include <stddef.h>
@@ -25,7 +29,7 @@ void __libc_free(void *);
 
 /* MOVES stands before a realloc, with the address that may change; MOVED behind it, with that of now, or with 0 where it was refused. */
 enum kind { NONE, GIVEN, ALIGNED, FREED, MOVES, MOVED };
-enum { MOST_NOTES = 1 << 20 };
+enum { MOST_NOTES = 1 << 20, FRAMES = 12 };
 
 struct note {
     uint64_t address, bytes;
@@ -38,6 +42,8 @@ struct notes {
 };
 
 static struct notes *_Atomic notes;
+static uint64_t (*_Atomic sites)[FRAMES]; /* NULL where they aren't wanted */
+static char modules[544];
 static atomic_int state; /* 0 before the file is made, 1 while it is, 2 behind that, 3 where there is none */
 static atomic_uint threads;
 static __thread uint32_t thread_number __attribute__((tls_model("initial-exec")));
@@ -45,6 +51,7 @@ static __thread uint32_t thread_number __attribute__((tls_model("initial-exec"))
 /* A forked child has notes of its own, which begin with its first call. */
 static void forget(void) {
     notes = NULL;
+    sites = NULL;
     state = 0;
 }
 
@@ -52,6 +59,58 @@ static long long now(void) {
     struct timespec at;
     clock_gettime(CLOCK_MONOTONIC, &at);
     return at.tv_sec * 1000000ll + at.tv_nsec / 1000;
+}
+
+static void *mapped(const char *path, size_t bytes) {
+    void *at = MAP_FAILED;
+    const int file = open(path, O_RDWR | O_CREAT | O_TRUNC | O_CLOEXEC, 0600);
+    if (file < 0) return NULL;
+    if (!ftruncate(file, (off_t)bytes)) at = mmap(NULL, bytes, PROT_READ | PROT_WRITE, MAP_SHARED, file, 0);
+    close(file);
+    return at == MAP_FAILED ? NULL : at;
+}
+
+/* A line of a module: where it begins and ends, and its file, which is empty for the program itself. dprintf would take memory. */
+static int write_line(int file, uint64_t base, uint64_t end, const char *name) {
+    char line[1024];
+    const int length = snprintf(line, sizeof line, "%llx %llx %s\n", (unsigned long long)base, (unsigned long long)end, name);
+    return length >= (int)sizeof line || write(file, line, (size_t)length) == length ? 0 : 1;
+}
+
+static int write_module(struct dl_phdr_info *info, size_t bytes, void *to) {
+    uint64_t end = 0;
+    (void)bytes;
+    for (int i = 0; i < info->dlpi_phnum; i++) {
+        const uint64_t last = info->dlpi_phdr[i].p_vaddr + info->dlpi_phdr[i].p_memsz;
+        if (info->dlpi_phdr[i].p_type == PT_LOAD && last > end) end = last;
+    }
+    return write_line(*(int *)to, info->dlpi_addr, info->dlpi_addr + end, info->dlpi_name);
+}
+
+/* At the first note, since a signal may end the process, and at its end, by when there may be more. */
+__attribute__((destructor)) static void write_modules(void) {
+    if (!sites) return;
+    int file = open(modules, O_WRONLY | O_CREAT | O_TRUNC | O_CLOEXEC, 0600);
+    if (file < 0) return;
+    char program[512] = "";
+    if (readlink("/proc/self/exe", program, sizeof program - 1) > 0 && !write_line(file, 0, 0, program)) dl_iterate_phdr(write_module, &file);
+    close(file);
+}
+
+static void open_sites(const char *path) {
+    char name[544];
+    snprintf(name, sizeof name, "%s.sites", path);
+    snprintf(modules, sizeof modules, "%s.modules", path);
+    sites = mapped(name, sizeof(uint64_t[MOST_NOTES][FRAMES]));
+    void *first[1];
+    backtrace(first, 1); /* its first call takes memory, which isn't noted yet */
+    write_modules();
+}
+
+static void note_frames(uint64_t *to) {
+    void *frames[FRAMES];
+    const int count = backtrace(frames, FRAMES);
+    for (int i = 0; i < count; i++) to[i] = (uint64_t)(uintptr_t)frames[i];
 }
 
 static void open_notes(void) {
@@ -63,13 +122,8 @@ static void open_notes(void) {
     for (ssize_t i = 0; i < length; i++)
         if (name[i] == '\n' || name[i] == '/') name[i] = 0;
     if (!folder || snprintf(path, sizeof path, "%s/%lld.%d.%s", folder, now(), (int)getpid(), name) >= (int)sizeof path) return;
-    file = open(path, O_RDWR | O_CREAT | O_TRUNC | O_CLOEXEC, 0600);
-    if (file < 0) return;
-    if (!ftruncate(file, sizeof(struct notes))) {
-        void *at = mmap(NULL, sizeof(struct notes), PROT_READ | PROT_WRITE, MAP_SHARED, file, 0);
-        if (at != MAP_FAILED) notes = at;
-    }
-    close(file);
+    notes = mapped(path, sizeof(struct notes));
+    if (notes && getenv("RECORD_SITES")) open_sites(path);
 }
 
 static void note(enum kind kind, const void *address, size_t bytes) {
@@ -87,6 +141,7 @@ static void note(enum kind kind, const void *address, size_t bytes) {
             to->of[at].address = (uint64_t)(uintptr_t)address;
             to->of[at].bytes = bytes;
             to->of[at].thread = thread_number;
+            if (sites && kind != FREED && kind != MOVES) note_frames(sites[at]);
             to->of[at].kind = kind;
         }
     }

@@ -1,5 +1,5 @@
 -- What the words ask for, by the command that they name.
-use Rattle.std.proofs.Common.{◌≡◌, ◌≢◌, ◌∙◌, ℕ, Bool, false, true, true≢false, cond, List, [], ◌∷◌, Option, Some, None, Result, Ok, Err, codes, inl, inr, length, option_map, refl, sym, ap, ap₂, subst, arith}
+use Rattle.std.proofs.Common.{◌≡◌, ◌∙◌, ℕ, Bool, false, true, true≢false, cond, List, [], ◌∷◌, Option, Some, None, Result, Ok, Err, codes, inl, inr, length, option_map, refl, sym, ap, ap₂, subst, arith}
 use Rattle.std.specs.Option.{unwrap_or}
 use Rattle.std.specs.Box.{box_value}
 use Rattle.std.specs.Prelude.{string_bytes, IfOk}
@@ -21,7 +21,7 @@ use Rattle.tlsf_command.specs.declared.class_question.ClassQuestion.TheVariants.
 use Rattle.tlsf_command.specs.declared.command_line.Choice.{Choice}
 use Rattle.tlsf_command.specs.declared.command_line.Choice.TheVariants.{Trace, File, Classes, Size, At, TwoLines}
 use Rattle.tlsf_command.specs.declared.trace_run.TraceRun.{TraceRun}
-use Rattle.tlsf_command.specs.declared.trace_run.TraceRun.TheVariants.{Replay, Held, HeldKinds, Race, RaceQueues, Map, MapHtml, MapWorst, Plot, Check}
+use Rattle.tlsf_command.specs.declared.trace_run.TraceRun.TheVariants.{Replay, Held, HeldKinds, Least, Race, RaceQueues, Map, MapHtml, MapWorst, Plot, Check}
 use Rattle.tlsf_picture.specs.declared.form.Form.{Form}
 use Rattle.tlsf_command.proofs.Faultless.{some_named}
 use Rattle.tlsf_command.proofs.NamedRuns.{NamesRun}
@@ -105,6 +105,7 @@ is_worst (MapWorst form) takes no_picture = tt
 is_worst Replay takes no_picture = absurd (takes refl)
 is_worst Held takes no_picture = absurd (takes refl)
 is_worst HeldKinds takes no_picture = absurd (takes refl)
+is_worst Least takes no_picture = absurd (takes refl)
 is_worst Race takes no_picture = absurd (takes refl)
 is_worst RaceQueues takes no_picture = absurd (takes refl)
 is_worst MapHtml takes no_picture = absurd (takes refl)

@@ -9,7 +9,7 @@ use Rattle.tlsf_command.specs.Arguments.{Arguments}
 use Rattle.tlsf_command.specs.CommandLine.{faults_of, run_asked, tlsf_app, words_of, IsPlainWord, Names}
 use Rattle.tlsf_picture.specs.declared.form.Form.TheVariants.{Svg, Text as Characters}
 use Rattle.tlsf_command.specs.declared.trace_run.TraceRun.{TraceRun}
-use Rattle.tlsf_command.specs.declared.trace_run.TraceRun.TheVariants.{Replay, Held, HeldKinds, Race, RaceQueues, Map, MapHtml, MapWorst, Plot, Check}
+use Rattle.tlsf_command.specs.declared.trace_run.TraceRun.TheVariants.{Replay, Held, HeldKinds, Least, Race, RaceQueues, Map, MapHtml, MapWorst, Plot, Check}
 
 -- the name is none of those of the commands that read no trace
 abbrev pub IsNoOther : Text → Type 0
@@ -30,6 +30,7 @@ unfolding clap_on_literals
 run_named called Replay = record { faultless = refl; named = ((refl, refl), refl, refl, refl) }
 run_named called Held = record { faultless = refl; named = ((refl, refl), refl, refl, refl) }
 run_named called HeldKinds = record { faultless = refl; named = ((refl, refl), refl, refl, refl) }
+run_named called Least = record { faultless = refl; named = ((refl, refl), refl, refl, refl) }
 run_named called Race = record { faultless = refl; named = ((refl, refl), refl, refl, refl) }
 run_named called RaceQueues = record { faultless = refl; named = ((refl, refl), refl, refl, refl) }
 run_named called (Map Svg) = record { faultless = refl; named = ((refl, refl), refl, refl, refl) }
@@ -57,6 +58,7 @@ unfolding clap_on_literals
 by_plain called Replay file plain = record { faultless = rw (plain.0, plain.1, plain.2) refl; named = rw (plain.0, plain.1, plain.2) ((refl, refl), refl, refl, refl) }
 by_plain called Held file plain = record { faultless = rw (plain.0, plain.1, plain.2) refl; named = rw (plain.0, plain.1, plain.2) ((refl, refl), refl, refl, refl) }
 by_plain called HeldKinds file plain = record { faultless = rw (plain.0, plain.1, plain.2) refl; named = rw (plain.0, plain.1, plain.2) ((refl, refl), refl, refl, refl) }
+by_plain called Least file plain = record { faultless = rw (plain.0, plain.1, plain.2) refl; named = rw (plain.0, plain.1, plain.2) ((refl, refl), refl, refl, refl) }
 by_plain called Race file plain = record { faultless = rw (plain.0, plain.1, plain.2) refl; named = rw (plain.0, plain.1, plain.2) ((refl, refl), refl, refl, refl) }
 by_plain called RaceQueues file plain = record { faultless = rw (plain.0, plain.1, plain.2) refl; named = rw (plain.0, plain.1, plain.2) ((refl, refl), refl, refl, refl) }
 by_plain called (Map Svg) file plain = record { faultless = rw (plain.0, plain.1, plain.2) refl; named = rw (plain.0, plain.1, plain.2) ((refl, refl), refl, refl, refl) }

@@ -6,7 +6,7 @@ use Rattle.tlsf_lines.specs.declared.trace_fault.TraceFault.{TraceFault}
 use Rattle.tlsf_trace.specs.declared.summary.Summary.{Summary}
 use Rattle.tlsf_command.specs.Runs.{tip_on, ChecksNote, IsNote}
 use Rattle.tlsf_command.specs.declared.trace_run.TraceRun.{TraceRun}
-use Rattle.tlsf_command.specs.declared.trace_run.TraceRun.TheVariants.{Replay, Held, HeldKinds, Race, RaceQueues, Map, MapHtml, MapWorst, Plot, Check}
+use Rattle.tlsf_command.specs.declared.trace_run.TraceRun.TheVariants.{Replay, Held, HeldKinds, Least, Race, RaceQueues, Map, MapHtml, MapWorst, Plot, Check}
 
 -- what a check adds to no note is the note
 pub check_notes : (answer : Result Summary TraceFault) (text : Option (List ℕ)) (old new : List ℕ) → old ≡ []
@@ -20,6 +20,7 @@ pub other_note : (run : TraceRun) (answer : Result Summary TraceFault) (text : O
 other_note Replay answer text note other is = is
 other_note Held answer text note other is = is
 other_note HeldKinds answer text note other is = is
+other_note Least answer text note other is = is
 other_note Race answer text note other is = is
 other_note RaceQueues answer text note other is = is
 other_note (Map form) answer text note other is = is

@@ -1,4 +1,4 @@
--- What `tlsf classes` is asked for, by the texts that give the size and that stand behind `--sli`.
+-- What `tlsf classes` is asked for, by the texts that give the size and that stand behind `--level`.
 use Rattle.std.specs.Prelude.{◌≡◌, ◌≤◌, ⊤, ℕ, codes}
 use Rattle.tlsf_class.specs.Classes.{IsLevel, most_words}
 use Rattle.tlsf_command.specs.Arguments.{Arguments, first_number}
@@ -17,7 +17,7 @@ IsOfNumbers words level NoClass = ¬ (HasClassAt level words)
 
 -- the question about the size and the level that are given, 4 where there is none
 abbrev pub IsClassQuestion : Arguments → ClassQuestion → Type 0
-IsClassQuestion given = IsOfNumbers (first_number 0 (given (codes "N"))) (first_number 4 (given (codes "sli")))
+IsClassQuestion given = IsOfNumbers (first_number 0 (given (codes "N"))) (first_number 4 (given (codes "level")))
 
 -- its size, if it has one, has a class
 abbrev pub HasClasses : ClassQuestion → Type 0

@@ -17,7 +17,7 @@ use Rattle.tlsf_command.specs.declared.command_line.Choice.TheVariants.{Trace, F
 use Rattle.tlsf_picture.specs.declared.form.Form.{Form}
 use Rattle.tlsf_picture.specs.declared.form.Form.TheVariants.{Svg, Text as Characters}
 use Rattle.tlsf_command.specs.declared.trace_run.TraceRun.{TraceRun}
-use Rattle.tlsf_command.specs.declared.trace_run.TraceRun.TheVariants.{Replay, Held, HeldKinds, Race, RaceQueues, Map, MapHtml, MapWorst, Plot, Check}
+use Rattle.tlsf_command.specs.declared.trace_run.TraceRun.TheVariants.{Replay, Held, HeldKinds, Least, Race, RaceQueues, Map, MapHtml, MapWorst, Plot, Check}
 
 -- an argument has this rule, and a command is of this app; neither is for all commands
 abbrev pub IsArg : Rule → Arg → Type 0
@@ -34,10 +34,11 @@ size_rule = record (new_rule (codes "N")) {
   parser = Some (Signed (pos 4) (pos (2 ^ 24)));
 }
 
--- the level, 4 or 5, which needn't be given
+-- the level, 4 or 5, which needn't be given; `--sli` is another name of it
 abbrev pub level_rule : Rule
-level_rule = record (new_rule (codes "sli")) {
-  long = Some (codes "sli");
+level_rule = record (new_rule (codes "level")) {
+  long = Some (codes "level");
+  aliases = codes "sli" ∷ [];
   action = Some Set;
   parser = Some (Signed (pos 4) (pos 5));
 }
@@ -72,9 +73,9 @@ file_rule = record (new_rule (codes "FILE")) { action = Some Append }
 abbrev pub trace_app : Text → Text → App
 trace_app name flag = with_rule (with_rule (new_app name) (flag_rule flag)) file_rule
 
--- the command `replay`, with the flags by which it writes what the workers ask of their heaps, and of which kinds
+-- the command `replay`, with the flags by which it writes what the workers ask of their heaps, and of which kinds, and how small these may be
 abbrev pub replay_app : App
-replay_app = with_rule (trace_app (codes "replay") (codes "held")) (flag_rule (codes "kinds"))
+replay_app = with_rule (with_rule (trace_app (codes "replay") (codes "held")) (flag_rule (codes "kinds"))) (flag_rule (codes "least"))
 
 -- the command `race`, with the flag by which it goes over queues
 abbrev pub race_app : App
@@ -130,11 +131,12 @@ form_by true = Characters
 form_by false = Svg
 
 -- the run that a command asks for by whether its flags are given, in the order of their names here. Kinds are held ones, with `--held` and
--- without
-abbrev pub replay_by : (kinds held : Bool) → TraceRun
-replay_by true held = HeldKinds
-replay_by false true = Held
-replay_by false false = Replay
+-- without, and so is what is least
+abbrev pub replay_by : (kinds least held : Bool) → TraceRun
+replay_by true least held = HeldKinds
+replay_by false true held = Least
+replay_by false false true = Held
+replay_by false false false = Replay
 
 abbrev pub race_by : (queues : Bool) → TraceRun
 race_by true = RaceQueues
@@ -152,13 +154,14 @@ run_by name is_given =
     else (if bytes_eq name (codes "map") then map_by (is_given (codes "html")) (is_given (codes "worst")) (form_by (is_given (codes "text")))
     else (if bytes_eq name (codes "plot") then Plot (form_by (is_given (codes "text")))
     else (if bytes_eq name (codes "check") then Check
-    else replay_by (is_given (codes "kinds")) (is_given (codes "held")))))
+    else replay_by (is_given (codes "kinds")) (is_given (codes "least")) (is_given (codes "held")))))
 
 -- the words that ask for a run, behind the program's name
 abbrev pub words_of : TraceRun → List Text
 words_of Replay = codes "replay" ∷ []
 words_of Held = codes "replay" ∷ codes "--held" ∷ []
 words_of HeldKinds = codes "replay" ∷ codes "--held" ∷ codes "--kinds" ∷ []
+words_of Least = codes "replay" ∷ codes "--least" ∷ []
 words_of Race = codes "race" ∷ []
 words_of RaceQueues = codes "race" ∷ codes "--queues" ∷ []
 words_of (Map Svg) = codes "map" ∷ []

@@ -18,8 +18,9 @@ use Rattle.tlsf_pool.specs.declared.sizes.split.Split.{Split}
 use Rattle.tlsf_command.specs.declared.command_line.Choice.{Choice}
 use Rattle.tlsf_command.specs.declared.command_line.Choice.TheVariants.{Trace, File, Classes, Size, At, TwoLines}
 use Rattle.tlsf_command.specs.declared.trace_run.TraceRun.{TraceRun}
-use Rattle.tlsf_command.specs.declared.trace_run.TraceRun.TheVariants.{Replay, Held, HeldKinds, Race, RaceQueues, Map, MapHtml, MapWorst, Plot, Check}
+use Rattle.tlsf_command.specs.declared.trace_run.TraceRun.TheVariants.{Replay, Held, HeldKinds, Least, Race, RaceQueues, Map, MapHtml, MapWorst, Plot, Check}
 use Rattle.tlsf_check.specs.Checks.{Checks, Notes}
+use Rattle.tlsf_held.specs.Least.{TellsLeast}
 use Rattle.tlsf_held.specs.Measures.{Measures, TellsKinds}
 use Rattle.tlsf_picture.specs.Drawn.{Draws, DrawsAt, DrawsText}
 use Rattle.tlsf_picture.specs.Pages.{DrawsPage}
@@ -67,12 +68,13 @@ abbrev pub IsNote : TraceRun → (text : Option (List ℕ)) → Result Summary T
 IsNote Check text answer note = ChecksNote Check text answer note
 IsNote run text answer note = note ≡ tip_on answer
 
--- what a run may put out: what a replay does, or what its workers asked of their heaps, or the kinds of blocks that these held; what a race does, each phase in threads, over lanes or over
+-- what a run may put out: what a replay does, or what its workers asked of their heaps, or the kinds of blocks that these held, or the least words of their heaps; what a race does, each phase in threads, over lanes or over
 -- queues; the heaps that the trace leaves, those after the line to look at, or these over its lines, as an SVG file or in the characters of a terminal, and on a page; or what a check says of it
 abbrev pub puts_of : TraceRun → Outputs
 puts_of Replay = Replays
 puts_of Held = Measures
 puts_of HeldKinds = TellsKinds
+puts_of Least = TellsLeast
 puts_of Race = Races
 puts_of RaceQueues = RacesQueues
 puts_of (Map Svg) = Draws

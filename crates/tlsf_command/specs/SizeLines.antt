@@ -1,5 +1,5 @@
 -- The lines that `tlsf size` writes and reports.
-use Rattle.std.specs.Prelude.{◌≡◌, ◌⊎◌, ◌≤◌, ◌+◌, ◌*◌, ◌/◌, ◌%◌, ◌==◌, ℕ, List, [], ◌∷◌, ◌++◌, Option, Some, None, codes, length, slice_get, take, if◌then◌else◌}
+use Rattle.std.specs.Prelude.{◌≡◌, ◌⊎◌, ◌≤◌, ◌+◌, ◌*◌, ◌/◌, ◌%◌, ◌==◌, ℕ, List, [], ◌∷◌, ◌++◌, Option, Some, None, codes, length, max, slice_get, take, if◌then◌else◌}
 use Rattle.std.specs.List.{AllByRecursion}
 use Rattle.std.specs.Fmt.{decimal}
 use Rattle.tlsf_class.specs.Classes.{most_words}
@@ -37,6 +37,15 @@ abbrev pub asked_bytes : List Kind → ℕ
 asked_bytes [] = 0
 asked_bytes (kind ∷ kinds) = kind.most * kind.len + asked_bytes kinds
 
+-- the bytes of the longest blocks of a table
+abbrev pub longest_of : List Kind → ℕ
+longest_of [] = 0
+longest_of (kind ∷ kinds) = max kind.len (longest_of kinds)
+
+-- so many of them, as `1 block` and `2 blocks`
+abbrev pub counted : ℕ → List ℕ → List ℕ
+counted n name = decimal n ++ (codes " " ++ (name ++ (if n == 1 then [] else codes "s")))
+
 -- how many hundredths of b there are in a, to the nearest
 abbrev pub hundredths : ℕ → ℕ → ℕ
 hundredths a b = (100 * a + b / 2) / b
@@ -55,12 +64,12 @@ words_line words asked = words_text words (hundredths (8 * words) asked) ++ code
 abbrev pub size_line : ℕ → List Kind → List ℕ
 size_line sli kinds = words_line (kinds_words sli kinds) (asked_bytes kinds)
 
--- the line on a heap of a split: its number, its kinds by their places in the table, from 1 on, and its region, as
--- `heap 0 kinds 1 to 2 words 13631 bytes 109048 ratio 2.13`
+-- the line on a heap of a split: its number, its kinds by their places in the table, from 1 on, the bytes of the longest, and its region, as
+-- `heap 0 kinds 1 to 2 up to 512 bytes words 13631 bytes 109048 ratio 2.13`
 abbrev pub heap_line : ℕ → (heap before : ℕ) → List Kind → List ℕ
 heap_line sli heap before part =
     codes "heap " ++ (decimal heap ++ (codes " kinds " ++ (decimal (before + 1) ++ (codes " to " ++ (decimal (before + length part)
-    ++ (codes " " ++ size_line sli part))))))
+    ++ (codes " up to " ++ (counted (longest_of part) (codes "byte") ++ (codes " " ++ size_line sli part))))))))
 
 -- those on the heaps of these tables, from a number and a place on
 abbrev pub heap_lines : ℕ → (heap before : ℕ) → List (List Kind) → List ℕ
@@ -84,10 +93,6 @@ HasNoSplit sli kinds = AllByRecursion (IsServable sli) kinds → HasNoCut sli 8 
 -- the refusal of such a table
 abbrev pub no_split_line : List ℕ
 no_split_line = codes "tlsf: no region has so many words, however the kinds are given to 8 heaps in their order\n"
-
--- so many of them, as `1 block` and `2 blocks`
-abbrev pub counted : ℕ → List ℕ → List ℕ
-counted n name = decimal n ++ (codes " " ++ (name ++ (if n == 1 then [] else codes "s")))
 
 -- the cheapest split of such a table, if it has one
 abbrev pub IsSplitOf : ℕ → List Kind → Option Split → Type 0

@@ -1,4 +1,4 @@
--- What `tlsf size` is asked for: a table of kinds of request, of the texts behind `--blocks` and `--bytes`, at the level behind `--sli`, for
+-- What `tlsf size` is asked for: a table of kinds of request, of the texts behind `--blocks` and `--bytes`, at the level behind `--level`, for
 -- one heap or, by `--split`, for several.
 use Rattle.std.specs.Prelude.{◌≡◌, ◌≢◌, ◌≤◌, ◌<◌, ⊤, ℕ, Bool, false, true, List, [], ◌∷◌, codes, length}
 use Rattle.clap.specs.Words.{Text}
@@ -32,7 +32,7 @@ IsOfTexts blocks bytes level split (Unpaired m n) = ¬ (MakesTable (length block
 
 -- the question that is given, at level 4 where none is named
 abbrev pub IsQuestion : Arguments → SizeQuestion → Type 0
-IsQuestion given = IsOfTexts (given (codes "B")) (given (codes "N")) (first_number 4 (given (codes "sli"))) (is_set (given (codes "split")))
+IsQuestion given = IsOfTexts (given (codes "B")) (given (codes "N")) (first_number 4 (given (codes "level"))) (is_set (given (codes "split")))
 
 -- 1 to 64 kinds
 abbrev pub HasKinds : List Kind → Type 0

@@ -33,15 +33,15 @@ impl ClassQuestion {
         ClassQuestion::NoClass
     }
 
-    /// The question of what the matches of `classes` give: a size, and the level behind `--sli`, 4 where it isn't given.
+    /// The question of what the matches of `classes` give: a size, and the level behind `--level`, 4 where it isn't given.
     ///
     /// ```
-    /// // of "460 --sli 5"
+    /// // of "460 --level 5"
     /// let question = ClassQuestion::given(&matches);     // ClassQuestion::Fine(460)
     /// ```
     pub fn given(given: &ArgMatches<'_>) -> ClassQuestion
         ensures { IsClassQuestion (texts_of given.now) result }
     {
-        ClassQuestion::of_numbers(number_given(given, "N", 0), number_given(given, "sli", 4))
+        ClassQuestion::of_numbers(number_given(given, "N", 0), number_given(given, "level", 4))
     }
 }

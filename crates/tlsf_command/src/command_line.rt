@@ -24,7 +24,7 @@ pub enum Choice {
     /// One with words behind it, as the names of files: say by this line how a trace is read from the first. None is read.
     File(TraceRun, String),
     /// `tlsf classes N`: write the class and the search class of a size of N words, 4 to 2^20, to
-    /// standard output. With `--sli 5` those at level 5, of 4 to 2^24 words.
+    /// standard output. With `--level 5` those at level 5, of 4 to 2^24 words.
     Classes(ClassQuestion),
     /// `tlsf size --blocks B --bytes N ..`: write the words of a region that never refuses a
     /// program of at most B blocks of at most N bytes each at once, for each pair, to standard output. With `--split` those of
@@ -54,15 +54,22 @@ fn size_argument<'a>(alloc: Global) -> Arg<'a>
         .value_parser(clap::value_parser!(u32).range(4..=16_777_216))
 }
 
-// The level of the classes, or of the heap.
-fn level_argument<'a>(alloc: Global) -> Arg<'a>
-    ensures { IsArg level_rule result }
+// The level of the classes, or of the heap, by its first name alone.
+fn level_by_name<'a>(alloc: Global) -> Arg<'a>
+    ensures { IsArg (record level_rule { aliases = [] }) result }
 {
-    Arg::new(alloc, "sli")
-        .long("sli")
-        .help("How fine the classes are: 4, as where it isn't given, or 5")
+    Arg::new(alloc, "level")
+        .long("level")
+        .help("How fine classes are: 4 if not given, or 5")
         .action(ArgAction::Set)
         .value_parser(clap::value_parser!(u32).range(4..=5))
+}
+
+// The level of the classes, or of the heap.
+fn level_argument<'a>(alloc: Global) -> Result<Arg<'a>, AllocError>
+    ensures { IfOk result (IsArg level_rule) }
+{
+    level_by_name(alloc).visible_alias("sli")
 }
 
 // The command `classes`.
@@ -71,7 +78,7 @@ fn classes_command<'a>(alloc: Global) -> Result<Command<'a>, AllocError>
 {
     let about = "Write the class and the search class of a size in words";
     let command = described(alloc, "classes", about, CLASSES_HELP).arg(size_argument(alloc))?;
-    command.arg(level_argument(alloc))
+    command.arg(level_argument(alloc)?)
 }
 
 // An option of `size`, which takes a number each time it is given.
@@ -137,7 +144,9 @@ fn replay_command<'a>(alloc: Global) -> Result<Command<'a>, AllocError>
         flag_help,
     )?;
     let kinds_help = "Write the kinds of blocks that are held, for 'tlsf size'";
-    command.arg(flag(alloc, "kinds", kinds_help))
+    let kinds = command.arg(flag(alloc, "kinds", kinds_help))?;
+    let least_help = "Write how small the heaps may be for these calls alone";
+    kinds.arg(flag(alloc, "least", least_help))
 }
 
 // The command `race`.
@@ -212,7 +221,7 @@ fn size_command<'a>(alloc: Global) -> Result<Command<'a>, AllocError>
     ))?;
     let paired = command.arg(count_option(alloc, "N", "bytes", bytes_help))?;
     let split_help = "Give the kinds to several heaps, for the fewest words";
-    let fine = paired.arg(level_argument(alloc))?;
+    let fine = paired.arg(level_argument(alloc)?)?;
     fine.arg(flag(alloc, "split", split_help))
 }
 
@@ -267,13 +276,14 @@ fn form_of(text: bool) -> Form
 }
 
 // The run that `replay` asks for by its flags.
-fn replay_of(kinds: bool, held: bool) -> TraceRun
-    ensures { result ≡ replay_by kinds held }
+fn replay_of(kinds: bool, least: bool, held: bool) -> TraceRun
+    ensures { result ≡ replay_by kinds least held }
 {
-    match (kinds, held) {
-        (true, _) => TraceRun::HeldKinds,
-        (false, true) => TraceRun::Held,
-        (false, false) => TraceRun::Replay,
+    match (kinds, least, held) {
+        (true, _, _) => TraceRun::HeldKinds,
+        (false, true, _) => TraceRun::Least,
+        (false, false, true) => TraceRun::Held,
+        (false, false, false) => TraceRun::Replay,
     }
 }
 
@@ -312,7 +322,11 @@ fn run_of(name: &str, given: &ArgMatches<'_>) -> TraceRun
         "plot" => TraceRun::Plot(form_of(is_given(given, "text"))),
         "check" => TraceRun::Check,
         // `replay` is the one that is left.
-        _ => replay_of(is_given(given, "kinds"), is_given(given, "held")),
+        _ => replay_of(
+            is_given(given, "kinds"),
+            is_given(given, "least"),
+            is_given(given, "held"),
+        ),
     }
 }
 

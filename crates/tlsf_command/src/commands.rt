@@ -24,7 +24,7 @@ use std::sync::Wait;
 use std::thread::Threads;
 use tlsf_check::{NUMBER_TIP, check_trace, have_marked_number};
 use tlsf_crew::Gate;
-use tlsf_held::{measure_kinds, measure_trace};
+use tlsf_held::{measure_kinds, measure_least, measure_trace};
 use tlsf_picture::{
     Form, draw_trace, draw_trace_as_page, draw_trace_as_text, draw_trace_at, draw_trace_at_worst,
     plot_trace,
@@ -115,6 +115,7 @@ fn traced<T: Threads + Wait + Sync, R: Read, W: Write, G: Gate>(
         TraceRun::Replay => replay(alloc, reader, writer),
         TraceRun::Held => measure_trace(alloc, reader, writer),
         TraceRun::HeldKinds => measure_kinds(alloc, reader, writer),
+        TraceRun::Least => measure_least(alloc, reader, writer),
         TraceRun::Race => race_trace(rt, alloc, reader, writer, gate),
         TraceRun::RaceQueues => race_trace_over_queues(rt, alloc, reader, writer, gate),
         TraceRun::Map(Form::Svg) => draw_trace(alloc, reader, writer),

@@ -16,6 +16,7 @@ In a file, as first.trace, it is run by 'tlsf replay < first.trace'.
 
 'tlsf replay --held' writes how large the heaps must be for a trace's calls, and
 with '--kinds' the kinds of blocks that these hold, as options of 'tlsf size'.
+'tlsf replay --least' writes how small they may be for these calls alone.
 'tlsf race' replays with the workers of each phase in threads of their own;
 'tlsf race --queues' does so with one queue for the posts to each worker.
 'tlsf map' draws the heaps that a trace leaves, as an SVG file, and
@@ -93,6 +94,20 @@ writes for each worker the words of a heap for its blocks. Where no heap is
 large enough, a line on standard error says how many are, and of how many words;
 with '--split' at its end the command writes these heaps.
 
+With --least it is one line for each worker too, as
+
+  least 0 words 150 wanted 139 law 342
+
+In heaps of 150 words none of the requests of worker 0 is refused as NoFit (1)
+or NoRoom (10), and in heaps of 149 one is; 'none' says that the largest heaps
+refuse one. So much is enough if the calls come as they stand in the trace; for
+any order the law asks for 342 words. It is found by some twenty replays: with
+the words of the trace or those found for the worker before, then twice as many
+until none is refused, and then always the middle. Fewer words may be enough
+besides, as a larger heap may refuse what a smaller one serves.
+
+--kinds goes before --least, and --least before --held.
+
 The exit status is 0 where the lines are written, 1 where a fault of the
 trace, of a read or of a write ends the run, and 3 where memory runs out. A
 fault is a line on standard error, as 'tlsf: line 2: bad number (13)'. Where the
@@ -160,6 +175,9 @@ so many words, 1 where a heap has at most 1024:
   -   words that it leaves empty      :   words at least as near in age to the
                                           oldest free block as to the newest
 
+Where a character has more than 64 words it shows how many of them are live: '.'
+none, then ':', '-', '=', '+', '*', '#' and '%', '@' all.
+
 With '--at K' the heaps are drawn as they stand after line K of the trace, its
 header being line 1, and before the drains at its end. Where it has less than K
 lines they are drawn as it leaves them. With --worst K is a line that 'tlsf
@@ -168,8 +186,8 @@ line with the most free words without that room. Otherwise it is the line with
 the most live words; of several, the one with the most fragmentation.
 
 With --html, which goes before --text, --at and --worst, it is a page for a
-browser that shows the heaps after each line, or at 200 such moments: the slider
-or the arrow keys choose one.
+browser that shows the heaps after each line, or at 200 such moments and at the
+lines that 'tlsf plot' names: the slider, keys and buttons choose one.
 
   tlsf map --html < two_workers.trace > heaps.html
 
@@ -196,7 +214,9 @@ Above each heap stands the line to look at by 'tlsf map --at K'. Of the lines
 after which the longest request of its worker would find no room, it is the
 first with the most free words, the worst moment. Where that request finds room
 after each line, it is the fullest moment: of the lines with the most live
-words, the first with the most fragmentation. A line after the last is the end.
+words, the first with the most fragmentation. Below it stands the peak, the
+first line with the most live words. Each has a mark in the plot. A line after
+the last is the end.
 
 With --text it is rows of 56 columns for a terminal of 80 columns, with bars of
 block characters (UTF-8), and '!' where a call was refused.
@@ -235,9 +255,9 @@ Free blocks of 460 words are kept in class 92, whose least size is 448 words.
 A request for 460 words is served from class 93 on, the least class in which
 no block is too small, as it begins at 464 words.
 
-With --sli 5 the classes are those of level 5: 32 between two powers of two, in
-place of 16, for sizes up to 16777216 words in place of 1048576. For 460 words
-it is
+With --level 5 the classes are those of level 5: 32 between two powers of two,
+in place of 16, for sizes up to 16777216 words in place of 1048576. For 460
+words it is
 
   class 153 low 456 search 154 low 464
 
@@ -266,9 +286,9 @@ A block counts for the first kind that is long enough for it, so short ones come
 first. 'tlsf replay --held --kinds' writes the kinds of each worker of a trace,
 and 'tlsf replay --help' has the command that gives them to 'tlsf size'.
 
-With --sli 5 the heap is one of level 5: it has 32 classes between two powers of
-two, in place of 16, and 16777216 words at most. For '--blocks 100 --bytes 600
---sli 5' the line is
+With --level 5 the heap is one of level 5: it has 32 classes between two powers
+of two, in place of 16, and 16777216 words at most. For '--blocks 100 --bytes
+600 --level 5' the line is
 
   words 15720 bytes 125760 ratio 2.10
 
@@ -279,10 +299,11 @@ where at level 4 it is
 With --split the kinds are given to several heaps, 8 at most, in their order, so
 that all take the fewest words; the law holds for each heap and its own kinds.
 For '--blocks 2000 --bytes 64 --blocks 1 --bytes 65536 --split', for which one
-heap is too small, there is a line for each heap and one for all:
+heap is too small, there is a line for each heap and one for all. A block goes
+to the first heap for blocks of its length:
 
-  heap 0 kinds 1 to 1 words 47987 bytes 383896 ratio 3.00
-  heap 1 kinds 2 to 2 words 8704 bytes 69632 ratio 1.06
+  heap 0 kinds 1 to 1 up to 64 bytes words 47987 bytes 383896 ratio 3.00
+  heap 1 kinds 2 to 2 up to 65536 bytes words 8704 bytes 69632 ratio 1.06
   heaps 2 words 56691 bytes 453528 ratio 2.34
 
 Not promised: an allocate or a free is refused as Worn (2) once the ticks of the
@@ -290,7 +311,7 @@ heap have ended, and a request above these bounds may find room or not. Each
 heap has words of its own.
 
 The exit status is 0 where the line is written, 1 where a write fails, and 2
-where no region, of 1048576 words at most, or 16777216 with --sli 5, is large
+where no region, of 1048576 words at most, or 16777216 with --level 5, is large
 enough. Standard error then has the most blocks of N bytes, and the most bytes
 for each of B blocks; 0 says that there is none. Of several kinds it has how
 many a region has room for, and the next one; and how many heaps are large

@@ -85,7 +85,7 @@ impl SizeQuestion {
     pub fn given(alloc: Global, given: &ArgMatches<'_>) -> Result<SizeQuestion, AllocError>
         ensures { IfOk result (IsQuestion (texts_of given.now)) }
     {
-        let level = number_given(given, "sli", 4);
+        let level = number_given(given, "level", 4);
         let split = is_given(given, "split");
         match (given.get_raw("B"), given.get_raw("N")) {
             (Some(blocks), Some(bytes)) => {

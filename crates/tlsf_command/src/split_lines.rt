@@ -4,9 +4,11 @@ ghost use Rattle.std.specs.List.{AllByRecursion};
 ghost use Rattle.std.specs.Io.KnownBytes.{Appends};
 ghost use Rattle.tlsf_class.specs.Classes.{IsLevel};
 ghost use Rattle.tlsf_command.specs.SizeLines.{heap_line, heap_lines, no_split_line, split_lines, HasNoSplit, IsCheapest, IsServable};
+ghost use Rattle.tlsf_command.specs.SizeLines as spelled;
 ghost use Rattle.tlsf_pool.specs.sizes.Splits.{parts_of, IsPart};
 ghost use Rattle.tlsf_lines.specs.Prefixes.{AppendsFront};
 
+use crate::counted::Counted;
 use crate::region_size::RegionSize;
 use crate::size_line::{are_servable, asked_bytes};
 use arrayvec::ArrayString;
@@ -19,7 +21,7 @@ use tlsf_trace::{WriteError, write_out};
 const NO_SPLIT: &str =
     "tlsf: no region has so many words, however the kinds are given to 8 heaps in their order\n";
 
-// Lines for eight heaps and for all, of 96 bytes each at most.
+// Lines for eight heaps and for all, of 112 bytes each at most.
 type Lines = ArrayString<1024>;
 
 /// The cheapest way to give the kinds of a table, 64 at most, to at most eight heaps of the level. None where there is none,
@@ -41,6 +43,17 @@ pub fn split_of<const SLI: u32>(kinds: &[Kind]) -> Option<Split>
     cheapest_split::<SLI>(kinds, MOST_HEAPS)
 }
 
+// The bytes of the longest blocks of a table.
+fn longest_of(kinds: &[Kind]) -> u32
+    ensures { result ≡ spelled.longest_of kinds.now }
+{
+    let mut longest = 0;
+    for kind in kinds {
+        longest = kind.len.max(longest);
+    }
+    longest
+}
+
 // Adds the line on a heap, which has these kinds behind so many others of the table.
 fn add_heap_line<const SLI: u32>(
     lines: &mut Lines,
@@ -57,8 +70,12 @@ fn add_heap_line<const SLI: u32>(
 {
     let first = before + 1;
     let last = before + part.len();
+    let longest = Counted::new(longest_of(part) as usize, "byte");
     let sized = RegionSize::new(kinds_words::<SLI>(part) as u32, asked_bytes(part));
-    writeln!(lines, "heap {heap} kinds {first} to {last} {sized}")?;
+    writeln!(
+        lines,
+        "heap {heap} kinds {first} to {last} up to {longest} {sized}"
+    )?;
     Ok(())
 }
 
@@ -102,12 +119,12 @@ fn lines_of<const SLI: u32>(kinds: &[Kind], split: &Split) -> Result<Lines, fmt:
 }
 
 /// Writes the lines on the cheapest split of a table, 1 to 64 kinds, and flushes: for each heap its number, its kinds by their places
-/// in the table, its words, its bytes, and how many times the bytes asked for these are; and these three numbers of all heaps. After an `Err` a
+/// in the table, the bytes of the longest, its words, its bytes, and how many times the bytes asked for these are; and these three numbers of all heaps. After an `Err` a
 /// prefix of the lines was written.
 ///
 /// ```
 /// write_split_lines::<4, _>(&kinds, &split, &mut writer)?;
-/// // writer holds "heap 0 kinds 1 to 1 words 47987 bytes 383896 ratio 3.00\n" more, and two lines behind it
+/// // writer holds "heap 0 kinds 1 to 1 up to 64 bytes words 47987 bytes 383896 ratio 3.00\n" more, and two lines behind it
 /// ```
 pub fn write_split_lines<const SLI: u32, W: Write>(
     kinds: &[Kind],
@@ -125,7 +142,7 @@ pub fn write_split_lines<const SLI: u32, W: Write>(
 {
     match lines_of::<SLI>(kinds, split) {
         Ok(lines) => write_out(writer, lines.as_bytes()),
-        // Nine lines of at most 80 bytes and 1,024 have room, but no clause of the lines says so.
+        // Nine lines of at most 112 bytes have room in 1,024, but no clause of the lines says so.
         Err(_) => Err(WriteError),
     }
 }

@@ -12,6 +12,8 @@ pub enum TraceRun {
     Held,
     /// `tlsf replay --held --kinds`, or `tlsf replay --kinds`: write the kinds of blocks that each worker holds, as options of `tlsf size`.
     HeldKinds,
+    /// `tlsf replay --least`: write the least words of heaps in which no request of a worker lacks room, found by replays.
+    Least,
     /// `tlsf race`: run each phase in threads, one for each worker, and write its replies and reports.
     Race,
     /// `tlsf race --queues`: do so over queues, one for each worker, in place of lanes.
@@ -40,6 +42,7 @@ impl TraceRun {
             TraceRun::Replay => "replay",
             TraceRun::Held => "replay --held",
             TraceRun::HeldKinds => "replay --held --kinds",
+            TraceRun::Least => "replay --least",
             TraceRun::Race => "race",
             TraceRun::RaceQueues => "race --queues",
             TraceRun::Map(Form::Svg) => "map",

@@ -37,7 +37,7 @@ pub fn give_tables<S: AsStr>(words: &[S]) -> bool {
     for word in words {
         let text = word.as_str();
         is_size |= text == "size";
-        if text == "--sli" {
+        if text == "--sli" || text == "--level" {
             levels = levels.saturating_add(1);
         }
     }

@@ -9,6 +9,7 @@
 --   Measured: what is told of a run's entries is what the trace asks for
 --   Enough: the words of a pool are enough
 --   KindsEnough: and so are those of a table of kinds
+--   LeastFound: the least words, found by replays
 pub mod Lent
 pub mod LeastBounds
 pub mod MostWanted
@@ -19,3 +20,4 @@ pub mod TablesTold
 pub mod Measured
 pub mod Enough
 pub mod KindsEnough
+pub mod LeastFound

@@ -2,6 +2,7 @@
 pub mod HeldLines
 pub mod KindLines
 pub mod KindTables
+pub mod Least
 pub mod Loans
 pub mod Measures
 pub mod Rows

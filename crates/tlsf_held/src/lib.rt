@@ -6,6 +6,8 @@
 //!
 //! [`measure_kinds`] writes for each worker the table of the kinds of blocks that it held, as options of `tlsf size`.
 //!
+//! [`measure_least`] finds by replays for each worker the least words of heaps in which none of its requests lacks room.
+//!
 //! Held is what the law for a heap of a yard counts (`tlsf_yard_laws::yard_never_refuses`): the accepted allocates of the heap's own worker less the
 //! releases that its heap accepted, at once or in a drain. So a block that another worker has released is held until its owner drains.
 //!
@@ -15,6 +17,9 @@
 
 mod kind_lines;
 mod laws;
+mod least;
+mod least_row;
+mod least_run;
 mod lines;
 mod loans;
 mod measuring;
@@ -23,4 +28,5 @@ mod rows;
 mod tally;
 
 pub use laws::{held_kinds_suffice, held_words_suffice};
+pub use least_run::measure_least;
 pub use measuring::{measure_kinds, measure_trace};

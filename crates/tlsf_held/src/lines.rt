@@ -11,8 +11,8 @@ use std::alloc::{AllocError, Global};
 use tlsf_crew::Entry;
 use tlsf_heap::Name;
 
-// Adds the words, or that there are none.
-fn write_words(text: &mut String, words: Option<u32>) -> Result<(), AllocError>
+/// Adds the words, or that there are none.
+pub fn write_words(text: &mut String, words: Option<u32>) -> Result<(), AllocError>
     ensures { OnOk result (string_bytes text.new ≡ string_bytes text.old ++ words_text words) }
 {
     match words {

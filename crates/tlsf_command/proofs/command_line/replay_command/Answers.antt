@@ -4,4 +4,5 @@ use Rattle.tlsf_command.proofs.command_line.replay_command.Goals as goal
 
 pub returns : goal.returns
 returns c =
-    IfOk-weaker c.arg.result _ _ (λ command added. with_argument c.in_ok-command.ensures c.flag.ensures added) c.arg.ensures
+    let kinds = with_argument c.in_ok-command.ensures c.flag.ensures c.in_ok-kinds.ensures in
+    IfOk-weaker c.arg-2.result _ _ (λ command added. with_argument kinds c.flag-2.ensures added) c.arg-2.ensures

@@ -23,6 +23,12 @@ returns-in-HeldKinds-clause-ran g c = rw c.in-HeldKinds.is c.measure_kinds.ensur
 pub returns-in-HeldKinds-clause-noted : goal.returns-in-HeldKinds-clause-noted
 returns-in-HeldKinds-clause-noted g c = rw c.in-HeldKinds.is tt
 
+pub returns-in-Least-clause-ran : goal.returns-in-Least-clause-ran
+returns-in-Least-clause-ran g c = rw c.in-Least.is c.measure_least.ensures
+
+pub returns-in-Least-clause-noted : goal.returns-in-Least-clause-noted
+returns-in-Least-clause-noted g c = rw c.in-Least.is tt
+
 pub returns-in-Race-clause-ran : goal.returns-in-Race-clause-ran
 returns-in-Race-clause-ran g c = rw c.in-Race.is c.race_trace.ensures
 

@@ -16,4 +16,4 @@ new-sized-requires-clause-few g c = omega (arith, c.asked_bytes.ensures, few_byt
 pub returns : goal.returns
 returns g c =
     let written = contents_after_writes _ (λ line. line.bytes) (λ old bytes new took. took) _ _ _ c.in_ok-writeln.ensures.writes in
-    rw (c.new-sized.ensures.ratio, c.new-sized.ensures.words, c.asked_bytes.ensures, c.kinds_words.ensures) at written
+    rw (c.new-longest.ensures.count, c.new-longest.ensures.name, c.longest_of.ensures, c.new-sized.ensures.ratio, c.new-sized.ensures.words, c.asked_bytes.ensures, c.kinds_words.ensures) at written

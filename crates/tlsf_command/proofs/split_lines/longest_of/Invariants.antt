@@ -1,0 +1,6 @@
+use Rattle.std.proofs.Common.{◌≡◌, drop, max}
+use Rattle.tlsf_command.specs.SizeLines.{longest_of}
+use Rattle.tlsf_command.proofs.split_lines.longest_of.Given as goal
+
+abbrev pub invariant-loop-kind : goal.invariant-loop-kind
+invariant-loop-kind l = max l.longest (longest_of (drop l.kind-index l.kinds)) ≡ longest_of l.kinds

@@ -1,0 +1,7 @@
+use Rattle.std.proofs.Common.{◌≡◌, ◌++◌, drop, string_bytes}
+use Rattle.tlsf_held.specs.Least.{least_text}
+use Rattle.tlsf_held.proofs.least.write_least_lines.Given as goal
+
+-- with the lines of what is left, the text is that of all
+abbrev pub invariant-loop-worker : goal.invariant-loop-worker
+invariant-loop-worker l = string_bytes l.text ++ least_text l.worker (drop l.worker l.rows) ≡ string_bytes l.fn.text ++ least_text 0 l.rows
