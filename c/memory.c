@@ -7,7 +7,7 @@
  * TLSF_NO_MALLOC there is no other memory than the caller's.
  *
  * Two threads that write one cache line take it from each other each time. So each piece of malloc's, and in the caller's memory
- * each piece of a lane, has its lines to itself. */
+ * each piece of a lane or a queue, has its lines to itself. */
 typedef __SIZE_TYPE__ size_t;
 typedef __UINT32_TYPE__ uint32_t;
 typedef __UINT64_TYPE__ uint64_t;
@@ -16,12 +16,21 @@ typedef __UINTPTR_TYPE__ uintptr_t;
 struct tlsf_heap;
 struct tlsf_post_end;
 struct tlsf_take_end;
+struct tlsf_queue;
+struct tlsf_offsets;
 uint32_t tlsf_open(struct tlsf_heap *heap, uint32_t level, uint32_t number, uint32_t words);
 uint32_t tlsf_lane_open(struct tlsf_post_end *post, struct tlsf_take_end *take, uint32_t capacity);
 size_t tlsf_bytes(uint32_t level, uint32_t words);
 uint32_t tlsf_open_in(struct tlsf_heap *heap, uint32_t level, uint32_t number, void *memory, size_t bytes);
 size_t tlsf_lane_bytes(uint32_t capacity);
 uint32_t tlsf_lane_open_in(struct tlsf_post_end *post, struct tlsf_take_end *take, uint32_t capacity, void *memory, size_t bytes);
+uint32_t tlsf_queue_open(struct tlsf_queue *queue, uint32_t posters, uint32_t capacity);
+size_t tlsf_queue_bytes(uint32_t posters, uint32_t capacity);
+uint32_t tlsf_queue_open_in(struct tlsf_queue *queue, uint32_t posters, uint32_t capacity, void *memory, size_t bytes);
+uint32_t tlsf_offsets_open(struct tlsf_offsets *offsets, uint32_t level, uint32_t number, uint32_t unit, uint32_t units);
+size_t tlsf_offsets_bytes(uint32_t level, uint32_t units);
+uint32_t tlsf_offsets_open_in(struct tlsf_offsets *offsets, uint32_t level, uint32_t number, uint32_t unit, uint32_t units, void *memory,
+                              size_t bytes);
 
 /* What the proved code calls: functions of the toolchain's C library, rattle_alloc, _dealloc and _realloc, by names of this library's.
  * The proofs rest on their contracts, which its `Global` passes on:
@@ -30,7 +39,7 @@ uint32_t tlsf_lane_open_in(struct tlsf_post_end *post, struct tlsf_take_end *tak
  *   pointer that isn't null, to which nothing is written.
  * - dealloc is called once for each such piece, with its `at`.
  * - realloc is asked to make a piece one of `bytes`, whose first `kept` stay. It may move it; where it answers 0, all is as before.
- *   A vector that has its room from the beginning, as each here, never asks for it.
+ *   Pools ask for it when they are opened, since their heaps come one by one. The other vectors have their room from the beginning.
  * The toolchain has them for x86-64 alone, over malloc and free: for 0 bytes it asks malloc for as many as the alignment has.
  * Those here are for each processor, since they are C. They refuse an alignment of 16 and what is longer than MOST_BYTES, and
  * what they give lies behind a mark, so only dealloc can give it back. A request for 0 bytes is one for the mark. C answers the
@@ -61,12 +70,18 @@ void free(void *at);
 enum {
     MARK = 8,          /* bytes in front of a piece */
     HEAP = 2752,       /* bytes of a heap beside its words and the bits that say where blocks begin */
+    OFFSETS = 2744,    /* the same of an arena of offsets */
     LINES = 128,       /* two cache lines: a processor may fetch both where it needs one */
     LANE = 384,        /* bytes of a lane beside its names, and of each of its two ends */
     LANE_NAME = 24,
     LANE_END = 40,
+    QUEUE = 88,        /* bytes of a queue beside its places, its owner's end and its posters' */
+    PLACES = 384,      /* of its places beside 8 for each */
+    QUEUE_NAME = 32,
+    QUEUE_END = 40,
+    POSTER = 16,
     LEAST_WORDS = 4,
-    MOST_NAMES = 1024,
+    MOST_NAMES = 1024, /* of a lane or a queue, which has no more posters */
     MOST_BYTES = 1 << 28 /* no heap takes as many */
 };
 
@@ -172,12 +187,27 @@ void *tlsf_memory_move(void *to, const void *from, size_t n) { return memmove(to
 
 static size_t most_words(uint32_t level) { return level == 4 ? 1u << 20 : level == 5 ? 1u << 24 : 0; }
 
-/* The bytes of a heap of so many words, from a multiple of 16 on. */
-static size_t heap_bytes(size_t words) { return with_mark(8 * words, 16) + with_mark((words + 63) / 64 * 8, 16) + MARK + HEAP; }
+/* The bytes of so many words, of the bits for them and of a last piece, from a multiple of 16 on. */
+static size_t words_bytes(size_t words, size_t last) { return with_mark(8 * words, 16) + with_mark((words + 63) / 64 * 8, 16) + MARK + last; }
+
+static size_t heap_bytes(size_t words) { return words_bytes(words, HEAP); }
 
 /* The bytes of a lane, from a multiple of LINES on, with all lines of its last piece. */
 static size_t lane_bytes(size_t capacity) {
     return with_mark(LANE, LINES) + with_mark(LANE_NAME * capacity, LINES) + 2 * with_mark(LANE_END, LINES);
+}
+
+/* The same of a queue. Opening makes its places twice, and the posters' ends in a list before each gets a piece. */
+static size_t queue_bytes(size_t posters, size_t capacity) {
+    return with_mark(POSTER * posters, LINES) + 2 * with_mark(PLACES + 8 * capacity, LINES) +
+           2 * with_mark(QUEUE_NAME * capacity, LINES) + with_mark(QUEUE, LINES) + with_mark(8 * posters, LINES) +
+           posters * with_mark(POSTER, LINES) + with_mark(QUEUE_END, LINES);
+}
+
+/* Whether so many bytes lie in the memory, from the first multiple of `step` on. */
+static int has(const void *memory, size_t bytes, size_t step, size_t wanted) {
+    const size_t skip = skipped(memory, step);
+    return bytes >= skip && bytes - skip >= wanted;
 }
 
 static void begin_in(void *memory, size_t bytes, size_t step) {
@@ -213,11 +243,38 @@ uint32_t tlsf_open_in(struct tlsf_heap *heap, uint32_t level, uint32_t number, v
 size_t tlsf_lane_bytes(uint32_t capacity) { return capacity == 0 || capacity > MOST_NAMES ? 0 : LINES - 1 + lane_bytes(capacity); }
 
 uint32_t tlsf_lane_open_in(struct tlsf_post_end *post, struct tlsf_take_end *take_end, uint32_t capacity, void *memory, size_t bytes) {
-    const size_t skip = skipped(memory, LINES);
     uint32_t answer;
-    if (capacity <= MOST_NAMES && (bytes < skip || bytes - skip < lane_bytes(capacity))) capacity = 0; /* which is refused in its turn */
+    if (capacity <= MOST_NAMES && !has(memory, bytes, LINES, lane_bytes(capacity))) capacity = 0; /* which is refused in its turn */
     begin_in(memory, bytes, LINES);
     answer = tlsf_lane_open(post, take_end, capacity);
+    lent = 0;
+    return answer;
+}
+
+size_t tlsf_queue_bytes(uint32_t posters, uint32_t capacity) {
+    const int is_none = posters == 0 || posters > MOST_NAMES || capacity == 0 || capacity > MOST_NAMES;
+    return is_none ? 0 : LINES - 1 + queue_bytes(posters, capacity);
+}
+
+uint32_t tlsf_queue_open_in(struct tlsf_queue *queue, uint32_t posters, uint32_t capacity, void *memory, size_t bytes) {
+    uint32_t answer;
+    if (capacity <= MOST_NAMES && posters <= MOST_NAMES && !has(memory, bytes, LINES, queue_bytes(posters, capacity))) capacity = 0;
+    begin_in(memory, bytes, LINES);
+    answer = tlsf_queue_open(queue, posters, capacity);
+    lent = 0;
+    return answer;
+}
+
+size_t tlsf_offsets_bytes(uint32_t level, uint32_t units) {
+    return units < LEAST_WORDS || units > most_words(level) ? 0 : 15 + words_bytes(units, OFFSETS);
+}
+
+uint32_t tlsf_offsets_open_in(struct tlsf_offsets *offsets, uint32_t level, uint32_t number, uint32_t unit, uint32_t units, void *memory,
+                              size_t bytes) {
+    uint32_t answer;
+    if (units <= most_words(level) && !has(memory, bytes, 16, words_bytes(units, OFFSETS))) units = 0;
+    begin_in(memory, bytes, 16);
+    answer = tlsf_offsets_open(offsets, level, number, unit, units);
     lent = 0;
     return answer;
 }

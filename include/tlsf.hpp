@@ -87,6 +87,7 @@ using take_state = end_state<tlsf_take_end, tlsf_take_close>;
 using queue_state = end_state<tlsf_queue, tlsf_queue_close>;
 using poster_state = end_state<tlsf_poster, tlsf_poster_close>;
 using offsets_state = end_state<tlsf_offsets, tlsf_offsets_close>;
+using pools_state = end_state<tlsf_pools, tlsf_pools_close>;
 
 constexpr std::uint32_t closed = TLSF_IS_CLOSED;
 constexpr std::size_t word = sizeof(std::uint64_t);
@@ -366,6 +367,13 @@ public:
         if (answer == TLSF_NO_MEMORY) detail::no_room();
         if (answer != TLSF_OK) detail::bad_size("tlsf: a queue has 1 to 1,024 posters and 1 to 1,024 names");
     }
+    // In memory of the caller's: of tlsf_queue_bytes(posters, capacity) bytes there is enough at any alignment.
+    queue(std::uint32_t posters, std::uint32_t capacity, void *memory, std::size_t bytes)
+        : state_(new (std::nothrow) detail::queue_state) {
+        if (!state_) detail::no_room();
+        if (tlsf_queue_open_in(get(), posters, capacity, memory, bytes) != TLSF_OK)
+            detail::bad_size("tlsf: a queue of so many posters and names has no room in that memory");
+    }
     tlsf_queue *get() noexcept { return state_ ? &state_->raw : nullptr; }
     // The next poster's end, for any thread; one that isn't open where all were given. std::bad_alloc where malloc says no.
     [[nodiscard]] poster open_poster() {
@@ -486,6 +494,13 @@ public:
         if (answer == TLSF_NO_MEMORY) detail::no_room();
         if (answer != TLSF_OK) detail::bad_size("tlsf: no arena has so many units of so many bytes");
     }
+    // Its words lie in memory of the caller's: of tlsf_offsets_bytes(level, units) bytes there is enough at any alignment.
+    offsets(level l, std::uint32_t number, std::uint32_t unit, std::uint32_t units, void *memory, std::size_t bytes)
+        : state_(new (std::nothrow) detail::offsets_state) {
+        if (!state_) detail::no_room();
+        if (tlsf_offsets_open_in(get(), static_cast<std::uint32_t>(l), number, unit, units, memory, bytes) != TLSF_OK)
+            detail::bad_size("tlsf: an arena of so many units of so many bytes has no room in that memory");
+    }
     tlsf_offsets *get() noexcept { return state_ ? &state_->raw : nullptr; }
     [[nodiscard]] std::optional<tlsf_span> allocate(std::uint64_t bytes) noexcept {
         tlsf_span span{};
@@ -502,6 +517,39 @@ public:
         tlsf_offsets_usage usage{};
         if (state_) (void)tlsf_offsets_report(get(), &usage);
         return usage;
+    }
+};
+
+// Heaps for a table of kinds, which never lack room: the calls tlsf_pools_*. It can be moved, and not copied, and is closed at the end
+// of its life.
+class pools {
+    std::unique_ptr<detail::pools_state> state_;
+
+public:
+    pools() noexcept = default;
+    // For `n` rows, whose heaps have the numbers from `number` on.
+    pools(level l, std::uint32_t number, const tlsf_kind *rows, std::size_t n) : state_(new (std::nothrow) detail::pools_state) {
+        if (!state_) detail::no_room();
+        const std::uint32_t answer = tlsf_pools_open(get(), static_cast<std::uint32_t>(l), number, rows, n);
+        if (answer == TLSF_NO_MEMORY) detail::no_room();
+        if (answer != TLSF_OK) detail::bad_size("tlsf: no regions serve such a table");
+    }
+    tlsf_pools *get() noexcept { return state_ ? &state_->raw : nullptr; }
+    [[nodiscard]] std::uint32_t allocate(std::uint32_t len, tlsf_name &name) noexcept {
+        return state_ ? tlsf_pools_allocate(get(), len, &name) : detail::closed;
+    }
+    std::uint32_t release(const tlsf_name &name) noexcept { return state_ ? tlsf_pools_release(get(), &name) : detail::closed; }
+    [[nodiscard]] std::uint32_t write(const tlsf_name &name, std::uint32_t at, const std::uint8_t *bytes, std::size_t n) noexcept {
+        return state_ ? tlsf_pools_write(get(), &name, at, bytes, n) : detail::closed;
+    }
+    [[nodiscard]] std::uint32_t read(const tlsf_name &name, std::uint32_t at, std::uint8_t *out, std::size_t n) noexcept {
+        return state_ ? tlsf_pools_read(get(), &name, at, out, n) : detail::closed;
+    }
+    // Of the heap of one part, or none where there is no such part.
+    std::optional<tlsf_heap_report> report(std::uint32_t part) noexcept {
+        tlsf_heap_report sums{};
+        if (!state_ || tlsf_pools_report(get(), part, &sums) != TLSF_OK) return std::nullopt;
+        return sums;
     }
 };
 

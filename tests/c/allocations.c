@@ -4,7 +4,7 @@
 #include "chance.h"
 #include "tlsf.h"
 
-enum { BLOCKS = 64, TURNS = 40000, KINDS = 46 };
+enum { BLOCKS = 64, TURNS = 40000, KINDS = 53 };
 
 static size_t calls; /* of malloc and free, and of what the proved code asks for */
 static int is_counted;
@@ -48,6 +48,8 @@ static struct tlsf_take_end take, closed_take;
 static struct tlsf_queue queue, closed_queue;
 static struct tlsf_poster poster[4], closed_poster;
 static struct tlsf_offsets offsets, closed_offsets;
+static struct tlsf_pools pools, closed_pools;
+static const struct tlsf_kind rows[] = {{20, 100}, {10, 3000}};
 static struct tlsf_span spans[BLOCKS];
 static struct tlsf_name names[BLOCKS];
 static void *pointers[BLOCKS];
@@ -146,7 +148,20 @@ static void do_calls_of_queues_and_offsets(uint32_t kind, const struct tlsf_name
     case 42: sum += tlsf_offsets_release(&offsets, &span->name); break;
     case 43: sum += tlsf_offsets_report(&offsets, &usage) + usage.held; break;
     case 44: sum += tlsf_queue_open(&queue, 1, 1) + tlsf_queue_open(&closed_queue, 0, 1) + tlsf_offsets_open(&closed_offsets, 4, 1, 0, 64); break;
+    case 45: sum += tlsf_queue_open_in(&closed_queue, 1, 1, bytes, 8) + tlsf_offsets_open_in(&closed_offsets, 4, 1, 1, 64, bytes, 8); break;
     default: sum += tlsf_queue_close(&closed_queue) + tlsf_poster_close(&closed_poster) + tlsf_offsets_close(&closed_offsets); break;
+    }
+}
+
+static void do_calls_of_pools(uint32_t kind, struct tlsf_name *name) {
+    struct tlsf_heap_report report;
+    switch (kind) {
+    case 47: sum += tlsf_pools_allocate(&pools, below(3100), name); break;
+    case 48: sum += tlsf_pools_release(&pools, name); break;
+    case 49: sum += tlsf_pools_write(&pools, name, below(200), bytes, below(256)); break;
+    case 50: sum += tlsf_pools_read(&pools, name, below(200), bytes, below(256)); break;
+    case 51: sum += tlsf_pools_report(&pools, below(3), &report); break;
+    default: sum += tlsf_pools_open(&pools, 4, 1, rows, 2) + tlsf_pools_open(&closed_pools, 4, 1, rows, 65) + tlsf_pools_close(&closed_pools); break;
     }
 }
 
@@ -157,7 +172,8 @@ static void do_call(uint32_t kind, uint32_t level) {
     else if (kind < 19) do_calls_by_pointer(kind, &pointers[which]);
     else if (kind < 27) do_calls_by_place(kind, &place);
     else if (kind < 36) do_other_calls(kind, level);
-    else do_calls_of_queues_and_offsets(kind, &names[which], &spans[which]);
+    else if (kind < 47) do_calls_of_queues_and_offsets(kind, &names[which], &spans[which]);
+    else do_calls_of_pools(kind, &names[which]);
 }
 
 static void all_calls(uint32_t level, int takes) {
@@ -167,6 +183,7 @@ static void all_calls(uint32_t level, int takes) {
     wants("open", tlsf_open(&heap, level, 7, 5000) + tlsf_lane_open(&post, &take, 8), TLSF_OK);
     wants("open a queue", tlsf_queue_open(&queue, 3, 8), TLSF_OK);
     wants("open an arena of offsets", tlsf_offsets_open(&offsets, level, 7, 64, 5000), TLSF_OK);
+    wants("open pools", tlsf_pools_open(&pools, level, 20, rows, 2), TLSF_OK);
     wants("opening takes memory", calls > 0, 1);
     for (turn = 0; turn < TURNS; turn++) {
         const uint32_t kind = below(KINDS);
@@ -179,7 +196,7 @@ static void all_calls(uint32_t level, int takes) {
         wants("calls of malloc and free in one of kind", calls ? kind : KINDS, KINDS);
     }
     wants("close", tlsf_close(&heap) + tlsf_post_close(&post) + tlsf_take_close(&take), TLSF_OK);
-    wants("close a queue", tlsf_queue_close(&queue) + tlsf_offsets_close(&offsets), TLSF_OK);
+    wants("close a queue", tlsf_queue_close(&queue) + tlsf_offsets_close(&offsets) + tlsf_pools_close(&pools), TLSF_OK);
     for (uint32_t i = 0; i < 4; i++) sum += tlsf_poster_close(&poster[i]);
     wants("closing gives memory back", calls > 0, 1);
     is_counted = 0;

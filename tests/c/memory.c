@@ -1,6 +1,6 @@
-/* Heaps and lanes in memory of the program's, at each alignment: what they take, that nothing else is written, that no malloc
- * and no free is called, and that it is the program's again. No piece of a lane shares its lines with another piece. With NO_MALLOC
- * there is no malloc, and tlsf_open is refused.
+/* Heaps, lanes, queues and arenas of offsets in memory of the program's, at each alignment: what they take, that nothing else is
+ * written, that no malloc and no free is called, and that it is the program's again. No piece of a lane or a queue shares its lines
+ * with another piece. With NO_MALLOC there is no malloc, and tlsf_open is refused.
  * Link with -Wl,--wrap=malloc,--wrap=free,--wrap=tlsf_memory_alloc. */
 #include "tlsf.h"
 
@@ -8,7 +8,7 @@
 #include <stdio.h>
 #include <stdlib.h>
 
-enum { ROOM = 1 << 17, GUARD = 128, FILLED = 0xa5, LINES = 128, PIECES = 4 };
+enum { ROOM = 3 << 17, GUARD = 128, FILLED = 0xa5, LINES = 128, PIECES = 1100 };
 
 static _Alignas(LINES) unsigned char room[2][ROOM];
 static int calls; /* of malloc and free */
@@ -34,7 +34,7 @@ void __wrap_free(void *p) {
 }
 
 /* What the proved code asks for: where the last piece ends, and where all would that lie as near together as they may; and the first
- * and the last lines of the last pieces, each of two cache lines. */
+ * and the last lines of the pieces since `pieces` was 0, each of two cache lines. */
 struct piece {
     uint64_t is_there;
     void *at;
@@ -51,8 +51,10 @@ struct piece __wrap_tlsf_memory_alloc(size_t bytes, size_t align) {
     const struct piece piece = __real_tlsf_memory_alloc(bytes, align);
     last_end = (const unsigned char *)piece.at + bytes;
     near_end = (near_end + 15) / 16 * 16 + 8 + bytes;
-    lines[pieces % PIECES].first = ((uintptr_t)piece.at - 8) / LINES;
-    lines[pieces++ % PIECES].last = ((uintptr_t)last_end - 1) / LINES;
+    if (pieces < PIECES && piece.is_there) {
+        lines[pieces].first = ((uintptr_t)piece.at - 8) / LINES;
+        lines[pieces++].last = ((uintptr_t)last_end - 1) / LINES;
+    }
     return piece;
 }
 
@@ -178,9 +180,10 @@ static void refusals(void) {
 
 /* --- Lanes ---------------------------------------------------------------------------------------------------------- */
 
-/* The four pieces of a lane lie on lines of their own: its ring, its names and its two ends. */
-static void check_lines(void) {
-    for (size_t k = 0; k < PIECES; k++)
+/* So many pieces lie on lines of their own: of a lane its ring, its names and its two ends. */
+static void check_lines(size_t wanted) {
+    wants("pieces", pieces, wanted);
+    for (size_t k = 0; k < pieces; k++)
         for (size_t j = 0; j < k; j++) wants("lines apart", lines[j].last < lines[k].first || lines[k].last < lines[j].first, 1);
 }
 
@@ -190,12 +193,13 @@ static uint32_t lane_in(uint32_t capacity, size_t align, size_t bytes) {
     struct tlsf_name name = {1, 2, 3}, got = {0, 0, 0};
     unsigned char *const from = room[0] + GUARD + align;
     memset(room[0], FILLED, ROOM);
+    pieces = 0;
     const uint32_t answer = tlsf_lane_open_in(&post, &take, capacity, from, bytes);
     if (answer != TLSF_OK) {
         check_outside(room[0], from, 0);
         return answer;
     }
-    check_lines();
+    check_lines(4);
     if (align == 1) wants("the last line", ((uintptr_t)last_end + LINES - 1) / LINES * LINES - (uintptr_t)from, tlsf_lane_bytes(capacity));
     for (uint32_t k = 0; k < capacity; k++) wants("put", tlsf_put(&post, &name), TLSF_OK);
     wants("put one more", tlsf_put(&post, &name), TLSF_FULL);
@@ -224,10 +228,98 @@ static void lanes_of_malloc(void) {
     struct tlsf_post_end post[3] = {TLSF_POST_CLOSED, TLSF_POST_CLOSED, TLSF_POST_CLOSED};
     struct tlsf_take_end take[3] = {TLSF_TAKE_CLOSED, TLSF_TAKE_CLOSED, TLSF_TAKE_CLOSED};
     for (size_t k = 0; k < 3; k++) {
+        pieces = 0;
         wants("a lane", tlsf_lane_open(&post[k], &take[k], 1 + 7 * (uint32_t)k), NEW_ANSWER);
-        if (NEW_ANSWER == TLSF_OK) check_lines();
+        if (NEW_ANSWER == TLSF_OK) check_lines(4);
     }
     for (size_t k = 0; k < 3; k++) wants("close", tlsf_post_close(&post[k]) + tlsf_take_close(&take[k]), NEW_ANSWER == TLSF_OK ? 0 : 16);
+}
+
+/* --- Queues --------------------------------------------------------------------------------------------------------- */
+
+static uint32_t queue_in(uint32_t posters, uint32_t capacity, size_t align, size_t bytes) {
+    struct tlsf_queue queue = TLSF_QUEUE_CLOSED;
+    struct tlsf_poster poster = TLSF_POSTER_CLOSED;
+    struct tlsf_name name = {1, 2, 3}, got = {0, 0, 0};
+    unsigned char *const from = room[0] + GUARD + align;
+    memset(room[0], FILLED, ROOM);
+    pieces = 0;
+    const uint32_t answer = tlsf_queue_open_in(&queue, posters, capacity, from, bytes);
+    if (answer != TLSF_OK) {
+        check_outside(room[0], from, 0);
+        return answer;
+    }
+    check_lines(8 + posters);
+    if (align == 1)
+        wants("the last line", ((uintptr_t)last_end + LINES - 1) / LINES * LINES - (uintptr_t)from, tlsf_queue_bytes(posters, capacity));
+    wants("open twice", tlsf_queue_open_in(&queue, 0, capacity, from, 0), TLSF_IN_USE);
+    for (uint32_t k = 1; k < posters; k++) wants("a poster", tlsf_poster_open(&queue, &poster) + tlsf_poster_close(&poster), TLSF_OK);
+    wants("the last poster", tlsf_poster_open(&queue, &poster), TLSF_OK);
+    for (uint32_t k = 0; k < capacity; k++) wants("post", tlsf_queue_post(&poster, &name), TLSF_OK);
+    wants("post one more", tlsf_queue_post(&poster, &name), TLSF_FULL);
+    wants("take", tlsf_queue_take(&queue, &got), TLSF_OK);
+    wants("the name", got.serial, 3);
+    wants("close", align % 2 ? tlsf_poster_close(&poster) : tlsf_queue_close(&queue), TLSF_OK);
+    wants("close the other", align % 2 ? tlsf_queue_close(&queue) : tlsf_poster_close(&poster), TLSF_OK);
+    check_outside(room[0], from, tlsf_queue_bytes(posters, capacity));
+    return answer;
+}
+
+static void queues(void) {
+    static const uint32_t sizes[][2] = {{1, 1}, {1, 2}, {2, 3}, {3, 64}, {17, 1023}, {63, 5}, {1024, 2}, {2, 1024}};
+    for (size_t k = 0; k < sizeof sizes / sizeof *sizes; k++) {
+        const uint32_t posters = sizes[k][0], capacity = sizes[k][1];
+        const size_t bytes = tlsf_queue_bytes(posters, capacity);
+        for (size_t align = 0; align < LINES; align += posters < 64 ? 1 : 21)
+            wants("a queue", queue_in(posters, capacity, align, bytes + align), TLSF_OK);
+        wants("one byte fewer", queue_in(posters, capacity, 1, bytes - 1), TLSF_BAD_SIZE);
+        wants("no bytes", queue_in(posters, capacity, 1, 0), TLSF_BAD_SIZE);
+    }
+    wants("no such queues", tlsf_queue_bytes(0, 1) + tlsf_queue_bytes(1, 0) + tlsf_queue_bytes(1025, 1) + tlsf_queue_bytes(1, 1025), 0);
+    wants("for no poster", queue_in(0, 1, 0, ROOM / 2), TLSF_BAD_SIZE);
+    wants("for 1,025", queue_in(1025, 1, 0, ROOM / 2), TLSF_BAD_SIZE);
+    wants("of no name", queue_in(1, 0, 0, ROOM / 2), TLSF_BAD_SIZE);
+    wants("of 1,025", queue_in(1, 1025, 0, ROOM / 2), TLSF_BAD_SIZE);
+}
+
+/* --- Arenas of offsets ---------------------------------------------------------------------------------------------- */
+
+static uint32_t offsets_in(uint32_t level, uint32_t units, size_t align, size_t bytes) {
+    struct tlsf_offsets offsets = TLSF_OFFSETS_CLOSED;
+    struct tlsf_span span = {{0, 0, 0}, 0, 0};
+    struct tlsf_offsets_usage usage = {0, 0, 0, 0};
+    unsigned char *const from = room[0] + GUARD + align;
+    uint64_t held = 0;
+    memset(room[0], FILLED, ROOM);
+    const uint32_t answer = tlsf_offsets_open_in(&offsets, level, 7, 64, units, from, bytes);
+    if (answer != TLSF_OK) {
+        check_outside(room[0], from, 0);
+        return answer;
+    }
+    if (align == 1) wants("the last byte", (size_t)(last_end - from), tlsf_offsets_bytes(level, units));
+    wants("open twice", tlsf_offsets_open_in(&offsets, 3, 7, 64, units, from, 0), TLSF_IN_USE);
+    while (tlsf_offsets_allocate(&offsets, 256, &span) == TLSF_OK) held += span.size;
+    wants("all of it", held, 64 * (uint64_t)units);
+    wants("report", tlsf_offsets_report(&offsets, &usage), TLSF_OK);
+    wants("held", usage.held, held);
+    wants("close", tlsf_offsets_close(&offsets), TLSF_OK);
+    check_outside(room[0], from, tlsf_offsets_bytes(level, units));
+    return answer;
+}
+
+static void arenas(uint32_t level) {
+    static const uint32_t sizes[] = {4, 5, 63, 64, 65, 1000, 4096, 4097};
+    const uint32_t most = level == 4 ? 1u << 20 : 1u << 24;
+    for (size_t k = 0; k < sizeof sizes / sizeof *sizes; k++) {
+        const size_t bytes = tlsf_offsets_bytes(level, sizes[k]);
+        for (size_t align = 0; align < 16; align++) wants("an arena", offsets_in(level, sizes[k], align, bytes), TLSF_OK);
+        wants("one byte fewer", offsets_in(level, sizes[k], 1, bytes - 1), TLSF_BAD_SIZE);
+        wants("no bytes", offsets_in(level, sizes[k], 1, 0), TLSF_BAD_SIZE);
+    }
+    wants("no such sizes", tlsf_offsets_bytes(level, 3) + tlsf_offsets_bytes(level, most + 1) + tlsf_offsets_bytes(level + 2, 64), 0);
+    wants("of 3 units", offsets_in(level, 3, 0, ROOM / 2), TLSF_BAD_SIZE);
+    wants("of too many", offsets_in(level, most + 1, 0, ROOM / 2), TLSF_BAD_SIZE);
+    wants("of no level", offsets_in(level == 4 ? 3 : 6, 64, 0, 0), TLSF_BAD_LEVEL);
 }
 
 /* --- Two threads that open at once ---------------------------------------------------------------------------------- */
@@ -260,10 +352,13 @@ int main(void) {
     is_counted = 1;
     (void)heap_in(4, 0, ROOM / 2);
     lanes();
+    queues();
+    arenas(4);
+    arenas(5);
     refusals();
     is_counted = 0;
     lanes_of_malloc();
     threads();
-    printf("heaps and lanes in memory of the program's: all as said\n");
+    printf("heaps, lanes, queues and arenas in memory of the program's: all as said\n");
     return 0;
 }

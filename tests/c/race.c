@@ -1,6 +1,7 @@
 /* Programs with a race, which a checker of threads has to report: what tlsf.h says that C owes isn't kept.
  * RACE payload: two threads write one payload in place. RACE call: one writes in place while the other calls tlsf_write.
- * RACE handle: two threads call one heap. */
+ * RACE release: one fills a block in place while the other releases it, and allocates it again. RACE handle: two threads call one
+ * heap. */
 #include "tlsf.h"
 
 #include <pthread.h>
@@ -36,6 +37,7 @@ int main(int argc, char **argv) {
     if (pthread_create(&thread, NULL, touch, NULL)) return 2;
     for (int i = 0; i < TURNS; i++) {
         if (!strcmp(kind, "payload")) payload[0] = 0;
+        else if (!strcmp(kind, "release")) ignore(tlsf_release(&heap, &name) + tlsf_allocate(&heap, 16, &name));
         else ignore(tlsf_write(&heap, &name, 0, bytes, sizeof bytes));
     }
     pthread_join(thread, NULL);

@@ -69,6 +69,32 @@ static void call_by_place(uint32_t kind, uint32_t k, uint32_t size) {
     } else if (tlsf_counts(&heap, &counts)) return;
 }
 
+static struct tlsf_offsets offsets = TLSF_OFFSETS_CLOSED;
+static struct tlsf_queue queue = TLSF_QUEUE_CLOSED;
+static struct tlsf_poster poster = TLSF_POSTER_CLOSED;
+static struct tlsf_span spans[MOST];
+static uint32_t held;
+
+/* Spans of an arena that is full of holes, names of spans that aren't held, and a queue that is full and empty. */
+static void call_others(long calls) {
+    struct tlsf_name name = {1, 0, 0};
+    for (long i = 0; i < calls; i++) {
+        const uint32_t kind = below(10), k = held ? below(held) : 0, size = below(3) ? below(64) : below(256);
+        if (kind < 3 && held < MOST) {
+            if (!tlsf_offsets_allocate(&offsets, size, &spans[held])) held++;
+        } else if (kind < 5 && held) {
+            if (!tlsf_offsets_release(&offsets, &spans[k].name)) spans[k] = spans[--held];
+        } else if (kind == 5 && held) {
+            if (tlsf_offsets_resize(&offsets, &spans[k], size)) continue;
+        } else if (kind == 6) {
+            name.serial = (uint64_t)below(1000);
+            tlsf_offsets_release(&offsets, &name);
+        } else {
+            (void)(below(2) ? tlsf_queue_post(&poster, &name) : tlsf_queue_take(&queue, &name));
+        }
+    }
+}
+
 /* The calls: sizes of all classes, names that are live and names that aren't, and a lane that is full and empty. */
 static int make_calls(long calls) {
     struct tlsf_post_end post = TLSF_POST_CLOSED;
@@ -77,6 +103,7 @@ static int make_calls(long calls) {
     uint64_t *base = NULL;
     uint32_t len = 0;
     if (tlsf_open(&heap, 4 + below(2), 1, 1u << 15) || tlsf_lane_open(&post, &take, 8)) return 1;
+    if (tlsf_offsets_open(&offsets, 4, 1, 1, 1u << 15) || tlsf_queue_open(&queue, 1, 8) || tlsf_poster_open(&queue, &poster)) return 1;
     if (is_stopped) raise(SIGSTOP); /* from here on each instruction is counted */
     for (long i = 0; i < calls; i++) {
         const uint32_t kind = below(10), k = live ? below(live) : 0, size = below(3) ? below(64) : below(256);
@@ -95,6 +122,7 @@ static int make_calls(long calls) {
             (void)(below(2) ? tlsf_put(&post, &name) : tlsf_take(&take, &name));
         }
     }
+    call_others(calls);
     return 0;
 }
 
@@ -115,6 +143,11 @@ static struct {
     {"tlsf_place", (uintptr_t)tlsf_place, 0, 0},
     {"tlsf_block_at", (uintptr_t)tlsf_block_at, 0, 0},
     {"tlsf_counts", (uintptr_t)tlsf_counts, 0, 0},
+    {"tlsf_queue_post", (uintptr_t)tlsf_queue_post, 0, 0},
+    {"tlsf_queue_take", (uintptr_t)tlsf_queue_take, 0, 0},
+    {"tlsf_offsets_allocate", (uintptr_t)tlsf_offsets_allocate, 0, 0},
+    {"tlsf_offsets_release", (uintptr_t)tlsf_offsets_release, 0, 0},
+    {"tlsf_offsets_resize", (uintptr_t)tlsf_offsets_resize, 0, 0},
 };
 enum { COUNT = sizeof counted / sizeof *counted };
 

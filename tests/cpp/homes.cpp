@@ -1,7 +1,8 @@
-// Objects whose std::unique_ptr dies in any thread come home; a queue's classes; spans of an arena of offsets; and a heap that
+// Objects whose std::unique_ptr dies in any thread come home; classes of queues, of arenas of offsets and of pools; and a heap that
 // threads share behind a std::pmr::synchronized_pool_resource, or behind a mutex.
 #include "tlsf.hpp"
 
+#include <algorithm>
 #include <atomic>
 #include <cstdio>
 #include <cstdlib>
@@ -136,6 +137,62 @@ void spans() {
     wants("closed", closed.release(*one), TLSF_IS_CLOSED);
 }
 
+// Those that lie in memory of the program's: where it is too little they throw.
+void in_memory_of_the_programs() {
+    std::vector<unsigned char> memory(std::max(tlsf_queue_bytes(2, 4), tlsf_offsets_bytes(4, 100)));
+    std::size_t caught = 0;
+    {
+        tlsf::queue queue(2, 4, memory.data(), memory.size());
+        auto poster = queue.open_poster();
+        wants("post", poster.post(tlsf_name{1, 2, 3}), TLSF_OK);
+        const auto came = queue.take();
+        wants("the name comes", came && came->serial == 3, 1);
+    }
+    {
+        tlsf::offsets arena(tlsf::level::four, 9, 16, 100, memory.data(), memory.size());
+        wants("a span", static_cast<bool>(arena.allocate(1000)), 1);
+    }
+    try {
+        const tlsf::queue queue(2, 4, memory.data(), 100);
+    } catch (const std::invalid_argument &) {
+        caught++;
+    }
+    try {
+        const tlsf::offsets arena(tlsf::level::four, 9, 16, 100, memory.data(), 100);
+    } catch (const std::invalid_argument &) {
+        caught++;
+    }
+    wants("too little memory", caught, 2);
+}
+
+void pools_for_a_table() {
+    const tlsf_kind rows[] = {{1, 16}, {2, 4000}};
+    tlsf::pools pools(tlsf::level::five, 12, rows, 2);
+    tlsf_name one{}, two{};
+    std::uint8_t bytes[] = {1, 2, 3}, out[] = {9, 9, 9};
+    wants("short", pools.allocate(16, one), TLSF_OK);
+    wants("no more of them", pools.allocate(8, two), TLSF_FULL);
+    wants("long", pools.allocate(17, two), TLSF_OK);
+    wants("in another heap", two.heap - one.heap, 1);
+    wants("write", pools.write(two, 1, bytes, 3), TLSF_OK);
+    wants("read", pools.read(two, 0, out, 3), TLSF_OK);
+    wants("its bytes", out[0] == 0 && out[1] == 1 && out[2] == 2, 1);
+    wants("blocks", pools.report(1)->live_blocks, 1);
+    wants("no third heap", !pools.report(2), 1);
+    wants("release", pools.release(one), TLSF_OK);
+    auto moved = std::move(pools);
+    wants("pools that were moved from", pools.release(two), TLSF_IS_CLOSED);
+    wants("they go on", moved.release(two), TLSF_OK);
+    std::size_t caught = 0;
+    try {
+        const tlsf_kind many{1u << 31, 8};
+        const tlsf::pools too_large(tlsf::level::four, 12, &many, 1);
+    } catch (const std::invalid_argument &) {
+        caught++;
+    }
+    wants("no such pools", caught, 1);
+}
+
 // A heap has one thread at a time; behind a lock any may call it. std has one: a synchronized_pool_resource calls what lies under
 // it under its own lock.
 void heap_behind_a_lock() {
@@ -176,6 +233,8 @@ int main() {
     no_more_than_may_be();
     ends_of_a_queue();
     spans();
+    in_memory_of_the_programs();
+    pools_for_a_table();
     heap_behind_a_lock();
     std::puts("objects come home from any thread, and none is lost");
 }

@@ -4,10 +4,12 @@ pub mod TakeBox
 pub mod PosterBox
 pub mod QueueBox
 pub mod OffsetsBox
+pub mod PoolsBox
 pub mod Unwrapping
 mod Draining
 mod Putting
 pub mod CountSums
 mod Carried
 mod QueueKept
-mod CarriedOffsets
+mod LeftWords
+mod LeftUnnamed

@@ -38,6 +38,10 @@ level_in h = h.held.value.level
 abbrev pub touches_in : HeapSlot → ℕ
 touches_in h = h.held.value.touches
 
+-- the words of its region that it touched, the last first
+abbrev pub touched_in : HeapSlot → List ℕ
+touched_in h = h.held.value.touched
+
 -- its counts
 abbrev pub counts_in : HeapSlot → Counts
 counts_in h = h.held.value.counts
@@ -87,8 +91,8 @@ AreEnds None t = ⊥
 abbrev pub sent_in : PostSlot → List Post
 sent_in h = sent_by h.held.value
 
-abbrev pub free_in : PostSlot → ℕ
-free_in h = free_of h.held.value
+abbrev pub known_slots : PostSlot → ℕ
+known_slots h = free_of h.held.value
 
 abbrev pub taken_in : TakeSlot → List Post
 taken_in h = taken_by h.held.value

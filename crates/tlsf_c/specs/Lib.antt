@@ -11,6 +11,11 @@ pub mod OffsetLevels
 pub mod OffsetsOf
 pub mod OffsetsOwned
 pub mod OffsetHandles
+pub mod PoolLevels
+pub mod PoolsOf
+pub mod PoolsOwned
+pub mod PoolCalls
+pub mod PoolHandles
 pub mod Handles
 pub mod Refusals
 pub mod Names

@@ -1,6 +1,5 @@
 -- What lies behind C's handles of an arena of offsets, and what crosses to C beside them.
 use Rattle.std.specs.Prelude.{◌≡◌, ℕ, true}
-use Rattle.tlsf_heap.specs.Blocks.{HeapState}
 use Rattle.tlsf_offsets.specs.Offsets.{Offsets}
 use Rattle.tlsf_offsets.specs.declared.span.Span.{Span}
 use Rattle.tlsf_offsets.specs.declared.usage.Usage.{Usage}

@@ -1,7 +1,7 @@
 -- What lies behind C's handles of a queue.
-use Rattle.std.specs.Prelude.{◌≡◌, ℕ, ◌+◌, List, [], ◌∷◌, ◌++◌, Option, Some, None, map, length, All, ⊤}
+use Rattle.std.specs.Prelude.{◌≡◌, ℕ, ◌+◌, List, [], ◌∷◌, ◌++◌, Option, Some, None, All, ⊤}
 use Rattle.tlsf_heap.specs.declared.name.Name.{Name}
-use Rattle.tlsf_post.specs.Mailboxes.{put_by, number_of, plan_of, owner_of, out_of, most_of, got_by, known_to, IsAllTaken, IsWhole, PosterSaw, KeepsOwner, KeepsPoster}
+use Rattle.tlsf_post.specs.Mailboxes.{put_by, out_of, most_of, got_by, IsAllTaken, IsWhole, KeepsOwner, KeepsPoster}
 use Rattle.tlsf_post.specs.declared.post.Post.{Post}
 use Rattle.tlsf_post.specs.declared.owner_end.OwnerEnd.{OwnerEnd}
 use Rattle.tlsf_post.specs.declared.poster_end.PosterEnd.{PosterEnd}

@@ -1,10 +1,11 @@
 //! A heap whose level is told when it is opened.
-ghost use Rattle.std.specs.Prelude.{◌≡◌, ◌+◌, ◌*◌, ◌/◌, ◌≤◌, ◌↔◌, length, IfOk, IfErr, IsErrOf, MatchResult, Ok, Err};
+ghost use Rattle.std.specs.Prelude.{◌≡◌, ◌+◌, ◌*◌, ◌/◌, ◌≤◌, ◌↔◌, length, IfOk, IfErr, IsErrOf, MatchResult, OnErr, Ok, Err};
 ghost use Rattle.std.specs.Result.{result_unwrap_or};
 ghost use Rattle.tlsf_class.specs.Classes.{IsLevel};
 ghost use Rattle.tlsf_heap.specs.Lawful.{IsLawful, IsRegion};
 ghost use Rattle.tlsf_heap.specs.Calls.{opened, allocated, released, resized, written, read_of, read_answer};
 ghost use Rattle.tlsf_heap.specs.InPlace.{IsPayloadCheck};
+ghost use Rattle.tlsf_heap.specs.Footprint.{LeavesLive, LeavesPayloads};
 ghost use Rattle.tlsf_heap.specs.Given.{payload_words_given, payload_words_left};
 ghost use Rattle.tlsf_heap.specs.Reports.{report_of};
 ghost use Rattle.tlsf_heap.specs.Touched.{FollowsNoForgery};
@@ -83,6 +84,7 @@ impl AnyHeap {
         ensures goes_on { GoesOn self.old self.new }
         ensures counts { self.new.counts ≡ counted_request self.old.counts result len self.new.heap }
         ensures touches { self.new.touches ≤ self.old.touches + 64 + payload_words_given result self.new.heap }
+        ensures leaves { LeavesLive self.old.heap.blocks self.old.touched self.new.touched }
     {
         match &mut self.of_level {
             OfLevel::Four(heap) => self.counts.allocate(heap, len),
@@ -97,6 +99,8 @@ impl AnyHeap {
         ensures goes_on { GoesOn self.old self.new }
         ensures counts { self.new.counts ≡ record self.old.counts { words = words_in_use self.new.heap } }
         ensures touches { self.new.touches ≤ self.old.touches + 64 }
+        ensures leaves { LeavesPayloads self.old.heap.blocks name.at self.old.touched self.new.touched }
+        ensures refused { OnErr result (LeavesLive self.old.heap.blocks self.old.touched self.new.touched) }
         ensures forged { FollowsNoForgery self.old.heap name self.old.touches self.new.touches }
     {
         match &mut self.of_level {
@@ -112,6 +116,8 @@ impl AnyHeap {
         ensures goes_on { GoesOn self.old self.new }
         ensures counts { self.new.counts ≡ counted self.old.counts self.new.heap }
         ensures touches { self.new.touches ≤ self.old.touches + 64 + payload_words_left result self.new.heap name }
+        ensures leaves { LeavesPayloads self.old.heap.blocks name.at self.old.touched self.new.touched }
+        ensures refused { OnErr result (LeavesLive self.old.heap.blocks self.old.touched self.new.touched) }
         ensures forged { FollowsNoForgery self.old.heap name self.old.touches self.new.touches }
     {
         match &mut self.of_level {
@@ -127,6 +133,8 @@ impl AnyHeap {
         ensures goes_on { GoesOn self.old self.new }
         ensures counts { self.new.counts ≡ self.old.counts }
         ensures touches { self.new.touches ≤ self.old.touches + 4 + 2 * (length bytes.now / 8 + 2) }
+        ensures leaves { LeavesPayloads self.old.heap.blocks name.at self.old.touched self.new.touched }
+        ensures refused { OnErr result (LeavesLive self.old.heap.blocks self.old.touched self.new.touched) }
         ensures forged { FollowsNoForgery self.old.heap name self.old.touches self.new.touches }
     {
         match &mut self.of_level {
@@ -143,6 +151,8 @@ impl AnyHeap {
         ensures goes_on { GoesOn self.old self.new }
         ensures counts { self.new.counts ≡ self.old.counts }
         ensures touches { self.new.touches ≤ self.old.touches + 4 + (length out.old / 8 + 2) }
+        ensures leaves { LeavesPayloads self.old.heap.blocks name.at self.old.touched self.new.touched }
+        ensures refused { OnErr result (LeavesLive self.old.heap.blocks self.old.touched self.new.touched) }
         ensures forged { FollowsNoForgery self.old.heap name self.old.touches self.new.touches }
     {
         match &mut self.of_level {
@@ -159,6 +169,7 @@ impl AnyHeap {
         ensures goes_on { GoesOn self.old self.new }
         ensures counts { self.new.counts ≡ self.old.counts }
         ensures touches { self.new.touches ≤ self.old.touches + 4 }
+        ensures leaves { LeavesLive self.old.heap.blocks self.old.touched self.new.touched }
         ensures forged { FollowsNoForgery self.old.heap name self.old.touches self.new.touches }
     {
         match &mut self.of_level {
@@ -174,6 +185,7 @@ impl AnyHeap {
         ensures goes_on { GoesOn self.old self.new }
         ensures counts { self.new.counts ≡ self.old.counts }
         ensures touches { self.new.touches ≤ self.old.touches + 2 * length self.old.heap.blocks }
+        ensures leaves { LeavesLive self.old.heap.blocks self.old.touched self.new.touched }
     {
         match &mut self.of_level {
             OfLevel::Four(heap) => heap.report(),

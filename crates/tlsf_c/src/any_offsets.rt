@@ -3,7 +3,7 @@ ghost use Rattle.std.specs.Prelude.{◌≡◌, ◌≢◌, ◌+◌, ◌*◌, ◌<
 ghost use Rattle.tlsf_heap.specs.Calls.{opened, allocated_words, released, resized_words};
 ghost use Rattle.tlsf_heap.specs.Lawful.{IsRegion};
 ghost use Rattle.tlsf_heap.specs.Touched.{FollowsNoForgery};
-ghost use Rattle.tlsf_offsets.specs.Offsets.{IsHeld, KeepsOthers, units_for, usage_of};
+ghost use Rattle.tlsf_offsets.specs.Offsets.{IsHeld, KeepsOthers, span_units, usage_of};
 ghost use Rattle.tlsf_offsets.specs.declared.span.Span.{Span};
 ghost use Rattle.tlsf_c.specs.OffsetLevels.{OffsetsGoOn};
 
@@ -67,8 +67,8 @@ impl AnyOffsets {
 
     /// `OffsetArena::allocate`.
     pub fn allocate(&mut self, len: u64) -> Result<Span, Refusal>
-        ensures answer { MatchResult result (λ span. (allocated_words self.old.level self.old.offsets.heap (units_for self.old.offsets.unit len) 0).answer ≡ Ok span.name) (λ why. (allocated_words self.old.level self.old.offsets.heap (units_for self.old.offsets.unit len) 0).answer ≡ Err why) }
-        ensures heap { self.new.offsets.heap ≡ (allocated_words self.old.level self.old.offsets.heap (units_for self.old.offsets.unit len) 0).heap }
+        ensures answer { MatchResult result (λ span. (allocated_words self.old.level self.old.offsets.heap (span_units self.old.offsets.unit len) 0).answer ≡ Ok span.name) (λ why. (allocated_words self.old.level self.old.offsets.heap (span_units self.old.offsets.unit len) 0).answer ≡ Err why) }
+        ensures heap { self.new.offsets.heap ≡ (allocated_words self.old.level self.old.offsets.heap (span_units self.old.offsets.unit len) 0).heap }
         ensures err { OnErr result (self.new.offsets.heap ≡ self.old.offsets.heap) }
         ensures held { IfOk result (λ span. IsHeld self.new.offsets span) }
         ensures enough { IfOk result (λ span. len ≤ span.size) }
@@ -102,8 +102,8 @@ impl AnyOffsets {
 
     /// `OffsetArena::resize`.
     pub fn resize(&mut self, name: Name, len: u64) -> Result<Span, Refusal>
-        ensures answer { MatchResult result (λ span. ((resized_words self.old.offsets.heap name (units_for self.old.offsets.unit len) 0).answer ≡ Ok tt) × (span.name ≡ name)) (λ why. (resized_words self.old.offsets.heap name (units_for self.old.offsets.unit len) 0).answer ≡ Err why) }
-        ensures heap { self.new.offsets.heap ≡ (resized_words self.old.offsets.heap name (units_for self.old.offsets.unit len) 0).heap }
+        ensures answer { MatchResult result (λ span. ((resized_words self.old.offsets.heap name (span_units self.old.offsets.unit len) 0).answer ≡ Ok tt) × (span.name ≡ name)) (λ why. (resized_words self.old.offsets.heap name (span_units self.old.offsets.unit len) 0).answer ≡ Err why) }
+        ensures heap { self.new.offsets.heap ≡ (resized_words self.old.offsets.heap name (span_units self.old.offsets.unit len) 0).heap }
         ensures err { OnErr result (self.new.offsets.heap ≡ self.old.offsets.heap) }
         ensures held { IfOk result (λ span. IsHeld self.new.offsets span) }
         ensures enough { IfOk result (λ span. len ≤ span.size) }

@@ -4,6 +4,7 @@ ghost use Rattle.tlsf_class.specs.Classes.{IsLevel};
 ghost use Rattle.tlsf_heap.specs.Aligned.{words_aligned};
 ghost use Rattle.tlsf_heap.specs.Blocks;
 ghost use Rattle.tlsf_heap.specs.Calls.{allocated, released, resized};
+ghost use Rattle.tlsf_heap.specs.Footprint.{LeavesLive, LeavesPayloads};
 ghost use Rattle.tlsf_heap.specs.Given.{payload_words_given, payload_words_left};
 ghost use Rattle.tlsf_heap.specs.Laws.{IsLive};
 ghost use Rattle.tlsf_heap.specs.Moved.{resized_or_moved, payload_words_moved};
@@ -37,6 +38,7 @@ impl Counts {
         ensures stays { heap.new.extents ≡ heap.old.extents }
         ensures touches_rise { heap.old.touches ≤ heap.new.touches }
         ensures touches { heap.new.touches ≤ heap.old.touches + 1 }
+        ensures leaves { LeavesLive heap.old.heap.blocks heap.old.touched heap.new.touched }
     {
         match answer {
             Ok(name) => {
@@ -70,6 +72,7 @@ impl Counts {
         ensures stays { heap.new.extents ≡ heap.old.extents }
         ensures touches_rise { heap.old.touches ≤ heap.new.touches }
         ensures touches { heap.new.touches ≤ heap.old.touches + 1 }
+        ensures leaves { LeavesLive heap.old.heap.blocks heap.old.touched heap.new.touched }
     {
         match answer {
             Ok(new) => {
@@ -102,6 +105,7 @@ impl Counts {
         ensures stays { heap.new.extents ≡ heap.old.extents }
         ensures touches_rise { heap.old.touches ≤ heap.new.touches }
         ensures touches { heap.new.touches ≤ heap.old.touches + 64 + payload_words_given result heap.new.heap }
+        ensures leaves { LeavesLive heap.old.heap.blocks heap.old.touched heap.new.touched }
     {
         let answer = heap.allocate_words(want(len), len);
         self.request(heap, &answer, len);
@@ -125,6 +129,7 @@ impl Counts {
         ensures stays { heap.new.extents ≡ heap.old.extents }
         ensures touches_rise { heap.old.touches ≤ heap.new.touches }
         ensures touches { heap.new.touches ≤ heap.old.touches + 33 }
+        ensures leaves { LeavesLive heap.old.heap.blocks heap.old.touched heap.new.touched }
     {
         let answer = heap.allocate_unset(len);
         self.request(heap, &answer, len);
@@ -152,6 +157,7 @@ impl Counts {
         ensures stays { heap.new.extents ≡ heap.old.extents }
         ensures touches_rise { heap.old.touches ≤ heap.new.touches }
         ensures touches { heap.new.touches ≤ heap.old.touches + 118 }
+        ensures leaves { LeavesLive heap.old.heap.blocks heap.old.touched heap.new.touched }
     {
         let answer = heap.allocate_aligned(len, step, skew);
         self.request(heap, &answer, len);
@@ -173,15 +179,11 @@ impl Counts {
         ensures stays { heap.new.extents ≡ heap.old.extents }
         ensures touches_rise { heap.old.touches ≤ heap.new.touches }
         ensures touches { heap.new.touches ≤ heap.old.touches + 64 }
+        ensures leaves { LeavesPayloads heap.old.heap.blocks name.at heap.old.touched heap.new.touched }
+        ensures refused { OnErr result (LeavesLive heap.old.heap.blocks heap.old.touched heap.new.touched) }
         ensures forged { FollowsNoForgery heap.old.heap name heap.old.touches heap.new.touches }
     {
-        match heap.release_words(name) {
-            Ok(words) => {
-                self.take_back(words);
-                Ok(())
-            }
-            Err(why) => Err(why),
-        }
+        heap.release_counted(name, &mut self.words)
     }
 
     /// `Heap::release_at`.
@@ -199,15 +201,11 @@ impl Counts {
         ensures stays { heap.new.extents ≡ heap.old.extents }
         ensures touches_rise { heap.old.touches ≤ heap.new.touches }
         ensures touches { heap.new.touches ≤ heap.old.touches + 29 }
+        ensures leaves { LeavesPayloads heap.old.heap.blocks at heap.old.touched heap.new.touched }
+        ensures refused { OnErr result (LeavesLive heap.old.heap.blocks heap.old.touched heap.new.touched) }
         ensures wild { FollowsNoPlace heap.old.heap at heap.old.touches heap.new.touches }
     {
-        match heap.release_words_at(at) {
-            Ok(words) => {
-                self.take_back(words);
-                Ok(())
-            }
-            Err(why) => Err(why),
-        }
+        heap.release_counted_at(at, &mut self.words)
     }
 
     /// `Heap::resize`.
@@ -226,6 +224,8 @@ impl Counts {
         ensures stays { heap.new.extents ≡ heap.old.extents }
         ensures touches_rise { heap.old.touches ≤ heap.new.touches }
         ensures touches { heap.new.touches ≤ heap.old.touches + 64 + payload_words_left result heap.new.heap name }
+        ensures leaves { LeavesPayloads heap.old.heap.blocks name.at heap.old.touched heap.new.touched }
+        ensures refused { OnErr result (LeavesLive heap.old.heap.blocks heap.old.touched heap.new.touched) }
         ensures forged { FollowsNoForgery heap.old.heap name heap.old.touches heap.new.touches }
     {
         let before = match heap.words_of(name) {
@@ -261,6 +261,8 @@ impl Counts {
         ensures touches_rise { heap.old.touches ≤ heap.new.touches }
         ensures touches { heap.new.touches ≤ heap.old.touches + 133 + payload_words_left (resized heap.old.heap name len).answer (resized heap.old.heap name len).heap name
             + 3 * payload_words_moved SLI heap.old.heap len }
+        ensures leaves { LeavesPayloads heap.old.heap.blocks name.at heap.old.touched heap.new.touched }
+        ensures refused { OnErr result (LeavesLive heap.old.heap.blocks heap.old.touched heap.new.touched) }
         ensures forged { FollowsNoForgery heap.old.heap name heap.old.touches heap.new.touches }
     {
         let before = match heap.words_of(name) {
@@ -291,6 +293,8 @@ impl Counts {
         ensures stays { heap.new.extents ≡ heap.old.extents }
         ensures touches_rise { heap.old.touches ≤ heap.new.touches }
         ensures touches { heap.new.touches ≤ heap.old.touches + 104 + 2 * (min (length (payload_of heap.old.heap name)) len / 8) }
+        ensures leaves { LeavesPayloads heap.old.heap.blocks name.at heap.old.touched heap.new.touched }
+        ensures refused { OnErr result (LeavesLive heap.old.heap.blocks heap.old.touched heap.new.touched) }
         ensures forged { FollowsNoForgery heap.old.heap name heap.old.touches heap.new.touches }
     {
         let before = match heap.words_of(name) {

@@ -4,6 +4,7 @@ ghost use Rattle.std.specs.Result.{result_unwrap_or};
 ghost use Rattle.tlsf_heap.specs.Lawful.{IsRegion};
 ghost use Rattle.tlsf_pool.specs.laws.Pools.{pool_region};
 ghost use Rattle.tlsf_heap.specs.Calls.{opened, allocated, released, resized, written, read_of, read_answer};
+ghost use Rattle.tlsf_heap.specs.Footprint.{LeavesLive, LeavesPayloads};
 ghost use Rattle.tlsf_heap.specs.InPlace.{IsPayloadCheck};
 ghost use Rattle.tlsf_heap.specs.Given.{payload_words_given, payload_words_left};
 ghost use Rattle.tlsf_heap.specs.Moved.{resized_or_moved, payload_words_moved};
@@ -14,7 +15,7 @@ ghost use Rattle.tlsf_heap.specs.declared.refusal.Refusal.{Refusal};
 ghost use Rattle.tlsf_heap.specs.WordsInUse.{words_in_use};
 ghost use Rattle.tlsf_c.specs.Counting.{no_counts, counted, counted_request, counted_move};
 ghost use Rattle.tlsf_c.specs.Names.{name_of, report_in};
-ghost use Rattle.tlsf_c.specs.Handles.{address_in, counts_in, heap_in, level_in, touches_in, StaysOpen};
+ghost use Rattle.tlsf_c.specs.Handles.{address_in, counts_in, heap_in, level_in, touches_in, touched_in, StaysOpen};
 ghost use Rattle.tlsf_c.specs.Refusals.{status_of, bad_size, no_memory, closed, in_use, bad_level};
 
 use crate::any_heap::AnyHeap;
@@ -143,6 +144,7 @@ pub extern "C" fn tlsf_allocate(heap: &mut HeapSlot, len: u32, name: &mut BlockN
     ensures heap { heap.old.is_open ≡ true → heap_in heap.new ≡ (allocated (level_in heap.old) (heap_in heap.old) len).heap }
     ensures counts { heap.old.is_open ≡ true → counts_in heap.new ≡ counted_request (counts_in heap.old) (allocated (level_in heap.old) (heap_in heap.old) len).answer len (heap_in heap.new) }
     ensures touches { heap.old.is_open ≡ true → touches_in heap.new ≤ touches_in heap.old + 64 + payload_words_given (allocated (level_in heap.old) (heap_in heap.old) len).answer (heap_in heap.new) }
+    ensures leaves { heap.old.is_open ≡ true → LeavesLive (heap_in heap.old).blocks (touched_in heap.old) (touched_in heap.new) }
 {
     if !heap.is_open {
         return CallFault::Closed.number();
@@ -177,6 +179,8 @@ pub extern "C" fn tlsf_release(heap: &mut HeapSlot, name: &BlockName) -> u32
     ensures forged { heap.old.is_open ≡ true → FollowsNoForgery (heap_in heap.old) (name_of name.now) (touches_in heap.old) (touches_in heap.new) }
     ensures counts { heap.old.is_open ≡ true → counts_in heap.new ≡ record (counts_in heap.old) { words = words_in_use (heap_in heap.new) } }
     ensures touches { heap.old.is_open ≡ true → touches_in heap.new ≤ touches_in heap.old + 64 }
+    ensures leaves { heap.old.is_open ≡ true → LeavesPayloads (heap_in heap.old).blocks name.now.at (touched_in heap.old) (touched_in heap.new) }
+    ensures leaves_all { heap.old.is_open ≡ true → ¬ (result ≡ 0) → LeavesLive (heap_in heap.old).blocks (touched_in heap.old) (touched_in heap.new) }
 {
     if !heap.is_open {
         return CallFault::Closed.number();
@@ -204,6 +208,8 @@ pub extern "C" fn tlsf_resize(heap: &mut HeapSlot, name: &BlockName, len: u32) -
     ensures forged { heap.old.is_open ≡ true → FollowsNoForgery (heap_in heap.old) (name_of name.now) (touches_in heap.old) (touches_in heap.new) }
     ensures counts { heap.old.is_open ≡ true → counts_in heap.new ≡ counted (counts_in heap.old) (heap_in heap.new) }
     ensures touches { heap.old.is_open ≡ true → touches_in heap.new ≤ touches_in heap.old + 64 + payload_words_left (resized (heap_in heap.old) (name_of name.now) len).answer (heap_in heap.new) (name_of name.now) }
+    ensures leaves { heap.old.is_open ≡ true → LeavesPayloads (heap_in heap.old).blocks name.now.at (touched_in heap.old) (touched_in heap.new) }
+    ensures leaves_all { heap.old.is_open ≡ true → ¬ (result ≡ 0) → LeavesLive (heap_in heap.old).blocks (touched_in heap.old) (touched_in heap.new) }
 {
     if !heap.is_open {
         return CallFault::Closed.number();
@@ -236,6 +242,8 @@ pub extern "C" fn tlsf_reallocate(heap: &mut HeapSlot, name: &mut BlockName, len
     ensures touches { heap.old.is_open ≡ true → touches_in heap.new ≤ touches_in heap.old + 133
         + payload_words_left (resized (heap_in heap.old) (name_of name.old) len).answer (resized (heap_in heap.old) (name_of name.old) len).heap (name_of name.old)
         + 3 * payload_words_moved (level_in heap.old) (heap_in heap.old) len }
+    ensures leaves { heap.old.is_open ≡ true → LeavesPayloads (heap_in heap.old).blocks name.old.at (touched_in heap.old) (touched_in heap.new) }
+    ensures leaves_all { heap.old.is_open ≡ true → ¬ (result ≡ 0) → LeavesLive (heap_in heap.old).blocks (touched_in heap.old) (touched_in heap.new) }
 {
     if !heap.is_open {
         return CallFault::Closed.number();
@@ -270,6 +278,8 @@ pub extern "C" fn tlsf_write(heap: &mut HeapSlot, name: &BlockName, at: u32, byt
     ensures forged { heap.old.is_open ≡ true → FollowsNoForgery (heap_in heap.old) (name_of name.now) (touches_in heap.old) (touches_in heap.new) }
     ensures counts { heap.old.is_open ≡ true → counts_in heap.new ≡ counts_in heap.old }
     ensures touches { heap.old.is_open ≡ true → touches_in heap.new ≤ touches_in heap.old + 4 + 2 * (length bytes.now / 8 + 2) }
+    ensures leaves { heap.old.is_open ≡ true → LeavesPayloads (heap_in heap.old).blocks name.now.at (touched_in heap.old) (touched_in heap.new) }
+    ensures leaves_all { heap.old.is_open ≡ true → ¬ (result ≡ 0) → LeavesLive (heap_in heap.old).blocks (touched_in heap.old) (touched_in heap.new) }
 {
     if !heap.is_open {
         return CallFault::Closed.number();
@@ -298,6 +308,8 @@ pub extern "C" fn tlsf_read(heap: &mut HeapSlot, name: &BlockName, at: u32, out:
     ensures forged { heap.old.is_open ≡ true → FollowsNoForgery (heap_in heap.old) (name_of name.now) (touches_in heap.old) (touches_in heap.new) }
     ensures counts { heap.old.is_open ≡ true → counts_in heap.new ≡ counts_in heap.old }
     ensures touches { heap.old.is_open ≡ true → touches_in heap.new ≤ touches_in heap.old + 4 + (length out.old / 8 + 2) }
+    ensures leaves { heap.old.is_open ≡ true → LeavesPayloads (heap_in heap.old).blocks name.now.at (touched_in heap.old) (touched_in heap.new) }
+    ensures leaves_all { heap.old.is_open ≡ true → ¬ (result ≡ 0) → LeavesLive (heap_in heap.old).blocks (touched_in heap.old) (touched_in heap.new) }
 {
     if !heap.is_open {
         return CallFault::Closed.number();
@@ -336,6 +348,7 @@ pub extern "C" fn tlsf_locate(
     ensures forged { heap.old.is_open ≡ true → FollowsNoForgery (heap_in heap.old) (name_of name.now) (touches_in heap.old) (touches_in heap.new) }
     ensures counts { heap.old.is_open ≡ true → counts_in heap.new ≡ counts_in heap.old }
     ensures touches { heap.old.is_open ≡ true → touches_in heap.new ≤ touches_in heap.old + 4 }
+    ensures leaves { heap.old.is_open ≡ true → LeavesLive (heap_in heap.old).blocks (touched_in heap.old) (touched_in heap.new) }
 {
     if !heap.is_open {
         return CallFault::Closed.number();
@@ -369,6 +382,7 @@ pub extern "C" fn tlsf_report(heap: &mut HeapSlot, report: &mut HeapReport) -> u
     ensures heap { heap.old.is_open ≡ true → heap_in heap.new ≡ heap_in heap.old }
     ensures counts { heap.old.is_open ≡ true → counts_in heap.new ≡ counts_in heap.old }
     ensures touches { heap.old.is_open ≡ true → touches_in heap.new ≤ touches_in heap.old + 2 * length (heap_in heap.old).blocks }
+    ensures leaves { heap.old.is_open ≡ true → LeavesLive (heap_in heap.old).blocks (touched_in heap.old) (touched_in heap.new) }
 {
     if !heap.is_open {
         return CallFault::Closed.number();

@@ -6,8 +6,8 @@ ghost use Rattle.tlsf_post.specs.declared.post_end.PostEnd.{PostEnd};
 ghost use Rattle.tlsf_post.specs.declared.take_end.TakeEnd.{TakeEnd};
 ghost use Rattle.tlsf_heap.specs.WordsInUse.{words_in_use};
 ghost use Rattle.tlsf_post.specs.Lanes.{posts_sent, free_slots, IsLane};
-ghost use Rattle.tlsf_c.specs.Handles.{counts_in, heap_in, touches_in, StaysOpen, post_of, posts_named, sent_in, free_in, taken_in, ready_in, AreEnds, AreLane};
-ghost use Rattle.tlsf_c.specs.Drains.{drained};
+ghost use Rattle.tlsf_c.specs.Handles.{counts_in, heap_in, touches_in, touched_in, StaysOpen, post_of, posts_named, sent_in, known_slots, taken_in, ready_in, AreEnds, AreLane};
+ghost use Rattle.tlsf_c.specs.Drains.{drained, LeavesUnnamed};
 ghost use Rattle.tlsf_c.specs.Names.{name_of};
 ghost use Rattle.tlsf_c.specs.Refusals.{bad_size, no_memory, closed, in_use, full, empty};
 
@@ -51,7 +51,7 @@ pub extern "C" fn tlsf_lane_open(
     capacity: u32,
 ) -> u32
     ensures lane { result ≡ 0 → AreLane post.new take.new }
-    ensures none { result ≡ 0 → (sent_in post.new ≡ []) × (taken_in take.new ≡ []) × (free_in post.new ≡ capacity) }
+    ensures none { result ≡ 0 → (sent_in post.new ≡ []) × (taken_in take.new ≡ []) × (known_slots post.new ≡ capacity) }
     ensures opens { result ≡ 0 → (post.new.is_open ≡ true) × (take.new.is_open ≡ true) }
     ensures refused { ¬ (result ≡ 0) → (post.new ≡ post.old) × (take.new ≡ take.old) }
     ensures post_in_use { post.old.is_open ≡ true → result ≡ in_use }
@@ -136,10 +136,10 @@ pub extern "C" fn tlsf_put(alloc: Global, post: &mut PostSlot, name: &BlockName)
     ensures open { post.old.is_open ≡ true → post.new.is_open ≡ true }
     ensures lane { (t : Option TakeEnd) → AreEnds post.old.held.value t → AreEnds post.new.held.value t }
     ensures sent { post.old.is_open ≡ true → result ≡ 0 → sent_in post.new ≡ sent_in post.old ++ post_of (name_of name.now) ∷ [] }
-    ensures slots { post.old.is_open ≡ true → result ≡ 0 → free_in post.new ≡ free_in post.old - 1 }
+    ensures slots { post.old.is_open ≡ true → result ≡ 0 → known_slots post.new ≡ known_slots post.old - 1 }
     ensures full { post.old.is_open ≡ true → ¬ (result ≡ 0) → (result ≡ full) × (sent_in post.new ≡ sent_in post.old)
-        × (free_in post.new ≡ free_in post.old) }
-    ensures succeeds { post.old.is_open ≡ true → 0 < free_in post.old → result ≡ 0 }
+        × (known_slots post.new ≡ known_slots post.old) }
+    ensures succeeds { post.old.is_open ≡ true → 0 < known_slots post.old → result ≡ 0 }
 {
     let Some(mut post_end) = post.take_out(alloc) else {
         return CallFault::Closed.number();
@@ -175,8 +175,8 @@ pub extern "C" fn tlsf_put_all(
     ensures lane { (t : Option TakeEnd) → AreEnds post.old.held.value t → AreEnds post.new.held.value t }
     ensures most { result ≡ 0 → went.new ≤ length names.now }
     ensures sent { result ≡ 0 → sent_in post.new ≡ sent_in post.old ++ posts_named (take went.new names.now) }
-    ensures slots { result ≡ 0 → free_in post.new ≡ free_in post.old - went.new }
-    ensures succeeds { result ≡ 0 → went.new < length names.now → free_in post.old ≤ went.new }
+    ensures slots { result ≡ 0 → known_slots post.new ≡ known_slots post.old - went.new }
+    ensures succeeds { result ≡ 0 → went.new < length names.now → known_slots post.old ≤ went.new }
 {
     let Some(mut end) = post.take_out(alloc) else {
         return CallFault::Closed.number();
@@ -288,6 +288,8 @@ pub extern "C" fn tlsf_drain(
     ensures no_counts { result ≡ 0 → came.new ≡ 0 → counts_in heap.new ≡ counts_in heap.old }
     ensures counts { result ≡ 0 → 0 < came.new → counts_in heap.new ≡ record (counts_in heap.old) { words = words_in_use (heap_in heap.new) } }
     ensures touches { result ≡ 0 → touches_in heap.new ≤ touches_in heap.old + 64 * came.new }
+    ensures leaves { result ≡ 0 → (posts : List Post) × (taken_in take.new ≡ taken_in take.old ++ posts)
+        × LeavesUnnamed (heap_in heap.old).blocks posts (touched_in heap.old) (touched_in heap.new) }
 {
     if !heap.is_open || !take.is_open {
         return CallFault::Closed.number();
@@ -348,6 +350,7 @@ pub(crate) fn release_posts(heap: &mut HeapSlot, posts: &[Post])
     ensures no_counts { length posts.now ≡ 0 → counts_in heap.new ≡ counts_in heap.old }
     ensures counts { 0 < length posts.now → counts_in heap.new ≡ record (counts_in heap.old) { words = words_in_use (heap_in heap.new) } }
     ensures touches { touches_in heap.new ≤ touches_in heap.old + 64 * length posts.now }
+    ensures leaves { LeavesUnnamed (heap_in heap.old).blocks posts.now (touched_in heap.old) (touched_in heap.new) }
 {
     for post in posts {
         let _ = tlsf_release(heap, &BlockName::of(post.name));

@@ -6,6 +6,7 @@
 
 mod any_heap;
 mod any_offsets;
+mod any_pools;
 mod call_fault;
 mod counting;
 mod counts;
@@ -13,16 +14,20 @@ mod heap_calls;
 mod heap_slot;
 mod held_heap;
 mod held_offsets;
+mod held_pools;
 mod held_post_end;
 mod held_poster;
 mod held_queue;
 mod held_take_end;
+mod kind_row;
 mod lane_calls;
 mod names;
 mod offset_calls;
 mod offsets_slot;
 mod parts;
 mod place_calls;
+mod pool_calls;
+mod pools_slot;
 mod post_slot;
 mod poster_slot;
 mod queue_calls;
@@ -33,6 +38,7 @@ mod take_slot;
 
 use crate::heap_slot::HeapSlot;
 use crate::offsets_slot::OffsetsSlot;
+use crate::pools_slot::PoolsSlot;
 use crate::post_slot::PostSlot;
 use crate::poster_slot::PosterSlot;
 use crate::queue_slot::QueueSlot;
@@ -48,4 +54,5 @@ pub fn handles_may_cross() {
     asks_send::<PosterSlot>();
     asks_send::<QueueSlot>();
     asks_send::<OffsetsSlot>();
+    asks_send::<PoolsSlot>();
 }

@@ -3,7 +3,7 @@ ghost use Rattle.std.specs.Prelude.{◌≡◌, ◌≢◌, true, false, ◌+◌, 
 ghost use Rattle.tlsf_heap.specs.Calls.{opened, allocated_words, released, resized_words};
 ghost use Rattle.tlsf_heap.specs.Lawful.{IsRegion};
 ghost use Rattle.tlsf_heap.specs.Touched.{FollowsNoForgery};
-ghost use Rattle.tlsf_offsets.specs.Offsets.{IsHeld, KeepsOthers, units_for, usage_of};
+ghost use Rattle.tlsf_offsets.specs.Offsets.{IsHeld, KeepsOthers, span_units, usage_of};
 ghost use Rattle.tlsf_offsets.specs.declared.span.Span.{Span};
 ghost use Rattle.tlsf_c.specs.Names.{name_of};
 ghost use Rattle.tlsf_c.specs.OffsetHandles.{offsets_in, offsets_level, OffsetsStayOpen, span_of, usage_told};
@@ -100,8 +100,8 @@ pub extern "C" fn tlsf_offsets_allocate(
 ) -> u32
     ensures closed { offsets.old.is_open ≡ false → (result ≡ closed) × (offsets.new ≡ offsets.old) }
     ensures open { offsets.old.is_open ≡ true → OffsetsStayOpen offsets.old offsets.new }
-    ensures status { offsets.old.is_open ≡ true → result ≡ status_of (allocated_words (offsets_level offsets.old) (offsets_in offsets.old).heap (units_for (offsets_in offsets.old).unit bytes) 0).answer }
-    ensures heap { offsets.old.is_open ≡ true → (offsets_in offsets.new).heap ≡ (allocated_words (offsets_level offsets.old) (offsets_in offsets.old).heap (units_for (offsets_in offsets.old).unit bytes) 0).heap }
+    ensures status { offsets.old.is_open ≡ true → result ≡ status_of (allocated_words (offsets_level offsets.old) (offsets_in offsets.old).heap (span_units (offsets_in offsets.old).unit bytes) 0).answer }
+    ensures heap { offsets.old.is_open ≡ true → (offsets_in offsets.new).heap ≡ (allocated_words (offsets_level offsets.old) (offsets_in offsets.old).heap (span_units (offsets_in offsets.old).unit bytes) 0).heap }
     ensures refused { ¬ (result ≡ 0) → offsets.old.is_open ≡ true → (offsets_in offsets.new).heap ≡ (offsets_in offsets.old).heap }
     ensures no_span { ¬ (result ≡ 0) → span.new ≡ span.old }
     ensures held { result ≡ 0 → IsHeld (offsets_in offsets.new) (span_of span.new) }
@@ -174,8 +174,8 @@ pub extern "C" fn tlsf_offsets_resize(
 ) -> u32
     ensures closed { offsets.old.is_open ≡ false → (result ≡ closed) × (offsets.new ≡ offsets.old) }
     ensures open { offsets.old.is_open ≡ true → OffsetsStayOpen offsets.old offsets.new }
-    ensures status { offsets.old.is_open ≡ true → result ≡ status_of (resized_words (offsets_in offsets.old).heap (name_of span.old.name) (units_for (offsets_in offsets.old).unit bytes) 0).answer }
-    ensures heap { offsets.old.is_open ≡ true → (offsets_in offsets.new).heap ≡ (resized_words (offsets_in offsets.old).heap (name_of span.old.name) (units_for (offsets_in offsets.old).unit bytes) 0).heap }
+    ensures status { offsets.old.is_open ≡ true → result ≡ status_of (resized_words (offsets_in offsets.old).heap (name_of span.old.name) (span_units (offsets_in offsets.old).unit bytes) 0).answer }
+    ensures heap { offsets.old.is_open ≡ true → (offsets_in offsets.new).heap ≡ (resized_words (offsets_in offsets.old).heap (name_of span.old.name) (span_units (offsets_in offsets.old).unit bytes) 0).heap }
     ensures no_span { ¬ (result ≡ 0) → span.new ≡ span.old }
     ensures held { result ≡ 0 → IsHeld (offsets_in offsets.new) (span_of span.new) × (span.new.name ≡ span.old.name) }
     ensures enough { result ≡ 0 → bytes ≤ span.new.size }

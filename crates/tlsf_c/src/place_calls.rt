@@ -5,6 +5,7 @@ ghost use Rattle.tlsf_heap.specs.Aligned.{words_aligned};
 ghost use Rattle.tlsf_heap.specs.Blocks.{want, IsPlace};
 ghost use Rattle.tlsf_heap.specs.Calls.{allocated};
 ghost use Rattle.tlsf_heap.specs.Checks.{FindsSound, IsCheck, block_touches};
+ghost use Rattle.tlsf_heap.specs.Footprint.{LeavesLive, LeavesPayloads};
 ghost use Rattle.tlsf_heap.specs.Numbers.{number_of};
 ghost use Rattle.tlsf_heap.specs.Placed.{placed_at};
 ghost use Rattle.tlsf_heap.specs.Unset.{lying, unset_from, with_payload};
@@ -14,7 +15,7 @@ ghost use Rattle.tlsf_heap.specs.declared.checked.Checked.TheVariants.{Sound};
 ghost use Rattle.tlsf_heap.specs.declared.placed_block.PlacedBlock.{PlacedBlock};
 ghost use Rattle.tlsf_heap.specs.declared.refusal.Refusal.TheVariants.{Stale};
 ghost use Rattle.tlsf_c.specs.Checked.{check_number_of, next_told, damaged_told};
-ghost use Rattle.tlsf_c.specs.Handles.{counts_in, heap_in, level_in, stored_in, touches_in, StaysOpen};
+ghost use Rattle.tlsf_c.specs.Handles.{counts_in, heap_in, level_in, stored_in, touches_in, touched_in, StaysOpen};
 ghost use Rattle.tlsf_heap.specs.WordsInUse.{words_in_use};
 ghost use Rattle.tlsf_c.specs.Counting.{counted_request, counted_move};
 ghost use Rattle.tlsf_c.specs.Names.{name_of, info_of};
@@ -46,6 +47,7 @@ pub extern "C" fn tlsf_allocate_place(heap: &mut HeapSlot, len: u32, at: &mut u3
     ensures kept { ¬ (result ≡ 0) → at.new ≡ at.old }
     ensures counts { heap.old.is_open ≡ true → counts_in heap.new ≡ counted_request (counts_in heap.old) (allocated (level_in heap.old) (heap_in heap.old) len).answer len (heap_in heap.new) }
     ensures touches { heap.old.is_open ≡ true → touches_in heap.new ≤ touches_in heap.old + 33 }
+    ensures leaves { heap.old.is_open ≡ true → LeavesLive (heap_in heap.old).blocks (touched_in heap.old) (touched_in heap.new) }
 {
     if !heap.is_open {
         return CallFault::Closed.number();
@@ -92,6 +94,7 @@ pub extern "C" fn tlsf_allocate_aligned(
     ensures kept { ¬ (result ≡ 0) → at.new ≡ at.old }
     ensures counts { heap.old.is_open ≡ true → counts_in heap.new ≡ counted_request (counts_in heap.old) (words_aligned (level_in heap.old) (heap_in heap.old) (want len) (max step 1) skew).answer len (heap_in heap.new) }
     ensures touches { heap.old.is_open ≡ true → touches_in heap.new ≤ touches_in heap.old + 118 }
+    ensures leaves { heap.old.is_open ≡ true → LeavesLive (heap_in heap.old).blocks (touched_in heap.old) (touched_in heap.new) }
 {
     if !heap.is_open {
         return CallFault::Closed.number();
@@ -126,6 +129,8 @@ pub extern "C" fn tlsf_release_place(heap: &mut HeapSlot, at: u32) -> u32
     ensures wild { heap.old.is_open ≡ true → FollowsNoPlace (heap_in heap.old) at (touches_in heap.old) (touches_in heap.new) }
     ensures counts { heap.old.is_open ≡ true → counts_in heap.new ≡ record (counts_in heap.old) { words = words_in_use (heap_in heap.new) } }
     ensures touches { heap.old.is_open ≡ true → touches_in heap.new ≤ touches_in heap.old + 29 }
+    ensures leaves { heap.old.is_open ≡ true → LeavesPayloads (heap_in heap.old).blocks at (touched_in heap.old) (touched_in heap.new) }
+    ensures leaves_all { heap.old.is_open ≡ true → ¬ (result ≡ 0) → LeavesLive (heap_in heap.old).blocks (touched_in heap.old) (touched_in heap.new) }
 {
     if !heap.is_open {
         return CallFault::Closed.number();
@@ -160,6 +165,8 @@ pub extern "C" fn tlsf_resize_place(heap: &mut HeapSlot, at: u32, len: u32, new_
     ensures wild { heap.old.is_open ≡ true → FollowsNoPlace (heap_in heap.old) at (touches_in heap.old) (touches_in heap.new) }
     ensures counts { heap.old.is_open ≡ true → counts_in heap.new ≡ counted_move (counts_in heap.old) at (resized_or_moved_by_place (level_in heap.old) (heap_in heap.old) at len).answer len (heap_in heap.new) }
     ensures touches { heap.old.is_open ≡ true → touches_in heap.new ≤ touches_in heap.old + 107 + 2 * (kept_at (heap_in heap.old) at len / 8) }
+    ensures leaves { heap.old.is_open ≡ true → LeavesPayloads (heap_in heap.old).blocks at (touched_in heap.old) (touched_in heap.new) }
+    ensures leaves_all { heap.old.is_open ≡ true → ¬ (result ≡ 0) → LeavesLive (heap_in heap.old).blocks (touched_in heap.old) (touched_in heap.new) }
 {
     if !heap.is_open {
         return CallFault::Closed.number();
@@ -202,6 +209,7 @@ pub extern "C" fn tlsf_place(
     ensures wild { heap.old.is_open ≡ true → FollowsNoPlace (heap_in heap.old) at (touches_in heap.old) (touches_in heap.new) }
     ensures counts { heap.old.is_open ≡ true → counts_in heap.new ≡ counts_in heap.old }
     ensures touches { heap.old.is_open ≡ true → touches_in heap.new ≤ touches_in heap.old + 4 }
+    ensures leaves { heap.old.is_open ≡ true → LeavesLive (heap_in heap.old).blocks (touched_in heap.old) (touched_in heap.new) }
 {
     if !heap.is_open {
         return CallFault::Closed.number();
@@ -249,6 +257,7 @@ pub extern "C" fn tlsf_block_at(heap: &mut HeapSlot, at: u32, block: &mut BlockI
     ensures wild { heap.old.is_open ≡ true → FollowsNoPlace (heap_in heap.old) at (touches_in heap.old) (touches_in heap.new) }
     ensures counts { heap.old.is_open ≡ true → counts_in heap.new ≡ counts_in heap.old }
     ensures touches { heap.old.is_open ≡ true → touches_in heap.new ≤ touches_in heap.old + 4 }
+    ensures leaves { heap.old.is_open ≡ true → LeavesLive (heap_in heap.old).blocks (touched_in heap.old) (touched_in heap.new) }
 {
     if !heap.is_open {
         return CallFault::Closed.number();
@@ -296,6 +305,7 @@ pub extern "C" fn tlsf_check(
     ensures wild { heap.old.is_open ≡ true → FollowsNoPlace (heap_in heap.old) from (touches_in heap.old) (touches_in heap.new) }
     ensures counts { heap.old.is_open ≡ true → counts_in heap.new ≡ counts_in heap.old }
     ensures touches { heap.old.is_open ≡ true → touches_in heap.new ≤ touches_in heap.old + 1 + block_touches * most }
+    ensures leaves { heap.old.is_open ≡ true → LeavesLive (heap_in heap.old).blocks (touched_in heap.old) (touched_in heap.new) }
 {
     if !heap.is_open {
         return CallFault::Closed.number();

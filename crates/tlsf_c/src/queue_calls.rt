@@ -2,8 +2,8 @@
 ghost use Rattle.std.specs.Prelude.{◌≡◌, ◌⊎◌, ℕ, true, false, ◌+◌, ◌*◌, ◌<◌, ◌≤◌, [], ◌∷◌, ◌++◌, List, length};
 ghost use Rattle.tlsf_post.specs.declared.post.Post.{Post};
 ghost use Rattle.tlsf_heap.specs.WordsInUse.{words_in_use};
-ghost use Rattle.tlsf_c.specs.Handles.{counts_in, heap_in, touches_in, StaysOpen};
-ghost use Rattle.tlsf_c.specs.Drains.{drained};
+ghost use Rattle.tlsf_c.specs.Handles.{counts_in, heap_in, touches_in, touched_in, StaysOpen};
+ghost use Rattle.tlsf_c.specs.Drains.{drained, LeavesUnnamed};
 ghost use Rattle.tlsf_c.specs.Names.{name_of};
 ghost use Rattle.tlsf_c.specs.Queues.{owner_in, left_in, got_in, end_in, put_in, AllTaken, KeepsQueue, KeepsEnd, IsNew, Puts, SawFull, Gives};
 ghost use Rattle.tlsf_c.specs.Refusals.{bad_size, no_memory, closed, in_use, full, empty, busy};
@@ -226,6 +226,8 @@ pub extern "C" fn tlsf_queue_drain(
     ensures no_counts { result ≡ 0 → came.new ≡ 0 → counts_in heap.new ≡ counts_in heap.old }
     ensures counts { result ≡ 0 → 0 < came.new → counts_in heap.new ≡ record (counts_in heap.old) { words = words_in_use (heap_in heap.new) } }
     ensures touches { result ≡ 0 → touches_in heap.new ≤ touches_in heap.old + 64 * came.new }
+    ensures leaves { result ≡ 0 → (posts : List Post) × (got_in queue.new ≡ got_in queue.old ++ posts)
+        × LeavesUnnamed (heap_in heap.old).blocks posts (touched_in heap.old) (touched_in heap.new) }
 {
     if !heap.is_open || !queue.is_open {
         return CallFault::Closed.number();
@@ -250,7 +252,8 @@ fn drain_one(alloc: Global, heap: &mut HeapSlot, queue: &mut QueueSlot) -> bool
     ensures open { StaysOpen heap.old heap.new × (queue.new.is_open ≡ true) }
     ensures queue { KeepsQueue (owner_in queue.old) (owner_in queue.new) × (left_in queue.new ≡ left_in queue.old) }
     ensures came { result ≡ true → (post : Post) × (got_in queue.new ≡ got_in queue.old ++ post ∷ [])
-        × (heap_in heap.new ≡ drained (heap_in heap.old) (post ∷ [])) }
+        × (heap_in heap.new ≡ drained (heap_in heap.old) (post ∷ []))
+        × LeavesUnnamed (heap_in heap.old).blocks (post ∷ []) (touched_in heap.old) (touched_in heap.new) }
     ensures counts { result ≡ true → counts_in heap.new ≡ record (counts_in heap.old) { words = words_in_use (heap_in heap.new) } }
     ensures touches { touches_in heap.new ≤ touches_in heap.old + 64 }
     ensures none { result ≡ false → (heap.new ≡ heap.old) × (got_in queue.new ≡ got_in queue.old) }

@@ -2,8 +2,8 @@
 //! `is_mixed` is left alone: the calls of the same names in the root of this crate see to both.
 
 use crate::{
-    tlsf_block_info, tlsf_heap, tlsf_heap_counts, tlsf_heap_report, tlsf_name, tlsf_offsets, tlsf_offsets_usage,
-    tlsf_post_end, tlsf_poster, tlsf_queue, tlsf_span, tlsf_take_end,
+    tlsf_block_info, tlsf_heap, tlsf_heap_counts, tlsf_heap_report, tlsf_kind, tlsf_name, tlsf_offsets,
+    tlsf_offsets_usage, tlsf_pools, tlsf_post_end, tlsf_poster, tlsf_queue, tlsf_span, tlsf_take_end,
 };
 use core::ffi::c_void;
 
@@ -14,6 +14,7 @@ extern "C" {
     #[must_use] pub fn tlsf_lane_open(post: *mut tlsf_post_end, take: *mut tlsf_take_end, capacity: u32) -> u32;
     #[must_use] pub fn tlsf_queue_open(queue: *mut tlsf_queue, posters: u32, capacity: u32) -> u32;
     #[must_use] pub fn tlsf_offsets_open(offsets: *mut tlsf_offsets, level: u32, number: u32, unit: u32, units: u32) -> u32;
+    #[must_use] pub fn tlsf_pools_open(pools: *mut tlsf_pools, level: u32, number: u32, rows: *const tlsf_kind, n: usize) -> u32;
 }
 
 #[rustfmt::skip]
@@ -41,6 +42,8 @@ extern "C" {
     #[must_use] pub fn tlsf_take(take: *mut tlsf_take_end, name: *mut tlsf_name) -> u32;
     pub fn tlsf_drain(heap: *mut tlsf_heap, take: *mut tlsf_take_end, most: u32, came: *mut u32) -> u32;
 
+    #[must_use] pub fn tlsf_queue_open_in(queue: *mut tlsf_queue, posters: u32, capacity: u32, memory: *mut c_void, bytes: usize) -> u32;
+    pub fn tlsf_queue_bytes(posters: u32, capacity: u32) -> usize;
     #[must_use] pub fn tlsf_poster_open(queue: *mut tlsf_queue, poster: *mut tlsf_poster) -> u32;
     pub fn tlsf_queue_close(queue: *mut tlsf_queue) -> u32;
     pub fn tlsf_poster_close(poster: *mut tlsf_poster) -> u32;
@@ -48,11 +51,21 @@ extern "C" {
     #[must_use] pub fn tlsf_queue_take(queue: *mut tlsf_queue, name: *mut tlsf_name) -> u32;
     pub fn tlsf_queue_drain(heap: *mut tlsf_heap, queue: *mut tlsf_queue, most: u32, came: *mut u32) -> u32;
 
+    #[must_use] pub fn tlsf_offsets_open_in(offsets: *mut tlsf_offsets, level: u32, number: u32, unit: u32, units: u32,
+                                            memory: *mut c_void, bytes: usize) -> u32;
+    pub fn tlsf_offsets_bytes(level: u32, units: u32) -> usize;
     pub fn tlsf_offsets_close(offsets: *mut tlsf_offsets) -> u32;
     #[must_use] pub fn tlsf_offsets_allocate(offsets: *mut tlsf_offsets, bytes: u64, span: *mut tlsf_span) -> u32;
     pub fn tlsf_offsets_release(offsets: *mut tlsf_offsets, name: *const tlsf_name) -> u32;
     #[must_use] pub fn tlsf_offsets_resize(offsets: *mut tlsf_offsets, span: *mut tlsf_span, bytes: u64) -> u32;
     #[must_use] pub fn tlsf_offsets_report(offsets: *mut tlsf_offsets, usage: *mut tlsf_offsets_usage) -> u32;
+
+    pub fn tlsf_pools_close(pools: *mut tlsf_pools) -> u32;
+    #[must_use] pub fn tlsf_pools_allocate(pools: *mut tlsf_pools, len: u32, name: *mut tlsf_name) -> u32;
+    pub fn tlsf_pools_release(pools: *mut tlsf_pools, name: *const tlsf_name) -> u32;
+    #[must_use] pub fn tlsf_pools_write(pools: *mut tlsf_pools, name: *const tlsf_name, at: u32, bytes: *const u8, n: usize) -> u32;
+    #[must_use] pub fn tlsf_pools_read(pools: *mut tlsf_pools, name: *const tlsf_name, at: u32, out: *mut u8, n: usize) -> u32;
+    #[must_use] pub fn tlsf_pools_report(pools: *mut tlsf_pools, part: u32, report: *mut tlsf_heap_report) -> u32;
 
     #[must_use] pub fn tlsf_counts(heap: *mut tlsf_heap, counts: *mut tlsf_heap_counts) -> u32;
     #[must_use] pub fn tlsf_report(heap: *mut tlsf_heap, report: *mut tlsf_heap_report) -> u32;

@@ -87,3 +87,49 @@ fn spans_of_an_arena_of_offsets() {
         assert_eq!(tlsf_offsets_close(&mut offsets), TLSF_OK);
     }
 }
+
+#[test]
+fn a_queue_and_an_arena_lie_in_memory_of_the_callers() {
+    let (mut queue, mut poster, mut offsets) = (tlsf_queue::CLOSED, tlsf_poster::CLOSED, tlsf_offsets::CLOSED);
+    let name = tlsf_name { heap: 1, at: 2, serial: 3 };
+    let (mut came, mut span) = (tlsf_name::default(), tlsf_span::default());
+    unsafe {
+        let (for_queue, for_words) = (tlsf_queue_bytes(1, 2), tlsf_offsets_bytes(4, 64));
+        assert_eq!((tlsf_queue_bytes(0, 2), tlsf_offsets_bytes(4, 3)), (0, 0));
+        let (mut one, mut two) = (vec![0_u8; for_queue], vec![0_u8; for_words]);
+        assert_eq!(tlsf_queue_open_in(&mut queue, 1, 2, one.as_mut_ptr().cast(), for_queue / 2), TLSF_BAD_SIZE);
+        assert_eq!(tlsf_queue_open_in(&mut queue, 1, 2, one.as_mut_ptr().cast(), for_queue), TLSF_OK);
+        assert_eq!(tlsf_offsets_open_in(&mut offsets, 4, 1, 256, 64, two.as_mut_ptr().cast(), for_words), TLSF_OK);
+        assert_eq!(
+            (tlsf_poster_open(&mut queue, &mut poster), tlsf_queue_post(&mut poster, &name)),
+            (TLSF_OK, TLSF_OK)
+        );
+        assert_eq!((tlsf_queue_take(&mut queue, &mut came), came), (TLSF_OK, name));
+        assert_eq!((tlsf_offsets_allocate(&mut offsets, 2000, &mut span), span.size), (TLSF_OK, 2048));
+        assert_eq!((tlsf_poster_close(&mut poster), tlsf_queue_close(&mut queue)), (TLSF_OK, TLSF_OK));
+        assert_eq!(tlsf_offsets_close(&mut offsets), TLSF_OK);
+    }
+}
+
+#[test]
+fn pools_serve_a_table() {
+    let mut pools = tlsf_pools::CLOSED;
+    let rows = [tlsf_kind { most: 1, len: 16 }, tlsf_kind { most: 2, len: 4000 }];
+    let (mut name, mut other, mut report) = (tlsf_name::default(), tlsf_name::default(), tlsf_heap_report::default());
+    let mut bytes = [9_u8; 3];
+    unsafe {
+        assert_eq!(tlsf_pools_open(&mut pools, 4, 5, rows.as_ptr(), 2), TLSF_OK);
+        assert_eq!((tlsf_pools_allocate(&mut pools, 16, &mut name), name.heap), (TLSF_OK, 5));
+        assert_eq!(tlsf_pools_allocate(&mut pools, 1, &mut other), TLSF_FULL);
+        assert_eq!((tlsf_pools_allocate(&mut pools, 17, &mut other), other.heap), (TLSF_OK, 6));
+        assert_eq!(tlsf_pools_write(&mut pools, &other, 0, [1, 2, 3].as_ptr(), 3), TLSF_OK);
+        assert_eq!((tlsf_pools_read(&mut pools, &other, 1, bytes.as_mut_ptr(), 3), bytes), (TLSF_OK, [2, 3, 0]));
+        assert_eq!((tlsf_pools_report(&mut pools, 1, &mut report), report.live_blocks), (TLSF_OK, 1));
+        assert_eq!(tlsf_pools_report(&mut pools, 2, &mut report), TLSF_STALE);
+        assert_eq!(
+            (tlsf_pools_release(&mut pools, &name), tlsf_pools_release(&mut pools, &name)),
+            (TLSF_OK, TLSF_STALE)
+        );
+        assert_eq!(tlsf_pools_close(&mut pools), TLSF_OK);
+    }
+}

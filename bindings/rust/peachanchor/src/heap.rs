@@ -280,9 +280,8 @@ impl Heap {
     ///
     /// # Safety
     ///
-    /// No other thread touches what is allocated while a call on this heap is under way, for which std's types don't care
-    /// (rule 4 of `tlsf.h`). Nothing is written past what was asked for, and no heap or lane is opened there. No other
-    /// heap has or had this one's number.
+    /// Nothing is written past what was asked for, and no heap or lane is opened there. No other heap has or had this one's
+    /// number.
     #[must_use]
     pub unsafe fn in_place(&self) -> InPlace<'_> {
         InPlace::over(self)

@@ -86,8 +86,11 @@ fn blocks_grow_where_they_stand_or_move() {
     block.resize(4).unwrap();
     block.resize(8).unwrap();
     assert_eq!(bytes_of(&block), [7, 7, 7, 7, 0, 0, 0, 0]);
-    // SAFETY: there is one thread.
-    unsafe { block.bytes_mut() }.fill(3);
+    let bytes = block.bytes_mut();
+    std::thread::scope(|scope| {
+        scope.spawn(|| bytes.fill(3));
+        drop(heap.allocate(100).unwrap()); // meanwhile
+    });
     assert_eq!(block[7].get(), 3);
     drop((block, wall));
     assert_eq!(heap.report().unwrap().live_blocks, 0);

@@ -5,6 +5,7 @@ ghost use Rattle.tlsf_heap.specs.Blocks.{want, IsPlace};
 ghost use Rattle.tlsf_heap.specs.ByPlace.{name_at, released_by_place};
 ghost use Rattle.tlsf_heap.specs.Calls.{allocated, resized};
 ghost use Rattle.tlsf_heap.specs.Checks.{FindsSound, IsCheck, block_touches};
+ghost use Rattle.tlsf_heap.specs.Footprint.{LeavesLive, LeavesPayloads};
 ghost use Rattle.tlsf_heap.specs.Given.{payload_words_left};
 ghost use Rattle.tlsf_heap.specs.InPlace.{payload_of};
 ghost use Rattle.tlsf_heap.specs.Laws.{IsLive};
@@ -50,6 +51,7 @@ impl AnyHeap {
         ensures goes_on { GoesOn self.old self.new }
         ensures counts { self.new.counts ≡ counted_request self.old.counts result len self.new.heap }
         ensures touches { self.new.touches ≤ self.old.touches + 33 }
+        ensures leaves { LeavesLive self.old.heap.blocks self.old.touched self.new.touched }
     {
         match &mut self.of_level {
             OfLevel::Four(heap) => self.counts.allocate_unset(heap, len),
@@ -67,6 +69,7 @@ impl AnyHeap {
         ensures goes_on { GoesOn self.old self.new }
         ensures counts { self.new.counts ≡ counted_request self.old.counts result len self.new.heap }
         ensures touches { self.new.touches ≤ self.old.touches + 118 }
+        ensures leaves { LeavesLive self.old.heap.blocks self.old.touched self.new.touched }
     {
         match &mut self.of_level {
             OfLevel::Four(heap) => self.counts.allocate_aligned(heap, len, step, skew),
@@ -81,6 +84,7 @@ impl AnyHeap {
         ensures goes_on { GoesOn self.old self.new }
         ensures counts { self.new.counts ≡ self.old.counts }
         ensures touches { self.new.touches ≤ self.old.touches + 4 }
+        ensures leaves { LeavesLive self.old.heap.blocks self.old.touched self.new.touched }
         ensures wild { FollowsNoPlace self.old.heap at self.old.touches self.new.touches }
     {
         match &mut self.of_level {
@@ -97,6 +101,7 @@ impl AnyHeap {
         ensures goes_on { GoesOn self.old self.new }
         ensures counts { self.new.counts ≡ self.old.counts }
         ensures touches { self.new.touches ≤ self.old.touches + 1 + block_touches * most }
+        ensures leaves { LeavesLive self.old.heap.blocks self.old.touched self.new.touched }
         ensures wild { FollowsNoPlace self.old.heap from self.old.touches self.new.touches }
     {
         match &mut self.of_level {
@@ -113,6 +118,7 @@ impl AnyHeap {
         ensures goes_on { GoesOn self.old self.new }
         ensures counts { self.new.counts ≡ self.old.counts }
         ensures touches { self.new.touches ≤ self.old.touches + 3 }
+        ensures leaves { LeavesLive self.old.heap.blocks self.old.touched self.new.touched }
         ensures wild { FollowsNoPlace self.old.heap at self.old.touches self.new.touches }
     {
         match &mut self.of_level {
@@ -128,6 +134,8 @@ impl AnyHeap {
         ensures goes_on { GoesOn self.old self.new }
         ensures counts { self.new.counts ≡ record self.old.counts { words = words_in_use self.new.heap } }
         ensures touches { self.new.touches ≤ self.old.touches + 29 }
+        ensures leaves { LeavesPayloads self.old.heap.blocks at self.old.touched self.new.touched }
+        ensures refused { OnErr result (LeavesLive self.old.heap.blocks self.old.touched self.new.touched) }
         ensures wild { FollowsNoPlace self.old.heap at self.old.touches self.new.touches }
     {
         match &mut self.of_level {
@@ -145,6 +153,8 @@ impl AnyHeap {
         ensures goes_on { GoesOn self.old self.new }
         ensures counts { self.new.counts ≡ counted_move self.old.counts name.at result len self.new.heap }
         ensures touches { self.new.touches ≤ self.old.touches + 104 + 2 * (min (length (payload_of self.old.heap name)) len / 8) }
+        ensures leaves { LeavesPayloads self.old.heap.blocks name.at self.old.touched self.new.touched }
+        ensures refused { OnErr result (LeavesLive self.old.heap.blocks self.old.touched self.new.touched) }
         ensures forged { FollowsNoForgery self.old.heap name self.old.touches self.new.touches }
     {
         match &mut self.of_level {
@@ -162,6 +172,8 @@ impl AnyHeap {
         ensures goes_on { GoesOn self.old self.new }
         ensures counts { self.new.counts ≡ counted_move self.old.counts at result len self.new.heap }
         ensures touches { self.new.touches ≤ self.old.touches + 107 + 2 * (kept_at self.old.heap at len / 8) }
+        ensures leaves { LeavesPayloads self.old.heap.blocks at self.old.touched self.new.touched }
+        ensures refused { OnErr result (LeavesLive self.old.heap.blocks self.old.touched self.new.touched) }
         ensures wild { FollowsNoPlace self.old.heap at self.old.touches self.new.touches }
     {
         match self.name_at(at) {
@@ -178,6 +190,8 @@ impl AnyHeap {
         ensures counts { self.new.counts ≡ counted_move self.old.counts name.at result len self.new.heap }
         ensures touches { self.new.touches ≤ self.old.touches + 133 + payload_words_left (resized self.old.heap name len).answer (resized self.old.heap name len).heap name
             + 3 * payload_words_moved self.old.level self.old.heap len }
+        ensures leaves { LeavesPayloads self.old.heap.blocks name.at self.old.touched self.new.touched }
+        ensures refused { OnErr result (LeavesLive self.old.heap.blocks self.old.touched self.new.touched) }
         ensures forged { FollowsNoForgery self.old.heap name self.old.touches self.new.touches }
     {
         match &mut self.of_level {

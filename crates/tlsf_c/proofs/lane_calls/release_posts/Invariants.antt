@@ -1,8 +1,8 @@
 use Rattle.std.proofs.Common.{◌≡◌, ◌+◌, ◌*◌, ◌<◌, ◌≤◌, true, take}
 use Rattle.tlsf_heap.specs.WordsInUse.{words_in_use}
-use Rattle.tlsf_c.specs.Drains.{drained}
+use Rattle.tlsf_c.specs.Drains.{drained, LeavesUnnamed}
 use Rattle.tlsf_c.specs.Levels.{GoesOn}
-use Rattle.tlsf_c.specs.Handles.{counts_in, heap_in, touches_in}
+use Rattle.tlsf_c.specs.Handles.{counts_in, heap_in, touches_in, touched_in}
 use Rattle.tlsf_c.proofs.lane_calls.release_posts.Given as goal
 
 abbrev pub invariant-loop-post : goal.invariant-loop-post
@@ -14,4 +14,5 @@ invariant-loop-post l = record {
   counts : 0 < l.post-index → counts_in l.heap ≡ record (counts_in l.fn.heap) { words = words_in_use (heap_in l.heap) };
   drained : heap_in l.heap ≡ drained (heap_in l.fn.heap) (take l.post-index l.posts);
   touches : touches_in l.heap ≤ touches_in l.fn.heap + 64 * l.post-index;
+  leaves : LeavesUnnamed (heap_in l.fn.heap).blocks (take l.post-index l.posts) (touched_in l.fn.heap) (touched_in l.heap);
 }

@@ -3,8 +3,9 @@ use Rattle.std.proofs.lemmas.Bool.{cases_lt}
 use mathlib.Core.List.{IsPrefix}
 use Rattle.tlsf_heap.specs.WordsInUse.{words_in_use}
 use Rattle.tlsf_post.specs.declared.post.Post.{Post}
-use Rattle.tlsf_c.specs.Handles.{heap_in, taken_in, ready_in}
+use Rattle.tlsf_c.specs.Handles.{heap_in, taken_in, ready_in, touched_in}
 use Rattle.tlsf_c.proofs.Draining.{taken_more, released_more, drained_none, counts_more, still_ready}
+use Rattle.tlsf_c.proofs.LeftUnnamed.{leaves_more}
 use Rattle.tlsf_c.proofs.lane_calls.tlsf_drain.Goals as goal
 
 pub loop-left-preserved : goal.loop-left-preserved
@@ -41,6 +42,7 @@ loop-left-preserved c =
         taken_more (taken_in c.args.take.now) (taken_in c.loop-left.take) (taken_in c.take_posts-taken.new.lane) i.posts.0 names i.posts.1 (took.came.0 ∙ ap (λ (l : List Post). taken_in c.loop-left.take ++ l) (sym front)),
         released_more (heap_in c.args.heap.now) (heap_in c.loop-left.heap) (heap_in c.release_posts.new.heap) i.posts.0 names i.posts.2 gone.drained,
         omega (arith, length-append i.posts.0 names, i.posts.3, many),
+        leaves_more (heap_in c.args.heap.now) (heap_in c.loop-left.heap) i.posts.0 names (touched_in c.args.heap.now) (touched_in c.loop-left.heap) (touched_in c.release_posts.new.heap) i.posts.2 i.posts.4 gone.leaves,
       );
       ready = omega (arith, i.ready, still, many);
       lane = λ p is. took.lane p (i.lane p is);

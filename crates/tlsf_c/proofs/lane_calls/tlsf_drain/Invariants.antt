@@ -2,9 +2,9 @@ use Rattle.std.proofs.Common.{◌≡◌, ◌+◌, ◌*◌, ◌<◌, ◌≤◌, t
 use Rattle.tlsf_heap.specs.WordsInUse.{words_in_use}
 use Rattle.tlsf_post.specs.declared.post.Post.{Post}
 use Rattle.tlsf_post.specs.declared.post_end.PostEnd.{PostEnd}
-use Rattle.tlsf_c.specs.Drains.{drained}
+use Rattle.tlsf_c.specs.Drains.{drained, LeavesUnnamed}
 use Rattle.tlsf_c.specs.Levels.{GoesOn}
-use Rattle.tlsf_c.specs.Handles.{counts_in, heap_in, touches_in, taken_in, ready_in, AreEnds}
+use Rattle.tlsf_c.specs.Handles.{counts_in, heap_in, touches_in, touched_in, taken_in, ready_in, AreEnds}
 use Rattle.tlsf_c.proofs.lane_calls.tlsf_drain.Given as goal
 
 abbrev pub invariant-loop-left : goal.invariant-loop-left
@@ -17,7 +17,8 @@ invariant-loop-left l = record {
   ended : l.count + l.left < l.most → length (ready_in l.fn.take) ≤ l.count;
   no_counts : l.count ≡ 0 → counts_in l.heap ≡ counts_in l.fn.heap;
   counts : 0 < l.count → counts_in l.heap ≡ record (counts_in l.fn.heap) { words = words_in_use (heap_in l.heap) };
-  posts : (posts : List Post) × (taken_in l.take ≡ taken_in l.fn.take ++ posts) × (heap_in l.heap ≡ drained (heap_in l.fn.heap) posts) × (length posts ≡ l.count);
+  posts : (posts : List Post) × (taken_in l.take ≡ taken_in l.fn.take ++ posts) × (heap_in l.heap ≡ drained (heap_in l.fn.heap) posts) × (length posts ≡ l.count)
+      × LeavesUnnamed (heap_in l.fn.heap).blocks posts (touched_in l.fn.heap) (touched_in l.heap);
   ready : length (ready_in l.fn.take) ≤ l.count + length (ready_in l.take);
   lane : (p : Option PostEnd) → AreEnds p l.fn.take.held.value → AreEnds p l.take.held.value;
   touches : touches_in l.heap ≤ touches_in l.fn.heap + 64 * l.count;

@@ -1,9 +1,9 @@
 use Rattle.std.proofs.Common.{◌≡◌, ◌+◌, ◌*◌, ◌<◌, ◌≤◌, true, List, ◌++◌, length}
 use Rattle.tlsf_heap.specs.WordsInUse.{words_in_use}
 use Rattle.tlsf_post.specs.declared.post.Post.{Post}
-use Rattle.tlsf_c.specs.Drains.{drained}
+use Rattle.tlsf_c.specs.Drains.{drained, LeavesUnnamed}
 use Rattle.tlsf_c.specs.Levels.{GoesOn}
-use Rattle.tlsf_c.specs.Handles.{counts_in, heap_in, touches_in}
+use Rattle.tlsf_c.specs.Handles.{counts_in, heap_in, touches_in, touched_in}
 use Rattle.tlsf_c.specs.Queues.{owner_in, left_in, got_in, KeepsQueue}
 use Rattle.tlsf_c.proofs.queue_calls.tlsf_queue_drain.Given as goal
 
@@ -18,7 +18,8 @@ invariant-loop-left l = record {
   ends : left_in l.queue ≡ left_in l.fn.queue;
   no_counts : l.count ≡ 0 → counts_in l.heap ≡ counts_in l.fn.heap;
   counts : 0 < l.count → counts_in l.heap ≡ record (counts_in l.fn.heap) { words = words_in_use (heap_in l.heap) };
-  posts : (posts : List Post) × (got_in l.queue ≡ got_in l.fn.queue ++ posts) × (heap_in l.heap ≡ drained (heap_in l.fn.heap) posts) × (length posts ≡ l.count);
+  posts : (posts : List Post) × (got_in l.queue ≡ got_in l.fn.queue ++ posts) × (heap_in l.heap ≡ drained (heap_in l.fn.heap) posts) × (length posts ≡ l.count)
+      × LeavesUnnamed (heap_in l.fn.heap).blocks posts (touched_in l.fn.heap) (touched_in l.heap);
   touches : touches_in l.heap ≤ touches_in l.fn.heap + 64 * l.count;
 }
 

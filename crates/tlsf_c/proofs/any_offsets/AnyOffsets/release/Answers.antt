@@ -8,7 +8,7 @@ use Rattle.tlsf_c.specs.declared.any_offsets.OffsetsOfLevel.{OffsetsOfLevel}
 use Rattle.tlsf_c.specs.OffsetLevels.{LevelOffsets}
 use Rattle.tlsf_c.specs.OffsetsOf.{offsets_shown}
 use Rattle.tlsf_c.specs.declared.any_offsets.AnyOffsets.TheInside.{Inside}
-use Rattle.tlsf_c.proofs.CarriedOffsets.{carried}
+use Rattle.tlsf_c.proofs.Carried.{carried}
 use Rattle.tlsf_c.proofs.any_offsets.AnyOffsets.release.Goals as goal
 use Rattle.tlsf_c.proofs.any_offsets.AnyOffsets.release.Goals.{in-Four, in-Five}
 

@@ -7,6 +7,9 @@ use Rattle.tlsf_heap.proofs.lemmas.laws.Live.{kept_resized}
 use Rattle.tlsf_heap.proofs.lemmas.calls.Resize.{resized_refused}
 use Rattle.tlsf_c.specs.declared.counts.Counts.{Counts}
 use Rattle.tlsf_c.proofs.CountSums.{part, live_not_forged, resized_sum, changed}
+use Rattle.tlsf_heap.specs.Footprint.{IsLiveWord, IsOthersWord}
+use Rattle.tlsf_heap.proofs.lemmas.calls.Leaves.{resized_word}
+use Rattle.tlsf_heap.proofs.lemmas.words.Footprint.{any_word}
 use Rattle.tlsf_c.proofs.counts.Counts.resize.Goals as goal
 
 pub returns-in-Err-clause-answer : goal.returns-in-Err-clause-answer
@@ -55,3 +58,29 @@ returns-in-Ok-resize_words-clause-forged g c = live_not_forged c.args.heap.now.h
 
 pub returns-in-Err-resize_words-clause-forged : goal.returns-in-Err-resize_words-clause-forged
 returns-in-Err-resize_words-clause-forged g c = live_not_forged c.args.heap.now.heap c.args.name c.in-Ok.ensures.keeps.was_lawful c.in-Ok.ensures.live _ _
+
+-- ---- the payloads of other blocks
+
+pub returns-in-Err-clause-leaves : goal.returns-in-Err-clause-leaves
+returns-in-Err-clause-leaves g c k o = c.in-Err.ensures.leaves k (any_word c.args.heap.now.heap.blocks c.args.name.at k o)
+
+pub returns-in-Ok-resize_words-clause-leaves : goal.returns-in-Ok-resize_words-clause-leaves
+returns-in-Ok-resize_words-clause-leaves g c k o =
+    let name = c.args.name in
+    let seen = c.in-Ok.ensures in
+    let was = subst (λ (s : HeapState). IsOthersWord s.blocks name.at k) (sym seen.same.heap) o in
+    let left = resized_word c.words_of.new.self.heap name.at k was name c.want.result c.args.len was.4 in
+    c.words_of_live-after.ensures.leaves k (subst (λ (s : HeapState). IsLiveWord s.blocks k) (sym c.resize_words.ensures.heap) (any_word _ name.at k left))
+    ∙ c.resize_words.ensures.leaves k was
+    ∙ seen.leaves k (any_word c.args.heap.now.heap.blocks name.at k o)
+
+pub returns-in-Err-resize_words-clause-leaves : goal.returns-in-Err-resize_words-clause-leaves
+returns-in-Err-resize_words-clause-leaves g c k o =
+    let seen = c.in-Ok.ensures in
+    c.resize_words.ensures.leaves k (subst (λ (s : HeapState). IsOthersWord s.blocks c.args.name.at k) (sym seen.same.heap) o)
+    ∙ seen.leaves k (any_word c.args.heap.now.heap.blocks c.args.name.at k o)
+
+pub returns-in-Err-resize_words-clause-refused : goal.returns-in-Err-resize_words-clause-refused
+returns-in-Err-resize_words-clause-refused g c k live =
+    let seen = c.in-Ok.ensures in
+    c.in-Err-resize_words.ensures.refused k (subst (λ (s : HeapState). IsLiveWord s.blocks k) (sym seen.same.heap) live) ∙ seen.leaves k live

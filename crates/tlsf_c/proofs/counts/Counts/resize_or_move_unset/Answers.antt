@@ -1,6 +1,12 @@
-use Rattle.std.proofs.Common.{sym, ap, arith}
+use Rattle.std.proofs.Common.{sym, ap, arith, ◌∙◌, subst}
 use Rattle.tlsf_heap.proofs.lemmas.calls.Kept.{heap_as_before}
 use Rattle.tlsf_c.proofs.CountSums.{live_not_forged, moved_refused, Moves, moves_unset}
+use Rattle.tlsf_heap.specs.Blocks.{HeapState}
+use Rattle.tlsf_heap.specs.Footprint.{IsOthersWord}
+use Rattle.tlsf_heap.proofs.lemmas.words.Footprint.{any_word}
+use Rattle.std.specs.Prelude.{length, min}
+use Rattle.tlsf_heap.specs.InPlace.{payload_of}
+use Rattle.tlsf_c.proofs.LeftWords.{moved_unset_left}
 use Rattle.tlsf_c.proofs.counts.Counts.resize_or_move_unset.Goals as goal
 
 pub returns-in-Err-clause-answer : goal.returns-in-Err-clause-answer
@@ -17,3 +23,18 @@ moved-requires g c =
 
 pub returns-clause-forged : goal.returns-clause-forged
 returns-clause-forged g c = live_not_forged c.args.heap.now.heap c.args.name c.in-Ok.ensures.keeps.was_lawful c.in-Ok.ensures.live _ _
+
+-- ---- the payloads of other blocks
+
+pub returns-in-Err-clause-leaves : goal.returns-in-Err-clause-leaves
+returns-in-Err-clause-leaves g c k o = c.in-Err.ensures.leaves k (any_word c.args.heap.now.heap.blocks c.args.name.at k o)
+
+pub returns-clause-leaves : goal.returns-clause-leaves
+returns-clause-leaves g c k o =
+    let name = c.args.name in
+    let seen = c.in-Ok.ensures in
+    let e = c.resize_or_move_unset-answer.ensures in
+    let was = subst (λ (s : HeapState). IsOthersWord s.blocks name.at k) (sym seen.same.heap) o in
+    let left = moved_unset_left g.row.SLI c.words_of.new.self.heap name k (min (length (payload_of c.words_of.new.self.heap name)) c.args.len) c.args.len c.resize_or_move_unset-answer.new.self.stored
+    c.resize_or_move_unset-answer.result c.resize_or_move_unset-answer.new.self.heap e.keeps.was_lawful e.heap (heap_as_before _ _ _ e.err) was in
+    c.moved.ensures.leaves k left ∙ e.leaves k was ∙ seen.leaves k (any_word c.args.heap.now.heap.blocks name.at k o)

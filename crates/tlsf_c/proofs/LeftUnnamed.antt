@@ -1,0 +1,67 @@
+-- Which payloads a drain leaves: it goes on by some posts.
+use Rattle.std.proofs.Common.{◌≡◌, ℕ, suc, ◌+◌, ◌<◌, ◌++◌, [], ◌∷◌, List, length, take, ap, sym, ◌∙◌, subst, arith}
+use Rattle.std.proofs.Math.Seq.{take-suc}
+use lib.ListN.{get_or}
+use Rattle.std.specs.List.{AllByRecursion}
+use Rattle.std.proofs.lemmas.Bool.{eqb-true, false≢true}
+use Rattle.tlsf_heap.specs.Blocks.{Block, HeapState, words_in}
+use Rattle.tlsf_heap.specs.Calls.{has_serial, released}
+use Rattle.tlsf_heap.specs.Footprint.{IsOthersWord, LeavesPayloads}
+use Rattle.tlsf_heap.specs.declared.name.Name.{Name}
+use Rattle.tlsf_post.specs.declared.post.Post.{Post}
+use Rattle.tlsf_heap.proofs.lemmas.blocks.Find.{and_right}
+use Rattle.tlsf_heap.proofs.lemmas.blocks.Lawful.{all_left, all_right}
+use Rattle.tlsf_heap.proofs.lemmas.calls.Leaves.{has_site}
+use Rattle.tlsf_heap.proofs.lemmas.calls.Outcomes.{by_released, takes}
+use Rattle.tlsf_heap.proofs.lemmas.laws.Lasting.{released_lasts}
+use Rattle.tlsf_heap.proofs.lemmas.words.Footprint.{HoldsWord, held_word, one_place}
+use Rattle.tlsf_c.specs.Drains.{drained, LeavesUnnamed}
+use Rattle.tlsf_c.proofs.Draining.{released_more}
+
+-- a word of another block than two is one of another than the first once the second is released
+released_others : (h : HeapState) (to k : ℕ) → IsOthersWord h.blocks to k → (name : Name) → IsOthersWord h.blocks name.at k → IsOthersWord (released h name).heap.blocks to k
+released_others h to k o name p = by_released (λ r. IsOthersWord r.heap.blocks to k) h name (λ why. o) (λ s own site is.
+    let P = HoldsWord o.1 k in
+    let same : o.1 ≡ p.1 = one_place h.blocks o.0 p.0 o.1 p.1 3 3 k o.2 p.2 in
+    let placed : words_in s.before ≡ name.at = eqb-true _ _ (and_right (has_serial name.serial s.block) _ is) in
+    held_word (takes h s).heap.blocks h.blocks to k o
+    (released_lasts P o.1 (λ m t f. false≢true (sym f.0)) h.tick s.before s.after s.block (λ e there. p.4 (sym same ∙ sym there ∙ placed)) (has_site h to k o s site)))
+
+-- and of others than those of several posts
+abbrev Unnamed : HeapState → ℕ → List Post → Type 0
+Unnamed h k posts = AllByRecursion (λ p. IsOthersWord h.blocks p.name.at k) posts
+
+after_one : (h : HeapState) (k : ℕ) (name : Name) → IsOthersWord h.blocks name.at k → (posts : List Post) → Unnamed h k posts → Unnamed (released h name).heap k posts
+after_one h k name o [] all = tt
+after_one h k name o (p ∷ posts) all = (released_others h p.name.at k all.0 name o, after_one h k name o posts all.1)
+
+after_drain : (h : HeapState) (k : ℕ) (gone posts : List Post) → Unnamed h k gone → Unnamed h k posts → Unnamed (drained h gone) k posts
+after_drain h k [] posts first all = all
+after_drain h k (p ∷ gone) posts first all = after_drain (released h p.name).heap k gone posts (after_one h k p.name first.0 gone first.1) (after_one h k p.name first.0 posts all)
+
+pub leaves_more : (first last : HeapState) (posts more : List Post) (old mid new : List ℕ) → last ≡ drained first posts
+    → LeavesUnnamed first.blocks posts old mid → LeavesUnnamed last.blocks more mid new → LeavesUnnamed first.blocks (posts ++ more) old new
+leaves_more first last posts more old mid new is before after k all =
+    let front : Unnamed first k posts = all_left (λ p. IsOthersWord first.blocks p.name.at k) posts more all in
+    let back : Unnamed first k more = all_right (λ p. IsOthersWord first.blocks p.name.at k) posts more all in
+    after k (subst (λ (s : HeapState). Unnamed s k more) (sym is) (after_drain first k posts more front back)) ∙ before k front
+
+-- the release of one
+pub leaves_one : (blocks : List Block) (p : Post) (at : ℕ) (old new : List ℕ) → at ≡ p.name.at → LeavesPayloads blocks at old new → LeavesUnnamed blocks (p ∷ []) old new
+leaves_one blocks p at old new is left k all = left k (subst (λ (n : ℕ). IsOthersWord blocks n k) (sym is) all.0)
+
+-- ---- one post more of several: its name was released
+
+module _ (posts : List Post) (i : ℕ) (d : Post) (name : Name) (inside : i < length posts) (same : name ≡ (get_or posts i d).name) where
+  one_longer : take (i + 1) posts ≡ take i posts ++ get_or posts i d ∷ []
+  one_longer = let next : i + 1 ≡ suc i = omega arith in ap (λ (n : ℕ). take n posts) next ∙ take-suc posts i d inside
+
+  pub drained_one : (first last now : HeapState) → last ≡ drained first (take i posts) → now ≡ (released last name).heap → now ≡ drained first (take (i + 1) posts)
+  drained_one first last now is gone =
+      released_more first last now (take i posts) (get_or posts i d ∷ []) is (gone ∙ ap (λ (n : Name). (released last n).heap) same) ∙ sym (ap (drained first) one_longer)
+
+  pub leaves_next : (first last : HeapState) (old mid new : List ℕ) → last ≡ drained first (take i posts) → LeavesUnnamed first.blocks (take i posts) old mid
+      → LeavesPayloads last.blocks name.at mid new → LeavesUnnamed first.blocks (take (i + 1) posts) old new
+  leaves_next first last old mid new is before left =
+      subst (λ (l : List Post). LeavesUnnamed first.blocks l old new) (sym one_longer)
+      (leaves_more first last (take i posts) (get_or posts i d ∷ []) old mid new is before (leaves_one last.blocks (get_or posts i d) name.at mid new (ap (λ (n : Name). n.at) same) left))

@@ -1,0 +1,31 @@
+use Rattle.std.proofs.Common.{rules, arith, [], ◌∷◌, ◌++◌, length-append}
+use Rattle.tlsf_c.specs.Handles.{heap_in}
+use Rattle.tlsf_c.specs.Queues.{got_in}
+use Rattle.tlsf_c.proofs.Draining.{taken_more, released_more}
+use Rattle.tlsf_c.proofs.LeftUnnamed.{leaves_more}
+use Rattle.tlsf_c.proofs.queue_calls.tlsf_queue_drain.Goals as goal
+
+pub loop-left-preserved-then-drain_one : goal.loop-left-preserved-then-drain_one
+loop-left-preserved-then-drain_one c =
+    let i = c.loop-left.invariant in
+    let came = c.drain_one.ensures.came c.if-drain_one.true in
+    let more = came.0 ∷ [] in
+    record {
+      heap = search rules;
+      queue = search rules;
+      goes_on = search rules;
+      base = search rules;
+      few = search rules;
+      kept = search rules;
+      ends = search rules;
+      no_counts = search rules;
+      counts = search rules;
+      posts = (
+        i.posts.0 ++ more,
+        taken_more (got_in c.args.queue.now) (got_in c.loop-left.queue) (got_in c.drain_one.new.queue) i.posts.0 more i.posts.1 came.1,
+        released_more (heap_in c.args.heap.now) (heap_in c.loop-left.heap) (heap_in c.drain_one.new.heap) i.posts.0 more i.posts.2 came.2,
+        omega (arith, length-append i.posts.0 more, i.posts.3),
+        leaves_more (heap_in c.args.heap.now) (heap_in c.loop-left.heap) i.posts.0 more _ _ _ i.posts.2 i.posts.4 came.3,
+      );
+      touches = search rules;
+    }

@@ -1,0 +1,44 @@
+-- What lies behind C's handles of pools, and what crosses to C beside them.
+use Rattle.std.specs.Prelude.{◌≡◌, ℕ, true, List, map, Option, Some, None, Result, Ok, Err}
+use Rattle.tlsf_heap.specs.Numbers.{number_of}
+use Rattle.tlsf_heap.specs.declared.name.Name.{Name}
+use Rattle.tlsf_heap.specs.declared.refusal.Refusal.TheVariants.{Worn, Stale}
+use Rattle.tlsf_heap.specs.declared.report.Report.{Report}
+use Rattle.tlsf_pool.specs.declared.kind.Kind.{Kind}
+use Rattle.tlsf_pool.specs.declared.pools.pool_refusal.PoolRefusal.{PoolRefusal}
+use Rattle.tlsf_pool.specs.declared.pools.pool_refusal.PoolRefusal.TheVariants as pool
+use Rattle.tlsf_pool.specs.pools.Parts.{PoolsState}
+use Rattle.tlsf_c.specs.Refusals.{bad_size, full}
+use Rattle.tlsf_c.specs.declared.kind_row.KindRow.{KindRow}
+use Rattle.tlsf_c.specs.declared.pools_slot.PoolsSlot.{PoolsSlot}
+
+-- the pools of an open handle
+abbrev pub pools_in : PoolsSlot → PoolsState
+pools_in h = h.held.value.pools
+
+-- their level
+abbrev pub pools_level : PoolsSlot → ℕ
+pools_level h = h.held.value.level
+
+-- an open handle stays open, and its pools keep their level
+pub record PoolsStayOpen (old new : PoolsSlot) : Type 0 where
+  pub is_open : new.is_open ≡ true
+  pub level : pools_level new ≡ pools_level old
+
+abbrev pub kind_of : KindRow → Kind
+kind_of row = record { most = row.most; len = row.len }
+
+abbrev pub kinds_of : List KindRow → List Kind
+kinds_of rows = map kind_of rows
+
+-- 0, or why pools refuse an allocate: no row is long enough, or as many blocks of the row are held as may be, or the ticks are used up
+abbrev pub pool_status_of : Result Name PoolRefusal → ℕ
+pool_status_of (Ok name) = 0
+pool_status_of (Err pool.TooLong) = bad_size
+pool_status_of (Err pool.Full) = full
+pool_status_of (Err pool.Worn) = number_of Worn
+
+-- 0, or that there is no such part
+abbrev pub part_status_of : Option Report → ℕ
+part_status_of (Some report) = 0
+part_status_of None = number_of Stale

@@ -1,0 +1,113 @@
+//! Pools whose level is told when they are opened.
+ghost use Rattle.std.specs.Prelude.{◌≡◌, ◌+◌, ◌<◌, ◌≤◌, ◌^◌, ◌↔◌, length, IfOk, IfErr, IsErrOf, ◌≢◌};
+ghost use Rattle.tlsf_pool.specs.sizes.Splits.{HasNoCut};
+ghost use Rattle.tlsf_c.specs.PoolCalls.{AreNewPools, AllocatesInPools, ReleasesInPools, WritesInPools, ReadsInPools, ReportsInPools};
+
+use std::alloc::Global;
+use std::marker::Model;
+use tlsf_heap::{Name, OpenFault, Refusal, Report};
+use tlsf_pool::{Kind, PoolRefusal, Pools};
+
+/// Pools of one of the two levels.
+#[derive(Drop)]
+pub enum PoolsOfLevel {
+    Four(Pools<4>),
+    Five(Pools<5>),
+}
+
+/// Pools whose level, 4 or 5, is told when they are opened. Contracts see them as their level and what they show.
+#[derive(Drop)]
+pub struct AnyPools {
+    of_level: PoolsOfLevel,
+}
+
+impl Model for AnyPools {
+    ghost use Rattle.tlsf_c.specs.PoolLevels.{LevelPools};
+
+    ghost Value = { LevelPools };
+
+    ghost use Rattle.tlsf_c.specs.PoolsOf.{pools_shown};
+
+    ghost view = { λ a. pools_shown a.of_level };
+}
+
+impl AnyPools {
+    /// Opens the pools of a level, 4 or 5, for a table: their heaps have the numbers from `id` on.
+    pub fn open(alloc: Global, level: u32, id: u32, kinds: &[Kind]) -> Result<AnyPools, OpenFault>
+        requires least { 4 ≤ level }
+        requires most { level ≤ 5 }
+        requires few { length kinds.now ≤ 64 }
+        requires numbers { id + 8 ≤ 2 ^ 32 }
+        ensures level { IfOk result (λ a. a.level ≡ level) }
+        ensures new { IfOk result (λ a. AreNewPools level id kinds.now a.pools) }
+        ensures bad_size { IsErrOf result OpenFault.BadSize ↔ HasNoCut level 8 kinds.now }
+        ensures not_worn { ¬ (IsErrOf result OpenFault.Worn) }
+    {
+        if level == 4 {
+            let pools = Pools::<4>::open(alloc, id, kinds, 0)?;
+            Ok(AnyPools {
+                of_level: PoolsOfLevel::Four(pools),
+            })
+        } else {
+            let pools = Pools::<5>::open(alloc, id, kinds, 0)?;
+            Ok(AnyPools {
+                of_level: PoolsOfLevel::Five(pools),
+            })
+        }
+    }
+
+    /// `Pools::allocate`.
+    pub fn allocate(&mut self, len: u32) -> Result<Name, PoolRefusal>
+        ensures level { self.new.level ≡ self.old.level }
+        ensures allocates { AllocatesInPools self.old.level self.old.pools self.new.pools len result }
+    {
+        match &mut self.of_level {
+            PoolsOfLevel::Four(pools) => pools.allocate(len),
+            PoolsOfLevel::Five(pools) => pools.allocate(len),
+        }
+    }
+
+    /// `Pools::release`.
+    pub fn release(&mut self, name: Name) -> Result<(), Refusal>
+        ensures level { self.new.level ≡ self.old.level }
+        ensures releases { ReleasesInPools self.old.pools self.new.pools name result }
+    {
+        match &mut self.of_level {
+            PoolsOfLevel::Four(pools) => pools.release(name),
+            PoolsOfLevel::Five(pools) => pools.release(name),
+        }
+    }
+
+    /// `Pools::write`.
+    pub fn write(&mut self, name: Name, at: u32, bytes: &[u8]) -> Result<(), Refusal>
+        ensures level { self.new.level ≡ self.old.level }
+        ensures writes { WritesInPools self.old.pools self.new.pools name at bytes.now result }
+    {
+        match &mut self.of_level {
+            PoolsOfLevel::Four(pools) => pools.write(name, at, bytes),
+            PoolsOfLevel::Five(pools) => pools.write(name, at, bytes),
+        }
+    }
+
+    /// `Pools::read`.
+    pub fn read(&mut self, name: Name, at: u32, out: &mut [u8]) -> Result<(), Refusal>
+        ensures level { self.new.level ≡ self.old.level }
+        ensures reads { ReadsInPools self.old.pools self.new.pools name at out.old out.new result }
+    {
+        match &mut self.of_level {
+            PoolsOfLevel::Four(pools) => pools.read(name, at, out),
+            PoolsOfLevel::Five(pools) => pools.read(name, at, out),
+        }
+    }
+
+    /// `Pools::report`.
+    pub fn report(&mut self, part: usize) -> Option<Report>
+        ensures level { self.new.level ≡ self.old.level }
+        ensures reports { ReportsInPools self.old.level self.old.pools self.new.pools part result }
+    {
+        match &mut self.of_level {
+            PoolsOfLevel::Four(pools) => pools.report(part),
+            PoolsOfLevel::Five(pools) => pools.report(part),
+        }
+    }
+}

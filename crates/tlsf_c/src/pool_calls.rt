@@ -1,0 +1,262 @@
+//! C's calls of several heaps for one table of kinds, which never refuse for want of room.
+ghost use Rattle.std.specs.Prelude.{◌≡◌, ◌+◌, ◌<◌, ◌≤◌, ◌^◌, true, false, ◌↔◌, Result, IfOk, IsErrOf, Option, IfSome, length};
+ghost use Rattle.tlsf_heap.specs.declared.name.Name.{Name};
+ghost use Rattle.tlsf_heap.specs.declared.refusal.Refusal.{Refusal};
+ghost use Rattle.tlsf_heap.specs.declared.report.Report.{Report};
+ghost use Rattle.tlsf_pool.specs.declared.pools.pool_refusal.PoolRefusal.{PoolRefusal};
+ghost use Rattle.tlsf_pool.specs.sizes.Splits.{HasNoCut};
+ghost use Rattle.tlsf_c.specs.Names.{name_of, report_in};
+ghost use Rattle.tlsf_c.specs.PoolCalls.{AreNewPools, AllocatesInPools, ReleasesInPools, WritesInPools, ReadsInPools, ReportsInPools};
+ghost use Rattle.tlsf_c.specs.PoolHandles.{pools_in, pools_level, PoolsStayOpen, kinds_of, pool_status_of, part_status_of};
+ghost use Rattle.tlsf_c.specs.Refusals.{status_of, bad_size, no_memory, closed, in_use, bad_level};
+
+use crate::any_pools::AnyPools;
+use crate::call_fault::{CallFault, status};
+use crate::kind_row::KindRow;
+use crate::names::{BlockName, HeapReport};
+use crate::pools_slot::PoolsSlot;
+use std::alloc::Global;
+use tlsf_heap::{OpenFault, Refusal};
+use tlsf_pool::{Kind, PoolRefusal};
+
+/// What stands in a place that has no row.
+const NO_KIND: Kind = Kind { most: 0, len: 0 };
+
+/// Opens pools of a level, 4 or 5, for a table of at most 64 rows.
+fn open_for(alloc: Global, level: u32, id: u32, rows: &[KindRow]) -> Result<AnyPools, OpenFault>
+    requires least { 4 ≤ level }
+    requires most { level ≤ 5 }
+    requires few { length rows.now ≤ 64 }
+    requires numbers { id + 8 ≤ 2 ^ 32 }
+    ensures level { IfOk result (λ a. a.level ≡ level) }
+    ensures new { IfOk result (λ a. AreNewPools level id (kinds_of rows.now) a.pools) }
+    ensures bad_size { IsErrOf result OpenFault.BadSize ↔ HasNoCut level 8 (kinds_of rows.now) }
+    ensures not_worn { ¬ (IsErrOf result OpenFault.Worn) }
+{
+    let mut kinds = [NO_KIND; 64];
+    for (k, row) in rows.iter().enumerate() {
+        kinds[k] = row.kind();
+    }
+    let (table, _) = kinds.split_at(rows.len());
+    AnyPools::open(alloc, level, id, table)
+}
+
+/// Opens heaps of a level, 4 or 5, for a table of kinds, in a closed handle: as many, at most eight, as have the fewest words together. Their
+/// numbers are `id` and those behind it. The kinds go from short to long.
+///
+/// Refused as InUse where the handle is open, else as BadLevel where there is no such level, else as BadSize where there are more than 64 rows,
+/// the numbers would go past 2^32, or no way to cut the table gives each heap a region, else as NoMemory where the memory was not granted. No
+/// later call on the pools takes memory.
+///
+/// ```text
+/// tlsf_pools_open(&pools, 4, 1, rows, 2) == TLSF_OK     // rows: {2000, 64}, {1, 65536}
+/// ```
+#[unsafe(no_mangle)]
+pub extern "C" fn tlsf_pools_open(
+    alloc: Global,
+    pools: &mut PoolsSlot,
+    level: u32,
+    id: u32,
+    rows: &[KindRow],
+) -> u32
+    ensures in_use { pools.old.is_open ≡ true → result ≡ in_use }
+    ensures bad_level { pools.old.is_open ≡ false → ¬ (level ≡ 4) → ¬ (level ≡ 5) → result ≡ bad_level }
+    ensures too_many { pools.old.is_open ≡ false → 4 ≤ level → level ≤ 5 → 64 < length rows.now → result ≡ bad_size }
+    ensures no_number { pools.old.is_open ≡ false → 4 ≤ level → level ≤ 5 → 2 ^ 32 < id + 8 → result ≡ bad_size }
+    ensures no_cut { pools.old.is_open ≡ false → 4 ≤ level → level ≤ 5 → HasNoCut level 8 (kinds_of rows.now) → result ≡ bad_size }
+    ensures no_memory { pools.old.is_open ≡ false → 4 ≤ level → level ≤ 5 → length rows.now ≤ 64 → id + 8 ≤ 2 ^ 32 → ¬ (HasNoCut level 8 (kinds_of rows.now)) → ¬ (result ≡ 0) → result ≡ no_memory }
+    ensures refused { ¬ (result ≡ 0) → pools.new ≡ pools.old }
+    ensures open { result ≡ 0 → pools.new.is_open ≡ true }
+    ensures level { result ≡ 0 → pools_level pools.new ≡ level }
+    ensures new { result ≡ 0 → AreNewPools level id (kinds_of rows.now) (pools_in pools.new) }
+{
+    if pools.is_open {
+        return CallFault::InUse.number();
+    }
+    if level < 4 || level > 5 {
+        return CallFault::BadLevel.number();
+    }
+    if rows.len() > 64 || id > u32::MAX - 7 {
+        return CallFault::BadSize.number();
+    }
+    match open_for(alloc, level, id, rows) {
+        Err(fault) => fault.number(),
+        Ok(opened) => match Box::new(alloc, opened) {
+            Err(_) => CallFault::NoMemory.number(),
+            Ok(owned) => {
+                pools.put_in(owned);
+                0
+            }
+        },
+    }
+}
+
+/// Closes all heaps of pools. No name of their blocks is of use from then on.
+///
+/// Refused as Closed where the handle isn't open.
+///
+/// ```text
+/// tlsf_pools_close(&pools) == TLSF_OK
+/// ```
+#[unsafe(no_mangle)]
+pub extern "C" fn tlsf_pools_close(alloc: Global, pools: &mut PoolsSlot) -> u32
+    ensures after { pools.new.is_open ≡ false }
+    ensures closed { pools.old.is_open ≡ false → (result ≡ closed) × (pools.new ≡ pools.old) }
+    ensures open { pools.old.is_open ≡ true → result ≡ 0 }
+{
+    match pools.take_out(alloc) {
+        None => CallFault::Closed.number(),
+        Some(owned) => {
+            drop(owned);
+            0
+        }
+    }
+}
+
+/// Gives a block that holds `len` bytes of payload, all zero, in the heap of the first part of the table that has a row long enough. Its name
+/// goes to `name`.
+///
+/// Refused as Closed where the handle isn't open, else as BadSize where no row is long enough, else as Full where as many blocks of that row are
+/// held as may be, else as Worn where the ticks of that heap are used up. It is never refused for want of room.
+///
+/// ```text
+/// tlsf_pools_allocate(&pools, 64, &name) == TLSF_OK
+/// ```
+#[unsafe(no_mangle)]
+pub extern "C" fn tlsf_pools_allocate(
+    alloc: Global,
+    pools: &mut PoolsSlot,
+    len: u32,
+    name: &mut BlockName,
+) -> u32
+    ensures closed { pools.old.is_open ≡ false → (result ≡ closed) × (pools.new ≡ pools.old) }
+    ensures open { pools.old.is_open ≡ true → PoolsStayOpen pools.old pools.new }
+    ensures allocates { pools.old.is_open ≡ true → (answer : Result Name PoolRefusal) × AllocatesInPools (pools_level pools.old) (pools_in pools.old) (pools_in pools.new) len answer
+        × (result ≡ pool_status_of answer) × IfOk answer (λ given. name_of name.new ≡ given) }
+    ensures no_name { ¬ (result ≡ 0) → name.new ≡ name.old }
+{
+    let Some(mut owned) = pools.take_out(alloc) else {
+        return CallFault::Closed.number();
+    };
+    let answer = owned.allocate(len);
+    pools.put_in(owned);
+    match answer {
+        Ok(new) => {
+            *name = BlockName::of(new);
+            0
+        }
+        Err(PoolRefusal::TooLong) => CallFault::BadSize.number(),
+        Err(PoolRefusal::Full) => CallFault::Full.number(),
+        Err(PoolRefusal::Worn) => Refusal::Worn.number(),
+    }
+}
+
+/// Takes back the block of that name, into the heap that it names.
+///
+/// Refused as Closed where the handle isn't open, else as `Pools::release` refuses: Foreign, Stale, Worn.
+///
+/// ```text
+/// tlsf_pools_release(&pools, &name) == TLSF_OK
+/// ```
+#[unsafe(no_mangle)]
+pub extern "C" fn tlsf_pools_release(alloc: Global, pools: &mut PoolsSlot, name: &BlockName) -> u32
+    ensures closed { pools.old.is_open ≡ false → (result ≡ closed) × (pools.new ≡ pools.old) }
+    ensures open { pools.old.is_open ≡ true → PoolsStayOpen pools.old pools.new }
+    ensures releases { pools.old.is_open ≡ true → (answer : Result (Unit {0}) Refusal) × ReleasesInPools (pools_in pools.old) (pools_in pools.new) (name_of name.now) answer × (result ≡ status_of answer) }
+{
+    let Some(mut owned) = pools.take_out(alloc) else {
+        return CallFault::Closed.number();
+    };
+    let answer = owned.release(name.name());
+    pools.put_in(owned);
+    status(answer)
+}
+
+/// Writes bytes into the payload of the block of that name, from byte `at` of it on.
+///
+/// Refused as Closed where the handle isn't open, else as `Pools::write` refuses: Foreign, Stale, Range.
+///
+/// ```text
+/// tlsf_pools_write(&pools, &name, 0, bytes, 2) == TLSF_OK
+/// ```
+#[unsafe(no_mangle)]
+pub extern "C" fn tlsf_pools_write(
+    alloc: Global,
+    pools: &mut PoolsSlot,
+    name: &BlockName,
+    at: u32,
+    bytes: &[u8],
+) -> u32
+    ensures closed { pools.old.is_open ≡ false → (result ≡ closed) × (pools.new ≡ pools.old) }
+    ensures open { pools.old.is_open ≡ true → PoolsStayOpen pools.old pools.new }
+    ensures writes { pools.old.is_open ≡ true → (answer : Result (Unit {0}) Refusal) × WritesInPools (pools_in pools.old) (pools_in pools.new) (name_of name.now) at bytes.now answer × (result ≡ status_of answer) }
+{
+    let Some(mut owned) = pools.take_out(alloc) else {
+        return CallFault::Closed.number();
+    };
+    let answer = owned.write(name.name(), at, bytes);
+    pools.put_in(owned);
+    status(answer)
+}
+
+/// Reads bytes of the payload of the block of that name, from byte `at` of it on, and fills `out` with them.
+///
+/// Refused as Closed where the handle isn't open, else as `Pools::read` refuses: Foreign, Stale, Range. `out` is then as before.
+///
+/// ```text
+/// tlsf_pools_read(&pools, &name, 0, out, 2) == TLSF_OK
+/// ```
+#[unsafe(no_mangle)]
+pub extern "C" fn tlsf_pools_read(
+    alloc: Global,
+    pools: &mut PoolsSlot,
+    name: &BlockName,
+    at: u32,
+    out: &mut [u8],
+) -> u32
+    ensures closed { pools.old.is_open ≡ false → (result ≡ closed) × (pools.new ≡ pools.old) × (out.new ≡ out.old) }
+    ensures open { pools.old.is_open ≡ true → PoolsStayOpen pools.old pools.new }
+    ensures reads { pools.old.is_open ≡ true → (answer : Result (Unit {0}) Refusal) × ReadsInPools (pools_in pools.old) (pools_in pools.new) (name_of name.now) at out.old out.new answer × (result ≡ status_of answer) }
+{
+    let Some(mut owned) = pools.take_out(alloc) else {
+        return CallFault::Closed.number();
+    };
+    let answer = owned.read(name.name(), at, out);
+    pools.put_in(owned);
+    status(answer)
+}
+
+/// What the heap of a part of the table holds goes to `report`. The parts have numbers from 0 on, in the order of the table. It walks over all
+/// blocks of that heap.
+///
+/// Refused as Closed where the handle isn't open, else as Stale where there is no such part, so that a walk from 0 on meets all.
+///
+/// ```text
+/// tlsf_pools_report(&pools, 0, &report) == TLSF_OK
+/// ```
+#[unsafe(no_mangle)]
+pub extern "C" fn tlsf_pools_report(
+    alloc: Global,
+    pools: &mut PoolsSlot,
+    part: u32,
+    report: &mut HeapReport,
+) -> u32
+    ensures closed { pools.old.is_open ≡ false → (result ≡ closed) × (pools.new ≡ pools.old) }
+    ensures open { pools.old.is_open ≡ true → PoolsStayOpen pools.old pools.new }
+    ensures reports { pools.old.is_open ≡ true → (answer : Option Report) × ReportsInPools (pools_level pools.old) (pools_in pools.old) (pools_in pools.new) part answer
+        × (result ≡ part_status_of answer) × IfSome answer (λ found. report_in report.new ≡ found) }
+    ensures no_report { ¬ (result ≡ 0) → report.new ≡ report.old }
+{
+    let Some(mut owned) = pools.take_out(alloc) else {
+        return CallFault::Closed.number();
+    };
+    let answer = owned.report(part as usize);
+    pools.put_in(owned);
+    match answer {
+        Some(found) => {
+            *report = HeapReport::of(found);
+            0
+        }
+        None => Refusal::Stale.number(),
+    }
+}
