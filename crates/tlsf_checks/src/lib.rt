@@ -1,4 +1,4 @@
-//! Tests of the public calls of the libraries: of one heap and its pools, and of posts and locks. `same` and `name` serve the tests of other
+//! Tests of the public calls of the libraries: of one heap and its pools, of memory in place, and of posts and locks. `same` and `name` serve the tests of other
 //! crates too.
 #![tactic(auto)]
 

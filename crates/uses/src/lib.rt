@@ -3,9 +3,17 @@
 #![tactic(auto)]
 
 #[cfg(test)]
+mod calculator;
+#[cfg(test)]
+mod calculator_calls;
+#[cfg(test)]
 mod chord;
 #[cfg(test)]
+mod decoder;
+#[cfg(test)]
 mod lock;
+#[cfg(test)]
+mod messages;
 #[cfg(test)]
 mod mixer;
 #[cfg(test)]

@@ -31,6 +31,13 @@ pub struct Inlet<'a> {
 }
 
 impl<'a> Inlet<'a> {
+    /// An inlet to an arena, with the places by which its blocks come home.
+    pub fn new(packets: RemoteArena<4, 64>, places: &'a Places<Parcel<64>>) -> Inlet<'a>
+        requires own { packets.places ≡ id_of places.now }
+    {
+        Inlet { packets, places }
+    }
+
     /// A block for a packet of so many bytes, which any thread may drop.
     pub fn take_in(&mut self, len: u32) -> Result<Packet<'a>, PoolRefusal> {
         self.packets.lend(self.places, len)
@@ -51,10 +58,7 @@ pub fn send(rt: &impl Threads, first: Vec<Packet>, second: Vec<Packet>) {
 pub fn send_all(rt: &impl Threads, alloc: Global) -> Result<String, Error> {
     let (places, owner) = open_places(alloc, PACKETS as usize)?;
     let packets = RemoteArena::<4, 64>::open(alloc, owner, 0, PACKETS, LONGEST)?;
-    let mut inlet = Inlet {
-        packets,
-        places: &places,
-    };
+    let mut inlet = Inlet::new(packets, &places);
     let mut told = String::new(alloc);
     for burst in &BURSTS {
         let mut long: Vec<Packet> = Vec::new(alloc);
