@@ -45,7 +45,7 @@ enum { OWN = 0x20000000, ENDED = 64, TOLD = 65, LENGTHS = 128 };
 static struct {
     volatile char marks[LENGTHS + 1024];
     made *calls[CALLS];
-    void *(*calloc)(size_t, size_t), *(*malloc)(size_t), (*free)(void *), *pool;
+    void *(*calloc)(size_t, size_t), *(*malloc)(size_t), (*free)(void *);
     struct block blocks[LIVE];
     uint32_t state;
     uint64_t times[CALLS][TIMED];
@@ -74,9 +74,10 @@ static int nothing(struct block *block, uint32_t len) { return (void)block, len 
 static made *const of_heap[CALLS] = {heap_allocate, heap_release, heap_malloc, heap_free, nothing};
 static made *const of_system[CALLS] = {system_calloc, system_free, system_malloc, system_free, nothing};
 #ifdef AUTHORS
-static int authors_calloc(struct block *block, uint32_t len) { return (block->at = calloc_ex(1, len, own->pool)) != NULL; }
-static int authors_malloc(struct block *block, uint32_t len) { return (block->at = malloc_ex(len, own->pool)) != NULL; }
-static int authors_free(struct block *block, uint32_t len) { return (void)len, free_ex(block->at, own->pool), 1; }
+static _Alignas(LINE) void *pool; /* what a program keeps of a heap, as the handle above: it is flushed too */
+static int authors_calloc(struct block *block, uint32_t len) { return (block->at = calloc_ex(1, len, pool)) != NULL; }
+static int authors_malloc(struct block *block, uint32_t len) { return (block->at = malloc_ex(len, pool)) != NULL; }
+static int authors_free(struct block *block, uint32_t len) { return (void)len, free_ex(block->at, pool), 1; }
 static made *const of_authors[CALLS] = {authors_calloc, authors_free, authors_malloc, authors_free, nothing};
 #endif
 
@@ -98,8 +99,8 @@ static void open_all(const char *column) {
 #ifdef AUTHORS
     if (!strcmp(column, "authors")) {
         calls = of_authors;
-        own->pool = mapped(NULL, 8 * WORDS, MAP_PRIVATE | MAP_POPULATE);
-        ends_if(init_memory_pool(8 * WORDS, own->pool) == (size_t)-1, "the pool");
+        pool = mapped(NULL, 8 * WORDS, MAP_PRIVATE | MAP_POPULATE);
+        ends_if(init_memory_pool(8 * WORDS, pool) == (size_t)-1, "the pool");
     }
 #endif
     memcpy(own->calls, calls, sizeof own->calls);

@@ -317,6 +317,8 @@ class Tree:
         if path[0] != "Rattle" or len(path) < 3 or path[1] not in self.all_crates or path[2] != "specs":
             return OUTSIDE
         crate, rest = path[1], list(path[3:])
+        if rest[:1] == ["contracts"]:  # what the kit writes of a type, as its row
+            return OUTSIDE
         if rest[:1] == ["declared"]:
             return self.declared(crate, rest[1:])
         if (crate, ".".join(rest)) in self.specs:
