@@ -1,5 +1,5 @@
 -- What the calls of a heap may touch.
-use Rattle.std.specs.Prelude.{◌≡◌, ◌≢◌, ℕ, ◌+◌, ◌<◌, ◌≤◌, Result}
+use Rattle.std.specs.Prelude.{◌≡◌, ◌≢◌, ℕ, ◌+◌, ◌/◌, ◌<◌, ◌≤◌, Result}
 use Rattle.tlsf_heap.specs.Blocks.{HeapState, IsPlace, want}
 use Rattle.tlsf_heap.specs.Given.{payload_words_given, payload_words_left}
 use Rattle.tlsf_heap.specs.declared.name.Name.{Name}
@@ -41,6 +41,25 @@ release_touches = 30
 -- list the rest, and for the payload of the block left 3 and one for each word
 abbrev pub resize_touches : Result (Unit {0}) Refusal → HeapState → Name → ℕ
 resize_touches answer left name = 27 + payload_words_left answer left name
+
+-- in how many groups of eight words so many words lie at most that stand in a row, wherever the first is
+abbrev pub groups_of : ℕ → ℕ
+groups_of n = (n + 14) / 8
+
+-- the groups of eight words in which all lies that an allocate of a few bytes touches: 3 for the list of the block given and 1 for its tag,
+-- 2 for its header, 3 for the header of the rest and the tag behind, 2 for the list of the rest, and 2 for the payload words made zero
+abbrev pub allocate_groups : ℕ
+allocate_groups = 13
+
+-- those of a resize whose payload doesn't grow: 2 to check the name, 1 for the tag behind, 3 for the list of that block, 4 for the headers
+-- and the tag behind, 2 for the list of the rest, and 3 for the length and the payload words made zero
+abbrev pub resize_groups : ℕ
+resize_groups = 15
+
+-- those of a resize or move of a few bytes: 3 for the resize that is refused, those of an allocate, 2 for both lengths, 4 for the bytes copied
+-- from and to, and those of a release
+abbrev pub move_groups : ℕ
+move_groups = 37
 
 -- the groups of eight words in which all lies that a release touches: 2 of its own header, 1 of each neighbour's tag, 3 of the list of each of
 -- both that are free, 3 for the header of all and the tag behind, and 2 for the list that gets it

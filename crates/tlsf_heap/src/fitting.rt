@@ -10,6 +10,7 @@ ghost use Rattle.tlsf_heap.specs.Headers.{IsRest};
 ghost use Rattle.tlsf_heap.specs.Chosen.{IsHead, IsBestClass};
 ghost use Rattle.tlsf_heap.specs.Calls.{carved, coalesced, first_free, last_free, last_tick};
 ghost use Rattle.tlsf_heap.specs.FreePlaces.{AreFreeLists};
+ghost use Rattle.tlsf_heap.specs.Touched.{groups_of};
 ghost use Rattle.tlsf_words.specs.Touched.{InGroups};
 
 use crate::region::Region;
@@ -25,6 +26,7 @@ pub fn choose<const SLI: u32>(region: &mut Region<SLI>, words: u32) -> Option<Cl
     ensures best { IsBestClass SLI words region.old.blocks (list_in region.old.lists) result }
     ensures reads { OnlyReads region.old region.new 3 }
     ensures touched { LeavesLive region.old.blocks region.old.touched region.new.touched }
+    ensures untouched { region.new.touched ≡ region.old.touched }
 {
     if words > most_words::<SLI>() {
         return None;
@@ -58,6 +60,7 @@ pub fn carve<const SLI: u32>(
     ensures tick { tick.new ≡ tick.old }
     ensures touched { LeavesLive region.old.blocks region.old.touched region.new.touched }
     ensures edits { (i : ℕ) → StandsAt region.old.blocks result i → Edits region.old region.new (23 + (payload_words (block_at region.new.blocks i) - spare)) }
+    ensures groups { InGroups (11 + groups_of (words - 4 - spare)) region.old.touched region.new.touched }
 {
     let at = region.pop_first(class);
     let own = region.tag(at);
@@ -92,6 +95,7 @@ pub fn give<const SLI: u32>(
     ensures listed { AreFreeLists SLI region.new.blocks (list_in region.new.lists) }
     ensures touched { LeavesLive region.old.blocks region.old.touched region.new.touched }
     ensures edits { (i : ℕ) → StandsAt region.old.blocks at i → Edits region.old region.new (15 + (payload_words (block_at region.new.blocks i) - spare)) }
+    ensures groups { InGroups (7 + groups_of (words - 4 - spare)) region.old.touched region.new.touched }
 {
     let (rest, left) = rest_of(own, words, at);
     // The zeros last, and both headers before the rest is listed, so that few registers are wanted at once: three are saved.

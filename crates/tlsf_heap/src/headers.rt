@@ -89,8 +89,7 @@ pub fn split_header(
     ensures change { Splits (image_of words.old) (image_of words.new) at tag size serial len }
     ensures stays { words.new.extents ≡ words.old.extents }
     ensures touches { RisesBy words.old.touches words.new.touches 9 }
-    ensures touched_before { (k : ℕ) → k < at → times words.new.touched k ≡ times words.old.touched k }
-    ensures touched_behind { (k : ℕ) → at + tag.size < k → times words.new.touched k ≡ times words.old.touched k }
+    ensures touched { (k : ℕ) → k ≢ at → k ≢ at + 1 → k ≢ at + 2 → k ≢ at + 3 → k ≢ at + size → k ≢ at + size + 1 → k ≢ at + tag.size → times words.new.touched k ≡ times words.old.touched k }
 {
     let place = at + size;
     words.set_headers(at, tag.without(rest), serial, len, place, rest);

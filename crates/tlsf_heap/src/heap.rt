@@ -17,7 +17,7 @@ ghost use Rattle.tlsf_heap.specs.Regions.{image_of};
 ghost use Rattle.tlsf_heap.specs.Reports.{report_of, IsGrant};
 ghost use Rattle.tlsf_heap.specs.Given.{payload_words_at, payload_words_given, payload_words_left};
 ghost use Rattle.tlsf_heap.specs.Unset.{lying, with_payload};
-ghost use Rattle.tlsf_heap.specs.Touched.{FollowsNoForgery, allocate_touches, release_groups, release_touches, resize_touches, FollowsNoPlace, TouchesForWords};
+ghost use Rattle.tlsf_heap.specs.Touched.{FollowsNoForgery, allocate_groups, allocate_touches, move_groups, release_groups, release_touches, resize_groups, resize_touches, FollowsNoPlace, TouchesForWords};
 ghost use Rattle.tlsf_heap.specs.Calls.{opened, allocated, allocated_words, released, resized, resized_words, named, written, read_of, read_answer, has_bytes, last_tick};
 ghost use Rattle.tlsf_heap.specs.Kept.{IsAsBefore, Keeps};
 ghost use Rattle.tlsf_words.specs.Touched.{InGroups};
@@ -156,6 +156,9 @@ impl<const SLI: u32> Heap<SLI> {
         ensures touches { self.new.touches ≤ self.old.touches + 64 + payload_words_given result self.new.heap }
         ensures most_touches { self.new.touches ≤ self.old.touches + allocate_touches result self.new.heap }
         ensures leaves { LeavesLive self.old.heap.blocks self.old.touched self.new.touched }
+
+        // All lies in so many groups of eight words, and one more for each 64 bytes, but start bits and the lists.
+        ensures groups { InGroups (allocate_groups + len / 64) self.old.touched self.new.touched }
     {
         // Taken apart, so that each answer is written where it is made: handed on whole, it takes four instructions more.
         let name = match self.allocate_words(want(len), len) {
@@ -197,6 +200,7 @@ impl<const SLI: u32> Heap<SLI> {
         // further word of the payload.
         ensures touches { TouchesForWords len result self.new.heap self.old.touches self.new.touches }
         ensures leaves { LeavesLive self.old.heap.blocks self.old.touched self.new.touched }
+        ensures groups { InGroups (allocate_groups + len / 64) self.old.touched self.new.touched }
     {
         let spare = words - want(len);
         let Some(class) = choose(&mut self.region, words) else {
@@ -279,6 +283,10 @@ impl<const SLI: u32> Heap<SLI> {
         ensures touches { self.new.touches ≤ self.old.touches + 64 + payload_words_left result self.new.heap name }
         ensures most_touches { self.new.touches ≤ self.old.touches + resize_touches result self.new.heap name }
         ensures leaves { LeavesPayloads self.old.heap.blocks name.at self.old.touched self.new.touched }
+
+        // All lies in so many groups of eight words, and one more for each 64 bytes that are new, but start bits and the lists.
+        ensures groups { InGroups (resize_groups + (len - length (payload_of self.old.heap name)) / 64) self.old.touched self.new.touched }
+        ensures refused_groups { OnErr result (InGroups 3 self.old.touched self.new.touched) }
         ensures refused { OnErr result (LeavesLive self.old.heap.blocks self.old.touched self.new.touched) }
         ensures forged { FollowsNoForgery self.old.heap name self.old.touches self.new.touches }
     {
@@ -315,6 +323,8 @@ impl<const SLI: u32> Heap<SLI> {
 
         // So a payload that doesn't grow takes no more, however long: of the words that the old bytes have, one is touched at most.
         ensures grown_touches { self.new.touches ≤ self.old.touches + 28 + (Blocks.words_for len - Blocks.words_for (length (payload_of self.old.heap name))) }
+        ensures groups { InGroups (resize_groups + (len - length (payload_of self.old.heap name)) / 64) self.old.touched self.new.touched }
+        ensures refused_groups { OnErr result (InGroups 3 self.old.touched self.new.touched) }
         ensures forged { FollowsNoForgery self.old.heap name self.old.touches self.new.touches }
     {
         let own = self.check(name)?;
@@ -359,6 +369,9 @@ impl<const SLI: u32> Heap<SLI> {
         ensures touches { self.new.touches ≤ self.old.touches + 128 + payload_words_left (resized self.old.heap name len).answer (resized self.old.heap name len).heap name
             + 3 * payload_words_moved SLI self.old.heap len }
         ensures leaves { LeavesPayloads self.old.heap.blocks name.at self.old.touched self.new.touched }
+
+        // All lies in so many groups of eight words, and three more for each 64 bytes, but start bits and the lists.
+        ensures groups { InGroups (move_groups + 3 * (len / 64)) self.old.touched self.new.touched }
         ensures refused { OnErr result (LeavesLive self.old.heap.blocks self.old.touched self.new.touched) }
         ensures forged { FollowsNoForgery self.old.heap name self.old.touches self.new.touches }
     {
@@ -379,6 +392,7 @@ impl<const SLI: u32> Heap<SLI> {
     /// heap.write(name, 6, &[0x48, 0x69]) == Ok(())
     /// heap.write(name, 7, &[0x48, 0x69]) == Err(Refusal::Range)
     /// ```
+    #[inline]
     pub fn write(&mut self, name: Name, at: u32, bytes: &[u8]) -> Result<(), Refusal>
         ensures answer { result ≡ (written self.old.heap name at bytes.now).answer }
         ensures heap { self.new.heap ≡ (written self.old.heap name at bytes.now).heap }
@@ -406,6 +420,7 @@ impl<const SLI: u32> Heap<SLI> {
     /// let mut out = [0; 2];
     /// heap.read(name, 6, &mut out)?;          // after the write above: out == [0x48, 0x69]
     /// ```
+    #[inline]
     pub fn read(&mut self, name: Name, at: u32, out: &mut [u8]) -> Result<(), Refusal>
         ensures answer { result ≡ read_answer (read_of self.old.heap name at (length out.old)) }
         ensures bytes { out.new ≡ result_unwrap_or (read_of self.old.heap name at (length out.old)) out.old }
@@ -628,6 +643,7 @@ impl<const SLI: u32> Heap<SLI> {
         ensures keeps { Keeps SLI self.old self.new }
         ensures touches { self.new.touches ≤ self.old.touches + 4 }
         ensures leaves { LeavesLive self.old.heap.blocks self.old.touched self.new.touched }
+        ensures groups { InGroups 3 self.old.touched self.new.touched }
         ensures forged { FollowsNoForgery self.old.heap name self.old.touches self.new.touches }
     {
         self.check(name)?;
@@ -665,6 +681,7 @@ impl<const SLI: u32> Heap<SLI> {
         ensures keeps { Keeps SLI self.old self.new }
         ensures touches { self.new.touches ≤ self.old.touches + 61 + 3 * payload_words_moved SLI self.old.heap len }
         ensures leaves { LeavesPayloads self.old.heap.blocks name.at self.old.touched self.new.touched }
+        ensures groups { InGroups (34 + 3 * (len / 64)) self.old.touched self.new.touched }
         ensures refused { OnErr result (LeavesLive self.old.heap.blocks self.old.touched self.new.touched) }
     {
         if self.tick >= u64::MAX - 1 {
@@ -684,6 +701,7 @@ impl<const SLI: u32> Heap<SLI> {
         ensures keeps { Keeps SLI self.old self.new }
         ensures touches { self.new.touches ≤ self.old.touches + 35 + 2 * (min (length (payload_of self.old.heap name)) (length (payload_of self.old.heap new)) / 8) }
         ensures leaves { LeavesBoth self.old.heap.blocks name.at new.at self.old.touched self.new.touched }
+        ensures groups { InGroups (21 + 2 * (min (length (payload_of self.old.heap name)) (length (payload_of self.old.heap new)) / 64)) self.old.touched self.new.touched }
     {
         let len = self.length(name).min(self.length(new));
         self.copy(name, new, len);
@@ -699,6 +717,7 @@ impl<const SLI: u32> Heap<SLI> {
         ensures keeps { Keeps SLI self.old self.new }
         ensures touches { self.new.touches ≤ self.old.touches + 1 }
         ensures leaves { LeavesLive self.old.heap.blocks self.old.touched self.new.touched }
+        ensures groups { InGroups 1 self.old.touched self.new.touched }
     {
         self.region.length(name.at)
     }
@@ -713,6 +732,7 @@ impl<const SLI: u32> Heap<SLI> {
         ensures keeps { Keeps SLI self.old self.new }
         ensures touches { self.new.touches ≤ self.old.touches + 2 * (len / 8) + 3 }
         ensures leaves { LeavesBoth self.old.heap.blocks from.at to.at self.old.touched self.new.touched }
+        ensures groups { InGroups (4 + 2 * (len / 64)) self.old.touched self.new.touched }
     {
         self.region.copy(from.at, to.at, len);
     }
@@ -729,6 +749,7 @@ impl<const SLI: u32> Heap<SLI> {
         ensures keeps { Keeps SLI self.old self.new }
         ensures touches { self.new.touches ≤ self.old.touches + 1 }
         ensures leaves { LeavesLive self.old.heap.blocks self.old.touched self.new.touched }
+        ensures groups { InGroups 1 self.old.touched self.new.touched }
     {
         self.region.set_length(name.at, len);
     }

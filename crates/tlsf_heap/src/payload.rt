@@ -2,7 +2,7 @@
 ghost use Rattle.std.specs.Prelude.{◌≡◌, ℕ, ◌+◌, ◌-◌, ◌*◌, ◌/◌, ◌<◌, ◌≤◌, ◌^◌, length, slice_index};
 ghost use Rattle.tlsf_words.specs.Bytes.{byte_in, bytes_in, payload_byte};
 ghost use Rattle.tlsf_words.specs.Fields.{low_half, length_word};
-ghost use Rattle.tlsf_words.specs.Touched.{times};
+ghost use Rattle.tlsf_words.specs.Touched.{times, InGroups};
 ghost use Rattle.tlsf_heap.specs.Blocks.{words_for};
 ghost use Rattle.tlsf_heap.specs.Calls.{fitted};
 ghost use Rattle.tlsf_heap.specs.Headers.{OnlyFrom, RisesBy};
@@ -27,6 +27,7 @@ pub fn set_payload(words: &mut Words, at: u32, len: u32)
     ensures grown { words.new.touches ≤ words.old.touches + 4 + (words_for len - words_for (low_half (slice_index words.old.words (at + 2)))) }
     ensures touched_before { (k : ℕ) → k < at + 2 → times words.new.touched k ≡ times words.old.touched k }
     ensures touched_behind { (k : ℕ) → at + words_for len ≤ k → times words.new.touched k ≡ times words.old.touched k }
+    ensures groups { InGroups (3 + (len - low_half (slice_index words.old.words (at + 2))) / 64) words.old.touched words.new.touched }
 {
     let old = words.length(at);
     words.set_length(at, len);
@@ -48,7 +49,7 @@ fn zero_bytes(words: &mut Words, at: u32, from: u32, to: u32)
     ensures stays { words.new.extents ≡ words.old.extents }
     ensures touches { RisesBy words.old.touches words.new.touches (1 + (to + 7) / 8) }
     ensures grown { words.new.touches ≤ words.old.touches + 2 + ((to + 7) / 8 - (from + 7) / 8) }
-    ensures touched_before { (k : ℕ) → k < at + 3 → times words.new.touched k ≡ times words.old.touched k }
+    ensures touched_before { (k : ℕ) → k < at + 3 + from / 8 → times words.new.touched k ≡ times words.old.touched k }
     ensures touched_behind { (k : ℕ) → at + words_for to ≤ k → times words.new.touched k ≡ times words.old.touched k }
 {
     if from % 8 > 0 {

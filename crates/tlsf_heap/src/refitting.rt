@@ -1,8 +1,9 @@
 //! Resizing a block where it stands, over a region and the lists of its free blocks. Sizes and places are in words, lengths in bytes.
-ghost use Rattle.std.specs.Prelude.{◌≡◌, ◌≢◌, ℕ, ◌+◌, ◌-◌, ◌<◌, ◌≤◌, ◌++◌, false, length, Contains};
+ghost use Rattle.std.specs.Prelude.{◌≡◌, ◌≢◌, ℕ, ◌+◌, ◌-◌, ◌/◌, ◌<◌, ◌≤◌, ◌++◌, false, length, Contains};
 ghost use Rattle.std.specs.List.{AllByRecursion};
 ghost use Rattle.tlsf_class.specs.Classes.{IsLevel, most_words, class_of};
 ghost use Rattle.tlsf_words.specs.Lists.{without_place};
+ghost use Rattle.tlsf_words.specs.Touched.{InGroups};
 ghost use Rattle.tlsf_heap.specs.Lawful.{IsRegion, HasRoom};
 ghost use Rattle.tlsf_heap.specs.Blocks.{size_of, words_in, is_free, bytes_of, stamps, words_for};
 ghost use Rattle.tlsf_heap.specs.Calls;
@@ -25,6 +26,7 @@ pub fn look_behind<const SLI: u32>(region: &mut Region<SLI>, at: u32, own: Tag) 
     ensures tag { EachAt region.old.blocks at (λ s. IsTagBehind region.old.words s result) }
     ensures reads { OnlyReads region.old region.new 1 }
     ensures touched { LeavesLive region.old.blocks region.old.touched region.new.touched }
+    ensures groups { InGroups 1 region.old.touched region.new.touched }
 {
     let next = next_tag(region, at, own);
     if next.is_free() {
@@ -48,6 +50,7 @@ fn forget<const SLI: u32>(region: &mut Region<SLI>, at: u32, size: u32)
     ensures touches { region.new.touches ≤ region.old.touches + 6 }
     ensures rise { region.old.touches ≤ region.new.touches }
     ensures touched { LeavesLive region.old.blocks region.old.touched region.new.touched }
+    ensures groups { InGroups 3 region.old.touched region.new.touched }
 {
     if size > 0 {
         region.remove(size, at);
@@ -78,6 +81,7 @@ fn recut<const SLI: u32>(
     ensures listed { AreFreeLists SLI region.new.blocks (list_in region.new.lists) }
     ensures edits { Edits region.old region.new 20 }
     ensures touched { LeavesPayloads region.old.blocks at region.old.touched region.new.touched }
+    ensures groups { InGroups 9 region.old.touched region.new.touched }
 {
     forget(region, at + own.size(), next.size());
     let rest = region.recut(at, own, next, words, tick);
@@ -114,6 +118,7 @@ pub fn refit<const SLI: u32>(
     ensures edits { Edits region.old region.new (20 + words_for len) }
     ensures touched { LeavesPayloads region.old.blocks at region.old.touched region.new.touched }
     ensures grown { EachAt region.old.blocks at (λ s. region.new.touches ≤ region.old.touches + 24 + (words_for len - words_for (length (bytes_of s.block)))) }
+    ensures groups { EachAt region.old.blocks at (λ s. InGroups (12 + (len - length (bytes_of s.block)) / 64) region.old.touched region.new.touched) }
 {
     let held = own.size();
     if words > held {

@@ -21,6 +21,7 @@ ghost use Rattle.tlsf_heap.specs.InPlace.{payload_at};
 ghost use Rattle.tlsf_heap.specs.Lawful.{HasRoom};
 ghost use Rattle.tlsf_heap.specs.Named.{IsNameTest};
 ghost use Rattle.tlsf_heap.specs.Placed.{placed_at};
+ghost use Rattle.tlsf_heap.specs.Touched.{groups_of};
 ghost use Rattle.tlsf_heap.specs.Regions.{list_in, AreUnlisted, EachAt, HasAt, IsTagOf, IsTagBehind, AreNeighbours, rest_of, BeginsZero, AwaitsZeros, image_of, OnlyReads, Rewrites, PutInFront, TakenOut, IsOpened};
 
 use crate::check::check_words;
@@ -146,6 +147,7 @@ impl<const SLI: u32> Region<SLI> {
         ensures answer { IsFreeTest at self.old.words self.old.blocks result }
         ensures reads { OnlyReads self.old self.new 2 }
         ensures touched { LeavesLive self.old.blocks self.old.touched self.new.touched }
+        ensures groups { InGroups 1 self.old.touched self.new.touched }
         ensures outside { self.old.words ≤ at → self.new.touches ≡ self.old.touches }
         ensures nowhere { ¬ (IsPlace self.old.blocks at) → self.new.touches ≤ self.old.touches + 1 }
     {
@@ -229,6 +231,7 @@ impl<const SLI: u32> Region<SLI> {
         ensures value { EachAt self.old.blocks at (λ s. result ≡ length (bytes_of s.block)) }
         ensures reads { OnlyReads self.old self.new 1 }
         ensures touched { LeavesLive self.old.blocks self.old.touched self.new.touched }
+        ensures groups { InGroups 1 self.old.touched self.new.touched }
     {
         self.words.length(at)
     }
@@ -290,6 +293,7 @@ impl<const SLI: u32> Region<SLI> {
         ensures touched { LeavesBoth self.old.blocks from to self.old.touched self.new.touched }
         ensures change { EachAt self.old.blocks to (λ s. Rewrites self.old self.new
             (s.before ++ (Calls.with_bytes s.block (Calls.overwritten (bytes_of s.block) 0 (bytes_in self.old.stored.words (payload_byte from 0) len)) ∷ []) ++ s.after) (2 * (len / 8) + 3)) }
+        ensures groups { InGroups (4 + 2 * (len / 64)) self.old.touched self.new.touched }
     {
         self.words.copy_payload(from, to, len);
     }
@@ -302,6 +306,7 @@ impl<const SLI: u32> Region<SLI> {
             (s.before ++ (Calls.with_bytes s.block (Calls.fitted (bytes_of s.block) len) ∷ []) ++ s.after) (words_for len)) }
         ensures grown { EachAt self.old.blocks at (λ s. self.new.touches ≤ self.old.touches + 4 + (words_for len - words_for (length (bytes_of s.block)))) }
         ensures touched { LeavesPayloads self.old.blocks at self.old.touched self.new.touched }
+        ensures groups { EachAt self.old.blocks at (λ s. InGroups (3 + (len - length (bytes_of s.block)) / 64) self.old.touched self.new.touched) }
     {
         set_payload(&mut self.words, at, len);
     }
@@ -313,6 +318,7 @@ impl<const SLI: u32> Region<SLI> {
         ensures change { EachAt self.old.blocks at (λ s. Rewrites self.old self.new (s.before ++ (Calls.with_bytes s.block (lying self.new.stored at len) ∷ []) ++ s.after) 1) }
         ensures only { OnlyFrom self.old.stored.words self.new.stored.words (at + 2) (at + 3) }
         ensures touched { LeavesLive self.old.blocks self.old.touched self.new.touched }
+        ensures groups { InGroups 1 self.old.touched self.new.touched }
     {
         self.words.set_length(at, len);
     }
@@ -330,6 +336,7 @@ impl<const SLI: u32> Region<SLI> {
         ensures rest { result ≡ rest_of (own.size + next.size) size }
         ensures touched { LeavesPayloads self.old.blocks at self.old.touched self.new.touched }
         ensures change { EachAt self.old.blocks at (λ s. Rewrites self.old self.new (s.before ++ Calls.recut stamp size s.block s.after) 7) }
+        ensures groups { InGroups 4 self.old.touched self.new.touched }
     {
         let after = next.size();
         let both = own.size() + after;
@@ -354,6 +361,7 @@ impl<const SLI: u32> Region<SLI> {
         ensures touched { LeavesLive self.old.blocks self.old.touched self.new.touched }
         ensures change { EachAt self.old.blocks at (λ s. Rewrites self.old self.new
             (s.before ++ (Live (size_of s.block) serial (bytes_in self.new.stored.words (payload_byte at 0) len) ∷ []) ++ s.after) 4) }
+        ensures groups { InGroups 2 self.old.touched self.new.touched }
     {
         let live = own.granted();
         live_header(&mut self.words, at, live, serial, len);
@@ -373,6 +381,7 @@ impl<const SLI: u32> Region<SLI> {
         ensures touched { LeavesLive self.old.blocks self.old.touched self.new.touched }
         ensures change { EachAt self.old.blocks at (λ s. Rewrites self.old self.new
             (s.before ++ (Live size serial (bytes_in self.new.stored.words (payload_byte at 0) len) ∷ Free (size_of s.block - size) serial ∷ []) ++ s.after) 9) }
+        ensures groups { InGroups 5 self.old.touched self.new.touched }
     {
         split_header(&mut self.words, at, own, rest, size, serial, len);
     }
@@ -383,6 +392,7 @@ impl<const SLI: u32> Region<SLI> {
         ensures change { EachAt self.old.blocks at (λ s. Rewrites self.old self.new
             (s.before ++ (Calls.with_bytes s.block (replicate (length (bytes_of s.block)) 0) ∷ []) ++ s.after) n) }
         ensures touched { LeavesPayloads self.old.blocks at self.old.touched self.new.touched }
+        ensures groups { InGroups (groups_of n) self.old.touched self.new.touched }
     {
         self.words.zero(at + 4, n);
     }
@@ -468,6 +478,7 @@ impl<const SLI: u32> Region<SLI> {
         ensures least { result ≡ next_member (listed_classes SLI (list_in self.old.lists)) class.entry }
         ensures reads { OnlyReads self.old self.new 3 }
         ensures touched { LeavesLive self.old.blocks self.old.touched self.new.touched }
+        ensures untouched { self.new.touched ≡ self.old.touched }
     {
         self.lists.next_from(class)
     }

@@ -1,6 +1,7 @@
 pub mod Image
 pub mod Says
 pub mod Footprint
+pub mod Groups
 pub mod Headers
 pub mod Zeros
 pub mod Links

@@ -10,6 +10,7 @@ ghost use Rattle.tlsf_heap.specs.Unset.{GivesUnset};
 ghost use Rattle.tlsf_heap.specs.declared.name.Name.{Name};
 ghost use Rattle.tlsf_heap.specs.Kept.{IsAsBefore, Keeps};
 ghost use Rattle.tlsf_heap.specs.Touched.{FollowsNoPlace};
+ghost use Rattle.tlsf_words.specs.Touched.{InGroups};
 
 use super::{Heap, want};
 use crate::fitting::give;
@@ -61,6 +62,7 @@ impl<const SLI: u32> Heap<SLI> {
         // Accepted or refused, whatever the region holds, and however many bytes.
         ensures touches { self.new.touches ≤ self.old.touches + 28 }
         ensures leaves { LeavesLive self.old.heap.blocks self.old.touched self.new.touched }
+        ensures groups { InGroups 13 self.old.touched self.new.touched }
         ensures wild { FollowsNoPlace self.old.heap at self.old.touches self.new.touches }
     {
         let name = match self.words_from(at, want(len)) {
@@ -99,6 +101,7 @@ impl<const SLI: u32> Heap<SLI> {
         // Accepted or refused, whatever the region holds, and however many bytes.
         ensures touches { self.new.touches ≤ self.old.touches + 116 }
         ensures leaves { LeavesLive self.old.heap.blocks self.old.touched self.new.touched }
+        ensures groups { InGroups 56 self.old.touched self.new.touched }
     {
         if self.tick >= u64::MAX - 3 {
             return Err(Refusal::Worn);
@@ -133,6 +136,7 @@ impl<const SLI: u32> Heap<SLI> {
         ensures keeps { Keeps SLI self.old self.new }
         ensures touches { self.new.touches ≤ self.old.touches + 85 }
         ensures leaves { LeavesPayloads self.old.heap.blocks name.at self.old.touched self.new.touched }
+        ensures groups { InGroups 42 self.old.touched self.new.touched }
     {
         if gap == 0 {
             self.resize_words(name, words, 0)?;
@@ -154,6 +158,7 @@ impl<const SLI: u32> Heap<SLI> {
         ensures keeps { Keeps SLI self.old self.new }
         ensures touches { self.new.touches ≤ self.old.touches + 27 }
         ensures leaves { LeavesLive self.old.heap.blocks self.old.touched self.new.touched }
+        ensures groups { InGroups 12 self.old.touched self.new.touched }
         ensures wild { FollowsNoPlace self.old.heap at self.old.touches self.new.touches }
     {
         let Some(own) = self.region.free_at(at) else {

@@ -1,4 +1,4 @@
-ghost use Rattle.std.specs.Prelude.{◌≡◌, ◌+◌, ◌<◌, ◌≤◌, IfSome, OnErr};
+ghost use Rattle.std.specs.Prelude.{◌≡◌, ◌+◌, ◌/◌, ◌<◌, ◌≤◌, IfSome, OnErr};
 ghost use Rattle.tlsf_heap.specs.Blocks;
 ghost use Rattle.tlsf_heap.specs.ByPlace.{name_at, released_by_place, resized_by_place};
 ghost use Rattle.tlsf_heap.specs.Footprint.{LeavesLive, LeavesPayloads};
@@ -30,6 +30,7 @@ impl<const SLI: u32> Heap<SLI> {
         ensures keeps { Keeps SLI self.old self.new }
         ensures touches { self.new.touches ≤ self.old.touches + 3 }
         ensures leaves { LeavesLive self.old.heap.blocks self.old.touched self.new.touched }
+        ensures groups { InGroups 2 self.old.touched self.new.touched }
         ensures wild { FollowsNoPlace self.old.heap at self.old.touches self.new.touches }
     {
         let Some(_own) = self.region.live_at(at) else {
@@ -90,6 +91,7 @@ impl<const SLI: u32> Heap<SLI> {
         ensures keeps { Keeps SLI self.old self.new }
         ensures touches { self.new.touches ≤ self.old.touches + 63 + Blocks.want len }
         ensures leaves { LeavesPayloads self.old.heap.blocks at self.old.touched self.new.touched }
+        ensures groups { InGroups (17 + len / 64) self.old.touched self.new.touched }
         ensures refused { OnErr result (LeavesLive self.old.heap.blocks self.old.touched self.new.touched) }
         ensures wild { FollowsNoPlace self.old.heap at self.old.touches self.new.touches }
     {

@@ -9,6 +9,7 @@ ghost use Rattle.tlsf_heap.specs.Moved.{moved, resized_or_moved};
 ghost use Rattle.tlsf_heap.specs.Touched.{FollowsNoForgery};
 ghost use Rattle.tlsf_heap.specs.Unset.{unset_from};
 ghost use Rattle.tlsf_heap.specs.Kept.{IsAsBefore, Keeps};
+ghost use Rattle.tlsf_words.specs.Touched.{InGroups};
 
 use super::{Heap, want};
 use crate::name::Name;
@@ -42,6 +43,7 @@ impl<const SLI: u32> Heap<SLI> {
         // Accepted or refused, whatever the region holds, and however many bytes.
         ensures touches { self.new.touches ≤ self.old.touches + 31 }
         ensures leaves { LeavesLive self.old.heap.blocks self.old.touched self.new.touched }
+        ensures groups { InGroups 14 self.old.touched self.new.touched }
     {
         let name = match self.allocate_words(want(len), 0) {
             Ok(name) => name,
@@ -73,6 +75,8 @@ impl<const SLI: u32> Heap<SLI> {
         // Accepted or refused, whatever the region holds, and however many bytes.
         ensures touches { self.new.touches ≤ self.old.touches + 33 }
         ensures leaves { LeavesPayloads self.old.heap.blocks name.at self.old.touched self.new.touched }
+        ensures groups { InGroups 19 self.old.touched self.new.touched }
+        ensures refused_groups { OnErr result (InGroups 6 self.old.touched self.new.touched) }
         ensures refused { OnErr result (LeavesLive self.old.heap.blocks self.old.touched self.new.touched) }
         ensures forged { FollowsNoForgery self.old.heap name self.old.touches self.new.touches }
     {
@@ -107,6 +111,7 @@ impl<const SLI: u32> Heap<SLI> {
         // Accepted or refused, and whatever the region holds: at most 99 touches, and two for each word of the bytes that stay.
         ensures touches { self.new.touches ≤ self.old.touches + 99 + 2 * (min (length (payload_of self.old.heap name)) len / 8) }
         ensures leaves { LeavesPayloads self.old.heap.blocks name.at self.old.touched self.new.touched }
+        ensures groups { InGroups (41 + 2 * (min (length (payload_of self.old.heap name)) len / 64)) self.old.touched self.new.touched }
         ensures refused { OnErr result (LeavesLive self.old.heap.blocks self.old.touched self.new.touched) }
         ensures forged { FollowsNoForgery self.old.heap name self.old.touches self.new.touches }
     {
@@ -126,6 +131,7 @@ impl<const SLI: u32> Heap<SLI> {
         ensures keeps { Keeps SLI self.old self.new }
         ensures touches { self.new.touches ≤ self.old.touches + 66 + 2 * (min (length (payload_of self.old.heap name)) len / 8) }
         ensures leaves { LeavesPayloads self.old.heap.blocks name.at self.old.touched self.new.touched }
+        ensures groups { InGroups (35 + 2 * (min (length (payload_of self.old.heap name)) len / 64)) self.old.touched self.new.touched }
         ensures refused { OnErr result (LeavesLive self.old.heap.blocks self.old.touched self.new.touched) }
     {
         if self.tick >= u64::MAX - 1 {

@@ -1,5 +1,6 @@
 use Rattle.std.proofs.Common.{◌∙◌, arith}
 use Rattle.tlsf_heap.proofs.lemmas.lists.Carved.{IsFreeHere, head_stands, taken_each}
+use Rattle.tlsf_words.proofs.Touching.{more_groups, groups_then}
 use Rattle.tlsf_heap.proofs.fitting.carve.Goals as goal
 
 pub give-requires : goal.give-requires
@@ -42,3 +43,7 @@ returns-clause-touched g c k live =
     let reads = c.tag-own.ensures.reads in
     let out = c.pop_first-at.ensures.change in
     (rw (reads.blocks ∙ out.blocks) at c.give.ensures.touched) k live ∙ (rw out.blocks at c.tag-own.ensures.touched) k live ∙ out.touched k live
+
+-- 3 for the list, 1 for the tag, and those that give the block
+pub returns-clause-groups : goal.returns-clause-groups
+returns-clause-groups g c = more_groups (omega arith) (groups_then (groups_then c.pop_first-at.ensures.change.groups c.tag-own.ensures.groups) c.give.ensures.groups)

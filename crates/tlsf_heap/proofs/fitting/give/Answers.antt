@@ -10,9 +10,10 @@ use Rattle.tlsf_heap.specs.Regions.{Rewrites, list_in, RegionState}
 use Rattle.tlsf_heap.proofs.lemmas.lists.Carved.{IsReady, is_out, out_unlisted, end_within, by_grant, by_split, split_rest_free, split_rest_unlisted, zeroed_around, zeroed_carved, zeroed_listed}
 use Rattle.tlsf_heap.proofs.lemmas.words.Bytes.{length-bytes_in}
 use Rattle.tlsf_heap.proofs.lemmas.blocks.Around.{block_around, stands_around, one_index, around, region_around}
-use Rattle.tlsf_words.specs.Touched.{times}
+use Rattle.tlsf_words.specs.Touched.{times, InGroups}
 use Rattle.tlsf_heap.specs.Footprint.{IsOthersWord}
 use Rattle.tlsf_heap.proofs.lemmas.words.Footprint.{kept_others, free_elsewhere, any_word}
+use Rattle.tlsf_words.proofs.Touching.{more_groups, groups_then}
 use Rattle.tlsf_heap.proofs.fitting.give.Given.{Over}
 use Rattle.tlsf_heap.proofs.fitting.give.Goals.{then-left-lt4, else-left-lt4}
 use Rattle.tlsf_heap.proofs.fitting.give.Goals as goal
@@ -186,3 +187,15 @@ returns-clause-touched g c k live =
     let some = (region_around g.row.SLI (around bs c.args.at free.0 free.1) c.requires.sized).0 in
     let left = left_word g c k (free_elsewhere bs c.args.at free.0 k free.1 free.2.0 (omega (arith, some)) live) in
     c.zero.ensures.touched k left.0 ∙ left.1
+
+-- ---- groups of eight words
+
+-- the headers and the list of the rest
+headed : (g : Over) (c : goal.After-zero g) → InGroups 7 c.args.region.now.touched c.if-left-lt4.region.touched
+headed g c = elim c.if-left-lt4.branch [
+  | then-left-lt4 w ↦ subst (λ (r : RegionState). InGroups 7 c.args.region.now.touched r.touched) (sym w.region-is) (more_groups (omega arith) w.grant.ensures.groups)
+  | else-left-lt4 w ↦ subst (λ (r : RegionState). InGroups 7 c.args.region.now.touched r.touched) (sym w.region-is) (groups_then w.split.ensures.groups w.push.ensures.groups)
+]
+
+pub returns-clause-groups : goal.returns-clause-groups
+returns-clause-groups g c = groups_then (headed g c) c.zero.ensures.groups

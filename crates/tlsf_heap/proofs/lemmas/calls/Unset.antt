@@ -121,7 +121,7 @@ unset_is h name m from len lawful live within many =
     ∙ ap (λ (l : List ℕ). rebyted name.serial l h) (append-nil (take from (payload_of h name) ++ bytes))
 
 -- the payload that an allocate gives has so many bytes
-given_length : (sli : ℕ) (h : HeapState) (len : ℕ) (name : Name) → IsLawful h → (allocated sli h len).answer ≡ Ok name → length (payload_of (allocated sli h len).heap name) ≡ len
+pub given_length : (sli : ℕ) (h : HeapState) (len : ℕ) (name : Name) → IsLawful h → (allocated sli h len).answer ≡ Ok name → length (payload_of (allocated sli h len).heap name) ≡ len
 given_length sli h len name lawful answer =
     let found = given_block (λ b. length (bytes_of b) ≡ len) sli h (want len) len name lawful answer (length-replicate {A = ℕ} len 0) (λ b fit. length-replicate {A = ℕ} len 0) in
     ap (λ (o : Option Site). length (bytes_at o)) found.1 ∙ found.2

@@ -1,7 +1,11 @@
-use Rattle.std.proofs.Common.{◌≡◌, ℕ, ◌+◌, ◌*◌, ◌≤◌, List, set, ap, ◌∙◌, arith}
+use Rattle.std.proofs.Common.{◌≡◌, ℕ, ◌+◌, ◌-◌, ◌*◌, ◌/◌, ◌≤◌, List, ◌∷◌, set, ap, ◌∙◌, arith}
 use Rattle.tlsf_words.specs.Bytes.{byte_in}
 use Rattle.tlsf_words.specs.Fields.{length_word}
 use Rattle.tlsf_heap.proofs.lemmas.words.NewBytes.{bytes_fitted, bytes_behind}
+use Rattle.tlsf_words.specs.Touched.{times, InGroups}
+use Rattle.tlsf_words.proofs.Touching.{more_groups, groups_then, one_word, times_other}
+use Rattle.tlsf_heap.specs.Blocks.{words_for}
+use Rattle.tlsf_heap.proofs.lemmas.words.Groups.{one_row}
 use Rattle.tlsf_heap.proofs.payload.set_payload.Goals as goal
 
 -- the length is no byte of the payload
@@ -22,3 +26,19 @@ returns-else-len-old-clause-bytes c =
     bytes_fitted c.args.words.now.words c.set_length.new.self.words (8 * (c.args.at + 3)) _ c.args.len
     (λ k l g f. same c.args.words.now.words _ _ c.args.at c.args.len c.length-old.ensures.words c.set_length.ensures.words k l)
     (λ k l g. absurd (omega (arith, l, g, value, c.if-len-old.false)))
+
+-- the word of the length, read and written
+header : (p : ℕ) (old : List ℕ) {read new : List ℕ} → read ≡ p ∷ old → new ≡ p ∷ read → InGroups 1 old new
+header p old {read = read} is_read is_new =
+    one_word p (λ k apart. ap (λ (l : List ℕ). times l k) is_new ∙ times_other p k read apart ∙ ap (λ (l : List ℕ). times l k) is_read ∙ times_other p k old apart)
+
+pub returns-else-len-old-clause-groups : goal.returns-else-len-old-clause-groups
+returns-else-len-old-clause-groups c = more_groups (omega arith) (header (c.args.at + 2) c.args.words.now.touched c.length-old.ensures.touched c.set_length.ensures.touched)
+
+pub returns-then-len-old-clause-groups : goal.returns-then-len-old-clause-groups
+returns-then-len-old-clause-groups c =
+    let old = c.length-old.result in
+    let first = c.args.at + 3 + old / 8 in
+    let many = c.args.at + words_for c.args.len - first in
+    let zeros = one_row first many c.zero_bytes.ensures.touched_before (λ k past. c.zero_bytes.ensures.touched_behind k (omega (arith, past))) in
+    more_groups (omega (arith, c.if-len-old.true, c.length-old.ensures.value)) (groups_then (header (c.args.at + 2) c.args.words.now.touched c.length-old.ensures.touched c.set_length.ensures.touched) zeros)

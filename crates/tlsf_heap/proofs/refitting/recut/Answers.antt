@@ -9,6 +9,7 @@ use Rattle.tlsf_heap.proofs.lemmas.blocks.Replace.{rest_some, rest_none}
 use Rattle.tlsf_heap.proofs.lemmas.lists.Recut.{own_unlisted, wide_listed, cut_free, cut_unlisted, cut_listed}
 use Rattle.tlsf_heap.proofs.lemmas.lists.Withheld.{is_between, forgets, end_within, next_region, contains_next}
 use Rattle.tlsf_heap.proofs.lemmas.words.Footprint.{recut_lasts, any_word}
+use Rattle.tlsf_words.proofs.Touching.{more_groups, groups_then}
 use Rattle.tlsf_heap.proofs.refitting.recut.Goals as goal
 
 pub overflow_add-at : goal.overflow_add-at
@@ -151,3 +152,11 @@ returns-then-rest-gt0-clause-touched g c k o =
 pub returns-else-rest-gt0-clause-touched : goal.returns-else-rest-gt0-clause-touched
 returns-else-rest-gt0-clause-touched g c k o =
     (rw c.forget.ensures.blocks at c.recut-rest.ensures.touched) k o ∙ c.forget.ensures.touched k (any_word c.args.region.now.blocks c.args.at k o)
+
+-- ---- groups of eight words
+
+pub returns-then-rest-gt0-clause-groups : goal.returns-then-rest-gt0-clause-groups
+returns-then-rest-gt0-clause-groups g c = groups_then (groups_then c.forget.ensures.groups c.recut-rest.ensures.groups) c.push.ensures.groups
+
+pub returns-else-rest-gt0-clause-groups : goal.returns-else-rest-gt0-clause-groups
+returns-else-rest-gt0-clause-groups g c = more_groups (omega arith) (groups_then c.forget.ensures.groups c.recut-rest.ensures.groups)

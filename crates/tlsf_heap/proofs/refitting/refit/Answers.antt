@@ -12,6 +12,7 @@ use Rattle.tlsf_heap.proofs.lemmas.lists.Refit.{tag_rebytes, behind_rebytes, pay
 use Rattle.tlsf_heap.proofs.lemmas.words.Image.{stands_once}
 use Rattle.tlsf_heap.proofs.lemmas.blocks.Around.{one_index, stands_around, block_around}
 use Rattle.tlsf_heap.proofs.lemmas.words.Footprint.{kept_others, recut_lasts}
+use Rattle.tlsf_words.proofs.Touching.{more_groups, groups_then}
 use Rattle.tlsf_heap.proofs.refitting.refit.Goals as goal
 
 -- the room that the tags say
@@ -176,3 +177,19 @@ returns-then-held-words-clause-touched g c k o =
     let new = with_bytes b (fitted (bytes_of b) c.args.len) in
     let last = kept_others bs c.set_payload-2.new.self.blocks (new ∷ []) c.args.at live.0 k live.1 (c.set_payload-2.ensures.change live.0 live.1).blocks (omega (arith, size_of-with_bytes b (fitted (bytes_of b) c.args.len))) o in
     c.recut-then-held-words.ensures.touched k last ∙ c.set_payload-2.ensures.touched k o
+
+-- ---- groups of eight words
+
+pub returns-then-words-held-clause-groups : goal.returns-then-words-held-clause-groups
+returns-then-words-held-clause-groups g c i stands =
+    let live = live_here g.row.SLI c.requires.sized c.requires.live stands in
+    let room = room_here c.requires.own c.requires.next c.requires.room stands in
+    let is = c.recut.ensures.blocks i stands in
+    let set = c.set_payload.ensures.groups i (recut_stands stands live c.args.tick room is) in
+    more_groups (omega (arith, ap (λ (l : List ℕ). length l) (recut_bytes stands live c.args.tick room is))) (groups_then c.recut.ensures.groups set)
+
+pub returns-then-held-words-clause-groups : goal.returns-then-held-words-clause-groups
+returns-then-held-words-clause-groups g c i stands = more_groups (omega arith) (groups_then (c.set_payload-2.ensures.groups i stands) c.recut-then-held-words.ensures.groups)
+
+pub returns-else-held-words-clause-groups : goal.returns-else-held-words-clause-groups
+returns-else-held-words-clause-groups g c i stands = more_groups (omega arith) (c.set_payload-2.ensures.groups i stands)

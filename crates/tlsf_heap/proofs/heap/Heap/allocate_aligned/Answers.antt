@@ -15,6 +15,7 @@ use Rattle.tlsf_heap.proofs.lemmas.calls.Kept.{keeps_same}
 use Rattle.tlsf_heap.specs.Footprint.{IsOthersWord, IsLiveWord}
 use Rattle.tlsf_heap.proofs.lemmas.calls.Leaves.{given_word}
 use Rattle.tlsf_heap.proofs.lemmas.calls.LeavesAligned.{moved_word}
+use Rattle.tlsf_words.proofs.Touching.{no_groups, more_groups, groups_then}
 use Rattle.tlsf_heap.proofs.heap.Heap.allocate_aligned.Given.{Over}
 use Rattle.tlsf_heap.proofs.heap.Heap.allocate_aligned.Goals as goal
 
@@ -144,3 +145,20 @@ returns-clause-leaves g c k live =
     let left = subst (λ (s : HeapState). IsOthersWord s.blocks first.at k) (sym e.heap) (given.1 first (sym e.answer ∙ c.in-Ok.is)) in
     let after = subst (λ (s : HeapState). IsLiveWord s.blocks k) (sym c.move_on.ensures.heap) (moved_word c.allocate_words.new.self.heap first c.gap-gap.result c.want-words.result k left) in
     c.set_length.ensures.leaves k after ∙ c.move_on.ensures.leaves k left ∙ e.leaves k live
+
+-- ---- groups of eight words
+
+pub returns-then-self-clause-groups : goal.returns-then-self-clause-groups
+returns-then-self-clause-groups g c = more_groups (omega arith) (no_groups {old = c.args.self.now.touched} refl)
+
+pub returns-then-step-most_words-clause-groups : goal.returns-then-step-most_words-clause-groups
+returns-then-step-most_words-clause-groups g c = more_groups (omega arith) (no_groups {old = c.args.self.now.touched} refl)
+
+pub returns-in-Err-clause-groups : goal.returns-in-Err-clause-groups
+returns-in-Err-clause-groups g c = more_groups (omega arith) c.allocate_words.ensures.groups
+
+pub returns-in_err-name-clause-groups : goal.returns-in_err-name-clause-groups
+returns-in_err-name-clause-groups g c = more_groups (omega arith) (groups_then c.allocate_words.ensures.groups c.move_on.ensures.groups)
+
+pub returns-clause-groups : goal.returns-clause-groups
+returns-clause-groups g c = more_groups (omega arith) (groups_then (groups_then c.allocate_words.ensures.groups c.move_on.ensures.groups) c.set_length.ensures.groups)

@@ -5,6 +5,7 @@ use Rattle.tlsf_heap.proofs.lemmas.calls.AllocateAligned.{Gives, has_live, has_r
 use Rattle.tlsf_heap.proofs.lemmas.calls.AllocateFrom.{free_not_wild}
 use Rattle.tlsf_heap.specs.Footprint.{IsLiveWord}
 use Rattle.tlsf_heap.proofs.lemmas.calls.LeavesAligned.{given_from_live}
+use Rattle.tlsf_words.proofs.Touching.{more_groups, groups_then}
 use Rattle.tlsf_heap.proofs.heap.Heap.allocate_from.Given.{Over}
 use Rattle.tlsf_heap.proofs.heap.Heap.allocate_from.Goals as goal
 
@@ -62,3 +63,11 @@ pub returns-clause-leaves : goal.returns-clause-leaves
 returns-clause-leaves g c k live =
     c.set_length.ensures.leaves k (subst (λ (s : HeapState). IsLiveWord s.blocks k) (sym c.words_from.ensures.heap) (given_from_live c.args.self.now.heap k live c.args.at c.want.result))
     ∙ c.words_from.ensures.leaves k live
+
+-- ---- groups of eight words
+
+pub returns-in-Err-clause-groups : goal.returns-in-Err-clause-groups
+returns-in-Err-clause-groups g c = more_groups (omega arith) c.words_from.ensures.groups
+
+pub returns-clause-groups : goal.returns-clause-groups
+returns-clause-groups g c = groups_then c.words_from.ensures.groups c.set_length.ensures.groups

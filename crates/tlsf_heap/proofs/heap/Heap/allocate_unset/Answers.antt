@@ -11,6 +11,7 @@ use Rattle.tlsf_heap.proofs.lemmas.calls.OtherBytes.{allocated_answers}
 use Rattle.tlsf_heap.proofs.lemmas.calls.Unset.{given_answer, allocated_unset}
 use Rattle.tlsf_heap.specs.Footprint.{IsLiveWord}
 use Rattle.tlsf_heap.proofs.lemmas.calls.Leaves.{given_live}
+use Rattle.tlsf_words.proofs.Touching.{more_groups, groups_then}
 use Rattle.tlsf_heap.proofs.heap.Heap.allocate_unset.Goals as goal
 
 pub returns-in-Err-clause-answer : goal.returns-in-Err-clause-answer
@@ -63,3 +64,11 @@ returns-clause-leaves g c k live =
     let h = c.args.self.now.heap in
     c.set_length.ensures.leaves k (subst (λ (s : HeapState). IsLiveWord s.blocks k) (sym c.allocate_words.ensures.heap) (given_live h k live g.row.SLI c.want.result 0 c.in-Ok.ensures.keeps.was_lawful))
     ∙ c.allocate_words.ensures.leaves k live
+
+-- ---- groups of eight words
+
+pub returns-in-Err-clause-groups : goal.returns-in-Err-clause-groups
+returns-in-Err-clause-groups g c = more_groups (omega arith) c.allocate_words.ensures.groups
+
+pub returns-clause-groups : goal.returns-clause-groups
+returns-clause-groups g c = more_groups (omega arith) (groups_then c.allocate_words.ensures.groups c.set_length.ensures.groups)

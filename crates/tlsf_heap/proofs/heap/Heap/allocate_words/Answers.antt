@@ -1,4 +1,4 @@
-use Rattle.std.proofs.Common.{◌+◌, ◌-◌, ◌≤◌, sym, ap, ◌∙◌, subst, Ok, Err, arith}
+use Rattle.std.proofs.Common.{◌+◌, ◌-◌, ◌/◌, ◌≤◌, sym, ap, ◌∙◌, subst, Ok, Err, arith}
 use Rattle.tlsf_heap.specs.Blocks.{HeapState, size_of, words_in, payload_words, want, StandsAt}
 use Rattle.tlsf_heap.specs.Calls.{named}
 use Rattle.tlsf_heap.specs.Given.{payload_words_at, payload_words_given}
@@ -20,6 +20,9 @@ use Rattle.tlsf_heap.proofs.lemmas.laws.Live as living
 use Rattle.tlsf_heap.proofs.lemmas.calls.Unset.{given_block}
 use Rattle.tlsf_heap.proofs.lemmas.calls.Kept.{keeps_stored, keeps_read}
 use Rattle.tlsf_heap.proofs.lemmas.calls.Leaves.{seen_live}
+use Rattle.tlsf_words.specs.Touched.{InGroups}
+use Rattle.tlsf_words.proofs.Touching.{no_groups, more_groups, groups_then}
+use Rattle.tlsf_heap.specs.Touched.{allocate_groups}
 use Rattle.tlsf_heap.proofs.heap.Heap.allocate_words.Given.{Over}
 use Rattle.tlsf_heap.proofs.heap.Heap.allocate_words.Goals as goal
 
@@ -75,6 +78,20 @@ returns-then-self-clause-heap g c = (worn g c).is_heap
 
 pub returns-then-self-clause-no_fit : goal.returns-then-self-clause-no_fit
 returns-then-self-clause-no_fit g c = (worn g c).no_fit
+
+pub invariant_of-self-then-self : goal.invariant_of-self-then-self
+invariant_of-self-then-self g c =
+    let was = c.self.invariant in
+    let reads = c.choose.ensures.reads in
+    record {
+      lawful = (worn g c).lawful;
+      shows = rw (reads.stored, reads.blocks) was.shows;
+      linked = rw (reads.stored, reads.lists) was.linked;
+      bits = rw (reads.marked, reads.lists) was.bits;
+      level = was.level;
+      small = omega (arith, reads.words, was.small);
+      listed = rw (reads.blocks, reads.lists) was.listed;
+    }
 
 -- ---- a block is given
 
@@ -204,3 +221,17 @@ returns-then-self-clause-leaves g c = seen_live g.row.SLI c.self.inside c.self.v
 
 pub returns-clause-leaves : goal.returns-clause-leaves
 returns-clause-leaves g c = seen_live g.row.SLI c.self.inside c.self.view_is _ (λ k live. (rw c.choose.ensures.reads.blocks at c.carve-at.ensures.touched) k live ∙ c.choose.ensures.touched k live)
+
+-- ---- groups of eight words
+
+pub returns-in_default-clause-groups : goal.returns-in_default-clause-groups
+returns-in_default-clause-groups g c = more_groups (omega arith) (no_groups (c.choose.ensures.untouched ∙ ap (λ (s : Shown). s.touched) c.self.view_is))
+
+pub returns-then-self-clause-groups : goal.returns-then-self-clause-groups
+returns-then-self-clause-groups g c = more_groups (omega arith) (no_groups (c.choose.ensures.untouched ∙ ap (λ (s : Shown). s.touched) c.self.view_is))
+
+-- none of the words that are spare are made zero
+pub returns-clause-groups : goal.returns-clause-groups
+returns-clause-groups g c =
+    subst (λ (s : Shown). InGroups (allocate_groups + c.args.len / 64) s.touched c.carve-at.new.region.touched) c.self.view_is
+    (more_groups (omega (arith, c.requires, c.want.ensures)) (groups_then (no_groups c.choose.ensures.untouched) c.carve-at.ensures.groups))

@@ -6,7 +6,8 @@ use Rattle.tlsf_heap.proofs.lemmas.calls.Named.{named_same, named_stands, named_
 use Rattle.tlsf_heap.proofs.lemmas.calls.Write.{length_is}
 use Rattle.tlsf_heap.specs.Blocks.{HeapState}
 use Rattle.tlsf_heap.specs.Footprint.{IsLiveWord}
-use Rattle.tlsf_words.specs.Touched.{times}
+use Rattle.tlsf_words.specs.Touched.{times, InGroups}
+use Rattle.tlsf_words.proofs.Touching.{more_groups, groups_then}
 use Rattle.tlsf_heap.proofs.heap.Heap.check_payload.Goals as goal
 
 pub returns-in_err-check-clause-answer : goal.returns-in_err-check-clause-answer
@@ -37,3 +38,11 @@ returns-clause-leaves g c k live =
     c.length.ensures.touched k (subst (λ (h : HeapState). IsLiveWord h.blocks k) (sym same) live)
     ∙ ap (λ (s : Shown). times s.touched k) c.self.view_is
     ∙ c.in_ok-check.ensures.leaves k live
+
+-- ---- groups of eight words
+
+pub returns-in_err-check-clause-groups : goal.returns-in_err-check-clause-groups
+returns-in_err-check-clause-groups g c = more_groups (omega arith) c.in_err-check.ensures.groups
+
+pub returns-clause-groups : goal.returns-clause-groups
+returns-clause-groups g c = groups_then c.in_ok-check.ensures.groups (subst (λ (s : Shown). InGroups 1 s.touched c.length.new.self.touched) c.self.view_is c.length.ensures.groups)

@@ -1,4 +1,4 @@
-use Rattle.std.proofs.Common.{◌≡◌, ℕ, ◌≤◌, List, length, sym, ap, ◌∙◌, arith}
+use Rattle.std.proofs.Common.{◌≡◌, ℕ, ◌+◌, ◌*◌, ◌/◌, ◌≤◌, List, length, sym, ap, ◌∙◌, subst, arith}
 use Rattle.tlsf_words.specs.Bytes.{bytes_in, payload_byte}
 use Rattle.tlsf_heap.specs.Blocks.{HeapState, StandsAt, bytes_of}
 use Rattle.tlsf_heap.specs.GoodFit.{block_at}
@@ -15,6 +15,7 @@ use Rattle.tlsf_heap.proofs.lemmas.calls.Write.{Writes, writes, range_is}
 use Rattle.tlsf_heap.proofs.lemmas.blocks.Stands.{behind_one}
 use Rattle.tlsf_heap.proofs.lemmas.calls.Kept.{keeps_stored}
 use Rattle.tlsf_heap.proofs.lemmas.calls.Leaves.{seen_both}
+use Rattle.tlsf_words.specs.Touched.{InGroups}
 use Rattle.tlsf_heap.proofs.heap.Heap.copy.Given.{Over}
 use Rattle.tlsf_heap.proofs.heap.Heap.copy.Goals as goal
 
@@ -78,3 +79,6 @@ returns-clause-keeps g c =
 
 pub returns-clause-leaves : goal.returns-clause-leaves
 returns-clause-leaves g c = seen_both g.row.SLI c.self.inside c.self.view_is _ c.args.from.at c.args.to.at c.copy.ensures.touched
+
+pub returns-clause-groups : goal.returns-clause-groups
+returns-clause-groups g c = subst (λ (s : Shown). InGroups (4 + 2 * (c.args.len / 64)) s.touched c.copy.new.self.touched) c.self.view_is c.copy.ensures.groups

@@ -1,4 +1,4 @@
-use Rattle.std.proofs.Common.{◌≡◌, Result, Ok, Err, take, ap, ◌∙◌, sym, subst}
+use Rattle.std.proofs.Common.{◌≡◌, Result, Ok, Err, take, length, ap, ◌∙◌, sym, subst, arith}
 use Rattle.tlsf_heap.specs.Blocks.{HeapState}
 use Rattle.tlsf_heap.specs.Calls.{released, written}
 use Rattle.tlsf_heap.specs.InPlace.{payload_of}
@@ -7,6 +7,7 @@ use Rattle.tlsf_heap.proofs.lemmas.calls.ResizeOrMove.{release_done}
 use Rattle.tlsf_heap.specs.Footprint.{IsOthersWord, IsLiveWord}
 use Rattle.tlsf_heap.proofs.lemmas.words.Footprint.{any_word}
 use Rattle.tlsf_heap.proofs.lemmas.calls.Leaves.{written_word}
+use Rattle.tlsf_words.proofs.Touching.{more_groups, groups_then}
 use Rattle.tlsf_heap.proofs.heap.Heap.hand_over.Goals as goal
 
 -- the release isn't refused
@@ -48,3 +49,17 @@ returns-clause-leaves g c k o p =
     ∙ c.copy.ensures.leaves k was (subst (λ (s : HeapState). IsOthersWord s.blocks new.at k) (sym same) p)
     ∙ c.length-2.ensures.leaves k (subst (λ (s : HeapState). IsLiveWord s.blocks k) (sym once) (any_word h.blocks name.at k o))
     ∙ c.length.ensures.leaves k (any_word h.blocks name.at k o)
+
+-- ---- groups of eight words
+
+pub returns-in_err-release-clause-groups : goal.returns-in_err-release-clause-groups
+returns-in_err-release-clause-groups g c =
+    let held = ap (λ (s : HeapState). length (payload_of s c.args.new)) c.length.ensures.same.heap in
+    more_groups (omega (arith, held, c.min-len.ensures, c.length.ensures.value, c.length-2.ensures.value))
+    (groups_then (groups_then (groups_then c.length.ensures.groups c.length-2.ensures.groups) c.copy.ensures.groups) c.release.ensures.groups)
+
+pub returns-clause-groups : goal.returns-clause-groups
+returns-clause-groups g c =
+    let held = ap (λ (s : HeapState). length (payload_of s c.args.new)) c.length.ensures.same.heap in
+    more_groups (omega (arith, held, c.min-len.ensures, c.length.ensures.value, c.length-2.ensures.value))
+    (groups_then (groups_then (groups_then c.length.ensures.groups c.length-2.ensures.groups) c.copy.ensures.groups) c.release.ensures.groups)

@@ -1,10 +1,11 @@
-use Rattle.std.proofs.Common.{length, sym, ap, ◌∙◌, arith}
+use Rattle.std.proofs.Common.{length, sym, ap, ◌∙◌, subst, arith}
 use Rattle.tlsf_heap.specs.Shown.{Shown}
 use Rattle.tlsf_heap.specs.Stored.{state_of}
 use Rattle.tlsf_heap.proofs.lemmas.calls.Kept.{keeps_read}
 use Rattle.tlsf_heap.proofs.lemmas.calls.Alter.{named_of, payload_is}
 use Rattle.tlsf_heap.proofs.lemmas.calls.Named.{named_same, named_stands, named_live}
 use Rattle.tlsf_heap.proofs.lemmas.calls.Write.{length_is}
+use Rattle.tlsf_words.specs.Touched.{InGroups}
 use Rattle.tlsf_heap.proofs.heap.Heap.length.Goals as goal
 
 pub length-requires : goal.length-requires
@@ -22,3 +23,6 @@ returns-clause-value g c =
 
 pub returns-clause-keeps : goal.returns-clause-keeps
 returns-clause-keeps g c = keeps_read g.row.SLI c.self.inside c.self.view_is c.self.invariant _ c.length.ensures.reads
+
+pub returns-clause-groups : goal.returns-clause-groups
+returns-clause-groups g c = subst (λ (s : Shown). InGroups 1 s.touched c.length.new.self.touched) c.self.view_is c.length.ensures.groups

@@ -6,6 +6,7 @@ use Rattle.tlsf_heap.specs.Footprint.{IsOthersWord}
 use Rattle.tlsf_heap.proofs.lemmas.words.Footprint.{any_word}
 use Rattle.tlsf_heap.proofs.lemmas.calls.Leaves.{resized_word}
 use Rattle.tlsf_heap.proofs.lemmas.calls.LeavesAligned.{from_word}
+use Rattle.tlsf_words.proofs.Touching.{more_groups, groups_then}
 use Rattle.tlsf_heap.proofs.heap.Heap.move_on.Given.{Over}
 use Rattle.tlsf_heap.proofs.heap.Heap.move_on.Goals as goal
 
@@ -96,3 +97,23 @@ returns-clause-leaves g c k o =
     let left = subst (λ (s : HeapState). IsOthersWord s.blocks name.at k) (sym cut.heap) (resized_word h name.at k o name c.args.gap 0 o.4) in
     let given = subst (λ (s : HeapState). IsOthersWord s.blocks name.at k) (sym c.words_from.ensures.heap) (from_word small name.at k left (name.at + c.args.gap) c.args.words) in
     c.release.ensures.leaves k given ∙ c.words_from.ensures.leaves k (any_word small.blocks name.at k left) ∙ cut.leaves k o
+
+-- ---- groups of eight words
+
+pub returns-in_err-resize_words-clause-groups : goal.returns-in_err-resize_words-clause-groups
+returns-in_err-resize_words-clause-groups g c = absurd (stays g c)
+
+pub returns-then-gap-eq0-clause-groups : goal.returns-then-gap-eq0-clause-groups
+returns-then-gap-eq0-clause-groups g c = more_groups (omega arith) c.resize_words.ensures.groups
+
+pub returns-in_err-resize_words-2-clause-groups : goal.returns-in_err-resize_words-2-clause-groups
+returns-in_err-resize_words-2-clause-groups g c = absurd (cut g c)
+
+pub returns-in_err-moved-clause-groups : goal.returns-in_err-moved-clause-groups
+returns-in_err-moved-clause-groups g c = absurd (given g c)
+
+pub returns-in_err-release-clause-groups : goal.returns-in_err-release-clause-groups
+returns-in_err-release-clause-groups g c = absurd (freed g c)
+
+pub returns-clause-groups : goal.returns-clause-groups
+returns-clause-groups g c = more_groups (omega arith) (groups_then (groups_then c.resize_words-2.ensures.groups c.words_from.ensures.groups) c.release.ensures.groups)

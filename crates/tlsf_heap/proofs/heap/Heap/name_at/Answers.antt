@@ -1,4 +1,4 @@
-use Rattle.std.proofs.Common.{◌≡◌, ℕ, ◌<◌, Some, sym, ap, ◌∙◌, subst}
+use Rattle.std.proofs.Common.{◌≡◌, ℕ, ◌<◌, Some, sym, ap, ◌∙◌, subst, arith}
 use Rattle.tlsf_heap.specs.ByPlace.{name_at}
 use Rattle.tlsf_heap.specs.Laws.{IsLive}
 use Rattle.tlsf_heap.specs.Shown.{Shown}
@@ -6,6 +6,8 @@ use Rattle.tlsf_heap.specs.Stored.{state_of}
 use Rattle.tlsf_heap.proofs.lemmas.calls.ByPlace.{name_found, live_here, live_not_wild}
 use Rattle.tlsf_heap.proofs.lemmas.calls.Kept.{keeps_read, reads_both}
 use Rattle.tlsf_heap.proofs.lemmas.calls.Leaves.{seen_live}
+use Rattle.tlsf_words.specs.Touched.{InGroups}
+use Rattle.tlsf_words.proofs.Touching.{more_groups, groups_then}
 use Rattle.tlsf_heap.proofs.heap.Heap.name_at.Goals as goal
 
 pub returns-clause-name : goal.returns-clause-name
@@ -41,3 +43,11 @@ returns-in_default-clause-leaves g c = seen_live g.row.SLI c.self.inside c.self.
 
 pub returns-clause-leaves : goal.returns-clause-leaves
 returns-clause-leaves g c = seen_live g.row.SLI c.self.inside c.self.view_is _ (λ k live. (rw c.live_at.ensures.reads.blocks at c.mark-serial.ensures.touched) k live ∙ c.live_at.ensures.touched k live)
+
+-- ---- groups of eight words
+
+pub returns-in_default-clause-groups : goal.returns-in_default-clause-groups
+returns-in_default-clause-groups g c = more_groups (omega arith) (subst (λ (s : Shown). InGroups 1 s.touched c.live_at.new.self.touched) c.self.view_is c.live_at.ensures.groups)
+
+pub returns-clause-groups : goal.returns-clause-groups
+returns-clause-groups g c = subst (λ (s : Shown). InGroups 2 s.touched c.mark-serial.new.self.touched) c.self.view_is (groups_then c.live_at.ensures.groups c.mark-serial.ensures.groups)

@@ -1,4 +1,4 @@
-use Rattle.std.proofs.Common.{◌≡◌, ◌+◌, ◌<◌, Result, sym, ap, ◌∙◌, subst, arith}
+use Rattle.std.proofs.Common.{◌≡◌, ◌+◌, ◌<◌, Result, length, refl, sym, ap, ◌∙◌, subst, arith}
 use Rattle.tlsf_heap.specs.Blocks.{HeapState, want}
 use Rattle.tlsf_heap.specs.Calls.{allocated, last_tick, named}
 use Rattle.tlsf_heap.specs.Given.{payload_words_at, payload_words_given}
@@ -11,6 +11,9 @@ use Rattle.tlsf_heap.proofs.lemmas.calls.Kept.{keeps_same}
 use Rattle.tlsf_heap.specs.Footprint.{IsOthersWord}
 use Rattle.tlsf_heap.proofs.lemmas.words.Footprint.{any_word}
 use Rattle.tlsf_heap.proofs.lemmas.calls.Leaves.{given_word}
+use Rattle.tlsf_heap.specs.InPlace.{payload_of}
+use Rattle.tlsf_heap.proofs.lemmas.calls.Unset.{given_length}
+use Rattle.tlsf_words.proofs.Touching.{no_groups, more_groups, groups_then}
 use Rattle.tlsf_heap.proofs.heap.Heap.relocate.Goals as goal
 
 -- ---- both names are live behind the allocate, and a tick is left
@@ -64,3 +67,19 @@ returns-clause-leaves g c k o =
     let left = given_word h name.at k o g.row.SLI (want c.args.len) c.args.len e.keeps.was_lawful in
     c.hand_over.ensures.leaves k (subst (λ (s : HeapState). IsOthersWord s.blocks name.at k) (sym e.heap) left.0) (subst (λ (s : HeapState). IsOthersWord s.blocks new.at k) (sym e.heap) (left.1 new (sym e.answer)))
     ∙ e.leaves k (any_word h.blocks name.at k o)
+
+-- ---- groups of eight words
+
+pub returns-then-self-clause-groups : goal.returns-then-self-clause-groups
+returns-then-self-clause-groups g c = more_groups (omega arith) (no_groups {old = c.args.self.now.touched} refl)
+
+pub returns-in_err-new-clause-groups : goal.returns-in_err-new-clause-groups
+returns-in_err-new-clause-groups g c = more_groups (omega arith) c.in_err-new.ensures.groups
+
+-- the bytes that are copied are no more than those given
+pub returns-clause-groups : goal.returns-clause-groups
+returns-clause-groups g c =
+    let given = c.in_ok-new.ensures in
+    let many = given_length g.row.SLI c.args.self.now.heap c.args.len c.in_ok-new.new given.keeps.was_lawful (sym given.answer) in
+    let held = ap (λ (s : HeapState). length (payload_of s c.in_ok-new.new)) given.heap in
+    more_groups (omega (arith, many, held)) (groups_then given.groups c.hand_over.ensures.groups)

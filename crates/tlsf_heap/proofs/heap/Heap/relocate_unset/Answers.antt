@@ -1,4 +1,4 @@
-use Rattle.std.proofs.Common.{◌≡◌, ℕ, ◌+◌, ◌<◌, Result, length, min, sym, ap, ◌∙◌, subst, arith}
+use Rattle.std.proofs.Common.{◌≡◌, ℕ, ◌+◌, ◌<◌, Result, length, min, refl, sym, ap, ◌∙◌, subst, arith}
 use Rattle.std.specs.Prelude.{IfOk}
 use Rattle.tlsf_heap.specs.Blocks.{HeapState, want}
 use Rattle.tlsf_heap.specs.Calls.{allocated, Outcome, last_tick}
@@ -14,6 +14,7 @@ use Rattle.tlsf_heap.proofs.lemmas.calls.Kept.{keeps_same}
 use Rattle.tlsf_heap.specs.Footprint.{IsOthersWord}
 use Rattle.tlsf_heap.proofs.lemmas.words.Footprint.{any_word}
 use Rattle.tlsf_heap.proofs.lemmas.calls.Leaves.{given_word, written_word}
+use Rattle.tlsf_words.proofs.Touching.{no_groups, more_groups, groups_then}
 use Rattle.tlsf_heap.proofs.heap.Heap.relocate_unset.Goals as goal
 
 -- ---- both names are live behind the request, and a tick is left
@@ -73,3 +74,17 @@ returns-clause-leaves g c k o =
     subst (λ (s : HeapState). IsOthersWord s.blocks at k) (sym e.heap) (written_word given at k w new 0 _) in
     c.hand_over.ensures.leaves k (wrote name.at left.0) (wrote new.at (left.1 new (sym e.answer)))
     ∙ e.leaves k (any_word h.blocks name.at k o)
+
+-- ---- groups of eight words
+
+pub returns-then-self-clause-groups : goal.returns-then-self-clause-groups
+returns-then-self-clause-groups g c = more_groups (omega arith) (no_groups {old = c.args.self.now.touched} refl)
+
+pub returns-in_err-new-clause-groups : goal.returns-in_err-new-clause-groups
+returns-in_err-new-clause-groups g c = more_groups (omega arith) c.in_err-new.ensures.groups
+
+pub returns-clause-groups : goal.returns-clause-groups
+returns-clause-groups g c =
+    let given = c.in_ok-new.ensures in
+    let held = first_holds g.row.SLI c.args.self.now.heap c.args.name c.in_ok-new.new c.args.len c.self.invariant.level given.keeps.was_lawful c.requires (sym given.answer) c.allocate_unset.new.self.stored c.allocate_unset.new.self.heap given.heap in
+    more_groups (omega (arith, held.0, held.1)) (groups_then given.groups c.hand_over.ensures.groups)

@@ -1,10 +1,11 @@
-use Rattle.std.proofs.Common.{◌≡◌, ℕ, List, Result, Ok, Err, sym, ap, ◌∙◌, subst}
+use Rattle.std.proofs.Common.{◌≡◌, ℕ, List, Result, Ok, Err, sym, ap, ◌∙◌, subst, arith}
 use Rattle.std.specs.Prelude.{OnErr}
 use Rattle.tlsf_heap.specs.Blocks.{Block, HeapState, IsPlace}
 use Rattle.tlsf_heap.specs.Footprint.{IsOthersWord, IsLiveWord, LeavesLive}
 use Rattle.tlsf_heap.proofs.lemmas.words.Footprint.{any_word}
 use Rattle.tlsf_heap.proofs.lemmas.calls.Alter.{named_of}
 use Rattle.tlsf_heap.proofs.lemmas.calls.Named.{named_stands, not_wild}
+use Rattle.tlsf_words.proofs.Touching.{more_groups, groups_then}
 use Rattle.tlsf_heap.proofs.heap.Heap.resize_at.Goals as goal
 
 pub returns-in-Some-clause-wild : goal.returns-in-Some-clause-wild
@@ -32,3 +33,11 @@ returns-in-Some-clause-refused g c =
     let seen = c.in-Some.ensures in
     refused_both c.args.self.now.heap.blocks c.name_at.new.self.heap.blocks c.args.self.now.touched c.name_at.new.self.touched c.resize_words.new.self.touched c.resize_words.result
     (ap (λ (s : HeapState). s.blocks) seen.same.heap) seen.leaves c.resize_words.ensures.refused
+
+-- ---- groups of eight words
+
+pub returns-in-None-clause-groups : goal.returns-in-None-clause-groups
+returns-in-None-clause-groups g c = more_groups (omega arith) c.name_at.ensures.groups
+
+pub returns-in-Some-clause-groups : goal.returns-in-Some-clause-groups
+returns-in-Some-clause-groups g c = more_groups (omega arith) (groups_then c.name_at.ensures.groups c.resize_words.ensures.groups)

@@ -1,9 +1,10 @@
 use Rattle.tlsf_heap.proofs.lemmas.calls.Alter.{named_of}
 use Rattle.tlsf_heap.proofs.lemmas.calls.ResizeOrMove.{no_room_live}
 use Rattle.tlsf_heap.proofs.lemmas.calls.Named.{not_forged}
-use Rattle.std.proofs.Common.{sym, ◌∙◌, subst}
+use Rattle.std.proofs.Common.{sym, ◌∙◌, subst, arith}
 use Rattle.tlsf_heap.specs.Blocks.{HeapState}
 use Rattle.tlsf_heap.specs.Footprint.{IsOthersWord}
+use Rattle.tlsf_words.proofs.Touching.{more_groups, groups_then}
 use Rattle.tlsf_heap.proofs.heap.Heap.resize_or_move_unset.Goals as goal
 
 pub returns-in-Err-NoRoom-clause-forged : goal.returns-in-Err-NoRoom-clause-forged
@@ -17,3 +18,14 @@ returns-in-Err-NoRoom-clause-forged g c =
 pub returns-in-Err-NoRoom-clause-leaves : goal.returns-in-Err-NoRoom-clause-leaves
 returns-in-Err-NoRoom-clause-leaves g c k o =
     c.relocate_unset.ensures.leaves k (subst (λ (s : HeapState). IsOthersWord s.blocks c.args.name.at k) (sym c.in-Err-NoRoom.ensures.err.heap) o) ∙ c.resize_unset.ensures.leaves k o
+
+-- ---- groups of eight words
+
+pub returns-in-Ok-clause-groups : goal.returns-in-Ok-clause-groups
+returns-in-Ok-clause-groups g c = more_groups (omega arith) c.resize_unset.ensures.groups
+
+pub returns-in-Err-NoRoom-clause-groups : goal.returns-in-Err-NoRoom-clause-groups
+returns-in-Err-NoRoom-clause-groups g c = more_groups (omega arith) (groups_then c.in-Err-NoRoom.ensures.refused_groups (rw c.in-Err-NoRoom.ensures.err.heap at c.relocate_unset.ensures.groups))
+
+pub returns-in-Err-clause-groups : goal.returns-in-Err-clause-groups
+returns-in-Err-clause-groups g c = more_groups (omega arith) c.resize_unset.ensures.groups

@@ -19,6 +19,7 @@ use Rattle.tlsf_heap.proofs.lemmas.calls.Unset.{shorter_lives, left_answer, left
 use Rattle.tlsf_heap.specs.Footprint.{IsOthersWord, IsLiveWord}
 use Rattle.tlsf_heap.proofs.lemmas.words.Footprint.{any_word}
 use Rattle.tlsf_heap.proofs.lemmas.calls.Leaves.{resized_word}
+use Rattle.tlsf_words.proofs.Touching.{more_groups, groups_then}
 use Rattle.tlsf_heap.proofs.heap.Heap.resize_unset.Goals as goal
 
 -- ---- the name is refused
@@ -116,6 +117,12 @@ returns-in_err-resize_words-clause-leaves g c k o =
     c.in_err-resize_words.ensures.leaves k (subst (λ (s : HeapState). IsOthersWord s.blocks c.args.name.at k) (sym seen.same.heap) o)
     ∙ seen.leaves k (any_word c.args.self.now.heap.blocks c.args.name.at k o)
 
+pub returns-in_err-resize_words-clause-refused : goal.returns-in_err-resize_words-clause-refused
+returns-in_err-resize_words-clause-refused g c =
+    let seen = c.in_ok-check_payload.ensures in
+    rw (err_from_is_err_and c.from_residual-in_err-resize_words.result c.from_residual-in_err-resize_words.ensures.1).1
+    (λ k live. c.in_err-resize_words.ensures.refused k (subst (λ (s : HeapState). IsLiveWord s.blocks k) (sym seen.same.heap) live) ∙ seen.leaves k live)
+
 pub returns-clause-leaves : goal.returns-clause-leaves
 returns-clause-leaves g c k o =
     let h = c.args.self.now.heap in
@@ -127,3 +134,26 @@ returns-clause-leaves g c k o =
     c.set_length.ensures.leaves k (subst (λ (s : HeapState). IsLiveWord s.blocks k) (sym cut.heap) (any_word _ name.at k left))
     ∙ cut.leaves k was
     ∙ seen.leaves k (any_word h.blocks name.at k o)
+
+-- ---- groups of eight words
+
+pub returns-in_err-check_payload-clause-groups : goal.returns-in_err-check_payload-clause-groups
+returns-in_err-check_payload-clause-groups g c = more_groups (omega arith) c.in_err-check_payload.ensures.groups
+
+pub returns-in_err-check_payload-clause-refused_groups : goal.returns-in_err-check_payload-clause-refused_groups
+returns-in_err-check_payload-clause-refused_groups g c =
+    rw (err_from_is_err_and c.from_residual.result c.from_residual.ensures.1).1 (more_groups (omega arith) c.in_err-check_payload.ensures.groups)
+
+pub returns-in_err-resize_words-clause-groups : goal.returns-in_err-resize_words-clause-groups
+returns-in_err-resize_words-clause-groups g c = more_groups (omega arith) (groups_then c.in_ok-check_payload.ensures.groups c.in_err-resize_words.ensures.refused_groups)
+
+pub returns-in_err-resize_words-clause-refused_groups : goal.returns-in_err-resize_words-clause-refused_groups
+returns-in_err-resize_words-clause-refused_groups g c =
+    rw (err_from_is_err_and c.from_residual-in_err-resize_words.result c.from_residual-in_err-resize_words.ensures.1).1 (groups_then c.in_ok-check_payload.ensures.groups c.in_err-resize_words.ensures.refused_groups)
+
+pub returns-clause-groups : goal.returns-clause-groups
+returns-clause-groups g c =
+    let held = ap length (payload_is c.args.self.now.heap c.args.name c.in_ok-check_payload.ensures.answer.0) in
+    let before = ap (λ (s : HeapState). length (payload_of s c.args.name)) c.in_ok-check_payload.ensures.same.heap in
+    more_groups (omega (arith, held, before, c.in_ok-check_payload.ensures.answer.1, c.min-kept.ensures))
+    (groups_then (groups_then c.in_ok-check_payload.ensures.groups c.in_ok-resize_words.ensures.groups) c.set_length.ensures.groups)

@@ -1,4 +1,4 @@
-use Rattle.std.proofs.Common.{◌≡◌, ℕ, ◌+◌, ◌≤◌, List, length, sym, ap, ◌∙◌, subst, Ok, Err, arith}
+use Rattle.std.proofs.Common.{◌≡◌, ℕ, ◌+◌, ◌-◌, ◌/◌, ◌≤◌, List, length, sym, ap, ◌∙◌, subst, Ok, Err, arith}
 use Rattle.std.proofs.lemmas.Result.{err_from_is_err_and}
 use Rattle.tlsf_class.proofs.TwoLevels.{most_words_any}
 use Rattle.tlsf_heap.specs.Blocks.{HeapState, words_in, words_for}
@@ -20,9 +20,11 @@ use Rattle.tlsf_heap.proofs.lemmas.calls.Named.{named_same, named_stands, named_
 use Rattle.tlsf_heap.proofs.lemmas.words.Says.{at_index}
 use Rattle.tlsf_heap.proofs.lemmas.calls.Resize.{Resizes, resized_refused, resizes_refused}
 use Rattle.tlsf_heap.proofs.lemmas.calls.Kept.{keeps_both, keeps_stored}
-use Rattle.tlsf_words.specs.Touched.{times}
+use Rattle.tlsf_words.specs.Touched.{times, InGroups}
 use Rattle.tlsf_heap.specs.Footprint.{IsOthersWord, IsLiveWord}
 use Rattle.tlsf_heap.proofs.lemmas.words.Footprint.{any_word}
+use Rattle.tlsf_words.proofs.Touching.{more_groups, groups_then}
+use Rattle.tlsf_heap.specs.Touched.{resize_groups}
 use Rattle.tlsf_heap.proofs.heap.Heap.resize_words.Given.{Over}
 use Rattle.tlsf_heap.proofs.heap.Heap.resize_words.Goals as goal
 
@@ -249,3 +251,35 @@ returns-then-self-clause-refused g c k live =
     let there : IsLiveWord c.self.inside.region.blocks k = subst (λ (h : HeapState). IsLiveWord h.blocks k) (sym same) live in
     c.look_behind-next.ensures.touched k there
     ∙ ap (λ (s : Shown). times s.touched k) c.self.view_is ∙ c.in_ok-own.ensures.leaves k live
+
+-- ---- groups of eight words
+
+pub returns-in_err-own-clause-groups : goal.returns-in_err-own-clause-groups
+returns-in_err-own-clause-groups g c = more_groups (omega arith) c.in_err-own.ensures.groups
+
+pub returns-in_err-own-clause-refused_groups : goal.returns-in_err-own-clause-refused_groups
+returns-in_err-own-clause-refused_groups g c = rw (err_from_is_err_and c.from_residual.result c.from_residual.ensures.1).1 (more_groups (omega arith) c.in_err-own.ensures.groups)
+
+pub returns-then-room-words-clause-refused_groups : goal.returns-then-room-words-clause-refused_groups
+returns-then-room-words-clause-refused_groups g c =
+    groups_then c.in_ok-own.ensures.groups (subst (λ (s : Shown). InGroups 1 s.touched c.look_behind-next.new.region.touched) c.self.view_is c.look_behind-next.ensures.groups)
+
+pub returns-then-room-words-clause-groups : goal.returns-then-room-words-clause-groups
+returns-then-room-words-clause-groups g c = more_groups (omega arith) (returns-then-room-words-clause-refused_groups g c)
+
+pub returns-then-self-clause-refused_groups : goal.returns-then-self-clause-refused_groups
+returns-then-self-clause-refused_groups g c =
+    groups_then c.in_ok-own.ensures.groups (subst (λ (s : Shown). InGroups 1 s.touched c.look_behind-next.new.region.touched) c.self.view_is c.look_behind-next.ensures.groups)
+
+pub returns-then-self-clause-groups : goal.returns-then-self-clause-groups
+returns-then-self-clause-groups g c = more_groups (omega arith) (returns-then-self-clause-refused_groups g c)
+
+pub returns-clause-groups : goal.returns-clause-groups
+returns-clause-groups g c =
+    let same : state_of g.row.SLI c.self.inside ≡ c.args.self.now.heap = ap (λ (s : Shown). s.heap) c.self.view_is ∙ c.in_ok-own.ensures.same.heap in
+    let is_named = named_same (state_of g.row.SLI c.self.inside) c.args.self.now.heap c.args.name same c.in_ok-own.ensures.answer.0 in
+    let held = ap (λ (l : List ℕ). length l) (ap (λ (h : HeapState). payload_of h c.args.name) (sym same) ∙ payload_is (state_of g.row.SLI c.self.inside) c.args.name is_named) in
+    let fitted = (rw c.look_behind-next.ensures.reads.blocks at c.refit.ensures.groups) is_named.1.0 (named_stands _ _ _ _ is_named.1.1) in
+    let n = c.args.len - length (payload_of c.args.self.now.heap c.args.name) in
+    more_groups (omega arith) (groups_then c.in_ok-own.ensures.groups (subst (λ (s : Shown). InGroups (13 + n / 64) s.touched c.refit.new.region.touched) c.self.view_is
+    (more_groups (omega (arith, held)) (groups_then c.look_behind-next.ensures.groups fitted))))

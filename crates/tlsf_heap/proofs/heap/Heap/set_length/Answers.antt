@@ -16,6 +16,7 @@ use Rattle.tlsf_heap.proofs.lemmas.calls.Named.{named_stands}
 use Rattle.tlsf_heap.proofs.lemmas.words.Bytes.{length-bytes_in}
 use Rattle.tlsf_heap.proofs.lemmas.calls.Kept.{keeps_stored}
 use Rattle.tlsf_heap.proofs.lemmas.calls.Leaves.{seen_live}
+use Rattle.tlsf_words.specs.Touched.{InGroups}
 use Rattle.tlsf_heap.proofs.heap.Heap.set_length.Given.{Over}
 use Rattle.tlsf_heap.proofs.heap.Heap.set_length.Goals as goal
 
@@ -83,3 +84,6 @@ returns-clause-keeps g c =
 
 pub returns-clause-leaves : goal.returns-clause-leaves
 returns-clause-leaves g c = seen_live g.row.SLI c.self.inside c.self.view_is _ c.set_length.ensures.touched
+
+pub returns-clause-groups : goal.returns-clause-groups
+returns-clause-groups g c = subst (λ (s : Shown). InGroups 1 s.touched c.set_length.new.self.touched) c.self.view_is c.set_length.ensures.groups

@@ -14,6 +14,8 @@ use Rattle.tlsf_heap.proofs.lemmas.blocks.Lawful.{with_region}
 use Rattle.tlsf_heap.proofs.lemmas.words.Says.{at_index}
 use Rattle.tlsf_heap.proofs.lemmas.calls.Kept.{keeps_stored, keeps_read}
 use Rattle.tlsf_heap.proofs.lemmas.calls.Leaves.{seen_live}
+use Rattle.tlsf_words.specs.Touched.{InGroups}
+use Rattle.tlsf_words.proofs.Touching.{more_groups, groups_then}
 use Rattle.tlsf_heap.proofs.heap.Heap.words_from.Given.{Over}
 use Rattle.tlsf_heap.proofs.heap.Heap.words_from.Goals as goal
 
@@ -214,3 +216,18 @@ pub returns-clause-leaves : goal.returns-clause-leaves
 returns-clause-leaves g c = seen_live g.row.SLI c.self.inside c.self.view_is _ (λ k live.
     let blocks = c.free_at.ensures.reads.blocks in
     (rw (c.remove.ensures.blocks ∙ blocks) at c.give.ensures.touched) k live ∙ (rw blocks at c.remove.ensures.touched) k live ∙ c.free_at.ensures.touched k live)
+
+-- ---- groups of eight words
+
+pub returns-in_default-clause-groups : goal.returns-in_default-clause-groups
+returns-in_default-clause-groups g c = more_groups (omega arith) (subst (λ (s : Shown). InGroups 1 s.touched c.free_at.new.self.touched) c.self.view_is c.free_at.ensures.groups)
+
+pub returns-then-size-words-clause-groups : goal.returns-then-size-words-clause-groups
+returns-then-size-words-clause-groups g c = more_groups (omega arith) (subst (λ (s : Shown). InGroups 1 s.touched c.free_at.new.self.touched) c.self.view_is c.free_at.ensures.groups)
+
+pub returns-then-self-clause-groups : goal.returns-then-self-clause-groups
+returns-then-self-clause-groups g c = more_groups (omega arith) (subst (λ (s : Shown). InGroups 1 s.touched c.free_at.new.self.touched) c.self.view_is c.free_at.ensures.groups)
+
+pub returns-clause-groups : goal.returns-clause-groups
+returns-clause-groups g c =
+    subst (λ (s : Shown). InGroups 12 s.touched c.give.new.region.touched) c.self.view_is (more_groups (omega arith) (groups_then (groups_then c.free_at.ensures.groups c.remove.ensures.groups) c.give.ensures.groups))

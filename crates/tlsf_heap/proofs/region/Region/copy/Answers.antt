@@ -1,4 +1,4 @@
-use Rattle.std.proofs.Common.{◌≡◌, ◌≤◌, ◌+◌, ℕ, List, ◌∷◌, [], ◌++◌, length, take, drop, inl, inr, sym, arith, ap, ◌∙◌}
+use Rattle.std.proofs.Common.{◌≡◌, ◌≤◌, ◌+◌, ◌*◌, ◌/◌, ℕ, List, ◌∷◌, [], ◌++◌, length, take, drop, inl, inr, sym, subst, arith, ap, ◌∙◌}
 use Rattle.tlsf_words.specs.Bytes.{bytes_in, payload_byte}
 use Rattle.std.proofs.lemmas.Bool.{cases_order}
 use Rattle.tlsf_heap.specs.Blocks.{bytes_of, words_in, StandsAt}
@@ -13,8 +13,10 @@ use Rattle.tlsf_heap.proofs.lemmas.words.KeptLinks.{relisted_bytes}
 use Rattle.tlsf_heap.proofs.lemmas.blocks.Stands.{behind_one}
 use Rattle.tlsf_heap.proofs.lemmas.words.Edit.{Leaves}
 use Rattle.tlsf_heap.specs.Regions.{RegionState, image_of}
-use Rattle.tlsf_words.specs.Touched.{times}
+use Rattle.tlsf_words.specs.Touched.{times, InGroups}
 use Rattle.tlsf_heap.proofs.lemmas.words.Footprint.{others_apart}
+use Rattle.tlsf_words.proofs.Touching.{more_groups}
+use Rattle.tlsf_heap.proofs.lemmas.words.Groups.{two_rows}
 use Rattle.tlsf_heap.proofs.region.Region.copy.Given.{Over}
 use Rattle.tlsf_heap.proofs.region.Region.copy.Goals as goal
 
@@ -91,3 +93,11 @@ returns-clause-touched g c k o p =
     (elim (others_apart bs c.args.from from.0 k from.1 o) [ inl below ↦ inl (omega (arith, below)) | inr above ↦ inr (omega (arith, above, first, from.2)) ])
     (elim (others_apart bs c.args.to to.0 k to.1 p) [ inl below ↦ inl (omega (arith, below)) | inr above ↦ inr (omega (arith, above, second, to.2)) ])
     ∙ ap (λ (r : RegionState). times r.touched k) c.self.view_is
+
+pub returns-clause-groups : goal.returns-clause-groups
+returns-clause-groups g c =
+    let from = c.args.from + 3 in
+    let to = c.args.to + 3 in
+    let n = (c.args.len + 7) / 8 in
+    let rows = two_rows from to n n (λ k a b. c.copy_payload.ensures.touched k (elim a [ inl below ↦ inl below | inr past ↦ inr (omega (arith, past)) ]) (elim b [ inl below ↦ inl below | inr past ↦ inr (omega (arith, past)) ])) in
+    subst (λ (r : RegionState). InGroups (4 + 2 * (c.args.len / 64)) r.touched c.copy_payload.new.self.touched) c.self.view_is (more_groups (omega arith) rows)

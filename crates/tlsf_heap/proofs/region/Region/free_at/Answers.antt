@@ -1,5 +1,7 @@
-use Rattle.std.proofs.Common.{sym, ◌∙◌, arith}
+use Rattle.std.proofs.Common.{ℕ, List, sym, ◌∙◌, subst, arith}
 use Rattle.std.proofs.lemmas.Bool.{false≢true}
+use Rattle.tlsf_words.specs.Touched.{InGroups}
+use Rattle.tlsf_words.proofs.Touching.{no_groups, more_groups}
 use Rattle.tlsf_heap.proofs.region.Region.free_at.Goals as goal
 
 pub returns-then-not-begins-clause-answer : goal.returns-then-not-begins-clause-answer
@@ -29,3 +31,14 @@ returns-then-not-is_free-clause-outside g c past = absurd (let inside = c.begins
 
 pub returns-clause-outside : goal.returns-clause-outside
 returns-clause-outside g c past = absurd (let inside = c.begins.ensures.inside c.if-not-begins.false in omega (arith, inside, past))
+
+-- ---- groups of eight words
+
+pub returns-then-not-begins-clause-groups : goal.returns-then-not-begins-clause-groups
+returns-then-not-begins-clause-groups g c = more_groups (omega arith) (no_groups c.begins.ensures.untouched)
+
+pub returns-then-not-is_free-clause-groups : goal.returns-then-not-is_free-clause-groups
+returns-then-not-is_free-clause-groups g c = subst (λ (l : List ℕ). InGroups 1 l c.tag-tag.new.self.touched) c.begins.ensures.untouched c.tag-tag.ensures.groups
+
+pub returns-clause-groups : goal.returns-clause-groups
+returns-clause-groups g c = subst (λ (l : List ℕ). InGroups 1 l c.tag-tag.new.self.touched) c.begins.ensures.untouched c.tag-tag.ensures.groups

@@ -1,14 +1,16 @@
 -- A block that is made a live one whole: the words show it, and leave the lists.
-use Rattle.std.proofs.Common.{ℕ, ◌+◌, [], ◌∷◌, ◌++◌, take, drop, suc, ap, ◌∙◌, arith, ◌≡◌, ◌≢◌, ◌<◌, true, sym, List, inl, inr}
+use Rattle.std.specs.Prelude.{◌⊎◌}
+use Rattle.std.proofs.Common.{ℕ, ◌+◌, [], ◌∷◌, ◌++◌, take, drop, suc, ap, ◌∙◌, arith, ◌≡◌, ◌≢◌, ◌<◌, ◌≤◌, true, sym, subst, List, inl, inr}
 use Rattle.tlsf_heap.specs.Blocks.{Live, size_of, StandsAt, is_free}
 use Rattle.tlsf_heap.specs.GoodFit.{block_at, site_at}
 use Rattle.tlsf_heap.specs.Regions.{RegionState, IsTagOf, image_of}
 use Rattle.tlsf_heap.proofs.lemmas.words.Says.{shows_state, says_here, at_index}
 use Rattle.tlsf_heap.proofs.lemmas.words.Links.{linked_lists, marked_lists, Reshapes, holds_state}
 use Rattle.tlsf_heap.proofs.lemmas.words.Split.{stored_bytes, begins_zero, tag_here, left_whole}
-use Rattle.tlsf_words.specs.Touched.{times}
+use Rattle.tlsf_words.specs.Touched.{times, InGroups}
 use Rattle.tlsf_words.proofs.Touching.{times_other}
 use Rattle.tlsf_heap.proofs.lemmas.words.Footprint.{free_elsewhere, others_apart}
+use Rattle.tlsf_heap.proofs.lemmas.words.Groups.{one_row}
 use Rattle.tlsf_heap.proofs.region.Region.grant.Given.{Over}
 use Rattle.tlsf_heap.proofs.region.Region.grant.Goals as goal
 
@@ -50,6 +52,15 @@ returns-clause-change g c i stands =
       };
     }
 
+-- a header and the first payload word are touched, and nothing else
+headed : (at k : ℕ) (old : List ℕ) → ((d : ℕ) → d < 4 → k ≢ at + d) → {new : List ℕ} → new ≡ (at + 3) ∷ (at + 2) ∷ (at + 1) ∷ at ∷ old → times new k ≡ times old k
+headed at k old apart is =
+    ap (λ (l : List ℕ). times l k) is
+    ∙ times_other (at + 3) k ((at + 2) ∷ (at + 1) ∷ at ∷ old) (apart 3 (omega arith))
+    ∙ times_other (at + 2) k ((at + 1) ∷ at ∷ old) (apart 2 (omega arith))
+    ∙ times_other (at + 1) k (at ∷ old) (apart 1 (omega arith))
+    ∙ times_other at k old (λ e. apart 0 (omega arith) (omega (arith, e)))
+
 pub returns-clause-touched : goal.returns-clause-touched
 returns-clause-touched g c k live =
     let bs = c.args.self.now.blocks in
@@ -60,10 +71,14 @@ returns-clause-touched g c k live =
       | inl below ↦ omega (arith, below, e)
       | inr above ↦ omega (arith, above, e, low, least)
     ] in
-    let old = c.self.inside.words.touched in
-    ap (λ (l : List ℕ). times l k) c.live_header.ensures.touched
-    ∙ times_other (c.args.at + 3) k ((c.args.at + 2) ∷ (c.args.at + 1) ∷ c.args.at ∷ old) (apart 3 (omega arith))
-    ∙ times_other (c.args.at + 2) k ((c.args.at + 1) ∷ c.args.at ∷ old) (apart 2 (omega arith))
-    ∙ times_other (c.args.at + 1) k (c.args.at ∷ old) (apart 1 (omega arith))
-    ∙ times_other c.args.at k old (λ e. apart 0 (omega arith) (omega (arith, e)))
+    headed c.args.at k c.self.inside.words.touched apart c.live_header.ensures.touched
     ∙ ap (λ (r : RegionState). times r.touched k) c.self.view_is
+
+pub returns-clause-groups : goal.returns-clause-groups
+returns-clause-groups g c =
+    let at = c.args.at in
+    let old = c.self.inside.words.touched in
+    let only : (k : ℕ) → (k < at) ⊎ (at + 4 ≤ k) → times c.live_header.new.words.touched k ≡ times old k = λ k apart.
+    let differ : (d : ℕ) → d < 4 → k ≢ at + d = λ d low e. elim apart [ inl below ↦ omega (arith, below, e) | inr past ↦ omega (arith, past, e, low) ] in
+    headed at k old differ c.live_header.ensures.touched in
+    subst (λ (r : RegionState). InGroups 2 r.touched c.live_header.new.words.touched) c.self.view_is (one_row at 4 (λ k below. only k (inl below)) (λ k past. only k (inr past)))

@@ -1,9 +1,11 @@
-use Rattle.std.proofs.Common.{◌∙◌, arith, ◌+◌, refl, ap}
+use Rattle.std.proofs.Common.{◌∙◌, arith, ◌+◌, refl, ap, subst}
 use Rattle.tlsf_heap.proofs.lemmas.words.Says.{shows_state, holds_read, in_region}
 use Rattle.tlsf_heap.proofs.lemmas.words.Bytes.{length_read}
 use Rattle.tlsf_words.specs.Touched.{times}
 use Rattle.tlsf_heap.proofs.lemmas.words.Footprint.{reads_header}
 use Rattle.tlsf_heap.specs.Regions.{RegionState}
+use Rattle.tlsf_words.specs.Touched.{InGroups}
+use Rattle.tlsf_words.proofs.Touching.{one_touch}
 use Rattle.tlsf_heap.proofs.region.Region.length.Goals as goal
 
 pub length-requires : goal.length-requires
@@ -19,3 +21,6 @@ pub returns-clause-touched : goal.returns-clause-touched
 returns-clause-touched g c k live =
     reads_header (shows_state g.row.SLI c.self.invariant c.self.view_is) c.requires.1 2 (c.args.at + 2) (omega arith) refl c.self.inside.words.touched c.length.new.self.touched c.length.ensures.touched k live
     ∙ ap (λ (r : RegionState). times r.touched k) c.self.view_is
+
+pub returns-clause-groups : goal.returns-clause-groups
+returns-clause-groups g c = subst (λ (r : RegionState). InGroups 1 r.touched c.length.new.self.touched) c.self.view_is (one_touch (c.args.at + 2) c.length.ensures.touched)

@@ -1,4 +1,5 @@
-use Rattle.std.proofs.Common.{◌≡◌, ℕ, suc, ◌+◌, ◌++◌, ◌≤◌, take, drop, length, false, ap, ◌∙◌, arith, inl, inr}
+use Rattle.std.specs.Prelude.{◌⊎◌}
+use Rattle.std.proofs.Common.{◌≡◌, ℕ, suc, ◌+◌, ◌++◌, ◌≤◌, ◌<◌, ◌≢◌, take, drop, length, false, ap, ◌∙◌, subst, arith, inl, inr}
 use Rattle.tlsf_heap.specs.Blocks.{StandsAt, is_free, bytes_of, words_for}
 use Rattle.tlsf_heap.specs.Calls.{recut}
 use Rattle.tlsf_heap.specs.GoodFit.{block_at}
@@ -6,8 +7,10 @@ use Rattle.tlsf_heap.specs.Regions.{RegionState, image_of}
 use Rattle.tlsf_heap.proofs.lemmas.words.Links.{linked_lists, marked_lists, Reshapes, holds_state}
 use Rattle.tlsf_heap.proofs.lemmas.words.Says.{shows_state, at_index}
 use Rattle.tlsf_heap.proofs.lemmas.words.Recut.{whole_is, whole_ends, whole_last, whole_least, left_wide, left_recut}
-use Rattle.tlsf_words.specs.Touched.{times}
+use Rattle.tlsf_words.specs.Touched.{times, InGroups}
 use Rattle.tlsf_heap.proofs.lemmas.words.Footprint.{past_apart}
+use Rattle.tlsf_words.proofs.Touching.{more_groups, two_words}
+use Rattle.tlsf_heap.proofs.lemmas.words.Groups.{rows_and_word}
 use Rattle.tlsf_heap.proofs.region.Region.recut.Goals.{After-recut_header}
 use Rattle.tlsf_heap.proofs.region.Region.recut.Given.{Over}
 use Rattle.tlsf_heap.proofs.region.Region.recut.Goals as goal
@@ -103,3 +106,17 @@ returns-clause-touched g c k o =
     (λ e. elim lies [ inl below ↦ omega (arith, below, e) | inr above ↦ omega (arith, above, e, own, next, c.if-both-size.false, c.size.ensures.value, c.size-after.ensures.value) ])
     (λ e. elim lies [ inl below ↦ omega (arith, below, e) | inr above ↦ omega (arith, above, e, own, next, c.new-whole.ensures.size, c.size.ensures.value, c.size-after.ensures.value) ])
     ∙ ap (λ (r : RegionState). times r.touched k) c.self.view_is
+
+-- ---- groups of eight words
+
+pub returns-then-both-size-clause-groups : goal.returns-then-both-size-clause-groups
+returns-then-both-size-clause-groups g c =
+    subst (λ (r : RegionState). InGroups 4 r.touched c.widen_header.new.words.touched) c.self.view_is (more_groups (omega arith) (two_words c.args.at (c.args.at + c.new-whole.result.size) c.widen_header.ensures.touched))
+
+pub returns-clause-groups : goal.returns-clause-groups
+returns-clause-groups g c =
+    let at = c.args.at in
+    let place = at + c.args.size in
+    let apart : (p n d k : ℕ) → d < n → (k < p) ⊎ (p + n ≤ k) → k ≢ p + d = λ p n d k low out e. elim out [ inl below ↦ omega (arith, below, e) | inr past ↦ omega (arith, past, e, low) ] in
+    subst (λ (r : RegionState). InGroups 4 r.touched c.recut_header.new.words.touched) c.self.view_is (rows_and_word at place 1 2 (at + c.new-whole.result.size)
+    (λ k own rest behind. c.recut_header.ensures.touched k (λ e. apart at 1 0 k (omega arith) own (omega (arith, e))) (λ e. apart place 2 0 k (omega arith) rest (omega (arith, e))) (apart place 2 1 k (omega arith) rest) behind))

@@ -1,4 +1,6 @@
-use Rattle.std.proofs.Common.{ap, ◌∙◌, arith, inl, inr}
+use Rattle.std.proofs.Common.{◌+◌, ◌-◌, ◌/◌, length, ap, ◌∙◌, subst, arith, inl, inr}
+use Rattle.tlsf_heap.specs.Blocks.{bytes_of}
+use Rattle.tlsf_heap.specs.GoodFit.{block_at}
 use Rattle.tlsf_heap.specs.Regions.{RegionState, image_of}
 use Rattle.tlsf_heap.proofs.lemmas.words.Links.{linked_lists, marked_lists, Relists, holds_state}
 use Rattle.tlsf_heap.proofs.lemmas.words.Bytes.{held_within, length_read}
@@ -6,8 +8,9 @@ use Rattle.tlsf_heap.proofs.lemmas.words.Says.{shows_state, says_here}
 use Rattle.tlsf_heap.proofs.lemmas.words.NewPayload.{Refills, refilled, relisted_refill}
 use Rattle.tlsf_heap.proofs.lemmas.words.Image.{room_here}
 use Rattle.tlsf_heap.proofs.lemmas.blocks.Stands.{behind_one}
-use Rattle.tlsf_words.specs.Touched.{times}
+use Rattle.tlsf_words.specs.Touched.{times, InGroups}
 use Rattle.tlsf_heap.proofs.lemmas.words.Footprint.{others_apart}
+use Rattle.tlsf_words.proofs.Touching.{more_groups}
 use Rattle.tlsf_heap.proofs.region.Region.set_payload.Given.{Over}
 use Rattle.tlsf_heap.proofs.region.Region.set_payload.Goals as goal
 
@@ -56,3 +59,9 @@ returns-clause-touched g c k o =
       | inr above ↦ c.set_payload.ensures.touched_behind k (omega (arith, above, c.requires.2.1))
     ]
     ∙ ap (λ (r : RegionState). times r.touched k) c.self.view_is
+
+pub returns-clause-groups : goal.returns-clause-groups
+returns-clause-groups g c i stands =
+    let new = c.args.len - length (bytes_of (block_at c.args.self.now.blocks i)) in
+    let held = length_read (shows_state g.row.SLI c.self.invariant c.self.view_is) stands (c.requires.0, c.requires.1, c.requires.2.0) in
+    subst (λ (r : RegionState). InGroups (3 + new / 64) r.touched c.set_payload.new.words.touched) c.self.view_is (more_groups (omega (arith, held)) c.set_payload.ensures.groups)

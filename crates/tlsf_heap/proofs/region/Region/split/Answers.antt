@@ -1,13 +1,15 @@
 -- A block that is split into a live one and a free rest: the words show them, and leave the lists.
-use Rattle.std.proofs.Common.{ℕ, ◌+◌, ◌-◌, eqb, [], ◌∷◌, ◌++◌, take, drop, length, suc, sym, ap, ◌∙◌, refl, arith, ◌≡◌, true, inl, inr}
+use Rattle.std.specs.Prelude.{◌⊎◌}
+use Rattle.std.proofs.Common.{ℕ, ◌+◌, ◌-◌, eqb, [], ◌∷◌, ◌++◌, take, drop, length, suc, sym, ap, ◌∙◌, refl, arith, ◌≡◌, ◌≢◌, ◌<◌, ◌≤◌, true, subst, inl, inr}
 use Rattle.tlsf_heap.specs.Blocks.{Live, Free, size_of, StandsAt, is_free}
 use Rattle.tlsf_heap.specs.GoodFit.{block_at, site_at}
 use Rattle.tlsf_heap.specs.Regions.{RegionState, IsTagOf, image_of}
 use Rattle.tlsf_heap.proofs.lemmas.words.Says.{shows_state, says_here, at_index}
 use Rattle.tlsf_heap.proofs.lemmas.words.Links.{linked_lists, marked_lists, Reshapes, holds_state}
 use Rattle.tlsf_heap.proofs.lemmas.words.Split.{stored_bytes, begins_zero, tag_here, left_split}
-use Rattle.tlsf_words.specs.Touched.{times}
+use Rattle.tlsf_words.specs.Touched.{times, InGroups}
 use Rattle.tlsf_heap.proofs.lemmas.words.Footprint.{free_elsewhere, others_apart}
+use Rattle.tlsf_heap.proofs.lemmas.words.Groups.{rows_and_word}
 use Rattle.tlsf_heap.proofs.region.Region.split.Given.{Over}
 use Rattle.tlsf_heap.proofs.region.Region.split.Goals as goal
 
@@ -64,8 +66,17 @@ returns-clause-touched g c k live =
     let bs = c.args.self.now.blocks in
     let own = c.requires.own in
     let free : is_free (block_at bs own.0) ≡ true = sym own.2.free ∙ c.requires.free in
-    elim (others_apart bs c.args.at own.0 k own.1 (free_elsewhere bs c.args.at own.0 k own.1 free (omega (arith, (says_here (shows_state g.row.SLI c.self.invariant c.self.view_is) own.1).least)) live)) [
-      | inl below ↦ c.split_header.ensures.touched_before k below
-      | inr above ↦ c.split_header.ensures.touched_behind k (omega (arith, above, own.2.size))
-    ]
+    let lies = others_apart bs c.args.at own.0 k own.1 (free_elsewhere bs c.args.at own.0 k own.1 free (omega (arith, (says_here (shows_state g.row.SLI c.self.invariant c.self.view_is) own.1).least)) live) in
+    let apart : (d : ℕ) → d ≤ c.args.own.size → k ≢ c.args.at + d = λ d low e. elim lies [ inl below ↦ omega (arith, below, e) | inr above ↦ omega (arith, above, e, low, own.2.size) ] in
+    c.split_header.ensures.touched k (λ e. apart 0 (omega arith) (omega (arith, e))) (apart 1 (omega (arith, c.requires.room))) (apart 2 (omega (arith, c.requires.room))) (apart 3 (omega (arith, c.requires.room)))
+    (apart c.args.size (omega (arith, c.requires.room))) (λ e. apart (c.args.size + 1) (omega (arith, c.requires.room)) (omega (arith, e))) (apart c.args.own.size (omega arith))
     ∙ ap (λ (r : RegionState). times r.touched k) c.self.view_is
+
+pub returns-clause-groups : goal.returns-clause-groups
+returns-clause-groups g c =
+    let at = c.args.at in
+    let place = at + c.args.size in
+    let apart : (p n d k : ℕ) → d < n → (k < p) ⊎ (p + n ≤ k) → k ≢ p + d = λ p n d k low out e. elim out [ inl below ↦ omega (arith, below, e) | inr past ↦ omega (arith, past, e, low) ] in
+    subst (λ (r : RegionState). InGroups 5 r.touched c.split_header.new.words.touched) c.self.view_is (rows_and_word at place 4 2 (at + c.args.own.size)
+    (λ k own rest behind. c.split_header.ensures.touched k (λ e. apart at 4 0 k (omega arith) own (omega (arith, e))) (apart at 4 1 k (omega arith) own) (apart at 4 2 k (omega arith) own) (apart at 4 3 k (omega arith) own)
+    (λ e. apart place 2 0 k (omega arith) rest (omega (arith, e))) (apart place 2 1 k (omega arith) rest) behind))

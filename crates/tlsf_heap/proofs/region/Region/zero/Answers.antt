@@ -1,4 +1,4 @@
-use Rattle.std.proofs.Common.{◌+◌, [], ◌∷◌, ◌++◌, take, drop, ap, ◌∙◌, arith, inl, inr}
+use Rattle.std.proofs.Common.{◌+◌, [], ◌∷◌, ◌++◌, take, drop, ap, ◌∙◌, subst, arith, inl, inr}
 use Rattle.tlsf_heap.specs.GoodFit.{block_at}
 use Rattle.tlsf_heap.specs.Regions.{RegionState, image_of}
 use Rattle.tlsf_heap.proofs.lemmas.words.ClearPayload.{ClearsBehind, clears_length, zeroed_block, cleared_payload, relisted_payload}
@@ -6,8 +6,10 @@ use Rattle.tlsf_heap.proofs.lemmas.words.Edit.{Leaves}
 use Rattle.tlsf_heap.proofs.lemmas.words.Links.{linked_lists, marked_lists, Relists, holds_state}
 use Rattle.tlsf_heap.proofs.lemmas.words.Says.{shows_state, says_here}
 use Rattle.tlsf_heap.proofs.lemmas.blocks.Stands.{behind_one}
-use Rattle.tlsf_words.specs.Touched.{times}
+use Rattle.tlsf_words.specs.Touched.{times, InGroups}
 use Rattle.tlsf_heap.proofs.lemmas.words.Footprint.{others_apart}
+use Rattle.tlsf_heap.specs.Touched.{groups_of}
+use Rattle.tlsf_heap.proofs.lemmas.words.Groups.{one_row}
 use Rattle.tlsf_heap.proofs.region.Region.zero.Given.{Over}
 use Rattle.tlsf_heap.proofs.region.Region.zero.Goals as goal
 
@@ -60,3 +62,6 @@ returns-clause-touched g c k o =
       | inr above ↦ c.zero.ensures.touched_behind k (omega (arith, above, c.requires.2.within))
     ]
     ∙ ap (λ (r : RegionState). times r.touched k) c.self.view_is
+
+pub returns-clause-groups : goal.returns-clause-groups
+returns-clause-groups g c = subst (λ (r : RegionState). InGroups (groups_of c.args.n) r.touched c.zero.new.self.touched) c.self.view_is (one_row (c.args.at + 4) c.args.n c.zero.ensures.touched_before c.zero.ensures.touched_behind)

@@ -1,4 +1,6 @@
-use Rattle.std.proofs.Common.{rules}
+use Rattle.std.proofs.Common.{rules, subst, OnErr}
+use Rattle.tlsf_heap.specs.Footprint.{LeavesLive, LeavesPayloads}
+use Rattle.tlsf_heap.specs.ledger.Ledgers.{LedgerState}
 use Rattle.tlsf_heap.proofs.LiveBlocks.{resized_counted}
 use Rattle.tlsf_heap.proofs.ledger.counts.Ledgered+SLI+Counts.resize.Goals as goal
 
@@ -7,3 +9,9 @@ invariant_of-self g c = let e = c.resize.ensures in record { lawful = e.keeps.la
 
 pub returns-clause-keeps : goal.returns-clause-keeps
 returns-clause-keeps g c = record { was = search rules; is = invariant_of-self g c; stays = search rules; touches_rise = search rules }
+
+pub returns-clause-leaves : goal.returns-clause-leaves
+returns-clause-leaves g c = subst (λ (s : LedgerState _). LeavesPayloads s.heap.blocks c.args.name.at s.touched c.resize.new.self.touched) c.self.view_is c.resize.ensures.leaves
+
+pub returns-clause-refused : goal.returns-clause-refused
+returns-clause-refused g c = subst (λ (s : LedgerState _). OnErr c.resize.result (LeavesLive s.heap.blocks s.touched c.resize.new.self.touched)) c.self.view_is c.resize.ensures.refused

@@ -1,5 +1,7 @@
 use Rattle.std.proofs.Common.{◌∙◌, Ok, Err, ap, sym, subst, rules}
 use Rattle.tlsf_heap.specs.Blocks.{HeapState}
+use Rattle.tlsf_heap.specs.Footprint.{LeavesLive}
+use Rattle.tlsf_heap.specs.ledger.Ledgers.{LedgerState}
 use Rattle.tlsf_heap.proofs.ledger.ledgered.Ledgered.allocate.Goals as goal
 
 pub invariant_of-self-2 : goal.invariant_of-self-2
@@ -23,3 +25,6 @@ returns-in-Err-clause-tells g c =
     let law = c.laws.ensures.tells g.row.SLI c.self.inside.heap.heap c.self.inside.ledger c.args.len c.self.invariant.holds in
     let here = subst (λ r. g.L.Ledger.tells g.row.SLI c.self.inside.heap.heap c.self.inside.ledger c.args.len r) (c.in-Err.ensures.refuses.1 _) law in
     subst (λ s. g.L.Ledger.tells g.row.SLI s.heap s.ledger c.args.len (Err c.in-Err.why)) c.self.view_is here
+
+pub returns-clause-leaves : goal.returns-clause-leaves
+returns-clause-leaves g c = subst (λ (s : LedgerState _). LeavesLive s.heap.blocks s.touched c.allocate.new.self.touched) c.self.view_is c.in-Ok-allocate.ensures.leaves
