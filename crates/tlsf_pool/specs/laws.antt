@@ -4,5 +4,6 @@ pub mod Held
 pub mod Pools
 pub mod Kinds
 pub mod OneLarge
+pub mod FixedSize
 pub mod Contents
 pub mod Places

@@ -28,7 +28,8 @@
 //!
 //! [`kinds_words`] tells how many words a heap needs for several kinds of request, [`cheapest_split`] how these are given to several heaps
 //! by the fewest words, [`one_large_words`] how many are enough for one large block beside small ones, [`pool_region`] the words of the
-//! region for one kind, [`most_blocks`] and [`longest_request`] how far the greatest region goes.
+//! region for one kind, [`fixed_region`] those for blocks of a fixed size, [`most_blocks`] and [`longest_request`] how far the greatest
+//! region goes.
 //!
 //! # Laws
 //!
@@ -39,6 +40,7 @@
 //! |---|---|---|
 //! | how many words are free, and how many blocks are live | whether a request finds room, however the free words are cut up | [`enough_free_words_serve`] |
 //! | the greatest number of blocks held at once, and the greatest request | how many words of region are enough for ever | [`pool_never_refuses`] |
+//! | the same, and gives each block the words of the greatest | about half as many | [`fixed_size_suffices`] |
 //! | a table of sizes, with how many of each may be held | the same by sums | [`kinds_suffice`] |
 //! | the same, with one block in it that is longer than all others, and no resize | fewer words where it is much longer | [`one_large_suffices`] |
 //! | what the live blocks were asked for | how many words they take at most | [`blocks_are_snug`] |
@@ -58,6 +60,7 @@ mod sizes;
 
 pub use kind::Kind;
 pub use laws::contents::heap_is_a_map;
+pub use laws::fixed_size::fixed_size_suffices;
 pub use laws::kinds::kinds_suffice;
 pub use laws::one_large::one_large_suffices;
 pub use laws::places::{names_share_no_word, whole_again};
@@ -67,6 +70,7 @@ pub use pools::one::{One, Pool, PoolCalls};
 pub use pools::pool_refusal::PoolRefusal;
 pub use pools::pools::Pools;
 pub use pools::table::{Table, TablePool, TablePoolCalls};
+pub use sizes::fixed_size::fixed_region;
 pub use sizes::greatest::{longest_request, most_blocks};
 pub use sizes::one_large::one_large_words;
 pub use sizes::region::pool_region;

@@ -1,5 +1,6 @@
 //! The words that the laws ask for, as numbers.
 
+pub(crate) mod fixed_size;
 pub(crate) mod greatest;
 pub(crate) mod one_large;
 pub(crate) mod region;

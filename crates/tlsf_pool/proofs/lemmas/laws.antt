@@ -2,7 +2,10 @@
 --   Around: what a call leaves of a fact about each block, and of the words of a region
 --   Choices: the block that good fit chooses
 --   Comb: a heap of one block that has one word less, and refuses
---   Fours: where all blocks want four words, and none is free, they have four each
+--   FixedCalls: calls whose each request takes the words of a fixed size
+--   FixedSize: blocks of a fixed size begin at its multiples, so each free one but the last serves
+--   FixedWords: the words for a fixed size are no more than those of a pool or a table
+--   Fours: where all blocks want four words, they have a fixed size of four
 --   FreeRoom: room by counting free blocks, and those too small
 --   Held: as many blocks are live as are held
 --   Hundred: the words of two regions, by computing
@@ -22,6 +25,9 @@
 pub mod Around
 pub mod Choices
 pub mod Comb
+pub mod FixedCalls
+pub mod FixedSize
+pub mod FixedWords
 pub mod Fours
 pub mod FreeRoom
 pub mod Held

@@ -8,7 +8,7 @@ use Rattle.tlsf_heap.specs.Blocks.{Block, Live, Free, HeapState, size_of, words_
 use Rattle.tlsf_heap.specs.GoodFit.{Site, choice, fits}
 use Rattle.tlsf_heap.specs.Lawful.{IsLawful, IsRegion}
 use Rattle.tlsf_heap.specs.Calls.{Outcome, Call, Allocate, Release, Write, Resize, Read, Allocated, allocated, allocated_at, refused, carved, before_free, with_bytes, has_serial, refitted, answered, opened, run, is_worn, last_tick}
-use Rattle.tlsf_heap.specs.Reports.{live_among, free_among}
+use Rattle.tlsf_heap.specs.Reports.{live_among}
 use Rattle.tlsf_heap.specs.declared.name.Name.{Name}
 use Rattle.tlsf_heap.specs.declared.refusal.Refusal.TheVariants.{NoFit, Worn}
 use Rattle.tlsf_heap.proofs.lemmas.blocks.Find.{and_left}
@@ -20,8 +20,9 @@ use Rattle.tlsf_heap.proofs.lemmas.laws.NoFit.{no_fit}
 use Rattle.tlsf_pool.specs.laws.Room.{live_count, sure}
 use Rattle.tlsf_pool.specs.laws.Held.{held_after}
 use Rattle.tlsf_pool.specs.laws.Pools.{pool_region, pool_words, BeginAtFours, HasRegion, IsSmall, IsModest, AreModest, HasRoomFor, IsServed, PoolSuffices, PoolServes, RegionIsThePools}
-use Rattle.tlsf_pool.proofs.lemmas.laws.FreeRoom.{finds_room, holes_sum, holes_where_none, sure_rises}
-use Rattle.tlsf_pool.proofs.lemmas.laws.Fours.{WantsFour, fours_kept, free_least, packed, sure_four}
+use Rattle.tlsf_pool.proofs.lemmas.laws.FreeRoom.{finds_room, sure_rises}
+use Rattle.tlsf_pool.proofs.lemmas.laws.FixedSize.{finds_fixed}
+use Rattle.tlsf_pool.proofs.lemmas.laws.Fours.{WantsFour, four_sized, fours_kept, sure_four}
 use Rattle.tlsf_pool.proofs.lemmas.laws.Around.{past_all, before_all, around_site, words_kept}
 use Rattle.tlsf_pool.proofs.lemmas.laws.Held.{held_is}
 use Rattle.tlsf_pool.proofs.lemmas.laws.Refits.{by_refit, by_resize}
@@ -120,16 +121,13 @@ module _ (sli : ℕ) (level : IsLevel sli) (words most len : ℕ) (region : want
     fours = λ few. fours_kept sli h call (wants_four most len (live_count h) call few modest) (pool.fours few);
   }
 
-  -- where four words are wanted, any free block serves, and where none is free, as many blocks are live as have room
+  -- where four words are wanted, all blocks have a fixed size
   fours_room : (h : HeapState) (n : ℕ) → InPool words k h → len ≤ 8 → n ≤ len → live_count h < most → (fits sli (want n) h.blocks ≡ []) → ⊥
   fours_room h n pool four short few none =
       let wanted : want n ≡ 4 = omega (arith, four, short) in
-      let serves : sure sli (want n) ≡ 4 = rw wanted (sure_four sli level) in
-      let lacking = holes_sum (sure sli (want n) - 1) h.blocks (holes_where_none sli level (want n) (omega (arith, wanted, region)) h.blocks pool.lawful.rooms none) in
-      let bound : words_in (free_among h.blocks) ≤ length (free_among h.blocks) * 3 = rw serves at lacking in
-      let nothing : length (free_among h.blocks) ≡ 0 = omega (arith, bound, free_least h.blocks pool.lawful.rooms) in
-      let full = packed 0 h.blocks (pool.fours (omega (arith, four))) (subst (λ (j : ℕ). AreSmall j h.blocks) (omega (arith, four)) pool.small) nothing in
-      omega (arith, full, pool.lawful.whole, pool.words_are, enough, pool_of_fours sli most len four, few)
+      let fixed = four_sized h pool.lawful (subst (λ (j : ℕ). AreSmall j h.blocks) (omega (arith, four)) pool.small) (pool.fours (omega (arith, four))) in
+      finds_fixed sli level 4 most h pool.lawful fixed (sure_four sli level) (omega (arith, pool.words_are, enough, pool_of_fours sli most len four)) few
+      (subst (λ (j : ℕ). fits sli j h.blocks ≡ []) wanted none)
 
   -- where more are wanted, more is free than holes that are too small may have
   holes_room : (h : HeapState) (n : ℕ) → InPool words k h → 8 < len → n ≤ len → live_count h < most → (fits sli (want n) h.blocks ≡ []) → ⊥

@@ -1,0 +1,175 @@
+-- Calls whose each request takes the words of a fixed size: a program within the bounds of a pool is served.
+use Rattle.std.proofs.Common.{◌≡◌, ℕ, zero, suc, ◌+◌, ◌*◌, ◌<◌, ◌≤◌, List, [], ◌∷◌, length, replicate, Result, Ok, Err, IsOk, refl, sym, ap, ◌∙◌, subst, arith}
+use Rattle.std.specs.List.{AllByRecursion}
+use Rattle.std.proofs.lemmas.Bool.{false≢true}
+use Rattle.tlsf_class.specs.Classes.{IsLevel, most_words}
+use Rattle.tlsf_heap.specs.Blocks.{HeapState, want}
+use Rattle.tlsf_heap.specs.GoodFit.{fits}
+use Rattle.tlsf_heap.specs.Lawful.{IsLawful, IsRegion}
+use Rattle.tlsf_heap.specs.Calls.{Call, Allocate, Release, Write, Resize, Read, Answer, Allocated, Resized, allocated_words, resized_words, answered, opened, run, last_tick}
+use Rattle.tlsf_heap.specs.declared.name.Name.{Name}
+use Rattle.tlsf_heap.specs.declared.refusal.Refusal.{Refusal}
+use Rattle.tlsf_heap.specs.declared.refusal.Refusal.TheVariants.{NoFit}
+use Rattle.tlsf_heap.proofs.lemmas.blocks.Lawful.{opened_lawful}
+use Rattle.tlsf_heap.proofs.lemmas.calls.Outcomes.{by_allocated_words, by_released, by_resized_words, by_written, gives_words, lawful_allocated_words, lawful_resized_words, lawful_run, resizes}
+use Rattle.tlsf_heap.proofs.lemmas.laws.NoFit.{no_fit_words, ok_words}
+use Rattle.tlsf_pool.specs.laws.Room.{live_count, sure}
+use Rattle.tlsf_pool.specs.laws.Held.{held_after}
+use Rattle.tlsf_pool.specs.laws.Pools.{IsModest, AreModest, HasRoomFor, IsServed}
+use Rattle.tlsf_pool.specs.laws.FixedSize.{HasFixedSize, answered_fixed, run_fixed, fixed_words, FixedSizeSuffices, FixedSizeServes, FixedSizeIsExact, WantsWords, OneLengthSuffices}
+use Rattle.tlsf_pool.proofs.lemmas.laws.Around.{words_kept}
+use Rattle.tlsf_pool.proofs.lemmas.laws.FixedSize.{finds_fixed, fixed_kept, live_least, new_fixed, sure_again, sure_region}
+use Rattle.tlsf_pool.proofs.lemmas.laws.FreeRoom.{sure_enough, wants}
+use Rattle.tlsf_pool.proofs.lemmas.laws.Held.{one, counted, held_is}
+use Rattle.tlsf_pool.proofs.lemmas.laws.Loads.{load_given_words, load_resized_words}
+
+-- ---- as many blocks are live as are held
+
+held_fixed : (sli s : ℕ) (h : HeapState) (call : Call) → live_count (answered_fixed sli s h call).1 ≡ held_after (live_count h) call (answered_fixed sli s h call).0
+held_fixed sli s h (Allocate n) = by_allocated_words sli (λ o. live_count o.heap ≡ held_after (live_count h) (Allocate n) (Allocated o.answer)) h s n (λ why. refl) (λ t site fit.
+    omega (arith, load_given_words sli one h t s n site fit, counted h.blocks, counted (gives_words h s n t).heap.blocks))
+held_fixed sli s h (Release name) = held_is sli h (Release name)
+held_fixed sli s h (Write name at bytes) = held_is sli h (Write name at bytes)
+held_fixed sli s h (Resize name len) = by_resized_words (λ o. live_count o.heap ≡ held_after (live_count h) (Resize name len) (Resized o.answer)) h name s len (λ why. refl) (λ t own site is room.
+    omega (arith, load_resized_words one h t name.at name.serial s len site is, counted h.blocks, counted (resizes h s len t).heap.blocks))
+held_fixed sli s h (Read name at n) = refl
+
+-- ---- what each call leaves
+
+record InFixed (words s : ℕ) (h : HeapState) : Type 0 where
+  lawful : IsLawful h
+  words_are : h.words ≡ words
+  fixed : HasFixedSize s h
+
+module _ (sli : ℕ) (level : IsLevel sli) (words most len : ℕ) (region : want len ≤ most_words sli) (enough : fixed_words sli most len ≤ words) where
+  abbrev s : ℕ
+  s = sure sli (want len)
+
+  -- a request within the bounds wants no more than it takes
+  enough_words : (n : ℕ) → n ≤ len → want n ≤ s
+  enough_words n short = omega (arith, wants n len short, sure_enough sli level (want len) region)
+
+  kept : (h : HeapState) (call : Call) → InFixed words s h → IsModest most len (live_count h) call → InFixed words s (answered_fixed sli s h call).1
+  kept h (Allocate n) is modest = record {
+    lawful = lawful_allocated_words sli level h s n (enough_words n modest.0) is.lawful;
+    words_are = by_allocated_words sli (λ o. o.heap.words ≡ h.words) h s n (λ why. refl) (λ t site fit. refl) ∙ is.words_are;
+    fixed = (fixed_kept sli level s h is.fixed).allocate n;
+  }
+  kept h (Release name) is modest = record {
+    lawful = lawful_run sli level h (Release name ∷ []) is.lawful;
+    words_are = words_kept sli h (Release name) ∙ is.words_are;
+    fixed = (fixed_kept sli level s h is.fixed).release name;
+  }
+  kept h (Write name at bytes) is modest = record {
+    lawful = lawful_run sli level h (Write name at bytes ∷ []) is.lawful;
+    words_are = words_kept sli h (Write name at bytes) ∙ is.words_are;
+    fixed = (fixed_kept sli level s h is.fixed).write name at bytes;
+  }
+  kept h (Resize name n) is modest = record {
+    lawful = lawful_resized_words h name s n (enough_words n modest) is.lawful;
+    words_are = by_resized_words (λ o. o.heap.words ≡ h.words) h name s n (λ why. refl) (λ t own site it room. refl) ∙ is.words_are;
+    fixed = (fixed_kept sli level s h is.fixed).resize name n;
+  }
+  kept h (Read name at n) is modest = is
+
+  finds_room : (h : HeapState) → InFixed words s h → live_count h < most → ¬ (fits sli s h.blocks ≡ [])
+  finds_room h is few = finds_fixed sli level s most h is.lawful is.fixed (sure_again sli level (want len) region) (omega (arith, enough, is.words_are)) few
+
+  not_refused : (h : HeapState) (call : Call) → InFixed words s h → IsModest most len (live_count h) call → HasRoomFor (answered_fixed sli s h call).0
+  not_refused h (Allocate n) is modest = λ e. let none : (allocated_words sli h s n).answer ≡ Err NoFit = cc in finds_room h is modest.1 ((no_fit_words sli h s n).0 none)
+  not_refused h (Release name) is modest = λ e. cc
+  not_refused h (Write name at bytes) is modest = λ e. cc
+  not_refused h (Resize name n) is modest = λ e. cc
+  not_refused h (Read name at n) is modest = λ e. cc
+
+  is_served : (h : HeapState) (call : Call) → InFixed words s h → IsModest most len (live_count h) call → h.tick < last_tick → IsServed (answered_fixed sli s h call).0
+  is_served h (Allocate n) is modest fresh = by_ok (allocated_words sli h s n).answer ((ok_words sli h s n).1 (finds_room h is modest.1, λ worn. omega (arith, worn, fresh)))
+    where
+      by_ok : (answer : Result Name Refusal) → IsOk answer → IsServed (Allocated answer)
+      by_ok (Ok name) ok = tt
+      by_ok (Err why) ok = absurd (false≢true ok)
+  is_served h (Release name) is modest fresh = tt
+  is_served h (Write name at bytes) is modest fresh = tt
+  is_served h (Resize name n) is modest fresh = tt
+  is_served h (Read name at n) is modest fresh = tt
+
+  tick_kept : (h : HeapState) (call : Call) → (answered_fixed sli s h call).1.tick ≤ h.tick + 1
+  tick_kept h (Allocate n) = by_allocated_words sli (λ o. o.heap.tick ≤ h.tick + 1) h s n (λ why. omega arith) (λ t site fit. omega arith)
+  tick_kept h (Release name) = by_released (λ o. o.heap.tick ≤ h.tick + 1) h name (λ why. omega arith) (λ t own site it. omega arith)
+  tick_kept h (Write name at bytes) = by_written (λ o. o.heap.tick ≤ h.tick + 1) h name at bytes (λ why. omega arith) (λ t site has. omega arith)
+  tick_kept h (Resize name n) = by_resized_words (λ o. o.heap.tick ≤ h.tick + 1) h name s n (λ why. omega arith) (λ t own site it room. omega arith)
+  tick_kept h (Read name at n) = omega arith
+
+  next : (h : HeapState) (call : Call) (calls : List Call) → AreModest most len (held_after (live_count h) call (answered_fixed sli s h call).0) calls (run_fixed sli s (answered_fixed sli s h call).1 calls).0
+      → AreModest most len (live_count (answered_fixed sli s h call).1) calls (run_fixed sli s (answered_fixed sli s h call).1 calls).0
+  next h call calls modest = subst (λ (held : ℕ). AreModest most len held calls (run_fixed sli s (answered_fixed sli s h call).1 calls).0) (sym (held_fixed sli s h call)) modest
+
+  none_refused : (h : HeapState) (calls : List Call) → InFixed words s h → AreModest most len (live_count h) calls (run_fixed sli s h calls).0 → AllByRecursion HasRoomFor (run_fixed sli s h calls).0
+  none_refused h [] is modest = tt
+  none_refused h (call ∷ calls) is modest = (not_refused h call is modest.0, none_refused (answered_fixed sli s h call).1 calls (kept h call is modest.0) (next h call calls modest.1))
+
+  all_served : (h : HeapState) (calls : List Call) → InFixed words s h → AreModest most len (live_count h) calls (run_fixed sli s h calls).0 → h.tick + length calls ≤ last_tick → AllByRecursion IsServed (run_fixed sli s h calls).0
+  all_served h [] is modest fresh = tt
+  all_served h (call ∷ calls) is modest fresh =
+      let tick = tick_kept h call in
+      (is_served h call is modest.0 (omega arith), all_served (answered_fixed sli s h call).1 calls (kept h call is modest.0) (next h call calls modest.1) (omega (arith, tick, fresh)))
+
+-- a new heap is so
+opens : (sli id words first s : ℕ) → IsRegion sli words → InFixed words s (opened id words first)
+opens sli id words first s region = record { lawful = opened_lawful id words first region.0; words_are = refl; fixed = new_fixed s id words first }
+
+pub fixed_suffices : (sli : ℕ) (level : IsLevel sli) → FixedSizeSuffices sli
+fixed_suffices sli level id words first most len calls region class enough modest =
+    none_refused sli level words most len class enough (opened id words first) calls (opens sli id words first (sure sli (want len)) region) modest
+
+pub fixed_serves : (sli : ℕ) (level : IsLevel sli) → FixedSizeServes sli
+fixed_serves sli level id words first most len calls region class enough modest fresh =
+    all_served sli level words most len class enough (opened id words first) calls (opens sli id words first (sure sli (want len)) region) modest (omega (arith, fresh))
+
+-- ---- in fewer words
+
+-- where all of so many requests more are served, there are the words of so many blocks more
+all_fit : (sli : ℕ) (level : IsLevel sli) (s len n : ℕ) (h : HeapState) → want len ≤ s → IsLawful h → HasFixedSize s h
+    → AllByRecursion IsServed (run_fixed sli s h (replicate n (Allocate len))).0 → (live_count h + n) * s ≤ h.words
+all_fit sli level s len zero h wanted lawful fixed served = let least = live_least s h.blocks fixed.sizes in omega (arith, least, lawful.whole)
+all_fit sli level s len (suc n) h wanted lawful fixed served =
+    let next : HeapState = (allocated_words sli h s len).heap in
+    let one : live_count next ≡ live_count h + 1 = held_fixed sli s h (Allocate len) ∙ more (live_count h) (allocated_words sli h s len).answer served.0 in
+    let words : next.words ≡ h.words = by_allocated_words sli (λ o. o.heap.words ≡ h.words) h s len (λ why. refl) (λ t site fit. refl) in
+    let rest = all_fit sli level s len n next wanted (lawful_allocated_words sli level h s len wanted lawful) ((fixed_kept sli level s h fixed).allocate len) served.1 in
+    let same : live_count next + n ≡ live_count h + suc n = omega (arith, one) in
+    subst (λ (k : ℕ). k * s ≤ h.words) same (omega (arith, rest, words))
+  where
+    more : (held : ℕ) (answer : Result Name Refusal) → IsServed (Allocated answer) → held_after held (Allocate len) (Allocated answer) ≡ held + 1
+    more held (Ok name) is = refl
+    more held (Err why) is = absurd is
+
+pub fixed_exact : (sli : ℕ) (level : IsLevel sli) → FixedSizeIsExact sli
+fixed_exact sli level id words first most len region class few served =
+    let s : ℕ = sure sli (want len) in
+    let all = all_fit sli level s len most (opened id words first) (sure_enough sli level (want len) class) (opened_lawful id words first region.0) (new_fixed s id words first) served in
+    omega (arith, all, few)
+
+-- ---- where the lengths themselves want just so many words
+
+same_call : (sli s : ℕ) (h : HeapState) (call : Call) → WantsWords s call → answered sli h call ≡ answered_fixed sli s h call
+same_call sli s h (Allocate n) wanted = ap (λ (k : ℕ). (Allocated (allocated_words sli h k n).answer, (allocated_words sli h k n).heap)) wanted
+same_call sli s h (Release name) wanted = refl
+same_call sli s h (Write name at bytes) wanted = refl
+same_call sli s h (Resize name n) wanted = ap (λ (k : ℕ). (Resized (resized_words h name k n).answer, (resized_words h name k n).heap)) wanted
+same_call sli s h (Read name at n) wanted = refl
+
+same_run : (sli s : ℕ) (h : HeapState) (calls : List Call) → AllByRecursion (WantsWords s) calls → run sli h calls ≡ run_fixed sli s h calls
+same_run sli s h [] wanted = refl
+same_run sli s h (call ∷ calls) wanted =
+    let step : Answer × HeapState = answered_fixed sli s h call in
+    ap (λ (it : Answer × HeapState). (it.0 ∷ (run sli it.1 calls).0, (run sli it.1 calls).1)) (same_call sli s h call wanted.0)
+    ∙ ap (λ (rest : List Answer × HeapState). (step.0 ∷ rest.0, rest.1)) (same_run sli s step.1 calls wanted.1)
+
+pub one_length : (sli : ℕ) (level : IsLevel sli) → OneLengthSuffices sli
+one_length sli level id words first most len calls region is enough wanted =
+    let start : HeapState = opened id words first in
+    let same : run sli start calls ≡ run_fixed sli (sure sli (want len)) start calls =
+    same_run sli (want len) start calls wanted ∙ ap (λ (s : ℕ). run_fixed sli s start calls) (sym is) in
+    subst (λ (all : List Answer × HeapState). AreModest most len 0 calls all.0 → AllByRecursion HasRoomFor all.0) (sym same)
+    (fixed_suffices sli level id words first most len calls region (sure_region sli level (want len) is).1 enough)
