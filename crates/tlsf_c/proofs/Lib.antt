@@ -13,3 +13,4 @@ mod Carried
 mod QueueKept
 mod LeftWords
 mod LeftUnnamed
+mod LeftParts

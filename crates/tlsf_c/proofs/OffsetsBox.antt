@@ -9,7 +9,7 @@ use Rattle.std_heap.proofs.Global.TheLaws as heap
 use Rattle.tlsf_c.specs.contracts.any_offsets.AnyOffsets as Home
 use Rattle.tlsf_c.proofs.any_offsets.AnyOffsets.TheLaws as home
 use Rattle.tlsf_c.specs.contracts.parts.Parts as Parts
-use Rattle.tlsf_c.specs.contracts.held_offsets.HeldOffsets as Sealed
+use Rattle.tlsf_c.specs.contracts.boxed_offsets.BoxedOffsets as Sealed
 
 abbrev pub E : Bx
 E = record { row = Home.the_row; laws = home.the_row_laws; al = record { row = Heap.the_row; laws = heap.the_row_laws; g = ghosts; d = dict; drops = impl [] tnil dnil } }

@@ -1,6 +1,7 @@
 -- What the calls of several heaps for one table of kinds come to, as tlsf_pool's contracts say it.
-use Rattle.std.specs.Prelude.{◌≡◌, ℕ, ◌<◌, ◌≤◌, ◌↔◌, List, Option, None, Result, Err, IfOk, IfSome, IsOk, IsSomeAnd, IsErrOf, OnOk, length}
+use Rattle.std.specs.Prelude.{◌≡◌, ◌≢◌, ℕ, ◌<◌, ◌≤◌, ◌↔◌, List, Option, Some, None, Result, Err, IfOk, IfSome, IsOk, IsSomeAnd, IsErrOf, OnOk, length}
 use Rattle.tlsf_heap.specs.Calls.{last_tick}
+use Rattle.tlsf_heap.specs.Footprint.{LeavesLive, LeavesPayloads}
 use Rattle.tlsf_heap.specs.declared.name.Name.{Name}
 use Rattle.tlsf_heap.specs.declared.refusal.Refusal.{Refusal}
 use Rattle.tlsf_heap.specs.declared.refusal.Refusal.TheVariants.{Foreign}
@@ -12,6 +13,15 @@ use Rattle.tlsf_pool.specs.declared.pools.pool_refusal.PoolRefusal.TheVariants.{
 use Rattle.tlsf_pool.specs.pools.Parts.{PoolsState, Allocates, AreNew, ArePools, HasRow, OnlyPart, Reads, Releases, Reports, Writes, held_by, part_at, part_named, part_of, table_of}
 use Rattle.tlsf_pool.specs.pools.Tables.{HasPlace, HoldsOneMore, IsFull, row_of}
 use Rattle.tlsf_pool.specs.sizes.Splits.{IsLeast, parts_of}
+
+-- no word of the payload of a live block was read or written, in the heap of any part
+abbrev pub PartsLeaveLive : PoolsState → PoolsState → Type 0
+PartsLeaveLive old new = (i : ℕ) → LeavesLive (part_at old i).heap.blocks (part_at old i).touched (part_at new i).touched
+
+-- nor but of the block at the name's place in the part that it names
+pub record PartsLeavePayloads (old new : PoolsState) (name : Name) : Type 0 where
+  pub there : (i : ℕ) → LeavesPayloads (part_at old i).heap.blocks name.at (part_at old i).touched (part_at new i).touched
+  pub elsewhere : (i : ℕ) → part_named old name ≢ Some i → LeavesLive (part_at old i).heap.blocks (part_at old i).touched (part_at new i).touched
 
 -- new heaps for the parts of a way to cut the table that has the fewest words of all
 pub record AreNewPools (sli number : ℕ) (kinds : List Kind) (p : PoolsState) : Type 0 where

@@ -2,7 +2,7 @@
 ghost use Rattle.std.specs.Prelude.{◌≡◌, true, false, None, Some};
 
 use crate::any_heap::AnyHeap;
-use crate::held_heap::HeldHeap;
+use crate::boxed_heap::BoxedHeap;
 use std::alloc::Global;
 use std::{mem, ptr};
 
@@ -10,7 +10,7 @@ use std::{mem, ptr};
 #[repr(C)]
 #[derive(Drop)]
 pub struct HeapSlot {
-    pub held: HeldHeap,
+    pub held: BoxedHeap,
     pub is_open: bool,
     /// The address of the first word of the region that was opened last, for C's own sums. No call reads it.
     pub base: *mut u64,
@@ -34,7 +34,7 @@ impl HeapSlot {
         }
         let nowhere: *mut u8 = ptr::null_mut();
         self.is_open = false;
-        let held = mem::replace(&mut self.held, HeldHeap::empty(alloc, nowhere));
+        let held = mem::replace(&mut self.held, BoxedHeap::empty(alloc, nowhere));
         Some(held.into_box())
     }
 
@@ -45,7 +45,7 @@ impl HeapSlot {
         ensures base { self.new.base ≡ self.old.base }
         ensures value { self.new.held.value ≡ boxed.value }
     {
-        self.held = HeldHeap::new(boxed);
+        self.held = BoxedHeap::new(boxed);
         self.is_open = true;
     }
 }

@@ -2,7 +2,7 @@
 ghost use Rattle.std.specs.Prelude.{◌≡◌, true, false, None, Some};
 
 use crate::any_offsets::AnyOffsets;
-use crate::held_offsets::HeldOffsets;
+use crate::boxed_offsets::BoxedOffsets;
 use std::alloc::Global;
 use std::{mem, ptr};
 
@@ -10,7 +10,7 @@ use std::{mem, ptr};
 #[repr(C)]
 #[derive(Drop)]
 pub struct OffsetsSlot {
-    pub held: HeldOffsets,
+    pub held: BoxedOffsets,
     pub is_open: bool,
     ghost tied: { is_open ≡ held.full },
 }
@@ -30,7 +30,7 @@ impl OffsetsSlot {
         let OffsetsSlot { held, .. } = mem::replace(
             self,
             OffsetsSlot {
-                held: HeldOffsets::empty(alloc, nowhere),
+                held: BoxedOffsets::empty(alloc, nowhere),
                 is_open: false,
             },
         );
@@ -44,7 +44,7 @@ impl OffsetsSlot {
         ensures value { self.new.held.value ≡ boxed.value }
     {
         *self = OffsetsSlot {
-            held: HeldOffsets::new(boxed),
+            held: BoxedOffsets::new(boxed),
             is_open: true,
         };
     }

@@ -6,7 +6,7 @@ ghost use Rattle.tlsf_heap.specs.declared.report.Report.{Report};
 ghost use Rattle.tlsf_pool.specs.declared.pools.pool_refusal.PoolRefusal.{PoolRefusal};
 ghost use Rattle.tlsf_pool.specs.sizes.Splits.{HasNoCut};
 ghost use Rattle.tlsf_c.specs.Names.{name_of, report_in};
-ghost use Rattle.tlsf_c.specs.PoolCalls.{AreNewPools, AllocatesInPools, ReleasesInPools, WritesInPools, ReadsInPools, ReportsInPools};
+ghost use Rattle.tlsf_c.specs.PoolCalls.{AreNewPools, AllocatesInPools, ReleasesInPools, WritesInPools, ReadsInPools, ReportsInPools, PartsLeaveLive, PartsLeavePayloads};
 ghost use Rattle.tlsf_c.specs.PoolHandles.{pools_in, pools_level, PoolsStayOpen, kinds_of, pool_status_of, part_status_of};
 ghost use Rattle.tlsf_c.specs.Refusals.{status_of, bad_size, no_memory, closed, in_use, bad_level};
 
@@ -133,6 +133,7 @@ pub extern "C" fn tlsf_pools_allocate(
     ensures open { pools.old.is_open ≡ true → PoolsStayOpen pools.old pools.new }
     ensures allocates { pools.old.is_open ≡ true → (answer : Result Name PoolRefusal) × AllocatesInPools (pools_level pools.old) (pools_in pools.old) (pools_in pools.new) len answer
         × (result ≡ pool_status_of answer) × IfOk answer (λ given. name_of name.new ≡ given) }
+    ensures leaves { pools.old.is_open ≡ true → PartsLeaveLive (pools_in pools.old) (pools_in pools.new) }
     ensures no_name { ¬ (result ≡ 0) → name.new ≡ name.old }
 {
     let Some(mut owned) = pools.take_out(alloc) else {
@@ -158,11 +159,14 @@ pub extern "C" fn tlsf_pools_allocate(
 /// ```text
 /// tlsf_pools_release(&pools, &name) == TLSF_OK
 /// ```
+#[tactic(auto, using(crate::proofs::LeftParts::release_left))]
 #[unsafe(no_mangle)]
 pub extern "C" fn tlsf_pools_release(alloc: Global, pools: &mut PoolsSlot, name: &BlockName) -> u32
     ensures closed { pools.old.is_open ≡ false → (result ≡ closed) × (pools.new ≡ pools.old) }
     ensures open { pools.old.is_open ≡ true → PoolsStayOpen pools.old pools.new }
     ensures releases { pools.old.is_open ≡ true → (answer : Result (Unit {0}) Refusal) × ReleasesInPools (pools_in pools.old) (pools_in pools.new) (name_of name.now) answer × (result ≡ status_of answer) }
+    ensures leaves { pools.old.is_open ≡ true → PartsLeavePayloads (pools_in pools.old) (pools_in pools.new) (name_of name.now) }
+    ensures leaves_all { pools.old.is_open ≡ true → ¬ (result ≡ 0) → PartsLeaveLive (pools_in pools.old) (pools_in pools.new) }
 {
     let Some(mut owned) = pools.take_out(alloc) else {
         return CallFault::Closed.number();
@@ -179,6 +183,7 @@ pub extern "C" fn tlsf_pools_release(alloc: Global, pools: &mut PoolsSlot, name:
 /// ```text
 /// tlsf_pools_write(&pools, &name, 0, bytes, 2) == TLSF_OK
 /// ```
+#[tactic(auto, using(crate::proofs::LeftParts::write_left))]
 #[unsafe(no_mangle)]
 pub extern "C" fn tlsf_pools_write(
     alloc: Global,
@@ -190,6 +195,8 @@ pub extern "C" fn tlsf_pools_write(
     ensures closed { pools.old.is_open ≡ false → (result ≡ closed) × (pools.new ≡ pools.old) }
     ensures open { pools.old.is_open ≡ true → PoolsStayOpen pools.old pools.new }
     ensures writes { pools.old.is_open ≡ true → (answer : Result (Unit {0}) Refusal) × WritesInPools (pools_in pools.old) (pools_in pools.new) (name_of name.now) at bytes.now answer × (result ≡ status_of answer) }
+    ensures leaves { pools.old.is_open ≡ true → PartsLeavePayloads (pools_in pools.old) (pools_in pools.new) (name_of name.now) }
+    ensures leaves_all { pools.old.is_open ≡ true → ¬ (result ≡ 0) → PartsLeaveLive (pools_in pools.old) (pools_in pools.new) }
 {
     let Some(mut owned) = pools.take_out(alloc) else {
         return CallFault::Closed.number();
@@ -206,6 +213,7 @@ pub extern "C" fn tlsf_pools_write(
 /// ```text
 /// tlsf_pools_read(&pools, &name, 0, out, 2) == TLSF_OK
 /// ```
+#[tactic(auto, using(crate::proofs::LeftParts::read_left))]
 #[unsafe(no_mangle)]
 pub extern "C" fn tlsf_pools_read(
     alloc: Global,
@@ -217,6 +225,8 @@ pub extern "C" fn tlsf_pools_read(
     ensures closed { pools.old.is_open ≡ false → (result ≡ closed) × (pools.new ≡ pools.old) × (out.new ≡ out.old) }
     ensures open { pools.old.is_open ≡ true → PoolsStayOpen pools.old pools.new }
     ensures reads { pools.old.is_open ≡ true → (answer : Result (Unit {0}) Refusal) × ReadsInPools (pools_in pools.old) (pools_in pools.new) (name_of name.now) at out.old out.new answer × (result ≡ status_of answer) }
+    ensures leaves { pools.old.is_open ≡ true → PartsLeavePayloads (pools_in pools.old) (pools_in pools.new) (name_of name.now) }
+    ensures leaves_all { pools.old.is_open ≡ true → ¬ (result ≡ 0) → PartsLeaveLive (pools_in pools.old) (pools_in pools.new) }
 {
     let Some(mut owned) = pools.take_out(alloc) else {
         return CallFault::Closed.number();
@@ -245,6 +255,7 @@ pub extern "C" fn tlsf_pools_report(
     ensures open { pools.old.is_open ≡ true → PoolsStayOpen pools.old pools.new }
     ensures reports { pools.old.is_open ≡ true → (answer : Option Report) × ReportsInPools (pools_level pools.old) (pools_in pools.old) (pools_in pools.new) part answer
         × (result ≡ part_status_of answer) × IfSome answer (λ found. report_in report.new ≡ found) }
+    ensures leaves { pools.old.is_open ≡ true → PartsLeaveLive (pools_in pools.old) (pools_in pools.new) }
     ensures no_report { ¬ (result ≡ 0) → report.new ≡ report.old }
 {
     let Some(mut owned) = pools.take_out(alloc) else {

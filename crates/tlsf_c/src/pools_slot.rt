@@ -2,7 +2,7 @@
 ghost use Rattle.std.specs.Prelude.{◌≡◌, true, false, None, Some};
 
 use crate::any_pools::AnyPools;
-use crate::held_pools::HeldPools;
+use crate::boxed_pools::BoxedPools;
 use std::alloc::Global;
 use std::{mem, ptr};
 
@@ -10,7 +10,7 @@ use std::{mem, ptr};
 #[repr(C)]
 #[derive(Drop)]
 pub struct PoolsSlot {
-    pub held: HeldPools,
+    pub held: BoxedPools,
     pub is_open: bool,
     ghost tied: { is_open ≡ held.full },
 }
@@ -30,7 +30,7 @@ impl PoolsSlot {
         let PoolsSlot { held, .. } = mem::replace(
             self,
             PoolsSlot {
-                held: HeldPools::empty(alloc, nowhere),
+                held: BoxedPools::empty(alloc, nowhere),
                 is_open: false,
             },
         );
@@ -44,7 +44,7 @@ impl PoolsSlot {
         ensures value { self.new.held.value ≡ boxed.value }
     {
         *self = PoolsSlot {
-            held: HeldPools::new(boxed),
+            held: BoxedPools::new(boxed),
             is_open: true,
         };
     }

@@ -1,7 +1,7 @@
 //! A place for a post end in C's memory.
 ghost use Rattle.std.specs.Prelude.{◌≡◌, true, false, is_some, None, Some};
 
-use crate::held_post_end::HeldPostEnd;
+use crate::boxed_post_end::BoxedPostEnd;
 use std::alloc::Global;
 use std::{mem, ptr};
 use tlsf_post::PostEnd;
@@ -10,7 +10,7 @@ use tlsf_post::PostEnd;
 #[repr(C)]
 #[derive(Drop)]
 pub struct PostSlot {
-    pub held: HeldPostEnd,
+    pub held: BoxedPostEnd,
     pub is_open: bool,
     ghost tied: { is_open ≡ is_some held.value },
 }
@@ -30,7 +30,7 @@ impl PostSlot {
         let PostSlot { held, .. } = mem::replace(
             self,
             PostSlot {
-                held: HeldPostEnd::empty(alloc, nowhere),
+                held: BoxedPostEnd::empty(alloc, nowhere),
                 is_open: false,
             },
         );
@@ -44,7 +44,7 @@ impl PostSlot {
         ensures value { self.new.held.value ≡ Some boxed.value }
     {
         *self = PostSlot {
-            held: HeldPostEnd::new(boxed),
+            held: BoxedPostEnd::new(boxed),
             is_open: true,
         };
     }

@@ -1,7 +1,7 @@
 //! A place for a poster's end in C's memory.
 ghost use Rattle.std.specs.Prelude.{◌≡◌, true, false, is_some, None, Some};
 
-use crate::held_poster::HeldPoster;
+use crate::boxed_poster::BoxedPoster;
 use std::alloc::Global;
 use std::{mem, ptr};
 use tlsf_post::PosterEnd;
@@ -10,7 +10,7 @@ use tlsf_post::PosterEnd;
 #[repr(C)]
 #[derive(Drop)]
 pub struct PosterSlot {
-    pub held: HeldPoster,
+    pub held: BoxedPoster,
     pub is_open: bool,
     ghost tied: { is_open ≡ is_some held.value },
 }
@@ -30,7 +30,7 @@ impl PosterSlot {
         let PosterSlot { held, .. } = mem::replace(
             self,
             PosterSlot {
-                held: HeldPoster::empty(alloc, nowhere),
+                held: BoxedPoster::empty(alloc, nowhere),
                 is_open: false,
             },
         );
@@ -44,7 +44,7 @@ impl PosterSlot {
         ensures value { self.new.held.value ≡ Some boxed.value }
     {
         *self = PosterSlot {
-            held: HeldPoster::new(boxed),
+            held: BoxedPoster::new(boxed),
             is_open: true,
         };
     }

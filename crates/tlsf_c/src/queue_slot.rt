@@ -1,7 +1,7 @@
 //! A place for an end of a queue in C's memory.
 ghost use Rattle.std.specs.Prelude.{◌≡◌, true, false, is_some, None, Some};
 
-use crate::held_queue::HeldQueue;
+use crate::boxed_queue::BoxedQueue;
 use crate::queue_end::QueueEnd;
 use std::alloc::Global;
 use std::{mem, ptr};
@@ -10,7 +10,7 @@ use std::{mem, ptr};
 #[repr(C)]
 #[derive(Drop)]
 pub struct QueueSlot {
-    pub held: HeldQueue,
+    pub held: BoxedQueue,
     pub is_open: bool,
     ghost tied: { is_open ≡ is_some held.value },
 }
@@ -30,7 +30,7 @@ impl QueueSlot {
         let QueueSlot { held, .. } = mem::replace(
             self,
             QueueSlot {
-                held: HeldQueue::empty(alloc, nowhere),
+                held: BoxedQueue::empty(alloc, nowhere),
                 is_open: false,
             },
         );
@@ -44,7 +44,7 @@ impl QueueSlot {
         ensures value { self.new.held.value ≡ Some boxed.value }
     {
         *self = QueueSlot {
-            held: HeldQueue::new(boxed),
+            held: BoxedQueue::new(boxed),
             is_open: true,
         };
     }

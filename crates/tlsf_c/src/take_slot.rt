@@ -1,7 +1,7 @@
 //! A place for a take end in C's memory.
 ghost use Rattle.std.specs.Prelude.{◌≡◌, true, false, is_some, None, Some};
 
-use crate::held_take_end::HeldTakeEnd;
+use crate::boxed_take_end::BoxedTakeEnd;
 use std::alloc::Global;
 use std::{mem, ptr};
 use tlsf_post::TakeEnd;
@@ -10,7 +10,7 @@ use tlsf_post::TakeEnd;
 #[repr(C)]
 #[derive(Drop)]
 pub struct TakeSlot {
-    pub held: HeldTakeEnd,
+    pub held: BoxedTakeEnd,
     pub is_open: bool,
     ghost tied: { is_open ≡ is_some held.value },
 }
@@ -30,7 +30,7 @@ impl TakeSlot {
         let TakeSlot { held, .. } = mem::replace(
             self,
             TakeSlot {
-                held: HeldTakeEnd::empty(alloc, nowhere),
+                held: BoxedTakeEnd::empty(alloc, nowhere),
                 is_open: false,
             },
         );
@@ -44,7 +44,7 @@ impl TakeSlot {
         ensures value { self.new.held.value ≡ Some boxed.value }
     {
         *self = TakeSlot {
-            held: HeldTakeEnd::new(boxed),
+            held: BoxedTakeEnd::new(boxed),
             is_open: true,
         };
     }

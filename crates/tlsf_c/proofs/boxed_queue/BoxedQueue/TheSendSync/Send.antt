@@ -1,0 +1,28 @@
+-- An end of a queue may go to another thread: what it owns names no thread.
+use mir.Raw.{raw}
+use base.Shift.{Keyless}
+use denote.Memory.{lone}
+use denote.RawPtr.{Ptr}
+use denote.Struct.Struct.{exits_of}
+use denote.Struct.Owning.{shape, fields, to}
+use denote.Param.Send.{IsSend, AllSend, owning_send, struct_send, sendable}
+use Rattle.std.proofs.Crossing as heap
+use Rattle.std.specs.Global.{Global}
+use Rattle.std.specs.Prelude.{Option, Some, None}
+use Rattle.std_alloc.proofs.SendSync.{quiet, lies}
+use Rattle.std_heap.proofs.Global.TheSendSync as handle
+use Rattle.tlsf_c.specs.declared.queue_end.QueueEnd.{QueueEnd}
+use Rattle.tlsf_c.specs.contracts.queue_end.QueueEnd as Home
+use Rattle.tlsf_c.proofs.queue_end.QueueEnd.TheSendSync.{the_send as home}
+use Rattle.tlsf_c.specs.QueueOwned.{queue_owned}
+use Rattle.tlsf_c.specs.contracts.boxed_queue.BoxedQueue.{the_row, the_type}
+
+crosses : (alloc : Global) (at : Ptr) (held : Option QueueEnd) → Keyless (queue_owned alloc at held)
+crosses alloc at (Some h) = (lies Home.the_row home at h, heap.frees.frees alloc (raw (lone Home.the_row.mir)) at)
+crosses alloc at None = tt
+
+pub send : IsSend the_row
+send =
+    let all : AllSend (fields the_type) = (search sendable, (handle.the_field_send, tt)) in
+    owning_send the_type all (λ d. crosses d.alloc d.at d.value)
+    (λ k. quiet (to the_type) (exits_of k (fields the_type)) ((struct_send (shape the_type) all).leaving k))
