@@ -60,7 +60,7 @@ slider_part = codes "<body><nav><canvas id='plot' role='img' aria-label='live wo
 
 -- the script: it reads the data
 unfoldable pub reading_part : List ℕ
-reading_part = codes "const element=id=>document.getElementById(id),lines=element('moments').textContent.split(String.fromCharCode(10)),begins=lines.flatMap((line,at)=>line.startsWith('line ')?[at]:[]),last=begins.length-1;\nconst most=numbers=>numbers.reduce((one,other)=>Math.max(one,other),0),least=numbers=>numbers.reduce((one,other)=>Math.min(one,other),Infinity),lineAt=begins.map(begin=>Number(lines[begin].slice(5))),lineOf=moment=>lineAt[moment],momentOf=line=>begins.findLastIndex((begin,at)=>lineOf(at)<=line);\nconst blocksIn=text=>{let place=0;return text.split(';').slice(0,-1).map(item=>{const numbers=item.slice(1).split(',').map(Number),block={live:item[0]=='l',place,size:numbers[0],tick:numbers[item[0]=='l'?2:1],numbers};place+=block.size;return block})};\nconst heapsIn=moment=>{const heaps=[];for(let at=begins[moment]+1;at+2<lines.length&&!lines[at].startsWith('line ');at+=3){const blocks=blocksIn(lines[at+2]),free=blocks.filter(block=>!block.live),stamps=free.map(block=>block.numbers[1]);heaps.push({name:lines[at],report:lines[at+1],blocks,words:blocks.reduce((sum,block)=>sum+block.size,0),largest:most(free.map(block=>block.size)),oldest:least(stamps),newest:most(stamps)})}return heaps};\nconst shade=(heap,stamp)=>heap.newest<=heap.oldest?85:15+Math.floor(70*(heap.newest-stamp)/(heap.newest-heap.oldest));\nconst used=block=>Math.min(block.size,3+Math.ceil(block.numbers[1]/8)),bytes=count=>count+(count==1?' byte':' bytes');\nconst caption=block=>block.live?[block.numbers.length>3?'label '+block.numbers[3]:'live',bytes(block.numbers[1])]:['free',block.size+' words'];\nconst told=block=>block.live?caption(block)[0]+', place '+block.place+', '+block.size+' words, '+bytes(block.numbers[1])+', serial '+block.numbers[2]:'free since tick '+block.numbers[1]+', place '+block.place+', '+block.size+' words';\n"
+reading_part = codes "const element=id=>document.getElementById(id),lines=element('moments').textContent.split(String.fromCharCode(10)),begins=lines.flatMap((line,at)=>line.startsWith('line ')?[at]:[]),last=begins.length-1;\nconst most=numbers=>numbers.reduce((one,other)=>Math.max(one,other),0),least=numbers=>numbers.reduce((one,other)=>Math.min(one,other),Infinity),lineAt=begins.map(begin=>Number(lines[begin].slice(5))),lineOf=moment=>lineAt[moment],momentOf=line=>begins.findLastIndex((begin,at)=>lineOf(at)<=line);\nconst blocksIn=text=>{let place=0;return text.split(';').slice(0,-1).map(item=>{const numbers=item.slice(1).split(',').map(Number),block={live:item[0]=='l',place,size:numbers[0],tick:numbers[item[0]=='l'?2:1],numbers};place+=block.size;return block})};\nconst heapsIn=moment=>{const heaps=[];for(let at=begins[moment]+1;at+2<lines.length&&!lines[at].startsWith('line ');at+=3){const blocks=blocksIn(lines[at+2]),free=blocks.filter(block=>!block.live),stamps=free.map(block=>block.numbers[1]);heaps.push({name:lines[at],report:lines[at+1],blocks,words:blocks.reduce((sum,block)=>sum+block.size,0),largest:most(free.map(block=>block.size)),oldest:least(stamps),newest:most(stamps)})}return heaps};\nconst shade=(heap,stamp)=>heap.newest<=heap.oldest?85:15+Math.floor(70*(heap.newest-stamp)/(heap.newest-heap.oldest));\nconst used=block=>Math.min(block.size,3+Math.ceil(block.numbers[1]/8)),bytes=count=>count+(count==1?' byte':' bytes'),sites=globalThis.askedBy||{},asker=label=>label in sites?', asked by '+sites[label]:'';\nconst caption=block=>block.live?[block.numbers.length>3?'label '+block.numbers[3]:'live',bytes(block.numbers[1])]:['free',block.size+' words'];\nconst told=block=>block.live?caption(block)[0]+', place '+block.place+', '+block.size+' words, '+bytes(block.numbers[1])+', serial '+block.numbers[2]+asker(block.numbers[3]):'free since tick '+block.numbers[1]+', place '+block.place+', '+block.size+' words';\n"
 
 -- it draws a heap
 unfoldable pub drawing_part : List ℕ
@@ -68,7 +68,7 @@ drawing_part = codes "const grid=words=>{let row=64;while(words/row>64)row*=2;co
 
 -- it plots the live words of each heap and its largest free block, over the lines
 unfoldable pub plotting_part : List ℕ
-plotting_part = codes "const curves=begins.map(begin=>{const rows=[];for(let at=begin+1;at+2<lines.length&&!lines[at].startsWith('line ');at+=3){const [live,largest,free,grant]=[/ blocks?, ([0-9]+)/,/largest ([0-9]+)/,/free [0-9]+ blocks?, ([0-9]+)/,/grant ([0-9]+)/].map(form=>Number(lines[at+1].match(form)[1])),[words,tick]=[/: ([0-9]+)/,/tick ([0-9]+)/].map(form=>Number(lines[at].match(form)[1]));rows.push({live,largest,free,grant,words,tick})}return rows});\nconst peaks=named.map(([peak])=>momentOf(peak)),worsts=named.map(([peak,worst])=>momentOf(worst)),lacks=(at,number)=>!curves[at][number].free||curves[at][number].grant<named[number][2];\nconst fits=(at,number)=>{const asked=named[number][2],no=lacks(at,number);return bytes(asked)+(no?asked==1?` doesn't fit`:` don't fit`:asked==1?' fits':' fit')};\nconst since=(number,tick)=>{const at=curves.findIndex(row=>row[number].tick>tick);if(at<1)return ', line 1';const from=lineOf(at-1)+1,to=lineOf(at),name=line=>line==lineOf(last)?'the end':line;return from==to?', '+(to==lineOf(last)?'':'line ')+name(to):', line '+from+' to '+name(to)};\nconst following=stops=>{const later=stops.filter(at=>at>moment);return later.length?Math.min(...later):Math.min(...stops)};\nconst plot=element('plot'),tall=Math.max(12,Math.floor(72/curves[0].length)),pitch=tall+4,deep=curves[0].length*pitch;\nconst across=at=>64+1024*(lineOf(at)-1)/Math.max(1,lineOf(last)-1),nearest=x=>begins.reduce((best,begin,at)=>Math.abs(across(at)-x)<Math.abs(across(best)-x)?at:best,0),stepOf=most=>{let step=1;while(most/step>10)step*=String(step)[0]=='2'?2.5:2;return step};\nconst curve=(ink,number,name)=>{const foot=number*pitch+tall,words=curves[0][number].words,high=at=>foot-tall*curves[at][number][name]/words;ink.beginPath();ink.moveTo(64,high(0));for(let at=1;at<=last;at++){ink.lineTo(across(at),high(at-1));ink.lineTo(across(at),high(at))}return {foot,high}};\nconst drawPlot=()=>{const scale=devicePixelRatio||1,colors=getComputedStyle(document.documentElement),color=name=>colors.getPropertyValue('--'+name),ink=plot.getContext('2d');plot.width=1088*scale;plot.height=(deep+16)*scale;ink.scale(scale,scale);ink.font='10px ui-monospace,Menlo,Consolas,monospace';\ncurves[0].forEach((row,number)=>{const live=curve(ink,number,'live');ink.lineTo(1088,live.foot);ink.lineTo(64,live.foot);ink.fillStyle=color('live');ink.fill();curve(ink,number,'largest');ink.strokeStyle=color('largest');ink.lineWidth=1.5;ink.stroke();ink.strokeStyle=ink.fillStyle=color('ink');ink.lineWidth=1;ink.strokeRect(64.5,live.foot-tall+.5,1023,tall-1);ink.textAlign='right';ink.fillText('heap '+number,58,live.foot-tall/2+4);ink.beginPath();ink.arc(Math.min(1084,Math.max(68,across(peaks[number]))),Math.max(live.foot-tall+4,live.high(peaks[number])),3,0,7);ink.fill();ink.strokeStyle=color('largest');ink.lineWidth=2;ink.setLineDash([4,2]);ink.beginPath();ink.moveTo(across(worsts[number]),live.foot-tall);ink.lineTo(across(worsts[number]),live.foot);ink.stroke();ink.setLineDash([])});\nink.textAlign='center';const most=lineOf(last)-1,step=stepOf(most);for(let line=0;line<=most;line+=step)ink.fillText(line?line:1,Math.min(1076,64+1024*Math.max(0,line-1)/Math.max(1,most)),deep+12);ink.fillRect(across(moment)-1,0,2,deep)};\nconst pointPlot=event=>{const box=plot.getBoundingClientRect(),at=nearest(event.clientX-box.left),number=Math.max(0,Math.min(curves[0].length-1,Math.floor((event.clientY-box.top)/pitch))),row=curves[at][number];if(event.buttons)show(at);tell('heap '+number+(at==last?' at the end: ':' after line '+lineOf(at)+': ')+row.live+' of '+row.words+' words live, '+8*row.live+' bytes; the largest free block has '+row.largest+' words; '+fits(at,number),event)};\nplot.onpointermove=plot.onpointerdown=pointPlot;plot.onpointerleave=()=>{tip.hidden=true};\n"
+plotting_part = codes "const curves=begins.map(begin=>{const rows=[];for(let at=begin+1;at+2<lines.length&&!lines[at].startsWith('line ');at+=3){const [live,largest,free,grant]=[/ blocks?, ([0-9]+)/,/largest ([0-9]+)/,/free [0-9]+ blocks?, ([0-9]+)/,/grant ([0-9]+)/].map(form=>Number(lines[at+1].match(form)[1])),[words,tick]=[/: ([0-9]+)/,/tick ([0-9]+)/].map(form=>Number(lines[at].match(form)[1]));rows.push({live,largest,free,grant,words,tick})}return rows});\nconst peaks=named.map(([peak])=>momentOf(peak)),worsts=named.map(([peak,worst])=>momentOf(worst)),lacks=(at,number)=>!curves[at][number].free||curves[at][number].grant<named[number][2];\nconst fits=(at,number)=>{const asked=named[number][2],no=lacks(at,number);return bytes(asked)+(no?asked==1?` doesn't fit`:` don't fit`:asked==1?' fits':' fit')};\nconst since=(number,tick)=>{const at=curves.findIndex(row=>row[number].tick>tick);if(at<1)return ', line 1';const from=lineOf(at-1)+1,to=lineOf(at),name=line=>line==lineOf(last)?'the end':line;return from==to?', '+(to==lineOf(last)?'':'line ')+name(to):', line '+from+' to '+name(to)};\nconst following=stops=>{const later=stops.filter(at=>at>moment);return later.length?Math.min(...later):Math.min(...stops)};\nconst plot=element('plot'),tall=Math.max(12,Math.floor(72/curves[0].length)),pitch=tall+4,deep=curves[0].length*pitch;\nconst across=at=>64+1024*(lineOf(at)-1)/Math.max(1,lineOf(last)-1),nearest=x=>begins.reduce((best,begin,at)=>Math.abs(across(at)-x)<Math.abs(across(best)-x)?at:best,0),stepOf=most=>{let step=1;while(most/step>10)step*=String(step)[0]=='2'?2.5:2;return step};\nconst curve=(ink,number,name)=>{const foot=number*pitch+tall,words=curves[0][number].words,high=at=>foot-tall*curves[at][number][name]/words;ink.beginPath();ink.moveTo(64,high(0));for(let at=1;at<=last;at++){ink.lineTo(across(at),high(at-1));ink.lineTo(across(at),high(at))}return {foot,high}};\nconst drawPlot=()=>{const scale=devicePixelRatio||1,colors=getComputedStyle(document.documentElement),color=name=>colors.getPropertyValue('--'+name),ink=plot.getContext('2d');plot.width=1088*scale;plot.height=(deep+16)*scale;ink.scale(scale,scale);ink.font='10px ui-monospace,Menlo,Consolas,monospace';\ncurves[0].forEach((row,number)=>{const live=curve(ink,number,'live');ink.lineTo(1088,live.foot);ink.lineTo(64,live.foot);ink.fillStyle=color('live');ink.fill();curve(ink,number,'largest');ink.strokeStyle=color('largest');ink.lineWidth=1.5;ink.stroke();ink.strokeStyle=ink.fillStyle=color('ink');ink.lineWidth=1;ink.strokeRect(64.5,live.foot-tall+.5,1023,tall-1);ink.textAlign='right';ink.fillText('heap '+number,58,live.foot-tall/2+4);ink.beginPath();ink.arc(Math.min(1084,Math.max(68,across(peaks[number]))),Math.max(live.foot-tall+4,live.high(peaks[number])),3,0,7);ink.fill();ink.strokeStyle=color('largest');ink.lineWidth=2;ink.setLineDash([4,2]);ink.beginPath();ink.moveTo(across(worsts[number]),live.foot-tall);ink.lineTo(across(worsts[number]),live.foot);ink.stroke();ink.setLineDash([])});\nink.textAlign='center';const most=lineOf(last)-1,step=stepOf(most);for(let line=0;line<=most;line+=step)ink.fillText(line?line:1,Math.min(1072,64+1024*Math.max(0,line-1)/Math.max(1,most)),deep+12);ink.fillRect(across(moment)-1,0,2,deep)};\nconst pointPlot=event=>{const box=plot.getBoundingClientRect(),at=nearest(event.clientX-box.left),number=Math.max(0,Math.min(curves[0].length-1,Math.floor((event.clientY-box.top)/pitch))),row=curves[at][number];if(event.buttons)show(at);tell('heap '+number+(at==last?' at the end: ':' after line '+lineOf(at)+': ')+row.live+' of '+row.words+' words live, '+8*row.live+' bytes; the largest free block has '+row.largest+' words; '+fits(at,number),event)};\nplot.onpointermove=plot.onpointerdown=pointPlot;plot.onpointerleave=()=>{tip.hidden=true};\n"
 
 -- and it shows the moment that is chosen, and the block under the pointer
 unfoldable pub showing_part : List ℕ

@@ -231,7 +231,7 @@ page_begin height = codes "<svg xmlns='http://www.w3.org/2000/svg' width='1104' 
 -- the colours, and what each is
 unfoldable pub key_text : List ℕ
 key_text =
-    codes "<style>text{font:13px ui-monospace,Menlo,Consolas,monospace;fill:#1f2328}.name{font-weight:600}.scale,.bytes,.at{font-size:11px}.scale{text-anchor:end}.at{text-anchor:middle}.page{fill:#fff}.frame{fill:#f3f5f8}path{fill:none;stroke-width:1.5;vector-effect:non-scaling-stroke}.live{fill:#4f83cc;stroke:#2b4f86}.asked{stroke:#c2701c}.free{fill:#8fd0b1;stroke:#2e9e6b}.largest{stroke:#7a2fb0}.fragmentation{fill:#c9b3ea;stroke:#8257c9}.refused{fill:#b4232a;stroke:#b4232a}.asked,.largest{fill:none}.capacity,.tick,.peak{stroke:#1f2328}.capacity,.tick{stroke-width:1}.peak{stroke-dasharray:2 3}.mark{stroke:#b4232a;stroke-dasharray:6 3}@media(prefers-color-scheme:dark){text{fill:#e6edf3}.page{fill:#0d1117}.frame{fill:#1b222c}.live{fill:#2f5a99;stroke:#7fb0f5}.asked{stroke:#f0a050}.free{fill:#1c5c40;stroke:#45c48a}.largest{stroke:#d2a8ff}.fragmentation{fill:#4a3575;stroke:#a98bea}.refused{fill:#ff7b72;stroke:#ff7b72}.capacity,.tick,.peak{stroke:#e6edf3}.mark{stroke:#ff7b72}}</style><rect class='page' width='100%' height='100%'/>\n"
+    codes "<style>text{font:13px ui-monospace,Menlo,Consolas,monospace;fill:#1f2328}.name{font-weight:600}.scale,.bytes,.at{font-size:11px}.scale{text-anchor:end}.at{text-anchor:middle;paint-order:stroke;stroke:#fff;stroke-width:4px}svg{background:#fff}.page{fill:#fff}.frame{fill:#f3f5f8}path{fill:none;stroke-width:1.5;vector-effect:non-scaling-stroke}.live{fill:#4f83cc;stroke:#2b4f86}.asked{stroke:#c2701c}.free{fill:#8fd0b1;stroke:#2e9e6b}.largest{stroke:#7a2fb0}.fragmentation{fill:#c9b3ea;stroke:#8257c9}.refused{fill:#b4232a;stroke:#b4232a}.asked,.largest{fill:none}.capacity,.tick,.peak{stroke:#1f2328}.capacity,.tick{stroke-width:1}.peak{stroke-dasharray:2 3}.mark{stroke:#b4232a;stroke-dasharray:6 3}@media(prefers-color-scheme:dark){text{fill:#e6edf3}.at{stroke:#0d1117}svg{background:#0d1117}.page{fill:#0d1117}.frame{fill:#1b222c}.live{fill:#2f5a99;stroke:#7fb0f5}.asked{stroke:#f0a050}.free{fill:#1c5c40;stroke:#45c48a}.largest{stroke:#d2a8ff}.fragmentation{fill:#4a3575;stroke:#a98bea}.refused{fill:#ff7b72;stroke:#ff7b72}.capacity,.tick,.peak{stroke:#e6edf3}.mark{stroke:#ff7b72}}</style><rect class='page' width='100%' height='100%'/>\n"
     ++ codes "<g transform='translate(0 28)'><rect class='live' x='80' width='12' height='12'/><text x='98' y='11'>live words</text><rect class='asked' x='200' width='12' height='12'/><text x='218' y='11'>words asked for</text><rect class='free' x='352' width='12' height='12'/><text x='370' y='11'>free words</text><rect class='largest' x='472' width='12' height='12'/><text x='490' y='11'>largest free block</text><rect class='fragmentation' x='648' width='12' height='12'/><text x='666' y='11'>fragmentation, thousandths</text><rect class='refused' x='888' width='12' height='12'/><text x='906' y='11'>call refused</text><path class='capacity' d='M80 27h12'/><text x='98' y='31'>the words of the heap</text><path class='mark' d='M278 21v12'/><text x='290' y='31'>worst or fullest moment</text><path class='peak' d='M486 21v12'/><text x='498' y='31'>peak: most words live</text><text x='690' y='31'>tlsf map --at LINE draws the heaps then</text><text x='80' y='51'>a point that stands for several lines shows the worst of each number: most live words, fewest free ones</text></g>\n"
 
 unfoldable pub svg_text : List Chart → List ℕ
