@@ -115,7 +115,7 @@ fn traced<T: Threads + Wait + Sync, R: Read, W: Write, G: Gate>(
         TraceRun::Replay => replay(alloc, reader, writer),
         TraceRun::Held => measure_trace(alloc, reader, writer),
         TraceRun::HeldKinds => measure_kinds(alloc, reader, writer),
-        TraceRun::Least => measure_least(alloc, reader, writer),
+        TraceRun::Least => measure_least(alloc, reader, writer, gate),
         TraceRun::Race => race_trace(rt, alloc, reader, writer, gate),
         TraceRun::RaceQueues => race_trace_over_queues(rt, alloc, reader, writer, gate),
         TraceRun::Map(Form::Svg) => draw_trace(alloc, reader, writer),
@@ -265,7 +265,8 @@ fn act<T: Threads + Wait + Sync, R: Read, W: Write, E: Write, G: Gate>(
 
 /// Runs the program on the words of its command line, its name first, and gives the exit status.
 /// Only `tlsf race` starts threads, by `rt`; they pass `gate` before each call and once after the
-/// last one of a phase, where a [`RaceNotice`](tlsf_trace::RaceNotice) shows that the race is alive.
+/// last one of a phase. `tlsf replay --least` passes it before each replay of its search. There a
+/// [`Notice`](tlsf_trace::Notice) shows that the race or the search is alive.
 ///
 /// The status is 0 where the run is done, 1 where a fault ended it, 2 where the words are refused,
 /// and 3 where memory ran out. A fault's line and the text on refused words go to `errors`, where

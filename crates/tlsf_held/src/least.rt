@@ -12,7 +12,7 @@ use crate::lines::write_words;
 use crate::loans::Loans;
 use crate::tally::Tally;
 use std::alloc::{AllocError, Global};
-use tlsf_crew::{CrewRefusal, Entry, Reply};
+use tlsf_crew::{CrewRefusal, Entry, Gate, Reply};
 use tlsf_heap::Refusal;
 use tlsf_lines::Script;
 use tlsf_trace::Player;
@@ -63,12 +63,13 @@ fn replayed<const SLI: u32>(
     Ok((player, entries))
 }
 
-// How many requests of a worker find no room in heaps of so many words.
-fn unserved_with<const SLI: u32>(
+// How many requests of a worker find no room in heaps of so many words, behind a pass of the gate.
+fn unserved_with<const SLI: u32, G: Gate>(
     alloc: Global,
     script: &mut Script,
     worker: u32,
     words: u32,
+    gate: &G,
 ) -> Result<usize, AllocError>
     requires level { IsLevel SLI }
     requires ready { IsReady SLI script.old }
@@ -78,6 +79,7 @@ fn unserved_with<const SLI: u32>(
     ensures kept { (trace : Trace) → IsScriptBut script.old trace → IsScriptBut script.new trace }
     ensures count { (trace : Trace) → IsScriptBut script.old trace → IfOk result (λ count. count ≡ unserved_in words trace worker) }
 {
+    gate.pass(worker, words);
     let (_, entries) = replayed::<SLI>(alloc, script, words)?;
     Ok(unserved(worker, &entries))
 }
@@ -100,11 +102,12 @@ fn next_words(first: u32, refused: u32, served: u32, most: u32) -> u32
 }
 
 // The least words of heaps that serve all requests of a worker, found from so many on.
-fn least_words<const SLI: u32>(
+fn least_words<const SLI: u32, G: Gate>(
     alloc: Global,
     script: &mut Script,
     worker: u32,
     first: u32,
+    gate: &G,
 ) -> Result<Option<u32>, AllocError>
     requires level { IsLevel SLI }
     requires ready { IsReady SLI script.old }
@@ -120,7 +123,7 @@ fn least_words<const SLI: u32>(
     let mut served = most + 1;
     while served - refused > 1 {
         let words = next_words(first, refused, served, most);
-        if unserved_with::<SLI>(alloc, script, worker, words)? == 0 {
+        if unserved_with::<SLI, G>(alloc, script, worker, words, gate)? == 0 {
             served = words;
         } else {
             refused = words;
@@ -130,11 +133,12 @@ fn least_words<const SLI: u32>(
 }
 
 // The row of a worker.
-fn least_row<const SLI: u32>(
+fn least_row<const SLI: u32, G: Gate>(
     alloc: Global,
     script: &mut Script,
     worker: u32,
     first: u32,
+    gate: &G,
 ) -> Result<LeastRow, AllocError>
     requires level { IsLevel SLI }
     requires ready { IsReady SLI script.old }
@@ -144,7 +148,7 @@ fn least_row<const SLI: u32>(
     ensures kept { (trace : Trace) → IsScriptBut script.old trace → IsScriptBut script.new trace }
     ensures row { (trace : Trace) → IsScriptBut script.old trace → IfOk result (IsLeastRow trace worker) }
 {
-    let words = least_words::<SLI>(alloc, script, worker, first)?;
+    let words = least_words::<SLI, G>(alloc, script, worker, first, gate)?;
     let most = script.header.version.most_words();
     let (player, entries) = replayed::<SLI>(alloc, script, words.unwrap_or(most))?;
     let law = Tally::of(worker, &entries).region::<SLI>();
@@ -157,9 +161,10 @@ fn least_row<const SLI: u32>(
 }
 
 /// The rows of the workers of a script, in rising number. The words of its header are those of the last replay then.
-pub fn least_rows<const SLI: u32>(
+pub fn least_rows<const SLI: u32, G: Gate>(
     alloc: Global,
     script: &mut Script,
+    gate: &G,
 ) -> Result<Vec<LeastRow>, AllocError>
     requires level { IsLevel SLI }
     requires ready { IsReady SLI script.old }
@@ -168,7 +173,7 @@ pub fn least_rows<const SLI: u32>(
     let mut first = script.header.words;
     let mut rows = Vec::new(alloc);
     for worker in 0..script.header.workers {
-        let row = least_row::<SLI>(alloc, script, worker, first)?;
+        let row = least_row::<SLI, G>(alloc, script, worker, first, gate)?;
         // Workers are often alike, and a replay in large heaps takes long.
         first = row.words.unwrap_or(first);
         rows.push(row)?;

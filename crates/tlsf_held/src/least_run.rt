@@ -8,18 +8,19 @@ ghost use Rattle.tlsf_lines.specs.Trace.{Trace};
 use crate::least::{least_rows, write_least_lines};
 use std::alloc::{AllocError, Global};
 use std::io::{Read, Write};
+use tlsf_crew::Gate;
 use tlsf_lines::{Script, Version, read_all, script_in};
 use tlsf_trace::{Summary, TraceFault, finish};
 
 // The lines of a script, at the level of its version.
-fn least_output(alloc: Global, script: &mut Script) -> Result<String, AllocError>
+fn least_output<G: Gate>(alloc: Global, script: &mut Script, gate: &G) -> Result<String, AllocError>
     requires header { IsHeaderInRange script.old.header }
     requires lines { vec_len script.old.ends ≤ 32768 }
     ensures { (trace : Trace) → IsScript script.old trace → IfOk result (λ text. TellsLeast trace (string_bytes text)) }
 {
     let rows = match script.header.version {
-        Version::One => least_rows::<4>(alloc, script)?,
-        Version::Two => least_rows::<5>(alloc, script)?,
+        Version::One => least_rows::<4, G>(alloc, script, gate)?,
+        Version::Two => least_rows::<5, G>(alloc, script, gate)?,
     };
     let mut text = String::new(alloc);
     write_least_lines(&mut text, &rows)?;
@@ -35,20 +36,23 @@ fn least_output(alloc: Global, script: &mut Script) -> Result<String, AllocError
 /// has `none`. Behind these stand the most words that the held blocks wanted at once, and the words of a region in which such calls are
 /// never refused for want of room, both by a replay with the words that were found, or with the most. The trace is read to its end and
 /// checked before a line runs, and the whole text is made before a byte is written. The limits are those of [`replay`](tlsf_trace::replay).
+/// `gate` is passed before each replay of the search, with the worker's number and the words, where a [`Notice`](tlsf_trace::Notice)
+/// shows that a long search is alive.
 ///
 /// ```
 /// // reader gives "tlsf 1 1 64 1\na 0 1 100\na 0 2 8\nf 0 1\n"
-/// let summary = measure_least(alloc, &mut reader, &mut writer)?;
+/// let summary = measure_least(alloc, &mut reader, &mut writer, &OpenGate)?;
 /// // summary.calls is 3, and writer holds "least 0 words 20 wanted 20 law 50\n"
 /// ```
 ///
 /// # Errors
 ///
 /// Those of [`replay`](tlsf_trace::replay), each where a replay of that trace has it.
-pub fn measure_least<R: Read, W: Write>(
+pub fn measure_least<R: Read, W: Write, G: Gate>(
     alloc: Global,
     reader: &mut R,
     writer: &mut W,
+    gate: &G,
 ) -> Result<Summary, TraceFault>
     ensures { IsLeastMeasurement result (R.remaining reader.old) (R.remaining reader.new)
         (W.contents writer.old) (W.contents writer.new) }
@@ -57,6 +61,6 @@ pub fn measure_least<R: Read, W: Write>(
     let mut script = script_in(alloc, &text)?;
     drop(text);
     let calls = script.calls;
-    let output = least_output(alloc, &mut script)?;
+    let output = least_output(alloc, &mut script, gate)?;
     finish(writer, calls, &output)
 }

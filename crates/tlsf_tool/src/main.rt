@@ -3,7 +3,7 @@
 //! `tlsf replay` reads a trace from standard input, runs it, and writes the reply lines and a report on each heap to
 //! standard output. The whole trace is read and checked before a line runs, and the whole text is made before a byte is
 //! written. `tlsf race` does so with each phase run in threads, one for each worker; where it is long, it says on standard
-//! error about every ten seconds that it still runs. `tlsf map` writes a picture of the heaps that a trace leaves,
+//! error about every ten seconds that it still runs, as `tlsf replay --least` does in a long search. `tlsf map` writes a picture of the heaps that a trace leaves,
 //! with `--text` in the characters of a terminal, and `tlsf plot` a plot of them over its lines. `tlsf check` says what a trace is, or where its first fault is and what was
 //! expected there. A file that is named behind one of these isn't read: a line says how it is given as standard input.
 //! `tlsf classes N` writes the size class and the search class of N words, and `tlsf size` the words of a region that never
@@ -23,7 +23,7 @@
 use std::process::ExitCode;
 use std::{env, io};
 use tlsf_command::{FaultReport, run};
-use tlsf_trace::{RaceNotice, TraceFault};
+use tlsf_trace::{Notice, TraceFault};
 
 // Reports that the words of the command line can't be had: memory ran out, or one is no text.
 fn refuse(rt: &impl Eprint, error: &io::Error) -> u8 {
@@ -36,6 +36,15 @@ fn refuse(rt: &impl Eprint, error: &io::Error) -> u8 {
     } else {
         let _ = eprintln!(rt; "error: the arguments can't be read: {error}");
         2
+    }
+}
+
+// What a notice says of a long run: `replay --least` searches, and else it is a race.
+fn doing(words: &[String]) -> &'static str {
+    if words.iter().any(|word| word.as_str() == "--least") {
+        "searching"
+    } else {
+        "racing"
     }
 }
 
@@ -53,7 +62,7 @@ fn main(rt: HostRuntime) -> ExitCode {
                 &mut reader,
                 &mut writer,
                 &mut errors,
-                &RaceNotice::new(&rt),
+                &Notice::new(&rt, doing(&words)),
             )
         }
         Err(error) => refuse(&rt, &error),

@@ -5,14 +5,14 @@
 //! that they leave are told in report lines.
 //!
 //! Contracts see the trace that a text spells, or its first fault, as `trace_of`, and what it asks for as `AsksFor`.
-//! [`write_out`] writes a text by its known bytes. A [`RaceNotice`] shows that a long race is alive.
+//! [`write_out`] writes a text by its known bytes. A [`Notice`] shows that a long run is alive.
 #![tactic(auto)]
 
 mod laws;
+mod notice;
 mod output;
 mod player;
 mod playing;
-mod race_notice;
 mod race_output;
 mod raced_yard;
 mod report_lines;
@@ -23,9 +23,9 @@ pub use laws::{
     one_history_of_a_raced_trace, one_history_of_a_trace_raced_over_queues,
     trace_without_drains_gives_one_text, trace_without_drains_gives_one_text_over_queues,
 };
+pub use notice::Notice;
 pub use player::Player;
 pub use playing::{Plays, Puts, play};
-pub use race_notice::RaceNotice;
 pub use stages::{finish, race_trace, race_trace_over_queues, replay};
 pub use summary::Summary;
 pub use tlsf_lines::{TraceFault, WriteError, first_fault, pieces_join, write_out};

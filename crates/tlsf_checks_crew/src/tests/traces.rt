@@ -3,7 +3,7 @@
 mod fakes;
 mod fronts;
 mod long_texts;
-mod race_notices;
+mod notices;
 mod race_traces;
 mod runs;
 mod streams;

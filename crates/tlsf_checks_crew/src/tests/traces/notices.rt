@@ -1,4 +1,4 @@
-//! What a long race says on standard error, by a clock that the test sets.
+//! What a long run says on standard error, by a clock that the test sets.
 use std::alloc::Global;
 use std::fmt::Display;
 use std::io;
@@ -7,7 +7,7 @@ use std::sync::atomic::{AtomicU64, Ordering};
 use std::time::Duration;
 use tlsf_checks::same;
 use tlsf_crew::Gate;
-use tlsf_trace::RaceNotice;
+use tlsf_trace::Notice;
 
 /// The clock's milliseconds at the first pass.
 const FIRST: u64 = 5_900;
@@ -42,7 +42,7 @@ impl Eprint for SetClock {
     fn eprintln<D: Display + Drop>(&self, value: D) -> io::Result<()> {
         let found = format!(in self.alloc; "{value}")?;
         let seconds = self.millis.load(Ordering::SeqCst).saturating_sub(FIRST) / 1_000;
-        let wanted = format!(in self.alloc; "tlsf: still racing, after {seconds} seconds")?;
+        let wanted = format!(in self.alloc; "tlsf: still searching, after {seconds} seconds")?;
         if found == wanted {
             self.told.fetch_add(1, Ordering::SeqCst);
         }
@@ -52,13 +52,13 @@ impl Eprint for SetClock {
 
 // Each row has the time of a pass, and how many lines there are then. A second pass at the same time adds none.
 #[test]
-fn long_race_says_that_it_runs(rt: HostRuntime) {
+fn long_run_says_that_it_is_alive(rt: HostRuntime) {
     let clock = SetClock {
         alloc: rt.alloc(),
         millis: AtomicU64::new(0),
         told: AtomicU64::new(0),
     };
-    let notice = RaceNotice::new(&clock);
+    let notice = Notice::new(&clock, "searching");
     for (millis, lines) in [
         (FIRST, 0),
         (15_899, 0),

@@ -5,36 +5,39 @@ use tlsf_crew::Gate;
 // The milliseconds from the first pass to the first line, and from one line to the next.
 const EVERY: u64 = 10_000;
 
-/// A gate that says on standard error, by `rt`, that a race still runs: a line about every ten seconds, as
-/// `tlsf: still racing, after 10 seconds`. They are counted from the first pass, so a race that ends sooner writes none.
+/// A gate that says on standard error, by `rt`, that a run is alive: a line about every ten seconds, as
+/// `tlsf: still racing, after 10 seconds`. They are counted from the first pass, so a run that ends sooner writes none.
 ///
 /// Nothing waits for it: where the clock can't be read, or the line can't be written, there is none.
 ///
 /// ```
-/// let notice = RaceNotice::new(&rt);
+/// let notice = Notice::new(&rt, "racing");
 /// let summary = race_trace(&rt, alloc, &mut reader, &mut writer, &notice)?;
 /// ```
 #[derive(Drop)]
-pub struct RaceNotice<'a, R> {
+pub struct Notice<'a, R> {
     rt: &'a R,
+    // The word for the run.
+    doing: &'static str,
     // The time of the first pass, in milliseconds of the clock.
     first: AtomicU64,
     // The time from which on a line is due; 0 before the first pass.
     due: AtomicU64,
 }
 
-impl<'a, R> RaceNotice<'a, R> {
-    /// A gate that no thread has passed.
-    pub fn new(rt: &'a R) -> RaceNotice<'a, R> {
-        RaceNotice {
+impl<'a, R> Notice<'a, R> {
+    /// A gate that no thread has passed, of a run that this word is for, as `racing` or `searching`.
+    pub fn new(rt: &'a R, doing: &'static str) -> Notice<'a, R> {
+        Notice {
             rt,
+            doing,
             first: AtomicU64::new(0),
             due: AtomicU64::new(0),
         }
     }
 }
 
-impl<R: Clock + Eprint + Sync> Gate for RaceNotice<'_, R> {
+impl<R: Clock + Eprint + Sync> Gate for Notice<'_, R> {
     fn pass(&self, _worker: u32, _index: u32) {
         let Ok(time) = self.rt.monotonic() else {
             return;
@@ -55,7 +58,8 @@ impl<R: Clock + Eprint + Sync> Gate for RaceNotice<'_, R> {
             .compare_exchange(due, next, Ordering::SeqCst, Ordering::SeqCst);
         if due > 0 && claimed.is_ok() {
             let seconds = now.saturating_sub(self.first.load(Ordering::SeqCst)) / 1_000;
-            let _ = eprintln!(self.rt; "tlsf: still racing, after {seconds} seconds");
+            let doing = self.doing;
+            let _ = eprintln!(self.rt; "tlsf: still {doing}, after {seconds} seconds");
         }
     }
 }
