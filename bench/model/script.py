@@ -12,8 +12,7 @@ import time
 
 TOP = pathlib.Path(__file__).resolve().parents[2]
 TUNABLES = "glibc.cpu.x86_rep_stosb_threshold=1073741824:glibc.cpu.x86_rep_movsb_threshold=1073741824"
-# What counts instructions, and where its output has them.
-CALLGRIND = ["valgrind", "--tool=callgrind", "--callgrind-out-file=/dev/null"], rb"Collected *: *(\d+)"
+CALLGRIND = ["valgrind", "--tool=callgrind", "--callgrind-out-file=/dev/null"]
 
 
 def words(doc, are_well=lambda given: not given):
@@ -70,11 +69,10 @@ def own_program(name, folder, named=None):
     return done.stdout.strip() if done.returncode == 0 else stop(f"bench/programs/{name} isn't proved or built")
 
 
-def counted(counter, command, **how):
+def counted(command, **how):
     """The instructions of a run of a command, whose memset and memcpy are kept from instructions that move many bytes each."""
-    words, pattern = counter
-    done = subprocess.run([*words, *command], capture_output=True, env={**os.environ, "GLIBC_TUNABLES": TUNABLES}, check=False, **how)
-    return int(re.search(pattern, done.stderr)[1]) if done.returncode == 0 else stop(f"{command[0]} ended with {done.returncode}")
+    done = subprocess.run([*CALLGRIND, *command], capture_output=True, env={**os.environ, "GLIBC_TUNABLES": TUNABLES}, check=False, **how)
+    return int(re.search(rb"Collected *: *(\d+)", done.stderr)[1]) if done.returncode == 0 else stop(f"{command[0]} ended with {done.returncode}")
 
 
 class Runner:
