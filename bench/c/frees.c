@@ -1,16 +1,23 @@
-/* Frees of another thread's blocks beside what the owner does. bench/peers builds and runs it.
+/* Times frees of another thread's blocks, and names through the lanes of the C library. bench/peers builds and runs it.
  *
- * FREES WAY COLUMN PATTERN prints one or two figures. The owner has 80,000 blocks of 8 bytes, and another thread frees them. WAY is
- *   lanes  their names go through a lane of 1,024, and the owner drains it
+ * FREES WAY COLUMN PATTERN [POSTERS] prints one or two figures. The owner has 80,000 blocks of 8 bytes for each poster, 1 to 3 threads,
+ * which free them. WAY is
+ *   lanes  their names go through a lane of 1,024 from each, and the owner drains them
+ *   queue  the same through one queue of 1,024 for all
  *   ring   the same through a ring in C, of acquire and release, from which the owner copies up to 64 names before he stores the head
- *   lock   the other thread frees them itself, and each call of either thread is under a lock
+ *   lock   a poster frees them itself, and each call of any thread is under a lock
  * COLUMN, of lock, is level4 (a heap of the library, under a mutex), system (what is loaded) or, with -DAUTHORS, authors (TLSF 2.4, its
- * lock); it is level4 for the others. A poster that finds the lane full waits for some hundred nanoseconds. PATTERN is
+ * lock); it is level4 for the others. A poster that finds no slot waits for some hundred nanoseconds. PATTERN is
+ *   waits  the owner drains until all is back, or waits for the posters: thousands of frees a second; with one poster in the others
  *   works  the owner makes 16 pairs of 64 bytes, drains at most 64 names, and so on: thousands of frees a second; of its pairs meanwhile
  *   turns  the other thread frees 128 blocks in each 100 microseconds, and the owner drains 50 microseconds later: picoseconds that a free
  *          takes the other thread, and that a drained name takes the owner; medians
  *   full   the lane fills for 100 microseconds beside a poster that doesn't wait but tries again at once, and is drained: nanoseconds of
- *          such a drain of 1,024 names; the median */
+ *          such a drain of 1,024 names; the median
+ *
+ * FREES BETWEEN prints nanoseconds. BETWEEN is alone (one thread puts and takes by turns), stream (one thread puts, another takes), echo
+ * (two threads send one name to and fro through two lanes: half of a round) or line (two threads write one cache line by turns, each once
+ * it has seen what the other wrote: half of a round). */
 #define _GNU_SOURCE
 #include "tlsf.h"
 
@@ -27,20 +34,32 @@ void *authors_malloc(size_t bytes) __asm__("tlsf_malloc");
 void authors_free(void *block) __asm__("tlsf_free");
 #endif
 
-enum { BLOCKS = 80000, CAPACITY = 1024, TURN = 128, MOST_TURNS = BLOCKS / TURN + 1, PERIOD = 100000, SLICE = 64 };
+enum { EACH = 80000, MOST_POSTERS = 3, CAPACITY = 1024, TURN = 128, MOST_TURNS = EACH / TURN + 1, PERIOD = 100000, SLICE = 64 };
+enum { NAMES = 1 << 20 }; /* that go between two threads */
 
-static enum { LANES, RING, LOCK } way;
-static enum { WORKS, TURNS, FULL } pattern;
+static enum { LANES, QUEUE, RING, LOCK } way;
+static enum { WAITS, WORKS, TURNS, FULL } pattern;
 static enum { LEVEL_4, SYSTEM, AUTHORS_OWN } column;
 static struct tlsf_heap heap;
 static pthread_mutex_t lock = PTHREAD_MUTEX_INITIALIZER;
-static _Alignas(128) struct tlsf_post_end post;
-static _Alignas(128) struct tlsf_take_end take;
-static _Alignas(128) union block {
+static struct lane {
+    _Alignas(128) struct tlsf_post_end post;
+    _Alignas(128) struct tlsf_take_end take;
+} lanes[MOST_POSTERS];
+static _Alignas(128) struct tlsf_queue queue;
+static union block {
     struct tlsf_name name;
     void *at;
-} blocks[BLOCKS];
-static _Alignas(128) atomic_int ready, all_posted;
+} blocks[MOST_POSTERS][EACH];
+static struct poster {
+    _Alignas(128) struct tlsf_poster end;
+    const union block *own;
+    struct tlsf_post_end *lane;
+    size_t read; /* from the blocks, into this processor's cache */
+} posters[MOST_POSTERS];
+static pthread_t threads[MOST_POSTERS];
+static _Alignas(128) atomic_int ready, ended;
+static int count; /* of posters */
 static double begins; /* the first turn */
 
 static double nanoseconds(void) {
@@ -73,21 +92,21 @@ static size_t ring_put(const union block *from, size_t n) {
 
 static size_t ring_drain(size_t most) {
     struct tlsf_name some[SLICE];
-    size_t count = 0, n = SLICE;
-    while (count < most && n == SLICE) {
+    size_t came = 0, n = SLICE;
+    while (came < most && n == SLICE) {
         const size_t at = atomic_load_explicit(&head.at, memory_order_relaxed);
         if (head.other - at < SLICE) head.other = atomic_load_explicit(&tail.at, memory_order_acquire);
         n = head.other - at < SLICE ? head.other - at : SLICE;
-        if (n > most - count) n = most - count;
+        if (n > most - came) n = most - came;
         for (size_t k = 0; k < n; k++) some[k] = names[(at + k) % CAPACITY];
         if (n) atomic_store_explicit(&head.at, at + n, memory_order_release);
         for (size_t k = 0; k < n; k++) (void)tlsf_release(&heap, &some[k]);
-        count += n;
+        came += n;
     }
-    return count;
+    return came;
 }
 
-/* --- Calls of either thread --- */
+/* --- Calls of any thread --- */
 
 static void *give(size_t bytes, struct tlsf_name *name) {
 #ifdef AUTHORS
@@ -116,84 +135,102 @@ static void take_back(void *at, const struct tlsf_name *name) {
     if (way == LOCK) pthread_mutex_unlock(&lock);
 }
 
-/* Frees blocks from the other thread, and says how many: fewer than `n` where the lane is full. */
-static size_t put(const union block *from, size_t n) {
+/* Frees blocks from another thread, and says how many: fewer than `n` where there is no slot. */
+static size_t put(struct poster *by, const union block *from, size_t n) {
     struct tlsf_name some[TURN];
     size_t went = 0;
     if (way == LOCK) {
         for (; went < n; went++) take_back(from[went].at, &from[went].name);
     } else if (way == RING) {
         went = ring_put(from, n);
+    } else if (way == QUEUE) {
+        while (went < n && tlsf_queue_post(&by->end, &from[went].name) == TLSF_OK) went++;
     } else if (n == 1) {
-        went = tlsf_put(&post, &from->name) == TLSF_OK;
+        went = tlsf_put(by->lane, &from->name) == TLSF_OK;
     } else {
         for (size_t k = 0; k < n; k++) some[k] = from[k].name;
-        if (tlsf_put_all(&post, some, n, &went) != TLSF_OK) exit(1);
+        if (tlsf_put_all(by->lane, some, n, &went) != TLSF_OK) exit(1);
     }
     return went;
 }
 
 static size_t drain(size_t most) {
     uint32_t came = 0;
-    if (way == LANES) tlsf_drain(&heap, &take, (uint32_t)most, &came);
-    return way == RING ? ring_drain(most) : came;
+    size_t all = 0;
+    if (way == RING) return ring_drain(most);
+    if (way == QUEUE) (void)tlsf_queue_drain(&heap, &queue, (uint32_t)most, &came);
+    for (int k = 0; way == LANES && k < count; k++, all += came) (void)tlsf_drain(&heap, &lanes[k].take, (uint32_t)most, &came);
+    return way == QUEUE ? came : all;
 }
 
-/* --- Patterns --- */
+/* --- Patterns of frees --- */
 
 static float post_times[MOST_TURNS], drain_times[MOST_TURNS];
 static size_t posts, drains;
 
-static void *poster(void *unused) {
+static void *post_all(void *given) {
+    struct poster *by = given;
     size_t done = 0;
-    (void)unused;
-    for (size_t k = 0; k < BLOCKS; k++) done += blocks[k].name.heap; /* into this processor's cache */
-    atomic_store(&ready, (int)(done % 2) + 1);
-    while (atomic_load(&ready) < 3) {}
-    for (done = 0; pattern == TURNS && done < BLOCKS; posts++) {
+    for (size_t k = 0; k < EACH; k++) by->read += by->own[k].name.heap;
+    atomic_fetch_add(&ready, 1);
+    while (atomic_load(&ready) <= MOST_POSTERS) {}
+    for (; pattern == TURNS && done < EACH; posts++) {
         wait_until(begins + PERIOD * (double)posts);
         const double from = nanoseconds();
-        const size_t went = put(blocks + done, BLOCKS - done < TURN ? BLOCKS - done : TURN);
+        const size_t went = put(by, by->own + done, EACH - done < TURN ? EACH - done : TURN);
         post_times[posts] = went ? (float)((nanoseconds() - from) * 1000 / (double)went) : 0;
         done += went;
         if (!went) posts--;
     }
-    while (done < BLOCKS) {
-        if (put(blocks + done, 1)) done++;
-        else if (pattern == WORKS) for (int k = 0; k < 30; k++) __builtin_ia32_pause();
+    while (done < EACH) {
+        if (put(by, by->own + done, 1)) done++;
+        else if (pattern != FULL) for (int k = 0; k < 30; k++) __builtin_ia32_pause();
     }
-    atomic_store(&all_posted, 1);
+    atomic_fetch_add(&ended, 1);
     return NULL;
 }
 
-static void works(void) {
-    size_t back = 0, pairs = 0;
+static int is_over(size_t back) {
+    return way == LOCK ? atomic_load_explicit(&ended, memory_order_acquire) == count : back >= (size_t)count * EACH;
+}
+
+static void join_all(void) {
+    for (int k = 0; k < count; k++) pthread_join(threads[k], NULL);
+}
+
+/* Drains what the others post until all is back, beside pairs of its own or not. With neither it sleeps. */
+static void drain_on(void) {
     const double from = nanoseconds();
-    while (way == LOCK ? !atomic_load_explicit(&all_posted, memory_order_acquire) : back < BLOCKS) {
-        for (int k = 0; k < 16; k++, pairs++) {
+    const int sleeps = way == LOCK && pattern == WAITS;
+    size_t back = 0, pairs = 0;
+    if (sleeps) join_all();
+    while (!sleeps && !is_over(back)) {
+        for (int k = 0; pattern == WORKS && k < 16; k++, pairs++) {
             struct tlsf_name name;
             void *at = give(64, &name);
             if (!at) exit(1);
             *(volatile char *)(column == LEVEL_4 ? (char *)&name : at) = 0; /* so that the pair isn't left out */
             take_back(at, &name);
         }
-        back += drain(SLICE);
+        back += way == LOCK ? 0 : drain(pattern == WORKS ? SLICE : CAPACITY);
     }
     const double took = nanoseconds() - from;
-    printf("%.0f %.0f\n", BLOCKS * 1e6 / took, (double)pairs * 1e6 / took);
+    printf("%.0f %.0f\n", count * EACH * 1e6 / took, (double)pairs * 1e6 / took);
+    if (!sleeps) join_all();
 }
 
 /* Drains once in each period, `lag` behind its begin. */
 static void drain_by_turns(double lag, size_t least) {
     size_t back = 0;
-    for (size_t turn = 0; way == LOCK ? !atomic_load(&all_posted) : back < BLOCKS; turn++) {
+    for (size_t turn = 0; !is_over(back); turn++) {
         wait_until(begins + PERIOD * (double)turn + lag);
         const double from = nanoseconds();
-        const size_t came = drain(CAPACITY);
+        const size_t came = way == LOCK ? 0 : drain(CAPACITY);
         const double took = nanoseconds() - from;
         if (came >= least && way != LOCK && drains < MOST_TURNS) drain_times[drains++] = (float)(pattern == FULL ? took : took * 1000 / (double)came);
         back += came;
     }
+    join_all();
 }
 
 static int rising(const void *a, const void *b) { return (*(const float *)a > *(const float *)b) - (*(const float *)a < *(const float *)b); }
@@ -208,32 +245,88 @@ static int opens(void) {
     static char pool[16 << 20];
     if (column == AUTHORS_OWN && init_memory_pool(sizeof pool, pool) == (size_t)-1) return 0;
 #endif
-    if (tlsf_open(&heap, 4, 0, 1 << 20) || tlsf_lane_open(&post, &take, CAPACITY)) return 0;
-    for (size_t k = 0; k < BLOCKS; k++) {
-        struct tlsf_name name = {0, 0, 0};
-        void *at = give(8, &name);
-        if (!at) return 0;
-        if (column == LEVEL_4) blocks[k].name = name;
-        else blocks[k].at = at;
+    if (tlsf_open(&heap, 4, 0, 1 << 20) || tlsf_queue_open(&queue, (uint32_t)count, CAPACITY)) return 0;
+    for (int k = 0; k < count; k++) {
+        posters[k].own = blocks[k];
+        posters[k].lane = &lanes[k].post;
+        if (tlsf_lane_open(&lanes[k].post, &lanes[k].take, CAPACITY) || tlsf_poster_open(&queue, &posters[k].end)) return 0;
+        for (size_t i = 0; i < EACH; i++) {
+            struct tlsf_name name = {0, 0, 0};
+            void *at = give(8, &name);
+            if (!at) return 0;
+            if (column == LEVEL_4) blocks[k][i].name = name;
+            else blocks[k][i].at = at;
+        }
     }
     return 1;
 }
 
-int main(int argc, char **argv) {
-    pthread_t thread;
-    if (argc != 4) return 2;
-    way = *argv[1] == 'r' ? RING : argv[1][1] == 'a' ? LANES : LOCK;
-    column = !strcmp(argv[2], "level4") ? LEVEL_4 : !strcmp(argv[2], "system") ? SYSTEM : AUTHORS_OWN;
-    pattern = *argv[3] == 'w' ? WORKS : *argv[3] == 't' ? TURNS : FULL;
-    if ((way != LOCK && column != LEVEL_4) || (way == LOCK && pattern == FULL)) return 2;
-    if (!opens() || pthread_create(&thread, NULL, poster, NULL)) return 1;
-    while (!atomic_load(&ready)) {}
+static int time_frees(char **words) {
+    way = *words[1] == 'r' ? RING : *words[1] == 'q' ? QUEUE : words[1][1] == 'a' ? LANES : LOCK;
+    column = !strcmp(words[2], "level4") ? LEVEL_4 : !strcmp(words[2], "system") ? SYSTEM : AUTHORS_OWN;
+    pattern = words[3][1] == 'a' ? WAITS : *words[3] == 'w' ? WORKS : *words[3] == 't' ? TURNS : FULL;
+    count = words[4] ? atoi(words[4]) : 1;
+    if (count < 1 || count > MOST_POSTERS || (count > 1 && (pattern != WAITS || way == RING))) return 2;
+    if ((way != LOCK && column != LEVEL_4) || (way == LOCK && pattern == FULL) || (way == QUEUE && pattern == TURNS)) return 2;
+    if (!opens()) return 1;
+    for (int k = 0; k < count; k++)
+        if (pthread_create(&threads[k], NULL, post_all, &posters[k])) return 1;
+    while (atomic_load(&ready) < count) {}
     begins = nanoseconds() + PERIOD;
-    atomic_store(&ready, 3);
-    if (pattern == WORKS) works();
+    atomic_store(&ready, MOST_POSTERS + 1);
+    if (pattern <= WORKS) drain_on();
     else drain_by_turns(pattern == TURNS ? PERIOD / 2 : PERIOD, pattern == TURNS ? 1 : CAPACITY);
-    pthread_join(thread, NULL);
     if (pattern == TURNS) printf("%.0f %.0f\n", median(post_times, posts), median(drain_times, drains));
     if (pattern == FULL) printf("%.0f\n", median(drain_times, drains));
     return 0;
 }
+
+/* --- Names between two threads --- */
+
+static _Alignas(128) atomic_uint line;
+
+static void put_one(struct lane *lane, const struct tlsf_name *name) {
+    while (tlsf_put(&lane->post, name)) {}
+}
+
+static void take_one(struct lane *lane, struct tlsf_name *name) {
+    while (tlsf_take(&lane->take, name)) {}
+}
+
+/* What the first thread does, or the second. By itself the first does both. */
+static void send(char between, unsigned second) {
+    struct lane *const there = &lanes[0], *const back = between == 'e' ? &lanes[1] : there;
+    struct tlsf_name name = {0, 4, 1};
+    for (unsigned turn = 0; turn < NAMES; turn += between == 'e' || between == 'l' ? 2 : 1) {
+        if (between == 'l') {
+            while (atomic_load_explicit(&line, memory_order_acquire) != turn + second) {}
+            atomic_store_explicit(&line, turn + second + 1, memory_order_release);
+        } else if (second) {
+            if (between == 'e') take_one(there, &name);
+            put_one(back, &name);
+        } else {
+            if (between != 's') put_one(there, &name);
+            take_one(back, &name);
+        }
+    }
+}
+
+static void *answer(void *given) {
+    send(*(const char *)given, 1);
+    return NULL;
+}
+
+static int time_names(char *between) {
+    pthread_t thread;
+    if (!strchr("asel", *between)) return 2;
+    for (int k = 0; k < 2; k++)
+        if (tlsf_lane_open(&lanes[k].post, &lanes[k].take, CAPACITY)) return 1;
+    const double start = nanoseconds();
+    if (*between != 'a' && pthread_create(&thread, NULL, answer, between)) return 1;
+    send(*between, 0);
+    if (*between != 'a') pthread_join(thread, NULL);
+    printf("%.1f\n", (nanoseconds() - start) / NAMES);
+    return 0;
+}
+
+int main(int argc, char **argv) { return argc == 2 ? time_names(argv[1]) : argc == 4 || argc == 5 ? time_frees(argv) : 2; }

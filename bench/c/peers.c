@@ -1,11 +1,12 @@
 /* Counts, times and fills heaps of the C library, and others beside them. bench/peers builds and runs it.
  *
  * PEERS WAY COLUMN, where COLUMN is level4, level5, system (calloc, free, realloc and memcpy of what is loaded) or, with -DAUTHORS, authors
- * (TLSF 2.4 of its authors). Payload is made zero in each. A call that is refused ends the program with status 1. WAY is one of these:
+ * (TLSF 2.4 of its authors). Payload is made zero in each but malloc and free, which are by pointer here too. A call that is refused ends
+ * the program with status 1. WAY is one of these:
  *   calls   prints 'CALL, REQUESTS: MEAN WORST' in instructions: the processor traps behind each. What is counted begins with the first
  *           instruction of the function that a program calls, and ends with its return; what fills and copies payload is part of it.
  *   holes   prints 'worst call, N holes: WORST' so, where blocks are made and released beside N holes in which none fits.
- *   time    prints 'time, REQUESTS: NANOSECONDS' of an allocate and a release, of a resize, and of a write or a read.
+ *   time    prints 'time, REQUESTS: NANOSECONDS' of an allocate and a release, of a malloc and a free, and of a resize.
  *   full    prints 'full, REQUESTS: FRESH AGED', the bytes asked for in thousandths of 8 MiB: at the first refusal, and in the mean where
  *           100,000 blocks have come and gone before. Of the system it is so much resident memory, and its peak while blocks come and go. */
 #define _GNU_SOURCE
@@ -23,6 +24,7 @@
 size_t init_memory_pool(size_t bytes, void *pool);
 /* Inline calls of tlsf.h have these names too. */
 void *authors_calloc(size_t count, size_t bytes) __asm__("tlsf_calloc");
+void *authors_malloc(size_t bytes) __asm__("tlsf_malloc");
 void authors_free(void *block) __asm__("tlsf_free");
 void *authors_realloc(void *block, size_t bytes) __asm__("tlsf_realloc");
 #endif
@@ -66,12 +68,23 @@ struct block {
 };
 static struct tlsf_heap heap;
 static struct tally allocates, releases, resizes;
+static enum { FILLED, BY_POINTER, RESIZED } kind;
+
+/* Not by their own names, which TLSF 2.4 of its authors has too. */
+static void *pointer_of(uint32_t len) { return tlsf_malloc(&heap, len); }
+static int free_pointer(void *at) { return (int)tlsf_free(&heap, at); }
 
 /* Says whether there was room. */
 static int gives(struct block *block, uint32_t len, int counts) {
     struct tally *tally = counts ? &allocates : NULL;
     block->len = len;
-    if (column == SYSTEM) block->at = call(tally, (uintptr_t)calloc, 1, len, 0, 0, 0);
+    if (kind == BY_POINTER) {
+        uintptr_t function = column == SYSTEM ? (uintptr_t)malloc : (uintptr_t)pointer_of;
+#ifdef AUTHORS
+        if (column == AUTHORS_OWN) function = (uintptr_t)authors_malloc;
+#endif
+        block->at = call(tally, function, len, 0, 0, 0, 0);
+    } else if (column == SYSTEM) block->at = call(tally, (uintptr_t)calloc, 1, len, 0, 0, 0);
 #ifdef AUTHORS
     else if (column == AUTHORS_OWN) block->at = call(tally, (uintptr_t)authors_calloc, 1, len, 0, 0, 0);
 #endif
@@ -87,6 +100,7 @@ static void release(struct block *block, int counts) {
 #ifdef AUTHORS
     else if (column == AUTHORS_OWN) call(tally, (uintptr_t)authors_free, block->at, 0, 0, 0, 0);
 #endif
+    else if (kind == BY_POINTER) ends_if((int)call(tally, (uintptr_t)free_pointer, block->at, 0, 0, 0, 0), "free");
     else ends_if((int)call(tally, (uintptr_t)tlsf_release, (uintptr_t)&heap, (uintptr_t)&block->name, 0, 0, 0), "release");
 }
 
@@ -116,27 +130,28 @@ static double nanoseconds(void) {
 }
 
 static void print_both(const char *requests) {
-    print("allocate", requests, &allocates);
-    print("release", requests, &releases);
+    print(kind == BY_POINTER ? "malloc" : "allocate", requests, &allocates);
+    print(kind == BY_POINTER ? "free" : "release", requests, &releases);
     print("resize", requests, &resizes);
     allocates = releases = resizes = (struct tally){0, 0, 0};
 }
 
 /* Keeps so many blocks live, and puts another in the place of one of them, or resizes one, again and again, WARM times before any counts. */
-static void replace(const char *requests, int live, uint32_t least, uint32_t most, int rounds, int resizes_them) {
+static void replace(const char *requests, int live, uint32_t least, uint32_t most, int rounds) {
+    static const char *const calls[] = {"", "by pointer, ", "resize, "};
     double since = 0;
     if (!is_stepped) rounds *= 100;
     for (int i = 0; i < live; i++) allocate(&blocks[i], between(least, most), 0);
     for (int i = -WARM; i < rounds; i++) {
         struct block *block = &blocks[between(0, (uint32_t)live - 1)];
         if (!i) since = nanoseconds();
-        if (resizes_them) resize(block, between(least, most), i >= 0);
+        if (kind == RESIZED) resize(block, between(least, most), i >= 0);
         else {
             release(block, i >= 0);
             allocate(block, between(least, most), i >= 0);
         }
     }
-    if (!is_stepped) printf("time, %s%s: %.1f\n", resizes_them ? "resize, " : "", requests, (nanoseconds() - since) / rounds);
+    if (!is_stepped) printf("time, %s%s: %.1f\n", calls[kind], requests, (nanoseconds() - since) / rounds);
     for (int i = 0; i < live; i++) release(&blocks[i], 0);
     print_both(requests);
 }
@@ -153,20 +168,8 @@ static void pass_holes(int holes) {
 }
 
 static _Alignas(64) uint8_t plain[2 * 4096], bytes[4096];
-static void *(*volatile copy)(void *, const void *, size_t) = memcpy; /* a call for each, as of the others */
 
-/* Writes or reads n bytes of a payload again and again or, of the system, copies such bytes. */
-static void time_moves(const char *call, const char *requests, const struct tlsf_name *name, uint32_t at, uintptr_t n) {
-    const int writes = call[0] == 'w', rounds = (1 << 26) / (int)(n + 64);
-    const double since = nanoseconds();
-    for (int i = 0; i < rounds; i++) {
-        if (column == SYSTEM) copy(writes ? plain + at : bytes, writes ? bytes : plain + at, n);
-        else ends_if((int)(writes ? tlsf_write(&heap, name, at, bytes, n) : tlsf_read(&heap, name, at, bytes, n)), call);
-    }
-    printf("time, %s, %s: %.1f\n", call, requests, (nanoseconds() - since) / rounds);
-}
-
-/* Counts or times writes and reads of a payload or, of the system, memcpy to and from such bytes. */
+/* Counts writes and reads of a payload or, of the system, memcpy to and from such bytes. */
 static void move(uint32_t at, uintptr_t n) {
     struct tally writes = {0, 0, 0}, reads = {0, 0, 0};
     char requests[64];
@@ -175,10 +178,7 @@ static void move(uint32_t at, uintptr_t n) {
     else snprintf(requests, sizeof requests, "%lu,%03lu bytes at %u", n / 1000, n % 1000, at);
     if (column != SYSTEM) allocate(&block, sizeof plain, 0);
     const uintptr_t name = (uintptr_t)&block.name;
-    if (!is_stepped) {
-        time_moves("write", requests, &block.name, at, n);
-        time_moves("read", requests, &block.name, at, n);
-    } else if (column == SYSTEM) {
+    if (column == SYSTEM) {
         call(&writes, (uintptr_t)memcpy, (uintptr_t)(plain + at), (uintptr_t)bytes, n, 0, 0);
         call(&reads, (uintptr_t)memcpy, (uintptr_t)bytes, (uintptr_t)(plain + at), n, 0, 0);
     } else {
@@ -259,12 +259,13 @@ static void fill_apart(const char *requests, uint32_t most) {
 }
 
 static void run_all(void) {
-    replace("64 bytes in pairs", 1, 64, 64, ROUNDS, 0);
-    replace("8 bytes, 1,000 live", LIVE, 8, 8, ROUNDS, 0);
-    replace("8..512 bytes, 1,000 live", LIVE, 8, 512, ROUNDS, 0);
-    replace("8..512 bytes, 10,000 live", 10 * LIVE, 8, 512, ROUNDS, 0);
-    replace("8..65,536 bytes, 100 live", 100, 8, 65536, ROUNDS / 4, 0); /* most of what is counted there fills payload */
-    replace("8..512 bytes, 1,000 live", LIVE, 8, 512, ROUNDS, 1);
+    replace("64 bytes in pairs", 1, 64, 64, ROUNDS);
+    replace("8 bytes, 1,000 live", LIVE, 8, 8, ROUNDS);
+    replace("8..512 bytes, 1,000 live", LIVE, 8, 512, ROUNDS);
+    replace("8..512 bytes, 10,000 live", 10 * LIVE, 8, 512, ROUNDS);
+    replace("8..65,536 bytes, 100 live", 100, 8, 65536, ROUNDS / 4); /* most of what is counted there fills payload */
+    for (kind = BY_POINTER; kind <= RESIZED; kind++) replace("8..512 bytes, 1,000 live", LIVE, 8, 512, ROUNDS);
+    kind = FILLED;
 }
 
 int main(int argc, char **argv) {
@@ -273,7 +274,7 @@ int main(int argc, char **argv) {
     open_all(argc == 3 ? argv[2] : "");
     if (way[0] == 'c' || way[0] == 't') {
         run_all();
-        for (uint32_t at = 0; at <= 3 && column != AUTHORS_OWN; at += 3)
+        for (uint32_t at = 0; at <= 3 && is_stepped && column != AUTHORS_OWN; at += 3)
             for (uintptr_t n = 8; n <= 4096; n *= 8) move(at, n);
     } else if (way[0] == 'h') {
         for (int holes = 100; holes <= MOST_HOLES; holes *= 10) {

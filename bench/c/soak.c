@@ -1,11 +1,12 @@
 /* Eight workers in threads, for as long as is asked for, each with a heap of the C library, and lanes to each other. bench/soak builds
  * and runs it.
  *
- * SOAK SECONDS EVERY SIZES [WRONG]: for so many seconds, with a line on standard output every EVERY seconds, and requests of the lengths
- * that the file SIZES lists, one a line. A worker allocates, releases, resizes, lends blocks to the others, and posts theirs back. It keeps a
- * plain table of its blocks and a pattern in each; each EVERY seconds all of the table is compared with the heap. Single calls are counted
- * by instruction, but for those of memset and memcpy: the jump there counts one. With WRONG the program makes one fault of its own, which it has to notice:
- * 1 a byte, 2 a length, 3 a released block. The first thing that is wrong ends it with status 1. */
+ * SOAK WAY SECONDS EVERY SIZES [WRONG]: for so many seconds, with a line on standard output every EVERY seconds, and requests of the lengths
+ * that the file SIZES lists, one a line. A worker allocates, releases, resizes, lends blocks to the others, and posts theirs back: where WAY
+ * is lanes over a lane for each two, where it is queues over one queue of each owner. It keeps a plain table of its blocks and a pattern in
+ * each; each EVERY seconds all of the table is compared with the heap. Single calls are counted by instruction, but for those of memset and
+ * memcpy: the jump there counts one. With WRONG the program makes one fault of its own, which it has to notice: 1 a byte, 2 a length, 3 a
+ * released block. The first thing that is wrong ends it with status 1. */
 #define _GNU_SOURCE
 #include "stepped.h"
 #include "tlsf.h"
@@ -34,6 +35,12 @@ struct lane {
     _Alignas(128) struct tlsf_post_end post;
     _Alignas(128) struct tlsf_take_end take;
 };
+struct inbox {
+    _Alignas(128) struct tlsf_queue owner;
+    struct {
+        _Alignas(128) struct tlsf_poster end;
+    } from[WORKERS];
+};
 struct worker {
     struct tlsf_heap heap;
     struct entry table[WORDS];
@@ -47,6 +54,8 @@ enum call { ALLOCATE, RELEASE, RESIZE };
 
 static struct worker workers[WORKERS];
 static struct lane lent[WORKERS][WORKERS], back[WORKERS][WORKERS]; /* from, to */
+static struct inbox inboxes[WORKERS];
+static bool over_queues;
 static uint32_t sizes[MOST_SIZES], size_count;
 static atomic_int asked, collected, ended, settled;
 static int wrong;
@@ -158,6 +167,18 @@ static void resize(struct worker *own) {
     fill(own, &name, kept);
 }
 
+/* Posts another's block back to its owner. A queue may be busy, and then the name stays held as where it is full. */
+static uint32_t post_back(struct worker *own, const struct tlsf_name *name) {
+    const uint32_t answer = over_queues ? tlsf_queue_post(&inboxes[name->heap].from[own->number].end, name)
+                                        : tlsf_put(&back[own->number][name->heap].post, name);
+    must(own, answer == TLSF_OK || answer == TLSF_FULL || (over_queues && answer == TLSF_BUSY), "a post answers what it may not");
+    return answer;
+}
+
+static uint32_t take_back(struct worker *own, uint32_t other, struct tlsf_name *name) {
+    return over_queues ? tlsf_queue_take(&inboxes[own->number].owner, name) : tlsf_take(&back[other][own->number].take, name);
+}
+
 /* Lends a block to another worker, or posts one of another's back. */
 static void pass_on(struct worker *own) {
     const uint32_t other = below(own, WORKERS);
@@ -168,10 +189,9 @@ static void pass_on(struct worker *own) {
     if (!own->held_count) return;
     const uint32_t at = below(own, own->held_count);
     const struct tlsf_name name = own->held[at];
-    if (tlsf_put(&back[own->number][name.heap].post, &name)) {
-        own->figures.full++;
-        return;
-    }
+    const uint32_t answer = post_back(own, &name);
+    own->figures.full += answer == TLSF_FULL;
+    if (answer) return;
     own->figures.posts++;
     own->held[at] = own->held[--own->held_count];
 }
@@ -182,7 +202,7 @@ static void take_all(struct worker *own) {
     for (uint32_t other = 0; other < WORKERS; other++) {
         if (other == own->number) continue;
         while (own->held_count < MOST_HELD && !tlsf_take(&lent[other][own->number].take, &name)) own->held[own->held_count++] = name;
-        while (!tlsf_take(&back[other][own->number].take, &name)) {
+        while (!take_back(own, other, &name)) {
             must(own, name.heap == own->number && name.at < WORDS && own->table[name.at].is_lent &&
                           own->table[name.at].serial == name.serial, "a name comes back that wasn't lent");
             release(own, &name);
@@ -267,8 +287,7 @@ static void settle(struct worker *own) {
     bool is_settled = false;
     while (atomic_load(&settled) < WORKERS || !is_settled) {
         take_all(own);
-        while (own->held_count && !tlsf_put(&back[own->number][own->held[own->held_count - 1].heap].post, &own->held[own->held_count - 1]))
-            own->held_count--;
+        while (own->held_count && !post_back(own, &own->held[own->held_count - 1])) own->held_count--;
         for (uint32_t i = own->live_count; i-- > 0;) {
             const struct tlsf_name name = name_of(own, own->live[i]);
             if (!own->table[name.at].is_lent) release(own, &name);
@@ -341,10 +360,11 @@ static void open_all(const char *path) {
     for (uint32_t i = 0; is_open && i < WORKERS; i++) {
         workers[i].number = i;
         workers[i].random = 2463534242u + i * 7919;
-        is_open = !tlsf_open(&workers[i].heap, 4 + i % 2, i, WORDS);
+        is_open = !tlsf_open(&workers[i].heap, 4 + i % 2, i, WORDS) && !tlsf_queue_open(&inboxes[i].owner, WORKERS, CAPACITY);
         for (uint32_t k = 0; is_open && k < WORKERS; k++)
-            is_open = i == k || (!tlsf_lane_open(&lent[i][k].post, &lent[i][k].take, CAPACITY) &&
-                                 !tlsf_lane_open(&back[i][k].post, &back[i][k].take, CAPACITY));
+            is_open = !tlsf_poster_open(&inboxes[i].owner, &inboxes[i].from[k].end) &&
+                      (i == k || (!tlsf_lane_open(&lent[i][k].post, &lent[i][k].take, CAPACITY) &&
+                                  !tlsf_lane_open(&back[i][k].post, &back[i][k].take, CAPACITY)));
     }
     if (is_open && size_count) return;
     fprintf(stderr, "soak: no sizes, no memory, or no trap behind each instruction\n");
@@ -353,10 +373,11 @@ static void open_all(const char *path) {
 
 int main(int argc, char **argv) {
     pthread_t threads[WORKERS];
-    if (argc < 4) return 2;
-    const double lasts = atof(argv[1]), every = atof(argv[2]);
-    open_all(argv[3]);
-    wrong = argc > 4 ? atoi(argv[4]) : 0;
+    if (argc < 5) return 2;
+    const double lasts = atof(argv[2]), every = atof(argv[3]);
+    over_queues = *argv[1] == 'q';
+    open_all(argv[4]);
+    wrong = argc > 5 ? atoi(argv[5]) : 0;
     const double start = seconds();
     for (int k = 0; k < WORKERS; k++)
         if (pthread_create(&threads[k], NULL, work, &workers[k])) return 1;

@@ -1,4 +1,4 @@
-/* -O2 -fPIC: f: a bound */
+/* -O2 -fPIC: f: no bound: a jump whose targets are not found */
 /* A switch that compilers make a table of. */
 int f(int a, int b) {
     switch (a) {

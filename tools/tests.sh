@@ -1,0 +1,56 @@
+# Sourced first by tests of C's library, with their words and $top, the repository: their help, a folder $work that is
+# removed, and the count of what holds.
+
+name_of_test=${0##*/}
+case ${1-} in
+-h | --help)
+    sed -n '2,/^[^#]/s/^# \{0,1\}//p' "$0"
+    exit 0
+    ;;
+esac
+stop() {
+    echo "$name_of_test: $*; tools/$name_of_test --help says more" >&2
+    exit 2
+}
+command -v cc > /dev/null || stop "cc is wanted, and isn't on the path"
+. "$top/tools/library.sh"
+work=$(mktemp -d) || exit 2
+trap 'rm -rf "$work"' EXIT
+trap 'exit 130' INT
+trap 'exit 143' TERM HUP
+right=0 wrong=0
+# With these a program's own calls of the C library for memory are told.
+wraps=-Wl,--wrap=malloc,--wrap=free,--wrap=tlsf_memory_alloc
+
+# holds WHAT COMMAND..: the command ends well; else what it said is shown.
+holds() {
+    said=$1
+    shift
+    if "$@" > "$work/out" 2>&1 < /dev/null; then
+        right=$((right + 1))
+    else
+        wrong=$((wrong + 1))
+        tail -n 12 "$work/out" >&2
+        echo "$name_of_test: wrong: $said" >&2
+    fi
+}
+
+# notices COMMAND..: the command ends badly.
+notices() {
+    ! "$@"
+}
+
+# has WHAT TOOL..: whether these are there; else a line says what isn't tried.
+has() {
+    tried=$1
+    shift
+    for tool; do
+        command -v "$tool" > /dev/null || { echo "$name_of_test: $tool isn't there, so $tried isn't tried" >&2; return 1; }
+    done
+}
+
+# Tells how much holds, as a status too.
+conclude() {
+    echo "$name_of_test: $right right, $wrong wrong"
+    [ "$wrong" -eq 0 ]
+}
