@@ -59,13 +59,13 @@ pub classes : (sli : ℕ) (kinds : List Kind) → AllByRecursion (IsServable sli
 classes sli [] all = tt
 classes sli (k ∷ kinds) all = (all.0.2, classes sli kinds all.1)
 
-same : (a : ℕ) → a ≤ a
+pub same : (a : ℕ) → a ≤ a
 same a = omega arith
 
-moved : (a b : ℕ) → a * (8 * b) ≡ 8 * (a * b)
+pub moved : (a b : ℕ) → a * (8 * b) ≡ 8 * (a * b)
 moved a b = omega arith
 
-products : (a b c d : ℕ) → a ≤ b → c ≤ d → a * c ≤ b * d
+pub products : (a b c d : ℕ) → a ≤ b → c ≤ d → a * c ≤ b * d
 products a b c d f g = mul-le-mul f g
 
 -- the bytes of one kind fit into the words of its blocks
@@ -80,7 +80,7 @@ table_fits : (kinds : List Kind) → asked_bytes kinds ≤ 8 * table_words kinds
 table_fits [] = omega arith
 table_fits (k ∷ kinds) = omega (arith, bytes_fit k, table_fits kinds)
 
-max_least : (a : ℕ) (xs : List ℕ) → a ≤ fold max a xs
+pub max_least : (a : ℕ) (xs : List ℕ) → a ≤ fold max a xs
 max_least a [] = omega arith
 max_least a (x ∷ xs) = omega (arith, max_least (max a x) xs)
 

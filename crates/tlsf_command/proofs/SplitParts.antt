@@ -1,13 +1,22 @@
 -- The heaps of a split, one after the other.
-use Rattle.std.proofs.Common.{◌≡◌, ◌≤◌, ◌<◌, ◌+◌, ◌-◌, ◌*◌, ◌^◌, ℕ, zero, suc, List, [], ◌∷◌, ◌++◌, length, get_or, take, drop, min, refl, sym, ap, ap₂, ◌∙◌, subst, inl, inr, arith, append_assoc, append-nil, length-take, take-append-drop, drop_of_length-le, take_all}
+use Rattle.std.proofs.Common.{◌≡◌, ◌≤◌, ◌<◌, ◌+◌, ◌-◌, ◌*◌, ◌^◌, ℕ, zero, suc, Bool, cond, fold, map, max, List, [], ◌∷◌, ◌++◌, length, get_or, take, drop, min, refl, sym, ap, ap₂, ◌∙◌, subst, inl, inr, arith, append_assoc, append-nil, length-take, take-append-drop, drop_of_length-le, take_all}
 use Rattle.std.specs.List.{AllByRecursion}
 use Rattle.std.proofs.lemmas.Bool.{cases_lt}
 use Rattle.tlsf_class.proofs.TwoLevels.{most_words_any}
 use Rattle.tlsf_pool.specs.declared.kind.Kind.{Kind}
 use Rattle.tlsf_pool.specs.sizes.Splits.{cut_by, joined, parts_of, words_together, IsCut, IsPart}
 use Rattle.tlsf_pool.specs.declared.sizes.split.Split.{Split}
-use Rattle.tlsf_command.specs.SizeLines.{asked_bytes, heap_line, heap_lines, AreReached, IsCheapest, IsServable}
-use Rattle.tlsf_command.proofs.SizeTables.{few_bytes}
+use Rattle.tlsf_command.specs.SizeLines.{asked_bytes, heap_line, heap_lines, IsCheapest, IsServable}
+use Rattle.tlsf_command.proofs.SizeTables.{max_least, moved, products, same}
+use Rattle.tlsf_class.specs.Classes.{IsLevel, most_words}
+use Rattle.tlsf_heap.specs.Blocks.{want}
+use Rattle.tlsf_pool.specs.laws.Kinds.{count_in, used, HasClass}
+use Rattle.tlsf_pool.specs.laws.OneLarge as pool
+use Rattle.tlsf_pool.specs.laws.Room.{sure}
+use Rattle.tlsf_pool.proofs.lemmas.laws.FreeRoom.{sure_enough}
+use Rattle.tlsf_pool.proofs.lemmas.laws.Tables.{all_used}
+use Rattle.tlsf_pool.proofs.lemmas.sizes.Sizes.{longest_class}
+use Rattle.std.proofs.lemmas.Bool.{lt-ltb}
 
 -- ---- what they ask for
 
@@ -23,22 +32,41 @@ behind_servable : (sli : ℕ) (part rest : List Kind) → AllByRecursion (IsServ
 behind_servable sli [] rest all = all
 behind_servable sli (k ∷ part) rest all = behind_servable sli part rest all.1
 
--- the table of a heap is reached
-pub part_reached : (sli : ℕ) (part : List Kind) → AllByRecursion (IsServable sli) part → IsPart sli part → AreReached sli part
-part_reached sli part all is = (all, is.1.1)
+-- a table asks for no more bytes than as many blocks of the longest
+asked_most : (longest : ℕ) (kinds : List Kind) → AllByRecursion (λ kind. kind.len ≤ longest) kinds → asked_bytes kinds ≤ count_in kinds * longest
+asked_most longest [] all = omega arith
+asked_most longest (k ∷ kinds) all = let own = products k.most k.most k.len longest (same k.most) all.0 in omega (arith, own, asked_most longest kinds all.1)
+
+none_longer : (best longest : ℕ) (kinds : List Kind) → fold max best (map (λ kind. kind.len) kinds) ≤ longest → AllByRecursion (λ kind. kind.len ≤ longest) kinds
+none_longer best longest [] few = tt
+none_longer best longest (k ∷ kinds) few = (omega (arith, max_least (max best k.len) (map (λ kind. kind.len) kinds), few), none_longer (max best k.len) longest kinds few)
+
+all_held : (sli : ℕ) (kinds : List Kind) → AllByRecursion (IsServable sli) kinds → used kinds ≡ kinds
+all_held sli [] all = refl
+all_held sli (k ∷ kinds) all = ap (λ (c : Bool). cond c (k ∷ used kinds) (used kinds)) (lt-ltb 0 k.most all.0.0) ∙ ap (λ (ks : List Kind). k ∷ ks) (all_held sli kinds all.1)
+
+-- the table of a heap asks for few bytes
+pub few_bytes : (sli : ℕ) → IsLevel sli → (part : List Kind) → AllByRecursion (IsServable sli) part → IsPart sli part → asked_bytes part ≤ 2 ^ 32
+few_bytes sli level part all is =
+    let longest : ℕ = pool.longest_of (used part) in
+    let asked = asked_most longest part (subst (AllByRecursion (λ kind. kind.len ≤ longest)) (all_held sli part all) (none_longer 0 longest (used part) (same longest))) in
+    let class : want longest ≤ most_words sli = longest_class sli level (used part) (all_used (HasClass sli) part is.1.0) in
+    let short : longest ≤ 8 * sure sli (want longest) = omega (arith, sure_enough sli level (want longest) class) in
+    let more = products (count_in part) (count_in part) longest (8 * sure sli (want longest)) (same (count_in part)) short in
+    omega (arith, asked, more, moved (count_in part) (sure sli (want longest)), is.1.1, most_words_any sli)
 
 -- those of all heaps ask for few bytes
-few_together : (sli : ℕ) (parts : List (List Kind)) → AllByRecursion (IsServable sli) (joined parts) → AllByRecursion (IsPart sli) parts
+few_together : (sli : ℕ) → IsLevel sli → (parts : List (List Kind)) → AllByRecursion (IsServable sli) (joined parts) → AllByRecursion (IsPart sli) parts
     → asked_bytes (joined parts) ≤ 2 ^ 32 * length parts
-few_together sli [] all are = omega arith
-few_together sli (part ∷ parts) all are =
-    let first = few_bytes sli part (part_reached sli part (front_servable sli part (joined parts) all) are.0) in
-    omega (arith, first, asked_append part (joined parts), few_together sli parts (behind_servable sli part (joined parts) all) are.1)
+few_together sli level [] all are = omega arith
+few_together sli level (part ∷ parts) all are =
+    let first = few_bytes sli level part (front_servable sli part (joined parts) all) are.0 in
+    omega (arith, first, asked_append part (joined parts), few_together sli level parts (behind_servable sli part (joined parts) all) are.1)
 
-pub split_bytes : (sli : ℕ) (kinds : List Kind) (split : Split) → IsCheapest sli kinds split → asked_bytes kinds ≤ 2 ^ 35
-split_bytes sli kinds split cheapest =
+pub split_bytes : (sli : ℕ) → IsLevel sli → (kinds : List Kind) (split : Split) → IsCheapest sli kinds split → asked_bytes kinds ≤ 2 ^ 35
+split_bytes sli level kinds split cheapest =
     let cut = cheapest.least.cut in
-    let together = few_together sli (parts_of split kinds) (subst (AllByRecursion (IsServable sli)) (sym cut.0) cheapest.servable) cut.1 in
+    let together = few_together sli level (parts_of split kinds) (subst (AllByRecursion (IsServable sli)) (sym cut.0) cheapest.servable) cut.1 in
     omega (arith, together, ap asked_bytes cut.0, cheapest.least.sought)
 
 -- and have few words

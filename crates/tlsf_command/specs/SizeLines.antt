@@ -4,6 +4,7 @@ use Rattle.std.specs.List.{AllByRecursion}
 use Rattle.std.specs.Fmt.{decimal}
 use Rattle.tlsf_class.specs.Classes.{most_words}
 use Rattle.tlsf_heap.specs.Blocks.{want}
+use Rattle.tlsf_pool.specs.laws.FixedSize.{fixed_kinds_words}
 use Rattle.tlsf_pool.specs.laws.Kinds.{kinds_words, HasClass}
 use Rattle.tlsf_pool.specs.laws.Pools.{pool_words}
 use Rattle.tlsf_pool.specs.declared.kind.Kind.{Kind}
@@ -64,19 +65,19 @@ words_line words asked = words_text words (hundredths (8 * words) asked) ++ code
 abbrev pub size_line : ℕ → List Kind → List ℕ
 size_line sli kinds = words_line (kinds_words sli kinds) (asked_bytes kinds)
 
--- the line on a heap of a split: its number, its kinds by their places in the table, from 1 on, the bytes of the longest, and its region, as
--- `heap 0 kinds 1 to 2 up to 512 bytes words 13631 bytes 109048 ratio 2.13`
+-- the line on a heap of a split, a pool: its number, its kinds by their places in the table, from 1 on, the bytes of the longest, and its
+-- region, as `heap 0 kinds 1 to 2 up to 512 bytes words 6800 bytes 54400 ratio 1.06`
 abbrev pub heap_line : ℕ → (heap before : ℕ) → List Kind → List ℕ
 heap_line sli heap before part =
     codes "heap " ++ (decimal heap ++ (codes " kinds " ++ (decimal (before + 1) ++ (codes " to " ++ (decimal (before + length part)
-    ++ (codes " up to " ++ (counted (longest_of part) (codes "byte") ++ (codes " " ++ size_line sli part))))))))
+    ++ (codes " up to " ++ (counted (longest_of part) (codes "byte") ++ (codes " " ++ words_line (fixed_kinds_words sli part) (asked_bytes part)))))))))
 
 -- those on the heaps of these tables, from a number and a place on
 abbrev pub heap_lines : ℕ → (heap before : ℕ) → List (List Kind) → List ℕ
 heap_lines sli heap before [] = []
 heap_lines sli heap before (part ∷ parts) = heap_line sli heap before part ++ heap_lines sli (heap + 1) (before + length part) parts
 
--- the lines on a table that is split into these: one for each heap, and `heaps 2 words 56691 bytes 453528 ratio 2.34` for all
+-- the lines on a table that is split into these: one for each heap, and `heaps 2 words 30704 bytes 245632 ratio 1.27` for all
 abbrev pub split_lines : ℕ → List (List Kind) → List Kind → List ℕ
 split_lines sli parts kinds =
     heap_lines sli 0 0 parts ++ (codes "heaps " ++ (decimal (length parts) ++ (codes " " ++ words_line (words_together sli parts) (asked_bytes kinds))))

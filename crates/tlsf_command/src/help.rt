@@ -296,15 +296,16 @@ where at level 4 it is
 
   words 15920 bytes 127360 ratio 2.12
 
-With --split the kinds are given to several heaps, 8 at most, in their order, so
-that all take the fewest words; the law holds for each heap and its own kinds.
-For '--blocks 2000 --bytes 64 --blocks 1 --bytes 65536 --split', for which one
-heap is too small, there is a line for each heap and one for all. A block goes
-to the first heap for blocks of its length:
+With --split the kinds are given to several pools, 8 at most, in their order, so
+that all take the fewest words. A pool gives each block the words of its longest
+kind, and so needs about half as many as a heap. For '--blocks 2000 --bytes 64
+--blocks 1 --bytes 65536 --split', for which one heap is too small, there is a
+line for each pool's heap and one for all. A block goes to the first heap for
+blocks of its length:
 
-  heap 0 kinds 1 to 1 up to 64 bytes words 47987 bytes 383896 ratio 3.00
+  heap 0 kinds 1 to 1 up to 64 bytes words 22000 bytes 176000 ratio 1.38
   heap 1 kinds 2 to 2 up to 65536 bytes words 8704 bytes 69632 ratio 1.06
-  heaps 2 words 56691 bytes 453528 ratio 2.34
+  heaps 2 words 30704 bytes 245632 ratio 1.27
 
 Not promised: an allocate or a free is refused as Worn (2) once the ticks of the
 heap have ended, and a request above these bounds may find room or not. Each

@@ -15,7 +15,7 @@ use arrayvec::ArrayString;
 use std::fmt;
 use std::fmt::Write as _;
 use std::io::Write;
-use tlsf_pool::{Kind, MOST_HEAPS, Split, cheapest_split, kinds_words};
+use tlsf_pool::{Kind, MOST_HEAPS, Split, cheapest_split, fixed_kinds_words};
 use tlsf_trace::{WriteError, write_out};
 
 const NO_SPLIT: &str =
@@ -24,11 +24,11 @@ const NO_SPLIT: &str =
 // Lines for eight heaps and for all, of 112 bytes each at most.
 type Lines = ArrayString<1024>;
 
-/// The cheapest way to give the kinds of a table, 64 at most, to at most eight heaps of the level. None where there is none,
+/// The cheapest way to give the kinds of a table, 64 at most, to at most eight pools of the level. None where there is none,
 /// or where a kind has no block or no byte.
 ///
 /// ```
-/// // of 2,000 blocks of 64 bytes and one of 65,536: two heaps, of 56,691 words
+/// // of 2,000 blocks of 64 bytes and one of 65,536: two heaps, of 30,704 words
 /// let split = split_of::<4>(&kinds);
 /// ```
 pub fn split_of<const SLI: u32>(kinds: &[Kind]) -> Option<Split>
@@ -71,7 +71,7 @@ fn add_heap_line<const SLI: u32>(
     let first = before + 1;
     let last = before + part.len();
     let longest = Counted::new(longest_of(part) as usize, "byte");
-    let sized = RegionSize::new(kinds_words::<SLI>(part) as u32, asked_bytes(part));
+    let sized = RegionSize::new(fixed_kinds_words::<SLI>(part) as u32, asked_bytes(part));
     writeln!(
         lines,
         "heap {heap} kinds {first} to {last} up to {longest} {sized}"
@@ -124,7 +124,7 @@ fn lines_of<const SLI: u32>(kinds: &[Kind], split: &Split) -> Result<Lines, fmt:
 ///
 /// ```
 /// write_split_lines::<4, _>(&kinds, &split, &mut writer)?;
-/// // writer holds "heap 0 kinds 1 to 1 up to 64 bytes words 47987 bytes 383896 ratio 3.00\n" more, and two lines behind it
+/// // writer holds "heap 0 kinds 1 to 1 up to 64 bytes words 22000 bytes 176000 ratio 1.38\n" more, and two lines behind it
 /// ```
 pub fn write_split_lines<const SLI: u32, W: Write>(
     kinds: &[Kind],

@@ -8,7 +8,7 @@ use tlsf_picture::Form;
 pub enum TraceRun {
     /// `tlsf replay`: write its replies and a report on each heap.
     Replay,
-    /// `tlsf replay --held`: write what each worker asks of its heap, and the words of a pool for that.
+    /// `tlsf replay --held`: write what each worker asks of its heap, and the words that the law asks for that.
     Held,
     /// `tlsf replay --held --kinds`, or `tlsf replay --kinds`: write the kinds of blocks that each worker holds, as options of `tlsf size`.
     HeldKinds,

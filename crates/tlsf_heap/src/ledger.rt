@@ -1,6 +1,6 @@
 ghost use Rattle.std.specs.Prelude.{◌≡◌, ℕ, ◌+◌, ◌≤◌, ◌⊎◌, List, Result, Ok, Err, length, IfOk, IfErr, OnOk, OnErr, MatchResult};
-ghost use Rattle.tlsf_heap.specs.Blocks.{HeapState};
-ghost use Rattle.tlsf_heap.specs.Calls.{allocated, released, written, last_tick};
+ghost use Rattle.tlsf_heap.specs.Blocks.{HeapState, want};
+ghost use Rattle.tlsf_heap.specs.Calls.{allocated_words, released, written, last_tick};
 ghost use Rattle.tlsf_heap.specs.Footprint.{LeavesLive};
 ghost use Rattle.tlsf_heap.specs.InPlace.{payload_of};
 ghost use Rattle.tlsf_heap.specs.Named.{IsNamed, RefusesName};
@@ -39,6 +39,9 @@ pub trait Ledger<const SLI: u32>: Sized {
     // Such a request is passed on to the heap.
     ghost admits: { Self → ℕ → Type 0 };
 
+    // How many words it takes of a heap of that level, the three of the header with them.
+    ghost takes: { ℕ → Self → ℕ → ℕ };
+
     // This was found out for it.
     ghost places: { Self → ℕ → Self.Place → Type 0 };
 
@@ -68,21 +71,28 @@ pub trait Ledger<const SLI: u32>: Sized {
         ensures places { IfOk result (places self.now len) }
         ensures refuses { IfErr result (λ why. ¬ (admits self.now len) × ((r : Result Name Refusal) → answered self.now len r ≡ Err why)) };
 
+    /// How many words a request takes, no fewer than its bytes want.
+    fn words(&self, len: u32) -> u32
+        requires admits { admits self.now len }
+        requires heap { (h : HeapState) × holds SLI h self.now }
+        ensures takes { result ≡ takes SLI self.now len }
+        ensures enough { want len ≤ result };
+
     /// What a refusal of the heap becomes.
     fn refused(&self, len: u32, why: Refusal) -> Self::Why
         requires admits { admits self.now len }
-        requires heap { (sli : ℕ) × (h : HeapState) × holds sli h self.now × ((allocated sli h len).answer ≡ Err why) }
+        requires heap { (sli : ℕ) × (h : HeapState) × holds sli h self.now × ((allocated_words sli h (takes sli self.now len) len).answer ≡ Err why) }
         ensures { answered self.now len (Err why) ≡ Err result };
 
     /// Notes a grant.
     fn give(&mut self, len: u32, place: Self::Place)
         requires admits { admits self.old len }
         requires places { places self.old len place }
-        requires heap { (sli : ℕ) × (h : HeapState) × (name : Name) × holds sli h self.old × (h.tick ≤ last_tick) × ((allocated sli h len).answer ≡ Ok name) }
+        requires heap { (sli : ℕ) × (h : HeapState) × (name : Name) × holds sli h self.old × (h.tick ≤ last_tick) × ((allocated_words sli h (takes sli self.old len) len).answer ≡ Ok name) }
         ensures given { given self.old len self.new }
         ensures limits { same_limits self.old self.new }
         ensures answer { (name : Name) → answered self.old len (Ok name) ≡ Ok name }
-        ensures holds { (sli : ℕ) (h : HeapState) (name : Name) → holds sli h self.old → Ok name ≡ (allocated sli h len).answer → holds sli (allocated sli h len).heap self.new };
+        ensures holds { (sli : ℕ) (h : HeapState) (name : Name) → holds sli h self.old → Ok name ≡ (allocated_words sli h (takes sli self.old len) len).answer → holds sli (allocated_words sli h (takes sli self.old len) len).heap self.new };
 
     /// Looks at the block of a name, as far as a return of it has to be noted by more than its number.
     fn look(heap: &mut Heap<SLI>, name: Name) -> Result<Self::Seen, Refusal>
@@ -106,7 +116,7 @@ pub trait Ledger<const SLI: u32>: Sized {
     /// Says what these definitions come to. It does nothing.
     fn laws()
         // What the answers to requests tell, and what a report tells.
-        ensures tells { (sli : ℕ) (h : HeapState) (ledger : Self) (len : ℕ) → holds sli h ledger → tells sli h ledger len (answered ledger len (allocated sli h len).answer) }
+        ensures tells { (sli : ℕ) (h : HeapState) (ledger : Self) (len : ℕ) → holds sli h ledger → tells sli h ledger len (answered ledger len (allocated_words sli h (takes sli ledger len) len).answer) }
         ensures reports { (sli : ℕ) (h : HeapState) (ledger : Self) → holds sli h ledger → IsGrant sli h.blocks (report_of sli h).grant → reports ledger (report_of sli h) }
 
         // A refusal leaves the limits.

@@ -2,8 +2,8 @@ ghost use Rattle.tlsf_held.specs.Measures.{HeldKindsSuffice, HeldWordsSuffice};
 
 /// A worker whose heap has the words that its line names was never refused for want of room in that trace.
 ///
-/// So a trace leads to a pool: where its line names more words than its heaps have, write these into its header and measure it
-/// again. Once no line names more words than the header, no `a` line is answered NoFit, by the law of pools
+/// So a trace leads to heaps that never lack room: where its line names more words than they have, write these into its header and
+/// measure it again. Once no line names more words than the header, no `a` line is answered NoFit, by the law of sizes
 /// (`tlsf_yard_laws::yard_never_refuses`), nor is one of any run whose calls keep within the same numbers.
 ///
 /// ```text

@@ -1,4 +1,4 @@
-//! What a recorded trace asks of its heaps, so that it leads to a pool.
+//! What a recorded trace asks of its heaps, so that it leads to a heap that never lacks room.
 //!
 //! [`measure_trace`] reads a trace, runs it to its end as a replay does, and writes one line for each worker: the most blocks of its heap
 //! that were held at once, the longest request, and the words of the region in which such calls are never refused for want of

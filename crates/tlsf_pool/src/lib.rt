@@ -3,22 +3,22 @@
 //! # Heaps
 //!
 //! Who opens a [`Pool`] writes two numbers: how many blocks are held at once, at most, and how many bytes a request has, at
-//! most. The pool takes a region of just so many words as [`pool_never_refuses`] asks for. An allocate then gives a block whenever
-//! fewer are held, the request is no longer, and the tick isn't at its last value. No other refusal is left: `NoFit` is no answer
-//! that it has.
+//! most. Each block takes the words of the longest request, and the region has just so many as [`fixed_size_suffices`] asks for. An
+//! allocate then gives a block whenever fewer are held, the request is no longer, and the tick isn't at its last value. No other
+//! refusal is left: `NoFit` is no answer that it has.
 //!
 //! ```text
-//! let mut pool = Pool::<4>::open(alloc, 0, 100, 512, 0)?;    // 100 blocks of up to 512 bytes: 13,631 words
+//! let mut pool = Pool::<4>::open(alloc, 0, 100, 512, 0)?;    // 100 blocks of up to 512 bytes: 6,800 words
 //! let name = pool.allocate(512)?;
 //! ```
 //!
 //! A [`TablePool`] has a table of kinds: of each kind of request how many blocks are held at once, at most, and how many bytes
-//! such a request has, at most. Its heap takes just so many words as [`kinds_suffice`] asks for. A block counts for the first
-//! row of the table that is long enough for it.
+//! such a request has, at most. Each block takes the words of the longest kind of which one may be held, and its heap has just so many
+//! as [`fixed_size_suffices`] asks for. A block counts for the first row of the table that is long enough for it.
 //!
 //! ```text
 //! let kinds = [Kind { most: 100, len: 64 }, Kind { most: 4, len: 4096 }];
-//! let mut pool = TablePool::<4>::open(alloc, 0, &kinds, 0)?;        // 59,427 words
+//! let mut pool = TablePool::<4>::open(alloc, 0, &kinds, 0)?;        // 56,576 words
 //! let name = pool.allocate(4096)?;
 //! ```
 //!
@@ -26,10 +26,10 @@
 //!
 //! # Sizes
 //!
-//! [`kinds_words`] tells how many words a heap needs for several kinds of request, [`cheapest_split`] how these are given to several heaps
-//! by the fewest words, [`one_large_words`] how many are enough for one large block beside small ones, [`pool_region`] the words of the
-//! region for one kind, [`fixed_region`] those for blocks of a fixed size, [`most_blocks`] and [`longest_request`] how far the greatest
-//! region goes.
+//! Of a pool, [`fixed_region`] tells the words for one kind, [`fixed_kinds_words`] those for several, and [`cheapest_split`] how these
+//! are given to several heaps by the fewest words. Of a heap whose blocks have the words of their own requests, [`pool_region`] tells
+//! the words for one kind, [`kinds_words`] those for several, [`one_large_words`] how many are enough for one large block beside small
+//! ones, [`most_blocks`] and [`longest_request`] how far the greatest region goes.
 //!
 //! # Laws
 //!
@@ -70,7 +70,7 @@ pub use pools::one::{One, Pool, PoolCalls};
 pub use pools::pool_refusal::PoolRefusal;
 pub use pools::pools::Pools;
 pub use pools::table::{Table, TablePool, TablePoolCalls};
-pub use sizes::fixed_size::fixed_region;
+pub use sizes::fixed_size::{fixed_kinds_words, fixed_region};
 pub use sizes::greatest::{longest_request, most_blocks};
 pub use sizes::one_large::one_large_words;
 pub use sizes::region::pool_region;

@@ -15,7 +15,7 @@ ghost use Rattle.tlsf_yard_laws.specs.Sharing.{SharedPoolServes};
 ///
 /// ```text
 /// two workers, lanes of 8 posts, at most 100 blocks of worker 0 held, of up to 512 bytes:
-/// the words of a pool of 108 blocks, 14,727
+/// the words for 108 blocks, 14,727
 /// ```
 pub fn lanes_add_their_capacity()
     ensures { (sli : ℕ) → IsLevel sli → SharedPoolServes sli }
@@ -53,7 +53,7 @@ pub fn race_adds_its_lanes()
 ///
 /// ```text
 /// eight workers, queues of 8 posts, at most 100 blocks of worker 0 held, of up to 512 bytes:
-/// the words of a pool of 108 blocks, 14,727; over lanes of 8 posts those of 156, 21,303
+/// the words for 108 blocks, 14,727; over lanes of 8 posts those of 156, 21,303
 /// ```
 pub fn race_adds_its_queue()
     ensures served { (sli : ℕ) → IsLevel sli → RaceSharedPoolServes sli OverQueues }

@@ -93,7 +93,7 @@ fn only_a_voice_too_many_is_refused(rt: HostRuntime) -> Result<(), Error> {
          60 sounds, force 90, at word 0\n\
          67 sounds, force 85, at word 18\n\
          48 sounds, force 70, at word 9\n\
-         3 of 3 voices, 22 words free\n"
+         3 of 3 voices, 0 words free\n"
     );
     Ok(())
 }

@@ -1,5 +1,6 @@
 ghost use Rattle.std.specs.Prelude.{◌≡◌, ◌+◌, ◌≤◌, ◌↔◌, IfOk, OnErr, IsErrOf, ⊤};
 ghost use Rattle.tlsf_class.specs.Classes.{IsLevel};
+ghost use Rattle.tlsf_heap.specs.Blocks;
 ghost use Rattle.tlsf_heap.specs.Calls.{opened, resized, last_tick};
 ghost use Rattle.tlsf_heap.specs.Footprint.{LeavesLive, LeavesPayloads};
 ghost use Rattle.tlsf_heap.specs.Given.{payload_words_left};
@@ -8,7 +9,7 @@ ghost use Rattle.tlsf_heap.specs.Touched.{FollowsNoForgery, resize_touches};
 ghost use Rattle.tlsf_heap.specs.ledger.Grants.{AreCounts, IsCounted, TellsFit};
 ghost use Rattle.tlsf_heap.specs.ledger.Ledgers.{KeepsLedger, SameLedger};
 
-use crate::heap::Heap;
+use crate::heap::{Heap, want};
 use crate::ledger::Ledger;
 use crate::ledger::ledgered::Ledgered;
 use crate::name::Name;
@@ -47,6 +48,8 @@ impl<const SLI: u32> Ledger<SLI> for Counts {
 
     ghost admits = { λ c len. ⊤ };
 
+    ghost takes = { λ sli c len. Blocks.want len };
+
     ghost places = { λ c len place. ⊤ };
 
     ghost tells = { λ sli h c len answer. TellsFit sli h len answer };
@@ -65,6 +68,10 @@ impl<const SLI: u32> Ledger<SLI> for Counts {
 
     fn admit(&self, _len: u32) -> Result<(), Refusal> {
         Ok(())
+    }
+
+    fn words(&self, len: u32) -> u32 {
+        want(len)
     }
 
     fn refused(&self, _len: u32, why: Refusal) -> Refusal {

@@ -1,14 +1,14 @@
 ghost use Rattle.std.specs.Fn.{FnOnceTakesAt, FnOnceTakesAtMut};
 ghost use Rattle.std.specs.Prelude.{◌≡◌, ℕ, List, ◌+◌, ◌*◌, ◌/◌, ◌≤◌, ◌↔◌, length, IfOk, IsTrue, OnOk, OnErr};
 ghost use Rattle.std.specs.Result.{result_unwrap_or};
-ghost use Rattle.tlsf_heap.specs.Calls.{allocated, released, written, read_of, read_answer};
+ghost use Rattle.tlsf_heap.specs.Calls.{allocated_words, released, written, read_of, read_answer};
 ghost use Rattle.tlsf_heap.specs.Footprint.{LeavesLive, LeavesPayloads};
 ghost use Rattle.tlsf_heap.specs.Given.{payload_words_given};
 ghost use Rattle.tlsf_heap.specs.InPlace.{ArePayload, Alters, Inspects, IsRefusedAsRead, payload_of};
 ghost use Rattle.tlsf_heap.specs.Laws.{IsLive};
 ghost use Rattle.tlsf_heap.specs.Placed.{placed_at};
 ghost use Rattle.tlsf_heap.specs.Reports.{report_of, IsGrant};
-ghost use Rattle.tlsf_heap.specs.Touched.{FollowsNoForgery, FollowsNoPlace, allocate_touches, release_touches};
+ghost use Rattle.tlsf_heap.specs.Touched.{FollowsNoForgery, FollowsNoPlace, allocate_touches, allocate_words_touches, release_touches};
 ghost use Rattle.tlsf_heap.specs.ledger.Ledgers.{IsLedgered, KeepsLedger, SameLedger};
 
 use crate::heap::Heap;
@@ -71,9 +71,9 @@ impl<const SLI: u32, L: Ledger<SLI>> Ledgered<SLI, L> {
 
     /// Gives a block that holds `len` bytes of payload, all zero, by good fit (ECRTS 2004, sections 3 and 4), and notes it.
     ///
-    /// Refused by the ledger, if that admits no such request; then as `Heap::allocate` refuses: `NoFit` where no free block lies in a
-    /// class at or above the search class of the words wanted, else `Worn` where the tick is at its last value. Nothing is noted
-    /// then. Takes no memory.
+    /// Refused by the ledger, if that admits no such request; then as `Heap::allocate_words` refuses: `NoFit` where no free block lies in
+    /// a class at or above the search class of the words that the ledger has it take, else `Worn` where the tick is at its last value.
+    /// Nothing is noted then. Takes no memory.
     ///
     /// ```
     /// let mut heap = Ledgered::<4, Counts>::open(alloc, 0, 4, 0)?; // a heap of 4 words, the least
@@ -81,8 +81,8 @@ impl<const SLI: u32, L: Ledger<SLI>> Ledgered<SLI, L> {
     /// assert_eq!(heap.allocate(0), Err(Refusal::NoFit)); // nothing is free: counted as no grant
     /// ```
     pub fn allocate(&mut self, len: u32) -> Result<Name, L::Why>
-        ensures answer { result ≡ L.answered self.old.ledger len (allocated SLI self.old.heap len).answer }
-        ensures heap { L.admits self.old.ledger len → self.new.heap ≡ (allocated SLI self.old.heap len).heap }
+        ensures answer { result ≡ L.answered self.old.ledger len (allocated_words SLI self.old.heap (L.takes SLI self.old.ledger len) len).answer }
+        ensures heap { L.admits self.old.ledger len → self.new.heap ≡ (allocated_words SLI self.old.heap (L.takes SLI self.old.ledger len) len).heap }
 
         // What that comes to: when each refusal comes, and when it is a name.
         ensures tells { L.tells SLI self.old.heap self.old.ledger len result }
@@ -95,13 +95,17 @@ impl<const SLI: u32, L: Ledger<SLI>> Ledgered<SLI, L> {
         // Accepted or refused, and whatever the region holds: at most 64 touches, and one for each payload word of the block given.
         ensures touches { self.new.touches ≤ self.old.touches + 64 + payload_words_given result self.new.heap }
         ensures most_touches { self.new.touches ≤ self.old.touches + allocate_touches result self.new.heap }
+
+        // And however many words the ledger has it take: of the payload words only those of the payload, and three.
+        ensures words_touches { self.new.touches ≤ self.old.touches + allocate_words_touches len }
     {
         L::laws();
         let place = match self.ledger.admit(len) {
             Ok(place) => place,
             Err(why) => return Err(why),
         };
-        let name = match self.heap.allocate(len) {
+        let words = self.ledger.words(len);
+        let name = match self.heap.allocate_words(words, len) {
             Ok(name) => name,
             Err(why) => return Err(self.ledger.refused(len, why)),
         };

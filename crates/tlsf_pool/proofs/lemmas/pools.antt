@@ -1,6 +1,7 @@
 -- Lemmas on pools, a line a file.
 --   Answering: what the clauses of a table's calls say
 --   Counts: how many lengths count for each row of a table
+--   Given: the block that a pool gave has just the words of each
 --   Heaps: several heaps stay heaps for the parts of a table
 --   Opened: new heaps for the parts of a table
 --   PoolKept: a pool stays one through its calls
@@ -11,6 +12,7 @@
 --   WholeTable: the rows of the whole table, and the part that has each
 pub mod Answering
 pub mod Counts
+pub mod Given
 pub mod Heaps
 pub mod Opened
 pub mod PoolKept

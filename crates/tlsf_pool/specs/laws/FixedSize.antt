@@ -85,6 +85,14 @@ run_fixed sli s h (call ∷ calls) = let step = answered_fixed sli s h call in l
 abbrev pub fixed_words : ℕ → ℕ → ℕ → ℕ
 fixed_words sli most len = max 4 (most * sure sli (want len))
 
+-- the words of each block where a table has several kinds: those of the longest of which one is held
+abbrev pub fixed_size : ℕ → List Kind → ℕ
+fixed_size sli kinds = sure sli (want (longest_of (used kinds)))
+
+-- and of a region with room for as many such blocks as the table has
+abbrev pub fixed_kinds_words : ℕ → List Kind → ℕ
+fixed_kinds_words sli kinds = fixed_words sli (count_in kinds) (longest_of (used kinds))
+
 -- a program that never holds more than `most` blocks, of at most `len` bytes each, is never answered NoFit in a region of fixed_words
 abbrev pub FixedSizeSuffices : ℕ → Type 0
 FixedSizeSuffices sli = (id words first most len : ℕ) (calls : List Call) → IsRegion sli words → want len ≤ most_words sli → fixed_words sli most len ≤ words
@@ -126,7 +134,7 @@ FewerThanAPool sli = (most len : ℕ) → want len ≤ most_words sli → fixed_
 
 -- nor, for as many blocks as a table has, of the longest kind, than those of the table
 abbrev pub FewerThanATable : ℕ → Type 0
-FewerThanATable sli = (kinds : List Kind) → AllByRecursion (HasClass sli) kinds → fixed_words sli (count_in kinds) (longest_of (used kinds)) ≤ kinds_words sli kinds
+FewerThanATable sli = (kinds : List Kind) → AllByRecursion (HasClass sli) kinds → fixed_kinds_words sli kinds ≤ kinds_words sli kinds
 
 -- at level 4, 6,800 words are room for 100 blocks of up to 512 bytes
 abbrev pub HundredOfFixedSize : Type 0

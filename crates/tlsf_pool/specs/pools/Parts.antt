@@ -3,8 +3,7 @@ use denote.RawPtr.{null_ptr}
 use Rattle.std.specs.Prelude.{◌≡◌, ℕ, ◌+◌, ◌-◌, ◌*◌, ◌/◌, ◌<◌, ◌≤◌, ◌↔◌, Bool, List, [], ◌∷◌, ◌++◌, Option, Some, None, Result, Ok, IfOk, OnErr, OnOk, is_some, IsTrue, length, nat_le, nat_lt, position, replicate, set, slice_index_or, sum, take, ⊤, ◌&&◌, if◌then◌else◌}
 use Rattle.std.specs.List.{AllByRecursion}
 use Rattle.std.specs.Result.{result_unwrap_or}
-use Rattle.tlsf_heap.specs.Blocks.{want}
-use Rattle.tlsf_heap.specs.Calls.{allocated, opened, read_answer, read_of, released, written}
+use Rattle.tlsf_heap.specs.Calls.{opened, read_answer, read_of, released, written}
 use Rattle.tlsf_heap.specs.Footprint.{LeavesLive, LeavesPayloads}
 use Rattle.tlsf_heap.specs.Given.{payload_words_given}
 use Rattle.tlsf_heap.specs.InPlace.{payload_of}
@@ -12,16 +11,16 @@ use Rattle.tlsf_heap.specs.Laws.{IsLive}
 use Rattle.tlsf_heap.specs.Placed.{placed_at}
 use Rattle.tlsf_heap.specs.Reports.{report_of}
 use Rattle.tlsf_heap.specs.Memory.{Extent}
-use Rattle.tlsf_heap.specs.Touched.{FollowsNoForgery, FollowsNoPlace, allocate_touches}
+use Rattle.tlsf_heap.specs.Touched.{FollowsNoForgery, FollowsNoPlace, allocate_words_touches}
 use Rattle.tlsf_heap.specs.declared.name.Name.{Name}
 use Rattle.tlsf_heap.specs.declared.placed_block.PlacedBlock.{PlacedBlock}
 use Rattle.tlsf_heap.specs.declared.refusal.Refusal.{Refusal}
 use Rattle.tlsf_heap.specs.declared.report.Report.{Report}
 use Rattle.tlsf_heap.specs.ledger.Ledgers.{SameLedger}
-use Rattle.tlsf_pool.specs.laws.Kinds.{kinds_words}
+use Rattle.tlsf_pool.specs.laws.FixedSize.{fixed_kinds_words, fixed_size}
 use Rattle.tlsf_pool.specs.declared.kind.Kind.{Kind}
 use Rattle.tlsf_pool.specs.declared.pools.pool_refusal.PoolRefusal.{PoolRefusal}
-use Rattle.tlsf_pool.specs.pools.Tables.{TableState, CountsOneMore, IsTabled, HasPlace, row_of}
+use Rattle.tlsf_pool.specs.pools.Tables.{TableState, CountsOneMore, IsTabled, HasPlace, row_of, table_allocated}
 
 -- what several heaps show: the number of the first, and each with its part of the table
 pub record PoolsState : Type 0 where
@@ -86,7 +85,7 @@ pub record ArePools (sli : ℕ) (p : PoolsState) : Type 0 where
 
 -- a new heap of that number for a table: nothing is held
 pub record IsNew (sli id first : ℕ) (table : List Kind) (t : TableState) : Type 0 where
-  pub heap : t.heap ≡ opened id (kinds_words sli table) first
+  pub heap : t.heap ≡ opened id (fixed_kinds_words sli table) first
   pub kinds : t.ledger.kinds ≡ table
   pub held : t.ledger.held ≡ replicate (length table) 0
 
@@ -103,15 +102,15 @@ pub record OnlyPart (old new : PoolsState) (i : ℕ) : Type 0 where
   pub parts : new.parts ≡ set old.parts i (part_at new i)
 
 -- an allocate in a heap for a table: an accepted one is the heap's, with one block more held of its row, and a refused one changes nothing;
--- with the most touches, and no more payload words than the request wants
+-- with the most touches by the request's length, and a block of no more words than each is to have
 pub record Allocates (sli : ℕ) (old new : TableState) (len : ℕ) (answer : Result Name PoolRefusal) : Type 0 where
-  pub answer_is : IfOk answer (λ name. (allocated sli old.heap len).answer ≡ Ok name)
-  pub heap : OnOk answer (new.heap ≡ (allocated sli old.heap len).heap)
+  pub answer_is : IfOk answer (λ name. (table_allocated sli old.heap old.ledger len).answer ≡ Ok name)
+  pub heap : OnOk answer (new.heap ≡ (table_allocated sli old.heap old.ledger len).heap)
   pub counts : OnOk answer (CountsOneMore len old.ledger new.ledger)
   pub err : OnErr answer (SameLedger old new)
   pub kinds : new.ledger.kinds ≡ old.ledger.kinds
-  pub touches : new.touches ≤ old.touches + allocate_touches answer new.heap
-  pub given : payload_words_given answer new.heap ≤ want len
+  pub touches : new.touches ≤ old.touches + allocate_words_touches len
+  pub given : payload_words_given answer new.heap ≤ fixed_size sli old.ledger.kinds - 3
   pub rise : old.touches ≤ new.touches
   pub leaves : LeavesLive old.heap.blocks old.touched new.touched
 

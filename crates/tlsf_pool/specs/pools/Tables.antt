@@ -1,9 +1,9 @@
--- A heap for a table of kinds: for which kind a block counts, and how many are held of each.
-use Rattle.std.specs.Prelude.{◌≡◌, ◌≢◌, ℕ, ◌+◌, ◌<◌, ◌≤◌, ◌↔◌, List, [], ◌∷◌, Option, Some, None, Result, Ok, Err, IfOk, IsOk, IsErrOf, IsSomeAnd, IsTrue, length, map, filter, position, slice_index, slice_index_or, set, sum, nat_le, nat_lt, if◌then◌else◌}
+-- A heap for a table of kinds: for which kind a block counts, and how many are held of each. All blocks have the same words.
+use Rattle.std.specs.Prelude.{◌≡◌, ◌≢◌, ℕ, ◌+◌, ◌-◌, ◌<◌, ◌≤◌, ◌↔◌, List, [], ◌∷◌, Option, Some, None, Result, Ok, Err, IfOk, IsOk, IsErrOf, IsSomeAnd, length, map, filter, position, slice_index, slice_index_or, set, sum, nat_le, nat_lt, if◌then◌else◌}
 use Rattle.std.specs.List.{AllByRecursion}
 use Rattle.tlsf_class.specs.Classes.{IsLevel}
-use Rattle.tlsf_heap.specs.Blocks.{Block, HeapState, bytes_of, want}
-use Rattle.tlsf_heap.specs.Calls.{allocated, last_tick}
+use Rattle.tlsf_heap.specs.Blocks.{Block, HeapState, bytes_of}
+use Rattle.tlsf_heap.specs.Calls.{Outcome, allocated_words, last_tick}
 use Rattle.tlsf_heap.specs.Given.{payload_words_given}
 use Rattle.tlsf_heap.specs.Lawful.{IsLawful}
 use Rattle.tlsf_heap.specs.Reports.{live_among}
@@ -15,9 +15,8 @@ use Rattle.tlsf_heap.specs.ledger.Ledgers.{LedgerState, IsLedgered}
 use Rattle.tlsf_pool.specs.declared.kind.Kind.{Kind}
 use Rattle.tlsf_pool.specs.declared.pools.pool_refusal.PoolRefusal.{PoolRefusal}
 use Rattle.tlsf_pool.specs.declared.pools.pool_refusal.PoolRefusal.TheVariants.{TooLong, Full}
-use Rattle.tlsf_pool.specs.laws.Kinds.{kinds_words, are_fours, AreOfKinds, HasClass}
-use Rattle.tlsf_pool.specs.laws.Pools.{BeginAtFours, IsSmall}
-use Rattle.tlsf_pool.specs.laws.Room.{IsSnug}
+use Rattle.tlsf_pool.specs.laws.FixedSize.{HasFixedSize, fixed_kinds_words, fixed_size}
+use Rattle.tlsf_pool.specs.laws.Kinds.{AreOfKinds, HasClass}
 use Rattle.tlsf_pool.specs.pools.Bounds.{or_worn}
 
 -- the bytes of each live block
@@ -46,22 +45,17 @@ pub record TableRows : Type 0 where
 abbrev pub TableState : Type 0
 TableState = LedgerState TableRows
 
--- no block has more than seven words, and each begins at a multiple of four
-abbrev pub AreFours : List Block → Type 0
-AreFours blocks = AllByRecursion (IsSmall 7) blocks × BeginAtFours 0 blocks
-
 -- the heap has a level, is lawful and has the words of the table. Its live blocks fit the table, and so many count for each row as are held.
--- None has four words more than it wants; where the table wants four words for each, all begin at multiples of four
+-- All have the words from which every free block serves the longest kind of which one is held
 pub record IsTable (sli : ℕ) (h : HeapState) (t : TableRows) : Type 0 where
   pub level : IsLevel sli
   pub lawful : IsLawful h
-  pub words : h.words ≡ kinds_words sli t.kinds
+  pub words : h.words ≡ fixed_kinds_words sli t.kinds
   pub classes : AllByRecursion (HasClass sli) t.kinds
   pub few : length t.kinds ≤ 64
   pub held : t.held ≡ held_of t.kinds (lengths_in h.blocks)
   pub fit : AreOfKinds t.kinds (lengths_in h.blocks)
-  pub snug : AllByRecursion IsSnug h.blocks
-  pub fours : IsTrue (are_fours t.kinds) → AreFours h.blocks
+  pub fixed : HasFixedSize (fixed_size sli t.kinds) h
 
 -- so it is of a heap with its ledger
 abbrev pub IsTabled : ℕ → TableState → Type 0
@@ -87,16 +81,20 @@ answered_in t answer (Some row) = if nat_lt (slice_index t.held row) (most_at t.
 abbrev pub answered_by_table : TableRows → ℕ → Result Name Refusal → Result Name PoolRefusal
 answered_by_table t len answer = answered_in t answer (row_of t.kinds len)
 
--- a request is given whenever its row has a place, while the tick isn't at its last value: the law lets a program make just such requests.
--- The refusals in their order: there is none for want of room. The block has no more payload words than the request wants
+-- a request of so many bytes: it takes the words of each block, whatever its length
+abbrev pub table_allocated : ℕ → HeapState → TableRows → ℕ → Outcome Name
+table_allocated sli h t len = allocated_words sli h (fixed_size sli t.kinds) len
+
+-- a request is given whenever its row has a place, while the tick isn't at its last value: the blocks held then fit the table with it.
+-- The refusals in their order: there is none for want of room. The block has no more words than each is to have
 pub record TellsTable (sli : ℕ) (h : HeapState) (t : TableRows) (len : ℕ) (answer : Result Name PoolRefusal) : Type 0 where
   pub ok : IsOk answer ↔ (HasPlace t len × ¬ (h.tick ≡ last_tick))
   pub planned : HasPlace t len ↔ AreOfKinds t.kinds (len ∷ lengths_in h.blocks)
   pub too_long : IsErrOf answer TooLong ↔ (row_of t.kinds len ≡ None)
   pub full : IsErrOf answer Full ↔ IsFull t len
-  pub room : HasPlace t len → (allocated sli h len).answer ≢ Err NoFit
-  pub given : payload_words_given answer (allocated sli h len).heap ≤ want len
-  pub name : IfOk answer (λ name. (allocated sli h len).answer ≡ Ok name)
+  pub room : HasPlace t len → (table_allocated sli h t len).answer ≢ Err NoFit
+  pub given : payload_words_given answer (table_allocated sli h t len).heap ≤ fixed_size sli t.kinds - 3
+  pub name : IfOk answer (λ name. (table_allocated sli h t len).answer ≡ Ok name)
 
 -- as many blocks are live as are held of all rows, and no request that has a place is longer than the grant
 pub record ReportsTable (t : TableRows) (report : Report) : Type 0 where

@@ -1,14 +1,15 @@
--- Ways to cut a table of kinds, in its order, into the tables of several heaps.
+-- Ways to cut a table of kinds, in its order, into the tables of several heaps, each of blocks of a fixed size.
 use Rattle.std.specs.Prelude.{◌≡◌, ℕ, zero, suc, ◌+◌, ◌<◌, ◌≤◌, List, [], ◌∷◌, ◌++◌, length, take, drop, get_or}
 use Rattle.std.specs.List.{AllByRecursion}
 use Rattle.tlsf_class.specs.Classes.{most_words}
-use Rattle.tlsf_pool.specs.laws.Kinds.{kinds_words, HasClass}
+use Rattle.tlsf_pool.specs.laws.FixedSize.{fixed_kinds_words}
+use Rattle.tlsf_pool.specs.laws.Kinds.{HasClass}
 use Rattle.tlsf_pool.specs.declared.kind.Kind.{Kind}
 use Rattle.tlsf_pool.specs.declared.sizes.split.Split.{Split}
 
--- a region has the words that the law asks for these kinds
+-- a region has the words that blocks of a fixed size ask for these kinds
 abbrev pub HasWords : ℕ → List Kind → Type 0
-HasWords sli kinds = AllByRecursion (HasClass sli) kinds × (kinds_words sli kinds ≤ most_words sli)
+HasWords sli kinds = AllByRecursion (HasClass sli) kinds × (fixed_kinds_words sli kinds ≤ most_words sli)
 
 -- a heap has these kinds: one or more, and a region has their words
 abbrev pub IsPart : ℕ → List Kind → Type 0
@@ -26,7 +27,7 @@ IsCut sli kinds parts = (joined parts ≡ kinds) × AllByRecursion (IsPart sli) 
 -- the words of the heaps of all parts
 abbrev pub words_together : ℕ → List (List Kind) → ℕ
 words_together sli [] = 0
-words_together sli (part ∷ parts) = kinds_words sli part + words_together sli parts
+words_together sli (part ∷ parts) = fixed_kinds_words sli part + words_together sli parts
 
 -- the parts that these numbers cut off, the last of so many first
 abbrev pub cut_by : ℕ → List ℕ → List Kind → List (List Kind)

@@ -2,34 +2,42 @@ ghost use Rattle.std.specs.Prelude.{◌≡◌, ◌+◌, ◌-◌, ◌<◌, ◌≤
 ghost use Rattle.tlsf_class.specs.Classes.{IsLevel};
 ghost use Rattle.tlsf_heap.specs.Calls.{opened, last_tick};
 ghost use Rattle.tlsf_heap.specs.ledger.Ledgers.{IsLedgered, LedgerState};
-ghost use Rattle.tlsf_pool.specs.laws.Pools.{HasRegion, pool_words};
+ghost use Rattle.tlsf_heap.specs.Blocks;
+ghost use Rattle.tlsf_pool.specs.laws.FixedSize.{HasFixedRegion, fixed_words};
+ghost use Rattle.tlsf_pool.specs.laws.Room;
 ghost use Rattle.tlsf_pool.specs.pools.Bounds.{Bounds, IsPool, ReportsBounds, SameBounds, TellsBounds, answered_within};
 
-use crate::kind::Kind;
 use crate::pools::pool_refusal::PoolRefusal;
-use crate::sizes::sizing::{kinds_words, most_bytes};
+use crate::sizes::fixed_size::fixed_region;
+use crate::sizes::sizing::sure;
 use std::alloc::Global;
 use std::marker::Model;
-use tlsf_class::most_words;
-use tlsf_heap::{Heap, Ledger, Ledgered, Name, OpenFault, Refusal};
+use tlsf_heap::{Heap, Ledger, Ledgered, Name, OpenFault, Refusal, want};
 
-/// The ledger of a [`Pool`]: how many blocks may be held at once, how many bytes a request may have, and how many blocks are held.
+/// The ledger of a [`Pool`]: how many blocks may be held at once, how many bytes a request may have, how many words each block takes, and
+/// how many are held.
 #[derive(Drop)]
-pub struct One {
+pub struct One<const SLI: u32> {
     most: u32,
     longest: u32,
+    size: u32,
     held: u32,
 }
 
-impl Model for One {
+impl<const SLI: u32> Model for One<SLI> {
+    ghost use Rattle.std.specs.Prelude.{◌≡◌};
+    ghost use Rattle.tlsf_heap.specs.Blocks.{want};
+    ghost use Rattle.tlsf_pool.specs.laws.Room.{sure};
     ghost use Rattle.tlsf_pool.specs.pools.Bounds.{Bounds};
 
     ghost Value = { Bounds };
 
     ghost view = { λ p. record { most = p.most; longest = p.longest; held = p.held } };
+
+    ghost invariant = { λ p. p.size ≡ sure SLI (want p.longest) };
 }
 
-impl<const SLI: u32> Ledger<SLI> for One {
+impl<const SLI: u32> Ledger<SLI> for One<SLI> {
     type Why = PoolRefusal;
 
     type Place = ();
@@ -41,6 +49,8 @@ impl<const SLI: u32> Ledger<SLI> for One {
     ghost answered = { λ p len answer. answered_within p len answer };
 
     ghost admits = { λ p len. (len ≤ p.longest) × (p.held < p.most) };
+
+    ghost takes = { λ sli p len. Room.sure sli (Blocks.want p.longest) };
 
     ghost places = { λ p len place. ⊤ };
 
@@ -66,6 +76,11 @@ impl<const SLI: u32> Ledger<SLI> for One {
             return Err(PoolRefusal::Full);
         }
         Ok(())
+    }
+
+    // As many as the longest: so each free block but the last serves, and none is lost between live ones.
+    fn words(&self, _len: u32) -> u32 {
+        self.size
     }
 
     // Room there is, so the tick is at its last value.
@@ -94,8 +109,9 @@ impl<const SLI: u32> Ledger<SLI> for One {
 /// ([`PoolCalls::open`]). Its level is that of its heap, 4 or 5.
 ///
 /// An allocate is given whenever its request is at most the longest, fewer blocks are held than may be, and the tick isn't at its
-/// last value. Else it is refused as `TooLong`, `Full` or `Worn`, in this order.
-pub type Pool<const SLI: u32> = Ledgered<SLI, One>;
+/// last value. Else it is refused as `TooLong`, `Full` or `Worn`, in this order. Each block takes the words of the longest request,
+/// whatever its own length.
+pub type Pool<const SLI: u32> = Ledgered<SLI, One<SLI>>;
 
 /// The calls that a [`Pool`] has beside those of each [`Ledgered`].
 pub trait PoolCalls<const SLI: u32>: Sized {
@@ -103,23 +119,23 @@ pub trait PoolCalls<const SLI: u32>: Sized {
     ghost shown: { Self → LedgerState Bounds };
 
     /// Opens a pool of number `id` for at most `most` blocks at once, of at most `longest` bytes each. Its region has
-    /// `pool_words most longest` words, and it is one free block, stamped with the tick `first`.
+    /// `fixed_words most longest` words, and it is one free block, stamped with the tick `first`.
     ///
     /// Refused as `BadSize` where no region has so many words (4 to 2^20, or to 2^24 at level 5), else as `Worn` where `first` is the
     /// last tick, 2^64 - 1, else as `NoMemory` where the memory was not granted. No later call takes memory.
     ///
     /// ```text
-    /// let pool = Pool::<4>::open(alloc, 0, 100, 512, 0)?;                 // 13,631 words
+    /// let pool = Pool::<4>::open(alloc, 0, 100, 512, 0)?;                 // 6,800 words
     /// Pool::<4>::open(alloc, 0, 100_000, 512, 0).err() == Some(OpenFault::BadSize)
     /// ```
     fn open(alloc: Global, id: u32, most: u32, longest: u32, first: u64) -> Result<Self, OpenFault>
         requires { IsLevel SLI }
-        ensures heap { IfOk result (λ pool. (shown pool).heap ≡ opened id (pool_words SLI most longest) first) }
+        ensures heap { IfOk result (λ pool. (shown pool).heap ≡ opened id (fixed_words SLI most longest) first) }
         ensures ledger { IfOk result (λ pool. (shown pool).ledger ≡ record { most = most; longest = longest; held = 0 }) }
 
         // The refusals, in their order. Memory is refused only where no other refusal comes.
-        ensures bad_size { IsErrOf result OpenFault.BadSize ↔ ¬ (HasRegion SLI most longest) }
-        ensures worn { HasRegion SLI most longest → (IsErrOf result OpenFault.Worn ↔ (first ≡ last_tick)) }
+        ensures bad_size { IsErrOf result OpenFault.BadSize ↔ ¬ (HasFixedRegion SLI most longest) }
+        ensures worn { HasFixedRegion SLI most longest → (IsErrOf result OpenFault.Worn ↔ (first ≡ last_tick)) }
         ensures touches { IfOk result (λ pool. (shown pool).touches ≤ 10) };
 
     /// How many blocks are held: the accepted allocates less the accepted releases.
@@ -146,19 +162,16 @@ impl<const SLI: u32> PoolCalls<SLI> for Pool<SLI> {
         longest: u32,
         first: u64,
     ) -> Result<Self, OpenFault> {
-        if longest > most_bytes::<SLI>() {
+        let Some(words) = fixed_region::<SLI>(most, longest) else {
             return Err(OpenFault::BadSize);
-        }
-        let words = kinds_words::<SLI>(&[Kind { most, len: longest }]);
-        if words > u64::from(most_words::<SLI>()) {
-            return Err(OpenFault::BadSize);
-        }
-        let heap = Heap::open(alloc, id, words as u32, first)?;
+        };
+        let heap = Heap::open(alloc, id, words, first)?;
         Ok(Ledgered::new(
             heap,
             One {
                 most,
                 longest,
+                size: sure::<SLI>(want(longest)),
                 held: 0,
             },
         ))

@@ -1,9 +1,9 @@
 ghost use Rattle.std.specs.Prelude.{◌≡◌, ◌≢◌, ◌+◌, ◌<◌, ◌≤◌, ◌^◌, ◌↔◌, Err, None, length, IfOk, IfSome, IsSomeAnd, OnOk, IsOk, IsErrOf};
 ghost use Rattle.tlsf_class.specs.Classes.{IsLevel};
-ghost use Rattle.tlsf_heap.specs.Calls.{allocated, last_tick};
+ghost use Rattle.tlsf_heap.specs.Calls.{last_tick};
 ghost use Rattle.tlsf_pool.specs.sizes.Splits.{HasNoCut, IsLeast, parts_of};
 ghost use Rattle.tlsf_pool.specs.declared.sizes.split.Split.{Split};
-ghost use Rattle.tlsf_pool.specs.pools.Tables.{HasPlace, HoldsOneMore, IsFull, row_of};
+ghost use Rattle.tlsf_pool.specs.pools.Tables.{HasPlace, HoldsOneMore, IsFull, row_of, table_allocated};
 ghost use Rattle.tlsf_pool.specs.pools.Parts as cut;
 ghost use Rattle.tlsf_pool.specs.pools.Parts.{Allocates, AreNew, ArePools, HasRow, Looks, OnlyPart, Reads, Releases, Reports, Writes, held_by, part_at, table_of};
 
@@ -68,7 +68,7 @@ impl<const SLI: u32> Pools<SLI> {
     ///
     /// ```text
     /// let kinds = [Kind { most: 2000, len: 64 }, Kind { most: 1, len: 65_536 }];
-    /// let pools = Pools::<4>::open(alloc, 0, &kinds, 0)?;             // heaps of 47,987 and 8,704 words
+    /// let pools = Pools::<4>::open(alloc, 0, &kinds, 0)?;             // heaps of 22,000 and 8,704 words
     /// ```
     pub fn open(alloc: Global, id: u32, kinds: &[Kind], first: u64) -> Result<Pools<SLI>, OpenFault>
         requires level { IsLevel SLI }
@@ -109,7 +109,7 @@ impl<const SLI: u32> Pools<SLI> {
         // The refusals, in their order: there is none for want of room, since no heap has none.
         ensures too_long { IsErrOf result PoolRefusal.TooLong ↔ (cut.part_of self.old len ≡ None) }
         ensures full { IsErrOf result PoolRefusal.Full ↔ IsSomeAnd (cut.part_of self.old len) (λ i. IsFull (part_at self.old i).ledger len) }
-        ensures room { IfSome (cut.part_of self.old len) (λ i. HasPlace (part_at self.old i).ledger len → (allocated SLI (part_at self.old i).heap len).answer ≢ Err Refusal.NoFit) }
+        ensures room { IfSome (cut.part_of self.old len) (λ i. HasPlace (part_at self.old i).ledger len → (table_allocated SLI (part_at self.old i).heap (part_at self.old i).ledger len).answer ≢ Err Refusal.NoFit) }
 
         // The heap of that part allocates, and all others are as they were.
         ensures allocates { IfSome (cut.part_of self.old len) (λ i. Allocates SLI (part_at self.old i) (part_at self.new i) len result) }

@@ -2,7 +2,7 @@ ghost use Rattle.std.specs.Prelude.{◌≡◌, ◌+◌, ◌-◌, ◌<◌, ◌≤
 ghost use Rattle.tlsf_class.specs.Classes.{IsLevel};
 ghost use Rattle.tlsf_heap.specs.Calls.{opened, last_tick};
 ghost use Rattle.tlsf_heap.specs.InPlace.{payload_of};
-ghost use Rattle.tlsf_pool.specs.laws.Kinds;
+ghost use Rattle.tlsf_pool.specs.laws.FixedSize as law;
 ghost use Rattle.tlsf_pool.specs.sizes.Splits.{HasWords};
 ghost use Rattle.tlsf_pool.specs.pools.Tables as tables;
 ghost use Rattle.tlsf_pool.specs.pools.Tables.{CountsOneMore, HasPlace, IsTable, IsTabled, ReportsTable, TableState, TellsTable, answered_by_table, most_at};
@@ -10,28 +10,34 @@ ghost use Rattle.tlsf_pool.specs.pools.Tables.{CountsOneMore, HasPlace, IsTable,
 use crate::kind::Kind;
 use crate::pools::pool_refusal::PoolRefusal;
 use crate::pools::rows::{count_down, count_up, has_place, row_of};
+use crate::sizes::fixed_size::fixed_size;
 use crate::sizes::region::region_words;
 use std::alloc::Global;
 use std::marker::Model;
 use tlsf_heap::{Heap, Ledger, Ledgered, Name, OpenFault, Refusal};
 
-/// The ledger of a [`TablePool`]: a table of kinds, and how many blocks are held of each. A block counts for the first row that is
-/// long enough for it.
+/// The ledger of a [`TablePool`]: a table of kinds, how many words each block takes, and how many are held of each kind. A block counts
+/// for the first row that is long enough for it.
 #[derive(Drop)]
-pub struct Table {
+pub struct Table<const SLI: u32> {
     kinds: Vec<Kind>,
+    size: u32,
     held: Vec<u32>,
 }
 
-impl Model for Table {
+impl<const SLI: u32> Model for Table<SLI> {
+    ghost use Rattle.std.specs.Prelude.{◌≡◌};
+    ghost use Rattle.tlsf_pool.specs.laws.FixedSize.{fixed_size};
     ghost use Rattle.tlsf_pool.specs.pools.Tables.{TableRows};
 
     ghost Value = { TableRows };
 
     ghost view = { λ t. record { kinds = t.kinds.items; held = t.held.items } };
+
+    ghost invariant = { λ t. t.size ≡ fixed_size SLI t.kinds.items };
 }
 
-impl Table {
+impl<const SLI: u32> Table<SLI> {
     // Whether some row is long enough.
     pub(crate) fn serves(&self, len: u32) -> bool
         ensures { result ≡ is_some (tables.row_of self.now.kinds len) }
@@ -40,7 +46,7 @@ impl Table {
     }
 }
 
-impl<const SLI: u32> Ledger<SLI> for Table {
+impl<const SLI: u32> Ledger<SLI> for Table<SLI> {
     type Why = PoolRefusal;
 
     type Place = usize;
@@ -52,6 +58,8 @@ impl<const SLI: u32> Ledger<SLI> for Table {
     ghost answered = { λ t len answer. answered_by_table t len answer };
 
     ghost admits = { λ t len. HasPlace t len };
+
+    ghost takes = { λ sli t len. law.fixed_size sli t.kinds };
 
     ghost places = { λ t len row. (tables.row_of t.kinds len ≡ Some row) × (slice_index t.held row < most_at t.kinds row) × (slice_index t.held row < 2 ^ 32 - 1) };
 
@@ -77,6 +85,11 @@ impl<const SLI: u32> Ledger<SLI> for Table {
             return Err(PoolRefusal::Full);
         }
         Ok(row)
+    }
+
+    // As many as the longest of which one is held: so each free block but the last serves, and none is lost between live ones.
+    fn words(&self, _len: u32) -> u32 {
+        self.size
     }
 
     // Room there is, so the tick is at its last value.
@@ -107,15 +120,16 @@ impl<const SLI: u32> Ledger<SLI> for Table {
 /// level is that of its heap, 4 or 5. What is read of the table, 64 rows at most, counts no touch.
 ///
 /// An allocate is given whenever there is such a row, fewer blocks of it are held than may be, and the tick isn't at its last value. Else
-/// it is refused as `TooLong`, `Full` or `Worn`, in this order.
-pub type TablePool<const SLI: u32> = Ledgered<SLI, Table>;
+/// it is refused as `TooLong`, `Full` or `Worn`, in this order. Each block takes the words of the longest kind of which one may be held,
+/// whatever its own length.
+pub type TablePool<const SLI: u32> = Ledgered<SLI, Table<SLI>>;
 
 /// The calls that a [`TablePool`] has beside those of each [`Ledgered`].
 pub trait TablePoolCalls<const SLI: u32>: Sized {
     // What contracts see of it.
     ghost shown: { Self → TableState };
 
-    /// Opens a heap of number `id` for a table of at most 64 kinds. Its region has `kinds_words` of the table, and is one free block,
+    /// Opens a heap of number `id` for a table of at most 64 kinds. Its region has `fixed_kinds_words` of the table, and is one free block,
     /// stamped with the tick `first`.
     ///
     /// Refused as `BadSize` where no class has blocks for one of the kinds or no region has so many words (4 to 2^20, or to 2^24 at level
@@ -124,12 +138,12 @@ pub trait TablePoolCalls<const SLI: u32>: Sized {
     ///
     /// ```text
     /// let kinds = [Kind { most: 100, len: 64 }, Kind { most: 4, len: 4096 }];
-    /// let pool = TablePool::<4>::open(alloc, 0, &kinds, 0)?;                  // 59,427 words
+    /// let pool = TablePool::<4>::open(alloc, 0, &kinds, 0)?;                  // 56,576 words
     /// ```
     fn open(alloc: Global, id: u32, kinds: &[Kind], first: u64) -> Result<Self, OpenFault>
         requires level { IsLevel SLI }
         requires few { length kinds.now ≤ 64 }
-        ensures heap { IfOk result (λ pool. (shown pool).heap ≡ opened id (Kinds.kinds_words SLI kinds.now) first) }
+        ensures heap { IfOk result (λ pool. (shown pool).heap ≡ opened id (law.fixed_kinds_words SLI kinds.now) first) }
         ensures kinds { IfOk result (λ pool. (shown pool).ledger.kinds ≡ kinds.now) }
         ensures none { IfOk result (λ pool. (shown pool).ledger.held ≡ replicate (length kinds.now) 0) }
         ensures table { IfOk result (λ pool. IsTabled SLI (shown pool)) }
@@ -167,7 +181,15 @@ impl<const SLI: u32> TablePoolCalls<SLI> for TablePool<SLI> {
         let Ok(held) = Vec::from_elem(alloc, 0, kinds.len()) else {
             return Err(OpenFault::NoMemory);
         };
-        Ok(Ledgered::new(heap, Table { kinds: rows, held }))
+        let size = fixed_size::<SLI>(kinds);
+        Ok(Ledgered::new(
+            heap,
+            Table {
+                kinds: rows,
+                size,
+                held,
+            },
+        ))
     }
 
     fn held(&self, row: usize) -> u32 {

@@ -1,18 +1,19 @@
 ghost use Rattle.std.specs.Prelude.{◌≡◌, ◌≤◌, ◌↔◌, length, IfSome, IsTrue, None};
 ghost use Rattle.std.specs.List.{AllByRecursion};
 ghost use Rattle.tlsf_class.specs.Classes.{IsLevel};
-ghost use Rattle.tlsf_pool.specs.laws.Kinds;
+ghost use Rattle.tlsf_pool.specs.laws.FixedSize as law;
 ghost use Rattle.tlsf_pool.specs.laws.Kinds.{HasClass};
 ghost use Rattle.tlsf_pool.specs.laws.Pools;
 ghost use Rattle.tlsf_pool.specs.sizes.Splits.{HasWords};
 
 use crate::kind::Kind;
+use crate::sizes::fixed_size::fixed_kinds_words;
 use crate::sizes::sizing::{kinds_words, most_bytes};
 use tlsf_class::most_words;
 
 /// The words of a region in which a program of at most `most` blocks at once, of at most `len` bytes each, is never refused for want of
-/// room, by [`pool_never_refuses`](crate::pool_never_refuses); None where no region has so many. It is the region that a
-/// [`Pool`](crate::Pool) of these bounds takes.
+/// room, by [`pool_never_refuses`](crate::pool_never_refuses); None where no region has so many. It is for a heap of which each block
+/// has the words of its own request; a [`Pool`](crate::Pool) takes those of [`fixed_region`](crate::fixed_region).
 ///
 /// ```
 /// let words = pool_region::<4>(100, 512);      // Some(13631)
@@ -45,17 +46,17 @@ fn have_classes<const SLI: u32>(kinds: &[Kind]) -> bool
     true
 }
 
-/// The words of the region for a table; None where no region has so many.
+/// The words of the region of a pool for a table; None where no region has so many.
 pub(crate) fn region_words<const SLI: u32>(kinds: &[Kind]) -> Option<u32>
     requires level { IsLevel SLI }
     requires few { length kinds.now ≤ 64 }
-    ensures some { IfSome result (λ words. HasWords SLI kinds.now × (words ≡ Kinds.kinds_words SLI kinds.now)) }
+    ensures some { IfSome result (λ words. HasWords SLI kinds.now × (words ≡ law.fixed_kinds_words SLI kinds.now)) }
     ensures none { result ≡ None → ¬ (HasWords SLI kinds.now) }
 {
     if !have_classes::<SLI>(kinds) {
         return None;
     }
-    let asked = kinds_words::<SLI>(kinds);
+    let asked = fixed_kinds_words::<SLI>(kinds);
     if asked > u64::from(most_words::<SLI>()) {
         return None;
     }

@@ -121,8 +121,8 @@ fn best_in<const SLI: u32>(kinds: &[Kind], row: &mut [Option<Split>], most: usiz
     row[0]
 }
 
-/// The cheapest way to give the kinds of a table to at most `most` heaps, each with the words that
-/// [`kinds_suffice`](crate::kinds_suffice) asks for its own kinds. The kinds stay in their order, so those of one heap stand
+/// The cheapest way to give the kinds of a table to at most `most` heaps, each a pool: it has the words that
+/// [`fixed_kinds_words`](crate::fixed_kinds_words) tells for its own kinds. The kinds stay in their order, so those of one heap stand
 /// together; a table that begins with short kinds gives short ones to the first heap. The table has at most [`MOST_SPLIT`] kinds,
 /// and there are at most [`MOST_HEAPS`] heaps. None where no way gives each heap a region.
 ///

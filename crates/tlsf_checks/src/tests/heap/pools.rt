@@ -4,8 +4,8 @@ use crate::{name, same};
 use std::process::Abort;
 use tlsf_heap::{Name, OpenFault, Refusal};
 use tlsf_pool::{
-    Kind, Pool, PoolCalls, PoolRefusal, cheapest_split, kinds_words, longest_request, most_blocks,
-    most_bytes, pool_region,
+    Kind, Pool, PoolCalls, PoolRefusal, cheapest_split, fixed_kinds_words, fixed_region,
+    kinds_words, longest_request, most_blocks, most_bytes, pool_region,
 };
 
 /// The most bytes of a request that some region of level 4 serves.
@@ -65,14 +65,16 @@ fn pools_open_by_their_words(rt: HostRuntime) {
         (0, 8, None),
         (1, LONGEST + 1, Some(OpenFault::BadSize)),
         (1, LONGEST, None),
-        (7655, 512, Some(OpenFault::BadSize)),
-        (7654, 512, None),
+        (15_421, 512, Some(OpenFault::BadSize)),
+        (15_420, 512, None),
     ] {
         let found = Pool::<4>::open(rt.alloc(), 0, most, longest, 0).err();
         same((most, longest, found), (most, longest, wanted)).expect(&rt, "differ");
     }
     let regions = [pool_region::<4>(1, 480), pool_region::<5>(1, 480)];
     same(regions, [Some(64), Some(63)]).expect(&rt, "differ");
+    let regions = [fixed_region::<4>(2, 480), fixed_region::<5>(2, 480)];
+    same(regions, [Some(128), Some(126)]).expect(&rt, "differ");
     let mut pool = Pool::<5>::open(rt.alloc(), 0, 1, 480, 0).expect(&rt, "open");
     same(given(pool.allocate(480)), Reply::Made(name!(0, 0, 1))).expect(&rt, "differ");
 }
@@ -103,14 +105,22 @@ fn words_of_tables(rt: HostRuntime) {
         kinds_words::<4>(&[TINY, NONE]),
     ];
     same(found, [4, 13_631, 59_427, 59_427, 59_427, 12]).expect(&rt, "differ");
-    let two = kinds_words::<4>(&[SMALL]).wrapping_add(kinds_words::<4>(&[LARGE]));
+    let found = [
+        fixed_kinds_words::<4>(&[]),
+        fixed_kinds_words::<4>(&[HUNDRED]),
+        fixed_kinds_words::<4>(&[SMALL, LARGE]),
+        fixed_kinds_words::<4>(&[LARGE, SMALL]),
+        fixed_kinds_words::<4>(&[NONE, SMALL, LARGE]),
+        fixed_kinds_words::<4>(&[TINY, NONE]),
+    ];
+    same(found, [4, 6_800, 56_576, 56_576, 56_576, 12]).expect(&rt, "differ");
     let found = [
         cheapest_split::<4>(&[SMALL, LARGE], 8).map(|split| split.words),
         cheapest_split::<4>(&[SMALL, LARGE], 1).map(|split| split.words),
         cheapest_split::<4>(&[SMALL, UNREACHED], 8).map(|split| split.words),
         cheapest_split::<4>(&[SMALL], 0).map(|split| split.words),
     ];
-    let wanted = [Some(two.min(59_427)), Some(59_427), None, None];
+    let wanted = [Some(3_276), Some(56_576), None, None];
     same(found, wanted).expect(&rt, "differ");
 }
 

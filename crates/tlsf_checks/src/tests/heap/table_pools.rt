@@ -78,14 +78,14 @@ fn table_is_filled_and_emptied(rt: HostRuntime) {
     const FIRST: Name = name!(3, 0, 1);
     const ROWS: &[(Ask, Reply)] = &[
         (Ask::Allocate(16), Reply::Made(FIRST)),
-        (Ask::Allocate(400), Reply::Made(name!(3, 5, 2))),
+        (Ask::Allocate(400), Reply::Made(name!(3, 54, 2))),
         (Ask::Allocate(17), FULL),
         (Ask::Allocate(401), TOO_LONG),
         (Ask::Write(FIRST, 6, b"Hi"), Reply::Done),
         (Ask::Read(FIRST, 6, 2), HI),
         (Ask::Write(FIRST, 15, b"Hi"), RANGE),
         (Ask::Read(FIRST, 15, 2), RANGE),
-        (Ask::BlockAt(5), Reply::Live(5, 53, 2, 400)),
+        (Ask::BlockAt(54), Reply::Live(54, 54, 2, 400)),
         (Ask::Release(name!(2, 0, 1)), FOREIGN),
         (Ask::Write(name!(2, 0, 1), 0, b"Hi"), FOREIGN),
         (Ask::Read(name!(2, 0, 1), 0, 1), FOREIGN),
@@ -113,7 +113,7 @@ fn table_is_filled_and_emptied(rt: HostRuntime) {
 #[test]
 fn tables_open_by_their_words(rt: HostRuntime) {
     const MOST: Kind = Kind {
-        most: 7655,
+        most: 15_419,
         len: 512,
     };
     const UNREACHED: Kind = Kind {
@@ -213,7 +213,7 @@ fn parts_are_filled_and_emptied(rt: HostRuntime) {
         (Ask::Release(LARGE_BLOCK), STALE),
     ];
     const TOLD: [Told; 3] = [
-        (Some((47_976, 1)), Some(11), false, Some(2)),
+        (Some((21_989, 1)), Some(11), false, Some(2)),
         (Some((8_704, 0)), Some(8_704), false, Some(3)),
         (None, None, false, None),
     ];
@@ -226,8 +226,8 @@ fn parts_are_filled_and_emptied(rt: HostRuntime) {
         (Ask::Release(BLOCK), Reply::Refused(Refusal::Worn)),
     ];
     const WORN_TOLD: [Told; 3] = [
-        (Some((47_976, 1)), Some(11), false, Some(u64::MAX)),
-        (Some((8_692, 1)), Some(12), false, Some(u64::MAX)),
+        (Some((21_989, 1)), Some(11), false, Some(u64::MAX)),
+        (Some((0, 1)), Some(8_704), false, Some(u64::MAX)),
         (None, None, false, None),
     ];
     check_parts(&rt, rt.alloc(), u64::MAX - 2, WORN, WORN_TOLD);

@@ -8,13 +8,13 @@ pub overflow_cast-split : goal.overflow_cast-split
 overflow_cast-split g c = omega (arith, split_words g.row.SLI c.args.kinds.now c.args.split.now c.requires.cheapest)
 
 pub asked_bytes-requires : goal.asked_bytes-requires
-asked_bytes-requires g c = split_bytes g.row.SLI c.args.kinds.now c.args.split.now c.requires.cheapest
+asked_bytes-requires g c = split_bytes g.row.SLI c.requires.level c.args.kinds.now c.args.split.now c.requires.cheapest
 
 pub new-sized-requires-clause-some : goal.new-sized-requires-clause-some
 new-sized-requires-clause-some g c = omega (arith, c.asked_bytes.ensures, some_byte g.row.SLI c.args.kinds.now c.requires.some c.requires.cheapest.servable)
 
 pub new-sized-requires-clause-few : goal.new-sized-requires-clause-few
-new-sized-requires-clause-few g c = omega (arith, c.asked_bytes.ensures, split_bytes g.row.SLI c.args.kinds.now c.args.split.now c.requires.cheapest)
+new-sized-requires-clause-few g c = omega (arith, c.asked_bytes.ensures, split_bytes g.row.SLI c.requires.level c.args.kinds.now c.args.split.now c.requires.cheapest)
 
 pub new-sized-requires-clause-most : goal.new-sized-requires-clause-most
 new-sized-requires-clause-most g c = omega (arith, split_words g.row.SLI c.args.kinds.now c.args.split.now c.requires.cheapest)

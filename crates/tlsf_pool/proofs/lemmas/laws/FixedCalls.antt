@@ -25,7 +25,7 @@ use Rattle.tlsf_pool.proofs.lemmas.laws.Loads.{load_given_words, load_resized_wo
 
 -- ---- as many blocks are live as are held
 
-held_fixed : (sli s : ℕ) (h : HeapState) (call : Call) → live_count (answered_fixed sli s h call).1 ≡ held_after (live_count h) call (answered_fixed sli s h call).0
+pub held_fixed : (sli s : ℕ) (h : HeapState) (call : Call) → live_count (answered_fixed sli s h call).1 ≡ held_after (live_count h) call (answered_fixed sli s h call).0
 held_fixed sli s h (Allocate n) = by_allocated_words sli (λ o. live_count o.heap ≡ held_after (live_count h) (Allocate n) (Allocated o.answer)) h s n (λ why. refl) (λ t site fit.
     omega (arith, load_given_words sli one h t s n site fit, counted h.blocks, counted (gives_words h s n t).heap.blocks))
 held_fixed sli s h (Release name) = held_is sli h (Release name)
@@ -36,20 +36,20 @@ held_fixed sli s h (Read name at n) = refl
 
 -- ---- what each call leaves
 
-record InFixed (words s : ℕ) (h : HeapState) : Type 0 where
-  lawful : IsLawful h
-  words_are : h.words ≡ words
-  fixed : HasFixedSize s h
+pub record InFixed (words s : ℕ) (h : HeapState) : Type 0 where
+  pub lawful : IsLawful h
+  pub words_are : h.words ≡ words
+  pub fixed : HasFixedSize s h
 
 module _ (sli : ℕ) (level : IsLevel sli) (words most len : ℕ) (region : want len ≤ most_words sli) (enough : fixed_words sli most len ≤ words) where
-  abbrev s : ℕ
+  abbrev pub s : ℕ
   s = sure sli (want len)
 
   -- a request within the bounds wants no more than it takes
   enough_words : (n : ℕ) → n ≤ len → want n ≤ s
   enough_words n short = omega (arith, wants n len short, sure_enough sli level (want len) region)
 
-  kept : (h : HeapState) (call : Call) → InFixed words s h → IsModest most len (live_count h) call → InFixed words s (answered_fixed sli s h call).1
+  pub kept : (h : HeapState) (call : Call) → InFixed words s h → IsModest most len (live_count h) call → InFixed words s (answered_fixed sli s h call).1
   kept h (Allocate n) is modest = record {
     lawful = lawful_allocated_words sli level h s n (enough_words n modest.0) is.lawful;
     words_are = by_allocated_words sli (λ o. o.heap.words ≡ h.words) h s n (λ why. refl) (λ t site fit. refl) ∙ is.words_are;

@@ -263,17 +263,21 @@ packed s i (Free m u ∷ b ∷ bs) four begin sizes rooms holes =
     let none : m ≡ 0 = none_between s begin.0.0 begin.1.0.0 m (omega (arith, begin.0.1, begin.1.0.1)) (omega (arith, four, few)) in
     absurd (omega (arith, none, rooms.0))
 
-module _ (sli : ℕ) (level : IsLevel sli) (s most : ℕ) (h : HeapState) where
-  pub finds_fixed : IsLawful h → HasFixedSize s h → sure sli s ≡ s → most * s ≤ h.words → live_count h < most → ¬ (fits sli s h.blocks ≡ [])
-  finds_fixed lawful fixed is enough few none =
-      let region = sure_region sli level s is in
-      let holes = subst (λ (k : ℕ). AllByRecursion (IsHole (k - 1)) h.blocks) is (holes_where_none sli level s region.1 h.blocks lawful.rooms none) in
-      let full = packed s 0 h.blocks region.0 fixed.places fixed.sizes lawful.rooms holes in
+module _ (sli : ℕ) (level : IsLevel sli) (n s most : ℕ) (h : HeapState) where
+  -- a request finds room where s is the least size from which each free block serves it
+  pub finds_sure : IsLawful h → HasFixedSize s h → n ≤ most_words sli → sure sli n ≡ s → most * s ≤ h.words → live_count h < most → ¬ (fits sli n h.blocks ≡ [])
+  finds_sure lawful fixed class is enough few none =
+      let four = (sure_region sli level (sure sli n) (sure_again sli level n class)).0 in
+      let holes = subst (λ (k : ℕ). AllByRecursion (IsHole (k - 1)) h.blocks) is (holes_where_none sli level n class h.blocks lawful.rooms none) in
+      let full = packed s 0 h.blocks (omega (arith, four, is)) fixed.places fixed.sizes lawful.rooms holes in
       let more = mul-le-mul_right s (next (live_count h) most few) in
       omega (arith, full, more, enough, lawful.whole)
     where
       next : (a b : ℕ) → a < b → a + 1 ≤ b
       next a b h = omega (arith, h)
+
+pub finds_fixed : (sli : ℕ) (level : IsLevel sli) (s most : ℕ) (h : HeapState) → IsLawful h → HasFixedSize s h → sure sli s ≡ s → most * s ≤ h.words → live_count h < most → ¬ (fits sli s h.blocks ≡ [])
+finds_fixed sli level s most h lawful fixed is = finds_sure sli level s s most h lawful fixed (sure_region sli level s is).1 is
 
 pub fixed_room : (sli : ℕ) (level : IsLevel sli) → FixedSizeFindsRoom sli
 fixed_room sli level s most len h lawful fixed is enough few e = finds_fixed sli level s most h lawful fixed is enough few ((no_fit_words sli h s len).0 e)

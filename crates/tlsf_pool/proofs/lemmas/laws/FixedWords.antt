@@ -14,7 +14,7 @@ use Rattle.tlsf_pool.specs.laws.FixedSize.{fixed_words, FewerThanAPool, FewerTha
 use Rattle.tlsf_pool.proofs.lemmas.laws.Fours.{sure_four}
 use Rattle.tlsf_pool.proofs.lemmas.laws.FreeRoom.{sure_enough}
 use Rattle.tlsf_pool.proofs.lemmas.laws.ModestCalls.{pool_of_fours, pool_of_more}
-use Rattle.tlsf_pool.proofs.lemmas.laws.Tables.{IsOf, all_used, best_least, count_used, least_words, of_all, table_used}
+use Rattle.tlsf_pool.proofs.lemmas.laws.Tables.{IsOf, all_used, best_least, count_used, most_of, of_all, table_used}
 
 pub hundred_fixed : HundredOfFixedSize
 unfolding low classes search_of
@@ -113,7 +113,7 @@ fewer_table sli level kinds all = at (are_fours kinds) refl
         let words : count_in kinds * sure sli (want is.0.len) ≤ words_with sli kinds is.0 =
         table_more (count_in kinds) (sure sli (want is.0.len)) (table_words kinds) (want is.0.len + 3) (omega (arith, sure_enough sli level (want is.0.len) class)) (omega (arith, beside, table_used kinds, count_used kinds)) in
         let own : fixed_words sli (count_in kinds) is.0.len ≤ resized_words sli kinds =
-        at_least _ _ (le_trans words (least_words sli kinds (used kinds) 4 is.0 is.1)) (best_least 4 (map (words_with sli kinds) (used kinds))) in
+        at_least _ _ (le_trans words (most_of (words_with sli kinds) (used kinds) 4 is.0 is.1)) (best_least 4 (map (words_with sli kinds) (used kinds))) in
         subst (λ (n : ℕ). fixed_words sli (count_in kinds) n ≤ resized_words sli kinds) is.2 own
       where
         at_least : (a b : ℕ) → a ≤ b → 4 ≤ b → max 4 a ≤ b

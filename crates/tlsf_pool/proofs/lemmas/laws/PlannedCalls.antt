@@ -26,7 +26,7 @@ use Rattle.tlsf_pool.proofs.lemmas.laws.Ledgers.{Agrees, agrees_call, new_agrees
 use Rattle.tlsf_pool.proofs.lemmas.laws.Loads.{load}
 use Rattle.tlsf_pool.proofs.lemmas.laws.ModestCalls.{suffices}
 use Rattle.tlsf_pool.proofs.lemmas.laws.Snug.{snug_kept}
-use Rattle.tlsf_pool.proofs.lemmas.laws.Tables.{spend, HasKind, has_kind, counted_in, least_words, all_used, of_all}
+use Rattle.tlsf_pool.proofs.lemmas.laws.Tables.{spend, HasKind, has_kind, counted_in, most_of, all_used, of_all}
 
 pub live_spent : (bs : List Block) → AllByRecursion IsSnug bs → words_in (live_among bs) ≤ load spend bs
 live_spent [] all = omega arith
@@ -50,7 +50,7 @@ holes_room sli level h kinds lens n lawful snug classes totals fit large e =
     let rises : sure sli (want n) ≤ sure sli (want has.kind.len) = sure_rises sli level (want n) (want has.kind.len) wanted region in
     let lost : (live_count h + 1) * (sure sli (want n) - 1) ≤ count_in kinds * (sure sli (want has.kind.len) - 1) =
     mul-le-mul (bounded _ _ _ (live_lengths h.blocks lens totals) (counted_in kinds (n ∷ lens) fit)) (less _ _ rises) in
-    let least : words_with sli kinds has.kind ≤ h.words = le_trans (least_words sli kinds (used kinds) 4 has.kind has.of) large in
+    let least : words_with sli kinds has.kind ≤ h.words = le_trans (most_of (words_with sli kinds) (used kinds) 4 has.kind has.of) large in
     finds_room sli level h n lawful (le_trans wanted region) (enough (words_in (live_among h.blocks)) (free_words h) h.words (sum_of spend lens) (spend has.kind.len) (table_words kinds) _ _
     (words_apart h.blocks ∙ lawful.whole) (le_trans (live_spent h.blocks snug) (same _ _ (totals spend))) has.left least lost)
     ((no_fit sli h n).0 e)

@@ -6,7 +6,7 @@ use Rattle.std.proofs.lemmas.Bool.{cases_lt, lt-ltb, le-ltb, le-leb, lt-leb}
 use Rattle.std.proofs.lemmas.Bool.Decides.{nat_tests}
 use Rattle.tlsf_heap.specs.Blocks.{want}
 use Rattle.tlsf_pool.specs.laws.Room.{sure}
-use Rattle.tlsf_pool.specs.laws.Kinds.{AreOfKinds, count_in, table_words, used, words_with, EmptyKindsAreNothing}
+use Rattle.tlsf_pool.specs.laws.Kinds.{AreOfKinds, count_in, table_words, used, EmptyKindsAreNothing}
 use Rattle.tlsf_pool.specs.declared.kind.Kind.{Kind}
 use Rattle.tlsf_pool.proofs.lemmas.laws.Ledgers.{sum_of, sum_one}
 use Rattle.tlsf_pool.proofs.lemmas.laws.Held.{one}
@@ -142,13 +142,14 @@ pub best_least : (best : ℕ) (xs : List ℕ) → best ≤ fold max best xs
 best_least best [] = omega arith
 best_least best (x ∷ xs) = let e = best_least (max best x) xs in omega arith
 
-pub least_words : (sli : ℕ) (all kinds : List Kind) (best : ℕ) (kind : Kind) → IsOf kind kinds → words_with sli all kind ≤ fold max best (map (words_with sli all) kinds)
-least_words sli all [] best kind of = absurd of
-least_words sli all (k ∷ kinds) best kind of = elim of [
+-- a number of one kind is no greater than the greatest of all
+pub most_of : (f : Kind → ℕ) (kinds : List Kind) (best : ℕ) (kind : Kind) → IsOf kind kinds → f kind ≤ fold max best (map f kinds)
+most_of f [] best kind of = absurd of
+most_of f (k ∷ kinds) best kind of = elim of [
   | inl same ↦
-      let e = best_least (max best (words_with sli all k)) (map (words_with sli all) kinds) in
-      le_trans (subst (λ (x : Kind). words_with sli all x ≤ max best (words_with sli all k)) same (top best (words_with sli all k))) e
-  | inr rest ↦ least_words sli all kinds (max best (words_with sli all k)) kind rest
+      let e = best_least (max best (f k)) (map f kinds) in
+      le_trans (subst (λ (x : Kind). f x ≤ max best (f k)) same (top best (f k))) e
+  | inr rest ↦ most_of f kinds (max best (f k)) kind rest
 ]
   where
     top : (a b : ℕ) → b ≤ max a b

@@ -1,5 +1,5 @@
 -- What the clauses of a table's calls say.
-use Rattle.std.proofs.Common.{◌≡◌, ◌≢◌, ℕ, zero, suc, ◌+◌, ◌<◌, ◌≤◌, ◌↔◌, List, [], ◌∷◌, length, get_or, set, Option, Some, None, Ok, Err, refl, sym, ap, ◌∙◌, subst, inl, inr, arith}
+use Rattle.std.proofs.Common.{◌≡◌, ◌≢◌, ℕ, zero, suc, ◌+◌, ◌-◌, ◌<◌, ◌≤◌, ◌↔◌, List, [], ◌∷◌, length, get_or, set, Option, Some, None, Ok, Err, refl, sym, ap, ◌∙◌, subst, inl, inr, arith, le_trans}
 use Rattle.std.specs.List.{sum}
 use Rattle.std.specs.Prelude.{IsSomeAnd, slice_index}
 use Rattle.std.proofs.lemmas.Bool.{cases_lt}
@@ -9,18 +9,20 @@ use Rattle.tlsf_heap.specs.GoodFit.{block_at}
 use Rattle.tlsf_heap.specs.InPlace.{payload_of}
 use Rattle.tlsf_heap.specs.Named.{IsNamed}
 use Rattle.tlsf_heap.specs.Reports.{IsGrant, live_among}
-use Rattle.tlsf_heap.specs.Calls.{Allocate, allocated, named, released}
+use Rattle.tlsf_heap.specs.Calls.{named, released}
 use Rattle.tlsf_heap.specs.declared.name.Name.{Name}
 use Rattle.tlsf_heap.specs.declared.refusal.Refusal.TheVariants.{NoFit}
 use Rattle.tlsf_heap.proofs.lemmas.calls.Alter.{payload_is}
-use Rattle.tlsf_heap.proofs.lemmas.laws.NoFit.{no_fit}
-use Rattle.tlsf_pool.specs.laws.Kinds.{AreOfKinds}
-use Rattle.tlsf_pool.proofs.lemmas.laws.Snug.{snug_kept}
-use Rattle.tlsf_pool.specs.pools.Tables.{HasPlace, HoldsOneMore, IsFull, IsTable, TableRows, held_of, lengths_in, most_at, row_of}
+use Rattle.tlsf_pool.specs.laws.FixedSize.{fixed_size}
+use Rattle.tlsf_pool.specs.laws.Kinds.{AreOfKinds, count_in}
+use Rattle.tlsf_pool.specs.pools.Tables.{HasPlace, HoldsOneMore, IsFull, IsTable, TableRows, held_of, lengths_in, most_at, row_of, table_allocated}
 use Rattle.tlsf_pool.proofs.lemmas.pools.Counts.{HasOneMore, fit_less, fit_more, held_few, held_length, held_more, held_sum, none, place, row_is, row_within, same_held, this_row}
-use Rattle.tlsf_pool.proofs.lemmas.pools.TableKept.{given_small, given_table, taken_fit, taken_lengths, taken_table}
+use Rattle.tlsf_pool.proofs.lemmas.pools.TableKept.{given_table, taken_fit, taken_lengths, taken_table}
 use Rattle.tlsf_pool.proofs.lemmas.laws.PlannedCalls.{live_lengths}
-use Rattle.tlsf_pool.proofs.lemmas.pools.Served.{has_room, lengths_load}
+use Rattle.tlsf_pool.proofs.lemmas.pools.Served.{fits_longest, four, has_room, lengths_load, longest_used, modest, no_longer}
+use Rattle.tlsf_pool.proofs.lemmas.laws.FreeRoom.{sure_enough, wants}
+use Rattle.tlsf_pool.proofs.lemmas.pools.Given.{given_whole}
+use Rattle.tlsf_pool.proofs.lemmas.pools.PoolKept.{whole_words}
 
 module _ {X : Type 0} (P : X → Type 0) where
   -- a fact of the row that there is
@@ -78,13 +80,21 @@ module _ (sli : ℕ) (h : HeapState) (t : TableRows) (is : IsTable sli h t) wher
   pub is_planned : (len : ℕ) → HasPlace t len ↔ AreOfKinds t.kinds (len ∷ lengths_in h.blocks)
   is_planned len = (planned len, has_place len)
 
-  -- a request with a place finds room
-  pub room : (len : ℕ) → HasPlace t len → (allocated sli h len).answer ≢ Err NoFit
+  -- a request with a place wants no more words than each block has
+  pub enough_words : (len : ℕ) → HasPlace t len → want len ≤ fixed_size sli t.kinds
+  enough_words len has =
+      let short = no_longer t.kinds len (lengths_in h.blocks) (planned len has) in
+      omega (arith, wants len _ short, sure_enough sli is.level _ (longest_used sli is.level t.kinds is.classes))
+
+  -- and finds room
+  pub room : (len : ℕ) → HasPlace t len → (table_allocated sli h t len).answer ≢ Err NoFit
   room len has = has_room sli h t is len (planned len has)
 
   -- and is no longer than the grant
   pub granted : (grant : ℕ) → IsGrant sli h.blocks grant → (len : ℕ) → HasPlace t len → len ≤ grant
-  granted grant served len has = served.greatest len (λ empty. room len has ((no_fit sli h len).1 empty))
+  granted grant served len has =
+      let fit = planned len has in
+      le_trans (no_longer t.kinds len (lengths_in h.blocks) fit) (served.greatest _ (fits_longest sli h t is len fit))
 
   -- as many blocks are live as are held
   pub live_held : length (live_among h.blocks) ≡ sum t.held
@@ -110,7 +120,7 @@ module _ (sli : ℕ) (h : HeapState) (t : TableRows) (is : IsTable sli h t) wher
 
   -- an allocate in a row where fewer are held than may be leaves a table
   pub given_at : (row len : ℕ) (name : Name) (held : List ℕ) → row_of t.kinds len ≡ Some row → slice_index t.held row < most_at t.kinds row
-      → held ≡ set t.held row (slice_index t.held row + 1) → Ok name ≡ (allocated sli h len).answer → IsTable sli (allocated sli h len).heap (record { kinds = t.kinds; held = held })
+      → held ≡ set t.held row (slice_index t.held row + 1) → Ok name ≡ (table_allocated sli h t len).answer → IsTable sli (table_allocated sli h t len).heap (record { kinds = t.kinds; held = held })
   given_at row len name held found few counts answer =
       given_table sli h t is len name held (planned len (of_some (λ (row : ℕ). slice_index t.held row < most_at t.kinds row) (row_of t.kinds len) row found few))
       (subst (λ (r : ℕ). held ≡ set t.held r (slice_index t.held r + 1)) (row_is t.kinds len row found).0 counts) answer
@@ -141,9 +151,14 @@ module _ (sli : ℕ) (h : HeapState) (t : TableRows) (is : IsTable sli h t) wher
       let at : t.held ≡ set held (place t.kinds n) (get_or held (place t.kinds n) 0 + 1) = subst (λ (r : ℕ). t.held ≡ set held r (get_or held r 0 + 1)) (row_is t.kinds n row.0 row.1).0 row.2 in
       taken_table sli h t is name held answer (same_but_one held (held_of t.kinds rest) (place t.kinds n) (sym at ∙ counts))
 
-  -- what the heap gave is small
-  pub given_words : (n : ℕ) (name : Name) → Ok name ≡ (allocated sli h n).answer → payload_words_at (named name (allocated sli h n).heap.blocks) ≤ want n
-  given_words n name answer = given_small sli h n name is.lawful (snug_kept sli h (Allocate n) is.snug) answer
+  -- the block that the heap gave has the words of each
+  pub given_words : (row len : ℕ) (name : Name) → row_of t.kinds len ≡ Some row → slice_index t.held row < most_at t.kinds row → Ok name ≡ (table_allocated sli h t len).answer
+      → payload_words_at (named name (table_allocated sli h t len).heap.blocks) ≤ fixed_size sli t.kinds - 3
+  given_words row len name found few answer =
+      let least = four sli h t is in
+      let some : 0 < count_in t.kinds = omega (arith, (modest sli h t is len (planned len (of_some (λ (row : ℕ). slice_index t.held row < most_at t.kinds row) (row_of t.kinds len) row found few))).1) in
+      let given = given_at row len name _ found few refl answer in
+      given_whole (fixed_size sli t.kinds) name (table_allocated sli h t len).heap least given.lawful given.fixed (whole_words (fixed_size sli t.kinds) (count_in t.kinds) _ least some given.words)
 
 -- the bytes of the block of a name
 pub len_is : (h : HeapState) (name : Name) (len : ℕ) (check : (is_named : IsNamed h name) × (len ≡ length (bytes_of (block_at h.blocks is_named.1.0)))) → len ≡ length (payload_of h name)

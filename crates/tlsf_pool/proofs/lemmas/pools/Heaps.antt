@@ -7,12 +7,14 @@ use Rattle.std.proofs.lemmas.List.Sums.{position_or_len_is}
 use Rattle.std.proofs.lemmas.Bool.Decides.{nat_tests}
 use Rattle.std.proofs.lemmas.List.Quantifiers.{position-Some}
 use Rattle.tlsf_heap.specs.Blocks.{HeapState}
-use Rattle.tlsf_heap.specs.Calls.{Allocate, Release, Write, allocated, released, written}
+use Rattle.tlsf_heap.specs.Given.{payload_words_given}
+use Rattle.tlsf_heap.specs.Calls.{Release, Write, released, written}
 use Rattle.tlsf_heap.specs.declared.name.Name.{Name}
-use Rattle.tlsf_heap.proofs.lemmas.calls.Outcomes.{ids}
+use Rattle.tlsf_heap.proofs.lemmas.calls.Outcomes.{by_allocated_words, ids}
 use Rattle.tlsf_pool.specs.declared.pools.pool_refusal.PoolRefusal.{PoolRefusal}
 use Rattle.tlsf_heap.specs.ledger.Ledgers.{SameLedger}
-use Rattle.tlsf_pool.specs.pools.Tables.{IsTabled, TableState, row_of}
+use Rattle.tlsf_pool.specs.pools.Tables.{IsTabled, TableState, row_of, table_allocated}
+use Rattle.tlsf_pool.specs.laws.FixedSize.{fixed_size}
 use Rattle.tlsf_pool.specs.pools.Parts.{ArePools, OnlyPart, PoolsState, named_in, no_part, part_at, part_in}
 use Rattle.tlsf_pool.proofs.lemmas.pools.Counts.{this_row}
 
@@ -67,8 +69,8 @@ kept sli p i t are is same = record {
 
 -- ---- a heap keeps its number
 
-pub given_number : (sli : ℕ) (old new : TableState) (len : ℕ) (answer : Result Name PoolRefusal) → OnOk answer (new.heap ≡ (allocated sli old.heap len).heap) → OnErr answer (SameLedger old new) → new.heap.id ≡ old.heap.id
-given_number sli old new len (Ok name) ok err = ap (λ (h : HeapState). h.id) ok ∙ ids sli old.heap (Allocate len)
+pub given_number : (sli : ℕ) (old new : TableState) (len : ℕ) (answer : Result Name PoolRefusal) → OnOk answer (new.heap ≡ (table_allocated sli old.heap old.ledger len).heap) → OnErr answer (SameLedger old new) → new.heap.id ≡ old.heap.id
+given_number sli old new len (Ok name) ok err = ap (λ (h : HeapState). h.id) ok ∙ by_allocated_words sli (λ o. o.heap.id ≡ old.heap.id) old.heap (fixed_size sli old.ledger.kinds) len (λ why. refl) (λ s site fit. refl)
 given_number sli old new len (Err why) ok err = ap (λ (h : HeapState). h.id) err.heap
 
 pub taken_number : (old new : TableState) (name : Name) → new.heap ≡ (released old.heap name).heap → new.heap.id ≡ old.heap.id
@@ -82,6 +84,11 @@ written_number old new name at bytes is = ap (λ (h : HeapState). h.id) is ∙ i
 pub on_ok : {A B : Type 0} (P : Type 0) (answer : Result Name PoolRefusal) → IsOk answer ↔ (A × B) → (A → P) → OnOk answer P
 on_ok P (Ok name) is p = p (is.0 refl).0
 on_ok P (Err why) is p = tt
+
+-- the block that it gave, in the heap that it left
+pub left_given : (k : ℕ) (heap left : HeapState) (answer : Result Name PoolRefusal) → OnOk answer (left ≡ heap) → payload_words_given answer heap ≤ k → payload_words_given answer left ≤ k
+left_given k heap left (Ok name) same few = subst (λ (h : HeapState). payload_words_given {E = PoolRefusal} (Ok name) h ≤ k) (sym same) few
+left_given k heap left (Err why) same few = few
 
 -- ---- which part
 

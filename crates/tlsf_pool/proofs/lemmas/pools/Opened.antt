@@ -3,7 +3,7 @@ use Rattle.std.proofs.Common.{◌≡◌, ℕ, zero, suc, ◌+◌, ◌-◌, ◌<�
 use Rattle.std.specs.List.{AllByRecursion}
 use Rattle.tlsf_heap.specs.Blocks.{HeapState}
 use Rattle.tlsf_heap.specs.Calls.{opened}
-use Rattle.tlsf_pool.specs.laws.Kinds.{kinds_words}
+use Rattle.tlsf_pool.specs.laws.FixedSize.{fixed_kinds_words}
 use Rattle.tlsf_pool.specs.declared.kind.Kind.{Kind}
 use Rattle.tlsf_pool.specs.sizes.Splits.{IsLeast, IsPart, HasWords, cut_by, parts_of}
 use Rattle.tlsf_pool.specs.declared.sizes.split.Split.{Split}
@@ -93,7 +93,7 @@ module _ (sli id first : ℕ) (all : List (List Kind)) (lens : List ℕ) (rest :
   pub part_words : HasWords sli (take len rest)
   part_words = (subst (λ (n : ℕ). IsPart sli (take n rest)) (sym least) (next_part sli id first all lens rest parts (heaps - 1 - at) one_left)).1
 
-  pub opened_step : (t : TableState) (left : List Kind) (now : List TableState) → length parts ≡ at → t.heap ≡ opened (id + at) (kinds_words sli (take len rest)) first → t.ledger.kinds ≡ take len rest → t.ledger.held ≡ replicate (length (take len rest)) 0
+  pub opened_step : (t : TableState) (left : List Kind) (now : List TableState) → length parts ≡ at → t.heap ≡ opened (id + at) (fixed_kinds_words sli (take len rest)) first → t.ledger.kinds ≡ take len rest → t.ledger.held ≡ replicate (length (take len rest)) 0
       → IsTabled sli t → left ≡ drop len rest → now ≡ parts ++ t ∷ [] → OpenedSoFar sli id first all (heaps - (at + 1)) lens left now
   opened_step t left now many heap kinds held table is_left is_now =
       let new : IsNew sli (id + at) first (take len rest) t = record { heap = heap; kinds = kinds; held = held } in

@@ -3,14 +3,15 @@ use Rattle.std.proofs.Common.{◌≡◌, ℕ, ◌<◌, ◌≤◌, Bool, true, fa
 use Rattle.std.proofs.lemmas.Bool.{false≢true}
 use Rattle.std.proofs.lemmas.Bool.Decides.{nat_tests}
 use Rattle.tlsf_heap.specs.Blocks.{HeapState, want}
-use Rattle.tlsf_heap.specs.Calls.{allocated}
 use Rattle.tlsf_heap.specs.declared.name.Name.{Name}
 use Rattle.tlsf_heap.specs.declared.refusal.Refusal.{Refusal}
-use Rattle.tlsf_heap.proofs.lemmas.laws.NoFit.{no_fit, ok}
+use Rattle.tlsf_heap.proofs.lemmas.laws.NoFit.{ok_words}
 use Rattle.tlsf_pool.specs.declared.pools.pool_refusal.PoolRefusal.{PoolRefusal}
 use Rattle.tlsf_pool.specs.declared.pools.pool_refusal.PoolRefusal.TheVariants.{TooLong, Full}
-use Rattle.tlsf_pool.proofs.lemmas.pools.PoolKept.{room, given_pool, given_small}
-use Rattle.tlsf_pool.specs.pools.Bounds.{Bounds, IsPool, TellsBounds, answered_within, or_worn}
+use Rattle.tlsf_pool.specs.laws.Room.{sure}
+use Rattle.tlsf_pool.proofs.lemmas.pools.Given.{given_whole}
+use Rattle.tlsf_pool.proofs.lemmas.pools.PoolKept.{fits_pool, four, given_pool, room, whole_words}
+use Rattle.tlsf_pool.specs.pools.Bounds.{Bounds, IsPool, TellsBounds, answered_within, or_worn, pool_allocated}
 
 pub either : {X : Type 0} (P : X → Type 0) (b : Bool) (x y : X) → (b ≡ true → P x) → (b ≡ false → P y) → P (cond b x y)
 either P true x y f g = f refl
@@ -27,7 +28,7 @@ module _ (sli : ℕ) (h : HeapState) (p : Bounds) (len : ℕ) (is : IsPool sli h
         ok = (λ e. absurd (false≢true e), λ b. absurd (omega (arith, more, b.0)));
         too_long = (λ e. more, λ l. refl);
         full = (λ e. cc, λ b. absurd (omega (arith, more, b.0)));
-        room = λ short few. room sli h p is len short few;
+        room = λ short few. room sli h p is len few;
         given = omega arith;
         name = tt;
       }
@@ -39,35 +40,35 @@ module _ (sli : ℕ) (h : HeapState) (p : Bounds) (len : ℕ) (is : IsPool sli h
         ok = (λ e. absurd (false≢true e), λ b. absurd (omega (arith, all, b.1)));
         too_long = (λ e. cc, λ l. absurd (omega (arith, short, l)));
         full = (λ e. (short, omega (arith, all, is.few)), λ b. refl);
-        room = λ short few. room sli h p is len short few;
+        room = λ short few. room sli h p is len few;
         given = omega arith;
         name = tt;
       }
 
-  served : len ≤ p.longest → p.held < p.most → (a : Result Name Refusal) → (allocated sli h len).answer ≡ a → Tells (or_worn a)
+  served : len ≤ p.longest → p.held < p.most → (a : Result Name Refusal) → (pool_allocated sli h p len).answer ≡ a → Tells (or_worn a)
   served short few (Ok name) e =
       let given = given_pool sli h p is len name short few (sym e) in
       record {
-        ok = (λ o. (short, few, ((ok sli h len).0 (rw e refl)).1), λ b. refl);
+        ok = (λ o. (short, few, ((ok_words sli h (sure sli (want p.longest)) len).0 (rw e refl)).1), λ b. refl);
         too_long = (λ e. cc, λ l. absurd (omega (arith, short, l)));
         full = (λ e. cc, λ b. absurd (omega (arith, few, b.1)));
-        room = λ short few. room sli h p is len short few;
-        given = given_small (want p.longest) name (allocated sli h len).heap given.small;
+        room = λ short few. room sli h p is len few;
+        given = given_whole (sure sli (want p.longest)) name (pool_allocated sli h p len).heap (four sli h p is) given.lawful given.fixed (whole_words (sure sli (want p.longest)) p.most _ (four sli h p is) (omega (arith, few)) given.words);
         name = e;
       }
   served short few (Err why) e =
       record {
-        ok = (λ o. absurd (false≢true o), λ b. absurd (false≢true (subst (λ (a : Result Name Refusal). IsOk a) e ((ok sli h len).1 ((λ empty. room sli h p is len short few ((no_fit sli h len).1 empty)), b.2)))));
+        ok = (λ o. absurd (false≢true o), λ b. absurd (false≢true (subst (λ (a : Result Name Refusal). IsOk a) e ((ok_words sli h (sure sli (want p.longest)) len).1 (fits_pool sli h p is few, b.2)))));
         too_long = (λ e. cc, λ l. absurd (omega (arith, short, l)));
         full = (λ e. cc, λ b. absurd (omega (arith, few, b.1)));
-        room = λ short few. room sli h p is len short few;
+        room = λ short few. room sli h p is len few;
         given = omega arith;
         name = tt;
       }
 
-  pub bounds_tell : Tells (answered_within p len (allocated sli h len).answer)
-  bounds_tell = either Tells (nat_lt p.longest len) (Err TooLong) (cond (nat_le p.most p.held) (Err Full) (or_worn (allocated sli h len).answer)) long (λ s.
+  pub bounds_tell : Tells (answered_within p len (pool_allocated sli h p len).answer)
+  bounds_tell = either Tells (nat_lt p.longest len) (Err TooLong) (cond (nat_le p.most p.held) (Err Full) (or_worn (pool_allocated sli h p len).answer)) long (λ s.
       let short : len ≤ p.longest = grind (arith, nat_tests, s) in
-      either Tells (nat_le p.most p.held) (Err Full) (or_worn (allocated sli h len).answer) (full short) (λ f.
+      either Tells (nat_le p.most p.held) (Err Full) (or_worn (pool_allocated sli h p len).answer) (full short) (λ f.
       let few : p.held < p.most = grind (arith, nat_tests, f) in
-      served short few (allocated sli h len).answer refl))
+      served short few (pool_allocated sli h p len).answer refl))

@@ -1,48 +1,73 @@
 -- A request that has a place in its table finds room.
-use Rattle.std.proofs.Common.{◌≡◌, ◌≢◌, ℕ, ◌+◌, ◌*◌, ◌≤◌, Bool, true, false, max, List, [], ◌∷◌, length, map, Err, refl, ap, arith}
+use Rattle.std.proofs.Common.{◌≡◌, ◌≢◌, ℕ, ◌+◌, ◌≤◌, List, [], ◌∷◌, length, Err, refl, ap, arith, le_trans}
+use Rattle.std.specs.List.{AllByRecursion}
 use Rattle.tlsf_class.specs.Classes.{IsLevel, most_words}
-use Rattle.tlsf_class.proofs.TwoLevels.{by_level}
 use Rattle.tlsf_heap.specs.Blocks.{Block, HeapState, Live, Free, want}
-use Rattle.tlsf_heap.specs.Calls.{allocated}
+use Rattle.tlsf_heap.specs.GoodFit.{fits}
 use Rattle.tlsf_heap.specs.declared.refusal.Refusal.TheVariants.{NoFit}
-use Rattle.tlsf_pool.specs.laws.Kinds.{AreOfKinds, are_fours, count_in, used, words_with, kinds_words}
+use Rattle.tlsf_heap.proofs.lemmas.laws.NoFit.{no_fit_words}
+use Rattle.tlsf_pool.specs.laws.Room.{live_count, sure}
+use Rattle.tlsf_pool.specs.laws.Kinds.{AreOfKinds, HasClass, count_in, used}
+use Rattle.tlsf_pool.specs.laws.OneLarge.{longest_of}
+use Rattle.tlsf_pool.specs.laws.FixedSize.{fixed_size, fixed_words}
+use Rattle.tlsf_pool.specs.laws.Pools.{IsModest}
+use Rattle.tlsf_heap.specs.Calls.{Allocate}
 use Rattle.tlsf_pool.specs.declared.kind.Kind.{Kind}
-use Rattle.tlsf_pool.specs.pools.Tables.{IsTable, TableRows, lengths_in}
+use Rattle.tlsf_pool.specs.pools.Tables.{IsTable, TableRows, lengths_in, table_allocated}
+use Rattle.tlsf_pool.proofs.lemmas.laws.FixedCalls.{InFixed}
+use Rattle.tlsf_pool.proofs.lemmas.laws.FixedSize.{finds_fixed, finds_sure, sure_again, sure_region}
 use Rattle.tlsf_pool.proofs.lemmas.laws.Ledgers.{sum_of}
 use Rattle.tlsf_pool.proofs.lemmas.laws.Loads.{load}
-use Rattle.tlsf_pool.proofs.lemmas.laws.ModestCalls.{InPool}
-use Rattle.tlsf_pool.proofs.lemmas.laws.ModestCalls as modest
-use Rattle.tlsf_pool.proofs.lemmas.laws.PlannedCalls.{holes_room, is_short}
-use Rattle.tlsf_pool.proofs.lemmas.laws.Tables.{best_least}
-use Rattle.tlsf_pool.proofs.lemmas.sizes.Sizes.{kinds_of_fours, kinds_of_more}
+use Rattle.tlsf_pool.proofs.lemmas.laws.PlannedCalls.{live_lengths}
+use Rattle.tlsf_pool.proofs.lemmas.laws.Tables.{all_used, counted_in, has_kind, most_of}
+use Rattle.tlsf_pool.proofs.lemmas.sizes.Sizes.{longest_class}
 
 pub lengths_load : (f : ℕ → ℕ) (bs : List Block) → load f bs ≡ sum_of f (lengths_in bs)
 lengths_load f [] = refl
 lengths_load f (Live m s xs ∷ bs) = ap (λ (n : ℕ). f (length xs) + n) (lengths_load f bs)
 lengths_load f (Free m s ∷ bs) = lengths_load f bs
 
-pub four_class : (sli : ℕ) → IsLevel sli → want 8 ≤ most_words sli
-four_class = by_level (λ sli. want 8 ≤ most_words sli) (omega arith) (omega arith)
+-- a request that fits the table is no longer than the longest kind of which one is held
+pub no_longer : (kinds : List Kind) (n : ℕ) (lens : List ℕ) → AreOfKinds kinds (n ∷ lens) → n ≤ longest_of (used kinds)
+no_longer kinds n lens fit = let has = has_kind kinds n lens fit in le_trans has.short (most_of (λ kind. kind.len) (used kinds) 0 has.kind has.of)
 
--- a region has the words of a table that has some
-pub words_least : (sli : ℕ) (kinds : List Kind) → 4 ≤ kinds_words sli kinds
-words_least sli kinds = at (are_fours kinds) refl
-  where
-    at : (c : Bool) → are_fours kinds ≡ c → 4 ≤ kinds_words sli kinds
-    at true fours = omega (arith, kinds_of_fours sli kinds fours)
-    at false more = omega (arith, kinds_of_more sli kinds more, best_least 4 (map (words_with sli kinds) (used kinds)))
+-- some class has blocks for that kind
+pub longest_used : (sli : ℕ) → IsLevel sli → (kinds : List Kind) → AllByRecursion (HasClass sli) kinds → want (longest_of (used kinds)) ≤ most_words sli
+longest_used sli level kinds all = longest_class sli level (used kinds) (all_used (HasClass sli) kinds all)
 
-pub four_words : (sli : ℕ) (h : HeapState) (t : TableRows) → IsTable sli h t → are_fours t.kinds ≡ true → max 4 (count_in t.kinds * 4) ≤ h.words
-four_words sli h t is fours = omega (arith, is.words, kinds_of_fours sli t.kinds fours)
+module _ (sli : ℕ) (h : HeapState) (t : TableRows) (is : IsTable sli h t) where
+  abbrev longest : ℕ
+  longest = longest_of (used t.kinds)
 
-pub in_pool : (sli : ℕ) (h : HeapState) (t : TableRows) → IsTable sli h t → are_fours t.kinds ≡ true → InPool h.words 7 h
-in_pool sli h t is fours = record { lawful = is.lawful; words_are = refl; small = (is.fours fours).0; fours = λ _. (is.fours fours).1 }
+  class : want longest ≤ most_words sli
+  class = longest_used sli is.level t.kinds is.classes
 
-pub has_room : (sli : ℕ) (h : HeapState) (t : TableRows) → IsTable sli h t → (n : ℕ) → AreOfKinds t.kinds (n ∷ lengths_in h.blocks) → (allocated sli h n).answer ≢ Err NoFit
-has_room sli h t is n fit = at (are_fours t.kinds) refl
-  where
-    at : (c : Bool) → are_fours t.kinds ≡ c → (allocated sli h n).answer ≢ Err NoFit
-    at true fours =
-        let short = is_short t.kinds h.blocks (lengths_in h.blocks) n fours (λ f. lengths_load f h.blocks) fit in
-        modest.has_room sli is.level h.words (count_in t.kinds) 8 (four_class sli is.level) (four_words sli h t is fours) h n (in_pool sli h t is fours) short.0 short.1
-    at false more = holes_room sli is.level h t.kinds (lengths_in h.blocks) n is.lawful is.snug is.classes (λ f. lengths_load f h.blocks) fit (omega (arith, is.words, kinds_of_more sli t.kinds more))
+  again : sure sli (fixed_size sli t.kinds) ≡ fixed_size sli t.kinds
+  again = sure_again sli is.level (want longest) class
+
+  pub four : 4 ≤ fixed_size sli t.kinds
+  four = (sure_region sli is.level (fixed_size sli t.kinds) again).0
+
+  pub in_table : InFixed h.words (fixed_size sli t.kinds) h
+  in_table = record { lawful = is.lawful; words_are = refl; fixed = is.fixed }
+
+  pub enough : fixed_words sli (count_in t.kinds) (longest_of (used t.kinds)) ≤ h.words
+  enough = omega (arith, is.words)
+
+  -- a request that fits the table is within the bounds of all its blocks
+  pub modest : (n : ℕ) → AreOfKinds t.kinds (n ∷ lengths_in h.blocks) → IsModest (count_in t.kinds) (longest_of (used t.kinds)) (live_count h) (Allocate n)
+  modest n fit = (
+    no_longer t.kinds n (lengths_in h.blocks) fit,
+    omega (arith, live_lengths h.blocks (lengths_in h.blocks) (λ f. lengths_load f h.blocks), counted_in t.kinds (n ∷ lengths_in h.blocks) fit),
+  )
+
+  -- so it finds room
+  pub fits_table : (n : ℕ) → AreOfKinds t.kinds (n ∷ lengths_in h.blocks) → ¬ (fits sli (fixed_size sli t.kinds) h.blocks ≡ [])
+  fits_table n fit = finds_fixed sli is.level (fixed_size sli t.kinds) (count_in t.kinds) h is.lawful is.fixed again (omega (arith, enough)) (modest n fit).1
+
+  pub has_room : (n : ℕ) → AreOfKinds t.kinds (n ∷ lengths_in h.blocks) → (table_allocated sli h t n).answer ≢ Err NoFit
+  has_room n fit none = fits_table n fit ((no_fit_words sli h (fixed_size sli t.kinds) n).0 none)
+
+  -- and one of the longest kind would be served
+  pub fits_longest : (n : ℕ) → AreOfKinds t.kinds (n ∷ lengths_in h.blocks) → ¬ (fits sli (want (longest_of (used t.kinds))) h.blocks ≡ [])
+  fits_longest n fit = finds_sure sli is.level (want longest) (fixed_size sli t.kinds) (count_in t.kinds) h is.lawful is.fixed class refl (omega (arith, enough)) (modest n fit).1

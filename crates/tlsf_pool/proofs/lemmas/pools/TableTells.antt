@@ -4,15 +4,16 @@ use Rattle.std.proofs.lemmas.Bool.{false≢true}
 use Rattle.std.proofs.lemmas.Bool.Decides.{nat_tests}
 use Rattle.std.specs.Prelude.{IsSomeAnd}
 use Rattle.tlsf_heap.specs.Blocks.{HeapState}
-use Rattle.tlsf_heap.specs.Calls.{allocated}
 use Rattle.tlsf_heap.specs.declared.name.Name.{Name}
 use Rattle.tlsf_heap.specs.declared.refusal.Refusal.{Refusal}
-use Rattle.tlsf_heap.proofs.lemmas.laws.NoFit.{no_fit, ok}
+use Rattle.tlsf_heap.proofs.lemmas.laws.NoFit.{ok_words}
 use Rattle.tlsf_pool.specs.declared.pools.pool_refusal.PoolRefusal.{PoolRefusal}
 use Rattle.tlsf_pool.specs.declared.pools.pool_refusal.PoolRefusal.TheVariants.{TooLong, Full}
 use Rattle.tlsf_pool.specs.pools.Bounds.{or_worn}
-use Rattle.tlsf_pool.specs.pools.Tables.{IsTable, TableRows, TellsTable, answered_by_table, answered_in, most_at, row_of}
-use Rattle.tlsf_pool.proofs.lemmas.pools.Answering.{of_some, none_some, full_at, given_words, is_planned, room}
+use Rattle.tlsf_pool.specs.pools.Tables.{IsTable, TableRows, TellsTable, answered_by_table, answered_in, most_at, row_of, table_allocated}
+use Rattle.tlsf_pool.specs.laws.FixedSize.{fixed_size}
+use Rattle.tlsf_pool.proofs.lemmas.pools.Answering.{of_some, none_some, full_at, given_words, is_planned, planned, room}
+use Rattle.tlsf_pool.proofs.lemmas.pools.Served.{fits_table}
 use Rattle.tlsf_pool.proofs.lemmas.pools.PoolTells.{either}
 
 module _ (sli : ℕ) (h : HeapState) (t : TableRows) (len : ℕ) (is : IsTable sli h t) where
@@ -59,20 +60,20 @@ module _ (sli : ℕ) (h : HeapState) (t : TableRows) (len : ℕ) (is : IsTable s
       above : nat_lt (slice_index t.held row) (most_at t.kinds row) ≡ false → most_at t.kinds row ≤ slice_index t.held row
       above f = grind (arith, nat_tests, f)
 
-  served : (row : ℕ) → row_of t.kinds len ≡ Some row → slice_index t.held row < most_at t.kinds row → (a : Result Name Refusal) → (allocated sli h len).answer ≡ a → Tells (or_worn a)
+  served : (row : ℕ) → row_of t.kinds len ≡ Some row → slice_index t.held row < most_at t.kinds row → (a : Result Name Refusal) → (table_allocated sli h t len).answer ≡ a → Tells (or_worn a)
   served row found few (Ok name) e = record {
-    ok = (λ o. (of_some IsUnder (row_of t.kinds len) row found few, ((ok sli h len).0 (rw e refl)).1), λ b. refl);
+    ok = (λ o. (of_some IsUnder (row_of t.kinds len) row found few, ((ok_words sli h (fixed_size sli t.kinds) len).0 (rw e refl)).1), λ b. refl);
     planned = is_planned sli h t is len;
     too_long = (λ e. cc, λ none. cc);
     full = (λ e. cc, λ b. absurd (let same : slice_index t.held row ≡ most_at t.kinds row = at row found b in omega (arith, few, same)));
     room = room sli h t is len;
-    given = given_words sli h t is len name (sym e);
+    given = given_words sli h t is row len name found few (sym e);
     name = e;
   }
   served row found few (Err why) e =
       let has = of_some IsUnder (row_of t.kinds len) row found few in
       record {
-        ok = (λ o. absurd (false≢true o), λ b. absurd (false≢true (subst (λ (a : Result Name Refusal). IsOk a) e ((ok sli h len).1 ((λ empty. room sli h t is len has ((no_fit sli h len).1 empty)), b.1)))));
+        ok = (λ o. absurd (false≢true o), λ b. absurd (false≢true (subst (λ (a : Result Name Refusal). IsOk a) e ((ok_words sli h (fixed_size sli t.kinds) len).1 (fits_table sli h t is len (planned sli h t is len has), b.1)))));
         planned = is_planned sli h t is len;
         too_long = (λ e. cc, λ none. cc);
         full = (λ e. cc, λ b. absurd (let same : slice_index t.held row ≡ most_at t.kinds row = at row found b in omega (arith, few, same)));
@@ -81,11 +82,11 @@ module _ (sli : ℕ) (h : HeapState) (t : TableRows) (len : ℕ) (is : IsTable s
         name = tt;
       }
 
-  by_row : (o : Option ℕ) → row_of t.kinds len ≡ o → Tells (answered_in t (allocated sli h len).answer o)
+  by_row : (o : Option ℕ) → row_of t.kinds len ≡ o → Tells (answered_in t (table_allocated sli h t len).answer o)
   by_row None e = long e
-  by_row (Some row) e = either Tells (nat_lt (slice_index t.held row) (most_at t.kinds row)) (or_worn (allocated sli h len).answer) (Err Full) (λ less.
+  by_row (Some row) e = either Tells (nat_lt (slice_index t.held row) (most_at t.kinds row)) (or_worn (table_allocated sli h t len).answer) (Err Full) (λ less.
       let few : slice_index t.held row < most_at t.kinds row = grind (arith, nat_tests, less) in
-      served row e few (allocated sli h len).answer refl) (full row e)
+      served row e few (table_allocated sli h t len).answer refl) (full row e)
 
-  pub table_tells : Tells (answered_by_table t len (allocated sli h len).answer)
+  pub table_tells : Tells (answered_by_table t len (table_allocated sli h t len).answer)
   table_tells = by_row (row_of t.kinds len) refl

@@ -8,14 +8,15 @@ use Rattle.std.proofs.lemmas.List.{get_or_append_left, get_or-append-add, set-ap
 use Rattle.std.proofs.lemmas.List.Quantifiers.{position-Some}
 use Rattle.std.proofs.lemmas.List.Sums.{fails_before_first, position_or_len_is}
 use Rattle.tlsf_heap.specs.Blocks.{HeapState}
-use Rattle.tlsf_heap.specs.Calls.{allocated}
+use Rattle.tlsf_heap.specs.Calls.{allocated_words}
 use Rattle.tlsf_heap.specs.GoodFit.{place_of}
 use Rattle.tlsf_heap.specs.declared.name.Name.{Name}
-use Rattle.tlsf_heap.proofs.lemmas.calls.Outcomes.{by_allocated}
+use Rattle.tlsf_heap.proofs.lemmas.calls.Outcomes.{by_allocated_words}
 use Rattle.tlsf_pool.specs.declared.kind.Kind.{Kind}
 use Rattle.tlsf_pool.specs.sizes.Splits.{joined}
 use Rattle.tlsf_pool.specs.declared.pools.pool_refusal.PoolRefusal.{PoolRefusal}
-use Rattle.tlsf_pool.specs.pools.Tables.{CountsOneMore, HoldsOneMore, IsTabled, TableState, lengths_in, row_of}
+use Rattle.tlsf_pool.specs.pools.Tables.{CountsOneMore, HoldsOneMore, IsTabled, TableState, lengths_in, row_of, table_allocated}
+use Rattle.tlsf_pool.specs.laws.FixedSize.{fixed_size}
 use Rattle.tlsf_pool.specs.pools.Parts.{AreNew, ArePools, HasRow, PoolsState, held_by, held_in, named_in, no_part, part_at, part_in, part_named, part_of, rows_before, rows_in, table_of}
 use Rattle.tlsf_pool.proofs.lemmas.pools.Answering.{of_some, some_of}
 use Rattle.tlsf_pool.proofs.lemmas.pools.Counts.{held_length, next_row, place, row_is, this_row}
@@ -190,8 +191,8 @@ new_rows sli from first (kinds ∷ tables) (t ∷ parts) are =
 
 -- ---- an allocate in the part that a length counts for
 
-given_heap : (sli : ℕ) (h : HeapState) (n : ℕ) (name : Name) → Ok name ≡ (allocated sli h n).answer → name.heap ≡ h.id
-given_heap sli h n name = by_allocated sli (λ o. Ok name ≡ o.answer → name.heap ≡ h.id) h n (λ why ok. absurd cc) (λ s site fit ok.
+given_heap : (sli : ℕ) (h : HeapState) (n len : ℕ) (name : Name) → Ok name ≡ (allocated_words sli h n len).answer → name.heap ≡ h.id
+given_heap sli h n len name = by_allocated_words sli (λ o. Ok name ≡ o.answer → name.heap ≡ h.id) h n len (λ why ok. absurd cc) (λ s site fit ok.
     let own : Name = record { heap = h.id; at = place_of s; serial = h.tick } in
     let same : name ≡ own = cc in
     ap (λ (n : Name). n.heap) same)
@@ -224,17 +225,17 @@ module _ (sli : ℕ) (p : PoolsState) (len part : ℕ) (old new : TableState) (a
       (now ∙ ap (λ (v : ℕ). set (held_by p) (rows_before p.parts part + row) (v + 1)) (sym (held_get p.parts part row counts within short)))
 
   -- the block is of the heap that has this row
-  pub of_row : (name : Name) → Ok name ≡ (allocated sli old.heap len).answer → HoldsOneMore old.ledger.kinds len old.ledger.held new.ledger.held → IsSomeAnd (row_of (table_of p) len) (λ row. IsSomeAnd (part_named p name) (HasRow p row))
+  pub of_row : (name : Name) → Ok name ≡ (table_allocated sli old.heap old.ledger len).answer → HoldsOneMore old.ledger.kinds len old.ledger.held new.ledger.held → IsSomeAnd (row_of (table_of p) len) (λ row. IsSomeAnd (part_named p name) (HasRow p row))
   of_row name answer more =
       let one = some_of (λ (row : ℕ). new.ledger.held ≡ set old.ledger.held row (get_or old.ledger.held row 0 + 1)) (row_of old.ledger.kinds len) more in
       let row = one.0 in
       let short : row < length (part_at p part).ledger.kinds = subst (λ (t : TableState). row < length t.ledger.kinds) own (row_is old.ledger.kinds len row one.1).1 in
-      let number : name.heap ≡ p.id + part = given_heap sli old.heap len name answer ∙ (ap (λ (t : TableState). t.heap.id) own ∙ are.numbers part within) in
+      let number : name.heap ≡ p.id + part = given_heap sli old.heap (fixed_size sli old.ledger.kinds) len name answer ∙ (ap (λ (t : TableState). t.heap.id) own ∙ are.numbers part within) in
       of_some (λ (r : ℕ). IsSomeAnd (part_named p name) (HasRow p r)) (row_of (table_of p) len) (rows_before p.parts part + row) (whole row one.1)
       (of_some (HasRow p (rows_before p.parts part + row)) (part_named p name) part (named_at p.id part p.parts name number within) (omega arith, omega (arith, short)))
 
   -- the same by the answer
-  pub row_given : (answer : Result Name PoolRefusal) → IfOk answer (λ name. (allocated sli old.heap len).answer ≡ Ok name) → OnOk answer (CountsOneMore len old.ledger new.ledger)
+  pub row_given : (answer : Result Name PoolRefusal) → IfOk answer (λ name. (table_allocated sli old.heap old.ledger len).answer ≡ Ok name) → OnOk answer (CountsOneMore len old.ledger new.ledger)
       → IfOk answer (λ name. IsSomeAnd (row_of (table_of p) len) (λ row. IsSomeAnd (part_named p name) (HasRow p row)))
   row_given (Ok name) ok more = of_row name (sym ok) more.held
   row_given (Err why) ok more = tt

@@ -6,7 +6,7 @@ use Rattle.tlsf_class.specs.Classes.{IsLevel, most_words}
 use Rattle.tlsf_class.proofs.TwoLevels.{by_level}
 use Rattle.std.proofs.lemmas.Bool.{cases_eq, cases_lt}
 use Rattle.std.proofs.lemmas.Bool.Decides.{nat_tests}
-use Rattle.tlsf_pool.specs.laws.Kinds.{kinds_words}
+use Rattle.tlsf_pool.specs.laws.FixedSize.{fixed_kinds_words}
 use Rattle.tlsf_pool.specs.declared.kind.Kind.{Kind}
 use Rattle.tlsf_pool.specs.sizes.Cheapest.{cheaper, with_first, AreBest, AreSmall, HasFirst, IsBest, IsBestAmong, IsSmall}
 use Rattle.tlsf_pool.specs.sizes.Splits.{cut_by, joined, parts_of, words_together, HasAtMost, HasWords, IsCut, IsLeastAmong, IsPart}
@@ -51,7 +51,7 @@ HasJust heaps n (part ∷ parts) = (length part ≡ n) × (length parts ≤ heap
 
 -- the words of the first heap, where a region has them
 pub record AreWordsOf (sli : ℕ) (part : List Kind) (words : Option ℕ) : Type 0 where
-  pub some : (n : ℕ) → words ≡ Some n → HasWords sli part × (n ≡ kinds_words sli part)
+  pub some : (n : ℕ) → words ≡ Some n → HasWords sli part × (n ≡ fixed_kinds_words sli part)
   pub none : words ≡ None → ¬ (HasWords sli part)
 
 module _ (sli heaps n : ℕ) (kinds : List Kind) (some : 0 < n) (within : n ≤ length kinds) where
@@ -63,12 +63,12 @@ module _ (sli heaps n : ℕ) (kinds : List Kind) (some : 0 < n) (within : n ≤ 
   no_rest lacks [] cut just = just
   no_rest lacks (part ∷ parts) cut just = lacks parts ((begins n kinds part (joined parts) cut.0 just.0).behind, cut.1.1) just.1
 
-  least_with : (words : ℕ) (rest : Split) → words ≡ kinds_words sli (take n kinds) → IsLeastAmong sli (HasAtMost heaps) (drop n kinds) rest
+  least_with : (words : ℕ) (rest : Split) → words ≡ fixed_kinds_words sli (take n kinds) → IsLeastAmong sli (HasAtMost heaps) (drop n kinds) rest
       → (parts : List (List Kind)) → IsCut sli kinds parts → HasJust heaps n parts → words + rest.words ≤ words_together sli parts
   least_with words rest is best [] cut just = absurd just
   least_with words rest is best (part ∷ parts) cut just =
       let begin = begins n kinds part (joined parts) cut.0 just.0 in
-      let first = ap (kinds_words sli) begin.first in
+      let first = ap (fixed_kinds_words sli) begin.first in
       omega (arith, is, first, best.least parts (begin.behind, cut.1.1) just.1)
 
   with_first_best : (words : Option ℕ) (rest : Option Split) → AreWordsOf sli (take n kinds) words → IsBest sli heaps (drop n kinds) rest → AreSmall 7 rest
@@ -87,9 +87,9 @@ module _ (sli heaps n : ℕ) (kinds : List Kind) (some : 0 < n) (within : n ≤ 
         least = least_with words rest has.1 best;
       }
 
-pub are_words : (sli : ℕ) (part : List Kind) (words : Option ℕ) → IfSome words (λ n. HasWords sli part × (n ≡ kinds_words sli part)) → (words ≡ None → ¬ (HasWords sli part)) → AreWordsOf sli part words
+pub are_words : (sli : ℕ) (part : List Kind) (words : Option ℕ) → IfSome words (λ n. HasWords sli part × (n ≡ fixed_kinds_words sli part)) → (words ≡ None → ¬ (HasWords sli part)) → AreWordsOf sli part words
 are_words sli part None some none = record { some = λ n is. absurd cc; none = none }
-are_words sli part (Some words) some none = record { some = λ n is. let same : words ≡ n = cc in subst (λ (k : ℕ). HasWords sli part × (k ≡ kinds_words sli part)) same some; none = λ is. absurd cc }
+are_words sli part (Some words) some none = record { some = λ n is. let same : words ≡ n = cc in subst (λ (k : ℕ). HasWords sli part × (k ≡ fixed_kinds_words sli part)) same some; none = λ is. absurd cc }
 
 pub most_words_most : (sli : ℕ) → IsLevel sli → most_words sli ≤ 2 ^ 24
 most_words_most = by_level (λ sli. most_words sli ≤ 2 ^ 24) (omega arith) (omega arith)

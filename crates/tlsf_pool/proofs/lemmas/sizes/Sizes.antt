@@ -5,11 +5,9 @@ use Rattle.std.proofs.Math.Nat.{mul-le-mul}
 use Rattle.tlsf_class.specs.Classes.{IsLevel, most_words, low, classes, search_of}
 use Rattle.tlsf_class.proofs.TwoLevels.{by_level}
 use Rattle.tlsf_heap.specs.Blocks.{want}
-use Rattle.tlsf_heap.specs.Lawful.{IsRegion}
 use Rattle.tlsf_pool.specs.laws.Room.{sure}
 use Rattle.tlsf_pool.specs.laws.Kinds.{are_fours, count_in, kinds_words, resized_words, HasClass}
 use Rattle.tlsf_pool.specs.laws.OneLarge.{longest_of}
-use Rattle.tlsf_pool.specs.laws.Pools.{pool_words, HasRegion}
 use Rattle.tlsf_pool.specs.declared.kind.Kind.{Kind}
 use Rattle.tlsf_pool.proofs.lemmas.laws.FreeRoom.{sure_rises}
 use Rattle.tlsf_pool.specs.sizes.Limits.{most_kinds}
@@ -80,14 +78,6 @@ kinds_of_more sli kinds is = ap (λ (c : Bool). cond c (max 4 (count_in kinds * 
 -- the largest region has words
 pub some_words : (sli : ℕ) → IsLevel sli → 4 ≤ most_words sli
 some_words = by_level (λ sli. 4 ≤ most_words sli) (omega arith) (omega arith)
-
--- where a class has blocks for the longest request, a region has the words of a pool just where there is one for it
-pub region_words : (sli most longest words : ℕ) → words ≡ pool_words sli most longest → want longest ≤ most_words sli
-    → (IsRegion sli words → HasRegion sli most longest) × (HasRegion sli most longest → IsRegion sli words)
-region_words sli most longest words same class = (
-  λ region. (class, (omega (arith, same, region.0), omega (arith, same, region.1))),
-  λ has. (omega (arith, same, has.1.0), omega (arith, same, has.1.1)),
-)
 
 -- the longest request of a table has a class
 pub longest_class : (sli : ℕ) → IsLevel sli → (kinds : List Kind) → AllByRecursion (HasClass sli) kinds → want (longest_of kinds) ≤ most_words sli

@@ -1,5 +1,5 @@
-use Rattle.std.proofs.Common.{rules, ◌<◌, ◌≤◌, sym, subst}
-use Rattle.tlsf_pool.specs.pools.Bounds.{Bounds, IsPool}
+use Rattle.std.proofs.Common.{rules, ◌<◌, ◌+◌, sym, subst}
+use Rattle.tlsf_pool.specs.pools.Bounds.{Bounds, IsPool, pool_allocated}
 use Rattle.tlsf_pool.proofs.lemmas.pools.PoolKept.{given_pool}
 use Rattle.tlsf_pool.proofs.pools.one.OneLedger.give.Goals as goal
 
@@ -10,5 +10,5 @@ overflow_add-self g c =
 
 pub returns-clause-holds : goal.returns-clause-holds
 returns-clause-holds g c = λ sli h name is answer.
-    let admits = subst (λ (p : Bounds). (c.args._len ≤ p.longest) × (p.held < p.most)) (sym c.self.view_is) c.requires.admits in
-    given_pool sli h _ (subst (IsPool sli h) (sym c.self.view_is) is) c.args._len name admits.0 admits.1 answer
+    let given = given_pool sli h c.args.self.now is c.args._len name c.requires.admits.0 c.requires.admits.1 answer in
+    subst (λ (p : Bounds). IsPool sli (pool_allocated sli h c.args.self.now c.args._len).heap (record p { held = p.held + 1 })) (sym c.self.view_is) given

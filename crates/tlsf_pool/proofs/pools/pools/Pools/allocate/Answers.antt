@@ -1,11 +1,11 @@
 use Rattle.std.proofs.Common.{◌≡◌, ◌≢◌, ◌↔◌, List, Some, None, Err, set, refl, sym, ap, ◌∙◌, subst}
 use Rattle.std.specs.Prelude.{IfOk, IfSome, IsErrOf, IsOk, IsSomeAnd, OnOk}
-use Rattle.tlsf_heap.specs.Calls.{allocated, last_tick}
+use Rattle.tlsf_heap.specs.Calls.{last_tick}
 use Rattle.tlsf_heap.specs.declared.refusal.Refusal.TheVariants.{NoFit}
 use Rattle.tlsf_pool.specs.declared.pools.pool_refusal.PoolRefusal.TheVariants.{Full, TooLong}
-use Rattle.tlsf_pool.specs.pools.Parts.{HasRow, PoolsState, held_by, held_in, part_at, part_in, part_named, part_of, rows_in, table_of}
-use Rattle.tlsf_pool.specs.pools.Tables.{HasPlace, HoldsOneMore, IsFull, TableState, row_of}
-use Rattle.tlsf_pool.proofs.lemmas.pools.Heaps.{given_number, if_part, is_part, lift_iff, lift_kept, not_none, on_ok, part_has}
+use Rattle.tlsf_pool.specs.pools.Parts.{Allocates, HasRow, PoolsState, held_by, held_in, part_at, part_in, part_named, part_of, rows_in, table_of}
+use Rattle.tlsf_pool.specs.pools.Tables.{HasPlace, HoldsOneMore, IsFull, TableState, row_of, table_allocated}
+use Rattle.tlsf_pool.proofs.lemmas.pools.Heaps.{given_number, if_part, is_part, left_given, lift_both, lift_iff, lift_kept, not_none, on_ok, part_has}
 use Rattle.tlsf_pool.proofs.lemmas.pools.WholeTable.{held_given, long_row, no_whole_row, row_given, rows_kept}
 use Rattle.tlsf_pool.proofs.pools.pools.Pools.allocate.Goals as goal
 
@@ -19,6 +19,27 @@ invariant_of-self g c =
 
 pub returns-clause-pools : goal.returns-clause-pools
 returns-clause-pools g c = invariant_of-self g c
+
+pub returns-clause-allocates : goal.returns-clause-allocates
+returns-clause-allocates g c =
+    let p : PoolsState = record { id = c.self.inside.id; parts = c.self.inside.parts.items } in
+    let found : part_in p.parts c.args.len ≡ Some c.in-Some.part = sym (c.in-Some.ensures ∙ ap (λ (parts : List TableState). part_in parts c.args.len) c.deref.ensures.value) in
+    let e = c.allocate.ensures in
+    let heap = on_ok _ c.allocate.result e.tells.ok e.heap in
+    let here : Allocates g.row.SLI c.index_mut.result.now c.allocate.new.self c.args.len c.allocate.result = record {
+      answer_is = e.tells.name;
+      heap = heap;
+      counts = e.given;
+      err = e.err;
+      kinds = e.limits;
+      touches = e.words_touches;
+      given = left_given _ _ _ c.allocate.result heap e.tells.given;
+      rise = e.keeps.touches_rise;
+      leaves = e.leaves;
+    } in
+    subst (λ (q : PoolsState). IfSome (part_of q c.args.len) (λ i. Allocates g.row.SLI (part_at q i) (part_at (record { id = p.id; parts = set p.parts c.in-Some.part c.allocate.new.self }) i) c.args.len c.allocate.result)) c.self.view_is
+    (lift_both p c.in-Some.part c.index_mut.result.now c.allocate.new.self (part_of p c.args.len) found (part_has p.parts c.args.len c.in-Some.part found).0 c.index_mut.ensures.value
+    (λ old new. Allocates g.row.SLI old new c.args.len c.allocate.result) here)
 
 pub returns-clause-ok : goal.returns-clause-ok
 returns-clause-ok g c =
@@ -41,9 +62,9 @@ returns-clause-room g c =
     let p : PoolsState = record { id = c.self.inside.id; parts = c.self.inside.parts.items } in
     let found : part_in p.parts c.args.len ≡ Some c.in-Some.part = sym (c.in-Some.ensures ∙ ap (λ (parts : List TableState). part_in parts c.args.len) c.deref.ensures.value) in
     let own = is_part p c.in-Some.part c.index_mut.result.now (part_has p.parts c.args.len c.in-Some.part found).0 c.index_mut.ensures.value in
-    subst (λ (q : PoolsState). IfSome (part_of q c.args.len) (λ i. HasPlace (part_at q i).ledger c.args.len → (allocated g.row.SLI (part_at q i).heap c.args.len).answer ≢ Err NoFit)) c.self.view_is
-    (if_part (λ i. HasPlace (part_at p i).ledger c.args.len → (allocated g.row.SLI (part_at p i).heap c.args.len).answer ≢ Err NoFit) (part_of p c.args.len) c.in-Some.part found
-    (subst (λ (t : TableState). HasPlace t.ledger c.args.len → (allocated g.row.SLI t.heap c.args.len).answer ≢ Err NoFit) own c.allocate.ensures.tells.room))
+    subst (λ (q : PoolsState). IfSome (part_of q c.args.len) (λ i. HasPlace (part_at q i).ledger c.args.len → (table_allocated g.row.SLI (part_at q i).heap (part_at q i).ledger c.args.len).answer ≢ Err NoFit)) c.self.view_is
+    (if_part (λ i. HasPlace (part_at p i).ledger c.args.len → (table_allocated g.row.SLI (part_at p i).heap (part_at p i).ledger c.args.len).answer ≢ Err NoFit) (part_of p c.args.len) c.in-Some.part found
+    (subst (λ (t : TableState). HasPlace t.ledger c.args.len → (table_allocated g.row.SLI t.heap t.ledger c.args.len).answer ≢ Err NoFit) own c.allocate.ensures.tells.room))
 
 pub returns-clause-too_long : goal.returns-clause-too_long
 returns-clause-too_long g c =

@@ -1,19 +1,18 @@
 use Rattle.std.proofs.Common.{◌≡◌, ℕ, List, length, replicate, sym, ap, ◌∙◌, subst, arith, rules}
 use Rattle.tlsf_heap.specs.Lawful.{IsRegion}
 use Rattle.tlsf_heap.specs.Calls.{opened}
-use Rattle.tlsf_pool.specs.laws.Kinds.{kinds_words}
+use Rattle.tlsf_pool.specs.laws.FixedSize.{fixed_kinds_words}
 use Rattle.tlsf_pool.specs.declared.kind.Kind.{Kind}
 use Rattle.tlsf_pool.specs.sizes.Splits.{HasWords}
 use Rattle.tlsf_heap.specs.ledger.Ledgers.{IsLedgered}
 use Rattle.tlsf_pool.specs.pools.Tables.{IsTable}
 use Rattle.tlsf_pool.proofs.lemmas.pools.TableKept.{new_table}
-use Rattle.tlsf_pool.proofs.lemmas.pools.Served.{words_least}
 use Rattle.tlsf_pool.proofs.pools.table.TablePoolTablePoolCalls.open.Goals as goal
 
 pub returns-in_err-heap-clause-bad_size : goal.returns-in_err-heap-clause-bad_size
 returns-in_err-heap-clause-bad_size g c =
     let some = c.in-Some.ensures.some in
-    let region : IsRegion g.row.SLI c.in-Some.words = (omega (arith, some.1, words_least g.row.SLI c.args.kinds.now), omega (arith, some.1, some.0.1)) in
+    let region : IsRegion g.row.SLI c.in-Some.words = (omega (arith, some.1), omega (arith, some.1, some.0.1)) in
     let into : HasWords g.row.SLI c.args.kinds.now → IsRegion g.row.SLI c.in-Some.words = λ _. region in
     let back : IsRegion g.row.SLI c.in-Some.words → HasWords g.row.SLI c.args.kinds.now = λ _. some.0 in
     let refused = c.in_err-heap.ensures.bad_size in
@@ -22,7 +21,7 @@ returns-in_err-heap-clause-bad_size g c =
 pub returns-in_err-heap-clause-worn : goal.returns-in_err-heap-clause-worn
 returns-in_err-heap-clause-worn g c =
     let some = c.in-Some.ensures.some in
-    let region : IsRegion g.row.SLI c.in-Some.words = (omega (arith, some.1, words_least g.row.SLI c.args.kinds.now), omega (arith, some.1, some.0.1)) in
+    let region : IsRegion g.row.SLI c.in-Some.words = (omega (arith, some.1), omega (arith, some.1, some.0.1)) in
     let worn = c.in_err-heap.ensures.worn region in
     λ _. search (rules, worn.0, worn.1)
 
@@ -30,7 +29,7 @@ pub new-requires : goal.new-requires
 new-requires g c =
     let some = c.in-Some.ensures.some in
     let none : c.in-Ok-from_elem.held.items ≡ replicate (length c.args.kinds.now) 0 = search rules in
-    let heap : c.in_ok-heap.heap.heap ≡ opened c.args.id (kinds_words g.row.SLI c.args.kinds.now) c.args.first = c.in_ok-heap.ensures.heap ∙ ap (λ (n : ℕ). opened c.args.id n c.args.first) some.1 in
+    let heap : c.in_ok-heap.heap.heap ≡ opened c.args.id (fixed_kinds_words g.row.SLI c.args.kinds.now) c.args.first = c.in_ok-heap.ensures.heap ∙ ap (λ (n : ℕ). opened c.args.id n c.args.first) some.1 in
     let holds = subst (λ (ks : List Kind). IsTable g.row.SLI c.in_ok-heap.heap.heap (record { kinds = ks; held = c.in-Ok-from_elem.held.items })) (sym c.in-Ok.ensures.items)
     (new_table g.row.SLI c.args.id c.args.first c.args.kinds.now _ _ c.requires.level some.0.0 c.requires.few none c.in_ok-heap.ensures.lawful heap) in
     let is : IsLedgered (IsTable g.row.SLI) (record { heap = c.in_ok-heap.heap.heap; ledger = record { kinds = c.in-Ok.rows.items; held = c.in-Ok-from_elem.held.items }; extents = c.in_ok-heap.heap.extents; touches = c.in_ok-heap.heap.touches; touched = c.in_ok-heap.heap.touched }) =
