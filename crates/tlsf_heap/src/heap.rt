@@ -392,7 +392,8 @@ impl<const SLI: u32> Heap<SLI> {
     /// heap.write(name, 6, &[0x48, 0x69]) == Ok(())
     /// heap.write(name, 7, &[0x48, 0x69]) == Err(Refusal::Range)
     /// ```
-    #[inline]
+    // Always inline, as `read` is: behind a call each saves registers that a short payload needs none of.
+    #[inline(always)]
     pub fn write(&mut self, name: Name, at: u32, bytes: &[u8]) -> Result<(), Refusal>
         ensures answer { result ≡ (written self.old.heap name at bytes.now).answer }
         ensures heap { self.new.heap ≡ (written self.old.heap name at bytes.now).heap }
@@ -420,7 +421,7 @@ impl<const SLI: u32> Heap<SLI> {
     /// let mut out = [0; 2];
     /// heap.read(name, 6, &mut out)?;          // after the write above: out == [0x48, 0x69]
     /// ```
-    #[inline]
+    #[inline(always)]
     pub fn read(&mut self, name: Name, at: u32, out: &mut [u8]) -> Result<(), Refusal>
         ensures answer { result ≡ read_answer (read_of self.old.heap name at (length out.old)) }
         ensures bytes { out.new ≡ result_unwrap_or (read_of self.old.heap name at (length out.old)) out.old }
