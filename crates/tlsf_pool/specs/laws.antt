@@ -1,7 +1,7 @@
 -- The laws: what they say of any heap, and the sizes that they name.
 pub mod Room
 pub mod Held
-pub mod Pools
+pub mod MixedSizes
 pub mod Kinds
 pub mod OneLarge
 pub mod FixedSize

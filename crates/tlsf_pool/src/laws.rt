@@ -3,7 +3,7 @@
 pub(crate) mod contents;
 pub(crate) mod fixed_size;
 pub(crate) mod kinds;
+pub(crate) mod mixed_sizes;
 pub(crate) mod one_large;
 pub(crate) mod places;
-pub(crate) mod pools;
 pub(crate) mod room;

@@ -27,7 +27,7 @@
 //! # Sizes
 //!
 //! Of a pool, [`fixed_region`] tells the words for one kind, [`fixed_kinds_words`] those for several, and [`cheapest_split`] how these
-//! are given to several heaps by the fewest words. Of a heap whose blocks have the words of their own requests, [`pool_region`] tells
+//! are given to several heaps by the fewest words. Of a heap whose blocks have the words of their own requests, [`mixed_region`] tells
 //! the words for one kind, [`kinds_words`] those for several, [`one_large_words`] how many are enough for one large block beside small
 //! ones, [`most_blocks`] and [`longest_request`] how far the greatest region goes.
 //!
@@ -39,7 +39,7 @@
 //! | A user knows | So | Law |
 //! |---|---|---|
 //! | how many words are free, and how many blocks are live | whether a request finds room, however the free words are cut up | [`enough_free_words_serve`] |
-//! | the greatest number of blocks held at once, and the greatest request | how many words of region are enough for ever | [`pool_never_refuses`] |
+//! | the greatest number of blocks held at once, and the greatest request | how many words of region are enough for ever | [`mixed_sizes_suffice`] |
 //! | the same, and gives each block the words of the greatest | about half as many | [`fixed_size_suffices`] |
 //! | a table of sizes, with how many of each may be held | the same by sums | [`kinds_suffice`] |
 //! | the same, with one block in it that is longer than all others, and no resize | fewer words where it is much longer | [`one_large_suffices`] |
@@ -62,9 +62,9 @@ pub use kind::Kind;
 pub use laws::contents::heap_is_a_map;
 pub use laws::fixed_size::fixed_size_suffices;
 pub use laws::kinds::kinds_suffice;
+pub use laws::mixed_sizes::mixed_sizes_suffice;
 pub use laws::one_large::one_large_suffices;
 pub use laws::places::{names_share_no_word, whole_again};
-pub use laws::pools::pool_never_refuses;
 pub use laws::room::{blocks_are_snug, enough_free_words_serve};
 pub use pools::one::{One, Pool, PoolCalls};
 pub use pools::pool_refusal::PoolRefusal;
@@ -73,6 +73,6 @@ pub use pools::table::{Table, TablePool, TablePoolCalls};
 pub use sizes::fixed_size::{fixed_kinds_words, fixed_region};
 pub use sizes::greatest::{longest_request, most_blocks};
 pub use sizes::one_large::one_large_words;
-pub use sizes::region::pool_region;
+pub use sizes::region::mixed_region;
 pub use sizes::sizing::{kinds_words, most_bytes};
 pub use sizes::split::{MOST_HEAPS, MOST_SPLIT, Split, cheapest_split};

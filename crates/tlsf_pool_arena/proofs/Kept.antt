@@ -1,217 +1,181 @@
--- An arena keeps to its bounds through its calls.
-use Rattle.std.specs.Prelude.{IsSome}
+-- An arena of blocks of a fixed size: what its calls answer and leave.
+use Rattle.std.specs.Prelude.{◌↔◌, IfErr, IsSome, MatchResult}
 use base.Fml.{GName}
-use Rattle.std.proofs.Common.{◌≡◌, ◌≢◌, ℕ, ◌+◌, ◌-◌, ◌*◌, ◌<◌, ◌≤◌, true, false, List, [], ◌∷◌, ◌++◌, length, Option, Result, Ok, refl, sym, ap, ◌∙◌, subst, inl, inr, arith}
-use Rattle.std.proofs.lemmas.Bool.{false≢true, cases_lt}
+use Rattle.std.proofs.Common.{◌≡◌, ◌≢◌, ℕ, ◌+◌, ◌-◌, ◌*◌, ◌<◌, ◌≤◌, Bool, true, false, cond, [], ◌∷◌, Option, Some, Result, Ok, Err, IsOk, refl, sym, ap, ◌∙◌, subst, arith, eq-eqb}
+use Rattle.std.proofs.Math.Nat.{mul-le-mul}
+use Rattle.std.proofs.lemmas.Bool.{false≢true, eqb-true, le-ltb}
 use Rattle.linked_list_allocator.specs.Region.{Region}
-use Rattle.tlsf_class.specs.Classes.{most_words}
-use Rattle.tlsf_heap.specs.Blocks.{Block, Live, Free, HeapState, size_of, want}
-use Rattle.tlsf_heap.specs.GoodFit.{Site, fits, is_fit}
+use Rattle.tlsf_heap.specs.Blocks.{Block, Live, Free, HeapState, size_of}
+use Rattle.tlsf_heap.specs.GoodFit.{Site, fits}
 use Rattle.tlsf_heap.specs.Lawful.{IsLawful}
 use Rattle.tlsf_heap.specs.Laws.{IsLive}
-use Rattle.tlsf_heap.specs.Reports.{live_among}
-use Rattle.tlsf_heap.specs.Calls.{Outcome, Release, Released, carved, has_serial, last_tick, past_free, refitted, released, resized_words}
+use Rattle.tlsf_heap.specs.Calls.{Outcome, Allocate, Allocated, Release, Released, Resize, allocated_words, has_serial, is_worn, last_tick, named, refused, released, resized_at, resized_words, room_of}
 use Rattle.tlsf_heap.specs.declared.name.Name.{Name}
 use Rattle.tlsf_heap.specs.declared.refusal.Refusal.{Refusal}
-use Rattle.tlsf_heap.proofs.lemmas.blocks.Replace.{carved_small, carved_large}
+use Rattle.tlsf_heap.specs.declared.refusal.Refusal.TheVariants.{Foreign, NoRoom, Worn}
 use Rattle.tlsf_heap.proofs.lemmas.blocks.Find.{and_left}
-use Rattle.tlsf_heap.proofs.lemmas.blocks.Lawful.{all_append}
 use Rattle.tlsf_heap.proofs.lemmas.laws.Live.{new_words}
-use Rattle.tlsf_heap.proofs.lemmas.calls.Outcomes.{IsSiteOf, by_allocated_words, by_resized_words, gives_words, lawful_allocated_words, lawful_resized_words, resizes}
-use Rattle.tlsf_heap.proofs.lemmas.laws.NoFit.{no_fit}
+use Rattle.tlsf_heap.proofs.lemmas.calls.Outcomes.{by_allocated_words, by_resized_words, lawful_allocated_words, lawful_resized_words, lawful_run, named_site, resizes}
+use Rattle.tlsf_pool.specs.laws.FixedSize.{HasFixedSize, IsFixedSize}
 use Rattle.tlsf_pool.specs.laws.Held.{held_after}
-use Rattle.tlsf_pool.specs.laws.Pools.{BeginAtFours, IsSmall}
-use Rattle.tlsf_pool.specs.laws.Room.{live_count}
-use Rattle.tlsf_pool.proofs.lemmas.laws.Around.{around_site}
-use Rattle.tlsf_pool.proofs.lemmas.laws.Fours.{fours_given, fours_resized}
+use Rattle.tlsf_pool.specs.laws.Room.{live_count, sure}
+use Rattle.tlsf_pool.proofs.lemmas.laws.Around.{around_site, words_kept}
+use Rattle.tlsf_pool.proofs.lemmas.laws.FixedCalls.{held_fixed}
+use Rattle.tlsf_pool.proofs.lemmas.laws.FixedSize.{finds_fixed, fixed_kept, sure_again, sure_region}
+use Rattle.tlsf_pool.proofs.lemmas.laws.FreeRoom.{sure_enough}
 use Rattle.tlsf_pool.proofs.lemmas.laws.Held.{held_is}
-use Rattle.tlsf_pool.proofs.lemmas.laws.ModestCalls.{AreSmall, InPool, has_room, kept, small_carved, small_refitted}
-use Rattle.tlsf_pool.proofs.lemmas.laws.Refits.{by_refit}
 use Rattle.tlsf_arena.specs.Arenas.{Holds, requested, refitted as refitted_to}
-use Rattle.tlsf_arena.specs.Places.{IsUnit, lacking, units_for}
-use Rattle.tlsf_arena.proofs.UnitCases.{by_unit}
-use Rattle.tlsf_pool_arena.specs.PoolArenas.{IsPoolArena, PoolArenaState, length_for}
+use Rattle.tlsf_arena.specs.Places.{lacking, piece_size, units_for}
+use Rattle.tlsf_pool_arena.specs.PoolArenas.{IsPoolArena, PoolArenaState, fixed_bytes, fixed_size}
+use Rattle.tlsf_pool_arena.proofs.UnitWords.{lacks_few, units_again, units_rise}
 
--- ---- words and lengths
+-- where a block has the words that are wanted, a resize is refused at the last tick alone
+resize_of : (h : HeapState) (name : Name) (n len : ℕ) (t : Site) → name.heap ≡ h.id → named name h.blocks ≡ Some t → n ≤ room_of t.block t.after
+    → resized_words h name n len ≡ cond (is_worn h) (refused h Worn) (resizes h n len t)
+resize_of h name n len t own found room =
+    ap (λ (b : Bool). cond b (resized_at h n len (named name h.blocks)) (refused h Foreign)) (eq-eqb name.heap h.id own)
+    ∙ ap (resized_at h n len) found
+    ∙ ap (λ (b : Bool). cond b (refused h NoRoom) (cond (is_worn h) (refused h Worn) (resizes h n len t))) (le-ltb (room_of t.block t.after) n room)
 
--- a payload of so many bytes wants k words
-wants : (k : ℕ) → 4 ≤ k → want (8 * (k - 3)) ≡ k
-wants k least = omega (arith, least)
+sized : (s serial : ℕ) (b : Block) → has_serial serial b ≡ true → IsFixedSize s b → s ≤ size_of b
+sized s serial (Live m k xs) own size = (size refl).0
+sized s serial (Free m k) own size = absurd (false≢true own)
 
-least_units : (u n : ℕ) → 4 ≤ units_for u n
-least_units u n = omega arith
+module _ (sli u : ℕ) (p : PoolArenaState) (is : IsPoolArena sli u p) where
+  abbrev s : ℕ
+  s = fixed_size sli u p.longest
 
-pub wants_units : (u n : ℕ) → want (length_for u n) ≡ units_for u n
-wants_units u n = wants (units_for u n) (least_units u n)
+  again : sure sli s ≡ s
+  again = sure_again sli is.level (units_for u p.longest) is.class
 
-units_rise : (u a b : ℕ) → IsUnit u → a ≤ b → units_for u a ≤ units_for u b
-units_rise u a b unit h = by_unit (λ u. units_for u a ≤ units_for u b) (omega (arith, h)) (omega (arith, h)) (omega (arith, h)) u unit
+  pub four : 4 ≤ fixed_size sli u p.longest
+  four = (sure_region sli is.level s again).0
 
-lengths_rise : (u a b : ℕ) → IsUnit u → a ≤ b → length_for u a ≤ length_for u b
-lengths_rise u a b unit h = omega (arith, units_rise u a b unit h)
+  -- a request takes the units of each block
+  pub units_are : units_for u (fixed_bytes sli u p.longest) ≡ fixed_size sli u p.longest
+  units_are = units_again u s is.unit four
 
-lacks_few : (u n : ℕ) → want (lacking (units_for u n)) ≤ units_for u n
-lacks_few u n = omega (arith, least_units u n)
+  -- while fewer blocks are held than may be, it finds room
+  pub room : p.held < p.most → ¬ (fits sli (fixed_size sli u p.longest) p.heap.blocks ≡ [])
+  room few = finds_fixed sli is.level s p.most p.heap is.lawful is.fixed again is.words (omega (arith, is.live, few))
 
--- ---- what a request adds
+  -- a block is no shorter than its request gets
+  pub is_long : (len : ℕ) → len ≤ p.longest → piece_size u len ≤ fixed_bytes sli u p.longest
+  is_long len short =
+      let enough : units_for u len ≤ s = omega (arith, units_rise u len p.longest is.unit short, sure_enough sli is.level (units_for u p.longest) is.class) in
+      mul-le-mul (same u) enough
+    where
+      same : (n : ℕ) → n ≤ n
+      same n = omega arith
 
-count_append : (xs ys : List Block) → length (live_among (xs ++ ys)) ≡ length (live_among xs) + length (live_among ys)
-count_append [] ys = omega arith
-count_append (Live m s b ∷ xs) ys = let e = count_append xs ys in omega (arith, e)
-count_append (Free m s ∷ xs) ys = count_append xs ys
+  module _ (bytes : ℕ) (bytes_are : bytes ≡ fixed_bytes sli u p.longest) where
+    pub units_of_each : units_for u bytes ≡ fixed_size sli u p.longest
+    units_of_each = ap (units_for u) bytes_are ∙ units_are
 
-count_carved : (size n tick len : ℕ) → length (live_among (carved size n tick len)) ≡ 1
-count_carved size n tick len = elim (cases_lt size (n + 4)) [
-  | inl small ↦ ap (λ (l : List Block). length (live_among l)) (carved_small size n tick len small)
-  | inr large ↦ ap (λ (l : List Block). length (live_among l)) (carved_large size n tick len large)
-]
+    pub size_of_each : piece_size u bytes ≡ fixed_bytes sli u p.longest
+    size_of_each = ap (λ (k : ℕ). u * k) units_of_each
 
-count_free : (sli n : ℕ) (b : Block) (bs : List Block) → is_fit sli n b ≡ true → length (live_among (b ∷ bs)) ≡ length (live_among bs)
-count_free sli n (Live m s xs) bs fit = absurd (false≢true fit)
-count_free sli n (Free m s) bs fit = refl
+    -- what the heap is asked for
+    asked : requested sli u p.heap bytes ≡ allocated_words sli p.heap s (lacking s)
+    asked = ap (requested sli u p.heap) bytes_are ∙ ap (λ (k : ℕ). allocated_words sli p.heap k (lacking k)) units_are
 
-count_given : (sli n len : ℕ) (h : HeapState) (s : Site) → IsSiteOf h.blocks s → is_fit sli n s.block ≡ true → live_count (gives_words h n len s).heap ≡ live_count h + 1
-count_given sli n len h s site fit =
-    let new : List Block = carved (size_of s.block) n h.tick len in
-    omega (
-      arith,
-      ap (λ (l : List Block). length (live_among l)) site,
-      count_append s.before (s.block ∷ s.after),
-      count_free sli n s.block s.after fit,
-      count_append (s.before ++ new) s.after,
-      count_append s.before new,
-      count_carved (size_of s.block) n h.tick len,
-    )
+    asked_again : (name : Name) → refitted_to u p.heap name bytes ≡ resized_words p.heap name s (lacking s)
+    asked_again name = ap (refitted_to u p.heap name) bytes_are ∙ ap (λ (k : ℕ). resized_words p.heap name k (lacking k)) units_are
 
--- ---- what a resize leaves
+    -- after an allocate that gave a name
+    pub given : (name : Name) (left : HeapState) (region : Region) (book : GName) (touches : ℕ) → p.held < p.most → (requested sli u p.heap bytes).answer ≡ Ok name → left ≡ (requested sli u p.heap bytes).heap
+        → IsPoolArena sli u (record { heap = left; region = region; book = book; most = p.most; longest = p.longest; held = p.held + 1; touches = touches })
+    given name left region book touches few answer heap =
+        let o : Outcome Name = allocated_words sli p.heap s (lacking s) in
+        let there : left ≡ o.heap = heap ∙ ap (λ (o : Outcome Name). o.heap) asked in
+        let named : o.answer ≡ Ok name = sym (ap (λ (o : Outcome Name). o.answer) asked) ∙ answer in
+        let words : o.heap.words ≡ p.heap.words = by_allocated_words sli (λ o. o.heap.words ≡ p.heap.words) p.heap s (lacking s) (λ why. refl) (λ t site fit. refl) in
+        let counts = ap (λ (r : Result Name Refusal). held_after (live_count p.heap) (Allocate (lacking s)) (Allocated r)) named in
+        record {
+          level = is.level;
+          unit = is.unit;
+          lawful = subst IsLawful (sym there) (lawful_allocated_words sli is.level p.heap s (lacking s) (lacks_few s four) is.lawful);
+          words = omega (arith, is.words, words, ap (λ (h : HeapState). h.words) there);
+          class = is.class;
+          live = ap live_count there ∙ held_fixed sli s p.heap (Allocate (lacking s)) ∙ counts ∙ ap (λ (n : ℕ). n + 1) is.live;
+          few = omega (arith, few);
+          fixed = subst (HasFixedSize s) (sym there) ((fixed_kept sli is.level s p.heap is.fixed).allocate (lacking s));
+        }
 
-count_past : (bs : List Block) → length (live_among (past_free bs)) ≡ length (live_among bs)
-count_past [] = refl
-count_past (Live m s xs ∷ bs) = refl
-count_past (Free m s ∷ bs) = refl
+    -- an arena that refuses within the bounds is at its last tick
+    pub worn : (q : PoolArenaState) (len : ℕ) → q ≡ p → ((¬ (fits sli (units_for u bytes) p.heap.blocks ≡ []) × ¬ (p.heap.tick ≡ last_tick)) → false ≡ true)
+        → ((len ≤ q.longest) × (q.held < q.most) × ¬ (q.heap.tick ≡ last_tick)) → false ≡ true
+    worn q len same refused =
+        subst (λ (x : PoolArenaState). ((len ≤ x.longest) × (x.held < x.most) × ¬ (x.heap.tick ≡ last_tick)) → false ≡ true) (sym same)
+        (λ h. refused (subst (λ (k : ℕ). ¬ (fits sli k p.heap.blocks ≡ [])) (sym units_of_each) (room h.1), h.2))
 
-count_refitted : (tick n len serial : ℕ) (b : Block) (bs : List Block) → has_serial serial b ≡ true → length (live_among (refitted tick n len b bs)) ≡ length (live_among (b ∷ bs))
-count_refitted tick n len serial (Free m s) bs e = absurd (false≢true e)
-count_refitted tick n len serial (Live m s xs) bs e =
-    let past = count_past bs in
-    by_refit (λ l. length (live_among l) ≡ length (live_among (Live m s xs ∷ bs))) tick n len m s xs bs (λ enough few. omega arith) (λ large. omega (arith, past)) (λ small. omega (arith, past))
+    -- the name that is given is no block's that is held
+    pub is_new : (name other : Name) (units : ℕ) → (requested sli u p.heap bytes).answer ≡ Ok name → Holds p.heap other units → other ≢ name
+    is_new name other units answer holds same =
+        new_words sli p.heap (units_for u bytes) (lacking (units_for u bytes)) name is.lawful answer
+        (subst (IsLive p.heap) same (holds.1, subst (λ (o : Option Site). IsSome o) (sym holds.2) refl))
 
-count_resized : (h : HeapState) (n len serial : ℕ) (s : Site) → IsSiteOf h.blocks s → has_serial serial s.block ≡ true → live_count (resizes h n len s).heap ≡ live_count h
-count_resized h n len serial s site e =
-    let new : List Block = refitted h.tick n len s.block s.after in
-    omega (
-      arith,
-      ap (λ (l : List Block). length (live_among l)) site,
-      count_append s.before (s.block ∷ s.after),
-      count_append s.before new,
-      count_refitted h.tick n len serial s.block s.after e,
-    )
+    -- after a resize, done or refused
+    pub refit : (name : Name) (left : HeapState) (region : Region) (book : GName) (touches : ℕ) → left ≡ (refitted_to u p.heap name bytes).heap
+        → IsPoolArena sli u (record { heap = left; region = region; book = book; most = p.most; longest = p.longest; held = p.held; touches = touches })
+    refit name left region book touches heap =
+        let o : Outcome (Unit {0}) = resized_words p.heap name s (lacking s) in
+        let there : left ≡ o.heap = heap ∙ ap (λ (o : Outcome (Unit {0})). o.heap) (asked_again name) in
+        let words : o.heap.words ≡ p.heap.words = by_resized_words (λ o. o.heap.words ≡ p.heap.words) p.heap name s (lacking s) (λ why. refl) (λ t own site it room. refl) in
+        record {
+          level = is.level;
+          unit = is.unit;
+          lawful = subst IsLawful (sym there) (lawful_resized_words p.heap name s (lacking s) (lacks_few s four) is.lawful);
+          words = omega (arith, is.words, words, ap (λ (h : HeapState). h.words) there);
+          class = is.class;
+          live = ap live_count there ∙ held_fixed sli s p.heap (Resize name (lacking s)) ∙ is.live;
+          few = is.few;
+          fixed = subst (HasFixedSize s) (sym there) ((fixed_kept sli is.level s p.heap is.fixed).resize name (lacking s));
+        }
 
--- ---- the bounds
+    -- a resize of a block that is held is refused at the last tick alone
+    resize_is : (name : Name) (units : ℕ) (answer : Result (Unit {0}) Refusal) → Holds p.heap name units → (refitted_to u p.heap name bytes).answer ≡ answer
+        → (IsOk answer ↔ ¬ (p.heap.tick ≡ last_tick)) × ((why : Refusal) → answer ≡ Err why → why ≡ Worn)
+    resize_is name units answer holds is_answer = at (is_worn p.heap) refl
+      where
+        room_there : s ≤ room_of holds.0.block holds.0.after
+        room_there =
+            let site = named_site name p.heap.blocks holds.0 holds.2 in
+            let around = around_site (IsFixedSize s) p.heap holds.0 site.0 is.fixed.sizes in
+            omega (arith, sized s name.serial holds.0.block (and_left _ _ site.1) around.1)
 
-module _ (sli u : ℕ) where
-  in_pool : (p : PoolArenaState) → IsPoolArena sli u p → InPool p.heap.words (want (length_for u p.longest) + 3) p.heap
-  in_pool p is = record {
-    lawful = is.lawful;
-    words_are = refl;
-    small = subst (λ (k : ℕ). AreSmall (k + 3) p.heap.blocks) (sym (wants_units u p.longest)) is.small;
-    fours = λ few. is.fours (omega (arith, few, wants_units u p.longest));
-  }
+        same : refitted_to u p.heap name bytes ≡ cond (is_worn p.heap) (refused p.heap Worn) (resizes p.heap s (lacking s) holds.0)
+        same = asked_again name ∙ resize_of p.heap name s (lacking s) holds.0 holds.1 holds.2 room_there
 
-  in_class : (p : PoolArenaState) → IsPoolArena sli u p → want (length_for u p.longest) ≤ most_words sli
-  in_class p is = omega (arith, wants_units u p.longest, is.class)
+        told : (b : Bool) → is_worn p.heap ≡ b → answer ≡ (cond b (refused p.heap Worn) (resizes p.heap s (lacking s) holds.0)).answer
+        told b worn = sym is_answer ∙ ap (λ (o : Outcome (Unit {0})). o.answer) (same ∙ ap (λ (b : Bool). cond b (refused p.heap Worn) (resizes p.heap s (lacking s) holds.0)) worn)
 
-  -- a request within the bounds finds room
-  pub room : (p : PoolArenaState) (len : ℕ) → IsPoolArena sli u p → len ≤ p.longest → p.held < p.most → ¬ (fits sli (units_for u len) p.heap.blocks ≡ [])
-  room p len is short few none =
-      has_room sli is.level p.heap.words p.most (length_for u p.longest) (in_class p is) is.words p.heap (length_for u len) (in_pool p is) (lengths_rise u len p.longest is.unit short) (omega (arith, is.live, few))
-      ((no_fit sli p.heap (length_for u len)).1 (subst (λ (k : ℕ). fits sli k p.heap.blocks ≡ []) (sym (wants_units u len)) none))
+        at : (b : Bool) → is_worn p.heap ≡ b → (IsOk answer ↔ ¬ (p.heap.tick ≡ last_tick)) × ((why : Refusal) → answer ≡ Err why → why ≡ Worn)
+        at true worn = (((λ ok. absurd (false≢true (subst IsOk (told true worn) ok))), (λ fresh. absurd (fresh (eqb-true p.heap.tick last_tick worn)))), λ why is. let told = told true worn in cc)
+        at false worn = (((λ ok last. false≢true (sym worn ∙ eq-eqb p.heap.tick last_tick last)), (λ fresh. subst IsOk (sym (told false worn)) refl)), λ why is. let told = told false worn in absurd cc)
 
-  -- after an allocate that gave a name
-  pub given : (p : PoolArenaState) (len : ℕ) (name : Name) (left : HeapState) (region : Region) (book : GName) (touches : ℕ) → IsPoolArena sli u p → len ≤ p.longest → p.held < p.most → (requested sli u p.heap len).answer ≡ Ok name → left ≡ (requested sli u p.heap len).heap
-      → IsPoolArena sli u (record { heap = left; region = region; book = book; most = p.most; longest = p.longest; held = p.held + 1; touches = touches })
-  given p len name left region book touches is short few answer heap =
-      let n : ℕ = units_for u len in
-      let k : ℕ = units_for u p.longest + 3 in
-      let fits : n + 3 ≤ k = omega (arith, units_rise u len p.longest is.unit short) in
-      let Left : Outcome Name → Type 0 = λ o. o.answer ≡ Ok name → (live_count o.heap ≡ live_count p.heap + 1) × (o.heap.words ≡ p.heap.words) × AreSmall k o.heap.blocks × (units_for u p.longest ≤ 4 → BeginAtFours 0 o.heap.blocks) in
-      let left_is : Left (requested sli u p.heap len) = by_allocated_words sli Left p.heap n (lacking n) (λ why e. absurd (let no : ⊥ = cc in no)) (λ s site fit e.
-      let a = around_site (IsSmall k) p.heap s site is.small in (
-        count_given sli n (lacking n) p.heap s site fit,
-        refl,
-        all_append (IsSmall k) (s.before ++ carved (size_of s.block) n p.heap.tick (lacking n)) s.after
-            (all_append (IsSmall k) s.before (carved (size_of s.block) n p.heap.tick (lacking n)) a.0 (small_carved k (size_of s.block) n p.heap.tick (lacking n) fits)) a.2,
-        λ four. fours_given n p.heap.tick (lacking n) p.heap s (omega (arith, four, fits, least_units u len)) site (is.fours four),
-      )) in
-      let now = left_is answer in
-      record {
-        level = is.level;
-        unit = is.unit;
-        lawful = subst IsLawful (sym heap) (lawful_allocated_words sli is.level p.heap n (lacking n) (lacks_few u len) is.lawful);
-        words = omega (arith, is.words, now.1, ap (λ (h : HeapState). h.words) heap);
-        class = is.class;
-        live = ap live_count heap ∙ now.0 ∙ ap (λ (n : ℕ). n + 1) is.live;
-        few = omega (arith, few);
-        small = subst (λ (h : HeapState). AreSmall k h.blocks) (sym heap) now.2;
-        fours = λ four. subst (λ (h : HeapState). BeginAtFours 0 h.blocks) (sym heap) (now.3 four);
-      }
+    pub resize_ok : {A B : Type 0} (result : Result A (Refusal × B)) (name : Name) (units : ℕ) → Holds p.heap name units
+        → MatchResult result (λ _. (refitted_to u p.heap name bytes).answer ≡ Ok tt) (λ e. (refitted_to u p.heap name bytes).answer ≡ Err e.0) → IsOk result ↔ ¬ (p.heap.tick ≡ last_tick)
+    resize_ok (Ok done) name units holds told = (resize_is name units (Ok tt) holds told).0
+    resize_ok (Err e) name units holds told = (resize_is name units (Err e.0) holds told).0
 
-  -- the name that is given is no block's that is held
-  pub is_new : (p : PoolArenaState) (len : ℕ) (name other : Name) (units : ℕ) → IsPoolArena sli u p → (requested sli u p.heap len).answer ≡ Ok name → Holds p.heap other units → other ≢ name
-  is_new p len name other units is answer holds same =
-      new_words sli p.heap (units_for u len) (lacking (units_for u len)) name is.lawful answer
-      (subst (IsLive p.heap) same (holds.1, subst (λ (o : Option Site). IsSome o) (sym holds.2) refl))
+    pub resize_worn : {A B : Type 0} (result : Result A (Refusal × B)) (name : Name) (units : ℕ) → Holds p.heap name units
+        → MatchResult result (λ _. (refitted_to u p.heap name bytes).answer ≡ Ok tt) (λ e. (refitted_to u p.heap name bytes).answer ≡ Err e.0) → IfErr result (λ e. e.0 ≡ Worn)
+    resize_worn (Ok done) name units holds told = tt
+    resize_worn (Err e) name units holds told = (resize_is name units (Err e.0) holds told).1 e.0 refl
 
   -- after a release that was done
-  pub taken : (p : PoolArenaState) (name : Name) (left : HeapState) (region : Region) (book : GName) (touches : ℕ) → IsPoolArena sli u p → (released p.heap name).answer ≡ Ok tt → left ≡ (released p.heap name).heap
+  pub taken : (name : Name) (left : HeapState) (region : Region) (book : GName) (touches : ℕ) → (released p.heap name).answer ≡ Ok tt → left ≡ (released p.heap name).heap
       → IsPoolArena sli u (record { heap = left; region = region; book = book; most = p.most; longest = p.longest; held = p.held - 1; touches = touches })
-  taken p name left region book touches is answer heap =
-      let after = kept sli is.level p.heap.words p.most (length_for u p.longest) (in_class p is) is.words p.heap (Release name) (in_pool p is) tt in
+  taken name left region book touches answer heap =
       let counts = held_is sli p.heap (Release name) ∙ ap (λ (r : Result (Unit {0}) Refusal). held_after (live_count p.heap) (Release name) (Released r)) answer in
       record {
         level = is.level;
         unit = is.unit;
-        lawful = subst IsLawful (sym heap) after.lawful;
-        words = omega (arith, is.words, after.words_are, ap (λ (h : HeapState). h.words) heap);
+        lawful = subst IsLawful (sym heap) (lawful_run sli is.level p.heap (Release name ∷ []) is.lawful);
+        words = omega (arith, is.words, words_kept sli p.heap (Release name), ap (λ (h : HeapState). h.words) heap);
         class = is.class;
         live = ap live_count heap ∙ counts ∙ ap (λ (n : ℕ). n - 1) is.live;
         few = omega (arith, is.few);
-        small = subst (λ (h : HeapState). AreSmall (units_for u p.longest + 3) h.blocks) (sym heap) (subst (λ (k : ℕ). AreSmall (k + 3) (released p.heap name).heap.blocks) (wants_units u p.longest) after.small);
-        fours = λ four. subst (λ (h : HeapState). BeginAtFours 0 h.blocks) (sym heap) (after.fours (omega (arith, four, wants_units u p.longest)));
+        fixed = subst (HasFixedSize s) (sym heap) ((fixed_kept sli is.level s p.heap is.fixed).release name);
       }
-
-  -- after a resize, done or refused
-  pub refit : (p : PoolArenaState) (name : Name) (len : ℕ) (left : HeapState) (region : Region) (book : GName) (touches : ℕ) → IsPoolArena sli u p → len ≤ p.longest → left ≡ (refitted_to u p.heap name len).heap
-      → IsPoolArena sli u (record { heap = left; region = region; book = book; most = p.most; longest = p.longest; held = p.held; touches = touches })
-  refit p name len left region book touches is short left_is =
-      let units : ℕ = units_for u len in
-      let k : ℕ = units_for u p.longest + 3 in
-      let fits : units + 3 ≤ k = omega (arith, units_rise u len p.longest is.unit short) in
-      let Left : Outcome (Unit {0}) → Type 0 = λ o. (live_count o.heap ≡ live_count p.heap) × (o.heap.words ≡ p.heap.words) × AreSmall k o.heap.blocks × (units_for u p.longest ≤ 4 → BeginAtFours 0 o.heap.blocks) in
-      let now : Left (resized_words p.heap name units (lacking units)) = (
-        by_resized_words (λ o. live_count o.heap ≡ live_count p.heap) p.heap name units (lacking units) (λ why. refl) (λ s own site has room. count_resized p.heap units (lacking units) name.serial s site (and_left _ _ has)),
-        by_resized_words (λ o. o.heap.words ≡ p.heap.words) p.heap name units (lacking units) (λ why. refl) (λ s own site has room. refl),
-        by_resized_words (λ o. AreSmall k o.heap.blocks) p.heap name units (lacking units) (λ why. is.small) (λ s own site has room.
-            let a = around_site (IsSmall k) p.heap s site is.small in
-            all_append (IsSmall k) s.before _ a.0 (small_refitted k p.heap.tick units (lacking units) name.serial s.block s.after fits (and_left _ _ has) a.2)),
-        λ four. by_resized_words (λ o. BeginAtFours 0 o.heap.blocks) p.heap name units (lacking units) (λ why. is.fours four) (λ s own site has room.
-            fours_resized units p.heap.tick (lacking units) name.serial p.heap s (omega (arith, four, fits, least_units u len)) (and_left _ _ has) site (is.fours four)),
-      ) in
-      record {
-        level = is.level;
-        unit = is.unit;
-        lawful = subst IsLawful (sym left_is) (lawful_resized_words p.heap name units (lacking units) (lacks_few u len) is.lawful);
-        words = omega (arith, is.words, now.1, ap (λ (h : HeapState). h.words) left_is);
-        class = is.class;
-        live = ap live_count left_is ∙ now.0 ∙ is.live;
-        few = is.few;
-        small = subst (λ (h : HeapState). AreSmall k h.blocks) (sym left_is) now.2;
-        fours = λ four. subst (λ (h : HeapState). BeginAtFours 0 h.blocks) (sym left_is) (now.3 four);
-      }
-
-  -- an arena that refuses within the bounds is at its last tick
-  pub worn : (p q : PoolArenaState) (len : ℕ) → q ≡ p → IsPoolArena sli u p → ((¬ (fits sli (units_for u len) p.heap.blocks ≡ []) × ¬ (p.heap.tick ≡ last_tick)) → false ≡ true)
-      → ((len ≤ q.longest) × (q.held < q.most) × ¬ (q.heap.tick ≡ last_tick)) → false ≡ true
-  worn p q len same is refused =
-      subst (λ (x : PoolArenaState). ((len ≤ x.longest) × (x.held < x.most) × ¬ (x.heap.tick ≡ last_tick)) → false ≡ true) (sym same)
-      (λ h. refused (room p len is h.0 h.1, h.2))

@@ -1,6 +1,10 @@
 -- The lemmas of this crate, a line a file.
---   Kept: an arena keeps to its bounds through its calls
+--   UnitWords: units, and the words that requests for them want
+pub mod UnitWords
+--   Kept: an arena of blocks of a fixed size, a new one and what its calls leave
 pub mod Kept
+--   Mixed: an arena of mixed sizes, and that a request finds room
+pub mod Mixed
 --   Lent: what is away by a place
 pub mod Lent
 --   Idle: the places by which no block is away, while blocks go out and come home

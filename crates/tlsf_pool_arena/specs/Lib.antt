@@ -1,5 +1,6 @@
 pub mod Filled
 pub mod Given
+pub mod MixedUnits
 pub mod PoolArenas
 pub mod Remotes
 -- Places by which values come home from other threads.

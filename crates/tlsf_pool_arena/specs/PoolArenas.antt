@@ -1,6 +1,5 @@
--- An arena of which a program holds at most so many blocks, of at most so many bytes each.
-use Rattle.std.specs.Prelude.{◌≡◌, ℕ, ◌+◌, ◌-◌, ◌*◌, ◌≤◌, Option, if◌then◌else◌, nat_lt}
-use Rattle.std.specs.List.{AllByRecursion}
+-- An arena of which a program holds at most so many blocks, of at most so many bytes each. All have the same units.
+use Rattle.std.specs.Prelude.{◌≡◌, ℕ, ◌*◌, ◌≤◌, ◌&&◌, max, Option, Some, None, if◌then◌else◌, nat_le, nat_lt}
 use base.Fml.{GName}
 use Rattle.linked_list_allocator.specs.Region.{Region}
 use Rattle.tlsf_class.specs.Classes.{IsLevel, most_words}
@@ -9,9 +8,9 @@ use Rattle.tlsf_heap.specs.Calls.{Outcome, refused}
 use Rattle.tlsf_heap.specs.Lawful.{IsLawful}
 use Rattle.tlsf_heap.specs.declared.name.Name.{Name}
 use Rattle.tlsf_heap.specs.declared.refusal.Refusal.TheVariants.{NoRoom}
-use Rattle.tlsf_pool.specs.laws.Pools.{BeginAtFours, IsSmall, pool_region, pool_words}
-use Rattle.tlsf_pool.specs.laws.Room.{live_count}
-use Rattle.tlsf_arena.specs.Arenas.{refitted}
+use Rattle.tlsf_pool.specs.laws.FixedSize.{HasFixedSize}
+use Rattle.tlsf_pool.specs.laws.Room.{live_count, sure}
+use Rattle.tlsf_arena.specs.Arenas.{refitted, requested}
 use Rattle.tlsf_arena.specs.Places.{IsUnit, units_for}
 
 -- what the arena shows: its heap, the region of its memory, the book of its blocks, how many may be held at once and the bytes of the longest
@@ -25,30 +24,42 @@ pub record PoolArenaState : Type 0 where
   pub held : ℕ
   pub touches : ℕ
 
--- the payload of a heap's block that has as many words as a block of n bytes has units, of u bytes each
-abbrev pub length_for : ℕ → ℕ → ℕ
-length_for u n = 8 * (units_for u n - 3)
+-- the units of each block, whatever its length: those from which every free block serves the longest request
+abbrev pub fixed_size : ℕ → ℕ → ℕ → ℕ
+fixed_size sli u longest = sure sli (units_for u longest)
 
--- the units of such an arena, where some heap has so many words
+-- their bytes, u each
+abbrev pub fixed_bytes : ℕ → ℕ → ℕ → ℕ
+fixed_bytes sli u longest = u * fixed_size sli u longest
+
+-- the units with room for `most` such blocks
+abbrev pub room_units : ℕ → ℕ → ℕ → ℕ → ℕ
+room_units sli u most longest = max 4 (most * fixed_size sli u longest)
+
+-- the units of such an arena; None where no class has so long blocks, or no heap so many words
 abbrev pub units_of_pool : ℕ → ℕ → ℕ → ℕ → Option ℕ
-units_of_pool sli u most longest = pool_region sli most (length_for u longest)
+units_of_pool sli u most longest =
+    if nat_le (units_for u longest) (most_words sli) && nat_le (room_units sli u most longest) (most_words sli) then Some (room_units sli u most longest) else None
 
--- what the arena answers where a block is to have n bytes: NoRoom above the longest request, else what an arena without bounds does
-abbrev pub resized_in_pool : ℕ → PoolArenaState → Name → ℕ → Outcome (Unit {0})
-resized_in_pool u p name n = if nat_lt p.longest n then refused p.heap NoRoom else refitted u p.heap name n
+-- what the heap answers to a request within the bounds: it takes the units of each block, whatever its length
+abbrev pub pool_requested : ℕ → ℕ → PoolArenaState → Outcome Name
+pool_requested sli u p = requested sli u p.heap (fixed_bytes sli u p.longest)
 
--- the heap has a level, is lawful and has words enough; as many blocks are live as are held, no more than may be, and none has more units
--- than the longest request gets and three more. Where it gets four, each block begins at a multiple of four
+-- what the arena answers where a block is to have n bytes: NoRoom above the longest request, else it has the units of each block
+abbrev pub resized_in_pool : ℕ → ℕ → PoolArenaState → Name → ℕ → Outcome (Unit {0})
+resized_in_pool sli u p name n = if nat_lt p.longest n then refused p.heap NoRoom else refitted u p.heap name (fixed_bytes sli u p.longest)
+
+-- the heap has a level, is lawful and has words enough; as many blocks are live as are held, no more than may be, and all have the units from
+-- which every free block serves the longest request
 pub record IsPoolArena (sli u : ℕ) (p : PoolArenaState) : Type 0 where
   pub level : IsLevel sli
   pub unit : IsUnit u
   pub lawful : IsLawful p.heap
-  pub words : pool_words sli p.most (length_for u p.longest) ≤ p.heap.words
+  pub words : p.most * fixed_size sli u p.longest ≤ p.heap.words
   pub class : units_for u p.longest ≤ most_words sli
   pub live : live_count p.heap ≡ p.held
   pub few : p.held ≤ p.most
-  pub small : AllByRecursion (IsSmall (units_for u p.longest + 3)) p.heap.blocks
-  pub fours : units_for u p.longest ≤ 4 → BeginAtFours 0 p.heap.blocks
+  pub fixed : HasFixedSize (fixed_size sli u p.longest) p.heap
 
 -- the same bounds over the same memory, and the same book: how many blocks may be held, and how long a request may be
 pub record SamePlan (old new : PoolArenaState) : Type 0 where

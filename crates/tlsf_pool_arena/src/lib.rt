@@ -1,7 +1,8 @@
 //! Memory in place that never runs out: an arena that is opened by the most blocks held at once and the longest request.
 //!
-//! A [`PoolArena`] has as many units as the law of `tlsf_pool` asks for, and its [`allocate`](PoolArena::allocate) then gives a block
-//! whenever fewer are held, the request is no longer, and the tick isn't at its last value. `NoFit` is no answer that it has.
+//! A [`PoolArena`] has as many units as the law of `tlsf_pool` on blocks of a fixed size asks for ([`fixed_units`]). Each block has the units
+//! of the longest request. An [`allocate`](PoolArena::allocate) then gives a block whenever fewer are held, the request is no longer, and the
+//! tick isn't at its last value. `NoFit` is no answer that it has.
 //!
 //! ```text
 //! let mut voices = PoolArena::<4, 16>::open(alloc, 0, 100, 512)?;      // 100 blocks of up to 512 bytes
@@ -41,10 +42,11 @@ mod pool_arena;
 mod remote_arena;
 mod remote_block;
 mod returns;
+mod units;
 
 pub use filled_remote_block::FilledRemoteBlock;
 pub use parcel::Parcel;
-pub use pool_arena::{PoolArena, pool_units};
+pub use pool_arena::PoolArena;
 pub use remote_arena::RemoteArena;
 pub use remote_block::RemoteBlock;
 pub use returns::owner_end::OwnerEnd;
@@ -53,3 +55,4 @@ pub use returns::receipt::Receipt;
 pub use returns::ticket::Ticket;
 pub use tlsf_arena::{Block, FilledBlock};
 pub use tlsf_pool::PoolRefusal;
+pub use units::{fixed_units, mixed_units, mixed_units_suffice};

@@ -1,25 +1,27 @@
 ghost use Rattle.std.specs.Prelude.{◌≡◌, ◌≢◌, ◌↔◌, ℕ, ◌+◌, ◌*◌, ◌<◌, ◌≤◌, [], length, None, Some, IfOk, IfErr, OnOk, OnErr, IsOk, IsErrOf, MatchResult, Ok, Err};
 ghost use Rattle.std.specs.Option.{option_map_or};
-ghost use Rattle.tlsf_class.specs.Classes.{IsLevel};
+ghost use Rattle.tlsf_class.specs.Classes.{IsLevel, most_words};
 ghost use Rattle.tlsf_heap.specs.Calls.{last_tick, opened, released};
 ghost use Rattle.tlsf_heap.specs.GoodFit.{fits};
 ghost use Rattle.tlsf_heap.specs.Placed.{placed_at};
 ghost use Rattle.tlsf_heap.specs.Reports.{report_of};
 ghost use Rattle.tlsf_heap.specs.Touched.{FollowsNoPlace};
 ghost use Rattle.tlsf_heap.specs.declared.name.Name.{Name};
-ghost use Rattle.tlsf_arena.specs.Arenas.{Holds, requested};
+ghost use Rattle.tlsf_arena.specs.Arenas.{Holds};
 ghost use Rattle.tlsf_arena.specs.Loans.{units_of};
 ghost use Rattle.tlsf_arena.specs.Places.{IsUnit, piece_size, units_for};
-ghost use Rattle.tlsf_pool_arena.specs.PoolArenas.{IsPoolArena, SamePlan, SamePoolArena, resized_in_pool, units_of_pool};
+ghost use Rattle.tlsf_pool_arena.specs.PoolArenas.{IsPoolArena, SamePlan, SamePoolArena, fixed_bytes, fixed_size, pool_requested, resized_in_pool, units_of_pool};
 
+use crate::units::fixed_units;
 use std::alloc::Global;
 use std::marker::Model;
 use tlsf_arena::{Arena, Block};
+use tlsf_class::{low, search_of};
 use tlsf_heap::{OpenFault, PlacedBlock, Refusal, Report};
-use tlsf_pool::{PoolRefusal, pool_region};
+use tlsf_pool::PoolRefusal;
 
 /// An arena that never refuses for want of room: it is opened by the most blocks that are held at once and the longest request. Its level
-/// is that of its heap, 4 or 5, and a unit has 16, 32 or 64 bytes.
+/// is that of its heap, 4 or 5, and a unit has 16, 32 or 64 bytes. Each block has the units of the longest request, whatever its own length.
 ///
 /// Contracts see it as its heap, the region of its memory, the book in which its blocks stand, the two bounds, how many blocks are held, and
 /// the heap's touches. Lengths are in bytes.
@@ -28,41 +30,39 @@ pub struct PoolArena<const SLI: u32, const UNIT: usize> {
     arena: Arena<SLI, UNIT>,
     most: u32,
     longest: u32,
+    // Those of each block.
+    bytes: u32,
     held: u32,
 }
 
 impl<const SLI: u32, const UNIT: usize> Model for PoolArena<SLI, UNIT> {
-    ghost use Rattle.tlsf_pool_arena.specs.PoolArenas.{IsPoolArena, PoolArenaState};
+    ghost use Rattle.std.specs.Prelude.{◌≡◌};
+    ghost use Rattle.tlsf_pool_arena.specs.PoolArenas.{IsPoolArena, PoolArenaState, fixed_bytes};
 
     ghost Value = { PoolArenaState };
 
     ghost view = { λ p. record { heap = p.arena.heap; region = p.arena.region; book = p.arena.book; most = p.most; longest = p.longest; held = p.held; touches = p.arena.touches } };
 
-    ghost invariant = { λ p. IsPoolArena SLI UNIT (record { heap = p.arena.heap; region = p.arena.region; book = p.arena.book; most = p.most; longest = p.longest; held = p.held; touches = p.arena.touches }) };
+    ghost invariant = { λ p. IsPoolArena SLI UNIT (record { heap = p.arena.heap; region = p.arena.region; book = p.arena.book; most = p.most; longest = p.longest; held = p.held; touches = p.arena.touches }) × (p.bytes ≡ fixed_bytes SLI UNIT p.longest) };
 }
 
-/// The units of an arena in which a program of at most `most` blocks at once, of at most `longest` bytes each, is never refused for
-/// want of room; None where no arena has so many. It is what a [`PoolArena`] of these bounds has.
-///
-/// ```
-/// let units = pool_units::<4, 16>(100, 512);       // Some(6566)
-/// let none = pool_units::<4, 16>(100_000, 512);    // None
-/// ```
-pub fn pool_units<const SLI: u32, const UNIT: usize>(most: u32, longest: u32) -> Option<u32>
+// The bytes of each block: those of the units from which every free block serves the longest request.
+fn bytes_of_each<const SLI: u32, const UNIT: usize>(longest: u32) -> u32
     requires level { IsLevel SLI }
     requires unit { IsUnit UNIT }
-    ensures { result ≡ units_of_pool SLI UNIT most longest }
+    requires class { units_for UNIT longest ≤ most_words SLI }
+    ensures { result ≡ fixed_bytes SLI UNIT longest }
 {
     let units = ((longest as usize + (UNIT - 1)) / UNIT).max(4) as u32;
-    pool_region::<SLI>(most, 8 * (units - 3))
+    UNIT as u32 * low(search_of::<SLI>(units))
 }
 
 impl<const SLI: u32, const UNIT: usize> PoolArena<SLI, UNIT> {
     /// Opens an arena for at most `most` blocks at once, of at most `longest` bytes each. Its heap has the number `id`, and its memory is
     /// taken from `alloc` beside that for the heap.
     ///
-    /// Refused as `BadSize` where no heap has so many words (4 to 2^20, or to 2^24 at level 5), else as `NoMemory` where the memory was
-    /// not granted. No later call takes memory.
+    /// Refused as `BadSize` where no heap has so many words as [`fixed_units`] (4 to 2^20, or to 2^24 at level 5), else as `NoMemory` where
+    /// the memory was not granted. No later call takes memory.
     ///
     /// ```text
     /// let arena = PoolArena::<4, 16>::open(alloc, 0, 100, 512)?;
@@ -84,7 +84,7 @@ impl<const SLI: u32, const UNIT: usize> PoolArena<SLI, UNIT> {
         ensures not_worn { ¬ (IsErrOf result OpenFault.Worn) }
         ensures touches { IfOk result (λ p. p.touches ≤ 10) }
     {
-        let Some(units) = pool_units::<SLI, UNIT>(most, longest) else {
+        let Some(units) = fixed_units::<SLI, UNIT>(most, longest) else {
             return Err(OpenFault::BadSize);
         };
         let arena = Arena::<SLI, UNIT>::open(alloc, id, units)?;
@@ -92,18 +92,19 @@ impl<const SLI: u32, const UNIT: usize> PoolArena<SLI, UNIT> {
             arena,
             most,
             longest,
+            bytes: bytes_of_each::<SLI, UNIT>(longest),
             held: 0,
         })
     }
 
-    /// Gives a block of `len` bytes or more, as [`Arena::allocate`] does.
+    /// Gives a block with room for the longest request, as [`Arena::allocate`] does, whatever `len` is: `len` bytes or more.
     ///
     /// It is given whenever `len` is at most the longest request, fewer blocks are held than may be, and the tick isn't at its last value.
     /// Else it is refused as `TooLong`, `Full` or `Worn`, in this order. Takes no memory.
     ///
     /// ```text
     /// let mut arena = PoolArena::<4, 16>::open(alloc, 0, 1, 100)?;         // one block of up to 100 bytes
-    /// let block = arena.allocate(100)?;                                    // 112 bytes
+    /// let block = arena.allocate(1)?;                                      // 112 bytes
     /// arena.allocate(100).err() == Some(PoolRefusal::Full)
     /// arena.allocate(101).err() == Some(PoolRefusal::TooLong)
     /// ```
@@ -113,13 +114,14 @@ impl<const SLI: u32, const UNIT: usize> PoolArena<SLI, UNIT> {
         // The refusals, in their order: there is none for want of room, since the arena has some.
         ensures too_long { IsErrOf result PoolRefusal.TooLong ↔ (self.old.longest < len) }
         ensures full { IsErrOf result PoolRefusal.Full ↔ ((len ≤ self.old.longest) × (self.old.held ≡ self.old.most)) }
-        ensures room { len ≤ self.old.longest → self.old.held < self.old.most → ¬ (fits SLI (units_for UNIT len) self.old.heap.blocks ≡ []) }
+        ensures room { len ≤ self.old.longest → self.old.held < self.old.most → ¬ (fits SLI (fixed_size SLI UNIT self.old.longest) self.old.heap.blocks ≡ []) }
 
         // An accepted request is the arena's, and one block more is held. A refusal changes nothing.
-        ensures answer { IfOk result (λ b. (requested SLI UNIT self.old.heap len).answer ≡ Ok b.name) }
-        ensures heap { OnOk result (self.new.heap ≡ (requested SLI UNIT self.old.heap len).heap) }
-        ensures block { IfOk result (λ b. (b.piece.region ≡ self.old.region) × (b.right.book ≡ self.old.book) × (b.piece.size ≡ piece_size UNIT len)) }
-        ensures holds { IfOk result (λ b. Holds self.new.heap b.name (units_for UNIT len)) }
+        ensures answer { IfOk result (λ b. (pool_requested SLI UNIT self.old).answer ≡ Ok b.name) }
+        ensures heap { OnOk result (self.new.heap ≡ (pool_requested SLI UNIT self.old).heap) }
+        ensures block { IfOk result (λ b. (b.piece.region ≡ self.old.region) × (b.right.book ≡ self.old.book) × (b.piece.size ≡ fixed_bytes SLI UNIT self.old.longest)) }
+        ensures given { IfOk result (λ b. piece_size UNIT len ≤ b.piece.size) }
+        ensures holds { IfOk result (λ b. Holds self.new.heap b.name (fixed_size SLI UNIT self.old.longest)) }
         ensures new { IfOk result (λ b. (other : Name) (units : ℕ) → Holds self.old.heap other units → other ≢ b.name) }
         ensures others { (other : Name) (units : ℕ) → Holds self.old.heap other units → Holds self.new.heap other units }
         ensures held { OnOk result (self.new.held ≡ self.old.held + 1) }
@@ -136,7 +138,7 @@ impl<const SLI: u32, const UNIT: usize> PoolArena<SLI, UNIT> {
         if self.held >= self.most {
             return Err(PoolRefusal::Full);
         }
-        match self.arena.allocate(len) {
+        match self.arena.allocate(self.bytes) {
             Ok(block) => {
                 self.held += 1;
                 Ok(block)
@@ -181,17 +183,14 @@ impl<const SLI: u32, const UNIT: usize> PoolArena<SLI, UNIT> {
     }
 
     /// Makes a block `len` bytes long or more where it stands, as [`Arena::resize`] does: its name and its address stay, and as many blocks are
-    /// held as before.
+    /// held as before. It had room for the longest request from the beginning, so it stays as long as it is.
     ///
-    /// Refused, with the block, as `NoRoom` where `len` is above the longest request, or where it and the free units behind it are fewer than
-    /// wanted, else as `Worn` where the tick is at its last value. Takes no memory.
-    ///
-    /// What doesn't grow where it stands moves: allocate a second block, copy, and release the first. While fewer blocks are held than may be,
-    /// that [`allocate`](PoolArena::allocate) isn't refused for want of room.
+    /// Refused, with the block, as `NoRoom` exactly where `len` is above the longest request, else as `Worn` where the tick is at its last
+    /// value. Takes no memory.
     ///
     /// ```text
     /// let mut arena = PoolArena::<4, 16>::open(alloc, 0, 2, 200)?;
-    /// let block = arena.allocate(100)?;        // 7 units
+    /// let block = arena.allocate(100)?;        // 13 units
     /// let block = arena.resize(block, 200)?;   // 13, at the same address
     /// ```
     pub fn resize(
@@ -201,11 +200,14 @@ impl<const SLI: u32, const UNIT: usize> PoolArena<SLI, UNIT> {
     ) -> Result<Block<UNIT>, (Refusal, Block<UNIT>)>
         requires region { block.piece.region ≡ self.old.region }
         requires book { block.right.book ≡ self.old.book }
-        ensures answer { MatchResult result (λ _. (resized_in_pool UNIT self.old block.entry.name len).answer ≡ Ok tt) (λ e. (resized_in_pool UNIT self.old block.entry.name len).answer ≡ Err e.0) }
-        ensures heap { self.new.heap ≡ (resized_in_pool UNIT self.old block.entry.name len).heap }
+        ensures answer { MatchResult result (λ _. (resized_in_pool SLI UNIT self.old block.entry.name len).answer ≡ Ok tt) (λ e. (resized_in_pool SLI UNIT self.old block.entry.name len).answer ≡ Err e.0) }
+        ensures heap { self.new.heap ≡ (resized_in_pool SLI UNIT self.old block.entry.name len).heap }
 
-        // What that comes to: the same block with as many units as hold `len` bytes, or the very block with nothing changed.
-        ensures block { IfOk result (λ b. (b.name ≡ block.entry.name) × (b.piece.region ≡ self.old.region) × (b.right.book ≡ self.old.book) × (b.piece.at ≡ block.entry.piece.at) × (b.piece.size ≡ piece_size UNIT len)) }
+        // It finds room within the bounds: the same block with the units of each, or the very block with nothing changed.
+        ensures ok { IsOk result ↔ ((len ≤ self.old.longest) × ¬ (self.old.heap.tick ≡ last_tick)) }
+        ensures worn { len ≤ self.old.longest → IfErr result (λ e. e.0 ≡ Refusal.Worn) }
+        ensures block { IfOk result (λ b. (b.name ≡ block.entry.name) × (b.piece.region ≡ self.old.region) × (b.right.book ≡ self.old.book) × (b.piece.at ≡ block.entry.piece.at) × (b.piece.size ≡ fixed_bytes SLI UNIT self.old.longest)) }
+        ensures given { IfOk result (λ b. piece_size UNIT len ≤ b.piece.size) }
         ensures held { self.new.held ≡ self.old.held }
         ensures live { len ≤ self.old.longest → Holds self.old.heap block.entry.name (units_of block.entry.right.loan) }
         ensures err { IfErr result (λ e. SamePoolArena self.old self.new × (e.1 ≡ block.entry)) }
@@ -216,7 +218,7 @@ impl<const SLI: u32, const UNIT: usize> PoolArena<SLI, UNIT> {
         ensures touches_rise { self.old.touches ≤ self.new.touches }
     {
         if self.longest >= len {
-            return self.arena.resize(block, len);
+            return self.arena.resize(block, self.bytes);
         }
         Err((Refusal::NoRoom, block))
     }
@@ -227,7 +229,7 @@ impl<const SLI: u32, const UNIT: usize> PoolArena<SLI, UNIT> {
     ///
     /// ```text
     /// let report = arena.report();             // of a new arena of 100 blocks of up to 512 bytes
-    /// (report.live_blocks, report.free_words) == (0, 6_566)
+    /// (report.live_blocks, report.free_words) == (0, 3_200)
     /// ```
     pub fn report(&mut self) -> Report
         ensures report { result ≡ report_of SLI self.old.heap }
@@ -242,7 +244,7 @@ impl<const SLI: u32, const UNIT: usize> PoolArena<SLI, UNIT> {
     /// How many units are free, all told: a walk over all blocks, as [`report`](PoolArena::report).
     ///
     /// ```text
-    /// arena.free_units()                       // of a new arena of 100 blocks of up to 512 bytes: 6,566
+    /// arena.free_units()                       // of a new arena of 100 blocks of up to 512 bytes: 3,200
     /// ```
     pub fn free_units(&mut self) -> u32
         ensures free { result ≡ (report_of SLI self.old.heap).free_words }
@@ -257,7 +259,7 @@ impl<const SLI: u32, const UNIT: usize> PoolArena<SLI, UNIT> {
     /// them. The next begins at its end, `at + size`, so that a walk from unit 0 meets all blocks. Takes no memory.
     ///
     /// ```text
-    /// let block = arena.allocate(100)?;        // of a new arena in units of 16 bytes
+    /// let block = arena.allocate(100)?;        // of a new arena of blocks of up to 100 bytes, in units of 16
     /// arena.block_at(block.name.at)            // Some(PlacedBlock { at: 0, size: 7, .. })
     /// ```
     pub fn block_at(&mut self, at: u32) -> Option<PlacedBlock>

@@ -2,9 +2,9 @@ ghost use Rattle.std.specs.Prelude.{◌≡◌, ◌↔◌, ℕ, ◌+◌, ◌*◌,
 ghost use Rattle.std.specs.List.{range_with_len};
 ghost use Rattle.tlsf_class.specs.Classes.{IsLevel};
 ghost use Rattle.tlsf_heap.specs.Calls.{last_tick, opened, released};
-ghost use Rattle.tlsf_arena.specs.Arenas.{Holds, requested};
-ghost use Rattle.tlsf_arena.specs.Places.{IsUnit, piece_size, units_for};
-ghost use Rattle.tlsf_pool_arena.specs.PoolArenas.{SamePlan, SamePoolArena, units_of_pool};
+ghost use Rattle.tlsf_arena.specs.Arenas.{Holds};
+ghost use Rattle.tlsf_arena.specs.Places.{IsUnit, piece_size};
+ghost use Rattle.tlsf_pool_arena.specs.PoolArenas.{SamePlan, SamePoolArena, fixed_bytes, fixed_size, pool_requested, units_of_pool};
 ghost use Rattle.tlsf_pool_arena.specs.Remotes.{IsAwayBy, NoneLost, TakesHome, idle_places};
 ghost use Rattle.tlsf_pool_arena.specs.declared.parcel.Parcel as parcel;
 ghost use Rattle.tlsf_pool_arena.specs.returns.Ends.{away_by, id_of, looks_of, owner_id, place_by};
@@ -77,7 +77,7 @@ impl<const SLI: u32, const UNIT: usize> RemoteArena<SLI, UNIT> {
         })
     }
 
-    /// Lends a block of `len` bytes or more, by a place by which none is away: the one that came home last, or one that was never used (`last`).
+    /// Lends a block with room for the longest request, `len` bytes or more, by a place by which none is away: the one that came home last, or one that was never used (`last`).
     /// It is found in one step on the list of these, whatever the number of places (`steps`).
     ///
     /// It is lent whenever `len` is at most the longest request, a place is idle, as one is while fewer blocks are held than may be, and the
@@ -104,10 +104,11 @@ impl<const SLI: u32, const UNIT: usize> RemoteArena<SLI, UNIT> {
         ensures err { OnErr result (SamePoolArena self.old.arena self.new.arena × (self.new.away ≡ self.old.away) × (self.new.idle ≡ self.old.idle)) }
 
         // The block is the arena's, and is away by one of the places by which none was.
-        ensures answer { IfOk result (λ b. (requested SLI UNIT self.old.arena.heap len).answer ≡ Ok b.parcel.block.name) }
-        ensures heap { OnOk result (self.new.arena.heap ≡ (requested SLI UNIT self.old.arena.heap len).heap) }
-        ensures block { IfOk result (λ b. (b.parcel.block.piece.region ≡ self.old.arena.region) × (b.parcel.block.right.book ≡ self.old.arena.book) × (b.parcel.block.piece.size ≡ piece_size UNIT len)) }
-        ensures holds { IfOk result (λ b. Holds self.new.arena.heap b.parcel.block.name (units_for UNIT len)) }
+        ensures answer { IfOk result (λ b. (pool_requested SLI UNIT self.old.arena).answer ≡ Ok b.parcel.block.name) }
+        ensures heap { OnOk result (self.new.arena.heap ≡ (pool_requested SLI UNIT self.old.arena).heap) }
+        ensures block { IfOk result (λ b. (b.parcel.block.piece.region ≡ self.old.arena.region) × (b.parcel.block.right.book ≡ self.old.arena.book) × (b.parcel.block.piece.size ≡ fixed_bytes SLI UNIT self.old.arena.longest)) }
+        ensures given { IfOk result (λ b. piece_size UNIT len ≤ b.parcel.block.piece.size) }
+        ensures holds { IfOk result (λ b. Holds self.new.arena.heap b.parcel.block.name (fixed_size SLI UNIT self.old.arena.longest)) }
         ensures away { IfOk result (λ b. IsAwayBy self.old.away self.new.away (place_by b.ticket) b.parcel) }
         ensures place { IfOk result (λ b. place_by b.ticket < self.new.arena.most) }
         ensures last { IfOk result (λ b. self.old.idle ≡ self.new.idle ++ place_by b.ticket ∷ []) }

@@ -14,7 +14,7 @@ use Rattle.tlsf_heap.proofs.lemmas.calls.Outcomes.{lawful_run}
 use Rattle.tlsf_heap.proofs.lemmas.blocks.Lawful.{opened_lawful}
 use Rattle.tlsf_post.specs.declared.post.Post.{Post}
 use Rattle.tlsf_pool.specs.laws.Held.{held_after, held_after_all}
-use Rattle.tlsf_pool.specs.laws.Pools.{AreModest, IsModest}
+use Rattle.tlsf_pool.specs.laws.MixedSizes.{AreModest, IsModest}
 use Rattle.tlsf_pool.specs.laws.Contents.{is_same}
 use Rattle.tlsf_pool.specs.laws.Kinds.{Ledger, ledger_after, ledger_after_all}
 use Rattle.tlsf_pool.proofs.lemmas.laws.Names.{same_is, same_self}
@@ -28,7 +28,7 @@ use Rattle.tlsf_crew.proofs.lemmas.histories.JoinedEntries.{runs_then, told_othe
 use Rattle.tlsf_yard_laws.specs.Carriers.{Carrier, IsRaceOver, OverLanes, OverQueues}
 use Rattle.tlsf_yard_laws.specs.Races.{HasPast}
 use Rattle.tlsf_yard_laws.specs.Sharing.{most_under_way, without_post}
-use Rattle.tlsf_yard_laws.specs.Moments.{IsShort, OrdersHaveMoments, RaceSharedPoolServes, all_under_way, unreleased, AreSparingInRace}
+use Rattle.tlsf_yard_laws.specs.Moments.{IsShort, OrdersHaveMoments, RaceSharedMixedSizesServe, all_under_way, unreleased, AreSparingInRace}
 use Rattle.tlsf_yard_laws.proofs.Few.{IsAmong, among_left, among_right, few, names_of, posted, still_among, one_more}
 use Rattle.tlsf_yard_laws.proofs.RaceRecords.{heap_between}
 use Rattle.tlsf_yard_laws.proofs.Shares.{allocate_asks, resize_asks}
@@ -233,7 +233,7 @@ module _ {sli : ℕ} (carrier : Carrier) (level : IsLevel sli) (w v : World sli)
       (length_told (heap.opened j words first) (heap_in w j) calls answers past.since) within
       (subst (λ (k : ℕ). AreModest (most + most_under_way carrier w) len k (calls_on j (made j) (record_of records j)) (answers_on j (record_of records j))) before (record_modest [] (record_of records j) refl))
 
-pub race_shares : (sli : ℕ) (carrier : Carrier) → IsLevel sli → RaceSharedPoolServes sli carrier
+pub race_shares : (sli : ℕ) (carrier : Carrier) → IsLevel sli → RaceSharedMixedSizesServe sli carrier
 race_shares sli carrier level w v scripts made records race j words first most len calls answers past region class enough within sparing fresh =
     race_serves sli carrier level w v scripts made records race j words first (most + most_under_way carrier w) len calls answers past region class enough
     (all_modest carrier level w v scripts made records race j words first most len calls answers past region.0 sparing within) fresh

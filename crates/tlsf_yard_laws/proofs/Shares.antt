@@ -16,12 +16,12 @@ use Rattle.tlsf_heap.proofs.lemmas.blocks.Lawful.{all_append}
 use Rattle.tlsf_heap.proofs.lemmas.calls.Outcomes.{takes}
 use Rattle.tlsf_post.specs.declared.post.Post.{Post}
 use Rattle.tlsf_pool.specs.laws.Room.{live_count}
-use Rattle.tlsf_pool.specs.laws.Pools.{pool_words, IsModest, IsServed}
+use Rattle.tlsf_pool.specs.laws.MixedSizes.{mixed_words, IsModest, IsServed}
 use Rattle.tlsf_pool.specs.laws.Contents.{bytes_there, is_same}
 use Rattle.tlsf_pool.specs.laws.Kinds.{Ledger, ledger_after, with_length}
 use Rattle.tlsf_pool.proofs.lemmas.laws.Names.{same_is, same_self}
 use Rattle.tlsf_pool.proofs.lemmas.laws.Ledgers.{Agrees, agrees_call, live_agrees, lookup, lookup_without}
-use Rattle.tlsf_pool.proofs.lemmas.laws.ModestCalls.{InPool, is_served, kept, tick_kept}
+use Rattle.tlsf_pool.proofs.lemmas.laws.ModestCalls.{InMixed, is_served, kept, tick_kept}
 use Rattle.tlsf_calls.specs.Bytes.{bytes_of}
 use Rattle.tlsf_crew.specs.histories.History.{RunsTo, answer_told, answers_on, call_on_own, calls_on, handed_on, meant, name_on_heap, post_of_release, post_of_take, posts_made, posts_taken, taken_name}
 use Rattle.tlsf_calls.specs.declared.entry.Entry.{Entry}
@@ -265,7 +265,7 @@ AllLead sli j n capacity made h lanes (e ∷ es) = (g : HeapState) × (later : �
 
 -- what holds of the heap on the way. The first ledger is of what is live, the second of what the programs hold
 pub record IsShared (j n words k : ℕ) (h : HeapState) (l u : Ledger) (lanes : ℕ → List Post) : Type 0 where
-  pub pool : InPool words k h
+  pub mixed : InMixed words k h
   pub agrees : Agrees h l
   pub covers : Covers j n l u lanes
 
@@ -291,7 +291,7 @@ live_few j m capacity words k h l u lanes j_in short shared =
     let live = live_agrees h l shared.agrees in
     omega arith
 
-module _ (sli : ℕ) (level : IsLevel sli) (words most len : ℕ) (region : want len ≤ most_words sli) (enough : pool_words sli most len ≤ words) (j n : ℕ) where
+module _ (sli : ℕ) (level : IsLevel sli) (words most len : ℕ) (region : want len ≤ most_words sli) (enough : mixed_words sli most len ≤ words) (j n : ℕ) where
   -- a request that the entry tells is modest, and so is a resize
   abbrev Allows : HeapState → Option heap.Call → Type 0
   Allows h o = ((m : ℕ) → o ≡ Some (heap.Allocate m) → (m ≤ len) × (live_count h < most)) × ((name : Name) (m : ℕ) → o ≡ Some (heap.Resize name m) → m ≤ len)
@@ -306,7 +306,7 @@ module _ (sli : ℕ) (level : IsLevel sli) (words most len : ℕ) (region : want
   own_next h g l u lanes later None None run shared leaves allows fresh = record {
     live = l;
     shared = subst (λ (x : HeapState). IsShared j n words (want len + 3) x l u later) run.left (record {
-      pool = shared.pool;
+      mixed = shared.mixed;
       agrees = shared.agrees;
       covers = λ name size found. stay_covered j n u u lanes later name (λ x. x) (λ i ne x. elim (leaves i ne name x) [ inl y ↦ y | inr e ↦ absurd cc ]) (shared.covers name size found);
     });
@@ -323,12 +323,12 @@ module _ (sli : ℕ) (level : IsLevel sli) (words most len : ℕ) (region : want
       record {
         live = ledger_after l c answer;
         shared = subst (λ (x : HeapState). IsShared j n words (want len + 3) x (ledger_after l c answer) (ledger_after u c b) later) run.left (record {
-          pool = kept sli level words most len region enough h c shared.pool modest;
-          agrees = agrees_call sli h c l shared.agrees shared.pool.lawful;
+          mixed = kept sli level words most len region enough h c shared.mixed modest;
+          agrees = agrees_call sli h c l shared.agrees shared.mixed.lawful;
           covers = subst (λ (v : Ledger). Covers j n (ledger_after l c answer) v later) noted (call_covers sli j n h l u lanes later c shared.agrees fresh shared.covers leaves);
         });
         tick = subst (λ (x : HeapState). x.tick ≤ h.tick + 1) run.left (tick_kept sli level words most len region enough h c);
-        served = (subst IsServed same (served_on answer (is_served sli level words most len region enough h c shared.pool modest fresh)), tt);
+        served = (subst IsServed same (served_on answer (is_served sli level words most len region enough h c shared.mixed modest fresh)), tt);
       }
 
 -- ---- what waits, after an entry
@@ -391,7 +391,7 @@ other_covers j n capacity made h g l u lanes later e other leads covers name len
 
 -- ---- all entries
 
-module _ (sli : ℕ) (level : IsLevel sli) (words most len : ℕ) (region : want len ≤ most_words sli) (capacity j m : ℕ) (j_in : j < m + 1) (enough : pool_words sli (most + m * capacity) len ≤ words) (made : List (Option Name)) where
+module _ (sli : ℕ) (level : IsLevel sli) (words most len : ℕ) (region : want len ≤ most_words sli) (capacity j m : ℕ) (j_in : j < m + 1) (enough : mixed_words sli (most + m * capacity) len ≤ words) (made : List (Option Name)) where
   abbrev n : ℕ
   n = suc m
 
@@ -422,7 +422,7 @@ module _ (sli : ℕ) (level : IsLevel sli) (words most len : ℕ) (region : want
         record {
           live = l;
           shared = subst (λ (v : Ledger). IsShared j n words (want len + 3) g l v later) (sym test) (subst (λ (x : HeapState). IsShared j n words (want len + 3) x l (without_post u p) later) same (record {
-            pool = shared.pool;
+            mixed = shared.mixed;
             agrees = shared.agrees;
             covers = other_covers j n capacity made h g l u lanes later e other leads shared.covers;
           }));

@@ -8,7 +8,7 @@ use Rattle.tlsf_heap.specs.Calls.{Call, Allocate, Release, Write, Resize, Read, 
 use Rattle.tlsf_pool.specs.laws.Room.{live_count}
 use Rattle.tlsf_pool.specs.laws.Held.{held_after, held_after_all}
 use Rattle.tlsf_heap.specs.declared.name.Name.{Name}
-use Rattle.tlsf_pool.specs.laws.Pools.{pool_words, AreModest, HasRoomFor, IsServed}
+use Rattle.tlsf_pool.specs.laws.MixedSizes.{mixed_words, AreModest, HasRoomFor, IsServed}
 use Rattle.tlsf_pool.specs.laws.Kinds.{Ledger, ledger_after}
 use Rattle.tlsf_pool.specs.laws.Contents.{Contents, contents, after, after_all}
 use Rattle.tlsf_pool.proofs.lemmas.laws.Held.{holds}
@@ -20,9 +20,9 @@ use Rattle.tlsf_calls.specs.declared.event.Event.{Event}
 use Rattle.tlsf_crew.proofs.lemmas.histories.AllEntries.{replies_tell}
 use Rattle.tlsf_crew.proofs.lemmas.histories.JoinedEntries.{runs_then}
 use Rattle.tlsf_yard_laws.specs.Carriers.{Carrier}
-use Rattle.tlsf_yard_laws.specs.Races.{NewHasNoPast, RaceAddsToPast, RaceHoldsWhatIsLive, RaceKeepsBytes, RacePoolServes, RacePoolSuffices, ReplayAddsToPast}
+use Rattle.tlsf_yard_laws.specs.Races.{NewHasNoPast, RaceAddsToPast, RaceHoldsWhatIsLive, RaceKeepsBytes, RaceMixedSizesServe, RaceMixedSizesSuffice, ReplayAddsToPast}
 use Rattle.tlsf_yard_laws.proofs.RaceRecords.{heap_runs, heaps_stay}
-use Rattle.tlsf_yard_laws.specs.Yards.{IsNew, YardHoldsWhatIsLive, YardKeepsBytes, YardPoolServes, YardPoolSuffices}
+use Rattle.tlsf_yard_laws.specs.Yards.{IsNew, YardHoldsWhatIsLive, YardKeepsBytes, YardMixedSizesServe, YardMixedSizesSuffice}
 
 held_same : (held : ℕ) (call : Call) (answer : Answer) → held_after held call (handed_on answer) ≡ held_after held call answer
 held_same held call (Allocated r) = refl
@@ -98,14 +98,14 @@ all_served_on (answer ∷ answers) all = (served_on answer all.0, all_served_on 
 -- ---- what a heap that was new once was asked, and what it answered
 
 pub past_suffices : {sli : ℕ} (level : IsLevel sli) (j words first most len : ℕ) (calls : List Call) (answers : List Answer) (g : HeapState) → RunsTo sli (opened j words first) calls answers g
-    → IsRegion sli words → want len ≤ most_words sli → pool_words sli most len ≤ words → AreModest most len 0 calls answers → AllByRecursion HasRoomFor answers
+    → IsRegion sli words → want len ≤ most_words sli → mixed_words sli most len ≤ words → AreModest most len 0 calls answers → AllByRecursion HasRoomFor answers
 past_suffices {sli} level j words first most len calls answers g runs region class enough within =
     let own : List Answer = (run sli (opened j words first) calls).0 in
     subst (AllByRecursion HasRoomFor) runs.told
     (all_room own (suffices sli level j words first most len calls region class enough (modest most len 0 calls own (subst (AreModest most len 0 calls) (sym runs.told) within))))
 
 pub past_serves : {sli : ℕ} (level : IsLevel sli) (j words first most len : ℕ) (calls : List Call) (answers : List Answer) (g : HeapState) → RunsTo sli (opened j words first) calls answers g
-    → IsRegion sli words → want len ≤ most_words sli → pool_words sli most len ≤ words → AreModest most len 0 calls answers → first + length calls < last_tick → AllByRecursion IsServed answers
+    → IsRegion sli words → want len ≤ most_words sli → mixed_words sli most len ≤ words → AreModest most len 0 calls answers → first + length calls < last_tick → AllByRecursion IsServed answers
 past_serves {sli} level j words first most len calls answers g runs region class enough within fresh =
     let own : List Answer = (run sli (opened j words first) calls).0 in
     subst (AllByRecursion IsServed) runs.told
@@ -135,11 +135,11 @@ history {sli} w es j words first is =
     let r = replies w es in
     subst (λ (h : HeapState). RunsTo sli h (calls_on j r.made r.entries) (answers_on j r.entries) (heap_in r.world j)) is.new ((replies_tell w es).history.heaps j is.within)
 
-pub never_refuses : (sli : ℕ) → IsLevel sli → YardPoolSuffices sli
+pub never_refuses : (sli : ℕ) → IsLevel sli → YardMixedSizesSuffice sli
 never_refuses sli level w es j words first most len is region class enough within =
     past_suffices level j words first most len _ _ _ (history w es j words first is) region class enough within
 
-pub yard_serves : (sli : ℕ) → IsLevel sli → YardPoolServes sli
+pub yard_serves : (sli : ℕ) → IsLevel sli → YardMixedSizesServe sli
 yard_serves sli level w es j words first most len is region class enough within fresh =
     past_serves level j words first most len _ _ _ (history w es j words first is) region class enough within fresh
 
@@ -166,11 +166,11 @@ race_past sli carrier w v scripts made records race j words first calls answers 
   since = runs_then _ _ _ calls _ answers _ past.since (heap_runs carrier w v scripts made records race j past.within);
 }
 
-pub race_suffices : (sli : ℕ) (carrier : Carrier) → IsLevel sli → RacePoolSuffices sli carrier
+pub race_suffices : (sli : ℕ) (carrier : Carrier) → IsLevel sli → RaceMixedSizesSuffice sli carrier
 race_suffices sli carrier level w v scripts made records race j words first most len calls answers past region class enough within =
     past_suffices level j words first most len _ _ _ (race_past sli carrier w v scripts made records race j words first calls answers past).since region class enough within
 
-pub race_serves : (sli : ℕ) (carrier : Carrier) → IsLevel sli → RacePoolServes sli carrier
+pub race_serves : (sli : ℕ) (carrier : Carrier) → IsLevel sli → RaceMixedSizesServe sli carrier
 race_serves sli carrier level w v scripts made records race j words first most len calls answers past region class enough within fresh =
     past_serves level j words first most len _ _ _ (race_past sli carrier w v scripts made records race j words first calls answers past).since region class enough within fresh
 

@@ -9,9 +9,9 @@ use Rattle.tlsf_heap.specs.Lawful.{IsLawful}
 use Rattle.tlsf_heap.specs.declared.name.Name.{Name}
 use Rattle.tlsf_heap.proofs.lemmas.calls.Outcomes.{lawful_run}
 use Rattle.tlsf_post.specs.declared.post.Post.{Post}
-use Rattle.tlsf_pool.specs.laws.Pools.{pool_words, IsServed}
+use Rattle.tlsf_pool.specs.laws.MixedSizes.{mixed_words, IsServed}
 use Rattle.tlsf_pool.proofs.lemmas.laws.Ledgers.{Agrees, new_agrees}
-use Rattle.tlsf_pool.proofs.lemmas.laws.ModestCalls.{InPool, opens}
+use Rattle.tlsf_pool.proofs.lemmas.laws.ModestCalls.{InMixed, opens}
 use Rattle.tlsf_crew.specs.model.World.{World, Replayed, after, answered, begun, called, heap_in, replies}
 use Rattle.tlsf_crew.specs.histories.History.{AreTakes, RunsTo, TellsCall, answer_told, answers_on, call_on_own, calls_on, post_of_release, post_of_take, posts_made, posts_taken}
 use Rattle.tlsf_calls.specs.declared.entry.Entry.{Entry}
@@ -27,7 +27,7 @@ use Rattle.tlsf_crew.proofs.lemmas.model.EventSteps.{after_far, after_near}
 use Rattle.tlsf_crew.proofs.lemmas.histories.Fronts.{runs_through}
 use Rattle.tlsf_crew.proofs.lemmas.histories.JoinedEntries.{HasItsAnswer, told_nothing, told_other, told_then}
 use Rattle.tlsf_crew.proofs.lemmas.histories.OwnCalls.{Knows}
-use Rattle.tlsf_yard_laws.specs.Sharing.{SharedPoolServes}
+use Rattle.tlsf_yard_laws.specs.Sharing.{SharedMixedSizesServe}
 use Rattle.tlsf_yard_laws.proofs.Shares.{AllLead, all_served}
 use Rattle.tlsf_yard_laws.proofs.ShortLanes.{AreShort, StayShort, called_short}
 
@@ -242,11 +242,11 @@ replies_lead {sli} level w es n j j_in count lawful short =
     let t = turns sli level z.made n j w.capacity j_in es (begun w) (record { count = count; lawful = lawful; room = refl; short = short }) (λ target name e. e) in
     subst (AllLead sli j n w.capacity z.made (heap_in w j) (λ i. w.waiting i j)) (sym t.1) t.2
 
-pub shared_serves : (sli : ℕ) → IsLevel sli → SharedPoolServes sli
+pub shared_serves : (sli : ℕ) → IsLevel sli → SharedMixedSizesServe sli
 shared_serves sli level w es j words first most len is short region class enough fresh sparing = on (length w.heaps) refl
   where
-    new : InPool words (want len + 3) (heap_in w j)
-    new = subst (InPool words (want len + 3)) (sym is.new) (opens sli j words first (want len + 3) region)
+    new : InMixed words (want len + 3) (heap_in w j)
+    new = subst (InMixed words (want len + 3)) (sym is.new) (opens sli j words first (want len + 3) region)
 
     nothing : (size : ℕ) → ◌≡◌ {A = Option ℕ} None (Some size) → ⊥
     nothing size e = cc
@@ -256,7 +256,7 @@ shared_serves sli level w es j words first most len is short region class enough
     on (suc m) count =
         let tick : (heap_in w j).tick ≡ first + 1 = ap (λ (h : HeapState). h.tick) is.new in
         let few : length w.heaps - 1 ≡ m = omega (arith, count) in
-        let large : pool_words sli (most + m * w.capacity) len ≤ words = subst (λ (k : ℕ). pool_words sli (most + k * w.capacity) len ≤ words) few enough in
+        let large : mixed_words sli (most + m * w.capacity) len ≤ words = subst (λ (k : ℕ). mixed_words sli (most + k * w.capacity) len ≤ words) few enough in
         all_served sli level words most len class w.capacity j m (omega (arith, is.within, count)) large (replies w es).made (replies w es).entries (heap_in w j) [] [] (λ i. w.waiting i j)
-        (record { pool = new; agrees = subst (λ (h : HeapState). Agrees h []) (sym is.new) (new_agrees j words first); covers = λ name size found. absurd (nothing size found) })
+        (record { mixed = new; agrees = subst (λ (h : HeapState). Agrees h []) (sym is.new) (new_agrees j words first); covers = λ name size found. absurd (nothing size found) })
         short (replies_lead level w es (suc m) j (omega (arith, is.within, count)) count new.lawful short) sparing (omega (arith, tick, fresh))

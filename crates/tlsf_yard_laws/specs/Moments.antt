@@ -8,7 +8,7 @@ use Rattle.tlsf_heap.specs.Lawful.{IsRegion}
 use Rattle.tlsf_heap.specs.Calls as heap
 use Rattle.tlsf_heap.specs.declared.name.Name.{Name}
 use Rattle.tlsf_post.specs.declared.post.Post.{Post}
-use Rattle.tlsf_pool.specs.laws.Pools.{pool_words, AreModest, IsServed}
+use Rattle.tlsf_pool.specs.laws.MixedSizes.{mixed_words, AreModest, IsServed}
 use Rattle.tlsf_pool.specs.laws.Kinds.{Ledger, ledger_after_all}
 use Rattle.tlsf_crew.specs.model.World.{World}
 use Rattle.tlsf_crew.specs.histories.History.{StandsBehind, answers_on, calls_on, entries_of, posts_made, posts_taken}
@@ -76,9 +76,9 @@ AreSparingInRace carrier w made records j most len calls answers = (before : Lis
     × ((target : Target) (n : ℕ) → e.call ≡ Resize target n → n ≤ len)
 
 -- a heap with room for what the programs hold and for what may be under way serves each request of its worker, while the ticks last
-abbrev pub RaceSharedPoolServes : ℕ → Carrier → Type 0
-RaceSharedPoolServes sli carrier = (w v : World sli) (scripts : List (List Call)) (made : ℕ → List (Option Name)) (records : List (List Entry)) → IsRaceOver carrier w scripts made records v
+abbrev pub RaceSharedMixedSizesServe : ℕ → Carrier → Type 0
+RaceSharedMixedSizesServe sli carrier = (w v : World sli) (scripts : List (List Call)) (made : ℕ → List (Option Name)) (records : List (List Entry)) → IsRaceOver carrier w scripts made records v
     → (j words first most len : ℕ) (calls : List heap.Call) (answers : List heap.Answer) → HasPast w j words first calls answers
-    → IsRegion sli words → want len ≤ most_words sli → pool_words sli (most + most_under_way carrier w) len ≤ words → AreModest (most + most_under_way carrier w) len 0 calls answers
+    → IsRegion sli words → want len ≤ most_words sli → mixed_words sli (most + most_under_way carrier w) len ≤ words → AreModest (most + most_under_way carrier w) len 0 calls answers
     → let now = calls ++ calls_on j (made j) (record_of records j) in let told = answers ++ answers_on j (record_of records j) in
     AreSparingInRace carrier w made records j most len calls answers → first + length now < heap.last_tick → AllByRecursion IsServed told

@@ -8,7 +8,7 @@ use Rattle.tlsf_heap.specs.Calls as heap
 use Rattle.tlsf_heap.specs.declared.name.Name.{Name}
 use Rattle.tlsf_pool.specs.laws.Room.{live_count}
 use Rattle.tlsf_pool.specs.laws.Held.{held_after_all}
-use Rattle.tlsf_pool.specs.laws.Pools.{pool_words, AreModest, HasRoomFor, IsServed}
+use Rattle.tlsf_pool.specs.laws.MixedSizes.{mixed_words, AreModest, HasRoomFor, IsServed}
 use Rattle.tlsf_pool.specs.laws.Contents.{contents, after_all}
 use Rattle.tlsf_crew.specs.model.World.{World, heap_in, replies}
 use Rattle.tlsf_crew.specs.histories.History.{RunsTo, calls_on, answers_on}
@@ -39,20 +39,20 @@ RaceAddsToPast sli carrier = (w v : World sli) (scripts : List (List Call)) (mad
     → HasPast w j words first calls answers
     → HasPast v j words first (calls ++ calls_on j (made j) (record_of records j)) (answers ++ answers_on j (record_of records j))
 
--- a heap of pool_words whose calls so far and in the race stay within the bounds is never answered NoFit. Its calls are those that
+-- a heap of mixed_words whose calls so far and in the race stay within the bounds is never answered NoFit. Its calls are those that
 -- its own worker's record tells; a block whose name is under way counts as held until its worker takes it
-abbrev pub RacePoolSuffices : ℕ → Carrier → Type 0
-RacePoolSuffices sli carrier = (w v : World sli) (scripts : List (List Call)) (made : ℕ → List (Option Name)) (records : List (List Entry)) → IsRaceOver carrier w scripts made records v
+abbrev pub RaceMixedSizesSuffice : ℕ → Carrier → Type 0
+RaceMixedSizesSuffice sli carrier = (w v : World sli) (scripts : List (List Call)) (made : ℕ → List (Option Name)) (records : List (List Entry)) → IsRaceOver carrier w scripts made records v
     → (j words first most len : ℕ) (calls : List heap.Call) (answers : List heap.Answer) → HasPast w j words first calls answers
-    → IsRegion sli words → want len ≤ most_words sli → pool_words sli most len ≤ words
+    → IsRegion sli words → want len ≤ most_words sli → mixed_words sli most len ≤ words
     → let now = calls ++ calls_on j (made j) (record_of records j) in let told = answers ++ answers_on j (record_of records j) in
     AreModest most len 0 now told → AllByRecursion HasRoomFor told
 
 -- and each of its worker's requests is served, while the ticks last
-abbrev pub RacePoolServes : ℕ → Carrier → Type 0
-RacePoolServes sli carrier = (w v : World sli) (scripts : List (List Call)) (made : ℕ → List (Option Name)) (records : List (List Entry)) → IsRaceOver carrier w scripts made records v
+abbrev pub RaceMixedSizesServe : ℕ → Carrier → Type 0
+RaceMixedSizesServe sli carrier = (w v : World sli) (scripts : List (List Call)) (made : ℕ → List (Option Name)) (records : List (List Entry)) → IsRaceOver carrier w scripts made records v
     → (j words first most len : ℕ) (calls : List heap.Call) (answers : List heap.Answer) → HasPast w j words first calls answers
-    → IsRegion sli words → want len ≤ most_words sli → pool_words sli most len ≤ words
+    → IsRegion sli words → want len ≤ most_words sli → mixed_words sli most len ≤ words
     → let now = calls ++ calls_on j (made j) (record_of records j) in let told = answers ++ answers_on j (record_of records j) in
     AreModest most len 0 now told → first + length now < heap.last_tick → AllByRecursion IsServed told
 

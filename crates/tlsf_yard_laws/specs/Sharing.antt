@@ -7,7 +7,7 @@ use Rattle.tlsf_heap.specs.Lawful.{IsRegion}
 use Rattle.tlsf_heap.specs.Calls as heap
 use Rattle.tlsf_heap.specs.declared.name.Name.{Name}
 use Rattle.tlsf_post.specs.declared.post.Post.{Post}
-use Rattle.tlsf_pool.specs.laws.Pools.{pool_words, IsServed}
+use Rattle.tlsf_pool.specs.laws.MixedSizes.{mixed_words, IsServed}
 use Rattle.tlsf_pool.specs.laws.Contents.{is_same}
 use Rattle.tlsf_pool.specs.laws.Kinds.{Ledger, ledger_after}
 use Rattle.tlsf_crew.specs.model.World.{World, replies}
@@ -54,7 +54,7 @@ most_under_way OverLanes w = (length w.heaps - 1) * w.capacity
 most_under_way OverQueues w = w.capacity
 
 -- a heap with room for what the programs hold and for what may be under way serves each request of its worker, while the ticks last
-abbrev pub SharedPoolServes : ℕ → Type 0
-SharedPoolServes sli = (w : World sli) (es : List Event) (j words first most len : ℕ) → IsNew w j words first → ((i : ℕ) → length (w.waiting i j) ≤ w.capacity)
-    → IsRegion sli words → want len ≤ most_words sli → pool_words sli (most + most_under_way OverLanes w) len ≤ words
+abbrev pub SharedMixedSizesServe : ℕ → Type 0
+SharedMixedSizesServe sli = (w : World sli) (es : List Event) (j words first most len : ℕ) → IsNew w j words first → ((i : ℕ) → length (w.waiting i j) ≤ w.capacity)
+    → IsRegion sli words → want len ≤ most_words sli → mixed_words sli (most + most_under_way OverLanes w) len ≤ words
     → let r = replies w es in first + length r.entries < heap.last_tick → AreSparing j most len r.made [] r.entries → AllByRecursion IsServed (answers_on j r.entries)

@@ -8,7 +8,7 @@ use Rattle.tlsf_heap.specs.Calls.{last_tick, opened}
 use Rattle.tlsf_heap.specs.declared.name.Name.{Name}
 use Rattle.tlsf_pool.specs.laws.Room.{live_count}
 use Rattle.tlsf_pool.specs.laws.Held.{held_after_all}
-use Rattle.tlsf_pool.specs.laws.Pools.{pool_words, AreModest, HasRoomFor, IsServed}
+use Rattle.tlsf_pool.specs.laws.MixedSizes.{mixed_words, AreModest, HasRoomFor, IsServed}
 use Rattle.tlsf_pool.specs.laws.Contents.{contents, after_all}
 use Rattle.tlsf_crew.specs.model.World.{World, heap_in, replies}
 use Rattle.tlsf_crew.specs.histories.History.{calls_on, answers_on}
@@ -19,15 +19,15 @@ pub record IsNew {sli : ℕ} (w : World sli) (j words first : ℕ) : Type 0 wher
   pub within : j < length w.heaps
   pub new : heap_in w j ≡ opened j words first
 
--- a heap of pool_words whose calls stay within the bounds is never answered NoFit. Its calls are those that its own worker's
+-- a heap of mixed_words whose calls stay within the bounds is never answered NoFit. Its calls are those that its own worker's
 -- entries tell; a block whose name waits in a lane counts as held until a drain releases it
-abbrev pub YardPoolSuffices : ℕ → Type 0
-YardPoolSuffices sli = (w : World sli) (es : List Event) (j words first most len : ℕ) → IsNew w j words first → IsRegion sli words → want len ≤ most_words sli → pool_words sli most len ≤ words
+abbrev pub YardMixedSizesSuffice : ℕ → Type 0
+YardMixedSizesSuffice sli = (w : World sli) (es : List Event) (j words first most len : ℕ) → IsNew w j words first → IsRegion sli words → want len ≤ most_words sli → mixed_words sli most len ≤ words
     → let r = replies w es in AreModest most len 0 (calls_on j r.made r.entries) (answers_on j r.entries) → AllByRecursion HasRoomFor (answers_on j r.entries)
 
 -- and each of its worker's requests is served, while the ticks last
-abbrev pub YardPoolServes : ℕ → Type 0
-YardPoolServes sli = (w : World sli) (es : List Event) (j words first most len : ℕ) → IsNew w j words first → IsRegion sli words → want len ≤ most_words sli → pool_words sli most len ≤ words
+abbrev pub YardMixedSizesServe : ℕ → Type 0
+YardMixedSizesServe sli = (w : World sli) (es : List Event) (j words first most len : ℕ) → IsNew w j words first → IsRegion sli words → want len ≤ most_words sli → mixed_words sli most len ≤ words
     → let r = replies w es in AreModest most len 0 (calls_on j r.made r.entries) (answers_on j r.entries) → first + length (calls_on j r.made r.entries) < last_tick
     → AllByRecursion IsServed (answers_on j r.entries)
 

@@ -1,7 +1,7 @@
 ghost use Rattle.std.specs.Prelude.{ℕ};
 ghost use Rattle.tlsf_class.specs.Classes.{IsLevel};
 ghost use Rattle.tlsf_yard_laws.specs.Carriers.{Carrier};
-ghost use Rattle.tlsf_yard_laws.specs.Races.{NewHasNoPast, RaceAddsToPast, RaceHoldsWhatIsLive, RaceKeepsBytes, RacePoolServes, RacePoolSuffices, ReplayAddsToPast};
+ghost use Rattle.tlsf_yard_laws.specs.Races.{NewHasNoPast, RaceAddsToPast, RaceHoldsWhatIsLive, RaceKeepsBytes, RaceMixedSizesServe, RaceMixedSizesSuffice, ReplayAddsToPast};
 
 /// The past of a heap is one list of calls, through replays and races: what its own worker was told since it was new. A yard over
 /// lanes has both, one over queues races alone.
@@ -23,15 +23,15 @@ pub fn past_goes_on()
 ///
 /// A worker counts for itself: one more for each allocate that was accepted, one fewer for each release of its own and each
 /// post that it took that its heap accepted. While it has fewer than `most` blocks before each request, and asks for at most
-/// `len` bytes, a heap of `tlsf_pool::pool_never_refuses`' words for these two has room. Where it has `most`, it drains first.
+/// `len` bytes, a heap of `tlsf_pool::mixed_sizes_suffice`' words for these two has room. Where it has `most`, it drains first.
 ///
 /// ```text
 /// worker 0: Allocate(8), Allocate(8), Drain(8), and again where the drain left it fewer than two, in a heap for two blocks
 /// worker 1: releases blocks of worker 0 as it learns their names; none of worker 0's requests is answered NoFit
 /// ```
 pub fn race_never_refuses()
-    ensures room { (sli : ℕ) (carrier : Carrier) → IsLevel sli → RacePoolSuffices sli carrier }
-    ensures served { (sli : ℕ) (carrier : Carrier) → IsLevel sli → RacePoolServes sli carrier }
+    ensures room { (sli : ℕ) (carrier : Carrier) → IsLevel sli → RaceMixedSizesSuffice sli carrier }
+    ensures served { (sli : ℕ) (carrier : Carrier) → IsLevel sli → RaceMixedSizesServe sli carrier }
 
     // As many blocks are live after the race as the worker was told to be held.
     ensures held { (sli : ℕ) (carrier : Carrier) → RaceHoldsWhatIsLive sli carrier }

@@ -1,15 +1,15 @@
 ghost use Rattle.std.specs.Prelude.{ℕ};
 ghost use Rattle.tlsf_class.specs.Classes.{IsLevel};
 ghost use Rattle.tlsf_yard_laws.specs.Carriers.{OverLanes, OverQueues};
-ghost use Rattle.tlsf_yard_laws.specs.Moments.{OrdersHaveMoments, RaceSharedPoolServes};
-ghost use Rattle.tlsf_yard_laws.specs.Sharing.{SharedPoolServes};
+ghost use Rattle.tlsf_yard_laws.specs.Moments.{OrdersHaveMoments, RaceSharedMixedSizesServe};
+ghost use Rattle.tlsf_yard_laws.specs.Sharing.{SharedMixedSizesServe};
 
 /// How large the heap of a worker must be, by what the programs hold and by what the lanes hold.
 ///
 /// A block counts as held from the allocate that gave it until a release of its name is accepted from anybody: `Freed` by its
 /// owner, or `Posted` by another worker. So a program that is done with a block need not know when its owner drains. Blocks
 /// whose names are under way are bounded by the lanes: each of the n - 1 lanes that lead to a worker holds up to C posts. A heap
-/// with the words of `tlsf_pool::pool_never_refuses` for `most` + (n - 1) * C blocks of `len` bytes serves each request of
+/// with the words of `tlsf_pool::mixed_sizes_suffice` for `most` + (n - 1) * C blocks of `len` bytes serves each request of
 /// its worker that is for at most `len` bytes and is made while fewer than `most` are held, as long as the ticks last and its
 /// worker resizes no block to more than `len` bytes. Nothing is asked of when a worker drains, and posts of forged or doubled names change nothing.
 ///
@@ -18,7 +18,7 @@ ghost use Rattle.tlsf_yard_laws.specs.Sharing.{SharedPoolServes};
 /// the words for 108 blocks, 14,727
 /// ```
 pub fn lanes_add_their_capacity()
-    ensures { (sli : ℕ) → IsLevel sli → SharedPoolServes sli }
+    ensures { (sli : ℕ) → IsLevel sli → SharedMixedSizesServe sli }
 {}
 
 /// The same in a race over lanes, at the moments of its owner's requests.
@@ -26,7 +26,7 @@ pub fn lanes_add_their_capacity()
 /// A moment of the owner's record is how far it has come, and with it how far each other worker has: any part of that worker's
 /// record of which all is posted that the owner took from it, and at most C posts more, those under way. The blocks that the owner's
 /// answers leave live are held by the programs, but for those whose names are under way. A heap with the words of
-/// `tlsf_pool::pool_never_refuses` for `most` + (n - 1) * C blocks of `len` bytes serves each request of its worker that is for at
+/// `tlsf_pool::mixed_sizes_suffice` for `most` + (n - 1) * C blocks of `len` bytes serves each request of its worker that is for at
 /// most `len` bytes and is made at some such moment at which fewer than `most` are held, as long as the ticks last and its worker
 /// resizes no block to more than `len` bytes.
 ///
@@ -38,7 +38,7 @@ pub fn lanes_add_their_capacity()
 /// at worker 0's second request x is held where worker 1 has told nothing yet, and under way where it has told its release
 /// ```
 pub fn race_adds_its_lanes()
-    ensures served { (sli : ℕ) → IsLevel sli → RaceSharedPoolServes sli OverLanes }
+    ensures served { (sli : ℕ) → IsLevel sli → RaceSharedMixedSizesServe sli OverLanes }
 
     // In any one order of all calls in which each post is taken after it was made and no lane is ever overfull, there is a moment
     // before each request: what waits is under way.
@@ -47,7 +47,7 @@ pub fn race_adds_its_lanes()
 
 /// The same in a race over queues: one queue leads to a worker, which holds up to C posts of all others together.
 ///
-/// So the heap needs the words of `tlsf_pool::pool_never_refuses` for `most` + C blocks of `len` bytes, however many workers there
+/// So the heap needs the words of `tlsf_pool::mixed_sizes_suffice` for `most` + C blocks of `len` bytes, however many workers there
 /// are. A moment is as in [`race_adds_its_lanes`], but that at most C posts are under way in all: in what order those of several
 /// workers stand in the queue is free.
 ///
@@ -56,7 +56,7 @@ pub fn race_adds_its_lanes()
 /// the words for 108 blocks, 14,727; over lanes of 8 posts those of 156, 21,303
 /// ```
 pub fn race_adds_its_queue()
-    ensures served { (sli : ℕ) → IsLevel sli → RaceSharedPoolServes sli OverQueues }
+    ensures served { (sli : ℕ) → IsLevel sli → RaceSharedMixedSizesServe sli OverQueues }
 
     // In any one order of all calls in which each post is taken after it was made and no queue is ever overfull, there is a moment
     // before each request.

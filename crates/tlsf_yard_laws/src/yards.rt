@@ -1,10 +1,10 @@
 ghost use Rattle.std.specs.Prelude.{ℕ};
 ghost use Rattle.tlsf_class.specs.Classes.{IsLevel};
-ghost use Rattle.tlsf_yard_laws.specs.Yards.{YardHoldsWhatIsLive, YardKeepsBytes, YardPoolServes, YardPoolSuffices};
+ghost use Rattle.tlsf_yard_laws.specs.Yards.{YardHoldsWhatIsLive, YardKeepsBytes, YardMixedSizesServe, YardMixedSizesSuffice};
 
 /// How large the heap of a worker must be, so that none of its requests is ever refused for want of room.
 ///
-/// The heap needs the words of `tlsf_pool::pool_never_refuses`, for the most blocks of it that are held at any moment. They
+/// The heap needs the words of `tlsf_pool::mixed_sizes_suffice`, for the most blocks of it that are held at any moment. They
 /// are told by the entries of its own worker: its accepted allocates, less the releases that its heap accepted, at once or
 /// in a drain. So a block whose name waits in a lane counts as held: with lanes of C posts from each of n - 1 other workers,
 /// up to C * (n - 1) such blocks beside those in use.
@@ -14,8 +14,8 @@ ghost use Rattle.tlsf_yard_laws.specs.Yards.{YardHoldsWhatIsLive, YardKeepsBytes
 /// worker 0 drains: none held
 /// ```
 pub fn yard_never_refuses()
-    ensures room { (sli : ℕ) → IsLevel sli → YardPoolSuffices sli }
-    ensures served { (sli : ℕ) → IsLevel sli → YardPoolServes sli }
+    ensures room { (sli : ℕ) → IsLevel sli → YardMixedSizesSuffice sli }
+    ensures served { (sli : ℕ) → IsLevel sli → YardMixedSizesServe sli }
     ensures held { (sli : ℕ) → YardHoldsWhatIsLive sli }
 {}
 

@@ -1,10 +1,10 @@
-//! What `bc` asks of `malloc` to compute 2^30, as `examples/calculator.trace` has it, and the table of its kinds.
+//! What `bc` asks of `malloc` to compute 2^30, as `examples/calculator.trace` has it, and the table of its kinds, merged for
+//! eight pools.
 use tlsf_pool::Kind;
 
 /// How many blocks of each length the program holds at once, at most.
-pub const TABLE: [Kind; 9] = [
-    Kind { most: 10, len: 8 },
-    Kind { most: 3, len: 16 },
+pub const TABLE: [Kind; 8] = [
+    Kind { most: 12, len: 16 },
     Kind { most: 8, len: 40 },
     Kind { most: 2, len: 64 },
     Kind { most: 5, len: 256 },

@@ -1,10 +1,10 @@
 //! The collections of a mixer in memory that was counted beforehand: at most so many blocks are held at once, of at most so many bytes each,
-//! and an arena of `pool_units` units has room for them, in whatever order they come and go. No voice, sample or note lacks room.
+//! and an arena of `mixed_units` units has room for them, in whatever order they come and go. No voice, sample or note lacks room.
 use anyhow::{Error, bail};
 use std::alloc::{AllocError, Global};
 use std::collections::BTreeMap;
 use tlsf_arena::DefaultArena;
-use tlsf_pool_arena::pool_units;
+use tlsf_pool_arena::mixed_units;
 
 /// What a piece has at most: voices in boxes, samples in a line that grows by pushes, and notes in a map.
 const VOICES: u32 = 4;
@@ -46,7 +46,7 @@ pub fn play(memory: &DefaultArena, piece: u32) -> Result<u32, AllocError> {
 
 /// Plays three pieces. Tells how many units there are, how many each piece spares, and how many are free at the end.
 pub fn play_three(alloc: Global) -> Result<(u32, [u32; 3], u32), Error> {
-    let Some(units) = pool_units::<4, 16>(MOST, LONGEST) else {
+    let Some(units) = mixed_units::<4, 16>(MOST, LONGEST) else {
         bail!("no arena has so many units");
     };
     let memory = DefaultArena::open(alloc, 0, units)?;

@@ -4,15 +4,14 @@
 --   Comb: a heap of one block that has one word less, and refuses
 --   FixedCalls: calls whose each request takes the words of a fixed size
 --   FixedSize: blocks of a fixed size begin at its multiples, so each free one but the last serves
---   FixedWords: the words for a fixed size are no more than those of a pool or a table
---   Fours: where all blocks want four words, they have a fixed size of four
+--   FixedWords: the words for a fixed size are no more than those for mixed sizes or a table
 --   FreeRoom: room by counting free blocks, and those too small
 --   Held: as many blocks are live as are held
 --   Hundred: the words of two regions, by computing
 --   Ledgers: a ledger has the length of each live block, under its name
 --   Loads: sums over live blocks, and what the calls make of them
 --   Looks: the bytes under a name, by a look through the blocks
---   ModestCalls: what each call leaves of the bounds of a pool
+--   ModestCalls: what each call leaves of the bounds of blocks of mixed sizes
 --   Names: whether two names are the same
 --   OneLargeCalls: what each call leaves of the hole for one large block
 --   PlannedCalls: what each call leaves of the bounds of a table of kinds
@@ -28,7 +27,6 @@ pub mod Comb
 pub mod FixedCalls
 pub mod FixedSize
 pub mod FixedWords
-pub mod Fours
 pub mod FreeRoom
 pub mod Held
 pub mod Hundred

@@ -9,7 +9,7 @@ use Rattle.tlsf_heap.specs.declared.name.Name.{Name}
 use Rattle.tlsf_heap.specs.declared.refusal.Refusal.TheVariants.{NoFit}
 use Rattle.tlsf_pool.specs.declared.kind.Kind.{Kind}
 use Rattle.tlsf_pool.specs.laws.Room.{live_count, sure}
-use Rattle.tlsf_pool.specs.laws.Pools.{AreModest, HasRoomFor, IsServed, pool_words}
+use Rattle.tlsf_pool.specs.laws.MixedSizes.{AreModest, HasRoomFor, IsServed, mixed_words}
 use Rattle.tlsf_pool.specs.laws.Kinds.{count_in, kinds_words, used, HasClass}
 use Rattle.tlsf_pool.specs.laws.OneLarge.{longest_of}
 
@@ -128,9 +128,9 @@ OneLengthSuffices sli = (id words first most len : ℕ) (calls : List Call) → 
 abbrev pub HasFixedRegion : ℕ → ℕ → ℕ → Type 0
 HasFixedRegion sli most len = (want len ≤ most_words sli) × IsRegion sli (fixed_words sli most len)
 
--- they are never more than those of a pool
-abbrev pub FewerThanAPool : ℕ → Type 0
-FewerThanAPool sli = (most len : ℕ) → want len ≤ most_words sli → fixed_words sli most len ≤ pool_words sli most len
+-- they are never more than those for mixed sizes
+abbrev pub FewerThanMixedSizes : ℕ → Type 0
+FewerThanMixedSizes sli = (most len : ℕ) → want len ≤ most_words sli → fixed_words sli most len ≤ mixed_words sli most len
 
 -- nor, for as many blocks as a table has, of the longest kind, than those of the table
 abbrev pub FewerThanATable : ℕ → Type 0

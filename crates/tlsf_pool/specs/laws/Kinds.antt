@@ -7,7 +7,7 @@ use Rattle.tlsf_heap.specs.Lawful.{IsRegion}
 use Rattle.tlsf_heap.specs.Calls.{Call, Allocate, Release, Write, Resize, Read, Answer, Allocated, Released, Resized, opened, run}
 use Rattle.tlsf_heap.specs.declared.name.Name.{Name}
 use Rattle.tlsf_pool.specs.laws.Room.{live_count, sure}
-use Rattle.tlsf_pool.specs.laws.Pools.{pool_words, HasRoomFor}
+use Rattle.tlsf_pool.specs.laws.MixedSizes.{mixed_words, HasRoomFor}
 use Rattle.tlsf_pool.specs.laws.Contents.{is_same}
 use Rattle.tlsf_pool.specs.declared.kind.Kind.{Kind}
 
@@ -112,9 +112,9 @@ ResizedSuffice sli = (id words first : ℕ) (kinds : List Kind) (calls : List Ca
 abbrev pub EmptyKindsAreNothing : ℕ → Type 0
 EmptyKindsAreNothing sli = (kinds : List Kind) → kinds_words sli kinds ≡ kinds_words sli (used kinds)
 
--- a table of one kind asks for the words of a pool
-abbrev pub OneKindIsAPool : ℕ → Type 0
-OneKindIsAPool sli = (kind : Kind) → kinds_words sli (kind ∷ []) ≡ pool_words sli kind.most kind.len
+-- a table of one kind asks for the words of mixed sizes up to its length
+abbrev pub OneKindHasMixedWords : ℕ → Type 0
+OneKindHasMixedWords sli = (kind : Kind) → kinds_words sli (kind ∷ []) ≡ mixed_words sli kind.most kind.len
 
 -- as many blocks are live as the ledger has entries
 abbrev pub LedgerHoldsWhatIsLive : ℕ → Type 0

@@ -5,7 +5,7 @@ use Rattle.tlsf_heap.specs.Blocks.{want}
 use Rattle.tlsf_heap.specs.Lawful.{IsRegion}
 use Rattle.tlsf_heap.specs.Calls.{Call, Allocate, Release, Write, Resize, Read, opened, run}
 use Rattle.tlsf_pool.specs.laws.Room.{sure}
-use Rattle.tlsf_pool.specs.laws.Pools.{HasRoomFor}
+use Rattle.tlsf_pool.specs.laws.MixedSizes.{HasRoomFor}
 use Rattle.tlsf_pool.specs.laws.Kinds.{ArePlanned, HasClass, count_in, table_words}
 use Rattle.tlsf_pool.specs.declared.kind.Kind.{Kind}
 

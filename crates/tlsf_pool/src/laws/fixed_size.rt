@@ -1,6 +1,6 @@
 ghost use Rattle.std.specs.Prelude.{ℕ};
 ghost use Rattle.tlsf_class.specs.Classes.{IsLevel};
-ghost use Rattle.tlsf_pool.specs.laws.FixedSize.{BlocksAreWhole, FewerThanAPool, FewerThanATable, FixedSizeFindsRoom, FixedSizeIsExact, FixedSizeIsKept, FixedSizeIsTight, FixedSizeServes, FixedSizeSuffices, HundredOfFixedSize, NewHasFixedSize, OneLengthSuffices, SureIsSure};
+ghost use Rattle.tlsf_pool.specs.laws.FixedSize.{BlocksAreWhole, FewerThanATable, FewerThanMixedSizes, FixedSizeFindsRoom, FixedSizeIsExact, FixedSizeIsKept, FixedSizeIsTight, FixedSizeServes, FixedSizeSuffices, HundredOfFixedSize, NewHasFixedSize, OneLengthSuffices, SureIsSure};
 
 /// How large a region must be for blocks of a fixed size: a block of s words for each request, whatever its length.
 ///
@@ -11,7 +11,7 @@ ghost use Rattle.tlsf_pool.specs.laws.FixedSize.{BlocksAreWhole, FewerThanAPool,
 /// hold so many.
 ///
 /// Each block begins at a multiple of s words, so each free block but the one at the end has s words or more, and serves. No free
-/// word is lost between live blocks, as it may be in a region of [`pool_never_refuses`](crate::pool_never_refuses).
+/// word is lost between live blocks, as it may be in a region of [`mixed_sizes_suffice`](crate::mixed_sizes_suffice).
 ///
 /// The same holds for [`allocate`](tlsf_heap::Heap::allocate) and [`resize`](tlsf_heap::Heap::resize) where all lengths want s words by
 /// themselves: 225 to 232 bytes want 32, say. Each length of up to 232 bytes wants the least size of a class at level 4, and each of up
@@ -35,8 +35,8 @@ pub fn fixed_size_suffices()
     ensures whole { BlocksAreWhole }
     ensures sure { (sli : ℕ) → IsLevel sli → SureIsSure sli }
 
-    // These words are never more than those of a pool, nor than those of a table whose blocks all have the longest kind's.
-    ensures pool { (sli : ℕ) → IsLevel sli → FewerThanAPool sli }
+    // These words are never more than those for mixed sizes, nor than those of a table whose blocks all have the longest kind's.
+    ensures mixed { (sli : ℕ) → IsLevel sli → FewerThanMixedSizes sli }
     ensures table { (sli : ℕ) → IsLevel sli → FewerThanATable sli }
     ensures example { HundredOfFixedSize }
 {}

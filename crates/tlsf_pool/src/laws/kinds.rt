@@ -1,6 +1,6 @@
 ghost use Rattle.std.specs.Prelude.{ℕ};
 ghost use Rattle.tlsf_class.specs.Classes.{IsLevel};
-ghost use Rattle.tlsf_pool.specs.laws.Kinds.{EmptyKindsAreNothing, KindsSuffice, LedgerHoldsWhatIsLive, OneKindIsAPool, ResizedSuffice};
+ghost use Rattle.tlsf_pool.specs.laws.Kinds.{EmptyKindsAreNothing, KindsSuffice, LedgerHoldsWhatIsLive, OneKindHasMixedWords, ResizedSuffice};
 
 /// How large a region must be for several kinds of request, by a table of sizes with how many blocks of each may be held.
 ///
@@ -11,7 +11,7 @@ ghost use Rattle.tlsf_pool.specs.laws.Kinds.{EmptyKindsAreNothing, KindsSuffice,
 /// Where each request is for at most 8 bytes, these are four words for each block: no free block is too small, so none is lost. There
 /// no block may be resized to more; `resized_words` are enough for a table whatever is resized.
 ///
-/// For a table of one kind these are the words of [`pool_never_refuses`](crate::pool_never_refuses).
+/// For a table of one kind these are the words of [`mixed_sizes_suffice`](crate::mixed_sizes_suffice).
 ///
 /// ```text
 /// 100 blocks of up to 64 bytes and 4 of up to 4096: 59,427 words, where 104 of up to 4096 would need 109,827
@@ -20,9 +20,9 @@ pub fn kinds_suffice()
     ensures room { (sli : ℕ) → IsLevel sli → KindsSuffice sli }
     ensures resized { (sli : ℕ) → IsLevel sli → ResizedSuffice sli }
 
-    // Kinds of which no block is held don't count. A table of one kind is a pool.
+    // Kinds of which no block is held don't count. A table of one kind has the words for mixed sizes.
     ensures empty { (sli : ℕ) → EmptyKindsAreNothing sli }
-    ensures one { (sli : ℕ) → OneKindIsAPool sli }
+    ensures one { (sli : ℕ) → OneKindHasMixedWords sli }
 
     // The ledger has as many entries as blocks are live.
     ensures held { (sli : ℕ) → IsLevel sli → LedgerHoldsWhatIsLive sli }

@@ -17,7 +17,7 @@ use tlsf_heap::want;
 /// each, whatever its length. These are `sure(want(len))`, the least size of the search class of `len` bytes. By
 /// [`fixed_size_suffices`](crate::fixed_size_suffices) it is never refused for want of room, and in fewer words it would be. None where
 /// no region has so many: more than 2^20 at level 4, or 2^24 at level 5. It is the region that a [`Pool`](crate::Pool) of these bounds
-/// takes, never more than that of [`pool_region`](crate::pool_region), where a block has the words that its own length wants.
+/// takes, never more than that of [`mixed_region`](crate::mixed_region), where a block has the words that its own length wants.
 ///
 /// ```
 /// let words = fixed_region::<4>(100, 512);      // Some(6800), each block of 68

@@ -1,18 +1,18 @@
 ghost use Rattle.std.specs.Prelude.{◌≡◌, ◌↔◌, ℕ, ◌≤◌, IfSome, IsTrue, None};
 ghost use Rattle.tlsf_class.specs.Classes.{IsLevel, most_words};
 ghost use Rattle.tlsf_heap.specs.Blocks;
-ghost use Rattle.tlsf_pool.specs.laws.Pools;
+ghost use Rattle.tlsf_pool.specs.laws.MixedSizes;
 
 use crate::kind::Kind;
 use crate::sizes::sizing::{kinds_words, most_bytes, sure};
 use tlsf_class::most_words;
 use tlsf_heap::want;
 
-/// Whether some region has the words of a pool of at most `most` blocks, of at most `len` bytes each.
+/// Whether some region has the words for at most `most` blocks, of at most `len` bytes each.
 fn fits<const SLI: u32>(most: u32, len: u32) -> bool
     requires level { IsLevel SLI }
     requires class { Blocks.want len ≤ most_words SLI }
-    ensures { IsTrue result ↔ (Pools.pool_words SLI most len ≤ most_words SLI) }
+    ensures { IsTrue result ↔ (MixedSizes.mixed_words SLI most len ≤ most_words SLI) }
 {
     kinds_words::<SLI>(&[Kind { most, len }]) <= u64::from(most_words::<SLI>())
 }
@@ -25,8 +25,8 @@ fn fits<const SLI: u32>(most: u32, len: u32) -> bool
 pub fn most_blocks<const SLI: u32>(len: u32) -> u32
     requires level { IsLevel SLI }
     requires class { Blocks.want len ≤ most_words SLI }
-    ensures reached { Pools.pool_words SLI result len ≤ most_words SLI }
-    ensures greatest { (most : ℕ) → Pools.pool_words SLI most len ≤ most_words SLI → most ≤ result }
+    ensures reached { MixedSizes.mixed_words SLI result len ≤ most_words SLI }
+    ensures greatest { (most : ℕ) → MixedSizes.mixed_words SLI most len ≤ most_words SLI → most ≤ result }
 {
     if len <= 8 {
         return most_words::<SLI>() / 4;
@@ -43,9 +43,9 @@ pub fn most_blocks<const SLI: u32>(len: u32) -> u32
 /// ```
 pub fn longest_request<const SLI: u32>(most: u32) -> Option<u32>
     requires { IsLevel SLI }
-    ensures reached { IfSome result (λ len. (Blocks.want len ≤ most_words SLI) × (Pools.pool_words SLI most len ≤ most_words SLI)) }
-    ensures greatest { IfSome result (λ longest. (len : ℕ) → Blocks.want len ≤ most_words SLI → Pools.pool_words SLI most len ≤ most_words SLI → len ≤ longest) }
-    ensures none { result ≡ None → ¬ (Pools.pool_words SLI most 0 ≤ most_words SLI) }
+    ensures reached { IfSome result (λ len. (Blocks.want len ≤ most_words SLI) × (MixedSizes.mixed_words SLI most len ≤ most_words SLI)) }
+    ensures greatest { IfSome result (λ longest. (len : ℕ) → Blocks.want len ≤ most_words SLI → MixedSizes.mixed_words SLI most len ≤ most_words SLI → len ≤ longest) }
+    ensures none { result ≡ None → ¬ (MixedSizes.mixed_words SLI most 0 ≤ most_words SLI) }
 {
     if !fits::<SLI>(most, 0) {
         return None;

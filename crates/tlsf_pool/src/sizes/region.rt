@@ -3,7 +3,7 @@ ghost use Rattle.std.specs.List.{AllByRecursion};
 ghost use Rattle.tlsf_class.specs.Classes.{IsLevel};
 ghost use Rattle.tlsf_pool.specs.laws.FixedSize as law;
 ghost use Rattle.tlsf_pool.specs.laws.Kinds.{HasClass};
-ghost use Rattle.tlsf_pool.specs.laws.Pools;
+ghost use Rattle.tlsf_pool.specs.laws.MixedSizes;
 ghost use Rattle.tlsf_pool.specs.sizes.Splits.{HasWords};
 
 use crate::kind::Kind;
@@ -12,16 +12,16 @@ use crate::sizes::sizing::{kinds_words, most_bytes};
 use tlsf_class::most_words;
 
 /// The words of a region in which a program of at most `most` blocks at once, of at most `len` bytes each, is never refused for want of
-/// room, by [`pool_never_refuses`](crate::pool_never_refuses); None where no region has so many. It is for a heap of which each block
+/// room, by [`mixed_sizes_suffice`](crate::mixed_sizes_suffice); None where no region has so many. It is for a heap of which each block
 /// has the words of its own request; a [`Pool`](crate::Pool) takes those of [`fixed_region`](crate::fixed_region).
 ///
 /// ```
-/// let words = pool_region::<4>(100, 512);      // Some(13631)
-/// let none = pool_region::<4>(100_000, 512);   // None
+/// let words = mixed_region::<4>(100, 512);      // Some(13631)
+/// let none = mixed_region::<4>(100_000, 512);   // None
 /// ```
-pub fn pool_region<const SLI: u32>(most: u32, len: u32) -> Option<u32>
+pub fn mixed_region<const SLI: u32>(most: u32, len: u32) -> Option<u32>
     requires { IsLevel SLI }
-    ensures { result ≡ Pools.pool_region SLI most len }
+    ensures { result ≡ MixedSizes.mixed_region SLI most len }
 {
     if len > most_bytes::<SLI>() {
         return None;

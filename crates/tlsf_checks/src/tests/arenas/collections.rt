@@ -1,7 +1,7 @@
 use std::alloc::{AllocError, Allocator};
 use std::collections::BTreeMap;
 use tlsf_arena::{DefaultArena, LocalArena};
-use tlsf_pool_arena::pool_units;
+use tlsf_pool_arena::mixed_units;
 
 /// Pushes the squares of the numbers below `end`. Tells whether there was room for all of them.
 fn are_pushed<A: Allocator>(squares: &mut Vec<u64, A>, end: u64) -> bool {
@@ -184,7 +184,7 @@ fn count_up<A: Allocator + Clone>(
 /// Four boxes, a vector that grows by pushes, and a map of 50 pairs hold 13 blocks at most, and one more while one of them grows.
 #[test]
 fn an_arena_of_counted_blocks_has_room(rt: HostRuntime) {
-    let units = pool_units::<4, 16>(14, 4096).expect(&rt, "units");
+    let units = mixed_units::<4, 16>(14, 4096).expect(&rt, "units");
     assert_eq!(rt; units, 6938);
     let heap = DefaultArena::open(rt.alloc(), 1, units).expect(&rt, "open");
     for _ in 0..3u32 {

@@ -2,7 +2,7 @@ ghost use Rattle.std.specs.Prelude.{◌≡◌};
 
 use std::mem::ManuallyDrop;
 use tlsf_arena::Block;
-use tlsf_pool_arena::{PoolArena, PoolRefusal, pool_units};
+use tlsf_pool_arena::{PoolArena, PoolRefusal, fixed_units, mixed_units};
 
 #[test]
 fn as_many_blocks_as_may_be_are_given(rt: HostRuntime) {
@@ -23,19 +23,31 @@ fn as_many_blocks_as_may_be_are_given(rt: HostRuntime) {
 }
 
 #[test]
-fn an_arena_of_a_pool_has_so_many_units(rt: HostRuntime) {
-    let found = [
-        pool_units::<4, 16>(100, 512),
-        pool_units::<4, 64>(3, 4096),
-        pool_units::<4, 16>(0, 0),
-        pool_units::<4, 16>(100_000, 512),
-        pool_units::<4, 16>(1, u32::MAX),
+fn an_arena_has_so_many_units(rt: HostRuntime) {
+    let fixed = [
+        fixed_units::<4, 16>(100, 512),
+        fixed_units::<4, 64>(3, 4200),
+        fixed_units::<5, 64>(3, 4200),
+        fixed_units::<4, 16>(0, 0),
+        fixed_units::<4, 16>(100_000, 512),
+        fixed_units::<4, 16>(1, u32::MAX),
     ];
-    assert_eq!(rt; found, [Some(6566), Some(324), Some(4), None, None]);
+    assert_eq!(rt;
+        fixed,
+        [Some(3200), Some(204), Some(198), Some(4), None, None]
+    );
+    let mixed = [
+        mixed_units::<4, 16>(100, 512),
+        mixed_units::<4, 64>(3, 4096),
+        mixed_units::<4, 16>(0, 0),
+        mixed_units::<4, 16>(100_000, 512),
+        mixed_units::<4, 16>(1, u32::MAX),
+    ];
+    assert_eq!(rt; mixed, [Some(6566), Some(324), Some(4), None, None]);
 }
 
-/// What a block of 100 bytes does in an arena where none stands behind it: whether it grew to 200 bytes, and its words;
-/// whether it grew to 201, and how many blocks are held; and whether it shrank to 100.
+/// What a block does that was asked for 100 bytes in an arena of blocks of up to 200: whether it has room for 200, and its words;
+/// whether it grew to 201, and how many blocks are held; and whether it has room for 100.
 type Resized = ((bool, u32), (bool, u32), bool);
 
 fn resized_thrice(arena: &mut PoolArena<4, 16>, block: Block<16>) -> (Block<16>, Resized)
@@ -53,21 +65,22 @@ fn resized_thrice(arena: &mut PoolArena<4, 16>, block: Block<16>) -> (Block<16>,
 }
 
 #[test]
-fn a_block_grows_where_it_stands_or_moves(rt: HostRuntime) {
+fn a_block_has_room_for_the_longest_request(rt: HostRuntime) {
     let mut arena = PoolArena::<4, 16>::open(rt.alloc(), 7, 2, 200).expect(&rt, "open");
     let units = arena.free_units();
     let block = arena.allocate(100).expect(&rt, "100 bytes");
-    let given = (arena.tick(), arena.free_units());
+    let given = (arena.tick(), units, arena.free_units());
     let (block, told) = resized_thrice(&mut arena, block);
-    let behind = arena.allocate(100).expect(&rt, "a block behind");
+    let behind = arena.allocate(1).expect(&rt, "a block behind");
     let place = behind.name.at;
     let (block, fits) = resized(&mut arena, block, 200);
-    let is_gone = is_back(&mut arena, behind);
-    let second = arena.allocate(200).expect(&rt, "where it moves");
-    let back = (is_back(&mut arena, block), is_back(&mut arena, second));
-    let resizes = (told, place, fits, is_gone, back);
-    let wanted = (((true, 13), (false, 1), true), 7, false, true, (true, true));
-    assert_eq!(rt; (given, resizes), ((2, units - 7), wanted));
+    let filled = block.fill(0);
+    let size = filled.as_slice().len();
+    let block = filled.into_block();
+    let back = (is_back(&mut arena, block), is_back(&mut arena, behind));
+    let resizes = (told, place, fits, size, back);
+    let wanted = (((true, 13), (false, 1), true), 13, true, 208, (true, true));
+    assert_eq!(rt; (given, resizes), ((2, 26, 13), wanted));
     let free = arena.block_at(0).map(|free| free.size);
     assert_eq!(rt;
         (free, arena.held(), arena.free_units()),

@@ -5,7 +5,7 @@ use std::process::Abort;
 use tlsf_heap::{Name, OpenFault, Refusal};
 use tlsf_pool::{
     Kind, Pool, PoolCalls, PoolRefusal, cheapest_split, fixed_kinds_words, fixed_region,
-    kinds_words, longest_request, most_blocks, most_bytes, pool_region,
+    kinds_words, longest_request, mixed_region, most_blocks, most_bytes,
 };
 
 /// The most bytes of a request that some region of level 4 serves.
@@ -71,7 +71,7 @@ fn pools_open_by_their_words(rt: HostRuntime) {
         let found = Pool::<4>::open(rt.alloc(), 0, most, longest, 0).err();
         same((most, longest, found), (most, longest, wanted)).expect(&rt, "differ");
     }
-    let regions = [pool_region::<4>(1, 480), pool_region::<5>(1, 480)];
+    let regions = [mixed_region::<4>(1, 480), mixed_region::<5>(1, 480)];
     same(regions, [Some(64), Some(63)]).expect(&rt, "differ");
     let regions = [fixed_region::<4>(2, 480), fixed_region::<5>(2, 480)];
     same(regions, [Some(128), Some(126)]).expect(&rt, "differ");

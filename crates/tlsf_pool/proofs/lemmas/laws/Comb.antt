@@ -11,9 +11,9 @@ use Rattle.tlsf_heap.specs.Calls.{opened}
 use Rattle.tlsf_heap.proofs.lemmas.blocks.Find.{not_true}
 use Rattle.tlsf_heap.proofs.lemmas.blocks.Sites.{fits_nothing}
 use Rattle.tlsf_pool.specs.laws.Room.{sure}
-use Rattle.tlsf_pool.specs.laws.Pools.{pool_words, OneBlockIsTight}
+use Rattle.tlsf_pool.specs.laws.MixedSizes.{mixed_words, OneBlockIsTight}
 use Rattle.tlsf_pool.proofs.lemmas.laws.FreeRoom.{sure_enough, sure_is}
-use Rattle.tlsf_pool.proofs.lemmas.laws.ModestCalls.{pool_of_fours, pool_of_more}
+use Rattle.tlsf_pool.proofs.lemmas.laws.ModestCalls.{mixed_of_fours, mixed_of_more}
 use Rattle.tlsf_heap.proofs.lemmas.laws.NoFit.{no_fit}
 
 -- a free block below the least size of the search class doesn't serve
@@ -26,11 +26,11 @@ too_small sli level n m s region below = not_true _ (λ fit.
       | inr large ↦ let own = class_of-is sli level m large in omega (arith, below, sure_is sli level n search.0 search.1, own.reached, low-rises_or_same sli level search.0 (class_of sli m) under (omega (arith, own.most)))
     ])
 
--- the words of a pool of one block
-one_block_words : (sli : ℕ) (level : IsLevel sli) (len : ℕ) → want len ≤ most_words sli → pool_words sli 1 len ≤ sure sli (want len)
+-- the words for one block
+one_block_words : (sli : ℕ) (level : IsLevel sli) (len : ℕ) → want len ≤ most_words sli → mixed_words sli 1 len ≤ sure sli (want len)
 one_block_words sli level len region = elim (cases_lt 8 len) [
-  | inl more ↦ omega (arith, pool_of_more sli 1 len more, sure_enough sli level (want len) region)
-  | inr four ↦ omega (arith, pool_of_fours sli 1 len four, sure_enough sli level (want len) region)
+  | inl more ↦ omega (arith, mixed_of_more sli 1 len more, sure_enough sli level (want len) region)
+  | inr four ↦ omega (arith, mixed_of_fours sli 1 len four, sure_enough sli level (want len) region)
 ]
 
 pub one_block_tight : (sli : ℕ) (level : IsLevel sli) → OneBlockIsTight sli

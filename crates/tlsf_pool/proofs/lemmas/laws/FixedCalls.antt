@@ -1,4 +1,4 @@
--- Calls whose each request takes the words of a fixed size: a program within the bounds of a pool is served.
+-- Calls whose each request takes the words of a fixed size: a program within the bounds is served.
 use Rattle.std.proofs.Common.{◌≡◌, ℕ, zero, suc, ◌+◌, ◌*◌, ◌<◌, ◌≤◌, List, [], ◌∷◌, length, replicate, Result, Ok, Err, IsOk, refl, sym, ap, ◌∙◌, subst, arith}
 use Rattle.std.specs.List.{AllByRecursion}
 use Rattle.std.proofs.lemmas.Bool.{false≢true}
@@ -15,13 +15,33 @@ use Rattle.tlsf_heap.proofs.lemmas.calls.Outcomes.{by_allocated_words, by_releas
 use Rattle.tlsf_heap.proofs.lemmas.laws.NoFit.{no_fit_words, ok_words}
 use Rattle.tlsf_pool.specs.laws.Room.{live_count, sure}
 use Rattle.tlsf_pool.specs.laws.Held.{held_after}
-use Rattle.tlsf_pool.specs.laws.Pools.{IsModest, AreModest, HasRoomFor, IsServed}
+use Rattle.tlsf_pool.specs.laws.MixedSizes.{IsModest, AreModest, HasRoomFor, IsServed}
 use Rattle.tlsf_pool.specs.laws.FixedSize.{HasFixedSize, answered_fixed, run_fixed, fixed_words, FixedSizeSuffices, FixedSizeServes, FixedSizeIsExact, WantsWords, OneLengthSuffices}
 use Rattle.tlsf_pool.proofs.lemmas.laws.Around.{words_kept}
 use Rattle.tlsf_pool.proofs.lemmas.laws.FixedSize.{finds_fixed, fixed_kept, live_least, new_fixed, sure_again, sure_region}
 use Rattle.tlsf_pool.proofs.lemmas.laws.FreeRoom.{sure_enough, wants}
 use Rattle.tlsf_pool.proofs.lemmas.laws.Held.{one, counted, held_is}
 use Rattle.tlsf_pool.proofs.lemmas.laws.Loads.{load_given_words, load_resized_words}
+
+-- ---- each call keeps the size
+
+call_kept : (sli : ℕ) (level : IsLevel sli) (s : ℕ) (h : HeapState) (call : Call) → HasFixedSize s h → HasFixedSize s (answered_fixed sli s h call).1
+call_kept sli level s h (Allocate n) fixed = (fixed_kept sli level s h fixed).allocate n
+call_kept sli level s h (Release name) fixed = (fixed_kept sli level s h fixed).release name
+call_kept sli level s h (Write name at bytes) fixed = (fixed_kept sli level s h fixed).write name at bytes
+call_kept sli level s h (Resize name n) fixed = (fixed_kept sli level s h fixed).resize name n
+call_kept sli level s h (Read name at n) fixed = fixed
+
+-- where the length itself wants just so many words, it is a call of every heap
+same_call : (sli s : ℕ) (h : HeapState) (call : Call) → WantsWords s call → answered sli h call ≡ answered_fixed sli s h call
+same_call sli s h (Allocate n) wanted = ap (λ (k : ℕ). (Allocated (allocated_words sli h k n).answer, (allocated_words sli h k n).heap)) wanted
+same_call sli s h (Release name) wanted = refl
+same_call sli s h (Write name at bytes) wanted = refl
+same_call sli s h (Resize name n) wanted = ap (λ (k : ℕ). (Resized (resized_words h name k n).answer, (resized_words h name k n).heap)) wanted
+same_call sli s h (Read name at n) wanted = refl
+
+pub wants_kept : (sli : ℕ) (level : IsLevel sli) (s : ℕ) (h : HeapState) (call : Call) → WantsWords s call → HasFixedSize s h → HasFixedSize s (answered sli h call).1
+wants_kept sli level s h call wanted fixed = subst (λ (step : Answer × HeapState). HasFixedSize s step.1) (sym (same_call sli s h call wanted)) (call_kept sli level s h call fixed)
 
 -- ---- as many blocks are live as are held
 
@@ -53,22 +73,22 @@ module _ (sli : ℕ) (level : IsLevel sli) (words most len : ℕ) (region : want
   kept h (Allocate n) is modest = record {
     lawful = lawful_allocated_words sli level h s n (enough_words n modest.0) is.lawful;
     words_are = by_allocated_words sli (λ o. o.heap.words ≡ h.words) h s n (λ why. refl) (λ t site fit. refl) ∙ is.words_are;
-    fixed = (fixed_kept sli level s h is.fixed).allocate n;
+    fixed = call_kept sli level s h (Allocate n) is.fixed;
   }
   kept h (Release name) is modest = record {
     lawful = lawful_run sli level h (Release name ∷ []) is.lawful;
     words_are = words_kept sli h (Release name) ∙ is.words_are;
-    fixed = (fixed_kept sli level s h is.fixed).release name;
+    fixed = call_kept sli level s h (Release name) is.fixed;
   }
   kept h (Write name at bytes) is modest = record {
     lawful = lawful_run sli level h (Write name at bytes ∷ []) is.lawful;
     words_are = words_kept sli h (Write name at bytes) ∙ is.words_are;
-    fixed = (fixed_kept sli level s h is.fixed).write name at bytes;
+    fixed = call_kept sli level s h (Write name at bytes) is.fixed;
   }
   kept h (Resize name n) is modest = record {
     lawful = lawful_resized_words h name s n (enough_words n modest) is.lawful;
     words_are = by_resized_words (λ o. o.heap.words ≡ h.words) h name s n (λ why. refl) (λ t own site it room. refl) ∙ is.words_are;
-    fixed = (fixed_kept sli level s h is.fixed).resize name n;
+    fixed = call_kept sli level s h (Resize name n) is.fixed;
   }
   kept h (Read name at n) is modest = is
 
@@ -151,13 +171,6 @@ fixed_exact sli level id words first most len region class few served =
     omega (arith, all, few)
 
 -- ---- where the lengths themselves want just so many words
-
-same_call : (sli s : ℕ) (h : HeapState) (call : Call) → WantsWords s call → answered sli h call ≡ answered_fixed sli s h call
-same_call sli s h (Allocate n) wanted = ap (λ (k : ℕ). (Allocated (allocated_words sli h k n).answer, (allocated_words sli h k n).heap)) wanted
-same_call sli s h (Release name) wanted = refl
-same_call sli s h (Write name at bytes) wanted = refl
-same_call sli s h (Resize name n) wanted = ap (λ (k : ℕ). (Resized (resized_words h name k n).answer, (resized_words h name k n).heap)) wanted
-same_call sli s h (Read name at n) wanted = refl
 
 same_run : (sli s : ℕ) (h : HeapState) (calls : List Call) → AllByRecursion (WantsWords s) calls → run sli h calls ≡ run_fixed sli s h calls
 same_run sli s h [] wanted = refl

@@ -4,7 +4,8 @@ use Rattle.std.specs.List.{AllByRecursion}
 use Rattle.std.specs.Option.{option_map_or}
 use Rattle.std.proofs.Math.Nat.{mul-le-mul_right}
 use Rattle.std.proofs.lemmas.Bool.{cases_lt, false≢true}
-use Rattle.tlsf_class.specs.Classes.{IsLevel, most_words, low}
+use Rattle.tlsf_class.specs.Classes.{IsLevel, most_words, low, classes, search_of}
+use Rattle.tlsf_class.proofs.TwoLevels.{by_level}
 use Rattle.tlsf_class.proofs.Lows.{low-rises, low-rises_or_same, low-first}
 use Rattle.tlsf_class.proofs.ClassOfSize.{IsSearchOf, search_of-is, search_of-above, search_of-between, le_from_serves}
 use Rattle.tlsf_heap.specs.Blocks.{Block, Live, Free, HeapState, size_of, words_in, bytes_of}
@@ -38,6 +39,18 @@ sure_again sli level n region =
     let search = search_of-is sli level n region in
     let is = sure_is sli level n search.0 search.1 in
     ap (sure sli) is ∙ sure_low sli level n search.0 search.1 ∙ sym is
+
+-- for four words it is four
+sure_4 : sure 4 4 ≡ 4
+unfolding low classes search_of
+sure_4 = refl
+
+sure_5 : sure 5 4 ≡ 4
+unfolding low classes search_of
+sure_5 = refl
+
+pub sure_four : (sli : ℕ) → IsLevel sli → sure sli 4 ≡ 4
+sure_four = by_level (λ sli. sure sli 4 ≡ 4) sure_4 sure_5
 
 -- such a size is that of a block, and a region may have so many words
 pub sure_region : (sli : ℕ) (level : IsLevel sli) (s : ℕ) → sure sli s ≡ s → (4 ≤ s) × (s ≤ most_words sli)

@@ -1,4 +1,4 @@
--- The words for blocks of a fixed size are never more than those of a pool, nor than those of a table.
+-- The words for blocks of a fixed size are never more than those for mixed sizes, nor than those of a table.
 use Rattle.std.proofs.Common.{◌≡◌, ℕ, zero, suc, ◌+◌, ◌-◌, ◌*◌, ◌<◌, ◌≤◌, ◌&&◌, Bool, true, false, cond, nat_le, nat_lt, List, [], ◌∷◌, map, fold, max, refl, sym, ap, ◌∙◌, subst, inl, inr, arith, le_trans}
 use Rattle.std.specs.List.{AllByRecursion, list_all}
 use Rattle.std.proofs.lemmas.Bool.{cases_lt, false≢true, leb-true, le-leb}
@@ -10,10 +10,10 @@ use Rattle.tlsf_pool.specs.declared.kind.Kind.{Kind}
 use Rattle.tlsf_pool.specs.laws.Room.{sure}
 use Rattle.tlsf_pool.specs.laws.Kinds.{are_fours, count_in, resized_words, table_words, used, words_with, HasClass}
 use Rattle.tlsf_pool.specs.laws.OneLarge.{longest_of}
-use Rattle.tlsf_pool.specs.laws.FixedSize.{fixed_words, FewerThanAPool, FewerThanATable, HundredOfFixedSize}
-use Rattle.tlsf_pool.proofs.lemmas.laws.Fours.{sure_four}
+use Rattle.tlsf_pool.specs.laws.FixedSize.{fixed_words, FewerThanMixedSizes, FewerThanATable, HundredOfFixedSize}
+use Rattle.tlsf_pool.proofs.lemmas.laws.FixedSize.{sure_four}
 use Rattle.tlsf_pool.proofs.lemmas.laws.FreeRoom.{sure_enough}
-use Rattle.tlsf_pool.proofs.lemmas.laws.ModestCalls.{pool_of_fours, pool_of_more}
+use Rattle.tlsf_pool.proofs.lemmas.laws.ModestCalls.{mixed_of_fours, mixed_of_more}
 use Rattle.tlsf_pool.proofs.lemmas.laws.Tables.{IsOf, all_used, best_least, count_used, most_of, of_all, table_used}
 
 pub hundred_fixed : HundredOfFixedSize
@@ -24,22 +24,22 @@ hundred_fixed = refl
 short_sure : (sli : ℕ) → IsLevel sli → (len : ℕ) → len ≤ 8 → sure sli (want len) ≡ 4
 short_sure sli level len short = let wanted : want len ≡ 4 = omega (arith, short) in rw wanted (sure_four sli level)
 
--- ---- a pool
+-- ---- mixed sizes
 
 -- each block but the one asked for takes more than the word that its hole lacks
-pool_more : (most w t : ℕ) → most * (t + 1) ≤ (most - 1) * (w + 3) + most * t + 1
-pool_more zero w t = omega arith
-pool_more (suc m) w t = let less : suc m - 1 ≡ m = omega arith in rw less (omega arith)
+mixed_more : (most w t : ℕ) → most * (t + 1) ≤ (most - 1) * (w + 3) + most * t + 1
+mixed_more zero w t = omega arith
+mixed_more (suc m) w t = let less : suc m - 1 ≡ m = omega arith in rw less (omega arith)
 
-pub fewer_pool : (sli : ℕ) (level : IsLevel sli) → FewerThanAPool sli
-fewer_pool sli level most len region = elim (cases_lt 8 len) [
+pub fewer_mixed : (sli : ℕ) (level : IsLevel sli) → FewerThanMixedSizes sli
+fewer_mixed sli level most len region = elim (cases_lt 8 len) [
   | inl more ↦
       let s : ℕ = sure sli (want len) in
       let some = sure_enough sli level (want len) region in
       let same : s ≡ s - 1 + 1 = omega (arith, some) in
-      let words : most * s ≤ (most - 1) * (want len + 3) + most * (s - 1) + 1 = subst (λ (k : ℕ). most * k ≤ (most - 1) * (want len + 3) + most * (s - 1) + 1) (sym same) (pool_more most (want len) (s - 1)) in
-      omega (arith, words, pool_of_more sli most len more)
-  | inr short ↦ let four : fixed_words sli most len ≡ max 4 (most * 4) = ap (λ (k : ℕ). max 4 (most * k)) (short_sure sli level len short) in omega (arith, four, pool_of_fours sli most len short)
+      let words : most * s ≤ (most - 1) * (want len + 3) + most * (s - 1) + 1 = subst (λ (k : ℕ). most * k ≤ (most - 1) * (want len + 3) + most * (s - 1) + 1) (sym same) (mixed_more most (want len) (s - 1)) in
+      omega (arith, words, mixed_of_more sli most len more)
+  | inr short ↦ let four : fixed_words sli most len ≡ max 4 (most * 4) = ap (λ (k : ℕ). max 4 (most * k)) (short_sure sli level len short) in omega (arith, four, mixed_of_fours sli most len short)
 ]
 
 -- ---- the longest kind of a table

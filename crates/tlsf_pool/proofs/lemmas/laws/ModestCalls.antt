@@ -1,4 +1,4 @@
--- A pool that never refuses: what each call leaves of its bounds.
+-- A heap that never refuses blocks of mixed sizes: what each call leaves of its bounds.
 use Rattle.std.proofs.Common.{◌≡◌, ◌≢◌, ℕ, ◌+◌, ◌-◌, ◌*◌, ◌<◌, ◌≤◌, ◌&&◌, max, Bool, true, false, cond, nat_le, List, [], ◌∷◌, ◌++◌, length, Option, Some, None, Err, refl, sym, ap, ap₂, ◌∙◌, subst, inl, inr, arith}
 use Rattle.std.specs.List.{AllByRecursion}
 use Rattle.std.proofs.Math.Nat.{mul-le-mul, mul-le-mul_right}
@@ -19,10 +19,11 @@ use Rattle.tlsf_heap.proofs.lemmas.calls.Outcomes.{by_test, gives, by_allocated,
 use Rattle.tlsf_heap.proofs.lemmas.laws.NoFit.{no_fit}
 use Rattle.tlsf_pool.specs.laws.Room.{live_count, sure}
 use Rattle.tlsf_pool.specs.laws.Held.{held_after}
-use Rattle.tlsf_pool.specs.laws.Pools.{pool_region, pool_words, BeginAtFours, HasRegion, IsSmall, IsModest, AreModest, HasRoomFor, IsServed, PoolSuffices, PoolServes, RegionIsThePools}
+use Rattle.tlsf_pool.specs.laws.FixedSize.{HasFixedSize, WantsWords}
+use Rattle.tlsf_pool.specs.laws.MixedSizes.{mixed_region, mixed_words, HasMixedRegion, IsSmall, IsModest, AreModest, HasRoomFor, IsServed, MixedSizesSuffice, MixedSizesServe, RegionHasMixedWords}
 use Rattle.tlsf_pool.proofs.lemmas.laws.FreeRoom.{finds_room, sure_rises}
-use Rattle.tlsf_pool.proofs.lemmas.laws.FixedSize.{finds_fixed}
-use Rattle.tlsf_pool.proofs.lemmas.laws.Fours.{WantsFour, four_sized, fours_kept, sure_four}
+use Rattle.tlsf_pool.proofs.lemmas.laws.FixedCalls.{wants_kept}
+use Rattle.tlsf_pool.proofs.lemmas.laws.FixedSize.{finds_fixed, new_fixed, sure_four}
 use Rattle.tlsf_pool.proofs.lemmas.laws.Around.{past_all, before_all, around_site, words_kept}
 use Rattle.tlsf_pool.proofs.lemmas.laws.Held.{held_is}
 use Rattle.tlsf_pool.proofs.lemmas.laws.Refits.{by_refit, by_resize}
@@ -53,39 +54,40 @@ small_refitted k tick n len serial (Live m s xs) bs h e all =
     let past = past_all (IsSmall k) bs all in
     by_refit (AreSmall k) tick n len m s xs bs (λ enough few. ((λ _. omega arith), all)) (λ large. ((λ _. omega arith), ((λ f. absurd (false≢true (sym f))), past))) (λ small. ((λ _. omega arith), past))
 
--- ---- what holds of the heap of a pool
+-- ---- what holds of such a heap
 
-pub record InPool (words k : ℕ) (h : HeapState) : Type 0 where
+pub record InMixed (words k : ℕ) (h : HeapState) : Type 0 where
   pub lawful : IsLawful h
   pub words_are : h.words ≡ words
   pub small : AreSmall k h.blocks
-  pub fours : k ≤ 7 → BeginAtFours 0 h.blocks
+  pub fours : k ≤ 7 → HasFixedSize 4 h
 
--- the words of a pool by its cases
-pub pool_of_fours : (sli most len : ℕ) → len ≤ 8 → pool_words sli most len ≡ max 4 (most * 4)
-pool_of_fours sli most len h =
+-- the words for mixed sizes by their cases
+pub mixed_of_fours : (sli most len : ℕ) → len ≤ 8 → mixed_words sli most len ≡ max 4 (most * 4)
+mixed_of_fours sli most len h =
     ap (λ (c : Bool). max 4 (cond c (most * 4) ((most - 1) * (want len + 3) + most * (sure sli (want len) - 1) + 1))) (le-leb len 8 h)
 
-pub pool_of_more : (sli most len : ℕ) → 8 < len → pool_words sli most len ≡ max 4 ((most - 1) * (want len + 3) + most * (sure sli (want len) - 1) + 1)
-pool_of_more sli most len h =
+pub mixed_of_more : (sli most len : ℕ) → 8 < len → mixed_words sli most len ≡ max 4 ((most - 1) * (want len + 3) + most * (sure sli (want len) - 1) + 1)
+mixed_of_more sli most len h =
     ap (λ (c : Bool). max 4 (cond c (most * 4) ((most - 1) * (want len + 3) + most * (sure sli (want len) - 1) + 1))) (lt-leb len 8 h)
 
--- the region of a pool
-pub region_is : (sli : ℕ) → RegionIsThePools sli
-region_is sli most len words = (at (nat_le (want len) (most_words sli)) (nat_le (pool_words sli most len) (most_words sli)) refl refl, λ has. on has)
+-- the region for mixed sizes
+pub region_is : (sli : ℕ) → RegionHasMixedWords sli
+region_is sli most len words = (at (nat_le (want len) (most_words sli)) (nat_le (mixed_words sli most len) (most_words sli)) refl refl, λ has. on has)
   where
-    at : (a b : Bool) → nat_le (want len) (most_words sli) ≡ a → nat_le (pool_words sli most len) (most_words sli) ≡ b → cond (a && b) (Some (pool_words sli most len)) None ≡ Some words → HasRegion sli most len × (words ≡ pool_words sli most len)
+    at : (a b : Bool) → nat_le (want len) (most_words sli) ≡ a → nat_le (mixed_words sli most len) (most_words sli) ≡ b → cond (a && b) (Some (mixed_words sli most len)) None ≡ Some words → HasMixedRegion sli most len × (words ≡ mixed_words sli most len)
     at true true class few is = ((leb-true _ _ class, (omega arith, leb-true _ _ few)), cc)
     at true false class few is = absurd cc
     at false b class few is = absurd cc
 
-    on : HasRegion sli most len × (words ≡ pool_words sli most len) → pool_region sli most len ≡ Some words
+    on : HasMixedRegion sli most len × (words ≡ mixed_words sli most len) → mixed_region sli most len ≡ Some words
     on has =
         let class : nat_le (want len) (most_words sli) ≡ true = le-leb _ _ has.0.0 in
-        let few : nat_le (pool_words sli most len) (most_words sli) ≡ true = le-leb _ _ has.0.1.1 in
-        ap₂ (λ (a b : Bool). cond (a && b) (Some (pool_words sli most len)) None) class few ∙ ap Some (sym has.1)
+        let few : nat_le (mixed_words sli most len) (most_words sli) ≡ true = le-leb _ _ has.0.1.1 in
+        ap₂ (λ (a b : Bool). cond (a && b) (Some (mixed_words sli most len)) None) class few ∙ ap Some (sym has.1)
 
-wants_four : (most len held : ℕ) (call : Call) → want len + 3 ≤ 7 → IsModest most len held call → WantsFour call
+-- up to 8 bytes want four words
+wants_four : (most len held : ℕ) (call : Call) → want len + 3 ≤ 7 → IsModest most len held call → WantsWords 4 call
 wants_four most len held (Allocate n) few modest = omega (arith, few, modest.0)
 wants_four most len held (Release name) few modest = tt
 wants_four most len held (Write name at bytes) few modest = tt
@@ -109,56 +111,55 @@ module _ (sli most len : ℕ) where
       all_append (IsSmall (want len + 3)) s.before _ a.0 (small_refitted (want len + 3) h.tick (want n) n name.serial s.block s.after (omega (arith, modest)) (and_left _ _ is) a.2))
   small_kept h (Read name at n) small modest = small
 
-module _ (sli : ℕ) (level : IsLevel sli) (words most len : ℕ) (region : want len ≤ most_words sli) (enough : pool_words sli most len ≤ words) where
+module _ (sli : ℕ) (level : IsLevel sli) (words most len : ℕ) (region : want len ≤ most_words sli) (enough : mixed_words sli most len ≤ words) where
   abbrev k : ℕ
   k = want len + 3
 
-  pub kept : (h : HeapState) (call : Call) → InPool words k h → IsModest most len (live_count h) call → InPool words k (answered sli h call).1
-  kept h call pool modest = record {
-    lawful = lawful_run sli level h (call ∷ []) pool.lawful;
-    words_are = words_kept sli h call ∙ pool.words_are;
-    small = small_kept sli most len h call pool.small modest;
-    fours = λ few. fours_kept sli h call (wants_four most len (live_count h) call few modest) (pool.fours few);
+  pub kept : (h : HeapState) (call : Call) → InMixed words k h → IsModest most len (live_count h) call → InMixed words k (answered sli h call).1
+  kept h call mixed modest = record {
+    lawful = lawful_run sli level h (call ∷ []) mixed.lawful;
+    words_are = words_kept sli h call ∙ mixed.words_are;
+    small = small_kept sli most len h call mixed.small modest;
+    fours = λ few. wants_kept sli level 4 h call (wants_four most len (live_count h) call few modest) (mixed.fours few);
   }
 
   -- where four words are wanted, all blocks have a fixed size
-  fours_room : (h : HeapState) (n : ℕ) → InPool words k h → len ≤ 8 → n ≤ len → live_count h < most → (fits sli (want n) h.blocks ≡ []) → ⊥
-  fours_room h n pool four short few none =
+  fours_room : (h : HeapState) (n : ℕ) → InMixed words k h → len ≤ 8 → n ≤ len → live_count h < most → (fits sli (want n) h.blocks ≡ []) → ⊥
+  fours_room h n mixed four short few none =
       let wanted : want n ≡ 4 = omega (arith, four, short) in
-      let fixed = four_sized h pool.lawful (subst (λ (j : ℕ). AreSmall j h.blocks) (omega (arith, four)) pool.small) (pool.fours (omega (arith, four))) in
-      finds_fixed sli level 4 most h pool.lawful fixed (sure_four sli level) (omega (arith, pool.words_are, enough, pool_of_fours sli most len four)) few
+      finds_fixed sli level 4 most h mixed.lawful (mixed.fours (omega (arith, four))) (sure_four sli level) (omega (arith, mixed.words_are, enough, mixed_of_fours sli most len four)) few
       (subst (λ (j : ℕ). fits sli j h.blocks ≡ []) wanted none)
 
   -- where more are wanted, more is free than holes that are too small may have
-  holes_room : (h : HeapState) (n : ℕ) → InPool words k h → 8 < len → n ≤ len → live_count h < most → (fits sli (want n) h.blocks ≡ []) → ⊥
-  holes_room h n pool more short few =
+  holes_room : (h : HeapState) (n : ℕ) → InMixed words k h → 8 < len → n ≤ len → live_count h < most → (fits sli (want n) h.blocks ≡ []) → ⊥
+  holes_room h n mixed more short few =
       let rises = sure_rises sli level (want n) (want len) (omega arith) region in
-      let live = live_small k h.blocks pool.small in
+      let live = live_small k h.blocks mixed.small in
       let most_live : live_count h * k ≤ (most - 1) * k = mul-le-mul_right k (omega arith) in
       let most_lost : (live_count h + 1) * (sure sli (want n) - 1) ≤ most * (sure sli (want len) - 1) = mul-le-mul (omega arith) (omega arith) in
-      finds_room sli level h n pool.lawful (omega arith) (omega (arith, words_apart h.blocks, pool.lawful.whole, pool.words_are, live, most_live, most_lost, enough, pool_of_more sli most len more))
+      finds_room sli level h n mixed.lawful (omega arith) (omega (arith, words_apart h.blocks, mixed.lawful.whole, mixed.words_are, live, most_live, most_lost, enough, mixed_of_more sli most len more))
 
   -- a modest request finds room
-  pub has_room : (h : HeapState) (n : ℕ) → InPool words k h → n ≤ len → live_count h < most → (allocated sli h n).answer ≢ Err NoFit
-  has_room h n pool short few e = elim (cases_lt 8 len) [
-    | inl more ↦ holes_room h n pool more short few ((no_fit sli h n).0 e)
-    | inr four ↦ fours_room h n pool four short few ((no_fit sli h n).0 e)
+  pub has_room : (h : HeapState) (n : ℕ) → InMixed words k h → n ≤ len → live_count h < most → (allocated sli h n).answer ≢ Err NoFit
+  has_room h n mixed short few e = elim (cases_lt 8 len) [
+    | inl more ↦ holes_room h n mixed more short few ((no_fit sli h n).0 e)
+    | inr four ↦ fours_room h n mixed four short few ((no_fit sli h n).0 e)
   ]
 
-  not_refused : (h : HeapState) (call : Call) → InPool words k h → IsModest most len (live_count h) call → (answered sli h call).0 ≢ Allocated (Err NoFit)
-  not_refused h (Allocate n) pool modest = λ e. let same : (allocated sli h n).answer ≡ Err NoFit = cc in has_room h n pool modest.0 modest.1 same
-  not_refused h (Release name) pool modest = λ e. cc
-  not_refused h (Write name at bytes) pool modest = λ e. cc
-  not_refused h (Resize name n) pool modest = λ e. cc
-  not_refused h (Read name at n) pool modest = λ e. cc
+  not_refused : (h : HeapState) (call : Call) → InMixed words k h → IsModest most len (live_count h) call → (answered sli h call).0 ≢ Allocated (Err NoFit)
+  not_refused h (Allocate n) mixed modest = λ e. let same : (allocated sli h n).answer ≡ Err NoFit = cc in has_room h n mixed modest.0 modest.1 same
+  not_refused h (Release name) mixed modest = λ e. cc
+  not_refused h (Write name at bytes) mixed modest = λ e. cc
+  not_refused h (Resize name n) mixed modest = λ e. cc
+  not_refused h (Read name at n) mixed modest = λ e. cc
 
   next : (h : HeapState) (call : Call) (calls : List Call) → AreModest most len (held_after (live_count h) call (answered sli h call).0) calls (run sli (answered sli h call).1 calls).0
       → AreModest most len (live_count (answered sli h call).1) calls (run sli (answered sli h call).1 calls).0
   next h call calls modest = subst (λ (held : ℕ). AreModest most len held calls (run sli (answered sli h call).1 calls).0) (sym (held_is sli h call)) modest
 
-  none_refused : (h : HeapState) (calls : List Call) → InPool words k h → AreModest most len (live_count h) calls (run sli h calls).0 → AllByRecursion HasRoomFor (run sli h calls).0
-  none_refused h [] pool modest = tt
-  none_refused h (call ∷ calls) pool modest = (not_refused h call pool modest.0, none_refused (answered sli h call).1 calls (kept h call pool modest.0) (next h call calls modest.1))
+  none_refused : (h : HeapState) (calls : List Call) → InMixed words k h → AreModest most len (live_count h) calls (run sli h calls).0 → AllByRecursion HasRoomFor (run sli h calls).0
+  none_refused h [] mixed modest = tt
+  none_refused h (call ∷ calls) mixed modest = (not_refused h call mixed modest.0, none_refused (answered sli h call).1 calls (kept h call mixed modest.0) (next h call calls modest.1))
 
   -- ---- while the ticks last
 
@@ -169,31 +170,31 @@ module _ (sli : ℕ) (level : IsLevel sli) (words most len : ℕ) (region : want
   tick_kept h (Resize name n) = by_resize (λ o. o.heap.tick ≤ h.tick + 1) h name n (λ why. omega arith) (λ s own e site is. omega arith)
   tick_kept h (Read name at n) = omega arith
 
-  pub is_served : (h : HeapState) (call : Call) → InPool words k h → IsModest most len (live_count h) call → h.tick < last_tick → IsServed (answered sli h call).0
-  is_served h (Allocate n) pool modest fresh = at (choice sli (want n) h.blocks) (has_room h n pool modest.0 modest.1)
+  pub is_served : (h : HeapState) (call : Call) → InMixed words k h → IsModest most len (live_count h) call → h.tick < last_tick → IsServed (answered sli h call).0
+  is_served h (Allocate n) mixed modest fresh = at (choice sli (want n) h.blocks) (has_room h n mixed modest.0 modest.1)
     where
       at : (o : Option Site) → (allocated_at h (want n) n o).answer ≢ Err NoFit → IsServed (Allocated (allocated_at h (want n) n o).answer)
       at None room = absurd (room refl)
       at (Some s) room = by_test (λ (o : Outcome Name). IsServed (Allocated o.answer)) (is_worn h) (refused h Worn) (gives h n s) (λ worn. absurd (false≢true (sym (ne_eqb h.tick last_tick (λ e. omega (arith, e, fresh))) ∙ worn))) tt
-  is_served h (Release name) pool modest fresh = tt
-  is_served h (Write name at bytes) pool modest fresh = tt
-  is_served h (Resize name n) pool modest fresh = tt
-  is_served h (Read name at n) pool modest fresh = tt
+  is_served h (Release name) mixed modest fresh = tt
+  is_served h (Write name at bytes) mixed modest fresh = tt
+  is_served h (Resize name n) mixed modest fresh = tt
+  is_served h (Read name at n) mixed modest fresh = tt
 
-  all_served : (h : HeapState) (calls : List Call) → InPool words k h → AreModest most len (live_count h) calls (run sli h calls).0 → h.tick + length calls ≤ last_tick → AllByRecursion IsServed (run sli h calls).0
-  all_served h [] pool modest fresh = tt
-  all_served h (call ∷ calls) pool modest fresh =
+  all_served : (h : HeapState) (calls : List Call) → InMixed words k h → AreModest most len (live_count h) calls (run sli h calls).0 → h.tick + length calls ≤ last_tick → AllByRecursion IsServed (run sli h calls).0
+  all_served h [] mixed modest fresh = tt
+  all_served h (call ∷ calls) mixed modest fresh =
       let tick = tick_kept h call in (
-        is_served h call pool modest.0 (omega arith),
-        all_served (answered sli h call).1 calls (kept h call pool modest.0) (next h call calls modest.1) (omega (arith, tick, fresh)),
+        is_served h call mixed modest.0 (omega arith),
+        all_served (answered sli h call).1 calls (kept h call mixed modest.0) (next h call calls modest.1) (omega (arith, tick, fresh)),
       )
 
--- a new heap is a pool
-pub opens : (sli id words first k : ℕ) → IsRegion sli words → InPool words k (opened id words first)
-opens sli id words first k region = record { lawful = opened_lawful id words first region.0; words_are = refl; small = ((λ f. absurd (false≢true (sym f))), tt); fours = λ _. (refl, tt) }
+-- so it does of a new heap
+pub opens : (sli id words first k : ℕ) → IsRegion sli words → InMixed words k (opened id words first)
+opens sli id words first k region = record { lawful = opened_lawful id words first region.0; words_are = refl; small = ((λ f. absurd (false≢true (sym f))), tt); fours = λ _. new_fixed 4 id words first }
 
-pub suffices : (sli : ℕ) (level : IsLevel sli) → PoolSuffices sli
+pub suffices : (sli : ℕ) (level : IsLevel sli) → MixedSizesSuffice sli
 suffices sli level id words first most len calls region upto enough modest = none_refused sli level words most len upto enough (opened id words first) calls (opens sli id words first (want len + 3) region) modest
 
-pub serves : (sli : ℕ) (level : IsLevel sli) → PoolServes sli
+pub serves : (sli : ℕ) (level : IsLevel sli) → MixedSizesServe sli
 serves sli level id words first most len calls region upto enough modest fresh = all_served sli level words most len upto enough (opened id words first) calls (opens sli id words first (want len + 3) region) modest (omega arith)

@@ -20,7 +20,7 @@ use Rattle.tlsf_heap.proofs.lemmas.laws.NoFit.{no_fit}
 use Rattle.tlsf_heap.proofs.lemmas.blocks.Sums.{words_apart}
 use Rattle.tlsf_heap.proofs.lemmas.calls.Write.{length-overwritten, range_fits}
 use Rattle.tlsf_pool.specs.laws.Room.{live_count, sure, IsSnug}
-use Rattle.tlsf_pool.specs.laws.Pools.{HasRoomFor, IsModest, IsSmall}
+use Rattle.tlsf_pool.specs.laws.MixedSizes.{HasRoomFor, IsModest, IsSmall}
 use Rattle.tlsf_pool.specs.laws.Kinds.{Ledger, lengths, ledger_after, AreOfKinds, ArePlanned, IsPlanned, count_in, table_words, used}
 use Rattle.tlsf_pool.specs.laws.OneLarge.{longest_of, scattered_words, one_large_words, ResizesNone, OneLargeSuffices}
 use Rattle.tlsf_pool.specs.declared.kind.Kind.{Kind}

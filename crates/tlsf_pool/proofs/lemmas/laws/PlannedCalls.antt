@@ -16,8 +16,8 @@ use Rattle.tlsf_heap.proofs.lemmas.calls.Outcomes.{lawful_run}
 use Rattle.tlsf_heap.proofs.lemmas.laws.NoFit.{no_fit}
 use Rattle.tlsf_heap.proofs.lemmas.blocks.Lawful.{opened_lawful}
 use Rattle.tlsf_pool.specs.laws.Room.{live_count, free_words, sure, IsSnug}
-use Rattle.tlsf_pool.specs.laws.Pools.{AreModest, HasRoomFor, IsModest}
-use Rattle.tlsf_pool.specs.laws.Kinds.{Ledger, lengths, ledger_after, AreOfKinds, IsPlanned, ArePlanned, count_in, table_words, used, words_with, resized_words, are_fours, HasClass, StaysFour, KindsSuffice, ResizedSuffice, OneKindIsAPool}
+use Rattle.tlsf_pool.specs.laws.MixedSizes.{AreModest, HasRoomFor, IsModest}
+use Rattle.tlsf_pool.specs.laws.Kinds.{Ledger, lengths, ledger_after, AreOfKinds, IsPlanned, ArePlanned, count_in, table_words, used, words_with, resized_words, are_fours, HasClass, StaysFour, KindsSuffice, ResizedSuffice, OneKindHasMixedWords}
 use Rattle.tlsf_pool.specs.declared.kind.Kind.{Kind}
 use Rattle.tlsf_pool.proofs.lemmas.laws.Around.{words_kept}
 use Rattle.tlsf_pool.proofs.lemmas.laws.FreeRoom.{finds_room, sure_rises, wants, less}
@@ -150,7 +150,7 @@ most_but_one : (m w : ℕ) → m * w - w ≡ (m - 1) * w
 most_but_one zero w = omega arith
 most_but_one (suc m) w = let less : suc m - 1 ≡ m = omega arith in rw less (omega arith)
 
-pub one_kind : (sli : ℕ) → OneKindIsAPool sli
+pub one_kind : (sli : ℕ) → OneKindHasMixedWords sli
 one_kind sli kind = at (nat_lt 0 kind.most) (nat_le kind.len 8) refl refl
   where
     lost : ℕ

@@ -8,7 +8,7 @@ use Rattle.tlsf_heap.specs.Calls.{past_free, before_free, first_free, last_free,
 use Rattle.tlsf_heap.proofs.lemmas.blocks.Coalesce.{by_last}
 use Rattle.tlsf_heap.proofs.lemmas.blocks.Lawful.{words_in-append}
 use Rattle.tlsf_heap.proofs.lemmas.calls.Outcomes.{IsSiteOf}
-use Rattle.tlsf_pool.specs.laws.Pools.{IsSmall}
+use Rattle.tlsf_pool.specs.laws.MixedSizes.{IsSmall}
 use Rattle.tlsf_pool.proofs.lemmas.laws.FreeRoom.{IsHole}
 
 -- the free words that a list begins with, or those behind it where it is empty

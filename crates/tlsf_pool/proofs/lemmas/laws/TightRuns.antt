@@ -21,7 +21,7 @@ use Rattle.tlsf_heap.proofs.lemmas.blocks.Sites.{fits_nothing}
 use Rattle.tlsf_pool.specs.laws.Room.{live_count, free_words, sure, RoomIsTight}
 use Rattle.tlsf_pool.proofs.lemmas.laws.Comb.{too_small}
 use Rattle.tlsf_pool.proofs.lemmas.laws.FreeRoom.{serves_sure, sure_is, sure_upto}
-use Rattle.tlsf_pool.proofs.lemmas.laws.Fours.{sure_four}
+use Rattle.tlsf_pool.proofs.lemmas.laws.FixedSize.{sure_four}
 
 abbrev one_site : Site → List Site
 one_site s = s ∷ []

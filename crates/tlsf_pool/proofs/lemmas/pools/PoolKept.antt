@@ -14,7 +14,7 @@ use Rattle.tlsf_heap.proofs.lemmas.laws.NoFit.{no_fit_words}
 use Rattle.tlsf_pool.specs.laws.Room.{live_count, sure}
 use Rattle.tlsf_pool.specs.laws.FixedSize.{IsMultiple, answered_fixed, fixed_words}
 use Rattle.tlsf_pool.specs.laws.Held.{held_after}
-use Rattle.tlsf_pool.specs.laws.Pools.{IsModest}
+use Rattle.tlsf_pool.specs.laws.MixedSizes.{IsModest}
 use Rattle.tlsf_pool.proofs.lemmas.laws.FixedCalls.{InFixed, held_fixed, kept}
 use Rattle.tlsf_pool.proofs.lemmas.laws.FixedSize.{finds_fixed, finds_sure, new_fixed, sure_again, sure_region}
 use Rattle.tlsf_pool.specs.pools.Bounds.{Bounds, IsPool, pool_allocated}

@@ -10,7 +10,7 @@ use Rattle.tlsf_pool.specs.laws.Room.{live_count, sure}
 use Rattle.tlsf_pool.specs.laws.Kinds.{AreOfKinds, HasClass, count_in, used}
 use Rattle.tlsf_pool.specs.laws.OneLarge.{longest_of}
 use Rattle.tlsf_pool.specs.laws.FixedSize.{fixed_size, fixed_words}
-use Rattle.tlsf_pool.specs.laws.Pools.{IsModest}
+use Rattle.tlsf_pool.specs.laws.MixedSizes.{IsModest}
 use Rattle.tlsf_heap.specs.Calls.{Allocate}
 use Rattle.tlsf_pool.specs.declared.kind.Kind.{Kind}
 use Rattle.tlsf_pool.specs.pools.Tables.{IsTable, TableRows, lengths_in, table_allocated}

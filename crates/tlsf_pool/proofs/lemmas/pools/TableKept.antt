@@ -13,7 +13,7 @@ use Rattle.tlsf_heap.proofs.lemmas.calls.Outcomes.{by_test, by_allocated_words, 
 use Rattle.tlsf_pool.specs.laws.Room.{live_count}
 use Rattle.tlsf_pool.specs.laws.FixedSize.{answered_fixed, fixed_kinds_words, fixed_size}
 use Rattle.tlsf_pool.specs.laws.OneLarge.{longest_of}
-use Rattle.tlsf_pool.specs.laws.Pools.{IsModest}
+use Rattle.tlsf_pool.specs.laws.MixedSizes.{IsModest}
 use Rattle.tlsf_pool.specs.laws.Kinds.{AreOfKinds, HasClass, count_in, used}
 use Rattle.tlsf_pool.specs.declared.kind.Kind.{Kind}
 use Rattle.tlsf_pool.proofs.lemmas.laws.FixedCalls.{kept}

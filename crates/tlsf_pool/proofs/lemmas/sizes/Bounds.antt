@@ -3,9 +3,9 @@ use Rattle.std.proofs.Common.{◌≡◌, ℕ, zero, suc, ◌+◌, ◌-◌, ◌*�
 use Rattle.std.proofs.lemmas.Bool.{cases_lt}
 use Rattle.tlsf_heap.specs.Blocks.{want}
 use Rattle.tlsf_pool.specs.laws.Room.{sure}
-use Rattle.tlsf_pool.specs.laws.Pools.{pool_words}
+use Rattle.tlsf_pool.specs.laws.MixedSizes.{mixed_words}
 use Rattle.tlsf_pool.proofs.lemmas.laws.FreeRoom.{sure_enough, sure_rises, wants, less}
-use Rattle.tlsf_pool.proofs.lemmas.laws.ModestCalls.{pool_of_fours, pool_of_more}
+use Rattle.tlsf_pool.proofs.lemmas.laws.ModestCalls.{mixed_of_fours, mixed_of_more}
 use Rattle.tlsf_class.specs.Classes.{IsLevel, most_words}
 use Rattle.tlsf_pool.proofs.lemmas.sizes.Sizes.{products, some_words}
 
@@ -25,25 +25,25 @@ first_upto : (a b c d : ℕ) → c ≤ b → c ≤ a + b + d
 first_upto a b c d h = omega (arith, h)
 
 -- longer requests ask for no fewer words
-pub words_rise : (sli : ℕ) → IsLevel sli → (most a b : ℕ) → a ≤ b → want b ≤ most_words sli → pool_words sli most a ≤ pool_words sli most b
+pub words_rise : (sli : ℕ) → IsLevel sli → (most a b : ℕ) → a ≤ b → want b ≤ most_words sli → mixed_words sli most a ≤ mixed_words sli most b
 words_rise sli level most a b f class =
     let w : want a ≤ want b = wants a b f in
     let lost : ℕ → ℕ = λ len. sure sli (want len) - 1 in
     let sum : ℕ → ℕ = λ len. (most - 1) * (want len + 3) + most * lost len + 1 in
     elim (cases_lt 8 a) [
-      | inl more ↦ upto (pool_words sli most a) (pool_words sli most b) (sum a) (sum b) (pool_of_more sli most a more) (pool_of_more sli most b (omega (arith, more, f)))
+      | inl more ↦ upto (mixed_words sli most a) (mixed_words sli most b) (sum a) (sum b) (mixed_of_more sli most a more) (mixed_of_more sli most b (omega (arith, more, f)))
           (sums ((most - 1) * (want a + 3)) ((most - 1) * (want b + 3)) (most * lost a) (most * lost b)
           (products (most - 1) (most - 1) (want a + 3) (want b + 3) (same (most - 1)) (three (want a) (want b) w))
           (products most most (lost a) (lost b) (same most) (less (sure sli (want a)) (sure sli (want b)) (sure_rises sli level (want a) (want b) w class))))
       | inr four ↦ elim (cases_lt 8 b) [
-        | inl more ↦ upto (pool_words sli most a) (pool_words sli most b) (most * 4) (sum b) (pool_of_fours sli most a four) (pool_of_more sli most b more)
+        | inl more ↦ upto (mixed_words sli most a) (mixed_words sli most b) (most * 4) (sum b) (mixed_of_fours sli most a four) (mixed_of_more sli most b more)
             (first_upto ((most - 1) * (want b + 3)) (most * lost b) (most * 4) 1 (products most most 4 (lost b) (same most) (omega (arith, more, sure_enough sli level (want b) class))))
-        | inr short ↦ upto (pool_words sli most a) (pool_words sli most b) (most * 4) (most * 4) (pool_of_fours sli most a four) (pool_of_fours sli most b short) (same (most * 4))
+        | inr short ↦ upto (mixed_words sli most a) (mixed_words sli most b) (most * 4) (most * 4) (mixed_of_fours sli most a four) (mixed_of_fours sli most b short) (same (most * 4))
       ]
     ]
 
 -- a length above the first that doesn't fit doesn't fit
-pub none_longer : (sli : ℕ) → IsLevel sli → (most longest above len : ℕ) → above ≤ longest + 1 → (above < 8 * (most_words sli - 3) + 1 → ¬ (pool_words sli most above ≤ most_words sli)) → want len ≤ most_words sli → pool_words sli most len ≤ most_words sli → len ≤ longest
+pub none_longer : (sli : ℕ) → IsLevel sli → (most longest above len : ℕ) → above ≤ longest + 1 → (above < 8 * (most_words sli - 3) + 1 → ¬ (mixed_words sli most above ≤ most_words sli)) → want len ≤ most_words sli → mixed_words sli most len ≤ most_words sli → len ≤ longest
 none_longer sli level most longest above len next passed class fits = elim (cases_lt longest len) [
   | inl l ↦
       let under : above ≤ len = omega (arith, next, l) in
@@ -92,26 +92,26 @@ rest_of a b w e g = omega (arith, e, g)
 
 module _ (sli : ℕ) (level : IsLevel sli) (len : ℕ) (class : want len ≤ most_words sli) where
   -- blocks of four words
-  pub fours_reached : len ≤ 8 → pool_words sli (most_words sli / 4) len ≤ most_words sli
+  pub fours_reached : len ≤ 8 → mixed_words sli (most_words sli / 4) len ≤ most_words sli
   fours_reached four =
-      most_of (pool_words sli (most_words sli / 4) len) (most_words sli / 4 * 4) (most_words sli) (pool_of_fours sli (most_words sli / 4) len four) (some_words sli level) (omega arith)
+      most_of (mixed_words sli (most_words sli / 4) len) (most_words sli / 4 * 4) (most_words sli) (mixed_of_fours sli (most_words sli / 4) len four) (some_words sli level) (omega arith)
 
-  pub fours_passed : len ≤ 8 → (most : ℕ) → pool_words sli most len ≤ most_words sli → most ≤ most_words sli / 4
-  fours_passed four most fits = let few = rest_of (pool_words sli most len) (most * 4) (most_words sli) (pool_of_fours sli most len four) fits in omega (arith, few)
+  pub fours_passed : len ≤ 8 → (most : ℕ) → mixed_words sli most len ≤ most_words sli → most ≤ most_words sli / 4
+  fours_passed four most fits = let few = rest_of (mixed_words sli most len) (most * 4) (most_words sli) (mixed_of_fours sli most len four) fits in omega (arith, few)
 
   some_sure : 1 ≤ sure sli (want len)
   some_sure = omega (arith, sure_enough sli level (want len) class)
 
-  pub most_reached : 8 < len → pool_words sli ((most_words sli + want len + 2) / (want len + 2 + sure sli (want len))) len ≤ most_words sli
+  pub most_reached : 8 < len → mixed_words sli ((most_words sli + want len + 2) / (want len + 2 + sure sli (want len))) len ≤ most_words sli
   most_reached more =
       let most : ℕ = (most_words sli + want len + 2) / (want len + 2 + sure sli (want len)) in
-      most_of (pool_words sli most len) ((most - 1) * (want len + 3) + most * (sure sli (want len) - 1) + 1) (most_words sli) (pool_of_more sli most len more) (some_words sli level)
+      most_of (mixed_words sli most len) ((most - 1) * (want len + 3) + most * (sure sli (want len) - 1) + 1) (most_words sli) (mixed_of_more sli most len more) (some_words sli level)
       (rw (divisor (want len) (sure sli (want len)) some_sure)
       (reached_by ((most_words sli + want len + 2) / (want len + 3 + (sure sli (want len) - 1))) (want len) (sure sli (want len) - 1) (most_words sli)
       (divided (most_words sli + want len + 2) (want len + 3 + (sure sli (want len) - 1)) (omega arith)) (omega (arith, some_words sli level))))
 
-  pub most_passed : 8 < len → (most : ℕ) → pool_words sli most len ≤ most_words sli → most ≤ (most_words sli + want len + 2) / (want len + 2 + sure sli (want len))
+  pub most_passed : 8 < len → (most : ℕ) → mixed_words sli most len ≤ most_words sli → most ≤ (most_words sli + want len + 2) / (want len + 2 + sure sli (want len))
   most_passed more most fits =
-      let few = rest_of (pool_words sli most len) ((most - 1) * (want len + 3) + most * (sure sli (want len) - 1) + 1) (most_words sli) (pool_of_more sli most len more) fits in
+      let few = rest_of (mixed_words sli most len) ((most - 1) * (want len + 3) + most * (sure sli (want len) - 1) + 1) (most_words sli) (mixed_of_more sli most len more) fits in
       rw (divisor (want len) (sure sli (want len)) some_sure)
       (undivided (most_words sli + want len + 2) (want len + 3 + (sure sli (want len) - 1)) most (omega arith) (passed_by most (want len) (sure sli (want len) - 1) (most_words sli) few))

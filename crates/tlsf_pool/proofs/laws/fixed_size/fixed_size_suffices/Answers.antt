@@ -1,6 +1,6 @@
 use Rattle.tlsf_pool.proofs.lemmas.laws.FixedCalls.{fixed_exact, fixed_serves, fixed_suffices, one_length}
 use Rattle.tlsf_pool.proofs.lemmas.laws.FixedSize.{blocks_whole, fixed_kept, fixed_room, fixed_tight, new_fixed, sure_again}
-use Rattle.tlsf_pool.proofs.lemmas.laws.FixedWords.{fewer_pool, fewer_table, hundred_fixed}
+use Rattle.tlsf_pool.proofs.lemmas.laws.FixedWords.{fewer_mixed, fewer_table, hundred_fixed}
 use Rattle.tlsf_pool.proofs.laws.fixed_size.fixed_size_suffices.Goals as goal
 
 pub returns : goal.returns
@@ -15,7 +15,7 @@ returns c = record {
   tight = fixed_tight;
   whole = blocks_whole;
   sure = sure_again;
-  pool = fewer_pool;
+  mixed = fewer_mixed;
   table = fewer_table;
   example = hundred_fixed;
 }

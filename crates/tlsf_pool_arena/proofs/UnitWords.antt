@@ -1,0 +1,29 @@
+-- Units, and the words that requests for them want.
+use Rattle.std.proofs.Common.{◌≡◌, ℕ, ◌-◌, ◌*◌, ◌≤◌, arith}
+use Rattle.tlsf_heap.specs.Blocks.{want}
+use Rattle.tlsf_arena.specs.Places.{IsUnit, lacking, units_for}
+use Rattle.tlsf_arena.proofs.UnitCases.{by_unit}
+use Rattle.tlsf_pool_arena.specs.MixedUnits.{length_for}
+
+-- a payload of so many bytes wants k words
+wants : (k : ℕ) → 4 ≤ k → want (8 * (k - 3)) ≡ k
+wants k least = omega (arith, least)
+
+pub least_units : (u n : ℕ) → 4 ≤ units_for u n
+least_units u n = omega arith
+
+pub wants_units : (u n : ℕ) → want (length_for u n) ≡ units_for u n
+wants_units u n = wants (units_for u n) (least_units u n)
+
+pub units_rise : (u a b : ℕ) → IsUnit u → a ≤ b → units_for u a ≤ units_for u b
+units_rise u a b unit h = by_unit (λ u. units_for u a ≤ units_for u b) (omega (arith, h)) (omega (arith, h)) (omega (arith, h)) u unit
+
+pub lengths_rise : (u a b : ℕ) → IsUnit u → a ≤ b → length_for u a ≤ length_for u b
+lengths_rise u a b unit h = omega (arith, units_rise u a b unit h)
+
+pub lacks_few : (k : ℕ) → 4 ≤ k → want (lacking k) ≤ k
+lacks_few k least = omega (arith, least)
+
+-- the bytes of k units get just so many
+pub units_again : (u k : ℕ) → IsUnit u → 4 ≤ k → units_for u (u * k) ≡ k
+units_again u k unit least = by_unit (λ u. units_for u (u * k) ≡ k) (omega (arith, least)) (omega (arith, least)) (omega (arith, least)) u unit
