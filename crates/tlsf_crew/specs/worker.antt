@@ -8,5 +8,7 @@ pub mod Drains
 pub mod Notes
 -- The sizes of a yard.
 pub mod Sizes
+-- What a slice of posts leaves that a drain takes at once. For private functions alone.
+pub mod Slices
 -- What a worker shows: its heap and its number.
 pub mod Workers

@@ -8,6 +8,8 @@ pub mod LaneByLane
 pub mod LaneChanges
 -- What a yard shows whose lanes were settled: what waits, the capacity, and no post for a worker that isn't there.
 pub mod LaneSettled
+-- A slice that came out of a lane is as many takes one after another.
+pub mod LaneSlices
 -- A worker whose ends, or whose heap, are another's: what its yard has in each slot.
 pub mod LaneSlots
 -- Takes one after another from a lane, and from lane after lane, make up a drain.

@@ -70,6 +70,14 @@ impl<R> Exchange<R> for Lanes {
         end.take()
     }
 
+    /// The places of all posts that come are handed back to the poster with one store.
+    fn take_slice(&mut self, _rt: &R, source: usize, places: &mut [Post]) -> usize {
+        let Some(end) = self.takes[source].as_mut() else {
+            unreachable!()
+        };
+        end.take_slice(places)
+    }
+
     /// A drain leaves a lane at once.
     fn stop(&mut self, _rt: &R, _source: usize) {}
 }
@@ -147,7 +155,8 @@ impl<const SLI: u32> Worker<SLI> {
     }
 
     /// Takes from the other workers' lanes, in the rising order of their numbers, and releases each block that a post
-    /// names on the own heap. It stays at a lane until that shows no post, and stops where `most` posts were taken.
+    /// names on the own heap. It stays at a lane until that shows no post, and stops where `most` posts were taken. Up to 32
+    /// posts leave a lane together, whose poster sees their slots come back at once, and are released then.
     ///
     /// - `drained`: the takes, each as [`Worker::take`] answers it, the heap that their releases leave, and their
     ///   count. A post is gone and counted as taken whatever the heap's answer; `freed` counts those answered by `Ok`.

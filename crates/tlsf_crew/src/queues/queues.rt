@@ -11,7 +11,7 @@ ghost use Rattle.tlsf_crew.specs.queues.QueueNotes.{StopsAtQueue};
 
 use crate::worker::notes::NoNotes;
 use crate::worker::ports::{Exchange, Ports, has_end, put_answer};
-use crate::worker::worker::{Worker, drain_source, post, release, take_next};
+use crate::worker::worker::{AT_ONCE, NO_POST, Worker, drain_source, post, release, take_next};
 use std::sync::Wait;
 use tlsf_calls::{CrewRefusal, Drained, Released, Took};
 use tlsf_heap::Name;
@@ -76,6 +76,19 @@ impl<R: Wait> Exchange<R> for Queues {
 
     fn take(&mut self, rt: &R, _source: usize) -> Option<Post> {
         self.own.take(rt)
+    }
+
+    /// A queue has no slices, so the posts come one by one.
+    fn take_slice(&mut self, rt: &R, _source: usize, places: &mut [Post]) -> usize {
+        let mut count = 0;
+        while count < places.len() {
+            let Some(post) = self.own.take(rt) else {
+                break;
+            };
+            places[count] = post;
+            count += 1;
+        }
+        count
     }
 
     /// All that may come was taken, so it waits for the queue to be seen empty.
@@ -174,6 +187,6 @@ impl<const SLI: u32> QueueWorker<SLI> {
         ensures touches { touches_of self.new ≤ touches_of self.old + 64 * result.taken }
         ensures touches_rise { touches_of self.old ≤ touches_of self.new }
     {
-        drain_source(self, rt, 0, most, &mut NoNotes)
+        drain_source(self, rt, 0, most, &mut [NO_POST; AT_ONCE], &mut NoNotes)
     }
 }

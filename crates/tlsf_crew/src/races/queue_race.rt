@@ -13,7 +13,7 @@ use crate::jobs::running::run_scripts;
 use crate::queues::queue_settle::settle_each_queue;
 use crate::queues::queues::QueueWorker;
 use crate::scripts::journal::Journal;
-use crate::worker::worker::drain_source;
+use crate::worker::worker::{AT_ONCE, NO_POST, drain_source};
 use std::alloc::Global;
 use std::marker::{PhantomData, Sync};
 use std::sync::Wait;
@@ -128,7 +128,8 @@ fn drain_one<const SLI: u32, R: Wait>(
     // Fewer than it asks for, so that it goes on until its queue is empty.
     let most = room.min(MOST_DRAINED as u64 - 1);
     let mut journal = Journal::resume(alloc, entries, [most, 0, 0, 0, 0, 0, 0, 0]);
-    let drained = drain_source(worker, rt, 0, MOST_DRAINED, &mut journal);
+    let mut places = [NO_POST; AT_ONCE];
+    let drained = drain_source(worker, rt, 0, MOST_DRAINED, &mut places, &mut journal);
     journal.entries.push_reserved(Entry {
         worker: worker.id,
         call: Call::Drain { most: MOST_DRAINED },

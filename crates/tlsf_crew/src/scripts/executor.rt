@@ -108,7 +108,7 @@ fn reply_to_take<const SLI: u32, R, P: Scripted<R>>(
     if !is_source_of(&worker.ports, from) {
         return Reply::Refused(CrewRefusal::Stranger);
     }
-    if !journal.admits(source) {
+    if journal.admits(source, 1) == 0 {
         return Reply::Empty;
     }
     let Some(took) = take_next(worker, rt, source) else {

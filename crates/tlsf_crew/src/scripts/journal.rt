@@ -37,11 +37,11 @@ impl Notes for Journal {
 
     ghost noted = { EntersTake };
 
-    fn admits(&self, source: usize) -> bool {
-        match self.limits.get(source) {
-            Some(limit) => *limit > 0,
-            None => false,
+    fn admits(&self, source: usize, wanted: usize) -> usize {
+        if source >= self.limits.len() {
+            return 0;
         }
+        self.limits[source].min(wanted as u64) as usize
     }
 
     /// Adds the entry of the take, and counts the limit down.

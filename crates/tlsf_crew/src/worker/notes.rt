@@ -1,6 +1,7 @@
 //! Where a drain notes what it takes.
-ghost use Rattle.std.specs.Prelude.{◌≡◌, ℕ, Option, ⊤, true, false};
+ghost use Rattle.std.specs.Prelude.{◌≡◌, ◌<◌, ◌≤◌, ℕ, Option, ⊤};
 ghost use Rattle.tlsf_calls.specs.declared.took.Took.{Took};
+ghost use Rattle.tlsf_crew.specs.worker.Slices.{MayTake};
 
 use tlsf_calls::Took;
 
@@ -18,10 +19,12 @@ pub(crate) trait Notes {
     // The notes after the worker of a number took a post from a source, of this sender where a source is not one worker's.
     ghost noted: { Self → ℕ → ℕ → Option ℕ → Took → Self → Type 0 };
 
-    /// Whether one more post may be taken from that source.
-    fn admits(&self, source: usize) -> bool
-        ensures yes { result ≡ true → admitted self.now source }
-        ensures no { result ≡ false → ¬ (admitted self.now source) };
+    /// How many of these wanted posts may be taken from that source, one after another. None where not one more may.
+    fn admits(&self, source: usize, wanted: usize) -> usize
+        requires { 0 < wanted }
+        ensures yes { MayTake admitted noted self.now source result }
+        ensures few { result ≤ wanted }
+        ensures no { result ≡ 0 → ¬ (admitted self.now source) };
 
     /// Notes what worker `at` took from a source, of this sender where a source is not one worker's.
     fn note(&mut self, at: u32, source: usize, sender: Option<u32>, took: Took)
@@ -45,8 +48,8 @@ impl Notes for NoNotes {
 
     ghost noted = { λ old at source sender took new. ⊤ };
 
-    fn admits(&self, _source: usize) -> bool {
-        true
+    fn admits(&self, _source: usize, wanted: usize) -> usize {
+        wanted
     }
 
     fn note(&mut self, _at: u32, _source: usize, _sender: Option<u32>, _took: Took) {}

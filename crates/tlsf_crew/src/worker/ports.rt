@@ -1,10 +1,11 @@
 //! What a worker asks of its ports, of whatever kind.
-ghost use Rattle.std.specs.Prelude.{Some, slice_get, ◌≡◌, ℕ, Option, Result, true, false};
+ghost use Rattle.std.specs.Prelude.{Some, slice_get, length, take, ◌≡◌, ◌<◌, ◌≤◌, ℕ, Option, Result, true, false};
 ghost use Rattle.tlsf_heap.specs.declared.name.Name.{Name};
 ghost use Rattle.tlsf_calls.specs.declared.crew_refusal.CrewRefusal.{CrewRefusal};
 ghost use Rattle.tlsf_post.specs.declared.post.Post.{Post};
 ghost use Rattle.tlsf_crew.specs.declared.worker.worker.Worker.{Worker};
 ghost use Rattle.tlsf_crew.specs.worker.Calls.{put_answer};
+ghost use Rattle.tlsf_crew.specs.worker.Slices.{SliceTaken};
 ghost use Rattle.tlsf_crew.specs.worker.Workers.{slot_of, heap_of, SameButHeap, KeepsHeap};
 
 use tlsf_calls::CrewRefusal;
@@ -76,6 +77,14 @@ pub(crate) trait Exchange<R>: Ports {
     fn take(&mut self, rt: &R, source: usize) -> Option<Post>
         requires { Self.hears self.old source }
         ensures took { takes self.old self.new source result }
+        ensures still { Self.hears self.new source };
+
+    /// Takes as many posts of a source as there are places, and answers how many came: fewer where a take showed no post.
+    fn take_slice(&mut self, rt: &R, source: usize, places: &mut [Post]) -> usize
+        requires source { Self.hears self.old source }
+        requires places { 0 < length places.old }
+        ensures most { result ≤ length places.old }
+        ensures came { SliceTaken takes self.old self.new source (length places.old) result (take result places.new) }
         ensures still { Self.hears self.new source };
 
     /// Ends a drain of a source that is to take no more posts.

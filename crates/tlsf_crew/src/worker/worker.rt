@@ -1,5 +1,5 @@
 ghost use Rattle.std.specs.Fn.{FnOnceTakesAt, FnOnceTakesAtMut};
-ghost use Rattle.std.specs.Prelude.{◌≡◌, ◌≢◌, ℕ, ◌+◌, ◌*◌, ◌/◌, ◌≤◌, List, length, Err, OnSome, IfSome, IfNone, IfOk, OnErr};
+ghost use Rattle.std.specs.Prelude.{◌≡◌, ◌≢◌, ℕ, ◌+◌, ◌*◌, ◌/◌, ◌<◌, ◌≤◌, List, length, map, Some, Err, OnSome, IfSome, IfNone, IfOk, OnErr};
 ghost use Rattle.std.specs.Result.{result_unwrap_or};
 ghost use Rattle.tlsf_class.specs.Classes.{most_words};
 ghost use Rattle.tlsf_heap.specs.Calls.{allocated, released, written, read_of, read_answer, resized};
@@ -14,15 +14,30 @@ ghost use Rattle.tlsf_heap.specs.Touched.{FollowsNoForgery, FollowsNoPlace};
 ghost use Rattle.tlsf_calls.specs.declared.took.Took.{Took};
 ghost use Rattle.tlsf_crew.specs.declared.worker.worker.Worker.{Worker};
 ghost use Rattle.tlsf_crew.specs.worker.Workers.{heap_of, touched_of, touches_of, id_of, SameButHeap, KeepsHeap};
-ghost use Rattle.tlsf_crew.specs.worker.Calls.{by_heap, IsRefusedByHeap, PostedThere, ReleasedHere, ReleasedThere, TakenFrom};
+ghost use Rattle.tlsf_crew.specs.worker.Calls.{by_heap, IsRefusedByHeap, PostedThere, ReleasedHere, ReleasedThere, AfterTake, TakenFrom};
 ghost use Rattle.tlsf_crew.specs.worker.Drains.{IsCountOf};
 ghost use Rattle.tlsf_crew.specs.worker.Notes.{AllNoted, SourceNoted};
+ghost use Rattle.tlsf_crew.specs.worker.Slices.{post_of, EachReleased, MayTake};
 
 use crate::worker::lanes::Lanes;
 use crate::worker::notes::Notes;
 use crate::worker::ports::{Exchange, Ports};
 use tlsf_calls::{CrewRefusal, Drained, Released, Took};
 use tlsf_heap::{Heap, Name, PlacedBlock, Refusal, Report};
+use tlsf_post::Post;
+
+/// How many posts a drain takes out of a lane at once.
+pub(crate) const AT_ONCE: usize = 32;
+
+/// Stands in a place until a post comes there.
+pub(crate) const NO_POST: Post = Post {
+    from: 0,
+    name: Name {
+        heap: 0,
+        at: 0,
+        serial: 0,
+    },
+};
 
 /// A worker: the owner of one heap, with ports to the other workers of its yard, which are [`Lanes`] where nothing else is said.
 /// `SLI` is the level of the yard's heaps, 4 or 5.
@@ -90,6 +105,23 @@ pub(crate) fn release<const SLI: u32, R, P: Exchange<R>>(
     }
 }
 
+/// Releases the block that a post names on the own heap.
+fn release_post<const SLI: u32, P: Ports>(worker: &mut Worker<SLI, P>, post: Post) -> Took
+    ensures released { AfterTake worker.old worker.new (Some post) (Some result) }
+    ensures ports { worker.new.ports ≡ worker.old.ports }
+    ensures post { post_of result ≡ post }
+    ensures touches { touches_of worker.new ≤ touches_of worker.old + 64 }
+    ensures touches_rise { touches_of worker.old ≤ touches_of worker.new }
+    ensures forged { FollowsNoForgery (heap_of worker.old) post.name (touches_of worker.old) (touches_of worker.new) }
+{
+    let answer = worker.heap.release(post.name);
+    Took {
+        from: post.from,
+        name: post.name,
+        answer,
+    }
+}
+
 /// Takes the next post of a source that is there, and releases the block that it names.
 pub(crate) fn take_next<const SLI: u32, R, P: Exchange<R>>(
     worker: &mut Worker<SLI, P>,
@@ -105,23 +137,50 @@ pub(crate) fn take_next<const SLI: u32, R, P: Exchange<R>>(
     ensures forged { IfSome result (λ took. FollowsNoForgery (heap_of worker.old) took.name (touches_of worker.old) (touches_of worker.new)) }
 {
     let post = worker.ports.take(rt, source)?;
-    let answer = worker.heap.release(post.name);
-    Some(Took {
-        from: post.from,
-        name: post.name,
-        answer,
-    })
+    Some(release_post(worker, post))
 }
 
-/// Takes from one source, and releases, until `most` posts were taken, the notes admit no more, or it shows no post.
+/// Releases the block that each of these posts of a source names, in their order, and notes each. It answers how many blocks the own
+/// heap released.
+fn release_posts<const SLI: u32, P: Ports, N: Notes>(
+    worker: &mut Worker<SLI, P>,
+    source: usize,
+    posts: &[Post],
+    notes: &mut N,
+) -> u32
+    requires admitted { MayTake N.admitted N.noted notes.old source (length posts.now) }
+    requires room { N.has_room notes.old }
+    requires few { length posts.now ≤ 4294967295 }
+    ensures released { (tooks : List Took) × EachReleased P.sent_by N.noted worker.old worker.new notes.old notes.new source tooks × (map post_of tooks ≡ posts.now) × IsCountOf (record { taken = length posts.now; freed = result }) tooks }
+    ensures ports { worker.new.ports ≡ worker.old.ports }
+    ensures room { N.has_room notes.new }
+    ensures kept { N.most notes.new ≡ N.most notes.old }
+    ensures touches { touches_of worker.new ≤ touches_of worker.old + 64 * length posts.now }
+    ensures touches_rise { touches_of worker.old ≤ touches_of worker.new }
+{
+    let mut freed = 0;
+    for post in posts {
+        let took = release_post(worker, *post);
+        notes.note(worker.id, source, P::sender(took.from), took);
+        if took.answer.is_ok() {
+            freed += 1;
+        }
+    }
+    freed
+}
+
+/// Takes from one source by slices of as many posts as there are places, and releases, until `most` posts were taken, the notes admit
+/// no more, or it shows no post.
 pub(crate) fn drain_source<const SLI: u32, R, P: Exchange<R>, N: Notes>(
     worker: &mut Worker<SLI, P>,
     rt: &R,
     source: usize,
     most: u32,
+    places: &mut [Post],
     notes: &mut N,
 ) -> Drained
     requires source { P.hears worker.old.ports source }
+    requires places { 0 < length places.old }
     requires room { N.has_room notes.old }
     ensures drained { (tooks : List Took) × SourceNoted (record { hears = P.hears; takes = P.takes; stops = P.stops; sent_by = P.sent_by; admitted = N.admitted; noted = N.noted }) worker.old worker.new notes.old notes.new source most tooks × IsCountOf result tooks }
     ensures most { result.taken ≤ most }
@@ -133,17 +192,20 @@ pub(crate) fn drain_source<const SLI: u32, R, P: Exchange<R>, N: Notes>(
 {
     let mut drained = Drained { taken: 0, freed: 0 };
     while drained.taken < most {
-        if !notes.admits(source) {
+        let left = (most - drained.taken) as usize;
+        let wanted = notes.admits(source, left.min(places.len()));
+        if wanted == 0 {
             worker.ports.stop(rt, source);
             break;
         }
-        let Some(took) = take_next(worker, rt, source) else {
+        let (wanted_places, _) = places.split_at_mut(wanted);
+        let came = worker.ports.take_slice(rt, source, wanted_places);
+        let (posts, _) = wanted_places.split_at(came);
+        let freed = release_posts(worker, source, posts, notes);
+        drained.taken += came as u32;
+        drained.freed += freed;
+        if came < wanted {
             break;
-        };
-        notes.note(worker.id, source, P::sender(took.from), took);
-        drained.taken += 1;
-        if took.answer.is_ok() {
-            drained.freed += 1;
         }
     }
     drained
@@ -164,10 +226,12 @@ pub(crate) fn drain_each<const SLI: u32, R, P: Exchange<R>, N: Notes>(
     ensures touches { touches_of worker.new ≤ touches_of worker.old + 64 * result.taken }
     ensures touches_rise { touches_of worker.old ≤ touches_of worker.new }
 {
+    let mut places = [NO_POST; AT_ONCE];
     let mut drained = Drained { taken: 0, freed: 0 };
     for source in 0..worker.ports.source_count() {
         if worker.ports.has_source(source) {
-            let here = drain_source(worker, rt, source, most - drained.taken, notes);
+            let left = most - drained.taken;
+            let here = drain_source(worker, rt, source, left, &mut places, notes);
             drained.taken += here.taken;
             drained.freed += here.freed;
         }

@@ -9,19 +9,11 @@ use Rattle.tlsf_post.specs.declared.post.Post.{Post}
 use Rattle.tlsf_calls.specs.declared.drained.Drained.{Drained}
 use Rattle.tlsf_calls.specs.declared.took.Took.{Took}
 use Rattle.tlsf_crew.specs.declared.worker.worker.Worker.{Worker}
-use Rattle.tlsf_crew.specs.worker.Workers.{heap_of, id_of}
+use Rattle.tlsf_crew.specs.worker.Workers.{heap_of}
 use Rattle.tlsf_crew.specs.worker.Calls.{AfterTake, TakenFrom, TakesInTurn}
 use Rattle.tlsf_crew.specs.worker.Drains.{heap_after, is_freed, IsCountOf}
 use Rattle.tlsf_crew.specs.worker.Notes.{TakeRules, EachNoted, EachTakeNoted, SourceNoted}
 use Rattle.tlsf_crew.proofs.lemmas.worker.SameParts.{ports_heap}
-
--- one take more
-pub noted_more : {sli : ℕ} {P N : Type 0} (by : TakeRules P N) (a b v : Worker sli P) (x y z : N) (source : ℕ) (tooks : List Took) (took : Took)
-    → EachTakeNoted by a b x y source tooks → TakenFrom by.takes b v source (Some took) → by.noted y (id_of v) source (by.sent_by took.from) took z → EachTakeNoted by a v x z source (tooks ++ took ∷ [])
-noted_more {sli} {P} {N} by a b v x y z source [] took turns t n =
-    (v, z, subst (λ (w : Worker sli P). TakenFrom by.takes w v source (Some took)) turns.0 t, subst (λ w. by.noted w (id_of v) source (by.sent_by took.from) took z) turns.1 n, (refl, refl))
-noted_more {sli} {P} {N} by a b v x y z source (first ∷ tooks) took turns t n =
-    (turns.0, turns.1, turns.2, turns.3, noted_more by turns.0 b v turns.1 y z source tooks took turns.4 t n)
 
 pub takes_of : {sli : ℕ} {P N : Type 0} (by : TakeRules P N) (a v : Worker sli P) (x y : N) (source : ℕ) (tooks : List Took)
     → EachTakeNoted by a v x y source tooks → TakesInTurn by.takes a v source tooks

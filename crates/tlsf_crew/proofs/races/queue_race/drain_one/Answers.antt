@@ -18,7 +18,7 @@ pub drain_source-drained-requires : goal.drain_source-drained-requires
 drain_source-drained-requires g c =
     let most = c.min-most.ensures in
     let same = c.resume-journal.ensures.journal in
-    (omega arith, (tt, rw (same.0, same.1) (omega (arith, most, c.capacity.ensures, c.len.ensures))))
+    (omega arith, (tt, (omega arith, rw (same.0, same.1) (omega (arith, most, c.capacity.ensures, c.len.ensures)))))
 
 pub push_reserved-requires : goal.push_reserved-requires
 push_reserved-requires g c =

@@ -1,5 +1,8 @@
-use Rattle.std.proofs.Common.{refl, ◌∙◌, [], ◌∷◌, ◌++◌, inl, inr, arith, sym, subst}
-use Rattle.tlsf_crew.proofs.lemmas.worker.SourceTurns.{counted_few, noted_more, counts_then, one_freed, one_kept}
+use Rattle.std.proofs.Common.{refl, ◌∙◌, ◌+◌, [], ◌++◌, inl, inr, arith, sym, subst, length}
+use Rattle.tlsf_crew.specs.worker.Drains.{IsCountOf}
+use Rattle.tlsf_crew.specs.worker.Notes.{TakeRules, EachTakeNoted}
+use Rattle.tlsf_crew.proofs.lemmas.worker.Slices.{slice_noted, noted_then, may_fewer}
+use Rattle.tlsf_crew.proofs.lemmas.worker.SourceTurns.{counted_few, counts_then}
 use Rattle.tlsf_crew.proofs.worker.worker.drain_source.Goals as goal
 
 pub loop-drained-init : goal.loop-drained-init
@@ -13,49 +16,33 @@ loop-drained-init g c = record {
   rise = omega arith;
 }
 
-pub loop-drained-preserved-then-is_ok : goal.loop-drained-preserved-then-is_ok
-loop-drained-preserved-then-is_ok g c =
-    let i = c.loop-drained.invariant in
-    let took = c.in-Some.took in
-    let e = c.in-Some.ensures in
-    let touches = e.touches in
-    let rise = e.touches_rise in
-    record {
-      source = e.still;
-      room = c.note.ensures.room;
-      kept = c.note.ensures.most ∙ i.kept;
-      takes = (
-        i.takes.0 ++ took ∷ [],
-        noted_more (record { hears = g.P.Ports.hears; takes = g.P.Exchange.takes; stops = g.P.Exchange.stops; sent_by = g.P.Ports.sent_by; admitted = g.N.Notes.admitted; noted = g.N.Notes.noted }) c.args.worker.now c.loop-drained.worker c.take_next.new.worker c.args.notes.now c.loop-drained.notes c.note.new.self c.args.source i.takes.0 took i.takes.1 e.taken
-            (subst (λ o. g.N.Notes.noted c.loop-drained.notes c.take_next.new.worker.id c.args.source o took c.note.new.self) c.sender.ensures c.note.ensures.noted),
-        counts_then c.loop-drained.drained (record { taken = 1; freed = 1 }) i.takes.0 (took ∷ []) i.takes.2 (one_freed took (sym c.if-is_ok.ensures.value)),
-      );
-      few = omega arith;
-      touches = omega (arith, i.touches);
-      rise = omega (arith, i.rise);
-    }
-
 pub loop-drained-preserved : goal.loop-drained-preserved
 loop-drained-preserved g c =
     let i = c.loop-drained.invariant in
-    let took = c.in-Some.took in
-    let e = c.in-Some.ensures in
-    let touches = e.touches in
-    let rise = e.touches_rise in
-    let n = counts_then c.loop-drained.drained (record { taken = 1; freed = 0 }) i.takes.0 (took ∷ []) i.takes.2 (one_kept took (sym c.if-is_ok.ensures.value)) in
+    let a = c.loop-drained.worker in
+    let x = c.loop-drained.notes in
+    let v = c.release_posts-freed.new.worker in
+    let z = c.release_posts-freed.new.notes in
+    let e = c.release_posts-freed.ensures in
+    let slice = c.take_slice-came in
+    let many = c.split_at_mut-wanted_places.ensures.front_len in
+    let n = c.split_at.ensures.front_len in
+    let by : TakeRules _ _ = record { hears = g.P.Ports.hears; takes = g.P.Exchange.takes; stops = g.P.Exchange.stops; sent_by = g.P.Ports.sent_by; admitted = g.N.Notes.admitted; noted = g.N.Notes.noted } in
+    let s = slice_noted by a v slice.new.self x z c.args.source _ slice.result _ e.released.0 slice.ensures.came (e.released.2 ∙ c.split_at.ensures.front) e.released.1 e.ports in
+    let counts = counts_then c.loop-drained.drained (record { taken = length c.split_at.result.0.now; freed = c.release_posts-freed.result }) i.takes.0 e.released.0 i.takes.2 e.released.3 in
     record {
-      source = e.still;
-      room = c.note.ensures.room;
-      kept = c.note.ensures.most ∙ i.kept;
+      source = subst (λ p. g.P.Ports.hears p c.args.source) (sym e.ports) slice.ensures.still;
+      room = e.room;
+      kept = e.kept ∙ i.kept;
       takes = (
-        i.takes.0 ++ took ∷ [],
-        noted_more (record { hears = g.P.Ports.hears; takes = g.P.Exchange.takes; stops = g.P.Exchange.stops; sent_by = g.P.Ports.sent_by; admitted = g.N.Notes.admitted; noted = g.N.Notes.noted }) c.args.worker.now c.loop-drained.worker c.take_next.new.worker c.args.notes.now c.loop-drained.notes c.note.new.self c.args.source i.takes.0 took i.takes.1 e.taken
-            (subst (λ o. g.N.Notes.noted c.loop-drained.notes c.take_next.new.worker.id c.args.source o took c.note.new.self) c.sender.ensures c.note.ensures.noted),
-        (n.0, omega (arith, n.1)),
+        i.takes.0 ++ e.released.0,
+        noted_then by c.args.worker.now a v c.args.notes.now x z c.args.source i.takes.0 e.released.0 i.takes.1
+            (subst (λ w. EachTakeNoted by a w x z c.args.source e.released.0) (sym (s.full (omega (arith, c.if-came-wanted.false, slice.ensures.most, many)))) s.turns),
+        (omega (arith, counts.0, n), counts.1),
       );
-      few = omega arith;
-      touches = omega (arith, i.touches);
-      rise = omega (arith, i.rise);
+      few = omega (arith, c.admits-wanted.ensures.few, c.min.ensures, slice.ensures.most, many);
+      touches = omega (arith, i.touches, e.touches, n);
+      rise = omega (arith, i.rise, e.touches_rise);
     }
 
 pub returns-after-loop-drained : goal.returns-after-loop-drained
@@ -71,11 +58,11 @@ returns-after-loop-drained g c =
       touches_rise = i.rise;
     }
 
-pub returns-then-not-admits : goal.returns-then-not-admits
-returns-then-not-admits g c =
+pub returns-then-wanted-eq0 : goal.returns-then-wanted-eq0
+returns-then-wanted-eq0 g c =
     let i = c.loop-drained.invariant in
     record {
-      drained = (i.takes.0, record { last = c.loop-drained.worker; turns = i.takes.1; end = inr (omega (arith, i.takes.2.0), inl (c.admits.ensures.no c.if-not-admits.true, (refl, refl), c.stop.ensures)) }, i.takes.2);
+      drained = (i.takes.0, record { last = c.loop-drained.worker; turns = i.takes.1; end = inr (omega (arith, i.takes.2.0), inl (c.admits-wanted.ensures.no c.if-wanted-eq0.true, (refl, refl), c.stop.ensures)) }, i.takes.2);
       most = i.few;
       freed = counted_few c.loop-drained.drained i.takes.0 i.takes.2;
       room = i.room;
@@ -84,18 +71,52 @@ returns-then-not-admits g c =
       touches_rise = i.rise;
     }
 
-pub returns-in_default : goal.returns-in_default
-returns-in_default g c =
+pub returns-then-came-wanted : goal.returns-then-came-wanted
+returns-then-came-wanted g c =
     let i = c.loop-drained.invariant in
+    let a = c.loop-drained.worker in
+    let x = c.loop-drained.notes in
+    let v = c.release_posts-freed.new.worker in
+    let z = c.release_posts-freed.new.notes in
+    let e = c.release_posts-freed.ensures in
+    let slice = c.take_slice-came in
+    let many = c.split_at_mut-wanted_places.ensures.front_len in
+    let n = c.split_at.ensures.front_len in
+    let by : TakeRules _ _ = record { hears = g.P.Ports.hears; takes = g.P.Exchange.takes; stops = g.P.Exchange.stops; sent_by = g.P.Ports.sent_by; admitted = g.N.Notes.admitted; noted = g.N.Notes.noted } in
+    let s = slice_noted by a v slice.new.self x z c.args.source _ slice.result _ e.released.0 slice.ensures.came (e.released.2 ∙ c.split_at.ensures.front) e.released.1 e.ports in
+    let counts = counts_then c.loop-drained.drained (record { taken = length c.split_at.result.0.now; freed = c.release_posts-freed.result }) i.takes.0 e.released.0 i.takes.2 e.released.3 in
+    let count : IsCountOf (record { taken = c.loop-drained.drained.taken + slice.result; freed = c.loop-drained.drained.freed + c.release_posts-freed.result }) (i.takes.0 ++ e.released.0) = (omega (arith, counts.0, n), counts.1) in
     record {
-      drained = (i.takes.0, record { last = c.loop-drained.worker; turns = i.takes.1; end = inr (omega (arith, i.takes.2.0), inr c.in_default.ensures.taken) }, i.takes.2);
-      most = i.few;
-      freed = counted_few c.loop-drained.drained i.takes.0 i.takes.2;
-      room = i.room;
-      kept = i.kept;
-      touches = omega (arith, i.touches, c.in_default.ensures.untouched);
-      touches_rise = omega (arith, i.rise, c.in_default.ensures.touches_rise);
+      drained = (
+        i.takes.0 ++ e.released.0,
+        record {
+          last = s.last;
+          turns = noted_then by c.args.worker.now a s.last c.args.notes.now x z c.args.source i.takes.0 e.released.0 i.takes.1 s.turns;
+          end = inr (omega (arith, counts.0, n, c.if-came-wanted.true, c.admits-wanted.ensures.few, c.min.ensures), inr (s.short (omega (arith, c.if-came-wanted.true, many))));
+        },
+        count,
+      );
+      most = omega (arith, c.if-came-wanted.true, c.admits-wanted.ensures.few, c.min.ensures);
+      freed = counted_few _ (i.takes.0 ++ e.released.0) count;
+      room = e.room;
+      kept = e.kept ∙ i.kept;
+      touches = omega (arith, i.touches, e.touches, n);
+      touches_rise = omega (arith, i.rise, e.touches_rise);
     }
 
-pub overflow_add-drained-then-is_ok : goal.overflow_add-drained-then-is_ok
-overflow_add-drained-then-is_ok g c = let few = counted_few c.loop-drained.drained c.loop-drained.invariant.takes.0 c.loop-drained.invariant.takes.2 in omega (arith, few)
+pub take_slice-came-requires : goal.take_slice-came-requires
+take_slice-came-requires g c = record {
+  source = c.loop-drained.invariant.source;
+  places = omega (arith, c.if-wanted-eq0.false, c.split_at_mut-wanted_places.ensures.front_len);
+}
+
+pub release_posts-freed-requires : goal.release_posts-freed-requires
+release_posts-freed-requires g c =
+    let n = c.split_at.ensures.front_len in
+    let many = c.split_at_mut-wanted_places.ensures.front_len in (
+      omega arith,
+      (
+        may_fewer g.N.Notes.admitted g.N.Notes.noted c.loop-drained.notes c.args.source _ _ (omega (arith, n, c.take_slice-came.ensures.most, many)) c.admits-wanted.ensures.yes,
+        (c.loop-drained.invariant.room, omega (arith, n, c.take_slice-came.ensures.most, many, c.admits-wanted.ensures.few, c.min.ensures)),
+      ),
+    )

@@ -1,4 +1,4 @@
-use Rattle.std.proofs.Common.{refl, ap, Some, None}
+use Rattle.std.proofs.Common.{refl, Some, None}
 use Rattle.tlsf_crew.proofs.worker.worker.take_next.Goals as goal
 
 pub returns-clause-taken : goal.returns-clause-taken
@@ -7,7 +7,7 @@ returns-clause-taken g c =
       between = record { heap = c.args.worker.now.heap; id = c.args.worker.now.id; ports = c.take.new.self };
       post = Some c.in_ok-post.post;
       took = ((refl, refl), c.in_ok-post.ensures.took);
-      then = (ap (λ x. Some (record { from = c.in_ok-post.post.from; name = c.in_ok-post.post.name; answer = x })) c.release-answer.ensures.answer, c.release-answer.ensures.heap, (refl, refl), c.release-answer.ensures.leaves);
+      then = c.release_post.ensures.released;
     }
 
 pub returns-in_err-post-clause-taken : goal.returns-in_err-post-clause-taken

@@ -1,0 +1,40 @@
+use Rattle.std.proofs.Common.{◌≡◌, ◌∙◌, arith, refl, sym, ap, Some, None, length, take, length-take-le}
+use Rattle.std.specs.Option.{option_copied_mut}
+use Rattle.std.proofs.lemmas.Option.{slice_get_within}
+use Rattle.tlsf_crew.proofs.lemmas.worker.StandingEnd.{same_end, end_stands}
+use Rattle.tlsf_crew.proofs.lemmas.worker.Slots.{from_slot, slot_new, slot_other}
+use Rattle.tlsf_crew.proofs.lemmas.lanes.LaneSlices.{lane_slice}
+use Rattle.tlsf_crew.proofs.lanes.lane_worker.LanesExchange.take_slice.Goals as goal
+
+pub returns-clause-came : goal.returns-clause-came
+returns-clause-came g c =
+    let e = c.take_slice.ensures in
+    let has = c.requires.source in
+    let xs = c.args.self.now.takes.items in
+    let at = c.args.source in
+    let is = from_slot _ has.0 has.1 in
+    let a : Some c.in-Some.end.now ≡ c.index_mut.result.now = sym (ap option_copied_mut c.in-Some.is) ∙ c.as_mut.ensures.value in
+    let same : c.in-Some.end.now ≡ has.0 = same_end _ xs at _ _ c.index_mut.ensures.value is a in
+    lane_slice c.args.self.now _ at (length c.args.places.now) c.take_slice.result c.in-Some.end.now c.take_slice.new.self (take c.take_slice.result c.take_slice.new.posts)
+    (record { is = has.1 ∙ ap Some (sym same); new = slot_new xs _ at c.take_slice.new.self (slice_get_within xs at (Some has.0) is) refl; others = slot_other xs _ at c.take_slice.new.self refl; same = (refl, refl) })
+    (record { lane = e.lane; still = e.waited; came = e.came.0; order = e.came.1 })
+    (length-take-le _ _ (omega (arith, e.most))) c.requires.places e.left
+
+pub returns-clause-still : goal.returns-clause-still
+returns-clause-still g c =
+    let xs = c.args.self.now.takes.items in
+    let has = c.requires.source in
+    (c.take_slice.new.self, slot_new xs _ c.args.source c.take_slice.new.self (slice_get_within xs c.args.source (Some has.0) (from_slot _ has.0 has.1)) refl)
+
+pub index_mut-requires : goal.index_mut-requires
+index_mut-requires g c =
+    let xs = c.args.self.now.takes in
+    let l = xs.ok in
+    let has = c.requires.source in
+    omega (arith, slice_get_within xs.items c.args.source (Some has.0) (from_slot _ has.0 has.1))
+
+pub unreachable-requires : goal.unreachable-requires
+unreachable-requires g c =
+    let has = c.requires.source in
+    let none : None ≡ c.index_mut.result.now = sym (ap option_copied_mut c.in_default.is) ∙ c.as_mut.ensures.value in
+    absurd (end_stands _ c.args.self.now.takes.items c.args.source _ c.index_mut.ensures.value (from_slot _ has.0 has.1) none)

@@ -1,0 +1,7 @@
+use Rattle.std.proofs.Common.{refl, ap, Some}
+use Rattle.tlsf_crew.proofs.worker.worker.release_post.Goals as goal
+
+pub returns-clause-released : goal.returns-clause-released
+returns-clause-released g c =
+    let e = c.release-answer.ensures in
+    (ap (λ x. Some (record { from = c.args.post.from; name = c.args.post.name; answer = x })) e.answer, e.heap, (refl, refl), e.leaves)
