@@ -4,7 +4,7 @@
  *
  * The proved code takes memory only to open, and gives it back only to close. Each piece lies 8 bytes behind a multiple of 16,
  * so that payloads at even places are aligned to 16. The word in front of it has the address that malloc gave, or 0. With
- * TLSF_NO_MALLOC there is no other memory than the caller's.
+ * TLSF_NO_MALLOC there is no other memory than the caller's. A near heap's own fields, the last piece of a heap, lie in it.
  *
  * Two threads that write one cache line take it from each other each time. So each piece of malloc's, and in the caller's memory
  * each piece of a lane or a queue, has its lines to itself. */
@@ -14,6 +14,7 @@ typedef __UINT64_TYPE__ uint64_t;
 typedef __UINTPTR_TYPE__ uintptr_t;
 
 struct tlsf_heap;
+struct tlsf_near_heap;
 struct tlsf_post_end;
 struct tlsf_take_end;
 struct tlsf_queue;
@@ -22,6 +23,9 @@ uint32_t tlsf_open(struct tlsf_heap *heap, uint32_t level, uint32_t number, uint
 uint32_t tlsf_lane_open(struct tlsf_post_end *post, struct tlsf_take_end *take, uint32_t capacity);
 size_t tlsf_bytes(uint32_t level, uint32_t words);
 uint32_t tlsf_open_in(struct tlsf_heap *heap, uint32_t level, uint32_t number, void *memory, size_t bytes);
+uint32_t tlsf_open_near(struct tlsf_near_heap *near, uint32_t level, uint32_t number, uint32_t words);
+size_t tlsf_near_bytes(uint32_t level, uint32_t words);
+uint32_t tlsf_open_near_in(struct tlsf_near_heap *near, uint32_t level, uint32_t number, void *memory, size_t bytes);
 size_t tlsf_lane_bytes(uint32_t capacity);
 uint32_t tlsf_lane_open_in(struct tlsf_post_end *post, struct tlsf_take_end *take, uint32_t capacity, void *memory, size_t bytes);
 uint32_t tlsf_queue_open(struct tlsf_queue *queue, uint32_t posters, uint32_t capacity);
@@ -69,7 +73,11 @@ void free(void *at);
 
 enum {
     MARK = 8,          /* bytes in front of a piece */
-    HEAP = 2752,       /* bytes of a heap beside its words and the bits that say where blocks begin */
+    HEAP = 2752,       /* bytes of a heap's own fields: beside its words and the bits that say where blocks begin */
+    LINE = 64,         /* the handle of a near heap lies at a multiple of a cache line, */
+    HANDLE = 32,       /* has so many bytes, */
+    NEAR = 2816,       /* and begins so many, for it and for the heap's own fields */
+    PIECES_FIRST = 2,  /* the words and the bits come in front of the own fields */
     OFFSETS = 2744,    /* the same of an arena of offsets */
     LINES = 128,       /* two cache lines: a processor may fetch both where it needs one */
     LANE = 384,        /* bytes of a lane beside its names, and of each of its two ends */
@@ -88,6 +96,10 @@ enum {
 /* What is left of the memory in which this thread opens something now. */
 static _Thread_local unsigned char *lent, *lent_end;
 static _Thread_local size_t lent_step; /* each piece lies 8 bytes behind a multiple of this: 16 or LINES */
+
+/* The room beside its handle for the own fields of the heap that this thread opens now, and how many pieces come in front of them. */
+static _Thread_local unsigned char *near_room;
+static _Thread_local int pieces_first;
 
 /* The bytes of a piece with its mark, up to a multiple of `step`. */
 static size_t with_mark(size_t bytes, size_t step) { return (MARK + bytes + step - 1) / step * step; }
@@ -118,10 +130,16 @@ static void *take(size_t bytes) {
 #endif
 }
 
+static void *lend_near(size_t bytes) {
+    if (bytes > NEAR - HANDLE - MARK) return 0;
+    *(uint64_t *)(void *)near_room = 0;
+    return near_room + MARK;
+}
+
 /* The proved code asks for words, so for no more alignment than theirs. */
 struct tlsf_piece tlsf_memory_alloc(size_t bytes, size_t align) {
     static uint64_t nothing;
-    void *const at = align > 8 ? 0 : lent ? lend(bytes) : take(bytes);
+    void *const at = align > 8 ? 0 : near_room && pieces_first-- == 0 ? lend_near(bytes) : lent ? lend(bytes) : take(bytes);
     return (struct tlsf_piece){at != 0, at ? at : &nothing};
 }
 
@@ -187,10 +205,16 @@ void *tlsf_memory_move(void *to, const void *from, size_t n) { return memmove(to
 
 static size_t most_words(uint32_t level) { return level == 4 ? 1u << 20 : level == 5 ? 1u << 24 : 0; }
 
+/* The bytes of the bits for so many words. */
+static size_t bits_bytes(size_t words) { return (words + 63) / 64 * 8; }
+
 /* The bytes of so many words, of the bits for them and of a last piece, from a multiple of 16 on. */
-static size_t words_bytes(size_t words, size_t last) { return with_mark(8 * words, 16) + with_mark((words + 63) / 64 * 8, 16) + MARK + last; }
+static size_t words_bytes(size_t words, size_t last) { return with_mark(8 * words, 16) + with_mark(bits_bytes(words), 16) + MARK + last; }
 
 static size_t heap_bytes(size_t words) { return words_bytes(words, HEAP); }
+
+/* The same of a near heap, whose own fields lie elsewhere: the bits are the last piece. */
+static size_t near_bytes(size_t words) { return with_mark(8 * words, 16) + MARK + bits_bytes(words); }
 
 /* The bytes of a lane, from a multiple of LINES on, with all lines of its last piece. */
 static size_t lane_bytes(size_t capacity) {
@@ -217,26 +241,54 @@ static void begin_in(void *memory, size_t bytes, size_t step) {
     lent_step = step;
 }
 
-size_t tlsf_bytes(uint32_t level, uint32_t words) {
-    return words < LEAST_WORDS || words > most_words(level) ? 0 : 15 + heap_bytes(words);
+static size_t bytes_for(uint32_t level, uint32_t words, size_t taken(size_t words)) {
+    return words < LEAST_WORDS || words > most_words(level) ? 0 : 15 + taken(words);
 }
 
+size_t tlsf_bytes(uint32_t level, uint32_t words) { return bytes_for(level, words, heap_bytes); }
+
+size_t tlsf_near_bytes(uint32_t level, uint32_t words) { return bytes_for(level, words, near_bytes); }
+
 /* 8 bytes and a bit a word: the first guess is at most some words too high. */
-static size_t words_in(size_t bytes, size_t most) {
+static size_t words_in(size_t bytes, size_t most, size_t taken(size_t words)) {
     size_t words;
-    if (bytes < heap_bytes(LEAST_WORDS)) return 0;
+    if (bytes < taken(LEAST_WORDS)) return 0;
     if (bytes > MOST_BYTES) bytes = MOST_BYTES;
-    words = (bytes - heap_bytes(0)) * 8 / 65 + 8;
-    while (heap_bytes(words) > bytes) words--;
+    words = (bytes - taken(0)) * 8 / 65 + 8;
+    while (taken(words) > bytes) words--;
     return words < most ? words : most;
 }
 
-uint32_t tlsf_open_in(struct tlsf_heap *heap, uint32_t level, uint32_t number, void *memory, size_t bytes) {
-    const size_t skip = skipped(memory, 16), words = bytes < skip ? 0 : words_in(bytes - skip, most_words(level));
+static uint32_t open_in(struct tlsf_heap *heap, uint32_t level, uint32_t number, void *memory, size_t bytes, size_t taken(size_t words)) {
+    const size_t skip = skipped(memory, 16), words = bytes < skip ? 0 : words_in(bytes - skip, most_words(level), taken);
     uint32_t answer;
     begin_in(memory, bytes, 16);
     answer = tlsf_open(heap, level, number, (uint32_t)words);
     lent = 0;
+    return answer;
+}
+
+uint32_t tlsf_open_in(struct tlsf_heap *heap, uint32_t level, uint32_t number, void *memory, size_t bytes) {
+    return open_in(heap, level, number, memory, bytes, heap_bytes);
+}
+
+/* A near heap's handle, once it is noted where its own fields will lie: where tlsf_near finds it. */
+static struct tlsf_heap *begin_near(struct tlsf_near_heap *near) {
+    unsigned char *const handle = (unsigned char *)near + skipped(near, LINE);
+    near_room = handle + HANDLE;
+    pieces_first = PIECES_FIRST;
+    return (struct tlsf_heap *)(void *)handle;
+}
+
+uint32_t tlsf_open_near(struct tlsf_near_heap *near, uint32_t level, uint32_t number, uint32_t words) {
+    const uint32_t answer = tlsf_open(begin_near(near), level, number, words);
+    near_room = 0;
+    return answer;
+}
+
+uint32_t tlsf_open_near_in(struct tlsf_near_heap *near, uint32_t level, uint32_t number, void *memory, size_t bytes) {
+    const uint32_t answer = open_in(begin_near(near), level, number, memory, bytes, near_bytes);
+    near_room = 0;
     return answer;
 }
 

@@ -28,12 +28,23 @@ static inline uint32_t tlsf_place_of(const struct tlsf_heap *heap, const void *p
     return at < UINT32_MAX ? (uint32_t)at : UINT32_MAX;
 }
 
-/* A block's header on its way to the cache, while the library looks at its own fields: both are cold in a call that comes rarely. */
-static inline void tlsf_fetch(const struct tlsf_heap *heap, uint32_t at) TLSF_NOEXCEPT {
+/* The handle lies at a multiple of 64, so three lines have it, the heap's number, its tick, where its words lie, and its bitmaps. Each
+ * is on its way to the cache before one is looked at. */
+static inline struct tlsf_heap *tlsf_near(struct tlsf_near_heap *near) TLSF_NOEXCEPT {
+    unsigned char *const at = near->room + (-(uintptr_t)near->room & 63);
 #ifdef __GNUC__
-    __builtin_prefetch((const void *)((uintptr_t)heap->base + 8 * (uintptr_t)at), 1); /* whatever it is, it is not followed */
+    __builtin_prefetch(at + 64, 1);
+    __builtin_prefetch(at + 128, 1);
+#endif
+    return (struct tlsf_heap *)(void *)at;
+}
+
+/* A block's header on its way to the cache, while the library looks at its own fields: both are cold in a call that comes rarely. */
+static inline void tlsf_fetch(uintptr_t header) TLSF_NOEXCEPT {
+#ifdef __GNUC__
+    __builtin_prefetch((const void *)header, 1); /* whatever it is, it is not followed */
 #else
-    (void)heap, (void)at;
+    (void)header;
 #endif
 }
 
@@ -107,9 +118,8 @@ static inline void *tlsf_calloc(struct tlsf_heap *heap, size_t count, size_t eac
 
 static inline uint32_t tlsf_free(struct tlsf_heap *heap, void *p) TLSF_NOEXCEPT {
     if (p == TLSF_NULL) return TLSF_OK;
-    const uint32_t at = tlsf_place_of(heap, p);
-    tlsf_fetch(heap, at);
-    return tlsf_release_place(heap, at);
+    tlsf_fetch((uintptr_t)p - 24); /* known before the handle is in the cache */
+    return tlsf_release_place(heap, tlsf_place_of(heap, p));
 }
 
 static inline size_t tlsf_usable_size(struct tlsf_heap *heap, const void *p) TLSF_NOEXCEPT {
@@ -198,7 +208,7 @@ TLSF_ANSWER static inline uint32_t tlsf_allocate_copied(struct tlsf_heap *heap, 
 }
 static inline uint32_t tlsf_release_copied(struct tlsf_heap *heap, const struct tlsf_name *name) TLSF_NOEXCEPT {
     const struct tlsf_name own = *name;
-    tlsf_fetch(heap, own.at);
+    tlsf_fetch((uintptr_t)heap->base + 8 * (uintptr_t)own.at);
     return tlsf_release(heap, &own);
 }
 TLSF_ANSWER static inline uint32_t tlsf_resize_copied(struct tlsf_heap *heap, const struct tlsf_name *name,

@@ -184,6 +184,16 @@ TLSF_ANSWER static inline uint32_t tlsf_marked_open_in(struct tlsf_heap *heap, u
     return tlsf_mark_region(heap, tlsf_open_in(heap, level, number, memory, bytes));
 }
 
+TLSF_ANSWER static inline uint32_t tlsf_marked_open_near(struct tlsf_near_heap *near, uint32_t level, uint32_t number,
+                                                         uint32_t words) TLSF_NOEXCEPT {
+    return tlsf_mark_region(tlsf_near(near), tlsf_open_near(near, level, number, words));
+}
+
+TLSF_ANSWER static inline uint32_t tlsf_marked_open_near_in(struct tlsf_near_heap *near, uint32_t level, uint32_t number,
+                                                            void *memory, size_t bytes) TLSF_NOEXCEPT {
+    return tlsf_mark_region(tlsf_near(near), tlsf_open_near_in(near, level, number, memory, bytes));
+}
+
 static inline uint32_t tlsf_marked_close(struct tlsf_heap *heap) TLSF_NOEXCEPT {
     struct tlsf_heap_report sums = {0, 0, 0, 0, 0, 0, 0, 0, 0, 0};
     uint32_t next = 0, damaged = 0;
@@ -340,6 +350,8 @@ TLSF_ANSWER static inline uint32_t tlsf_marked_reallocate(struct tlsf_heap *heap
 /* What tlsf_trace.h may have named before. */
 #undef tlsf_open
 #undef tlsf_open_in
+#undef tlsf_open_near
+#undef tlsf_open_near_in
 #undef tlsf_close
 #undef tlsf_allocate
 #undef tlsf_allocate_place
@@ -353,6 +365,8 @@ TLSF_ANSWER static inline uint32_t tlsf_marked_reallocate(struct tlsf_heap *heap
 #undef tlsf_queue_drain
 #define tlsf_open tlsf_marked_open
 #define tlsf_open_in tlsf_marked_open_in
+#define tlsf_open_near tlsf_marked_open_near
+#define tlsf_open_near_in tlsf_marked_open_near_in
 #define tlsf_close tlsf_marked_close
 #define tlsf_allocate tlsf_marked_allocate
 #define tlsf_allocate_place tlsf_marked_allocate_place

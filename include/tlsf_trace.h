@@ -206,6 +206,20 @@ TLSF_ANSWER static inline uint32_t tlsf_traced_open_in(struct tlsf_heap *heap, u
     return answer;
 }
 
+TLSF_ANSWER static inline uint32_t tlsf_traced_open_near(struct tlsf_near_heap *near, uint32_t level, uint32_t number,
+                                                         uint32_t words) TLSF_NOEXCEPT {
+    const uint32_t answer = tlsf_open_near(near, level, number, words);
+    if (answer == TLSF_OK) tlsf_trace_begin(tlsf_near(near), level, number);
+    return answer;
+}
+
+TLSF_ANSWER static inline uint32_t tlsf_traced_open_near_in(struct tlsf_near_heap *near, uint32_t level, uint32_t number,
+                                                            void *memory, size_t bytes) TLSF_NOEXCEPT {
+    const uint32_t answer = tlsf_open_near_in(near, level, number, memory, bytes);
+    if (answer == TLSF_OK) tlsf_trace_begin(tlsf_near(near), level, number);
+    return answer;
+}
+
 static inline uint32_t tlsf_traced_close(struct tlsf_heap *heap) TLSF_NOEXCEPT {
     const bool ends = tlsf_trace_is_of(heap);
     const uint32_t answer = tlsf_close(heap);
@@ -292,6 +306,8 @@ static inline uint32_t tlsf_traced_queue_drain(struct tlsf_heap *heap, struct tl
 
 #define tlsf_open tlsf_traced_open
 #define tlsf_open_in tlsf_traced_open_in
+#define tlsf_open_near tlsf_traced_open_near
+#define tlsf_open_near_in tlsf_traced_open_near_in
 #define tlsf_close tlsf_traced_close
 #define tlsf_allocate tlsf_traced_allocate
 #define tlsf_allocate_place tlsf_traced_allocate_place

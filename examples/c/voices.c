@@ -25,7 +25,7 @@ struct voice {
 
 struct engine {
     int by_heap; /* or by malloc, and then a name's serial holds the pointer */
-    struct tlsf_heap heap;
+    struct tlsf_near_heap heap; /* other work has the caches between two callbacks */
     struct tlsf_post_end to_second, from_second;
     struct tlsf_take_end at_second, at_callback;
     struct voice voices[AT_ONCE];
@@ -49,7 +49,7 @@ static void sleep_until(uint64_t moment) {
 /* --- The callback: the one thread that calls the heap --------------------------------------------------------------- */
 
 static uint32_t allocate(struct engine *it, uint32_t len, struct tlsf_name *name) {
-    if (it->by_heap) return tlsf_allocate(&it->heap, len, name);
+    if (it->by_heap) return tlsf_allocate(tlsf_near(&it->heap), len, name);
     char *p = malloc(len); /* and zeros, as tlsf_allocate gives them */
     if (p) memset(p, 0, len);
     name->serial = (uintptr_t)p;
@@ -57,7 +57,7 @@ static uint32_t allocate(struct engine *it, uint32_t len, struct tlsf_name *name
 }
 
 static void release(struct engine *it, const struct tlsf_name *name) {
-    if (it->by_heap) tlsf_release(&it->heap, name);
+    if (it->by_heap) tlsf_release(tlsf_near(&it->heap), name);
     else free((void *)(uintptr_t)name->serial);
 }
 
@@ -71,7 +71,7 @@ static void start_voice(struct engine *it, uint32_t started) {
         it->refused++;
         return;
     }
-    v->samples = it->by_heap ? tlsf_payload(&it->heap, &v->name, NULL) : (void *)(uintptr_t)v->name.serial;
+    v->samples = it->by_heap ? tlsf_payload(tlsf_near(&it->heap), &v->name, NULL) : (void *)(uintptr_t)v->name.serial;
     v->count = len / sizeof *v->samples;
     v->samples[0] = 1.0f;
     it->live++;
@@ -150,7 +150,7 @@ static int run(int by_heap) {
     uint32_t words = 0;
     memset(&engine, 0, sizeof engine); /* all handles are closed */
     engine.by_heap = by_heap;
-    if (tlsf_words(4, AT_ONCE, LONGEST, &words) || tlsf_open(&engine.heap, 4, 1, words) ||
+    if (tlsf_words(4, AT_ONCE, LONGEST, &words) || tlsf_open_near(&engine.heap, 4, 1, words) ||
         tlsf_lane_open(&engine.to_second, &engine.at_second, AT_ONCE) ||
         tlsf_lane_open(&engine.from_second, &engine.at_callback, AT_ONCE))
         return 1;
@@ -166,7 +166,7 @@ static int run(int by_heap) {
     tlsf_take_close(&engine.at_second);
     tlsf_post_close(&engine.from_second);
     tlsf_take_close(&engine.at_callback);
-    tlsf_close(&engine.heap);
+    tlsf_close(tlsf_near(&engine.heap));
     return engine.refused != 0 || atomic_load(&engine.lost) != 0;
 }
 

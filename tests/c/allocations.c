@@ -4,7 +4,7 @@
 #include "chance.h"
 #include "tlsf.h"
 
-enum { BLOCKS = 64, TURNS = 40000, KINDS = 53 };
+enum { BLOCKS = 64, TURNS = 40000, KINDS = 58 };
 
 static size_t calls; /* of malloc and free, and of what the proved code asks for */
 static int is_counted;
@@ -43,6 +43,7 @@ void __wrap_tlsf_memory_dealloc(void *at) {
 }
 
 static struct tlsf_heap heap, closed;
+static struct tlsf_near_heap near, closed_near;
 static struct tlsf_post_end post, closed_post;
 static struct tlsf_take_end take, closed_take;
 static struct tlsf_queue queue, closed_queue;
@@ -165,7 +166,19 @@ static void do_calls_of_pools(uint32_t kind, struct tlsf_name *name) {
     }
 }
 
+/* Calls that only near heaps have, and two on one. */
+static void do_calls_of_near_heaps(uint32_t kind, uint32_t level, void **p) {
+    switch (kind) {
+    case 53: sum += tlsf_open_near(&near, level, 1, 64) + tlsf_open_near(&closed_near, level, 1, 3); break;
+    case 54: sum += tlsf_open_near_in(&near, level, 1, bytes, 256) + tlsf_open_near_in(&closed_near, 3, 1, bytes, 256); break;
+    case 55: sum += (*p = tlsf_malloc(tlsf_near(&near), below(400))) != NULL; break;
+    case 56: sum += tlsf_free(tlsf_near(&near), *p); break;
+    default: sum += tlsf_near_bytes(level, below(5000)) + tlsf_close(tlsf_near(&closed_near)); break;
+    }
+}
+
 static void do_call(uint32_t kind, uint32_t level) {
+    static void *of_near;
     static uint32_t place;
     const uint32_t which = below(BLOCKS);
     if (kind < 11) do_calls_by_name(kind, &names[which]);
@@ -173,7 +186,8 @@ static void do_call(uint32_t kind, uint32_t level) {
     else if (kind < 27) do_calls_by_place(kind, &place);
     else if (kind < 36) do_other_calls(kind, level);
     else if (kind < 47) do_calls_of_queues_and_offsets(kind, &names[which], &spans[which]);
-    else do_calls_of_pools(kind, &names[which]);
+    else if (kind < 53) do_calls_of_pools(kind, &names[which]);
+    else do_calls_of_near_heaps(kind, level, &of_near);
 }
 
 static void all_calls(uint32_t level, int takes) {
@@ -181,6 +195,7 @@ static void all_calls(uint32_t level, int takes) {
     memset(pointers, 0, sizeof pointers);
     is_counted = 1;
     wants("open", tlsf_open(&heap, level, 7, 5000) + tlsf_lane_open(&post, &take, 8), TLSF_OK);
+    wants("open a near heap", tlsf_open_near(&near, level, 8, 5000), TLSF_OK);
     wants("open a queue", tlsf_queue_open(&queue, 3, 8), TLSF_OK);
     wants("open an arena of offsets", tlsf_offsets_open(&offsets, level, 7, 64, 5000), TLSF_OK);
     wants("open pools", tlsf_pools_open(&pools, level, 20, rows, 2), TLSF_OK);
@@ -196,6 +211,7 @@ static void all_calls(uint32_t level, int takes) {
         wants("calls of malloc and free in one of kind", calls ? kind : KINDS, KINDS);
     }
     wants("close", tlsf_close(&heap) + tlsf_post_close(&post) + tlsf_take_close(&take), TLSF_OK);
+    wants("close a near heap", tlsf_close(tlsf_near(&near)), TLSF_OK);
     wants("close a queue", tlsf_queue_close(&queue) + tlsf_offsets_close(&offsets) + tlsf_pools_close(&pools), TLSF_OK);
     for (uint32_t i = 0; i < 4; i++) sum += tlsf_poster_close(&poster[i]);
     wants("closing gives memory back", calls > 0, 1);

@@ -4,6 +4,7 @@
 #include <tlsf.h>
 
 static struct tlsf_heap heap, shut, gone;
+static struct tlsf_near_heap near;
 static _Alignas(16) unsigned char memory[8192];
 static struct tlsf_name name, other;
 static unsigned char *blocks[6];
@@ -18,6 +19,7 @@ int main(void) {
     if (tlsf_name_at(&heap, blocks[2], &name) || tlsf_allocate(&heap, 13, &other)) return 1;
     if (tlsf_free(&heap, blocks[1]) || tlsf_free(&heap, blocks[3])) return 1;
     if (tlsf_open_in(&gone, 5, 8, memory, sizeof memory) || tlsf_close(&gone)) return 1;
+    if (tlsf_open_near(&near, 4, 9, 16) || !tlsf_malloc(tlsf_near(&near), 8)) return 1;
     look();
     blocks[2][28] ^= 1; /* past the end of the payload, in the header behind */
     look();

@@ -4,6 +4,8 @@ up
 print heap
 print shut
 print name
+print near
+tlsf blocks near
 tlsf blocks heap
 tlsf lists &heap
 tlsf whose heap blocks[0]+5

@@ -1,6 +1,7 @@
 /* Heaps, lanes, queues and arenas of offsets in memory of the program's, at each alignment: what they take, that nothing else is
- * written, that no malloc and no free is called, and that it is the program's again. No piece of a lane or a queue shares its lines
- * with another piece. With NO_MALLOC there is no malloc, and tlsf_open is refused.
+ * written, that no malloc and no free is called, and that it is the program's again. The own fields of a near heap lie in it, and no
+ * other piece does. No piece of a lane or a queue shares its lines with another piece. With NO_MALLOC there is no malloc, and tlsf_open
+ * is refused.
  * Link with -Wl,--wrap=malloc,--wrap=free,--wrap=tlsf_memory_alloc. */
 #include "tlsf.h"
 
@@ -11,6 +12,15 @@
 enum { ROOM = 3 << 17, GUARD = 128, FILLED = 0xa5, LINES = 128, PIECES = 1100 };
 
 static _Alignas(LINES) unsigned char room[2][ROOM];
+
+/* The heaps of each kind that are opened in `room`, and what lies beside a near heap. */
+static struct tlsf_heap plain;
+static struct {
+    unsigned char front[GUARD];
+    struct tlsf_near_heap heap;
+    unsigned char behind[GUARD];
+} near;
+
 static int calls; /* of malloc and free */
 static int is_counted;
 
@@ -33,14 +43,21 @@ void __wrap_free(void *p) {
     __real_free(p);
 }
 
-/* What the proved code asks for: where the last piece ends, and where all would that lie as near together as they may; and the first
- * and the last lines of the pieces since `pieces` was 0, each of two cache lines. */
+static void wants(const char *what, size_t got, size_t wanted) {
+    if (got == wanted) return;
+    printf("%s: %zu, and not %zu\n", what, got, wanted);
+    exit(1);
+}
+
+/* What the proved code asks for, but for what lies in the near heap: where the last piece ends, and where all would that lie as close
+ * together as they may; and the first and the last lines of the pieces since `pieces` was 0, each of two cache lines. */
 struct piece {
     uint64_t is_there;
     void *at;
 };
 static _Thread_local const unsigned char *last_end;
-static _Thread_local size_t near_end;
+static _Thread_local size_t close_end;
+static _Thread_local int pieces_in_near;
 static _Thread_local struct {
     uintptr_t first, last;
 } lines[PIECES];
@@ -49,19 +66,19 @@ struct piece __real_tlsf_memory_alloc(size_t bytes, size_t align);
 struct piece __wrap_tlsf_memory_alloc(size_t bytes, size_t align);
 struct piece __wrap_tlsf_memory_alloc(size_t bytes, size_t align) {
     const struct piece piece = __real_tlsf_memory_alloc(bytes, align);
-    last_end = (const unsigned char *)piece.at + bytes;
-    near_end = (near_end + 15) / 16 * 16 + 8 + bytes;
+    const unsigned char *const at = piece.at;
+    if (piece.is_there && at >= near.front && at < near.behind + GUARD) {
+        wants("behind the handle of the near heap", at - 8 >= (unsigned char *)(tlsf_near(&near.heap) + 1) && at + bytes <= near.behind, 1);
+        pieces_in_near++;
+        return piece;
+    }
+    last_end = at + bytes;
+    close_end = (close_end + 15) / 16 * 16 + 8 + bytes;
     if (pieces < PIECES && piece.is_there) {
         lines[pieces].first = ((uintptr_t)piece.at - 8) / LINES;
         lines[pieces++].last = ((uintptr_t)last_end - 1) / LINES;
     }
     return piece;
-}
-
-static void wants(const char *what, size_t got, size_t wanted) {
-    if (got == wanted) return;
-    printf("%s: %zu, and not %zu\n", what, got, wanted);
-    exit(1);
 }
 
 static uint32_t words_of(struct tlsf_heap *heap) {
@@ -94,55 +111,77 @@ static void use(struct tlsf_heap *heap, const unsigned char *from, size_t bytes)
 
 /* --- Heaps ---------------------------------------------------------------------------------------------------------- */
 
+/* A kind of heaps: how one is opened, what it takes, its handle, and how many pieces lie in the near heap. */
+struct kind {
+    uint32_t (*open)(uint32_t level, uint32_t words);
+    uint32_t (*open_in)(uint32_t level, void *memory, size_t bytes);
+    size_t (*bytes)(uint32_t level, uint32_t words);
+    struct tlsf_heap *heap;
+    int pieces_in_near;
+};
+static uint32_t open_plain(uint32_t level, uint32_t words) { return tlsf_open(&plain, level, 1, words); }
+static uint32_t open_plain_in(uint32_t level, void *memory, size_t bytes) { return tlsf_open_in(&plain, level, 1, memory, bytes); }
+static uint32_t open_near(uint32_t level, uint32_t words) { return tlsf_open_near(&near.heap, level, 1, words); }
+static uint32_t open_near_in(uint32_t level, void *memory, size_t bytes) { return tlsf_open_near_in(&near.heap, level, 1, memory, bytes); }
+static const struct kind plain_kind = {open_plain, open_plain_in, tlsf_bytes, &plain, 0};
+static struct kind near_kind = {open_near, open_near_in, tlsf_near_bytes, NULL, 1};
+
 /* A heap in so many bytes at an alignment; how many words it has, 0 where it is refused. */
-static uint32_t heap_in(uint32_t level, size_t align, size_t bytes) {
-    struct tlsf_heap heap = TLSF_CLOSED;
+static uint32_t heap_in(const struct kind *kind, uint32_t level, size_t align, size_t bytes) {
     unsigned char *const from = room[0] + GUARD + align;
     memset(room[0], FILLED, ROOM);
-    const uint32_t answer = tlsf_open_in(&heap, level, 1, from, bytes);
+    memset(&near, FILLED, sizeof near);
+    memset(tlsf_near(&near.heap), 0, sizeof(struct tlsf_heap));
+    pieces_in_near = 0;
+    const uint32_t answer = kind->open_in(level, from, bytes);
     if (answer != TLSF_OK) {
         wants("refused", answer, TLSF_BAD_SIZE);
         check_outside(room[0], from, 0);
         return 0;
     }
-    const uint32_t words = words_of(&heap);
-    if (align == 1) wants("the last byte", (size_t)(last_end - from), tlsf_bytes(level, words));
-    use(&heap, from, bytes);
-    wants("close", tlsf_close(&heap), TLSF_OK);
-    check_outside(room[0], from, tlsf_bytes(level, words) < bytes ? tlsf_bytes(level, words) : bytes);
+    const uint32_t words = words_of(kind->heap);
+    wants("pieces in the near heap", (size_t)pieces_in_near, (size_t)kind->pieces_in_near);
+    if (align == 1) wants("the last byte", (size_t)(last_end - from), kind->bytes(level, words));
+    wants("in use", kind->open_in(3, from, 0), TLSF_IN_USE);
+    use(kind->heap, from, bytes);
+    wants("close", tlsf_close(kind->heap), TLSF_OK);
+    check_outside(room[0], from, kind->bytes(level, words) < bytes ? kind->bytes(level, words) : bytes);
+    for (size_t k = 0; k < GUARD; k++) wants("a byte beside the near heap", near.front[k] + near.behind[k], 2 * FILLED);
     return words;
 }
 
 /* No fewer bytes would do: the pieces that the same heap takes of malloc, one behind the other. */
-static void check_least(uint32_t level, uint32_t words) {
-    struct tlsf_heap heap = TLSF_CLOSED;
-    near_end = 0;
-    if (tlsf_open(&heap, level, 1, words) == TLSF_NO_MEMORY) return;
-    wants("the least bytes", tlsf_bytes(level, words), 15 + near_end);
-    wants("close", tlsf_close(&heap), TLSF_OK);
+static void check_least(const struct kind *kind, uint32_t level, uint32_t words) {
+    close_end = 0;
+    if (kind->open(level, words) == TLSF_NO_MEMORY) return;
+    wants("the least bytes", kind->bytes(level, words), 15 + close_end);
+    wants("the words", words_of(kind->heap), words);
+    wants("close", tlsf_close(kind->heap), TLSF_OK);
 }
 
-static void heaps(uint32_t level) {
+static void heaps(const struct kind *kind, uint32_t level) {
     static const uint32_t sizes[] = {4, 5, 6, 7, 8, 31, 32, 63, 64, 65, 66, 127, 128, 129, 130, 1000, 1001, 4095, 4096, 4097};
+    const uint32_t most = level == 4 ? 1u << 20 : 1u << 24;
     for (size_t k = 0; k < sizeof sizes / sizeof *sizes; k++) {
-        const size_t bytes = tlsf_bytes(level, sizes[k]);
+        const size_t bytes = kind->bytes(level, sizes[k]);
         uint32_t least = UINT32_MAX;
-        check_least(level, sizes[k]);
+        check_least(kind, level, sizes[k]);
         for (size_t align = 0; align < 16; align++) {
-            const uint32_t words = heap_in(level, align, bytes), fewer = heap_in(level, align, bytes - 1);
+            const uint32_t words = heap_in(kind, level, align, bytes), fewer = heap_in(kind, level, align, bytes - 1);
             wants("as many words as were asked for", words >= sizes[k], 1);
             least = fewer < least ? fewer : least;
         }
         wants("fewer words in one byte fewer", least < sizes[k], 1);
     }
-    for (size_t bytes = 0; bytes < 200; bytes++) wants("too few bytes", heap_in(level, bytes % 16, bytes), 0);
-    for (size_t bytes = tlsf_bytes(level, 500), last = 0; bytes < tlsf_bytes(level, 600); bytes++) {
-        const uint32_t words = heap_in(level, 3, bytes);
+    for (size_t bytes = 0; bytes < kind->bytes(level, 4) - 16; bytes += 1 + bytes / 50)
+        wants("too few bytes", heap_in(kind, level, bytes % 16, bytes), 0);
+    for (size_t bytes = kind->bytes(level, 500), last = 0; bytes < kind->bytes(level, 600); bytes++) {
+        const uint32_t words = heap_in(kind, level, 3, bytes);
         wants("more words in more bytes", words >= last && words <= last + (last ? 2 : 600), 1);
         last = words;
     }
-    wants("no such sizes", tlsf_bytes(level, 3) + tlsf_bytes(level, (level == 4 ? 1u << 20 : 1u << 24) + 1), 0);
-    wants("the largest", tlsf_bytes(level, level == 4 ? 1u << 20 : 1u << 24) > 8u << 20, 1);
+    wants("no such sizes", kind->bytes(level, 3) + kind->bytes(level, most + 1), 0);
+    wants("the largest", kind->bytes(level, most) > 8u << 20, 1);
 }
 
 /* More than a heap may have: as many words as it may, and the rest stays as it is. */
@@ -165,10 +204,15 @@ static void too_much(void) {
 static void refusals(void) {
     struct tlsf_heap heap = TLSF_CLOSED, none = TLSF_CLOSED;
     struct tlsf_name name = {0, 0, 0};
-    wants("levels", tlsf_bytes(3, 64) + tlsf_bytes(6, 64), 0);
+    wants("levels", tlsf_bytes(3, 64) + tlsf_bytes(6, 64) + tlsf_near_bytes(3, 64) + tlsf_near_bytes(6, 64), 0);
+    wants("a near heap of level 3", tlsf_open_near_in(&near.heap, 3, 1, room[0], 8), TLSF_BAD_LEVEL);
+    wants("a near heap of level 6", tlsf_open_near(&near.heap, 6, 1, 64), TLSF_BAD_LEVEL);
+    wants("a near heap of 3 words", tlsf_open_near(&near.heap, 5, 1, 3), TLSF_BAD_SIZE);
     wants("level 3", tlsf_open_in(&heap, 3, 1, room[0], 8), TLSF_BAD_LEVEL);
     wants("no room", tlsf_open_in(&heap, 4, 1, room[0], 8), TLSF_BAD_SIZE);
+    pieces_in_near = 0;
     wants("a heap", tlsf_open_in(&heap, 4, 1, room[0], ROOM), TLSF_OK);
+    wants("pieces in a near heap that was refused", (size_t)pieces_in_near, 0);
     wants("in use", tlsf_open_in(&heap, 3, 1, room[1], 8), TLSF_IN_USE);
     wants("still there", tlsf_allocate(&heap, 8, &name), TLSF_OK);
     wants("close", tlsf_close(&heap), TLSF_OK);
@@ -328,10 +372,14 @@ static void *open_often(void *given) {
     unsigned char *const own = given;
     for (int turn = 0; turn < 3000; turn++) {
         struct tlsf_heap heap = TLSF_CLOSED, other = TLSF_CLOSED;
+        struct tlsf_near_heap third = TLSF_NEAR_CLOSED;
         const size_t bytes = 4000 + (size_t)turn % 700;
+        wants("near, in", tlsf_open_near_in(&third, 4 + (uint32_t)turn % 2, 3, own + bytes, bytes), TLSF_OK);
         wants("open in", tlsf_open_in(&heap, 4 + (uint32_t)turn % 2, 1, own, bytes), TLSF_OK);
         wants("by malloc meanwhile", tlsf_open(&other, 4, 2, 64), NEW_ANSWER);
+        if (turn % 50 == 0) use(tlsf_near(&third), own + bytes, bytes);
         if (turn % 50 == 0) use(&heap, own, bytes);
+        wants("close", tlsf_close(tlsf_near(&third)), TLSF_OK);
         wants("close", tlsf_close(&heap), TLSF_OK);
         if (other.is_open) wants("close", tlsf_close(&other), TLSF_OK);
     }
@@ -346,11 +394,15 @@ static void threads(void) {
 }
 
 int main(void) {
-    heaps(4);
-    heaps(5);
+    near_kind.heap = tlsf_near(&near.heap);
+    heaps(&plain_kind, 4);
+    heaps(&plain_kind, 5);
+    heaps(&near_kind, 4);
+    heaps(&near_kind, 5);
     too_much();
     is_counted = 1;
-    (void)heap_in(4, 0, ROOM / 2);
+    (void)heap_in(&plain_kind, 4, 0, ROOM / 2);
+    (void)heap_in(&near_kind, 5, 0, ROOM / 2);
     lanes();
     queues();
     arenas(4);

@@ -125,6 +125,12 @@ uint32_t tlsf_open_in(struct tlsf_heap *heap, uint32_t level, uint32_t number, v
     return open_over(heap, level, number, (uint32_t)(words < most ? words : most), region);
 }
 
+size_t tlsf_near_bytes(uint32_t level, uint32_t words) { return tlsf_bytes(level, words); }
+
+uint32_t tlsf_open_near_in(struct tlsf_near_heap *near, uint32_t level, uint32_t number, void *memory, size_t bytes) {
+    return tlsf_open_in(tlsf_near(near), level, number, memory, bytes);
+}
+
 uint32_t tlsf_close(struct tlsf_heap *heap) {
     if (!heap->is_open) return TLSF_IS_CLOSED;
     struct plain *p = heap->held;

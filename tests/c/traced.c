@@ -172,14 +172,14 @@ static void make_calls(void) {
 
 /* Pointers that lead nowhere, another heap, and more calls than a trace has lines. */
 static void leave_out(const char *file) {
-    struct tlsf_heap other = TLSF_CLOSED;
+    struct tlsf_near_heap other = TLSF_NEAR_CLOSED;
     unsigned lines = 0;
     int c;
-    if (tlsf_open(&other, 4, 2, 1000)) exit(1);
+    if (tlsf_open_near(&other, 4, 2, 1000)) exit(1);
     tlsf_free(&heap, &other);
     for (int i = 0; i < 20000; i++) tlsf_free(&heap, tlsf_malloc(&heap, 8));
-    tlsf_free(&other, tlsf_malloc(&other, 8));
-    tlsf_close(&other);
+    tlsf_free(tlsf_near(&other), tlsf_malloc(tlsf_near(&other), 8));
+    tlsf_close(tlsf_near(&other));
     if (freopen(file, "r", trace) != trace) exit(1);
     while ((c = getc(trace)) != EOF) lines += c == '\n';
     printf("%u lines\n", lines);

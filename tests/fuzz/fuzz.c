@@ -22,8 +22,10 @@ struct block {
     unsigned char seed;
 };
 
+/* The first heap has a handle that leads to its fields, the second is a near heap. */
 struct area {
-    struct tlsf_heap heap;
+    struct tlsf_heap *heap, plain;
+    struct tlsf_near_heap near;
     unsigned char *memory, *buffer;
     size_t bytes;
     uint32_t words, most_words, refused, longest_refused;
@@ -85,9 +87,9 @@ static void see_place(struct area *a, const struct block *it, size_t align) {
 static void enter(struct area *a, struct block *it, void *p, size_t n, size_t align) {
     it->p = p;
     it->bytes = n;
-    it->usable = tlsf_usable_size(&a->heap, p);
+    it->usable = tlsf_usable_size(a->heap, p);
     it->seed = seeds++;
-    MUST(it->usable >= n && tlsf_name_at(&a->heap, p, &it->name) == TLSF_OK && a->heap.base + it->name.at + 3 == p);
+    MUST(it->usable >= n && tlsf_name_at(a->heap, p, &it->name) == TLSF_OK && a->heap->base + it->name.at + 3 == p);
     see_place(a, it, align);
     fill(it, 0, n);
 }
@@ -101,7 +103,7 @@ static void leave(struct area *a, struct block *it) {
 /* The longest allocate that isn't refused now. */
 static size_t grant(struct area *a) {
     struct tlsf_heap_report report;
-    MUST(tlsf_report(&a->heap, &report) == TLSF_OK);
+    MUST(tlsf_report(a->heap, &report) == TLSF_OK);
     return report.free_blocks != 0 ? report.grant : 0;
 }
 
@@ -136,7 +138,7 @@ static void do_malloc(struct area *a) {
     struct block *it = an_empty(a);
     const size_t n = length(), had = grant(a);
     if (it == NULL) return;
-    void *p = tlsf_malloc(&a->heap, n);
+    void *p = tlsf_malloc(a->heap, n);
     see_refusal(a, p, n, had);
     if (p != NULL) enter(a, it, p, n, 16);
     else count_refused(a, n);
@@ -146,7 +148,7 @@ static void do_calloc(struct area *a) {
     struct block *it = an_empty(a);
     const size_t count = length(), each = byte() < 240 ? byte() % 9 : length(), had = grant(a);
     if (it == NULL) return;
-    unsigned char *p = tlsf_calloc(&a->heap, count, each);
+    unsigned char *p = tlsf_calloc(a->heap, count, each);
     if (each != 0 && count > TLSF_LONGEST / each) {
         MUST(p == NULL);
         return;
@@ -161,7 +163,7 @@ static void do_aligned(struct area *a) {
     struct block *it = an_empty(a);
     const size_t align = byte() % 8 != 0 ? (size_t)1 << byte() % 14 : number(), n = length(), had = grant(a);
     if (it == NULL) return;
-    void *p = tlsf_aligned_alloc(&a->heap, align, n);
+    void *p = tlsf_aligned_alloc(a->heap, align, n);
     if (align == 0 || align > 4096 || (align & (align - 1)) != 0) {
         MUST(p == NULL);
         return;
@@ -180,14 +182,14 @@ static void do_realloc(struct area *a) {
     if (it == NULL) return;
     const size_t stay = it->bytes < n ? it->bytes : n;
     struct block had = *it;
-    unsigned char *p = tlsf_realloc(&a->heap, it->p, n);
+    unsigned char *p = tlsf_realloc(a->heap, it->p, n);
     if (n == 0) {
         MUST(p == NULL);
         leave(a, it);
         return;
     }
     if (p == NULL) {
-        MUST(tlsf_usable_size(&a->heap, it->p) == had.usable && (n > TLSF_LONGEST || tlsf_rounded((uint32_t)n) > had.usable));
+        MUST(tlsf_usable_size(a->heap, it->p) == had.usable && (n > TLSF_LONGEST || tlsf_rounded((uint32_t)n) > had.usable));
         see_bytes(it, it->bytes);
         count_refused(a, n);
         return;
@@ -202,9 +204,9 @@ static void do_free(struct area *a) {
     struct block *it = a_live(a);
     if (it == NULL) return;
     see_bytes(it, it->bytes);
-    if (byte() % 4 == 0) MUST(tlsf_release(&a->heap, &it->name) == TLSF_OK);
-    else MUST(tlsf_free(&a->heap, it->p) == TLSF_OK);
-    MUST(tlsf_free(&a->heap, it->p) == TLSF_STALE && tlsf_release(&a->heap, &it->name) == TLSF_STALE);
+    if (byte() % 4 == 0) MUST(tlsf_release(a->heap, &it->name) == TLSF_OK);
+    else MUST(tlsf_free(a->heap, it->p) == TLSF_OK);
+    MUST(tlsf_free(a->heap, it->p) == TLSF_STALE && tlsf_release(a->heap, &it->name) == TLSF_STALE);
     leave(a, it);
 }
 
@@ -217,7 +219,7 @@ static void *wild(struct area *a) {
     if (kind == 1) return a->gone[n % GONE];
     if (kind == 2) return a->memory + n % (a->bytes + 64) - 32 * (n % 3);
     if (kind == 3) return areas[a == areas].blocks[n % BLOCKS].p;
-    if (kind == 4) return (unsigned char *)a->heap.base + 8 * (n % a->words) + 24;
+    if (kind == 4) return (unsigned char *)a->heap->base + 8 * (n % a->words) + 24;
     return (void *)(uintptr_t)((uint64_t)number() << 48 | (uint64_t)number() << 32 | (uint64_t)number() << 16 | n);
 }
 
@@ -225,11 +227,11 @@ static void do_wild(struct area *a) {
     struct tlsf_name name = {7, 7, 7};
     void *p = wild(a);
     const struct block *it = block_of(a, p);
-    if (p == NULL) MUST(tlsf_free(&a->heap, p) == TLSF_OK && tlsf_usable_size(&a->heap, p) == 0);
-    else if (it != NULL) MUST(tlsf_usable_size(&a->heap, p) == it->usable);
+    if (p == NULL) MUST(tlsf_free(a->heap, p) == TLSF_OK && tlsf_usable_size(a->heap, p) == 0);
+    else if (it != NULL) MUST(tlsf_usable_size(a->heap, p) == it->usable);
     if (p == NULL || it != NULL) return;
-    MUST(tlsf_usable_size(&a->heap, p) == 0 && tlsf_name_at(&a->heap, p, &name) == TLSF_STALE && name.serial == 7);
-    MUST(tlsf_realloc(&a->heap, p, 1 + number()) == NULL && tlsf_free(&a->heap, p) == TLSF_STALE);
+    MUST(tlsf_usable_size(a->heap, p) == 0 && tlsf_name_at(a->heap, p, &name) == TLSF_STALE && name.serial == 7);
+    MUST(tlsf_realloc(a->heap, p, 1 + number()) == NULL && tlsf_free(a->heap, p) == TLSF_STALE);
 }
 
 /* Names that outlived their blocks, forged ones and those of the other heap. */
@@ -244,9 +246,9 @@ static void do_stale(struct area *a) {
     for (uint32_t k = 0; k < BLOCKS; k++)
         if (a->blocks[k].p != NULL && memcmp(&a->blocks[k].name, &name, sizeof name) == 0) return;
     unsigned char one = 0;
-    MUST(tlsf_release(&a->heap, &name) == want && tlsf_resize(&a->heap, &name, number()) == want);
-    MUST(tlsf_read(&a->heap, &name, 0, &one, 1) == want && tlsf_write(&a->heap, &name, 0, &one, 1) == want);
-    MUST(tlsf_payload(&a->heap, &name, NULL) == NULL);
+    MUST(tlsf_release(a->heap, &name) == want && tlsf_resize(a->heap, &name, number()) == want);
+    MUST(tlsf_read(a->heap, &name, 0, &one, 1) == want && tlsf_write(a->heap, &name, 0, &one, 1) == want);
+    MUST(tlsf_payload(a->heap, &name, NULL) == NULL);
 }
 
 /* --- Blocks by name ------------------------------------------------------------------------------------------------------ */
@@ -258,13 +260,13 @@ static void do_allocate(struct area *a) {
     if (it == NULL) return;
     const size_t had = grant(a);
     a->is_mixed = true;
-    if (tlsf_allocate(&a->heap, n, &name) != TLSF_OK) {
+    if (tlsf_allocate(a->heap, n, &name) != TLSF_OK) {
         MUST((had < n || had == 0) && name.heap == 7 && name.at == 7 && name.serial == 7);
         a->refused++;
         if (n > a->longest_refused) a->longest_refused = n;
         return;
     }
-    unsigned char *p = tlsf_payload(&a->heap, &name, NULL);
+    unsigned char *p = tlsf_payload(a->heap, &name, NULL);
     MUST(p != NULL && had >= n);
     for (uint32_t k = 0; k < n; k++) MUST(p[k] == 0);
     enter(a, it, p, n, 8);
@@ -279,7 +281,7 @@ static void do_allocate_at(struct area *a) {
     void *p = a;
     if (it == NULL) return;
     a->is_uncounted = true;
-    if (tlsf_allocate_at(&a->heap, n, align, flags, &name, &p) != TLSF_OK) {
+    if (tlsf_allocate_at(a->heap, n, align, flags, &name, &p) != TLSF_OK) {
         MUST(p == a && name.serial == 7);
         return;
     }
@@ -295,14 +297,14 @@ static void do_copy(struct area *a) {
     if (it == NULL || it->usable + 2 > sizeof bytes) return;
     it->seed = seeds++;
     for (size_t k = 0; k < it->usable; k++) bytes[k] = pattern(it->seed, k);
-    MUST(tlsf_write(&a->heap, &it->name, 0, bytes, it->usable) == TLSF_OK);
+    MUST(tlsf_write(a->heap, &it->name, 0, bytes, it->usable) == TLSF_OK);
     see_bytes(it, it->usable);
     const uint32_t at = number() % (uint32_t)(it->usable + 2);
     const size_t left = at <= it->usable ? it->usable - at : 0, n = byte() % 2 == 0 ? left : left + 1 + byte();
     const uint32_t want = at + n > it->usable ? TLSF_RANGE : TLSF_OK;
-    MUST(n + at > sizeof bytes || tlsf_write(&a->heap, &it->name, at, bytes + at, n) == want);
+    MUST(n + at > sizeof bytes || tlsf_write(a->heap, &it->name, at, bytes + at, n) == want);
     memset(bytes, 0x11, sizeof bytes);
-    MUST(n > sizeof bytes || tlsf_read(&a->heap, &it->name, at, bytes, n) == want);
+    MUST(n > sizeof bytes || tlsf_read(a->heap, &it->name, at, bytes, n) == want);
     for (size_t k = 0; k < n && k < sizeof bytes; k++) MUST(bytes[k] == (want == TLSF_OK ? pattern(it->seed, at + k) : 0x11));
 }
 
@@ -314,16 +316,16 @@ static void do_resize(struct area *a) {
     struct tlsf_name name = it->name;
     a->is_mixed = true;
     const bool moves = byte() % 2 == 0;
-    const uint32_t answer = moves ? tlsf_reallocate(&a->heap, &name, n) : tlsf_resize(&a->heap, &name, n);
+    const uint32_t answer = moves ? tlsf_reallocate(a->heap, &name, n) : tlsf_resize(a->heap, &name, n);
     if (answer != TLSF_OK) {
-        MUST(answer == (moves ? TLSF_NO_FIT : TLSF_NO_ROOM) && n > had && tlsf_usable_size(&a->heap, it->p) == had);
+        MUST(answer == (moves ? TLSF_NO_FIT : TLSF_NO_ROOM) && n > had && tlsf_usable_size(a->heap, it->p) == had);
         see_bytes(it, it->bytes);
         a->refused += moves;
         if (moves && n > a->longest_refused) a->longest_refused = n;
         return;
     }
     if (name.at != it->name.at) leave(a, it);
-    it->p = tlsf_payload(&a->heap, &name, NULL);
+    it->p = tlsf_payload(a->heap, &name, NULL);
     see_bytes(it, stay);
     for (size_t k = had; k < n; k++) MUST(it->p[k] == 0);
     enter(a, it, it->p, n, 8);
@@ -337,8 +339,8 @@ static void do_walk(struct area *a) {
     struct tlsf_block_info at = {0, 0, 0, 0, 0};
     struct tlsf_heap_report report;
     uint32_t from = 0, live = 0, words = 0, bytes = 0, was_free = 0;
-    for (; tlsf_block_at(&a->heap, from, &at) == TLSF_OK; from += at.size) {
-        const struct block *it = block_of(a, a->heap.base + at.at + 3);
+    for (; tlsf_block_at(a->heap, from, &at) == TLSF_OK; from += at.size) {
+        const struct block *it = block_of(a, a->heap->base + at.at + 3);
         MUST(at.at == from && at.size >= 4 && (at.is_live != 0) == (it != NULL) && !(was_free && !at.is_live));
         if (it != NULL) {
             MUST(at.len == it->usable && at.mark == it->name.serial && 8 * (at.size - 3) >= at.len);
@@ -348,7 +350,7 @@ static void do_walk(struct area *a) {
         }
         was_free = !at.is_live;
     }
-    MUST(from == a->words && tlsf_report(&a->heap, &report) == TLSF_OK);
+    MUST(from == a->words && tlsf_report(a->heap, &report) == TLSF_OK);
     MUST(report.live_blocks == live && report.live_words == words && report.live_bytes == bytes);
     MUST(report.free_words == from - words);
 }
@@ -356,7 +358,7 @@ static void do_walk(struct area *a) {
 static void do_counts(struct area *a) {
     struct tlsf_heap_counts counts;
     struct tlsf_heap_report report;
-    MUST(tlsf_counts(&a->heap, &counts) == TLSF_OK && tlsf_report(&a->heap, &report) == TLSF_OK);
+    MUST(tlsf_counts(a->heap, &counts) == TLSF_OK && tlsf_report(a->heap, &report) == TLSF_OK);
     MUST(counts.refused >= a->refused && counts.longest_refused >= a->longest_refused);
     if (a->is_uncounted || a->is_mixed) a->refused = counts.refused, a->longest_refused = counts.longest_refused;
     a->is_uncounted = false;
@@ -369,10 +371,10 @@ static void do_check(struct area *a) {
     const uint32_t most = 1 + byte() % 9, wild_place = number() % (2 * a->words);
     uint32_t from = 0, damaged = 77, looks = 0;
     struct tlsf_block_info at;
-    do MUST(tlsf_check(&a->heap, from, most, &from, &damaged) == TLSF_OK && damaged == 77 && ++looks <= a->words);
+    do MUST(tlsf_check(a->heap, from, most, &from, &damaged) == TLSF_OK && damaged == 77 && ++looks <= a->words);
     while (from != 0);
-    if (tlsf_block_at(&a->heap, wild_place, &at) != TLSF_OK)
-        MUST(tlsf_check(&a->heap, wild_place, most, &from, &damaged) == TLSF_STALE && from == 0 && damaged == 77);
+    if (tlsf_block_at(a->heap, wild_place, &at) != TLSF_OK)
+        MUST(tlsf_check(a->heap, wild_place, most, &from, &damaged) == TLSF_STALE && from == 0 && damaged == 77);
 }
 
 /* What lies past a payload is written over, as a fault in a program does: the check comes back, and says a place that is one. */
@@ -380,29 +382,34 @@ static void do_damage(struct area *a) {
     const struct block *it = a_live(a);
     uint32_t from = 0, damaged = 0, looks = 0, answer;
     if (it == NULL) return;
-    unsigned char *end = (unsigned char *)(a->heap.base + a->words), *at = it->p + it->usable + byte() % 32;
+    unsigned char *end = (unsigned char *)(a->heap->base + a->words), *at = it->p + it->usable + byte() % 32;
     for (uint32_t n = 1 + byte() % 24; n > 0 && at < end; n--) *at++ = (unsigned char)byte();
-    do answer = tlsf_check(&a->heap, from, 5, &from, &damaged);
+    do answer = tlsf_check(a->heap, from, 5, &from, &damaged);
     while (answer == TLSF_OK && from != 0 && ++looks <= a->words);
     MUST(looks <= a->words && (answer == TLSF_OK || (answer == TLSF_DAMAGED && damaged < a->words)));
 }
 
 /* --- An input ------------------------------------------------------------------------------------------------------------ */
 
+static uint32_t open_in(struct area *a, uint32_t level, uint32_t heap, size_t bytes) {
+    return heap == 1 ? tlsf_open_in(&a->plain, level, heap, a->memory, bytes) : tlsf_open_near_in(&a->near, level, heap, a->memory, bytes);
+}
+
 static bool begin(struct area *a, uint32_t heap) {
     struct tlsf_heap_report report;
     const uint32_t level = 4 + byte() % 2, words = 4 + number() % MOST_WORDS, skew = byte() % FRONT, more = byte() % 100;
     memset(a, 0, sizeof *a);
-    a->bytes = tlsf_bytes(level, words) + more;
+    a->heap = heap == 1 ? &a->plain : tlsf_near(&a->near);
+    a->bytes = (heap == 1 ? tlsf_bytes(level, words) : tlsf_near_bytes(level, words)) + more;
     a->buffer = malloc(FRONT + a->bytes + GUARD);
     if (a->buffer == NULL) return false;
     a->memory = a->buffer + skew;
     memset(a->buffer, 0xa5, FRONT + a->bytes + GUARD);
-    MUST(tlsf_open_in(&a->heap, level, heap, a->memory, byte() % 32) == TLSF_BAD_SIZE && !a->heap.is_open);
-    MUST(tlsf_open_in(&a->heap, level, heap, a->memory, a->bytes) == TLSF_OK);
-    MUST(tlsf_report(&a->heap, &report) == TLSF_OK && report.live_blocks == 0 && report.free_blocks == 1);
+    MUST(open_in(a, level, heap, byte() % 32) == TLSF_BAD_SIZE && !a->heap->is_open);
+    MUST(open_in(a, level, heap, a->bytes) == TLSF_OK);
+    MUST(tlsf_report(a->heap, &report) == TLSF_OK && report.live_blocks == 0 && report.free_blocks == 1);
     a->words = report.free_words;
-    MUST(a->words >= words && (uintptr_t)a->heap.base % 16 == 8);
+    MUST(a->words >= words && (uintptr_t)a->heap->base % 16 == 8);
     return true;
 }
 
@@ -413,11 +420,11 @@ static void end(struct area *a) {
         struct block *it = &a->blocks[k];
         if (it->p == NULL) continue;
         see_bytes(it, it->bytes);
-        MUST(tlsf_free(&a->heap, it->p) == TLSF_OK);
+        MUST(tlsf_free(a->heap, it->p) == TLSF_OK);
         it->p = NULL;
     }
-    MUST(tlsf_report(&a->heap, &report) == TLSF_OK && report.live_blocks == 0 && report.free_blocks == 1);
-    MUST(report.free_words == a->words && tlsf_close(&a->heap) == TLSF_OK && tlsf_malloc(&a->heap, 8) == NULL);
+    MUST(tlsf_report(a->heap, &report) == TLSF_OK && report.live_blocks == 0 && report.free_blocks == 1);
+    MUST(report.free_words == a->words && tlsf_close(a->heap) == TLSF_OK && tlsf_malloc(a->heap, 8) == NULL);
     for (unsigned char *p = a->buffer; p < a->memory; p++) MUST(*p == 0xa5);
     for (unsigned char *p = a->memory + a->bytes; p < a->buffer + FRONT + a->bytes + GUARD; p++) MUST(*p == 0xa5);
 }
@@ -439,7 +446,7 @@ int LLVMFuzzerTestOneInput(const uint8_t *bytes, size_t n) {
         calls[call](&areas[what % 2]);
     }
     for (int k = 0; k < 2; k++) do_walk(&areas[k]), do_counts(&areas[k]), do_check(&areas[k]);
-    if (kind % 16 == DAMAGED_KIND) do_damage(&areas[0]), (void)tlsf_close(&areas[0].heap), end(&areas[1]);
+    if (kind % 16 == DAMAGED_KIND) do_damage(&areas[0]), (void)tlsf_close(areas[0].heap), end(&areas[1]);
     else end(&areas[0]), end(&areas[1]);
     for (int k = 0; k < 2; k++) free(areas[k].buffer);
     return 0;

@@ -4,7 +4,8 @@
     tlsf lists HEAP             a line for each list of free blocks, in the order in which they are taken
     tlsf whose HEAP POINTER     whose block the pointer leads into, and where in it
 
-HEAP is an expression: a struct tlsf_heap, a tlsf::heap, or a pointer to one. `print` shows a heap in a line, and a name.
+HEAP is an expression: a struct tlsf_heap or tlsf_near_heap, a tlsf::heap, or a pointer to one. `print` shows a heap in a line, and a
+name.
 All is read from the region's words (docs/LAYOUT.md), of a process or of a core file; no call is made."""
 import struct
 
@@ -29,6 +30,12 @@ class Block:
         return f"free since tick {self.mark}"
 
 
+def handle_of(near):
+    """The struct tlsf_heap of a near heap: it begins at the first multiple of 64."""
+    at = int(near.address)
+    return gdb.Value(at + -at % 64).cast(gdb.lookup_type("struct tlsf_heap").pointer()).dereference()
+
+
 def raw_of(value):
     """The struct tlsf_heap of an expression's value."""
     value = value.referenced_value() if value.type.strip_typedefs().code in (gdb.TYPE_CODE_PTR, gdb.TYPE_CODE_REF) else value
@@ -37,7 +44,9 @@ def raw_of(value):
         state = value["state_"]["state_"]
         if not int(state):
             raise gdb.GdbError("that heap is not open")
-        return state["raw"]
+        return handle_of(state["near"])
+    if kind.tag == "tlsf_near_heap":
+        return handle_of(value)
     if kind.tag != "tlsf_heap":
         raise gdb.GdbError(f"a struct tlsf_heap or a tlsf::heap is wanted, and that is of type {value.type}")
     return value
@@ -142,7 +151,9 @@ class Command(gdb.Command):
 
 def printer_of(value):
     tag = value.type.strip_typedefs().unqualified().tag
-    return HeapPrinter(value) if tag == "tlsf_heap" else NamePrinter(value) if tag == "tlsf_name" else None
+    if tag in ("tlsf_heap", "tlsf_near_heap"):
+        return HeapPrinter(value if tag == "tlsf_heap" else handle_of(value))
+    return NamePrinter(value) if tag == "tlsf_name" else None
 
 
 gdb.pretty_printers.append(printer_of)

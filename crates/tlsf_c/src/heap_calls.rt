@@ -2,7 +2,7 @@
 ghost use Rattle.std.specs.Prelude.{◌≡◌, ℕ, true, false, ◌<◌, ◌≤◌, ◌+◌, ◌*◌, ◌/◌, length, Result, Ok, Err, Some, None};
 ghost use Rattle.std.specs.Result.{result_unwrap_or};
 ghost use Rattle.tlsf_heap.specs.Lawful.{IsRegion};
-ghost use Rattle.tlsf_pool.specs.laws.Pools.{pool_region};
+ghost use Rattle.tlsf_pool.specs.laws.MixedSizes.{mixed_region};
 ghost use Rattle.tlsf_heap.specs.Calls.{opened, allocated, released, resized, written, read_of, read_answer};
 ghost use Rattle.tlsf_heap.specs.Footprint.{LeavesLive, LeavesPayloads};
 ghost use Rattle.tlsf_heap.specs.InPlace.{IsPayloadCheck};
@@ -85,14 +85,14 @@ pub extern "C" fn tlsf_open(
 pub extern "C" fn tlsf_words(level: u32, most: u32, len: u32, words: &mut u32) -> u32
     ensures bad_level { ¬ (level ≡ 4) → ¬ (level ≡ 5) → result ≡ bad_level }
     ensures no_blocks { 4 ≤ level → level ≤ 5 → most ≡ 0 → (result ≡ 0) × (words.new ≡ 4) }
-    ensures words { result ≡ 0 → 0 < most → pool_region level most len ≡ Some words.new }
-    ensures none { 4 ≤ level → level ≤ 5 → ¬ (result ≡ 0) → (result ≡ bad_size) × (pool_region level most len ≡ None) }
+    ensures words { result ≡ 0 → 0 < most → mixed_region level most len ≡ Some words.new }
+    ensures none { 4 ≤ level → level ≤ 5 → ¬ (result ≡ 0) → (result ≡ bad_size) × (mixed_region level most len ≡ None) }
     ensures no_words { ¬ (result ≡ 0) → words.new ≡ words.old }
 {
     let found = match level {
         4 | 5 if most == 0 => Some(4),
-        4 => tlsf_pool::pool_region::<4>(most, len),
-        5 => tlsf_pool::pool_region::<5>(most, len),
+        4 => tlsf_pool::mixed_region::<4>(most, len),
+        5 => tlsf_pool::mixed_region::<5>(most, len),
         _ => return CallFault::BadLevel.number(),
     };
     match found {

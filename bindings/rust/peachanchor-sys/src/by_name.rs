@@ -5,6 +5,7 @@
 //! The rules of `tlsf.h`. Each pointer is to what its type says, and whole.
 #![allow(clippy::missing_safety_doc)]
 
+use crate::fetch::fetch;
 use crate::{proved, tlsf_heap, tlsf_name, tlsf_post_end, tlsf_poster, tlsf_queue, tlsf_take_end, TLSF_OK};
 use core::ffi::c_void;
 
@@ -39,6 +40,7 @@ pub unsafe fn tlsf_allocate(heap: *mut tlsf_heap, len: u32, name: *mut tlsf_name
 /// Releases a block. Refused: `TLSF_IS_CLOSED`, `TLSF_FOREIGN`, `TLSF_STALE`, `TLSF_WORN`.
 pub unsafe fn tlsf_release(heap: *mut tlsf_heap, name: *const tlsf_name) -> u32 {
     let own = *name;
+    fetch((*heap).base.wrapping_add(own.at as usize).cast());
     proved::tlsf_release(heap, &own)
 }
 

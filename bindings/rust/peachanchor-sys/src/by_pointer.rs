@@ -5,6 +5,7 @@
 //! The rules of `tlsf.h`. A pointer to a block may be any.
 #![allow(clippy::missing_safety_doc)]
 
+use crate::fetch::fetch;
 use crate::proved::{
     tlsf_allocate_aligned, tlsf_allocate_place, tlsf_block_at, tlsf_place, tlsf_release_place, tlsf_resize_place,
 };
@@ -117,6 +118,7 @@ pub unsafe fn tlsf_free(heap: *mut tlsf_heap, p: *mut c_void) -> u32 {
     if p.is_null() {
         TLSF_OK
     } else {
+        fetch(p.cast::<u8>().wrapping_sub(24)); // the block's header
         tlsf_release_place(heap, tlsf_place_of(heap, p))
     }
 }

@@ -15,11 +15,13 @@
 mod block_info;
 mod by_name;
 mod by_pointer;
+mod fetch;
 mod heap;
 mod heap_counts;
 mod heap_report;
 mod kind;
 mod name;
+mod near_heap;
 mod offsets;
 mod offsets_usage;
 mod pools;
@@ -38,6 +40,7 @@ pub use heap_counts::tlsf_heap_counts;
 pub use heap_report::tlsf_heap_report;
 pub use kind::tlsf_kind;
 pub use name::tlsf_name;
+pub use near_heap::{tlsf_near, tlsf_near_heap};
 pub use offsets::tlsf_offsets;
 pub use offsets_usage::tlsf_offsets_usage;
 pub use pools::tlsf_pools;
@@ -45,14 +48,15 @@ pub use post_end::tlsf_post_end;
 pub use poster::tlsf_poster;
 pub use proved::{
     tlsf_allocate_aligned, tlsf_allocate_place, tlsf_block_at, tlsf_bytes, tlsf_check, tlsf_counts, tlsf_drain,
-    tlsf_lane_bytes, tlsf_lane_open_in, tlsf_offsets_allocate, tlsf_offsets_bytes, tlsf_offsets_close,
-    tlsf_offsets_open_in, tlsf_offsets_release, tlsf_offsets_report, tlsf_offsets_resize, tlsf_open_in, tlsf_place,
-    tlsf_pools_allocate, tlsf_pools_close, tlsf_pools_read, tlsf_pools_release, tlsf_pools_report, tlsf_pools_write,
-    tlsf_post_close, tlsf_poster_close, tlsf_poster_open, tlsf_queue_bytes, tlsf_queue_close, tlsf_queue_drain,
-    tlsf_queue_open_in, tlsf_release_place, tlsf_report, tlsf_resize_place, tlsf_take_close, tlsf_words,
+    tlsf_lane_bytes, tlsf_lane_open_in, tlsf_near_bytes, tlsf_offsets_allocate, tlsf_offsets_bytes, tlsf_offsets_close,
+    tlsf_offsets_open_in, tlsf_offsets_release, tlsf_offsets_report, tlsf_offsets_resize, tlsf_open_in,
+    tlsf_open_near_in, tlsf_place, tlsf_pools_allocate, tlsf_pools_close, tlsf_pools_read, tlsf_pools_release,
+    tlsf_pools_report, tlsf_pools_write, tlsf_post_close, tlsf_poster_close, tlsf_poster_open, tlsf_queue_bytes,
+    tlsf_queue_close, tlsf_queue_drain, tlsf_queue_open_in, tlsf_release_place, tlsf_report, tlsf_resize_place,
+    tlsf_take_close, tlsf_words,
 };
 #[cfg(feature = "malloc")]
-pub use proved::{tlsf_lane_open, tlsf_offsets_open, tlsf_open, tlsf_pools_open, tlsf_queue_open};
+pub use proved::{tlsf_lane_open, tlsf_offsets_open, tlsf_open, tlsf_open_near, tlsf_pools_open, tlsf_queue_open};
 pub use queue::tlsf_queue;
 pub use span::tlsf_span;
 pub use take_end::tlsf_take_end;

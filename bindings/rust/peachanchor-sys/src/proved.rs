@@ -2,7 +2,7 @@
 //! `is_mixed` is left alone: the calls of the same names in the root of this crate see to both.
 
 use crate::{
-    tlsf_block_info, tlsf_heap, tlsf_heap_counts, tlsf_heap_report, tlsf_kind, tlsf_name, tlsf_offsets,
+    tlsf_block_info, tlsf_heap, tlsf_heap_counts, tlsf_heap_report, tlsf_kind, tlsf_name, tlsf_near_heap, tlsf_offsets,
     tlsf_offsets_usage, tlsf_pools, tlsf_post_end, tlsf_poster, tlsf_queue, tlsf_span, tlsf_take_end,
 };
 use core::ffi::c_void;
@@ -11,6 +11,7 @@ use core::ffi::c_void;
 #[rustfmt::skip]
 extern "C" {
     #[must_use] pub fn tlsf_open(heap: *mut tlsf_heap, level: u32, number: u32, words: u32) -> u32;
+    #[must_use] pub fn tlsf_open_near(near: *mut tlsf_near_heap, level: u32, number: u32, words: u32) -> u32;
     #[must_use] pub fn tlsf_lane_open(post: *mut tlsf_post_end, take: *mut tlsf_take_end, capacity: u32) -> u32;
     #[must_use] pub fn tlsf_queue_open(queue: *mut tlsf_queue, posters: u32, capacity: u32) -> u32;
     #[must_use] pub fn tlsf_offsets_open(offsets: *mut tlsf_offsets, level: u32, number: u32, unit: u32, units: u32) -> u32;
@@ -21,6 +22,9 @@ extern "C" {
 extern "C" {
     #[must_use] pub fn tlsf_open_in(heap: *mut tlsf_heap, level: u32, number: u32, memory: *mut c_void, bytes: usize) -> u32;
     pub fn tlsf_bytes(level: u32, words: u32) -> usize;
+    #[must_use] pub fn tlsf_open_near_in(near: *mut tlsf_near_heap, level: u32, number: u32, memory: *mut c_void,
+                                         bytes: usize) -> u32;
+    pub fn tlsf_near_bytes(level: u32, words: u32) -> usize;
     pub fn tlsf_close(heap: *mut tlsf_heap) -> u32;
     #[must_use] pub fn tlsf_words(level: u32, blocks: u32, len: u32, words: *mut u32) -> u32;
 

@@ -2,7 +2,7 @@ use crate::handle::Handle;
 use crate::{Block, Counts, Error, InPlace, Level, Name, Report};
 use core::mem::{size_of_val, MaybeUninit};
 use core::ptr::NonNull;
-use peachanchor_sys::{self as sys, tlsf_heap};
+use peachanchor_sys::{self as sys, tlsf_heap, tlsf_near_heap};
 
 /// A heap over one region of words, for one thread at a time. It is closed when it is dropped.
 ///
@@ -60,7 +60,7 @@ use peachanchor_sys::{self as sys, tlsf_heap};
 /// ```
 #[derive(Debug)]
 pub struct Heap {
-    handle: Handle<tlsf_heap>,
+    handle: Handle<tlsf_near_heap>,
 }
 
 // SAFETY: a heap is the only way to its handle and its region, and neither belongs to a thread. Rust orders what two threads do
@@ -76,9 +76,9 @@ impl Heap {
     /// [`Error::BadSize`] where no region of that level has so many words, [`Error::NoMemory`].
     #[cfg(feature = "malloc")]
     pub fn open(level: Level, number: u32, words: u32) -> Result<Self, Error> {
-        let handle = Handle::from_malloc(tlsf_heap::CLOSED)?;
+        let handle = Handle::from_malloc(tlsf_near_heap::CLOSED)?;
         // SAFETY: the handle is closed and lies still (rule 1).
-        Error::check(unsafe { sys::tlsf_open(handle.get(), level as u32, number, words) })?;
+        Error::check(unsafe { sys::tlsf_open_near(handle.get(), level as u32, number, words) })?;
         Ok(Self { handle })
     }
 
@@ -96,11 +96,11 @@ impl Heap {
     /// # Ok::<(), peachanchor::Error>(())
     /// ```
     pub fn open_in(level: Level, number: u32, memory: &'static mut [MaybeUninit<u64>]) -> Result<Self, Error> {
-        let (handle, rest) = Handle::lent(tlsf_heap::CLOSED, memory).ok_or(Error::BadSize)?;
+        let (handle, rest) = Handle::lent(tlsf_near_heap::CLOSED, memory).ok_or(Error::BadSize)?;
         let bytes = size_of_val(rest);
         // SAFETY: the handle is closed and lies still (rule 1), and outside of the rest. That is the heap's for ever (rule 6).
         Error::check(unsafe {
-            sys::tlsf_open_in(handle.get(), level as u32, number, rest.as_mut_ptr().cast(), bytes)
+            sys::tlsf_open_near_in(handle.get(), level as u32, number, rest.as_mut_ptr().cast(), bytes)
         })?;
         Ok(Self { handle })
     }
@@ -110,8 +110,8 @@ impl Heap {
     #[must_use]
     pub fn words_in(level: Level, words: u32) -> Option<usize> {
         // SAFETY: it takes any numbers.
-        let bytes = unsafe { sys::tlsf_bytes(level as u32, words) };
-        (bytes != 0).then(|| Handle::<tlsf_heap>::WORDS + bytes.div_ceil(8))
+        let bytes = unsafe { sys::tlsf_near_bytes(level as u32, words) };
+        (bytes != 0).then(|| Handle::<tlsf_near_heap>::WORDS + bytes.div_ceil(8))
     }
 
     /// The words of a heap that never lacks room for `blocks` blocks at once, of at most `len` bytes each. They may be
@@ -135,7 +135,8 @@ impl Heap {
 
     /// The handle for calls of this crate.
     pub(crate) fn raw(&self) -> *mut tlsf_heap {
-        self.handle.get()
+        // SAFETY: the handle has its room.
+        unsafe { sys::tlsf_near(self.handle.get()) }
     }
 
     /// Allocates a block of `len` bytes, all zero, aligned to 8.
