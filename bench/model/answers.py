@@ -69,7 +69,7 @@ class Asked:
         self.wanted = max(self.wanted, self.words)
 
     def law(self, level):
-        """The words of a pool of so many blocks of so many bytes: docs/SIZING.md, lines 3 to 5."""
+        """The words of the law for so many blocks of so many bytes: docs/SIZING.md, lines 3 to 5."""
         if self.most == 0:
             return 4
         words = want(self.longest)

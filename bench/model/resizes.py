@@ -15,13 +15,12 @@ class Layout:
     """Blocks from left to right, with holes between them that are too small for the longest request.
 
     Each block comes as a longest one, which no hole serves, at the front of what is free behind all others. There it is resized to
-    what it shall be, and counts for that kind. A table has the most blocks and the most bytes of each kind. Each block has more
-    bytes than `above`: shorter ones have another heap.
+    what it shall be, and counts for that kind. A table has the most blocks and the most bytes of each kind.
     """
 
-    def __init__(self, table, above, level):
+    def __init__(self, table, level):
         self.table, self.free = table, [most for most, _ in table]
-        self.shortest = [above + 1] + [length + 1 for _, length in table[:-1]]
+        self.shortest = [1] + [length + 1 for _, length in table[:-1]]
         self.last, self.longest = len(table) - 1, want(table[-1][1])
         self.hole = low(search_of(self.longest, level), level) - 1
         self.lines, self.kinds, self.words, self.short = [], [], 0, None
@@ -135,11 +134,11 @@ def orders(table):
             yield [kind for kind in kinds for _ in range(counts[kind] - (kind in late))] + late
 
 
-def forced(table, above, level):
+def forced(table, level):
     """The most words of a heap, and the calls of which it refuses the last: by one of the orders, with or without the last kind."""
     table, found = [kind for kind in table if kind[0]], (0, [])
     for table, order in ((kinds, order) for kinds in (table[:-1], table) if kinds for order in orders(kinds)):
-        layout = Layout(table, above, level)
+        layout = Layout(table, level)
         for left, kind in zip(range(len(order), 0, -1), order):
             words, lines, blocks, short = layout.words, len(layout.lines), len(layout.kinds), layout.short
             layout.place(kind, left)
@@ -150,13 +149,11 @@ def forced(table, above, level):
     return found
 
 
-def forced_in(line, split=True):
-    """Of each heap of `tlsf size --split` for a line of `tlsf replay --kinds`, or of one heap: its first and last kind, and the words forced."""
+def forced_in(line):
+    """Of one heap for a line of `tlsf replay --kinds`: how many kinds it has, and the words forced."""
     words = line.split()[line.split().index("--sli"):]
     level, table = int(words[1]), list(zip(map(int, words[3::4]), map(int, words[5::4])))
-    rows = [it.split() for it in tlsf("size", "--split", *words).splitlines()[:-1]] if split else []
-    for first, last in [(int(row[3]), int(row[5])) for row in rows] or [(1, len(table))]:
-        most, lines = forced(table[first - 1 : last], table[first - 2][1] if first > 1 else 0, level)
-        replies = tlsf("replay", text="\n".join([f"tlsf {level - 3} 1 {most} 1", *lines, ""])).splitlines()[: len(lines)]
-        assert [" refused " in it for it in replies] == [False] * (len(lines) - 1) + [True] and replies[-1].endswith(f" refused {NO_FIT}")
-        yield first, last, most
+    most, lines = forced(table, level)
+    replies = tlsf("replay", text="\n".join([f"tlsf {level - 3} 1 {most} 1", *lines, ""])).splitlines()[: len(lines)]
+    assert [" refused " in it for it in replies] == [False] * (len(lines) - 1) + [True] and replies[-1].endswith(f" refused {NO_FIT}")
+    return len(table), most

@@ -10,8 +10,8 @@ use Rattle.tlsf_lines.specs.declared.read_error.ReadError.TheVariants.{NoMemory,
 
 -- what is noted of a text that passes a limit
 abbrev pub limit_note : Limit → List ℕ
-limit_note Bytes = codes "  the trace has more than 1,048,576 bytes\n"
-limit_note Lines = codes "  the trace has more than 32,768 lines: line 32,769 is one too many\n"
+limit_note Bytes = codes "  the trace has more than 1,048,576 bytes: tools/sequence takes several traces\n"
+limit_note Lines = codes "  the trace has more than 32,768 lines: line 32,769 is one too many; tools/sequence takes several traces\n"
 limit_note Reads = codes "  the trace had not ended after 65,536 reads: it comes in pieces that are too small\n"
 
 -- a limit that the text passes was noted

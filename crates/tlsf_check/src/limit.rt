@@ -8,8 +8,10 @@ pub fn note_of(limit: Limit) -> &'static str
     ensures { result.now ≡ limit_note limit }
 {
     match limit {
-        Limit::Bytes => "  the trace has more than 1,048,576 bytes\n",
-        Limit::Lines => "  the trace has more than 32,768 lines: line 32,769 is one too many\n",
+        Limit::Bytes =>
+            "  the trace has more than 1,048,576 bytes: tools/sequence takes several traces\n",
+        Limit::Lines =>
+            "  the trace has more than 32,768 lines: line 32,769 is one too many; tools/sequence takes several traces\n",
         Limit::Reads => {
             "  the trace had not ended after 65,536 reads: it comes in pieces that are too small\n"
         }

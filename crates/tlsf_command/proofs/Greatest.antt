@@ -4,7 +4,7 @@ use Rattle.std.specs.Prelude.{IfSome}
 use Rattle.std.specs.Option.{unwrap_or}
 use Rattle.tlsf_class.specs.Classes.{IsLevel, most_words}
 use Rattle.tlsf_heap.specs.Blocks.{want}
-use Rattle.tlsf_pool.specs.laws.Pools.{pool_words}
+use Rattle.tlsf_pool.specs.laws.MixedSizes.{mixed_words}
 use Rattle.tlsf_pool.proofs.lemmas.sizes.Bounds.{words_rise}
 use Rattle.tlsf_command.specs.SizeLines.{IsGreatest, IsReached}
 
@@ -16,9 +16,9 @@ some_byte n = omega arith
 
 -- what is found is the greatest, and 0 stands for none
 pub longest_is : (sli : ℕ) → IsLevel sli → (most : ℕ) (found : Option ℕ) → 1 ≤ most
-    → IfSome found (λ len. (want len ≤ most_words sli) × (pool_words sli most len ≤ most_words sli))
-    → IfSome found (λ longest. (len : ℕ) → want len ≤ most_words sli → pool_words sli most len ≤ most_words sli → len ≤ longest)
-    → (found ≡ None → ¬ (pool_words sli most 0 ≤ most_words sli))
+    → IfSome found (λ len. (want len ≤ most_words sli) × (mixed_words sli most len ≤ most_words sli))
+    → IfSome found (λ longest. (len : ℕ) → want len ≤ most_words sli → mixed_words sli most len ≤ most_words sli → len ≤ longest)
+    → (found ≡ None → ¬ (mixed_words sli most 0 ≤ most_words sli))
     → IsGreatest (λ len. IsReached sli most len) (unwrap_or found 0)
 longest_is sli level most None some reached greatest none = (
   inr refl,

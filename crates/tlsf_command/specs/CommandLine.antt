@@ -1,5 +1,5 @@
 -- The command line, by the definitions of `clap`.
-use Rattle.std.specs.Prelude.{◌≡◌, ◌≢◌, ◌⊎◌, ◌==◌, ◌^◌, ⊤, ℕ, Bool, false, true, pos, List, [], ◌∷◌, ◌++◌, Option, Some, None, codes, string_bytes, if◌then◌else◌}
+use Rattle.std.specs.Prelude.{◌≡◌, ◌≢◌, ◌⊎◌, ◌==◌, ◌||◌, ◌^◌, ⊤, ℕ, Bool, false, true, pos, List, [], ◌∷◌, ◌++◌, Option, Some, None, codes, nat_lt, string_bytes, if◌then◌else◌}
 use Rattle.clap.specs.Words.{App, Kinds, Row, Rule, Text, app_of, fault_of, new_app, new_rule, rule_of, subcommand_of, with_rule, with_subcommand}
 use Rattle.clap.specs.declared.builder.action.ArgAction.TheVariants.{Append, Set, SetTrue}
 use Rattle.clap.specs.declared.builder.value_parser.ValueParser.TheVariants.{Signed}
@@ -13,7 +13,7 @@ use Rattle.tlsf_command.specs.Quotes.{quoted}
 use Rattle.tlsf_command.specs.ClassQuestions.{HasClasses, IsClassQuestion}
 use Rattle.tlsf_command.specs.SizeQuestions.{HasTable, IsQuestion}
 use Rattle.tlsf_command.specs.declared.command_line.Choice.{Choice}
-use Rattle.tlsf_command.specs.declared.command_line.Choice.TheVariants.{Trace, File, Classes, Size, At, TwoLines}
+use Rattle.tlsf_command.specs.declared.command_line.Choice.TheVariants.{Trace, File, Classes, Size, At, Heaps, TwoLines}
 use Rattle.tlsf_picture.specs.declared.form.Form.{Form}
 use Rattle.tlsf_picture.specs.declared.form.Form.TheVariants.{Svg, Text as Characters}
 use Rattle.tlsf_command.specs.declared.trace_run.TraceRun.{TraceRun}
@@ -73,9 +73,18 @@ file_rule = record (new_rule (codes "FILE")) { action = Some Append }
 abbrev pub trace_app : Text → Text → App
 trace_app name flag = with_rule (with_rule (new_app name) (flag_rule flag)) file_rule
 
--- the command `replay`, with the flags by which it writes what the workers ask of their heaps, and of which kinds, and how small these may be
+-- the heaps for which kinds are merged, 1 to 8, which needn't be given
+abbrev pub heaps_rule : Rule
+heaps_rule = record (new_rule (codes "H")) {
+  long = Some (codes "heaps");
+  action = Some Set;
+  parser = Some (Signed (pos 1) (pos 8));
+}
+
+-- the command `replay`, with the flags by which it writes what the workers ask of their heaps, and of which kinds, and how small these may be;
+-- and the option by which these kinds are merged
 abbrev pub replay_app : App
-replay_app = with_rule (with_rule (trace_app (codes "replay") (codes "held")) (flag_rule (codes "kinds"))) (flag_rule (codes "least"))
+replay_app = with_rule (with_rule (with_rule (trace_app (codes "replay") (codes "held")) (flag_rule (codes "kinds"))) (flag_rule (codes "least"))) heaps_rule
 
 -- the command `race`, with the flag by which it goes over queues
 abbrev pub race_app : App
@@ -147,14 +156,15 @@ map_by true worst form = MapHtml
 map_by false true form = MapWorst form
 map_by false false form = Map form
 
--- the run that the command of this name asks for, by which flags are given: `replay` is the one that is none of the others
-abbrev pub run_by : (name : Text) → (is_given : Text → Bool) → TraceRun
-run_by name is_given =
+-- the run that the command of this name asks for, by which flags are given, and whether kinds are merged: `replay` is the one that is none
+-- of the others
+abbrev pub run_by : (name : Text) → (is_given : Text → Bool) → (merges : Bool) → TraceRun
+run_by name is_given merges =
     if bytes_eq name (codes "race") then race_by (is_given (codes "queues"))
     else (if bytes_eq name (codes "map") then map_by (is_given (codes "html")) (is_given (codes "worst")) (form_by (is_given (codes "text")))
     else (if bytes_eq name (codes "plot") then Plot (form_by (is_given (codes "text")))
     else (if bytes_eq name (codes "check") then Check
-    else replay_by (is_given (codes "kinds")) (is_given (codes "least")) (is_given (codes "held")))))
+    else replay_by (is_given (codes "kinds") || merges) (is_given (codes "least")) (is_given (codes "held")))))
 
 -- the words that ask for a run, behind the program's name
 abbrev pub words_of : TraceRun → List Text
@@ -183,48 +193,58 @@ joined (word ∷ words) = word ++ (codes " " ++ joined words)
 abbrev pub spelled : TraceRun → Text
 spelled run = joined (words_of run)
 
--- the option that gives a line of the trace, behind these words; 0 is none
-abbrev pub at_text : ℕ → Text
-at_text line = if line == 0 then [] else codes " --at " ++ decimal line
+-- the option that gives a run its number: the line of a picture, or the heaps for which kinds are merged
+abbrev pub option_text : TraceRun → Text
+option_text HeldKinds = codes " --heaps "
+option_text run = codes " --at "
+
+-- it stands behind these words; 0 is none
+abbrev pub number_text : TraceRun → ℕ → Text
+number_text run number = if number == 0 then [] else option_text run ++ decimal number
 
 -- how a trace is read from this file, as `tlsf: a trace is read from standard input: tlsf map --at 2 < 'my file.trace'`; the word `-` is no file
-abbrev pub tip_line : TraceRun → (line : ℕ) → Text → Text
-tip_line run line file =
-    if bytes_eq file (codes "-") then codes "tlsf: standard input is read without '-': tlsf " ++ (spelled run ++ (at_text line ++ codes "\n"))
-    else codes "tlsf: a trace is read from standard input: tlsf " ++ (spelled run ++ (at_text line ++ (codes " < " ++ (quoted file ++ codes "\n"))))
+abbrev pub tip_line : TraceRun → (number : ℕ) → Text → Text
+tip_line run number file =
+    if bytes_eq file (codes "-") then codes "tlsf: standard input is read without '-': tlsf " ++ (spelled run ++ (number_text run number ++ codes "\n"))
+    else codes "tlsf: a trace is read from standard input: tlsf " ++ (spelled run ++ (number_text run number ++ (codes " < " ++ (quoted file ++ codes "\n"))))
 
 -- a text is that line, about the first of these words
-abbrev pub IsTip : TraceRun → (line : ℕ) → (files : List Text) → Text → Type 0
-IsTip run line [] text = ⊥
-IsTip run line (file ∷ files) text = text ≡ tip_line run line file
+abbrev pub IsTip : TraceRun → (number : ℕ) → (files : List Text) → Text → Type 0
+IsTip run number [] text = ⊥
+IsTip run number (file ∷ files) text = text ≡ tip_line run number file
 
 -- the refusal of both `--at` and `--worst`
 abbrev pub two_lines_line : Text
 two_lines_line = codes "tlsf: --at and --worst each choose a line of the trace: give one of them\n"
 
--- a picture is drawn after a line, if one is given; a page shows each one, and takes none
-abbrev pub takes_line : TraceRun → Bool
-takes_line (Map form) = true
-takes_line (MapWorst form) = true
-takes_line run = false
+-- a picture is drawn after a line, if one is given; a page shows each one, and takes none. Kinds are merged for as many heaps as are given
+abbrev pub takes_number : TraceRun → Bool
+takes_number (Map form) = true
+takes_number (MapWorst form) = true
+takes_number HeldKinds = true
+takes_number run = false
 
--- the line that is given to a run, 0 where none is
-abbrev pub line_for : TraceRun → Arguments → ℕ
-line_for run given = if takes_line run then first_number 0 (given (codes "K")) else 0
+-- the number that is given to a run, 0 where none is
+abbrev pub number_for : TraceRun → Arguments → ℕ
+number_for (Map form) given = first_number 0 (given (codes "K"))
+number_for (MapWorst form) given = first_number 0 (given (codes "K"))
+number_for HeldKinds given = first_number 0 (given (codes "H"))
+number_for run given = 0
 
 -- a run draws the heaps after the line to look at
 abbrev pub IsWorst : TraceRun → Type 0
 IsWorst (MapWorst form) = ⊤
 IsWorst run = ⊥
 
--- the choice of a run with this line, 0 for none, where these words stand behind its command: it is asked for where no file is named, and
+-- the choice of a run with this number, 0 for none, where these words stand behind its command: it is asked for where no file is named, and
 -- else its tip is due
-abbrev pub IsRunOn : TraceRun → (line : ℕ) → (files : List Text) → Choice → Type 0
-IsRunOn run line files (Trace other) = (other ≡ run) × (files ≡ []) × (line ≡ 0)
-IsRunOn run line files (File other tip) = (other ≡ run) × IsTip run line files (string_bytes tip) × (IsWorst run → line ≡ 0)
-IsRunOn run line files (At form k) = (run ≡ Map form) × (files ≡ []) × (k ≢ 0) × (k ≡ line)
-IsRunOn run line files TwoLines = IsWorst run × (line ≢ 0)
-IsRunOn run line files choice = ⊥
+abbrev pub IsRunOn : TraceRun → (number : ℕ) → (files : List Text) → Choice → Type 0
+IsRunOn run number files (Trace other) = (other ≡ run) × (files ≡ []) × (number ≡ 0)
+IsRunOn run number files (File other tip) = (other ≡ run) × IsTip run number files (string_bytes tip) × (IsWorst run → number ≡ 0)
+IsRunOn run number files (At form k) = (run ≡ Map form) × (files ≡ []) × (k ≢ 0) × (k ≡ number)
+IsRunOn run number files (Heaps k) = (run ≡ HeldKinds) × (files ≡ []) × (k ≢ 0) × (k ≡ number)
+IsRunOn run number files TwoLines = IsWorst run × (number ≢ 0)
+IsRunOn run number files choice = ⊥
 
 -- the command of this name reads a trace
 abbrev pub ReadsTrace : Text → Type 0
@@ -236,14 +256,14 @@ IsCommand name = ReadsTrace name ⊎ ((name ≡ codes "classes") ⊎ (name ≡ c
 
 -- the run that is asked for by a command that reads a trace
 abbrev pub run_asked : Text → Arguments → TraceRun
-run_asked name given = run_by name (λ flag. is_set (given flag))
+run_asked name given = run_by name (λ flag. is_set (given flag)) (nat_lt 0 (first_number 0 (given (codes "H"))))
 
 -- the choice is what the command of this name asks for by what is given to it
 abbrev pub IsAskedBy : Choice → Text → Arguments → Type 0
 IsAskedBy (Classes question) name given = (name ≡ codes "classes") × IsClassQuestion given question
 IsAskedBy (Size question) name given = (name ≡ codes "size") × IsQuestion given question
 IsAskedBy choice name given =
-    let run = run_asked name given in ReadsTrace name × IsRunOn run (line_for run given) (given (codes "FILE")) choice
+    let run = run_asked name given in ReadsTrace name × IsRunOn run (number_for run given) (given (codes "FILE")) choice
 
 -- the size of the choice, where it has one, has a class, and a table has 1 to 64 kinds
 abbrev pub IsAnswerable : Choice → Type 0

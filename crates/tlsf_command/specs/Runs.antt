@@ -16,12 +16,12 @@ use Rattle.tlsf_pool.specs.declared.kind.Kind.{Kind}
 use Rattle.tlsf_pool.specs.sizes.Splits.{parts_of}
 use Rattle.tlsf_pool.specs.declared.sizes.split.Split.{Split}
 use Rattle.tlsf_command.specs.declared.command_line.Choice.{Choice}
-use Rattle.tlsf_command.specs.declared.command_line.Choice.TheVariants.{Trace, File, Classes, Size, At, TwoLines}
+use Rattle.tlsf_command.specs.declared.command_line.Choice.TheVariants.{Trace, File, Classes, Size, At, Heaps, TwoLines}
 use Rattle.tlsf_command.specs.declared.trace_run.TraceRun.{TraceRun}
 use Rattle.tlsf_command.specs.declared.trace_run.TraceRun.TheVariants.{Replay, Held, HeldKinds, Least, Race, RaceQueues, Map, MapHtml, MapWorst, Plot, Check}
 use Rattle.tlsf_check.specs.Checks.{Checks, Notes}
 use Rattle.tlsf_held.specs.Least.{TellsLeast}
-use Rattle.tlsf_held.specs.Measures.{Measures, TellsKinds}
+use Rattle.tlsf_held.specs.Measures.{Measures, TellsKinds, TellsMerged}
 use Rattle.tlsf_picture.specs.Drawn.{Draws, DrawsAt, DrawsText}
 use Rattle.tlsf_picture.specs.Pages.{DrawsPage}
 use Rattle.tlsf_picture.specs.declared.form.Form.TheVariants.{Svg, Text as Characters}
@@ -204,14 +204,15 @@ ShowsAnswer DisplayVersion status old new = ShowsText status old new
 ShowsAnswer OutOfMemory status old new = LacksMemory status old new
 ShowsAnswer _ status old new = ShowsUsage status old new
 
--- what was chosen is done: a run of a trace, or its tip where a file is named, the classes of a size, the words of a region, or a picture
--- after a line; two lines are refused
+-- what was chosen is done: a run of a trace, or its tip where a file is named, the classes of a size, the words of a region, a picture
+-- after a line, or kinds merged for so many heaps; two lines are refused
 abbrev pub Does : Choice → ℕ → Streams → Streams → Type 0
 Does (Trace run) = RunsAs run
 Does (File run tip) = Refuses (string_bytes tip)
 Does (Classes question) = AnswersClasses question
 Does (Size question) = ShowsSize question
 Does (At form line) = RunsBy (DrawsAt form line)
+Does (Heaps heaps) = RunsBy (TellsMerged heaps)
 Does TwoLines = Refuses two_lines_line
 
 -- how a run ends, by its words: it does what they ask for, it answers by one of their faults, or it lacks memory

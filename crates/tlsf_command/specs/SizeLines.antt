@@ -6,14 +6,14 @@ use Rattle.tlsf_class.specs.Classes.{most_words}
 use Rattle.tlsf_heap.specs.Blocks.{want}
 use Rattle.tlsf_pool.specs.laws.FixedSize.{fixed_kinds_words}
 use Rattle.tlsf_pool.specs.laws.Kinds.{kinds_words, HasClass}
-use Rattle.tlsf_pool.specs.laws.Pools.{pool_words}
+use Rattle.tlsf_pool.specs.laws.MixedSizes.{mixed_words}
 use Rattle.tlsf_pool.specs.declared.kind.Kind.{Kind}
 use Rattle.tlsf_pool.specs.sizes.Splits.{words_together, HasNoCut, IsLeast}
 use Rattle.tlsf_pool.specs.declared.sizes.split.Split.{Split}
 
 -- some region of the level has the words that the law asks for, for so many blocks of so many bytes
 abbrev pub IsReached : ℕ → ℕ → ℕ → Type 0
-IsReached sli most len = (1 ≤ most) × (1 ≤ len) × (want len ≤ most_words sli) × (pool_words sli most len ≤ most_words sli)
+IsReached sli most len = (1 ≤ most) × (1 ≤ len) × (want len ≤ most_words sli) × (mixed_words sli most len ≤ most_words sli)
 
 -- a kind has a block and a byte, and a class for its requests
 abbrev pub IsServable : ℕ → Kind → Type 0

@@ -1,7 +1,7 @@
 ghost use Rattle.std.specs.Prelude.{◌≡◌, [], codes, false, map, IfOk};
 ghost use Rattle.clap.specs.Words.{app_of, new_app, subcommand_of, subcommand_rows_of, with_subcommand, App, FailsBy};
 ghost use Rattle.tlsf_command.specs.Arguments.{texts_of};
-ghost use Rattle.tlsf_command.specs.CommandLine.{bare_app, check_app, classes_app, count_rule, file_rule, flag_rule, level_rule, line_rule, map_app, plot_app, race_app, replay_app, size_app, size_rule, tlsf_app, trace_app, faults_of, form_by, line_for, map_by, race_by, replay_by, run_asked, takes_line, Asks, IsArg, IsAskedBy, IsCommand, IsOf, IsRunOn};
+ghost use Rattle.tlsf_command.specs.CommandLine.{bare_app, check_app, classes_app, count_rule, file_rule, flag_rule, heaps_rule, level_rule, line_rule, map_app, plot_app, race_app, replay_app, size_app, size_rule, tlsf_app, trace_app, faults_of, form_by, map_by, number_for, race_by, replay_by, run_asked, takes_number, Asks, IsArg, IsAskedBy, IsCommand, IsOf, IsRunOn};
 
 use crate::VERSION;
 use crate::arguments::{is_given, number_given};
@@ -32,6 +32,8 @@ pub enum Choice {
     Size(SizeQuestion),
     /// `tlsf map --at K`: write a picture of the heaps of a trace as they stand after its line K, 1 to 2^32 - 1, in this form.
     At(Form, u32),
+    /// `tlsf replay --kinds --heaps N`: write the kinds of blocks that each worker holds, merged for N heaps, 1 to 8.
+    Heaps(u32),
     /// `tlsf map --at K --worst`: say that these are two lines. Nothing is read.
     TwoLines,
 }
@@ -127,6 +129,17 @@ fn trace_command<'a>(
     command.arg(file_argument(alloc))
 }
 
+// The heaps for which `replay` merges kinds.
+fn heaps_argument<'a>(alloc: Global) -> Arg<'a>
+    ensures { IsArg heaps_rule result }
+{
+    Arg::new(alloc, "H")
+        .long("heaps")
+        .help("Merge these kinds for H pools, 1 to 8, of the fewest words")
+        .action(ArgAction::Set)
+        .value_parser(clap::value_parser!(u32).range(1..=8))
+}
+
 // The command `replay`.
 fn replay_command<'a>(alloc: Global) -> Result<Command<'a>, AllocError>
     ensures { IfOk result (IsOf replay_app) }
@@ -146,7 +159,8 @@ fn replay_command<'a>(alloc: Global) -> Result<Command<'a>, AllocError>
     let kinds_help = "Write the kinds of blocks that are held, for 'tlsf size'";
     let kinds = command.arg(flag(alloc, "kinds", kinds_help))?;
     let least_help = "Write how small the heaps may be for these calls alone";
-    kinds.arg(flag(alloc, "least", least_help))
+    let least = kinds.arg(flag(alloc, "least", least_help))?;
+    least.arg(heaps_argument(alloc))
 }
 
 // The command `race`.
@@ -275,7 +289,7 @@ fn form_of(text: bool) -> Form
     if text { Form::Text } else { Form::Svg }
 }
 
-// The run that `replay` asks for by its flags.
+// The run that `replay` asks for by its flags. The number of heaps asks for kinds too.
 fn replay_of(kinds: bool, least: bool, held: bool) -> TraceRun
     ensures { result ≡ replay_by kinds least held }
 {
@@ -323,60 +337,62 @@ fn run_of(name: &str, given: &ArgMatches<'_>) -> TraceRun
         "check" => TraceRun::Check,
         // `replay` is the one that is left.
         _ => replay_of(
-            is_given(given, "kinds"),
+            is_given(given, "kinds") || number_given(given, "H", 0) > 0,
             is_given(given, "least"),
             is_given(given, "held"),
         ),
     }
 }
 
-// The line that is given to a run, 0 where none is.
-fn line_of(run: TraceRun, given: &ArgMatches<'_>) -> u32
-    ensures { result ≡ line_for run (texts_of given.now) }
+// The number that is given to a run, 0 where none is: the line of a picture, or the heaps for which kinds are merged.
+fn number_of(run: TraceRun, given: &ArgMatches<'_>) -> u32
+    ensures { result ≡ number_for run (texts_of given.now) }
 {
     match run {
         TraceRun::Map(_) | TraceRun::MapWorst(_) => number_given(given, "K", 0),
+        TraceRun::HeldKinds => number_given(given, "H", 0),
         _ => 0,
     }
 }
 
-// The choice of a run with this line, 0 for none, where no word stands behind its command.
-fn unnamed(run: TraceRun, line: u32) -> Choice
-    requires { takes_line run ≡ false → line ≡ 0 }
-    ensures { IsRunOn run line [] result }
+// The choice of a run with this number, 0 for none, where no word stands behind its command.
+fn unnamed(run: TraceRun, number: u32) -> Choice
+    requires { takes_number run ≡ false → number ≡ 0 }
+    ensures { IsRunOn run number [] result }
 {
-    if line == 0 {
+    if number == 0 {
         return Choice::Trace(run);
     }
     match run {
-        TraceRun::Map(form) => Choice::At(form, line),
-        // The other run that takes a line draws the heaps behind one of its own.
+        TraceRun::Map(form) => Choice::At(form, number),
+        TraceRun::HeldKinds => Choice::Heaps(number),
+        // The run that is left draws the heaps behind one of its own.
         _ => Choice::TwoLines,
     }
 }
 
-// The choice of a run with this line, where these words stand behind its command.
-fn run_on(alloc: Global, run: TraceRun, line: u32, files: &[&str]) -> Result<Choice, AllocError>
-    requires { takes_line run ≡ false → line ≡ 0 }
-    ensures { IfOk result (IsRunOn run line (map (λ text. text.now) files.now)) }
+// The choice of a run with this number, where these words stand behind its command.
+fn run_on(alloc: Global, run: TraceRun, number: u32, files: &[&str]) -> Result<Choice, AllocError>
+    requires { takes_number run ≡ false → number ≡ 0 }
+    ensures { IfOk result (IsRunOn run number (map (λ text. text.now) files.now)) }
 {
     match files.first() {
-        None => Ok(unnamed(run, line)),
+        None => Ok(unnamed(run, number)),
         Some(file) => match run {
-            TraceRun::MapWorst(_) if line != 0 => Ok(Choice::TwoLines),
-            _ => Ok(Choice::File(run, run.tip(alloc, line, file)?)),
+            TraceRun::MapWorst(_) if number != 0 => Ok(Choice::TwoLines),
+            _ => Ok(Choice::File(run, run.tip(alloc, number, file)?)),
         },
     }
 }
 
 // The choice of a run by the matches of its command.
 fn run_given(alloc: Global, run: TraceRun, given: &ArgMatches<'_>) -> Result<Choice, AllocError>
-    ensures { IfOk result (IsRunOn run (line_for run (texts_of given.now)) (texts_of given.now (codes "FILE"))) }
+    ensures { IfOk result (IsRunOn run (number_for run (texts_of given.now)) (texts_of given.now (codes "FILE"))) }
 {
-    let line = line_of(run, given);
+    let number = number_of(run, given);
     match given.get_raw("FILE") {
-        Some(files) => run_on(alloc, run, line, files),
-        None => run_on(alloc, run, line, &[]),
+        Some(files) => run_on(alloc, run, number, files),
+        None => run_on(alloc, run, number, &[]),
     }
 }
 

@@ -5,6 +5,7 @@ ghost use Rattle.tlsf_command.specs.CommandLine.{words_of, IsAnswerable, IsPlain
 ghost use Rattle.tlsf_command.specs.Runs as told;
 ghost use Rattle.tlsf_command.specs.Runs.{puts_of, streams, status_of, ChecksNote, Does, Ends, IsNote, Reports, RunsAs, RunsBy, RunsOrLacksMemory, ShowsAnswer, TipsOrLacksMemory};
 ghost use Rattle.tlsf_command.specs.declared.trace_run.TraceRun.{TraceRun};
+ghost use Rattle.tlsf_held.specs.Measures.{TellsMerged};
 ghost use Rattle.tlsf_lines.specs.Prefixes.{AppendsFront};
 ghost use Rattle.tlsf_picture.specs.Drawn.{DrawsAt};
 ghost use Rattle.tlsf_trace.specs.Replay.{IsRun};
@@ -24,7 +25,7 @@ use std::sync::Wait;
 use std::thread::Threads;
 use tlsf_check::{NUMBER_TIP, check_trace, have_marked_number};
 use tlsf_crew::Gate;
-use tlsf_held::{measure_kinds, measure_least, measure_trace};
+use tlsf_held::{measure_kinds, measure_least, measure_merged_kinds, measure_trace};
 use tlsf_picture::{
     Form, draw_trace, draw_trace_as_page, draw_trace_as_text, draw_trace_at, draw_trace_at_worst,
     plot_trace,
@@ -165,6 +166,23 @@ fn run_at<R: Read, W: Write, E: Write>(
     ended(answer, tip, errors)
 }
 
+// Writes the kinds of blocks of the trace, merged for so many heaps, and reports the fault that ended it.
+fn run_merged<R: Read, W: Write, E: Write>(
+    alloc: Global,
+    heaps: u32,
+    reader: &mut R,
+    writer: &mut W,
+    errors: &mut E,
+) -> u8
+    ensures { RunsBy (TellsMerged heaps) result
+        (streams (R.remaining reader.old) (W.contents writer.old) (E.contents errors.old))
+        (streams (R.remaining reader.new) (W.contents writer.new) (E.contents errors.new)) }
+{
+    let answer = measure_merged_kinds(alloc, heaps, reader, writer);
+    let hint = tip_on(&answer);
+    ended(answer, hint, errors)
+}
+
 // Refuses the words by this line, as that which says how a trace is read from a file. A write that fails changes nothing.
 fn tell<E: Write>(tip: &str, errors: &mut E) -> u8
     ensures status { result ≡ 2 }
@@ -259,6 +277,7 @@ fn act<T: Threads + Wait + Sync, R: Read, W: Write, E: Write, G: Gate>(
         Choice::Classes(question) => run_classes(question, writer, errors),
         Choice::Size(question) => run_size(question, writer, errors),
         Choice::At(form, line) => run_at(alloc, form, line, reader, writer, errors),
+        Choice::Heaps(heaps) => run_merged(alloc, heaps, reader, writer, errors),
         Choice::TwoLines => tell(TWO_LINES, errors),
     }
 }

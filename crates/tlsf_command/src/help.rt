@@ -94,6 +94,15 @@ writes for each worker the words of a heap for its blocks. Where no heap is
 large enough, a line on standard error says how many are, and of how many words;
 with '--split' at its end the command writes these heaps.
 
+With --heaps N each line has at most N kinds, as
+
+  --sli 4 --blocks 60 --bytes 64 --blocks 4 --bytes 4096
+
+Neighbouring kinds are merged: of blocks of up to 64 bytes at most 60 were held
+at once, though in one class 40 were, and 30 in another. So pools of these kinds
+are smaller than those of all kinds, and no way of merging neighbours has fewer
+words. 'tlsf size --split' has the words of each pool.
+
 With --least it is one line for each worker too, as
 
   least 0 words 150 wanted 139 law 342
@@ -106,7 +115,7 @@ the words of the trace or those found for the worker before, then twice as many
 until none is refused, and then always the middle. Fewer words may be enough
 besides, as a larger heap may refuse what a smaller one serves.
 
---kinds goes before --least, and --least before --held.
+--kinds and --heaps go before --least, and --least before --held.
 
 The exit status is 0 where the lines are written, 1 where a fault of the
 trace, of a read or of a write ends the run, and 3 where memory runs out. A

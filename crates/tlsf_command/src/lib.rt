@@ -3,7 +3,7 @@
 //!
 //! [`run`] does what the words ask for. `replay` reads a trace, runs it, and writes the reply lines and a report on each
 //! heap; `replay --held` writes what each worker asks of its heap, and how large that must be for it, with `--kinds` the kinds of
-//! blocks that it holds, as options of `size`, and with `--least` how small its heap may be for these calls alone. `race` replays with each
+//! blocks that it holds, as options of `size`, with `--heaps N` merged for N pools, and with `--least` how small its heap may be for these calls alone. `race` replays with each
 //! phase run in threads, one for each worker. `map` writes a picture of the heaps that a trace leaves. `check` says what a
 //! trace is, or where its first fault is and what was expected there. A file that is named behind one of these isn't read: a
 //! line tells how it is given as standard input. `classes N` writes the size class and the search class of N words, and
@@ -32,9 +32,9 @@ mod counted;
 mod fault_report;
 mod finer_hint;
 mod help;
-mod line_option;
 mod quotes;
 mod region_size;
+mod run_number;
 mod size_line;
 mod size_question;
 mod size_run;

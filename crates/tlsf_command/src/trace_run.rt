@@ -1,5 +1,5 @@
-use crate::line_option::LineOption;
 use crate::quotes::quoted;
+use crate::run_number::RunNumber;
 use std::alloc::{AllocError, Global};
 use tlsf_picture::Form;
 
@@ -11,6 +11,7 @@ pub enum TraceRun {
     /// `tlsf replay --held`: write what each worker asks of its heap, and the words that the law asks for that.
     Held,
     /// `tlsf replay --held --kinds`, or `tlsf replay --kinds`: write the kinds of blocks that each worker holds, as options of `tlsf size`.
+    /// `--heaps N` asks for it too, with a number.
     HeldKinds,
     /// `tlsf replay --least`: write the least words of heaps in which no request of a worker lacks room, found by replays.
     Least,
@@ -56,24 +57,26 @@ impl TraceRun {
         }
     }
 
-    /// The line that says how a trace is read from this file, with the option that gives a line of the trace, where that isn't 0.
+    /// The line that says how a trace is read from this file, with the option that gives a run its number, where that isn't 0.
     /// The word `-` is no file: it says that standard input is read without it. An `Err` says that memory ran out.
     ///
     /// ```
     /// let tip = TraceRun::Map(Form::Svg).tip(alloc, 2, "my file.trace")?;
     /// // tip is "tlsf: a trace is read from standard input: tlsf map --at 2 < 'my file.trace'\n"
     /// ```
-    pub fn tip(self, alloc: Global, line: u32, file: &str) -> Result<String, AllocError>
-        ensures { IfOk result (λ tip. string_bytes tip ≡ asked.tip_line self line file.now) }
+    pub fn tip(self, alloc: Global, number: u32, file: &str) -> Result<String, AllocError>
+        ensures { IfOk result (λ tip. string_bytes tip ≡ asked.tip_line self number file.now) }
     {
         let words = self.spelled();
-        let at = LineOption { line };
+        let option = RunNumber { run: self, number };
         if file == "-" {
             return format!(in alloc;
-                "tlsf: standard input is read without '-': tlsf {words}{at}\n"
+                "tlsf: standard input is read without '-': tlsf {words}{option}\n"
             );
         }
         let name = quoted(alloc, file)?;
-        format!(in alloc; "tlsf: a trace is read from standard input: tlsf {words}{at} < {name}\n")
+        format!(in alloc;
+            "tlsf: a trace is read from standard input: tlsf {words}{option} < {name}\n"
+        )
     }
 }

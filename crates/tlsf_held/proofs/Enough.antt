@@ -1,4 +1,4 @@
--- The words of a pool are enough.
+-- The words for mixed sizes are enough.
 use Rattle.std.proofs.Common.{◌≡◌, ◌==◌, ℕ, ◌≤◌, ◌<◌, Bool, true, false, true≢false, cond, List, [], ◌∷◌, length, map, Option, Some, Result, Ok, Err, inl, inr, sym, subst, arith}
 use Rattle.std.specs.List.{AllByRecursion}
 use Rattle.std.proofs.lemmas.Bool.{cases_eq}
@@ -9,7 +9,7 @@ use Rattle.tlsf_heap.specs.Blocks.{HeapState, want}
 use Rattle.tlsf_heap.specs.Calls.{Call, Allocate, Release, Write, Resize, Read, Got, answered, opened, read_of, run}
 use Rattle.tlsf_heap.specs.declared.refusal.Refusal.{Refusal}
 use Rattle.tlsf_pool.specs.laws.Held.{held_after}
-use Rattle.tlsf_pool.specs.laws.Pools.{pool_region, pool_words, AreModest, HasRoomFor}
+use Rattle.tlsf_pool.specs.laws.MixedSizes.{mixed_region, mixed_words, AreModest, HasRoomFor}
 use Rattle.tlsf_pool.proofs.lemmas.laws.ModestCalls.{region_is}
 use Rattle.tlsf_calls.specs.declared.event.Event.{Event}
 use Rattle.tlsf_crew.specs.histories.History.{answers_on, calls_on, handed_on}
@@ -25,9 +25,9 @@ use Rattle.tlsf_held.proofs.Measured.{is_level}
 -- a region that has the words is one for which the law speaks
 record HasWords (sli most len words : ℕ) : Type 0 where
   class : want len ≤ most_words sli
-  enough : pool_words sli most len ≤ words
+  enough : mixed_words sli most len ≤ words
 
-has_words : (sli most len words : ℕ) → pool_region sli most len ≡ Some words → HasWords sli most len words
+has_words : (sli most len words : ℕ) → mixed_region sli most len ≡ Some words → HasWords sli most len words
 has_words sli most len words is = let region = (region_is sli most len words).0 is in record { class = region.0.0; enough = omega (arith, region.1) }
 
 -- ---- where no block is asked for
@@ -76,7 +76,7 @@ words_suffice trace j most len words region inside bounds is upto =
       | inl none ↦ none_refused (yard_of trace.header) (events_of trace) j len (omega (arith, count, inside)) ((bounds 0 len).1 (omega (arith, none), omega arith))
       | inr some ↦
           let no : (most == 0) ≡ false = grind (arith, nat_tests) in
-          let has = has_words sli most len words (by_most (most == 0) (pool_region sli most len) words is no) in
+          let has = has_words sli most len words (by_most (most == 0) (mixed_region sli most len) words is no) in
           never_refuses sli (is_level trace.header.version) (yard_of trace.header) (events_of trace) j trace.header.words 0 most len
           (record { within = omega (arith, count, inside); new = get_or-map-range_with_len heaps 0 trace.header.workers j j no_heap inside (omega arith) })
           region has.class (omega (arith, has.enough, upto)) modest

@@ -11,7 +11,7 @@ use Rattle.tlsf_class.proofs.ClassOfSize.{class_of-bounds, class_of-rises}
 use Rattle.tlsf_heap.specs.Blocks.{HeapState, want}
 use Rattle.tlsf_heap.specs.Calls.{Call, Allocate, Release, Write, Resize, Read, Answer, Got, opened, run}
 use Rattle.tlsf_pool.specs.laws.Kinds.{Ledger, ledger_after, lengths, AreOfKinds, ArePlanned, IsPlanned}
-use Rattle.tlsf_pool.specs.laws.Pools.{HasRoomFor}
+use Rattle.tlsf_pool.specs.laws.MixedSizes.{HasRoomFor}
 use Rattle.tlsf_pool.specs.declared.kind.Kind.{Kind}
 use Rattle.tlsf_pool.proofs.lemmas.laws.PlannedCalls.{kinds_suffice}
 use Rattle.tlsf_crew.specs.histories.History.{answers_on, calls_on, handed_on}

@@ -33,7 +33,7 @@ within_trans a b c p q = (omega (arith, p.0, q.0), omega (arith, p.1, q.1))
 -- ---- how many rows there are
 
 module _ (row : ℕ → ℕ) where
-  noted_whole : (rows : List Row) (len : ℕ) (lens : List ℕ) → length (with_lengths row rows len lens) ≡ length rows
+  pub noted_whole : (rows : List Row) (len : ℕ) (lens : List ℕ) → length (with_lengths row rows len lens) ≡ length rows
   noted_whole rows len lens = length-set rows (row len) (joined (get_or rows (row len) no_row) (row_in row (row len) lens))
 
   behind_whole : (rows : List Row) (len : ℕ) (answer : Answer) (ledger : Ledger) → length (rows_behind row rows len answer ledger) ≡ length rows
@@ -77,7 +77,7 @@ module _ (row : ℕ → ℕ) (at : ℕ) where
   kept_within true entry ledger rest within = both_within (row entry.1 == at) _ _ entry.1 within
   kept_within false entry ledger rest within = one_within (row entry.1 == at) _ _ entry.1 within
 
-  freed_within : (name : Name) (ledger : Ledger) → IsWithin (row_in row at (lengths (filter (λ entry. not (is_same name entry.0)) ledger))) (row_in row at (lengths ledger))
+  pub freed_within : (name : Name) (ledger : Ledger) → IsWithin (row_in row at (lengths (filter (λ entry. not (is_same name entry.0)) ledger))) (row_in row at (lengths ledger))
   freed_within name [] = same_within no_row
   freed_within name (entry ∷ ledger) = kept_within (not (is_same name entry.0)) entry ledger (filter (λ entry. not (is_same name entry.0)) ledger) (freed_within name ledger)
 
@@ -90,7 +90,7 @@ module _ (row : ℕ → ℕ) (at : ℕ) where
   moved_within true entry len ledger rest ne within = rw (other_cons len (lengths rest) ne) (one_within (row entry.1 == at) _ _ entry.1 within)
   moved_within false entry len ledger rest ne within = both_within (row entry.1 == at) _ _ entry.1 within
 
-  resized_within : (name : Name) (len : ℕ) (ledger : Ledger) → row len ≢ at → IsWithin (row_in row at (lengths (with_length ledger name len))) (row_in row at (lengths ledger))
+  pub resized_within : (name : Name) (len : ℕ) (ledger : Ledger) → row len ≢ at → IsWithin (row_in row at (lengths (with_length ledger name len))) (row_in row at (lengths ledger))
   resized_within name len [] ne = same_within no_row
   resized_within name len (entry ∷ ledger) ne = moved_within (is_same name entry.0) entry len ledger (with_length ledger name len) ne (resized_within name len ledger ne)
 
@@ -108,13 +108,13 @@ module _ (row : ℕ → ℕ) (at : ℕ) where
       subst (λ (r : Row). (IsWithin found r × IsWithin old r) × ((bound : Row) → IsWithin old bound → IsWithin found bound → IsWithin r bound)) (sym is)
       (((omega arith, omega arith), (omega arith, omega arith)), λ bound p q. (omega (arith, p.0, q.0), omega (arith, p.1, q.1)))
 
-  noted_here : (rows : List Row) (len : ℕ) (lens : List ℕ) → row len ≡ at → at < length rows
+  pub noted_here : (rows : List Row) (len : ℕ) (lens : List ℕ) → row len ≡ at → at < length rows
       → get_or (with_lengths row rows len lens) at no_row ≡ joined (get_or rows at no_row) (row_in row at lens)
   noted_here rows len lens is inside =
       get_or-set_at rows (row len) at (joined (get_or rows (row len) no_row) (row_in row (row len) lens)) no_row (sym is) (omega (arith, is, inside))
       ∙ ap (λ (k : ℕ). joined (get_or rows k no_row) (row_in row k lens)) is
 
-  noted_other : (rows : List Row) (len : ℕ) (lens : List ℕ) → row len ≢ at → get_or (with_lengths row rows len lens) at no_row ≡ get_or rows at no_row
+  pub noted_other : (rows : List Row) (len : ℕ) (lens : List ℕ) → row len ≢ at → get_or (with_lengths row rows len lens) at no_row ≡ get_or rows at no_row
   noted_other rows len lens ne = get_or-set_other rows (row len) at (joined (get_or rows (row len) no_row) (row_in row (row len) lens)) no_row (λ e. ne (sym e))
 
   raising : (rows : List Row) (len : ℕ) (lens : List ℕ) → at < length rows → (row len ≢ at → IsWithin (row_in row at lens) (get_or rows at no_row))

@@ -6,8 +6,14 @@
 --   LeastRows: it is the least that the calls keep within
 --   FirstFew: the first list of rows that is short enough
 --   TablesTold: it is the table that they keep to
+--   StepsTold: what steps tell of a span of lengths is the row that the calls come to
+--   MergesTold: so a table that is merged by steps is that of the calls, merged for the fewest words
+--   RowWords: no region has room for very many blocks
+--   Divided: how a row of places is divided by the fewest words
+--   MergedLines: their lines, one worker after the other
+--   Costs: the words of the parts of a table, as they are kept
 --   Measured: what is told of a run's entries is what the trace asks for
---   Enough: the words of a pool are enough
+--   Enough: the words for mixed sizes are enough
 --   KindsEnough: and so are those of a table of kinds
 --   LeastFound: the least words, found by replays
 pub mod Lent
@@ -17,6 +23,12 @@ pub mod RowEntries
 pub mod LeastRows
 pub mod FirstFew
 pub mod TablesTold
+pub mod StepsTold
+pub mod MergesTold
+pub mod RowWords
+pub mod Divided
+pub mod MergedLines
+pub mod Costs
 pub mod Measured
 pub mod Enough
 pub mod KindsEnough

@@ -1,5 +1,5 @@
 -- What is told of a run's entries is what the trace asks for.
-use Rattle.std.proofs.Common.{◌≡◌, ℕ, ◌+◌, ◌<◌, ◌++◌, List, Option, length, vec_len, ap, ap₂, sym, ◌∙◌, subst, arith}
+use Rattle.std.proofs.Common.{◌≡◌, ℕ, ◌+◌, ◌<◌, ◌++◌, List, [], Option, length, vec_len, ap, ap₂, sym, ◌∙◌, subst, arith}
 use Rattle.std.proofs.lemmas.List.FromFn.{length-map-range_with_len}
 use Rattle.tlsf_heap.specs.Calls as heap
 use Rattle.tlsf_heap.specs.declared.name.Name.{Name}
@@ -23,11 +23,13 @@ use Rattle.tlsf_trace.proofs.Onward.{ends, nothing_told}
 use Rattle.tlsf_held.specs.HeldLines.{held_text}
 use Rattle.tlsf_held.specs.KindLines.{kinds_text}
 use Rattle.tlsf_held.specs.Loans.{account_of}
-use Rattle.tlsf_held.specs.Measures.{Measures, TellsKinds}
+use Rattle.tlsf_held.specs.Measures.{Measures, TellsKinds, TellsMerged}
+use Rattle.tlsf_held.specs.MergedLines.{AddsMerged}
 use Rattle.tlsf_held.specs.RowTallies.{table_of}
 use Rattle.tlsf_held.specs.Runs.{IsRunOf}
 use Rattle.tlsf_held.specs.Tallies.{tally_of}
 use Rattle.tlsf_held.proofs.LeastBounds.{tally_bounds}
+use Rattle.tlsf_held.proofs.MergesTold.{merged_is}
 use Rattle.tlsf_held.proofs.MostWanted.{account_bounds}
 use Rattle.tlsf_held.proofs.TablesTold.{table_is}
 
@@ -82,4 +84,22 @@ tables_told trace sli header entries made text level_is header_is is text_is =
       each = λ j inside. table_is (is_level trace.header.version) (yard_of {sli = level} trace.header) (events_of trace) j (omega (arith, count, inside));
       written = text_is ∙ (ap₂ (λ (n : ℕ) (h : Header). lines n h made entries) (sym level_is) header_is
           ∙ ap₂ (λ (m : List (Option Name)) (es : List Entry). lines level trace.header m es) is.0 is.1);
+    }
+
+-- and of its tables merged
+pub merged_told : (trace : Trace) (sli heaps : ℕ) (header : Header) (entries : List Entry) (made : List (Option Name)) (text : List ℕ)
+    → level_in trace.header ≡ sli → header ≡ trace.header → IsRunOf trace made entries
+    → AddsMerged sli heaps header.workers made entries [] text → TellsMerged heaps trace text
+merged_told trace sli heaps header entries made text level_is header_is is adds =
+    let run = run_of trace in
+    let level = level_in trace.header in
+    let count = length-map-range_with_len (λ (i : ℕ). heap.opened i trace.header.words 0) 0 trace.header.workers in
+    let told = subst (λ (n : ℕ). AddsMerged n heaps trace.header.workers run.made run.entries [] text) (sym level_is)
+    (subst (λ (h : Header). AddsMerged sli heaps h.workers run.made run.entries [] text) header_is
+    (subst (λ (m : List (Option Name)). AddsMerged sli heaps header.workers m run.entries [] text) is.0
+    (subst (λ (es : List Entry). AddsMerged sli heaps header.workers made es [] text) is.1 adds))) in
+    record {
+      tables = told.tables;
+      each = λ j inside. merged_is (is_level trace.header.version) (yard_of {sli = level} trace.header) (events_of trace) j (omega (arith, count, inside)) heaps (told.tables j) (told.each j inside);
+      written = told.written;
     }

@@ -40,7 +40,7 @@ same_places f g count same =
 
 -- ---- the rows of a grain are unique
 
-same_row : (a b : Row) → IsWithin a b → IsWithin b a → a ≡ b
+pub same_row : (a b : Row) → IsWithin a b → IsWithin b a → a ≡ b
 same_row a b p q = let most : a.most ≡ b.most = omega (arith, p.0, q.0) in let longest : a.longest ≡ b.longest = omega (arith, p.1, q.1) in
     ap₂ (λ (m n : ℕ). let r : Row = record { most = m; longest = n } in r) most longest
 

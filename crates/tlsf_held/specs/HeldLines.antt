@@ -1,7 +1,7 @@
 -- The lines on what workers asked of their heaps.
 use Rattle.std.specs.Prelude.{ℕ, zero, suc, List, [], ◌++◌, ◌==◌, Option, Some, None, codes, if◌then◌else◌}
 use Rattle.std.specs.Fmt.{decimal}
-use Rattle.tlsf_pool.specs.laws.Pools.{pool_region}
+use Rattle.tlsf_pool.specs.laws.MixedSizes.{mixed_region}
 
 -- so many words, or that no region has so many
 abbrev pub words_text : Option ℕ → List ℕ
@@ -10,7 +10,7 @@ words_text None = codes "none"
 
 -- the words of a region in which calls of these bounds are never refused for want of room: 4 where no block is asked for
 unfoldable pub held_region : ℕ → (most len : ℕ) → Option ℕ
-held_region sli most len = if most == 0 then Some 4 else pool_region sli most len
+held_region sli most len = if most == 0 then Some 4 else mixed_region sli most len
 
 -- held J blocks B bytes N words W region R wanted L, at a level
 abbrev pub held_line : ℕ → (worker most len words wanted : ℕ) → List ℕ

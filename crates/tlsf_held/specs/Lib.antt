@@ -5,10 +5,14 @@ pub mod KindTables
 pub mod Least
 pub mod Loans
 pub mod Measures
+pub mod Merges
 pub mod Rows
 -- What the clauses of private functions cite besides.
+pub mod Divisions
 pub mod Lent
+pub mod MergedLines
 pub mod Replies
 pub mod RowTallies
 pub mod Runs
+pub mod Steps
 pub mod Tallies

@@ -3,13 +3,14 @@ use Rattle.std.specs.Prelude.{◌≡◌, ◌↔◌, ℕ, ◌<◌, ◌≤◌, IsT
 use Rattle.std.specs.List.{AllByRecursion}
 use Rattle.tlsf_heap.specs.Calls.{Call, Answer}
 use Rattle.tlsf_heap.specs.Lawful.{IsRegion}
-use Rattle.tlsf_pool.specs.laws.Pools.{AreModest, HasRoomFor}
+use Rattle.tlsf_pool.specs.laws.MixedSizes.{AreModest, HasRoomFor}
 use Rattle.tlsf_crew.specs.histories.History.{answers_on, calls_on}
 use Rattle.tlsf_pool.specs.laws.Kinds.{kinds_words, HasClass, StaysFour, are_fours}
 use Rattle.tlsf_held.specs.HeldLines.{held_region, held_text}
 use Rattle.tlsf_held.specs.KindLines.{kinds_text}
 use Rattle.tlsf_held.specs.KindTables.{kinds_of, IsTable}
 use Rattle.tlsf_held.specs.Loans.{IsMostWanted}
+use Rattle.tlsf_held.specs.Merges.{IsMergedTable}
 use Rattle.tlsf_held.specs.declared.row.Row.{Row}
 use Rattle.tlsf_lines.specs.Trace.{Trace}
 use Rattle.tlsf_lines.specs.declared.trace_fault.TraceFault.{TraceFault}
@@ -66,6 +67,23 @@ pub record TellsKinds (trace : Trace) (text : List ℕ) : Type 0 where
 -- a run of a trace that puts out the kinds of blocks that its workers hold
 abbrev pub IsKindMeasurement : Result Summary TraceFault → Option (List ℕ) → Option (List ℕ) → Option (List ℕ) → Option (List ℕ) → Type 0
 IsKindMeasurement = IsRun TellsKinds
+
+-- ---- tables merged for a few heaps
+
+-- the table that the calls on heap j keep to, merged for so many heaps
+abbrev pub IsMergedTableOf : Trace → ℕ → ℕ → List Row → Type 0
+IsMergedTableOf trace heaps j rows =
+    let run = run_of trace in IsMergedTable (level_in trace.header) heaps (calls_on j run.made run.entries) (answers_on j run.entries) rows
+
+-- the text has a line for each worker, in rising number, with that table
+pub record TellsMerged (heaps : ℕ) (trace : Trace) (text : List ℕ) : Type 0 where
+  pub tables : ℕ → List Row
+  pub each : (j : ℕ) → j < trace.header.workers → IsMergedTableOf trace heaps j (tables j)
+  pub written : text ≡ kinds_text (level_in trace.header) tables trace.header.workers
+
+-- a run of a trace that puts out these
+abbrev pub IsMergedMeasurement : ℕ → Result Summary TraceFault → Option (List ℕ) → Option (List ℕ) → Option (List ℕ) → Option (List ℕ) → Type 0
+IsMergedMeasurement heaps = IsRun (TellsMerged heaps)
 
 -- where the heaps of a trace have the words of this table, no request of the worker's is answered NoFit
 abbrev pub HeldKindsSuffice : Type 0

@@ -2,8 +2,10 @@
 ghost use Rattle.std.specs.Prelude.{◌≡◌, ◌++◌, OnOk, string_bytes};
 ghost use Rattle.tlsf_class.specs.Classes.{IsLevel};
 ghost use Rattle.tlsf_held.specs.KindLines.{kinds_line, kinds_text, pair_text, pairs_text, rows_written};
+ghost use Rattle.tlsf_held.specs.MergedLines.{AddsMerged};
 ghost use Rattle.tlsf_held.specs.RowTallies as told;
 
+use crate::merging::merged_table_of;
 use crate::row::Row;
 use crate::rows::table_of;
 use std::alloc::{AllocError, Global};
@@ -68,6 +70,25 @@ pub fn write_kinds_lines<const SLI: u32>(
 {
     for worker in 0..workers {
         let rows = table_of::<SLI>(alloc, worker, made, entries)?;
+        write_kinds_line::<SLI>(text, &rows)?;
+    }
+    Ok(())
+}
+
+/// Adds those lines with each worker's table merged for so many heaps.
+pub fn write_merged_lines<const SLI: u32>(
+    alloc: Global,
+    text: &mut String,
+    heaps: u32,
+    workers: u32,
+    made: &[Option<Name>],
+    entries: &[Entry],
+) -> Result<(), AllocError>
+    requires { IsLevel SLI }
+    ensures { OnOk result (AddsMerged SLI heaps workers made.now entries.now (string_bytes text.old) (string_bytes text.new)) }
+{
+    for worker in 0..workers {
+        let rows = merged_table_of::<SLI>(alloc, heaps, worker, made, entries)?;
         write_kinds_line::<SLI>(text, &rows)?;
     }
     Ok(())

@@ -6,6 +6,8 @@
 //!
 //! [`measure_kinds`] writes for each worker the table of the kinds of blocks that it held, as options of `tlsf size`.
 //!
+//! [`measure_merged_kinds`] merges neighbouring kinds of that table, so that a few pools have the fewest words.
+//!
 //! [`measure_least`] finds by replays for each worker the least words of heaps in which none of its requests lacks room.
 //!
 //! Held is what the law for a heap of a yard counts (`tlsf_yard_laws::yard_never_refuses`): the accepted allocates of the heap's own worker less the
@@ -15,6 +17,7 @@
 //! `Measures` of `specs/Measures.antt` joins them with the laws: the numbers of a line are the least bounds within which the worker's calls keep.
 #![tactic(auto)]
 
+mod divisions;
 mod kind_lines;
 mod laws;
 mod least;
@@ -23,10 +26,13 @@ mod least_run;
 mod lines;
 mod loans;
 mod measuring;
+mod merging;
 mod row;
 mod rows;
+mod spans;
+mod steps;
 mod tally;
 
 pub use laws::{held_kinds_suffice, held_words_suffice};
 pub use least_run::measure_least;
-pub use measuring::{measure_kinds, measure_trace};
+pub use measuring::{measure_kinds, measure_merged_kinds, measure_trace};

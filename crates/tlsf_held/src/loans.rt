@@ -43,8 +43,8 @@ impl Model for Loans {
     ghost invariant = { λ p. (p.words ≡ wanted_in (ledger_of p.items.items)) × (p.words ≤ 2 ^ 32 * vec_len p.items) };
 }
 
-// Whether two names are the same.
-fn is_same(a: Name, b: Name) -> bool
+/// Whether two names are the same.
+pub fn is_same(a: Name, b: Name) -> bool
     ensures { result ≡ laws.is_same a b }
 {
     a.heap == b.heap && a.serial == b.serial && a.at == b.at
@@ -128,8 +128,8 @@ fn name_of(made: &[Option<Name>], target: Target) -> Option<Name>
     }
 }
 
-// The name of the block that the heap took back.
-fn freed_by(made: &[Option<Name>], call: Call, reply: Reply) -> Option<Name>
+/// The name of the block that the heap took back.
+pub fn freed_by(made: &[Option<Name>], call: Call, reply: Reply) -> Option<Name>
     ensures { result ≡ told.freed_by made.now call reply }
 {
     match (call, reply) {
@@ -139,8 +139,8 @@ fn freed_by(made: &[Option<Name>], call: Call, reply: Reply) -> Option<Name>
     }
 }
 
-// That of the block which it resized.
-fn resized_by(made: &[Option<Name>], target: Target, reply: Reply) -> Option<Name>
+/// That of the block which it resized.
+pub fn resized_by(made: &[Option<Name>], target: Target, reply: Reply) -> Option<Name>
     ensures { result ≡ told.resized_by made.now target reply }
 {
     match reply {
@@ -151,6 +151,7 @@ fn resized_by(made: &[Option<Name>], target: Target, reply: Reply) -> Option<Nam
 
 impl Loans {
     ghost use Rattle.std.specs.Prelude.{◌≡◌, OnOk, IfOk};
+    ghost use Rattle.tlsf_held.specs.Lent.{ledger_of};
     ghost use Rattle.tlsf_held.specs.Loans.{account_of, accounted, no_loans, with_asked, with_given, with_resized, with_taken};
 
     /// Of no call.
@@ -180,6 +181,13 @@ impl Loans {
             }
         }
         Ok(loans)
+    }
+
+    /// The blocks that are held, the oldest first.
+    pub fn held(&self) -> &[Loan]
+        ensures { ledger_of result.now ≡ self.now.ledger }
+    {
+        &self.items
     }
 
     /// The most words that were wanted at once.

@@ -120,7 +120,8 @@ fn rows_told<const SLI: u32>(
 ) -> Result<Vec<Row>, AllocError>
     requires level { IsLevel SLI }
     requires grain { grain ≤ 4 }
-    ensures { IfOk result (λ rows. rows.items ≡ (told.rows_told SLI grain worker made.now entries.now).rows) }
+    ensures told { IfOk result (λ rows. rows.items ≡ (told.rows_told SLI grain worker made.now entries.now).rows) }
+    ensures whole { IfOk result (λ rows. vec_len rows ≡ spec.row_count SLI grain) }
 {
     let mut rows = vec![in alloc; Row::new(); row_count::<SLI>(grain)]?;
     let mut loans = Loans::new(alloc);
@@ -134,7 +135,8 @@ fn rows_told<const SLI: u32>(
 
 // Takes the rows of no block out.
 fn keep_used(rows: &mut Vec<Row>)
-    ensures { rows.new.items ≡ spec.used rows.old.items }
+    ensures used { rows.new.items ≡ spec.used rows.old.items }
+    ensures few { vec_len rows.new ≤ vec_len rows.old }
 {
     rows.retain(|row| row.most > 0);
 }
@@ -149,7 +151,8 @@ fn used_rows<const SLI: u32>(
 ) -> Result<Vec<Row>, AllocError>
     requires level { IsLevel SLI }
     requires grain { grain ≤ 4 }
-    ensures { IfOk result (λ rows. rows.items ≡ told.used_rows SLI worker made.now entries.now grain) }
+    ensures used { IfOk result (λ rows. rows.items ≡ told.used_rows SLI worker made.now entries.now grain) }
+    ensures few { IfOk result (λ rows. vec_len rows ≤ spec.row_count SLI grain) }
 {
     let mut rows = rows_told::<SLI>(alloc, grain, worker, made, entries)?;
     keep_used(&mut rows);
@@ -166,7 +169,8 @@ pub fn table_of<const SLI: u32>(
     entries: &[Entry],
 ) -> Result<Vec<Row>, AllocError>
     requires { IsLevel SLI }
-    ensures { IfOk result (λ rows. rows.items ≡ told.table_of SLI worker made.now entries.now) }
+    ensures table { IfOk result (λ rows. rows.items ≡ told.table_of SLI worker made.now entries.now) }
+    ensures few { IfOk result (λ rows. vec_len rows ≤ 64) }
 {
     for grain in 0..4 {
         let rows = used_rows::<SLI>(alloc, grain, worker, made, entries)?;

@@ -3,7 +3,7 @@ ghost use Rattle.std.specs.Prelude.{◌≡◌};
 ghost use Rattle.tlsf_held.specs.Replies as told;
 
 use tlsf_crew::{Call, CrewRefusal, Entry, Reply};
-use tlsf_pool::pool_region;
+use tlsf_pool::mixed_region;
 
 /// What the calls of one worker have asked of its heap so far.
 #[derive(Clone, Copy, Debug, PartialEq, Eq)]
@@ -16,8 +16,8 @@ pub struct Tally {
     pub longest: u32,
 }
 
-// Whether the heap gave a block.
-fn is_given(reply: Reply) -> bool
+/// Whether the heap gave a block.
+pub fn is_given(reply: Reply) -> bool
     ensures { result ≡ told.is_given reply }
 {
     matches!(reply, Reply::Made(_))
@@ -149,6 +149,6 @@ impl Tally {
         if self.most > u32::MAX as usize {
             return None;
         }
-        pool_region::<SLI>(self.most as u32, self.longest)
+        mixed_region::<SLI>(self.most as u32, self.longest)
     }
 }

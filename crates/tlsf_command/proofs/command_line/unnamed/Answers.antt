@@ -4,6 +4,6 @@ use Rattle.tlsf_command.proofs.command_line.unnamed.Goals as goal
 
 pub returns-in_default : goal.returns-in_default
 returns-in_default c = (
-  is_worst c.args.run (λ no. let none = c.requires no in absurd (omega (arith, none, c.if-line-eq0.false))) c.in_default.not-Map,
-  λ none. absurd (omega (arith, none, c.if-line-eq0.false)),
+  is_worst c.args.run (λ no. let none = c.requires no in absurd (omega (arith, none, c.if-number-eq0.false))) c.in_default.not-Map c.in_default.not-HeldKinds,
+  λ none. absurd (omega (arith, none, c.if-number-eq0.false)),
 )

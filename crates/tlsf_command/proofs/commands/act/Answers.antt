@@ -14,6 +14,9 @@ returns-in-Classes g c = rw c.in-Classes.is (c.run_classes.ensures (g.R.Read.rem
 pub returns-in-At : goal.returns-in-At
 returns-in-At g c = rw c.in-At.is c.run_at.ensures
 
+pub returns-in-Heaps : goal.returns-in-Heaps
+returns-in-Heaps g c = rw c.in-Heaps.is c.run_merged.ensures
+
 pub returns-in-Size : goal.returns-in-Size
 returns-in-Size g c = rw c.in-Size.is (c.run_size.ensures (g.R.Read.remaining c.args.reader.now))
 

@@ -1,0 +1,74 @@
+"""Kinds merged for a few pools, by trying each way: docs/COMMANDS.md, read a second time."""
+import collections
+import functools
+import itertools
+
+from model.answers import Asked, Yard
+from model.heap import MOST_WORDS, low, search_of, want
+
+NO_REGION = 1 << 32     # more than eight regions have
+
+
+class Steps(Asked):
+    """What one worker's calls asked of its heap, and the lengths that it held, step by step: one more, one fewer, or all at once."""
+
+    def __init__(self):
+        super().__init__()
+        self.steps = []
+
+    def request(self, length):
+        super().request(length)
+        self.steps += [(1, length), (0, 0), (-1, length)]
+
+    def drop(self, serial):
+        self.steps.append((-1, self.held[serial]))
+        super().drop(serial)
+
+    def hold(self, serial, length):
+        super().hold(serial, length)
+        self.steps += [(1, length), (0, 0)]
+
+
+def steps_of(trace):
+    """The steps of each worker of a trace."""
+    yard = Yard(trace)
+    yard.asked = [Steps() for _ in yard.heaps]
+    collections.deque(yard.steps(), 0)
+    return [it.steps for it in yard.asked]
+
+
+def row_between(steps, above, upto):
+    """The most blocks above one length, up to another, that are held at once, and the longest of them."""
+    held = most = longest = 0
+    for more, length in steps:
+        if more and above < length <= upto:
+            held += more
+            longest = max(longest, length)
+        most = max(most, held if not more else 0)
+    return most, longest
+
+
+def pool_words(row, level):
+    """The words of a pool for so many blocks of so many bytes."""
+    most, longest = row
+    if want(longest) > MOST_WORDS[level]:
+        return NO_REGION
+    words = max(4, most * low(search_of(want(longest), level), level))
+    return words if words <= MOST_WORDS[level] else NO_REGION
+
+
+def ways(count, heaps):
+    """Each way of cutting so many kinds, in their order, into at most so many parts: the number of the last kind of each."""
+    for cuts in range(min(heaps, count)):
+        yield from ((*ends, count - 1) for ends in itertools.combinations(range(count - 1), cuts))
+
+
+def fewest_words(lengths, steps, heaps, level):
+    """Of all ways of merging the kinds of these lengths, the fewest words of their pools."""
+
+    @functools.cache
+    def words(above, upto):
+        return pool_words(row_between(steps, above, upto), level)
+
+    return min(sum(words(lengths[first - 1] if first else -1, lengths[last]) for first, last in zip((0, *(it + 1 for it in ends)), ends))
+               for ends in ways(len(lengths), heaps))

@@ -1,0 +1,7 @@
+use Rattle.std.proofs.Common.{◌≡◌, ◌+◌, length}
+use Rattle.tlsf_held.specs.Divisions.{cost_in, AreBest}
+use Rattle.tlsf_held.proofs.divisions.best_in.Given as goal
+
+-- so many parts are allowed
+abbrev pub invariant-loop-heaps : goal.invariant-loop-heaps
+invariant-loop-heaps l = record { long : length l.row ≡ length l.costs + 1; best : AreBest (cost_in l.costs) (length l.costs) l.heaps l.row }

@@ -1,0 +1,8 @@
+use Rattle.std.proofs.Common.{◌≡◌, ◌++◌, take}
+use Rattle.tlsf_held.specs.Lent.{ledger_of}
+use Rattle.tlsf_held.specs.Steps.{freed_steps}
+use Rattle.tlsf_held.proofs.steps.push_freed.Given as goal
+
+-- the steps of the loans so far
+abbrev pub invariant-loop-loan : goal.invariant-loop-loan
+invariant-loop-loan l = l.steps.items ≡ l.fn.steps.items ++ freed_steps l.name (ledger_of (take l.loan-index l.loans))

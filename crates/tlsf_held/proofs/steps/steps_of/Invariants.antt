@@ -1,0 +1,10 @@
+use Rattle.std.proofs.Common.{◌≡◌, drop}
+use Rattle.tlsf_crew.specs.histories.History.{entries_of}
+use Rattle.tlsf_held.specs.Steps.{steps_told, stepped_all, StepAccount}
+use Rattle.tlsf_held.proofs.steps.steps_of.Given as goal
+
+-- with what is left, the steps so far are those of all
+abbrev pub invariant-loop-entry : goal.invariant-loop-entry
+invariant-loop-entry l =
+    let now : StepAccount = record { account = l.loans; steps = l.steps.items } in
+    (stepped_all l.made now (entries_of l.worker (drop l.entry-index l.entries))).steps ≡ steps_told l.worker l.made l.entries

@@ -1,0 +1,101 @@
+-- What the entries of a worker tell of the lengths that it holds, step by step.
+use Rattle.std.specs.Prelude.{ℕ, ◌+◌, ◌-◌, List, [], ◌∷◌, ◌++◌, Option, Some, None, fold, max, if◌then◌else◌}
+use Rattle.tlsf_heap.specs.declared.name.Name.{Name}
+use Rattle.tlsf_pool.specs.laws.Contents.{is_same}
+use Rattle.tlsf_pool.specs.laws.Kinds.{Ledger}
+use Rattle.tlsf_calls.specs.declared.call.Call.{Call}
+use Rattle.tlsf_calls.specs.declared.call.Call.TheVariants.{Allocate, Release, Resize, Take}
+use Rattle.tlsf_calls.specs.declared.entry.Entry.{Entry}
+use Rattle.tlsf_calls.specs.declared.reply.Reply.{Reply}
+use Rattle.tlsf_crew.specs.histories.History.{entries_of}
+use Rattle.tlsf_held.specs.Loans.{accounted, freed_by, no_loans, resized_by, Account}
+use Rattle.tlsf_held.specs.Merges.{is_between}
+use Rattle.tlsf_held.specs.Replies.{is_given}
+use Rattle.tlsf_held.specs.Rows.{no_row}
+use Rattle.tlsf_held.specs.declared.row.Row.{Row}
+use Rattle.tlsf_held.specs.declared.spans.Span.{Span}
+use Rattle.tlsf_held.specs.declared.steps.Step.{Step}
+use Rattle.tlsf_held.specs.declared.steps.Step.TheVariants.{Held, Freed, Reached}
+
+-- ---- the steps of an entry
+
+-- a block is asked for, and given or not
+abbrev pub asked_steps : ℕ → Reply → List Step
+asked_steps len reply = Held len ∷ (Reached ∷ (if is_given reply then [] else Freed len ∷ []))
+
+-- the blocks of a name are taken back, the oldest first
+abbrev pub freed_steps : Name → Ledger → List Step
+freed_steps name [] = []
+freed_steps name (entry ∷ ledger) = freed_steps name ledger ++ (if is_same name entry.0 then Freed entry.1 ∷ [] else [])
+
+-- they get another length
+abbrev pub moved_steps : Name → ℕ → Ledger → List Step
+moved_steps name len [] = []
+moved_steps name len (entry ∷ ledger) = moved_steps name len ledger ++ (if is_same name entry.0 then Freed entry.1 ∷ (Held len ∷ []) else [])
+
+-- the block of a name is taken back, where there is one
+abbrev pub taken_steps : Ledger → Option Name → List Step
+taken_steps ledger None = []
+taken_steps ledger (Some name) = freed_steps name ledger
+
+-- that of a name is resized
+abbrev pub resized_steps : Ledger → ℕ → Option Name → List Step
+resized_steps ledger len None = []
+resized_steps ledger len (Some name) = moved_steps name len ledger ++ Reached ∷ []
+
+-- an entry, by what is held before it
+abbrev pub entry_steps : List (Option Name) → Ledger → Call → Reply → List Step
+entry_steps made ledger (Allocate len) reply = asked_steps len reply
+entry_steps made ledger (Release target) reply = taken_steps ledger (freed_by made (Release target) reply)
+entry_steps made ledger (Take from) reply = taken_steps ledger (freed_by made (Take from) reply)
+entry_steps made ledger (Resize target len) reply = resized_steps ledger len (resized_by made target reply)
+entry_steps made ledger call reply = []
+
+-- ---- those of all entries
+
+pub record StepAccount : Type 0 where
+  pub account : Account
+  pub steps : List Step
+
+abbrev pub no_steps : StepAccount
+no_steps = record { account = no_loans; steps = [] }
+
+abbrev pub stepped : List (Option Name) → StepAccount → Call → Reply → StepAccount
+stepped made told call reply = record {
+  account = accounted made told.account call reply;
+  steps = told.steps ++ entry_steps made told.account.ledger call reply;
+}
+
+abbrev pub stepped_all : List (Option Name) → StepAccount → List Entry → StepAccount
+stepped_all made told entries = fold (λ told e. stepped made told e.call e.reply) told entries
+
+abbrev pub steps_told : ℕ → List (Option Name) → List Entry → List Step
+steps_told worker made entries = (stepped_all made no_steps (entries_of worker entries)).steps
+
+-- ---- what steps tell of the lengths from one on, below another
+
+abbrev pub no_span : Span
+no_span = record { held = 0; row = no_row }
+
+-- a block more of so many bytes, a block fewer, and all of these at once
+abbrev pub with_held : Span → ℕ → Span
+with_held span len = record { held = span.held + 1; row = record { most = span.row.most; longest = max span.row.longest len } }
+
+abbrev pub with_freed : Span → Span
+with_freed span = record { held = span.held - 1; row = span.row }
+
+abbrev pub with_reached : Span → Span
+with_reached span = record { held = span.held; row = record { most = max span.row.most span.held; longest = span.row.longest } }
+
+-- one step more
+abbrev pub span_step : (from to : ℕ) → Span → Step → Span
+span_step from to span (Held len) = if is_between from to len then with_held span len else span
+span_step from to span (Freed len) = if is_between from to len then with_freed span else span
+span_step from to span Reached = with_reached span
+
+abbrev pub span_after : (from to : ℕ) → Span → List Step → Span
+span_after from to span steps = fold (span_step from to) span steps
+
+-- the most that were held at once, and the longest
+abbrev pub row_between : List Step → (from to : ℕ) → Row
+row_between steps from to = (span_after from to no_span steps).row
