@@ -1,6 +1,7 @@
 /* Times calls whose data lies in no cache, shows which cache lines calls touch, and times what opens a heap. bench/peers builds and runs it.
  *
- * COLD WAY COLUMN, with the columns of peers.c. A call that is refused ends the program with status 1. WAY is one of these:
+ * COLD WAY COLUMN, with the columns of peers.c, and near4 and near5 for near heaps. A call that is refused ends the program with
+ * status 1. WAY is one of these:
  *   cold    prints 'cold, CALL: MEDIAN MOST' in nanoseconds. MOST is what 99.9 % of the calls stay within. Before each call all lines of
  *           the process's writable memory are flushed, but for the stack and what is this program's own. Code stays in the caches.
  *   lines   makes the same calls for valgrind's lackey, with marks in the memory at OWN. Before a call the byte of its number is written,
@@ -62,16 +63,22 @@ static void ends_if(int refused, const char *what) {
 /* --- The calls of each column --- */
 
 static _Alignas(LINE) struct tlsf_heap heap;
+static struct tlsf_near_heap near;
 
 static int heap_allocate(struct block *block, uint32_t len) { return !tlsf_allocate(&heap, len, &block->name); }
 static int heap_release(struct block *block, uint32_t len) { return (void)len, !tlsf_release(&heap, &block->name); }
 static int heap_malloc(struct block *block, uint32_t len) { return (block->at = tlsf_malloc(&heap, len)) != NULL; }
 static int heap_free(struct block *block, uint32_t len) { return (void)len, !tlsf_free(&heap, block->at); }
+static int near_allocate(struct block *block, uint32_t len) { return !tlsf_allocate(tlsf_near(&near), len, &block->name); }
+static int near_release(struct block *block, uint32_t len) { return (void)len, !tlsf_release(tlsf_near(&near), &block->name); }
+static int near_malloc(struct block *block, uint32_t len) { return (block->at = tlsf_malloc(tlsf_near(&near), len)) != NULL; }
+static int near_free(struct block *block, uint32_t len) { return (void)len, !tlsf_free(tlsf_near(&near), block->at); }
 static int system_calloc(struct block *block, uint32_t len) { return (block->at = own->calloc(1, len)) != NULL; }
 static int system_malloc(struct block *block, uint32_t len) { return (block->at = own->malloc(len)) != NULL; }
 static int system_free(struct block *block, uint32_t len) { return (void)len, own->free(block->at), 1; }
 static int nothing(struct block *block, uint32_t len) { return (void)block, len != 0; }
 static made *const of_heap[CALLS] = {heap_allocate, heap_release, heap_malloc, heap_free, nothing};
+static made *const of_near[CALLS] = {near_allocate, near_release, near_malloc, near_free, nothing};
 static made *const of_system[CALLS] = {system_calloc, system_free, system_malloc, system_free, nothing};
 #ifdef AUTHORS
 static _Alignas(LINE) void *pool; /* what a program keeps of a heap, as the handle above: it is flushed too */
@@ -95,6 +102,10 @@ static void open_all(const char *column) {
     if (!strncmp(column, "level", 5)) {
         calls = of_heap;
         ends_if((int)tlsf_open(&heap, (uint32_t)atoi(column + 5), 0, WORDS), "the heap");
+    }
+    if (!strncmp(column, "near", 4)) {
+        calls = of_near;
+        ends_if((int)tlsf_open_near(&near, (uint32_t)atoi(column + 4), 0, WORDS), "the heap");
     }
 #ifdef AUTHORS
     if (!strcmp(column, "authors")) {
@@ -172,6 +183,7 @@ static void trace_call(int call, struct block *block, uint32_t len) {
     ends_if(!is_done, "a call");
     const volatile char *payload = block->at;
     if (own->calls[call] == heap_allocate) payload = tlsf_payload(&heap, &block->name, NULL);
+    if (own->calls[call] == near_allocate) payload = tlsf_payload(tlsf_near(&near), &block->name, NULL);
     if (call == RELEASE || call == FREE) payload = own->marks;
     /* Valgrind leaves out reads of what isn't used. */
     const char first = on_stack, second = *payload, third = own->marks[LENGTHS + len];
