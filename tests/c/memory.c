@@ -12,6 +12,7 @@
 enum { ROOM = 3 << 17, GUARD = 128, FILLED = 0xa5, LINES = 128, PIECES = 1100 };
 
 static _Alignas(LINES) unsigned char room[2][ROOM];
+static unsigned char filled[ROOM];
 
 /* The heaps of each kind that are opened in `room`, and what lies beside a near heap. */
 static struct tlsf_heap plain;
@@ -89,8 +90,9 @@ static uint32_t words_of(struct tlsf_heap *heap) {
 
 /* Whether all is as it was filled, but for `bytes` bytes from `from` on. */
 static void check_outside(const unsigned char *all, const unsigned char *from, size_t bytes) {
-    for (const unsigned char *p = all; p < all + ROOM; p++)
-        if (p < from || p >= from + bytes) wants("a byte outside", *p, FILLED);
+    const size_t before = (size_t)(from - all), behind = before + bytes;
+    wants("a byte in front is another", memcmp(all, filled, before) != 0, 0);
+    wants("a byte behind is another", behind < ROOM && memcmp(all + behind, filled, ROOM - behind) != 0, 0);
 }
 
 /* Fills all payload of a heap, and sees that it lies in its memory. */
@@ -394,6 +396,7 @@ static void threads(void) {
 }
 
 int main(void) {
+    memset(filled, FILLED, ROOM);
     near_kind.heap = tlsf_near(&near.heap);
     heaps(&plain_kind, 4);
     heaps(&plain_kind, 5);
