@@ -5,8 +5,9 @@
  * TLSF_PRELOAD_MIB in the environment says how large the heap is, from 1 to 128; TLSF_PRELOAD_REPORT that each process writes at its
  * end to standard error what the heap did. A free of what isn't live ends the process.
  *
- * This is no more than a trial: under a lock one call waits for the others. All threads use payload while one of them is in a call,
- * which tlsf.h forbids, and a forked child goes on with the heap. Both are tested here, and promised nowhere. */
+ * This is no more than a trial: under a lock one call waits for the others. A payload is used by whoever holds the block, in any thread,
+ * also during calls on the heap that aren't about this block: so rule 4 of tlsf.h has it. A forked child goes on with the heap, which
+ * rule 5 forbids: that is tested here, and promised nowhere. */
 #define _GNU_SOURCE
 #include <dlfcn.h>
 #include <errno.h>

@@ -14,6 +14,8 @@
   so is the one that the macros TLSF_VERSION_ of include/tlsf.h make;
 - a function in backticks with a number behind it, as `tlsf_put` 56, has the
   bound of tools/longest_path.bounds, and in the next column that on aarch64;
+- who uses a payload in place is said in the words of rule 4 of tlsf.h wherever
+  the rule stands, and nowhere otherwise;
 - a trace that a page shows beside its replies is examples/two_workers.trace,
   with the reply lines of cases/two_workers.stdout."""
 import functools
@@ -48,6 +50,11 @@ ENDINGS = (".rt", ".antt", ".md", ".sh", ".py", ".edit", ".txt", ".tsv", ".svg",
 ANY_NAME = re.compile(r"[A-Z][A-Z_]+")
 WRONG_BODY = re.compile(r"[a-z]\w*?__[a-z0-9]\w*")
 QUOTED_BOUND = re.compile(r"`([^`\s]+)` (?:\| |takes at most )?(\d+)\b(?: \| (\d+)\b)?")
+# Who uses a payload in place, in which files that stands, and what would be another rule.
+RULE = "by whoever holds the block, in any thread, also during calls on the heap that aren't about this block"
+STATE_RULE = ("include/tlsf.h", "c/preload.c", "docs/C.md", "docs/THREADS.md", "bindings/rust/peachanchor/src/lib.rs")
+OTHER_RULE = re.compile(r"in no call on (?:the|that) heap|no call on (?:the|that) heap (?:runs|is made)|while one of them is in a call")
+LINE_START = re.compile(r"\s*\n\s*(?:\*|//!?)?\s*")
 # A trace beside its replies: the columns of its lines, and of the reply lines.
 TRACE_BLOCK = re.compile(r"```text\n(tlsf 1 2 64 4 .*?)\n```", re.S)
 LINES, REPLIES = slice(0, 22), slice(22, 54)
@@ -210,6 +217,16 @@ class Repository:
         if not showing:
             yield "no page shows a trace beside its replies"
 
+    def rule_faults(self):
+        stating = {name: LINE_START.sub(" ", tree.read(tree.TOP / name)) for name in STATE_RULE}
+        for name, text in stating.items():
+            if RULE not in text:
+                yield f"{name}: doesn't say that a payload is used {RULE}"
+        pages = {page.name: LINE_START.sub(" ", page.text) for page in self.pages.values() if page.name != "CHANGELOG.md"}
+        for name, text in {**pages, **stating}.items():
+            for found in OTHER_RULE.finditer(text):
+                yield f"{name}: says '{found[0]}', which is another rule for payloads than that of tlsf.h"
+
     def version_faults(self):
         newest = NEWEST.search(self.pages[tree.TOP / "CHANGELOG.md"].text)
         named = VERSION.search(tree.read(tree.TOP / "crates" / "tlsf_command" / "src" / "lib.rt"))
@@ -225,6 +242,7 @@ class Repository:
             yield from self.sentence_faults(page)
         yield from self.bound_faults()
         yield from self.trace_faults()
+        yield from self.rule_faults()
         yield from self.version_faults()
 
 

@@ -26,10 +26,10 @@
 //!    Rust knows. The header names thread starts, thread ends, locks and sequentially consistent atomics, so to keep it to
 //!    the letter hand a heap over by these.
 //! 3. What the library gets by pointer lies on the stack of a call here. Bytes of yours are copied here, not there.
-//! 4. A payload is its holder's in any thread, also while the heap is in a call on another block. [`Block::bytes_mut`] lends
-//!    its bytes, which another thread may have, and the block with them. A [`Block`] itself calls the heap, so it is neither
-//!    `Send` nor `Sync`, and shows its bytes as `[Cell<u8>]` besides. [`Heap::in_place`] and [`GlobalHeap::new`] are `unsafe`,
-//!    since what they allocate is reached by pointer.
+//! 4. A payload is used by whoever holds the block, in any thread, also during calls on the heap that aren't about this block.
+//!    [`Block::bytes_mut`] lends its bytes, which another thread may have, and the block with them. A [`Block`] itself calls the
+//!    heap, so it is neither `Send` nor `Sync`, and shows its bytes as `[Cell<u8>]` besides. [`Heap::in_place`] and
+//!    [`GlobalHeap::new`] are `unsafe`, since what they allocate is reached by pointer.
 //! 5. To set a signal handler or to fork is `unsafe` in Rust. Who does so keeps this rule.
 //! 6. Memory is given for ever: it is `'static`, or from C's `malloc`.
 #![no_std]
