@@ -304,7 +304,8 @@ class Tree:
         owner = self.index.get((crate, head))
         if owner and owner.item.kind == "type":
             target = re.search(r"= (?:\w+::)*(\w+)", owner.item.head)
-            return self.find(owner.crate, [target[1], last]) if target else None
+            known = owner.scope.type_named(target[1]) if target else None
+            return self.find(known.crate, [known.path, last]) if isinstance(known, Public) else None
         return self.index.get((owner.crate, f"{owner.path}::{last}")) if owner else None
 
     def only(self, path):
