@@ -161,7 +161,8 @@ public:
 
     // A heap that never lacks room for at most `blocks` blocks at once of at most `len` bytes each, by tlsf_words. Any call may
     // ask for them: of this class, or of a resource or an allocator, for objects aligned to at most `align` bytes. With `align`
-    // 0 the heap has the fewest words, and room for the calls by name of this class alone.
+    // 0 the heap has the fewest words, and room for the calls by name of this class alone. That is proved of allocates, resizes
+    // in place and releases; of moves and aligned blocks it is tested.
     static heap for_blocks(level l, std::uint32_t number, std::uint32_t blocks, std::uint32_t len,
                            std::size_t align = alignof(std::max_align_t)) {
         const std::size_t bytes = detail::bytes_to_find(len, align);
