@@ -90,7 +90,9 @@ enum {
     POSTER = 16,
     LEAST_WORDS = 4,
     MOST_NAMES = 1024, /* of a lane or a queue, which has no more posters */
-    MOST_BYTES = 1 << 28 /* no heap takes as many */
+    MOST_BYTES = 1 << 28, /* no heap takes as many */
+    BAD_SIZE = 5,      /* two numbers of enum tlsf_answer (tools/check answers) */
+    BAD_MEMORY = 39
 };
 
 /* What is left of the memory in which this thread opens something now. */
@@ -228,17 +230,28 @@ static size_t queue_bytes(size_t posters, size_t capacity) {
            posters * with_mark(POSTER, LINES) + with_mark(QUEUE_END, LINES);
 }
 
+/* Whether so many bytes may lie there: not at null, nor past the end of the address space, as from mmap's MAP_FAILED. */
+static int is_memory(const void *memory, size_t bytes) { return memory && bytes <= ~(uintptr_t)memory; }
+
 /* Whether so many bytes lie in the memory, from the first multiple of `step` on. */
 static int has(const void *memory, size_t bytes, size_t step, size_t wanted) {
     const size_t skip = skipped(memory, step);
-    return bytes >= skip && bytes - skip >= wanted;
+    return is_memory(memory, bytes) && bytes >= skip && bytes - skip >= wanted;
 }
 
+/* Where there is no memory, nothing is lent, and the call up to end_in is for a size that is refused. */
 static void begin_in(void *memory, size_t bytes, size_t step) {
+    static unsigned char nothing;
     const size_t skip = skipped(memory, step);
-    lent = (unsigned char *)memory + (skip < bytes ? skip : bytes);
-    lent_end = (unsigned char *)memory + bytes;
+    const int is_there = is_memory(memory, bytes);
+    lent = is_there ? (unsigned char *)memory + (skip < bytes ? skip : bytes) : &nothing;
+    lent_end = is_there ? (unsigned char *)memory + bytes : &nothing;
     lent_step = step;
+}
+
+static uint32_t end_in(uint32_t answer, const void *memory, size_t bytes) {
+    lent = 0;
+    return answer == BAD_SIZE && !is_memory(memory, bytes) ? BAD_MEMORY : answer;
 }
 
 static size_t bytes_for(uint32_t level, uint32_t words, size_t taken(size_t words)) {
@@ -260,12 +273,9 @@ static size_t words_in(size_t bytes, size_t most, size_t taken(size_t words)) {
 }
 
 static uint32_t open_in(struct tlsf_heap *heap, uint32_t level, uint32_t number, void *memory, size_t bytes, size_t taken(size_t words)) {
-    const size_t skip = skipped(memory, 16), words = bytes < skip ? 0 : words_in(bytes - skip, most_words(level), taken);
-    uint32_t answer;
+    const size_t skip = skipped(memory, 16), words = has(memory, bytes, 16, 0) ? words_in(bytes - skip, most_words(level), taken) : 0;
     begin_in(memory, bytes, 16);
-    answer = tlsf_open(heap, level, number, (uint32_t)words);
-    lent = 0;
-    return answer;
+    return end_in(tlsf_open(heap, level, number, (uint32_t)words), memory, bytes);
 }
 
 uint32_t tlsf_open_in(struct tlsf_heap *heap, uint32_t level, uint32_t number, void *memory, size_t bytes) {
@@ -295,12 +305,9 @@ uint32_t tlsf_open_near_in(struct tlsf_near_heap *near, uint32_t level, uint32_t
 size_t tlsf_lane_bytes(uint32_t capacity) { return capacity == 0 || capacity > MOST_NAMES ? 0 : LINES - 1 + lane_bytes(capacity); }
 
 uint32_t tlsf_lane_open_in(struct tlsf_post_end *post, struct tlsf_take_end *take_end, uint32_t capacity, void *memory, size_t bytes) {
-    uint32_t answer;
     if (capacity <= MOST_NAMES && !has(memory, bytes, LINES, lane_bytes(capacity))) capacity = 0; /* which is refused in its turn */
     begin_in(memory, bytes, LINES);
-    answer = tlsf_lane_open(post, take_end, capacity);
-    lent = 0;
-    return answer;
+    return end_in(tlsf_lane_open(post, take_end, capacity), memory, bytes);
 }
 
 size_t tlsf_queue_bytes(uint32_t posters, uint32_t capacity) {
@@ -309,12 +316,9 @@ size_t tlsf_queue_bytes(uint32_t posters, uint32_t capacity) {
 }
 
 uint32_t tlsf_queue_open_in(struct tlsf_queue *queue, uint32_t posters, uint32_t capacity, void *memory, size_t bytes) {
-    uint32_t answer;
     if (capacity <= MOST_NAMES && posters <= MOST_NAMES && !has(memory, bytes, LINES, queue_bytes(posters, capacity))) capacity = 0;
     begin_in(memory, bytes, LINES);
-    answer = tlsf_queue_open(queue, posters, capacity);
-    lent = 0;
-    return answer;
+    return end_in(tlsf_queue_open(queue, posters, capacity), memory, bytes);
 }
 
 size_t tlsf_offsets_bytes(uint32_t level, uint32_t units) {
@@ -323,10 +327,7 @@ size_t tlsf_offsets_bytes(uint32_t level, uint32_t units) {
 
 uint32_t tlsf_offsets_open_in(struct tlsf_offsets *offsets, uint32_t level, uint32_t number, uint32_t unit, uint32_t units, void *memory,
                               size_t bytes) {
-    uint32_t answer;
     if (units <= most_words(level) && !has(memory, bytes, 16, words_bytes(units, OFFSETS))) units = 0;
     begin_in(memory, bytes, 16);
-    answer = tlsf_offsets_open(offsets, level, number, unit, units);
-    lent = 0;
-    return answer;
+    return end_in(tlsf_offsets_open(offsets, level, number, unit, units), memory, bytes);
 }

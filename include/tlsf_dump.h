@@ -140,7 +140,7 @@ static inline void tlsf_dump_releases(struct tlsf_dump_out *out, struct tlsf_hea
 
 /* Gives the lines of a heap of that level, 4 or 5, to `put`, which gets `user` with each. Nobody else calls the heap meanwhile.
  * Refused: TLSF_IS_CLOSED; TLSF_BAD_LEVEL; TLSF_DAMAGED where a walk over the blocks doesn't end at the end; TLSF_BAD_SIZE where
- * the trace would have more than 32,768 lines. Of these no line comes. TLSF_FULL where `put` answered false. */
+ * the trace would have more than 32,768 lines. Of these no line comes. TLSF_NOT_WRITTEN where `put` answered false. */
 TLSF_ANSWER static inline uint32_t tlsf_dump_lines(struct tlsf_heap *heap, uint32_t level, tlsf_dump_put *put, void *user) TLSF_NOEXCEPT {
     struct tlsf_heap_report sums = {0, 0, 0, 0, 0, 0, 0, 0, 0, 0};
     struct tlsf_dump_out out = {put, user, true};
@@ -158,15 +158,15 @@ TLSF_ANSWER static inline uint32_t tlsf_dump_lines(struct tlsf_heap *heap, uint3
     tlsf_dump_blocks(&out, heap, level, words);
     tlsf_dump_rests(&out, heap, words);
     tlsf_dump_releases(&out, heap, words);
-    return out.goes_on ? TLSF_OK : TLSF_FULL;
+    return out.goes_on ? TLSF_OK : TLSF_NOT_WRITTEN;
 }
 
 static inline bool tlsf_dump_put_file(void *user, const char *line, size_t bytes) TLSF_NOEXCEPT {
     return fwrite(line, 1, bytes, (FILE *)user) == bytes;
 }
 
-/* The same into a file, which stays open. Refused as tlsf_dump_lines is; TLSF_FULL where a write fails. What the file keeps in its
- * buffer is written where it is flushed or closed. */
+/* The same into a file, which stays open. Refused as tlsf_dump_lines is; TLSF_NOT_WRITTEN where a write fails. What the file keeps in
+ * its buffer is written where it is flushed or closed. */
 TLSF_ANSWER static inline uint32_t tlsf_dump(struct tlsf_heap *heap, uint32_t level, FILE *to) TLSF_NOEXCEPT {
     return tlsf_dump_lines(heap, level, tlsf_dump_put_file, to);
 }

@@ -313,11 +313,28 @@ static inline void *tlsf_payload(struct tlsf_heap *heap, const struct tlsf_name 
 }
 
 static inline const char *tlsf_text_of(uint32_t answer) TLSF_NOEXCEPT {
-    static const char *const said[] = {"done", "no free block fits", "the ticks are used up", "a name of another heap",
-        "no live block has that name or address", "a size out of range", "no memory", "bytes past the end of the payload",
-        "the handle is closed", "the handle is open already", "no room where the block stands", "a level is 4 or 5",
-        "the lane or queue is full", "the lane or queue is empty", "a header is damaged", "another thread is in the way: try again"};
-    return answer < sizeof said / sizeof *said ? said[answer] : "no answer of this library";
+    switch (answer) {
+    case TLSF_OK: return "done";
+    case TLSF_NO_FIT: return "no free block fits";
+    case TLSF_WORN: return "the ticks are used up";
+    case TLSF_FOREIGN: return "a name of another heap";
+    case TLSF_STALE: return "no live block has that name or address";
+    case TLSF_BAD_SIZE: return "a size out of range";
+    case TLSF_NO_MEMORY: return "no memory";
+    case TLSF_RANGE: return "bytes past the end of the payload";
+    case TLSF_FULL: return "the lane or queue is full";
+    case TLSF_NO_ROOM: return "no room where the block stands";
+    case TLSF_NOT_WRITTEN: return "a line was not written";
+    case TLSF_IS_CLOSED: return "the handle is closed";
+    case TLSF_IN_USE: return "the handle is open already";
+    case TLSF_BAD_LEVEL: return "a level is 4 or 5";
+    case TLSF_EMPTY: return "the lane or queue is empty";
+    case TLSF_DAMAGED: return "a header is damaged";
+    case TLSF_BUSY: return "another thread is in the way: try again";
+    case TLSF_ROW_FULL: return "all blocks of that row are held";
+    case TLSF_BAD_MEMORY: return "memory that is null, or past the end of the address space";
+    default: return "no answer of this library";
+    }
 }
 
 #ifdef __cplusplus

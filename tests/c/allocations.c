@@ -130,7 +130,7 @@ static void do_other_calls(uint32_t kind, uint32_t level) {
     case 32: sum += tlsf_open_in(&heap, level, 1, bytes, 256) + tlsf_open_in(&closed, level, 1, bytes, 8); break;
     case 33: sum += tlsf_lane_open(&post, &take, 4) + tlsf_lane_open(&closed_post, &closed_take, 0); break;
     case 34: sum += tlsf_lane_open_in(&closed_post, &closed_take, 4, bytes, 8); break;
-    default: sum += tlsf_close(&closed) + tlsf_post_close(&closed_post) + tlsf_take_close(&closed_take) + (tlsf_text_of(below(16)) != NULL); break;
+    default: sum += tlsf_close(&closed) + tlsf_post_close(&closed_post) + tlsf_take_close(&closed_take) + (tlsf_text_of(below(41)) != NULL); break;
     }
 }
 

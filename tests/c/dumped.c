@@ -73,7 +73,7 @@ static void refuse(void) {
     if (tlsf_dump_lines(&closed, 4, does, NULL) != TLSF_IS_CLOSED || tlsf_dump_lines(&heap, 6, does, NULL) != TLSF_BAD_LEVEL)
         wrong("what has to be refused is not");
     wants("lines of what is refused", lines, 0);
-    if (tlsf_dump_lines(&heap, level, says_no, &left) != TLSF_FULL || left != 0) wrong("lines go on");
+    if (tlsf_dump_lines(&heap, level, says_no, &left) != TLSF_NOT_WRITTEN || left != 0) wrong("lines go on");
 }
 
 /* A heap that has more blocks than a trace has lines. */

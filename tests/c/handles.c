@@ -1,5 +1,5 @@
-/* What each call answers of a handle that is closed, zeroed, opened twice or closed twice, at both levels, and what the
- * header's own calls answer. */
+/* What each call answers of a handle that is closed, zeroed, opened twice or closed twice, at both levels, what becomes of names
+ * under way where an end is closed, and what the header's own calls answer. */
 #include "tlsf.h"
 
 #include <stdio.h>
@@ -168,6 +168,44 @@ static void lanes(void) {
     said("close the heap", tlsf_close(&heap));
 }
 
+/* Names that are under way when an end is closed: those that were put come, and those that nobody takes are gone. */
+static void names_under_way(void) {
+    struct tlsf_heap heap = TLSF_CLOSED;
+    struct tlsf_post_end post = TLSF_POST_CLOSED;
+    struct tlsf_take_end take = TLSF_TAKE_CLOSED;
+    struct tlsf_queue queue = TLSF_QUEUE_CLOSED;
+    struct tlsf_poster poster = TLSF_POSTER_CLOSED;
+    struct tlsf_name name = {0, 0, 0}, got = {0, 0, 0};
+    struct tlsf_heap_report report;
+    uint32_t came = 0;
+    printf("names under way\n");
+    said("open a heap", tlsf_open(&heap, 4, 1, 64));
+    said("allocate", tlsf_allocate(&heap, 8, &name));
+    said("open a lane", tlsf_lane_open(&post, &take, 2));
+    said("put", tlsf_put(&post, &name));
+    said("close the post end", tlsf_post_close(&post));
+    said("take", tlsf_take(&take, &got));
+    printf("  the same name %d\n", !memcmp(&name, &got, sizeof name));
+    said("close the take end", tlsf_take_close(&take));
+    said("open a queue", tlsf_queue_open(&queue, 1, 2));
+    said("open a poster's end", tlsf_poster_open(&queue, &poster));
+    said("post", tlsf_queue_post(&poster, &name));
+    said("close the poster's end", tlsf_poster_close(&poster));
+    said("drain", tlsf_queue_drain(&heap, &queue, 9, &came));
+    printf("  %u came\n", (unsigned)came);
+    said("close the queue", tlsf_queue_close(&queue));
+    said("allocate", tlsf_allocate(&heap, 8, &name));
+    said("open a lane", tlsf_lane_open(&post, &take, 2));
+    said("put", tlsf_put(&post, &name));
+    said("close the take end", tlsf_take_close(&take));
+    said("put", tlsf_put(&post, &name));
+    said("put", tlsf_put(&post, &name));
+    said("close the post end", tlsf_post_close(&post));
+    said("report", tlsf_report(&heap, &report));
+    printf("  live blocks %u\n", (unsigned)report.live_blocks);
+    said("close the heap", tlsf_close(&heap));
+}
+
 /* Closed handles as those of a struct, static or not, and as values that are assigned. */
 static void closed_values(void) {
     struct all {
@@ -204,5 +242,6 @@ int main(void) {
     sizes();
     ages();
     lanes();
+    names_under_way();
     return 0;
 }

@@ -1,7 +1,7 @@
 /* Heaps, lanes, queues and arenas of offsets in memory of the program's, at each alignment: what they take, that nothing else is
  * written, that no malloc and no free is called, and that it is the program's again. The own fields of a near heap lie in it, and no
- * other piece does. No piece of a lane or a queue shares its lines with another piece. With NO_MALLOC there is no malloc, and tlsf_open
- * is refused.
+ * other piece does. No piece of a lane or a queue shares its lines with another piece. Null and MAP_FAILED are refused, and nothing is
+ * taken. With NO_MALLOC there is no malloc, and tlsf_open is refused.
  * Link with -Wl,--wrap=malloc,--wrap=free,--wrap=tlsf_memory_alloc. */
 #include "tlsf.h"
 
@@ -278,7 +278,7 @@ static void lanes_of_malloc(void) {
         wants("a lane", tlsf_lane_open(&post[k], &take[k], 1 + 7 * (uint32_t)k), NEW_ANSWER);
         if (NEW_ANSWER == TLSF_OK) check_lines(4);
     }
-    for (size_t k = 0; k < 3; k++) wants("close", tlsf_post_close(&post[k]) + tlsf_take_close(&take[k]), NEW_ANSWER == TLSF_OK ? 0 : 16);
+    for (size_t k = 0; k < 3; k++) wants("close", tlsf_post_close(&post[k]) + tlsf_take_close(&take[k]), NEW_ANSWER == TLSF_OK ? 0 : 2 * TLSF_IS_CLOSED);
 }
 
 /* --- Queues --------------------------------------------------------------------------------------------------------- */
@@ -368,6 +368,40 @@ static void arenas(uint32_t level) {
     wants("of no level", offsets_in(level == 4 ? 3 : 6, 64, 0, 0), TLSF_BAD_LEVEL);
 }
 
+/* --- Memory that isn't there ---------------------------------------------------------------------------------------------- */
+
+/* Null, MAP_FAILED, and what would go past the end of the address space: each is refused before its size is, and nothing is taken. */
+static void nowhere(unsigned char *memory, size_t bytes) {
+    struct tlsf_heap heap = TLSF_CLOSED;
+    struct tlsf_near_heap third = TLSF_NEAR_CLOSED;
+    struct tlsf_post_end post = TLSF_POST_CLOSED;
+    struct tlsf_take_end take = TLSF_TAKE_CLOSED;
+    struct tlsf_queue queue = TLSF_QUEUE_CLOSED;
+    struct tlsf_offsets offsets = TLSF_OFFSETS_CLOSED;
+    const int before = calls;
+    wants("a heap nowhere", tlsf_open_in(&heap, 4, 1, memory, bytes), TLSF_BAD_MEMORY);
+    wants("a level first", tlsf_open_in(&heap, 3, 1, memory, bytes), TLSF_BAD_LEVEL);
+    wants("a near heap nowhere", tlsf_open_near_in(&third, 5, 1, memory, bytes), TLSF_BAD_MEMORY);
+    wants("a lane nowhere", tlsf_lane_open_in(&post, &take, 8, memory, bytes), TLSF_BAD_MEMORY);
+    wants("a lane of too many nowhere", tlsf_lane_open_in(&post, &take, 1025, memory, bytes), TLSF_BAD_MEMORY);
+    wants("a queue nowhere", tlsf_queue_open_in(&queue, 2, 8, memory, bytes), TLSF_BAD_MEMORY);
+    wants("an arena nowhere", tlsf_offsets_open_in(&offsets, 4, 1, 64, 100, memory, bytes), TLSF_BAD_MEMORY);
+    wants("all closed", heap.is_open || tlsf_near(&third)->is_open || post.is_open || take.is_open || queue.is_open || offsets.is_open, 0);
+    wants("nothing taken", (size_t)(calls - before), 0);
+    wants("a heap somewhere", tlsf_open_in(&heap, 4, 1, room[0], ROOM), TLSF_OK);
+    wants("open first", tlsf_open_in(&heap, 3, 1, memory, bytes), TLSF_IN_USE);
+    wants("close", tlsf_close(&heap), TLSF_OK);
+}
+
+static void no_memory(void) {
+    nowhere(NULL, 1 << 16);
+    nowhere(NULL, 0);
+    nowhere((unsigned char *)UINTPTR_MAX, 1 << 16); /* MAP_FAILED */
+    nowhere((unsigned char *)UINTPTR_MAX, 1);
+    nowhere(room[0], SIZE_MAX - (uintptr_t)room[0] + 1);
+    nowhere(room[0], SIZE_MAX);
+}
+
 /* --- Two threads that open at once ---------------------------------------------------------------------------------- */
 
 static void *open_often(void *given) {
@@ -410,6 +444,7 @@ int main(void) {
     queues();
     arenas(4);
     arenas(5);
+    no_memory();
     refusals();
     is_counted = 0;
     lanes_of_malloc();

@@ -47,7 +47,8 @@ static void refusals_of_calls(void) {
     wants("no name came", (size_t)memcmp(&name, &other, sizeof name), 0);
     wants("a short one", tlsf_pools_allocate(&pools, 4, &name), TLSF_OK);
     wants("of the first heap", name.heap, NUMBER);
-    wants("its row is full", tlsf_pools_allocate(&pools, 16, &other), TLSF_FULL);
+    wants("its row is full", tlsf_pools_allocate(&pools, 16, &other), TLSF_ROW_FULL);
+    wants("which is no lane", (size_t)strcmp(tlsf_text_of(TLSF_ROW_FULL), "all blocks of that row are held"), 0);
     wants("a long one", tlsf_pools_allocate(&pools, 17, &other), TLSF_OK);
     wants("of the second heap", other.heap, NUMBER + 1);
     wants("it is zero", tlsf_pools_read(&pools, &other, 13, out, 4), TLSF_OK);
@@ -85,7 +86,7 @@ static void one_allocate(struct tlsf_pools *pools) {
     const uint32_t len = below(4) ? rows[below(ROWS)].len - below(8) : below(LONGEST + 20), row = row_of(len);
     struct held *it = &held[count];
     const uint32_t answer = tlsf_pools_allocate(pools, len, &it->name);
-    wants("allocate", answer, row == ROWS ? TLSF_BAD_SIZE : in_row[row] == rows[row].most ? TLSF_FULL : TLSF_OK);
+    wants("allocate", answer, row == ROWS ? TLSF_BAD_SIZE : in_row[row] == rows[row].most ? TLSF_ROW_FULL : TLSF_OK);
     if (answer) return;
     it->len = len, it->row = row;
     for (uint32_t i = 0; i < count; i++) wants("a new name", (size_t)!memcmp(&held[i].name, &it->name, sizeof it->name), 0);

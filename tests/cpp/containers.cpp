@@ -231,6 +231,7 @@ static void own_memory(tlsf::level level) {
     holds("a container there", numbers[99] == 7 && at > from && at < from + sizeof memory);
     tlsf::heap other;
     holds("too little memory", other.open_in(level, 4, memory, 8) == TLSF_BAD_SIZE && !other.is_open());
+    holds("no memory at all", other.open_in(level, 4, nullptr, sizeof memory) == TLSF_BAD_MEMORY && !other.is_open());
 }
 
 template <std::size_t Align, std::size_t Len>

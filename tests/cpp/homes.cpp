@@ -163,6 +163,17 @@ void in_memory_of_the_programs() {
         caught++;
     }
     wants("too little memory", caught, 2);
+    try {
+        const tlsf::queue queue(2, 4, nullptr, memory.size());
+    } catch (const std::invalid_argument &) {
+        caught++;
+    }
+    try {
+        const tlsf::offsets arena(tlsf::level::four, 9, 16, 100, nullptr, memory.size());
+    } catch (const std::invalid_argument &) {
+        caught++;
+    }
+    wants("no memory at all", caught, 4);
 }
 
 void pools_for_a_table() {
@@ -171,7 +182,7 @@ void pools_for_a_table() {
     tlsf_name one{}, two{};
     std::uint8_t bytes[] = {1, 2, 3}, out[] = {9, 9, 9};
     wants("short", pools.allocate(16, one), TLSF_OK);
-    wants("no more of them", pools.allocate(8, two), TLSF_FULL);
+    wants("no more of them", pools.allocate(8, two), TLSF_ROW_FULL);
     wants("long", pools.allocate(17, two), TLSF_OK);
     wants("in another heap", two.heap - one.heap, 1);
     wants("write", pools.write(two, 1, bytes, 3), TLSF_OK);

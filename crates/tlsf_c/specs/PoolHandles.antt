@@ -8,7 +8,7 @@ use Rattle.tlsf_pool.specs.declared.kind.Kind.{Kind}
 use Rattle.tlsf_pool.specs.declared.pools.pool_refusal.PoolRefusal.{PoolRefusal}
 use Rattle.tlsf_pool.specs.declared.pools.pool_refusal.PoolRefusal.TheVariants as pool
 use Rattle.tlsf_pool.specs.pools.Parts.{PoolsState}
-use Rattle.tlsf_c.specs.Refusals.{bad_size, full}
+use Rattle.tlsf_c.specs.Refusals.{bad_size, row_full}
 use Rattle.tlsf_c.specs.declared.kind_row.KindRow.{KindRow}
 use Rattle.tlsf_c.specs.declared.pools_slot.PoolsSlot.{PoolsSlot}
 
@@ -35,7 +35,7 @@ kinds_of rows = map kind_of rows
 abbrev pub pool_status_of : Result Name PoolRefusal → ℕ
 pool_status_of (Ok name) = 0
 pool_status_of (Err pool.TooLong) = bad_size
-pool_status_of (Err pool.Full) = full
+pool_status_of (Err pool.Full) = row_full
 pool_status_of (Err pool.Worn) = number_of Worn
 
 -- 0, or that there is no such part

@@ -1,4 +1,4 @@
--- The numbers that C's calls answer.
+-- The numbers that C's calls answer. What a trace refuses too has its number there, up to 18; what C alone refuses has one from 32 on.
 use Rattle.std.specs.Prelude.{ℕ, Result, Ok, Err}
 use Rattle.tlsf_heap.specs.Numbers.{number_of}
 use Rattle.tlsf_heap.specs.declared.refusal.Refusal.{Refusal}
@@ -20,31 +20,35 @@ no_memory = 6
 
 -- the handle isn't open
 abbrev pub closed : ℕ
-closed = 8
+closed = 32
 
 -- the handle is open already
 abbrev pub in_use : ℕ
-in_use = 9
+in_use = 33
 
 -- no heap has that level
 abbrev pub bad_level : ℕ
-bad_level = 11
+bad_level = 34
 
 -- the lane is full, as far as its end knows
 abbrev pub full : ℕ
-full = 12
+full = 8
 
 -- the lane has nothing to take, as far as its end knows
 abbrev pub empty : ℕ
-empty = 13
+empty = 35
 
 -- a block is damaged
 abbrev pub damage : ℕ
-damage = 14
+damage = 36
 
 -- another thread was half through a step on the queue
 abbrev pub busy : ℕ
-busy = 15
+busy = 37
+
+-- as many blocks of a row of pools are held as may be
+abbrev pub row_full : ℕ
+row_full = 38
 
 abbrev pub call_number_of : CallFault → ℕ
 call_number_of fault.BadSize = bad_size
@@ -56,3 +60,4 @@ call_number_of fault.Full = full
 call_number_of fault.Empty = empty
 call_number_of fault.Damaged = damage
 call_number_of fault.Busy = busy
+call_number_of fault.RowFull = row_full

@@ -26,25 +26,28 @@ pub enum CallFault {
     Damaged,
     /// Another thread was half through a step on the queue.
     Busy,
+    /// As many blocks of a row of pools are held as may be.
+    RowFull,
 }
 
 impl CallFault {
     ghost use Rattle.tlsf_c.specs.Refusals.{call_number_of};
 
-    /// The number that stands for the fault. Those of a heap's refusals are others.
+    /// The number that stands for the fault: the one of a trace where it means the same, as 5, 6 and 8, and else one from 32 on.
     pub fn number(self) -> u32
         ensures { result ≡ call_number_of self }
     {
         match self {
             CallFault::BadSize => 5,
             CallFault::NoMemory => 6,
-            CallFault::Closed => 8,
-            CallFault::InUse => 9,
-            CallFault::BadLevel => 11,
-            CallFault::Full => 12,
-            CallFault::Empty => 13,
-            CallFault::Damaged => 14,
-            CallFault::Busy => 15,
+            CallFault::Closed => 32,
+            CallFault::InUse => 33,
+            CallFault::BadLevel => 34,
+            CallFault::Full => 8,
+            CallFault::Empty => 35,
+            CallFault::Damaged => 36,
+            CallFault::Busy => 37,
+            CallFault::RowFull => 38,
         }
     }
 }

@@ -116,8 +116,8 @@ pub extern "C" fn tlsf_pools_close(alloc: Global, pools: &mut PoolsSlot) -> u32
 /// Gives a block that holds `len` bytes of payload, all zero, in the heap of the first part of the table that has a row long enough. Its name
 /// goes to `name`.
 ///
-/// Refused as Closed where the handle isn't open, else as BadSize where no row is long enough, else as Full where as many blocks of that row are
-/// held as may be, else as Worn where the ticks of that heap are used up. It is never refused for want of room.
+/// Refused as Closed where the handle isn't open, else as BadSize where no row is long enough, else as RowFull where as many blocks of that row
+/// are held as may be, else as Worn where the ticks of that heap are used up. It is never refused for want of room.
 ///
 /// ```text
 /// tlsf_pools_allocate(&pools, 64, &name) == TLSF_OK
@@ -147,7 +147,7 @@ pub extern "C" fn tlsf_pools_allocate(
             0
         }
         Err(PoolRefusal::TooLong) => CallFault::BadSize.number(),
-        Err(PoolRefusal::Full) => CallFault::Full.number(),
+        Err(PoolRefusal::Full) => CallFault::RowFull.number(),
         Err(PoolRefusal::Worn) => Refusal::Worn.number(),
     }
 }

@@ -61,7 +61,7 @@ pub use queue::tlsf_queue;
 pub use span::tlsf_span;
 pub use take_end::tlsf_take_end;
 
-/// The answers of `enum tlsf_answer`.
+/// The answers of `enum tlsf_answer`: up to 18 the numbers of a trace, and what C alone refuses from 32 on.
 pub const TLSF_OK: u32 = 0;
 /// No free block is large enough, by the classes that are searched.
 pub const TLSF_NO_FIT: u32 = 1;
@@ -77,22 +77,28 @@ pub const TLSF_BAD_SIZE: u32 = 5;
 pub const TLSF_NO_MEMORY: u32 = 6;
 /// The bytes go past the end of the payload.
 pub const TLSF_RANGE: u32 = 7;
-/// The handle isn't open, or an interrupted call is using it.
-pub const TLSF_IS_CLOSED: u32 = 8;
-/// The handle is open already.
-pub const TLSF_IN_USE: u32 = 9;
+/// The lane or the queue is full.
+pub const TLSF_FULL: u32 = 8;
 /// The block would have to move.
 pub const TLSF_NO_ROOM: u32 = 10;
+/// What gets the lines of `tlsf_dump.h` didn't take one. No call here answers it.
+pub const TLSF_NOT_WRITTEN: u32 = 17;
+/// The handle isn't open, or an interrupted call is using it.
+pub const TLSF_IS_CLOSED: u32 = 32;
+/// The handle is open already.
+pub const TLSF_IN_USE: u32 = 33;
 /// A level is 4 or 5.
-pub const TLSF_BAD_LEVEL: u32 = 11;
-/// The lane or the queue is full.
-pub const TLSF_FULL: u32 = 12;
+pub const TLSF_BAD_LEVEL: u32 = 34;
 /// The lane or the queue is empty, or all posters' ends of a queue were given.
-pub const TLSF_EMPTY: u32 = 13;
+pub const TLSF_EMPTY: u32 = 35;
 /// A header doesn't agree with its neighbours or its size.
-pub const TLSF_DAMAGED: u32 = 14;
+pub const TLSF_DAMAGED: u32 = 36;
 /// Another thread is half through a step on the queue: the call may be made again.
-pub const TLSF_BUSY: u32 = 15;
+pub const TLSF_BUSY: u32 = 37;
+/// As many blocks of that row of pools are held as may be.
+pub const TLSF_ROW_FULL: u32 = 38;
+/// Memory of the caller's is null, or would go past the end of the address space, as from `MAP_FAILED`.
+pub const TLSF_BAD_MEMORY: u32 = 39;
 
 /// In `flags` of `tlsf_allocate_at`: nothing is filled.
 pub const TLSF_UNFILLED: u32 = 1;
@@ -102,31 +108,31 @@ pub const TLSF_LONGEST: usize = 1 << 27;
 /// What an answer says, in a few words.
 ///
 /// ```
-/// assert_eq!(peachanchor_sys::tlsf_text_of(12), "the lane or queue is full");
+/// use peachanchor_sys::{tlsf_text_of, TLSF_FULL};
+/// assert_eq!(tlsf_text_of(TLSF_FULL), "the lane or queue is full");
 /// ```
 #[must_use]
 pub const fn tlsf_text_of(answer: u32) -> &'static str {
-    const SAID: [&str; 16] = [
-        "done",
-        "no free block fits",
-        "the ticks are used up",
-        "a name of another heap",
-        "no live block has that name or address",
-        "a size out of range",
-        "no memory",
-        "bytes past the end of the payload",
-        "the handle is closed",
-        "the handle is open already",
-        "no room where the block stands",
-        "a level is 4 or 5",
-        "the lane or queue is full",
-        "the lane or queue is empty",
-        "a header is damaged",
-        "another thread is in the way: try again",
-    ];
-    if (answer as usize) < SAID.len() {
-        SAID[answer as usize]
-    } else {
-        "no answer of this library"
+    match answer {
+        TLSF_OK => "done",
+        TLSF_NO_FIT => "no free block fits",
+        TLSF_WORN => "the ticks are used up",
+        TLSF_FOREIGN => "a name of another heap",
+        TLSF_STALE => "no live block has that name or address",
+        TLSF_BAD_SIZE => "a size out of range",
+        TLSF_NO_MEMORY => "no memory",
+        TLSF_RANGE => "bytes past the end of the payload",
+        TLSF_FULL => "the lane or queue is full",
+        TLSF_NO_ROOM => "no room where the block stands",
+        TLSF_NOT_WRITTEN => "a line was not written",
+        TLSF_IS_CLOSED => "the handle is closed",
+        TLSF_IN_USE => "the handle is open already",
+        TLSF_BAD_LEVEL => "a level is 4 or 5",
+        TLSF_EMPTY => "the lane or queue is empty",
+        TLSF_DAMAGED => "a header is damaged",
+        TLSF_BUSY => "another thread is in the way: try again",
+        TLSF_ROW_FULL => "all blocks of that row are held",
+        TLSF_BAD_MEMORY => "memory that is null, or past the end of the address space",
+        _ => "no answer of this library",
     }
 }

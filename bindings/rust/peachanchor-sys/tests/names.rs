@@ -112,6 +112,22 @@ fn a_queue_and_an_arena_lie_in_memory_of_the_callers() {
 }
 
 #[test]
+fn memory_that_is_null_is_refused() {
+    let (mut heap, mut queue, mut offsets) = (tlsf_heap::CLOSED, tlsf_queue::CLOSED, tlsf_offsets::CLOSED);
+    let (mut near, mut post, mut take) = (tlsf_near_heap::CLOSED, tlsf_post_end::CLOSED, tlsf_take_end::CLOSED);
+    for memory in [null_mut(), null_mut::<u8>().wrapping_sub(1)] {
+        let memory = memory.cast();
+        unsafe {
+            assert_eq!(tlsf_open_in(&mut heap, 4, 1, memory, 1 << 16), TLSF_BAD_MEMORY);
+            assert_eq!(tlsf_open_near_in(&mut near, 4, 1, memory, 1 << 16), TLSF_BAD_MEMORY);
+            assert_eq!(tlsf_lane_open_in(&mut post, &mut take, 8, memory, 1 << 16), TLSF_BAD_MEMORY);
+            assert_eq!(tlsf_queue_open_in(&mut queue, 2, 8, memory, 1 << 16), TLSF_BAD_MEMORY);
+            assert_eq!(tlsf_offsets_open_in(&mut offsets, 4, 1, 64, 100, memory, 1 << 16), TLSF_BAD_MEMORY);
+        }
+    }
+}
+
+#[test]
 fn pools_serve_a_table() {
     let mut pools = tlsf_pools::CLOSED;
     let rows = [tlsf_kind { most: 1, len: 16 }, tlsf_kind { most: 2, len: 4000 }];
@@ -120,7 +136,7 @@ fn pools_serve_a_table() {
     unsafe {
         assert_eq!(tlsf_pools_open(&mut pools, 4, 5, rows.as_ptr(), 2), TLSF_OK);
         assert_eq!((tlsf_pools_allocate(&mut pools, 16, &mut name), name.heap), (TLSF_OK, 5));
-        assert_eq!(tlsf_pools_allocate(&mut pools, 1, &mut other), TLSF_FULL);
+        assert_eq!(tlsf_pools_allocate(&mut pools, 1, &mut other), TLSF_ROW_FULL);
         assert_eq!((tlsf_pools_allocate(&mut pools, 17, &mut other), other.heap), (TLSF_OK, 6));
         assert_eq!(tlsf_pools_write(&mut pools, &other, 0, [1, 2, 3].as_ptr(), 3), TLSF_OK);
         assert_eq!((tlsf_pools_read(&mut pools, &other, 1, bytes.as_mut_ptr(), 3), bytes), (TLSF_OK, [2, 3, 0]));

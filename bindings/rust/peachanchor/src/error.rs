@@ -24,28 +24,32 @@ pub enum Error {
     NoMemory = 6,
     /// The bytes go past the end of the payload.
     Range = 7,
-    /// A signal handler called a heap or a lane that the interrupted call is using.
-    Closed = 8,
-    /// The handle is open already.
-    InUse = 9,
+    /// The lane or the queue is full.
+    Full = 8,
     /// The block and a free one after it are too small: it would have to move.
     NoRoom = 10,
+    /// A signal handler called a heap or a lane that the interrupted call is using.
+    Closed = 32,
+    /// The handle is open already.
+    InUse = 33,
     /// A level is 4 or 5.
-    BadLevel = 11,
-    /// The lane or the queue is full.
-    Full = 12,
+    BadLevel = 34,
     /// The lane or the queue is empty.
-    Empty = 13,
+    Empty = 35,
     /// A header doesn't agree with its neighbours or its size, as after a write past a payload.
-    Damaged = 14,
+    Damaged = 36,
     /// Another thread is half through a step on the queue.
-    Busy = 15,
+    Busy = 37,
+    /// As many blocks of that row of pools are held as may be.
+    RowFull = 38,
+    /// Memory is null, or would go past the end of the address space.
+    BadMemory = 39,
     /// The library gave an answer that this crate doesn't know.
-    Unknown = 16,
+    Unknown = 255,
 }
 
 impl Error {
-    const ALL: [Self; 15] = [
+    const ALL: [Self; 17] = [
         Self::NoFit,
         Self::Worn,
         Self::Foreign,
@@ -53,14 +57,16 @@ impl Error {
         Self::BadSize,
         Self::NoMemory,
         Self::Range,
+        Self::Full,
+        Self::NoRoom,
         Self::Closed,
         Self::InUse,
-        Self::NoRoom,
         Self::BadLevel,
-        Self::Full,
         Self::Empty,
         Self::Damaged,
         Self::Busy,
+        Self::RowFull,
+        Self::BadMemory,
     ];
 
     /// What an answer of the library says.
@@ -87,9 +93,12 @@ mod tests {
     #[test]
     fn each_answer_has_its_error() {
         assert_eq!(Error::check(0), Ok(()));
-        for answer in 1..16 {
+        for answer in (1..=8).chain([10]).chain(32..=39) {
             assert_eq!(Error::check(answer).map_err(|it| it as u32), Err(answer));
         }
-        assert_eq!(Error::check(99), Err(Error::Unknown));
+        for answer in [9, 11, 31, 40, 99] {
+            assert_eq!(Error::check(answer), Err(Error::Unknown));
+        }
+        assert_eq!(Error::Unknown.to_string(), "no answer of this library");
     }
 }
