@@ -164,9 +164,10 @@ find_state() {
     fi
 }
 
-# Waits for the build, with `say` and `stop` of the caller's, and shows how far it is. One that was interrupted is begun
-# once more.
+# await_program [SHOW]: waits for the build, with `say` and `stop` of the caller's, and shows how far it is by SHOW, or `say`.
+# One that was interrupted is begun once more.
 await_program() {
+    show=${1:-say}
     await_end
     if [ "$state" = interrupted ]; then
         "$top/tools/first_build" "$goal" ${target:+"$target"} || exit "$no_answer"
@@ -188,21 +189,31 @@ await_end() {
     done
 }
 
-# A line for each crate that is proved, and every half minute.
+# A line for each crate that is proved, and every half minute, once the builder has its turn or waits for it.
 show_progress() {
+    [ -s "$build/log" ] || return 0
     find_progress
-    [ "$proved" != "$shown" ] || [ "$seconds" -ge $((shown_at + 30)) ] || return 0
-    shown=$proved shown_at=$seconds
-    say "$progress"
+    [ "$stage" != "$shown" ] || [ "$seconds" -ge $((shown_at + 30)) ] || return 0
+    shown=$stage shown_at=$seconds
+    "$show" "$progress"
 }
 
-# Sets $progress, how far the build is, with the count of crates that are proved and the seconds since it began.
+# Sets $progress, how far the build is, with the seconds since it began, and $stage, which changes with each crate that is
+# proved, and where a build waits for another one.
 find_progress() {
-    proved=$(($(wc -l < "$build/done")))
     seconds=$(($(date +%s) - $(cat "$build/start")))
     unit=seconds
     [ "$seconds" -ne 1 ] || unit=second
-    progress="$proved of $(($(wc -l < "$build/all"))) crates proved, after $seconds $unit"
+    case $(tail -n 1 "$build/log" 2>/dev/null) in
+    waiting*)
+        stage=waiting
+        progress="waiting until another build has ended, for $seconds $unit"
+        ;;
+    *)
+        stage=$(($(wc -l < "$build/done")))
+        progress="$stage of $(($(wc -l < "$build/all"))) crates proved, after $seconds $unit"
+        ;;
+    esac
 }
 
 # crates_below TREE CRATE..: prints these crates and those that they stand on, lowest first.
@@ -229,6 +240,14 @@ crate_lines() {
         BEGIN { n = split(named, names, " "); for (i = 1; i <= n; i++) there[names[i]] = 1 }
         { sub(/#.*/, ""); name = $1; sub(/:.*/, "", name) }
         name in there' "$tree_of/crates.txt"
+}
+
+has() { command -v "$1" > /dev/null; }
+
+# What is said where a tool isn't there that a build needs.
+lacking() {
+    case $1 in rt) from="; $top/README.md says where rt comes from" ;; *) from='' ;; esac
+    echo "$1, which a build needs, is not on the path$from"
 }
 
 # The megabytes of memory that are free, under the limit of the control group too.
