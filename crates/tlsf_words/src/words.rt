@@ -164,6 +164,7 @@ impl Words {
         ensures starts { self.new.starts ≡ self.old.starts }
         ensures stays { self.new.extents ≡ self.old.extents }
         ensures touches { self.new.touches ≡ self.old.touches + 1 }
+        ensures touched { self.new.touched ≡ (at + 1) ∷ self.old.touched }
     {
         self.write(at as usize + 1, mark);
     }

@@ -1,0 +1,57 @@
+ghost use Rattle.std.specs.Prelude.{◌≡◌, ℕ, ◌+◌, ◌<◌, ◌≤◌, ◌^◌, [], ◌∷◌};
+ghost use Rattle.tlsf_words.specs.Touched.{times};
+
+use crate::places::Places;
+use std::marker::Model;
+use tlsf_class::Touches;
+
+/// How often a word of a region was read or written, and which ones. It has no bytes and does nothing: contracts alone see it.
+#[derive(Drop)]
+pub(crate) struct Tally {
+    touches: Touches,
+    places: Places,
+}
+
+impl Model for Tally {
+    ghost use Rattle.tlsf_words.specs.Counted.{Tallied};
+
+    ghost Value = { Tallied };
+
+    ghost view = { λ t. record { touches = t.touches.count; touched = t.places.list } };
+}
+
+impl Tally {
+    /// No word was read or written yet.
+    #[inline]
+    pub(crate) fn new() -> Tally
+        ensures touches { result.touches ≡ 0 }
+        ensures touched { result.touched ≡ [] }
+    {
+        Tally {
+            touches: Touches::new(),
+            places: Places::new(),
+        }
+    }
+
+    /// Notes one read or write of the word at a place.
+    #[inline]
+    pub(crate) fn note(&mut self, at: usize)
+        ensures touches { self.new.touches ≡ self.old.touches + 1 }
+        ensures touched { self.new.touched ≡ at ∷ self.old.touched }
+    {
+        self.touches.add_one();
+        self.places.add(at);
+    }
+
+    /// Notes one of each of `n` words, from a place on.
+    #[inline]
+    pub(crate) fn note_all(&mut self, from: usize, n: usize)
+        requires { from + n < 2 ^ 64 }
+        ensures touches { self.new.touches ≡ self.old.touches + n }
+        ensures before { (k : ℕ) → k < from → times self.new.touched k ≡ times self.old.touched k }
+        ensures behind { (k : ℕ) → from + n ≤ k → times self.new.touched k ≡ times self.old.touched k }
+    {
+        self.touches.add(n);
+        self.places.add_all(from, n);
+    }
+}
