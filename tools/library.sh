@@ -1,6 +1,6 @@
 # Sourced: where the files of C's library go.
 
-soname=libpeachanchor.so.0
+soname=libpeachanchor.so.1
 
 # What Debian's packages are made by.
 deb_tools="dpkg-deb gzip strip python3"
@@ -8,12 +8,20 @@ deb_tools="dpkg-deb gzip strip python3"
 # put_library TOP ARCHIVE PREFIX: puts that archive and what lies beside it, the headers, and what pkg-config, CMake and gdb read
 # there. No file has the prefix in it, so the folder can be moved.
 put_library() {
-    mkdir -p "$3/lib" "$3/include" "$3/share/gdb" || return 1
+    mkdir -p "$3/lib" "$3/include" "$3/share/gdb" "$3/share/doc/peachanchor" || return 1
     put_archives "$2" "$3/lib" &&
         put_file cat "$2.so" "$3/lib/$soname" && chmod 755 "$3/lib/$soname" && ln -sf "$soname" "$3/lib/libpeachanchor.so" &&
         put_headers "$1/include" "$3/include" &&
         put_names "$1" "$3/lib" ../include &&
-        put_file cat "$1/tools/package/tlsf-gdb.py" "$3/share/gdb/tlsf-gdb.py"
+        put_file cat "$1/tools/package/tlsf-gdb.py" "$3/share/gdb/tlsf-gdb.py" &&
+        put_licences "$1" "$3/share/doc/peachanchor"
+}
+
+# Ours, and the notices of the toolchain's libraries that are built in (tools/package/notices.py).
+put_licences() {
+    for licence in LICENSE-MIT LICENSE-APACHE tools/package/NOTICES; do
+        put_file cat "$1/$licence" "$2/${licence##*/}" || return 1
+    done
 }
 
 put_archives() {

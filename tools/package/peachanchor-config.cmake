@@ -13,8 +13,8 @@ if(NOT TARGET peachanchor::peachanchor)
     INTERFACE_LINK_OPTIONS "-Wl,--exclude-libs,libtlsf_nomalloc.a")
   add_library(peachanchor::shared SHARED IMPORTED)
   set_target_properties(peachanchor::shared PROPERTIES
-    IMPORTED_LOCATION "${peachanchor_lib}/libpeachanchor.so.0"
-    IMPORTED_SONAME libpeachanchor.so.0)
+    IMPORTED_LOCATION "${peachanchor_lib}/libpeachanchor.so.1"
+    IMPORTED_SONAME libpeachanchor.so.1)
   set_target_properties(peachanchor::peachanchor peachanchor::nomalloc peachanchor::shared PROPERTIES
     IMPORTED_LINK_INTERFACE_LANGUAGES C
     INTERFACE_INCLUDE_DIRECTORIES "${peachanchor_include}")

@@ -1,0 +1,80 @@
+#!/usr/bin/env python3
+"""usage: tools/package/notices.py
+
+Writes the notices of the toolchain's libraries on which C's library or the
+program stands to standard output, as the toolchain states them: each licence
+that lies in the folder of a ported crate there, word by word. tools/package has
+what this wrote as NOTICES, and tools/package_test compares the two. Needs rt.
+"""
+import pathlib
+import re
+import sys
+
+sys.dont_write_bytecode = True
+sys.path.insert(0, str(pathlib.Path(__file__).resolve().parent.parent))
+import tree
+
+LINE = "-" * 80
+HEAD = """Peachanchor may be used, at your option, by LICENSE-MIT or by LICENSE-APACHE.
+
+The libraries libtlsf.a, libtlsf_nomalloc.a and libpeachanchor.so, and the program
+tlsf, are built by the toolchain Rattle over libraries that it brings. Some of
+these are ported from Rust crates, or follow them. Here are their notices, as they
+lie in the toolchain. The text of the Apache License 2.0 is LICENSE-APACHE.
+"""
+OWN = """
+Of its other libraries the toolchain states no licence. Those on which the ones
+for C or the program stand are:
+{names}.
+Files of core say whose work they follow: the Rust crate fast-float2 0.2.4 (MIT,
+with the text that rtrb has, or Apache License 2.0), the Rust crate memchr 2.8.3
+(Unlicense), and tables of Unicode's data (Unicode License v3), whose text is:
+"""
+
+
+def below(kit, named):
+    """These libraries of the toolchain, and all that they stand on."""
+    found, left = set(), list(named)
+    while left:
+        name = left.pop()
+        form = kit / "rlibs" / f"{name}.rlib" / "format"
+        if name not in found and form.exists():
+            found.add(name)
+            left += re.findall(r"^dep (\w+)$", tree.read(form), re.M)
+    return found
+
+
+def libraries(kit, goal):
+    lines = tree.lines_of_crates()
+    return below(kit, {it for crate in tree.needed(lines, goal) for it in tree.named_in(lines[crate]) if it not in lines})
+
+
+def told(folder, where):
+    """Of a ported crate: what it follows, where its code may be, and under which licences it is."""
+    page = tree.read(folder / "README.md")
+    rust = " ".join(it for it in re.search(r"Rust crate `([\w-]+)`(?: (\d[\d.]*\d))?", page).groups() if it)
+    apache = (folder / "LICENSE-APACHE").exists() or re.search(r"MIT or Apache", page)
+    return f"{folder.name}, after the Rust crate {rust}, for {where}: MIT{' or Apache License 2.0' if apache else ''}"
+
+
+def main():
+    kit = tree.kit()
+    of_c, of_program = libraries(kit, "tlsf_c"), libraries(kit, "tlsf_tool")
+    texts, own = {}, []
+    for name in sorted(of_c | of_program):
+        folder = kit / "rattle" / name
+        licences = [it for it in sorted(folder.glob("LICENSE*")) if it.name != "LICENSE-APACHE"]
+        places = {"the libraries": name in of_c, "the program": name in of_program}
+        for licence in licences:
+            where = " and ".join(it for it, is_there in places.items() if is_there)
+            texts.setdefault(tree.read(licence).strip(), []).append(told(folder, where))
+        if not licences:
+            own.append(name)
+    print(HEAD)
+    for text, names in texts.items():
+        print(LINE, *names, "", text, "", sep="\n")
+    print(LINE + OWN.format(names=", ".join(own)))
+    print(tree.read(kit / "rattle" / "unicode" / "LICENSE-UNICODE").strip())
+
+
+main()
