@@ -88,7 +88,7 @@ impl core::error::Error for Error {}
 
 #[cfg(test)]
 mod tests {
-    use super::Error;
+    use super::{tlsf_text_of, Error};
 
     #[test]
     fn each_answer_has_its_error() {
@@ -99,6 +99,6 @@ mod tests {
         for answer in [9, 11, 31, 40, 99] {
             assert_eq!(Error::check(answer), Err(Error::Unknown));
         }
-        assert_eq!(Error::Unknown.to_string(), "no answer of this library");
+        assert_eq!(tlsf_text_of(Error::Unknown as u32), "no answer of this library");
     }
 }
