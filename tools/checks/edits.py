@@ -1,10 +1,19 @@
 """Each wrong body in gate/ and attack/ still applies: each text that it
 changes stands once in its file, it changes something, and no other edit of its
 crate has its name. Where it turns a law, of a folder laws/ or of
-tlsf_yard_laws, its line `shown:` says what shows that the law is false then."""
+tlsf_yard_laws, its line `shown:` says what shows that the law is false then.
+
+Each known wrong body of the table in docs/WRONG_BODIES.md is refused by what is
+there: by an edit in gate/ of a crate, by a test of public calls, or by a file."""
 import pathlib
+import re
 
 import tree
+from checks.names import tests
+
+KNOWN = tree.TOP / "docs" / "WRONG_BODIES.md"
+HEADING = "## Known wrong allocators"
+ROW = re.compile(r"^\| (.+) \| (.+) \|$", re.M)
 
 
 def is_of_law(crate, changes):
@@ -37,7 +46,31 @@ def faults_of(crate, edit):
         yield "doesn't begin with what shows that the law is false"
 
 
+def known():
+    """The known wrong bodies, each with the names of what refuses it."""
+    _, *rows = ROW.findall(tree.read(KNOWN).partition(HEADING)[2].partition("\n## ")[0])
+    return {body: re.findall(r"`([^`]+)`", names) for body, names in rows}
+
+
+def is_there(name):
+    """Whether an edit in gate/, as CRATE/NAME, a test or a file is there."""
+    crate, _, edit = name.rpartition("/")
+    return name in tests() or (tree.TOP / "crates" / crate / "gate" / f"{edit}.edit").is_file() or (tree.TOP / name).is_file()
+
+
+def known_faults():
+    if not known():
+        yield f"{KNOWN.name}: has no table under '{HEADING[3:]}'"
+    for body, names in known().items():
+        if not names:
+            yield f"{KNOWN.name}: names nothing that refuses: {body}"
+        for name in names:
+            if not is_there(name):
+                yield f"{KNOWN.name}: {name} is no edit in gate/, no test and no file, and is to refuse: {body}"
+
+
 def faults():
+    yield from known_faults()
     for crate in tree.crates():
         names = {}
         for edit in tree.edits_of(crate):
@@ -53,4 +86,4 @@ def faults():
 
 
 def looked_at():
-    return f"{sum(len(tree.edits_of(it)) for it in tree.crates())} wrong bodies"
+    return f"{sum(len(tree.edits_of(it)) for it in tree.crates())} wrong bodies, {len(known())} known ones"

@@ -12,6 +12,7 @@
   that its sentence, its point or its row names, where that names one, else of
   any of the crate; as (`heap` of `Pool::open`), of that function or type. Under
   "What isn't proved" it may be a test of tlsf_checks*."""
+import functools
 import re
 
 import tree
@@ -105,6 +106,7 @@ def units(text):
         yield from SENTENCE.split(re.sub(r"\s+", " ", paragraph))
 
 
+@functools.cache
 def tests():
     """The tests of public calls, by their names."""
     files = (tree.TOP / "crates").glob("tlsf_checks*/src/**/*.rt")
