@@ -1,9 +1,10 @@
 -- A touch of one place is none of another.
-use Rattle.std.proofs.Common.{◌≡◌, ◌≢◌, ℕ, suc, ◌+◌, ◌/◌, ◌≤◌, List, [], ◌∷◌, ◌++◌, cond, refl, sym, ap, ◌∙◌, subst, arith}
+use Rattle.std.proofs.Common.{◌≡◌, ◌≢◌, ℕ, suc, ◌+◌, ◌/◌, ◌<◌, ◌≤◌, List, [], ◌∷◌, ◌++◌, cond, refl, sym, ap, ◌∙◌, subst, arith}
 use Rattle.std.specs.Prelude.{Contains}
 use Rattle.std.proofs.lemmas.List.{length-append}
 use Rattle.std.proofs.lemmas.List.Elements.{Contains-append_left, Contains-append_right}
 use Rattle.std.proofs.lemmas.Bool.{ne_eqb}
+use Rattle.tlsf_words.specs.Counted.{Tallied, Within}
 use Rattle.tlsf_words.specs.Touched.{times, InGroups}
 
 pub times_other : (at k : ℕ) (l : List ℕ) → k ≢ at → times (at ∷ l) k ≡ times l k
@@ -62,3 +63,34 @@ three_words p q r only = record {
 -- one touch
 pub one_touch : (p : ℕ) {old new : List ℕ} → new ≡ p ∷ old → InGroups 1 old new
 one_touch p {old = old} is = one_word p (λ k apart. ap (λ (l : List ℕ). times l k) is ∙ times_other p k old apart)
+
+-- ---- touches of a run of words
+
+-- none
+pub within_none : (n from past : ℕ) (t : Tallied) → n ≡ 0 → Within n from past t t
+within_none n from past t none = record { touches = omega (arith, none); before = λ k low. refl; behind = λ k high. refl }
+
+-- one, of a word of the run
+pub within_one : (n from past at : ℕ) (old new : Tallied) → n ≡ 1 → from ≤ at → at < past → new.touches ≡ old.touches + 1 → new.touched ≡ at ∷ old.touched → Within n from past old new
+within_one n from past at old new one low high counts is = record {
+  touches = omega (arith, one, counts);
+  before = λ k below. ap (λ (l : List ℕ). times l k) is ∙ times_other at k old.touched (λ e. omega (arith, e, low, below));
+  behind = λ k above. ap (λ (l : List ℕ). times l k) is ∙ times_other at k old.touched (λ e. omega (arith, e, high, above));
+}
+
+-- those of two, which lie in a wider run
+pub within_then : (total from past : ℕ) {m n f p g q : ℕ} {old mid new : Tallied} → Within m f p old mid → Within n g q mid new
+    → from ≤ f → p ≤ past → from ≤ g → q ≤ past → total ≡ m + n → Within total from past old new
+within_then total from past a b low high low_too high_too both = record {
+  touches = omega (arith, a.touches, b.touches, both);
+  before = λ k below. b.before k (omega (arith, below, low_too)) ∙ a.before k (omega (arith, below, low));
+  behind = λ k above. b.behind k (omega (arith, above, high_too)) ∙ a.behind k (omega (arith, above, high));
+}
+
+-- so many as these
+pub within_same : (n from past : ℕ) {m f p : ℕ} {old new : Tallied} → Within m f p old new → from ≤ f → p ≤ past → n ≡ m → Within n from past old new
+within_same n from past a low high same = record {
+  touches = omega (arith, a.touches, same);
+  before = λ k below. a.before k (omega (arith, below, low));
+  behind = λ k above. a.behind k (omega (arith, above, high));
+}

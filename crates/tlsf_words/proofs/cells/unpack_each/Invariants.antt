@@ -1,6 +1,10 @@
-use Rattle.std.proofs.Common.{◌≡◌, ℕ, ◌*◌, ◌<◌, get_or}
+use Rattle.std.proofs.Common.{◌≡◌, ℕ, ◌+◌, ◌*◌, ◌<◌, get_or, length}
 use Rattle.tlsf_words.specs.Bytes.{byte_in}
+use Rattle.tlsf_words.specs.Counted.{Within}
 use Rattle.tlsf_words.proofs.cells.unpack_each.Given as goal
 
 abbrev pub invariant-loop-i : goal.invariant-loop-i
-invariant-loop-i l = (k : ℕ) → k < 8 * l.i → get_or l.out k 0 ≡ byte_in l.words k
+invariant-loop-i l = record {
+  bytes : (k : ℕ) → k < 8 * l.i → get_or l.out k 0 ≡ byte_in l.words k;
+  tally : Within l.i l.from (l.from + length l.words) l.initial.tally l.tally;
+}
