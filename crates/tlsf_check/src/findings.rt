@@ -204,6 +204,15 @@ fn number_note(field: &[u8], has_range: bool) -> &'static str {
     }
 }
 
+// What more is to say of a field in the place of the words of a heap: version 2 may take a number that version 1 doesn't.
+fn words_note(field: &[u8], version: Version, workers: u32) -> &'static str {
+    let is_for_two = is_as_wanted(field, Wanted::Value(Kind::Words(Version::Two)), workers);
+    match version {
+        Version::One if is_for_two => ": out of that range; `tlsf 2` takes up to 16777216",
+        _ => number_note(field, true),
+    }
+}
+
 // What more is to say of a field in the place of payload bytes.
 fn payload_note(field: &[u8]) -> &'static str {
     if !field.iter().all(|byte| byte.is_ascii_hexdigit()) {
@@ -238,6 +247,7 @@ fn push_field_note(
     match wanted {
         Wanted::Word => push_word_note(text, field),
         Wanted::Value(Kind::Payload) => text.push_str(payload_note(field)),
+        Wanted::Value(Kind::Words(version)) => text.push_str(words_note(field, version, workers)),
         Wanted::Value(kind) => text.push_str(number_note(field, has_range(kind, workers))),
         Wanted::Name | Wanted::Version | Wanted::Nothing(_) => Ok(()),
     }
