@@ -187,7 +187,7 @@ def kinds_of(lines):
 
 def fault_text(fault):
     where = f"line {fault.line}: " if fault.line else ""
-    return f"tlsf: {where}{FAULTS[fault.number]} ({fault.number})\ntip: 'tlsf check < TRACE' says more\n"
+    return f"tlsf: {where}{FAULTS[fault.number]} ({fault.number})\n"
 
 
 # A heap after a line, or several at the worst of each number.

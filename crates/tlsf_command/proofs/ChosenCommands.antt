@@ -166,18 +166,18 @@ only_run run (Heaps heaps) (Some named) names asks = absurd (asks.1.2 (asks.1.3 
 only_run run TwoLines (Some named) names asks = absurd (asks.1.1 (no_number _ (texts_in named.1) names.3 names.4))
 
 -- a file is named: its tip is due
-pub only_tip : (run : TraceRun) (file : Text) (choice : Choice) (status : ℕ) (old new : Streams) (named : Option (Text × List Row)) → Names (NamesRun run (file ∷ [])) named
-    → Names (IsAskedBy choice) named → Does choice status old new → Refuses (tip_line run 0 file) status old new
-only_tip run file choice status old new None names asks done = absurd names
-only_tip run file (Trace other) status old new (Some named) names asks done = absurd (some_file file (sym names.2 ∙ asks.1.1))
-only_tip run file (File other tip) status old new (Some named) names asks done =
+pub only_tip : (tips : Bool) (run : TraceRun) (file : Text) (choice : Choice) (status : ℕ) (old new : Streams) (named : Option (Text × List Row)) → Names (NamesRun run (file ∷ [])) named
+    → Names (IsAskedBy choice) named → Does tips choice status old new → Refuses (tip_line run 0 file) status old new
+only_tip tips run file choice status old new None names asks done = absurd names
+only_tip tips run file (Trace other) status old new (Some named) names asks done = absurd (some_file file (sym names.2 ∙ asks.1.1))
+only_tip tips run file (File other tip) status old new (Some named) names asks done =
     let asked = run_asked named.0 (texts_in named.1) in
     let line = number_for asked (texts_in named.1) in
     let tips : string_bytes tip ≡ tip_line asked line file = subst (λ (files : List Text). IsTip asked line files (string_bytes tip)) names.2 asks.1.1 in
     let none : tip_line asked line file ≡ tip_line asked 0 file = ap (λ (n : ℕ). tip_line asked n file) (no_number asked (texts_in named.1) names.3 names.4) in
     subst (λ (text : Text). Refuses text status old new) (tips ∙ (none ∙ ap (λ (r : TraceRun). tip_line r 0 file) names.1)) done
-only_tip run file (Classes question) status old new (Some named) names asks done = absurd (other_name named.0 (codes "classes") asks.0 names.0.0 refl)
-only_tip run file (Size question) status old new (Some named) names asks done = absurd (other_name named.0 (codes "size") asks.0 names.0.1 refl)
-only_tip run file (At form line) status old new (Some named) names asks done = absurd (some_file file (sym names.2 ∙ asks.1.1))
-only_tip run file (Heaps heaps) status old new (Some named) names asks done = absurd (some_file file (sym names.2 ∙ asks.1.1))
-only_tip run file TwoLines status old new (Some named) names asks done = absurd (asks.1.1 (no_number _ (texts_in named.1) names.3 names.4))
+only_tip tips run file (Classes question) status old new (Some named) names asks done = absurd (other_name named.0 (codes "classes") asks.0 names.0.0 refl)
+only_tip tips run file (Size question) status old new (Some named) names asks done = absurd (other_name named.0 (codes "size") asks.0 names.0.1 refl)
+only_tip tips run file (At form line) status old new (Some named) names asks done = absurd (some_file file (sym names.2 ∙ asks.1.1))
+only_tip tips run file (Heaps heaps) status old new (Some named) names asks done = absurd (some_file file (sym names.2 ∙ asks.1.1))
+only_tip tips run file TwoLines status old new (Some named) names asks done = absurd (asks.1.1 (no_number _ (texts_in named.1) names.3 names.4))

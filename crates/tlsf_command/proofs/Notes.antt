@@ -1,5 +1,5 @@
 -- What is noted of a fault.
-use Rattle.std.proofs.Common.{◌≡◌, ◌∙◌, ℕ, List, [], Option, Result, Ok, Err, refl, subst}
+use Rattle.std.proofs.Common.{◌≡◌, ◌∙◌, ℕ, Bool, List, [], Option, Result, Ok, Err, refl, subst}
 use Rattle.std.specs.Prelude.{IfErr, IfSome, OnOk}
 use Rattle.tlsf_check.specs.Checks.{Notes}
 use Rattle.tlsf_lines.specs.declared.trace_fault.TraceFault.{TraceFault}
@@ -15,16 +15,16 @@ check_notes (Ok summary) text old new none noted kept = kept ∙ none
 check_notes (Err fault) text old new none noted kept = subst (λ (front : List ℕ). IfSome text (λ bytes. Notes bytes fault front new)) none noted
 
 -- a run that isn't a check notes the tip
-pub other_note : (run : TraceRun) (answer : Result Summary TraceFault) (text : Option (List ℕ)) (note : List ℕ) → (run ≡ Check → ⊥)
-    → note ≡ tip_on answer → IsNote run text answer note
-other_note Replay answer text note other is = is
-other_note Held answer text note other is = is
-other_note HeldKinds answer text note other is = is
-other_note Least answer text note other is = is
-other_note Race answer text note other is = is
-other_note RaceQueues answer text note other is = is
-other_note (Map form) answer text note other is = is
-other_note MapHtml answer text note other is = is
-other_note (MapWorst form) answer text note other is = is
-other_note (Plot form) answer text note other is = is
-other_note Check answer text note other is = absurd (other refl)
+pub other_note : (tips : Bool) (run : TraceRun) (answer : Result Summary TraceFault) (text : Option (List ℕ)) (note : List ℕ) → (run ≡ Check → ⊥)
+    → note ≡ tip_on tips answer → IsNote tips run text answer note
+other_note tips Replay answer text note other is = is
+other_note tips Held answer text note other is = is
+other_note tips HeldKinds answer text note other is = is
+other_note tips Least answer text note other is = is
+other_note tips Race answer text note other is = is
+other_note tips RaceQueues answer text note other is = is
+other_note tips (Map form) answer text note other is = is
+other_note tips MapHtml answer text note other is = is
+other_note tips (MapWorst form) answer text note other is = is
+other_note tips (Plot form) answer text note other is = is
+other_note tips Check answer text note other is = absurd (other refl)

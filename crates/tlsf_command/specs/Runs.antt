@@ -1,5 +1,5 @@
 -- What a run of the program does.
-use Rattle.std.specs.Prelude.{◌≡◌, ◌⊎◌, ◌++◌, ⊤, ℕ, List, [], ◌∷◌, Option, Result, Ok, Err, IfSome, string_bytes}
+use Rattle.std.specs.Prelude.{◌≡◌, ◌⊎◌, ◌++◌, ⊤, ℕ, Bool, List, [], ◌∷◌, Option, Result, Ok, Err, IfSome, string_bytes, if◌then◌else◌}
 use Rattle.std.specs.Io.KnownBytes.{Appends, Keeps}
 use Rattle.clap.specs.Words.{IsAmong, Text}
 use Rattle.clap.specs.declared.error.kind.ErrorKind.{ErrorKind}
@@ -58,15 +58,15 @@ ChecksNote Check text (Ok summary) note = note ≡ []
 ChecksNote Check text (Err fault) note = IfSome text (λ bytes. Notes bytes fault [] note)
 ChecksNote run text answer note = ⊤
 
--- where a fault in the trace ends a run, the tip to check it
-abbrev pub tip_on : Result Summary TraceFault → List ℕ
-tip_on (Ok summary) = []
-tip_on (Err fault) = check_tip fault
+-- where a fault in the trace ends a run and tips are wanted, the tip to check it
+abbrev pub tip_on : (tips : Bool) → Result Summary TraceFault → List ℕ
+tip_on tips (Ok summary) = []
+tip_on tips (Err fault) = if tips then check_tip fault else []
 
 -- what is noted of an answer: by a check its note, by another run the tip
-abbrev pub IsNote : TraceRun → (text : Option (List ℕ)) → Result Summary TraceFault → (note : List ℕ) → Type 0
-IsNote Check text answer note = ChecksNote Check text answer note
-IsNote run text answer note = note ≡ tip_on answer
+abbrev pub IsNote : (tips : Bool) → TraceRun → (text : Option (List ℕ)) → Result Summary TraceFault → (note : List ℕ) → Type 0
+IsNote tips Check text answer note = ChecksNote Check text answer note
+IsNote tips run text answer note = note ≡ tip_on tips answer
 
 -- what a run may put out: what a replay does, or what its workers asked of their heaps, or the kinds of blocks that these held, or the least words of their heaps; what a race does, each phase in threads, over lanes or over
 -- queues; the heaps that the trace leaves, those after the line to look at, or these over its lines, as an SVG file or in the characters of a terminal, and on a page; or what a check says of it
@@ -85,20 +85,20 @@ puts_of (Plot form) = Plots form
 puts_of Check = Checks
 
 -- the trace is run in this way, and the answer gives the status and the report
-pub record RunsAs (run : TraceRun) (status : ℕ) (old new : Streams) : Type 0 where
+pub record RunsAs (tips : Bool) (run : TraceRun) (status : ℕ) (old new : Streams) : Type 0 where
   pub answer : Result Summary TraceFault
   pub note : List ℕ
   pub ran : IsRun (puts_of run) answer old.left new.left old.written new.written
-  pub noted : IsNote run old.left answer note
+  pub noted : IsNote tips run old.left answer note
   pub status_is : status ≡ status_of answer
   pub reported : Reports answer note old.errors new.errors
 
 -- the trace is run to put out this, and the answer gives the status and the report
-pub record RunsBy (Puts : Outputs) (status : ℕ) (old new : Streams) : Type 0 where
+pub record RunsBy (tips : Bool) (Puts : Outputs) (status : ℕ) (old new : Streams) : Type 0 where
   pub answer : Result Summary TraceFault
   pub ran : IsRun Puts answer old.left new.left old.written new.written
   pub status_is : status ≡ status_of answer
-  pub reported : Reports answer (tip_on answer) old.errors new.errors
+  pub reported : Reports answer (tip_on tips answer) old.errors new.errors
 
 -- memory ran out before anything was read or written
 pub record LacksMemory (status : ℕ) (old new : Streams) : Type 0 where
@@ -206,24 +206,24 @@ ShowsAnswer _ status old new = ShowsUsage status old new
 
 -- what was chosen is done: a run of a trace, or its tip where a file is named, the classes of a size, the words of a region, a picture
 -- after a line, or kinds merged for so many heaps; two lines are refused
-abbrev pub Does : Choice → ℕ → Streams → Streams → Type 0
-Does (Trace run) = RunsAs run
-Does (File run tip) = Refuses (string_bytes tip)
-Does (Classes question) = AnswersClasses question
-Does (Size question) = ShowsSize question
-Does (At form line) = RunsBy (DrawsAt form line)
-Does (Heaps heaps) = RunsBy (TellsMerged heaps)
-Does TwoLines = Refuses two_lines_line
+abbrev pub Does : (tips : Bool) → Choice → ℕ → Streams → Streams → Type 0
+Does tips (Trace run) = RunsAs tips run
+Does tips (File run tip) = Refuses (string_bytes tip)
+Does tips (Classes question) = AnswersClasses question
+Does tips (Size question) = ShowsSize question
+Does tips (At form line) = RunsBy tips (DrawsAt form line)
+Does tips (Heaps heaps) = RunsBy tips (TellsMerged heaps)
+Does tips TwoLines = Refuses two_lines_line
 
 -- how a run ends, by its words: it does what they ask for, it answers by one of their faults, or it lacks memory
-abbrev pub Ends : List Text → ℕ → Streams → Streams → Type 0
-Ends words status old new = LacksMemory status old new
-    ⊎ (((choice : Choice) × Asks words choice × Does choice status old new)
+abbrev pub Ends : (tips : Bool) → List Text → ℕ → Streams → Streams → Type 0
+Ends tips words status old new = LacksMemory status old new
+    ⊎ (((choice : Choice) × Asks words choice × Does tips choice status old new)
     ⊎ ((kind : ErrorKind) × IsAmong kind (faults_of words) × ShowsAnswer kind status old new))
 
 -- the trace is run in this way, unless memory ran out before
-abbrev pub RunsOrLacksMemory : TraceRun → ℕ → Streams → Streams → Type 0
-RunsOrLacksMemory run status old new = RunsAs run status old new ⊎ LacksMemory status old new
+abbrev pub RunsOrLacksMemory : (tips : Bool) → TraceRun → ℕ → Streams → Streams → Type 0
+RunsOrLacksMemory tips run status old new = RunsAs tips run status old new ⊎ LacksMemory status old new
 
 -- the tip about this file was reported, unless memory ran out before
 abbrev pub TipsOrLacksMemory : TraceRun → Text → ℕ → Streams → Streams → Type 0

@@ -77,23 +77,28 @@ fn ended<E: Write>(answer: Result<Summary, TraceFault>, note: &str, errors: &mut
     }
 }
 
-// What is noted of an answer by a run that doesn't check the trace: where that has a fault, the tip to check it.
-fn tip_on(answer: &Result<Summary, TraceFault>) -> &'static str
-    ensures { result.now ≡ told.tip_on answer.now }
+// What is noted of an answer by a run that doesn't check the trace: where that has a fault and tips are wanted, the tip to check it.
+fn tip_on(tips: bool, answer: &Result<Summary, TraceFault>) -> &'static str
+    ensures { result.now ≡ told.tip_on tips answer.now }
 {
     match answer {
-        Ok(_) => "",
-        Err(fault) => FaultReport { fault: *fault }.check_tip(),
+        Err(fault) if tips => FaultReport { fault: *fault }.check_tip(),
+        _ => "",
     }
 }
 
 // What is noted of an answer by a run, where a check noted this.
-fn note_on<'a>(ran: TraceRun, answer: &Result<Summary, TraceFault>, note: &'a str) -> &'a str
-    ensures { (text : Option (List ℕ)) → ChecksNote ran text answer.now note.entry.now → IsNote ran text answer.now result.now }
+fn note_on<'a>(
+    ran: TraceRun,
+    tips: bool,
+    answer: &Result<Summary, TraceFault>,
+    note: &'a str,
+) -> &'a str
+    ensures { (text : Option (List ℕ)) → ChecksNote ran text answer.now note.entry.now → IsNote tips ran text answer.now result.now }
 {
     match ran {
         TraceRun::Check => note,
-        _ => tip_on(answer),
+        _ => tip_on(tips, answer),
     }
 }
 
@@ -137,14 +142,15 @@ fn run_trace<T: Threads + Wait + Sync, R: Read, W: Write, E: Write, G: Gate>(
     writer: &mut W,
     errors: &mut E,
     gate: &G,
+    tips: bool,
 ) -> u8
-    ensures { RunsAs run result
+    ensures { RunsAs tips run result
         (streams (R.remaining reader.old) (W.contents writer.old) (E.contents errors.old))
         (streams (R.remaining reader.new) (W.contents writer.new) (E.contents errors.new)) }
 {
     let mut note = String::new(alloc);
     let answer = traced(rt, alloc, run, reader, writer, gate, &mut note);
-    let noted = note_on(run, &answer, &note);
+    let noted = note_on(run, tips, &answer, &note);
     ended(answer, noted, errors)
 }
 
@@ -156,13 +162,14 @@ fn run_at<R: Read, W: Write, E: Write>(
     reader: &mut R,
     writer: &mut W,
     errors: &mut E,
+    tips: bool,
 ) -> u8
-    ensures { RunsBy (DrawsAt form line) result
+    ensures { RunsBy tips (DrawsAt form line) result
         (streams (R.remaining reader.old) (W.contents writer.old) (E.contents errors.old))
         (streams (R.remaining reader.new) (W.contents writer.new) (E.contents errors.new)) }
 {
     let answer = draw_trace_at(alloc, form, line, reader, writer);
-    let tip = tip_on(&answer);
+    let tip = tip_on(tips, &answer);
     ended(answer, tip, errors)
 }
 
@@ -173,13 +180,14 @@ fn run_merged<R: Read, W: Write, E: Write>(
     reader: &mut R,
     writer: &mut W,
     errors: &mut E,
+    tips: bool,
 ) -> u8
-    ensures { RunsBy (TellsMerged heaps) result
+    ensures { RunsBy tips (TellsMerged heaps) result
         (streams (R.remaining reader.old) (W.contents writer.old) (E.contents errors.old))
         (streams (R.remaining reader.new) (W.contents writer.new) (E.contents errors.new)) }
 {
     let answer = measure_merged_kinds(alloc, heaps, reader, writer);
-    let hint = tip_on(&answer);
+    let hint = tip_on(tips, &answer);
     ended(answer, hint, errors)
 }
 
@@ -265,19 +273,20 @@ fn act<T: Threads + Wait + Sync, R: Read, W: Write, E: Write, G: Gate>(
     writer: &mut W,
     errors: &mut E,
     gate: &G,
+    tips: bool,
 ) -> u8
     requires { IsAnswerable choice }
-    ensures { Does choice result
+    ensures { Does tips choice result
         (streams (R.remaining reader.old) (W.contents writer.old) (E.contents errors.old))
         (streams (R.remaining reader.new) (W.contents writer.new) (E.contents errors.new)) }
 {
     match choice {
-        Choice::Trace(run) => run_trace(rt, alloc, run, reader, writer, errors, gate),
+        Choice::Trace(run) => run_trace(rt, alloc, run, reader, writer, errors, gate, tips),
         Choice::File(_, tip) => tell(&tip, errors),
         Choice::Classes(question) => run_classes(question, writer, errors),
         Choice::Size(question) => run_size(question, writer, errors),
-        Choice::At(form, line) => run_at(alloc, form, line, reader, writer, errors),
-        Choice::Heaps(heaps) => run_merged(alloc, heaps, reader, writer, errors),
+        Choice::At(form, line) => run_at(alloc, form, line, reader, writer, errors, tips),
+        Choice::Heaps(heaps) => run_merged(alloc, heaps, reader, writer, errors, tips),
         Choice::TwoLines => tell(TWO_LINES, errors),
     }
 }
@@ -289,14 +298,17 @@ fn act<T: Threads + Wait + Sync, R: Read, W: Write, E: Write, G: Gate>(
 ///
 /// The status is 0 where the run is done, 1 where a fault ended it, 2 where the words are refused,
 /// and 3 where memory ran out. A fault's line and the text on refused words go to `errors`, where
-/// a write that fails changes nothing. Help and version texts go to `writer`. Where the trace itself is faulty, a tip behind the
-/// line names `tlsf check`. Behind a refused number with a suffix or separators, as `64KiB` or `1,000`, a tip says that numbers are
-/// plain digits, and after the lines of several workers, given to `size` at once, how they are given one at a time.
+/// a write that fails changes nothing. Help and version texts go to `writer`.
+///
+/// `check` explains a fault after its line. By any other command a fault is that line alone, unless `tips` is true, as for a reader at
+/// a terminal: then a tip names `tlsf check`, where the trace itself is faulty. After a refused number with a suffix or separators, as
+/// `64KiB` or `1,000`, a line says that numbers are plain digits. After the lines of several workers, given to `size` at once, one
+/// says how they are given one at a time.
 ///
 /// ```
-/// // words are "tlsf", "classes" and "460"
-/// let status = run(rt, alloc, &words, &mut reader, &mut writer, &mut errors, &OpenGate);
-/// // status is 0, and writer holds "class 92 low 448 search 93 low 464\n"
+/// // words are "tlsf" and "replay", and reader gives "tlsf 1 1 64 1\nx\n"
+/// let status = run(rt, alloc, &words, &mut reader, &mut writer, &mut errors, &OpenGate, false);
+/// // status is 1, and errors holds "tlsf: line 2: bad line (12)\n"
 /// ```
 pub fn run<T: Threads + Wait + Sync, S: AsStr, R: Read, W: Write, E: Write, G: Gate>(
     rt: &T,
@@ -306,14 +318,15 @@ pub fn run<T: Threads + Wait + Sync, S: AsStr, R: Read, W: Write, E: Write, G: G
     writer: &mut W,
     errors: &mut E,
     gate: &G,
+    tips: bool,
 ) -> u8
-    ensures ends { Ends (map S.text words.now) result
+    ensures ends { Ends tips (map S.text words.now) result
         (streams (R.remaining reader.old) (W.contents writer.old) (E.contents errors.old))
         (streams (R.remaining reader.new) (W.contents writer.new) (E.contents errors.new)) }
 
     // Where the words are the program's name, whatever that is, and those that ask for a run of a trace.
     ensures trace { (program : List ℕ) (run : TraceRun) → map S.text words.now ≡ program ∷ words_of run
-        → RunsOrLacksMemory run result
+        → RunsOrLacksMemory tips run result
         (streams (R.remaining reader.old) (W.contents writer.old) (E.contents errors.old))
         (streams (R.remaining reader.new) (W.contents writer.new) (E.contents errors.new)) }
 
@@ -325,7 +338,7 @@ pub fn run<T: Threads + Wait + Sync, S: AsStr, R: Read, W: Write, E: Write, G: G
         (streams (R.remaining reader.new) (W.contents writer.new) (E.contents errors.new)) }
 {
     match choose(alloc, words) {
-        Ok(choice) => act(rt, alloc, choice, reader, writer, errors, gate),
+        Ok(choice) => act(rt, alloc, choice, reader, writer, errors, gate, tips),
         Err(error) => answer(alloc, &error, words, writer, errors),
     }
 }

@@ -59,8 +59,8 @@ impl FaultReport {
         }
     }
 
-    /// The line behind that one where the trace itself has the fault, as `tip: 'tlsf check < TRACE' says more`. Nothing where a read,
-    /// a write or memory has it.
+    /// The line for who reads that one at a terminal: where the trace itself has the fault, `tip: 'tlsf check < TRACE' says more`. Nothing
+    /// where a read, a write or memory has it.
     ///
     /// ```
     /// let tip = report.check_tip();       // "tip: 'tlsf check < TRACE' says more\n"

@@ -120,7 +120,7 @@ besides, as a larger heap may refuse what a smaller one serves.
 The exit status is 0 where the lines are written, 1 where a fault of the
 trace, of a read or of a write ends the run, and 3 where memory runs out. A
 fault is a line on standard error, as 'tlsf: line 2: bad number (13)'. Where the
-trace is refused, a second line names 'tlsf check < TRACE', which says more.";
+trace is refused, 'tlsf check < TRACE' says more; a terminal gets a tip on it.";
 
 /// What `tlsf race --help` says behind its options.
 pub const RACE_HELP: &str = "\

@@ -18,8 +18,9 @@
 //! | 2 | the words of the command line are refused, and the usage is on the error stream; or a file is named, two lines of a trace are chosen, a size has no class of its level, no region is large enough or the options make no kinds, and that line is there |
 //! | 3 | memory ran out; the line `tlsf: out of memory (6)` is on the error stream |
 //!
-//! Behind the line of a fault in the trace itself a tip names `tlsf check`, and behind a number with a suffix or separators one says
-//! how numbers are written. A write to the error stream that fails changes nothing. [`FaultReport`] is the line of a fault, and its status.
+//! Where tips are wanted, one names `tlsf check` after the line of a fault in the trace itself. After a refused number with a suffix or
+//! separators a line says how numbers are written. A write to the error stream that fails changes nothing. [`FaultReport`] is the line of a
+//! fault, and its status.
 #![tactic(auto)]
 
 mod arguments;

@@ -2,8 +2,7 @@
 //!
 //! `tlsf replay` reads a trace from standard input, runs it, and writes the reply lines and a report on each heap to
 //! standard output. The whole trace is read and checked before a line runs, and the whole text is made before a byte is
-//! written. `tlsf race` does so with each phase run in threads, one for each worker; where it is long, it says on standard
-//! error about every ten seconds that it still runs, as `tlsf replay --least` does in a long search. `tlsf map` writes a picture of the heaps that a trace leaves,
+//! written. `tlsf race` does so with each phase run in threads, one for each worker. `tlsf map` writes a picture of the heaps that a trace leaves,
 //! with `--text` in the characters of a terminal, and `tlsf plot` a plot of them over its lines. `tlsf check` says what a trace is, or where its first fault is and what was
 //! expected there. A file that is named behind one of these isn't read: a line says how it is given as standard input.
 //! `tlsf classes N` writes the size class and the search class of N words, and `tlsf size` the words of a region that never
@@ -17,9 +16,12 @@
 //! | 2 | the words of the command line are refused; the usage, or one line that says why, is on standard error |
 //! | 3 | memory ran out; the line `tlsf: out of memory (6)` is on standard error |
 //!
-//! A write to standard error that fails changes nothing.
+//! A fault is its line alone on standard error, and what `tlsf check` explains. Where that is a terminal, a tip may follow, and
+//! a long race or search of `tlsf replay --least` says about every ten seconds that it still runs. A write to standard error that
+//! fails changes nothing.
 #![tactic(auto)]
 
+use std::io::IsTerminal;
 use std::process::ExitCode;
 use std::{env, io};
 use tlsf_command::{FaultReport, run};
@@ -55,6 +57,7 @@ fn main(rt: HostRuntime) -> ExitCode {
             let mut reader = rt.reader();
             let mut writer = io::writer(&rt);
             let mut errors = rt.stderr();
+            let is_terminal = errors.is_terminal();
             run(
                 &rt,
                 rt.alloc(),
@@ -62,7 +65,8 @@ fn main(rt: HostRuntime) -> ExitCode {
                 &mut reader,
                 &mut writer,
                 &mut errors,
-                &Notice::new(&rt, doing(&words)),
+                &Notice::new(&rt, doing(&words), is_terminal),
+                is_terminal,
             )
         }
         Err(error) => refuse(&rt, &error),

@@ -8,10 +8,11 @@ const EVERY: u64 = 10_000;
 /// A gate that says on standard error, by `rt`, that a run is alive: a line about every ten seconds, as
 /// `tlsf: still racing, after 10 seconds`. They are counted from the first pass, so a run that ends sooner writes none.
 ///
+/// Only who waits at a terminal is told. Elsewhere it stands open and writes nothing: standard error is for faults there.
 /// Nothing waits for it: where the clock can't be read, or the line can't be written, there is none.
 ///
 /// ```
-/// let notice = Notice::new(&rt, "racing");
+/// let notice = Notice::new(&rt, "racing", rt.stderr().is_terminal());
 /// let summary = race_trace(&rt, alloc, &mut reader, &mut writer, &notice)?;
 /// ```
 #[derive(Drop)]
@@ -21,18 +22,20 @@ pub struct Notice<'a, R> {
     doing: &'static str,
     // The time of the first pass, in milliseconds of the clock.
     first: AtomicU64,
-    // The time from which on a line is due; 0 before the first pass.
+    // The time from which on a line is due; 0 before the first pass, and never where none is told.
     due: AtomicU64,
 }
 
 impl<'a, R> Notice<'a, R> {
-    /// A gate that no thread has passed, of a run that this word is for, as `racing` or `searching`.
-    pub fn new(rt: &'a R, doing: &'static str) -> Notice<'a, R> {
+    /// A gate that no thread has passed, of a run that this word is for, as `racing` or `searching`. Where nobody is told, it writes
+    /// nothing.
+    pub fn new(rt: &'a R, doing: &'static str, is_told: bool) -> Notice<'a, R> {
+        let due = if is_told { 0 } else { u64::MAX };
         Notice {
             rt,
             doing,
             first: AtomicU64::new(0),
-            due: AtomicU64::new(0),
+            due: AtomicU64::new(due),
         }
     }
 }

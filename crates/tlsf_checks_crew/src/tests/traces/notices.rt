@@ -50,7 +50,8 @@ impl Eprint for SetClock {
     }
 }
 
-// Each row has the time of a pass, and how many lines there are then. A second pass at the same time adds none.
+// Each row has the time of a pass, and how many lines there are then. A second pass at the same time adds none. One that
+// tells nobody adds none at all.
 #[test]
 fn long_run_says_that_it_is_alive(rt: HostRuntime) {
     let clock = SetClock {
@@ -58,7 +59,8 @@ fn long_run_says_that_it_is_alive(rt: HostRuntime) {
         millis: AtomicU64::new(0),
         told: AtomicU64::new(0),
     };
-    let notice = Notice::new(&clock, "searching");
+    let notice = Notice::new(&clock, "searching", true);
+    let silent = Notice::new(&clock, "searching", false);
     for (millis, lines) in [
         (FIRST, 0),
         (15_899, 0),
@@ -73,6 +75,7 @@ fn long_run_says_that_it_is_alive(rt: HostRuntime) {
         clock.millis.store(millis, Ordering::SeqCst);
         notice.pass(0, 0);
         notice.pass(1, 1);
+        silent.pass(0, 0);
         let told = clock.told.load(Ordering::SeqCst);
         same((millis, told), (millis, lines)).expect(&rt, "differ");
     }
