@@ -151,7 +151,7 @@ def forced(table, level):
 
 def forced_in(line):
     """Of one heap for a line of `tlsf replay --kinds`: how many kinds it has, and the words forced."""
-    words = line.split()[line.split().index("--sli"):]
+    words = line.split()[line.split().index("--level"):]
     level, table = int(words[1]), list(zip(map(int, words[3::4]), map(int, words[5::4])))
     most, lines = forced(table, level)
     replies = tlsf("replay", text="\n".join([f"tlsf {level - 3} 1 {most} 1", *lines, ""])).splitlines()[: len(lines)]

@@ -3,7 +3,7 @@
  * words together. None of the calls that were recorded is refused then, in whatever order they come.
  *
  *     cc -DRECORD kinds.c $(pkg-config --cflags --libs peachanchor) -o record
- *     ./record | ./tlsf replay --held --kinds
+ *     ./record | ./tlsf replay --kinds
  */
 #include <stdio.h>
 #ifdef RECORD
@@ -22,7 +22,7 @@ static uint32_t allocate(uint32_t len, struct tlsf_name *name) { return tlsf_all
 static uint32_t release(const struct tlsf_name *name) { return tlsf_release(&heap, name); }
 static uint32_t close_all(void) { return tlsf_close(&heap); }
 #else
-/* The second line above wrote: --sli 4 --blocks 10 --bytes 24 --blocks 10 --bytes 64 --blocks 10 --bytes 200 --blocks 10 --bytes 1000
+/* The second line above wrote: --level 4 --blocks 10 --bytes 24 --blocks 10 --bytes 64 --blocks 10 --bytes 200 --blocks 10 --bytes 1000
  * --blocks 3 --bytes 16384 */
 static const struct tlsf_kind table[] = {{10, 24}, {10, 64}, {10, 200}, {10, 1000}, {3, 16384}};
 static struct tlsf_pools pools;

@@ -14,12 +14,14 @@ use Rattle.clap.specs.declared.parser.matches.ArgMatches.TheViews.{out-ArgMatche
 use Rattle.clap.proofs.WalkLemmas.{raw_values-rows}
 use Rattle.tlsf_command.specs.Arguments.{Arguments, first_number, texts_in, texts_of}
 use Rattle.tlsf_command.specs.ClassQuestions.{HasClasses, IsClassQuestion}
-use Rattle.tlsf_command.specs.CommandLine.{Asks, IsAnswerable, IsAskedBy, IsCommand, IsRunOn, IsTip, IsWorst, Names, ReadsTrace, faults_of, number_for, run_asked, takes_number, tip_line, tlsf_app}
+use Rattle.tlsf_command.specs.CommandLine.{Asks, IsAnswerable, IsAskedBy, IsCommand, IsRunOn, IsTip, Names, ReadsTrace, faults_of, number_for, run_asked, takes_number, tip_line, tlsf_app}
+use Rattle.tlsf_command.specs.Rivals.{rivals_given}
 use Rattle.tlsf_command.specs.Runs.{Does, Refuses, Streams}
 use Rattle.tlsf_command.specs.declared.class_question.ClassQuestion.{ClassQuestion}
 use Rattle.tlsf_command.specs.declared.class_question.ClassQuestion.TheVariants.{Coarse, Fine, NoClass}
 use Rattle.tlsf_command.specs.declared.command_line.Choice.{Choice}
-use Rattle.tlsf_command.specs.declared.command_line.Choice.TheVariants.{Trace, File, Classes, Size, At, Heaps, TwoLines}
+use Rattle.tlsf_command.specs.declared.command_line.Choice.TheVariants.{Trace, File, Classes, Size, At, Heaps, Excluded}
+use Rattle.tlsf_command.specs.declared.rivals.Rivals.{Rivals}
 use Rattle.tlsf_command.specs.declared.trace_run.TraceRun.{TraceRun}
 use Rattle.tlsf_command.specs.declared.trace_run.TraceRun.TheVariants.{Replay, Held, HeldKinds, Least, Race, RaceQueues, Map, MapHtml, MapWorst, Plot, Check}
 use Rattle.tlsf_picture.specs.declared.form.Form.{Form}
@@ -88,30 +90,30 @@ reads_trace name (inl reads) classes size = reads
 reads_trace name (inr (inl is)) classes size = absurd (other_name name (codes "classes") is classes refl)
 reads_trace name (inr (inr is)) classes size = absurd (other_name name (codes "size") is size refl)
 
--- the choice of its run is what it asks for
-pub asked_by_run : (choice : Choice) (name : Text) (given : Arguments) → ReadsTrace name
+-- the choice of its run is what it asks for, where no two options exclude each other
+pub asked_by_run : (choice : Choice) (name : Text) (given : Arguments) → ReadsTrace name → rivals_given name given ≡ None
     → IsRunOn (run_asked name given) (number_for (run_asked name given) given) (given (codes "FILE")) choice → IsAskedBy choice name given
-asked_by_run (Trace run) name given reads is = (reads, is)
-asked_by_run (File run tip) name given reads is = (reads, is)
-asked_by_run (Classes question) name given reads is = absurd is
-asked_by_run (Size question) name given reads is = absurd is
-asked_by_run (At form line) name given reads is = (reads, is)
-asked_by_run (Heaps heaps) name given reads is = (reads, is)
-asked_by_run TwoLines name given reads is = (reads, is)
+asked_by_run (Trace run) name given reads none is = (reads, none, is)
+asked_by_run (File run tip) name given reads none is = (reads, none, is)
+asked_by_run (Classes question) name given reads none is = absurd is
+asked_by_run (Size question) name given reads none is = absurd is
+asked_by_run (At form line) name given reads none is = (reads, none, is)
+asked_by_run (Heaps heaps) name given reads none is = (reads, none, is)
+asked_by_run (Excluded rivals) name given reads none is = absurd is
 
--- a run that takes a number, is no picture and merges no kinds has a line of its own
-pub is_worst : (run : TraceRun) → (takes_number run ≡ false → ⊥) → ((form : Form) → run ≡ Map form → ⊥) → (run ≡ HeldKinds → ⊥) → IsWorst run
-is_worst (Map form) takes no_picture merges = absurd (no_picture form refl)
-is_worst (MapWorst form) takes no_picture merges = tt
-is_worst Replay takes no_picture merges = absurd (takes refl)
-is_worst Held takes no_picture merges = absurd (takes refl)
-is_worst HeldKinds takes no_picture merges = absurd (merges refl)
-is_worst Least takes no_picture merges = absurd (takes refl)
-is_worst Race takes no_picture merges = absurd (takes refl)
-is_worst RaceQueues takes no_picture merges = absurd (takes refl)
-is_worst MapHtml takes no_picture merges = absurd (takes refl)
-is_worst (Plot form) takes no_picture merges = absurd (takes refl)
-is_worst Check takes no_picture merges = absurd (takes refl)
+-- a run that takes a number and is no picture merges kinds
+pub merges_kinds : (run : TraceRun) → (takes_number run ≡ false → ⊥) → ((form : Form) → run ≡ Map form → ⊥) → run ≡ HeldKinds
+merges_kinds (Map form) takes no_picture = absurd (no_picture form refl)
+merges_kinds (MapWorst form) takes no_picture = absurd (takes refl)
+merges_kinds Replay takes no_picture = absurd (takes refl)
+merges_kinds Held takes no_picture = absurd (takes refl)
+merges_kinds HeldKinds takes no_picture = refl
+merges_kinds Least takes no_picture = absurd (takes refl)
+merges_kinds Race takes no_picture = absurd (takes refl)
+merges_kinds RaceQueues takes no_picture = absurd (takes refl)
+merges_kinds MapHtml takes no_picture = absurd (takes refl)
+merges_kinds (Plot form) takes no_picture = absurd (takes refl)
+merges_kinds Check takes no_picture = absurd (takes refl)
 
 -- ---- what is asked for can be answered
 
@@ -127,7 +129,7 @@ answerable_by (Trace run) (Some named) is = tt
 answerable_by (File run tip) (Some named) is = tt
 answerable_by (At form line) (Some named) is = tt
 answerable_by (Heaps heaps) (Some named) is = tt
-answerable_by TwoLines (Some named) is = tt
+answerable_by (Excluded rivals) (Some named) is = tt
 answerable_by (Classes question) (Some named) is = has_classes (texts_in named.1) question is.1
 answerable_by (Size question) (Some named) is = has_table (texts_in named.1) question is.1
 
@@ -142,7 +144,7 @@ some_file file is = let count : 1 ≡ 0 = ap (λ (files : List Text). length fil
 -- where no number is given, no run has one
 no_number : (run : TraceRun) (given : Arguments) → given (codes "K") ≡ [] → given (codes "H") ≡ [] → number_for run given ≡ 0
 no_number (Map form) given none free = ap (first_number 0) none
-no_number (MapWorst form) given none free = ap (first_number 0) none
+no_number (MapWorst form) given none free = refl
 no_number HeldKinds given none free = ap (first_number 0) free
 no_number Replay given none free = refl
 no_number Held given none free = refl
@@ -153,31 +155,35 @@ no_number MapHtml given none free = refl
 no_number (Plot form) given none free = refl
 no_number Check given none free = refl
 
+-- none are not some
+no_rivals : (rivals : Rivals) → None ≡ Some rivals → ⊥
+no_rivals rivals is = cc
+
 -- no file is named: it is run
 pub only_run : (run : TraceRun) (choice : Choice) (named : Option (Text × List Row)) → Names (NamesRun run []) named → Names (IsAskedBy choice) named → choice ≡ Trace run
 only_run run choice None names asks = absurd names
-only_run run (Trace other) (Some named) names asks = ap (λ (r : TraceRun). Trace r) (asks.1.0 ∙ names.1)
+only_run run (Trace other) (Some named) names asks = ap (λ (r : TraceRun). Trace r) (asks.2.0 ∙ names.1)
 only_run run (File other tip) (Some named) names asks =
-    absurd (subst (λ (files : List Text). IsTip (run_asked named.0 (texts_in named.1)) (number_for (run_asked named.0 (texts_in named.1)) (texts_in named.1)) files (string_bytes tip)) names.2 asks.1.1)
+    absurd (subst (λ (files : List Text). IsTip (run_asked named.0 (texts_in named.1)) (number_for (run_asked named.0 (texts_in named.1)) (texts_in named.1)) files (string_bytes tip)) names.2 asks.2.1)
 only_run run (Classes question) (Some named) names asks = absurd (other_name named.0 (codes "classes") asks.0 names.0.0 refl)
 only_run run (Size question) (Some named) names asks = absurd (other_name named.0 (codes "size") asks.0 names.0.1 refl)
-only_run run (At form line) (Some named) names asks = absurd (asks.1.2 (asks.1.3 ∙ no_number _ (texts_in named.1) names.3 names.4))
-only_run run (Heaps heaps) (Some named) names asks = absurd (asks.1.2 (asks.1.3 ∙ no_number _ (texts_in named.1) names.3 names.4))
-only_run run TwoLines (Some named) names asks = absurd (asks.1.1 (no_number _ (texts_in named.1) names.3 names.4))
+only_run run (At form line) (Some named) names asks = absurd (asks.2.2 (asks.2.3 ∙ no_number _ (texts_in named.1) names.3 names.4))
+only_run run (Heaps heaps) (Some named) names asks = absurd (asks.2.2 (asks.2.3 ∙ no_number _ (texts_in named.1) names.3 names.4))
+only_run run (Excluded rivals) (Some named) names asks = absurd (no_rivals rivals (sym names.5 ∙ asks))
 
 -- a file is named: its tip is due
 pub only_tip : (tips : Bool) (run : TraceRun) (file : Text) (choice : Choice) (status : ℕ) (old new : Streams) (named : Option (Text × List Row)) → Names (NamesRun run (file ∷ [])) named
     → Names (IsAskedBy choice) named → Does tips choice status old new → Refuses (tip_line run 0 file) status old new
 only_tip tips run file choice status old new None names asks done = absurd names
-only_tip tips run file (Trace other) status old new (Some named) names asks done = absurd (some_file file (sym names.2 ∙ asks.1.1))
+only_tip tips run file (Trace other) status old new (Some named) names asks done = absurd (some_file file (sym names.2 ∙ asks.2.1))
 only_tip tips run file (File other tip) status old new (Some named) names asks done =
     let asked = run_asked named.0 (texts_in named.1) in
     let line = number_for asked (texts_in named.1) in
-    let tips : string_bytes tip ≡ tip_line asked line file = subst (λ (files : List Text). IsTip asked line files (string_bytes tip)) names.2 asks.1.1 in
+    let tips : string_bytes tip ≡ tip_line asked line file = subst (λ (files : List Text). IsTip asked line files (string_bytes tip)) names.2 asks.2.1 in
     let none : tip_line asked line file ≡ tip_line asked 0 file = ap (λ (n : ℕ). tip_line asked n file) (no_number asked (texts_in named.1) names.3 names.4) in
     subst (λ (text : Text). Refuses text status old new) (tips ∙ (none ∙ ap (λ (r : TraceRun). tip_line r 0 file) names.1)) done
 only_tip tips run file (Classes question) status old new (Some named) names asks done = absurd (other_name named.0 (codes "classes") asks.0 names.0.0 refl)
 only_tip tips run file (Size question) status old new (Some named) names asks done = absurd (other_name named.0 (codes "size") asks.0 names.0.1 refl)
-only_tip tips run file (At form line) status old new (Some named) names asks done = absurd (some_file file (sym names.2 ∙ asks.1.1))
-only_tip tips run file (Heaps heaps) status old new (Some named) names asks done = absurd (some_file file (sym names.2 ∙ asks.1.1))
-only_tip tips run file TwoLines status old new (Some named) names asks done = absurd (asks.1.1 (no_number _ (texts_in named.1) names.3 names.4))
+only_tip tips run file (At form line) status old new (Some named) names asks done = absurd (some_file file (sym names.2 ∙ asks.2.1))
+only_tip tips run file (Heaps heaps) status old new (Some named) names asks done = absurd (some_file file (sym names.2 ∙ asks.2.1))
+only_tip tips run file (Excluded rivals) status old new (Some named) names asks done = absurd (no_rivals rivals (sym names.5 ∙ asks))

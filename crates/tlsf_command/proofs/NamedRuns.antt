@@ -7,6 +7,7 @@ use Rattle.clap.specs.Words.{Text, subcommand_of}
 use Rattle.clap.proofs.OnLiterals.{clap_on_literals}
 use Rattle.tlsf_command.specs.Arguments.{Arguments}
 use Rattle.tlsf_command.specs.CommandLine.{faults_of, run_asked, tlsf_app, words_of, IsPlainWord, Names}
+use Rattle.tlsf_command.specs.Rivals.{rivals_given}
 use Rattle.tlsf_picture.specs.declared.form.Form.TheVariants.{Svg, Text as Characters}
 use Rattle.tlsf_command.specs.declared.trace_run.TraceRun.{TraceRun}
 use Rattle.tlsf_command.specs.declared.trace_run.TraceRun.TheVariants.{Replay, Held, HeldKinds, Least, Race, RaceQueues, Map, MapHtml, MapWorst, Plot, Check}
@@ -15,9 +16,10 @@ use Rattle.tlsf_command.specs.declared.trace_run.TraceRun.TheVariants.{Replay, H
 abbrev pub IsNoOther : Text → Type 0
 IsNoOther name = (bytes_eq name (codes "classes") ≡ false) × (bytes_eq name (codes "size") ≡ false)
 
--- the command of this name is asked for a run, with these words behind it and no number
+-- the command of this name is asked for a run, with these words behind it, no number and no two options that exclude each other
 abbrev pub NamesRun : TraceRun → (files : List Text) → Text → Arguments → Type 0
 NamesRun run files name given = IsNoOther name × (run_asked name given ≡ run) × (given (codes "FILE") ≡ files) × (given (codes "K") ≡ []) × (given (codes "H") ≡ [])
+    × (rivals_given name given ≡ None)
 
 -- the words ask for it
 pub record NameRun (words : List Text) (run : TraceRun) (files : List Text) : Type 0 where
@@ -27,20 +29,20 @@ pub record NameRun (words : List Text) (run : TraceRun) (files : List Text) : Ty
 -- the program's name, whatever that is, and the words of a run
 pub run_named : (called : Text) (run : TraceRun) → NameRun (called ∷ words_of run) run []
 unfolding clap_on_literals
-run_named called Replay = record { faultless = refl; named = ((refl, refl), refl, refl, refl, refl) }
-run_named called Held = record { faultless = refl; named = ((refl, refl), refl, refl, refl, refl) }
-run_named called HeldKinds = record { faultless = refl; named = ((refl, refl), refl, refl, refl, refl) }
-run_named called Least = record { faultless = refl; named = ((refl, refl), refl, refl, refl, refl) }
-run_named called Race = record { faultless = refl; named = ((refl, refl), refl, refl, refl, refl) }
-run_named called RaceQueues = record { faultless = refl; named = ((refl, refl), refl, refl, refl, refl) }
-run_named called (Map Svg) = record { faultless = refl; named = ((refl, refl), refl, refl, refl, refl) }
-run_named called (Map Characters) = record { faultless = refl; named = ((refl, refl), refl, refl, refl, refl) }
-run_named called MapHtml = record { faultless = refl; named = ((refl, refl), refl, refl, refl, refl) }
-run_named called (MapWorst Svg) = record { faultless = refl; named = ((refl, refl), refl, refl, refl, refl) }
-run_named called (MapWorst Characters) = record { faultless = refl; named = ((refl, refl), refl, refl, refl, refl) }
-run_named called (Plot Svg) = record { faultless = refl; named = ((refl, refl), refl, refl, refl, refl) }
-run_named called (Plot Characters) = record { faultless = refl; named = ((refl, refl), refl, refl, refl, refl) }
-run_named called Check = record { faultless = refl; named = ((refl, refl), refl, refl, refl, refl) }
+run_named called Replay = record { faultless = refl; named = ((refl, refl), refl, refl, refl, refl, refl) }
+run_named called Held = record { faultless = refl; named = ((refl, refl), refl, refl, refl, refl, refl) }
+run_named called HeldKinds = record { faultless = refl; named = ((refl, refl), refl, refl, refl, refl, refl) }
+run_named called Least = record { faultless = refl; named = ((refl, refl), refl, refl, refl, refl, refl) }
+run_named called Race = record { faultless = refl; named = ((refl, refl), refl, refl, refl, refl, refl) }
+run_named called RaceQueues = record { faultless = refl; named = ((refl, refl), refl, refl, refl, refl, refl) }
+run_named called (Map Svg) = record { faultless = refl; named = ((refl, refl), refl, refl, refl, refl, refl) }
+run_named called (Map Characters) = record { faultless = refl; named = ((refl, refl), refl, refl, refl, refl, refl) }
+run_named called MapHtml = record { faultless = refl; named = ((refl, refl), refl, refl, refl, refl, refl) }
+run_named called (MapWorst Svg) = record { faultless = refl; named = ((refl, refl), refl, refl, refl, refl, refl) }
+run_named called (MapWorst Characters) = record { faultless = refl; named = ((refl, refl), refl, refl, refl, refl, refl) }
+run_named called (Plot Svg) = record { faultless = refl; named = ((refl, refl), refl, refl, refl, refl, refl) }
+run_named called (Plot Characters) = record { faultless = refl; named = ((refl, refl), refl, refl, refl, refl, refl) }
+run_named called Check = record { faultless = refl; named = ((refl, refl), refl, refl, refl, refl, refl) }
 
 no_hyphen : (code : ℕ) → code ≢ 45 → (code == 45) ≡ false
 no_hyphen code ne = grind (arith, nat_tests)
@@ -55,20 +57,20 @@ plain_word (code ∷ rest) plain = let no = no_hyphen code plain in (rw no refl,
 
 by_plain : (called : Text) (run : TraceRun) (file : Text) → IsPlain file → NameRun (called ∷ (words_of run ++ file ∷ [])) run (file ∷ [])
 unfolding clap_on_literals
-by_plain called Replay file plain = record { faultless = rw (plain.0, plain.1, plain.2) refl; named = rw (plain.0, plain.1, plain.2) ((refl, refl), refl, refl, refl, refl) }
-by_plain called Held file plain = record { faultless = rw (plain.0, plain.1, plain.2) refl; named = rw (plain.0, plain.1, plain.2) ((refl, refl), refl, refl, refl, refl) }
-by_plain called HeldKinds file plain = record { faultless = rw (plain.0, plain.1, plain.2) refl; named = rw (plain.0, plain.1, plain.2) ((refl, refl), refl, refl, refl, refl) }
-by_plain called Least file plain = record { faultless = rw (plain.0, plain.1, plain.2) refl; named = rw (plain.0, plain.1, plain.2) ((refl, refl), refl, refl, refl, refl) }
-by_plain called Race file plain = record { faultless = rw (plain.0, plain.1, plain.2) refl; named = rw (plain.0, plain.1, plain.2) ((refl, refl), refl, refl, refl, refl) }
-by_plain called RaceQueues file plain = record { faultless = rw (plain.0, plain.1, plain.2) refl; named = rw (plain.0, plain.1, plain.2) ((refl, refl), refl, refl, refl, refl) }
-by_plain called (Map Svg) file plain = record { faultless = rw (plain.0, plain.1, plain.2) refl; named = rw (plain.0, plain.1, plain.2) ((refl, refl), refl, refl, refl, refl) }
-by_plain called (Map Characters) file plain = record { faultless = rw (plain.0, plain.1, plain.2) refl; named = rw (plain.0, plain.1, plain.2) ((refl, refl), refl, refl, refl, refl) }
-by_plain called MapHtml file plain = record { faultless = rw (plain.0, plain.1, plain.2) refl; named = rw (plain.0, plain.1, plain.2) ((refl, refl), refl, refl, refl, refl) }
-by_plain called (MapWorst Svg) file plain = record { faultless = rw (plain.0, plain.1, plain.2) refl; named = rw (plain.0, plain.1, plain.2) ((refl, refl), refl, refl, refl, refl) }
-by_plain called (MapWorst Characters) file plain = record { faultless = rw (plain.0, plain.1, plain.2) refl; named = rw (plain.0, plain.1, plain.2) ((refl, refl), refl, refl, refl, refl) }
-by_plain called (Plot Svg) file plain = record { faultless = rw (plain.0, plain.1, plain.2) refl; named = rw (plain.0, plain.1, plain.2) ((refl, refl), refl, refl, refl, refl) }
-by_plain called (Plot Characters) file plain = record { faultless = rw (plain.0, plain.1, plain.2) refl; named = rw (plain.0, plain.1, plain.2) ((refl, refl), refl, refl, refl, refl) }
-by_plain called Check file plain = record { faultless = rw (plain.0, plain.1, plain.2) refl; named = rw (plain.0, plain.1, plain.2) ((refl, refl), refl, refl, refl, refl) }
+by_plain called Replay file plain = record { faultless = rw (plain.0, plain.1, plain.2) refl; named = rw (plain.0, plain.1, plain.2) ((refl, refl), refl, refl, refl, refl, refl) }
+by_plain called Held file plain = record { faultless = rw (plain.0, plain.1, plain.2) refl; named = rw (plain.0, plain.1, plain.2) ((refl, refl), refl, refl, refl, refl, refl) }
+by_plain called HeldKinds file plain = record { faultless = rw (plain.0, plain.1, plain.2) refl; named = rw (plain.0, plain.1, plain.2) ((refl, refl), refl, refl, refl, refl, refl) }
+by_plain called Least file plain = record { faultless = rw (plain.0, plain.1, plain.2) refl; named = rw (plain.0, plain.1, plain.2) ((refl, refl), refl, refl, refl, refl, refl) }
+by_plain called Race file plain = record { faultless = rw (plain.0, plain.1, plain.2) refl; named = rw (plain.0, plain.1, plain.2) ((refl, refl), refl, refl, refl, refl, refl) }
+by_plain called RaceQueues file plain = record { faultless = rw (plain.0, plain.1, plain.2) refl; named = rw (plain.0, plain.1, plain.2) ((refl, refl), refl, refl, refl, refl, refl) }
+by_plain called (Map Svg) file plain = record { faultless = rw (plain.0, plain.1, plain.2) refl; named = rw (plain.0, plain.1, plain.2) ((refl, refl), refl, refl, refl, refl, refl) }
+by_plain called (Map Characters) file plain = record { faultless = rw (plain.0, plain.1, plain.2) refl; named = rw (plain.0, plain.1, plain.2) ((refl, refl), refl, refl, refl, refl, refl) }
+by_plain called MapHtml file plain = record { faultless = rw (plain.0, plain.1, plain.2) refl; named = rw (plain.0, plain.1, plain.2) ((refl, refl), refl, refl, refl, refl, refl) }
+by_plain called (MapWorst Svg) file plain = record { faultless = rw (plain.0, plain.1, plain.2) refl; named = rw (plain.0, plain.1, plain.2) ((refl, refl), refl, refl, refl, refl, refl) }
+by_plain called (MapWorst Characters) file plain = record { faultless = rw (plain.0, plain.1, plain.2) refl; named = rw (plain.0, plain.1, plain.2) ((refl, refl), refl, refl, refl, refl, refl) }
+by_plain called (Plot Svg) file plain = record { faultless = rw (plain.0, plain.1, plain.2) refl; named = rw (plain.0, plain.1, plain.2) ((refl, refl), refl, refl, refl, refl, refl) }
+by_plain called (Plot Characters) file plain = record { faultless = rw (plain.0, plain.1, plain.2) refl; named = rw (plain.0, plain.1, plain.2) ((refl, refl), refl, refl, refl, refl, refl) }
+by_plain called Check file plain = record { faultless = rw (plain.0, plain.1, plain.2) refl; named = rw (plain.0, plain.1, plain.2) ((refl, refl), refl, refl, refl, refl, refl) }
 
 -- and a word behind them that begins with no hyphen
 pub file_named : (called : Text) (run : TraceRun) (file : Text) → IsPlainWord file → NameRun (called ∷ (words_of run ++ file ∷ [])) run (file ∷ [])

@@ -15,4 +15,4 @@ class_line sli n = codes "class " ++ (class_text sli (class_of sli n)
 
 -- the refusal of a size that no class of its level has
 abbrev pub no_class_line : List ℕ
-no_class_line = codes "tlsf: a size has 4 to 1048576 words, and up to 16777216 with --sli 5\n"
+no_class_line = codes "tlsf: a size has 4 to 1048576 words, and up to 16777216 with --level 5\n"

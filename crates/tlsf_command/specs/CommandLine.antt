@@ -11,9 +11,10 @@ use Rattle.std.specs.Str.{bytes_eq}
 use Rattle.tlsf_command.specs.Arguments.{Arguments, first_number, is_set, texts_in}
 use Rattle.tlsf_command.specs.Quotes.{quoted}
 use Rattle.tlsf_command.specs.ClassQuestions.{HasClasses, IsClassQuestion}
+use Rattle.tlsf_command.specs.Rivals.{rivals_given}
 use Rattle.tlsf_command.specs.SizeQuestions.{HasTable, IsQuestion}
 use Rattle.tlsf_command.specs.declared.command_line.Choice.{Choice}
-use Rattle.tlsf_command.specs.declared.command_line.Choice.TheVariants.{Trace, File, Classes, Size, At, Heaps, TwoLines}
+use Rattle.tlsf_command.specs.declared.command_line.Choice.TheVariants.{Trace, File, Classes, Size, At, Heaps, Excluded}
 use Rattle.tlsf_picture.specs.declared.form.Form.{Form}
 use Rattle.tlsf_picture.specs.declared.form.Form.TheVariants.{Svg, Text as Characters}
 use Rattle.tlsf_command.specs.declared.trace_run.TraceRun.{TraceRun}
@@ -139,8 +140,7 @@ abbrev pub form_by : Bool → Form
 form_by true = Characters
 form_by false = Svg
 
--- the run that a command asks for by whether its flags are given, in the order of their names here. Kinds are held ones, with `--held` and
--- without, and so is what is least
+-- the run that a command asks for by whether its flags are given: of those that exclude each other one is
 abbrev pub replay_by : (kinds least held : Bool) → TraceRun
 replay_by true least held = HeldKinds
 replay_by false true held = Least
@@ -170,7 +170,7 @@ run_by name is_given merges =
 abbrev pub words_of : TraceRun → List Text
 words_of Replay = codes "replay" ∷ []
 words_of Held = codes "replay" ∷ codes "--held" ∷ []
-words_of HeldKinds = codes "replay" ∷ codes "--held" ∷ codes "--kinds" ∷ []
+words_of HeldKinds = codes "replay" ∷ codes "--kinds" ∷ []
 words_of Least = codes "replay" ∷ codes "--least" ∷ []
 words_of Race = codes "race" ∷ []
 words_of RaceQueues = codes "race" ∷ codes "--queues" ∷ []
@@ -213,37 +213,25 @@ abbrev pub IsTip : TraceRun → (number : ℕ) → (files : List Text) → Text 
 IsTip run number [] text = ⊥
 IsTip run number (file ∷ files) text = text ≡ tip_line run number file
 
--- the refusal of both `--at` and `--worst`
-abbrev pub two_lines_line : Text
-two_lines_line = codes "tlsf: --at and --worst each choose a line of the trace: give one of them\n"
-
--- a picture is drawn after a line, if one is given; a page shows each one, and takes none. Kinds are merged for as many heaps as are given
+-- a picture is drawn after a line, if one is given. Kinds are merged for as many heaps as are given
 abbrev pub takes_number : TraceRun → Bool
 takes_number (Map form) = true
-takes_number (MapWorst form) = true
 takes_number HeldKinds = true
 takes_number run = false
 
 -- the number that is given to a run, 0 where none is
 abbrev pub number_for : TraceRun → Arguments → ℕ
 number_for (Map form) given = first_number 0 (given (codes "K"))
-number_for (MapWorst form) given = first_number 0 (given (codes "K"))
 number_for HeldKinds given = first_number 0 (given (codes "H"))
 number_for run given = 0
-
--- a run draws the heaps after the line to look at
-abbrev pub IsWorst : TraceRun → Type 0
-IsWorst (MapWorst form) = ⊤
-IsWorst run = ⊥
 
 -- the choice of a run with this number, 0 for none, where these words stand behind its command: it is asked for where no file is named, and
 -- else its tip is due
 abbrev pub IsRunOn : TraceRun → (number : ℕ) → (files : List Text) → Choice → Type 0
 IsRunOn run number files (Trace other) = (other ≡ run) × (files ≡ []) × (number ≡ 0)
-IsRunOn run number files (File other tip) = (other ≡ run) × IsTip run number files (string_bytes tip) × (IsWorst run → number ≡ 0)
+IsRunOn run number files (File other tip) = (other ≡ run) × IsTip run number files (string_bytes tip)
 IsRunOn run number files (At form k) = (run ≡ Map form) × (files ≡ []) × (k ≢ 0) × (k ≡ number)
 IsRunOn run number files (Heaps k) = (run ≡ HeldKinds) × (files ≡ []) × (k ≢ 0) × (k ≡ number)
-IsRunOn run number files TwoLines = IsWorst run × (number ≢ 0)
 IsRunOn run number files choice = ⊥
 
 -- the command of this name reads a trace
@@ -258,12 +246,14 @@ IsCommand name = ReadsTrace name ⊎ ((name ≡ codes "classes") ⊎ (name ≡ c
 abbrev pub run_asked : Text → Arguments → TraceRun
 run_asked name given = run_by name (λ flag. is_set (given flag)) (nat_lt 0 (first_number 0 (given (codes "H"))))
 
--- the choice is what the command of this name asks for by what is given to it
+-- the choice is what the command of this name asks for by what is given to it: two options of which it takes one are refused
 abbrev pub IsAskedBy : Choice → Text → Arguments → Type 0
 IsAskedBy (Classes question) name given = (name ≡ codes "classes") × IsClassQuestion given question
 IsAskedBy (Size question) name given = (name ≡ codes "size") × IsQuestion given question
+IsAskedBy (Excluded rivals) name given = rivals_given name given ≡ Some rivals
 IsAskedBy choice name given =
-    let run = run_asked name given in ReadsTrace name × IsRunOn run (number_for run given) (given (codes "FILE")) choice
+    let run = run_asked name given in
+    ReadsTrace name × (rivals_given name given ≡ None) × IsRunOn run (number_for run given) (given (codes "FILE")) choice
 
 -- the size of the choice, where it has one, has a class, and a table has 1 to 64 kinds
 abbrev pub IsAnswerable : Choice → Type 0

@@ -5,5 +5,6 @@ pub mod ClassQuestions
 pub mod SizeLines
 pub mod SizeQuestions
 pub mod Quotes
+pub mod Rivals
 pub mod CommandLine
 pub mod Runs

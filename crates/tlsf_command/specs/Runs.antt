@@ -5,8 +5,9 @@ use Rattle.clap.specs.Words.{IsAmong, Text}
 use Rattle.clap.specs.declared.error.kind.ErrorKind.{ErrorKind}
 use Rattle.clap.specs.declared.error.kind.ErrorKind.TheVariants.{DisplayHelp, DisplayVersion, OutOfMemory}
 use Rattle.tlsf_command.specs.ClassLines.{class_line, no_class_line}
-use Rattle.tlsf_command.specs.CommandLine.{Asks, faults_of, tip_line, two_lines_line}
+use Rattle.tlsf_command.specs.CommandLine.{Asks, faults_of, tip_line}
 use Rattle.tlsf_command.specs.FaultLines.{check_tip, fault_line, status_of_fault}
+use Rattle.tlsf_command.specs.Rivals.{rivals_line}
 use Rattle.tlsf_command.specs.SizeLines.{no_split_line, size_line, split_lines, unpaired_line, unreached_line, unreached_table_line, AreReached, HasNoSplit, IsCheapest, IsFiner, IsFirstUnreached, IsGreatest, IsReached, IsSplitOf}
 use Rattle.tlsf_command.specs.declared.class_question.ClassQuestion.{ClassQuestion}
 use Rattle.tlsf_command.specs.declared.class_question.ClassQuestion.TheVariants.{Coarse, Fine, NoClass}
@@ -16,7 +17,7 @@ use Rattle.tlsf_pool.specs.declared.kind.Kind.{Kind}
 use Rattle.tlsf_pool.specs.sizes.Splits.{parts_of}
 use Rattle.tlsf_pool.specs.declared.sizes.split.Split.{Split}
 use Rattle.tlsf_command.specs.declared.command_line.Choice.{Choice}
-use Rattle.tlsf_command.specs.declared.command_line.Choice.TheVariants.{Trace, File, Classes, Size, At, Heaps, TwoLines}
+use Rattle.tlsf_command.specs.declared.command_line.Choice.TheVariants.{Trace, File, Classes, Size, At, Heaps, Excluded}
 use Rattle.tlsf_command.specs.declared.trace_run.TraceRun.{TraceRun}
 use Rattle.tlsf_command.specs.declared.trace_run.TraceRun.TheVariants.{Replay, Held, HeldKinds, Least, Race, RaceQueues, Map, MapHtml, MapWorst, Plot, Check}
 use Rattle.tlsf_check.specs.Checks.{Checks, Notes}
@@ -139,13 +140,14 @@ pub record ShowsWords (sli : ℕ) (kinds : List Kind) (status : ℕ) (old new : 
   pub lines : ShowsLines (size_line sli kinds) status old new
 
 -- the line that says how far a region does reach was reported: of one kind, the most blocks and the most bytes; of several, how
--- many of the table a region has room for, and the next one, and the hint at several heaps exactly where these are large enough; and the
+-- many of the table a region has room for, and the next one; and of both the hint at pools exactly where these are large enough, and the
 -- hint at level 5 exactly where a region of it has the words
 abbrev pub ReportsUnreached : ℕ → List Kind → Option (List ℕ) → Option (List ℕ) → Type 0
 ReportsUnreached sli (kind ∷ []) old new = (blocks : ℕ) × IsGreatest (λ most. IsReached sli most kind.len) blocks
     × ((bytes : ℕ) × IsGreatest (λ len. IsReached sli kind.most len) bytes
+    × ((split : Option Split) × IsSplitOf sli (kind ∷ []) split
     × ((finer : Option ℕ) × IsFiner (kind ∷ []) finer
-    × AppendsFront old new (unreached_line kind.most kind.len blocks bytes finer)))
+    × AppendsFront old new (unreached_line kind.most kind.len blocks bytes split finer))))
 ReportsUnreached sli kinds old new = (n : ℕ) × (next : Kind) × (split : Option Split) × (finer : Option ℕ) × IsFirstUnreached sli kinds n next
     × IsSplitOf sli kinds split × IsFiner kinds finer × AppendsFront old new (unreached_table_line n next split finer)
 
@@ -205,7 +207,7 @@ ShowsAnswer OutOfMemory status old new = LacksMemory status old new
 ShowsAnswer _ status old new = ShowsUsage status old new
 
 -- what was chosen is done: a run of a trace, or its tip where a file is named, the classes of a size, the words of a region, a picture
--- after a line, or kinds merged for so many heaps; two lines are refused
+-- after a line, or kinds merged for so many heaps; options that exclude each other are refused
 abbrev pub Does : (tips : Bool) → Choice → ℕ → Streams → Streams → Type 0
 Does tips (Trace run) = RunsAs tips run
 Does tips (File run tip) = Refuses (string_bytes tip)
@@ -213,7 +215,7 @@ Does tips (Classes question) = AnswersClasses question
 Does tips (Size question) = ShowsSize question
 Does tips (At form line) = RunsBy tips (DrawsAt form line)
 Does tips (Heaps heaps) = RunsBy tips (TellsMerged heaps)
-Does tips TwoLines = Refuses two_lines_line
+Does tips (Excluded rivals) = Refuses (rivals_line rivals)
 
 -- how a run ends, by its words: it does what they ask for, it answers by one of their faults, or it lacks memory
 abbrev pub Ends : (tips : Bool) → List Text → ℕ → Streams → Streams → Type 0

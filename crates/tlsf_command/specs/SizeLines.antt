@@ -104,7 +104,8 @@ IsSplitOf sli kinds (Some split) = IsCheapest sli kinds split
 abbrev pub split_hint_text : Option Split → List ℕ
 split_hint_text None = []
 split_hint_text (Some split) =
-    codes "; with --split " ++ (decimal split.heaps ++ (codes " heaps of " ++ (decimal split.words ++ codes " words together are enough")))
+    codes "; with --split " ++ (counted split.heaps (codes "heap") ++ (codes " of " ++ (decimal split.words ++ (codes " words "
+    ++ ((if split.heaps == 1 then codes "is" else codes "together are") ++ codes " enough")))))
 
 -- the words of a region of level 5 for such a table, if one has so many
 abbrev pub IsFiner : List Kind → Option ℕ → Type 0
@@ -114,15 +115,15 @@ IsFiner kinds (Some words) = AreReached 5 kinds × (words ≡ kinds_words 5 kind
 -- the hint at that level, where it helps
 abbrev pub hint_text : Option ℕ → List ℕ
 hint_text None = []
-hint_text (Some words) = codes "; with --sli 5 a region of " ++ (decimal words ++ codes " words is enough")
+hint_text (Some words) = codes "; with --level 5 a region of " ++ (decimal words ++ codes " words is enough")
 
--- the refusal, with the most blocks of this length, the most bytes for this many blocks, and that hint
-abbrev pub unreached_line : (most len blocks bytes : ℕ) → (finer : Option ℕ) → List ℕ
-unreached_line most len blocks bytes finer =
+-- the refusal, with the most blocks of this length, the most bytes for this many blocks, and both hints
+abbrev pub unreached_line : (most len blocks bytes : ℕ) → Option Split → (finer : Option ℕ) → List ℕ
+unreached_line most len blocks bytes split finer =
     codes "tlsf: no region has so many words: at most " ++ (counted blocks (codes "block")
     ++ (codes " of " ++ (counted len (codes "byte")
     ++ (codes ", or " ++ (counted most (codes "block")
-    ++ (codes " of at most " ++ (counted bytes (codes "byte") ++ (hint_text finer ++ codes "\n"))))))))
+    ++ (codes " of at most " ++ (counted bytes (codes "byte") ++ (split_hint_text split ++ (hint_text finer ++ codes "\n")))))))))
 
 -- the refusal of a table, with the number of kinds for which a region has room, the next one, and both hints
 abbrev pub unreached_table_line : ℕ → Kind → Option Split → (finer : Option ℕ) → List ℕ

@@ -11,7 +11,7 @@ use std::io::Write;
 use tlsf_class::{class_of, low, search_of};
 use tlsf_trace::{WriteError, write_out};
 
-const NO_CLASS: &str = "tlsf: a size has 4 to 1048576 words, and up to 16777216 with --sli 5\n";
+const NO_CLASS: &str = "tlsf: a size has 4 to 1048576 words, and up to 16777216 with --level 5\n";
 
 // The line on a size of `words`, as `class 92 low 448 search 93 low 464`. It has at most 48 bytes.
 fn line_of<const SLI: u32>(words: u32) -> Result<ArrayString<64>, fmt::Error>

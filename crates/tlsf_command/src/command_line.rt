@@ -1,4 +1,4 @@
-ghost use Rattle.std.specs.Prelude.{◌≡◌, [], codes, false, map, IfOk};
+ghost use Rattle.std.specs.Prelude.{◌≡◌, [], codes, false, map, None, IfOk};
 ghost use Rattle.clap.specs.Words.{app_of, new_app, subcommand_of, subcommand_rows_of, with_subcommand, App, FailsBy};
 ghost use Rattle.tlsf_command.specs.Arguments.{texts_of};
 ghost use Rattle.tlsf_command.specs.CommandLine.{bare_app, check_app, classes_app, count_rule, file_rule, flag_rule, heaps_rule, level_rule, line_rule, map_app, plot_app, race_app, replay_app, size_app, size_rule, tlsf_app, trace_app, faults_of, form_by, map_by, number_for, race_by, replay_by, run_asked, takes_number, Asks, IsArg, IsAskedBy, IsCommand, IsOf, IsRunOn};
@@ -9,6 +9,7 @@ use crate::class_question::ClassQuestion;
 use crate::help::{
     CHECK_HELP, CLASSES_HELP, MAP_HELP, PLOT_HELP, PROGRAM_HELP, RACE_HELP, REPLAY_HELP, SIZE_HELP,
 };
+use crate::rivals::{Rivals, rivals_given};
 use crate::size_question::SizeQuestion;
 use crate::trace_run::TraceRun;
 use clap::{Arg, ArgAction, ArgMatches, Command, Error};
@@ -32,10 +33,10 @@ pub enum Choice {
     Size(SizeQuestion),
     /// `tlsf map --at K`: write a picture of the heaps of a trace as they stand after its line K, 1 to 2^32 - 1, in this form.
     At(Form, u32),
-    /// `tlsf replay --kinds --heaps N`: write the kinds of blocks that each worker holds, merged for N heaps, 1 to 8.
+    /// `tlsf replay --kinds --heaps N`, or without `--kinds`: write the kinds of blocks that each worker holds, merged for N heaps, 1 to 8.
     Heaps(u32),
-    /// `tlsf map --at K --worst`: say that these are two lines. Nothing is read.
-    TwoLines,
+    /// Two options that exclude each other: say so. Nothing is read.
+    Excluded(Rivals),
 }
 
 // A command of this name with its texts: one line, and the whole help.
@@ -349,7 +350,7 @@ fn number_of(run: TraceRun, given: &ArgMatches<'_>) -> u32
     ensures { result ≡ number_for run (texts_of given.now) }
 {
     match run {
-        TraceRun::Map(_) | TraceRun::MapWorst(_) => number_given(given, "K", 0),
+        TraceRun::Map(_) => number_given(given, "K", 0),
         TraceRun::HeldKinds => number_given(given, "H", 0),
         _ => 0,
     }
@@ -365,9 +366,8 @@ fn unnamed(run: TraceRun, number: u32) -> Choice
     }
     match run {
         TraceRun::Map(form) => Choice::At(form, number),
-        TraceRun::HeldKinds => Choice::Heaps(number),
-        // The run that is left draws the heaps behind one of its own.
-        _ => Choice::TwoLines,
+        // The run that is left merges kinds.
+        _ => Choice::Heaps(number),
     }
 }
 
@@ -378,10 +378,7 @@ fn run_on(alloc: Global, run: TraceRun, number: u32, files: &[&str]) -> Result<C
 {
     match files.first() {
         None => Ok(unnamed(run, number)),
-        Some(file) => match run {
-            TraceRun::MapWorst(_) if number != 0 => Ok(Choice::TwoLines),
-            _ => Ok(Choice::File(run, run.tip(alloc, number, file)?)),
-        },
+        Some(file) => Ok(Choice::File(run, run.tip(alloc, number, file)?)),
     }
 }
 
@@ -404,7 +401,10 @@ fn chosen(alloc: Global, name: &str, given: &ArgMatches<'_>) -> Result<Choice, A
     match name {
         "classes" => Ok(Choice::Classes(ClassQuestion::given(given))),
         "size" => Ok(Choice::Size(SizeQuestion::given(alloc, given)?)),
-        _ => run_given(alloc, run_of(name, given), given),
+        _ => match rivals_given(name, given) {
+            Some(rivals) => Ok(Choice::Excluded(rivals)),
+            None => run_given(alloc, run_of(name, given), given),
+        },
     }
 }
 

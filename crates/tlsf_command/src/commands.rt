@@ -34,10 +34,6 @@ use tlsf_trace::{
     Summary, TraceFault, WriteError, race_trace, race_trace_over_queues, replay, write_out,
 };
 
-// The refusal of both `--at` and `--worst`.
-const TWO_LINES: &str =
-    "tlsf: --at and --worst each choose a line of the trace: give one of them\n";
-
 // Reports the fault, and gives its exit status, which a fault in writing does not change.
 pub(crate) fn report<E: Write>(fault: TraceFault, errors: &mut E) -> u8
     ensures status { result ≡ status_of_fault fault }
@@ -287,7 +283,7 @@ fn act<T: Threads + Wait + Sync, R: Read, W: Write, E: Write, G: Gate>(
         Choice::Size(question) => run_size(question, writer, errors),
         Choice::At(form, line) => run_at(alloc, form, line, reader, writer, errors, tips),
         Choice::Heaps(heaps) => run_merged(alloc, heaps, reader, writer, errors, tips),
-        Choice::TwoLines => tell(TWO_LINES, errors),
+        Choice::Excluded(rivals) => tell(rivals.line(), errors),
     }
 }
 

@@ -15,7 +15,7 @@ impl fmt::Display for FinerHint {
 
     fn fmt<W: fmt::Write>(&self, f: &mut fmt::Formatter<W>) -> fmt::Result {
         match self.words {
-            Some(words) => write!(f, "; with --sli 5 a region of {words} words is enough"),
+            Some(words) => write!(f, "; with --level 5 a region of {words} words is enough"),
             None => Ok(()),
         }
     }

@@ -79,16 +79,16 @@ trace have 64 words. The blocks that were held at once, and the one that was
 asked for, wanted at most 139 words. A block that another worker frees is held
 until its owner takes the post.
 
-With --held --kinds it is one line for each worker, with options of 'tlsf size':
+With --kinds it is one line for each worker, with options of 'tlsf size':
 
-  --sli 4 --blocks 100 --bytes 64 --blocks 4 --bytes 4096
+  --level 4 --blocks 100 --bytes 64 --blocks 4 --bytes 4096
 
 At most 100 blocks of one size class were held at once, of at most 64 bytes, and
 4 of another. Each class is a kind; where there would be more than 64 kinds, a
 few classes make one. A worker that asked for no block gets the kind of the
 least heap, 1 block of 1 byte. So
 
-  tlsf replay --held --kinds < TRACE | xargs -L 1 tlsf size
+  tlsf replay --kinds < TRACE | xargs -L 1 tlsf size
 
 writes for each worker the words of a heap for its blocks. Where no heap is
 large enough, a line on standard error says how many are, and of how many words;
@@ -96,7 +96,7 @@ with '--split' at its end the command writes these heaps.
 
 With --heaps N each line has at most N kinds, as
 
-  --sli 4 --blocks 60 --bytes 64 --blocks 4 --bytes 4096
+  --level 4 --blocks 60 --bytes 64 --blocks 4 --bytes 4096
 
 Neighbouring kinds are merged: of blocks of up to 64 bytes at most 60 were held
 at once, though in one class 40 were, and 30 in another. So pools of these kinds
@@ -115,7 +115,7 @@ the words of the trace or those found for the worker before, then twice as many
 until none is refused, and then always the middle. Fewer words may be enough
 besides, as a larger heap may refuse what a smaller one serves.
 
---kinds and --heaps go before --least, and --least before --held.
+--held, --least, and --kinds or --heaps exclude each other.
 
 The exit status is 0 where the lines are written, 1 where a fault of the
 trace, of a read or of a write ends the run, and 3 where memory runs out. A
@@ -194,9 +194,10 @@ plot' names. If the longest request of a worker ever finds no room, it is the
 line with the most free words without that room. Otherwise it is the line with
 the most live words; of several, the one with the most fragmentation.
 
-With --html, which goes before --text, --at and --worst, it is a page for a
-browser that shows the heaps after each line, or at 200 such moments and at the
-lines that 'tlsf plot' names: the slider, keys and buttons choose one.
+With --html it is a page for a browser that shows the heaps after each line, or
+at 200 such moments and at the lines that 'tlsf plot' names: the slider, keys
+and buttons choose one. It takes none of --text, --at and --worst, and of --at
+and --worst at most one is given.
 
   tlsf map --html < two_workers.trace > heaps.html
 
@@ -292,8 +293,8 @@ Several kinds of blocks are given one after the other, 64 at most: the first
   words 59427 bytes 475416 ratio 20.87
 
 A block counts for the first kind that is long enough for it, so short ones come
-first. 'tlsf replay --held --kinds' writes the kinds of each worker of a trace,
-and 'tlsf replay --help' has the command that gives them to 'tlsf size'.
+first. 'tlsf replay --kinds' writes the kinds of each worker of a trace, and
+'tlsf replay --help' has the command that gives them to 'tlsf size'.
 
 With --level 5 the heap is one of level 5: it has 32 classes between two powers
 of two, in place of 16, and 16777216 words at most. For '--blocks 100 --bytes
@@ -324,7 +325,7 @@ The exit status is 0 where the line is written, 1 where a write fails, and 2
 where no region, of 1048576 words at most, or 16777216 with --level 5, is large
 enough. Standard error then has the most blocks of N bytes, and the most bytes
 for each of B blocks; 0 says that there is none. Of several kinds it has how
-many a region has room for, and the next one; and how many heaps are large
+many a region has room for, and the next one. It has how many heaps are large
 enough with --split, and their words. Where a region of level 5 is large enough,
 it has the words of that one too. Where --blocks and --bytes are not given as
 often as each other, the status is 2, and standard error has how often each is

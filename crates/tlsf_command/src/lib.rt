@@ -2,8 +2,8 @@
 //! status.
 //!
 //! [`run`] does what the words ask for. `replay` reads a trace, runs it, and writes the reply lines and a report on each
-//! heap; `replay --held` writes what each worker asks of its heap, and how large that must be for it, with `--kinds` the kinds of
-//! blocks that it holds, as options of `size`, with `--heaps N` merged for N pools, and with `--least` how small its heap may be for these calls alone. `race` replays with each
+//! heap; `replay --held` writes what each worker asks of its heap, and how large that must be for it, `replay --kinds` the kinds of
+//! blocks that it holds, as options of `size`, with `--heaps N` merged for N pools, and `replay --least` how small its heap may be for these calls alone. `race` replays with each
 //! phase run in threads, one for each worker. `map` writes a picture of the heaps that a trace leaves. `check` says what a
 //! trace is, or where its first fault is and what was expected there. A file that is named behind one of these isn't read: a
 //! line tells how it is given as standard input. `classes N` writes the size class and the search class of N words, and
@@ -15,7 +15,7 @@
 //! |---|---|
 //! | 0 | the run is done, or the class line, the size line, the picture, the help or the version text is written |
 //! | 1 | a fault of the trace, a read or a write ended the run; its line is on the error stream |
-//! | 2 | the words of the command line are refused, and the usage is on the error stream; or a file is named, two lines of a trace are chosen, a size has no class of its level, no region is large enough or the options make no kinds, and that line is there |
+//! | 2 | the words of the command line are refused, and the usage is on the error stream; or a file is named, two options exclude each other, a size has no class of its level, no region is large enough or the options make no kinds, and that line is there |
 //! | 3 | memory ran out; the line `tlsf: out of memory (6)` is on the error stream |
 //!
 //! Where tips are wanted, one names `tlsf check` after the line of a fault in the trace itself. After a refused number with a suffix or
@@ -35,6 +35,7 @@ mod finer_hint;
 mod help;
 mod quotes;
 mod region_size;
+mod rivals;
 mod run_number;
 mod size_line;
 mod size_question;

@@ -2,21 +2,24 @@ ghost use Rattle.std.specs.Prelude.{◌≡◌, ◌≤◌, ◌<◌, ◌^◌, ◌�
 ghost use Rattle.std.specs.List.{AllByRecursion};
 ghost use Rattle.std.specs.Io.KnownBytes.{Appends};
 ghost use Rattle.tlsf_class.specs.Classes.{IsLevel, most_words};
-ghost use Rattle.tlsf_command.specs.SizeLines.{size_line, unreached_line, AreReached, IsFiner, IsGreatest, IsReached, IsServable};
+ghost use Rattle.tlsf_command.specs.SizeLines.{size_line, unreached_line, AreReached, IsFiner, IsGreatest, IsReached, IsServable, IsSplitOf};
 ghost use Rattle.tlsf_command.specs.SizeLines as spelled;
 ghost use Rattle.tlsf_pool.specs.laws.Kinds as table;
+ghost use Rattle.tlsf_pool.specs.declared.sizes.split.Split.{Split};
 ghost use Rattle.tlsf_pool.specs.sizes.Limits.{most_kinds};
 ghost use Rattle.tlsf_lines.specs.Prefixes.{AppendsFront};
 
 use crate::counted::Counted;
 use crate::finer_hint::FinerHint;
 use crate::region_size::RegionSize;
+use crate::split_hint::SplitHint;
+use crate::split_lines::split_of;
 use arrayvec::ArrayString;
 use std::fmt;
 use std::fmt::Write as _;
 use std::io::Write;
 use tlsf_class::most_words;
-use tlsf_pool::{Kind, kinds_words, longest_request, most_blocks, most_bytes};
+use tlsf_pool::{Kind, Split, kinds_words, longest_request, most_blocks, most_bytes};
 use tlsf_trace::{WriteError, write_out};
 
 // Whether the kind has a block and a byte, and a class for its requests.
@@ -143,26 +146,28 @@ fn unreached_line_of(
     kind: Kind,
     blocks: u32,
     bytes: u32,
+    split: Option<Split>,
     finer: Option<u32>,
 ) -> Result<ArrayString<256>, fmt::Error>
-    ensures { IfOk result (λ line. line.bytes ≡ unreached_line kind.most kind.len blocks bytes finer) }
+    ensures { IfOk result (λ line. line.bytes ≡ unreached_line kind.most kind.len blocks bytes split finer) }
 {
     let blocks_reached = Counted::new(blocks as usize, "block");
     let len = Counted::new(kind.len as usize, "byte");
     let most = Counted::new(kind.most as usize, "block");
     let bytes_reached = Counted::new(bytes as usize, "byte");
+    let pool = SplitHint { split };
     let hint = FinerHint { words: finer };
     let mut line = ArrayString::new();
     writeln!(
         line,
-        "tlsf: no region has so many words: at most {blocks_reached} of {len}, or {most} of at most {bytes_reached}{hint}"
+        "tlsf: no region has so many words: at most {blocks_reached} of {len}, or {most} of at most {bytes_reached}{pool}{hint}"
     )?;
     Ok(line)
 }
 
 /// Writes the line that refuses blocks of this kind, and flushes: the most blocks of this length, and the most bytes for
-/// so many blocks, each 0 where there is none; and the words of a region of level 5 that is large enough, where there is one.
-/// After an `Err` a prefix of the line was written.
+/// so many blocks, each 0 where there is none; the words of a pool of this kind, where a region has so many; and the words of a region
+/// of level 5 that is large enough, where there is one. After an `Err` a prefix of the line was written.
 ///
 /// ```
 /// let _ = write_unreached_line::<4, _>(Kind { most: 7655, len: 512 }, &mut errors);
@@ -174,16 +179,18 @@ pub fn write_unreached_line<const SLI: u32, E: Write>(
     requires { IsLevel SLI }
     ensures { (blocks : ℕ) × IsGreatest (λ most. IsReached SLI most kind.len) blocks
         × ((bytes : ℕ) × IsGreatest (λ len. IsReached SLI kind.most len) bytes
+        × ((split : Option Split) × IsSplitOf SLI (kind ∷ []) split
         × ((finer : Option ℕ) × IsFiner (kind ∷ []) finer
         × AppendsFront (E.contents errors.old) (E.contents errors.new)
-        (unreached_line kind.most kind.len blocks bytes finer))) }
+        (unreached_line kind.most kind.len blocks bytes split finer)))) }
 {
     let blocks = blocks_of::<SLI>(kind.len);
     let bytes = bytes_for::<SLI>(kind.most);
+    let split = split_of::<SLI>(&[kind]);
     let finer = words_for::<5>(&[kind]);
-    match unreached_line_of(kind, blocks, bytes, finer) {
+    match unreached_line_of(kind, blocks, bytes, split, finer) {
         Ok(line) => write_out(errors, line.as_bytes()),
-        // The line has at most 170 bytes and 256 have room, but no clause of the line says so.
+        // The line has at most 240 bytes and 256 have room, but no clause of the line says so.
         Err(_) => Err(WriteError),
     }
 }

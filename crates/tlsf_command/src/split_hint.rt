@@ -1,3 +1,4 @@
+use crate::counted::Counted;
 use std::fmt;
 use tlsf_pool::Split;
 
@@ -17,12 +18,14 @@ impl fmt::Display for SplitHint {
     fn fmt<W: fmt::Write>(&self, f: &mut fmt::Formatter<W>) -> fmt::Result {
         match self.split {
             Some(split) => {
-                let heaps = split.heaps;
+                let heaps = Counted::new(split.heaps as usize, "heap");
                 let words = split.words;
-                write!(
-                    f,
-                    "; with --split {heaps} heaps of {words} words together are enough"
-                )
+                let verb = if split.heaps == 1 {
+                    "is"
+                } else {
+                    "together are"
+                };
+                write!(f, "; with --split {heaps} of {words} words {verb} enough")
             }
             None => Ok(()),
         }

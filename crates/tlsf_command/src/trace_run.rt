@@ -10,7 +10,7 @@ pub enum TraceRun {
     Replay,
     /// `tlsf replay --held`: write what each worker asks of its heap, and the words that the law asks for that.
     Held,
-    /// `tlsf replay --held --kinds`, or `tlsf replay --kinds`: write the kinds of blocks that each worker holds, as options of `tlsf size`.
+    /// `tlsf replay --kinds`: write the kinds of blocks that each worker holds, as options of `tlsf size`.
     /// `--heaps N` asks for it too, with a number.
     HeldKinds,
     /// `tlsf replay --least`: write the least words of heaps in which no request of a worker lacks room, found by replays.
@@ -42,7 +42,7 @@ impl TraceRun {
         match self {
             TraceRun::Replay => "replay",
             TraceRun::Held => "replay --held",
-            TraceRun::HeldKinds => "replay --held --kinds",
+            TraceRun::HeldKinds => "replay --kinds",
             TraceRun::Least => "replay --least",
             TraceRun::Race => "race",
             TraceRun::RaceQueues => "race --queues",

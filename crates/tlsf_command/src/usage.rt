@@ -4,7 +4,7 @@ use std::convert::AsStr;
 
 /// The line behind what `clap` says of the lines of several workers, given to `tlsf size` at once.
 pub const TABLES_TIP: &str =
-    "tip: a line at a time: tlsf replay --held --kinds < TRACE | xargs -L 1 tlsf size\n";
+    "tip: a line at a time: tlsf replay --kinds < TRACE | xargs -L 1 tlsf size\n";
 
 // How `clap` begins its tip to pass an option as a value. No command takes a value that begins with a hyphen.
 const PASSING: &str = "\n  tip: to pass '";
@@ -29,7 +29,7 @@ pub fn without_passing_tip(alloc: Global, text: &str) -> Result<String, AllocErr
 /// Whether the words give `tlsf size` the level more than once, as the lines of several workers do.
 ///
 /// ```
-/// let several = give_tables(&["tlsf", "size", "--sli", "4", "--sli", "4"]);      // true
+/// let several = give_tables(&["tlsf", "size", "--level", "4", "--level", "4"]);      // true
 /// ```
 pub fn give_tables<S: AsStr>(words: &[S]) -> bool {
     let mut levels = 0u64;

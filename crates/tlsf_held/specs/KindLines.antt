@@ -20,9 +20,9 @@ abbrev pub rows_written : List Row → List Row
 rows_written [] = least_row ∷ []
 rows_written (row ∷ rows) = row ∷ rows
 
--- --sli S --blocks B --bytes N .., with a pair for each row that is written
+-- --level S --blocks B --bytes N .., with a pair for each row that is written
 abbrev pub kinds_line : ℕ → List Row → List ℕ
-kinds_line sli rows = codes "--sli " ++ decimal sli ++ pairs_text (rows_written rows) ++ codes "\n"
+kinds_line sli rows = codes "--level " ++ decimal sli ++ pairs_text (rows_written rows) ++ codes "\n"
 
 -- the lines of the workers below a number
 abbrev pub kinds_text : ℕ → (ℕ → List Row) → ℕ → List ℕ

@@ -51,7 +51,7 @@ fn write_table(text: &mut String, rows: &[Row]) -> Result<(), AllocError>
 fn write_kinds_line<const SLI: u32>(text: &mut String, rows: &[Row]) -> Result<(), AllocError>
     ensures { OnOk result (string_bytes text.new ≡ string_bytes text.old ++ kinds_line SLI rows.now) }
 {
-    write!(text, "--sli {SLI}")?;
+    write!(text, "--level {SLI}")?;
     write_table(text, rows)?;
     text.push_str("\n")
 }

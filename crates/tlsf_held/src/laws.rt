@@ -19,7 +19,7 @@ pub fn held_words_suffice()
 /// up to 8 bytes, no block may be resized to more.
 ///
 /// ```text
-/// tlsf 1 1 64 1, a 0 1 100, a 0 2 8, f 0 1:   --sli 4 --blocks 1 --bytes 8 --blocks 1 --bytes 100
+/// tlsf 1 1 64 1, a 0 1 100, a 0 2 8, f 0 1:   --level 4 --blocks 1 --bytes 8 --blocks 1 --bytes 100
 /// ```
 pub fn held_kinds_suffice()
     ensures { HeldKindsSuffice }

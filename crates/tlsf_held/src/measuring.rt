@@ -140,7 +140,7 @@ pub fn measure_trace<R: Read, W: Write>(
 /// Reads a whole trace, runs it on a new yard of workers, and writes for each worker a table of the kinds of blocks that it holds, as
 /// options of `tlsf size`.
 ///
-/// A worker's line has `--sli` with the level of the heaps, and for each row of its table, in rising length, `--blocks` with the most
+/// A worker's line has `--level` with the level of the heaps, and for each row of its table, in rising length, `--blocks` with the most
 /// blocks of the row that were held at once, the one that was asked for included, and `--bytes` with the most bytes of one, at least
 /// 1. The blocks of a size class make a row; where there would be more than 64 rows, those of 2, 4, 8 or 16 classes do. What is held
 /// is told as by [`measure_trace`], and what is read and refused as there.
@@ -148,7 +148,7 @@ pub fn measure_trace<R: Read, W: Write>(
 /// ```
 /// // reader gives "tlsf 1 1 64 1\na 0 1 100\na 0 2 8\nf 0 1\n"
 /// let summary = measure_kinds(alloc, &mut reader, &mut writer)?;
-/// // summary.calls is 3, and writer holds "--sli 4 --blocks 1 --bytes 8 --blocks 1 --bytes 100\n"
+/// // summary.calls is 3, and writer holds "--level 4 --blocks 1 --bytes 8 --blocks 1 --bytes 100\n"
 /// ```
 ///
 /// # Errors
@@ -175,7 +175,7 @@ pub fn measure_kinds<R: Read, W: Write>(
 /// ```
 /// // reader gives "tlsf 1 1 256 1\na 0 1 100\nf 0 1\na 0 2 120\na 0 3 8\n"
 /// let summary = measure_merged_kinds(alloc, 2, &mut reader, &mut writer)?;
-/// // writer holds "--sli 4 --blocks 1 --bytes 8 --blocks 1 --bytes 120\n": no block of 100 bytes was held beside that of 120
+/// // writer holds "--level 4 --blocks 1 --bytes 8 --blocks 1 --bytes 120\n": no block of 100 bytes was held beside that of 120
 /// ```
 ///
 /// # Errors

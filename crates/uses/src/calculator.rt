@@ -2,7 +2,7 @@
 //! computed 2^30. This line writes their table:
 //!
 //! ```text
-//! ./tlsf replay --held --kinds --heaps 8 < examples/calculator.trace
+//! ./tlsf replay --kinds --heaps 8 < examples/calculator.trace
 //! ```
 //!
 //! `Pools` opens a heap for each part of the table, as `tlsf size --split` divides it, and refuses no call within it, in whatever order they

@@ -20,6 +20,7 @@ returns-in-Heaps g c = rw c.in-Heaps.is c.run_merged.ensures
 pub returns-in-Size : goal.returns-in-Size
 returns-in-Size g c = rw c.in-Size.is (c.run_size.ensures (g.R.Read.remaining c.args.reader.now))
 
-pub returns-in-TwoLines : goal.returns-in-TwoLines
-returns-in-TwoLines g c =
-    rw c.in-TwoLines.is (record { left = refl; written = refl; status_is = c.tell-in-TwoLines.ensures.status; reported = c.tell-in-TwoLines.ensures.line })
+pub returns-in-Excluded : goal.returns-in-Excluded
+returns-in-Excluded g c =
+    rw c.in-Excluded.is
+    (record { left = refl; written = refl; status_is = c.tell-in-Excluded.ensures.status; reported = rw c.line.ensures at c.tell-in-Excluded.ensures.line })
