@@ -1,9 +1,10 @@
 -- A trace that is run from one of its moments to the next.
-use Rattle.std.proofs.Common.{◌≡◌, ℕ, zero, suc, ◌+◌, ◌-◌, ◌<◌, ◌≤◌, false, true, List, [], ◌∷◌, ◌++◌, Option, length, take, take_all, drop, min, refl, sym, ap, ◌∙◌, inl, inr, arith}
+use Rattle.std.proofs.Common.{◌≡◌, ℕ, zero, suc, ◌+◌, ◌-◌, ◌<◌, ◌≤◌, false, true, List, [], ◌∷◌, ◌++◌, Option, length, take, take_all, drop, max, min, refl, subst, sym, ap, ◌∙◌, inl, inr, arith}
 use Rattle.std.specs.Prelude.{nat_lt}
 use Rattle.std.proofs.lemmas.Bool.{cases_lt}
 use Rattle.std.proofs.lemmas.Bool.Decides.{nat_tests}
 use Rattle.std.proofs.lemmas.List.{drop-take, length-take, take-append-drop, take-take, take_min}
+use Rattle.tlsf_calls.specs.declared.entry.Entry.{Entry}
 use Rattle.tlsf_calls.specs.declared.event.Event.{Event}
 use Rattle.tlsf_crew.specs.model.World.{World, Replayed, begun, replies, replies_behind}
 use Rattle.tlsf_crew.proofs.lemmas.model.InParts.{behind, replies_alone, replies_in_parts}
@@ -13,6 +14,8 @@ use Rattle.tlsf_lines.specs.Trace.{Trace}
 use Rattle.tlsf_lines.specs.declared.line.Line.{Line}
 use Rattle.tlsf_trace.specs.Moments.{moment_at}
 use Rattle.tlsf_trace.specs.Output.{run_at, yard_of}
+use Rattle.tlsf_trace.specs.Players.{PlaysOn}
+use Rattle.tlsf_trace.specs.declared.player.Player.{Player}
 
 -- more lines stand for no fewer events
 width_take : (workers : ℕ) (lines : List Line) (i j : ℕ) → i ≤ j → width_in workers (take i lines) ≤ width_in workers (take j lines)
@@ -47,6 +50,10 @@ part_is ran end first j xs end_is first_is le =
     let whole : ran + (end - ran) ≡ end = omega (arith, le) in
     rw here (sym (drop-take ran (end - ran) xs) ∙ ap (λ (l : List Event). drop ran l) (ap (λ (n : ℕ). take n xs) (whole ∙ end_is) ∙ take_min j xs))
 
+-- where nothing is cut out, nothing is, wherever that is
+nothing_cut : (m n i j : ℕ) (xs : List Event) → m ≡ n → n ≡ 0 → take m (drop i xs) ≡ take n (drop j xs)
+nothing_cut m n i j xs same none = rw (same, none) refl
+
 -- so many have run at a line
 pub ran_by : (b end : ℕ) (trace : Trace) → end ≡ min (events_by b trace) (length (events_of trace)) → end ≡ length (take (events_by b trace) (events_of trace))
 ran_by b end trace end_is = end_is ∙ sym (length-take (events_by b trace) (events_of trace))
@@ -69,6 +76,57 @@ module _ {sli : ℕ} (a b : ℕ) (trace : Trace) (le : a ≤ b) where
       let cut : take (events_by b trace) all ≡ xs ++ part =
       take_on (events_by a trace) (events_by b trace) all onward ∙ ap (λ (l : List Event). xs ++ l) (sym rest) in
       ap (replies y) cut ∙ (sym (replies_alone y (xs ++ part)) ∙ (replies_in_parts y [] xs part ∙ rw (world_is, made_is, replies_alone y xs) refl))
+
+-- an earlier moment has no more events
+events_back : (trace : Trace) (a b ran end : ℕ) → b ≤ a → ran ≡ length (take (events_by a trace) (events_of trace)) → end ≡ min (events_by b trace) (length (events_of trace)) → end ≤ ran
+events_back trace a b ran end le ran_is end_is =
+    let many = length-take (events_by a trace) (events_of trace) in
+    let onward = events_onward trace b a le in
+    omega (arith, ran_is, many, end_is, onward)
+
+-- up to the later of two lines as many have run
+pub ran_to : (a b : ℕ) (trace : Trace) (ran end : ℕ) → ran ≡ length (take (events_by a trace) (events_of trace)) → end ≡ min (events_by b trace) (length (events_of trace))
+    → max ran end ≡ length (take (events_by (max a b) trace) (events_of trace))
+ran_to a b trace ran end ran_is end_is = elim (cases_lt b a) [
+  | inl back ↦
+      let here : max a b ≡ a = omega (arith, back) in
+      let fewer = events_back trace a b ran end (omega (arith, back)) ran_is end_is in
+      let all : max ran end ≡ ran = omega (arith, fewer) in
+      rw here (all ∙ ran_is)
+  | inr on ↦
+      let there : max a b ≡ b = omega (arith, on) in
+      let many = length-take (events_by a trace) (events_of trace) in
+      let onward = events_onward trace a b on in
+      let all : max ran end ≡ end = omega (arith, ran_is, many, end_is, onward) in
+      rw there (all ∙ ran_by b end trace end_is)
+]
+
+module _ {sli : ℕ} (a b : ℕ) (trace : Trace) where
+  -- so the events up to the later of two lines are those up to the first one, and what is cut out behind them; nothing is cut out for an earlier line
+  pub run_to : (w : World sli) (made : List (Option Name)) (ran end first : ℕ) (part : List Event) → w ≡ (moment_at sli a trace).world → made ≡ (moment_at sli a trace).made
+      → ran ≡ length (take (events_by a trace) (events_of trace)) → end ≡ min (events_by b trace) (length (events_of trace)) → first ≡ min ran end
+      → part ≡ take (end - first) (drop first (events_of trace))
+      → moment_at sli (max a b) trace ≡ behind (moment_at sli a trace).entries (replies_behind w made part)
+  run_to w made ran end first part world_is made_is ran_is end_is first_is cut_is = elim (cases_lt b a) [
+    | inl back ↦
+        let here : max a b ≡ a = omega (arith, back) in
+        let le : a ≤ a = omega arith in
+        let fewer = events_back trace a b ran end (omega (arith, back)) ran_is end_is in
+        let none : end - first ≡ ran - ran = omega (arith, first_is, fewer) in
+        let same : ran ≡ min ran ran = omega arith in
+        let rest : part ≡ take (ran - ran) (drop ran (events_of trace)) = cut_is ∙ nothing_cut (end - first) (ran - ran) first ran (events_of trace) none (omega arith) in
+        rw here (run_on a a trace le w made ran ran ran part world_is made_is ran_is (ran_is ∙ length-take (events_by a trace) (events_of trace)) same rest)
+    | inr on ↦
+        let there : max a b ≡ b = omega (arith, on) in
+        rw there (run_on a b trace on w made ran end first part world_is made_is ran_is end_is first_is cut_is)
+  ]
+
+-- a player that has run to the later of two lines has run on to the second, where that is it
+pub plays_on : {sli : ℕ} {from line : ℕ} {trace : Trace} {player : Player sli} {entries : List Entry} → from ≤ line → PlaysOn from (max from line) trace player entries
+    → PlaysOn from line trace player entries
+plays_on {from = from} {line = line} {trace = trace} {player = player} {entries = entries} le plays =
+    let there : max from line ≡ line = omega (arith, le) in
+    subst (λ (n : ℕ). PlaysOn from n trace player entries) there plays
 
 -- before the first line a new yard stands
 pub begins : {sli : ℕ} (trace : Trace) → moment_at sli 0 trace ≡ begun (yard_of trace.header)

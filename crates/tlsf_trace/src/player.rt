@@ -1,5 +1,5 @@
 //! A trace on a yard, run line by line: the one that runs traces, whatever is made of them.
-ghost use Rattle.std.specs.Prelude.{◌≡◌, ℕ, ◌≤◌, length, vec_len, IfOk};
+ghost use Rattle.std.specs.Prelude.{◌≡◌, ℕ, length, vec_len, max, IfOk};
 ghost use Rattle.tlsf_class.specs.Classes.{IsLevel};
 ghost use Rattle.tlsf_crew.specs.lanes.Yard.{IsYard};
 ghost use Rattle.tlsf_lines.specs.Ranges.{IsHeaderInRange};
@@ -61,7 +61,15 @@ impl<const SLI: u32> Player<SLI> {
     }
 
     /// Runs on to a line of the script, whose header is line 1, and after the last line to the end, with the drains there. Answers
-    /// what its events were answered.
+    /// what its events were answered. A player never runs back: a line that it has run already is answered no entries, and the
+    /// player stands where it stood.
+    ///
+    /// ```
+    /// let first = player.step_to(alloc, &script, 2)?;
+    /// let none = player.step_to(alloc, &script, 1)?;
+    /// let next = player.step_to(alloc, &script, 3)?;
+    /// // none is empty, and next has the entry of line 3 alone
+    /// ```
     ///
     /// # Errors
     ///
@@ -75,8 +83,8 @@ impl<const SLI: u32> Player<SLI> {
         requires { IsYard self.old.workers.items }
         ensures yard { IsYard self.new.workers.items }
         ensures count { vec_len self.new.workers ≡ vec_len self.old.workers }
-        ensures plays { (from : ℕ) (trace : Trace) → from ≤ line → IsScript script.now trace → Stands from trace self.old
-            → IfOk result (λ entries. PlaysOn from line trace self.new entries.items) }
+        ensures plays { (from : ℕ) (trace : Trace) → IsScript script.now trace → Stands from trace self.old
+            → IfOk result (λ entries. PlaysOn from (max from line) trace self.new entries.items) }
     {
         let end = script.events_by(line).min(script.events.len());
         let first = self.ran.min(end);
@@ -86,7 +94,7 @@ impl<const SLI: u32> Player<SLI> {
         let Ok(entries) = replay_behind(alloc, &mut self.workers, &mut self.made, &self.part) else {
             return Err(AllocError);
         };
-        self.ran = end;
+        self.ran = self.ran.max(end);
         Ok(entries)
     }
 }

@@ -4,6 +4,7 @@ use Rattle.tlsf_crew.specs.worker.Workers.{heap_of}
 use Rattle.tlsf_picture.specs.Drawn.{IsMap, picture_in}
 use Rattle.tlsf_picture.proofs.Maps.{as_many, maps_behind}
 use Rattle.tlsf_lines.specs.declared.header.Header.{Header}
+use Rattle.tlsf_trace.proofs.Onward.{plays_on}
 use Rattle.tlsf_picture.proofs.drawing.picture_behind.Goals as goal
 
 pub write-requires : goal.write-requires
@@ -19,7 +20,7 @@ write-requires g c =
 pub returns : goal.returns
 returns g c = λ trace level is.
     let mapped = rw (c.deref.ensures.value, c.deref-2.ensures.value, c.deref_mut.ensures.value) at c.in_ok-maps.ensures.maps in
-    let plays = c.in_ok-step_to.ensures.plays 0 trace (omega arith) is (c.in_ok-player.ensures.stands trace is) in
+    let plays = plays_on (omega arith) (c.in_ok-step_to.ensures.plays 0 trace is (c.in_ok-player.ensures.stands trace is)) in
     record {
       maps = c.in_ok-maps.maps.items;
       mapped = maps_behind c.args.line trace c.args.script.now c.step_to.new.self c.in_ok-maps.maps.items level is plays.stands mapped;

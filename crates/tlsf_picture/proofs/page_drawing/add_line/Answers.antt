@@ -4,6 +4,7 @@ use Rattle.tlsf_lines.proofs.ScriptSteps.{ends_count}
 use Rattle.tlsf_picture.proofs.Onward.{line_left, line_shown, shown_more}
 use Rattle.tlsf_picture.specs.Pages.{is_shown, shown_until}
 use Rattle.tlsf_picture.specs.Steps.{HasShown}
+use Rattle.tlsf_trace.proofs.Onward.{plays_on}
 use Rattle.tlsf_picture.proofs.page_drawing.add_line.Goals as goal
 
 pub returns-then-not-is_shown-clause-shown : goal.returns-then-not-is_shown-clause-shown
@@ -29,7 +30,7 @@ returns-clause-shown g c = λ from trace le level is stands shown.
     let some : is_shown (length trace.lines) named (number + 1) ≡ true =
     ap (λ (n : ℕ). is_shown n named (number + 1)) lines_are ∙ (sym c.is_shown.ensures ∙ c.if-not-is_shown.false) in
     let here : from ≤ number + 1 = omega (arith, le) in
-    let plays = c.in_ok-step_to.ensures.plays from trace here is stands in
+    let plays = plays_on here (c.in_ok-step_to.ensures.plays from trace is stands) in
     let so_far = shown_until (length trace.lines) named number in
     on_ok_weaker c.add_moment.result (λ adds. (
       number + 1,

@@ -7,7 +7,7 @@ use Rattle.tlsf_lines.proofs.ScriptSteps.{ends_count}
 use Rattle.tlsf_trace.specs.Moments.{moment_at}
 use Rattle.tlsf_trace.proofs.PartByPart.{labels_left-append}
 use Rattle.tlsf_trace.specs.Players.{Stands}
-use Rattle.tlsf_trace.proofs.Onward.{ends, nothing_told}
+use Rattle.tlsf_trace.proofs.Onward.{ends, nothing_told, plays_on}
 use Rattle.tlsf_trace.proofs.output.write_run.Goals as goal
 
 pub loop-line-init : goal.loop-line-init
@@ -29,7 +29,7 @@ loop-line-preserved g c =
       within = omega (arith, c.min-line.ensures, c.len-end.ensures, inv.within);
       so_far = λ trace is new.
           let before = inv.so_far trace is new in
-          let plays = c.in_ok-entries.ensures.plays here trace on is before.0 in
+          let plays = plays_on on (c.in_ok-entries.ensures.plays here trace is before.0) in
           let told = (moment_at g.row.SLI here trace).entries in
           let entries = c.in_ok-entries.entries.items in
           let labels = labels_of trace in

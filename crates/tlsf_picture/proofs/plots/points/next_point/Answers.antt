@@ -4,11 +4,12 @@ use Rattle.tlsf_crew.specs.lanes.Yard.{world_of}
 use Rattle.tlsf_crew.specs.model.World.{World, heap_in}
 use Rattle.tlsf_heap.specs.Reports.{report_of}
 use Rattle.tlsf_picture.proofs.Lines.{point_is}
+use Rattle.tlsf_trace.proofs.Onward.{plays_on}
 use Rattle.tlsf_picture.proofs.plots.points.next_point.Goals as goal
 
 pub returns-clause-stands : goal.returns-clause-stands
 returns-clause-stands g c = λ trace is stands.
-    let plays = c.in_ok-entries.ensures.plays c.args.number trace (omega arith) is stands in
+    let plays = plays_on (omega arith) (c.in_ok-entries.ensures.plays c.args.number trace is stands) in
     let here = c.step_to.new.self.workers in
     let vs = c.report_on.new.workers in
     let len : length vs ≡ here.len = omega arith in
@@ -21,7 +22,7 @@ returns-clause-stands g c = λ trace is stands.
 
 pub returns-clause-point : goal.returns-clause-point
 returns-clause-point g c = λ trace is stands.
-    let plays = c.in_ok-entries.ensures.plays c.args.number trace (omega arith) is stands in
+    let plays = plays_on (omega arith) (c.in_ok-entries.ensures.plays c.args.number trace is stands) in
     point_is g.row.SLI c.args.heap c.args.number c.asked_by-asked.result trace c.args.script.now.requests.items c.in_ok-entries.entries.items c.report_on.result c.of.result
     plays.told is.requests (rw c.deref.ensures.value at c.asked_by-asked.ensures)
     ((rw c.deref_mut.ensures.value at c.report_on.ensures.report) ∙ ap (λ (w : World g.row.SLI). report_of g.row.SLI (heap_in w c.args.heap)) plays.stands.world)

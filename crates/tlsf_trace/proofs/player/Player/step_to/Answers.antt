@@ -1,4 +1,4 @@
-use Rattle.std.proofs.Common.{◌≡◌, ◌-◌, ◌++◌, List, length, take, drop, min, sym, ap, ◌∙◌, arith}
+use Rattle.std.proofs.Common.{◌≡◌, ◌-◌, ◌++◌, List, length, take, drop, max, min, sym, ap, ◌∙◌, arith}
 use Rattle.std.proofs.lemmas.List.{take_at}
 use Rattle.tlsf_calls.specs.declared.entry.Entry.{Entry}
 use Rattle.tlsf_calls.specs.declared.event.Event.{Event}
@@ -6,11 +6,11 @@ use Rattle.tlsf_crew.specs.lanes.Yard.{world_of}
 use Rattle.tlsf_crew.specs.model.World.{Replayed}
 use Rattle.tlsf_lines.specs.Events.{events_by, events_of}
 use Rattle.tlsf_trace.specs.Moments.{moment_at}
-use Rattle.tlsf_trace.proofs.Onward.{ran_by, run_on}
+use Rattle.tlsf_trace.proofs.Onward.{ran_to, run_to}
 use Rattle.tlsf_trace.proofs.player.Player.step_to.Goals as goal
 
 pub returns-clause-plays : goal.returns-clause-plays
-returns-clause-plays g c = λ from trace le is stands.
+returns-clause-plays g c = λ from trace is stands.
     let sli = g.row.SLI in
     let old = c.args.self.now in
     let vs = c.replay_behind.new.workers in
@@ -22,13 +22,13 @@ returns-clause-plays g c = λ from trace le is stands.
     let part : c.deref.result.now ≡ take (end - first) (drop first (events_of trace)) =
     c.deref.ensures.value ∙ (rw (c.clear.ensures.items, is.events) at c.in_ok-add_part.ensures) in
     let end_is : end ≡ min (events_by c.args.line trace) (length (events_of trace)) = rw (c.events_by.ensures trace is, c.len.ensures, all) at c.min-end.ensures in
-    let run = run_on from c.args.line trace le (world_of old.workers.items) old.made.items old.ran end first c.deref.result.now
+    let run = run_to from c.args.line trace (world_of old.workers.items) old.made.items old.ran end first c.deref.result.now
     stands.world stands.made stands.ran end_is c.min-first.ensures part in
     record {
       stands = record {
         world = ap world_of back ∙ ((rw c.deref_mut.ensures.value at c.in-Ok.ensures.world) ∙ sym (ap (λ (r : Replayed sli). r.world) run));
         made = (rw c.deref_mut.ensures.value at c.in-Ok.ensures.made) ∙ sym (ap (λ (r : Replayed sli). r.made) run);
-        ran = ran_by c.args.line end trace end_is;
+        ran = c.max-self.ensures ∙ ran_to from c.args.line trace old.ran end stands.ran end_is;
       };
       told = ap (λ (r : Replayed sli). r.entries) run ∙ ap (λ (l : List Entry). (moment_at sli from trace).entries ++ l) (sym (rw c.deref_mut.ensures.value at c.in-Ok.ensures.entries));
     }
