@@ -1,6 +1,7 @@
 -- What a contract sees of the two ends of a lane.
 use Rattle.std.specs.Prelude.{◌≡◌, ℕ, ◌-◌, List, ◌++◌, length, drop}
-use Rattle.rtrb.specs.Ring.{sent, received, known_free, known_items, producer_capacity, IsPair}
+use Rattle.rtrb.specs.Ring.{sent, received, known_free, known_items, producer_capacity, consumer_capacity, IsPair}
+use Rattle.tlsf_words.specs.Memory.{Extent}
 use Rattle.tlsf_post.specs.declared.post.Post.{Post}
 use Rattle.tlsf_post.specs.declared.post_end.PostEnd.{PostEnd}
 use Rattle.tlsf_post.specs.declared.take_end.TakeEnd.{TakeEnd}
@@ -28,6 +29,13 @@ taken t = drop (length (received t.mark.value)) (received t.ring)
 -- those that it knows to be ready, which the next takes answer
 unfoldable pub ready : TakeEnd → List Post
 ready t = known_items t.ring
+
+-- where the posts of its lane lie, and how many have room there
+abbrev pub post_extent : PostEnd → Extent
+post_extent p = record { address = p.ring.end.slots; capacity = producer_capacity p.ring }
+
+abbrev pub take_extent : TakeEnd → Extent
+take_extent t = record { address = t.ring.end.slots; capacity = consumer_capacity t.ring }
 
 -- the two fit each other as the ends of one lane do: they are the ends of one ring, and at the last `beside` all that was
 -- sent was taken or waited

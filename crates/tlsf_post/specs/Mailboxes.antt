@@ -3,6 +3,7 @@ use Rattle.std.specs.Prelude.{◌≡◌, ℕ, zero, suc, ◌+◌, ◌≤◌, Lis
 use Rattle.std.specs.Arc.{arc_value}
 use mathlib.Core.List.{IsPrefix}
 use Rattle.crossbeam_queue.specs.Passes.{view, ruled_capacity}
+use Rattle.tlsf_words.specs.Memory.{Extent}
 use Rattle.tlsf_post.specs.Rule.{posts_of, plan_for, AreOfPosters}
 use Rattle.tlsf_post.specs.declared.post.Post.{Post}
 use Rattle.tlsf_post.specs.declared.plan.Plan.{Plan}
@@ -46,6 +47,13 @@ known_to o = (view o.pass).put
 -- how many posts wait in the mailbox at most
 abbrev pub most_of : OwnerEnd → ℕ
 most_of o = ruled_capacity (arc_value o.queue)
+
+-- where the posts of its mailbox lie, and how many have room there
+abbrev pub poster_extent : PosterEnd → Extent
+poster_extent p = record { address = (arc_value p.queue).table.shared.slots; capacity = ruled_capacity (arc_value p.queue) }
+
+abbrev pub owner_extent : OwnerEnd → Extent
+owner_extent o = record { address = (arc_value o.queue).table.shared.slots; capacity = ruled_capacity (arc_value o.queue) }
 
 -- what its mailbox is laid out for
 abbrev pub plan_at : OwnerEnd → Plan

@@ -1,7 +1,7 @@
 #![tactic(auto, unfolding(crate::specs::Lanes::posts_sent, crate::specs::Lanes::free_slots, crate::specs::Lanes::capacity_of, crate::specs::Lanes::waited, crate::specs::Lanes::taken, crate::specs::Lanes::ready, crate::specs::Lanes::IsLane))]
 
 ghost use Rattle.std.specs.Prelude.{◌≡◌, ◌+◌, ◌<◌, ◌≤◌, [], ◌++◌, length, IfOk};
-ghost use Rattle.tlsf_post.specs.Lanes.{posts_sent, free_slots, capacity_of, waited, taken, ready, IsLane};
+ghost use Rattle.tlsf_post.specs.Lanes.{posts_sent, free_slots, capacity_of, post_extent, waited, taken, ready, take_extent, IsLane};
 
 use crate::mark::Mark;
 use crate::post_end::PostEnd;
@@ -49,6 +49,7 @@ pub fn lane(alloc: Global, capacity: u32) -> Result<(PostEnd, TakeEnd), NoMemory
 /// - It requires that the two are the ends of one lane. Those that one call of `lane` answered are, and `put`, `take`
 ///   and `beside` keep it.
 /// - `lane`, `capacity`: they stay so, and the lane keeps its capacity.
+/// - `stays`: it takes no memory, so the lane's posts stay where they lie.
 /// - `order`: what was taken before, and then what waits now, is what had waited, and then what was sent. So no post is
 ///   lost, none is doubled, and none overtakes another.
 /// - `fresh`: since now nothing was sent and nothing taken, and what waits is what is ready.
@@ -62,6 +63,7 @@ pub fn beside(post: &mut PostEnd, take: &mut TakeEnd)
     requires { IsLane post.old take.old }
     ensures lane { IsLane post.new take.new }
     ensures capacity { capacity_of post.new ≡ capacity_of post.old }
+    ensures stays { (post_extent post.new ≡ post_extent post.old) × (take_extent take.new ≡ take_extent take.old) }
     ensures order { taken take.old ++ waited take.new ≡ waited take.old ++ posts_sent post.old }
     ensures fresh { (posts_sent post.new ≡ []) × (taken take.new ≡ []) × (ready take.new ≡ waited take.new) }
     ensures room { free_slots post.new + length (waited take.new) ≡ capacity_of post.new }

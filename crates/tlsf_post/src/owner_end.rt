@@ -35,12 +35,13 @@ pub struct OwnerEnd {
 impl OwnerEnd {
     ghost use Rattle.std.specs.Prelude.{◌≡◌, ◌≢◌, ◌<◌, ◌≤◌, List, [], ◌∷◌, ◌++◌, length, IfSome, IfNone, IsTrue, vec_capacity};
     ghost use Rattle.tlsf_post.specs.declared.post.Post.{Post};
-    ghost use Rattle.tlsf_post.specs.Mailboxes.{owner_of, out_of, most_of, got_by, KeepsOwner, OwnerSaw, IsAllTaken, IsWhole, AllBeside};
+    ghost use Rattle.tlsf_post.specs.Mailboxes.{owner_of, out_of, most_of, got_by, owner_extent, KeepsOwner, OwnerSaw, IsAllTaken, IsWhole, AllBeside};
 
     /// Takes the post that has waited longest, or answers `None` where the mailbox was empty at one moment of the call.
     /// It may spin while a post is half put or taken by another thread, and so needs `Wait`.
     ///
     /// - `mailbox`: it stays the owner's end of its mailbox.
+    /// - `stays`: it takes no memory, so the mailbox's posts stay where they lie.
     /// - `some`: the post stands behind those taken before.
     /// - `waited`: no more posts waited than the mailbox holds, and it before the others.
     /// - `from`: it is of another worker, for which the mailbox has an end.
@@ -53,6 +54,7 @@ impl OwnerEnd {
     /// ```
     pub fn take<R: Wait>(&mut self, rt: &R) -> Option<Post>
         ensures mailbox { KeepsOwner self.old self.new }
+        ensures stays { owner_extent self.new ≡ owner_extent self.old }
         ensures some { IfSome result (λ p. got_by self.new ≡ got_by self.old ++ p ∷ []) }
         ensures waited { IfSome result (λ p. (others : List Post) × OwnerSaw self.old (p ∷ others)) }
         ensures from { IfSome result (λ p. (p.from < out_of self.old) × (p.from ≢ owner_of self.old)) }
@@ -64,7 +66,7 @@ impl OwnerEnd {
     /// Takes the post that has waited longest by one attempt. It answers `None` where the mailbox is empty, and where another
     /// thread is half through putting that post: [`OwnerEnd::is_empty`] tells these apart. It never waits.
     ///
-    /// - `mailbox`: it stays the owner's end of its mailbox.
+    /// - `mailbox`, `stays`: as for `take`.
     /// - `some`: the post stands behind those taken before.
     /// - `waited`: no more posts waited than the mailbox holds, and it before the others.
     /// - `from`: it is of another worker, for which the mailbox has an end.
@@ -77,6 +79,7 @@ impl OwnerEnd {
     /// ```
     pub fn try_take(&mut self) -> Option<Post>
         ensures mailbox { KeepsOwner self.old self.new }
+        ensures stays { owner_extent self.new ≡ owner_extent self.old }
         ensures some { IfSome result (λ p. got_by self.new ≡ got_by self.old ++ p ∷ []) }
         ensures waited { IfSome result (λ p. (others : List Post) × OwnerSaw self.old (p ∷ others)) }
         ensures from { IfSome result (λ p. (p.from < out_of self.old) × (p.from ≢ owner_of self.old)) }
@@ -87,7 +90,7 @@ impl OwnerEnd {
 
     /// Whether the mailbox was empty at one moment of the call. A post may have come since.
     ///
-    /// - `mailbox`, `same`: it stays the owner's end of its mailbox, and nothing is taken.
+    /// - `mailbox`, `stays`, `same`: it stays the owner's end of its mailbox, takes no memory, and no post is taken.
     /// - `empty`: at `true`, of each poster all was taken that was known to have been put.
     ///
     /// ```
@@ -95,6 +98,7 @@ impl OwnerEnd {
     /// ```
     pub fn is_empty(&mut self) -> bool
         ensures mailbox { KeepsOwner self.old self.new }
+        ensures stays { owner_extent self.new ≡ owner_extent self.old }
         ensures same { got_by self.new ≡ got_by self.old }
         ensures empty { IsTrue result → IsAllTaken self.new }
     {
@@ -104,7 +108,7 @@ impl OwnerEnd {
     /// Waits until the mailbox is empty, which it is at once where every post that may come was taken. While posts are
     /// left it doesn't return, since nobody else takes them.
     ///
-    /// - `mailbox`, `same`: it stays the owner's end of its mailbox, and nothing is taken.
+    /// - `mailbox`, `stays`, `same`: it stays the owner's end of its mailbox, takes no memory, and no post is taken.
     /// - `empty`: of each poster all was taken that was known to have been put.
     ///
     /// ```
@@ -112,6 +116,7 @@ impl OwnerEnd {
     /// ```
     pub fn wait_empty<R: Wait>(&mut self, rt: &R)
         ensures mailbox { KeepsOwner self.old self.new }
+        ensures stays { owner_extent self.new ≡ owner_extent self.old }
         ensures same { got_by self.new ≡ got_by self.old }
         ensures empty { IsAllTaken self.new }
     {
@@ -126,7 +131,7 @@ impl OwnerEnd {
 
     /// How many posts waited at one moment of the call, 0 to the mailbox's capacity.
     ///
-    /// - `mailbox`, `same`: it stays the owner's end of its mailbox, and nothing is taken.
+    /// - `mailbox`, `stays`, `same`: it stays the owner's end of its mailbox, takes no memory, and no post is taken.
     /// - `most`: no more than the mailbox holds.
     /// - `count`: so many that, of each poster, what was taken and they begin with what was known to have been put, and each is
     ///   of a poster.
@@ -136,6 +141,7 @@ impl OwnerEnd {
     /// ```
     pub fn count<R: Wait>(&mut self, rt: &R) -> usize
         ensures mailbox { KeepsOwner self.old self.new }
+        ensures stays { owner_extent self.new ≡ owner_extent self.old }
         ensures same { got_by self.new ≡ got_by self.old }
         ensures most { result ≤ most_of self.old }
         ensures count { (waiting : List Post) × (length waiting ≡ result) × OwnerSaw self.new waiting }
@@ -150,7 +156,7 @@ impl OwnerEnd {
     /// - `beside`: nothing is put or taken. Of each poster, what was taken and then what waits is what it has put, and from now
     ///   on the owner's end knows that, and the poster's what was taken. So no post is lost, doubled, or overtaken by another of
     ///   its poster. No more posts wait in all than the mailbox holds.
-    /// - `capacity`: the list of the ends keeps its room.
+    /// - `stays`, `capacity`: the mailbox's posts stay where they lie, and the list of the ends keeps its room.
     ///
     /// ```
     /// owner_end.beside(&mut posters);
@@ -159,6 +165,7 @@ impl OwnerEnd {
     pub fn beside(&mut self, posters: &mut Vec<PosterEnd>)
         requires { IsWhole self.old posters.old.items }
         ensures beside { AllBeside self.old posters.old.items self.new posters.new.items }
+        ensures stays { owner_extent self.new ≡ owner_extent self.old }
         ensures capacity { vec_capacity posters.new ≡ vec_capacity posters.old }
     {
         let own = self.number;

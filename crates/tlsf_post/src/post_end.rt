@@ -24,11 +24,12 @@ pub struct PostEnd {
 #[tactic(auto, unfolding(crate::specs::Lanes::posts_sent, crate::specs::Lanes::free_slots, crate::specs::Lanes::capacity_of, crate::specs::Lanes::IsLane))]
 impl PostEnd {
     ghost use Rattle.std.specs.Prelude.{◌≡◌, ◌-◌, ◌<◌, ◌≤◌, [], ◌∷◌, ◌++◌, length, take, IsOk, OnOk, IfErr};
-    ghost use Rattle.tlsf_post.specs.Lanes.{posts_sent, free_slots, KeepsPost};
+    ghost use Rattle.tlsf_post.specs.Lanes.{posts_sent, free_slots, post_extent, KeepsPost};
 
     /// Sends a post, or gives it back where the lane is full as far as this end knows. The other end may take it at once.
     ///
     /// - `lane`: it stays an end of its lane.
+    /// - `stays`: it takes no memory, so the lane's posts stay where they lie.
     /// - `ok`: on Ok the post stands behind those sent before, and one free slot less is known.
     /// - `full`: on Err the post is given back, and neither what was sent nor the known slots change.
     /// - `succeeds`: it is Ok wherever a free slot is known.
@@ -41,6 +42,7 @@ impl PostEnd {
     /// ```
     pub fn put(&mut self, post: Post) -> Result<(), Post>
         ensures lane { KeepsPost self.old self.new }
+        ensures stays { post_extent self.new ≡ post_extent self.old }
         ensures ok { OnOk result ((posts_sent self.new ≡ posts_sent self.old ++ post ∷ [])
             × (free_slots self.new ≡ free_slots self.old - 1)) }
         ensures full { IfErr result (λ back. (back ≡ post) × (posts_sent self.new ≡ posts_sent self.old)
@@ -57,7 +59,7 @@ impl PostEnd {
     /// Sends as many of the posts, from the first on, as this end sees slots for, and answers how many went. The other end
     /// sees them together, after one store.
     ///
-    /// - `lane`: it stays an end of its lane.
+    /// - `lane`, `stays`: as for `put`.
     /// - `most`: no more go than there are.
     /// - `sent`: those that went, in their order, stand behind those sent before.
     /// - `slots`: for each that went one free slot less is known.
@@ -68,6 +70,7 @@ impl PostEnd {
     /// ```
     pub fn put_all(&mut self, posts: &[Post]) -> usize
         ensures lane { KeepsPost self.old self.new }
+        ensures stays { post_extent self.new ≡ post_extent self.old }
         ensures most { result ≤ length posts.now }
         ensures sent { posts_sent self.new ≡ posts_sent self.old ++ take result posts.now }
         ensures slots { free_slots self.new ≡ free_slots self.old - result }

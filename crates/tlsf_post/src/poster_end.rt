@@ -36,13 +36,14 @@ pub struct PosterEnd {
 impl PosterEnd {
     ghost use Rattle.std.specs.Prelude.{◌≡◌, List, [], ◌∷◌, ◌++◌, length, false, IsTrue, OnOk, IfErr};
     ghost use Rattle.tlsf_post.specs.declared.post.Post.{Post};
-    ghost use Rattle.tlsf_post.specs.Mailboxes.{number_of, put_by, plan_of, PosterSaw, IsOnlyPoster, HasFilled, KeepsPoster};
+    ghost use Rattle.tlsf_post.specs.Mailboxes.{number_of, put_by, plan_of, PosterSaw, IsOnlyPoster, HasFilled, poster_extent, KeepsPoster};
 
     /// Puts a post that names a block, or gives the name back where the mailbox was full at one moment of the call. The
     /// owner may take the post at once. It may spin while a post is half put or taken by another thread, and so needs
     /// `Wait`.
     ///
     /// - `mailbox`: it stays an end of its mailbox, with its number.
+    /// - `stays`: it takes no memory, so the mailbox's posts stay where they lie.
     /// - `ok`: on Ok a post of this end's number, with the name, stands behind those put before.
     /// - `waits`: no more posts waited with it than the mailbox holds, each of a poster of it, and it behind the others.
     /// - `full`: on Err the name is given back, and what was put doesn't change.
@@ -58,6 +59,7 @@ impl PosterEnd {
     /// ```
     pub fn put<R: Wait>(&mut self, rt: &R, name: Name) -> Result<(), Name>
         ensures mailbox { KeepsPoster self.old self.new }
+        ensures stays { poster_extent self.new ≡ poster_extent self.old }
         ensures ok { OnOk result (put_by self.new ≡ put_by self.old ++ record { from = number_of self.old; name = name } ∷ []) }
         ensures waits { OnOk result ((others : List Post) × PosterSaw self.new (others ++ record { from = number_of self.old; name = name } ∷ [])) }
         ensures full { IfErr result (λ back. (back ≡ name) × (put_by self.new ≡ put_by self.old)) }
@@ -78,6 +80,7 @@ impl PosterEnd {
     /// another thread is half through a step of its own: [`PosterEnd::is_full`] tells these apart. It never waits.
     ///
     /// - `mailbox`: it stays an end of its mailbox, with its number.
+    /// - `stays`: it takes no memory, so the mailbox's posts stay where they lie.
     /// - `went`: at `true` a post of this end's number, with the name, stands behind those put before.
     /// - `waits`: no more posts waited with it than the mailbox holds, each of a poster of it, and it behind the others.
     /// - `missed`: at `false` what was put doesn't change.
@@ -89,6 +92,7 @@ impl PosterEnd {
     /// ```
     pub fn try_put(&mut self, name: Name) -> bool
         ensures mailbox { KeepsPoster self.old self.new }
+        ensures stays { poster_extent self.new ≡ poster_extent self.old }
         ensures went { IsTrue result → put_by self.new ≡ put_by self.old ++ record { from = number_of self.old; name = name } ∷ [] }
         ensures waits { IsTrue result → (others : List Post) × PosterSaw self.new (others ++ record { from = number_of self.old; name = name } ∷ []) }
         ensures missed { result ≡ false → put_by self.new ≡ put_by self.old }
@@ -103,7 +107,7 @@ impl PosterEnd {
 
     /// Whether the mailbox was full at one moment of the call. It never waits, and a post may have been taken since.
     ///
-    /// - `mailbox`, `same`: it stays an end of its mailbox, and nothing is put.
+    /// - `mailbox`, `stays`, `same`: it stays an end of its mailbox, takes no memory, and nothing is put.
     /// - `full`: at `true` so many posts waited as the mailbox holds, each of a poster of it; this end's were the last that it had
     ///   put.
     /// - `alone`: where nobody else puts into the mailbox, it had put as many besides those that it knows to have been taken.
@@ -113,6 +117,7 @@ impl PosterEnd {
     /// ```
     pub fn is_full(&mut self) -> bool
         ensures mailbox { KeepsPoster self.old self.new }
+        ensures stays { poster_extent self.new ≡ poster_extent self.old }
         ensures same { put_by self.new ≡ put_by self.old }
         ensures full { IsTrue result → (waiting : List Post) × (length waiting ≡ (plan_of self.old).capacity) × PosterSaw self.old waiting }
         ensures alone { IsTrue result → IsOnlyPoster self.old → HasFilled self.old }

@@ -23,11 +23,12 @@ pub struct TakeEnd {
 impl TakeEnd {
     ghost use Rattle.std.specs.Prelude.{◌≡◌, ◌<◌, ◌≤◌, [], ◌∷◌, ◌++◌, length, take, drop, IsSome, IfSome, IfNone};
     ghost use mathlib.Core.List.{IsPrefix};
-    ghost use Rattle.tlsf_post.specs.Lanes.{waited, taken, ready, KeepsTake};
+    ghost use Rattle.tlsf_post.specs.Lanes.{waited, taken, ready, take_extent, KeepsTake};
 
     /// Takes the next post of those that were sent, or answers `None` where this end sees none.
     ///
     /// - `lane`: it stays an end of its lane.
+    /// - `stays`: it takes no memory, so the lane's posts stay where they lie.
     /// - `waited`: what counts as having waited at the last `beside` stays the same.
     /// - `some`: a post stands behind those taken before. It was the first of the ready ones where one was known to be
     ///   ready, the others stay ready in their order, and more may have come behind them.
@@ -41,6 +42,7 @@ impl TakeEnd {
     /// ```
     pub fn take(&mut self) -> Option<Post>
         ensures lane { KeepsTake self.old self.new }
+        ensures stays { take_extent self.new ≡ take_extent self.old }
         ensures waited { waited self.new ≡ waited self.old }
         ensures some { IfSome result (λ p. (taken self.new ≡ taken self.old ++ p ∷ [])
             × IsPrefix (ready self.old) (p ∷ ready self.new)) }
@@ -57,7 +59,7 @@ impl TakeEnd {
     /// back together, with one store, so that a sender who spins disturbs the taking less. It fits where many wait; 64
     /// places are enough.
     ///
-    /// - `lane`, `waited`: as for `take`.
+    /// - `lane`, `stays`, `waited`: as for `take`.
     /// - `most`: no more come than `posts` has places.
     /// - `came`: the posts in the first places, in their order, stand behind those taken before. They were the first of
     ///   the ready ones, the others stay ready in their order, and more may have come behind them.
@@ -73,6 +75,7 @@ impl TakeEnd {
     /// ```
     pub fn take_slice(&mut self, posts: &mut [Post]) -> usize
         ensures lane { KeepsTake self.old self.new }
+        ensures stays { take_extent self.new ≡ take_extent self.old }
         ensures waited { waited self.new ≡ waited self.old }
         ensures most { result ≤ length posts.old }
         ensures came { (taken self.new ≡ taken self.old ++ take result posts.new)

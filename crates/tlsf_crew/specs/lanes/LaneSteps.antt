@@ -5,8 +5,8 @@ use Rattle.tlsf_post.specs.declared.take_end.TakeEnd.{TakeEnd}
 use Rattle.tlsf_post.specs.Lanes.{capacity_of, IsLane}
 use Rattle.tlsf_crew.specs.declared.worker.worker.Worker.{Worker}
 use Rattle.tlsf_crew.specs.declared.worker.lanes.Lanes.{Lanes}
-use Rattle.tlsf_crew.specs.worker.Workers.{heap_of}
-use Rattle.tlsf_crew.specs.lanes.LaneWorkers.{id_and_capacity}
+use Rattle.tlsf_crew.specs.worker.Workers.{heap_of, Stays}
+use Rattle.tlsf_crew.specs.lanes.LaneWorkers.{id_and_capacity, lane_extents}
 use Rattle.tlsf_crew.specs.lanes.Yard.{post_at, take_at, BothBeside}
 use Rattle.tlsf_crew.specs.lanes.Settle.{LaneSettled}
 
@@ -29,6 +29,8 @@ pub record PairSettled {sli : ℕ} (i j : ℕ) (a b v w : Worker sli Lanes) : Ty
   pub takes : w.ports.takes.items ≡ slice_set b.ports.takes.items i (Some new_take)
   pub same_poster : (v.heap ≡ a.heap) × (id_and_capacity v ≡ id_and_capacity a) × (v.ports.takes ≡ a.ports.takes)
   pub same_taker : (w.heap ≡ b.heap) × (id_and_capacity w ≡ id_and_capacity b) × (w.ports.posts ≡ b.ports.posts)
+  pub poster_stays : Stays lane_extents a v
+  pub taker_stays : Stays lane_extents b w
 
 -- the lane from i to j has both its ends in the yard
 abbrev pub InYard : {sli : ℕ} → List (Worker sli Lanes) → ℕ → ℕ → Type 0

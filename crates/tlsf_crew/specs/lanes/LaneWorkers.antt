@@ -1,13 +1,14 @@
 -- What a worker over lanes shows: its capacity, and its end of each lane.
-use Rattle.std.specs.Prelude.{◌≡◌, ◌≢◌, ℕ, ◌-◌, ◌<◌, [], ◌∷◌, ◌++◌, length, Option, Some, Result, slice_get, OnOk, IfErr, IsOk, IfSome, IfNone, IsSome, ◌↔◌, ◌≤◌}
+use Rattle.std.specs.Prelude.{◌≡◌, ◌≢◌, ℕ, ◌-◌, ◌<◌, List, [], ◌∷◌, ◌++◌, length, Option, Some, Result, slice_get, OnOk, IfErr, IsOk, IfSome, IfNone, IsSome, ◌↔◌, ◌≤◌}
 use mathlib.Core.List.{IsPrefix}
+use Rattle.tlsf_words.specs.Memory.{Extent, Extents}
 use Rattle.tlsf_post.specs.declared.post.Post.{Post}
 use Rattle.tlsf_post.specs.declared.post_end.PostEnd.{PostEnd}
 use Rattle.tlsf_post.specs.declared.take_end.TakeEnd.{TakeEnd}
-use Rattle.tlsf_post.specs.Lanes.{posts_sent, free_slots, waited, taken, ready, KeepsPost, KeepsTake}
+use Rattle.tlsf_post.specs.Lanes.{posts_sent, free_slots, waited, taken, ready, post_extent, take_extent, KeepsPost, KeepsTake}
 use Rattle.tlsf_crew.specs.declared.worker.worker.Worker.{Worker}
 use Rattle.tlsf_crew.specs.declared.worker.lanes.Lanes.{Lanes}
-use Rattle.tlsf_crew.specs.worker.Workers.{id_of, SameButPorts, slot_of}
+use Rattle.tlsf_crew.specs.worker.Workers.{id_of, SameButPorts, slot_of, extent_of, end_extents}
 
 -- a worker's own number, and the capacity of its lanes
 abbrev pub id_and_capacity : {sli : ℕ} → Worker sli Lanes → ℕ × ℕ
@@ -26,6 +27,14 @@ lane_from p i = slot_of (slice_get p.takes.items i)
 
 abbrev pub end_from : {sli : ℕ} → Worker sli Lanes → ℕ → Option TakeEnd
 end_from a = lane_from a.ports
+
+-- the memory of the lists of ends, and of each lane
+abbrev pub lane_extents : Lanes → List Extent
+lane_extents p = extent_of p.posts ∷ extent_of p.takes ∷ end_extents post_extent p.posts.items ++ end_extents take_extent p.takes.items
+
+-- with that of the heap, all memory of the worker
+abbrev pub lane_memory : {sli : ℕ} → Worker sli Lanes → Extents × List Extent
+lane_memory a = (a.heap.extents, lane_extents a.ports)
 
 -- how many workers a worker may have lanes from: it has none from this number on
 abbrev pub lane_places : {sli : ℕ} → Worker sli Lanes → ℕ

@@ -1,12 +1,13 @@
 -- What a worker over queues shows besides: the end of its own queue, and its end of each other queue.
 use Rattle.std.specs.Prelude.{◌≡◌, ◌≢◌, ℕ, ◌<◌, ◌≤◌, List, [], ◌∷◌, ◌++◌, length, Option, Some, None, Result, slice_get, OnOk, IfErr, IfSome, IfNone, ⊤}
 use Rattle.tlsf_heap.specs.declared.name.Name.{Name}
-use Rattle.tlsf_post.specs.Mailboxes.{number_of, put_by, plan_of, owner_of, out_of, got_by, IsOnlyPoster, HasFilled, PosterSaw, OwnerSaw, KeepsPoster, KeepsOwner, IsAllTaken}
+use Rattle.tlsf_words.specs.Memory.{Extent}
+use Rattle.tlsf_post.specs.Mailboxes.{number_of, put_by, plan_of, poster_extent, owner_of, out_of, got_by, owner_extent, IsOnlyPoster, HasFilled, PosterSaw, OwnerSaw, KeepsPoster, KeepsOwner, IsAllTaken}
 use Rattle.tlsf_post.specs.declared.post.Post.{Post}
 use Rattle.tlsf_post.specs.declared.poster_end.PosterEnd.{PosterEnd}
 use Rattle.tlsf_calls.specs.declared.crew_refusal.CrewRefusal.{CrewRefusal}
 use Rattle.tlsf_crew.specs.worker.Calls.{put_answer}
-use Rattle.tlsf_crew.specs.worker.Workers.{IsOther, heap_of, id_of, slot_of, SameButPorts, KeepsHeap}
+use Rattle.tlsf_crew.specs.worker.Workers.{IsOther, heap_of, id_of, slot_of, SameButPorts, KeepsHeap, extent_of, end_extents}
 use Rattle.tlsf_crew.specs.declared.worker.worker.Worker.{Worker}
 use Rattle.tlsf_crew.specs.declared.queues.queues.Queues.{Queues}
 
@@ -16,6 +17,10 @@ queue_to p j = slot_of (slice_get p.posts.items j)
 
 abbrev pub queue_end_to : {sli : ℕ} → Worker sli Queues → ℕ → Option PosterEnd
 queue_end_to a = queue_to a.ports
+
+-- the memory of the own queue, of the list of ends, and of each queue that an end posts into
+abbrev pub queue_extents : Queues → List Extent
+queue_extents p = owner_extent p.own ∷ extent_of p.posts ∷ end_extents poster_extent p.posts.items
 
 abbrev pub ReachesQueue : Queues → ℕ → Type 0
 ReachesQueue p j = (end : PosterEnd) × (queue_to p j ≡ Some end)

@@ -1,5 +1,9 @@
 -- What a worker shows: its heap and its number.
-use Rattle.std.specs.Prelude.{◌≡◌, ℕ, List, Option, Some, None, ◌<◌, ◌≢◌}
+use Rattle.std.specs.Prelude.{◌≡◌, ℕ, List, [], ◌∷◌, Option, Some, None, ◌<◌, ◌≢◌, vec_capacity}
+use Rattle.std.specs.Vec.{vec_ptr}
+use Rattle.std.specs.declared.vec.Vec.{Vec}
+use Rattle.std.specs.declared.alloc.Global.{Global}
+use Rattle.tlsf_words.specs.Memory.{Extent}
 use Rattle.tlsf_heap.specs.Blocks.{HeapState}
 use Rattle.tlsf_heap.specs.Lawful.{IsLawful}
 use Rattle.tlsf_crew.specs.declared.worker.worker.Worker.{Worker}
@@ -25,6 +29,20 @@ SameButHeap a v = (id_of v ≡ id_of a) × (v.ports ≡ a.ports)
 -- a worker with other ports
 abbrev pub SameButPorts : {sli : ℕ} {P : Type 0} → Worker sli P → Worker sli P → Type 0
 SameButPorts a v = (id_of v ≡ id_of a) × (v.heap ≡ a.heap)
+
+-- its calls take no memory and give none back: that of its heap and that of its ports lie where they lay, and are as large
+abbrev pub Stays : {sli : ℕ} {P : Type 0} → (P → List Extent) → Worker sli P → Worker sli P → Type 0
+Stays extents a v = (v.heap.extents ≡ a.heap.extents) × (extents v.ports ≡ extents a.ports)
+
+-- the memory of a list
+abbrev pub extent_of : {X : Type 0} → Vec X Global → Extent
+extent_of v = record { address = vec_ptr v; capacity = vec_capacity v }
+
+-- the memory of the ends that are there, each by what an end shows of it
+abbrev pub end_extents : {X : Type 0} → (X → Extent) → List (Option X) → List Extent
+end_extents by [] = []
+end_extents by (None ∷ ends) = end_extents by ends
+end_extents by (Some end ∷ ends) = by end ∷ end_extents by ends
 
 -- the heap k has the number of h, and is lawful where h is
 abbrev pub KeepsHeap : HeapState → HeapState → Type 0

@@ -3,8 +3,8 @@ ghost use Rattle.std.specs.Prelude.{◌≡◌, ◌≢◌, ◌+◌, ◌*◌, ◌�
 ghost use Rattle.tlsf_calls.specs.declared.took.Took.{Took};
 ghost use Rattle.tlsf_heap.specs.declared.refusal.Refusal.TheVariants.{Foreign};
 ghost use Rattle.tlsf_heap.specs.Touched.{FollowsNoForgery};
-ghost use Rattle.tlsf_crew.specs.worker.Workers.{heap_of, touches_of, id_of};
-ghost use Rattle.tlsf_crew.specs.lanes.LaneWorkers.{HasPost, HasTake, HearsLane, ReachesLane, TookThrough};
+ghost use Rattle.tlsf_crew.specs.worker.Workers.{heap_of, touches_of, id_of, Stays};
+ghost use Rattle.tlsf_crew.specs.lanes.LaneWorkers.{HasPost, HasTake, HearsLane, ReachesLane, TookThrough, lane_extents};
 ghost use Rattle.tlsf_crew.specs.lanes.LaneCalls.{KeepsYards, PutsIntoLane, TakenFromLane};
 ghost use Rattle.tlsf_crew.specs.worker.Calls.{PostedThere, ReleasedHere, ReleasedThere};
 ghost use Rattle.tlsf_crew.specs.lanes.LaneTurns.{DrainedAll};
@@ -24,6 +24,8 @@ impl Ports for Lanes {
     ghost hears = { HearsLane };
 
     ghost sources = { λ lanes. length lanes.takes.items };
+
+    ghost extents = { lane_extents };
 
     // The entry of a take names its lane.
     ghost sent_by = { λ from. None };
@@ -100,6 +102,7 @@ impl<const SLI: u32> Worker<SLI> {
         ensures heap { heap_of self.new ≡ heap_of self.old }
         ensures yard { KeepsYards self.old self.new }
         ensures touches { touches_of self.new ≡ touches_of self.old }
+        ensures stays { Stays lane_extents self.old self.new }
     {
         post(self, &NoRuntime, name)
     }
@@ -123,6 +126,7 @@ impl<const SLI: u32> Worker<SLI> {
         ensures yard { KeepsYards self.old self.new }
         ensures touches { touches_of self.new ≤ touches_of self.old + 64 }
         ensures touches_rise { touches_of self.old ≤ touches_of self.new }
+        ensures stays { Stays lane_extents self.old self.new }
         ensures forged { name.heap ≡ id_of self.old → FollowsNoForgery (heap_of self.old) name (touches_of self.old) (touches_of self.new) }
     {
         release(self, &NoRuntime, name)
@@ -146,6 +150,7 @@ impl<const SLI: u32> Worker<SLI> {
         ensures yard { KeepsYards self.old self.new }
         ensures touches { touches_of self.new ≤ touches_of self.old + 64 }
         ensures touches_rise { touches_of self.old ≤ touches_of self.new }
+        ensures stays { Stays lane_extents self.old self.new }
         ensures forged { IfOk result (λ answer. IfSome answer (λ took. FollowsNoForgery (heap_of self.old) took.name (touches_of self.old) (touches_of self.new))) }
     {
         if !self.ports.has_source(from as usize) {
@@ -174,6 +179,7 @@ impl<const SLI: u32> Worker<SLI> {
         ensures yard { KeepsYards self.old self.new }
         ensures touches { touches_of self.new ≤ touches_of self.old + 64 * result.taken }
         ensures touches_rise { touches_of self.old ≤ touches_of self.new }
+        ensures stays { Stays lane_extents self.old self.new }
     {
         drain_each(self, &NoRuntime, most, &mut NoNotes)
     }

@@ -1,5 +1,6 @@
-ghost use Rattle.std.specs.Prelude.{◌≡◌, ◌≢◌, ℕ, ◌<◌, length};
+ghost use Rattle.std.specs.Prelude.{◌≡◌, ◌≢◌, ℕ, ◌<◌, length, map};
 ghost use Rattle.tlsf_crew.specs.lanes.Yard.{IsYard, world_of};
+ghost use Rattle.tlsf_crew.specs.lanes.LaneWorkers.{lane_memory};
 ghost use Rattle.tlsf_crew.specs.lanes.Settle.{EachLaneSettled};
 ghost use Rattle.tlsf_crew.specs.lanes.LaneSteps.{ColumnSettled};
 
@@ -12,6 +13,7 @@ use crate::worker::worker::Worker;
 /// - `settled`: for each lane, the posts that were taken and then those that wait are those that had waited and then those
 ///   that were sent. No post is lost, doubled or overtaken.
 /// - `world`: what the yard shows stays the same. No heap changes, and in each lane the same posts wait.
+/// - `stays`: it takes no memory, so each worker's heap, lists of ends and lanes stay where they lie.
 ///
 /// ```
 /// let freed = workers[1].release(name); // Ok(Released::Posted): the name of a block of worker 0
@@ -24,6 +26,7 @@ pub fn settle<const SLI: u32>(workers: &mut [Worker<SLI>])
     ensures yard { IsYard workers.new }
     ensures count { length workers.new ≡ length workers.old }
     ensures world { world_of workers.new ≡ world_of workers.old }
+    ensures stays { map lane_memory workers.new ≡ map lane_memory workers.old }
 {
     for j in 0..workers.len() {
         settle_column(workers, j);
@@ -38,6 +41,7 @@ pub(crate) fn settle_column<const SLI: u32>(workers: &mut [Worker<SLI>], j: usiz
     ensures yard { IsYard workers.new }
     ensures count { length workers.new ≡ length workers.old }
     ensures world { world_of workers.new ≡ world_of workers.old }
+    ensures stays { map lane_memory workers.new ≡ map lane_memory workers.old }
 {
     for i in 0..workers.len() {
         if i != j {

@@ -111,7 +111,7 @@ pub(crate) fn settle_each_queue<const SLI: u32>(
 /// ```
 /// workers[1].post(rt, name)?;            // the name of a block of worker 0
 /// settle_queues(alloc, &mut workers)?;   // worker 0 knows of it
-/// let took = workers[0].take(rt)?;       // Some(..): so the take answers it, and releases the block
+/// let took = workers[0].take(rt);        // Some(..): so the take answers it, and releases the block
 /// ```
 pub fn settle_queues<const SLI: u32>(
     alloc: Global,

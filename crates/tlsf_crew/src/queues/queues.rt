@@ -1,11 +1,10 @@
 //! The queues of a worker, and what it does over them.
-ghost use Rattle.std.specs.Prelude.{◌≡◌, ◌≢◌, ◌+◌, ◌*◌, ◌≤◌, ⊤, Option, Some, Ok, Err, IfOk, IfSome};
-ghost use Rattle.tlsf_calls.specs.declared.took.Took.{Took};
+ghost use Rattle.std.specs.Prelude.{◌≡◌, ◌≢◌, ◌+◌, ◌*◌, ◌≤◌, ⊤, Some, Err, IfSome};
 ghost use Rattle.tlsf_heap.specs.declared.refusal.Refusal.TheVariants.{Foreign};
 ghost use Rattle.tlsf_heap.specs.Touched.{FollowsNoForgery};
-ghost use Rattle.tlsf_crew.specs.worker.Workers.{heap_of, touches_of, id_of};
+ghost use Rattle.tlsf_crew.specs.worker.Workers.{heap_of, touches_of, id_of, Stays};
 ghost use Rattle.tlsf_crew.specs.worker.Calls.{PostedThere, ReleasedHere, ReleasedThere};
-ghost use Rattle.tlsf_crew.specs.queues.QueueWorkers.{HasQueueEnd, KeepsQueueYards, ReachesQueue, PutsIntoQueue, AsksQueue};
+ghost use Rattle.tlsf_crew.specs.queues.QueueWorkers.{HasQueueEnd, KeepsQueueYards, ReachesQueue, PutsIntoQueue, AsksQueue, queue_extents};
 ghost use Rattle.tlsf_crew.specs.queues.QueueCalls.{TakenFromQueue, DrainedQueue};
 ghost use Rattle.tlsf_crew.specs.queues.QueueNotes.{StopsAtQueue};
 
@@ -35,6 +34,8 @@ impl Ports for Queues {
     ghost hears = { λ queues source. ⊤ };
 
     ghost sources = { λ queues. 1 };
+
+    ghost extents = { queue_extents };
 
     // The entry of a take names who posted.
     ghost sent_by = { λ from. Some from };
@@ -116,6 +117,7 @@ impl<const SLI: u32> QueueWorker<SLI> {
         ensures heap { heap_of self.new ≡ heap_of self.old }
         ensures yard { KeepsQueueYards self.old self.new }
         ensures touches { touches_of self.new ≡ touches_of self.old }
+        ensures stays { Stays queue_extents self.old self.new }
     {
         post(self, rt, name)
     }
@@ -140,6 +142,7 @@ impl<const SLI: u32> QueueWorker<SLI> {
         ensures yard { KeepsQueueYards self.old self.new }
         ensures touches { touches_of self.new ≤ touches_of self.old + 64 }
         ensures touches_rise { touches_of self.old ≤ touches_of self.new }
+        ensures stays { Stays queue_extents self.old self.new }
         ensures forged { name.heap ≡ id_of self.old → FollowsNoForgery (heap_of self.old) name (touches_of self.old) (touches_of self.new) }
     {
         release(self, rt, name)
@@ -149,23 +152,23 @@ impl<const SLI: u32> QueueWorker<SLI> {
     /// then, whatever the heap's answer. `None` comes where the queue was empty at one moment of the call. It may spin
     /// while a post is half put by another thread, and so needs `Wait`.
     ///
-    /// - `taken`: the own queue is asked for one post. Where it answers one, no more waited than the queue holds. It is never
-    ///   refused, but answers as [`crate::Worker::take`] does.
+    /// - `taken`: the own queue is asked for one post. Where it answers one, no more waited than the queue holds.
     /// - `touches`: at most 64 touches of the own heap's memory.
     ///
     /// ```
-    /// if let Some(took) = worker.take(rt)? {
+    /// if let Some(took) = worker.take(rt) {
     ///     let freed = took.answer.is_ok(); // whether the block that worker `took.from` posted was released
     /// }
     /// ```
-    pub fn take<R: Wait>(&mut self, rt: &R) -> Result<Option<Took>, CrewRefusal>
-        ensures taken { (answer : Option Took) × TakenFromQueue self.old self.new answer × (result ≡ Ok answer) }
+    pub fn take<R: Wait>(&mut self, rt: &R) -> Option<Took>
+        ensures taken { TakenFromQueue self.old self.new result }
         ensures yard { KeepsQueueYards self.old self.new }
         ensures touches { touches_of self.new ≤ touches_of self.old + 64 }
         ensures touches_rise { touches_of self.old ≤ touches_of self.new }
-        ensures forged { IfOk result (λ answer. IfSome answer (λ took. FollowsNoForgery (heap_of self.old) took.name (touches_of self.old) (touches_of self.new))) }
+        ensures stays { Stays queue_extents self.old self.new }
+        ensures forged { IfSome result (λ took. FollowsNoForgery (heap_of self.old) took.name (touches_of self.old) (touches_of self.new)) }
     {
-        Ok(take_next(self, rt, 0))
+        take_next(self, rt, 0)
     }
 
     /// Takes from the own queue and releases each block that a post names, until `most` posts were taken or the queue is
@@ -186,6 +189,7 @@ impl<const SLI: u32> QueueWorker<SLI> {
         ensures yard { KeepsQueueYards self.old self.new }
         ensures touches { touches_of self.new ≤ touches_of self.old + 64 * result.taken }
         ensures touches_rise { touches_of self.old ≤ touches_of self.new }
+        ensures stays { Stays queue_extents self.old self.new }
     {
         drain_source(self, rt, 0, most, &mut [NO_POST; AT_ONCE], &mut NoNotes)
     }

@@ -2,7 +2,7 @@ ghost use Rattle.std.specs.Prelude.{◌≡◌, ◌+◌, ◌≤◌, ◌↔◌, Is
 ghost use Rattle.tlsf_heap.specs.Footprint.{LeavesLive};
 ghost use Rattle.tlsf_heap.specs.Laws.{IsLive};
 ghost use Rattle.tlsf_heap.specs.Touched.{FollowsNoForgery};
-ghost use Rattle.tlsf_crew.specs.worker.Workers.{heap_of, touched_of, touches_of, SameButHeap};
+ghost use Rattle.tlsf_crew.specs.worker.Workers.{heap_of, touched_of, touches_of, SameButHeap, Stays};
 
 use crate::worker::ports::Ports;
 use crate::worker::worker::Worker;
@@ -24,6 +24,7 @@ impl<const SLI: u32, P: Ports> Worker<SLI, P> {
         ensures yard { P.keeps_yards SLI self.old self.new }
         ensures touches { touches_of self.new ≤ touches_of self.old + 3 }
         ensures touches_rise { touches_of self.old ≤ touches_of self.new }
+        ensures stays { Stays P.extents self.old self.new }
         ensures leaves { LeavesLive (heap_of self.old).blocks (touched_of self.old) (touched_of self.new) }
         ensures forged { FollowsNoForgery (heap_of self.old) name (touches_of self.old) (touches_of self.new) }
     {

@@ -1,5 +1,6 @@
 //! What a worker asks of its ports, of whatever kind.
-ghost use Rattle.std.specs.Prelude.{Some, slice_get, length, take, ◌≡◌, ◌<◌, ◌≤◌, ℕ, Option, Result, true, false};
+ghost use Rattle.std.specs.Prelude.{Some, slice_get, length, take, ◌≡◌, ◌<◌, ◌≤◌, ℕ, List, Option, Result, true, false};
+ghost use Rattle.tlsf_words.specs.Memory.{Extent};
 ghost use Rattle.tlsf_heap.specs.declared.name.Name.{Name};
 ghost use Rattle.tlsf_calls.specs.declared.crew_refusal.CrewRefusal.{CrewRefusal};
 ghost use Rattle.tlsf_post.specs.declared.post.Post.{Post};
@@ -23,6 +24,9 @@ pub trait Ports: Sized {
 
     // No source has this number or a higher one.
     ghost sources: { Self → ℕ };
+
+    // The memory of its ends, and of the lists of them.
+    ghost extents: { Self → List Extent };
 
     // The worker that the entry of a take names, by the number that its post has: none where it is that of the source.
     ghost sent_by: { ℕ → Option ℕ };
@@ -71,13 +75,15 @@ pub(crate) trait Exchange<R>: Ports {
     /// Puts a name through the port to the worker of its heap. It is `Full` where that takes no post.
     fn put(&mut self, rt: &R, from: u32, name: Name) -> Result<(), CrewRefusal>
         requires { Self.reaches self.old name.heap }
-        ensures { puts from self.old self.new name result };
+        ensures put { puts from self.old self.new name result }
+        ensures stays { Self.extents self.new ≡ Self.extents self.old };
 
     /// Takes the next post of a source.
     fn take(&mut self, rt: &R, source: usize) -> Option<Post>
         requires { Self.hears self.old source }
         ensures took { takes self.old self.new source result }
-        ensures still { Self.hears self.new source };
+        ensures still { Self.hears self.new source }
+        ensures stays { Self.extents self.new ≡ Self.extents self.old };
 
     /// Takes as many posts of a source as there are places, and answers how many came: fewer where a take showed no post.
     fn take_slice(&mut self, rt: &R, source: usize, places: &mut [Post]) -> usize
@@ -85,12 +91,14 @@ pub(crate) trait Exchange<R>: Ports {
         requires places { 0 < length places.old }
         ensures most { result ≤ length places.old }
         ensures came { SliceTaken takes self.old self.new source (length places.old) result (take result places.new) }
-        ensures still { Self.hears self.new source };
+        ensures still { Self.hears self.new source }
+        ensures stays { Self.extents self.new ≡ Self.extents self.old };
 
     /// Ends a drain of a source that is to take no more posts.
     fn stop(&mut self, rt: &R, source: usize)
         requires { Self.hears self.old source }
-        ensures { stops self.old self.new source };
+        ensures stopped { stops self.old self.new source }
+        ensures stays { Self.extents self.new ≡ Self.extents self.old };
 }
 
 /// The answer of a port, whose end may give back what it didn't take.

@@ -13,7 +13,7 @@ ghost use Rattle.tlsf_heap.specs.Reports.{report_of};
 ghost use Rattle.tlsf_heap.specs.Touched.{FollowsNoForgery, FollowsNoPlace};
 ghost use Rattle.tlsf_calls.specs.declared.took.Took.{Took};
 ghost use Rattle.tlsf_crew.specs.declared.worker.worker.Worker.{Worker};
-ghost use Rattle.tlsf_crew.specs.worker.Workers.{heap_of, touched_of, touches_of, id_of, SameButHeap, KeepsHeap};
+ghost use Rattle.tlsf_crew.specs.worker.Workers.{heap_of, touched_of, touches_of, id_of, SameButHeap, Stays, KeepsHeap};
 ghost use Rattle.tlsf_crew.specs.worker.Calls.{by_heap, IsRefusedByHeap, PostedThere, ReleasedHere, ReleasedThere, AfterTake, TakenFrom};
 ghost use Rattle.tlsf_crew.specs.worker.Drains.{IsCountOf};
 ghost use Rattle.tlsf_crew.specs.worker.Notes.{AllNoted, SourceNoted};
@@ -40,7 +40,7 @@ pub(crate) const NO_POST: Post = Post {
 };
 
 /// A worker: the owner of one heap, with ports to the other workers of its yard, which are [`Lanes`] where nothing else is said.
-/// `SLI` is the level of the yard's heaps, 4 or 5.
+/// `SLI` is the level of the yard's heaps, 4 or 5. No call takes memory: its heap and its ports stay where they lie (`stays`).
 #[derive(Drop)]
 pub struct Worker<const SLI: u32, P = Lanes> {
     pub(crate) heap: Heap<SLI>,
@@ -70,6 +70,7 @@ pub(crate) fn post<const SLI: u32, R, P: Exchange<R>>(
     ensures there { name.heap ≢ id_of worker.old → P.reaches worker.old.ports name.heap → PostedThere P.puts worker.old worker.new name result }
     ensures nowhere { name.heap ≢ id_of worker.old → ¬ (P.reaches worker.old.ports name.heap) → (result ≡ Err CrewRefusal.Stranger) × (worker.new ≡ worker.old) }
     ensures heap { worker.new.heap ≡ worker.old.heap }
+    ensures stays { Stays P.extents worker.old worker.new }
 {
     if name.heap == worker.id {
         return Err(CrewRefusal::Heap(Refusal::Foreign));
@@ -91,6 +92,7 @@ pub(crate) fn release<const SLI: u32, R, P: Exchange<R>>(
     ensures nowhere { name.heap ≢ id_of worker.old → ¬ (P.reaches worker.old.ports name.heap) → (result ≡ Err CrewRefusal.Stranger) × (worker.new ≡ worker.old) }
     ensures touches { touches_of worker.new ≤ touches_of worker.old + 64 }
     ensures touches_rise { touches_of worker.old ≤ touches_of worker.new }
+    ensures stays { Stays P.extents worker.old worker.new }
     ensures forged { name.heap ≡ id_of worker.old → FollowsNoForgery (heap_of worker.old) name (touches_of worker.old) (touches_of worker.new) }
 {
     if name.heap == worker.id {
@@ -112,6 +114,7 @@ fn release_post<const SLI: u32, P: Ports>(worker: &mut Worker<SLI, P>, post: Pos
     ensures post { post_of result ≡ post }
     ensures touches { touches_of worker.new ≤ touches_of worker.old + 64 }
     ensures touches_rise { touches_of worker.old ≤ touches_of worker.new }
+    ensures stays { Stays P.extents worker.old worker.new }
     ensures forged { FollowsNoForgery (heap_of worker.old) post.name (touches_of worker.old) (touches_of worker.new) }
 {
     let answer = worker.heap.release(post.name);
@@ -134,6 +137,7 @@ pub(crate) fn take_next<const SLI: u32, R, P: Exchange<R>>(
     ensures touches { OnSome result (touches_of worker.new ≤ touches_of worker.old + 64) }
     ensures untouched { IfNone result (touches_of worker.new ≡ touches_of worker.old) }
     ensures touches_rise { touches_of worker.old ≤ touches_of worker.new }
+    ensures stays { Stays P.extents worker.old worker.new }
     ensures forged { IfSome result (λ took. FollowsNoForgery (heap_of worker.old) took.name (touches_of worker.old) (touches_of worker.new)) }
 {
     let post = worker.ports.take(rt, source)?;
@@ -157,6 +161,7 @@ fn release_posts<const SLI: u32, P: Ports, N: Notes>(
     ensures kept { N.most notes.new ≡ N.most notes.old }
     ensures touches { touches_of worker.new ≤ touches_of worker.old + 64 * length posts.now }
     ensures touches_rise { touches_of worker.old ≤ touches_of worker.new }
+    ensures stays { Stays P.extents worker.old worker.new }
 {
     let mut freed = 0;
     for post in posts {
@@ -189,6 +194,7 @@ pub(crate) fn drain_source<const SLI: u32, R, P: Exchange<R>, N: Notes>(
     ensures kept { N.most notes.new ≡ N.most notes.old }
     ensures touches { touches_of worker.new ≤ touches_of worker.old + 64 * result.taken }
     ensures touches_rise { touches_of worker.old ≤ touches_of worker.new }
+    ensures stays { Stays P.extents worker.old worker.new }
 {
     let mut drained = Drained { taken: 0, freed: 0 };
     while drained.taken < most {
@@ -225,6 +231,7 @@ pub(crate) fn drain_each<const SLI: u32, R, P: Exchange<R>, N: Notes>(
     ensures kept { N.most notes.new ≡ N.most notes.old }
     ensures touches { touches_of worker.new ≤ touches_of worker.old + 64 * result.taken }
     ensures touches_rise { touches_of worker.old ≤ touches_of worker.new }
+    ensures stays { Stays P.extents worker.old worker.new }
 {
     let mut places = [NO_POST; AT_ONCE];
     let mut drained = Drained { taken: 0, freed: 0 };
@@ -255,6 +262,7 @@ impl<const SLI: u32, P: Ports> Worker<SLI, P> {
         ensures yard { P.keeps_yards SLI self.old self.new }
         ensures touches { touches_of self.new ≤ touches_of self.old + 64 + payload_words_given (allocated SLI (heap_of self.old) len).answer (heap_of self.new) }
         ensures touches_rise { touches_of self.old ≤ touches_of self.new }
+        ensures stays { Stays P.extents self.old self.new }
         ensures leaves { LeavesLive (heap_of self.old).blocks (touched_of self.old) (touched_of self.new) }
     {
         as_crew::<P, _>(self.heap.allocate(len))
@@ -274,6 +282,7 @@ impl<const SLI: u32, P: Ports> Worker<SLI, P> {
         ensures yard { P.keeps_yards SLI self.old self.new }
         ensures touches { touches_of self.new ≤ touches_of self.old + 64 }
         ensures touches_rise { touches_of self.old ≤ touches_of self.new }
+        ensures stays { Stays P.extents self.old self.new }
         ensures leaves { LeavesPayloads (heap_of self.old).blocks name.at (touched_of self.old) (touched_of self.new) }
         ensures refused { OnErr result (LeavesLive (heap_of self.old).blocks (touched_of self.old) (touched_of self.new)) }
         ensures forged { FollowsNoForgery (heap_of self.old) name (touches_of self.old) (touches_of self.new) }
@@ -293,6 +302,7 @@ impl<const SLI: u32, P: Ports> Worker<SLI, P> {
         ensures yard { P.keeps_yards SLI self.old self.new }
         ensures touches { touches_of self.new ≤ touches_of self.old + 4 + 2 * (length bytes.now / 8 + 2) }
         ensures touches_rise { touches_of self.old ≤ touches_of self.new }
+        ensures stays { Stays P.extents self.old self.new }
         ensures leaves { LeavesPayloads (heap_of self.old).blocks name.at (touched_of self.old) (touched_of self.new) }
         ensures refused { OnErr result (LeavesLive (heap_of self.old).blocks (touched_of self.old) (touched_of self.new)) }
         ensures forged { FollowsNoForgery (heap_of self.old) name (touches_of self.old) (touches_of self.new) }
@@ -314,6 +324,7 @@ impl<const SLI: u32, P: Ports> Worker<SLI, P> {
         ensures yard { P.keeps_yards SLI self.old self.new }
         ensures touches { touches_of self.new ≤ touches_of self.old + 4 + (length out.old / 8 + 2) }
         ensures touches_rise { touches_of self.old ≤ touches_of self.new }
+        ensures stays { Stays P.extents self.old self.new }
         ensures leaves { LeavesPayloads (heap_of self.old).blocks name.at (touched_of self.old) (touched_of self.new) }
         ensures refused { OnErr result (LeavesLive (heap_of self.old).blocks (touched_of self.old) (touched_of self.new)) }
         ensures forged { FollowsNoForgery (heap_of self.old) name (touches_of self.old) (touches_of self.new) }
@@ -344,6 +355,7 @@ impl<const SLI: u32, P: Ports> Worker<SLI, P> {
         ensures yard { P.keeps_yards SLI self.old self.new }
         ensures touches { touches_of self.new ≤ touches_of self.old + 4 }
         ensures touches_rise { touches_of self.old ≤ touches_of self.new }
+        ensures stays { Stays P.extents self.old self.new }
         ensures leaves { LeavesLive (heap_of self.old).blocks (touched_of self.old) (touched_of self.new) }
         ensures forged { FollowsNoForgery (heap_of self.old) name (touches_of self.old) (touches_of self.new) }
     {
@@ -369,6 +381,7 @@ impl<const SLI: u32, P: Ports> Worker<SLI, P> {
         ensures yard { P.keeps_yards SLI self.old self.new }
         ensures touches { touches_of self.new ≤ touches_of self.old + 4 }
         ensures touches_rise { touches_of self.old ≤ touches_of self.new }
+        ensures stays { Stays P.extents self.old self.new }
         ensures leaves { LeavesLive (heap_of self.old).blocks (touched_of self.old) (touched_of self.new) }
         ensures forged { FollowsNoForgery (heap_of self.old) name (touches_of self.old) (touches_of self.new) }
     {
@@ -394,6 +407,7 @@ impl<const SLI: u32, P: Ports> Worker<SLI, P> {
         ensures yard { P.keeps_yards SLI self.old self.new }
         ensures touches { touches_of self.new ≤ touches_of self.old + 64 + payload_words_left (resized (heap_of self.old) name len).answer (heap_of self.new) name }
         ensures touches_rise { touches_of self.old ≤ touches_of self.new }
+        ensures stays { Stays P.extents self.old self.new }
         ensures leaves { LeavesPayloads (heap_of self.old).blocks name.at (touched_of self.old) (touched_of self.new) }
         ensures refused { OnErr result (LeavesLive (heap_of self.old).blocks (touched_of self.old) (touched_of self.new)) }
         ensures forged { FollowsNoForgery (heap_of self.old) name (touches_of self.old) (touches_of self.new) }
@@ -415,6 +429,7 @@ impl<const SLI: u32, P: Ports> Worker<SLI, P> {
         ensures yard { P.keeps_yards SLI self.old self.new }
         ensures touches { touches_of self.new ≤ touches_of self.old + 2 * length (heap_of self.old).blocks }
         ensures touches_rise { touches_of self.old ≤ touches_of self.new }
+        ensures stays { Stays P.extents self.old self.new }
         ensures leaves { LeavesLive (heap_of self.old).blocks (touched_of self.old) (touched_of self.new) }
     {
         P::heap_keeps();
@@ -447,6 +462,7 @@ impl<const SLI: u32, P: Ports> Worker<SLI, P> {
         ensures yard { P.keeps_yards SLI self.old self.new }
         ensures touches { touches_of self.new ≤ touches_of self.old + 4 }
         ensures touches_rise { touches_of self.old ≤ touches_of self.new }
+        ensures stays { Stays P.extents self.old self.new }
         ensures leaves { LeavesLive (heap_of self.old).blocks (touched_of self.old) (touched_of self.new) }
         ensures wild { FollowsNoPlace (heap_of self.old) at (touches_of self.old) (touches_of self.new) }
     {

@@ -55,7 +55,7 @@ fn post_and_take<R: Wait>(
     queues_join_the_yard();
     workers[1].post(rt, name)?;
     settle_queues(alloc, workers)?;
-    match workers[0].take(rt)? {
+    match workers[0].take(rt) {
         Some(took) => Ok(took),
         None => unreachable!(),
     }
@@ -73,7 +73,7 @@ fn settled_queues_are_taken_from(rt: HostRuntime) -> Result<(), Fail> {
     };
     same(took, wanted).expect(&rt, "differ");
     assert!(rt; workers.len() == 2);
-    same(workers[0].take(&rt)?, None).expect(&rt, "differ");
+    same(workers[0].take(&rt), None).expect(&rt, "differ");
     Ok(())
 }
 

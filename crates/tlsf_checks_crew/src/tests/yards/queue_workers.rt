@@ -75,7 +75,7 @@ fn reply<R: Wait>(
             worker.resize(name, len)?;
             Ok(Reply::Resized)
         }
-        Call::Take { .. } => match worker.take(rt)? {
+        Call::Take { .. } => match worker.take(rt) {
             Some(took) => Ok(Reply::Took(took)),
             None => Ok(Reply::Empty),
         },

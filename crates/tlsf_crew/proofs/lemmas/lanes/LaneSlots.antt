@@ -2,8 +2,8 @@
 use Rattle.std.proofs.Common.{◌≡◌, ℕ, ap, suc, zero, [], ◌∷◌, ◌≢◌, ◌<◌, List, Option, Some, None, length, set, sym, ◌∙◌, map, refl, inl, inr}
 use Rattle.tlsf_crew.specs.declared.worker.worker.Worker.{Worker}
 use Rattle.tlsf_crew.specs.declared.worker.lanes.Lanes.{Lanes}
-use Rattle.tlsf_crew.specs.lanes.LaneWorkers.{id_and_capacity, end_to, end_from, lane_to, lane_from}
-use Rattle.tlsf_crew.specs.worker.Workers.{SameButHeap, SameButPorts, heap_of, slot_of}
+use Rattle.tlsf_crew.specs.lanes.LaneWorkers.{id_and_capacity, end_to, end_from, lane_to, lane_from, lane_extents, lane_memory}
+use Rattle.tlsf_crew.specs.worker.Workers.{SameButHeap, SameButPorts, Stays, heap_of, slot_of}
 use Rattle.std.specs.List.{slice_get}
 use Rattle.std.proofs.lemmas.Option.{get_or_from_slice_get, slice_get_within}
 use Rattle.std.proofs.lemmas.Bool.{cases_eq}
@@ -92,6 +92,15 @@ step_change ws vs i j ne s =
       lane = m.beside.lane;
       capacity = m.beside.capacity;
     }
+
+-- moves no memory
+same_memory : {sli : ℕ} (a v : Worker sli Lanes) → Stays lane_extents a v → lane_memory v ≡ lane_memory a
+same_memory a v stays = λ t. (stays.0 t, stays.1 t)
+
+pub step_memory : {sli : ℕ} (ws vs : List (Worker sli Lanes)) (i j : ℕ) → i ≢ j → OnlyLaneSettled ws i j vs → map lane_memory vs ≡ map lane_memory ws
+step_memory ws vs i j ne s =
+    let b_still : slice_get (set ws i s.v) j ≡ Some s.b = get_set_other ws i j s.v (λ e. ne (sym e)) ∙ s.b_is in
+    rw s.after (map_same lane_memory (set ws i s.v) j s.b s.w b_still (same_memory s.b s.w s.settled.taker_stays) ∙ map_same lane_memory ws i s.a s.v s.a_is (same_memory s.a s.v s.settled.poster_stays))
 
 pub heap_at : {sli : ℕ} (ws : List (Worker sli Lanes)) (i : ℕ) (a : Worker sli Lanes) → slice_get ws i ≡ Some a → heap_of_worker ws i ≡ heap_of a
 heap_at [] i a e = cc

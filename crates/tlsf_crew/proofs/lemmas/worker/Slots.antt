@@ -4,7 +4,8 @@ use Rattle.std.specs.List.{slice_get}
 use Rattle.std.proofs.lemmas.Option.{slice_get-get_or, slice_get_past}
 use Rattle.std.proofs.lemmas.Bool.{cases_lt}
 use Rattle.std.proofs.Math.ListN.{length-set}
-use Rattle.tlsf_crew.specs.worker.Workers.{slot_of}
+use Rattle.tlsf_words.specs.Memory.{Extent}
+use Rattle.tlsf_crew.specs.worker.Workers.{slot_of, end_extents}
 
 pub no_slot : {X : Type 0} (n y : ℕ) → slot_of (slice_get (replicate {A = Option X} n None) y) ≡ None
 no_slot zero y = refl
@@ -77,3 +78,11 @@ at_push (y ∷ xs) x (suc i) a e = elim (at_push xs x i a e) [
   | inl h ↦ inl h
   | inr h ↦ inr (ap suc h.0, h.1)
 ]
+
+-- an end that lies where the former lay, in its slot
+pub same_extents : {X : Type 0} (by : X → Extent) (xs : List (Option X)) (j : ℕ) (p q : X) → slice_get xs j ≡ Some (Some p) → by q ≡ by p → end_extents by (set xs j (Some q)) ≡ end_extents by xs
+same_extents by [] j p q is e = absurd cc
+same_extents by (None ∷ xs) zero p q is e = absurd cc
+same_extents by (Some r ∷ xs) zero p q is e = ap (λ x. x ∷ end_extents by xs) (e ∙ ap by (sym (some_same r p (some_same (Some r) (Some p) is))))
+same_extents by (None ∷ xs) (suc j) p q is e = same_extents by xs j p q is e
+same_extents by (Some r ∷ xs) (suc j) p q is e = ap (λ l. by r ∷ l) (same_extents by xs j p q is e)

@@ -1,12 +1,17 @@
-use Rattle.std.proofs.Common.{◌≡◌, ◌∙◌, arith, refl, sym, ap, Some, None}
+use Rattle.std.proofs.Common.{◌≡◌, ◌∙◌, ◌∷◌, ◌++◌, arith, refl, sym, ap, Some, None}
 use Rattle.std.specs.Option.{option_copied_mut}
 use Rattle.std.proofs.lemmas.Option.{slice_get_within}
+use Rattle.tlsf_post.specs.Lanes.{post_extent, take_extent}
+use Rattle.tlsf_crew.specs.worker.Workers.{extent_of, end_extents}
 use Rattle.tlsf_crew.proofs.lemmas.worker.StandingEnd.{same_end, end_stands}
+use Rattle.tlsf_crew.proofs.lemmas.worker.Slots.{same_extents}
 use Rattle.tlsf_crew.proofs.lanes.pairs.settle_pair.Goals as goal
 
 pub returns : goal.returns
 returns g c =
     let e = c.beside.ensures in
+    let a_ports = c.args.poster.now.ports in
+    let b_ports = c.args.taker.now.ports in
     let p = c.requires.0 in
     let t = c.requires.1 in
     let a : Some c.in-Some.post.now ≡ c.index_mut.result.now = sym (ap option_copied_mut c.in-Some.is) ∙ c.as_mut.ensures.value in
@@ -25,6 +30,8 @@ returns g c =
       takes = refl;
       same_poster = (refl, refl, refl);
       same_taker = (refl, refl, refl);
+      poster_stays = (refl, ap (λ l. extent_of a_ports.posts ∷ extent_of a_ports.takes ∷ l ++ end_extents take_extent a_ports.takes.items) (same_extents post_extent a_ports.posts.items c.args.j p c.beside.new.post c.requires.2 (e.stays.0 ∙ ap post_extent pe)));
+      taker_stays = (refl, ap (λ l. extent_of b_ports.posts ∷ extent_of b_ports.takes ∷ end_extents post_extent b_ports.posts.items ++ l) (same_extents take_extent b_ports.takes.items c.args.i t c.beside.new.take c.requires.3 (e.stays.1 ∙ ap take_extent te)));
     }
 
 pub index_mut-requires : goal.index_mut-requires

@@ -1,4 +1,5 @@
-use Rattle.std.proofs.Common.{◌≡◌}
+use Rattle.std.proofs.Common.{◌≡◌, map}
+use Rattle.tlsf_crew.specs.lanes.LaneWorkers.{lane_memory}
 use Rattle.tlsf_crew.specs.lanes.Yard.{IsYard, world_of}
 use Rattle.tlsf_crew.specs.lanes.LaneSteps.{ColumnSettled}
 use Rattle.tlsf_crew.proofs.lanes.settle.settle_column.Given as goal
@@ -8,4 +9,5 @@ invariant-loop-i g l = record {
   settled : ColumnSettled l.fn.workers l.workers l.i l.j;
   yard : IsYard l.workers;
   world : world_of l.workers ≡ world_of l.fn.workers;
+  stays : map lane_memory l.workers ≡ map lane_memory l.fn.workers;
 }

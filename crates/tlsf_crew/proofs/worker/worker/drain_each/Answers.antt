@@ -12,6 +12,7 @@ loop-source-init g c = record {
   few = omega arith;
   touches = omega arith;
   rise = omega arith;
+  stays = (refl, refl);
 }
 
 pub loop-source-preserved : goal.loop-source-preserved
@@ -39,6 +40,7 @@ loop-source-preserved g c =
             few = rw w.drained-is (omega (arith, e.most, i.few));
             touches = rw (w.worker-is, w.drained-is) (omega (arith, e.touches, i.touches));
             rise = rw w.worker-is (omega (arith, e.touches_rise, i.rise));
+            stays = rw w.worker-is (e.stays.0 ∙ i.stays.0, e.stays.1 ∙ i.stays.1);
           }
       | else-has_source w ↦ record {
         room = rw w.notes-is i.room;
@@ -47,6 +49,7 @@ loop-source-preserved g c =
         few = rw w.drained-is i.few;
         touches = rw (w.worker-is, w.drained-is) i.touches;
         rise = rw w.worker-is i.rise;
+        stays = rw w.worker-is i.stays;
       }
     ]
 

@@ -1,6 +1,6 @@
 use Rattle.std.proofs.Common.{◌≡◌, ◌+◌, ◌*◌, ◌≤◌, List}
 use Rattle.tlsf_calls.specs.declared.took.Took.{Took}
-use Rattle.tlsf_crew.specs.worker.Workers.{touches_of}
+use Rattle.tlsf_crew.specs.worker.Workers.{touches_of, Stays}
 use Rattle.tlsf_crew.specs.worker.Drains.{IsCountOf}
 use Rattle.tlsf_crew.specs.worker.Notes.{EachNoted}
 use Rattle.tlsf_crew.proofs.worker.worker.drain_each.Given as goal
@@ -13,4 +13,5 @@ invariant-loop-source g l = record {
   few : l.drained.taken ≤ l.most;
   touches : touches_of l.worker ≤ touches_of l.fn.worker + 64 * l.drained.taken;
   rise : touches_of l.fn.worker ≤ touches_of l.worker;
+  stays : Stays g.P.Ports.extents l.fn.worker l.worker;
 }

@@ -14,6 +14,7 @@ loop-drained-init g c = record {
   few = omega arith;
   touches = omega arith;
   rise = omega arith;
+  stays = (refl, refl);
 }
 
 pub loop-drained-preserved : goal.loop-drained-preserved
@@ -43,6 +44,7 @@ loop-drained-preserved g c =
       few = omega (arith, c.admits-wanted.ensures.few, c.min.ensures, slice.ensures.most, many);
       touches = omega (arith, i.touches, e.touches, n);
       rise = omega (arith, i.rise, e.touches_rise);
+      stays = (e.stays.0 ∙ i.stays.0, e.stays.1 ∙ (slice.ensures.stays ∙ i.stays.1));
     }
 
 pub returns-after-loop-drained : goal.returns-after-loop-drained
@@ -56,19 +58,21 @@ returns-after-loop-drained g c =
       kept = i.kept;
       touches = i.touches;
       touches_rise = i.rise;
+      stays = i.stays;
     }
 
 pub returns-then-wanted-eq0 : goal.returns-then-wanted-eq0
 returns-then-wanted-eq0 g c =
     let i = c.loop-drained.invariant in
     record {
-      drained = (i.takes.0, record { last = c.loop-drained.worker; turns = i.takes.1; end = inr (omega (arith, i.takes.2.0), inl (c.admits-wanted.ensures.no c.if-wanted-eq0.true, (refl, refl), c.stop.ensures)) }, i.takes.2);
+      drained = (i.takes.0, record { last = c.loop-drained.worker; turns = i.takes.1; end = inr (omega (arith, i.takes.2.0), inl (c.admits-wanted.ensures.no c.if-wanted-eq0.true, (refl, refl), c.stop.ensures.stopped)) }, i.takes.2);
       most = i.few;
       freed = counted_few c.loop-drained.drained i.takes.0 i.takes.2;
       room = i.room;
       kept = i.kept;
       touches = i.touches;
       touches_rise = i.rise;
+      stays = (i.stays.0, c.stop.ensures.stays ∙ i.stays.1);
     }
 
 pub returns-then-came-wanted : goal.returns-then-came-wanted
@@ -102,6 +106,7 @@ returns-then-came-wanted g c =
       kept = e.kept ∙ i.kept;
       touches = omega (arith, i.touches, e.touches, n);
       touches_rise = omega (arith, i.rise, e.touches_rise);
+      stays = (e.stays.0 ∙ i.stays.0, e.stays.1 ∙ (slice.ensures.stays ∙ i.stays.1));
     }
 
 pub take_slice-came-requires : goal.take_slice-came-requires

@@ -1,6 +1,6 @@
 use Rattle.std.proofs.Common.{◌≡◌, ◌-◌, ◌+◌, ◌*◌, ◌≤◌, List}
 use Rattle.tlsf_calls.specs.declared.took.Took.{Took}
-use Rattle.tlsf_crew.specs.worker.Workers.{touches_of}
+use Rattle.tlsf_crew.specs.worker.Workers.{touches_of, Stays}
 use Rattle.tlsf_crew.specs.worker.Drains.{IsCountOf}
 use Rattle.tlsf_crew.specs.worker.Notes.{EachTakeNoted}
 use Rattle.tlsf_crew.proofs.worker.worker.drain_source.Given as goal
@@ -14,6 +14,7 @@ invariant-loop-drained g l = record {
   few : l.drained.taken ≤ l.most;
   touches : touches_of l.worker ≤ touches_of l.fn.worker + 64 * l.drained.taken;
   rise : touches_of l.fn.worker ≤ touches_of l.worker;
+  stays : Stays g.P.Ports.extents l.fn.worker l.worker;
 }
 
 abbrev pub decreases-loop-drained : goal.decreases-loop-drained

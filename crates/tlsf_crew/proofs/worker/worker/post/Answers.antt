@@ -33,3 +33,12 @@ returns-clause-nowhere g c = λ ne no. absurd (no (c.has_port.ensures.yes c.if-n
 
 pub returns-clause-heap : goal.returns-clause-heap
 returns-clause-heap g c = refl
+
+pub returns-then-name-worker-clause-stays : goal.returns-then-name-worker-clause-stays
+returns-then-name-worker-clause-stays g c = (refl, refl)
+
+pub returns-then-not-has_port-clause-stays : goal.returns-then-not-has_port-clause-stays
+returns-then-not-has_port-clause-stays g c = (refl, refl)
+
+pub returns-clause-stays : goal.returns-clause-stays
+returns-clause-stays g c = (refl, c.put.ensures.stays)

@@ -5,3 +5,6 @@ pub returns-clause-released : goal.returns-clause-released
 returns-clause-released g c =
     let e = c.release-answer.ensures in
     (ap (λ x. Some (record { from = c.args.post.from; name = c.args.post.name; answer = x })) e.answer, e.heap, (refl, refl), e.leaves)
+
+pub returns-clause-stays : goal.returns-clause-stays
+returns-clause-stays g c = (c.release-answer.ensures.keeps.stays, refl)

@@ -14,6 +14,7 @@ loop-post-init g c = record {
   released = ([], (refl, refl), refl, (refl, refl));
   touches = omega arith;
   rise = omega arith;
+  stays = (refl, refl);
 }
 
 pub note-requires : goal.note-requires
@@ -50,6 +51,7 @@ loop-post-preserved g c =
       );
       touches = omega (arith, i.touches, e.touches);
       rise = omega (arith, i.rise, e.touches_rise);
+      stays = (e.stays.0 ∙ i.stays.0, e.stays.1 ∙ i.stays.1);
     }
 
 pub returns : goal.returns
@@ -68,4 +70,5 @@ returns g c =
       kept = i.kept;
       touches = omega (arith, i.touches, all);
       touches_rise = i.rise;
+      stays = i.stays;
     }

@@ -1,6 +1,6 @@
 use Rattle.std.proofs.Common.{◌≡◌, ◌+◌, ◌-◌, ◌*◌, ◌≤◌, List, length, map, take}
 use Rattle.tlsf_calls.specs.declared.took.Took.{Took}
-use Rattle.tlsf_crew.specs.worker.Workers.{touches_of}
+use Rattle.tlsf_crew.specs.worker.Workers.{touches_of, Stays}
 use Rattle.tlsf_crew.specs.worker.Drains.{IsCountOf}
 use Rattle.tlsf_crew.specs.worker.Slices.{post_of, EachReleased, MayTake}
 use Rattle.tlsf_crew.proofs.worker.worker.release_posts.Given as goal
@@ -15,4 +15,5 @@ invariant-loop-post g l = record {
       × (map post_of tooks ≡ take l.post-index l.posts) × IsCountOf (record { taken = l.post-index; freed = l.freed }) tooks;
   touches : touches_of l.worker ≤ touches_of l.fn.worker + 64 * l.post-index;
   rise : touches_of l.fn.worker ≤ touches_of l.worker;
+  stays : Stays g.P.Ports.extents l.fn.worker l.worker;
 }

@@ -1,4 +1,4 @@
-use Rattle.std.proofs.Common.{refl, Some, None}
+use Rattle.std.proofs.Common.{refl, ◌∙◌, Some, None}
 use Rattle.tlsf_crew.proofs.worker.worker.take_next.Goals as goal
 
 pub returns-clause-taken : goal.returns-clause-taken
@@ -18,3 +18,9 @@ returns-in_err-post-clause-taken g c =
       took = ((refl, refl), c.in_err-post.ensures.took);
       then = (c.from_residual.ensures, refl);
     }
+
+pub returns-clause-stays : goal.returns-clause-stays
+returns-clause-stays g c = (c.release_post.ensures.stays.0, c.release_post.ensures.stays.1 ∙ c.in_ok-post.ensures.stays)
+
+pub returns-in_err-post-clause-stays : goal.returns-in_err-post-clause-stays
+returns-in_err-post-clause-stays g c = (refl, c.in_err-post.ensures.stays)

@@ -1,6 +1,6 @@
 use Rattle.std.proofs.Common.{◌≡◌}
-use Rattle.tlsf_post.specs.Mailboxes.{KeepsOwner, got_by}
+use Rattle.tlsf_post.specs.Mailboxes.{KeepsOwner, got_by, owner_extent}
 use Rattle.tlsf_post.proofs.owner_end.OwnerEnd.wait_empty.Given as goal
 
 abbrev pub invariant-loop : goal.invariant-loop
-invariant-loop g l = KeepsOwner l.fn.self l.self × (got_by l.self ≡ got_by l.fn.self)
+invariant-loop g l = KeepsOwner l.fn.self l.self × (owner_extent l.self ≡ owner_extent l.fn.self) × (got_by l.self ≡ got_by l.fn.self)

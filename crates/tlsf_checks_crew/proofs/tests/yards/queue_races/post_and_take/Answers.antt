@@ -95,8 +95,7 @@ unreachable-requires g c =
     let has : HasQueueEnd b name.heap = (join.to 4 ws 1 name.heap b c.requires.yard b_is).1 (omega (arith, two, own), λ q. omega (arith, q, own)) in
     let posted : PostedThere PutsIntoQueue b v name (Ok tt) = c.in_ok-post.ensures.there (λ q. omega (arith, q, own, number)) has in
     let count : length vs ≡ 2 = c.settle_queues.ensures.count ∙ (length-set ws 1 v ∙ two) in
-    let taken = c.in_ok-took.ensures.taken in
-    let none : taken.0 ≡ None = let e = taken.2 in let is = c.in-None.is in cc in
+    let none : c.take.result ≡ None = let is = c.in-None.is in cc in
     let nothing = nothing_waits vs (get_or vs 0 e) (get_or vs 1 e) c.take.new.self c.settle_queues.ensures.yard count c.in_ok-settle_queues.ensures.known
-    (slice_get-get_or vs 0 e (omega (arith, count))) (slice_get-get_or vs 1 e (omega (arith, count))) (subst (λ (o : Option Took). TakenFromQueue (get_or vs 0 e) c.take.new.self o) none taken.1) in
+    (slice_get-get_or vs 0 e (omega (arith, count))) (slice_get-get_or vs 1 e (omega (arith, count))) (subst (λ (o : Option Took). TakenFromQueue (get_or vs 0 e) c.take.new.self o) none c.take.ensures.taken) in
     absurd (posted_waits ws a b v name c.requires.fresh two a_is b_is own posted (sym (same_waits (set ws 1 v) vs c.settle_queues.ensures.world) ∙ nothing))

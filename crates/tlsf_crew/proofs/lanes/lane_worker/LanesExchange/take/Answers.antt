@@ -1,8 +1,10 @@
-use Rattle.std.proofs.Common.{◌≡◌, ◌∙◌, arith, refl, sym, ap, Some, None}
+use Rattle.std.proofs.Common.{◌≡◌, ◌∙◌, ◌∷◌, ◌++◌, arith, refl, sym, ap, Some, None}
 use Rattle.std.specs.Option.{option_copied_mut}
 use Rattle.std.proofs.lemmas.Option.{slice_get_within}
+use Rattle.tlsf_post.specs.Lanes.{post_extent, take_extent}
+use Rattle.tlsf_crew.specs.worker.Workers.{extent_of, end_extents}
 use Rattle.tlsf_crew.proofs.lemmas.worker.StandingEnd.{same_end, end_stands}
-use Rattle.tlsf_crew.proofs.lemmas.worker.Slots.{from_slot, slot_new, slot_other}
+use Rattle.tlsf_crew.proofs.lemmas.worker.Slots.{from_slot, slot_new, slot_other, same_extents}
 use Rattle.tlsf_crew.proofs.lanes.lane_worker.LanesExchange.take.Goals as goal
 
 pub returns-clause-took : goal.returns-clause-took
@@ -42,3 +44,13 @@ pub unreachable-requires : goal.unreachable-requires
 unreachable-requires g c =
     let none : None ≡ c.index_mut.result.now = sym (ap option_copied_mut c.in_default.is) ∙ c.as_mut.ensures.value in
     absurd (end_stands _ c.args.self.now.takes.items c.args.source _ c.index_mut.ensures.value (from_slot _ c.requires.0 c.requires.1) none)
+
+pub returns-clause-stays : goal.returns-clause-stays
+returns-clause-stays g c =
+    let a = c.args.self.now in
+    let has = c.requires in
+    let xs = a.takes.items in
+    let is = from_slot _ has.0 has.1 in
+    let here : Some c.in-Some.end.now ≡ c.index_mut.result.now = sym (ap option_copied_mut c.in-Some.is) ∙ c.as_mut.ensures.value in
+    let same : c.in-Some.end.now ≡ has.0 = same_end _ xs c.args.source _ _ c.index_mut.ensures.value is here in
+    ap (λ l. extent_of a.posts ∷ extent_of a.takes ∷ end_extents post_extent a.posts.items ++ l) (same_extents take_extent xs c.args.source has.0 c.take.new.self is (c.take.ensures.stays ∙ ap take_extent same))

@@ -1,5 +1,7 @@
-use Rattle.std.proofs.Common.{Some, arith, refl, subst, sym, take, length-set}
+use Rattle.std.proofs.Common.{Some, arith, refl, ap, ◌∙◌, ◌∷◌, subst, sym, take, length-set}
 use Rattle.std.proofs.lemmas.List.{take_more_set}
+use Rattle.tlsf_post.specs.Mailboxes.{poster_extent}
+use Rattle.tlsf_crew.specs.worker.Workers.{extent_of, end_extents}
 use Rattle.tlsf_crew.specs.declared.queues.queues.Queues.{Queues}
 use Rattle.tlsf_crew.specs.queues.QueueWorkers.{AsksQueue}
 use Rattle.tlsf_crew.specs.worker.Slices.{PortsInTurn}
@@ -20,6 +22,7 @@ loop-count-preserved g c =
       few = omega (arith, c.loop-count-test.true, length-set places count post);
       turns = subst (λ posts. PortsInTurn AsksQueue c.args.self.now new c.args._source posts) (sym (take_more_set places count post c.loop-count-test.true))
           (ports_more AsksQueue c.args.self.now old new c.args._source (take count places) post i.turns took);
+      stays = ap (λ own. own ∷ extent_of old.posts ∷ end_extents poster_extent old.posts.items) e.stays ∙ i.stays;
     }
 
 pub returns-after-loop-count : goal.returns-after-loop-count
@@ -29,6 +32,7 @@ returns-after-loop-count g c =
       most = omega (arith, i.few, c.loop-count.auto.places);
       came = record { last = c.loop-count.self; turns = i.turns; full = λ all. refl; short = λ fewer. absurd (omega (arith, fewer, c.loop-count-test.false, c.loop-count.auto.places)) };
       still = tt;
+      stays = i.stays;
     }
 
 pub returns-in_default : goal.returns-in_default
@@ -44,4 +48,5 @@ returns-in_default g c =
         short = λ fewer. record { same = refl; mailbox = e.mailbox; some = e.some; waited = e.waited; from = e.from; none = e.none };
       };
       still = tt;
+      stays = ap (λ own. own ∷ extent_of c.loop-count.self.posts ∷ end_extents poster_extent c.loop-count.self.posts.items) e.stays ∙ i.stays;
     }

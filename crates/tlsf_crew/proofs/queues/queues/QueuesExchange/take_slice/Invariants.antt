@@ -1,5 +1,5 @@
-use Rattle.std.proofs.Common.{◌-◌, ◌≤◌, length, take}
-use Rattle.tlsf_crew.specs.queues.QueueWorkers.{AsksQueue}
+use Rattle.std.proofs.Common.{◌≡◌, ◌-◌, ◌≤◌, length, take}
+use Rattle.tlsf_crew.specs.queues.QueueWorkers.{AsksQueue, queue_extents}
 use Rattle.tlsf_crew.specs.worker.Slices.{PortsInTurn}
 use Rattle.tlsf_crew.proofs.queues.queues.QueuesExchange.take_slice.Given as goal
 
@@ -7,6 +7,7 @@ abbrev pub invariant-loop-count : goal.invariant-loop-count
 invariant-loop-count g l = record {
   few : l.count ≤ length l.places;
   turns : PortsInTurn AsksQueue l.fn.self l.self l._source (take l.count l.places);
+  stays : queue_extents l.self ≡ queue_extents l.fn.self;
 }
 
 abbrev pub decreases-loop-count : goal.decreases-loop-count
