@@ -528,12 +528,12 @@ class pools {
 
 public:
     pools() noexcept = default;
-    // For `n` rows, whose heaps have the numbers from `number` on.
+    // For `n` rows, which rise in `len`. Their heaps have the numbers from `number` on.
     pools(level l, std::uint32_t number, const tlsf_kind *rows, std::size_t n) : state_(new (std::nothrow) detail::pools_state) {
         if (!state_) detail::no_room();
         const std::uint32_t answer = tlsf_pools_open(get(), static_cast<std::uint32_t>(l), number, rows, n);
         if (answer == TLSF_NO_MEMORY) detail::no_room();
-        if (answer != TLSF_OK) detail::bad_size("tlsf: no regions serve such a table");
+        if (answer != TLSF_OK) detail::bad_size("tlsf: the rows of the table don't rise in len, or no regions serve it");
     }
     tlsf_pools *get() noexcept { return state_ ? &state_->raw : nullptr; }
     [[nodiscard]] std::uint32_t allocate(std::uint32_t len, tlsf_name &name) noexcept {

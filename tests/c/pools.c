@@ -18,6 +18,8 @@ static void refusals_of_opening(void) {
     wants("level 6", tlsf_pools_open(&pools, 6, 1, many, 65), TLSF_BAD_LEVEL);
     wants("65 rows", tlsf_pools_open(&pools, 4, 1, many, 65), TLSF_BAD_SIZE);
     wants("numbers past the last", tlsf_pools_open(&pools, 4, UINT32_MAX - 6, rows, ROWS), TLSF_BAD_SIZE);
+    wants("rows that fall", tlsf_pools_open(&pools, 4, 1, (struct tlsf_kind[]){{10, 100}, {10, 50}}, 2), TLSF_BAD_SIZE);
+    wants("a length twice", tlsf_pools_open(&pools, 4, 1, (struct tlsf_kind[]){{1, 8}, {1, 50}, {1, 50}}, 3), TLSF_BAD_SIZE);
     wants("no region so large", tlsf_pools_open(&pools, 4, 1, &(struct tlsf_kind){UINT32_MAX, 8}, 1), TLSF_BAD_SIZE);
     wants("the last numbers", tlsf_pools_open(&pools, 4, UINT32_MAX - 7, many, 64), TLSF_OK);
     wants("open twice", tlsf_pools_open(&pools, 9, UINT32_MAX, rows, 70), TLSF_IN_USE);

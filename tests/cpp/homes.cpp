@@ -201,7 +201,13 @@ void pools_for_a_table() {
     } catch (const std::invalid_argument &) {
         caught++;
     }
-    wants("no such pools", caught, 1);
+    try {
+        const tlsf_kind falling[] = {{10, 100}, {10, 50}};
+        const tlsf::pools unreached(tlsf::level::four, 12, falling, 2);
+    } catch (const std::invalid_argument &) {
+        caught++;
+    }
+    wants("no such pools", caught, 2);
 }
 
 // A heap has one thread at a time; behind a lock any may call it. std has one: a synchronized_pool_resource calls what lies under

@@ -1,6 +1,6 @@
 //! Pools whose level is told when they are opened.
 ghost use Rattle.std.specs.Prelude.{◌≡◌, ◌+◌, ◌<◌, ◌≤◌, ◌^◌, ◌↔◌, length, IfOk, IfErr, IsErrOf, ◌≢◌};
-ghost use Rattle.tlsf_pool.specs.sizes.Splits.{HasNoCut};
+ghost use Rattle.tlsf_pool.specs.sizes.Rising.{HasNoHeaps};
 ghost use Rattle.tlsf_c.specs.PoolCalls.{AreNewPools, AllocatesInPools, ReleasesInPools, WritesInPools, ReadsInPools, ReportsInPools};
 
 use std::alloc::Global;
@@ -40,7 +40,7 @@ impl AnyPools {
         requires numbers { id + 8 ≤ 2 ^ 32 }
         ensures level { IfOk result (λ a. a.level ≡ level) }
         ensures new { IfOk result (λ a. AreNewPools level id kinds.now a.pools) }
-        ensures bad_size { IsErrOf result OpenFault.BadSize ↔ HasNoCut level 8 kinds.now }
+        ensures bad_size { IsErrOf result OpenFault.BadSize ↔ HasNoHeaps level 8 kinds.now }
         ensures not_worn { ¬ (IsErrOf result OpenFault.Worn) }
     {
         if level == 4 {

@@ -4,7 +4,7 @@ ghost use Rattle.tlsf_heap.specs.declared.name.Name.{Name};
 ghost use Rattle.tlsf_heap.specs.declared.refusal.Refusal.{Refusal};
 ghost use Rattle.tlsf_heap.specs.declared.report.Report.{Report};
 ghost use Rattle.tlsf_pool.specs.declared.pools.pool_refusal.PoolRefusal.{PoolRefusal};
-ghost use Rattle.tlsf_pool.specs.sizes.Splits.{HasNoCut};
+ghost use Rattle.tlsf_pool.specs.sizes.Rising.{HasNoHeaps, Rises};
 ghost use Rattle.tlsf_c.specs.Names.{name_of, report_in};
 ghost use Rattle.tlsf_c.specs.PoolCalls.{AreNewPools, AllocatesInPools, ReleasesInPools, WritesInPools, ReadsInPools, ReportsInPools, PartsLeaveLive, PartsLeavePayloads};
 ghost use Rattle.tlsf_c.specs.PoolHandles.{pools_in, pools_level, PoolsStayOpen, kinds_of, pool_status_of, part_status_of};
@@ -30,7 +30,7 @@ fn open_for(alloc: Global, level: u32, id: u32, rows: &[KindRow]) -> Result<AnyP
     requires numbers { id + 8 ≤ 2 ^ 32 }
     ensures level { IfOk result (λ a. a.level ≡ level) }
     ensures new { IfOk result (λ a. AreNewPools level id (kinds_of rows.now) a.pools) }
-    ensures bad_size { IsErrOf result OpenFault.BadSize ↔ HasNoCut level 8 (kinds_of rows.now) }
+    ensures bad_size { IsErrOf result OpenFault.BadSize ↔ HasNoHeaps level 8 (kinds_of rows.now) }
     ensures not_worn { ¬ (IsErrOf result OpenFault.Worn) }
 {
     let mut kinds = [NO_KIND; 64];
@@ -42,11 +42,11 @@ fn open_for(alloc: Global, level: u32, id: u32, rows: &[KindRow]) -> Result<AnyP
 }
 
 /// Opens heaps of a level, 4 or 5, for a table of kinds, in a closed handle: as many, at most eight, as have the fewest words together. Their
-/// numbers are `id` and those behind it. The kinds go from short to long.
+/// numbers are `id` and those behind it. The rows rise in `len`.
 ///
 /// Refused as InUse where the handle is open, else as BadLevel where there is no such level, else as BadSize where there are more than 64 rows,
-/// the numbers would go past 2^32, or no way to cut the table gives each heap a region, else as NoMemory where the memory was not granted. No
-/// later call on the pools takes memory.
+/// a row is no longer than the one before it, the numbers would go past 2^32, or no way to cut the table gives each heap a region, else as
+/// NoMemory where the memory was not granted. No later call on the pools takes memory.
 ///
 /// ```text
 /// tlsf_pools_open(&pools, 4, 1, rows, 2) == TLSF_OK     // rows: {2000, 64}, {1, 65536}
@@ -63,8 +63,9 @@ pub extern "C" fn tlsf_pools_open(
     ensures bad_level { pools.old.is_open ≡ false → ¬ (level ≡ 4) → ¬ (level ≡ 5) → result ≡ bad_level }
     ensures too_many { pools.old.is_open ≡ false → 4 ≤ level → level ≤ 5 → 64 < length rows.now → result ≡ bad_size }
     ensures no_number { pools.old.is_open ≡ false → 4 ≤ level → level ≤ 5 → 2 ^ 32 < id + 8 → result ≡ bad_size }
-    ensures no_cut { pools.old.is_open ≡ false → 4 ≤ level → level ≤ 5 → HasNoCut level 8 (kinds_of rows.now) → result ≡ bad_size }
-    ensures no_memory { pools.old.is_open ≡ false → 4 ≤ level → level ≤ 5 → length rows.now ≤ 64 → id + 8 ≤ 2 ^ 32 → ¬ (HasNoCut level 8 (kinds_of rows.now)) → ¬ (result ≡ 0) → result ≡ no_memory }
+    ensures falls { pools.old.is_open ≡ false → 4 ≤ level → level ≤ 5 → ¬ (Rises (kinds_of rows.now)) → result ≡ bad_size }
+    ensures no_heaps { pools.old.is_open ≡ false → 4 ≤ level → level ≤ 5 → HasNoHeaps level 8 (kinds_of rows.now) → result ≡ bad_size }
+    ensures no_memory { pools.old.is_open ≡ false → 4 ≤ level → level ≤ 5 → length rows.now ≤ 64 → id + 8 ≤ 2 ^ 32 → ¬ (HasNoHeaps level 8 (kinds_of rows.now)) → ¬ (result ≡ 0) → result ≡ no_memory }
     ensures refused { ¬ (result ≡ 0) → pools.new ≡ pools.old }
     ensures open { result ≡ 0 → pools.new.is_open ≡ true }
     ensures level { result ≡ 0 → pools_level pools.new ≡ level }

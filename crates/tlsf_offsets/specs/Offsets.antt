@@ -5,15 +5,17 @@ use Rattle.tlsf_heap.specs.Blocks.{HeapState, StandsAt, size_of}
 use Rattle.tlsf_heap.specs.GoodFit.{block_at}
 use Rattle.tlsf_heap.specs.Lawful.{IsLawful}
 use Rattle.tlsf_heap.specs.Calls.{has_serial}
+use Rattle.tlsf_heap.specs.Memory.{Extents}
 use Rattle.tlsf_heap.specs.declared.name.Name.{Name}
 use Rattle.tlsf_heap.specs.Reports.{report_of}
 use Rattle.tlsf_offsets.specs.declared.span.Span.{Span}
 use Rattle.tlsf_offsets.specs.declared.usage.Usage.{Usage}
 
--- what an arena of offsets shows: the heap that decides, the bytes of a unit, and the heap's touches
+-- what an arena of offsets shows: the heap that decides, the bytes of a unit, and the heap's memory and touches
 pub record Offsets : Type 0 where
   pub heap : HeapState
   pub unit : ℕ
+  pub extents : Extents
   pub touches : ℕ
 
 -- a lawful heap of a level that there is, no larger than its level's regions, over units of at least a byte

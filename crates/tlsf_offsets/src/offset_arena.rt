@@ -29,9 +29,9 @@ impl<const SLI: u32> Model for OffsetArena<SLI> {
 
     ghost Value = { Offsets };
 
-    ghost view = { λ o. record { heap = o.heap.heap; unit = o.unit; touches = o.heap.touches } };
+    ghost view = { λ o. record { heap = o.heap.heap; unit = o.unit; extents = o.heap.extents; touches = o.heap.touches } };
 
-    ghost invariant = { λ o. IsOffsets SLI (record { heap = o.heap.heap; unit = o.unit; touches = o.heap.touches }) };
+    ghost invariant = { λ o. IsOffsets SLI (record { heap = o.heap.heap; unit = o.unit; extents = o.heap.extents; touches = o.heap.touches }) };
 }
 
 /// The units for `len` bytes. More than a number of 32 bits tells are as many as that tells, which no memory has either.
@@ -97,6 +97,7 @@ impl<const SLI: u32> OffsetArena<SLI> {
         ensures others { (other : Span) → IsHeld self.old other → IsHeld self.new other }
         ensures new { IfOk result (λ span. (other : Span) → IsHeld self.old other → other.name ≢ span.name) }
         ensures unit { self.new.unit ≡ self.old.unit }
+        ensures stays { self.new.extents ≡ self.old.extents }
         ensures was_lawful { IsOffsets SLI self.old }
         ensures lawful { IsOffsets SLI self.new }
 
@@ -128,6 +129,7 @@ impl<const SLI: u32> OffsetArena<SLI> {
         ensures others { KeepsOthers self.old self.new name }
         ensures gone { OnOk result ((span : Span) → IsHeld self.new span → span.name ≢ name) }
         ensures unit { self.new.unit ≡ self.old.unit }
+        ensures stays { self.new.extents ≡ self.old.extents }
         ensures was_lawful { IsOffsets SLI self.old }
         ensures lawful { IsOffsets SLI self.new }
         ensures touches { self.new.touches ≤ self.old.touches + 64 }
@@ -159,6 +161,7 @@ impl<const SLI: u32> OffsetArena<SLI> {
         ensures close { IfOk result (λ span. span.size < self.old.unit * (span_units self.old.unit len + 4)) }
         ensures others { KeepsOthers self.old self.new name }
         ensures unit { self.new.unit ≡ self.old.unit }
+        ensures stays { self.new.extents ≡ self.old.extents }
         ensures was_lawful { IsOffsets SLI self.old }
         ensures lawful { IsOffsets SLI self.new }
         ensures touches { self.new.touches ≤ self.old.touches + 68 }
@@ -181,6 +184,7 @@ impl<const SLI: u32> OffsetArena<SLI> {
     pub fn usage(&mut self) -> Usage
         ensures usage { result ≡ usage_of SLI self.old }
         ensures same { (self.new.heap ≡ self.old.heap) × (self.new.unit ≡ self.old.unit) }
+        ensures stays { self.new.extents ≡ self.old.extents }
         ensures touches { self.new.touches ≤ self.old.touches + 2 * length self.old.heap.blocks }
     {
         let report = self.heap.report();
@@ -205,6 +209,7 @@ impl<const SLI: u32> OffsetArena<SLI> {
         ensures held { IsHeld self.old result }
         ensures name { result.name ≡ name }
         ensures same { (self.new.heap ≡ self.old.heap) × (self.new.unit ≡ self.old.unit) }
+        ensures stays { self.new.extents ≡ self.old.extents }
         ensures touches { self.new.touches ≤ self.old.touches + 4 }
         ensures touches_rise { self.old.touches ≤ self.new.touches }
     {

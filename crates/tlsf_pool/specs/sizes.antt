@@ -2,5 +2,7 @@
 pub mod Limits
 -- Ways to cut a table of kinds.
 pub mod Splits
+-- Tables whose rows go from short to long.
+pub mod Rising
 -- What the clauses of private functions cite besides.
 pub mod Cheapest

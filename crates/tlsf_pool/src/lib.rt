@@ -14,7 +14,8 @@
 //!
 //! A [`TablePool`] has a table of kinds: of each kind of request how many blocks are held at once, at most, and how many bytes
 //! such a request has, at most. Each block takes the words of the longest kind of which one may be held, and its heap has just so many
-//! as [`fixed_size_suffices`] asks for. A block counts for the first row of the table that is long enough for it.
+//! as [`fixed_size_suffices`] asks for. A block counts for the first row of the table that is long enough for it. So the rows rise in
+//! `len`: [`falling_row`] finds one that doesn't.
 //!
 //! ```text
 //! let kinds = [Kind { most: 100, len: 64 }, Kind { most: 4, len: 4096 }];
@@ -74,5 +75,6 @@ pub use sizes::fixed_size::{fixed_kinds_words, fixed_region};
 pub use sizes::greatest::{longest_request, most_blocks};
 pub use sizes::one_large::one_large_words;
 pub use sizes::region::mixed_region;
+pub use sizes::rising::falling_row;
 pub use sizes::sizing::{kinds_words, most_bytes};
-pub use sizes::split::{MOST_HEAPS, MOST_SPLIT, Split, cheapest_split};
+pub use sizes::split::{MOST_HEAPS, MOST_SPLIT, Split, cheapest_split, rising_split};

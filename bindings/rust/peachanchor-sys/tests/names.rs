@@ -134,6 +134,7 @@ fn pools_serve_a_table() {
     let (mut name, mut other, mut report) = (tlsf_name::default(), tlsf_name::default(), tlsf_heap_report::default());
     let mut bytes = [9_u8; 3];
     unsafe {
+        assert_eq!(tlsf_pools_open(&mut pools, 4, 5, [rows[1], rows[0]].as_ptr(), 2), TLSF_BAD_SIZE);
         assert_eq!(tlsf_pools_open(&mut pools, 4, 5, rows.as_ptr(), 2), TLSF_OK);
         assert_eq!((tlsf_pools_allocate(&mut pools, 16, &mut name), name.heap), (TLSF_OK, 5));
         assert_eq!(tlsf_pools_allocate(&mut pools, 1, &mut other), TLSF_ROW_FULL);

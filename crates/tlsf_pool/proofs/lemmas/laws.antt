@@ -14,6 +14,7 @@
 --   ModestCalls: what each call leaves of the bounds of blocks of mixed sizes
 --   Names: whether two names are the same
 --   OneLargeCalls: what each call leaves of the hole for one large block
+--   Orders: the order of the kinds of a table doesn't change its words
 --   PlannedCalls: what each call leaves of the bounds of a table of kinds
 --   Refits: what a resize comes to, by its cases
 --   Reserves: the greatest hole, a large block in front of it counted with it
@@ -36,6 +37,7 @@ pub mod Looks
 pub mod ModestCalls
 pub mod Names
 pub mod OneLargeCalls
+pub mod Orders
 pub mod PlannedCalls
 pub mod Refits
 pub mod Reserves

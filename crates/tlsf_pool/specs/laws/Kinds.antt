@@ -1,5 +1,5 @@
 -- How large a region must be for several kinds of request.
-use Rattle.std.specs.Prelude.{◌≡◌, ℕ, ◌+◌, ◌*◌, ◌-◌, ◌≤◌, List, [], ◌∷◌, Ok, Bool, IsTrue, length, map, filter, fold, max, nat_le, nat_lt, not, if◌then◌else◌, ⊤}
+use Rattle.std.specs.Prelude.{◌≡◌, ℕ, ◌+◌, ◌*◌, ◌-◌, ◌≤◌, List, [], ◌∷◌, ◌++◌, Ok, Bool, IsTrue, length, map, filter, fold, max, nat_le, nat_lt, not, if◌then◌else◌, ⊤}
 use Rattle.std.specs.List.{AllByRecursion, list_all}
 use Rattle.tlsf_class.specs.Classes.{most_words}
 use Rattle.tlsf_heap.specs.Blocks.{want}
@@ -111,6 +111,10 @@ ResizedSuffice sli = (id words first : ℕ) (kinds : List Kind) (calls : List Ca
 -- a kind of which no block is held asks for no words
 abbrev pub EmptyKindsAreNothing : ℕ → Type 0
 EmptyKindsAreNothing sli = (kinds : List Kind) → kinds_words sli kinds ≡ kinds_words sli (used kinds)
+
+-- neighbouring kinds may change places, so the words don't tell the order of a table
+abbrev pub OrderIsNothing : ℕ → Type 0
+OrderIsNothing sli = (before : List Kind) (a b : Kind) (behind : List Kind) → kinds_words sli (before ++ a ∷ (b ∷ behind)) ≡ kinds_words sli (before ++ b ∷ (a ∷ behind))
 
 -- a table of one kind asks for the words of mixed sizes up to its length
 abbrev pub OneKindHasMixedWords : ℕ → Type 0

@@ -1,6 +1,6 @@
 -- Several heaps, one for each part of a table.
 use denote.RawPtr.{null_ptr}
-use Rattle.std.specs.Prelude.{◌≡◌, ℕ, ◌+◌, ◌-◌, ◌*◌, ◌/◌, ◌<◌, ◌≤◌, ◌↔◌, Bool, List, [], ◌∷◌, ◌++◌, Option, Some, None, Result, Ok, IfOk, OnErr, OnOk, is_some, IsTrue, length, nat_le, nat_lt, position, replicate, set, slice_index_or, sum, take, ⊤, ◌&&◌, if◌then◌else◌}
+use Rattle.std.specs.Prelude.{◌≡◌, ℕ, ◌+◌, ◌-◌, ◌*◌, ◌/◌, ◌<◌, ◌≤◌, ◌↔◌, Bool, List, [], ◌∷◌, ◌++◌, Option, Some, None, Result, Ok, IfOk, OnErr, OnOk, is_some, IsTrue, length, map, nat_le, nat_lt, position, replicate, set, slice_index_or, sum, take, ⊤, ◌&&◌, if◌then◌else◌}
 use Rattle.std.specs.List.{AllByRecursion}
 use Rattle.std.specs.Result.{result_unwrap_or}
 use Rattle.tlsf_heap.specs.Calls.{opened, read_answer, read_of, released, written}
@@ -10,7 +10,7 @@ use Rattle.tlsf_heap.specs.InPlace.{payload_of}
 use Rattle.tlsf_heap.specs.Laws.{IsLive}
 use Rattle.tlsf_heap.specs.Placed.{placed_at}
 use Rattle.tlsf_heap.specs.Reports.{report_of}
-use Rattle.tlsf_heap.specs.Memory.{Extent}
+use Rattle.tlsf_heap.specs.Memory.{Extent, Extents}
 use Rattle.tlsf_heap.specs.Touched.{FollowsNoForgery, FollowsNoPlace, allocate_words_touches}
 use Rattle.tlsf_heap.specs.declared.name.Name.{Name}
 use Rattle.tlsf_heap.specs.declared.placed_block.PlacedBlock.{PlacedBlock}
@@ -20,12 +20,13 @@ use Rattle.tlsf_heap.specs.ledger.Ledgers.{SameLedger}
 use Rattle.tlsf_pool.specs.laws.FixedSize.{fixed_kinds_words, fixed_size}
 use Rattle.tlsf_pool.specs.declared.kind.Kind.{Kind}
 use Rattle.tlsf_pool.specs.declared.pools.pool_refusal.PoolRefusal.{PoolRefusal}
-use Rattle.tlsf_pool.specs.pools.Tables.{TableState, CountsOneMore, IsTabled, HasPlace, row_of, table_allocated}
+use Rattle.tlsf_pool.specs.pools.Tables.{TableExtents, TableState, CountsOneMore, IsTabled, HasPlace, row_of, table_allocated}
 
--- what several heaps show: the number of the first, and each with its part of the table
+-- what several heaps show: the number of the first, each with its part of the table, and the memory of the vector that has them
 pub record PoolsState : Type 0 where
   pub id : ℕ
   pub parts : List TableState
+  pub extent : Extent
 
 -- no memory
 abbrev pub no_memory : Extent
@@ -33,7 +34,7 @@ no_memory = record { address = null_ptr; capacity = 0 }
 
 -- no heap
 abbrev pub no_part : TableState
-no_part = record { heap = record { id = 0; words = 0; tick = 0; blocks = [] }; ledger = record { kinds = []; held = [] }; extents = record { words = no_memory; starts = no_memory }; touches = 0; touched = [] }
+no_part = record { heap = record { id = 0; words = 0; tick = 0; blocks = [] }; ledger = record { kinds = []; held = []; extents = record { kinds = no_memory; held = no_memory } }; extents = record { words = no_memory; starts = no_memory }; touches = 0; touched = [] }
 
 abbrev pub part_at : PoolsState → ℕ → TableState
 part_at p i = slice_index_or p.parts i no_part
@@ -95,6 +96,15 @@ AreNew sli id first [] [] = ⊤
 AreNew sli id first [] (t ∷ parts) = ⊥
 AreNew sli id first (kinds ∷ tables) [] = ⊥
 AreNew sli id first (kinds ∷ tables) (t ∷ parts) = IsNew sli id first kinds t × AreNew sli (id + 1) first tables parts
+
+-- the memory of a heap, and that of its table
+abbrev pub memory_of : TableState → Extents × TableExtents
+memory_of t = (t.extents, t.ledger.extents)
+
+-- no memory is taken or given back: that of each heap and each table stays where it is and as large, and that of the vector of them
+pub record Stay (old new : PoolsState) : Type 0 where
+  pub parts : map memory_of new.parts ≡ map memory_of old.parts
+  pub extent : new.extent ≡ old.extent
 
 -- the others are as they were
 pub record OnlyPart (old new : PoolsState) (i : ℕ) : Type 0 where

@@ -6,6 +6,7 @@ use Rattle.tlsf_heap.specs.Blocks.{Block, HeapState, bytes_of}
 use Rattle.tlsf_heap.specs.Calls.{Outcome, allocated_words, last_tick}
 use Rattle.tlsf_heap.specs.Given.{payload_words_given}
 use Rattle.tlsf_heap.specs.Lawful.{IsLawful}
+use Rattle.tlsf_heap.specs.Memory.{Extent}
 use Rattle.tlsf_heap.specs.Reports.{live_among}
 use Rattle.tlsf_heap.specs.declared.name.Name.{Name}
 use Rattle.tlsf_heap.specs.declared.refusal.Refusal.{Refusal}
@@ -18,6 +19,7 @@ use Rattle.tlsf_pool.specs.declared.pools.pool_refusal.PoolRefusal.TheVariants.{
 use Rattle.tlsf_pool.specs.laws.FixedSize.{HasFixedSize, fixed_kinds_words, fixed_size}
 use Rattle.tlsf_pool.specs.laws.Kinds.{AreOfKinds, HasClass}
 use Rattle.tlsf_pool.specs.pools.Bounds.{or_worn}
+use Rattle.tlsf_pool.specs.sizes.Rising.{len_at}
 
 -- the bytes of each live block
 abbrev pub lengths_in : List Block → List ℕ
@@ -26,6 +28,10 @@ lengths_in blocks = map (λ block. length (bytes_of block)) (live_among blocks)
 -- the row of a table for which a length counts: the first that is long enough for it; None where none is
 abbrev pub row_of : List Kind → ℕ → Option ℕ
 row_of kinds len = position (λ kind. nat_le len kind.len) kinds
+
+-- a request of each row's own length counts for it
+abbrev pub AreAllReached : List Kind → Type 0
+AreAllReached kinds = (row : ℕ) → row < length kinds → row_of kinds (len_at kinds row) ≡ Some row
 
 -- how many of these lengths count for each row
 abbrev pub held_of : List Kind → List ℕ → List ℕ
@@ -36,10 +42,21 @@ held_of (kind ∷ kinds) lens = length (filter (λ n. nat_le n kind.len) lens) �
 abbrev pub most_at : List Kind → ℕ → ℕ
 most_at kinds row = (slice_index_or kinds row (record { most = 0; len = 0 })).most
 
--- what the ledger of a table shows: the table, and how many blocks are held of each row
+-- the memory of both: that of the rows, and that of the counts
+pub record TableExtents : Type 0 where
+  pub kinds : Extent
+  pub held : Extent
+
+-- what the ledger of a table shows: the table, how many blocks are held of each row, and the memory of both
 pub record TableRows : Type 0 where
   pub kinds : List Kind
   pub held : List ℕ
+  pub extents : TableExtents
+
+-- the same table, and no memory is taken for it or given back: both vectors stay where they are, and as large
+pub record SameTable (old new : TableRows) : Type 0 where
+  pub kinds : new.kinds ≡ old.kinds
+  pub stays : new.extents ≡ old.extents
 
 -- what a heap for a table shows
 abbrev pub TableState : Type 0

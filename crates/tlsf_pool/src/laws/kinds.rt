@@ -1,6 +1,6 @@
 ghost use Rattle.std.specs.Prelude.{ℕ};
 ghost use Rattle.tlsf_class.specs.Classes.{IsLevel};
-ghost use Rattle.tlsf_pool.specs.laws.Kinds.{EmptyKindsAreNothing, KindsSuffice, LedgerHoldsWhatIsLive, OneKindHasMixedWords, ResizedSuffice};
+ghost use Rattle.tlsf_pool.specs.laws.Kinds.{EmptyKindsAreNothing, KindsSuffice, LedgerHoldsWhatIsLive, OneKindHasMixedWords, OrderIsNothing, ResizedSuffice};
 
 /// How large a region must be for several kinds of request, by a table of sizes with how many blocks of each may be held.
 ///
@@ -20,8 +20,13 @@ pub fn kinds_suffice()
     ensures room { (sli : ℕ) → IsLevel sli → KindsSuffice sli }
     ensures resized { (sli : ℕ) → IsLevel sli → ResizedSuffice sli }
 
-    // Kinds of which no block is held don't count. A table of one kind has the words for mixed sizes.
+    // Kinds of which no block is held don't count.
     ensures empty { (sli : ℕ) → EmptyKindsAreNothing sli }
+
+    // The order of the table doesn't matter.
+    ensures order { (sli : ℕ) → OrderIsNothing sli }
+
+    // A table of one kind has the words for mixed sizes.
     ensures one { (sli : ℕ) → OneKindHasMixedWords sli }
 
     // The ledger has as many entries as blocks are live.

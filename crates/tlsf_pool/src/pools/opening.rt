@@ -2,6 +2,7 @@ ghost use Rattle.std.specs.Prelude.{◌≡◌, ◌≤◌, ◌+◌, ◌^◌, leng
 ghost use Rattle.std.specs.List.{AllByRecursion};
 ghost use Rattle.tlsf_class.specs.Classes.{IsLevel};
 ghost use Rattle.tlsf_heap.specs.Calls.{last_tick};
+ghost use Rattle.tlsf_pool.specs.sizes.Rising.{Rises};
 ghost use Rattle.tlsf_pool.specs.sizes.Splits.{IsPart, parts_of};
 ghost use Rattle.tlsf_pool.specs.pools.Tables.{IsTabled};
 ghost use Rattle.tlsf_pool.specs.pools.Parts.{AreNew};
@@ -25,6 +26,7 @@ pub(crate) fn open_parts<const SLI: u32>(
     requires numbers { id + 8 ≤ 2 ^ 32 }
     requires heaps { split.now.heaps ≤ 8 }
     requires parts { AllByRecursion (IsPart SLI) (parts_of split.now kinds.now) }
+    requires rise { AllByRecursion Rises (parts_of split.now kinds.now) }
     requires fresh { ¬ (first ≡ last_tick) }
     ensures new { IfOk result (λ parts. AreNew SLI id first (parts_of split.now kinds.now) parts.items) }
     ensures tables { IfOk result (λ parts. AllByRecursion (IsTabled SLI) parts.items) }

@@ -1,11 +1,12 @@
 ghost use Rattle.std.specs.Prelude.{◌≡◌, ◌≢◌, ◌+◌, ◌<◌, ◌≤◌, ◌^◌, ◌↔◌, Err, None, length, IfOk, IfSome, IsSomeAnd, OnOk, IsOk, IsErrOf};
 ghost use Rattle.tlsf_class.specs.Classes.{IsLevel};
 ghost use Rattle.tlsf_heap.specs.Calls.{last_tick};
-ghost use Rattle.tlsf_pool.specs.sizes.Splits.{HasNoCut, IsLeast, parts_of};
+ghost use Rattle.tlsf_pool.specs.sizes.Rising.{HasNoHeaps};
+ghost use Rattle.tlsf_pool.specs.sizes.Splits.{IsLeast, parts_of};
 ghost use Rattle.tlsf_pool.specs.declared.sizes.split.Split.{Split};
-ghost use Rattle.tlsf_pool.specs.pools.Tables.{HasPlace, HoldsOneMore, IsFull, row_of, table_allocated};
+ghost use Rattle.tlsf_pool.specs.pools.Tables.{AreAllReached, HasPlace, HoldsOneMore, IsFull, row_of, table_allocated};
 ghost use Rattle.tlsf_pool.specs.pools.Parts as cut;
-ghost use Rattle.tlsf_pool.specs.pools.Parts.{Allocates, AreNew, ArePools, HasRow, Looks, OnlyPart, Reads, Releases, Reports, Writes, held_by, part_at, table_of};
+ghost use Rattle.tlsf_pool.specs.pools.Parts.{Allocates, AreNew, ArePools, HasRow, Looks, OnlyPart, Reads, Releases, Reports, Stay, Writes, held_by, part_at, table_of};
 
 mod live;
 
@@ -13,7 +14,7 @@ use crate::kind::Kind;
 use crate::pools::opening::open_parts;
 use crate::pools::pool_refusal::PoolRefusal;
 use crate::pools::table::TablePool;
-use crate::sizes::split::{MOST_HEAPS, cheapest_split};
+use crate::sizes::split::{MOST_HEAPS, rising_split};
 use std::alloc::Global;
 use std::marker::Model;
 use tlsf_heap::{Name, OpenFault, PlacedBlock, Refusal, Report};
@@ -21,7 +22,7 @@ use tlsf_heap::{Name, OpenFault, PlacedBlock, Refusal, Report};
 /// Several heaps for one table, that never refuse for want of room: each has a part of the table, as the cheapest way to cut it gives
 /// them out. A request goes to the heap of the first part that has a row long enough for it.
 ///
-/// Contracts see it as the number of its first heap, and the heaps with their parts of the table.
+/// Contracts see it as the number of its first heap, the heaps with their parts of the table, and the memory of the vector of these.
 #[derive(Drop)]
 pub struct Pools<const SLI: u32> {
     id: u32,
@@ -33,9 +34,9 @@ impl<const SLI: u32> Model for Pools<SLI> {
 
     ghost Value = { PoolsState };
 
-    ghost view = { λ p. record { id = p.id; parts = p.parts.items } };
+    ghost view = { λ p. record { id = p.id; parts = p.parts.items; extent = record { address = p.parts.ptr; capacity = p.parts.cap } } };
 
-    ghost invariant = { λ p. ArePools SLI (record { id = p.id; parts = p.parts.items }) };
+    ghost invariant = { λ p. ArePools SLI (record { id = p.id; parts = p.parts.items; extent = record { address = p.parts.ptr; capacity = p.parts.cap } }) };
 }
 
 // The first part that has a row long enough.
@@ -59,12 +60,13 @@ fn part_named<const SLI: u32>(parts: &[TablePool<SLI>], id: u32, name: Name) -> 
 }
 
 impl<const SLI: u32> Pools<SLI> {
-    /// Opens a heap for each part of the cheapest way to cut a table of at most 64 kinds, in its order, into at most eight. The first
-    /// has the number `id`, and the others those behind it; each is one free block, stamped with the tick `first`.
+    /// Opens a heap for each part of the cheapest way to cut a table of at most 64 kinds, in its order, into at most eight. Its rows
+    /// rise in `len`. The first heap has the number `id`, and the others those behind it; each is one free block, stamped with the
+    /// tick `first`.
     ///
-    /// Refused as `BadSize` where no way to cut the table gives each heap a region, else as `Worn` where `first` is the last tick,
-    /// 2^64 - 1, even for an empty table, which has no heap, else as `NoMemory` where the memory was not granted. No later call takes
-    /// memory.
+    /// Refused as `BadSize` where a row is no longer than the one before it or no way to cut the table gives each heap a region, else
+    /// as `Worn` where `first` is the last tick, 2^64 - 1, even for an empty table, which has no heap, else as `NoMemory` where the
+    /// memory was not granted. [`falling_row`](crate::falling_row) names the row. No later call takes memory.
     ///
     /// ```text
     /// let kinds = [Kind { most: 2000, len: 64 }, Kind { most: 1, len: 65_536 }];
@@ -80,11 +82,14 @@ impl<const SLI: u32> Pools<SLI> {
         ensures id { IfOk result (λ pools. pools.id ≡ id) }
         ensures table { IfOk result (λ pools. table_of pools ≡ kinds.now) }
 
+        // Requests count for each row, so each heap has some.
+        ensures reached { IfOk result (λ pools. AreAllReached (table_of pools)) }
+
         // The refusals.
-        ensures bad_size { IsErrOf result OpenFault.BadSize ↔ HasNoCut SLI 8 kinds.now }
-        ensures worn { ¬ (HasNoCut SLI 8 kinds.now) → (IsErrOf result OpenFault.Worn ↔ (first ≡ last_tick)) }
+        ensures bad_size { IsErrOf result OpenFault.BadSize ↔ HasNoHeaps SLI 8 kinds.now }
+        ensures worn { ¬ (HasNoHeaps SLI 8 kinds.now) → (IsErrOf result OpenFault.Worn ↔ (first ≡ last_tick)) }
     {
-        let Some(split) = cheapest_split::<SLI>(kinds, MOST_HEAPS) else {
+        let Some(split) = rising_split::<SLI>(kinds, MOST_HEAPS) else {
             return Err(OpenFault::BadSize);
         };
         if first == u64::MAX {
@@ -122,6 +127,7 @@ impl<const SLI: u32> Pools<SLI> {
         ensures row { IfOk result (λ name. IsSomeAnd (row_of (table_of self.old) len) (λ row. IsSomeAnd (cut.part_named self.old name) (HasRow self.old row))) }
         ensures held { OnOk result (HoldsOneMore (table_of self.old) len (held_by self.old) (held_by self.new)) }
         ensures kinds { table_of self.new ≡ table_of self.old }
+        ensures stays { Stay self.old self.new }
         ensures were_pools { ArePools SLI self.old }
         ensures pools { ArePools SLI self.new }
     {
@@ -145,6 +151,7 @@ impl<const SLI: u32> Pools<SLI> {
         ensures others { IfSome (cut.part_named self.old name) (OnlyPart self.old self.new) }
         ensures foreign { cut.part_named self.old name ≡ None → (result ≡ Err Refusal.Foreign) × (self.new ≡ self.old) }
         ensures kinds { table_of self.new ≡ table_of self.old }
+        ensures stays { Stay self.old self.new }
         ensures were_pools { ArePools SLI self.old }
         ensures pools { ArePools SLI self.new }
     {
@@ -167,6 +174,7 @@ impl<const SLI: u32> Pools<SLI> {
         ensures others { IfSome (cut.part_named self.old name) (OnlyPart self.old self.new) }
         ensures foreign { cut.part_named self.old name ≡ None → (result ≡ Err Refusal.Foreign) × (self.new ≡ self.old) }
         ensures kinds { table_of self.new ≡ table_of self.old }
+        ensures stays { Stay self.old self.new }
         ensures were_pools { ArePools SLI self.old }
         ensures pools { ArePools SLI self.new }
     {
@@ -191,6 +199,7 @@ impl<const SLI: u32> Pools<SLI> {
         ensures others { IfSome (cut.part_named self.old name) (OnlyPart self.old self.new) }
         ensures foreign { cut.part_named self.old name ≡ None → (result ≡ Err Refusal.Foreign) × (out.new ≡ out.old) × (self.new ≡ self.old) }
         ensures kinds { table_of self.new ≡ table_of self.old }
+        ensures stays { Stay self.old self.new }
         ensures were_pools { ArePools SLI self.old }
         ensures pools { ArePools SLI self.new }
     {
@@ -213,6 +222,7 @@ impl<const SLI: u32> Pools<SLI> {
         ensures others { part < length self.old.parts → OnlyPart self.old self.new part }
         ensures unchanged { length self.old.parts ≤ part → self.new ≡ self.old }
         ensures kinds { table_of self.new ≡ table_of self.old }
+        ensures stays { Stay self.old self.new }
         ensures were_pools { ArePools SLI self.old }
         ensures pools { ArePools SLI self.new }
     {
@@ -234,6 +244,7 @@ impl<const SLI: u32> Pools<SLI> {
         ensures looks { part < length self.old.parts → Looks (part_at self.old part) (part_at self.new part) at result }
         ensures others { part < length self.old.parts → OnlyPart self.old self.new part }
         ensures kinds { table_of self.new ≡ table_of self.old }
+        ensures stays { Stay self.old self.new }
         ensures were_pools { ArePools SLI self.old }
         ensures pools { ArePools SLI self.new }
     {

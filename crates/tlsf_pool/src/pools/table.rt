@@ -3,21 +3,23 @@ ghost use Rattle.tlsf_class.specs.Classes.{IsLevel};
 ghost use Rattle.tlsf_heap.specs.Calls.{opened, last_tick};
 ghost use Rattle.tlsf_heap.specs.InPlace.{payload_of};
 ghost use Rattle.tlsf_pool.specs.laws.FixedSize as law;
+ghost use Rattle.tlsf_pool.specs.sizes.Rising.{Rises};
 ghost use Rattle.tlsf_pool.specs.sizes.Splits.{HasWords};
 ghost use Rattle.tlsf_pool.specs.pools.Tables as tables;
-ghost use Rattle.tlsf_pool.specs.pools.Tables.{CountsOneMore, HasPlace, IsTable, IsTabled, ReportsTable, TableState, TellsTable, answered_by_table, most_at};
+ghost use Rattle.tlsf_pool.specs.pools.Tables.{AreAllReached, CountsOneMore, HasPlace, IsTable, IsTabled, ReportsTable, SameTable, TableState, TellsTable, answered_by_table, most_at};
 
 use crate::kind::Kind;
 use crate::pools::pool_refusal::PoolRefusal;
 use crate::pools::rows::{count_down, count_up, has_place, row_of};
 use crate::sizes::fixed_size::fixed_size;
 use crate::sizes::region::region_words;
+use crate::sizes::rising::falling_row;
 use std::alloc::Global;
 use std::marker::Model;
 use tlsf_heap::{Heap, Ledger, Ledgered, Name, OpenFault, Refusal};
 
 /// The ledger of a [`TablePool`]: a table of kinds, how many words each block takes, and how many are held of each kind. A block counts
-/// for the first row that is long enough for it.
+/// for the first row that is long enough for it. Contracts also see where the table lies and how large it is (`extents`).
 #[derive(Drop)]
 pub struct Table<const SLI: u32> {
     kinds: Vec<Kind>,
@@ -32,7 +34,7 @@ impl<const SLI: u32> Model for Table<SLI> {
 
     ghost Value = { TableRows };
 
-    ghost view = { λ t. record { kinds = t.kinds.items; held = t.held.items } };
+    ghost view = { λ t. record { kinds = t.kinds.items; held = t.held.items; extents = record { kinds = record { address = t.kinds.ptr; capacity = t.kinds.cap }; held = record { address = t.held.ptr; capacity = t.held.cap } } } };
 
     ghost invariant = { λ t. t.size ≡ fixed_size SLI t.kinds.items };
 }
@@ -71,7 +73,7 @@ impl<const SLI: u32> Ledger<SLI> for Table<SLI> {
 
     ghost returned = { λ t len u. CountsOneMore len u t };
 
-    ghost same_limits = { λ t u. u.kinds ≡ t.kinds };
+    ghost same_limits = { λ t u. SameTable t u };
 
     ghost sees = { λ h name len. len ≡ length (payload_of h name) };
 
@@ -116,8 +118,8 @@ impl<const SLI: u32> Ledger<SLI> for Table<SLI> {
 }
 
 /// A heap for a table of kinds, that never refuses for want of room: for each kind it is opened by the most blocks that are held at
-/// once and the longest request ([`TablePoolCalls::open`]). A block counts for the first row of the table that is long enough for it. Its
-/// level is that of its heap, 4 or 5. What is read of the table, 64 rows at most, counts no touch.
+/// once and the longest request ([`TablePoolCalls::open`]). A block counts for the first row of the table that is long enough for it, and
+/// the rows rise in `len`. Its level is that of its heap, 4 or 5. What is read of the table, 64 rows at most, counts no touch.
 ///
 /// An allocate is given whenever there is such a row, fewer blocks of it are held than may be, and the tick isn't at its last value. Else
 /// it is refused as `TooLong`, `Full` or `Worn`, in this order. Each block takes the words of the longest kind of which one may be held,
@@ -129,12 +131,12 @@ pub trait TablePoolCalls<const SLI: u32>: Sized {
     // What contracts see of it.
     ghost shown: { Self → TableState };
 
-    /// Opens a heap of number `id` for a table of at most 64 kinds. Its region has `fixed_kinds_words` of the table, and is one free block,
-    /// stamped with the tick `first`.
+    /// Opens a heap of number `id` for a table of at most 64 kinds, whose rows rise in `len`. Its region has `fixed_kinds_words` of the
+    /// table, and is one free block, stamped with the tick `first`.
     ///
-    /// Refused as `BadSize` where no class has blocks for one of the kinds or no region has so many words (4 to 2^20, or to 2^24 at level
-    /// 5), else as `Worn` where `first` is the last tick, 2^64 - 1, else as `NoMemory` where the memory was not granted. No later call
-    /// takes memory.
+    /// Refused as `BadSize` where a row is no longer than the one before it, where no class has blocks for one of the kinds or no region
+    /// has so many words (4 to 2^20, or to 2^24 at level 5), else as `Worn` where `first` is the last tick, 2^64 - 1, else as `NoMemory`
+    /// where the memory was not granted. [`falling_row`] names the row. No later call takes memory.
     ///
     /// ```text
     /// let kinds = [Kind { most: 100, len: 64 }, Kind { most: 4, len: 4096 }];
@@ -148,9 +150,12 @@ pub trait TablePoolCalls<const SLI: u32>: Sized {
         ensures none { IfOk result (λ pool. (shown pool).ledger.held ≡ replicate (length kinds.now) 0) }
         ensures table { IfOk result (λ pool. IsTabled SLI (shown pool)) }
 
+        // So requests count for each row.
+        ensures reached { IfOk result (λ pool. AreAllReached (shown pool).ledger.kinds) }
+
         // The refusals, in their order. Memory is refused only where no other refusal comes.
-        ensures bad_size { IsErrOf result OpenFault.BadSize ↔ ¬ (HasWords SLI kinds.now) }
-        ensures worn { HasWords SLI kinds.now → (IsErrOf result OpenFault.Worn ↔ (first ≡ last_tick)) }
+        ensures bad_size { IsErrOf result OpenFault.BadSize ↔ ¬ (Rises kinds.now × HasWords SLI kinds.now) }
+        ensures worn { Rises kinds.now → HasWords SLI kinds.now → (IsErrOf result OpenFault.Worn ↔ (first ≡ last_tick)) }
         ensures touches { IfOk result (λ pool. (shown pool).touches ≤ 10) };
 
     /// How many blocks are held of a row of the table: those that count for it. 0 where the table has no such row.
@@ -171,6 +176,9 @@ impl<const SLI: u32> TablePoolCalls<SLI> for TablePool<SLI> {
     ghost shown = { λ pool. pool };
 
     fn open(alloc: Global, id: u32, kinds: &[Kind], first: u64) -> Result<Self, OpenFault> {
+        if falling_row(kinds).is_some() {
+            return Err(OpenFault::BadSize);
+        }
         let Some(words) = region_words::<SLI>(kinds) else {
             return Err(OpenFault::BadSize);
         };

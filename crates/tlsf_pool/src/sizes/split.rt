@@ -2,10 +2,12 @@ ghost use Rattle.std.specs.Prelude.{◌≡◌, ◌≤◌, ◌<◌, ◌+◌, ◌^
 ghost use Rattle.tlsf_class.specs.Classes.{IsLevel};
 ghost use Rattle.tlsf_pool.specs.sizes.Cheapest as found;
 ghost use Rattle.tlsf_pool.specs.sizes.Cheapest.{AreBest, AreSmall, IsBest};
+ghost use Rattle.tlsf_pool.specs.sizes.Rising.{HasNoHeaps, Rises};
 ghost use Rattle.tlsf_pool.specs.sizes.Splits.{HasNoCut, IsLeast};
 
 use crate::kind::Kind;
 use crate::sizes::region::region_words;
+use crate::sizes::rising::falling_row;
 
 /// The most heaps that a split has.
 pub const MOST_HEAPS: usize = 8;
@@ -124,7 +126,8 @@ fn best_in<const SLI: u32>(kinds: &[Kind], row: &mut [Option<Split>], most: usiz
 /// The cheapest way to give the kinds of a table to at most `most` heaps, each a pool: it has the words that
 /// [`fixed_kinds_words`](crate::fixed_kinds_words) tells for its own kinds. The kinds stay in their order, so those of one heap stand
 /// together; a table that begins with short kinds gives short ones to the first heap. The table has at most [`MOST_SPLIT`] kinds,
-/// and there are at most [`MOST_HEAPS`] heaps. None where no way gives each heap a region.
+/// and there are at most [`MOST_HEAPS`] heaps. None where no way gives each heap a region. Rows may be in any order here; [`rising_split`]
+/// splits a table whose heaps are all within the reach of requests.
 ///
 /// ```
 /// let kinds = [Kind { most: 2000, len: 64 }, Kind { most: 1, len: 65_536 }];
@@ -141,4 +144,25 @@ pub fn cheapest_split<const SLI: u32>(kinds: &[Kind], most: usize) -> Option<Spl
 {
     let mut cells = [None; MOST_SPLIT + 1];
     best_in::<SLI>(kinds, &mut cells[..kinds.len() + 1], most)
+}
+
+/// The split that [`cheapest_split`] finds for a table whose rows rise in `len`; None also where they don't, as [`falling_row`] tells. A
+/// request goes to the first heap that has a row long enough for it, so each heap of this split serves requests that none before it does.
+///
+/// ```
+/// let kinds = [Kind { most: 10, len: 100 }, Kind { most: 10, len: 50 }];
+/// let none = rising_split::<4>(&kinds, 8);        // None
+/// ```
+pub fn rising_split<const SLI: u32>(kinds: &[Kind], most: usize) -> Option<Split>
+    requires level { IsLevel SLI }
+    requires few { length kinds.now ≤ 64 }
+    requires heaps { most ≤ 8 }
+    ensures least { IfSome result (IsLeast SLI most kinds.now) }
+    ensures rises { IfSome result (λ split. Rises kinds.now) }
+    ensures none { result ≡ None → HasNoHeaps SLI most kinds.now }
+{
+    if falling_row(kinds).is_some() {
+        return None;
+    }
+    cheapest_split::<SLI>(kinds, most)
 }

@@ -4,8 +4,9 @@ use crate::{name, same};
 use std::process::Abort;
 use tlsf_heap::{Name, OpenFault, Refusal};
 use tlsf_pool::{
-    Kind, Pool, PoolCalls, PoolRefusal, cheapest_split, fixed_kinds_words, fixed_region,
-    kinds_words, longest_request, mixed_region, most_blocks, most_bytes,
+    Kind, Pool, PoolCalls, PoolRefusal, cheapest_split, falling_row, fixed_kinds_words,
+    fixed_region, kinds_words, longest_request, mixed_region, most_blocks, most_bytes,
+    rising_split,
 };
 
 /// The most bytes of a request that some region of level 4 serves.
@@ -119,9 +120,18 @@ fn words_of_tables(rt: HostRuntime) {
         cheapest_split::<4>(&[SMALL, LARGE], 1).map(|split| split.words),
         cheapest_split::<4>(&[SMALL, UNREACHED], 8).map(|split| split.words),
         cheapest_split::<4>(&[SMALL], 0).map(|split| split.words),
+        rising_split::<4>(&[LARGE, SMALL], 8).map(|split| split.words),
+        rising_split::<4>(&[SMALL, LARGE], 8).map(|split| split.words),
     ];
-    let wanted = [Some(3_276), Some(56_576), None, None];
+    let wanted = [Some(3_276), Some(56_576), None, None, None, Some(3_276)];
     same(found, wanted).expect(&rt, "differ");
+    let rows = [
+        falling_row(&[]),
+        falling_row(&[SMALL, LARGE, NONE]),
+        falling_row(&[LARGE, SMALL, TINY]),
+        falling_row(&[TINY, SMALL, SMALL]),
+    ];
+    same(rows, [None, None, Some(1), Some(2)]).expect(&rt, "differ");
 }
 
 #[test]

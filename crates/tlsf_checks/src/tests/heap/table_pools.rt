@@ -109,7 +109,8 @@ fn table_is_filled_and_emptied(rt: HostRuntime) {
     check_table(&rt, rt.alloc(), u64::MAX - 2, WORN, [1, 0, 0, 1]);
 }
 
-// A table of 2,000 short blocks and a long one has a heap for each: in one they would need more words than any region has.
+// A table of 2,000 short blocks and a long one has a heap for each: in one they would need more words than any region has. No request
+// would count for a row that is no longer than the one before it, so such a table is refused.
 #[test]
 fn tables_open_by_their_words(rt: HostRuntime) {
     const MOST: Kind = Kind {
@@ -121,7 +122,9 @@ fn tables_open_by_their_words(rt: HostRuntime) {
         len: 4096,
     };
     for (kinds, first, wanted) in [
-        ([MOST, SHORT], 0, Some(OpenFault::BadSize)),
+        ([SHORT, MOST], 0, Some(OpenFault::BadSize)),
+        ([LONG, SHORT], u64::MAX, Some(OpenFault::BadSize)),
+        ([SHORT, SHORT], 0, Some(OpenFault::BadSize)),
         ([SHORT, LONG], u64::MAX, Some(OpenFault::Worn)),
         ([SHORT, LONG], u64::MAX - 1, None),
         ([MANY, LARGE], 0, Some(OpenFault::BadSize)),
@@ -131,6 +134,8 @@ fn tables_open_by_their_words(rt: HostRuntime) {
     }
     for (kinds, first, wanted) in [
         ([MANY, UNREACHED], 0, Some(OpenFault::BadSize)),
+        ([LARGE, MANY], u64::MAX, Some(OpenFault::BadSize)),
+        ([MANY, MANY], 0, Some(OpenFault::BadSize)),
         ([MANY, LARGE], u64::MAX, Some(OpenFault::Worn)),
         ([MANY, LARGE], u64::MAX - 1, None),
     ] {

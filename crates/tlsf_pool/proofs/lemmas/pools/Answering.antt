@@ -120,7 +120,7 @@ module _ (sli : ℕ) (h : HeapState) (t : TableRows) (is : IsTable sli h t) wher
 
   -- an allocate in a row where fewer are held than may be leaves a table
   pub given_at : (row len : ℕ) (name : Name) (held : List ℕ) → row_of t.kinds len ≡ Some row → slice_index t.held row < most_at t.kinds row
-      → held ≡ set t.held row (slice_index t.held row + 1) → Ok name ≡ (table_allocated sli h t len).answer → IsTable sli (table_allocated sli h t len).heap (record { kinds = t.kinds; held = held })
+      → held ≡ set t.held row (slice_index t.held row + 1) → Ok name ≡ (table_allocated sli h t len).answer → IsTable sli (table_allocated sli h t len).heap (record { kinds = t.kinds; held = held; extents = t.extents })
   given_at row len name held found few counts answer =
       given_table sli h t is len name held (planned len (of_some (λ (row : ℕ). slice_index t.held row < most_at t.kinds row) (row_of t.kinds len) row found few))
       (subst (λ (r : ℕ). held ≡ set t.held r (slice_index t.held r + 1)) (row_is t.kinds len row found).0 counts) answer
@@ -140,7 +140,7 @@ module _ (sli : ℕ) (h : HeapState) (t : TableRows) (is : IsTable sli h t) wher
 
   -- after one fewer is held of that row it is a table
   pub taken_at : (name : Name) (len : ℕ) (held : List ℕ) → len ≡ length (payload_of h name) → HoldsOneMore t.kinds len held t.held → Ok tt ≡ (released h name).answer
-      → IsTable sli (released h name).heap (record { kinds = t.kinds; held = held })
+      → IsTable sli (released h name).heap (record { kinds = t.kinds; held = held; extents = t.extents })
   taken_at name len held same holds answer =
       let rest : List ℕ = lengths_in (released h name).heap.blocks in
       let n : ℕ = length (payload_of h name) in

@@ -52,15 +52,15 @@ pub is_part : (p : PoolsState) (i : ℕ) (t : TableState) → i < length p.parts
 is_part p i t within is = is ∙ any_else p.parts i t no_part within
 
 -- and then the one that was put there
-pub new_part : (id i : ℕ) (parts : List TableState) (t : TableState) → i < length parts → t ≡ part_at (record { id = id; parts = set parts i t }) i
-new_part id i parts t within = sym (at_set parts i t no_part within)
+pub new_part : (p : PoolsState) (i : ℕ) (t : TableState) → i < length p.parts → t ≡ part_at (record { id = p.id; parts = set p.parts i t; extent = p.extent }) i
+new_part p i t within = sym (at_set p.parts i t no_part within)
 
 -- the others are as they were
-pub only_part : (p : PoolsState) (i : ℕ) (t : TableState) → i < length p.parts → OnlyPart p (record { id = p.id; parts = set p.parts i t }) i
-only_part p i t within = record { id = refl; parts = ap (λ (x : TableState). set p.parts i x) (new_part p.id i p.parts t within) }
+pub only_part : (p : PoolsState) (i : ℕ) (t : TableState) → i < length p.parts → OnlyPart p (record { id = p.id; parts = set p.parts i t; extent = p.extent }) i
+only_part p i t within = record { id = refl; parts = ap (λ (x : TableState). set p.parts i x) (new_part p i t within) }
 
 -- so all are heaps for their tables, as before
-pub kept : (sli : ℕ) (p : PoolsState) (i : ℕ) (t : TableState) → ArePools sli p → IsTabled sli t → t.heap.id ≡ (part_at p i).heap.id → ArePools sli (record { id = p.id; parts = set p.parts i t })
+pub kept : (sli : ℕ) (p : PoolsState) (i : ℕ) (t : TableState) → ArePools sli p → IsTabled sli t → t.heap.id ≡ (part_at p i).heap.id → ArePools sli (record { id = p.id; parts = set p.parts i t; extent = p.extent })
 kept sli p i t are is same = record {
   tables = all_set (IsTabled sli) p.parts i t are.tables is;
   numbers = λ j within. number_set p.parts i j t no_part same ∙ are.numbers j (subst (λ (n : ℕ). j < n) (length_set p.parts i t) within);
@@ -128,7 +128,7 @@ not_none o i is = λ e. cc
 -- what one heap was and became is what the part of that number was and became
 module _ (p : PoolsState) (part : ℕ) (old new : TableState) (o : Option ℕ) (found : o ≡ Some part) (within : part < length p.parts) (is : old ≡ get_or p.parts part old) where
   abbrev left : PoolsState
-  left = record { id = p.id; parts = set p.parts part new }
+  left = record { id = p.id; parts = set p.parts part new; extent = p.extent }
 
   pub lift_iff : {A : Type 0} (P : TableState → Type 0) → A ↔ P old → A ↔ IsSomeAnd o (λ i. P (part_at p i))
   lift_iff {A} P both = iff_part (λ i. P (part_at p i)) o part found (subst (λ (t : TableState). A ↔ P t) (is_part p part old within is) both)
@@ -136,7 +136,7 @@ module _ (p : PoolsState) (part : ℕ) (old new : TableState) (o : Option ℕ) (
   pub lift_both : (R : TableState → TableState → Type 0) → R old new → IfSome o (λ i. R (part_at p i) (part_at left i))
   lift_both R here =
       if_part (λ i. R (part_at p i) (part_at left i)) o part found
-      (subst (λ (t : TableState). R (part_at p part) t) (new_part p.id part p.parts new within) (subst (λ (t : TableState). R t new) (is_part p part old within is) here))
+      (subst (λ (t : TableState). R (part_at p part) t) (new_part p part new within) (subst (λ (t : TableState). R t new) (is_part p part old within is) here))
 
   pub lift_kept : (sli : ℕ) → ArePools sli p → IsTabled sli new → new.heap.id ≡ old.heap.id → ArePools sli left
   lift_kept sli are table same = kept sli p part new are table (same ∙ ap (λ (t : TableState). t.heap.id) (is_part p part old within is))

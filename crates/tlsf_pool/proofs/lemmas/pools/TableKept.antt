@@ -19,7 +19,7 @@ use Rattle.tlsf_pool.specs.declared.kind.Kind.{Kind}
 use Rattle.tlsf_pool.proofs.lemmas.laws.FixedCalls.{kept}
 use Rattle.tlsf_pool.proofs.lemmas.laws.FixedSize.{new_fixed}
 use Rattle.tlsf_pool.proofs.lemmas.laws.Loads.{load_given_words, load_taken, load_written}
-use Rattle.tlsf_pool.specs.pools.Tables.{IsTable, TableRows, held_of, lengths_in, table_allocated}
+use Rattle.tlsf_pool.specs.pools.Tables.{IsTable, TableExtents, TableRows, held_of, lengths_in, table_allocated}
 use Rattle.tlsf_pool.proofs.lemmas.pools.Counts.{SameTotals, same_fit, same_held, held_none, fit_none, fit_less, held_more, place}
 use Rattle.tlsf_pool.proofs.lemmas.pools.Served.{enough, in_table, lengths_load, longest_used, modest}
 
@@ -48,10 +48,10 @@ written_lengths h name at bytes = by_written (λ o. SameTotals (lengths_in h.blo
 
 -- ---- a new table
 
-pub new_table : (sli id first : ℕ) (kinds : List Kind) (held : List ℕ) (h : HeapState) → IsLevel sli → AllByRecursion (HasClass sli) kinds → length kinds ≤ 64 → held ≡ replicate (length kinds) 0
-    → IsLawful h → h ≡ opened id (fixed_kinds_words sli kinds) first → IsTable sli h (record { kinds = kinds; held = held })
-new_table sli id first kinds held h level classes few none lawful is =
-    subst (λ (x : HeapState). IsLawful x → IsTable sli x (record { kinds = kinds; held = held })) (sym is) (λ lawful. record {
+pub new_table : (sli id first : ℕ) (kinds : List Kind) (held : List ℕ) (extents : TableExtents) (h : HeapState) → IsLevel sli → AllByRecursion (HasClass sli) kinds → length kinds ≤ 64 → held ≡ replicate (length kinds) 0
+    → IsLawful h → h ≡ opened id (fixed_kinds_words sli kinds) first → IsTable sli h (record { kinds = kinds; held = held; extents = extents })
+new_table sli id first kinds held extents h level classes few none lawful is =
+    subst (λ (x : HeapState). IsLawful x → IsTable sli x (record { kinds = kinds; held = held; extents = extents })) (sym is) (λ lawful. record {
       level = level;
       lawful = lawful;
       words = refl;
@@ -66,7 +66,7 @@ module _ (sli : ℕ) (h : HeapState) (t : TableRows) (is : IsTable sli h t) wher
   -- after a call that leaves lengths which fit the table
   after : (call : Call) (held : List ℕ) → IsModest (count_in t.kinds) (longest_of (used t.kinds)) (live_count h) call
       → AreOfKinds t.kinds (lengths_in (answered_fixed sli (fixed_size sli t.kinds) h call).1.blocks) → held ≡ held_of t.kinds (lengths_in (answered_fixed sli (fixed_size sli t.kinds) h call).1.blocks)
-      → IsTable sli (answered_fixed sli (fixed_size sli t.kinds) h call).1 (record { kinds = t.kinds; held = held })
+      → IsTable sli (answered_fixed sli (fixed_size sli t.kinds) h call).1 (record { kinds = t.kinds; held = held; extents = t.extents })
   after call held modestly fit counts =
       let left = kept sli is.level h.words (count_in t.kinds) (longest_of (used t.kinds)) (longest_used sli is.level t.kinds is.classes) (enough sli h t is) h call (in_table sli h t is) modestly in record {
         level = is.level;
@@ -81,7 +81,7 @@ module _ (sli : ℕ) (h : HeapState) (t : TableRows) (is : IsTable sli h t) wher
 
   -- after an allocate that gave a name
   pub given_table : (n : ℕ) (name : Name) (held : List ℕ) → AreOfKinds t.kinds (n ∷ lengths_in h.blocks) → held ≡ set t.held (place t.kinds n) (get_or t.held (place t.kinds n) 0 + 1)
-      → Ok name ≡ (table_allocated sli h t n).answer → IsTable sli (table_allocated sli h t n).heap (record { kinds = t.kinds; held = held })
+      → Ok name ≡ (table_allocated sli h t n).answer → IsTable sli (table_allocated sli h t n).heap (record { kinds = t.kinds; held = held; extents = t.extents })
   given_table n name held fit counts answer =
       let totals = given_lengths sli (fixed_size sli t.kinds) h n name answer in
       let left : List ℕ = lengths_in (table_allocated sli h t n).heap.blocks in
@@ -95,7 +95,7 @@ module _ (sli : ℕ) (h : HeapState) (t : TableRows) (is : IsTable sli h t) wher
 
   -- after a release that was done
   pub taken_table : (name : Name) (held : List ℕ) → Ok tt ≡ (released h name).answer → held ≡ held_of t.kinds (lengths_in (released h name).heap.blocks)
-      → IsTable sli (released h name).heap (record { kinds = t.kinds; held = held })
+      → IsTable sli (released h name).heap (record { kinds = t.kinds; held = held; extents = t.extents })
   taken_table name held answer counts =
       after (Release name) held tt (fit_less t.kinds (length (payload_of h name)) (lengths_in (released h name).heap.blocks) (taken_fit name answer)).0 counts
 

@@ -1,8 +1,8 @@
 -- The rows of the whole table, which the parts have one part behind the other.
-use Rattle.std.proofs.Common.{◌≡◌, ◌≢◌, ℕ, zero, suc, ◌+◌, ◌-◌, ◌<◌, ◌≤◌, ◌↔◌, ◌&&◌, Bool, true, false, cond, List, [], ◌∷◌, ◌++◌, length, take, get_or, set, nat_le, nat_lt, Option, Some, None, Result, Ok, Err, refl, sym, ap, ◌∙◌, subst, inl, inr, arith, length-append}
+use Rattle.std.proofs.Common.{◌≡◌, ◌≢◌, ℕ, zero, suc, ◌+◌, ◌-◌, ◌<◌, ◌≤◌, ◌↔◌, ◌&&◌, Bool, true, false, cond, List, [], ◌∷◌, ◌++◌, length, take, get_or, set, nat_le, nat_lt, Option, Some, None, Result, Ok, Err, map, refl, sym, ap, ap₂, ◌∙◌, subst, inl, inr, arith, length-append}
 use Rattle.std.specs.List.{AllByRecursion, position_or_len}
 use Rattle.std.specs.Prelude.{IfOk, IsSomeAnd, OnOk, is_some}
-use Rattle.std.proofs.lemmas.Bool.{cases_lt, false≢true, le-leb, le-ltb, lt-ltb}
+use Rattle.std.proofs.lemmas.Bool.{cases_lt, false≢true, le-leb, le-ltb, lt-leb, lt-ltb}
 use Rattle.std.proofs.lemmas.Bool.Decides.{nat_tests}
 use Rattle.std.proofs.lemmas.List.{get_or_append_left, get_or-append-add, set-append_left, set-append_right}
 use Rattle.std.proofs.lemmas.List.Quantifiers.{position-Some}
@@ -10,17 +10,20 @@ use Rattle.std.proofs.lemmas.List.Sums.{fails_before_first, position_or_len_is}
 use Rattle.tlsf_heap.specs.Blocks.{HeapState}
 use Rattle.tlsf_heap.specs.Calls.{allocated_words}
 use Rattle.tlsf_heap.specs.GoodFit.{place_of}
+use Rattle.tlsf_heap.specs.Memory.{Extents}
 use Rattle.tlsf_heap.specs.declared.name.Name.{Name}
 use Rattle.tlsf_heap.proofs.lemmas.calls.Outcomes.{by_allocated_words}
 use Rattle.tlsf_pool.specs.declared.kind.Kind.{Kind}
+use Rattle.tlsf_pool.specs.sizes.Rising.{Rises, len_at}
 use Rattle.tlsf_pool.specs.sizes.Splits.{joined}
 use Rattle.tlsf_pool.specs.declared.pools.pool_refusal.PoolRefusal.{PoolRefusal}
-use Rattle.tlsf_pool.specs.pools.Tables.{CountsOneMore, HoldsOneMore, IsTabled, TableState, lengths_in, row_of, table_allocated}
+use Rattle.tlsf_pool.specs.pools.Tables.{AreAllReached, CountsOneMore, HoldsOneMore, IsTabled, TableExtents, TableState, lengths_in, row_of, table_allocated}
 use Rattle.tlsf_pool.specs.laws.FixedSize.{fixed_size}
-use Rattle.tlsf_pool.specs.pools.Parts.{AreNew, ArePools, HasRow, PoolsState, held_by, held_in, named_in, no_part, part_at, part_in, part_named, part_of, rows_before, rows_in, table_of}
+use Rattle.tlsf_pool.specs.pools.Parts.{AreNew, ArePools, HasRow, PoolsState, Stay, held_by, held_in, memory_of, named_in, no_part, part_at, part_in, part_named, part_of, rows_before, rows_in, table_of}
 use Rattle.tlsf_pool.proofs.lemmas.pools.Answering.{of_some, some_of}
 use Rattle.tlsf_pool.proofs.lemmas.pools.Counts.{held_length, next_row, place, row_is, this_row}
 use Rattle.tlsf_pool.proofs.lemmas.pools.Heaps.{is_part, part_has}
+use Rattle.tlsf_pool.proofs.lemmas.sizes.Risings.{shorter_before}
 
 -- the rows before the first part, and those before the part behind another
 before_none : (parts : List TableState) (row : ℕ) → row ≡ rows_before parts 0 + row
@@ -137,6 +140,15 @@ module _ (len : ℕ) where
           let end : length parts ≤ first_part parts = grind (arith, nat_tests) in
           fails_before_first (λ t. is_some (row_of t.ledger.kinds len)) parts k no_part (omega (arith, less, end))
 
+-- in a table whose rows rise requests count for each row
+pub all_reached : (kinds : List Kind) → Rises kinds → AreAllReached kinds
+all_reached kinds rises row within =
+    row_first (len_at kinds row) kinds row (record {
+      within = within;
+      enough = le-leb (len_at kinds row) (len_at kinds row) (omega arith);
+      shorter = λ k before. lt-leb (len_at kinds row) (len_at kinds k) (shorter_before kinds rises row k before within);
+    })
+
 -- ---- what is held of each row
 
 -- as many numbers as rows
@@ -180,6 +192,19 @@ rows_set (x ∷ parts) (suc i) t within same = ap (λ (ks : List Kind). x.ledger
 
 pub rows_kept : (p : PoolsState) (part : ℕ) (old new : TableState) → part < length p.parts → old ≡ get_or p.parts part old → new.ledger.kinds ≡ old.ledger.kinds → rows_in (set p.parts part new) ≡ rows_in p.parts
 rows_kept p part old new within is same = rows_set p.parts part new within (same ∙ ap (λ (t : TableState). t.ledger.kinds) (is_part p part old within is))
+
+-- the memory of all heaps and tables stays where that of one does
+memory_set : (parts : List TableState) (i : ℕ) (t : TableState) → i < length parts → memory_of t ≡ memory_of (get_or parts i no_part) → map memory_of (set parts i t) ≡ map memory_of parts
+memory_set [] i t within same = absurd (omega (arith, within))
+memory_set (x ∷ parts) zero t within same = ap (λ (m : Extents × TableExtents). m ∷ map memory_of parts) same
+memory_set (x ∷ parts) (suc i) t within same = ap (λ (ms : List (Extents × TableExtents)). memory_of x ∷ ms) (memory_set parts i t (this_row _ _ within) same)
+
+pub all_stay : (p : PoolsState) (part : ℕ) (old new : TableState) → part < length p.parts → old ≡ get_or p.parts part old → new.extents ≡ old.extents → new.ledger.extents ≡ old.ledger.extents
+    → Stay p (record { id = p.id; parts = set p.parts part new; extent = p.extent })
+all_stay p part old new within is heap table = record {
+  parts = memory_set p.parts part new within (ap₂ (λ (e : Extents) (t : TableExtents). (e, t)) heap table ∙ ap memory_of (is_part p part old within is));
+  extent = refl;
+}
 
 -- new heaps have the rows of the tables for which they were opened
 pub new_rows : (sli from first : ℕ) (tables : List (List Kind)) (parts : List TableState) → AreNew sli from first tables parts → rows_in parts ≡ joined tables

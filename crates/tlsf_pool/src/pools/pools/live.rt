@@ -1,6 +1,6 @@
 ghost use Rattle.std.specs.Prelude.{◌≡◌, None, false, IfSome};
 ghost use Rattle.tlsf_pool.specs.pools.Parts as cut;
-ghost use Rattle.tlsf_pool.specs.pools.Parts.{ArePools, AsksLive, OnlyPart, part_at, table_of};
+ghost use Rattle.tlsf_pool.specs.pools.Parts.{ArePools, AsksLive, OnlyPart, Stay, part_at, table_of};
 
 use super::{Pools, part_named};
 use tlsf_heap::Name;
@@ -19,6 +19,7 @@ impl<const SLI: u32> Pools<SLI> {
         ensures others { IfSome (cut.part_named self.old name) (OnlyPart self.old self.new) }
         ensures foreign { cut.part_named self.old name ≡ None → (result ≡ false) × (self.new ≡ self.old) }
         ensures kinds { table_of self.new ≡ table_of self.old }
+        ensures stays { Stay self.old self.new }
         ensures were_pools { ArePools SLI self.old }
         ensures pools { ArePools SLI self.new }
     {

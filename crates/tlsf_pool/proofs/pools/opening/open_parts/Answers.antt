@@ -1,6 +1,6 @@
 use Rattle.std.proofs.Common.{◌≡◌, ◌-◌, get_or, length, min, rules, ap, ◌∙◌}
 use Rattle.tlsf_pool.specs.sizes.Splits.{parts_of}
-use Rattle.tlsf_pool.proofs.lemmas.pools.Opened.{behind_all, length_more, opened_step, part_words}
+use Rattle.tlsf_pool.proofs.lemmas.pools.Opened.{behind_all, length_more, opened_step, part_rises, part_words}
 use Rattle.tlsf_pool.proofs.pools.opening.open_parts.Goals as goal
 
 pub returns-in_err-part-clause-no_memory : goal.returns-in_err-part-clause-no_memory
@@ -8,9 +8,11 @@ returns-in_err-part-clause-no_memory g c =
     let least : c.min-len.result ≡ min (get_or c.args.split.now.lens (c.args.split.now.heaps - 1 - c.loop-at.at) 0) (length c.loop-at.rest.now) = search rules in
     let has = part_words g.row.SLI c.args.id c.args.first (parts_of c.args.split.now c.args.kinds.now) c.args.split.now.lens c.loop-at.rest.now c.loop-at.parts.items c.args.split.now.heaps c.loop-at.at c.min-len.result
     c.loop-at-test.true c.loop-at.invariant.so_far least in
+    let rises = part_rises g.row.SLI c.args.id c.args.first (parts_of c.args.split.now c.args.kinds.now) c.args.split.now.lens c.loop-at.rest.now c.loop-at.parts.items c.args.split.now.heaps c.loop-at.at c.min-len.result
+    c.loop-at-test.true c.loop-at.invariant.so_far least in
     let refused = c.in_err-part.ensures.bad_size.0 in
-    let worn = (c.in_err-part.ensures.worn has).0 in
-    search (rules, refused, has, worn)
+    let worn = (c.in_err-part.ensures.worn rises has).0 in
+    search (rules, refused, rises, has, worn)
 
 pub loop-at-preserved : goal.loop-at-preserved
 loop-at-preserved g c =

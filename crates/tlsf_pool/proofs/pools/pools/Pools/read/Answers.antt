@@ -1,14 +1,14 @@
 use Rattle.std.proofs.Common.{◌≡◌, List, Some, sym, ap, ◌∙◌, set, subst}
 use Rattle.tlsf_heap.specs.Blocks.{HeapState}
-use Rattle.tlsf_pool.specs.pools.Parts.{PoolsState, named_in, rows_in, table_of}
+use Rattle.tlsf_pool.specs.pools.Parts.{PoolsState, named_in, rows_in, table_of, Stay}
 use Rattle.tlsf_pool.specs.pools.Tables.{TableRows, TableState}
 use Rattle.tlsf_pool.proofs.lemmas.pools.Heaps.{lift_kept, named_within}
-use Rattle.tlsf_pool.proofs.lemmas.pools.WholeTable.{rows_kept}
+use Rattle.tlsf_pool.proofs.lemmas.pools.WholeTable.{all_stay, rows_kept}
 use Rattle.tlsf_pool.proofs.pools.pools.Pools.read.Goals as goal
 
 pub invariant_of-self : goal.invariant_of-self
 invariant_of-self g c =
-    let p : PoolsState = record { id = c.self.inside.id; parts = c.self.inside.parts.items } in
+    let p : PoolsState = record { id = c.self.inside.id; parts = c.self.inside.parts.items; extent = record { address = c.self.inside.parts.ptr; capacity = c.self.inside.parts.cap } } in
     let found : named_in p.id p.parts c.args.name ≡ Some c.in-Some.part = sym (c.in-Some.ensures ∙ ap (λ (parts : List TableState). named_in p.id parts c.args.name) c.deref.ensures.value) in
     let within = (named_within p.id p.parts c.args.name c.in-Some.part found).0 in
     lift_kept p c.in-Some.part c.index_mut.result.now c.read.new.self (named_in p.id p.parts c.args.name) found within c.index_mut.ensures.value g.row.SLI c.self.invariant c.read.ensures.keeps.is
@@ -19,7 +19,16 @@ returns-clause-pools g c = invariant_of-self g c
 
 pub returns-clause-kinds : goal.returns-clause-kinds
 returns-clause-kinds g c =
-    let p : PoolsState = record { id = c.self.inside.id; parts = c.self.inside.parts.items } in
+    let p : PoolsState = record { id = c.self.inside.id; parts = c.self.inside.parts.items; extent = record { address = c.self.inside.parts.ptr; capacity = c.self.inside.parts.cap } } in
     let found : named_in p.id p.parts c.args.name ≡ Some c.in-Some.part = sym (c.in-Some.ensures ∙ ap (λ (parts : List TableState). named_in p.id parts c.args.name) c.deref.ensures.value) in
     subst (λ (q : PoolsState). rows_in (set p.parts c.in-Some.part c.read.new.self) ≡ table_of q) c.self.view_is
     (rows_kept p c.in-Some.part c.index_mut.result.now c.read.new.self (named_within p.id p.parts c.args.name c.in-Some.part found).0 c.index_mut.ensures.value (ap (λ (t : TableRows). t.kinds) c.read.ensures.same.ledger))
+
+pub returns-clause-stays : goal.returns-clause-stays
+returns-clause-stays g c =
+    let p : PoolsState = record { id = c.self.inside.id; parts = c.self.inside.parts.items; extent = record { address = c.self.inside.parts.ptr; capacity = c.self.inside.parts.cap } } in
+    let found : named_in p.id p.parts c.args.name ≡ Some c.in-Some.part = sym (c.in-Some.ensures ∙ ap (λ (parts : List TableState). named_in p.id parts c.args.name) c.deref.ensures.value) in
+    let within = (named_within p.id p.parts c.args.name c.in-Some.part found).0 in
+    let e = c.read.ensures in
+    subst (λ (q : PoolsState). Stay q (record { id = p.id; parts = set p.parts c.in-Some.part c.read.new.self; extent = p.extent })) c.self.view_is
+    (all_stay p c.in-Some.part c.index_mut.result.now c.read.new.self within c.index_mut.ensures.value e.keeps.stays (ap (λ (t : TableRows). t.extents) e.same.ledger))

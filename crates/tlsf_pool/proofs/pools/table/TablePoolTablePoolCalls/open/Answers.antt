@@ -3,10 +3,12 @@ use Rattle.tlsf_heap.specs.Lawful.{IsRegion}
 use Rattle.tlsf_heap.specs.Calls.{opened}
 use Rattle.tlsf_pool.specs.laws.FixedSize.{fixed_kinds_words}
 use Rattle.tlsf_pool.specs.declared.kind.Kind.{Kind}
+use Rattle.tlsf_pool.specs.sizes.Rising.{Rises}
 use Rattle.tlsf_pool.specs.sizes.Splits.{HasWords}
 use Rattle.tlsf_heap.specs.ledger.Ledgers.{IsLedgered}
-use Rattle.tlsf_pool.specs.pools.Tables.{IsTable}
+use Rattle.tlsf_pool.specs.pools.Tables.{AreAllReached, IsTable}
 use Rattle.tlsf_pool.proofs.lemmas.pools.TableKept.{new_table}
+use Rattle.tlsf_pool.proofs.lemmas.pools.WholeTable.{all_reached}
 use Rattle.tlsf_pool.proofs.pools.table.TablePoolTablePoolCalls.open.Goals as goal
 
 pub returns-in_err-heap-clause-bad_size : goal.returns-in_err-heap-clause-bad_size
@@ -30,8 +32,14 @@ new-requires g c =
     let some = c.in-Some.ensures.some in
     let none : c.in-Ok-from_elem.held.items ≡ replicate (length c.args.kinds.now) 0 = search rules in
     let heap : c.in_ok-heap.heap.heap ≡ opened c.args.id (fixed_kinds_words g.row.SLI c.args.kinds.now) c.args.first = c.in_ok-heap.ensures.heap ∙ ap (λ (n : ℕ). opened c.args.id n c.args.first) some.1 in
-    let holds = subst (λ (ks : List Kind). IsTable g.row.SLI c.in_ok-heap.heap.heap (record { kinds = ks; held = c.in-Ok-from_elem.held.items })) (sym c.in-Ok.ensures.items)
-    (new_table g.row.SLI c.args.id c.args.first c.args.kinds.now _ _ c.requires.level some.0.0 c.requires.few none c.in_ok-heap.ensures.lawful heap) in
-    let is : IsLedgered (IsTable g.row.SLI) (record { heap = c.in_ok-heap.heap.heap; ledger = record { kinds = c.in-Ok.rows.items; held = c.in-Ok-from_elem.held.items }; extents = c.in_ok-heap.heap.extents; touches = c.in_ok-heap.heap.touches; touched = c.in_ok-heap.heap.touched }) =
+    let holds = subst (λ (ks : List Kind). IsTable g.row.SLI c.in_ok-heap.heap.heap (record { kinds = ks; held = c.in-Ok-from_elem.held.items; extents = record { kinds = record { address = c.in-Ok.rows.ptr; capacity = c.in-Ok.rows.cap }; held = record { address = c.in-Ok-from_elem.held.ptr; capacity = c.in-Ok-from_elem.held.cap } } })) (sym c.in-Ok.ensures.items)
+    (new_table g.row.SLI c.args.id c.args.first c.args.kinds.now _ _ _ c.requires.level some.0.0 c.requires.few none c.in_ok-heap.ensures.lawful heap) in
+    let is : IsLedgered (IsTable g.row.SLI) (record { heap = c.in_ok-heap.heap.heap; ledger = record { kinds = c.in-Ok.rows.items; held = c.in-Ok-from_elem.held.items; extents = record { kinds = record { address = c.in-Ok.rows.ptr; capacity = c.in-Ok.rows.cap }; held = record { address = c.in-Ok-from_elem.held.ptr; capacity = c.in-Ok-from_elem.held.cap } } }; extents = c.in_ok-heap.heap.extents; touches = c.in_ok-heap.heap.touches; touched = c.in_ok-heap.heap.touched }) =
     record { lawful = c.in_ok-heap.ensures.lawful; holds = holds } in
     (omega arith, (omega arith, is))
+
+pub returns-clause-reached : goal.returns-clause-reached
+returns-clause-reached g c =
+    let rises : Rises c.args.kinds.now = search rules in
+    let same : c.new.result.ledger.kinds ≡ c.args.kinds.now = search rules in
+    subst (λ (ks : List Kind). AreAllReached ks) (sym same) (all_reached c.args.kinds.now rises)
