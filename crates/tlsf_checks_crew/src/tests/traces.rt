@@ -4,6 +4,7 @@ mod fakes;
 mod fronts;
 mod long_texts;
 mod notices;
+mod players;
 mod race_traces;
 mod runs;
 mod streams;

@@ -2,6 +2,7 @@
 
 mod entries;
 mod events;
+mod queue_posts;
 mod queue_races;
 mod queue_workers;
 mod races;

@@ -1,5 +1,5 @@
 //! What stands in the words of a region, word for word.
-use crate::tests::heap::calls::{Ask, answer};
+use crate::tests::heap::calls::{Ask, Reply, answer};
 use crate::{name, same};
 use std::alloc::Global;
 use std::process::Abort;
@@ -49,6 +49,18 @@ macro_rules! let_go {
     ($at:expr) => {
         Ask::Release(name!(0, $at, $at / 4 + 1))
     };
+}
+
+// A block of 4 words at the front of 16, before anything is written to it, and the free block of the rest.
+#[test]
+fn image_of_a_new_block(rt: HostRuntime) {
+    const ALLOCATED: &[[u64; 4]] = &[
+        [0xffff_ffff_0000_0010, 1, 8, 0],
+        [0x0000_0000_0000_0033, 1, ALONE, 0],
+        [0, 0, 0, 0],
+        [0, 0, 0, 0],
+    ];
+    check_image(&rt, rt.alloc(), &[FOUR], ALLOCATED, &[0, 4]);
 }
 
 #[test]
@@ -228,4 +240,32 @@ fn head_and_middle_of_three_leave_their_list(rt: HostRuntime) {
     calls[11] = let_go!(8);
     let starts = [0, 4, 8, 16, 20, 24, 28];
     check_image(&rt, rt.alloc(), &calls, MIDDLE, &starts);
+}
+
+// Of three blocks in a list the middle one goes into a merged block. The one that stays is alone, and is given first: it is in the
+// least class. The merged block of 12 words is given next.
+#[test]
+fn blocks_are_given_behind_a_removal_from_the_middle(rt: HostRuntime) {
+    const CALLS: [Ask; 10] = [
+        FOUR,
+        FOUR,
+        FOUR,
+        FOUR,
+        FOUR,
+        FOUR,
+        let_go!(0),
+        let_go!(8),
+        let_go!(16),
+        let_go!(4),
+    ];
+    let mut heap = Heap::<4>::open(rt.alloc(), 0, 64, 0).expect(&rt, "open");
+    let mut seen = Heap::<4>::open(rt.alloc(), 0, 64, 0).expect(&rt, "open");
+    for call in CALLS {
+        let _ = answer(&mut heap, call);
+        let _ = answer(&mut seen, call);
+    }
+    same(found_at(&mut seen.into_words(), 18), Some((ALONE, false))).expect(&rt, "differ");
+    let given = [answer(&mut heap, FOUR), answer(&mut heap, FOUR)];
+    let wanted = [Reply::Made(name!(0, 16, 11)), Reply::Made(name!(0, 0, 12))];
+    same(given, wanted).expect(&rt, "differ");
 }

@@ -84,6 +84,16 @@ fn calls_behind_a_lock(rt: HostRuntime) {
     check_asks(&rt, rt.alloc(), (64, u64::MAX - 2), LAST_ROWS, (1, 0, 1));
 }
 
+// The second request finds no room, and is no grant.
+#[test]
+fn refused_requests_are_no_grants(rt: HostRuntime) {
+    const ROWS: &[(Ask, Reply)] = &[
+        (Ask::Allocate(0), Reply::Made(name!(7, 0, 1))),
+        (Ask::Allocate(0), Reply::Refused(Refusal::NoFit)),
+    ];
+    check_asks(&rt, rt.alloc(), (4, 0), ROWS, (1, 0, 1));
+}
+
 // At level 4 a region of 63 words doesn't serve a request that wants them all.
 #[test]
 fn locked_heaps_open_by_their_words(rt: HostRuntime) {
@@ -120,4 +130,6 @@ fn two_threads_share_a_heap(rt: HostRuntime) {
     );
     let found = (accepted, counts_of(&rt, &heap));
     same(found, ((true, true), (200, 120, 80))).expect(&rt, "differ");
+    let report = heap.lock(&rt).report();
+    same((report.live_words, report.free_words), (320, 704)).expect(&rt, "differ");
 }

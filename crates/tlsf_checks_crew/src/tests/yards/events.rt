@@ -11,18 +11,19 @@ use tlsf_crew::{
 };
 use tlsf_heap::{Name, OpenFault, Refusal};
 
-/// A new yard of two workers, whose lanes have one slot, replies so to these events: a drain with a line for each post that
+/// A new yard of so many workers, words and slots of a lane replies so to these events: a drain with a line for each post that
 /// it takes, and one behind them.
 fn check_replies<const SLI: u32>(
     rt: &impl Abort,
     alloc: Global,
-    words: u32,
+    yard: [u32; 3],
     events: &[Event],
     wanted: &[Reply],
 ) -> Result<(), Fail>
     requires { IsLevel SLI }
 {
-    let mut workers = open_yard::<SLI>(alloc, 2, words, 1)?;
+    let [n, words, capacity] = yard;
+    let mut workers = open_yard::<SLI>(alloc, n, words, capacity)?;
     let entries = replay_events(alloc, &mut workers, events)?;
     same(entries.len(), wanted.len()).expect(rt, "differ");
     for i in 0..wanted.len() {
@@ -77,7 +78,7 @@ fn events_that_a_worker_refuses_change_nothing(rt: HostRuntime) -> Result<(), Fa
         Reply::Made(name!(0, 0, 1)),
         Reply::Made(name!(1, 0, 1)),
     ];
-    check_replies::<4>(&rt, rt.alloc(), 64, EVENTS, WANTED)
+    check_replies::<4>(&rt, rt.alloc(), [2, 64, 1], EVENTS, WANTED)
 }
 
 // A name that worker 1 made up is posted unread. Where worker 0 drains it, no block has it. Then a block of 8 MiB and a word, which
@@ -98,7 +99,7 @@ fn posts_are_drained(rt: HostRuntime) -> Result<(), Fail> {
         took!(1, FORGED, Err(Refusal::Stale)),
         Reply::Drained(1),
     ];
-    check_replies::<4>(&rt, rt.alloc(), 64, EVENTS, WANTED)?;
+    check_replies::<4>(&rt, rt.alloc(), [2, 64, 1], EVENTS, WANTED)?;
     const BLOCK: Name = name!(0, 0, 1);
     const LARGE_EVENTS: &[Event] = &[
         allocate!(0, (8 << 20) + 8),
@@ -112,7 +113,47 @@ fn posts_are_drained(rt: HostRuntime) -> Result<(), Fail> {
         Reply::Drained(1),
     ];
     let words = (1 << 20) + (1 << 15);
-    check_replies::<5>(&rt, rt.alloc(), words, LARGE_EVENTS, LARGE_WANTED)
+    check_replies::<5>(&rt, rt.alloc(), [2, words, 1], LARGE_EVENTS, LARGE_WANTED)
+}
+
+// A drain takes the posts of the lowest worker first, whoever posted first, and no more than its most.
+#[test]
+fn yard_of_three_drains_by_number(rt: HostRuntime) -> Result<(), Fail> {
+    const BLOCK: Name = name!(0, 0, 1);
+    const SECOND: Name = name!(0, 4, 2);
+    const EVENTS: &[Event] = &[
+        allocate!(0, 8),
+        allocate!(0, 8),
+        release!(2, Target::Made(0)),
+        release!(1, Target::Made(1)),
+        drain!(0, 1),
+        drain!(0, 8),
+    ];
+    const WANTED: &[Reply] = &[
+        Reply::Made(BLOCK),
+        Reply::Made(SECOND),
+        Reply::Posted,
+        Reply::Posted,
+        took!(1, SECOND, Ok(())),
+        Reply::Drained(1),
+        took!(2, BLOCK, Ok(())),
+        Reply::Drained(1),
+    ];
+    check_replies::<4>(&rt, rt.alloc(), [3, 64, 4], EVENTS, WANTED)
+}
+
+#[test]
+fn yard_of_three_refuses_strangers(rt: HostRuntime) -> Result<(), Fail> {
+    const EVENTS: &[Event] = &[
+        take!(0, 0),
+        take!(0, 3),
+        take!(0, 1),
+        drain!(3, 1),
+        release!(0, Target::Made(0)),
+        release!(0, Target::Named(name!(5, 0, 1))),
+    ];
+    const WANTED: &[Reply] = &[STRANGER, STRANGER, Reply::Empty, STRANGER, UNMADE, STRANGER];
+    check_replies::<4>(&rt, rt.alloc(), [3, 64, 4], EVENTS, WANTED)
 }
 
 #[test]
