@@ -1,6 +1,6 @@
 // Put behind the script of a page of `tlsf map --html`, whose names it uses. It turns over some moments, and writes what it found as
 // lines of a <pre>: 'wrong ..' for what isn't as it should be, 'line K' for a moment, and below that what is told of each block.
-const found = [];
+const opening = moment, found = [];
 const want = (fact, what) => { if (!fact) found.push('wrong ' + what); };
 const press = (key, more) => dispatchEvent(new KeyboardEvent('keydown', { key, cancelable: true, ...more }));
 const rgb = name => {
@@ -29,8 +29,8 @@ const sinceLine = (number, block) => {
 };
 // The colour of a live block's first word, and what stands under the pointer there.
 const judgeBlock = (canvas, heap, block, number) => {
-    const { row, pitch, high } = grid(heap.words), wide = 1024 / row, scale = devicePixelRatio || 1;
-    const x = 64 + block.place % row * wide + wide / 2, y = Math.floor(block.place / row) * pitch + high - 4;
+    const { row, pitch, high } = grid(heap.words), wide = span / row, scale = devicePixelRatio || 1;
+    const x = edge + block.place % row * wide + wide / 2, y = Math.floor(block.place / row) * pitch + high - 4;
     const box = canvas.getBoundingClientRect();
     canvas.dispatchEvent(new PointerEvent('pointermove', { clientX: box.left + x, clientY: box.top + y }));
     const tells = !tip.hidden && tip.textContent.startsWith(told(block)) && (!all.length || tip.textContent === told(block) + sinceLine(number, block));
@@ -48,18 +48,24 @@ const standing = (at, number) => {
     return free === 0 || grant < named[number][2] ? 1e12 + free : live * 1e4 + fragmentation;
 };
 // The moments that are named: the first with most live words, and the first that stands worst. A key or a button goes to each, and each is marked.
+// If they are one moment, they have one button. The page opens at the first moment with most live words in all heaps together.
 const judgeNamed = lives => {
     const ranks = begins.map((begin, at) => curves[at].map((row, number) => standing(at, number)));
     const first = (rows, number) => { const column = rows.map(row => row[number]); return column.indexOf(most(column)); };
     const buttons = [...document.querySelectorAll('button')], scale = devicePixelRatio || 1, ink = plot.getContext('2d');
-    want(buttons.length === 2 * named.length, buttons.length + ' buttons');
+    const sums = lives.map(row => row.reduce((sum, live) => sum + live, 0));
+    want(opening === sums.indexOf(most(sums)), 'opens at moment ' + opening);
+    want(buttons.length === named.reduce((sum, row, number) => sum + 1 + (first(lives, number) !== first(ranks, number)), 0), buttons.length + ' buttons');
+    want(buttons.every(button => button.getBoundingClientRect().left >= 0 && button.getBoundingClientRect().right <= innerWidth), 'a button is cut off');
     named.forEach((row, number) => {
         const peak = first(lives, number), worst = first(ranks, number), without = ranks[worst][number] >= 1e12;
+        const own = buttons.splice(0, peak === worst ? 1 : 2);
         want(peaks[number] === peak && lineOf(peak) === row[0], 'peak of heap ' + number + ' at moment ' + peaks[number]);
         want(worsts[number] === worst && lineOf(worst) === row[1], 'worst moment of heap ' + number + ': ' + worsts[number]);
         [peak, worst].forEach((at, kind) => {
-            const button = buttons[2 * number + kind], name = kind === 0 ? 'peak' : without ? 'worst' : 'fullest';
-            show(0); button.click();
+            const button = own[kind] || own[0], look = without ? 'worst' : 'fullest', name = peak === worst ? 'peak and ' + look : kind === 0 ? 'peak' : look;
+            if (!button) return;
+            show(at === 0 ? last : 0); button.click();
             want(moment === at && button.textContent.startsWith(name), button.textContent + ' goes to moment ' + moment);
             press('Home'); for (let times = 0; times <= 2 * named.length && moment !== at; times++) press(kind === 0 ? 'p' : 'w');
             want(moment === at, (kind === 0 ? 'P' : 'W') + ' never goes to moment ' + at);
@@ -67,7 +73,7 @@ const judgeNamed = lives => {
         show(worst === last ? 0 : last);
         const mark = ink.getImageData(across(worst) * scale, (number * pitch + 2) * scale, 1, 1).data;
         const high = number * pitch + Math.max(4, tall - tall * lives[peak][number] / curves[0][number].words);
-        const dots = ink.getImageData((Math.min(1084, Math.max(68, across(peak))) - 2) * scale, (high - 2) * scale, 4 * scale, 4 * scale).data;
+        const dots = ink.getImageData((Math.min(full - 4, Math.max(edge + 4, across(peak))) - 2) * scale, (high - 2) * scale, 4 * scale, 4 * scale).data;
         const dot = [...dots.keys()].filter(at => at % 4 === 0).map(at => dots.slice(at, at + 4));
         want(near(mark, rgb('largest')) || near(mark, rgb('ink')), 'mark at the worst moment: ' + mark);
         want(dot.some(pixel => near(pixel, rgb('ink'))), 'mark at the peak: ' + dot[0]);
@@ -83,12 +89,29 @@ const judgePlot = () => {
     want(lives.every((row, at) => row.every((live, number) => live === curves[at][number].live)), 'live words of a curve');
     want(sums.every((row, at) => row.every((size, number) => size === curves[at][number].largest)), 'largest free block of a curve');
     judgeNamed(lives);
+    judgeScale();
     const box = plot.getBoundingClientRect(), half = Math.floor(last / 2);
     plot.dispatchEvent(new PointerEvent('pointerdown', { clientX: box.left + across(half), clientY: box.top + 4, buttons: 1 }));
     want(moment === half && tip.textContent.startsWith('heap 0') && tip.textContent.includes(lives[half][0] + ' of ') && tip.textContent.includes(8 * lives[half][0] + ' bytes'), 'click on the plot: ' + tip.textContent);
     const scale = devicePixelRatio || 1, pixel = plot.getContext('2d').getImageData(across(half) * scale, (deep + 2) * scale - 4, 1, 1).data;
     want(near(pixel, rgb('ink')), 'line of the moment: ' + pixel);
 };
+// At the curve of each heap stand its words, at the height that is the most of them.
+const judgeScale = () => {
+    const written = [], kind = CanvasRenderingContext2D.prototype, write = kind.fillText;
+    kind.fillText = function (text, x, y) { written.push({ text: String(text), x, y }); write.call(this, text, x, y); };
+    drawPlot();
+    kind.fillText = write;
+    curves[0].forEach((row, number) => {
+        const top = number * pitch, told = written.find(({ text, x, y }) => text === String(row.words) && x < edge && y > top && y <= top + 10);
+        want(told, 'no scale of heap ' + number);
+    });
+};
+// The plot and the pictures take the window's width.
+const judgeWidth = () => [plot, ...document.querySelectorAll('main canvas')].forEach(canvas => {
+    const { left, right } = canvas.getBoundingClientRect();
+    want(left >= 0 && right <= innerWidth && right - left > innerWidth - 64, 'width from ' + left + ' to ' + right);
+});
 // The report above a picture: no line of it wraps, and each fits into the window, so that no picture jumps as the moments go by.
 const heights = [], tops = [];
 const judgeReport = (canvas, number) => {
@@ -127,6 +150,7 @@ press('ArrowLeft'); judgeMoment(Math.min(11, last) - 1, telling);
 slider.value = middle; slider.dispatchEvent(new Event('input')); judgeMoment(middle, telling);
 press('End'); judgeMoment(last, telling);
 judgePlot();
+judgeWidth();
 const begun = performance.now(); for (let at = 0; at < 20; at++) show(at * last / 19 | 0);
 const each = Math.round((performance.now() - begun) / 20);
 want(each < 50, 'a step takes ' + each + ' ms');

@@ -4,6 +4,7 @@ use Rattle.std.specs.Fmt.{decimal}
 use Rattle.tlsf_heap.specs.declared.placed_block.Content.{Content}
 use Rattle.tlsf_heap.specs.declared.placed_block.Content.TheVariants.{Free, Live}
 use Rattle.tlsf_map.specs.Numbers.{report_numbers}
+use Rattle.tlsf_map.specs.declared.html.TheConstants.{PAGE_STYLE, SLIDER, READING, DRAWING, PLOTTING, SHOWING}
 use Rattle.tlsf_map.specs.declared.mapped_heap.LabelledBlock.{LabelledBlock}
 use Rattle.tlsf_map.specs.declared.mapped_heap.MappedHeap.{MappedHeap}
 use Rattle.tlsf_map.specs.declared.named_lines.NamedLines.{NamedLines}
@@ -52,27 +53,27 @@ moments_data words (moment ∷ moments) = moment_data words moment ++ moments_da
 
 -- the colours
 unfoldable pub style_part : List ℕ
-style_part = codes "<!doctype html>\n<html lang='en'><head><meta charset='utf-8'><meta name='viewport' content='width=device-width'><title>tlsf: heaps over time</title>\n<style>:root{color-scheme:light dark;--page:#fff;--ink:#1f2328;--live:#4f83cc;--head:#2b4f86;--slack:#e3a04f;--free:#2e9e6b;--largest:#b4232a;--on-live:#fff}@media(prefers-color-scheme:dark){:root{--page:#0d1117;--ink:#e6edf3;--live:#3f6fb5;--head:#1d3c6b;--slack:#b97a2e;--largest:#ff7b72;--on-live:#e6edf3}}body{margin:16px;background:var(--page);color:var(--ink);font:13px ui-monospace,Menlo,Consolas,monospace}nav{position:sticky;top:0;padding:8px 0;background:var(--page);z-index:1}#slider{width:1088px;max-width:100%}h2{font-size:13px;margin:16px 0 4px}p{margin:4px 0}section p{white-space:pre}canvas{display:block;width:1088px}#plot{margin-bottom:4px;cursor:crosshair}nav p{min-width:1088px;white-space:pre}button{font:inherit;margin-right:8px}b{display:inline-block;width:16px;height:12px;margin:0 6px 0 16px;vertical-align:-1px}#tip{position:fixed;left:0;top:0;padding:4px 8px;background:var(--ink);color:var(--page);pointer-events:none;z-index:2}</style></head>\n"
+style_part = PAGE_STYLE.now
 
 -- the slider, what each colour is, and where the heaps are drawn
 unfoldable pub slider_part : List ℕ
-slider_part = codes "<body><nav><canvas id='plot' role='img' aria-label='live words over the lines'></canvas><input id='slider' type='range' min='0' value='0' aria-label='moment'><p><output id='moment'></output></p><p>Arrow keys: one moment, with Shift ten; Home and End: the ends; P: the peak (dot); W: the worst or fullest (dashes); or click above.</p><p id='named'></p><p><b style='background:var(--head);margin-left:0'></b>header<b style='background:var(--live)'></b>payload<b style='background:var(--slack)'></b>left empty<b style='background:var(--free)'></b>free, the stronger the longer<b style='box-sizing:border-box;border:2px solid var(--largest)'></b>largest free, a line above. Point at a block for more.</p></nav><main id='heaps'></main><div id='tip' hidden></div><noscript>This page draws by a script.</noscript>\n<script id='moments' type='text/plain'>\n"
+slider_part = SLIDER.now
 
 -- the script: it reads the data
 unfoldable pub reading_part : List ℕ
-reading_part = codes "const element=id=>document.getElementById(id),lines=element('moments').textContent.split(String.fromCharCode(10)),begins=lines.flatMap((line,at)=>line.startsWith('line ')?[at]:[]),last=begins.length-1;\nconst most=numbers=>numbers.reduce((one,other)=>Math.max(one,other),0),least=numbers=>numbers.reduce((one,other)=>Math.min(one,other),Infinity),lineAt=begins.map(begin=>Number(lines[begin].slice(5))),lineOf=moment=>lineAt[moment],momentOf=line=>begins.findLastIndex((begin,at)=>lineOf(at)<=line);\nconst blocksIn=text=>{let place=0;return text.split(';').slice(0,-1).map(item=>{const numbers=item.slice(1).split(',').map(Number),block={live:item[0]=='l',place,size:numbers[0],tick:numbers[item[0]=='l'?2:1],numbers};place+=block.size;return block})};\nconst heapsIn=moment=>{const heaps=[];for(let at=begins[moment]+1;at+2<lines.length&&!lines[at].startsWith('line ');at+=3){const blocks=blocksIn(lines[at+2]),free=blocks.filter(block=>!block.live),stamps=free.map(block=>block.numbers[1]);heaps.push({name:lines[at],report:lines[at+1],blocks,words:blocks.reduce((sum,block)=>sum+block.size,0),largest:most(free.map(block=>block.size)),oldest:least(stamps),newest:most(stamps)})}return heaps};\nconst shade=(heap,stamp)=>heap.newest<=heap.oldest?85:15+Math.floor(70*(heap.newest-stamp)/(heap.newest-heap.oldest));\nconst used=block=>Math.min(block.size,3+Math.ceil(block.numbers[1]/8)),bytes=count=>count+(count==1?' byte':' bytes'),sites=globalThis.askedBy||{},asker=label=>label in sites?', asked by '+sites[label]:'';\nconst caption=block=>block.live?[block.numbers.length>3?'label '+block.numbers[3]:'live',bytes(block.numbers[1])]:['free',block.size+' words'];\nconst told=block=>block.live?caption(block)[0]+', place '+block.place+', '+block.size+' words, '+bytes(block.numbers[1])+', serial '+block.numbers[2]+asker(block.numbers[3]):'free since tick '+block.numbers[1]+', place '+block.place+', '+block.size+' words';\n"
+reading_part = READING.now
 
 -- it draws a heap
 unfoldable pub drawing_part : List ℕ
-drawing_part = codes "const grid=words=>{let row=64;while(words/row>64)row*=2;const rows=Math.ceil(words/row),high=rows>24?14:36;return{row,rows,high,pitch:high+4}};\nconst draw=(canvas,heap)=>{const {row,rows,high,pitch}=grid(heap.words),scale=devicePixelRatio||1,wide=1024/row,colors=getComputedStyle(document.documentElement),color=name=>colors.getPropertyValue('--'+name),ink=canvas.getContext('2d');canvas.width=1088*scale;canvas.height=rows*pitch*scale;ink.scale(scale,scale);ink.translate(64,0);\nconst spread=(place,words,paint)=>{for(let left=words,at=place;left>0;){const here=Math.min(left,row-at%row);paint(at%row*wide,Math.floor(at/row)*pitch,here*wide,here==left);at+=here;left-=here}};\nconst fill=(place,words,name,alpha)=>{ink.fillStyle=color(name);ink.globalAlpha=alpha;spread(place,words,(x,y,width)=>ink.fillRect(x,y,width,high));ink.globalAlpha=1};\nconst frame=(block,name,width)=>{ink.strokeStyle=color(name);ink.lineWidth=width;spread(block.place,block.size,(x,y,across)=>ink.strokeRect(x+width/2,y+width/2,Math.max(0,across-width),high-width))};\nconst outline=block=>{ink.strokeStyle=color('largest');ink.lineWidth=2;ink.beginPath();spread(block.place,block.size,(x,y,width,ends)=>{const first=y==Math.floor(block.place/row)*pitch,foot=ends?y+high-1:y+pitch;for(const side of [x+1,x+width-1]){ink.moveTo(side,y);ink.lineTo(side,foot)}for(const edge of [first&&y+1,ends&&foot])if(edge!==false){ink.moveTo(x,edge);ink.lineTo(x+width,edge)}});ink.stroke()};\nink.font='10px ui-monospace,Menlo,Consolas,monospace';ink.textAlign='right';ink.fillStyle=color('ink');for(let at=0;at<rows;at++)ink.fillText(at*row,-8,at*pitch+high/2+4);ink.textAlign='left';ink.font='11px ui-monospace,Menlo,Consolas,monospace';\nfor(const block of heap.blocks){if(block.live){fill(block.place,block.size,'live',1);fill(block.place,3,'head',1);fill(block.place+used(block),block.size-used(block),'slack',1)}else fill(block.place,block.size,'free',shade(heap,block.numbers[1])/100);\nconst width=Math.min(block.size,row-block.place%row)*wide;if(block.size*wide>=4)frame(block,'page',1);if(width>=80&&high>24){const x=block.place%row*wide+4,y=Math.floor(block.place/row)*pitch;ink.fillStyle=color(block.live?'on-live':'ink');caption(block).forEach((text,line)=>ink.fillText(text,x,y+14+14*line))}}\nconst longest=heap.blocks.find(block=>!block.live&&block.size==heap.largest);if(longest)outline(longest)};\n"
+drawing_part = DRAWING.now
 
 -- it plots the live words of each heap and its largest free block, over the lines
 unfoldable pub plotting_part : List ℕ
-plotting_part = codes "const curves=begins.map(begin=>{const rows=[];for(let at=begin+1;at+2<lines.length&&!lines[at].startsWith('line ');at+=3){const [live,largest,free,grant]=[/ blocks?, ([0-9]+)/,/largest ([0-9]+)/,/free [0-9]+ blocks?, ([0-9]+)/,/grant ([0-9]+)/].map(form=>Number(lines[at+1].match(form)[1])),[words,tick]=[/: ([0-9]+)/,/tick ([0-9]+)/].map(form=>Number(lines[at].match(form)[1]));rows.push({live,largest,free,grant,words,tick})}return rows});\nconst peaks=named.map(([peak])=>momentOf(peak)),worsts=named.map(([peak,worst])=>momentOf(worst)),lacks=(at,number)=>!curves[at][number].free||curves[at][number].grant<named[number][2];\nconst fits=(at,number)=>{const asked=named[number][2],no=lacks(at,number);return bytes(asked)+(no?asked==1?` doesn't fit`:` don't fit`:asked==1?' fits':' fit')};\nconst since=(number,tick)=>{const at=curves.findIndex(row=>row[number].tick>tick);if(at<1)return ', line 1';const from=lineOf(at-1)+1,to=lineOf(at),name=line=>line==lineOf(last)?'the end':line;return from==to?', '+(to==lineOf(last)?'':'line ')+name(to):', line '+from+' to '+name(to)};\nconst following=stops=>{const later=stops.filter(at=>at>moment);return later.length?Math.min(...later):Math.min(...stops)};\nconst plot=element('plot'),tall=Math.max(12,Math.floor(72/curves[0].length)),pitch=tall+4,deep=curves[0].length*pitch;\nconst across=at=>64+1024*(lineOf(at)-1)/Math.max(1,lineOf(last)-1),nearest=x=>begins.reduce((best,begin,at)=>Math.abs(across(at)-x)<Math.abs(across(best)-x)?at:best,0),stepOf=most=>{let step=1;while(most/step>10)step*=String(step)[0]=='2'?2.5:2;return step};\nconst curve=(ink,number,name)=>{const foot=number*pitch+tall,words=curves[0][number].words,high=at=>foot-tall*curves[at][number][name]/words;ink.beginPath();ink.moveTo(64,high(0));for(let at=1;at<=last;at++){ink.lineTo(across(at),high(at-1));ink.lineTo(across(at),high(at))}return {foot,high}};\nconst drawPlot=()=>{const scale=devicePixelRatio||1,colors=getComputedStyle(document.documentElement),color=name=>colors.getPropertyValue('--'+name),ink=plot.getContext('2d');plot.width=1088*scale;plot.height=(deep+16)*scale;ink.scale(scale,scale);ink.font='10px ui-monospace,Menlo,Consolas,monospace';\ncurves[0].forEach((row,number)=>{const live=curve(ink,number,'live');ink.lineTo(1088,live.foot);ink.lineTo(64,live.foot);ink.fillStyle=color('live');ink.fill();curve(ink,number,'largest');ink.strokeStyle=color('largest');ink.lineWidth=1.5;ink.stroke();ink.strokeStyle=ink.fillStyle=color('ink');ink.lineWidth=1;ink.strokeRect(64.5,live.foot-tall+.5,1023,tall-1);ink.textAlign='right';ink.fillText('heap '+number,58,live.foot-tall/2+4);ink.beginPath();ink.arc(Math.min(1084,Math.max(68,across(peaks[number]))),Math.max(live.foot-tall+4,live.high(peaks[number])),3,0,7);ink.fill();ink.strokeStyle=color('largest');ink.lineWidth=2;ink.setLineDash([4,2]);ink.beginPath();ink.moveTo(across(worsts[number]),live.foot-tall);ink.lineTo(across(worsts[number]),live.foot);ink.stroke();ink.setLineDash([])});\nink.textAlign='center';const most=lineOf(last)-1,step=stepOf(most);for(let line=0;line<=most;line+=step)ink.fillText(line?line:1,Math.min(1072,64+1024*Math.max(0,line-1)/Math.max(1,most)),deep+12);ink.fillRect(across(moment)-1,0,2,deep)};\nconst pointPlot=event=>{const box=plot.getBoundingClientRect(),at=nearest(event.clientX-box.left),number=Math.max(0,Math.min(curves[0].length-1,Math.floor((event.clientY-box.top)/pitch))),row=curves[at][number];if(event.buttons)show(at);tell('heap '+number+(at==last?' at the end: ':' after line '+lineOf(at)+': ')+row.live+' of '+row.words+' words live, '+8*row.live+' bytes; the largest free block has '+row.largest+' words; '+fits(at,number),event)};\nplot.onpointermove=plot.onpointerdown=pointPlot;plot.onpointerleave=()=>{tip.hidden=true};\n"
+plotting_part = PLOTTING.now
 
 -- and it shows the moment that is chosen, and the block under the pointer
 unfoldable pub showing_part : List ℕ
-showing_part = codes "const slider=element('slider'),tip=element('tip');let moment=0,heaps=[];\nconst atPointer=(event,canvas,heap)=>{const {row,high,pitch}=grid(heap.words),box=canvas.getBoundingClientRect(),across=event.clientX-box.left-64,down=event.clientY-box.top;if(across<0||across>=1024||down%pitch>=high)return;const place=Math.floor(down/pitch)*row+Math.floor(across*row/1024);return heap.blocks.find(block=>block.place<=place&&place<block.place+block.size)};\nconst tell=(text,event)=>{tip.hidden=!text;tip.textContent=text;tip.style.transform='translate('+Math.max(0,Math.min(event.clientX+12,innerWidth-tip.offsetWidth-8))+'px,'+(event.clientY+16)+'px)'};\nconst point=(event,canvas,number)=>{const block=atPointer(event,canvas,heaps[number]);tell(block?told(block)+since(number,block.tick):'',event)};\nconst parts=curves[0].map((row,number)=>{const part=document.createElement('section');part.append(...['h2','p','p','canvas'].map(kind=>document.createElement(kind)));const canvas=part.lastChild;canvas.setAttribute('role','img');canvas.onpointermove=canvas.onpointerdown=event=>point(event,canvas,number);canvas.onpointerleave=()=>{tip.hidden=true};return part});\nconst redraw=()=>{parts.forEach((part,number)=>draw(part.lastChild,heaps[number]));drawPlot()};\nconst write=(part,number)=>{const heap=heaps[number];[heap.name+'; longest request: '+fits(moment,number),...heap.report.split(/; (?=free )/)].forEach((text,at)=>{part.children[at].textContent=text});part.lastChild.setAttribute('aria-label',heap.blocks.length+' blocks')};\nconst goes=(text,at)=>{const button=document.createElement('button');button.textContent=text+(at==last?': the end':': line '+lineOf(at));button.onclick=()=>show(at);element('named').append(button)};\nconst show=wanted=>{moment=Math.max(0,Math.min(last,wanted));slider.value=moment;heaps=heapsIn(moment);tip.hidden=true;element('moment').textContent='Moment '+(moment+1)+' of '+(last+1)+(moment==last?', at the end':', after line '+lineOf(moment)+' of '+(lineOf(last)-1));parts.forEach(write);redraw()};\nconst steps={ArrowLeft:-1,ArrowRight:1,Home:-Infinity,End:Infinity};\nslider.max=last;slider.oninput=()=>show(Number(slider.value));addEventListener('keydown',event=>{const stops={p:peaks,w:worsts}[event.key.toLowerCase()],step=stops?Infinity:steps[event.key];if(step&&!event.altKey&&!event.ctrlKey&&!event.metaKey){event.preventDefault();show(stops?following(stops):moment+(event.shiftKey?10:1)*step)}});\nmatchMedia('(prefers-color-scheme: dark)').addEventListener('change',redraw);addEventListener('resize',redraw);\nconst opened=()=>{const line=Number(location.hash.slice(1));show(line>0?momentOf(line):0)};\nelement('heaps').append(...parts);named.forEach((row,number)=>{const of=named.length>1?' of heap '+number:'';goes('peak'+of,peaks[number]);goes((lacks(worsts[number],number)?'worst':'fullest')+of,worsts[number])});\naddEventListener('hashchange',opened);opened();</script></body></html>\n"
+showing_part = SHOWING.now
 
 unfoldable pub page_head : List ℕ
 page_head = style_part ++ slider_part
