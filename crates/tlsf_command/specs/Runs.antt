@@ -1,5 +1,5 @@
 -- What a run of the program does.
-use Rattle.std.specs.Prelude.{◌≡◌, ◌⊎◌, ◌++◌, ⊤, ℕ, Bool, List, [], ◌∷◌, Option, Result, Ok, Err, IfSome, string_bytes, if◌then◌else◌}
+use Rattle.std.specs.Prelude.{◌≡◌, ◌⊎◌, ◌++◌, ◌-◌, ⊤, ℕ, Bool, List, [], ◌∷◌, Option, Result, Ok, Err, IfSome, string_bytes, if◌then◌else◌}
 use Rattle.std.specs.Io.KnownBytes.{Appends, Keeps}
 use Rattle.clap.specs.Words.{IsAmong, Text}
 use Rattle.clap.specs.declared.error.kind.ErrorKind.{ErrorKind}
@@ -8,12 +8,13 @@ use Rattle.tlsf_command.specs.ClassLines.{class_line, no_class_line}
 use Rattle.tlsf_command.specs.CommandLine.{Asks, faults_of, tip_line}
 use Rattle.tlsf_command.specs.FaultLines.{check_tip, fault_line, status_of_fault}
 use Rattle.tlsf_command.specs.Rivals.{rivals_line}
-use Rattle.tlsf_command.specs.SizeLines.{no_split_line, size_line, split_lines, unpaired_line, unreached_line, unreached_table_line, AreReached, HasNoSplit, IsCheapest, IsFiner, IsFirstUnreached, IsGreatest, IsReached, IsSplitOf}
+use Rattle.tlsf_command.specs.SizeLines.{falling_line, no_split_line, size_line, split_lines, unpaired_line, unreached_line, unreached_table_line, AreReached, HasNoSplit, IsCheapest, IsFiner, IsFirstUnreached, IsGreatest, IsReached, IsSplitOf}
 use Rattle.tlsf_command.specs.declared.class_question.ClassQuestion.{ClassQuestion}
 use Rattle.tlsf_command.specs.declared.class_question.ClassQuestion.TheVariants.{Coarse, Fine, NoClass}
 use Rattle.tlsf_command.specs.declared.size_question.SizeQuestion.{SizeQuestion}
 use Rattle.tlsf_command.specs.declared.size_question.SizeQuestion.TheVariants.{Table, FineTable, Split as Splits, FineSplit as FineSplits, Unpaired}
 use Rattle.tlsf_pool.specs.declared.kind.Kind.{Kind}
+use Rattle.tlsf_pool.specs.sizes.Rising.{len_at, IsFirstFall, Rises}
 use Rattle.tlsf_pool.specs.sizes.Splits.{parts_of}
 use Rattle.tlsf_pool.specs.declared.sizes.split.Split.{Split}
 use Rattle.tlsf_command.specs.declared.command_line.Choice.{Choice}
@@ -169,15 +170,22 @@ pub record ShowsSplit (sli : ℕ) (kinds : List Kind) (status : ℕ) (old new : 
   pub cheapest : IsCheapest sli kinds split
   pub lines : ShowsLines (split_lines sli (parts_of split kinds) kinds) status old new
 
--- there is no split
+-- there is no split of a table whose kinds rise
 pub record ShowsNoSplit (sli : ℕ) (kinds : List Kind) (status : ℕ) (old new : Streams) : Type 0 where
+  pub rises : Rises kinds
   pub none : HasNoSplit sli kinds
   pub refused : Refuses no_split_line status old new
+
+-- a kind is no longer than the one before it: the first that isn't was named, with both lengths
+pub record ShowsFall (kinds : List Kind) (status : ℕ) (old new : Streams) : Type 0 where
+  pub row : ℕ
+  pub falls : IsFirstFall kinds row
+  pub refused : Refuses (falling_line row (len_at kinds (row - 1)) (len_at kinds row)) status old new
 
 -- a table was split into the regions of several heaps, or refused; nothing was read
 pub record ShowsHeaps (sli : ℕ) (kinds : List Kind) (status : ℕ) (old new : Streams) : Type 0 where
   pub left : new.left ≡ old.left
-  pub shown : ShowsSplit sli kinds status old new ⊎ ShowsNoSplit sli kinds status old new
+  pub shown : ShowsSplit sli kinds status old new ⊎ (ShowsNoSplit sli kinds status old new ⊎ ShowsFall kinds status old new)
 
 -- the question was answered
 abbrev pub ShowsSize : SizeQuestion → ℕ → Streams → Streams → Type 0

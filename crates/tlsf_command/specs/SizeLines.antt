@@ -8,7 +8,8 @@ use Rattle.tlsf_pool.specs.laws.FixedSize.{fixed_kinds_words}
 use Rattle.tlsf_pool.specs.laws.Kinds.{kinds_words, HasClass}
 use Rattle.tlsf_pool.specs.laws.MixedSizes.{mixed_words}
 use Rattle.tlsf_pool.specs.declared.kind.Kind.{Kind}
-use Rattle.tlsf_pool.specs.sizes.Splits.{words_together, HasNoCut, IsLeast}
+use Rattle.tlsf_pool.specs.sizes.Rising.{HasNoHeaps, Rises}
+use Rattle.tlsf_pool.specs.sizes.Splits.{words_together, IsLeast}
 use Rattle.tlsf_pool.specs.declared.sizes.split.Split.{Split}
 
 -- some region of the level has the words that the law asks for, for so many blocks of so many bytes
@@ -82,18 +83,26 @@ abbrev pub split_lines : ℕ → List (List Kind) → List Kind → List ℕ
 split_lines sli parts kinds =
     heap_lines sli 0 0 parts ++ (codes "heaps " ++ (decimal (length parts) ++ (codes " " ++ words_line (words_together sli parts) (asked_bytes kinds))))
 
--- the cheapest split of a table of such kinds
+-- the cheapest split of a table of such kinds, from short to long
 pub record IsCheapest (sli : ℕ) (kinds : List Kind) (split : Split) : Type 0 where
   pub servable : AllByRecursion (IsServable sli) kinds
+  pub rises : Rises kinds
   pub least : IsLeast sli 8 kinds split
 
 -- there is none
 abbrev pub HasNoSplit : ℕ → List Kind → Type 0
-HasNoSplit sli kinds = AllByRecursion (IsServable sli) kinds → HasNoCut sli 8 kinds
+HasNoSplit sli kinds = AllByRecursion (IsServable sli) kinds → HasNoHeaps sli 8 kinds
 
 -- the refusal of such a table
 abbrev pub no_split_line : List ℕ
 no_split_line = codes "tlsf: no region has so many words, however the kinds are given to 8 heaps in their order\n"
+
+-- the refusal of a table whose kind at this place, from 1 on, is longer than the next one, or as long
+abbrev pub falling_line : (place before len : ℕ) → List ℕ
+falling_line place before len =
+    codes "tlsf: kind " ++ (decimal (place + 1) ++ (codes " of " ++ (counted len (codes "byte")
+    ++ (codes " is no longer than kind " ++ (decimal place ++ (codes " of " ++ (counted before (codes "byte")
+    ++ codes ": --split takes kinds from short to long, each length once\n")))))))
 
 -- the cheapest split of such a table, if it has one
 abbrev pub IsSplitOf : ℕ → List Kind → Option Split → Type 0

@@ -8,10 +8,10 @@ ghost use Rattle.tlsf_pool.specs.sizes.Limits.{most_kinds};
 use crate::commands::report;
 use crate::size_line::{words_for, write_size_line, write_unreached_line};
 use crate::size_question::SizeQuestion;
-use crate::split_lines::{split_of, write_no_split_line, write_split_lines};
+use crate::split_lines::{split_of, write_falling_line, write_no_split_line, write_split_lines};
 use crate::unreached_table::{write_unpaired_line, write_unreached_table_line};
 use std::io::Write;
-use tlsf_pool::Kind;
+use tlsf_pool::{Kind, falling_row};
 use tlsf_trace::TraceFault;
 
 // Reports that no region reaches so far. A write that fails changes nothing.
@@ -55,7 +55,8 @@ fn show_kinds<const SLI: u32, W: Write, E: Write>(
     }
 }
 
-// Writes the lines on the cheapest split of these kinds, and reports a write that fails, or that there is none.
+// Writes the lines on the cheapest split of these kinds, and reports a write that fails, a kind no longer than the one before it, or
+// that there is none.
 fn show_split<const SLI: u32, W: Write, E: Write>(
     kinds: &[Kind],
     writer: &mut W,
@@ -67,6 +68,10 @@ fn show_split<const SLI: u32, W: Write, E: Write>(
         (streams left (W.contents writer.old) (E.contents errors.old))
         (streams left (W.contents writer.new) (E.contents errors.new)) }
 {
+    if let Some(row) = falling_row(kinds) {
+        let _ = write_falling_line(kinds, row, errors);
+        return 2;
+    }
     match split_of::<SLI>(kinds) {
         Some(split) => match write_split_lines::<SLI, W>(kinds, &split, writer) {
             Ok(()) => 0,
@@ -80,7 +85,7 @@ fn show_split<const SLI: u32, W: Write, E: Write>(
 }
 
 /// Answers the question, and gives the exit status: 0 where the line is written, 1 where a write failed, and 2 where no
-/// region is large enough, or where the options are no pairs.
+/// region is large enough, where kinds for several heaps don't rise in length, or where the options are no pairs.
 ///
 /// ```
 /// let status = run_size(question, &mut writer, &mut errors);

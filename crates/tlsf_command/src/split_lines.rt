@@ -1,10 +1,11 @@
 //! The lines that `tlsf size --split` writes.
-ghost use Rattle.std.specs.Prelude.{◌≡◌, ◌++◌, ◌≤◌, ◌<◌, length, None, IfOk, IfSome, OnOk};
+ghost use Rattle.std.specs.Prelude.{◌≡◌, ◌++◌, ◌-◌, ◌≤◌, ◌<◌, length, None, IfOk, IfSome, OnOk};
 ghost use Rattle.std.specs.List.{AllByRecursion};
 ghost use Rattle.std.specs.Io.KnownBytes.{Appends};
 ghost use Rattle.tlsf_class.specs.Classes.{IsLevel};
-ghost use Rattle.tlsf_command.specs.SizeLines.{heap_line, heap_lines, no_split_line, split_lines, HasNoSplit, IsCheapest, IsServable};
+ghost use Rattle.tlsf_command.specs.SizeLines.{falling_line, heap_line, heap_lines, no_split_line, split_lines, HasNoSplit, IsCheapest, IsServable};
 ghost use Rattle.tlsf_command.specs.SizeLines as spelled;
+ghost use Rattle.tlsf_pool.specs.sizes.Rising.{len_at, IsFirstFall};
 ghost use Rattle.tlsf_pool.specs.sizes.Splits.{parts_of, IsPart};
 ghost use Rattle.tlsf_lines.specs.Prefixes.{AppendsFront};
 
@@ -15,7 +16,7 @@ use arrayvec::ArrayString;
 use std::fmt;
 use std::fmt::Write as _;
 use std::io::Write;
-use tlsf_pool::{Kind, MOST_HEAPS, Split, cheapest_split, fixed_kinds_words};
+use tlsf_pool::{Kind, MOST_HEAPS, Split, fixed_kinds_words, rising_split};
 use tlsf_trace::{WriteError, write_out};
 
 const NO_SPLIT: &str =
@@ -25,7 +26,7 @@ const NO_SPLIT: &str =
 type Lines = ArrayString<1024>;
 
 /// The cheapest way to give the kinds of a table, 64 at most, to at most eight pools of the level. None where there is none,
-/// or where a kind has no block or no byte.
+/// where a kind has no block or no byte, or where one is no longer than the kind before it.
 ///
 /// ```
 /// // of 2,000 blocks of 64 bytes and one of 65,536: two heaps, of 30,704 words
@@ -40,7 +41,7 @@ pub fn split_of<const SLI: u32>(kinds: &[Kind]) -> Option<Split>
     if !are_servable::<SLI>(kinds) {
         return None;
     }
-    cheapest_split::<SLI>(kinds, MOST_HEAPS)
+    rising_split::<SLI>(kinds, MOST_HEAPS)
 }
 
 // The bytes of the longest blocks of a table.
@@ -156,4 +157,44 @@ pub fn write_no_split_line<E: Write>(errors: &mut E) -> Result<(), WriteError>
     ensures { AppendsFront (E.contents errors.old) (E.contents errors.new) no_split_line }
 {
     write_out(errors, NO_SPLIT.as_bytes())
+}
+
+// The line that names a kind, by its place from 1 on, that is no longer than the one before it.
+fn falling_line_of(row: usize, before: u32, len: u32) -> Result<ArrayString<192>, fmt::Error>
+    requires { row < 64 }
+    ensures { IfOk result (λ line. line.bytes ≡ falling_line row before len) }
+{
+    let place = row + 1;
+    let own = Counted::new(len as usize, "byte");
+    let longer = Counted::new(before as usize, "byte");
+    let mut line = ArrayString::new();
+    writeln!(
+        line,
+        "tlsf: kind {place} of {own} is no longer than kind {row} of {longer}: --split takes kinds from short to long, each length once"
+    )?;
+    Ok(line)
+}
+
+/// Writes the line that refuses a table of kinds, 64 at most, whose row `row` is the first that is no longer than the one before it,
+/// and flushes. The line names kinds by their places, from 1 on. After an `Err` a prefix of the line was written.
+///
+/// ```
+/// let kinds = [Kind { most: 10, len: 100 }, Kind { most: 10, len: 50 }];
+/// let _ = write_falling_line(&kinds, 1, &mut errors);      // kind 2 of 50 bytes is no longer than kind 1 of 100 bytes
+/// ```
+pub fn write_falling_line<E: Write>(
+    kinds: &[Kind],
+    row: usize,
+    errors: &mut E,
+) -> Result<(), WriteError>
+    requires few { length kinds.now ≤ 64 }
+    requires row { IsFirstFall kinds.now row }
+    ensures { AppendsFront (E.contents errors.old) (E.contents errors.new)
+        (falling_line row (len_at kinds.now (row - 1)) (len_at kinds.now row)) }
+{
+    match falling_line_of(row, kinds[row - 1].len, kinds[row].len) {
+        Ok(line) => write_out(errors, line.as_bytes()),
+        // The line has at most 150 bytes and 192 have room, but no clause of the line says so.
+        Err(_) => Err(WriteError),
+    }
 }
