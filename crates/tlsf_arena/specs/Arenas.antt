@@ -5,16 +5,18 @@ use Rattle.linked_list_allocator.specs.Region.{Region}
 use Rattle.tlsf_class.specs.Classes.{IsLevel}
 use Rattle.tlsf_heap.specs.Blocks.{HeapState, size_of, bytes_of}
 use Rattle.tlsf_heap.specs.GoodFit.{Site}
+use Rattle.tlsf_heap.specs.Memory.{Extents}
 use Rattle.tlsf_heap.specs.Calls.{Outcome, named, allocated_words, resized_words}
 use Rattle.tlsf_heap.specs.declared.name.Name.{Name}
 use Rattle.tlsf_arena.specs.Places.{IsUnit, units_for, lacking, held_units, free_map, spread}
 
--- the heap that decides, the memory that is cut, the book of the blocks that are out, the heap's touches, and how often an address was
--- compared with that of a unit
+-- the heap that decides, the memory that is cut, the book of the blocks that are out, the heap's own memory, its touches, and how often an
+-- address was compared with that of a unit
 pub record ArenaState : Type 0 where
   pub heap : HeapState
   pub region : Region
   pub book : GName
+  pub extents : Extents
   pub touches : ℕ
   pub compared : ℕ
 
@@ -30,13 +32,13 @@ refitted u h name n = resized_words h name (units_for u n) (lacking (units_for u
 abbrev pub Holds : HeapState → Name → ℕ → Type 0
 Holds h name k = (s : Site) × (name.heap ≡ h.id) × (named name h.blocks ≡ Some s) × (held_units (size_of s.block) (length (bytes_of s.block)) ≡ k)
 
--- the same memory, and the same book
+-- the same memory, and the same book. No memory is taken or given back: that of the heap stays where it is, and as large
 abbrev pub SameHome : ArenaState → ArenaState → Type 0
-SameHome old new = (new.region ≡ old.region) × (new.book ≡ old.book)
+SameHome old new = (new.region ≡ old.region) × (new.book ≡ old.book) × (new.extents ≡ old.extents)
 
 -- the same heap besides. Only the counts of steps may differ
 abbrev pub SameArena : ArenaState → ArenaState → Type 0
-SameArena old new = (new.heap ≡ old.heap) × (new.region ≡ old.region) × (new.book ≡ old.book)
+SameArena old new = (new.heap ≡ old.heap) × SameHome old new
 
 -- the map of free grains, sixteen bytes each, is that of the heap's units: so many, of u bytes each
 pub record IsMapped (sli u units : ℕ) (h : HeapState) (free : List Bool) : Type 0 where

@@ -36,8 +36,8 @@ use tlsf_heap::{Content, Heap, Name, OpenFault, PlacedBlock, Refusal, Report};
 /// The level is the heap's, 4 or 5, and a unit has 16, 32 or 64 bytes. The heap's words hold its headers and no payload, and the memory
 /// holds payload and no headers.
 ///
-/// Contracts see it as its heap, the region of its memory, the book in which its blocks stand, the heap's touches, and how often an address
-/// was compared with that of a unit.
+/// Contracts see it as its heap, the region of its memory, the book in which its blocks stand, the heap's own memory (`extents`) and
+/// touches, and how often an address was compared with that of a unit.
 /// The bytes of the units that no live block holds are the arena's; those of a block are its holder's alone.
 pub struct Arena<const SLI: u32, const UNIT: usize> {
     heap: Box<Heap<SLI>, Global>,
@@ -59,7 +59,7 @@ impl<const SLI: u32, const UNIT: usize> Model for Arena<SLI, UNIT> {
 
     ghost Value = { ArenaState };
 
-    ghost view = { λ a. record { heap = a.heap.value.heap; region = a.space.region; book = a.book.name; touches = a.heap.value.touches; compared = a.compared.count } };
+    ghost view = { λ a. record { heap = a.heap.value.heap; region = a.space.region; book = a.book.name; extents = a.heap.value.extents; touches = a.heap.value.touches; compared = a.compared.count } };
 
     ghost invariant = { λ a. IsMapped SLI UNIT a.units a.heap.value.heap a.space.free × ((a.space.base ≡ a.base) × IfSome a.lease (λ l. (l.alloc ≡ a.alloc) × ((l.ptr ≡ a.base) × (l.size ≡ UNIT * a.units)))) × (a.id ≡ a.heap.value.heap.id) × IsBook a.book.out a.heap.value.heap };
 }
@@ -719,6 +719,7 @@ impl<const SLI: u32, const UNIT: usize> Arena<SLI, UNIT> {
 fn free_at_start<const SLI: u32>(heap: &mut Heap<SLI>) -> u32
     ensures size { result ≡ free_units_in (placed_at heap.old.heap.blocks 0) }
     ensures same { heap.new.heap ≡ heap.old.heap }
+    ensures stays { heap.new.extents ≡ heap.old.extents }
     ensures touches { heap.new.touches ≤ heap.old.touches + 4 }
 {
     match heap.block_at(0) {

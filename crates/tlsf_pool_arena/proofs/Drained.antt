@@ -95,7 +95,7 @@ pub none_drained : {u : ℕ} (first : RemoteState u) → Drained first first 0
 none_drained first = record {
   own = refl;
   held = omega arith;
-  plan = record { region = refl; book = refl; most = refl; longest = refl };
+  plan = record { region = refl; book = refl; most = refl; longest = refl; stays = refl };
   long = refl;
   touches = omega arith;
   steps = omega arith;
@@ -113,7 +113,7 @@ all_drained first now n d long = (d.seen, record { looks = d.looks; away = d.awa
 
 module _ {u : ℕ} (first old new : RemoteState u) (at : ℕ) (was : Drained first old at) (own : new.places ≡ old.places) (plan : SamePlan old.arena new.arena) (touches : new.arena.touches ≤ old.arena.touches + 60) (steps : new.steps ≤ old.steps + 1) where
   plans : SamePlan first.arena new.arena
-  plans = record { region = plan.region ∙ was.plan.region; book = plan.book ∙ was.plan.book; most = plan.most ∙ was.plan.most; longest = plan.longest ∙ was.plan.longest }
+  plans = record { region = plan.region ∙ was.plan.region; book = plan.book ∙ was.plan.book; most = plan.most ∙ was.plan.most; longest = plan.longest ∙ was.plan.longest; stays = plan.stays ∙ was.plan.stays }
 
   from_first : length was.seen ≡ at → at ≡ 0 + length was.seen
   from_first long = omega (arith, long)

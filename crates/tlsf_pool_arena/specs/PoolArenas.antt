@@ -6,6 +6,7 @@ use Rattle.tlsf_class.specs.Classes.{IsLevel, most_words}
 use Rattle.tlsf_heap.specs.Blocks.{HeapState}
 use Rattle.tlsf_heap.specs.Calls.{Outcome, refused}
 use Rattle.tlsf_heap.specs.Lawful.{IsLawful}
+use Rattle.tlsf_heap.specs.Memory.{Extents}
 use Rattle.tlsf_heap.specs.declared.name.Name.{Name}
 use Rattle.tlsf_heap.specs.declared.refusal.Refusal.TheVariants.{NoRoom}
 use Rattle.tlsf_pool.specs.laws.FixedSize.{HasFixedSize}
@@ -14,7 +15,7 @@ use Rattle.tlsf_arena.specs.Arenas.{refitted, requested}
 use Rattle.tlsf_arena.specs.Places.{IsUnit, units_for}
 
 -- what the arena shows: its heap, the region of its memory, the book of its blocks, how many may be held at once and the bytes of the longest
--- request, how many are held, and the heap's touches
+-- request, how many are held, and the heap's own memory and touches
 pub record PoolArenaState : Type 0 where
   pub heap : HeapState
   pub region : Region
@@ -22,6 +23,7 @@ pub record PoolArenaState : Type 0 where
   pub most : ℕ
   pub longest : ℕ
   pub held : ℕ
+  pub extents : Extents
   pub touches : ℕ
 
 -- the units of each block, whatever its length: those from which every free block serves the longest request
@@ -61,12 +63,14 @@ pub record IsPoolArena (sli u : ℕ) (p : PoolArenaState) : Type 0 where
   pub few : p.held ≤ p.most
   pub fixed : HasFixedSize (fixed_size sli u p.longest) p.heap
 
--- the same bounds over the same memory, and the same book: how many blocks may be held, and how long a request may be
+-- the same bounds over the same memory, and the same book: how many blocks may be held, and how long a request may be. No memory is taken
+-- or given back: that of the heap stays where it is, and as large
 pub record SamePlan (old new : PoolArenaState) : Type 0 where
   pub region : new.region ≡ old.region
   pub book : new.book ≡ old.book
   pub most : new.most ≡ old.most
   pub longest : new.longest ≡ old.longest
+  pub stays : new.extents ≡ old.extents
 
 -- the same heap besides, and as many blocks held. Only the touches may differ
 pub record SamePoolArena (old new : PoolArenaState) : Type 0 where

@@ -24,7 +24,7 @@ use tlsf_pool::PoolRefusal;
 /// is that of its heap, 4 or 5, and a unit has 16, 32 or 64 bytes. Each block has the units of the longest request, whatever its own length.
 ///
 /// Contracts see it as its heap, the region of its memory, the book in which its blocks stand, the two bounds, how many blocks are held, and
-/// the heap's touches. Lengths are in bytes.
+/// the heap's own memory (`extents`) and touches. Lengths are in bytes.
 #[derive(Drop)]
 pub struct PoolArena<const SLI: u32, const UNIT: usize> {
     arena: Arena<SLI, UNIT>,
@@ -41,9 +41,9 @@ impl<const SLI: u32, const UNIT: usize> Model for PoolArena<SLI, UNIT> {
 
     ghost Value = { PoolArenaState };
 
-    ghost view = { λ p. record { heap = p.arena.heap; region = p.arena.region; book = p.arena.book; most = p.most; longest = p.longest; held = p.held; touches = p.arena.touches } };
+    ghost view = { λ p. record { heap = p.arena.heap; region = p.arena.region; book = p.arena.book; most = p.most; longest = p.longest; held = p.held; extents = p.arena.extents; touches = p.arena.touches } };
 
-    ghost invariant = { λ p. IsPoolArena SLI UNIT (record { heap = p.arena.heap; region = p.arena.region; book = p.arena.book; most = p.most; longest = p.longest; held = p.held; touches = p.arena.touches }) × (p.bytes ≡ fixed_bytes SLI UNIT p.longest) };
+    ghost invariant = { λ p. IsPoolArena SLI UNIT (record { heap = p.arena.heap; region = p.arena.region; book = p.arena.book; most = p.most; longest = p.longest; held = p.held; extents = p.arena.extents; touches = p.arena.touches }) × (p.bytes ≡ fixed_bytes SLI UNIT p.longest) };
 }
 
 // The bytes of each block: those of the units from which every free block serves the longest request.

@@ -11,7 +11,7 @@ unreachable-requires g c =
     let t = c.args.right.loan in
     let same = c.known-right.ensures.same in
     let its = subst (λ (h : HeapState). Holds h (name_of t) (units_of t)) (sym same.0) c.known-right.ensures.live in
-    let found = c.live_at.ensures.held (name_of t) (units_of t) (c.requires.place ∙ ap (λ r. r.start + g.row.UNIT * (name_of t).at) (sym same.1)) its in
+    let found = c.live_at.ensures.held (name_of t) (units_of t) (c.requires.place ∙ ap (λ r. r.start + g.row.UNIT * (name_of t).at) (sym same.1.0)) its in
     let no : ◌≡◌ {A = Option (Name × ℕ)} None (Some (name_of t, units_of t)) = sym c.in_default.is ∙ found in
     cc
 
@@ -20,5 +20,5 @@ returns-clause-name g c =
     let t = c.args.right.loan in
     let same = c.known-right.ensures.same in
     let its = subst (λ (h : HeapState). Holds h (name_of t) (units_of t)) (sym same.0) c.known-right.ensures.live in
-    let found = c.live_at.ensures.held (name_of t) (units_of t) (c.requires.place ∙ ap (λ r. r.start + g.row.UNIT * (name_of t).at) (sym same.1)) its in
+    let found = c.live_at.ensures.held (name_of t) (units_of t) (c.requires.place ∙ ap (λ r. r.start + g.row.UNIT * (name_of t).at) (sym same.1.0)) its in
     ap (λ p. p.0) (some_is (c.in-Some.name, _) (name_of t, units_of t) (sym c.in-Some.is ∙ found))
