@@ -557,6 +557,15 @@ static struct model reach(uint32_t number) {
     return m;
 }
 
+/* What a wrong heap would leave, by the number WRONG: each has to be noticed. */
+static void spoil(void) {
+#ifdef WRONG
+    unsigned char *const spoilt[] = {(unsigned char *)heap.base, (unsigned char *)(heap.base + 1), (unsigned char *)(heap.base + 2),
+                                     (unsigned char *)(heap.base + HEADER), (unsigned char *)pieces[1] + 8};
+    *spoilt[WRONG - 1] ^= 4; /* a size, a serial or stamp, a length or link, a byte of payload, a start bit */
+#endif
+}
+
 /* Makes a call on a state, and leaves the state as it was. */
 static void try_call(const struct model *m, uint32_t number, struct call call) {
     static unsigned char kept[MOST_BYTES];
@@ -564,6 +573,7 @@ static void try_call(const struct model *m, uint32_t number, struct call call) {
     struct model after = *m;
     memcpy(kept, memory, lent);
     call_both(&after, call);
+    spoil();
     check_image(&after);
     note(&after, number, call);
     memcpy(memory, kept, lent);
