@@ -4,7 +4,8 @@
  *
  * The proved code takes memory only to open, and gives it back only to close. Each piece lies 8 bytes behind a multiple of 16,
  * so that payloads at even places are aligned to 16. The word in front of it has the address that malloc gave, or 0. With
- * TLSF_NO_MALLOC there is no other memory than the caller's. A near heap's own fields, the last piece of a heap, lie in it.
+ * TLSF_NO_MALLOC there is no other memory than the caller's. A near heap's own fields, the last piece of a heap, lie in it. With
+ * TLSF_NO_TLS there is no thread-local storage either, as without a system: then one thread at a time opens.
  *
  * Two threads that write one cache line take it from each other each time. So each piece of malloc's, and in the caller's memory
  * each piece of a lane or a queue, has its lines to itself. */
@@ -52,13 +53,24 @@ struct tlsf_piece {
     uint64_t is_there;
     void *at;
 };
+#ifndef _WIN32
 #define HIDDEN __attribute__((visibility("hidden")))
-HIDDEN struct tlsf_piece tlsf_memory_alloc(size_t bytes, size_t align);
+#define WEAK __attribute__((weak, visibility("hidden")))
+#else /* which has neither */
+#define HIDDEN
+#define WEAK
+#endif
+/* On Windows C answers a pair in memory, and so these two are called there as on Linux. */
+#if defined(_WIN32) && defined(__x86_64__)
+#define PAIR __attribute__((sysv_abi))
+#else
+#define PAIR
+#endif
+HIDDEN PAIR struct tlsf_piece tlsf_memory_alloc(size_t bytes, size_t align);
 HIDDEN void tlsf_memory_dealloc(void *at);
-HIDDEN struct tlsf_piece tlsf_memory_realloc(void *at, size_t kept, size_t bytes, size_t align);
+HIDDEN PAIR struct tlsf_piece tlsf_memory_realloc(void *at, size_t kept, size_t bytes, size_t align);
 
 /* The same for what fills and copies payload. They are weak: a program with marks has its own (tlsf_marks.h). */
-#define WEAK __attribute__((weak, visibility("hidden")))
 WEAK void *tlsf_memory_set(void *to, int byte, size_t n);
 WEAK void *tlsf_memory_cpy(void *to, const void *from, size_t n);
 WEAK void *tlsf_memory_move(void *to, const void *from, size_t n);
@@ -66,9 +78,18 @@ void *memset(void *to, int byte, size_t n);
 void *memcpy(void *restrict to, const void *restrict from, size_t n);
 void *memmove(void *to, const void *from, size_t n);
 
+#if defined(TLSF_NO_TLS) && !defined(TLSF_NO_MALLOC)
+#define TLSF_NO_MALLOC
+#endif
 #ifndef TLSF_NO_MALLOC
 void *malloc(size_t bytes);
 void free(void *at);
+#endif
+
+#ifdef TLSF_NO_TLS
+#define OF_THREAD
+#else
+#define OF_THREAD _Thread_local
 #endif
 
 enum {
@@ -96,12 +117,12 @@ enum {
 };
 
 /* What is left of the memory in which this thread opens something now. */
-static _Thread_local unsigned char *lent, *lent_end;
-static _Thread_local size_t lent_step; /* each piece lies 8 bytes behind a multiple of this: 16 or LINES */
+static OF_THREAD unsigned char *lent, *lent_end;
+static OF_THREAD size_t lent_step; /* each piece lies 8 bytes behind a multiple of this: 16 or LINES */
 
 /* The room beside its handle for the own fields of the heap that this thread opens now, and how many pieces come in front of them. */
-static _Thread_local unsigned char *near_room;
-static _Thread_local int pieces_first;
+static OF_THREAD unsigned char *near_room;
+static OF_THREAD int pieces_first;
 
 /* The bytes of a piece with its mark, up to a multiple of `step`. */
 static size_t with_mark(size_t bytes, size_t step) { return (MARK + bytes + step - 1) / step * step; }
@@ -139,7 +160,7 @@ static void *lend_near(size_t bytes) {
 }
 
 /* The proved code asks for words, so for no more alignment than theirs. */
-struct tlsf_piece tlsf_memory_alloc(size_t bytes, size_t align) {
+PAIR struct tlsf_piece tlsf_memory_alloc(size_t bytes, size_t align) {
     static uint64_t nothing;
     void *const at = align > 8 ? 0 : near_room && pieces_first-- == 0 ? lend_near(bytes) : lent ? lend(bytes) : take(bytes);
     return (struct tlsf_piece){at != 0, at ? at : &nothing};
@@ -154,7 +175,7 @@ void tlsf_memory_dealloc(void *at) {
 #endif
 }
 
-struct tlsf_piece tlsf_memory_realloc(void *at, size_t kept, size_t bytes, size_t align) {
+PAIR struct tlsf_piece tlsf_memory_realloc(void *at, size_t kept, size_t bytes, size_t align) {
     const struct tlsf_piece piece = tlsf_memory_alloc(bytes, align);
     if (piece.is_there) {
         memcpy(piece.at, at, kept);
@@ -163,6 +184,8 @@ struct tlsf_piece tlsf_memory_realloc(void *at, size_t kept, size_t bytes, size_
     return piece;
 }
 
+/* Where words may lie at any address: else there is a call. */
+#if defined(__x86_64__) || defined(__ARM_FEATURE_UNALIGNED)
 /* One word and two. Volatile, so that no compiler makes a call of memset of several. */
 typedef volatile uint64_t word __attribute__((aligned(1), may_alias));
 typedef volatile uint64_t two_words __attribute__((vector_size(16), aligned(1), may_alias));
@@ -198,6 +221,9 @@ void *tlsf_memory_set(void *to, int byte, size_t n) {
     }
     return to;
 }
+#else
+void *tlsf_memory_set(void *to, int byte, size_t n) { return memset(to, byte, n); }
+#endif
 
 void *tlsf_memory_cpy(void *to, const void *from, size_t n) { return memcpy(to, from, n); }
 

@@ -9,6 +9,10 @@
 #ifndef TLSF_HPP
 #define TLSF_HPP
 
+#if __cplusplus < 201703L && (!defined(_MSVC_LANG) || _MSVC_LANG < 201703L)
+#error "tlsf.hpp is for C++17 and later"
+#endif
+
 #include "tlsf.h"
 
 #include <atomic>
@@ -40,7 +44,7 @@ namespace detail {
 // What a heap is to those who refer to it: its handle with its own fields, and its number. It lies still, outlives the heap as
 // long as somebody refers to it, and its handle refuses then.
 struct heap_state {
-    tlsf_near_heap near = TLSF_NEAR_CLOSED;
+    tlsf_near_heap held = TLSF_NEAR_CLOSED;
     std::uint32_t number = 0;
     std::atomic<std::size_t> references{1};
 };
@@ -102,14 +106,14 @@ constexpr std::size_t bytes_to_find(std::uint32_t len, std::size_t align) noexce
 
 // A block for objects of any alignment, or null where there is no room.
 inline void *give(heap_state &heap, std::size_t bytes, std::size_t align) noexcept {
-    if (align <= 4096) return tlsf_aligned_alloc(tlsf_near(&heap.near), align, bytes);
+    if (align <= 4096) return tlsf_aligned_alloc(tlsf_near(&heap.held), align, bytes);
     std::uint32_t at = 0;
-    const std::uintptr_t base = reinterpret_cast<std::uintptr_t>(tlsf_near(&heap.near)->base);
+    const std::uintptr_t base = reinterpret_cast<std::uintptr_t>(tlsf_near(&heap.held)->base);
     if (align > TLSF_LONGEST || bytes > TLSF_LONGEST ||
-        tlsf_allocate_aligned(tlsf_near(&heap.near), tlsf_rounded(static_cast<std::uint32_t>(bytes)), static_cast<std::uint32_t>(align / word),
+        tlsf_allocate_aligned(tlsf_near(&heap.held), tlsf_rounded(static_cast<std::uint32_t>(bytes)), static_cast<std::uint32_t>(align / word),
                               static_cast<std::uint32_t>(base / word % (align / word)), &at) != TLSF_OK)
         return nullptr;
-    return tlsf_near(&heap.near)->base + at + 3;
+    return tlsf_near(&heap.held)->base + at + 3;
 }
 
 } // namespace detail
@@ -133,7 +137,7 @@ class heap {
         if (is_open()) return TLSF_IN_USE;
         detail::heap_reference state(new (std::nothrow) detail::heap_state);
         if (!state) return TLSF_NO_MEMORY;
-        const std::uint32_t answer = opens(&state->near);
+        const std::uint32_t answer = opens(&state->held);
         if (answer != TLSF_OK) return answer;
         state->number = number;
         state_ = std::move(state);
@@ -176,21 +180,21 @@ public:
     // As tlsf_open_near, for a heap that isn't open; nothing is thrown.
     [[nodiscard]] std::uint32_t open(level l, std::uint32_t number, std::uint32_t words) noexcept {
         const auto of_level = static_cast<std::uint32_t>(l);
-        return open_by(number, [&](tlsf_near_heap *near) { return tlsf_open_near(near, of_level, number, words); });
+        return open_by(number, [&](tlsf_near_heap *it) { return tlsf_open_near(it, of_level, number, words); });
     }
     // As tlsf_open_near_in: its blocks lie in memory of the caller's, which is the caller's again once it is closed.
     [[nodiscard]] std::uint32_t open_in(level l, std::uint32_t number, void *memory, std::size_t bytes) noexcept {
         const auto of_level = static_cast<std::uint32_t>(l);
-        return open_by(number, [&](tlsf_near_heap *near) { return tlsf_open_near_in(near, of_level, number, memory, bytes); });
+        return open_by(number, [&](tlsf_near_heap *it) { return tlsf_open_near_in(it, of_level, number, memory, bytes); });
     }
     void close() noexcept {
-        if (state_) tlsf_close(tlsf_near(&state_->near));
+        if (state_) tlsf_close(tlsf_near(&state_->held));
         state_ = {};
     }
     bool is_open() const noexcept { return static_cast<bool>(state_); }
 
     // The handle for the calls of tlsf.h, or null where it isn't open. It is closed by this object alone.
-    tlsf_heap *get() noexcept { return state_ ? tlsf_near(&state_->near) : nullptr; }
+    tlsf_heap *get() noexcept { return state_ ? tlsf_near(&state_->held) : nullptr; }
     std::uint32_t number() const noexcept { return state_ ? state_->number : 0; }
 
     // The calls of tlsf.h by their names.
@@ -244,24 +248,24 @@ public:
         std::swap(heap_, other.heap_);
         std::swap(name_, other.name_);
     }
-    explicit operator bool() const noexcept { return heap_ && tlsf_near(&heap_->near)->is_open; }
+    explicit operator bool() const noexcept { return heap_ && tlsf_near(&heap_->held)->is_open; }
     const tlsf_name &name() const noexcept { return name_; }
 
     // Its payload, aligned to 8 bytes, and the bytes of it; null and 0 where there is no block.
-    void *data() noexcept { return heap_ ? tlsf_payload(tlsf_near(&heap_->near), &name_, nullptr) : nullptr; }
+    void *data() noexcept { return heap_ ? tlsf_payload(tlsf_near(&heap_->held), &name_, nullptr) : nullptr; }
     std::uint32_t size() noexcept {
         std::uint32_t len = 0;
-        if (heap_) (void)tlsf_payload(tlsf_near(&heap_->near), &name_, &len);
+        if (heap_) (void)tlsf_payload(tlsf_near(&heap_->held), &name_, &len);
         return len;
     }
     [[nodiscard]] std::uint32_t resize(std::uint32_t len) noexcept {
-        return heap_ ? tlsf_resize(tlsf_near(&heap_->near), &name_, len) : detail::closed;
+        return heap_ ? tlsf_resize(tlsf_near(&heap_->held), &name_, len) : detail::closed;
     }
     [[nodiscard]] std::uint32_t reallocate(std::uint32_t len) noexcept {
-        return heap_ ? tlsf_reallocate(tlsf_near(&heap_->near), &name_, len) : detail::closed;
+        return heap_ ? tlsf_reallocate(tlsf_near(&heap_->held), &name_, len) : detail::closed;
     }
     void reset() noexcept {
-        if (heap_) tlsf_release(tlsf_near(&heap_->near), &name_);
+        if (heap_) tlsf_release(tlsf_near(&heap_->held), &name_);
         heap_ = {};
     }
     // Gives the name out of its hands: the block stays live until somebody releases it.
@@ -457,7 +461,7 @@ public:
         tlsf_name name{};
         void *at = nullptr;
         if (out_ == most_) collect();
-        if (out_ == most_ || !heap_ || tlsf_allocate_at(tlsf_near(&heap_->near), sizeof(T), alignof(T), TLSF_UNFILLED, &name, &at) != TLSF_OK)
+        if (out_ == most_ || !heap_ || tlsf_allocate_at(tlsf_near(&heap_->held), sizeof(T), alignof(T), TLSF_UNFILLED, &name, &at) != TLSF_OK)
             return pointer();
         block held(heap_, name); // goes back where the constructor throws
         T *made = ::new (at) T(std::forward<Args>(args)...);
@@ -469,9 +473,9 @@ public:
     std::uint32_t collect() noexcept {
         std::uint32_t came = 0;
         while (const auto name = queue_.take()) {
-            void *at = tlsf_payload(tlsf_near(&heap_->near), &*name, nullptr);
+            void *at = tlsf_payload(tlsf_near(&heap_->held), &*name, nullptr);
             if (at) static_cast<T *>(at)->~T();
-            tlsf_release(tlsf_near(&heap_->near), &*name);
+            tlsf_release(tlsf_near(&heap_->held), &*name);
             out_--, came++;
         }
         return came;
@@ -565,7 +569,7 @@ class resource : public std::pmr::memory_resource {
         if (!p) detail::no_room();
         return p;
     }
-    void do_deallocate(void *p, std::size_t, std::size_t) override { tlsf_free(tlsf_near(&heap_->near), p); }
+    void do_deallocate(void *p, std::size_t, std::size_t) override { tlsf_free(tlsf_near(&heap_->held), p); }
     bool do_is_equal(const std::pmr::memory_resource &other) const noexcept override { return is_over_one_heap(&other); }
 
     bool is_over_one_heap(const std::pmr::memory_resource *other) const noexcept {
@@ -602,7 +606,7 @@ public:
         if (!p) detail::no_room();
         return static_cast<T *>(p);
     }
-    void deallocate(T *p, std::size_t) noexcept { tlsf_free(tlsf_near(&heap_->near), p); }
+    void deallocate(T *p, std::size_t) noexcept { tlsf_free(tlsf_near(&heap_->held), p); }
 
     template <typename U>
     bool operator==(const allocator<U> &other) const noexcept {

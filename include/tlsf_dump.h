@@ -17,6 +17,12 @@
 #include <inttypes.h>
 #include <stdio.h>
 
+/* In C++ too these calls cast as C does. */
+#if defined(__cplusplus) && defined(TLSF_GNU)
+#pragma GCC diagnostic push
+#pragma GCC diagnostic ignored "-Wold-style-cast"
+#endif
+
 /* The most lines that a trace has, and how many free blocks are found by one walk. */
 enum { TLSF_DUMP_LINES = 32768, TLSF_DUMP_FOUND = 64 };
 
@@ -171,4 +177,7 @@ TLSF_ANSWER static inline uint32_t tlsf_dump(struct tlsf_heap *heap, uint32_t le
     return tlsf_dump_lines(heap, level, tlsf_dump_put_file, to);
 }
 
+#if defined(__cplusplus) && defined(TLSF_GNU)
+#pragma GCC diagnostic pop
+#endif
 #endif

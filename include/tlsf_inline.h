@@ -2,6 +2,22 @@
 #ifndef TLSF_INLINE_H
 #define TLSF_INLINE_H
 
+/* In C++ too these calls cast as C does. */
+#if defined(__cplusplus) && defined(TLSF_GNU)
+#pragma GCC diagnostic push
+#pragma GCC diagnostic ignored "-Wold-style-cast"
+#endif
+
+/* What fills and copies, by no header: string.h is the C library's, and may be missing. */
+#ifdef TLSF_GNU
+#define TLSF_SET __builtin_memset
+#define TLSF_COPY __builtin_memcpy
+#else
+#include <string.h>
+#define TLSF_SET memset
+#define TLSF_COPY memcpy
+#endif
+
 /* What these two name otherwise is called from here on: first what writes a trace, then what marks. */
 #ifdef TLSF_TRACE
 #include "tlsf_trace.h"
@@ -16,7 +32,7 @@
 extern "C" {
 #endif
 
-#define TLSF_LONGEST ((size_t)1 << 27) /* no region has so many bytes */
+#define TLSF_LONGEST (UINT64_C(1) << 27) /* no region has so many bytes */
 
 static inline uint32_t tlsf_rounded(uint32_t len) TLSF_NOEXCEPT {
     return len > UINT32_MAX - 15 ? UINT32_MAX : ((len + 7) / 8 | 1) * 8;
@@ -30,9 +46,9 @@ static inline uint32_t tlsf_place_of(const struct tlsf_heap *heap, const void *p
 
 /* The handle lies at a multiple of 64, so three lines have it, the heap's number, its tick, where its words lie, and its bitmaps. Each
  * is on its way to the cache before one is looked at. */
-static inline struct tlsf_heap *tlsf_near(struct tlsf_near_heap *near) TLSF_NOEXCEPT {
-    unsigned char *const at = near->room + (-(uintptr_t)near->room & 63);
-#ifdef __GNUC__
+static inline struct tlsf_heap *tlsf_near(struct tlsf_near_heap *heap) TLSF_NOEXCEPT {
+    unsigned char *const at = heap->room + (-(uintptr_t)heap->room & 63);
+#ifdef TLSF_GNU
     __builtin_prefetch(at + 64, 1);
     __builtin_prefetch(at + 128, 1);
 #endif
@@ -41,7 +57,7 @@ static inline struct tlsf_heap *tlsf_near(struct tlsf_near_heap *near) TLSF_NOEX
 
 /* A block's header on its way to the cache, while the library looks at its own fields: both are cold in a call that comes rarely. */
 static inline void tlsf_fetch(uintptr_t header) TLSF_NOEXCEPT {
-#ifdef __GNUC__
+#ifdef TLSF_GNU
     __builtin_prefetch((const void *)header, 1); /* whatever it is, it is not followed */
 #else
     (void)header;
@@ -51,7 +67,7 @@ static inline void tlsf_fetch(uintptr_t header) TLSF_NOEXCEPT {
 /* --- By pointer ------------------------------------------------------------------------------------------------------- */
 
 /* What isn't on the way of a heap whose blocks all have an even number of words. */
-#ifdef __GNUC__
+#ifdef TLSF_GNU
 #define TLSF_RARE static __attribute__((noinline, cold, unused))
 #else
 #define TLSF_RARE static inline
@@ -113,7 +129,7 @@ static inline void *tlsf_calloc(struct tlsf_heap *heap, size_t count, size_t eac
     }
     tlsf_release_place(heap, name.at);
     p = tlsf_malloc(heap, len);
-    return p == TLSF_NULL ? p : memset(p, 0, len);
+    return p == TLSF_NULL ? p : TLSF_SET(p, 0, len);
 }
 
 static inline uint32_t tlsf_free(struct tlsf_heap *heap, void *p) TLSF_NOEXCEPT {
@@ -153,7 +169,7 @@ TLSF_RARE bool tlsf_stays(struct tlsf_heap *heap, void *p, size_t len, uint32_t 
     const size_t had = tlsf_usable_size(heap, p);
     *moved = tlsf_malloc(heap, len);
     if (*moved == TLSF_NULL) return false;
-    memcpy(*moved, p, had < len ? had : len);
+    TLSF_COPY(*moved, p, had < len ? had : len);
     tlsf_free(heap, p);
     return false;
 }
@@ -178,7 +194,7 @@ static inline uint32_t tlsf_allocate_at(struct tlsf_heap *heap, size_t len, size
     uint32_t answer = tlsf_allocate_for(heap, len, align, &at);
     if (answer == TLSF_OK) answer = tlsf_place(heap, at, &own, &bytes);
     if (answer != TLSF_OK) return answer;
-    if ((flags & TLSF_UNFILLED) == 0) memset(heap->base + at + 3, 0, bytes);
+    if ((flags & TLSF_UNFILLED) == 0) TLSF_SET(heap->base + at + 3, 0, bytes);
     *name = own;
     *payload = heap->base + at + 3;
     return TLSF_OK;
@@ -339,5 +355,8 @@ static inline const char *tlsf_text_of(uint32_t answer) TLSF_NOEXCEPT {
 
 #ifdef __cplusplus
 }
+#endif
+#if defined(__cplusplus) && defined(TLSF_GNU)
+#pragma GCC diagnostic pop
 #endif
 #endif

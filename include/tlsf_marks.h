@@ -184,14 +184,14 @@ TLSF_ANSWER static inline uint32_t tlsf_marked_open_in(struct tlsf_heap *heap, u
     return tlsf_mark_region(heap, tlsf_open_in(heap, level, number, memory, bytes));
 }
 
-TLSF_ANSWER static inline uint32_t tlsf_marked_open_near(struct tlsf_near_heap *near, uint32_t level, uint32_t number,
+TLSF_ANSWER static inline uint32_t tlsf_marked_open_near(struct tlsf_near_heap *heap, uint32_t level, uint32_t number,
                                                          uint32_t words) TLSF_NOEXCEPT {
-    return tlsf_mark_region(tlsf_near(near), tlsf_open_near(near, level, number, words));
+    return tlsf_mark_region(tlsf_near(heap), tlsf_open_near(heap, level, number, words));
 }
 
-TLSF_ANSWER static inline uint32_t tlsf_marked_open_near_in(struct tlsf_near_heap *near, uint32_t level, uint32_t number,
+TLSF_ANSWER static inline uint32_t tlsf_marked_open_near_in(struct tlsf_near_heap *heap, uint32_t level, uint32_t number,
                                                             void *memory, size_t bytes) TLSF_NOEXCEPT {
-    return tlsf_mark_region(tlsf_near(near), tlsf_open_near_in(near, level, number, memory, bytes));
+    return tlsf_mark_region(tlsf_near(heap), tlsf_open_near_in(heap, level, number, memory, bytes));
 }
 
 static inline uint32_t tlsf_marked_close(struct tlsf_heap *heap) TLSF_NOEXCEPT {
@@ -231,7 +231,7 @@ TLSF_ANSWER static inline uint32_t tlsf_marked_allocate(struct tlsf_heap *heap, 
     uint32_t at = 0, bytes = 0;
     const uint32_t answer = tlsf_marked_allocate_place(heap, len, &at);
     if (answer != TLSF_OK) return answer;
-    memset(tlsf_mark_at(heap, at), 0, len);
+    TLSF_SET(tlsf_mark_at(heap, at), 0, len);
     return tlsf_marked_place(heap, at, name, &bytes);
 }
 
@@ -287,7 +287,7 @@ static inline bool tlsf_mark_stays(struct tlsf_heap *heap, uint32_t at, uint32_t
 
 static inline void tlsf_mark_copy(struct tlsf_heap *heap, uint32_t from, uint32_t to, uint32_t had, uint32_t len) TLSF_NOEXCEPT {
     tlsf_mark_live(tlsf_mark_at(heap, from), had);
-    memcpy(tlsf_mark_at(heap, to), tlsf_mark_at(heap, from), had < len ? had : len);
+    TLSF_COPY(tlsf_mark_at(heap, to), tlsf_mark_at(heap, from), had < len ? had : len);
 }
 
 TLSF_ANSWER static inline uint32_t tlsf_marked_resize_place(struct tlsf_heap *heap, uint32_t at, uint32_t len,
@@ -324,7 +324,7 @@ TLSF_ANSWER static inline uint32_t tlsf_marked_resize(struct tlsf_heap *heap, co
         return answer;
     }
     answer = tlsf_marked_resize_place(heap, name->at, len, &at);
-    if (answer == TLSF_OK && len > had) memset((char *)tlsf_mark_at(heap, at) + had, 0, len - had);
+    if (answer == TLSF_OK && len > had) TLSF_SET((char *)tlsf_mark_at(heap, at) + had, 0, len - had);
     return answer;
 }
 

@@ -206,17 +206,17 @@ TLSF_ANSWER static inline uint32_t tlsf_traced_open_in(struct tlsf_heap *heap, u
     return answer;
 }
 
-TLSF_ANSWER static inline uint32_t tlsf_traced_open_near(struct tlsf_near_heap *near, uint32_t level, uint32_t number,
+TLSF_ANSWER static inline uint32_t tlsf_traced_open_near(struct tlsf_near_heap *heap, uint32_t level, uint32_t number,
                                                          uint32_t words) TLSF_NOEXCEPT {
-    const uint32_t answer = tlsf_open_near(near, level, number, words);
-    if (answer == TLSF_OK) tlsf_trace_begin(tlsf_near(near), level, number);
+    const uint32_t answer = tlsf_open_near(heap, level, number, words);
+    if (answer == TLSF_OK) tlsf_trace_begin(tlsf_near(heap), level, number);
     return answer;
 }
 
-TLSF_ANSWER static inline uint32_t tlsf_traced_open_near_in(struct tlsf_near_heap *near, uint32_t level, uint32_t number,
+TLSF_ANSWER static inline uint32_t tlsf_traced_open_near_in(struct tlsf_near_heap *heap, uint32_t level, uint32_t number,
                                                             void *memory, size_t bytes) TLSF_NOEXCEPT {
-    const uint32_t answer = tlsf_open_near_in(near, level, number, memory, bytes);
-    if (answer == TLSF_OK) tlsf_trace_begin(tlsf_near(near), level, number);
+    const uint32_t answer = tlsf_open_near_in(heap, level, number, memory, bytes);
+    if (answer == TLSF_OK) tlsf_trace_begin(tlsf_near(heap), level, number);
     return answer;
 }
 

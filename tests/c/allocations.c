@@ -2,24 +2,21 @@
  * and refused, many times. With `takes`, one turn does, which has to be told.
  * Link with -Wl,--wrap=malloc,--wrap=free,--wrap=tlsf_memory_alloc,--wrap=tlsf_memory_dealloc. */
 #include "chance.h"
+#include "piece.h"
 #include "tlsf.h"
+
+#include <string.h>
 
 enum { BLOCKS = 64, TURNS = 40000, KINDS = 58 };
 
 static size_t calls; /* of malloc and free, and of what the proved code asks for */
 static int is_counted;
 
-struct piece {
-    uint64_t is_there;
-    void *at;
-};
 void *__real_malloc(size_t n);
 void __real_free(void *p);
-struct piece __real_tlsf_memory_alloc(size_t bytes, size_t align);
 void __real_tlsf_memory_dealloc(void *at);
 void *__wrap_malloc(size_t n);
 void __wrap_free(void *p);
-struct piece __wrap_tlsf_memory_alloc(size_t bytes, size_t align);
 void __wrap_tlsf_memory_dealloc(void *at);
 
 static void count(void) {
@@ -33,7 +30,7 @@ void __wrap_free(void *p) {
     count();
     __real_free(p);
 }
-struct piece __wrap_tlsf_memory_alloc(size_t bytes, size_t align) {
+PAIR struct piece __wrap_tlsf_memory_alloc(size_t bytes, size_t align) {
     count();
     return __real_tlsf_memory_alloc(bytes, align);
 }

@@ -4,6 +4,7 @@
 #include "chance.h"
 #include "tlsf.h"
 
+#include <string.h>
 #include <sys/mman.h>
 
 enum { WORDS = 3000, MOST = 300, PAGE = 4096, GUARD = 16 * PAGE };

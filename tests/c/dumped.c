@@ -8,6 +8,7 @@
 #include "chance.h"
 #include <stdio.h>
 #include <stdlib.h>
+#include <string.h>
 
 enum { MOST = 2000 };
 static struct tlsf_heap heap = TLSF_CLOSED, copy = TLSF_CLOSED;

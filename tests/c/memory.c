@@ -3,11 +3,13 @@
  * other piece does. No piece of a lane or a queue shares its lines with another piece. Null and MAP_FAILED are refused, and nothing is
  * taken. With NO_MALLOC there is no malloc, and tlsf_open is refused.
  * Link with -Wl,--wrap=malloc,--wrap=free,--wrap=tlsf_memory_alloc. */
+#include "piece.h"
 #include "tlsf.h"
 
 #include <pthread.h>
 #include <stdio.h>
 #include <stdlib.h>
+#include <string.h>
 
 enum { ROOM = 3 << 17, GUARD = 128, FILLED = 0xa5, LINES = 128, PIECES = 1100 };
 
@@ -52,10 +54,6 @@ static void wants(const char *what, size_t got, size_t wanted) {
 
 /* What the proved code asks for, but for what lies in the near heap: where the last piece ends, and where all would that lie as close
  * together as they may; and the first and the last lines of the pieces since `pieces` was 0, each of two cache lines. */
-struct piece {
-    uint64_t is_there;
-    void *at;
-};
 static _Thread_local const unsigned char *last_end;
 static _Thread_local size_t close_end;
 static _Thread_local int pieces_in_near;
@@ -63,9 +61,7 @@ static _Thread_local struct {
     uintptr_t first, last;
 } lines[PIECES];
 static _Thread_local size_t pieces;
-struct piece __real_tlsf_memory_alloc(size_t bytes, size_t align);
-struct piece __wrap_tlsf_memory_alloc(size_t bytes, size_t align);
-struct piece __wrap_tlsf_memory_alloc(size_t bytes, size_t align) {
+PAIR struct piece __wrap_tlsf_memory_alloc(size_t bytes, size_t align) {
     const struct piece piece = __real_tlsf_memory_alloc(bytes, align);
     const unsigned char *const at = piece.at;
     if (piece.is_there && at >= near.front && at < near.behind + GUARD) {

@@ -4,6 +4,7 @@
 #include "chance.h"
 #include "tlsf.h"
 
+#include <string.h>
 
 enum { HEAPS = 2, MOST = 200, LONGEST = 700, WORDS = 2401, NUMBER = 5, GUARD = 64, HEADER = 3 };
 

@@ -44,7 +44,7 @@ def raw_of(value):
         state = value["state_"]["state_"]
         if not int(state):
             raise gdb.GdbError("that heap is not open")
-        return handle_of(state["near"])
+        return handle_of(state["held"])
     if kind.tag == "tlsf_near_heap":
         return handle_of(value)
     if kind.tag != "tlsf_heap":
