@@ -1,13 +1,20 @@
 # Sourced, with $top, the repository: where what is proved and built lies, and how far its build is.
 # $goal names the crate that it is built of: tlsf_tool, the program, if nothing else was set, or tlsf_c, C's library; and
-# $target the processor of that library, where it isn't x86-64.
+# $target the processor that it is for, where that isn't x86-64. With $whole set, what is built counts only where all that a
+# release needs of it (tools/release) lies beside it.
 #
 # Builds lie outside the repository, in a folder of this user's own, $builds: `rt ci` reads the whole checkout, and
 # refuses a builder's tree there. What is proved is taken from any such folder, also from one that can't be written. Each
-# text of the sources has a folder, named by the checksum of all that the goal is proved from, and by the target:
+# text of the sources has a folder for each logic that it was proved by, and for each target. Its name, KEY, is TEXT-LOGIC or
+# TEXT-LOGIC-TARGET: the checksum of all that the goal is proved from, and that of the logic, as `rt version` has it:
 #
-#     KEY/tlsf       the proved program, there once it is whole; or KEY/libtlsf.a, the library, with the one without malloc
-#                    and the shared one beside it
+#     KEY/tlsf       the proved program, there once it is whole; for another target KEY/tlsf.o, before it is linked; or
+#                    KEY/libtlsf.a, the library, with the one without malloc and the shared one beside it
+#     KEY/KIT        what the toolchain that proved it says of itself, and its checksums: others of the same logic take it as
+#                    proved
+#     KEY/tlsf.o, tlsf.verdict, libtlsf.a.s, .ll, .verdict
+#                    what a release needs besides: the object; the library's assembly and LLVM module, without c/memory.c;
+#                    what the checker said, with the checksum of what was built of that. The gate may leave none of these
 #     KEY/log        what the last build said
 #     KEY/start      when that build began, in seconds since 1970
 #     KEY/all, done  the crates to prove, of which the goal is the last, and those proved so far, a line each
@@ -22,9 +29,16 @@
 
 goal=${goal:-tlsf_tool}
 case $goal in
-tlsf_c) product=libtlsf.a what="the library" caller=library waits="./library ${target:+--target $target }PREFIX" no_answer=1 ;;
-*) target='' product=tlsf what="the program" caller=tlsf waits="./tlsf --prove" no_answer=70 ;;
+tlsf_c)
+    product=libtlsf.a besides="libtlsf.a.s libtlsf.a.ll libtlsf.a.verdict"
+    what="the library" caller=library waits="./library ${target:+--target $target }PREFIX" no_answer=1
+    ;;
+*)
+    product=tlsf${target:+.o} besides="tlsf.o tlsf.verdict"
+    what="the program" caller=tlsf waits="./tlsf --prove" no_answer=70
+    ;;
 esac
+[ -z "$whole" ] || caller=library waits="./library --release FOLDER" no_answer=1
 
 # The folder for builds that no other one takes.
 temporary=${TMPDIR:-/tmp}/peachanchor-$(id -u)
@@ -63,14 +77,46 @@ find_product() { in_folders "$(own_home)" has_product; }
 
 has_product() {
     lie_in "$1"
-    is_own "$1" && [ -s "$program" ] && { [ -x "$program" ] || [ "$goal" = tlsf_c ]; }
+    is_own "$1" && is_there
 }
 
-# lie_in FOLDER: sets $builds, $build, the folder of the text there, and $program, what is proved and built of it.
+# Whether the product is there, as this caller wants it.
+is_there() {
+    [ -s "$program" ] && [ -s "$build/KIT" ] && { [ -x "$program" ] || [ "$product" != tlsf ]; } || return 1
+    [ -n "$whole" ] || return 0
+    for file in $besides; do
+        [ -s "$build/$file" ] || return 1
+    done
+}
+
+# lie_in FOLDER: sets $builds, $build, the folder of the text there, and $program, what is proved and built of it. With no
+# toolchain on the path that is the newest one by any logic.
 lie_in() {
     builds=$1
-    build=$builds/$key${target:+-$target}
+    build=$builds/$key-$logic${target:+-$target}
+    [ -n "$logic" ] || find_newest "$product" || find_newest start || :
     program=$build/$product
+}
+
+find_newest() {
+    newest=$(ls -t "$builds/$key-"????????????????"${target:+-$target}/$1" 2>/dev/null | head -n 1)
+    [ -n "$newest" ] && build=${newest%/*}
+}
+
+# Sets $kit to what the toolchain on the path says of itself, and $logic to the checksum of its logic; to nothing where none is
+# there, or says none. `rt version` takes a third of a second, and reads the file that is read here.
+find_kit() {
+    kit='' logic=''
+    rt=$(command -v rt) && rt=$(readlink -f "$rt") || return 0
+    { read -r kit < "${rt%/*/*}/KIT-ID" || kit=$(rt version < /dev/null); } 2>/dev/null
+    case $kit in *' logic '*) logic=${kit##* logic } && logic=${logic%% *} ;; esac
+    case $logic in *[!0-9a-f]*) logic='' ;; ????????????????) ;; *) logic='' ;; esac
+}
+
+# Prints what KIT has: what the toolchain says of itself, and the checksums of its archive, its sources and its compiler.
+tell_kit() {
+    echo "$kit"
+    grep -E '^(archive|commit|compiler) ' "${rt%/*/*}/WHAT" 2>/dev/null || :
 }
 
 # text_sum TREE: prints the checksum of all that the goal is proved and built from in a tree.
@@ -102,8 +148,9 @@ places_sum() {
         ! -type d -printf '%p %i %s %T@ %C@\n' 2>/dev/null) && echo "$listed" | sha256sum | cut -c 1-40
 }
 
-# Sets $key, the checksum of the text in the repository, and writes nothing.
+# Sets $key, the checksum of the text in the repository, and what find_kit does; writes nothing.
 find_key() {
+    find_kit
     recalled=
     places=$(places_sum "$top")
     if [ -n "$places" ] && in_folders "$(own_home)" recalls_key; then
@@ -149,9 +196,15 @@ end_build() {
     [ ! -s "$1/builder" ] || kill -9 "-$(cat "$1/builder")" 2>/dev/null
 }
 
+# Sets $prover to the name of the toolchain that proved what is there, and to another's here that has the same logic.
+find_prover() {
+    read -r prover < "$build/KIT" && proved_by=$prover && prover=${prover%% *}
+    [ -z "$logic" ] || [ "$proved_by" = "$kit" ] || prover="$prover, of the logic of ${kit%% *} here"
+}
+
 # Sets $state: proved, building, failed, interrupted, or none.
 find_state() {
-    if [ -s "$program" ]; then
+    if is_there; then
         state=proved
     elif is_building "$build"; then
         state=building
@@ -170,7 +223,7 @@ await_program() {
     show=${1:-say}
     await_end
     if [ "$state" = interrupted ]; then
-        "$top/tools/first_build" "$goal" ${target:+"$target"} || exit "$no_answer"
+        "$top/tools/first_build" "$goal" ${target:+"$target"} ${whole:+--whole} || exit "$no_answer"
         await_end
     fi
     case $state in
@@ -180,6 +233,23 @@ await_program() {
     *) stop "the build was interrupted; $waits goes on with it" ;;
     esac
 }
+
+# get_product: sets all that find_text does, with the product there: it is proved and built first, if need be.
+get_product() {
+    find_text
+    ! is_there || return 0
+    "$top/tools/first_build" "$goal" ${target:+"$target"} ${whole:+--whole} || exit 1
+    say "proving and building $what${target:+ for $target}, which takes some minutes; the log is $build/log"
+    await_program
+}
+
+# product_of GOAL [TARGET]: does so for these, and writes where the product lies.
+product_of() (
+    goal=$1 target=${2-}
+    . "$top/tools/program.sh"
+    get_product
+    echo "$program"
+)
 
 await_end() {
     shown='' shown_at=0
@@ -246,7 +316,10 @@ has() { command -v "$1" > /dev/null; }
 
 # What is said where a tool isn't there that a build needs.
 lacking() {
-    case $1 in rt) from="; $top/README.md says where rt comes from" ;; *) from='' ;; esac
+    case $1 in
+    rt) from="; $top/README.md says where rt comes from, and 'Without the toolchain' there which release needs none" ;;
+    *) from='' ;;
+    esac
     echo "$1, which a build needs, is not on the path$from"
 }
 
