@@ -1,6 +1,6 @@
 /* A program with no C library: it links libtlsf_nomalloc.a, three functions of its own that fill and copy, and nothing else. It
  * allocates, writes, frees and closes in a static array, and ends with 0 where all is as it should be.
- * Build with -nostdlib -static -O2, for x86-64 or aarch64 Linux. */
+ * Build with -nostdlib -static -O2, for x86-64, aarch64 or riscv64 Linux. */
 #include "tlsf.h"
 
 static _Alignas(16) unsigned char memory[1 << 16];
@@ -43,6 +43,20 @@ static void own_variables(void) {
     if (system_call(158, 0x1002, thread) != 0) end(9); /* arch_prctl, ARCH_SET_FS */
 }
 #define BEGINS __attribute__((force_align_arg_pointer))
+#elif defined(__riscv)
+static _Alignas(16) unsigned char own[256];
+static void end(int status) {
+    register long number __asm__("a7") = 93, first __asm__("a0") = status;
+    __asm__ volatile("ecall" : : "r"(number), "r"(first) : "memory");
+}
+
+/* The thread's own variables begin where tp points, and gp is what linkers count from. The place of one is asked for, less 2,048. */
+static void own_variables(void) {
+    __asm__ volatile(".option push\n.option norelax\nla gp, __global_pointer$\n.option pop\nmv tp, %0" : : "r"(own) : "memory");
+}
+void *__tls_get_addr(const size_t *place);
+void *__tls_get_addr(const size_t *place) { return own + place[1] + 2048; }
+#define BEGINS
 #else
 static void end(int status) {
     register long number __asm__("x8") = 93, first __asm__("x0") = status;

@@ -1,5 +1,5 @@
 /* A plain heap and a plain lane that answer as tlsf.h says, by first fit over a table of blocks: what the tests beside it are
- * tried on, since one that passes on each library shows nothing. With WRONG from 1 to 14, and of 25 and 26,
+ * tried on, since one that passes on each library shows nothing. With a number from 1 to 14, 25 or 26 in the environment's WRONG
  * one thing in it is wrong, and random.c has to notice; from 15 to 24, and pointers.c has to. It is no real-time heap, and its
  * lanes are for one thread. */
 #define TLSF_NO_COPIES
@@ -8,11 +8,14 @@
 #include <stdlib.h>
 #include <string.h>
 
-#ifndef WRONG
-#define WRONG 0
-#endif
-
 enum { HEADER = 3, LEAST = 4 };
+
+static int wrong;
+
+__attribute__((constructor)) static void read_wrong(void) {
+    const char *const number = getenv("WRONG");
+    wrong = number ? atoi(number) : 0;
+}
 
 struct piece {
     uint32_t at, words, len;
@@ -77,16 +80,16 @@ static uint32_t counted(struct plain *p, uint32_t answer, uint32_t len) {
     c->words = 0;
     for (uint32_t k = 0; k < p->count; k++) c->words += p->pieces[k].is_live ? p->pieces[k].words : 0;
     if (c->words > c->most_words) c->most_words = c->words;
-    if (answer == TLSF_NO_FIT && WRONG != 15) c->refused++;
+    if (answer == TLSF_NO_FIT && wrong != 15) c->refused++;
     if (answer == TLSF_NO_FIT && len > c->longest_refused) c->longest_refused = len;
     return answer;
 }
 
 static uint32_t find(struct plain *p, const struct tlsf_name *name, struct piece **found) {
-    if (WRONG != 3 && name->heap != p->number) return TLSF_FOREIGN;
+    if (wrong != 3 && name->heap != p->number) return TLSF_FOREIGN;
     for (uint32_t k = 0; k < p->count; k++) {
         *found = &p->pieces[k];
-        if ((*found)->is_live && (*found)->at == name->at && (WRONG == 2 || (*found)->serial == name->serial)) return TLSF_OK;
+        if ((*found)->is_live && (*found)->at == name->at && (wrong == 2 || (*found)->serial == name->serial)) return TLSF_OK;
     }
     return TLSF_STALE;
 }
@@ -155,9 +158,9 @@ uint32_t tlsf_allocate_place(struct tlsf_heap *heap, uint32_t len, uint32_t *at)
     if (!heap->is_open) return TLSF_IS_CLOSED;
     struct plain *p = heap->held;
     uint32_t k = 0;
-    while (k < p->count && (p->pieces[k].is_live || p->pieces[k].words < want(len) + (WRONG == 13))) k++;
+    while (k < p->count && (p->pieces[k].is_live || p->pieces[k].words < want(len) + (wrong == 13))) k++;
     if (k == p->count) return counted(p, TLSF_NO_FIT, len);
-    *at = give(p, k, 0, want(len) - (WRONG == 6 && want(len) > LEAST), len);
+    *at = give(p, k, 0, want(len) - (wrong == 6 && want(len) > LEAST), len);
     return counted(p, TLSF_OK, len);
 }
 
@@ -167,7 +170,7 @@ uint32_t tlsf_allocate_aligned(struct tlsf_heap *heap, uint32_t len, uint32_t st
     for (uint32_t k = 0; k < p->count; k++) {
         const struct piece *it = &p->pieces[k];
         uint32_t gap = 0;
-        while (gap < it->words && ((it->at + gap + HEADER + skew + (WRONG == 16)) % step || (gap && gap < LEAST))) gap++;
+        while (gap < it->words && ((it->at + gap + HEADER + skew + (wrong == 16)) % step || (gap && gap < LEAST))) gap++;
         if (it->is_live || it->words < gap + want(len)) continue;
         *at = give(p, k, gap, want(len), len);
         return counted(p, TLSF_OK, len);
@@ -177,11 +180,11 @@ uint32_t tlsf_allocate_aligned(struct tlsf_heap *heap, uint32_t len, uint32_t st
 
 uint32_t tlsf_allocate(struct tlsf_heap *heap, uint32_t len, struct tlsf_name *name) {
     uint32_t at = 0;
-    if (WRONG == 10) name->heap = ~0u;
+    if (wrong == 10) name->heap = ~0u;
     const uint32_t answer = tlsf_allocate_place(heap, len, &at);
     if (answer != TLSF_OK) return answer;
     struct plain *p = heap->held;
-    if (WRONG != 1) memset(p->region + at + HEADER, 0, len);
+    if (wrong != 1) memset(p->region + at + HEADER, 0, len);
     *name = (struct tlsf_name){p->number, at, p->tick};
     return TLSF_OK;
 }
@@ -189,7 +192,7 @@ uint32_t tlsf_allocate(struct tlsf_heap *heap, uint32_t len, struct tlsf_name *n
 static uint32_t release(struct plain *p, struct piece *found) {
     p->tick++;
     found->is_live = false;
-    if (WRONG != 7) merge(p);
+    if (wrong != 7) merge(p);
     return counted(p, TLSF_OK, 0);
 }
 
@@ -223,7 +226,7 @@ uint32_t tlsf_resize(struct tlsf_heap *heap, const struct tlsf_name *name, uint3
     if (answer != TLSF_OK) return answer;
     const uint32_t had = found->len;
     answer = resize(heap->held, found, len);
-    if (WRONG != 4 && answer == TLSF_OK && len > had) memset(bytes_of(heap->held, found) + had, 0, len - had);
+    if (wrong != 4 && answer == TLSF_OK && len > had) memset(bytes_of(heap->held, found) + had, 0, len - had);
     return answer;
 }
 
@@ -232,8 +235,8 @@ static uint32_t at_place(struct tlsf_heap *heap, uint32_t at, struct piece **fou
     struct plain *p = heap->held;
     for (uint32_t k = 0; k < p->count; k++) {
         *found = &p->pieces[k];
-        if ((*found)->at == at || (WRONG == 17 && at > (*found)->at && at - (*found)->at < (*found)->words))
-            return (*found)->is_live || WRONG == 18 ? TLSF_OK : TLSF_STALE;
+        if ((*found)->at == at || (wrong == 17 && at > (*found)->at && at - (*found)->at < (*found)->words))
+            return (*found)->is_live || wrong == 18 ? TLSF_OK : TLSF_STALE;
     }
     return TLSF_STALE;
 }
@@ -242,15 +245,15 @@ uint32_t tlsf_release_place(struct tlsf_heap *heap, uint32_t at) {
     struct piece *found = NULL;
     const uint32_t answer = at_place(heap, at, &found);
     if (answer != TLSF_OK) return answer;
-    return WRONG == 19 ? TLSF_OK : release(heap->held, found);
+    return wrong == 19 ? TLSF_OK : release(heap->held, found);
 }
 
 uint32_t tlsf_place(struct tlsf_heap *heap, uint32_t at, struct tlsf_name *name, uint32_t *len) {
     struct piece *found = NULL;
     const uint32_t answer = at_place(heap, at, &found);
     if (answer != TLSF_OK) return answer;
-    *name = (struct tlsf_name){((struct plain *)heap->held)->number, found->at, found->serial + (WRONG == 20)};
-    *len = found->len - (WRONG == 21);
+    *name = (struct tlsf_name){((struct plain *)heap->held)->number, found->at, found->serial + (wrong == 20)};
+    *len = found->len - (wrong == 21);
     return TLSF_OK;
 }
 
@@ -263,7 +266,7 @@ uint32_t tlsf_resize_place(struct tlsf_heap *heap, uint32_t at, uint32_t len, ui
     if (answer != TLSF_OK) return answer;
     const uint32_t had = found->len;
     answer = resize(p, found, len);
-    if (answer == TLSF_OK && WRONG == 22) memset(bytes_of(p, found), 0, 1);
+    if (answer == TLSF_OK && wrong == 22) memset(bytes_of(p, found), 0, 1);
     if (answer == TLSF_OK) *new_at = at;
     if (answer != TLSF_NO_ROOM) return answer;
     answer = tlsf_allocate_place(heap, len, new_at);
@@ -288,7 +291,7 @@ uint32_t tlsf_block_at(struct tlsf_heap *heap, uint32_t at, struct tlsf_block_in
     for (uint32_t k = 0; k < p->count; k++) {
         const struct piece *it = &p->pieces[k];
         if (it->at != at) continue;
-        *block = (struct tlsf_block_info){at, it->words, it->is_live && WRONG != 23, it->len, it->serial};
+        *block = (struct tlsf_block_info){at, it->words, it->is_live && wrong != 23, it->len, it->serial};
         if (!it->is_live) block->len = 0;
         return TLSF_OK;
     }
@@ -298,7 +301,7 @@ uint32_t tlsf_block_at(struct tlsf_heap *heap, uint32_t at, struct tlsf_block_in
 uint32_t tlsf_counts(struct tlsf_heap *heap, struct tlsf_heap_counts *counts) {
     if (!heap->is_open) return TLSF_IS_CLOSED;
     *counts = ((struct plain *)heap->held)->counts;
-    if (WRONG == 24) counts->most_words = counts->words;
+    if (wrong == 24) counts->most_words = counts->words;
     return TLSF_OK;
 }
 
@@ -314,7 +317,7 @@ static uint32_t in_payload(struct tlsf_heap *heap, const struct tlsf_name *name,
 uint32_t tlsf_write(struct tlsf_heap *heap, const struct tlsf_name *name, uint32_t at, const uint8_t *bytes, size_t n) {
     uint8_t *to = NULL;
     uint32_t answer = in_payload(heap, name, at, n, &to);
-    if (WRONG == 5 && answer == TLSF_RANGE) answer = in_payload(heap, name, at, n - 1, &to);
+    if (wrong == 5 && answer == TLSF_RANGE) answer = in_payload(heap, name, at, n - 1, &to);
     if (answer == TLSF_OK) memcpy(to, bytes, n);
     return answer;
 }
@@ -322,7 +325,7 @@ uint32_t tlsf_write(struct tlsf_heap *heap, const struct tlsf_name *name, uint32
 uint32_t tlsf_read(struct tlsf_heap *heap, const struct tlsf_name *name, uint32_t at, uint8_t *out, size_t n) {
     uint8_t *from = NULL;
     const uint32_t answer = in_payload(heap, name, at, n, &from);
-    if (WRONG == 11 && answer == TLSF_RANGE) return TLSF_OK;
+    if (wrong == 11 && answer == TLSF_RANGE) return TLSF_OK;
     if (answer == TLSF_OK) memcpy(out, from, n);
     return answer;
 }
@@ -334,7 +337,7 @@ uint32_t tlsf_locate(struct tlsf_heap *heap, const struct tlsf_name *name, uint6
     const uint32_t answer = find(p, name, &found);
     if (answer != TLSF_OK) return answer;
     *base = p->region;
-    *len = WRONG == 12 ? (found->len + 7) / 8 * 8 : found->len;
+    *len = wrong == 12 ? (found->len + 7) / 8 * 8 : found->len;
     return TLSF_OK;
 }
 
@@ -348,7 +351,7 @@ uint32_t tlsf_report(struct tlsf_heap *heap, struct tlsf_heap_report *report) {
         else r.free_blocks++, r.free_words += it->words;
         if (!it->is_live && it->words > r.largest) r.largest = it->words;
     }
-    if (WRONG == 14 && r.live_blocks > 9) r.live_bytes++;
+    if (wrong == 14 && r.live_blocks > 9) r.live_bytes++;
     r.grant = r.largest ? 8 * (r.largest - HEADER) : 0;
     r.fragmentation = r.free_words ? 1000 - 1000 * r.largest / r.free_words : 0;
     r.waste = 8 * r.live_words - r.live_bytes;
@@ -393,7 +396,7 @@ uint32_t tlsf_take_close(struct tlsf_take_end *take) { return close_end(take->he
 uint32_t tlsf_put(struct tlsf_post_end *post, const struct tlsf_name *name) {
     struct ring *ring = post->held;
     if (!post->is_open) return TLSF_IS_CLOSED;
-    if (ring->count == ring->capacity + (WRONG == 9)) return TLSF_FULL;
+    if (ring->count == ring->capacity + (wrong == 9)) return TLSF_FULL;
     ring->names[ring->count++] = *name;
     return TLSF_OK;
 }
@@ -401,8 +404,8 @@ uint32_t tlsf_put(struct tlsf_post_end *post, const struct tlsf_name *name) {
 uint32_t tlsf_put_all(struct tlsf_post_end *post, const struct tlsf_name *names, size_t n, size_t *went) {
     size_t count = 0;
     if (!post->is_open) return TLSF_IS_CLOSED;
-    while (count < n && tlsf_put(post, &names[WRONG == 25 ? 0 : count]) == TLSF_OK) count++;
-    *went = count + (WRONG == 26 && count != n);
+    while (count < n && tlsf_put(post, &names[wrong == 25 ? 0 : count]) == TLSF_OK) count++;
+    *went = count + (wrong == 26 && count != n);
     return TLSF_OK;
 }
 
@@ -411,8 +414,8 @@ uint32_t tlsf_take(struct tlsf_take_end *take, struct tlsf_name *name) {
     if (!take->is_open) return TLSF_IS_CLOSED;
     if (!ring->count) return TLSF_EMPTY;
     ring->count--;
-    *name = ring->names[WRONG == 8 ? ring->count : 0];
-    if (WRONG != 8) memmove(ring->names, ring->names + 1, ring->count * sizeof *name);
+    *name = ring->names[wrong == 8 ? ring->count : 0];
+    if (wrong != 8) memmove(ring->names, ring->names + 1, ring->count * sizeof *name);
     return TLSF_OK;
 }
 

@@ -118,12 +118,32 @@ static void one_call(struct tlsf_pools *pools) {
     }
 }
 
-static void check_reports(struct tlsf_pools *pools) {
+/* Names that no block has, of these heaps and of others, are refused by each call. */
+static void one_refused(struct tlsf_pools *pools, uint32_t parts) {
+    struct tlsf_name name = held[below(count)].name;
+    uint8_t byte = 7;
+    const uint32_t kind = below(5);
+    if (kind == 0) name.at = below(2) ? below(4000) : UINT32_MAX - below(70);
+    if (kind == 1) name.serial += 1 + below(3);
+    if (kind == 2) name.heap = NUMBER + below(parts);
+    if (kind == 3) name.heap = NUMBER - 1 - below(NUMBER);
+    if (kind == 4) name.heap = NUMBER + parts + below(9);
+    for (uint32_t i = 0; i < count; i++)
+        if (!memcmp(&held[i].name, &name, sizeof name)) return;
+    const uint32_t why = name.heap - NUMBER < parts ? TLSF_STALE : TLSF_FOREIGN;
+    wants("release by another name", tlsf_pools_release(pools, &name), why);
+    wants("read by another name", tlsf_pools_read(pools, &name, 0, &byte, 1), why);
+    wants("write by another name", tlsf_pools_write(pools, &name, 0, &byte, 1), why);
+    wants("no byte came", byte, 7);
+}
+
+static uint32_t check_reports(struct tlsf_pools *pools) {
     struct tlsf_heap_report report;
     uint32_t blocks = 0, part = 0;
     for (; tlsf_pools_report(pools, part, &report) == TLSF_OK; part++) blocks += report.live_blocks;
     wants("parts", part >= 1 && part <= 8, 1);
     wants("blocks of all parts", blocks, count);
+    return part;
 }
 
 int main(int argc, char **argv) {
@@ -135,8 +155,10 @@ int main(int argc, char **argv) {
     refusals_of_opening();
     refusals_of_calls();
     wants("open", tlsf_pools_open(&pools, level, NUMBER, rows, ROWS), TLSF_OK);
+    const uint32_t parts = check_reports(&pools);
     for (turn = 0; turn < calls; turn++) {
         one_call(&pools);
+        if (count) one_refused(&pools, parts);
         if (turn % 97 == 0) check_reports(&pools);
     }
     while (count) wants("release at last", tlsf_pools_release(&pools, &held[--count].name), TLSF_OK);

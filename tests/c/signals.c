@@ -7,12 +7,12 @@
 #define _GNU_SOURCE
 #include "tlsf.h"
 
-#include <execinfo.h>
 #include <signal.h>
 #include <stdio.h>
 #include <stdlib.h>
 #include <string.h>
 #include <sys/time.h>
+#include <unwind.h>
 
 enum { MOST = 40, WORDS = 4096, LONGEST = 300, CAPACITY = 16, FRAMES = 32, MAKE_CALLS = 1024 };
 
@@ -171,20 +171,29 @@ __attribute__((noinline)) static void make_calls(long calls, long enough) {
 
 /* --- Signals -------------------------------------------------------------------------------------------------------- */
 
-/* Whether the frames of the stack lead back to make_calls. */
-static void walk(void) {
-    void *frames[FRAMES];
-    const int count = backtrace(frames, FRAMES);
-    for (int k = 0; k < count; k++)
-        if ((uintptr_t)frames[k] - (uintptr_t)make_calls < MAKE_CALLS) return;
-    wrong++;
+/* How far a walk over the stack came, and whether it was in make_calls. */
+struct walk {
+    int frames;
+    bool is_back;
+};
+
+static _Unwind_Reason_Code step_back(struct _Unwind_Context *frame, void *walk) {
+    struct walk *const it = walk;
+    it->is_back = it->is_back || (uintptr_t)_Unwind_GetIP(frame) - (uintptr_t)make_calls < MAKE_CALLS;
+    return ++it->frames < FRAMES && !it->is_back ? _URC_NO_REASON : _URC_NORMAL_STOP;
+}
+
+static bool leads_back(void) {
+    struct walk it = {0, false};
+    (void)_Unwind_Backtrace(step_back, &it);
+    return it.is_back;
 }
 
 static void handle(int signal) {
     (void)signal;
     signals++;
-    if (is_walked) walk();
-    else do_one(&handler);
+    if (!is_walked) do_one(&handler);
+    else if (!leads_back()) wrong++;
 }
 
 static int end(void) {
@@ -206,13 +215,12 @@ static int end(void) {
 int main(int argc, char **argv) {
     const char *kind = argc > 1 ? argv[1] : "step";
     const long count = argc > 2 ? atol(argv[2]) : 1000;
-    void *frames[FRAMES];
     const struct itimerval often = {{0, 40}, {0, 40}}, never = {{0, 0}, {0, 0}};
     struct sigaction action;
     memset(&action, 0, sizeof action);
     action.sa_handler = handle;
     action.sa_flags = SA_RESTART;
-    (void)backtrace(frames, FRAMES); /* the first one takes memory */
+    (void)leads_back(); /* the first walk takes memory */
     if (sigaction(SIGTRAP, &action, NULL) || sigaction(SIGALRM, &action, NULL)) return 2;
     if (tlsf_open(&heap, 4, 1, WORDS) || tlsf_lane_open(&post, &take, CAPACITY)) return 2;
     is_walked = !strcmp(kind, "walk");

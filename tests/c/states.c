@@ -2,10 +2,12 @@
  * list of blocks, with no classes' bitmaps and no links. After each call it looks at the answer, at each header, link and start bit,
  * and at each byte of payload. States that differ in ticks, lengths and payload alone count as one, unless the free blocks of a class
  * came in another order. STATES WORDS LEVEL [WANT..]: each request wants so many words; all that the region has, where none is named.
- * It prints how many states and calls there were. Linked with --wrap=malloc, so that it sees, keeps and puts back all that a heap has. */
+ * It prints how many states and calls there were. Linked with --wrap=malloc, so that it sees, keeps and puts back all that a heap has.
+ * With a number from 1 to 5 in the environment's WRONG it spoils what each call left, and has to notice. */
 #define TLSF_NO_COPIES /* the calls themselves, which a copy would hide */
 #include "tlsf.h"
 
+#include <stddef.h>
 #include <stdio.h>
 #include <stdlib.h>
 #include <string.h>
@@ -41,19 +43,19 @@ struct answer {
     uint32_t status, at;
 };
 
-/* A state, by the call that led there from another one, and by all that tells it from others. */
+/* A state, by the call that led there from another one. */
 struct state {
     uint32_t from;
     struct call call;
-    uint8_t count;
-    uint8_t key[2 * MOST_BLOCKS];
+    uint32_t sum; /* of its key */
 };
 
-static uint32_t words, level;
+static uint32_t words, level, wrong;
 static uint8_t wants_tried[MOST_WORDS + 2];
 static uint32_t want_count;
 static struct state *states;
-static uint32_t state_count, state_room, *slots, slot_count;
+static uint8_t *keys; /* what tells a state from others: two bytes for each block that a region may have */
+static uint32_t key_bytes, state_count, state_room, *slots, slot_mask;
 static uint64_t call_count;
 
 static struct tlsf_heap heap;
@@ -82,13 +84,16 @@ void *__wrap_malloc(size_t bytes) {
 static struct call path[MOST_PATH];
 static uint32_t path_length;
 
-static void wants(const char *what, uint64_t got, uint64_t wanted) {
-    if (got == wanted) return;
+static _Noreturn void tell(const char *what, uint64_t got, uint64_t wanted) {
     printf("%u words, level %u:", (unsigned)words, (unsigned)level);
     for (uint32_t i = 0; i < path_length; i++)
         printf(" %s(%u, %u, %u)", kinds[path[i].kind], path[i].block, path[i].want, path[i].step);
     printf(": %s: %llx, and not %llx\n", what, (unsigned long long)got, (unsigned long long)wanted);
     exit(1);
+}
+
+static inline void wants(const char *what, uint64_t got, uint64_t wanted) {
+    if (got != wanted) tell(what, got, wanted);
 }
 
 /* --- The model: docs/MODEL.md ---------------------------------------------------------------------------------------- */
@@ -98,16 +103,14 @@ static uint32_t low(uint32_t class) {
     return row == 0 ? second : ((1u << level) + second) << (row - 1);
 }
 
-static uint32_t class_of(uint32_t size) {
-    uint32_t class = LEAST;
-    while (low(class + 1) <= size) class++;
-    return class;
-}
+/* The class of a block by its size, and the lowest one that is searched for one. */
+static uint8_t class_of[MOST_WORDS + 1], search_of[2 * MOST_WORDS];
 
-static uint32_t search_of(uint32_t size) {
-    uint32_t class = LEAST;
-    while (low(class) < size) class++;
-    return class;
+static void set_classes(void) {
+    for (uint32_t size = LEAST, class = LEAST; size <= MOST_WORDS; class_of[size++] = (uint8_t)class)
+        while (low(class + 1) <= size) class++;
+    for (uint32_t size = LEAST, class = LEAST; size < 2 * MOST_WORDS; search_of[size++] = (uint8_t)class)
+        while (low(class) < size) class++;
 }
 
 /* A length for which a request wants so many words: each number of bytes in the last of them has its turn. */
@@ -126,13 +129,17 @@ static uint32_t place_of(const struct model *m, uint32_t block) {
 static uint32_t choice(const struct model *m, uint32_t want) {
     uint32_t best = NOWHERE, least = 0;
     for (uint32_t i = 0; i < m->count; i++) {
-        const uint32_t class = class_of(m->blocks[i].size);
-        if (m->blocks[i].is_live || class < search_of(want)) continue;
+        const uint32_t class = class_of[m->blocks[i].size];
+        if (m->blocks[i].is_live || class < search_of[want]) continue;
         if (best != NOWHERE && (class > least || (class == least && m->blocks[i].mark < m->blocks[best].mark))) continue;
         best = i;
         least = class;
     }
     return best;
+}
+
+static void copy(struct model *to, const struct model *from) {
+    memcpy(to, from, offsetof(struct model, blocks) + from->count * sizeof from->blocks[0]);
 }
 
 static void insert(struct model *m, uint32_t at, struct block block) {
@@ -311,7 +318,12 @@ static struct answer told(const struct model *m, struct call call) {
     return it;
 }
 
-static uint8_t byte_of(const struct block *block, uint32_t i) { return i < block->kept ? (uint8_t)(37 * block->pattern + 11 * i + 1) : 0; }
+/* Bytes of which a payload has those from somewhere on, and others that are zero. */
+static uint8_t sequence[256 + 8 * MOST_WORDS], zeros[8 * MOST_WORDS];
+
+static const uint8_t *bytes_of(const struct block *block) { return sequence + (uint8_t)(37 * block->pattern); }
+
+static uint8_t byte_of(const struct block *block, uint32_t i) { return i < block->kept ? bytes_of(block)[i] : 0; }
 
 /* Each live block gets bytes of its own, in place. */
 static void fill(struct model *m) {
@@ -322,7 +334,7 @@ static void fill(struct model *m) {
         block->pattern = block->mark;
         block->kept = block->len;
         block->is_unfilled = false;
-        for (uint32_t j = 0; j < block->len; j++) payload[j] = byte_of(block, j);
+        memcpy(payload, bytes_of(block), block->len);
     }
 }
 
@@ -331,7 +343,7 @@ static uint32_t linked(const struct model *m, uint32_t block, bool is_next) {
     uint32_t found = NOWHERE;
     for (uint32_t i = 0; i < m->count; i++) {
         const uint64_t stamp = m->blocks[i].mark, own = m->blocks[block].mark;
-        if (m->blocks[i].is_live || class_of(m->blocks[i].size) != class_of(m->blocks[block].size)) continue;
+        if (m->blocks[i].is_live || class_of[m->blocks[i].size] != class_of[m->blocks[block].size]) continue;
         if (is_next ? stamp >= own : stamp <= own) continue;
         if (found == NOWHERE || (is_next ? stamp > m->blocks[found].mark : stamp < m->blocks[found].mark)) found = i;
     }
@@ -350,7 +362,9 @@ static void check_block(const struct model *m, uint32_t i, uint32_t at) {
     }
     wants("length", header[2], block->len);
     const uint8_t *const payload = (const uint8_t *)(header + HEADER);
-    for (uint32_t j = 0; j < (block->is_unfilled ? block->kept : block->len); j++) wants("a byte", payload[j], byte_of(block, j));
+    const uint32_t known = block->is_unfilled ? block->kept : block->len;
+    if (memcmp(payload, bytes_of(block), block->kept) == 0 && memcmp(payload + block->kept, zeros, known - block->kept) == 0) return;
+    for (uint32_t j = 0; j < known; j++) wants("a byte", payload[j], byte_of(block, j));
 }
 
 /* Each piece begins with a mark of eight bytes. */
@@ -484,18 +498,20 @@ static void *room_for(void *old, size_t bytes) {
 static uint8_t rank_of(const struct model *m, uint32_t block) {
     uint8_t later = 0;
     for (uint32_t i = 0; i < m->count; i++)
-        if (is_free(m, i) && class_of(m->blocks[i].size) == class_of(m->blocks[block].size) && m->blocks[i].mark > m->blocks[block].mark) later++;
+        if (is_free(m, i) && class_of[m->blocks[i].size] == class_of[m->blocks[block].size] && m->blocks[i].mark > m->blocks[block].mark) later++;
     return later;
 }
 
-static uint32_t slot_of(const struct state *state) {
-    uint64_t sum = state->count;
-    for (uint32_t i = 0; i < 2u * state->count; i++) sum = (sum ^ state->key[i]) * 0x100000001b3;
-    uint32_t slot = (uint32_t)(sum ^ sum >> 29) % slot_count;
+static uint8_t *key_of(uint32_t number) { return keys + (size_t)number * key_bytes; }
+
+/* Where the state of that number is noted, or is to be noted. */
+static uint32_t slot_of(uint32_t number) {
+    const uint32_t sum = states[number].sum;
+    uint32_t slot = sum & slot_mask;
     while (slots[slot] != NOWHERE) {
-        const struct state *const other = &states[slots[slot]];
-        if (other->count == state->count && memcmp(other->key, state->key, 2u * state->count) == 0) break;
-        slot = (slot + 1) % slot_count;
+        const uint32_t other = slots[slot];
+        if (states[other].sum == sum && memcmp(key_of(other), key_of(number), key_bytes) == 0) break;
+        slot = (slot + 1) & slot_mask;
     }
     return slot;
 }
@@ -503,34 +519,38 @@ static uint32_t slot_of(const struct state *state) {
 static void grow(void) {
     state_room = state_room ? 2 * state_room : 1024;
     states = room_for(states, state_room * sizeof *states);
-    slot_count = 2 * state_room + 1;
-    slots = room_for(slots, slot_count * sizeof *slots);
-    for (uint32_t i = 0; i < slot_count; i++) slots[i] = NOWHERE;
-    for (uint32_t i = 0; i < state_count; i++) slots[slot_of(&states[i])] = i;
+    keys = room_for(keys, (size_t)state_room * key_bytes);
+    slot_mask = 4 * state_room - 1;
+    slots = room_for(slots, 4 * state_room * sizeof *slots);
+    for (uint32_t i = 0; i <= slot_mask; i++) slots[i] = NOWHERE;
+    for (uint32_t i = 0; i < state_count; i++) slots[slot_of(i)] = i;
 }
 
 /* Notes the state, if it is new. */
 static void note(const struct model *m, uint32_t from, struct call call) {
-    struct state state = {.from = from, .call = call, .count = (uint8_t)m->count};
-    for (uint32_t i = 0; i < m->count; i++) {
-        state.key[2 * i] = (uint8_t)m->blocks[i].size;
-        state.key[2 * i + 1] = m->blocks[i].is_live ? 255 : rank_of(m, i);
-    }
     if (state_count == state_room) grow();
-    const uint32_t slot = slot_of(&state);
-    if (slots[slot] != NOWHERE) return;
-    slots[slot] = state_count;
-    states[state_count++] = state;
+    uint8_t *const key = key_of(state_count);
+    uint64_t sum = m->count;
+    memset(key, 0, key_bytes);
+    for (uint32_t i = 0; i < m->count; i++) {
+        key[2 * i] = (uint8_t)m->blocks[i].size;
+        key[2 * i + 1] = m->blocks[i].is_live ? 255 : rank_of(m, i);
+    }
+    for (uint32_t i = 0; i < 2 * m->count; i++) sum = (sum ^ key[i]) * 0x100000001b3;
+    states[state_count] = (struct state){.from = from, .call = call, .sum = (uint32_t)(sum ^ sum >> 29)};
+    const uint32_t slot = slot_of(state_count);
+    if (slots[slot] == NOWHERE) slots[slot] = state_count++;
 }
 
 static void call_both(struct model *m, struct call call) {
-    const struct model before = *m;
+    struct model before;
+    copy(&before, m);
     const struct answer wanted = answered(m, call);
     path[path_length++] = call;
     const struct answer got = told(&before, call);
     wants("answer", got.status, wanted.status);
     wants("place", got.at, wanted.at);
-    if (got.status != TLSF_OK) *m = before;
+    if (got.status != TLSF_OK) copy(m, &before);
     call_count++;
 }
 
@@ -557,27 +577,32 @@ static struct model reach(uint32_t number) {
     return m;
 }
 
-/* What a wrong heap would leave, by the number WRONG: each has to be noticed. */
+/* What a wrong heap would leave, by its number: each has to be noticed. */
 static void spoil(void) {
-#ifdef WRONG
+    if (wrong == 0) return;
     unsigned char *const spoilt[] = {(unsigned char *)heap.base, (unsigned char *)(heap.base + 1), (unsigned char *)(heap.base + 2),
                                      (unsigned char *)(heap.base + HEADER), (unsigned char *)pieces[1] + 8};
-    *spoilt[WRONG - 1] ^= 4; /* a size, a serial or stamp, a length or link, a byte of payload, a start bit */
-#endif
+    *spoilt[wrong - 1] ^= 4; /* a size, a serial or stamp, a length or link, a byte of payload, a start bit */
 }
 
-/* Makes a call on a state, and leaves the state as it was. */
-static void try_call(const struct model *m, uint32_t number, struct call call) {
-    static unsigned char kept[MOST_BYTES];
-    const struct tlsf_heap handle = heap;
-    struct model after = *m;
+/* All that the heap has in a state, so that each call finds it as it was. */
+static unsigned char kept[MOST_BYTES];
+static struct tlsf_heap kept_handle;
+
+static void keep(void) {
     memcpy(kept, memory, lent);
+    kept_handle = heap;
+}
+
+static void try_call(const struct model *m, uint32_t number, struct call call) {
+    struct model after;
+    copy(&after, m);
     call_both(&after, call);
     spoil();
     check_image(&after);
     note(&after, number, call);
     memcpy(memory, kept, lent);
-    heap = handle;
+    heap = kept_handle;
     path_length--;
 }
 
@@ -592,6 +617,7 @@ static void try_block(const struct model *m, uint32_t number, uint8_t block) {
 static void try_state(uint32_t number) {
     const struct model m = reach(number);
     look(&m);
+    keep();
     for (uint32_t i = 0; i < want_count; i++) {
         try_call(&m, number, (struct call){ALLOCATE, 0, wants_tried[i], 0});
         try_call(&m, number, (struct call){ALLOCATE_PLACE, 0, wants_tried[i], 0});
@@ -605,6 +631,11 @@ int main(int argc, char **argv) {
     words = argc > 1 ? (uint32_t)atoi(argv[1]) : 16;
     level = argc > 2 ? (uint32_t)atoi(argv[2]) : 4;
     if (words < LEAST || words > MOST_WORDS) return 2;
+    wrong = getenv("WRONG") ? (uint32_t)atoi(getenv("WRONG")) : 0;
+    if (wrong > 5) return 2;
+    for (uint32_t i = 0; i < sizeof sequence; i++) sequence[i] = (uint8_t)(11 * i + 1);
+    set_classes();
+    key_bytes = 2 * (words / LEAST);
     for (int i = 3; i < argc; i++) wants_tried[want_count++] = (uint8_t)atoi(argv[i]);
     if (argc <= 3)
         for (uint32_t n = LEAST; n <= words + 1; n++) wants_tried[want_count++] = (uint8_t)n;

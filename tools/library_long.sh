@@ -1,0 +1,119 @@
+# Sourced by library_test --long, which has what is said here of programs: what takes longer.
+# Words are split on purpose.
+# shellcheck disable=SC2086
+
+# Proves and builds the library in a copy of this repository, and keeps the LLVM module that it is compiled from.
+build_keeping_module() {
+    tree=$1
+    kit=$(rt doc) && kit=${kit%/START-HERE.md} || return 1
+    tools/prove archive "$tree" "$work/libtlsf_c.a" > "$work/lib.log" 2>&1 && [ -s "$work/libtlsf_c.a.toolchain/module.ll" ] && return
+    tail -n 5 "$work/lib.log" >&2
+    return 1
+}
+
+# sanitized KIND TO FLAG..: the library's own module with the checks of KIND, address or thread.
+sanitized() {
+    kind=$1 object=$2
+    shift 2
+    sed -E "s/^(attributes #[0-9]+ = \{)/\1 sanitize_$kind/; /^define /{/#[0-9]+ \{\$/! s/ \{\$/ sanitize_$kind {/}" \
+        "$work/libtlsf_c.a.toolchain/module.ll" > "$work/checked.ll" &&
+        "$kit/toolchain/bin/clang" --target=x86_64-unknown-linux-gnu -O1 -g -fPIC "-fsanitize=$kind" "$@" \
+            -x ir -c "$work/checked.ll" -o "$object" || return 1
+    # gcc's runtime of TSan has the C library's names for these.
+    [ "$kind" != thread ] || objcopy --redefine-sym __tsan_memset=memset --redefine-sym __tsan_memcpy=memcpy --redefine-sym __tsan_memmove=memmove "$object"
+}
+
+many_calls() {
+    cc='gcc -g'
+    made random && made pointers && made threads
+    for seed in 1 2 3; do
+        for level in 4 5; do
+            does random "1000000 $seed $level"
+            does pointers "1000000 $seed $level"
+            does pointers "1000000 $seed $level names"
+        done
+    done
+    does threads 1000000
+    count_steps 20000
+    on="$valgrind --leak-check=full" with=' under valgrind' cxx='g++ -std=c++17 -g'
+    c_work v
+    cpp_work v
+    on='' with=''
+}
+
+with_sanitizers() {
+    cc="gcc $checks -DTLSF_ASAN" with=' with ASan and UBSan' cxx="g++ -std=c++20 $checks"
+    made pointers
+    for level in 4 5; do
+        does pointers "500000 7 $level names"
+    done
+    made_cpp containers && does containers ''
+    cc="gcc $checks"
+    made random && does random "1000000 5 4"
+    cc=gcc with=''
+    holds "ASan in the library" sanitized address "$work/address.o"
+    holds "random.c over it" linked_with "$work/random_both" address "$work/address.o" tests/c/random.c
+    holds "a million random calls with ASan in the library too" "$work/random_both" 1000000 6 5
+}
+
+linked_with() { # linked_with TO KIND OBJECT FILE [FLAG..]
+    to=$1 kind=$2 object=$3
+    shift 3
+    tools/prove memory "$top" "$work/memory.o" &&
+        gcc -O1 -g "-fsanitize=$kind" -I"$prefix/include" "$@" "$object" "$work/memory.o" -pthread -o "$to"
+}
+
+with_thread_checks() {
+    holds "TSan in the library" sanitized thread "$work/thread.o"
+    for file in tests/c/threads.c tests/c/race.c tests/c/queues.c examples/c/loaders.c tests/cpp/homes.cpp; do
+        name=${file##*/}
+        holds "$name over it" linked_with "$work/${name%.*}" thread "$work/thread.o" "$file" -lstdc++
+    done
+    with=' with TSan'
+    does threads 200000
+    does threads '100000 3'
+    does queues '4 50000'
+    does homes ''
+    does loaders ''
+    with=
+    for kind in payload call release handle; do
+        holds "TSan reports a race of kind $kind" reports_race "$work/race" "$kind"
+    done
+}
+
+reports_race() {
+    "$@" > "$work/race.out" 2>&1
+    grep -q 'WARNING: ThreadSanitizer: data race' "$work/race.out"
+}
+
+long_outer_programs() {
+    outer_programs --times
+    grep '^[a-z]' "$work/out"
+    # By counters in the library's branches libFuzzer sees which bytes lead to new ones.
+    holds "ASan and counters in the library" sanitized address "$work/counting.o" -fsanitize-coverage=inline-8bit-counters,pc-table,trace-cmp
+    bytes_as_calls 600 --with "$work/counting.o"
+}
+
+# A million calls on aarch64.
+long_for_aarch64() {
+    c_work b
+    turned_round
+}
+
+# Branches of the library that are turned round.
+turned_round() {
+    holds "branches that are turned round$with" tests/c/turned "$archive" 100
+    tail -n 1 "$work/out" >&2
+}
+
+take_long() { # take_long TREE
+    many_calls
+    with_sanitizers
+    with_thread_checks
+    long_outer_programs
+    beside_archive --long
+    turned_round
+    has "the library for aarch64" qemu-aarch64 "$arm-gcc" "$arm-g++" || return
+    holds "a proof of the library for aarch64" tools/prove archive "$1" "$work/libtlsf_arm.a" "$arm_target"
+    ! put_for_aarch64 "$work/libtlsf_arm.a" || long_for_aarch64
+}
