@@ -1,4 +1,4 @@
-# Sourced: where the files of C's library go.
+# Sourced: where the files of C's library go, and how the program is linked of its object file.
 
 soname=libpeachanchor.so.1
 
@@ -24,6 +24,17 @@ put_licences() {
     done
 }
 
+# link_program TOP COMPILER OBJECT TO [FLAG]: links the program tlsf of its object file, for each processor that it is for. With -static
+# it needs no C library beside it. Two calls make the same bytes.
+link_program() {
+    "$2" -std=c11 -O2 -Wall -Wextra -Werror ${5+"$5"} -s -Wl,-z,relro,-z,now,--build-id=none "$3" "$1/c/os.c" -o "$4"
+}
+
+# The seconds since 1970 by which files are dated: those of the commit, so two clones have the same, or of CHANGELOG.md.
+time_of() {
+    { [ -e "$1/.git" ] && git -c safe.directory='*' -C "$1" log -1 --format=%ct 2> /dev/null; } || stat -c %Y "$1/CHANGELOG.md"
+}
+
 put_archives() {
     put_file cat "$1" "$2/libtlsf.a" && put_file cat "$1.nomalloc" "$2/libtlsf_nomalloc.a"
 }
@@ -31,7 +42,7 @@ put_archives() {
 # put_names TOP LIB INCLUDE: what pkg-config and CMake read, in LIB, from where INCLUDE leads to the headers.
 put_names() {
     from=$1/tools/package include=$3
-    version=$(version_of "$1") && [ -n "$version" ] || return 1
+    version=$(version_of "$1") || return 1
     mkdir -p "$2/pkgconfig" "$2/cmake/peachanchor" "$2/cmake/tlsf" || return 1
     for kind in '' -nomalloc -shared; do
         put_file "of_kind$(echo "$kind" | tr - _)" "$from/peachanchor.pc" "$2/pkgconfig/peachanchor$kind.pc" || return 1
@@ -45,8 +56,33 @@ put_names() {
         put_file of_kind "$from/peachanchor-config-version.cmake" "$2/cmake/tlsf/tlsf-config-version.cmake"
 }
 
+# The macros of tlsf.h, which tools/check holds to the program's version. A release has no more of it.
 version_of() {
-    sed -n 's/.*const VERSION: .*"\([0-9.]*\)".*/\1/p' "$1"/crates/tlsf_command/src/*.rt
+    sed -n 's/^#define TLSF_VERSION_[A-Z]* //p' "$1/include/tlsf.h" | paste -s -d . - | grep .
+}
+
+# put_builds TOP FOLDER: what builds the library in FOLDER, a release that has no toolchain, and what lies beside the archives.
+put_builds() {
+    mkdir -p "$2/lib" "$2/share/gdb" && put_names "$1" "$2/lib" ../include &&
+        put_file cat "$1/tools/package/tlsf-gdb.py" "$2/share/gdb/tlsf-gdb.py" || return 1
+    for file in Makefile CMakeLists.txt meson.build; do
+        put_file of_kind "$1/tools/package/release/$file" "$2/$file" || return 1
+    done
+}
+
+# put_in_crates TOP FOLDER: what the crates of that release have besides, so that each can be published: assembly, licences, and
+# the version that one wants of the other.
+put_in_crates() {
+    version=$(version_of "$1") crates=$2/bindings/rust || return 1
+    for crate in peachanchor peachanchor-sys; do
+        put_licences "$1" "$crates/$crate" || return 1
+    done
+    put_file with_version "$1/bindings/rust/Cargo.toml" "$crates/Cargo.toml" &&
+        rm -rf "$crates/peachanchor-sys/asm" && cp -R "$2/src" "$crates/peachanchor-sys/asm"
+}
+
+with_version() {
+    sed "s/ path = \"peachanchor-sys\"/&, version = \"=$version\"/" "$1"
 }
 
 put_headers() {
@@ -56,7 +92,7 @@ put_headers() {
 }
 
 of_kind() {
-    sed -e "s/VERSION\$/$version/" -e "s/(PACKAGE_VERSION VERSION)/(PACKAGE_VERSION $version)/" -e "s#/INCLUDE\\>#/$include#" "$1"
+    sed -e "s/@VERSION@/$version/" -e "s/@SONAME@/$soname/" -e "s#@INCLUDE@#$include#" "$1"
 }
 
 of_kind_nomalloc() {

@@ -4,7 +4,8 @@
 //! `by_name.rs`. The others are in the archive. `proved` has them with their plain names, so `tlsf_allocate` here is
 //! the header's inline call over `proved::tlsf_allocate`.
 //!
-//! `libtlsf.a` is looked for in `$PEACHANCHOR_PREFIX/lib`, or by pkg-config. Without the feature `malloc` it is
+//! `libtlsf.a` is taken from `$PEACHANCHOR_PREFIX/lib`. Without that variable the C compiler makes it of the assembly in
+//! this crate, which a release has, or pkg-config says where it is. Without the feature `malloc` it is
 //! `libtlsf_nomalloc.a`.
 //!
 //! Each function here is unsafe, as C is. Its caller keeps the rules of `tlsf.h`. A body passes pointers on to calls

@@ -1,8 +1,10 @@
 //! The calls that are in the archive, as it has them. A name that they get lies in no payload, and a handle's
 //! `is_mixed` is left alone: the calls of the same names in the root of this crate see to both.
 
+#[cfg(feature = "malloc")]
+use crate::tlsf_kind;
 use crate::{
-    tlsf_block_info, tlsf_heap, tlsf_heap_counts, tlsf_heap_report, tlsf_kind, tlsf_name, tlsf_near_heap, tlsf_offsets,
+    tlsf_block_info, tlsf_heap, tlsf_heap_counts, tlsf_heap_report, tlsf_name, tlsf_near_heap, tlsf_offsets,
     tlsf_offsets_usage, tlsf_pools, tlsf_post_end, tlsf_poster, tlsf_queue, tlsf_span, tlsf_take_end,
 };
 use core::ffi::c_void;

@@ -17,6 +17,9 @@
 //! # Ok::<(), peachanchor::Error>(())
 //! ```
 //!
+//! The heap itself is C's library. A release has it as assembly in [`peachanchor_sys`], which says where else it may come
+//! from.
+//!
 //! # How the rules of `tlsf.h` are kept
 //!
 //! The proofs of the heap rest on six rules. Here the types keep them:

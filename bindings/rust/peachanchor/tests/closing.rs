@@ -23,11 +23,13 @@ fn in_use() -> usize {
 #[test]
 fn what_is_dropped_takes_no_memory() {
     let before = in_use();
-    for _ in 0..100 {
+    // The test's own runner takes some memory meanwhile. The least piece that could be kept each time has 240 bytes.
+    for _ in 0..400 {
         drop((Heap::open(Level::Four, 1, 4096), lane(64)));
         assert!(Heap::open(Level::Four, 1, 3).is_err() && lane(0).is_err());
     }
-    assert!(in_use() < before + 2000, "{} bytes more", in_use() - before);
+    let after = in_use();
+    assert!(after < before + 400 * 120, "{} bytes more", after - before);
     let heap = Heap::open(Level::Four, 1, 4096);
     assert!(in_use() > before + 8 * 4096);
     drop(heap);

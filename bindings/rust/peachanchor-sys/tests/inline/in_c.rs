@@ -1,7 +1,8 @@
 use peachanchor_sys::tlsf_name;
 use std::ffi::{c_char, c_int, CStr, CString};
 use std::mem::transmute_copy;
-use std::{env, process::Command};
+use std::path::Path;
+use std::process::Command;
 
 use crate::{Heap, Pointer};
 
@@ -26,14 +27,15 @@ pub struct InC {
 }
 
 impl InC {
-    /// Compiles inline.c and loads it; nothing where there is no prefix or no compiler.
+    /// Compiles inline.c and loads it; nothing where there is no header or no compiler.
     pub fn load() -> Option<Self> {
-        let prefix = env::var("PEACHANCHOR_PREFIX").ok()?;
+        let include = concat!(env!("CARGO_MANIFEST_DIR"), "/../../../include");
+        Path::new(include).join("tlsf.h").exists().then_some(())?;
         let to = format!("{}/inline.so", env!("CARGO_TARGET_TMPDIR"));
         let source = concat!(env!("CARGO_MANIFEST_DIR"), "/tests/inline/inline.c");
         let mut cc = Command::new("cc");
         cc.args(["-shared", "-fPIC", "-O2", source, "-o", &to]);
-        cc.args([format!("-I{prefix}/include"), format!("{prefix}/lib/libtlsf.a")]);
+        cc.args(["-I", include, env!("PEACHANCHOR_ARCHIVE")]);
         assert!(cc.status().ok()?.success(), "inline.c is compiled");
         let file = CString::new(to).unwrap();
         // SAFETY: the file is there, and nothing of it runs before it is called. Each function has its type of inline.c.

@@ -1,5 +1,5 @@
 //! The calls that are inline in `tlsf.h` answer in Rust as they do in C: by chance on two heaps, one for each. It needs `cc`,
-//! and the library in `PEACHANCHOR_PREFIX`.
+//! and `tlsf.h` where the repository and a release have it.
 
 mod in_c;
 mod pair;
@@ -15,7 +15,7 @@ type Pointer = *mut c_void;
 #[test]
 fn calls_answer_as_in_c() {
     let Some(in_c) = InC::load() else {
-        return eprintln!("no cc or no PEACHANCHOR_PREFIX: the inline calls of C are not compared");
+        return eprintln!("no cc or no tlsf.h: the inline calls of C are not compared");
     };
     for answer in 0..20 {
         // SAFETY: C answers a string that stays.

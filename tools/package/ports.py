@@ -1,0 +1,210 @@
+#!/usr/bin/env python3
+"""usage: tools/package/ports.py CLANG X86_64.ll AARCH64.ll FOLDER
+
+Writes into FOLDER the library as assembly for processors and systems that no
+verdict of the checker names, riscv64, Windows and macOS; and c/memory.c for
+these and for x86-64 and aarch64, with malloc, without, and for no system. The
+two files are the LLVM modules that the proved library is made of, and CLANG is
+the toolchain's.
+
+Only what a target has for itself is changed in a module: its layout, what names
+a processor, how C extends a result of 32 bits, and on Windows the convention of
+the two calls that answer a pair. Then each call's result and arguments have to
+be those that CLANG gives it by tlsf.h or c/memory.c for that target.
+
+The exit status is 0 where all is written, 1 where something can't be, which a
+line on standard error says, and 2 where the words are others.
+"""
+import dataclasses
+import pathlib
+import re
+import subprocess
+import sys
+import tempfile
+
+TOP = pathlib.Path(__file__).resolve().parent.parent.parent
+# Lines of LLVM's that GNU's assembler or an older one doesn't know, or that say nothing.
+DROPPED = re.compile(r"\s*(#|//|\.addrsig|\.file\b|\.attribute\b|\.build_version\b|\.seh_((start|end)epilogue|unwindversion)|\.section\s+\.llvm|"
+                     r"\.p2align\s+0\b|$)")
+# What stands behind an instruction; and what is quoted, where nothing is a remark.
+REMARK = re.compile(r'("(?:\\.|[^"\\])*")|[ \t]+(?:#|//)[ \t].*$|[ \t]+$')
+# The name of a function of Rattle's.
+QUOTED = re.compile(r'"([^"\n]*::[^"\n]*)"')
+# The same on Windows: a flag of the linker's for 32 bits, and which compiler it was.
+SAID = re.compile(r'^\t\.def\t@feat\.00;\n(?:.*\n)*?@feat\.00 = .*\n|^\t\.section\t\.debug\$S,"dr"\n(?:(?!\t\.section).*\n)*', re.M)
+MEMORY = ["-std=c11", "-O2", "-fPIC", "-ffreestanding", "-fno-stack-protector", "-fasynchronous-unwind-tables", "-fno-verbose-asm"]
+# What lies in front of the name of each file for what flags.
+KINDS = {"memory": [], "memory_nomalloc": ["-DTLSF_NO_MALLOC"], "memory_bare": ["-DTLSF_NO_MALLOC", "-DTLSF_NO_TLS"]}
+# The headers that tlsf.h asks of a compiler, which the toolchain's lacks.
+HEADERS = {"stdbool.h": "#define bool _Bool\n#define true 1\n#define false 0\n", "stddef.h": "typedef __SIZE_TYPE__ size_t;\n#define NULL ((void *)0)\n",
+           "stdint.h": "".join(f"typedef __{it.upper()}_TYPE__ {it}_t;\n" for it in ("uint8", "uint16", "uint32", "uint64", "int32", "int64", "uintptr"))
+           + "#define UINT32_MAX 0xffffffffu\n#define UINT64_C(n) n##ull\n"}
+
+
+class Failed(Exception):
+    """What can't be written."""
+
+
+@dataclasses.dataclass(frozen=True)
+class Port:
+    """A target of LLVM's with the flags of its least processor; the module that is lowered; and how C extends a result of 32 bits."""
+
+    target: str
+    flags: tuple
+    module: str
+    extends: str = ""
+
+
+PROVED = {"x86_64": Port("x86_64-unknown-linux-gnu", ("-march=x86-64",), "x86_64"), "aarch64": Port("aarch64-unknown-linux-gnu", ("-march=armv8-a",), "aarch64")}
+PORTS = {
+    "riscv64": Port("riscv64-unknown-linux-gnu", ("-march=rv64imac", "-mabi=lp64"), "aarch64", "signext"),
+    "x86_64-windows": Port("x86_64-pc-windows-gnu", ("-march=x86-64",), "x86_64"),
+    "arm64-macos": Port("arm64-apple-macosx13", (), "aarch64"),
+}
+
+
+def portable(text):
+    """Assembly of LLVM's as GNU's assembler takes it too, and the C preprocessor before: without remarks."""
+    return "".join(REMARK.sub(r"\1", it) + "\n" for it in SAID.sub("", text).split("\n") if not DROPPED.match(it))
+
+
+def plainly_named(text):
+    """Assembly whose names want no quotes: for riscv64 LLVM took none of these before version 22."""
+    names = {it: re.sub(r"[^\w.$]+", ".", it).rstrip(".") for it in QUOTED.findall(text)}
+    if len({*names.values()}) < len(names):
+        raise Failed("two functions would have one name")
+    return QUOTED.sub(lambda it: names[it[1]], text)
+
+
+def told(*words, text=None):
+    ran = subprocess.run([str(it) for it in words], input=text, capture_output=True, text=True, check=False)
+    if ran.returncode:
+        raise Failed(f"{' '.join(map(str, words))}: {ran.stderr.strip()}")
+    return ran.stdout
+
+
+def memory_text(clang, memory_c, target, flags):
+    """c/memory.c for a target by these flags, with labels that the proved calls, which stand in the same file, don't have."""
+    text = portable(told(clang, f"--target={target}", *MEMORY, *flags, "-S", memory_c, "-o", "-"))
+    return re.sub(r"(?<![\w.$])(L|\.L)(?=[A-Za-z_])", r"\1m_", text)
+
+
+def moved(clang, port, text):
+    """A module as it is for another target."""
+    own = told(clang, f"--target={port.target}", *port.flags, "-x", "c", "-", "-S", "-emit-llvm", "-o", "-", text="int x;")
+    for kind in ("datalayout", "triple"):
+        line = re.search(rf"^target {kind} = .*$", own, re.M)[0]
+        text = re.sub(rf"^target {kind} = .*$", lambda _, line=line: line, text, flags=re.M)
+    text = re.sub(r' "(target-cpu|target-features|tune-cpu|probe-stack|stack-probe-size)"="[^"]*"', "", text)
+    if port.extends:
+        text = re.sub(r"^(define [^@\n]*)i32 (?=@tlsf)", rf"\1{port.extends} i32 ", text, flags=re.M)
+    if port.target.startswith("x86_64-pc-windows"):
+        text = re.sub(r"(call|declare) \{ i64, i64 \} @tlsf_memory", r"\1 x86_64_sysvcc { i64, i64 } @tlsf_memory", text)
+    return text
+
+
+def calls_text(clang, port, module):
+    """The proved calls for a target, in which what fills and copies has names of the library's own."""
+    pic = () if "windows" in port.target else ("-fPIC",)
+    text = told(clang, f"--target={port.target}", *port.flags, "-O3", *pic, "-fno-verbose-asm", "-x", "ir", "-S", "-", "-o", "-", text=module)
+    return plainly_named(portable(re.sub(r"(\s_?)mem(set|cpy|move)((?:@\w+)?\s)", r"\1tlsf_memory_\2\3", text)))
+
+
+# --- The convention of calls ------------------------------------------------------------------------------------------
+
+HEAD = re.compile(r"^(declare|define) ([^@\n]*)@(tlsf_\w+)\((.*?)\)(?: [^)\n]*)?$", re.M)
+# Of what stands in front of a name or a parameter: what machine code is made by.
+SAYS = re.compile(r"x86_64_sysvcc|win64cc|fastcc|signext|zeroext|inreg|sret\([^)]*\)|byval\([^)]*\)|void|\[2 x i64\]|\{[^}]*\}|\bi\d+\b|\bptr\b")
+
+
+def said(words):
+    """A pair is a pair, and an address a number of 64 bits, as far as registers go."""
+    text = re.sub(r"\([^()]*\)", "", words) if "sret" not in words and "byval" not in words else words
+    found = " ".join(SAYS.findall(text))
+    return found.replace("[2 x i64]", "{ i64, i64 }").replace("ptr", "i64")
+
+
+def heads(text, kind):
+    """The functions that a module declares or defines for others: what each answers, and what it is given."""
+    found = {}
+    for it in HEAD.finditer(text):
+        if it[1] == kind and not re.search(r"\b(internal|private)\b", it[2]):
+            found[it[3]] = (said(it[2]), [said(one) for one in re.split(r",(?![^{(]*[})])", it[4]) if one.strip()])
+    return found
+
+
+def heads_of_c(clang, port, names):
+    """What clang makes of the calls of tlsf.h that have these names, and of all functions of c/memory.c."""
+    with tempfile.TemporaryDirectory() as folder:
+        for name, text in HEADERS.items():
+            pathlib.Path(folder, name).write_text(text, encoding="utf-8")
+        words = [clang, f"--target={port.target}", *port.flags, "-std=c11", "-O1", "-ffreestanding", "-nostdinc", f"-I{folder}", f"-I{TOP / 'include'}"]
+        listed = ", ".join(f"(call *){it}" for it in sorted(names))
+        source = f"#include <tlsf.h>\ntypedef void call(void);\nextern call *all[];\ncall *all[] = {{{listed}}};\n"
+        header = told(*words, "-x", "c", "-S", "-emit-llvm", "-", "-o", "-", text=source)
+        memory = told(*words, "-S", "-emit-llvm", TOP / "c" / "memory.c", "-o", "-")
+    return heads(header, "declare"), heads(memory, "define"), heads(memory, "declare")
+
+
+def as_called(head):
+    """A function as who calls it extends what it gives: one that is called need not trust in it."""
+    return head and (head[0], [re.sub(r" (sign|zero)ext", "", it) for it in head[1]])
+
+
+def faults(clang, port, module):
+    """What a call of a module is otherwise than C makes it for that target."""
+    own, wanted = heads(module, "define"), heads(module, "declare")
+    header, memory, of_memory = heads_of_c(clang, port, own)
+    pairs = [(name, as_called(own.get(name)), as_called((header | of_memory).get(name))) for name in own | of_memory]
+    pairs += [(name, wanted[name], memory.get(name)) for name in wanted]
+    if "tlsf_memory_alloc" not in wanted or "tlsf_queue_drain" not in own:
+        yield "it is no module of the library"
+    for name, here, there in pairs:
+        if here is None or there is None:
+            yield f"{name} is called, and isn't there"
+        elif here != there:
+            yield f"{name} answers {here[0]} for {', '.join(here[1])}, and C has {there[0]} for {', '.join(there[1])}"
+
+
+# --- What is written --------------------------------------------------------------------------------------------------
+
+
+def held_module(clang, name, port, text):
+    """A module for another target, held to C's convention; and where results are extended, that is what the check asks for."""
+    module = moved(clang, port, text)
+    if wrong := list(faults(clang, port, module)):
+        raise Failed(f"{name}: " + f"\n{name}: ".join(wrong))
+    if port.extends and not list(faults(clang, port, moved(clang, dataclasses.replace(port, extends=""), text))):
+        raise Failed(f"{name}: nothing notices results that aren't extended")
+    return module
+
+
+def write(clang, modules, memory_c, folder):
+    """Writes the calls of all ports into a folder, and c/memory.c for these and for what is proved. `modules` has the files of the two
+    modules by their processors."""
+    folder.mkdir(parents=True, exist_ok=True)
+    for name, port in PORTS.items():
+        module = held_module(clang, name, port, modules[port.module].read_text(encoding="utf-8"))
+        (folder / f"calls-{name}.s").write_text(calls_text(clang, port, module), encoding="utf-8")
+    for name, port in (PROVED | PORTS).items():
+        for kind, flags in KINDS.items():
+            text = memory_text(clang, memory_c, port.target, [*port.flags, *flags])
+            (folder / f"{kind}-{name}.s").write_text(text, encoding="utf-8")
+
+
+def main(words):
+    if len(words) != 4:
+        asked = words in (["-h"], ["--help"])
+        print(__doc__.strip(), file=sys.stdout if asked else sys.stderr)
+        return 0 if asked else 2
+    clang, first, second, folder = map(pathlib.Path, words)
+    try:
+        write(clang, {"x86_64": first, "aarch64": second}, TOP / "c" / "memory.c", folder)
+    except (Failed, OSError) as why:
+        print(f"ports: {why}", file=sys.stderr)
+        return 1
+    return 0
+
+
+if __name__ == "__main__":
+    sys.exit(main(sys.argv[1:]))
