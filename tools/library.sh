@@ -58,7 +58,7 @@ put_names() {
 
 # The macros of tlsf.h, which tools/check holds to the program's version. A release has no more of it.
 version_of() {
-    sed -n 's/^#define TLSF_VERSION_[A-Z]* //p' "$1/include/tlsf.h" | paste -s -d . - | grep .
+    sed -n 's/^#define TLSF_VERSION_[A-Z]* //p' "$1/include/tlsf.h" | tr '\n' . | sed 's/\.$//' | grep .
 }
 
 # put_builds TOP FOLDER: what builds the library in FOLDER, a release that has no toolchain, and what lies beside the archives.
