@@ -15,6 +15,7 @@
 #     KEY/tlsf.o, tlsf.verdict, libtlsf.a.s, .ll, .verdict
 #                    what a release needs besides: the object; the library's assembly and LLVM module, without c/memory.c;
 #                    what the checker said, with the checksum of what was built of that. The gate may leave none of these
+#     KEY/ports-SUM  what a release lowered of the library for other targets, by the checksum of all that it was made of
 #     KEY/log        what the last build said
 #     KEY/start      when that build began, in seconds since 1970
 #     KEY/all, done  the crates to prove, of which the goal is the last, and those proved so far, a line each
@@ -24,6 +25,7 @@
 #     KEY/builder    its process, which leads a group of its own; KEY/lock is locked as long as one of that group lives
 #     KEY/work       what is being made; removed at the end
 #     rlibs/         proved libraries for the next build, each named by the checksum of all that it is made from
+#     roots/         clean roots that tests made, each a tar, for a month (tools/clean_root)
 #     seen/GOAL-SUM  names the text of a checkout, by the checksum of its files' places, sizes and times
 #     lock           locked by the build that runs: one at a time
 

@@ -77,6 +77,13 @@ has() {
     done
 }
 
+# block LANGUAGE PAGE [WORD]: the page's first block of code in it, or the first with that word.
+block() {
+    awk -v begin="\`\`\`$1" -v word="${3-}" '$0 == begin { inside = 1; text = ""; next }
+        inside && /^```$/ { inside = 0; if (index(text, word)) { printf "%s", text; exit } }
+        inside { text = text $0 "\n" }' "$2"
+}
+
 # Tells how much holds, as a status too.
 conclude() {
     echo "$name_of_test: $right right, $wrong wrong"

@@ -16,6 +16,7 @@ The exit status is 0 where all is written, 1 where something can't be, which a
 line on standard error says, and 2 where the words are others.
 """
 import dataclasses
+import hashlib
 import pathlib
 import re
 import subprocess
@@ -177,6 +178,15 @@ def held_module(clang, name, port, text):
     if port.extends and not list(faults(clang, port, moved(clang, dataclasses.replace(port, extends=""), text))):
         raise Failed(f"{name}: nothing notices results that aren't extended")
     return module
+
+
+def sum_of(clang, modules, memory_c):
+    """The checksum of all that `write` reads."""
+    told = hashlib.sha256()
+    for file in (clang, *modules.values(), memory_c, *sorted((TOP / "include").iterdir()), pathlib.Path(__file__)):
+        with file.open("rb") as data:
+            told.update(hashlib.file_digest(data, "sha256").digest())
+    return told.hexdigest()[:40]
 
 
 def write(clang, modules, memory_c, folder):
