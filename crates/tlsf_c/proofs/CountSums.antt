@@ -12,7 +12,7 @@ use Rattle.tlsf_heap.specs.Named.{RefusesName}
 use Rattle.tlsf_heap.specs.Touched.{FollowsNoForgery}
 use Rattle.tlsf_heap.specs.Image.{Image}
 use Rattle.tlsf_heap.specs.Kept.{IsAsBefore}
-use Rattle.tlsf_heap.specs.Shown.{Shown}
+use Rattle.tlsf_heap.specs.Shown.{Seen, Shown}
 use Rattle.tlsf_heap.specs.Unset.{GivesUnset, lying, unset_from}
 use Rattle.tlsf_heap.specs.WordsInUse.{words_in_use, words_at}
 use Rattle.tlsf_heap.specs.declared.name.Name.{Name}
@@ -36,8 +36,8 @@ part h name lawful live =
     omega (arith, words_named h name lawful named, words_part h {at = name.at} {i = named.1.0} (record { stands = named_stands _ _ _ _ named.1.1; live = named_live _ _ _ _ named.1.1 }))
 
 -- a live name is not forged, whatever a call with it touches
-pub live_not_forged : (h : HeapState) (name : Name) → IsLawful h → IsLive h name → (before behind : ℕ) → FollowsNoForgery h name before behind
-live_not_forged h name lawful live before behind = not_forged h name lawful (named_of h name live) before behind
+pub live_not_forged : (old : Seen) (name : Name) → IsLawful old.heap → IsLive old.heap name → (new : Seen) → FollowsNoForgery old new name
+live_not_forged old name lawful live new = not_forged old name lawful (named_of old.heap name live) new
 
 -- a resize, which may move the block, is refused where the name is
 pub moved_refused : (sli : ℕ) (h : HeapState) (name : Name) (len : ℕ) (why : Refusal) → RefusesName h name why → resized_or_moved sli h name len ≡ refused h why

@@ -36,10 +36,10 @@ module _ (old new : PoolsState) (name : Name) where
   by_name left only none = record { there = there_in (part_named old name) left only none; elsewhere = elsewhere_in (part_named old name) only none }
 
   pub release_left : (answer : Result (Unit {0}) Refusal) → ReleasesInPools old new name answer → PartsLeavePayloads old new name
-  release_left answer is = by_name (IfSome_then (part_named old name) is.releases (λ i r. r.leaves)) is.others (λ e. (is.foreign e).1)
+  release_left answer is = by_name (IfSome_then (part_named old name) is.releases (λ i r. r.releases.leaves)) is.others (λ e. (is.foreign e).1)
 
   pub write_left : (at : ℕ) (bytes : List ℕ) (answer : Result (Unit {0}) Refusal) → WritesInPools old new name at bytes answer → PartsLeavePayloads old new name
-  write_left at bytes answer is = by_name (IfSome_then (part_named old name) is.writes (λ i w. w.leaves)) is.others (λ e. (is.foreign e).1)
+  write_left at bytes answer is = by_name (IfSome_then (part_named old name) is.writes (λ i w. w.writes.leaves)) is.others (λ e. (is.foreign e).1)
 
   pub read_left : (at : ℕ) (bytes filled : List ℕ) (answer : Result (Unit {0}) Refusal) → ReadsInPools old new name at bytes filled answer → PartsLeavePayloads old new name
-  read_left at bytes filled answer is = by_name (IfSome_then (part_named old name) is.reads (λ i r. r.leaves)) is.others (λ e. (is.foreign e).2)
+  read_left at bytes filled answer is = by_name (IfSome_then (part_named old name) is.reads (λ i r. r.reads.leaves)) is.others (λ e. (is.foreign e).2)

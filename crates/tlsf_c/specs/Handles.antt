@@ -2,13 +2,14 @@
 use Rattle.std.specs.Prelude.{◌≡◌, ℕ, true, List, [], Option, Some, None, map}
 use denote.RawPtr.{Ptr}
 use Rattle.tlsf_heap.specs.Blocks.{HeapState}
+use Rattle.tlsf_heap.specs.Shown.{Seen}
 use Rattle.tlsf_heap.specs.Image.{Image}
 use Rattle.tlsf_heap.specs.declared.name.Name.{Name}
 use Rattle.tlsf_post.specs.Lanes.{posts_sent, free_slots, taken, ready, IsLane}
 use Rattle.tlsf_post.specs.declared.post.Post.{Post}
 use Rattle.tlsf_post.specs.declared.post_end.PostEnd.{PostEnd}
 use Rattle.tlsf_post.specs.declared.take_end.TakeEnd.{TakeEnd}
-use Rattle.tlsf_c.specs.Levels.{GoesOn}
+use Rattle.tlsf_c.specs.Levels.{GoesOn, seen_at}
 use Rattle.tlsf_c.specs.Names.{name_of}
 use Rattle.tlsf_c.specs.declared.counts.Counts.{Counts}
 use Rattle.tlsf_c.specs.declared.names.BlockName.{BlockName}
@@ -21,6 +22,10 @@ use Rattle.tlsf_c.specs.declared.take_slot.TakeSlot.{TakeSlot}
 -- the heap of an open handle
 abbrev pub heap_in : HeapSlot → HeapState
 heap_in h = h.held.value.heap
+
+-- what that shows of a call
+abbrev pub seen_in : HeapSlot → Seen
+seen_in h = seen_at h.held.value
 
 -- what is stored in its region
 abbrev pub stored_in : HeapSlot → Image

@@ -1,17 +1,15 @@
 //! A heap whose level is told when it is opened.
-ghost use Rattle.std.specs.Prelude.{◌≡◌, ◌+◌, ◌*◌, ◌/◌, ◌≤◌, ◌↔◌, length, IfOk, IfErr, IsErrOf, MatchResult, OnErr, Ok, Err};
-ghost use Rattle.std.specs.Result.{result_unwrap_or};
-ghost use Rattle.tlsf_class.specs.Classes.{IsLevel};
-ghost use Rattle.tlsf_heap.specs.Lawful.{IsLawful, IsRegion};
-ghost use Rattle.tlsf_heap.specs.Calls.{opened, allocated, released, resized, written, read_of, read_answer};
+ghost use Rattle.std.specs.Prelude.{◌≡◌, ◌+◌, ◌≤◌, ◌↔◌, length, IfOk, IfErr, IsErrOf, MatchResult, Ok, Err};
+ghost use Rattle.tlsf_heap.specs.Blocks.{want};
+ghost use Rattle.tlsf_heap.specs.Lawful.{IsRegion};
+ghost use Rattle.tlsf_heap.specs.Calls.{opened};
 ghost use Rattle.tlsf_heap.specs.InPlace.{IsPayloadCheck};
-ghost use Rattle.tlsf_heap.specs.Footprint.{LeavesLive, LeavesPayloads};
-ghost use Rattle.tlsf_heap.specs.Given.{payload_words_given, payload_words_left};
-ghost use Rattle.tlsf_heap.specs.Reports.{report_of};
-ghost use Rattle.tlsf_heap.specs.Touched.{FollowsNoForgery};
+ghost use Rattle.tlsf_heap.specs.Effects.{Allocates, Reads, Releases, Reports, Resizes, Writes};
+ghost use Rattle.tlsf_heap.specs.Footprint.{LeavesLive};
+ghost use Rattle.tlsf_heap.specs.Touched.{FollowsNoForgery, allocate_touches, read_touches, release_touches, resize_touches, write_touches};
 ghost use Rattle.tlsf_heap.specs.WordsInUse.{words_in_use};
 ghost use Rattle.tlsf_c.specs.Counting.{no_counts, counted, counted_request};
-ghost use Rattle.tlsf_c.specs.Levels.{GoesOn};
+ghost use Rattle.tlsf_c.specs.Levels.{GoesOn, seen_at};
 
 mod by_place;
 
@@ -79,12 +77,9 @@ impl AnyHeap {
 
     /// `Heap::allocate`.
     pub fn allocate(&mut self, len: u32) -> Result<Name, Refusal>
-        ensures answer { result ≡ (allocated self.old.level self.old.heap len).answer }
-        ensures heap { self.new.heap ≡ (allocated self.old.level self.old.heap len).heap }
+        ensures allocates { Allocates (allocate_touches + 1) self.old.level (want len) len (seen_at self.old) (seen_at self.new) result }
         ensures goes_on { GoesOn self.old self.new }
         ensures counts { self.new.counts ≡ counted_request self.old.counts result len self.new.heap }
-        ensures touches { self.new.touches ≤ self.old.touches + 64 + payload_words_given result self.new.heap }
-        ensures leaves { LeavesLive self.old.heap.blocks self.old.touched self.new.touched }
     {
         match &mut self.of_level {
             OfLevel::Four(heap) => self.counts.allocate(heap, len),
@@ -94,14 +89,9 @@ impl AnyHeap {
 
     /// `Heap::release`.
     pub fn release(&mut self, name: Name) -> Result<(), Refusal>
-        ensures answer { result ≡ (released self.old.heap name).answer }
-        ensures heap { self.new.heap ≡ (released self.old.heap name).heap }
+        ensures releases { Releases release_touches (seen_at self.old) (seen_at self.new) name result }
         ensures goes_on { GoesOn self.old self.new }
         ensures counts { self.new.counts ≡ record self.old.counts { words = words_in_use self.new.heap } }
-        ensures touches { self.new.touches ≤ self.old.touches + 64 }
-        ensures leaves { LeavesPayloads self.old.heap.blocks name.at self.old.touched self.new.touched }
-        ensures refused { OnErr result (LeavesLive self.old.heap.blocks self.old.touched self.new.touched) }
-        ensures forged { FollowsNoForgery self.old.heap name self.old.touches self.new.touches }
     {
         match &mut self.of_level {
             OfLevel::Four(heap) => self.counts.release(heap, name),
@@ -111,14 +101,9 @@ impl AnyHeap {
 
     /// `Heap::resize`.
     pub fn resize(&mut self, name: Name, len: u32) -> Result<(), Refusal>
-        ensures answer { result ≡ (resized self.old.heap name len).answer }
-        ensures heap { self.new.heap ≡ (resized self.old.heap name len).heap }
+        ensures resizes { Resizes (resize_touches + 4) (want len) len (seen_at self.old) (seen_at self.new) name result }
         ensures goes_on { GoesOn self.old self.new }
         ensures counts { self.new.counts ≡ counted self.old.counts self.new.heap }
-        ensures touches { self.new.touches ≤ self.old.touches + 64 + payload_words_left result self.new.heap name }
-        ensures leaves { LeavesPayloads self.old.heap.blocks name.at self.old.touched self.new.touched }
-        ensures refused { OnErr result (LeavesLive self.old.heap.blocks self.old.touched self.new.touched) }
-        ensures forged { FollowsNoForgery self.old.heap name self.old.touches self.new.touches }
     {
         match &mut self.of_level {
             OfLevel::Four(heap) => self.counts.resize(heap, name, len),
@@ -128,14 +113,9 @@ impl AnyHeap {
 
     /// `Heap::write`.
     pub fn write(&mut self, name: Name, at: u32, bytes: &[u8]) -> Result<(), Refusal>
-        ensures answer { result ≡ (written self.old.heap name at bytes.now).answer }
-        ensures heap { self.new.heap ≡ (written self.old.heap name at bytes.now).heap }
+        ensures writes { Writes (write_touches (length bytes.now)) (seen_at self.old) (seen_at self.new) name at bytes.now result }
         ensures goes_on { GoesOn self.old self.new }
         ensures counts { self.new.counts ≡ self.old.counts }
-        ensures touches { self.new.touches ≤ self.old.touches + 4 + 2 * (length bytes.now / 8 + 2) }
-        ensures leaves { LeavesPayloads self.old.heap.blocks name.at self.old.touched self.new.touched }
-        ensures refused { OnErr result (LeavesLive self.old.heap.blocks self.old.touched self.new.touched) }
-        ensures forged { FollowsNoForgery self.old.heap name self.old.touches self.new.touches }
     {
         match &mut self.of_level {
             OfLevel::Four(heap) => heap.write(name, at, bytes),
@@ -145,15 +125,9 @@ impl AnyHeap {
 
     /// `Heap::read`.
     pub fn read(&mut self, name: Name, at: u32, out: &mut [u8]) -> Result<(), Refusal>
-        ensures answer { result ≡ read_answer (read_of self.old.heap name at (length out.old)) }
-        ensures bytes { out.new ≡ result_unwrap_or (read_of self.old.heap name at (length out.old)) out.old }
-        ensures heap { self.new.heap ≡ self.old.heap }
+        ensures reads { Reads (read_touches (length out.old)) (seen_at self.old) (seen_at self.new) name at out.old out.new result }
         ensures goes_on { GoesOn self.old self.new }
         ensures counts { self.new.counts ≡ self.old.counts }
-        ensures touches { self.new.touches ≤ self.old.touches + 4 + (length out.old / 8 + 2) }
-        ensures leaves { LeavesPayloads self.old.heap.blocks name.at self.old.touched self.new.touched }
-        ensures refused { OnErr result (LeavesLive self.old.heap.blocks self.old.touched self.new.touched) }
-        ensures forged { FollowsNoForgery self.old.heap name self.old.touches self.new.touches }
     {
         match &mut self.of_level {
             OfLevel::Four(heap) => heap.read(name, at, out),
@@ -170,7 +144,7 @@ impl AnyHeap {
         ensures counts { self.new.counts ≡ self.old.counts }
         ensures touches { self.new.touches ≤ self.old.touches + 4 }
         ensures leaves { LeavesLive self.old.heap.blocks self.old.touched self.new.touched }
-        ensures forged { FollowsNoForgery self.old.heap name self.old.touches self.new.touches }
+        ensures forged { FollowsNoForgery (seen_at self.old) (seen_at self.new) name }
     {
         match &mut self.of_level {
             OfLevel::Four(heap) => heap.payload(name),
@@ -180,12 +154,9 @@ impl AnyHeap {
 
     /// `Heap::report`.
     pub fn report(&mut self) -> Report
-        ensures report { result ≡ report_of self.old.level self.old.heap }
-        ensures heap { self.new.heap ≡ self.old.heap }
+        ensures reports { Reports self.old.level (seen_at self.old) (seen_at self.new) result }
         ensures goes_on { GoesOn self.old self.new }
         ensures counts { self.new.counts ≡ self.old.counts }
-        ensures touches { self.new.touches ≤ self.old.touches + 2 * length self.old.heap.blocks }
-        ensures leaves { LeavesLive self.old.heap.blocks self.old.touched self.new.touched }
     {
         match &mut self.of_level {
             OfLevel::Four(heap) => heap.report(),

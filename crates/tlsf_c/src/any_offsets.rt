@@ -1,9 +1,10 @@
 //! An arena of offsets whose level is told when it is opened.
-ghost use Rattle.std.specs.Prelude.{◌≡◌, ◌≢◌, ◌+◌, ◌*◌, ◌<◌, ◌≤◌, ◌↔◌, length, IfOk, OnOk, OnErr, IfErr, IsErrOf, MatchResult, Ok, Err};
-ghost use Rattle.tlsf_heap.specs.Calls.{opened, allocated_words, released, resized_words};
+ghost use Rattle.std.specs.Prelude.{◌≡◌, ◌≢◌, ◌+◌, ◌*◌, ◌<◌, ◌≤◌, ◌↔◌, length, IfOk, OnOk, OnErr, IsErrOf, MatchResult, Ok, Err};
+ghost use Rattle.tlsf_heap.specs.Calls.{opened, allocated_words, resized_words};
+ghost use Rattle.tlsf_heap.specs.Effects.{Allocates, Releases, Resizes};
 ghost use Rattle.tlsf_heap.specs.Lawful.{IsRegion};
-ghost use Rattle.tlsf_heap.specs.Touched.{FollowsNoForgery};
-ghost use Rattle.tlsf_offsets.specs.Offsets.{IsHeld, KeepsOthers, span_units, usage_of};
+ghost use Rattle.tlsf_heap.specs.Touched.{allocate_touches, release_touches, resize_touches};
+ghost use Rattle.tlsf_offsets.specs.Offsets.{IsHeld, KeepsOthers, span_units, usage_of, seen_of};
 ghost use Rattle.tlsf_offsets.specs.declared.span.Span.{Span};
 ghost use Rattle.tlsf_c.specs.OffsetLevels.{OffsetsGoOn};
 
@@ -68,14 +69,13 @@ impl AnyOffsets {
     /// `OffsetArena::allocate`.
     pub fn allocate(&mut self, len: u64) -> Result<Span, Refusal>
         ensures answer { MatchResult result (λ span. (allocated_words self.old.level self.old.offsets.heap (span_units self.old.offsets.unit len) 0).answer ≡ Ok span.name) (λ why. (allocated_words self.old.level self.old.offsets.heap (span_units self.old.offsets.unit len) 0).answer ≡ Err why) }
-        ensures heap { self.new.offsets.heap ≡ (allocated_words self.old.level self.old.offsets.heap (span_units self.old.offsets.unit len) 0).heap }
+        ensures allocates { Allocates (allocate_touches + 4) self.old.level (span_units self.old.offsets.unit len) 0 (seen_of self.old.offsets) (seen_of self.new.offsets) (allocated_words self.old.level self.old.offsets.heap (span_units self.old.offsets.unit len) 0).answer }
         ensures err { OnErr result (self.new.offsets.heap ≡ self.old.offsets.heap) }
         ensures held { IfOk result (λ span. IsHeld self.new.offsets span) }
         ensures enough { IfOk result (λ span. len ≤ span.size) }
         ensures others { (other : Span) → IsHeld self.old.offsets other → IsHeld self.new.offsets other }
         ensures fresh { IfOk result (λ span. (other : Span) → IsHeld self.old.offsets other → other.name ≢ span.name) }
         ensures goes_on { OffsetsGoOn self.old self.new }
-        ensures touches { self.new.offsets.touches ≤ self.old.offsets.touches + 64 }
     {
         match &mut self.of_level {
             OffsetsOfLevel::Four(arena) => arena.allocate(len),
@@ -85,14 +85,11 @@ impl AnyOffsets {
 
     /// `OffsetArena::release`.
     pub fn release(&mut self, name: Name) -> Result<(), Refusal>
-        ensures answer { result ≡ (released self.old.offsets.heap name).answer }
-        ensures heap { self.new.offsets.heap ≡ (released self.old.offsets.heap name).heap }
+        ensures releases { Releases release_touches (seen_of self.old.offsets) (seen_of self.new.offsets) name result }
         ensures err { OnErr result (self.new.offsets.heap ≡ self.old.offsets.heap) }
         ensures others { KeepsOthers self.old.offsets self.new.offsets name }
         ensures gone { OnOk result ((span : Span) → IsHeld self.new.offsets span → span.name ≢ name) }
         ensures goes_on { OffsetsGoOn self.old self.new }
-        ensures touches { self.new.offsets.touches ≤ self.old.offsets.touches + 64 }
-        ensures forged { FollowsNoForgery self.old.offsets.heap name self.old.offsets.touches self.new.offsets.touches }
     {
         match &mut self.of_level {
             OffsetsOfLevel::Four(arena) => arena.release(name),
@@ -103,14 +100,12 @@ impl AnyOffsets {
     /// `OffsetArena::resize`.
     pub fn resize(&mut self, name: Name, len: u64) -> Result<Span, Refusal>
         ensures answer { MatchResult result (λ span. ((resized_words self.old.offsets.heap name (span_units self.old.offsets.unit len) 0).answer ≡ Ok tt) × (span.name ≡ name)) (λ why. (resized_words self.old.offsets.heap name (span_units self.old.offsets.unit len) 0).answer ≡ Err why) }
-        ensures heap { self.new.offsets.heap ≡ (resized_words self.old.offsets.heap name (span_units self.old.offsets.unit len) 0).heap }
+        ensures resizes { Resizes (resize_touches + 4) (span_units self.old.offsets.unit len) 0 (seen_of self.old.offsets) (seen_of self.new.offsets) name (resized_words self.old.offsets.heap name (span_units self.old.offsets.unit len) 0).answer }
         ensures err { OnErr result (self.new.offsets.heap ≡ self.old.offsets.heap) }
         ensures held { IfOk result (λ span. IsHeld self.new.offsets span) }
         ensures enough { IfOk result (λ span. len ≤ span.size) }
         ensures others { KeepsOthers self.old.offsets self.new.offsets name }
         ensures goes_on { OffsetsGoOn self.old self.new }
-        ensures touches { self.new.offsets.touches ≤ self.old.offsets.touches + 68 }
-        ensures forged { FollowsNoForgery self.old.offsets.heap name self.old.offsets.touches self.new.offsets.touches }
     {
         match &mut self.of_level {
             OffsetsOfLevel::Four(arena) => arena.resize(name, len),

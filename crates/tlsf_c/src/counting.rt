@@ -3,14 +3,16 @@ ghost use Rattle.std.specs.Prelude.{◌≡◌, ◌+◌, ◌*◌, ◌/◌, ◌%�
 ghost use Rattle.tlsf_class.specs.Classes.{IsLevel};
 ghost use Rattle.tlsf_heap.specs.Aligned.{words_aligned};
 ghost use Rattle.tlsf_heap.specs.Blocks;
-ghost use Rattle.tlsf_heap.specs.Calls.{allocated, released, resized};
+ghost use Rattle.tlsf_heap.specs.Calls.{allocated, resized};
+ghost use Rattle.tlsf_heap.specs.Effects.{Allocates, Releases, Resizes};
 ghost use Rattle.tlsf_heap.specs.Footprint.{LeavesLive, LeavesPayloads};
-ghost use Rattle.tlsf_heap.specs.Given.{payload_words_given, payload_words_left};
+ghost use Rattle.tlsf_heap.specs.Given.{payload_words_left};
 ghost use Rattle.tlsf_heap.specs.Laws.{IsLive};
 ghost use Rattle.tlsf_heap.specs.Moved.{resized_or_moved, payload_words_moved};
-ghost use Rattle.tlsf_heap.specs.Touched.{FollowsNoForgery, FollowsNoPlace};
+ghost use Rattle.tlsf_heap.specs.Touched.{FollowsNoForgery, FollowsNoPlace, allocate_touches, release_touches, resize_touches};
 ghost use Rattle.tlsf_heap.specs.ByPlace.{released_by_place};
 ghost use Rattle.tlsf_heap.specs.InPlace.{payload_of};
+ghost use Rattle.tlsf_heap.specs.Shown.{seen};
 ghost use Rattle.tlsf_heap.specs.Unset.{lying, unset_from, with_payload};
 ghost use Rattle.tlsf_heap.specs.WordsInUse.{words_in_use, words_at};
 ghost use Rattle.tlsf_c.specs.Counting.{AreCounts, counted, counted_request, counted_move};
@@ -98,14 +100,10 @@ impl Counts {
     ) -> Result<Name, Refusal>
         requires level { IsLevel SLI }
         requires are_counts { AreCounts heap.old.heap self.old }
-        ensures answer { result ≡ (allocated SLI heap.old.heap len).answer }
-        ensures heap { heap.new.heap ≡ (allocated SLI heap.old.heap len).heap }
+        ensures allocates { Allocates (allocate_touches + 1) SLI (Blocks.want len) len (seen heap.old) (seen heap.new) result }
         ensures counts { self.new ≡ counted_request self.old result len heap.new.heap }
         ensures are_counts { AreCounts heap.new.heap self.new }
         ensures stays { heap.new.extents ≡ heap.old.extents }
-        ensures touches_rise { heap.old.touches ≤ heap.new.touches }
-        ensures touches { heap.new.touches ≤ heap.old.touches + 64 + payload_words_given result heap.new.heap }
-        ensures leaves { LeavesLive heap.old.heap.blocks heap.old.touched heap.new.touched }
     {
         let answer = heap.allocate_words(want(len), len);
         self.request(heap, &answer, len);
@@ -172,16 +170,10 @@ impl Counts {
         name: Name,
     ) -> Result<(), Refusal>
         requires are_counts { AreCounts heap.old.heap self.old }
-        ensures answer { result ≡ (released heap.old.heap name).answer }
-        ensures heap { heap.new.heap ≡ (released heap.old.heap name).heap }
+        ensures releases { Releases release_touches (seen heap.old) (seen heap.new) name result }
         ensures counts { self.new ≡ record self.old { words = words_in_use heap.new.heap } }
         ensures are_counts { AreCounts heap.new.heap self.new }
         ensures stays { heap.new.extents ≡ heap.old.extents }
-        ensures touches_rise { heap.old.touches ≤ heap.new.touches }
-        ensures touches { heap.new.touches ≤ heap.old.touches + 64 }
-        ensures leaves { LeavesPayloads heap.old.heap.blocks name.at heap.old.touched heap.new.touched }
-        ensures refused { OnErr result (LeavesLive heap.old.heap.blocks heap.old.touched heap.new.touched) }
-        ensures forged { FollowsNoForgery heap.old.heap name heap.old.touches heap.new.touches }
     {
         heap.release_counted(name, &mut self.words)
     }
@@ -217,16 +209,10 @@ impl Counts {
         len: u32,
     ) -> Result<(), Refusal>
         requires are_counts { AreCounts heap.old.heap self.old }
-        ensures answer { result ≡ (resized heap.old.heap name len).answer }
-        ensures heap { heap.new.heap ≡ (resized heap.old.heap name len).heap }
+        ensures resizes { Resizes (resize_touches + 4) (Blocks.want len) len (seen heap.old) (seen heap.new) name result }
         ensures counts { self.new ≡ counted self.old heap.new.heap }
         ensures are_counts { AreCounts heap.new.heap self.new }
         ensures stays { heap.new.extents ≡ heap.old.extents }
-        ensures touches_rise { heap.old.touches ≤ heap.new.touches }
-        ensures touches { heap.new.touches ≤ heap.old.touches + 64 + payload_words_left result heap.new.heap name }
-        ensures leaves { LeavesPayloads heap.old.heap.blocks name.at heap.old.touched heap.new.touched }
-        ensures refused { OnErr result (LeavesLive heap.old.heap.blocks heap.old.touched heap.new.touched) }
-        ensures forged { FollowsNoForgery heap.old.heap name heap.old.touches heap.new.touches }
     {
         let before = match heap.words_of(name) {
             Ok(words) => words,
@@ -263,7 +249,7 @@ impl Counts {
             + 3 * payload_words_moved SLI heap.old.heap len }
         ensures leaves { LeavesPayloads heap.old.heap.blocks name.at heap.old.touched heap.new.touched }
         ensures refused { OnErr result (LeavesLive heap.old.heap.blocks heap.old.touched heap.new.touched) }
-        ensures forged { FollowsNoForgery heap.old.heap name heap.old.touches heap.new.touches }
+        ensures forged { FollowsNoForgery (seen heap.old) (seen heap.new) name }
     {
         let before = match heap.words_of(name) {
             Ok(words) => words,
@@ -295,7 +281,7 @@ impl Counts {
         ensures touches { heap.new.touches ≤ heap.old.touches + 104 + 2 * (min (length (payload_of heap.old.heap name)) len / 8) }
         ensures leaves { LeavesPayloads heap.old.heap.blocks name.at heap.old.touched heap.new.touched }
         ensures refused { OnErr result (LeavesLive heap.old.heap.blocks heap.old.touched heap.new.touched) }
-        ensures forged { FollowsNoForgery heap.old.heap name heap.old.touches heap.new.touches }
+        ensures forged { FollowsNoForgery (seen heap.old) (seen heap.new) name }
     {
         let before = match heap.words_of(name) {
             Ok(words) => words,

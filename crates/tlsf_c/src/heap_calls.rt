@@ -1,21 +1,21 @@
 //! C's calls of a heap.
-ghost use Rattle.std.specs.Prelude.{◌≡◌, ℕ, true, false, ◌<◌, ◌≤◌, ◌+◌, ◌*◌, ◌/◌, length, Result, Ok, Err, Some, None};
-ghost use Rattle.std.specs.Result.{result_unwrap_or};
+ghost use Rattle.std.specs.Prelude.{◌≡◌, true, false, ◌<◌, ◌≤◌, ◌+◌, ◌*◌, length, Ok, Err, Some, None};
+ghost use Rattle.tlsf_heap.specs.Blocks.{want};
 ghost use Rattle.tlsf_heap.specs.Lawful.{IsRegion};
 ghost use Rattle.tlsf_pool.specs.laws.MixedSizes.{mixed_region};
 ghost use Rattle.tlsf_heap.specs.Calls.{opened, allocated, released, resized, written, read_of, read_answer};
+ghost use Rattle.tlsf_heap.specs.Effects.{Allocates, Reads, Releases, Reports, Resizes, Writes};
 ghost use Rattle.tlsf_heap.specs.Footprint.{LeavesLive, LeavesPayloads};
 ghost use Rattle.tlsf_heap.specs.InPlace.{IsPayloadCheck};
-ghost use Rattle.tlsf_heap.specs.Given.{payload_words_given, payload_words_left};
+ghost use Rattle.tlsf_heap.specs.Given.{payload_words_left};
 ghost use Rattle.tlsf_heap.specs.Moved.{resized_or_moved, payload_words_moved};
 ghost use Rattle.tlsf_heap.specs.Numbers.{number_of};
-ghost use Rattle.tlsf_heap.specs.Reports.{report_of};
-ghost use Rattle.tlsf_heap.specs.Touched.{FollowsNoForgery};
+ghost use Rattle.tlsf_heap.specs.Touched.{FollowsNoForgery, allocate_touches, read_touches, release_touches, resize_touches, write_touches};
 ghost use Rattle.tlsf_heap.specs.declared.refusal.Refusal.{Refusal};
 ghost use Rattle.tlsf_heap.specs.WordsInUse.{words_in_use};
 ghost use Rattle.tlsf_c.specs.Counting.{no_counts, counted, counted_request, counted_move};
 ghost use Rattle.tlsf_c.specs.Names.{name_of, report_in};
-ghost use Rattle.tlsf_c.specs.Handles.{address_in, counts_in, heap_in, level_in, touches_in, touched_in, StaysOpen};
+ghost use Rattle.tlsf_c.specs.Handles.{address_in, counts_in, heap_in, seen_in, level_in, touches_in, touched_in, StaysOpen};
 ghost use Rattle.tlsf_c.specs.Refusals.{status_of, bad_size, no_memory, closed, in_use, bad_level};
 
 use crate::any_heap::AnyHeap;
@@ -141,10 +141,8 @@ pub extern "C" fn tlsf_allocate(heap: &mut HeapSlot, len: u32, name: &mut BlockN
     ensures status { heap.old.is_open ≡ true → result ≡ status_of (allocated (level_in heap.old) (heap_in heap.old) len).answer }
     ensures name { heap.old.is_open ≡ true → result ≡ 0 → (allocated (level_in heap.old) (heap_in heap.old) len).answer ≡ Ok (name_of name.new) }
     ensures no_name { ¬ (result ≡ 0) → name.new ≡ name.old }
-    ensures heap { heap.old.is_open ≡ true → heap_in heap.new ≡ (allocated (level_in heap.old) (heap_in heap.old) len).heap }
     ensures counts { heap.old.is_open ≡ true → counts_in heap.new ≡ counted_request (counts_in heap.old) (allocated (level_in heap.old) (heap_in heap.old) len).answer len (heap_in heap.new) }
-    ensures touches { heap.old.is_open ≡ true → touches_in heap.new ≤ touches_in heap.old + 64 + payload_words_given (allocated (level_in heap.old) (heap_in heap.old) len).answer (heap_in heap.new) }
-    ensures leaves { heap.old.is_open ≡ true → LeavesLive (heap_in heap.old).blocks (touched_in heap.old) (touched_in heap.new) }
+    ensures allocates { heap.old.is_open ≡ true → Allocates (allocate_touches + 1) (level_in heap.old) (want len) len (seen_in heap.old) (seen_in heap.new) (allocated (level_in heap.old) (heap_in heap.old) len).answer }
 {
     if !heap.is_open {
         return CallFault::Closed.number();
@@ -175,12 +173,8 @@ pub extern "C" fn tlsf_release(heap: &mut HeapSlot, name: &BlockName) -> u32
     ensures closed { heap.old.is_open ≡ false → (result ≡ closed) × (heap.new ≡ heap.old) }
     ensures open { heap.old.is_open ≡ true → StaysOpen heap.old heap.new }
     ensures status { heap.old.is_open ≡ true → result ≡ status_of (released (heap_in heap.old) (name_of name.now)).answer }
-    ensures heap { heap.old.is_open ≡ true → heap_in heap.new ≡ (released (heap_in heap.old) (name_of name.now)).heap }
-    ensures forged { heap.old.is_open ≡ true → FollowsNoForgery (heap_in heap.old) (name_of name.now) (touches_in heap.old) (touches_in heap.new) }
     ensures counts { heap.old.is_open ≡ true → counts_in heap.new ≡ record (counts_in heap.old) { words = words_in_use (heap_in heap.new) } }
-    ensures touches { heap.old.is_open ≡ true → touches_in heap.new ≤ touches_in heap.old + 64 }
-    ensures leaves { heap.old.is_open ≡ true → LeavesPayloads (heap_in heap.old).blocks name.now.at (touched_in heap.old) (touched_in heap.new) }
-    ensures leaves_all { heap.old.is_open ≡ true → ¬ (result ≡ 0) → LeavesLive (heap_in heap.old).blocks (touched_in heap.old) (touched_in heap.new) }
+    ensures releases { heap.old.is_open ≡ true → Releases release_touches (seen_in heap.old) (seen_in heap.new) (name_of name.now) (released (heap_in heap.old) (name_of name.now)).answer }
 {
     if !heap.is_open {
         return CallFault::Closed.number();
@@ -204,12 +198,8 @@ pub extern "C" fn tlsf_resize(heap: &mut HeapSlot, name: &BlockName, len: u32) -
     ensures closed { heap.old.is_open ≡ false → (result ≡ closed) × (heap.new ≡ heap.old) }
     ensures open { heap.old.is_open ≡ true → StaysOpen heap.old heap.new }
     ensures status { heap.old.is_open ≡ true → result ≡ status_of (resized (heap_in heap.old) (name_of name.now) len).answer }
-    ensures heap { heap.old.is_open ≡ true → heap_in heap.new ≡ (resized (heap_in heap.old) (name_of name.now) len).heap }
-    ensures forged { heap.old.is_open ≡ true → FollowsNoForgery (heap_in heap.old) (name_of name.now) (touches_in heap.old) (touches_in heap.new) }
     ensures counts { heap.old.is_open ≡ true → counts_in heap.new ≡ counted (counts_in heap.old) (heap_in heap.new) }
-    ensures touches { heap.old.is_open ≡ true → touches_in heap.new ≤ touches_in heap.old + 64 + payload_words_left (resized (heap_in heap.old) (name_of name.now) len).answer (heap_in heap.new) (name_of name.now) }
-    ensures leaves { heap.old.is_open ≡ true → LeavesPayloads (heap_in heap.old).blocks name.now.at (touched_in heap.old) (touched_in heap.new) }
-    ensures leaves_all { heap.old.is_open ≡ true → ¬ (result ≡ 0) → LeavesLive (heap_in heap.old).blocks (touched_in heap.old) (touched_in heap.new) }
+    ensures resizes { heap.old.is_open ≡ true → Resizes (resize_touches + 4) (want len) len (seen_in heap.old) (seen_in heap.new) (name_of name.now) (resized (heap_in heap.old) (name_of name.now) len).answer }
 {
     if !heap.is_open {
         return CallFault::Closed.number();
@@ -237,7 +227,7 @@ pub extern "C" fn tlsf_reallocate(heap: &mut HeapSlot, name: &mut BlockName, len
     ensures name { heap.old.is_open ≡ true → result ≡ 0 → (resized_or_moved (level_in heap.old) (heap_in heap.old) (name_of name.old) len).answer ≡ Ok (name_of name.new) }
     ensures no_name { ¬ (result ≡ 0) → name.new ≡ name.old }
     ensures heap { heap.old.is_open ≡ true → heap_in heap.new ≡ (resized_or_moved (level_in heap.old) (heap_in heap.old) (name_of name.old) len).heap }
-    ensures forged { heap.old.is_open ≡ true → FollowsNoForgery (heap_in heap.old) (name_of name.old) (touches_in heap.old) (touches_in heap.new) }
+    ensures forged { heap.old.is_open ≡ true → FollowsNoForgery (seen_in heap.old) (seen_in heap.new) (name_of name.old) }
     ensures counts { heap.old.is_open ≡ true → counts_in heap.new ≡ counted_move (counts_in heap.old) (name_of name.old).at (resized_or_moved (level_in heap.old) (heap_in heap.old) (name_of name.old) len).answer len (heap_in heap.new) }
     ensures touches { heap.old.is_open ≡ true → touches_in heap.new ≤ touches_in heap.old + 133
         + payload_words_left (resized (heap_in heap.old) (name_of name.old) len).answer (resized (heap_in heap.old) (name_of name.old) len).heap (name_of name.old)
@@ -274,12 +264,8 @@ pub extern "C" fn tlsf_write(heap: &mut HeapSlot, name: &BlockName, at: u32, byt
     ensures closed { heap.old.is_open ≡ false → (result ≡ closed) × (heap.new ≡ heap.old) }
     ensures open { heap.old.is_open ≡ true → StaysOpen heap.old heap.new }
     ensures status { heap.old.is_open ≡ true → result ≡ status_of (written (heap_in heap.old) (name_of name.now) at bytes.now).answer }
-    ensures heap { heap.old.is_open ≡ true → heap_in heap.new ≡ (written (heap_in heap.old) (name_of name.now) at bytes.now).heap }
-    ensures forged { heap.old.is_open ≡ true → FollowsNoForgery (heap_in heap.old) (name_of name.now) (touches_in heap.old) (touches_in heap.new) }
     ensures counts { heap.old.is_open ≡ true → counts_in heap.new ≡ counts_in heap.old }
-    ensures touches { heap.old.is_open ≡ true → touches_in heap.new ≤ touches_in heap.old + 4 + 2 * (length bytes.now / 8 + 2) }
-    ensures leaves { heap.old.is_open ≡ true → LeavesPayloads (heap_in heap.old).blocks name.now.at (touched_in heap.old) (touched_in heap.new) }
-    ensures leaves_all { heap.old.is_open ≡ true → ¬ (result ≡ 0) → LeavesLive (heap_in heap.old).blocks (touched_in heap.old) (touched_in heap.new) }
+    ensures writes { heap.old.is_open ≡ true → Writes (write_touches (length bytes.now)) (seen_in heap.old) (seen_in heap.new) (name_of name.now) at bytes.now (written (heap_in heap.old) (name_of name.now) at bytes.now).answer }
 {
     if !heap.is_open {
         return CallFault::Closed.number();
@@ -303,13 +289,8 @@ pub extern "C" fn tlsf_read(heap: &mut HeapSlot, name: &BlockName, at: u32, out:
     ensures closed { heap.old.is_open ≡ false → (result ≡ closed) × (heap.new ≡ heap.old) × (out.new ≡ out.old) }
     ensures open { heap.old.is_open ≡ true → StaysOpen heap.old heap.new }
     ensures status { heap.old.is_open ≡ true → result ≡ status_of (read_answer (read_of (heap_in heap.old) (name_of name.now) at (length out.old))) }
-    ensures bytes { heap.old.is_open ≡ true → out.new ≡ result_unwrap_or (read_of (heap_in heap.old) (name_of name.now) at (length out.old)) out.old }
-    ensures heap { heap.old.is_open ≡ true → heap_in heap.new ≡ heap_in heap.old }
-    ensures forged { heap.old.is_open ≡ true → FollowsNoForgery (heap_in heap.old) (name_of name.now) (touches_in heap.old) (touches_in heap.new) }
     ensures counts { heap.old.is_open ≡ true → counts_in heap.new ≡ counts_in heap.old }
-    ensures touches { heap.old.is_open ≡ true → touches_in heap.new ≤ touches_in heap.old + 4 + (length out.old / 8 + 2) }
-    ensures leaves { heap.old.is_open ≡ true → LeavesPayloads (heap_in heap.old).blocks name.now.at (touched_in heap.old) (touched_in heap.new) }
-    ensures leaves_all { heap.old.is_open ≡ true → ¬ (result ≡ 0) → LeavesLive (heap_in heap.old).blocks (touched_in heap.old) (touched_in heap.new) }
+    ensures reads { heap.old.is_open ≡ true → Reads (read_touches (length out.old)) (seen_in heap.old) (seen_in heap.new) (name_of name.now) at out.old out.new (read_answer (read_of (heap_in heap.old) (name_of name.now) at (length out.old))) }
 {
     if !heap.is_open {
         return CallFault::Closed.number();
@@ -345,7 +326,7 @@ pub extern "C" fn tlsf_locate(
         × IsPayloadCheck (heap_in heap.old) (name_of name.now) (Err why) × (result ≡ number_of why) }
     ensures heap { heap.old.is_open ≡ true → heap_in heap.new ≡ heap_in heap.old }
     ensures kept { ¬ (result ≡ 0) → (base.new ≡ base.old) × (len.new ≡ len.old) }
-    ensures forged { heap.old.is_open ≡ true → FollowsNoForgery (heap_in heap.old) (name_of name.now) (touches_in heap.old) (touches_in heap.new) }
+    ensures forged { heap.old.is_open ≡ true → FollowsNoForgery (seen_in heap.old) (seen_in heap.new) (name_of name.now) }
     ensures counts { heap.old.is_open ≡ true → counts_in heap.new ≡ counts_in heap.old }
     ensures touches { heap.old.is_open ≡ true → touches_in heap.new ≤ touches_in heap.old + 4 }
     ensures leaves { heap.old.is_open ≡ true → LeavesLive (heap_in heap.old).blocks (touched_in heap.old) (touched_in heap.new) }
@@ -378,11 +359,8 @@ pub extern "C" fn tlsf_locate(
 pub extern "C" fn tlsf_report(heap: &mut HeapSlot, report: &mut HeapReport) -> u32
     ensures closed { heap.old.is_open ≡ false → (result ≡ closed) × (heap.new ≡ heap.old) × (report.new ≡ report.old) }
     ensures open { heap.old.is_open ≡ true → (result ≡ 0) × StaysOpen heap.old heap.new }
-    ensures report { heap.old.is_open ≡ true → report_in report.new ≡ report_of (level_in heap.old) (heap_in heap.old) }
-    ensures heap { heap.old.is_open ≡ true → heap_in heap.new ≡ heap_in heap.old }
     ensures counts { heap.old.is_open ≡ true → counts_in heap.new ≡ counts_in heap.old }
-    ensures touches { heap.old.is_open ≡ true → touches_in heap.new ≤ touches_in heap.old + 2 * length (heap_in heap.old).blocks }
-    ensures leaves { heap.old.is_open ≡ true → LeavesLive (heap_in heap.old).blocks (touched_in heap.old) (touched_in heap.new) }
+    ensures reports { heap.old.is_open ≡ true → Reports (level_in heap.old) (seen_in heap.old) (seen_in heap.new) (report_in report.new) }
 {
     if !heap.is_open {
         return CallFault::Closed.number();

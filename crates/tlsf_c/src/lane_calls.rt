@@ -4,6 +4,7 @@ ghost use mathlib.Core.List.{IsPrefix};
 ghost use Rattle.tlsf_post.specs.declared.post.Post.{Post};
 ghost use Rattle.tlsf_post.specs.declared.post_end.PostEnd.{PostEnd};
 ghost use Rattle.tlsf_post.specs.declared.take_end.TakeEnd.{TakeEnd};
+ghost use Rattle.tlsf_heap.specs.Touched.{release_touches};
 ghost use Rattle.tlsf_heap.specs.WordsInUse.{words_in_use};
 ghost use Rattle.tlsf_post.specs.Lanes.{posts_sent, free_slots, IsLane};
 ghost use Rattle.tlsf_c.specs.Handles.{counts_in, heap_in, touches_in, touched_in, StaysOpen, post_of, posts_named, sent_in, known_slots, taken_in, ready_in, AreEnds, AreLane};
@@ -287,7 +288,7 @@ pub extern "C" fn tlsf_drain(
     ensures lane { (p : Option PostEnd) → AreEnds p take.old.held.value → AreEnds p take.new.held.value }
     ensures no_counts { result ≡ 0 → came.new ≡ 0 → counts_in heap.new ≡ counts_in heap.old }
     ensures counts { result ≡ 0 → 0 < came.new → counts_in heap.new ≡ record (counts_in heap.old) { words = words_in_use (heap_in heap.new) } }
-    ensures touches { result ≡ 0 → touches_in heap.new ≤ touches_in heap.old + 64 * came.new }
+    ensures touches { result ≡ 0 → touches_in heap.new ≤ touches_in heap.old + release_touches * came.new }
     ensures leaves { result ≡ 0 → (posts : List Post) × (taken_in take.new ≡ taken_in take.old ++ posts)
         × LeavesUnnamed (heap_in heap.old).blocks posts (touched_in heap.old) (touched_in heap.new) }
 {
@@ -349,7 +350,7 @@ pub(crate) fn release_posts(heap: &mut HeapSlot, posts: &[Post])
     ensures drained { heap_in heap.new ≡ drained (heap_in heap.old) posts.now }
     ensures no_counts { length posts.now ≡ 0 → counts_in heap.new ≡ counts_in heap.old }
     ensures counts { 0 < length posts.now → counts_in heap.new ≡ record (counts_in heap.old) { words = words_in_use (heap_in heap.new) } }
-    ensures touches { touches_in heap.new ≤ touches_in heap.old + 64 * length posts.now }
+    ensures touches { touches_in heap.new ≤ touches_in heap.old + release_touches * length posts.now }
     ensures leaves { LeavesUnnamed (heap_in heap.old).blocks posts.now (touched_in heap.old) (touched_in heap.new) }
 {
     for post in posts {

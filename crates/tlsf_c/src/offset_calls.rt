@@ -1,9 +1,10 @@
 //! C's calls of an arena of offsets, into memory that the processor never touches.
 ghost use Rattle.std.specs.Prelude.{◌≡◌, ◌≢◌, true, false, ◌+◌, ◌*◌, ◌<◌, ◌≤◌, length};
 ghost use Rattle.tlsf_heap.specs.Calls.{opened, allocated_words, released, resized_words};
+ghost use Rattle.tlsf_heap.specs.Effects.{Allocates, Releases, Resizes};
 ghost use Rattle.tlsf_heap.specs.Lawful.{IsRegion};
-ghost use Rattle.tlsf_heap.specs.Touched.{FollowsNoForgery};
-ghost use Rattle.tlsf_offsets.specs.Offsets.{IsHeld, KeepsOthers, span_units, usage_of};
+ghost use Rattle.tlsf_heap.specs.Touched.{allocate_touches, release_touches, resize_touches};
+ghost use Rattle.tlsf_offsets.specs.Offsets.{IsHeld, KeepsOthers, span_units, usage_of, seen_of};
 ghost use Rattle.tlsf_offsets.specs.declared.span.Span.{Span};
 ghost use Rattle.tlsf_c.specs.Names.{name_of};
 ghost use Rattle.tlsf_c.specs.OffsetHandles.{offsets_in, offsets_level, OffsetsStayOpen, span_of, usage_told};
@@ -101,14 +102,13 @@ pub extern "C" fn tlsf_offsets_allocate(
     ensures closed { offsets.old.is_open ≡ false → (result ≡ closed) × (offsets.new ≡ offsets.old) }
     ensures open { offsets.old.is_open ≡ true → OffsetsStayOpen offsets.old offsets.new }
     ensures status { offsets.old.is_open ≡ true → result ≡ status_of (allocated_words (offsets_level offsets.old) (offsets_in offsets.old).heap (span_units (offsets_in offsets.old).unit bytes) 0).answer }
-    ensures heap { offsets.old.is_open ≡ true → (offsets_in offsets.new).heap ≡ (allocated_words (offsets_level offsets.old) (offsets_in offsets.old).heap (span_units (offsets_in offsets.old).unit bytes) 0).heap }
+    ensures allocates { offsets.old.is_open ≡ true → Allocates (allocate_touches + 4) (offsets_level offsets.old) (span_units (offsets_in offsets.old).unit bytes) 0 (seen_of (offsets_in offsets.old)) (seen_of (offsets_in offsets.new)) (allocated_words (offsets_level offsets.old) (offsets_in offsets.old).heap (span_units (offsets_in offsets.old).unit bytes) 0).answer }
     ensures refused { ¬ (result ≡ 0) → offsets.old.is_open ≡ true → (offsets_in offsets.new).heap ≡ (offsets_in offsets.old).heap }
     ensures no_span { ¬ (result ≡ 0) → span.new ≡ span.old }
     ensures held { result ≡ 0 → IsHeld (offsets_in offsets.new) (span_of span.new) }
     ensures enough { result ≡ 0 → bytes ≤ span.new.size }
     ensures others { offsets.old.is_open ≡ true → (other : Span) → IsHeld (offsets_in offsets.old) other → IsHeld (offsets_in offsets.new) other }
     ensures fresh { result ≡ 0 → (other : Span) → IsHeld (offsets_in offsets.old) other → other.name ≢ name_of span.new.name }
-    ensures touches { offsets.old.is_open ≡ true → (offsets_in offsets.new).touches ≤ (offsets_in offsets.old).touches + 64 }
 {
     let Some(mut owned) = offsets.take_out(alloc) else {
         return CallFault::Closed.number();
@@ -141,11 +141,9 @@ pub extern "C" fn tlsf_offsets_release(
     ensures closed { offsets.old.is_open ≡ false → (result ≡ closed) × (offsets.new ≡ offsets.old) }
     ensures open { offsets.old.is_open ≡ true → OffsetsStayOpen offsets.old offsets.new }
     ensures status { offsets.old.is_open ≡ true → result ≡ status_of (released (offsets_in offsets.old).heap (name_of name.now)).answer }
-    ensures heap { offsets.old.is_open ≡ true → (offsets_in offsets.new).heap ≡ (released (offsets_in offsets.old).heap (name_of name.now)).heap }
+    ensures releases { offsets.old.is_open ≡ true → Releases release_touches (seen_of (offsets_in offsets.old)) (seen_of (offsets_in offsets.new)) (name_of name.now) (released (offsets_in offsets.old).heap (name_of name.now)).answer }
     ensures others { offsets.old.is_open ≡ true → KeepsOthers (offsets_in offsets.old) (offsets_in offsets.new) (name_of name.now) }
     ensures gone { result ≡ 0 → (span : Span) → IsHeld (offsets_in offsets.new) span → span.name ≢ name_of name.now }
-    ensures touches { offsets.old.is_open ≡ true → (offsets_in offsets.new).touches ≤ (offsets_in offsets.old).touches + 64 }
-    ensures forged { offsets.old.is_open ≡ true → FollowsNoForgery (offsets_in offsets.old).heap (name_of name.now) (offsets_in offsets.old).touches (offsets_in offsets.new).touches }
 {
     let Some(mut owned) = offsets.take_out(alloc) else {
         return CallFault::Closed.number();
@@ -175,13 +173,11 @@ pub extern "C" fn tlsf_offsets_resize(
     ensures closed { offsets.old.is_open ≡ false → (result ≡ closed) × (offsets.new ≡ offsets.old) }
     ensures open { offsets.old.is_open ≡ true → OffsetsStayOpen offsets.old offsets.new }
     ensures status { offsets.old.is_open ≡ true → result ≡ status_of (resized_words (offsets_in offsets.old).heap (name_of span.old.name) (span_units (offsets_in offsets.old).unit bytes) 0).answer }
-    ensures heap { offsets.old.is_open ≡ true → (offsets_in offsets.new).heap ≡ (resized_words (offsets_in offsets.old).heap (name_of span.old.name) (span_units (offsets_in offsets.old).unit bytes) 0).heap }
+    ensures resizes { offsets.old.is_open ≡ true → Resizes (resize_touches + 4) (span_units (offsets_in offsets.old).unit bytes) 0 (seen_of (offsets_in offsets.old)) (seen_of (offsets_in offsets.new)) (name_of span.old.name) (resized_words (offsets_in offsets.old).heap (name_of span.old.name) (span_units (offsets_in offsets.old).unit bytes) 0).answer }
     ensures no_span { ¬ (result ≡ 0) → span.new ≡ span.old }
     ensures held { result ≡ 0 → IsHeld (offsets_in offsets.new) (span_of span.new) × (span.new.name ≡ span.old.name) }
     ensures enough { result ≡ 0 → bytes ≤ span.new.size }
     ensures others { offsets.old.is_open ≡ true → KeepsOthers (offsets_in offsets.old) (offsets_in offsets.new) (name_of span.old.name) }
-    ensures touches { offsets.old.is_open ≡ true → (offsets_in offsets.new).touches ≤ (offsets_in offsets.old).touches + 68 }
-    ensures forged { offsets.old.is_open ≡ true → FollowsNoForgery (offsets_in offsets.old).heap (name_of span.old.name) (offsets_in offsets.old).touches (offsets_in offsets.new).touches }
 {
     let Some(mut owned) = offsets.take_out(alloc) else {
         return CallFault::Closed.number();

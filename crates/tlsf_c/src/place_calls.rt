@@ -5,6 +5,7 @@ ghost use Rattle.tlsf_heap.specs.Aligned.{words_aligned};
 ghost use Rattle.tlsf_heap.specs.Blocks.{want, IsPlace};
 ghost use Rattle.tlsf_heap.specs.Calls.{allocated};
 ghost use Rattle.tlsf_heap.specs.Checks.{FindsSound, IsCheck, block_touches};
+ghost use Rattle.tlsf_heap.specs.Effects.{Looks};
 ghost use Rattle.tlsf_heap.specs.Footprint.{LeavesLive, LeavesPayloads};
 ghost use Rattle.tlsf_heap.specs.Numbers.{number_of};
 ghost use Rattle.tlsf_heap.specs.Placed.{placed_at};
@@ -15,7 +16,7 @@ ghost use Rattle.tlsf_heap.specs.declared.checked.Checked.TheVariants.{Sound};
 ghost use Rattle.tlsf_heap.specs.declared.placed_block.PlacedBlock.{PlacedBlock};
 ghost use Rattle.tlsf_heap.specs.declared.refusal.Refusal.TheVariants.{Stale};
 ghost use Rattle.tlsf_c.specs.Checked.{check_number_of, next_told, damaged_told};
-ghost use Rattle.tlsf_c.specs.Handles.{counts_in, heap_in, level_in, stored_in, touches_in, touched_in, StaysOpen};
+ghost use Rattle.tlsf_c.specs.Handles.{counts_in, heap_in, seen_in, level_in, stored_in, touches_in, touched_in, StaysOpen};
 ghost use Rattle.tlsf_heap.specs.WordsInUse.{words_in_use};
 ghost use Rattle.tlsf_c.specs.Counting.{counted_request, counted_move};
 ghost use Rattle.tlsf_c.specs.Names.{name_of, info_of};
@@ -205,11 +206,8 @@ pub extern "C" fn tlsf_place(
     ensures len { heap.old.is_open ≡ true → result ≡ 0 → length_at (heap_in heap.old).blocks at ≡ Some len.new }
     ensures stale { heap.old.is_open ≡ true → ¬ (result ≡ 0) → (result ≡ number_of Stale) × (name_at (heap_in heap.old) at ≡ None) }
     ensures kept { ¬ (result ≡ 0) → (name.new ≡ name.old) × (len.new ≡ len.old) }
-    ensures heap { heap.old.is_open ≡ true → heap_in heap.new ≡ heap_in heap.old }
-    ensures wild { heap.old.is_open ≡ true → FollowsNoPlace (heap_in heap.old) at (touches_in heap.old) (touches_in heap.new) }
     ensures counts { heap.old.is_open ≡ true → counts_in heap.new ≡ counts_in heap.old }
-    ensures touches { heap.old.is_open ≡ true → touches_in heap.new ≤ touches_in heap.old + 4 }
-    ensures leaves { heap.old.is_open ≡ true → LeavesLive (heap_in heap.old).blocks (touched_in heap.old) (touched_in heap.new) }
+    ensures looks { heap.old.is_open ≡ true → Looks (seen_in heap.old) (seen_in heap.new) at (placed_at (heap_in heap.old).blocks at) }
 {
     if !heap.is_open {
         return CallFault::Closed.number();
@@ -253,11 +251,8 @@ pub extern "C" fn tlsf_block_at(heap: &mut HeapSlot, at: u32, block: &mut BlockI
     ensures block { heap.old.is_open ≡ true → result ≡ 0 → (b : PlacedBlock) × (placed_at (heap_in heap.old).blocks at ≡ Some b) × (block.new ≡ info_of b) }
     ensures stale { heap.old.is_open ≡ true → ¬ (result ≡ 0) → (result ≡ number_of Stale) × (placed_at (heap_in heap.old).blocks at ≡ None) }
     ensures kept { ¬ (result ≡ 0) → block.new ≡ block.old }
-    ensures heap { heap.old.is_open ≡ true → heap_in heap.new ≡ heap_in heap.old }
-    ensures wild { heap.old.is_open ≡ true → FollowsNoPlace (heap_in heap.old) at (touches_in heap.old) (touches_in heap.new) }
     ensures counts { heap.old.is_open ≡ true → counts_in heap.new ≡ counts_in heap.old }
-    ensures touches { heap.old.is_open ≡ true → touches_in heap.new ≤ touches_in heap.old + 4 }
-    ensures leaves { heap.old.is_open ≡ true → LeavesLive (heap_in heap.old).blocks (touched_in heap.old) (touched_in heap.new) }
+    ensures looks { heap.old.is_open ≡ true → Looks (seen_in heap.old) (seen_in heap.new) at (placed_at (heap_in heap.old).blocks at) }
 {
     if !heap.is_open {
         return CallFault::Closed.number();

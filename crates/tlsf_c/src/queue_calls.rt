@@ -1,6 +1,7 @@
 //! C's calls of a queue: several threads put names in, and the owner of their heap takes them out.
 ghost use Rattle.std.specs.Prelude.{◌≡◌, ◌⊎◌, ℕ, true, false, ◌+◌, ◌*◌, ◌<◌, ◌≤◌, [], ◌∷◌, ◌++◌, List, length};
 ghost use Rattle.tlsf_post.specs.declared.post.Post.{Post};
+ghost use Rattle.tlsf_heap.specs.Touched.{release_touches};
 ghost use Rattle.tlsf_heap.specs.WordsInUse.{words_in_use};
 ghost use Rattle.tlsf_c.specs.Handles.{counts_in, heap_in, touches_in, touched_in, StaysOpen};
 ghost use Rattle.tlsf_c.specs.Drains.{drained, LeavesUnnamed};
@@ -225,7 +226,7 @@ pub extern "C" fn tlsf_queue_drain(
     ensures most { result ≡ 0 → came.new ≤ most }
     ensures no_counts { result ≡ 0 → came.new ≡ 0 → counts_in heap.new ≡ counts_in heap.old }
     ensures counts { result ≡ 0 → 0 < came.new → counts_in heap.new ≡ record (counts_in heap.old) { words = words_in_use (heap_in heap.new) } }
-    ensures touches { result ≡ 0 → touches_in heap.new ≤ touches_in heap.old + 64 * came.new }
+    ensures touches { result ≡ 0 → touches_in heap.new ≤ touches_in heap.old + release_touches * came.new }
     ensures leaves { result ≡ 0 → (posts : List Post) × (got_in queue.new ≡ got_in queue.old ++ posts)
         × LeavesUnnamed (heap_in heap.old).blocks posts (touched_in heap.old) (touched_in heap.new) }
 {
@@ -255,7 +256,7 @@ fn drain_one(alloc: Global, heap: &mut HeapSlot, queue: &mut QueueSlot) -> bool
         × (heap_in heap.new ≡ drained (heap_in heap.old) (post ∷ []))
         × LeavesUnnamed (heap_in heap.old).blocks (post ∷ []) (touched_in heap.old) (touched_in heap.new) }
     ensures counts { result ≡ true → counts_in heap.new ≡ record (counts_in heap.old) { words = words_in_use (heap_in heap.new) } }
-    ensures touches { touches_in heap.new ≤ touches_in heap.old + 64 }
+    ensures touches { touches_in heap.new ≤ touches_in heap.old + release_touches }
     ensures none { result ≡ false → (heap.new ≡ heap.old) × (got_in queue.new ≡ got_in queue.old) }
 {
     let Some(mut end) = queue.take_out(alloc) else {

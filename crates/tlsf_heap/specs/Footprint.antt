@@ -15,6 +15,10 @@ pub record IsWordOf (blocks : List Block) (i at skip k : ℕ) : Type 0 where
 abbrev pub IsLiveWord : List Block → ℕ → Type 0
 IsLiveWord blocks k = (i at : ℕ) × IsWordOf blocks i at 3 k × (is_free (block_at blocks i) ≡ false)
 
+-- no word was read or written but the first two of the header of a block that begins at a place: its tag and its serial
+abbrev pub OnlyTagAndSerial : ℕ → List ℕ → List ℕ → Type 0
+OnlyTagAndSerial at old new = (k : ℕ) → k ≢ at → k ≢ at + 1 → times new k ≡ times old k
+
 -- no word of the payload of a live block was read or written
 abbrev pub LeavesLive : List Block → List ℕ → List ℕ → Type 0
 LeavesLive blocks old new = (k : ℕ) → IsLiveWord blocks k → times new k ≡ times old k

@@ -28,6 +28,7 @@ pub mod Laws
 pub mod InPlace
 pub mod Moved
 pub mod Footprint
+pub mod Effects
 pub mod WordsInUse
 pub mod Checks
 pub mod Aligned

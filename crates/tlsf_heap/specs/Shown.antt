@@ -12,3 +12,12 @@ pub record Shown : Type 0 where
   pub extents : Extents
   pub touches : ℕ
   pub touched : List ℕ
+
+-- of that what every layer shows: the heap, its touches, and the words that they touched
+pub record Seen : Type 0 where
+  pub heap : HeapState
+  pub touches : ℕ
+  pub touched : List ℕ
+
+abbrev pub seen : Shown → Seen
+seen s = record { heap = s.heap; touches = s.touches; touched = s.touched }

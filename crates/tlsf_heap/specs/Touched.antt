@@ -1,36 +1,28 @@
 -- What the calls of a heap may touch.
-use Rattle.std.specs.Prelude.{◌≡◌, ◌≢◌, ℕ, ◌+◌, ◌/◌, ◌<◌, ◌≤◌, Result}
-use Rattle.tlsf_heap.specs.Blocks.{HeapState, IsPlace, want}
-use Rattle.tlsf_heap.specs.Given.{payload_words_given, payload_words_left}
+use Rattle.std.specs.Prelude.{◌≡◌, ◌≢◌, ℕ, ◌+◌, ◌*◌, ◌/◌, ◌<◌, ◌≤◌}
+use Rattle.tlsf_heap.specs.Blocks.{HeapState, IsPlace}
+use Rattle.tlsf_heap.specs.Footprint.{OnlyTagAndSerial}
+use Rattle.tlsf_heap.specs.Laws.{IsLive}
+use Rattle.tlsf_heap.specs.Shown.{Seen}
 use Rattle.tlsf_heap.specs.declared.name.Name.{Name}
-use Rattle.tlsf_heap.specs.declared.refusal.Refusal.{Refusal}
 
--- a forged name is not followed, as the touches before a call and behind it show: not even a start bit is read unless its place lies in
--- the region, and no word unless a block begins there
-pub record FollowsNoForgery (h : HeapState) (name : Name) (before behind : ℕ) : Type 0 where
-  pub foreign : name.heap ≢ h.id → behind ≡ before
-  pub outside : h.words ≤ name.at → behind ≡ before
-  pub nowhere : name.heap ≡ h.id → name.at < h.words → ¬ (IsPlace h.blocks name.at) → behind ≡ before + 1
+-- a forged name is not followed: not even a start bit is read unless its place lies in the region, no word unless a block begins there, and
+-- where no live block has the name, no word but the tag and the serial at its place
+pub record FollowsNoForgery (old new : Seen) (name : Name) : Type 0 where
+  pub foreign : name.heap ≢ old.heap.id → new.touches ≡ old.touches
+  pub outside : old.heap.words ≤ name.at → new.touches ≡ old.touches
+  pub nowhere : name.heap ≡ old.heap.id → name.at < old.heap.words → ¬ (IsPlace old.heap.blocks name.at) → new.touches ≡ old.touches + 1
+  pub stale : ¬ (IsLive old.heap name) → OnlyTagAndSerial name.at old.touched new.touched
 
 -- nor is a place from outside: not even a start bit is read unless it lies in the region, and no word unless a block begins there
 pub record FollowsNoPlace (h : HeapState) (at before behind : ℕ) : Type 0 where
   pub outside : h.words ≤ at → behind ≡ before
   pub nowhere : ¬ (IsPlace h.blocks at) → behind ≤ before + 1
 
--- the most touches of an allocate: 3 to find the class, 7 to take its head out, 9 for the headers, 7 to list the rest, and one for each
--- payload word of the block given
-abbrev pub allocate_touches : {E : Type 0} → Result Name E → HeapState → ℕ
-allocate_touches answer left = 26 + payload_words_given answer left
-
--- the most touches of an allocate by words: those, but of the payload words only the words of the payload and three that good fit adds
-abbrev pub allocate_words_touches : ℕ → ℕ
-allocate_words_touches len = 26 + want len
-
--- an allocate by words touches at most 64 words for 8 bytes or fewer, and no more than is said above
-pub record TouchesForWords (len : ℕ) (answer : Result Name Refusal) (left : HeapState) (before behind : ℕ) : Type 0 where
-  pub touches : behind ≤ before + 60 + want len
-  pub most_touches : behind ≤ before + allocate_words_touches len
-  pub given_touches : behind ≤ before + allocate_touches answer left
+-- the most touches of an allocate: 3 to find the class, 7 to take its head out, 9 for the headers, and 7 to list the rest. Each payload word
+-- that is made zero takes one more
+abbrev pub allocate_touches : ℕ
+allocate_touches = 26
 
 -- the most touches of a release: 3 to check the name, 2 for the tags of the neighbours, 12 to take these out of their lists, 6 for the
 -- headers, and 7 to list what is left
@@ -38,9 +30,17 @@ abbrev pub release_touches : ℕ
 release_touches = 30
 
 -- the most touches of a resize: 3 to check the name, 1 for the tag behind, 6 to take that block out of its list, 7 for the headers, 7 to
--- list the rest, and for the payload of the block left 3 and one for each word
-abbrev pub resize_touches : Result (Unit {0}) Refusal → HeapState → Name → ℕ
-resize_touches answer left name = 27 + payload_words_left answer left name
+-- list the rest, and 3 for the payload. Each payload word of the block left takes one more
+abbrev pub resize_touches : ℕ
+resize_touches = 27
+
+-- the most touches of a write of so many bytes: 3 to check the name, 1 for the length, and two for each word that they lie in
+abbrev pub write_touches : ℕ → ℕ
+write_touches len = 4 + 2 * (len / 8 + 2)
+
+-- the most touches of a read of so many bytes: those of the check, and one for each word that they lie in
+abbrev pub read_touches : ℕ → ℕ
+read_touches len = 4 + (len / 8 + 2)
 
 -- in how many groups of eight words so many words lie at most that stand in a row, wherever the first is
 abbrev pub groups_of : ℕ → ℕ

@@ -1,8 +1,8 @@
 ghost use Rattle.std.specs.Fn.{FnOnceTakesAt, FnOnceTakesAtMut};
-ghost use Rattle.std.specs.Prelude.{◌≡◌, ◌≢◌, ℕ, List, ◌+◌, ◌*◌, ◌/◌, ◌-◌, ◌<◌, ◌≤◌, ◌^◌, ◌↔◌, [], true, length, min, take, IfOk, OnOk, OnErr, IsOk, IsErrOf, MatchResult, Ok, Err};
-ghost use Rattle.std.specs.Result.{result_unwrap_or};
+ghost use Rattle.std.specs.Prelude.{◌≡◌, ◌≢◌, ℕ, List, ◌+◌, ◌*◌, ◌/◌, ◌-◌, ◌<◌, ◌≤◌, ◌^◌, ◌↔◌, true, length, min, take, IfOk, OnOk, OnErr, IsErrOf, MatchResult, Ok, Err};
 ghost use Rattle.tlsf_class.specs.Classes.{IsLevel, most_words};
 ghost use Rattle.tlsf_heap.specs.Blocks;
+ghost use Rattle.tlsf_heap.specs.Effects.{Allocates, Looks, Reads, Releases, Reports, Resizes, Writes};
 ghost use Rattle.tlsf_heap.specs.Footprint.{LeavesBoth, LeavesLive, LeavesPayloads};
 ghost use Rattle.tlsf_heap.specs.FreePlaces.{ShowsLists};
 ghost use Rattle.tlsf_heap.specs.Image.{Shows};
@@ -10,17 +10,16 @@ ghost use Rattle.tlsf_heap.specs.InPlace.{payload_of, ArePayload, Alters, Inspec
 ghost use Rattle.tlsf_heap.specs.Lawful.{IsLawful, IsRegion};
 ghost use Rattle.tlsf_heap.specs.Laws.{IsLive};
 ghost use Rattle.tlsf_heap.specs.Moved.{copied, moved, payload_words_moved, resized_or_moved};
-ghost use Rattle.tlsf_heap.specs.GoodFit.{fits, block_at};
+ghost use Rattle.tlsf_heap.specs.GoodFit.{block_at};
 ghost use Rattle.tlsf_heap.specs.Named.{IsFirst, IsNameCheck};
-ghost use Rattle.tlsf_heap.specs.Placed.{placed_at};
 ghost use Rattle.tlsf_heap.specs.Regions.{image_of};
-ghost use Rattle.tlsf_heap.specs.Reports.{report_of, IsGrant};
-ghost use Rattle.tlsf_heap.specs.Given.{payload_words_at, payload_words_given, payload_words_left};
+ghost use Rattle.tlsf_heap.specs.Given.{payload_words_at, payload_words_left};
 ghost use Rattle.tlsf_heap.specs.Unset.{lying, with_payload};
-ghost use Rattle.tlsf_heap.specs.Touched.{FollowsNoForgery, allocate_groups, allocate_touches, move_groups, release_groups, release_touches, resize_groups, resize_touches, FollowsNoPlace, TouchesForWords};
-ghost use Rattle.tlsf_heap.specs.Calls.{opened, allocated, allocated_words, released, resized, resized_words, named, written, read_of, read_answer, has_bytes, last_tick};
+ghost use Rattle.tlsf_heap.specs.Touched.{FollowsNoForgery, allocate_groups, allocate_touches, move_groups, release_groups, release_touches, resize_groups, resize_touches, read_touches, write_touches};
+ghost use Rattle.tlsf_heap.specs.Calls.{opened, released, resized, named, written, read_of, read_answer, has_bytes, last_tick};
 ghost use Rattle.tlsf_heap.specs.Kept.{IsAsBefore, Keeps};
 ghost use Rattle.tlsf_words.specs.Touched.{InGroups};
+ghost use Rattle.tlsf_heap.specs.Shown.{seen};
 
 mod aligned;
 mod by_place;
@@ -143,19 +142,12 @@ impl<const SLI: u32> Heap<SLI> {
     /// heap.allocate(400) == Err(Refusal::NoFit)
     /// ```
     pub fn allocate(&mut self, len: u32) -> Result<Name, Refusal>
-        ensures answer { result ≡ (allocated SLI self.old.heap len).answer }
-        ensures heap { self.new.heap ≡ (allocated SLI self.old.heap len).heap }
+        // Accepted or refused, and whatever the region holds.
+        ensures allocates { Allocates allocate_touches SLI (Blocks.want len) len (seen self.old) (seen self.new) result }
 
-        // What that comes to: when it is NoFit, when it is a name, and that a refusal changes nothing.
-        ensures no_fit { IsErrOf result Refusal.NoFit ↔ (fits SLI (Blocks.want len) self.old.heap.blocks ≡ []) }
-        ensures ok { IsOk result ↔ (¬ (fits SLI (Blocks.want len) self.old.heap.blocks ≡ []) × ¬ (self.old.heap.tick ≡ last_tick)) }
+        // A refusal changes nothing.
         ensures err { OnErr result (IsAsBefore self.old self.new) }
         ensures keeps { Keeps SLI self.old self.new }
-
-        // Accepted or refused, and whatever the region holds: at most 64 touches, and one for each payload word of the block given.
-        ensures touches { self.new.touches ≤ self.old.touches + 64 + payload_words_given result self.new.heap }
-        ensures most_touches { self.new.touches ≤ self.old.touches + allocate_touches result self.new.heap }
-        ensures leaves { LeavesLive self.old.heap.blocks self.old.touched self.new.touched }
 
         // All lies in so many groups of eight words, and one more for each 64 bytes, but start bits and the lists.
         ensures groups { InGroups (allocate_groups + len / 64) self.old.touched self.new.touched }
@@ -184,22 +176,15 @@ impl<const SLI: u32> Heap<SLI> {
     #[inline(always)]
     pub fn allocate_words(&mut self, words: u32, len: u32) -> Result<Name, Refusal>
         requires { Blocks.want len ≤ words }
-        ensures answer { result ≡ (allocated_words SLI self.old.heap words len).answer }
-        ensures heap { self.new.heap ≡ (allocated_words SLI self.old.heap words len).heap }
+        // Accepted or refused, and whatever the region holds.
+        ensures allocates { Allocates allocate_touches SLI words len (seen self.old) (seen self.new) result }
 
-        // What that comes to: when it is NoFit, when it is a name, and that a refusal changes nothing.
-        ensures no_fit { IsErrOf result Refusal.NoFit ↔ (fits SLI words self.old.heap.blocks ≡ []) }
-        ensures ok { IsOk result ↔ (¬ (fits SLI words self.old.heap.blocks ≡ []) × ¬ (self.old.heap.tick ≡ last_tick)) }
+        // A refusal changes nothing.
         ensures err { OnErr result (IsAsBefore self.old self.new) }
         ensures keeps { Keeps SLI self.old self.new }
 
         // The block given has the words wanted.
         ensures room { IfOk result (λ name. words ≤ 3 + payload_words_at (named name self.new.heap.blocks)) }
-
-        // Accepted or refused, and whatever the region holds: at most 64 touches for 8 bytes or fewer, however many words, and one for each
-        // further word of the payload.
-        ensures touches { TouchesForWords len result self.new.heap self.old.touches self.new.touches }
-        ensures leaves { LeavesLive self.old.heap.blocks self.old.touched self.new.touched }
         ensures groups { InGroups (allocate_groups + len / 64) self.old.touched self.new.touched }
     {
         let spare = words - want(len);
@@ -232,22 +217,15 @@ impl<const SLI: u32> Heap<SLI> {
     /// heap.release(name) == Err(Refusal::Stale)
     /// ```
     pub fn release(&mut self, name: Name) -> Result<(), Refusal>
-        ensures answer { result ≡ (released self.old.heap name).answer }
-        ensures heap { self.new.heap ≡ (released self.old.heap name).heap }
+        // Accepted or refused, and whatever the region holds.
+        ensures releases { Releases release_touches (seen self.old) (seen self.new) name result }
 
         // A refusal changes nothing.
         ensures err { OnErr result (IsAsBefore self.old self.new) }
         ensures keeps { Keeps SLI self.old self.new }
 
-        // Accepted or refused, and whatever the region holds: at most 64 touches.
-        ensures touches { self.new.touches ≤ self.old.touches + 64 }
-        ensures most_touches { self.new.touches ≤ self.old.touches + release_touches }
-        ensures leaves { LeavesPayloads self.old.heap.blocks name.at self.old.touched self.new.touched }
-
         // All lies in so many groups of eight words, but start bits and the lists.
         ensures groups { InGroups release_groups self.old.touched self.new.touched }
-        ensures refused { OnErr result (LeavesLive self.old.heap.blocks self.old.touched self.new.touched) }
-        ensures forged { FollowsNoForgery self.old.heap name self.old.touches self.new.touches }
     {
         // The tick is read for what is known of a heap, and nobody reads the count: it is more than any region has.
         let _tick = self.tick;
@@ -272,23 +250,16 @@ impl<const SLI: u32> Heap<SLI> {
     /// heap.resize(name, 1000) == Err(Refusal::NoRoom)
     /// ```
     pub fn resize(&mut self, name: Name, len: u32) -> Result<(), Refusal>
-        ensures answer { result ≡ (resized self.old.heap name len).answer }
-        ensures heap { self.new.heap ≡ (resized self.old.heap name len).heap }
+        // Accepted or refused, and whatever the region holds.
+        ensures resizes { Resizes resize_touches (Blocks.want len) len (seen self.old) (seen self.new) name result }
 
         // A refusal changes nothing.
         ensures err { OnErr result (IsAsBefore self.old self.new) }
         ensures keeps { Keeps SLI self.old self.new }
 
-        // Accepted or refused, and whatever the region holds: at most 64 touches, and one for each payload word of the block that is left.
-        ensures touches { self.new.touches ≤ self.old.touches + 64 + payload_words_left result self.new.heap name }
-        ensures most_touches { self.new.touches ≤ self.old.touches + resize_touches result self.new.heap name }
-        ensures leaves { LeavesPayloads self.old.heap.blocks name.at self.old.touched self.new.touched }
-
         // All lies in so many groups of eight words, and one more for each 64 bytes that are new, but start bits and the lists.
         ensures groups { InGroups (resize_groups + (len - length (payload_of self.old.heap name)) / 64) self.old.touched self.new.touched }
         ensures refused_groups { OnErr result (InGroups 3 self.old.touched self.new.touched) }
-        ensures refused { OnErr result (LeavesLive self.old.heap.blocks self.old.touched self.new.touched) }
-        ensures forged { FollowsNoForgery self.old.heap name self.old.touches self.new.touches }
     {
         self.resize_words(name, want(len), len)
     }
@@ -307,25 +278,16 @@ impl<const SLI: u32> Heap<SLI> {
     #[inline(always)]
     pub fn resize_words(&mut self, name: Name, words: u32, len: u32) -> Result<(), Refusal>
         requires { Blocks.want len ≤ words }
-        ensures answer { result ≡ (resized_words self.old.heap name words len).answer }
-        ensures heap { self.new.heap ≡ (resized_words self.old.heap name words len).heap }
+        // Accepted or refused, and whatever the region holds.
+        ensures resizes { Resizes resize_touches words len (seen self.old) (seen self.new) name result }
 
         // A refusal changes nothing.
         ensures err { OnErr result (IsAsBefore self.old self.new) }
         ensures keeps { Keeps SLI self.old self.new }
 
-        // Accepted or refused, and whatever the region holds: at most 64 touches for 8 bytes or fewer, however many words, and one for each
-        // further word of the payload.
-        ensures touches { self.new.touches ≤ self.old.touches + 60 + Blocks.want len }
-        ensures most_touches { self.new.touches ≤ self.old.touches + resize_touches result self.new.heap name }
-        ensures leaves { LeavesPayloads self.old.heap.blocks name.at self.old.touched self.new.touched }
-        ensures refused { OnErr result (LeavesLive self.old.heap.blocks self.old.touched self.new.touched) }
-
-        // So a payload that doesn't grow takes no more, however long: of the words that the old bytes have, one is touched at most.
-        ensures grown_touches { self.new.touches ≤ self.old.touches + 28 + (Blocks.words_for len - Blocks.words_for (length (payload_of self.old.heap name))) }
+        // All lies in so many groups of eight words, and one more for each 64 bytes that are new, but start bits and the lists.
         ensures groups { InGroups (resize_groups + (len - length (payload_of self.old.heap name)) / 64) self.old.touched self.new.touched }
         ensures refused_groups { OnErr result (InGroups 3 self.old.touched self.new.touched) }
-        ensures forged { FollowsNoForgery self.old.heap name self.old.touches self.new.touches }
     {
         let own = self.check(name)?;
         let next = look_behind(&mut self.region, name.at, own);
@@ -373,7 +335,7 @@ impl<const SLI: u32> Heap<SLI> {
         // All lies in so many groups of eight words, and three more for each 64 bytes, but start bits and the lists.
         ensures groups { InGroups (move_groups + 3 * (len / 64)) self.old.touched self.new.touched }
         ensures refused { OnErr result (LeavesLive self.old.heap.blocks self.old.touched self.new.touched) }
-        ensures forged { FollowsNoForgery self.old.heap name self.old.touches self.new.touches }
+        ensures forged { FollowsNoForgery (seen self.old) (seen self.new) name }
     {
         match self.resize(name, len) {
             Ok(()) => Ok(name),
@@ -395,16 +357,11 @@ impl<const SLI: u32> Heap<SLI> {
     // Always inline, as `read` is: behind a call each saves registers that a short payload needs none of.
     #[inline(always)]
     pub fn write(&mut self, name: Name, at: u32, bytes: &[u8]) -> Result<(), Refusal>
-        ensures answer { result ≡ (written self.old.heap name at bytes.now).answer }
-        ensures heap { self.new.heap ≡ (written self.old.heap name at bytes.now).heap }
+        ensures writes { Writes (write_touches (length bytes.now)) (seen self.old) (seen self.new) name at bytes.now result }
 
         // A refusal changes nothing.
         ensures err { OnErr result (IsAsBefore self.old self.new) }
         ensures keeps { Keeps SLI self.old self.new }
-        ensures touches { self.new.touches ≤ self.old.touches + 4 + 2 * (length bytes.now / 8 + 2) }
-        ensures leaves { LeavesPayloads self.old.heap.blocks name.at self.old.touched self.new.touched }
-        ensures refused { OnErr result (LeavesLive self.old.heap.blocks self.old.touched self.new.touched) }
-        ensures forged { FollowsNoForgery self.old.heap name self.old.touches self.new.touches }
     {
         self.check_range(name, at, bytes.len())?;
         self.region.write(name.at, at, bytes);
@@ -423,14 +380,9 @@ impl<const SLI: u32> Heap<SLI> {
     /// ```
     #[inline(always)]
     pub fn read(&mut self, name: Name, at: u32, out: &mut [u8]) -> Result<(), Refusal>
-        ensures answer { result ≡ read_answer (read_of self.old.heap name at (length out.old)) }
-        ensures bytes { out.new ≡ result_unwrap_or (read_of self.old.heap name at (length out.old)) out.old }
+        ensures reads { Reads (read_touches (length out.old)) (seen self.old) (seen self.new) name at out.old out.new result }
         ensures same { IsAsBefore self.old self.new }
         ensures keeps { Keeps SLI self.old self.new }
-        ensures touches { self.new.touches ≤ self.old.touches + 4 + (length out.old / 8 + 2) }
-        ensures leaves { LeavesPayloads self.old.heap.blocks name.at self.old.touched self.new.touched }
-        ensures refused { OnErr result (LeavesLive self.old.heap.blocks self.old.touched self.new.touched) }
-        ensures forged { FollowsNoForgery self.old.heap name self.old.touches self.new.touches }
     {
         self.check_range(name, at, out.len())?;
         self.region.read(name.at, at, out);
@@ -461,7 +413,7 @@ impl<const SLI: u32> Heap<SLI> {
         ensures keeps { Keeps SLI self.old self.new }
         ensures touches { self.new.touches ≤ self.old.touches + 4 }
         ensures leaves { LeavesLive self.old.heap.blocks self.old.touched self.new.touched }
-        ensures forged { FollowsNoForgery self.old.heap name self.old.touches self.new.touches }
+        ensures forged { FollowsNoForgery (seen self.old) (seen self.new) name }
     {
         let len = self.check_payload(name)?;
         Ok(self.region.alter(name.at, len, f))
@@ -486,7 +438,7 @@ impl<const SLI: u32> Heap<SLI> {
         ensures keeps { Keeps SLI self.old self.new }
         ensures touches { self.new.touches ≤ self.old.touches + 4 }
         ensures leaves { LeavesLive self.old.heap.blocks self.old.touched self.new.touched }
-        ensures forged { FollowsNoForgery self.old.heap name self.old.touches self.new.touches }
+        ensures forged { FollowsNoForgery (seen self.old) (seen self.new) name }
     {
         let len = self.check_payload(name)?;
         Ok(self.region.inspect(name.at, len, f))
@@ -522,7 +474,7 @@ impl<const SLI: u32> Heap<SLI> {
         ensures keeps { Keeps SLI self.old self.new }
         ensures touches { self.new.touches ≤ self.old.touches + 4 }
         ensures leaves { LeavesLive self.old.heap.blocks self.old.touched self.new.touched }
-        ensures forged { FollowsNoForgery self.old.heap name self.old.touches self.new.touches }
+        ensures forged { FollowsNoForgery (seen self.old) (seen self.new) name }
     {
         let len = self.check_payload(name)?;
         let base = self.region.base();
@@ -536,17 +488,9 @@ impl<const SLI: u32> Heap<SLI> {
     /// (report.free_words, report.grant) == (64, 488)
     /// ```
     pub fn report(&mut self) -> Report
-        ensures report { result ≡ report_of SLI self.old.heap }
-
-        // What the grant comes to: no request for more is served, and one for so much is, unless nothing is free.
-        ensures grant { IsGrant SLI self.old.heap.blocks result.grant }
+        ensures reports { Reports SLI (seen self.old) (seen self.new) result }
         ensures same { IsAsBefore self.old self.new }
         ensures keeps { Keeps SLI self.old self.new }
-
-        // Two for each block, and no block has fewer than four words.
-        ensures touches { self.new.touches ≤ self.old.touches + 2 * length self.old.heap.blocks }
-        ensures few { 4 * length self.old.heap.blocks ≤ self.old.heap.words }
-        ensures leaves { LeavesLive self.old.heap.blocks self.old.touched self.new.touched }
     {
         let tick = self.tick;
         Tally::of(&mut self.region, tick).report::<SLI>(tick)
@@ -561,15 +505,10 @@ impl<const SLI: u32> Heap<SLI> {
     /// heap.block_at(5) == None
     /// ```
     pub fn block_at(&mut self, at: u32) -> Option<PlacedBlock>
-        ensures block { result ≡ placed_at self.old.heap.blocks at }
+        ensures looks { Looks (seen self.old) (seen self.new) at result }
         ensures same { IsAsBefore self.old self.new }
         ensures keeps { Keeps SLI self.old self.new }
         ensures most { self.old.heap.words ≤ most_words SLI }
-        ensures touches { self.new.touches ≤ self.old.touches + 4 }
-        ensures leaves { LeavesLive self.old.heap.blocks self.old.touched self.new.touched }
-
-        // Not even a start bit is read unless the place lies in the region, and no word unless a block begins there.
-        ensures wild { FollowsNoPlace self.old.heap at self.old.touches self.new.touches }
     {
         self.region.block_at(at)
     }
@@ -626,7 +565,7 @@ impl<const SLI: u32> Heap<SLI> {
         ensures touches { self.new.touches ≤ self.old.touches + 3 }
         ensures leaves { LeavesLive self.old.heap.blocks self.old.touched self.new.touched }
         ensures groups { InGroups 2 self.old.touched self.new.touched }
-        ensures forged { FollowsNoForgery self.old.heap name self.old.touches self.new.touches }
+        ensures forged { FollowsNoForgery (seen self.old) (seen self.new) name }
     {
         if name.heap != self.id {
             return Err(Refusal::of_name(name.heap, self.id));
@@ -645,7 +584,7 @@ impl<const SLI: u32> Heap<SLI> {
         ensures touches { self.new.touches ≤ self.old.touches + 4 }
         ensures leaves { LeavesLive self.old.heap.blocks self.old.touched self.new.touched }
         ensures groups { InGroups 3 self.old.touched self.new.touched }
-        ensures forged { FollowsNoForgery self.old.heap name self.old.touches self.new.touches }
+        ensures forged { FollowsNoForgery (seen self.old) (seen self.new) name }
     {
         self.check(name)?;
         Ok(self.region.length(name.at))
@@ -663,7 +602,7 @@ impl<const SLI: u32> Heap<SLI> {
         ensures keeps { Keeps SLI self.old self.new }
         ensures touches { self.new.touches ≤ self.old.touches + 4 }
         ensures leaves { LeavesLive self.old.heap.blocks self.old.touched self.new.touched }
-        ensures forged { FollowsNoForgery self.old.heap name self.old.touches self.new.touches }
+        ensures forged { FollowsNoForgery (seen self.old) (seen self.new) name }
     {
         self.check(name)?;
         let length = self.region.length(name.at) as usize;

@@ -9,6 +9,7 @@ ghost use Rattle.tlsf_heap.specs.Touched.{FollowsNoForgery};
 ghost use Rattle.tlsf_heap.specs.declared.name.Name.{Name};
 ghost use Rattle.tlsf_heap.specs.declared.refusal.Refusal.{Refusal};
 ghost use Rattle.tlsf_heap.specs.declared.report.Report.{Report};
+ghost use Rattle.tlsf_heap.specs.Shown.{seen};
 
 pub(crate) mod counts;
 pub(crate) mod ledgered;
@@ -103,8 +104,8 @@ pub trait Ledger<const SLI: u32>: Sized {
         ensures touches { heap.new.touches ≤ heap.old.touches + look_touches }
         ensures few { look_touches ≤ 4 }
         ensures rise { heap.old.touches ≤ heap.new.touches }
-        ensures forged { OnErr result (FollowsNoForgery heap.old.heap name heap.old.touches heap.new.touches) }
-        ensures live { OnOk result ((heap.new.touches ≡ heap.old.touches) ⊎ IsNamed heap.old.heap name) };
+        ensures forged { OnErr result (FollowsNoForgery (seen heap.old) (seen heap.new) name) }
+        ensures live { OnOk result ((heap.new.touches ≡ heap.old.touches) × (heap.new.touched ≡ heap.old.touched) ⊎ IsNamed heap.old.heap name) };
 
     /// Notes a return.
     fn take_back(&mut self, seen: Self::Seen)

@@ -10,7 +10,7 @@ ghost use Rattle.tlsf_heap.specs.Aligned.{IsFreeTest};
 ghost use Rattle.tlsf_heap.specs.Blocks.{Live, Free, size_of, is_free, bytes_of, words_for, want, StandsAt, IsPlace};
 ghost use Rattle.tlsf_heap.specs.GoodFit.{block_at};
 ghost use Rattle.tlsf_heap.specs.ByPlace.{IsPlaceTest};
-ghost use Rattle.tlsf_heap.specs.Footprint.{LeavesBoth, LeavesLive, LeavesPayloads};
+ghost use Rattle.tlsf_heap.specs.Footprint.{LeavesBoth, LeavesLive, LeavesPayloads, OnlyTagAndSerial};
 ghost use Rattle.tlsf_heap.specs.Calls;
 ghost use Rattle.tlsf_heap.specs.Calls.{first_free, last_free};
 ghost use Rattle.tlsf_heap.specs.Checks.{Begins, IsCheck, block_touches};
@@ -96,6 +96,7 @@ impl<const SLI: u32> Region<SLI> {
         ensures value { EachAt self.old.blocks at (λ s. result ≡ mark_of s.block) }
         ensures reads { OnlyReads self.old self.new 1 }
         ensures touched { LeavesLive self.old.blocks self.old.touched self.new.touched }
+        ensures only { OnlyTagAndSerial at self.old.touched self.new.touched }
         ensures groups { InGroups 1 self.old.touched self.new.touched }
     {
         self.words.mark(at)
@@ -107,6 +108,7 @@ impl<const SLI: u32> Region<SLI> {
         ensures answer { IsNameTest at serial self.old.words self.old.blocks result }
         ensures reads { OnlyReads self.old self.new 3 }
         ensures touched { LeavesLive self.old.blocks self.old.touched self.new.touched }
+        ensures only { OnlyTagAndSerial at self.old.touched self.new.touched }
         ensures groups { InGroups 2 self.old.touched self.new.touched }
         ensures outside { self.old.words ≤ at → self.new.touches ≡ self.old.touches }
         ensures nowhere { at < self.old.words → ¬ (IsPlace self.old.blocks at) → self.new.touches ≡ self.old.touches + 1 }
@@ -220,6 +222,7 @@ impl<const SLI: u32> Region<SLI> {
         ensures value { EachAt self.old.blocks at (λ s. IsTagOf self.old.words s result) }
         ensures reads { OnlyReads self.old self.new 1 }
         ensures touched { LeavesLive self.old.blocks self.old.touched self.new.touched }
+        ensures only { OnlyTagAndSerial at self.old.touched self.new.touched }
         ensures groups { InGroups 1 self.old.touched self.new.touched }
     {
         self.words.tag(at)

@@ -1,18 +1,18 @@
 -- Spans that an arena of offsets holds: they lie apart, and calls leave those of other names.
 use Rattle.std.proofs.Common.{◌≡◌, ◌≢◌, ℕ, zero, suc, ◌+◌, ◌-◌, ◌*◌, ◌/◌, ◌%◌, ◌<◌, ◌≤◌, Bool, true, cond, eqb, List, [], ◌∷◌, ◌++◌, length, take, min, max, Option, Some, None, Result, Ok, Err, sym, ◌∙◌, ap, subst, refl, inl, inr, arith, append_assoc, eq-eqb, mul-le-mul_left, mul-add, mul_comm, div-add-mod', mod-lt}
-use Rattle.std.specs.Prelude.{nat_lt, ◌^◌, ◌↔◌, IsOk, IsErrOf, IsSome, MatchResult, OnOk, is_ok}
+use Rattle.std.specs.Prelude.{nat_lt, ◌^◌, IsSome, OnOk}
 use Rattle.std.specs.List.{AllByRecursion}
 use Rattle.std.proofs.lemmas.Bool.{eqb-true, false≢true, cases_lt}
 use Rattle.std.proofs.lemmas.Bool.Decides.{nat_tests}
 use Rattle.tlsf_class.specs.Classes.{IsLevel, most_words}
 use Rattle.tlsf_class.proofs.TwoLevels.{by_level}
 use Rattle.tlsf_heap.specs.Blocks.{Block, Live, Free, HeapState, StandsAt, size_of, words_in}
-use Rattle.tlsf_heap.specs.Calls.{Outcome, allocated_at, allocated_words, carved, first_free, fitted, has_serial, is_named, is_worn, last_tick, named, past_free, recut, refitted, refused, released, resized_at, resized_words, room_of}
-use Rattle.tlsf_heap.specs.GoodFit.{Site, block_at, fits, place_of}
+use Rattle.tlsf_heap.specs.Calls.{Outcome, allocated_at, allocated_words, carved, first_free, fitted, has_serial, is_named, is_worn, named, past_free, recut, refitted, refused, released, resized_at, resized_words, room_of}
+use Rattle.tlsf_heap.specs.GoodFit.{Site, block_at, place_of}
 use Rattle.tlsf_heap.specs.Lawful.{HasRoom, IsLawful}
 use Rattle.tlsf_heap.specs.Laws.{IsLive}
 use Rattle.tlsf_heap.specs.Placed.{placed, placed_at}
-use Rattle.tlsf_heap.specs.Touched.{FollowsNoForgery}
+use Rattle.tlsf_heap.specs.Touched.{allocate_touches, resize_touches}
 use Rattle.tlsf_heap.specs.declared.name.Name.{Name}
 use Rattle.tlsf_heap.specs.declared.refusal.Refusal.{Refusal}
 use Rattle.tlsf_heap.specs.declared.refusal.Refusal.TheVariants.{NoFit, NoRoom, Worn, Foreign}
@@ -27,16 +27,17 @@ use Rattle.tlsf_heap.proofs.lemmas.blocks.Lawful.{words_in-append}
 use Rattle.tlsf_heap.proofs.lemmas.laws.Live.{lives, new_words, shown, one_serial, same_name, words_carved, no_serial}
 use Rattle.tlsf_heap.proofs.lemmas.blocks.Order.{ends_before, inside}
 use Rattle.tlsf_heap.proofs.lemmas.calls.Alter.{named_of}
-use Rattle.tlsf_heap.proofs.lemmas.calls.Named.{not_forged}
 use Rattle.tlsf_heap.proofs.lemmas.calls.Outcomes.{by_allocated_words, by_released, by_resized_found, by_resized_words, gives_words, named_site, resizes}
 use Rattle.tlsf_heap.proofs.lemmas.blocks.ByPlace.{placed_found}
 use Rattle.tlsf_heap.proofs.lemmas.words.Recut.{cut_small, cut_large}
 use Rattle.tlsf_heap.proofs.lemmas.lists.Refit.{refitted_grown, refitted_cut, refitted_kept}
-use Rattle.tlsf_heap.proofs.lemmas.laws.NoFit.{no_fit_words, ok_words}
 use Rattle.tlsf_heap.proofs.lemmas.words.Image.{least}
 use Rattle.tlsf_heap.proofs.lemmas.blocks.Sites.{choice_none}
-use Rattle.tlsf_offsets.specs.Offsets.{Offsets, IsOffsets, IsHeld, SpansAreApart, KeepsOthers, span_units}
+use Rattle.tlsf_offsets.specs.Offsets.{Offsets, IsOffsets, IsHeld, SpansAreApart, KeepsOthers, span_units, seen_of}
 use Rattle.tlsf_offsets.specs.declared.span.Span.{Span}
+use Rattle.tlsf_heap.specs.Effects.{Allocates, Resizes}
+use Rattle.tlsf_heap.specs.Named.{IsNamed}
+use Rattle.tlsf_heap.proofs.lemmas.calls.Looked.{allocates_same, resizes_same}
 
 -- ---- a block that has some property, by its index and by its place
 
@@ -450,50 +451,28 @@ left_made h name n = by_resized_words (Left h name n) h name n 0 (λ why e. absu
         (λ e. whole h s name n (Live n t (fitted xs 0)) _ own at serial (omega arith) (omega arith) e)
         (ap (λ (b : Block). refitted h.tick n 0 b s.after) is)
 
--- ---- when an allocate is refused
-
--- what an answer says of the free blocks
-pub told : (sli n : ℕ) (h : HeapState) (answer : Result Span Refusal)
-    → MatchResult answer (λ span. (allocated_words sli h n 0).answer ≡ Ok span.name) (λ why. (allocated_words sli h n 0).answer ≡ Err why)
-    → (IsErrOf answer NoFit ↔ (fits sli n h.blocks ≡ [])) × (IsOk answer ↔ (¬ (fits sli n h.blocks ≡ []) × ¬ (h.tick ≡ last_tick)))
-told sli n h (Ok span) e =
-    let none = no_fit_words sli h n 0 in
-    let some = ok_words sli h n 0 in
-    ((λ f. cc, λ f. let g : Ok span.name ≡ Err NoFit = sym e ∙ none.1 f in cc), (λ _. some.0 (ap is_ok e), λ _. refl))
-told sli n h (Err why) e =
-    let none = no_fit_words sli h n 0 in
-    let some = ok_words sli h n 0 in (
-      (λ f. let w : why ≡ NoFit = cc in none.0 (e ∙ ap Err w), λ f. let g : ◌≡◌ {A = Result Name Refusal} (Err why) (Err NoFit) = sym e ∙ none.1 f in let w : why ≡ NoFit = cc in ap Err w),
-      (λ f. absurd (false≢true f), λ f. let g = some.1 f in absurd (false≢true (sym (ap is_ok e) ∙ g))),
-    )
-
 -- ---- a call of allocate and one of resize, from the arena o, which the code shows as i, to the arena p
 
 pub record Asks (sli : ℕ) (o p : Offsets) (len : ℕ) (answer : Result Name Refusal) : Type 0 where
-  pub answer_is : (allocated_words sli o.heap (span_units o.unit len) 0).answer ≡ answer
-  pub heap_is : p.heap ≡ (allocated_words sli o.heap (span_units o.unit len) 0).heap
+  pub allocates : Allocates allocate_touches sli (span_units o.unit len) 0 (seen_of o) (seen_of p) answer
   pub unit_is : p.unit ≡ o.unit
   pub before : IsOffsets sli o
   pub after : IsOffsets sli p
 
 pub asks : (sli : ℕ) (i o p : Offsets) (len m : ℕ) (answer : Result Name Refusal) → IsOffsets sli o → i ≡ o → m ≡ min (span_units i.unit len) (2 ^ 32 - 1)
-    → answer ≡ (allocated_words sli i.heap m 0).answer → p.heap ≡ (allocated_words sli i.heap m 0).heap → p.unit ≡ i.unit → IsLawful p.heap → Asks sli o p len answer
-asks sli i o p len m answer is same units e f g lawful =
-    let all : allocated_words sli i.heap m 0 ≡ allocated_words sli o.heap (span_units o.unit len) 0 =
-    ap (λ (k : ℕ). allocated_words sli i.heap k 0) units ∙ allocated_clamped sli is.level i.heap (span_units i.unit len) ∙ ap (λ (x : Offsets). allocated_words sli x.heap (span_units x.unit len) 0) same in
-    let heap = f ∙ ap (λ (x : Outcome Name). x.heap) all in
+    → Allocates allocate_touches sli m 0 (seen_of i) (seen_of p) answer → p.unit ≡ i.unit → IsLawful p.heap → Asks sli o p len answer
+asks sli i o p len m answer is same units r g lawful =
+    let n = span_units o.unit len in
+    let here : Allocates allocate_touches sli m 0 (seen_of o) (seen_of p) answer = subst (λ (x : Offsets). Allocates allocate_touches sli m 0 (seen_of x) (seen_of p) answer) same r in
+    let all : allocated_words sli o.heap m 0 ≡ allocated_words sli o.heap n 0 =
+    ap (λ (k : ℕ). allocated_words sli o.heap k 0) (units ∙ ap (λ (x : Offsets). min (span_units x.unit len) (2 ^ 32 - 1)) same) ∙ allocated_clamped sli is.level o.heap n in
     let unit = g ∙ ap (λ (x : Offsets). x.unit) same in
-    record {
-      answer_is = ap (λ (x : Outcome Name). x.answer) (sym all) ∙ sym e;
-      heap_is = heap;
-      unit_is = unit;
-      before = is;
-      after = stays sli o p is unit (ap (λ (h : HeapState). h.words) heap ∙ words_allocated sli o.heap (span_units o.unit len)) lawful;
-    }
+    let asked = allocates_same allocate_touches sli m n 0 (seen_of o) (seen_of p) answer all here in
+    record { allocates = asked; unit_is = unit; before = is; after = stays sli o p is unit (ap (λ (h : HeapState). h.words) asked.heap ∙ words_allocated sli o.heap n) lawful }
 
 module _ (sli : ℕ) (o p : Offsets) (len : ℕ) (name : Name) (a : Asks sli o p len (Ok name)) where
   pub asks_made : (made : Made name (span_units o.unit len) p.heap) × (made.size < span_units o.unit len + 4)
-  asks_made = subst (λ (h : HeapState). (made : Made name (span_units o.unit len) h) × (made.size < span_units o.unit len + 4)) (sym a.heap_is) (given_made sli (span_units o.unit len) o.heap a.before.level name a.answer_is)
+  asks_made = subst (λ (h : HeapState). (made : Made name (span_units o.unit len) h) × (made.size < span_units o.unit len + 4)) (sym a.allocates.heap) (given_made sli (span_units o.unit len) o.heap a.before.level name (sym a.allocates.answer_is))
 
   module _ (span : Span) (named : span.name ≡ name) (h : IsHeld p span) where
     spanned : (made : Made span.name (span_units o.unit len) p.heap) × (made.size < span_units o.unit len + 4)
@@ -506,32 +485,27 @@ module _ (sli : ℕ) (o p : Offsets) (len : ℕ) (name : Name) (a : Asks sli o p
     asks_close = subst (λ (u : ℕ). span.size < u * (span_units o.unit len + 4)) a.unit_is (close sli p span (span_units o.unit len) a.after h spanned.0 spanned.1)
 
   pub asks_new : (other : Span) → IsHeld o other → other.name ≢ name
-  asks_new other h same = new_words sli o.heap (span_units o.unit len) 0 name a.before.lawful a.answer_is (subst (IsLive o.heap) same (live o other h))
+  asks_new other h same = new_words sli o.heap (span_units o.unit len) 0 name a.before.lawful (sym a.allocates.answer_is) (subst (IsLive o.heap) same (live o other h))
 
 pub record Alters (sli : ℕ) (o p : Offsets) (name : Name) (len : ℕ) (answer : Result (Unit {0}) Refusal) : Type 0 where
-  pub answer_is : (resized_words o.heap name (span_units o.unit len) 0).answer ≡ answer
-  pub heap_is : p.heap ≡ (resized_words o.heap name (span_units o.unit len) 0).heap
+  pub resizes : Resizes resize_touches (span_units o.unit len) 0 (seen_of o) (seen_of p) name answer
   pub unit_is : p.unit ≡ o.unit
   pub after : IsOffsets sli p
 
 pub alters : (sli : ℕ) (i o p : Offsets) (name : Name) (len m : ℕ) (answer : Result (Unit {0}) Refusal) → IsOffsets sli o → i ≡ o → m ≡ min (span_units i.unit len) (2 ^ 32 - 1)
-    → answer ≡ (resized_words i.heap name m 0).answer → p.heap ≡ (resized_words i.heap name m 0).heap → p.unit ≡ i.unit → IsLawful p.heap → Alters sli o p name len answer
-alters sli i o p name len m answer is same units e f g lawful =
-    let is_i : IsOffsets sli i = subst (IsOffsets sli) (sym same) is in
-    let all : resized_words i.heap name m 0 ≡ resized_words o.heap name (span_units o.unit len) 0 =
-    ap (λ (k : ℕ). resized_words i.heap name k 0) units ∙ resized_clamped sli is.level i.heap name (span_units i.unit len) is_i.lawful is_i.words ∙ ap (λ (x : Offsets). resized_words x.heap name (span_units x.unit len) 0) same in
-    let heap = f ∙ ap (λ (x : Outcome (Unit {0})). x.heap) all in
+    → Resizes resize_touches m 0 (seen_of i) (seen_of p) name answer → p.unit ≡ i.unit → IsLawful p.heap → Alters sli o p name len answer
+alters sli i o p name len m answer is same units r g lawful =
+    let n = span_units o.unit len in
+    let here : Resizes resize_touches m 0 (seen_of o) (seen_of p) name answer = subst (λ (x : Offsets). Resizes resize_touches m 0 (seen_of x) (seen_of p) name answer) same r in
+    let all : resized_words o.heap name m 0 ≡ resized_words o.heap name n 0 =
+    ap (λ (k : ℕ). resized_words o.heap name k 0) (units ∙ ap (λ (x : Offsets). min (span_units x.unit len) (2 ^ 32 - 1)) same) ∙ resized_clamped sli is.level o.heap name n is.lawful is.words in
     let unit = g ∙ ap (λ (x : Offsets). x.unit) same in
-    record {
-      answer_is = ap (λ (x : Outcome (Unit {0})). x.answer) (sym all) ∙ sym e;
-      heap_is = heap;
-      unit_is = unit;
-      after = stays sli o p is unit (ap (λ (h : HeapState). h.words) heap ∙ words_resized o.heap name (span_units o.unit len)) lawful;
-    }
+    let altered = resizes_same resize_touches m n 0 (seen_of o) (seen_of p) name answer all here in
+    record { resizes = altered; unit_is = unit; after = stays sli o p is unit (ap (λ (h : HeapState). h.words) altered.heap ∙ words_resized o.heap name n) lawful }
 
 module _ (sli : ℕ) (o p : Offsets) (name : Name) (len : ℕ) (a : Alters sli o p name len (Ok tt)) where
   pub alters_made : MadeClose name (span_units o.unit len) p.heap
-  alters_made = subst (MadeClose name (span_units o.unit len)) (sym a.heap_is) (left_made o.heap name (span_units o.unit len) a.answer_is)
+  alters_made = subst (MadeClose name (span_units o.unit len)) (sym a.resizes.heap) (left_made o.heap name (span_units o.unit len) (sym a.resizes.answer_is))
 
   module _ (span : Span) (named : span.name ≡ name) (h : IsHeld p span) where
     respanned : MadeClose span.name (span_units o.unit len) p.heap
@@ -543,8 +517,8 @@ module _ (sli : ℕ) (o p : Offsets) (name : Name) (len : ℕ) (a : Alters sli o
     pub alters_close : span.size < o.unit * (span_units o.unit len + 4)
     alters_close = subst (λ (u : ℕ). span.size < u * (span_units o.unit len + 4)) a.unit_is (close sli p span (span_units o.unit len) a.after h respanned.0 respanned.1)
 
--- the name of a resize that was done is not forged, whatever the call touched
-pub resized_not_forged : (h : HeapState) (name : Name) (n : ℕ) → IsLawful h → (resized_words h name n 0).answer ≡ Ok tt → (before behind : ℕ) → FollowsNoForgery h name before behind
-resized_not_forged h name n lawful =
-    by_resized_found (λ o. o.answer ≡ Ok tt → (before behind : ℕ) → FollowsNoForgery h name before behind) h name n 0 (λ why e. absurd cc)
-    (λ s own found room done before behind. not_forged h name lawful (named_of h name (own, subst (λ (o : Option Site). IsSome o) (sym found) refl)) before behind)
+-- the name of a resize that was done names a block
+pub resized_named : (h : HeapState) (name : Name) (n : ℕ) → (resized_words h name n 0).answer ≡ Ok tt → IsNamed h name
+resized_named h name n =
+    by_resized_found (λ o. o.answer ≡ Ok tt → IsNamed h name) h name n 0 (λ why e. absurd cc)
+    (λ s own found room done. named_of h name (own, subst (λ (o : Option Site). IsSome o) (sym found) refl))

@@ -1,5 +1,5 @@
 -- Memory that this program never touches, cut into units of so many bytes: word p of a heap stands for unit p.
-use Rattle.std.specs.Prelude.{◌≡◌, ◌≢◌, ℕ, ◌+◌, ◌*◌, ◌/◌, ◌%◌, ◌<◌, ◌≤◌, ◌⊎◌, max, min, true}
+use Rattle.std.specs.Prelude.{◌≡◌, ◌≢◌, ℕ, ◌+◌, ◌*◌, ◌/◌, ◌%◌, ◌<◌, ◌≤◌, ◌⊎◌, max, min, true, List}
 use Rattle.tlsf_class.specs.Classes.{IsLevel, most_words}
 use Rattle.tlsf_heap.specs.Blocks.{HeapState, StandsAt, size_of}
 use Rattle.tlsf_heap.specs.GoodFit.{block_at}
@@ -10,13 +10,19 @@ use Rattle.tlsf_heap.specs.declared.name.Name.{Name}
 use Rattle.tlsf_heap.specs.Reports.{report_of}
 use Rattle.tlsf_offsets.specs.declared.span.Span.{Span}
 use Rattle.tlsf_offsets.specs.declared.usage.Usage.{Usage}
+use Rattle.tlsf_heap.specs.Shown.{Seen}
 
--- what an arena of offsets shows: the heap that decides, the bytes of a unit, and the heap's memory and touches
+-- what an arena of offsets shows: the heap that decides, the bytes of a unit, and the heap's memory, touches and touched words
 pub record Offsets : Type 0 where
   pub heap : HeapState
   pub unit : ℕ
   pub extents : Extents
   pub touches : ℕ
+  pub touched : List ℕ
+
+-- what it shows of that heap
+abbrev pub seen_of : Offsets → Seen
+seen_of o = record { heap = o.heap; touches = o.touches; touched = o.touched }
 
 -- a lawful heap of a level that there is, no larger than its level's regions, over units of at least a byte
 pub record IsOffsets (sli : ℕ) (o : Offsets) : Type 0 where

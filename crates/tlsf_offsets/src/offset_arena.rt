@@ -1,12 +1,13 @@
-ghost use Rattle.std.specs.Prelude.{◌≡◌, ◌≢◌, ◌↔◌, ℕ, ◌+◌, ◌*◌, ◌<◌, ◌≤◌, [], min, length, IfOk, OnOk, OnErr, IsOk, IsErrOf, MatchResult, Ok, Err};
+ghost use Rattle.std.specs.Prelude.{◌≡◌, ◌≢◌, ◌↔◌, ◌+◌, ◌*◌, ◌<◌, ◌≤◌, min, length, IfOk, OnOk, OnErr, IsErrOf, MatchResult, Ok, Err};
 ghost use Rattle.tlsf_class.specs.Classes.{IsLevel};
-ghost use Rattle.tlsf_heap.specs.Calls.{opened, allocated_words, released, resized_words, last_tick};
-ghost use Rattle.tlsf_heap.specs.GoodFit.{fits};
+ghost use Rattle.tlsf_heap.specs.Calls.{opened, allocated_words, resized_words};
 ghost use Rattle.tlsf_heap.specs.Lawful.{IsRegion};
-ghost use Rattle.tlsf_heap.specs.Touched.{FollowsNoForgery};
-ghost use Rattle.tlsf_offsets.specs.Offsets.{IsOffsets, IsHeld, KeepsOthers, span_units, usage_of};
+ghost use Rattle.tlsf_heap.specs.Touched.{allocate_touches, release_touches, resize_touches};
+ghost use Rattle.tlsf_offsets.specs.Offsets.{IsOffsets, IsHeld, KeepsOthers, span_units, usage_of, seen_of};
 ghost use Rattle.tlsf_heap.specs.Laws.{IsLive};
 ghost use Rattle.tlsf_offsets.specs.declared.span.Span.{Span};
+ghost use Rattle.tlsf_heap.specs.Effects.{Allocates, Releases, Resizes};
+ghost use Rattle.tlsf_heap.specs.Footprint.{LeavesLive};
 
 use crate::span::Span;
 use crate::usage::Usage;
@@ -29,9 +30,9 @@ impl<const SLI: u32> Model for OffsetArena<SLI> {
 
     ghost Value = { Offsets };
 
-    ghost view = { λ o. record { heap = o.heap.heap; unit = o.unit; extents = o.heap.extents; touches = o.heap.touches } };
+    ghost view = { λ o. record { heap = o.heap.heap; unit = o.unit; extents = o.heap.extents; touches = o.heap.touches; touched = o.heap.touched } };
 
-    ghost invariant = { λ o. IsOffsets SLI (record { heap = o.heap.heap; unit = o.unit; extents = o.heap.extents; touches = o.heap.touches }) };
+    ghost invariant = { λ o. IsOffsets SLI (record { heap = o.heap.heap; unit = o.unit; extents = o.heap.extents; touches = o.heap.touches; touched = o.heap.touched }) };
 }
 
 /// The units for `len` bytes. More than a number of 32 bits tells are as many as that tells, which no memory has either.
@@ -83,11 +84,11 @@ impl<const SLI: u32> OffsetArena<SLI> {
     /// ```
     pub fn allocate(&mut self, len: u64) -> Result<Span, Refusal>
         ensures answer { MatchResult result (λ span. (allocated_words SLI self.old.heap (span_units self.old.unit len) 0).answer ≡ Ok span.name) (λ why. (allocated_words SLI self.old.heap (span_units self.old.unit len) 0).answer ≡ Err why) }
-        ensures heap { self.new.heap ≡ (allocated_words SLI self.old.heap (span_units self.old.unit len) 0).heap }
 
-        // What that comes to. A refusal changes nothing.
-        ensures no_fit { IsErrOf result Refusal.NoFit ↔ (fits SLI (span_units self.old.unit len) self.old.heap.blocks ≡ []) }
-        ensures ok { IsOk result ↔ (¬ (fits SLI (span_units self.old.unit len) self.old.heap.blocks ≡ []) × ¬ (self.old.heap.tick ≡ last_tick)) }
+        // However large it is: a look at the block that was given takes four touches.
+        ensures allocates { Allocates (allocate_touches + 4) SLI (span_units self.old.unit len) 0 (seen_of self.old) (seen_of self.new) (allocated_words SLI self.old.heap (span_units self.old.unit len) 0).answer }
+
+        // A refusal changes nothing.
         ensures err { OnErr result (self.new.heap ≡ self.old.heap) }
 
         // The span is held, has the bytes asked for, and fewer than four units more; those that were held still are.
@@ -100,10 +101,6 @@ impl<const SLI: u32> OffsetArena<SLI> {
         ensures stays { self.new.extents ≡ self.old.extents }
         ensures was_lawful { IsOffsets SLI self.old }
         ensures lawful { IsOffsets SLI self.new }
-
-        // However large it is.
-        ensures touches { self.new.touches ≤ self.old.touches + 64 }
-        ensures touches_rise { self.old.touches ≤ self.new.touches }
     {
         match self.heap.allocate_words(units_of(self.unit, len), 0) {
             Ok(name) => Ok(self.span_of(name)),
@@ -121,8 +118,7 @@ impl<const SLI: u32> OffsetArena<SLI> {
     /// arena.release(span.name) == Err(Refusal::Stale)
     /// ```
     pub fn release(&mut self, name: Name) -> Result<(), Refusal>
-        ensures answer { result ≡ (released self.old.heap name).answer }
-        ensures heap { self.new.heap ≡ (released self.old.heap name).heap }
+        ensures releases { Releases release_touches (seen_of self.old) (seen_of self.new) name result }
 
         // A refusal changes nothing. Spans of other names are held as before, and one of this name no more.
         ensures err { OnErr result (self.new.heap ≡ self.old.heap) }
@@ -132,11 +128,6 @@ impl<const SLI: u32> OffsetArena<SLI> {
         ensures stays { self.new.extents ≡ self.old.extents }
         ensures was_lawful { IsOffsets SLI self.old }
         ensures lawful { IsOffsets SLI self.new }
-        ensures touches { self.new.touches ≤ self.old.touches + 64 }
-        ensures touches_rise { self.old.touches ≤ self.new.touches }
-
-        // A forged name is not followed.
-        ensures forged { FollowsNoForgery self.old.heap name self.old.touches self.new.touches }
     {
         self.heap.release(name)
     }
@@ -152,7 +143,7 @@ impl<const SLI: u32> OffsetArena<SLI> {
     /// ```
     pub fn resize(&mut self, name: Name, len: u64) -> Result<Span, Refusal>
         ensures answer { MatchResult result (λ span. ((resized_words self.old.heap name (span_units self.old.unit len) 0).answer ≡ Ok tt) × (span.name ≡ name)) (λ why. (resized_words self.old.heap name (span_units self.old.unit len) 0).answer ≡ Err why) }
-        ensures heap { self.new.heap ≡ (resized_words self.old.heap name (span_units self.old.unit len) 0).heap }
+        ensures resizes { Resizes (resize_touches + 4) (span_units self.old.unit len) 0 (seen_of self.old) (seen_of self.new) name (resized_words self.old.heap name (span_units self.old.unit len) 0).answer }
 
         // A refusal changes nothing. Spans of other names are held as before.
         ensures err { OnErr result (self.new.heap ≡ self.old.heap) }
@@ -164,11 +155,6 @@ impl<const SLI: u32> OffsetArena<SLI> {
         ensures stays { self.new.extents ≡ self.old.extents }
         ensures was_lawful { IsOffsets SLI self.old }
         ensures lawful { IsOffsets SLI self.new }
-        ensures touches { self.new.touches ≤ self.old.touches + 68 }
-        ensures touches_rise { self.old.touches ≤ self.new.touches }
-
-        // A forged name is not followed.
-        ensures forged { FollowsNoForgery self.old.heap name self.old.touches self.new.touches }
     {
         match self.heap.resize_words(name, units_of(self.unit, len), 0) {
             Ok(()) => Ok(self.span_of(name)),
@@ -186,6 +172,8 @@ impl<const SLI: u32> OffsetArena<SLI> {
         ensures same { (self.new.heap ≡ self.old.heap) × (self.new.unit ≡ self.old.unit) }
         ensures stays { self.new.extents ≡ self.old.extents }
         ensures touches { self.new.touches ≤ self.old.touches + 2 * length self.old.heap.blocks }
+        ensures touches_rise { self.old.touches ≤ self.new.touches }
+        ensures leaves { LeavesLive self.old.heap.blocks self.old.touched self.new.touched }
     {
         let report = self.heap.report();
         Usage {
@@ -212,6 +200,7 @@ impl<const SLI: u32> OffsetArena<SLI> {
         ensures stays { self.new.extents ≡ self.old.extents }
         ensures touches { self.new.touches ≤ self.old.touches + 4 }
         ensures touches_rise { self.old.touches ≤ self.new.touches }
+        ensures leaves { LeavesLive self.old.heap.blocks self.old.touched self.new.touched }
     {
         let size = match self.heap.block_at(name.at) {
             Some(block) => block.size,

@@ -5,17 +5,17 @@ ghost use Rattle.tlsf_heap.specs.Blocks.{want, IsPlace};
 ghost use Rattle.tlsf_heap.specs.ByPlace.{name_at, released_by_place};
 ghost use Rattle.tlsf_heap.specs.Calls.{allocated, resized};
 ghost use Rattle.tlsf_heap.specs.Checks.{FindsSound, IsCheck, block_touches};
+ghost use Rattle.tlsf_heap.specs.Effects.{Looks};
 ghost use Rattle.tlsf_heap.specs.Footprint.{LeavesLive, LeavesPayloads};
 ghost use Rattle.tlsf_heap.specs.Given.{payload_words_left};
 ghost use Rattle.tlsf_heap.specs.InPlace.{payload_of};
 ghost use Rattle.tlsf_heap.specs.Laws.{IsLive};
 ghost use Rattle.tlsf_heap.specs.Moved.{resized_or_moved, payload_words_moved};
-ghost use Rattle.tlsf_heap.specs.Placed.{placed_at};
 ghost use Rattle.tlsf_heap.specs.Touched.{FollowsNoForgery, FollowsNoPlace};
 ghost use Rattle.tlsf_heap.specs.Unset.{lying, unset_from, with_payload};
 ghost use Rattle.tlsf_heap.specs.WordsInUse.{words_in_use};
 ghost use Rattle.tlsf_c.specs.Counting.{counted_request, counted_move};
-ghost use Rattle.tlsf_c.specs.Levels.{GoesOn};
+ghost use Rattle.tlsf_c.specs.Levels.{GoesOn, seen_at};
 ghost use Rattle.tlsf_c.specs.Places.{kept_at, resized_or_moved_by_place};
 
 use super::{AnyHeap, OfLevel};
@@ -79,13 +79,9 @@ impl AnyHeap {
 
     /// `Heap::block_at`.
     pub fn block_at(&mut self, at: u32) -> Option<PlacedBlock>
-        ensures block { result ≡ placed_at self.old.heap.blocks at }
-        ensures heap { self.new.heap ≡ self.old.heap }
+        ensures looks { Looks (seen_at self.old) (seen_at self.new) at result }
         ensures goes_on { GoesOn self.old self.new }
         ensures counts { self.new.counts ≡ self.old.counts }
-        ensures touches { self.new.touches ≤ self.old.touches + 4 }
-        ensures leaves { LeavesLive self.old.heap.blocks self.old.touched self.new.touched }
-        ensures wild { FollowsNoPlace self.old.heap at self.old.touches self.new.touches }
     {
         match &mut self.of_level {
             OfLevel::Four(heap) => heap.block_at(at),
@@ -155,7 +151,7 @@ impl AnyHeap {
         ensures touches { self.new.touches ≤ self.old.touches + 104 + 2 * (min (length (payload_of self.old.heap name)) len / 8) }
         ensures leaves { LeavesPayloads self.old.heap.blocks name.at self.old.touched self.new.touched }
         ensures refused { OnErr result (LeavesLive self.old.heap.blocks self.old.touched self.new.touched) }
-        ensures forged { FollowsNoForgery self.old.heap name self.old.touches self.new.touches }
+        ensures forged { FollowsNoForgery (seen_at self.old) (seen_at self.new) name }
     {
         match &mut self.of_level {
             OfLevel::Four(heap) => self.counts.resize_or_move_unset(heap, name, len),
@@ -192,7 +188,7 @@ impl AnyHeap {
             + 3 * payload_words_moved self.old.level self.old.heap len }
         ensures leaves { LeavesPayloads self.old.heap.blocks name.at self.old.touched self.new.touched }
         ensures refused { OnErr result (LeavesLive self.old.heap.blocks self.old.touched self.new.touched) }
-        ensures forged { FollowsNoForgery self.old.heap name self.old.touches self.new.touches }
+        ensures forged { FollowsNoForgery (seen_at self.old) (seen_at self.new) name }
     {
         match &mut self.of_level {
             OfLevel::Four(heap) => self.counts.resize_or_move(heap, name, len),

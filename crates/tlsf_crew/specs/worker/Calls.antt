@@ -1,9 +1,10 @@
 -- What a worker's own calls answer and leave.
-use Rattle.std.specs.Prelude.{◌≡◌, ℕ, List, [], ◌∷◌, Option, Some, None, Result, Ok, Err, OnErr}
+use Rattle.std.specs.Prelude.{◌≡◌, ℕ, List, [], ◌∷◌, Option, Some, None, Result, Ok, Err}
 use Rattle.tlsf_heap.specs.Blocks.{HeapState}
 use Rattle.tlsf_heap.specs.Calls.{released}
-use Rattle.tlsf_heap.specs.Footprint.{LeavesLive, LeavesPayloads}
+use Rattle.tlsf_heap.specs.Effects.{Releases}
 use Rattle.tlsf_heap.specs.InPlace.{IsRefusedAsRead}
+use Rattle.tlsf_heap.specs.Touched.{release_touches}
 use Rattle.tlsf_heap.specs.declared.name.Name.{Name}
 use Rattle.tlsf_heap.specs.declared.refusal.Refusal.{Refusal}
 use Rattle.tlsf_post.specs.declared.post.Post.{Post}
@@ -13,7 +14,7 @@ use Rattle.tlsf_calls.specs.declared.released.Released.{Released}
 use Rattle.tlsf_calls.specs.declared.released.Released.TheVariants.{Freed, Posted}
 use Rattle.tlsf_calls.specs.declared.took.Took.{Took}
 use Rattle.tlsf_crew.specs.declared.worker.worker.Worker.{Worker}
-use Rattle.tlsf_crew.specs.worker.Workers.{heap_of, id_of, touched_of, SameButHeap, SameButPorts}
+use Rattle.tlsf_crew.specs.worker.Workers.{heap_of, id_of, seen_of, SameButHeap, SameButPorts}
 
 -- the heap's answer as the worker's
 abbrev pub by_heap : {A : Type 0} → Result A Refusal → Result A CrewRefusal
@@ -41,10 +42,8 @@ posted_as (Err why) = Err why
 -- the own block of that name was released
 pub record ReleasedHere {sli : ℕ} {P : Type 0} (a v : Worker sli P) (name : Name) (answer : Result Released CrewRefusal) : Type 0 where
   pub answer_is : answer ≡ freed_by (released (heap_of a) name).answer
-  pub heap : heap_of v ≡ (released (heap_of a) name).heap
+  pub releases : Releases release_touches (seen_of a) (seen_of v) name (released (heap_of a) name).answer
   pub same : SameButHeap a v
-  pub leaves : LeavesPayloads (heap_of a).blocks name.at (touched_of a) (touched_of v)
-  pub refused : OnErr answer (LeavesLive (heap_of a).blocks (touched_of a) (touched_of v))
 
 -- the name was put through the port to the worker of its heap, by what such a put may leave and answer
 pub record PostedThere {sli : ℕ} {P : Type 0} (puts : ℕ → P → P → Name → Result (Unit {0}) CrewRefusal → Type 0) (a v : Worker sli P) (name : Name) (answer : Result (Unit {0}) CrewRefusal) : Type 0 where
@@ -58,13 +57,12 @@ pub record ReleasedThere {sli : ℕ} {P : Type 0} (puts : ℕ → P → P → Na
 
 -- ---- takes
 
--- after a take the post's block is released on the own heap, and no other live block's payload is touched
+-- after a take the post's block is released on the own heap
 abbrev pub AfterTake : {sli : ℕ} {P : Type 0} → Worker sli P → Worker sli P → Option Post → Option Took → Type 0
 AfterTake a v None answer = (answer ≡ None) × (v ≡ a)
 AfterTake a v (Some post) answer =
     (answer ≡ Some (record { from = post.from; name = post.name; answer = (released (heap_of a) post.name).answer }))
-    × (heap_of v ≡ (released (heap_of a) post.name).heap) × SameButHeap a v
-    × LeavesPayloads (heap_of a).blocks post.name.at (touched_of a) (touched_of v)
+    × Releases release_touches (seen_of a) (seen_of v) post.name (released (heap_of a) post.name).answer × SameButHeap a v
 
 -- a source of posts, by its number, was asked for its next one, by what such a take may leave and answer
 pub record TakenFrom {sli : ℕ} {P : Type 0} (takes : P → P → ℕ → Option Post → Type 0) (a v : Worker sli P) (source : ℕ) (answer : Option Took) : Type 0 where

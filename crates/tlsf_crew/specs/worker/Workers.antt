@@ -6,6 +6,7 @@ use Rattle.std.specs.declared.alloc.Global.{Global}
 use Rattle.tlsf_words.specs.Memory.{Extent}
 use Rattle.tlsf_heap.specs.Blocks.{HeapState}
 use Rattle.tlsf_heap.specs.Lawful.{IsLawful}
+use Rattle.tlsf_heap.specs.Shown.{Seen, seen}
 use Rattle.tlsf_crew.specs.declared.worker.worker.Worker.{Worker}
 
 abbrev pub heap_of : {sli : ℕ} {P : Type 0} → Worker sli P → HeapState
@@ -18,6 +19,10 @@ touches_of a = a.heap.touches
 -- which words of it they touched
 abbrev pub touched_of : {sli : ℕ} {P : Type 0} → Worker sli P → List ℕ
 touched_of a = a.heap.touched
+
+-- what its heap shows of a call
+abbrev pub seen_of : {sli : ℕ} {P : Type 0} → Worker sli P → Seen
+seen_of a = seen a.heap
 
 abbrev pub id_of : {sli : ℕ} {P : Type 0} → Worker sli P → ℕ
 id_of a = a.id

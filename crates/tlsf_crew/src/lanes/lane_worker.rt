@@ -1,8 +1,7 @@
 //! What a worker does over lanes.
-ghost use Rattle.std.specs.Prelude.{◌≡◌, ◌≢◌, ◌+◌, ◌*◌, ◌≤◌, length, Option, None, Some, Ok, Err, IfOk, IfSome};
+ghost use Rattle.std.specs.Prelude.{◌≡◌, ◌≢◌, ◌+◌, ◌*◌, ◌≤◌, length, Option, None, Some, Ok, Err};
 ghost use Rattle.tlsf_calls.specs.declared.took.Took.{Took};
 ghost use Rattle.tlsf_heap.specs.declared.refusal.Refusal.TheVariants.{Foreign};
-ghost use Rattle.tlsf_heap.specs.Touched.{FollowsNoForgery};
 ghost use Rattle.tlsf_crew.specs.worker.Workers.{heap_of, touches_of, id_of, Stays};
 ghost use Rattle.tlsf_crew.specs.lanes.LaneWorkers.{HasPost, HasTake, HearsLane, ReachesLane, TookThrough, lane_extents};
 ghost use Rattle.tlsf_crew.specs.lanes.LaneCalls.{KeepsYards, PutsIntoLane, TakenFromLane};
@@ -127,7 +126,6 @@ impl<const SLI: u32> Worker<SLI> {
         ensures touches { touches_of self.new ≤ touches_of self.old + 64 }
         ensures touches_rise { touches_of self.old ≤ touches_of self.new }
         ensures stays { Stays lane_extents self.old self.new }
-        ensures forged { name.heap ≡ id_of self.old → FollowsNoForgery (heap_of self.old) name (touches_of self.old) (touches_of self.new) }
     {
         release(self, &NoRuntime, name)
     }
@@ -151,7 +149,6 @@ impl<const SLI: u32> Worker<SLI> {
         ensures touches { touches_of self.new ≤ touches_of self.old + 64 }
         ensures touches_rise { touches_of self.old ≤ touches_of self.new }
         ensures stays { Stays lane_extents self.old self.new }
-        ensures forged { IfOk result (λ answer. IfSome answer (λ took. FollowsNoForgery (heap_of self.old) took.name (touches_of self.old) (touches_of self.new))) }
     {
         if !self.ports.has_source(from as usize) {
             return Err(CrewRefusal::Stranger);

@@ -1,7 +1,6 @@
 //! The queues of a worker, and what it does over them.
-ghost use Rattle.std.specs.Prelude.{◌≡◌, ◌≢◌, ◌+◌, ◌*◌, ◌≤◌, ⊤, Some, Err, IfSome};
+ghost use Rattle.std.specs.Prelude.{◌≡◌, ◌≢◌, ◌+◌, ◌*◌, ◌≤◌, ⊤, Some, Err};
 ghost use Rattle.tlsf_heap.specs.declared.refusal.Refusal.TheVariants.{Foreign};
-ghost use Rattle.tlsf_heap.specs.Touched.{FollowsNoForgery};
 ghost use Rattle.tlsf_crew.specs.worker.Workers.{heap_of, touches_of, id_of, Stays};
 ghost use Rattle.tlsf_crew.specs.worker.Calls.{PostedThere, ReleasedHere, ReleasedThere};
 ghost use Rattle.tlsf_crew.specs.queues.QueueWorkers.{HasQueueEnd, KeepsQueueYards, ReachesQueue, PutsIntoQueue, AsksQueue, queue_extents};
@@ -143,7 +142,6 @@ impl<const SLI: u32> QueueWorker<SLI> {
         ensures touches { touches_of self.new ≤ touches_of self.old + 64 }
         ensures touches_rise { touches_of self.old ≤ touches_of self.new }
         ensures stays { Stays queue_extents self.old self.new }
-        ensures forged { name.heap ≡ id_of self.old → FollowsNoForgery (heap_of self.old) name (touches_of self.old) (touches_of self.new) }
     {
         release(self, rt, name)
     }
@@ -166,7 +164,6 @@ impl<const SLI: u32> QueueWorker<SLI> {
         ensures touches { touches_of self.new ≤ touches_of self.old + 64 }
         ensures touches_rise { touches_of self.old ≤ touches_of self.new }
         ensures stays { Stays queue_extents self.old self.new }
-        ensures forged { IfSome result (λ took. FollowsNoForgery (heap_of self.old) took.name (touches_of self.old) (touches_of self.new)) }
     {
         take_next(self, rt, 0)
     }

@@ -1,19 +1,17 @@
 ghost use Rattle.std.specs.Fn.{FnOnceTakesAt, FnOnceTakesAtMut};
-ghost use Rattle.std.specs.Prelude.{◌≡◌, ◌≢◌, ℕ, ◌+◌, ◌*◌, ◌/◌, ◌<◌, ◌≤◌, List, length, map, Some, Err, OnSome, IfSome, IfNone, IfOk, OnErr};
-ghost use Rattle.std.specs.Result.{result_unwrap_or};
+ghost use Rattle.std.specs.Prelude.{◌≡◌, ◌≢◌, ℕ, ◌+◌, ◌*◌, ◌<◌, ◌≤◌, List, length, map, Some, Err, OnSome, IfNone, IfOk, OnErr};
 ghost use Rattle.tlsf_class.specs.Classes.{most_words};
+ghost use Rattle.tlsf_heap.specs.Blocks.{want};
 ghost use Rattle.tlsf_heap.specs.Calls.{allocated, released, written, read_of, read_answer, resized};
-ghost use Rattle.tlsf_heap.specs.Footprint.{LeavesLive, LeavesPayloads};
-ghost use Rattle.tlsf_heap.specs.Given.{payload_words_given, payload_words_left};
+ghost use Rattle.tlsf_heap.specs.Effects.{Allocates, Looks, Reads, Releases, Reports, Resizes, Writes};
+ghost use Rattle.tlsf_heap.specs.Footprint.{LeavesLive};
 ghost use Rattle.tlsf_heap.specs.InPlace.{ArePayload, Alters, Inspects};
 ghost use Rattle.tlsf_heap.specs.Lawful.{IsLawful};
 ghost use Rattle.tlsf_heap.specs.Laws.{IsLive};
-ghost use Rattle.tlsf_heap.specs.Placed.{placed_at};
-ghost use Rattle.tlsf_heap.specs.Reports.{report_of};
-ghost use Rattle.tlsf_heap.specs.Touched.{FollowsNoForgery, FollowsNoPlace};
+ghost use Rattle.tlsf_heap.specs.Touched.{FollowsNoForgery, allocate_touches, read_touches, release_touches, resize_touches, write_touches};
 ghost use Rattle.tlsf_calls.specs.declared.took.Took.{Took};
 ghost use Rattle.tlsf_crew.specs.declared.worker.worker.Worker.{Worker};
-ghost use Rattle.tlsf_crew.specs.worker.Workers.{heap_of, touched_of, touches_of, id_of, SameButHeap, Stays, KeepsHeap};
+ghost use Rattle.tlsf_crew.specs.worker.Workers.{heap_of, seen_of, touched_of, touches_of, id_of, SameButHeap, Stays, KeepsHeap};
 ghost use Rattle.tlsf_crew.specs.worker.Calls.{by_heap, IsRefusedByHeap, PostedThere, ReleasedHere, ReleasedThere, AfterTake, TakenFrom};
 ghost use Rattle.tlsf_crew.specs.worker.Drains.{IsCountOf};
 ghost use Rattle.tlsf_crew.specs.worker.Notes.{AllNoted, SourceNoted};
@@ -93,7 +91,6 @@ pub(crate) fn release<const SLI: u32, R, P: Exchange<R>>(
     ensures touches { touches_of worker.new ≤ touches_of worker.old + 64 }
     ensures touches_rise { touches_of worker.old ≤ touches_of worker.new }
     ensures stays { Stays P.extents worker.old worker.new }
-    ensures forged { name.heap ≡ id_of worker.old → FollowsNoForgery (heap_of worker.old) name (touches_of worker.old) (touches_of worker.new) }
 {
     if name.heap == worker.id {
         return match worker.heap.release(name) {
@@ -110,12 +107,10 @@ pub(crate) fn release<const SLI: u32, R, P: Exchange<R>>(
 /// Releases the block that a post names on the own heap.
 fn release_post<const SLI: u32, P: Ports>(worker: &mut Worker<SLI, P>, post: Post) -> Took
     ensures released { AfterTake worker.old worker.new (Some post) (Some result) }
+    ensures releases { Releases release_touches (seen_of worker.old) (seen_of worker.new) post.name result.answer }
     ensures ports { worker.new.ports ≡ worker.old.ports }
     ensures post { post_of result ≡ post }
-    ensures touches { touches_of worker.new ≤ touches_of worker.old + 64 }
-    ensures touches_rise { touches_of worker.old ≤ touches_of worker.new }
     ensures stays { Stays P.extents worker.old worker.new }
-    ensures forged { FollowsNoForgery (heap_of worker.old) post.name (touches_of worker.old) (touches_of worker.new) }
 {
     let answer = worker.heap.release(post.name);
     Took {
@@ -138,7 +133,6 @@ pub(crate) fn take_next<const SLI: u32, R, P: Exchange<R>>(
     ensures untouched { IfNone result (touches_of worker.new ≡ touches_of worker.old) }
     ensures touches_rise { touches_of worker.old ≤ touches_of worker.new }
     ensures stays { Stays P.extents worker.old worker.new }
-    ensures forged { IfSome result (λ took. FollowsNoForgery (heap_of worker.old) took.name (touches_of worker.old) (touches_of worker.new)) }
 {
     let post = worker.ports.take(rt, source)?;
     Some(release_post(worker, post))
@@ -249,7 +243,7 @@ pub(crate) fn drain_each<const SLI: u32, R, P: Exchange<R>, N: Notes>(
 impl<const SLI: u32, P: Ports> Worker<SLI, P> {
     /// Gives a block of the own heap that holds `len` bytes of payload, all zero.
     ///
-    /// - `touches`: at most 64 touches of the heap's memory, and one more for each payload word of the block given.
+    /// - `allocates`: at most 26 touches of the heap's memory, and one more for each payload word of the block given.
     ///
     /// ```
     /// let name = worker.allocate(100)?; // a block of at least 100 bytes, all zero
@@ -257,35 +251,27 @@ impl<const SLI: u32, P: Ports> Worker<SLI, P> {
     /// ```
     pub fn allocate(&mut self, len: u32) -> Result<Name, CrewRefusal>
         ensures answer { result ≡ by_heap (allocated SLI (heap_of self.old) len).answer }
-        ensures heap { heap_of self.new ≡ (allocated SLI (heap_of self.old) len).heap }
+        ensures allocates { Allocates allocate_touches SLI (want len) len (seen_of self.old) (seen_of self.new) (allocated SLI (heap_of self.old) len).answer }
         ensures same { SameButHeap self.old self.new }
         ensures yard { P.keeps_yards SLI self.old self.new }
-        ensures touches { touches_of self.new ≤ touches_of self.old + 64 + payload_words_given (allocated SLI (heap_of self.old) len).answer (heap_of self.new) }
-        ensures touches_rise { touches_of self.old ≤ touches_of self.new }
         ensures stays { Stays P.extents self.old self.new }
-        ensures leaves { LeavesLive (heap_of self.old).blocks (touched_of self.old) (touched_of self.new) }
     {
         as_crew::<P, _>(self.heap.allocate(len))
     }
 
     /// Releases a block of the own heap. A name of another worker's heap is refused as `Foreign`: `release` posts that.
     ///
-    /// - `touches`: at most 64 touches of the own heap's memory.
+    /// - `releases`: at most 30 touches of the own heap's memory.
     ///
     /// ```
     /// worker.free(name)?; // a block that this worker allocated
     /// ```
     pub fn free(&mut self, name: Name) -> Result<(), CrewRefusal>
         ensures answer { result ≡ by_heap (released (heap_of self.old) name).answer }
-        ensures heap { heap_of self.new ≡ (released (heap_of self.old) name).heap }
+        ensures releases { Releases release_touches (seen_of self.old) (seen_of self.new) name (released (heap_of self.old) name).answer }
         ensures same { SameButHeap self.old self.new }
         ensures yard { P.keeps_yards SLI self.old self.new }
-        ensures touches { touches_of self.new ≤ touches_of self.old + 64 }
-        ensures touches_rise { touches_of self.old ≤ touches_of self.new }
         ensures stays { Stays P.extents self.old self.new }
-        ensures leaves { LeavesPayloads (heap_of self.old).blocks name.at (touched_of self.old) (touched_of self.new) }
-        ensures refused { OnErr result (LeavesLive (heap_of self.old).blocks (touched_of self.old) (touched_of self.new)) }
-        ensures forged { FollowsNoForgery (heap_of self.old) name (touches_of self.old) (touches_of self.new) }
     {
         as_crew::<P, _>(self.heap.release(name))
     }
@@ -297,15 +283,10 @@ impl<const SLI: u32, P: Ports> Worker<SLI, P> {
     /// ```
     pub fn write(&mut self, name: Name, at: u32, bytes: &[u8]) -> Result<(), CrewRefusal>
         ensures answer { result ≡ by_heap (written (heap_of self.old) name at bytes.now).answer }
-        ensures heap { heap_of self.new ≡ (written (heap_of self.old) name at bytes.now).heap }
+        ensures writes { Writes (write_touches (length bytes.now)) (seen_of self.old) (seen_of self.new) name at bytes.now (written (heap_of self.old) name at bytes.now).answer }
         ensures same { SameButHeap self.old self.new }
         ensures yard { P.keeps_yards SLI self.old self.new }
-        ensures touches { touches_of self.new ≤ touches_of self.old + 4 + 2 * (length bytes.now / 8 + 2) }
-        ensures touches_rise { touches_of self.old ≤ touches_of self.new }
         ensures stays { Stays P.extents self.old self.new }
-        ensures leaves { LeavesPayloads (heap_of self.old).blocks name.at (touched_of self.old) (touched_of self.new) }
-        ensures refused { OnErr result (LeavesLive (heap_of self.old).blocks (touched_of self.old) (touched_of self.new)) }
-        ensures forged { FollowsNoForgery (heap_of self.old) name (touches_of self.old) (touches_of self.new) }
     {
         as_crew::<P, _>(self.heap.write(name, at, bytes))
     }
@@ -318,16 +299,10 @@ impl<const SLI: u32, P: Ports> Worker<SLI, P> {
     /// ```
     pub fn read(&mut self, name: Name, at: u32, out: &mut [u8]) -> Result<(), CrewRefusal>
         ensures answer { result ≡ by_heap (read_answer (read_of (heap_of self.old) name at (length out.old))) }
-        ensures bytes { out.new ≡ result_unwrap_or (read_of (heap_of self.old) name at (length out.old)) out.old }
-        ensures heap { heap_of self.new ≡ heap_of self.old }
+        ensures reads { Reads (read_touches (length out.old)) (seen_of self.old) (seen_of self.new) name at out.old out.new (read_answer (read_of (heap_of self.old) name at (length out.old))) }
         ensures same { SameButHeap self.old self.new }
         ensures yard { P.keeps_yards SLI self.old self.new }
-        ensures touches { touches_of self.new ≤ touches_of self.old + 4 + (length out.old / 8 + 2) }
-        ensures touches_rise { touches_of self.old ≤ touches_of self.new }
         ensures stays { Stays P.extents self.old self.new }
-        ensures leaves { LeavesPayloads (heap_of self.old).blocks name.at (touched_of self.old) (touched_of self.new) }
-        ensures refused { OnErr result (LeavesLive (heap_of self.old).blocks (touched_of self.old) (touched_of self.new)) }
-        ensures forged { FollowsNoForgery (heap_of self.old) name (touches_of self.old) (touches_of self.new) }
     {
         as_crew::<P, _>(self.heap.read(name, at, out))
     }
@@ -357,7 +332,7 @@ impl<const SLI: u32, P: Ports> Worker<SLI, P> {
         ensures touches_rise { touches_of self.old ≤ touches_of self.new }
         ensures stays { Stays P.extents self.old self.new }
         ensures leaves { LeavesLive (heap_of self.old).blocks (touched_of self.old) (touched_of self.new) }
-        ensures forged { FollowsNoForgery (heap_of self.old) name (touches_of self.old) (touches_of self.new) }
+        ensures forged { FollowsNoForgery (seen_of self.old) (seen_of self.new) name }
     {
         as_crew::<P, _>(self.heap.alter(name, f))
     }
@@ -383,7 +358,7 @@ impl<const SLI: u32, P: Ports> Worker<SLI, P> {
         ensures touches_rise { touches_of self.old ≤ touches_of self.new }
         ensures stays { Stays P.extents self.old self.new }
         ensures leaves { LeavesLive (heap_of self.old).blocks (touched_of self.old) (touched_of self.new) }
-        ensures forged { FollowsNoForgery (heap_of self.old) name (touches_of self.old) (touches_of self.new) }
+        ensures forged { FollowsNoForgery (seen_of self.old) (seen_of self.new) name }
     {
         as_crew::<P, _>(self.heap.inspect(name, f))
     }
@@ -394,7 +369,7 @@ impl<const SLI: u32, P: Ports> Worker<SLI, P> {
     /// Refused as the own heap refuses it: `Foreign` where the name is of another worker's heap, else `Stale`, `NoRoom` or `Worn`. All
     /// is then as before.
     ///
-    /// - `touches`: at most 64 touches of the heap's memory, and one more for each payload word of the block.
+    /// - `resizes`: at most 27 touches of the heap's memory, and one more for each payload word of the block.
     ///
     /// ```
     /// let name = worker.allocate(8)?;
@@ -402,35 +377,26 @@ impl<const SLI: u32, P: Ports> Worker<SLI, P> {
     /// ```
     pub fn resize(&mut self, name: Name, len: u32) -> Result<(), CrewRefusal>
         ensures answer { result ≡ by_heap (resized (heap_of self.old) name len).answer }
-        ensures heap { heap_of self.new ≡ (resized (heap_of self.old) name len).heap }
+        ensures resizes { Resizes resize_touches (want len) len (seen_of self.old) (seen_of self.new) name (resized (heap_of self.old) name len).answer }
         ensures same { SameButHeap self.old self.new }
         ensures yard { P.keeps_yards SLI self.old self.new }
-        ensures touches { touches_of self.new ≤ touches_of self.old + 64 + payload_words_left (resized (heap_of self.old) name len).answer (heap_of self.new) name }
-        ensures touches_rise { touches_of self.old ≤ touches_of self.new }
         ensures stays { Stays P.extents self.old self.new }
-        ensures leaves { LeavesPayloads (heap_of self.old).blocks name.at (touched_of self.old) (touched_of self.new) }
-        ensures refused { OnErr result (LeavesLive (heap_of self.old).blocks (touched_of self.old) (touched_of self.new)) }
-        ensures forged { FollowsNoForgery (heap_of self.old) name (touches_of self.old) (touches_of self.new) }
     {
         as_crew::<P, _>(self.heap.resize(name, len))
     }
 
     /// What the own heap holds, and how well it serves.
     ///
-    /// - `touches`: at most two touches of the heap's memory for each of its blocks.
+    /// - `reports`: at most two touches of the heap's memory for each of its blocks.
     ///
     /// ```
     /// let live = worker.report().live_bytes;
     /// ```
     pub fn report(&mut self) -> Report
-        ensures report { result ≡ report_of SLI (heap_of self.old) }
-        ensures heap { heap_of self.new ≡ heap_of self.old }
+        ensures reports { Reports SLI (seen_of self.old) (seen_of self.new) result }
         ensures same { SameButHeap self.old self.new }
         ensures yard { P.keeps_yards SLI self.old self.new }
-        ensures touches { touches_of self.new ≤ touches_of self.old + 2 * length (heap_of self.old).blocks }
-        ensures touches_rise { touches_of self.old ≤ touches_of self.new }
         ensures stays { Stays P.extents self.old self.new }
-        ensures leaves { LeavesLive (heap_of self.old).blocks (touched_of self.old) (touched_of self.new) }
     {
         P::heap_keeps();
         self.heap.report()
@@ -454,17 +420,12 @@ impl<const SLI: u32, P: Ports> Worker<SLI, P> {
     /// let first = worker.block_at(0);         // each heap has a block at place 0
     /// ```
     pub fn block_at(&mut self, at: u32) -> Option<PlacedBlock>
-        ensures block { result ≡ placed_at (heap_of self.old).blocks at }
-        ensures heap { heap_of self.new ≡ heap_of self.old }
+        ensures looks { Looks (seen_of self.old) (seen_of self.new) at result }
         ensures was_lawful { IsLawful (heap_of self.old) }
         ensures most { (heap_of self.old).words ≤ most_words SLI }
         ensures same { SameButHeap self.old self.new }
         ensures yard { P.keeps_yards SLI self.old self.new }
-        ensures touches { touches_of self.new ≤ touches_of self.old + 4 }
-        ensures touches_rise { touches_of self.old ≤ touches_of self.new }
         ensures stays { Stays P.extents self.old self.new }
-        ensures leaves { LeavesLive (heap_of self.old).blocks (touched_of self.old) (touched_of self.new) }
-        ensures wild { FollowsNoPlace (heap_of self.old) at (touches_of self.old) (touches_of self.new) }
     {
         P::heap_keeps();
         self.heap.block_at(at)

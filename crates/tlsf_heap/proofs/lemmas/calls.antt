@@ -17,3 +17,4 @@ pub mod OtherBytes
 pub mod AllocateAligned
 pub mod LeavesAligned
 pub mod Reports
+pub mod Looked

@@ -1,8 +1,6 @@
-ghost use Rattle.std.specs.Prelude.{◌+◌, ◌≤◌, ◌↔◌, IsTrue};
-ghost use Rattle.tlsf_heap.specs.Footprint.{LeavesLive};
 ghost use Rattle.tlsf_heap.specs.Kept.{IsAsBefore, Keeps};
-ghost use Rattle.tlsf_heap.specs.Laws.{IsLive};
-ghost use Rattle.tlsf_heap.specs.Touched.{FollowsNoForgery};
+ghost use Rattle.tlsf_heap.specs.Effects.{AsksLive};
+ghost use Rattle.tlsf_heap.specs.Shown.{seen};
 
 use super::Heap;
 use crate::name::Name;
@@ -18,14 +16,9 @@ impl<const SLI: u32> Heap<SLI> {
     /// heap.is_live(name) == false
     /// ```
     pub fn is_live(&mut self, name: Name) -> bool
-        ensures live { IsTrue result ↔ IsLive self.old.heap name }
+        ensures asks { AsksLive (seen self.old) (seen self.new) name result }
         ensures same { IsAsBefore self.old self.new }
         ensures keeps { Keeps SLI self.old self.new }
-
-        // A start bit, a header and a serial.
-        ensures touches { self.new.touches ≤ self.old.touches + 3 }
-        ensures leaves { LeavesLive self.old.heap.blocks self.old.touched self.new.touched }
-        ensures forged { FollowsNoForgery self.old.heap name self.old.touches self.new.touches }
     {
         self.check(name).is_ok()
     }

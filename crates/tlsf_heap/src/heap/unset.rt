@@ -10,6 +10,7 @@ ghost use Rattle.tlsf_heap.specs.Touched.{FollowsNoForgery};
 ghost use Rattle.tlsf_heap.specs.Unset.{unset_from};
 ghost use Rattle.tlsf_heap.specs.Kept.{IsAsBefore, Keeps};
 ghost use Rattle.tlsf_words.specs.Touched.{InGroups};
+ghost use Rattle.tlsf_heap.specs.Shown.{seen};
 
 use super::{Heap, want};
 use crate::name::Name;
@@ -78,7 +79,7 @@ impl<const SLI: u32> Heap<SLI> {
         ensures groups { InGroups 19 self.old.touched self.new.touched }
         ensures refused_groups { OnErr result (InGroups 6 self.old.touched self.new.touched) }
         ensures refused { OnErr result (LeavesLive self.old.heap.blocks self.old.touched self.new.touched) }
-        ensures forged { FollowsNoForgery self.old.heap name self.old.touches self.new.touches }
+        ensures forged { FollowsNoForgery (seen self.old) (seen self.new) name }
     {
         let kept = self.check_payload(name)?.min(len);
         self.resize_words(name, want(len), kept)?;
@@ -113,7 +114,7 @@ impl<const SLI: u32> Heap<SLI> {
         ensures leaves { LeavesPayloads self.old.heap.blocks name.at self.old.touched self.new.touched }
         ensures groups { InGroups (41 + 2 * (min (length (payload_of self.old.heap name)) len / 64)) self.old.touched self.new.touched }
         ensures refused { OnErr result (LeavesLive self.old.heap.blocks self.old.touched self.new.touched) }
-        ensures forged { FollowsNoForgery self.old.heap name self.old.touches self.new.touches }
+        ensures forged { FollowsNoForgery (seen self.old) (seen self.new) name }
     {
         match self.resize_unset(name, len) {
             Ok(()) => Ok(name),

@@ -1,7 +1,7 @@
 ghost use Rattle.std.specs.Prelude.{◌≡◌, ◌+◌, ◌≤◌, Err, OnOk, OnErr, MatchResult};
 ghost use Rattle.tlsf_class.specs.Classes.{most_words};
 ghost use Rattle.tlsf_heap.specs.ByPlace.{released_by_place};
-ghost use Rattle.tlsf_heap.specs.Calls.{released};
+ghost use Rattle.tlsf_heap.specs.Effects.{Releases};
 ghost use Rattle.tlsf_heap.specs.Footprint.{LeavesLive, LeavesPayloads};
 ghost use Rattle.tlsf_heap.specs.Laws.{IsLive};
 ghost use Rattle.tlsf_heap.specs.Named.{RefusesName};
@@ -9,6 +9,7 @@ ghost use Rattle.tlsf_heap.specs.Touched.{FollowsNoForgery, release_groups, rele
 ghost use Rattle.tlsf_heap.specs.WordsInUse.{words_in_use, words_at, CameOff};
 ghost use Rattle.tlsf_heap.specs.Kept.{IsAsBefore, Keeps};
 ghost use Rattle.tlsf_words.specs.Touched.{InGroups};
+ghost use Rattle.tlsf_heap.specs.Shown.{seen};
 
 use super::Heap;
 use crate::fitting::coalesce;
@@ -58,7 +59,7 @@ impl<const SLI: u32> Heap<SLI> {
         ensures keeps { Keeps SLI self.old self.new }
         ensures touches { self.new.touches ≤ self.old.touches + 3 }
         ensures leaves { LeavesLive self.old.heap.blocks self.old.touched self.new.touched }
-        ensures forged { FollowsNoForgery self.old.heap name self.old.touches self.new.touches }
+        ensures forged { FollowsNoForgery (seen self.old) (seen self.new) name }
     {
         let own = self.check(name)?;
         let held = own.size();
@@ -81,8 +82,9 @@ impl<const SLI: u32> Heap<SLI> {
     #[inline(always)]
     pub fn release_counted(&mut self, name: Name, in_use: &mut u32) -> Result<(), Refusal>
         requires counted { words_in_use self.old.heap ≤ in_use.old }
-        ensures answer { result ≡ (released self.old.heap name).answer }
-        ensures heap { self.new.heap ≡ (released self.old.heap name).heap }
+
+        // Accepted or refused, and whatever the region holds.
+        ensures releases { Releases release_touches (seen self.old) (seen self.new) name result }
         ensures off { OnOk result (CameOff self.old.heap self.new.heap name.at in_use.old in_use.new) }
 
         // A refusal changes nothing.
@@ -90,15 +92,8 @@ impl<const SLI: u32> Heap<SLI> {
         ensures count { OnErr result (in_use.new ≡ in_use.old) }
         ensures keeps { Keeps SLI self.old self.new }
 
-        // Accepted or refused, and whatever the region holds: at most 64 touches.
-        ensures touches { self.new.touches ≤ self.old.touches + 64 }
-        ensures most_touches { self.new.touches ≤ self.old.touches + release_touches }
-        ensures leaves { LeavesPayloads self.old.heap.blocks name.at self.old.touched self.new.touched }
-
         // All lies in so many groups of eight words, but start bits and the lists.
         ensures groups { InGroups release_groups self.old.touched self.new.touched }
-        ensures refused { OnErr result (LeavesLive self.old.heap.blocks self.old.touched self.new.touched) }
-        ensures forged { FollowsNoForgery self.old.heap name self.old.touches self.new.touches }
     {
         let own = self.check(name)?;
         if self.tick == u64::MAX {

@@ -1,13 +1,12 @@
 ghost use Rattle.std.specs.Prelude.{◌≡◌, ◌+◌, ◌≤◌, ◌↔◌, IfOk, OnErr, IsErrOf, ⊤};
 ghost use Rattle.tlsf_class.specs.Classes.{IsLevel};
 ghost use Rattle.tlsf_heap.specs.Blocks;
-ghost use Rattle.tlsf_heap.specs.Calls.{opened, resized, last_tick};
-ghost use Rattle.tlsf_heap.specs.Footprint.{LeavesLive, LeavesPayloads};
-ghost use Rattle.tlsf_heap.specs.Given.{payload_words_left};
+ghost use Rattle.tlsf_heap.specs.Calls.{opened, last_tick};
 ghost use Rattle.tlsf_heap.specs.Lawful.{IsRegion};
-ghost use Rattle.tlsf_heap.specs.Touched.{FollowsNoForgery, resize_touches};
+ghost use Rattle.tlsf_heap.specs.Touched.{resize_touches};
 ghost use Rattle.tlsf_heap.specs.ledger.Grants.{AreCounts, IsCounted, TellsFit};
 ghost use Rattle.tlsf_heap.specs.ledger.Ledgers.{KeepsLedger, SameLedger};
+ghost use Rattle.tlsf_heap.specs.Effects.{Resizes, seen_by};
 
 use crate::heap::{Heap, want};
 use crate::ledger::Ledger;
@@ -139,18 +138,11 @@ impl<const SLI: u32> Ledgered<SLI, Counts> {
     /// heap.resize(name, 100)?; // the same block, with 100 bytes
     /// ```
     pub fn resize(&mut self, name: Name, len: u32) -> Result<(), Refusal>
-        ensures answer { result ≡ (resized self.old.heap name len).answer }
-        ensures heap { self.new.heap ≡ (resized self.old.heap name len).heap }
+        // Accepted or refused, and whatever the region holds.
+        ensures resizes { Resizes resize_touches (Blocks.want len) len (seen_by self.old) (seen_by self.new) name result }
         ensures ledger { self.new.ledger ≡ self.old.ledger }
         ensures err { OnErr result (SameLedger self.old self.new) }
         ensures keeps { KeepsLedger AreCounts self.old self.new }
-        ensures leaves { LeavesPayloads self.old.heap.blocks name.at self.old.touched self.new.touched }
-        ensures refused { OnErr result (LeavesLive self.old.heap.blocks self.old.touched self.new.touched) }
-
-        // Accepted or refused, and whatever the region holds: at most 64 touches, and one for each payload word of the block that is left.
-        ensures touches { self.new.touches ≤ self.old.touches + 64 + payload_words_left result self.new.heap name }
-        ensures most_touches { self.new.touches ≤ self.old.touches + resize_touches result self.new.heap name }
-        ensures forged { FollowsNoForgery self.old.heap name self.old.touches self.new.touches }
     {
         self.heap.resize(name, len)
     }

@@ -1,15 +1,14 @@
 ghost use Rattle.std.specs.Fn.{FnOnceTakesAt, FnOnceTakesAtMut};
-ghost use Rattle.std.specs.Prelude.{◌≡◌, ℕ, List, ◌+◌, ◌*◌, ◌/◌, ◌≤◌, ◌↔◌, length, IfOk, IsTrue, OnOk, OnErr};
-ghost use Rattle.std.specs.Result.{result_unwrap_or};
-ghost use Rattle.tlsf_heap.specs.Calls.{allocated_words, released, written, read_of, read_answer};
-ghost use Rattle.tlsf_heap.specs.Footprint.{LeavesLive, LeavesPayloads};
+ghost use Rattle.std.specs.Prelude.{◌≡◌, ℕ, List, ◌+◌, ◌/◌, ◌≤◌, length, IfOk, OnOk, OnErr};
+ghost use Rattle.tlsf_heap.specs.Calls.{allocated_words, released};
+ghost use Rattle.tlsf_heap.specs.Effects.{Releases, seen_by, Allocates, AsksLive, Looks, Reads, Reports, Writes};
+ghost use Rattle.tlsf_heap.specs.Footprint.{LeavesLive};
 ghost use Rattle.tlsf_heap.specs.Given.{payload_words_given};
 ghost use Rattle.tlsf_heap.specs.InPlace.{ArePayload, Alters, Inspects, IsRefusedAsRead, payload_of};
 ghost use Rattle.tlsf_heap.specs.Laws.{IsLive};
-ghost use Rattle.tlsf_heap.specs.Placed.{placed_at};
-ghost use Rattle.tlsf_heap.specs.Reports.{report_of, IsGrant};
-ghost use Rattle.tlsf_heap.specs.Touched.{FollowsNoForgery, FollowsNoPlace, allocate_touches, allocate_words_touches, release_touches};
+ghost use Rattle.tlsf_heap.specs.Touched.{FollowsNoForgery, allocate_touches, release_touches, read_touches, write_touches};
 ghost use Rattle.tlsf_heap.specs.ledger.Ledgers.{IsLedgered, KeepsLedger, SameLedger};
+ghost use Rattle.tlsf_heap.specs.Blocks.{want};
 
 use crate::heap::Heap;
 use crate::ledger::Ledger;
@@ -82,7 +81,7 @@ impl<const SLI: u32, L: Ledger<SLI>> Ledgered<SLI, L> {
     /// ```
     pub fn allocate(&mut self, len: u32) -> Result<Name, L::Why>
         ensures answer { result ≡ L.answered self.old.ledger len (allocated_words SLI self.old.heap (L.takes SLI self.old.ledger len) len).answer }
-        ensures heap { L.admits self.old.ledger len → self.new.heap ≡ (allocated_words SLI self.old.heap (L.takes SLI self.old.ledger len) len).heap }
+        ensures allocates { L.admits self.old.ledger len → Allocates allocate_touches SLI (L.takes SLI self.old.ledger len) len (seen_by self.old) (seen_by self.new) (allocated_words SLI self.old.heap (L.takes SLI self.old.ledger len) len).answer }
 
         // What that comes to: when each refusal comes, and when it is a name.
         ensures tells { L.tells SLI self.old.heap self.old.ledger len result }
@@ -92,12 +91,10 @@ impl<const SLI: u32, L: Ledger<SLI>> Ledgered<SLI, L> {
         ensures keeps { KeepsLedger (L.holds SLI) self.old self.new }
         ensures leaves { LeavesLive self.old.heap.blocks self.old.touched self.new.touched }
 
-        // Accepted or refused, and whatever the region holds: at most 64 touches, and one for each payload word of the block given.
-        ensures touches { self.new.touches ≤ self.old.touches + 64 + payload_words_given result self.new.heap }
-        ensures most_touches { self.new.touches ≤ self.old.touches + allocate_touches result self.new.heap }
-
-        // And however many words the ledger has it take: of the payload words only those of the payload, and three.
-        ensures words_touches { self.new.touches ≤ self.old.touches + allocate_words_touches len }
+        // Admitted or not: so many touches at most, and one for each payload word of the block given. However many words the ledger has it take,
+        // no more for these than the words wanted for the bytes.
+        ensures touches { self.new.touches ≤ self.old.touches + allocate_touches + payload_words_given result self.new.heap }
+        ensures few { self.new.touches ≤ self.old.touches + allocate_touches + want len }
     {
         L::laws();
         let place = match self.ledger.admit(len) {
@@ -123,19 +120,15 @@ impl<const SLI: u32, L: Ledger<SLI>> Ledgered<SLI, L> {
     /// assert_eq!(heap.release(name), Err(Refusal::Stale)); // it is released already: counted as no return
     /// ```
     pub fn release(&mut self, name: Name) -> Result<(), Refusal>
-        ensures answer { result ≡ (released self.old.heap name).answer }
-        ensures heap { self.new.heap ≡ (released self.old.heap name).heap }
+        // Accepted or refused, and whatever the region holds.
+        ensures releases { Releases (L.look_touches + release_touches) (seen_by self.old) (seen_by self.new) name result }
+
+        // No more than 64 touches, whatever the ledger looks at.
+        ensures touches { self.new.touches ≤ self.old.touches + 64 }
         ensures returned { OnOk result (L.returned self.old.ledger (length (payload_of self.old.heap name)) self.new.ledger) }
         ensures limits { L.same_limits self.old.ledger self.new.ledger }
         ensures err { OnErr result (SameLedger self.old self.new) }
         ensures keeps { KeepsLedger (L.holds SLI) self.old self.new }
-        ensures leaves { LeavesPayloads self.old.heap.blocks name.at self.old.touched self.new.touched }
-        ensures refused { OnErr result (LeavesLive self.old.heap.blocks self.old.touched self.new.touched) }
-
-        // Accepted or refused, and whatever the region holds: at most 64 touches.
-        ensures touches { self.new.touches ≤ self.old.touches + 64 }
-        ensures most_touches { self.new.touches ≤ self.old.touches + L.look_touches + release_touches }
-        ensures forged { FollowsNoForgery self.old.heap name self.old.touches self.new.touches }
     {
         L::laws();
         let seen = match L::look(&mut self.heap, name) {
@@ -161,15 +154,10 @@ impl<const SLI: u32, L: Ledger<SLI>> Ledgered<SLI, L> {
     /// assert_eq!(heap.write(name, 3, &[5, 6]), Err(Refusal::Range));
     /// ```
     pub fn write(&mut self, name: Name, at: u32, bytes: &[u8]) -> Result<(), Refusal>
-        ensures answer { result ≡ (written self.old.heap name at bytes.now).answer }
-        ensures heap { self.new.heap ≡ (written self.old.heap name at bytes.now).heap }
+        ensures writes { Writes (write_touches (length bytes.now)) (seen_by self.old) (seen_by self.new) name at bytes.now result }
         ensures ledger { self.new.ledger ≡ self.old.ledger }
         ensures err { OnErr result (SameLedger self.old self.new) }
         ensures keeps { KeepsLedger (L.holds SLI) self.old self.new }
-        ensures leaves { LeavesPayloads self.old.heap.blocks name.at self.old.touched self.new.touched }
-        ensures refused { OnErr result (LeavesLive self.old.heap.blocks self.old.touched self.new.touched) }
-        ensures touches { self.new.touches ≤ self.old.touches + 4 + 2 * (length bytes.now / 8 + 2) }
-        ensures forged { FollowsNoForgery self.old.heap name self.old.touches self.new.touches }
     {
         L::laws();
         self.heap.write(name, at, bytes)
@@ -188,14 +176,9 @@ impl<const SLI: u32, L: Ledger<SLI>> Ledgered<SLI, L> {
     /// assert_eq!(out, [0, 0]);
     /// ```
     pub fn read(&mut self, name: Name, at: u32, out: &mut [u8]) -> Result<(), Refusal>
-        ensures answer { result ≡ read_answer (read_of self.old.heap name at (length out.old)) }
-        ensures bytes { out.new ≡ result_unwrap_or (read_of self.old.heap name at (length out.old)) out.old }
+        ensures reads { Reads (read_touches (length out.old)) (seen_by self.old) (seen_by self.new) name at out.old out.new result }
         ensures same { SameLedger self.old self.new }
         ensures keeps { KeepsLedger (L.holds SLI) self.old self.new }
-        ensures leaves { LeavesPayloads self.old.heap.blocks name.at self.old.touched self.new.touched }
-        ensures refused { OnErr result (LeavesLive self.old.heap.blocks self.old.touched self.new.touched) }
-        ensures touches { self.new.touches ≤ self.old.touches + 4 + (length out.old / 8 + 2) }
-        ensures forged { FollowsNoForgery self.old.heap name self.old.touches self.new.touches }
     {
         self.heap.read(name, at, out)
     }
@@ -220,7 +203,7 @@ impl<const SLI: u32, L: Ledger<SLI>> Ledgered<SLI, L> {
         ensures keeps { KeepsLedger (L.holds SLI) self.old self.new }
         ensures leaves { LeavesLive self.old.heap.blocks self.old.touched self.new.touched }
         ensures touches { self.new.touches ≤ self.old.touches + 4 }
-        ensures forged { FollowsNoForgery self.old.heap name self.old.touches self.new.touches }
+        ensures forged { FollowsNoForgery (seen_by self.old) (seen_by self.new) name }
     {
         L::laws();
         self.heap.alter(name, f)
@@ -244,7 +227,7 @@ impl<const SLI: u32, L: Ledger<SLI>> Ledgered<SLI, L> {
         ensures keeps { KeepsLedger (L.holds SLI) self.old self.new }
         ensures leaves { LeavesLive self.old.heap.blocks self.old.touched self.new.touched }
         ensures touches { self.new.touches ≤ self.old.touches + 4 }
-        ensures forged { FollowsNoForgery self.old.heap name self.old.touches self.new.touches }
+        ensures forged { FollowsNoForgery (seen_by self.old) (seen_by self.new) name }
     {
         self.heap.inspect(name, f)
     }
@@ -257,20 +240,12 @@ impl<const SLI: u32, L: Ledger<SLI>> Ledgered<SLI, L> {
     /// assert_eq!((report.live_blocks, report.free_words), (0, 1024));
     /// ```
     pub fn report(&mut self) -> Report
-        ensures report { result ≡ report_of SLI self.old.heap }
+        ensures reports { Reports SLI (seen_by self.old) (seen_by self.new) result }
 
-        // What the grant comes to: no request for more is served, and one for so much is, unless nothing is free.
-        ensures grant { IsGrant SLI self.old.heap.blocks result.grant }
-
-        // And what it comes to by the ledger.
-        ensures reports { L.reports self.old.ledger result }
+        // What it comes to by the ledger.
+        ensures tells { L.reports self.old.ledger result }
         ensures same { SameLedger self.old self.new }
         ensures keeps { KeepsLedger (L.holds SLI) self.old self.new }
-        ensures leaves { LeavesLive self.old.heap.blocks self.old.touched self.new.touched }
-
-        // Two for each block, and no block has fewer than four words.
-        ensures touches { self.new.touches ≤ self.old.touches + 2 * length self.old.heap.blocks }
-        ensures few { 4 * length self.old.heap.blocks ≤ self.old.heap.words }
     {
         L::laws();
         self.heap.report()
@@ -284,12 +259,9 @@ impl<const SLI: u32, L: Ledger<SLI>> Ledgered<SLI, L> {
     /// assert_eq!(block.map(|block| block.size), Some(1024));
     /// ```
     pub fn block_at(&mut self, at: u32) -> Option<PlacedBlock>
-        ensures block { result ≡ placed_at self.old.heap.blocks at }
+        ensures looks { Looks (seen_by self.old) (seen_by self.new) at result }
         ensures same { SameLedger self.old self.new }
         ensures keeps { KeepsLedger (L.holds SLI) self.old self.new }
-        ensures leaves { LeavesLive self.old.heap.blocks self.old.touched self.new.touched }
-        ensures touches { self.new.touches ≤ self.old.touches + 4 }
-        ensures wild { FollowsNoPlace self.old.heap at self.old.touches self.new.touches }
     {
         self.heap.block_at(at)
     }
@@ -301,12 +273,9 @@ impl<const SLI: u32, L: Ledger<SLI>> Ledgered<SLI, L> {
     /// assert!(heap.is_live(name));
     /// ```
     pub fn is_live(&mut self, name: Name) -> bool
-        ensures live { IsTrue result ↔ IsLive self.old.heap name }
+        ensures asks { AsksLive (seen_by self.old) (seen_by self.new) name result }
         ensures same { SameLedger self.old self.new }
         ensures keeps { KeepsLedger (L.holds SLI) self.old self.new }
-        ensures leaves { LeavesLive self.old.heap.blocks self.old.touched self.new.touched }
-        ensures touches { self.new.touches ≤ self.old.touches + 3 }
-        ensures forged { FollowsNoForgery self.old.heap name self.old.touches self.new.touches }
     {
         self.heap.is_live(name)
     }

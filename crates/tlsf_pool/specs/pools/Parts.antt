@@ -1,17 +1,13 @@
 -- Several heaps, one for each part of a table.
 use denote.RawPtr.{null_ptr}
-use Rattle.std.specs.Prelude.{◌≡◌, ℕ, ◌+◌, ◌-◌, ◌*◌, ◌/◌, ◌<◌, ◌≤◌, ◌↔◌, Bool, List, [], ◌∷◌, ◌++◌, Option, Some, None, Result, Ok, IfOk, OnErr, OnOk, is_some, IsTrue, length, map, nat_le, nat_lt, position, replicate, set, slice_index_or, sum, take, ⊤, ◌&&◌, if◌then◌else◌}
+use Rattle.std.specs.Prelude.{◌≡◌, ℕ, ◌+◌, ◌-◌, ◌<◌, ◌≤◌, Bool, List, [], ◌∷◌, ◌++◌, Option, Some, None, Result, Ok, IfOk, OnErr, OnOk, is_some, length, map, nat_le, nat_lt, position, replicate, set, slice_index_or, sum, take, ⊤, ◌&&◌, if◌then◌else◌}
 use Rattle.std.specs.List.{AllByRecursion}
-use Rattle.std.specs.Result.{result_unwrap_or}
-use Rattle.tlsf_heap.specs.Calls.{opened, read_answer, read_of, released, written}
-use Rattle.tlsf_heap.specs.Footprint.{LeavesLive, LeavesPayloads}
+use Rattle.tlsf_heap.specs.Calls.{opened}
+use Rattle.tlsf_heap.specs.Footprint.{LeavesLive}
 use Rattle.tlsf_heap.specs.Given.{payload_words_given}
 use Rattle.tlsf_heap.specs.InPlace.{payload_of}
-use Rattle.tlsf_heap.specs.Laws.{IsLive}
-use Rattle.tlsf_heap.specs.Placed.{placed_at}
-use Rattle.tlsf_heap.specs.Reports.{report_of}
 use Rattle.tlsf_heap.specs.Memory.{Extent, Extents}
-use Rattle.tlsf_heap.specs.Touched.{FollowsNoForgery, FollowsNoPlace, allocate_words_touches}
+use Rattle.tlsf_heap.specs.Touched.{allocate_touches, release_touches, write_touches, read_touches}
 use Rattle.tlsf_heap.specs.declared.name.Name.{Name}
 use Rattle.tlsf_heap.specs.declared.placed_block.PlacedBlock.{PlacedBlock}
 use Rattle.tlsf_heap.specs.declared.refusal.Refusal.{Refusal}
@@ -21,6 +17,9 @@ use Rattle.tlsf_pool.specs.laws.FixedSize.{fixed_kinds_words, fixed_size}
 use Rattle.tlsf_pool.specs.declared.kind.Kind.{Kind}
 use Rattle.tlsf_pool.specs.declared.pools.pool_refusal.PoolRefusal.{PoolRefusal}
 use Rattle.tlsf_pool.specs.pools.Tables.{TableExtents, TableState, CountsOneMore, IsTabled, HasPlace, row_of, table_allocated}
+use Rattle.tlsf_heap.specs.Effects as heap
+use Rattle.tlsf_heap.specs.Effects.{seen_by}
+use Rattle.tlsf_heap.specs.Blocks.{want}
 
 -- what several heaps show: the number of the first, each with its part of the table, and the memory of the vector that has them
 pub record PoolsState : Type 0 where
@@ -115,75 +114,45 @@ pub record OnlyPart (old new : PoolsState) (i : ℕ) : Type 0 where
 -- with the most touches by the request's length, and a block of no more words than each is to have
 pub record Allocates (sli : ℕ) (old new : TableState) (len : ℕ) (answer : Result Name PoolRefusal) : Type 0 where
   pub answer_is : IfOk answer (λ name. (table_allocated sli old.heap old.ledger len).answer ≡ Ok name)
-  pub heap : OnOk answer (new.heap ≡ (table_allocated sli old.heap old.ledger len).heap)
+  pub allocates : OnOk answer (heap.Allocates allocate_touches sli (fixed_size sli old.ledger.kinds) len (seen_by old) (seen_by new) (table_allocated sli old.heap old.ledger len).answer)
   pub counts : OnOk answer (CountsOneMore len old.ledger new.ledger)
   pub err : OnErr answer (SameLedger old new)
   pub kinds : new.ledger.kinds ≡ old.ledger.kinds
-  pub touches : new.touches ≤ old.touches + allocate_words_touches len
+  pub touches : new.touches ≤ old.touches + allocate_touches + want len
   pub given : payload_words_given answer new.heap ≤ fixed_size sli old.ledger.kinds - 3
   pub rise : old.touches ≤ new.touches
   pub leaves : LeavesLive old.heap.blocks old.touched new.touched
 
--- a release in one
+-- a release in one: it looks at the length of the block first
 pub record Releases (old new : TableState) (name : Name) (answer : Result (Unit {0}) Refusal) : Type 0 where
-  pub answer_is : answer ≡ (released old.heap name).answer
-  pub heap : new.heap ≡ (released old.heap name).heap
+  pub releases : heap.Releases (4 + release_touches) (seen_by old) (seen_by new) name answer
   pub counts : OnOk answer (CountsOneMore (length (payload_of old.heap name)) new.ledger old.ledger)
   pub err : OnErr answer (SameLedger old new)
   pub kinds : new.ledger.kinds ≡ old.ledger.kinds
-  pub touches : new.touches ≤ old.touches + 34
-  pub rise : old.touches ≤ new.touches
-  pub forged : FollowsNoForgery old.heap name old.touches new.touches
-  pub leaves : LeavesPayloads old.heap.blocks name.at old.touched new.touched
-  pub refused : OnErr answer (LeavesLive old.heap.blocks old.touched new.touched)
 
 -- a write in one
 pub record Writes (old new : TableState) (name : Name) (at : ℕ) (bytes : List ℕ) (answer : Result (Unit {0}) Refusal) : Type 0 where
-  pub answer_is : answer ≡ (written old.heap name at bytes).answer
-  pub heap : new.heap ≡ (written old.heap name at bytes).heap
+  pub writes : heap.Writes (write_touches (length bytes)) (seen_by old) (seen_by new) name at bytes answer
   pub ledger : new.ledger ≡ old.ledger
-  pub touches : new.touches ≤ old.touches + 4 + 2 * (length bytes / 8 + 2)
-  pub rise : old.touches ≤ new.touches
-  pub forged : FollowsNoForgery old.heap name old.touches new.touches
-  pub leaves : LeavesPayloads old.heap.blocks name.at old.touched new.touched
-  pub refused : OnErr answer (LeavesLive old.heap.blocks old.touched new.touched)
 
 -- a read in one, which fills these bytes with others
 pub record Reads (old new : TableState) (name : Name) (at : ℕ) (bytes filled : List ℕ) (answer : Result (Unit {0}) Refusal) : Type 0 where
-  pub answer_is : answer ≡ read_answer (read_of old.heap name at (length bytes))
-  pub bytes_are : filled ≡ result_unwrap_or (read_of old.heap name at (length bytes)) bytes
+  pub reads : heap.Reads (read_touches (length bytes)) (seen_by old) (seen_by new) name at bytes filled answer
   pub same : SameLedger old new
-  pub touches : new.touches ≤ old.touches + 4 + (length bytes / 8 + 2)
-  pub rise : old.touches ≤ new.touches
-  pub forged : FollowsNoForgery old.heap name old.touches new.touches
-  pub leaves : LeavesPayloads old.heap.blocks name.at old.touched new.touched
-  pub refused : OnErr answer (LeavesLive old.heap.blocks old.touched new.touched)
 
 -- a question to one whether a live block has this name
 pub record AsksLive (old new : TableState) (name : Name) (answer : Bool) : Type 0 where
-  pub live : IsTrue answer ↔ IsLive old.heap name
+  pub asks : heap.AsksLive (seen_by old) (seen_by new) name answer
   pub same : SameLedger old new
-  pub touches : new.touches ≤ old.touches + 3
-  pub rise : old.touches ≤ new.touches
-  pub forged : FollowsNoForgery old.heap name old.touches new.touches
-  pub leaves : LeavesLive old.heap.blocks old.touched new.touched
 
 -- a report on one, which counts the blocks that are held; no request that has a place is longer than its grant
 pub record Reports (sli : ℕ) (old new : TableState) (report : Report) : Type 0 where
-  pub report_is : report ≡ report_of sli old.heap
+  pub reports : heap.Reports sli (seen_by old) (seen_by new) report
   pub held : report.live_blocks ≡ sum old.ledger.held
   pub grant : (len : ℕ) → HasPlace old.ledger len → len ≤ report.grant
   pub same : SameLedger old new
-  pub touches : new.touches ≤ old.touches + 2 * length old.heap.blocks
-  pub few : 4 * length old.heap.blocks ≤ old.heap.words
-  pub rise : old.touches ≤ new.touches
-  pub leaves : LeavesLive old.heap.blocks old.touched new.touched
 
 -- a look at what begins at a place of one
 pub record Looks (old new : TableState) (at : ℕ) (answer : Option PlacedBlock) : Type 0 where
-  pub answer_is : answer ≡ placed_at old.heap.blocks at
+  pub looks : heap.Looks (seen_by old) (seen_by new) at answer
   pub same : SameLedger old new
-  pub touches : new.touches ≤ old.touches + 4
-  pub wild : FollowsNoPlace old.heap at old.touches new.touches
-  pub rise : old.touches ≤ new.touches
-  pub leaves : LeavesLive old.heap.blocks old.touched new.touched

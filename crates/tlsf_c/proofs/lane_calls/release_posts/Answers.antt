@@ -14,7 +14,7 @@ loop-post-preserved c =
       base = search rules;
       no_counts = search rules;
       counts = search rules;
-      drained = drained_one c.args.posts.now c.loop-post.post-index _ (name_of c.of.result) c.loop-post-test.true c.of.ensures (heap_in c.args.heap.now) (heap_in c.loop-post.heap) _ i.drained (gone.heap i.heap);
+      drained = drained_one c.args.posts.now c.loop-post.post-index _ (name_of c.of.result) c.loop-post-test.true c.of.ensures (heap_in c.args.heap.now) (heap_in c.loop-post.heap) _ i.drained (gone.releases i.heap).heap;
       touches = search rules;
-      leaves = leaves_next c.args.posts.now c.loop-post.post-index _ (name_of c.of.result) c.loop-post-test.true c.of.ensures (heap_in c.args.heap.now) (heap_in c.loop-post.heap) _ _ _ i.drained i.leaves (gone.leaves i.heap);
+      leaves = leaves_next c.args.posts.now c.loop-post.post-index _ (name_of c.of.result) c.loop-post-test.true c.of.ensures (heap_in c.args.heap.now) (heap_in c.loop-post.heap) _ _ _ i.drained i.leaves (gone.releases i.heap).leaves;
     }

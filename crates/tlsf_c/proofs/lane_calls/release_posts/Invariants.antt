@@ -1,4 +1,5 @@
 use Rattle.std.proofs.Common.{◌≡◌, ◌+◌, ◌*◌, ◌<◌, ◌≤◌, true, take}
+use Rattle.tlsf_heap.specs.Touched.{release_touches}
 use Rattle.tlsf_heap.specs.WordsInUse.{words_in_use}
 use Rattle.tlsf_c.specs.Drains.{drained, LeavesUnnamed}
 use Rattle.tlsf_c.specs.Levels.{GoesOn}
@@ -13,6 +14,6 @@ invariant-loop-post l = record {
   no_counts : l.post-index ≡ 0 → counts_in l.heap ≡ counts_in l.fn.heap;
   counts : 0 < l.post-index → counts_in l.heap ≡ record (counts_in l.fn.heap) { words = words_in_use (heap_in l.heap) };
   drained : heap_in l.heap ≡ drained (heap_in l.fn.heap) (take l.post-index l.posts);
-  touches : touches_in l.heap ≤ touches_in l.fn.heap + 64 * l.post-index;
+  touches : touches_in l.heap ≤ touches_in l.fn.heap + release_touches * l.post-index;
   leaves : LeavesUnnamed (heap_in l.fn.heap).blocks (take l.post-index l.posts) (touched_in l.fn.heap) (touched_in l.heap);
 }

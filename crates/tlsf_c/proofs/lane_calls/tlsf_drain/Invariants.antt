@@ -1,4 +1,5 @@
 use Rattle.std.proofs.Common.{◌≡◌, ◌+◌, ◌*◌, ◌<◌, ◌≤◌, true, List, ◌++◌, Option, length}
+use Rattle.tlsf_heap.specs.Touched.{release_touches}
 use Rattle.tlsf_heap.specs.WordsInUse.{words_in_use}
 use Rattle.tlsf_post.specs.declared.post.Post.{Post}
 use Rattle.tlsf_post.specs.declared.post_end.PostEnd.{PostEnd}
@@ -21,7 +22,7 @@ invariant-loop-left l = record {
       × LeavesUnnamed (heap_in l.fn.heap).blocks posts (touched_in l.fn.heap) (touched_in l.heap);
   ready : length (ready_in l.fn.take) ≤ l.count + length (ready_in l.take);
   lane : (p : Option PostEnd) → AreEnds p l.fn.take.held.value → AreEnds p l.take.held.value;
-  touches : touches_in l.heap ≤ touches_in l.fn.heap + 64 * l.count;
+  touches : touches_in l.heap ≤ touches_in l.fn.heap + release_touches * l.count;
 }
 
 abbrev pub decreases-loop-left : goal.decreases-loop-left

@@ -1,4 +1,5 @@
 use Rattle.std.proofs.Common.{◌≡◌, ◌+◌, ◌*◌, ◌<◌, ◌≤◌, true, List, ◌++◌, length}
+use Rattle.tlsf_heap.specs.Touched.{release_touches}
 use Rattle.tlsf_heap.specs.WordsInUse.{words_in_use}
 use Rattle.tlsf_post.specs.declared.post.Post.{Post}
 use Rattle.tlsf_c.specs.Drains.{drained, LeavesUnnamed}
@@ -20,7 +21,7 @@ invariant-loop-left l = record {
   counts : 0 < l.count → counts_in l.heap ≡ record (counts_in l.fn.heap) { words = words_in_use (heap_in l.heap) };
   posts : (posts : List Post) × (got_in l.queue ≡ got_in l.fn.queue ++ posts) × (heap_in l.heap ≡ drained (heap_in l.fn.heap) posts) × (length posts ≡ l.count)
       × LeavesUnnamed (heap_in l.fn.heap).blocks posts (touched_in l.fn.heap) (touched_in l.heap);
-  touches : touches_in l.heap ≤ touches_in l.fn.heap + 64 * l.count;
+  touches : touches_in l.heap ≤ touches_in l.fn.heap + release_touches * l.count;
 }
 
 abbrev pub decreases-loop-left : goal.decreases-loop-left

@@ -76,7 +76,7 @@ heap_below a v most (suc k) tooks l =
 -- the yard stays whole
 after_keeps : {sli : ℕ} (b v : Worker sli Lanes) (post : Option Post) (answer : Option Took) → AfterTake b v post answer → KeepsYards b v
 after_keeps b v None answer then = subst (KeepsYards b) (sym then.1) (same_keeps b)
-after_keeps b v (Some p) answer then = heap_keeps b v then.2 (call_keeps (heap_of b) (heap_of v) (heap.Release p.name) then.1)
+after_keeps b v (Some p) answer then = heap_keeps b v then.2 (call_keeps (heap_of b) (heap_of v) (heap.Release p.name) then.1.heap)
 
 pub one_turn_keeps : {sli : ℕ} (a v : Worker sli Lanes) (from : ℕ) (answer : Option Took) → TakenFromLane a v from answer → KeepsYards a v
 one_turn_keeps a v from answer t = keeps_then a t.between v (take_keeps a t.between from t.post t.took) (after_keeps t.between v t.post answer t.then)

@@ -24,7 +24,7 @@ use Rattle.tlsf_crew.proofs.lemmas.queues.QueueKept.{keeps_all, queues_keep_heap
 
 after_keeps : {sli : ℕ} (c b : Worker sli Queues) (post : Option Post) (answer : Option Took) → AfterTake c b post answer → KeepsQueueYards c b
 after_keeps c b None answer after = subst (KeepsQueueYards c) (sym after.1) (keeps_all c)
-after_keeps c b (Some p) answer after = queues_keep_heap c b after.2 (call_keeps (heap_of c) (heap_of b) (heap.Release p.name) after.1)
+after_keeps c b (Some p) answer after = queues_keep_heap c b after.2 (call_keeps (heap_of c) (heap_of b) (heap.Release p.name) after.1.heap)
 
 pub taken_keeps : {sli : ℕ} (a b : Worker sli Queues) (source : ℕ) (answer : Option Took) → TakenFrom AsksQueue a b source answer → KeepsQueueYards a b
 taken_keeps a b source answer t = keeps_then a t.between b (queues_keep_take a t.between t.post t.took) (after_keeps t.between b t.post answer t.then)

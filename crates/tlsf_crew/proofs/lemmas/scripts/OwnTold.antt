@@ -176,7 +176,7 @@ here_call n a v target name made entries answer known own here =
     let r = (heap.released (heap_of a) name).answer in
     let e : reply_released answer ≡ reply_freed r = ap reply_released here.answer_is ∙ released_by_heap r in
     own_call n a v (Release target) made entries (reply_released answer) (λ x. own_freeing x name) here.same (subst (λ y. IsQuiet (entry_by (id_of a) (Release target) y)) (sym e) (freed_quiet (id_of a) target r))
-    (λ w. release_called (id_of a) (told_of made entries (heap_of a)) w target (Some name) _ known (own_name w (id_of a) name own)) (record { same = e; left = here.heap })
+    (λ w. release_called (id_of a) (told_of made entries (heap_of a)) w target (Some name) _ known (own_name w (id_of a) name own)) (record { same = e; left = here.releases.heap })
 
 -- a post is answered so where the port has room, and where it has none
 pub put_answered : {X : Type 0} (sli n at : ℕ) (h : HeapState) (made : List (Option Name)) (entries : List Entry) (target : Target) (name : Name) (put : Result (Unit {0}) X) → name_of made target ≡ Some name → name.heap ≢ at → name.heap < n
@@ -201,7 +201,7 @@ pub release_by : {sli : ℕ} {P : Type 0} (n : ℕ) (reaches : P → ℕ → Typ
 release_by n reaches puts a v target name made entries answer IsStep known r either quiet put = elim (cases_eq name.heap (id_of a)) [
   | inl own ↦
       let here = r.here own in
-      quiet v (reply_released answer) (call_keeps (heap_of a) (heap_of v) (heap.Release name) here.heap) (here_call n a v target name made entries answer known own here)
+      quiet v (reply_released answer) (call_keeps (heap_of a) (heap_of v) (heap.Release name) here.releases.heap) (here_call n a v target name made entries answer known own here)
   | inr ne ↦ elim either [
     | inl has ↦ put ne has (r.there ne has)
     | inr none ↦

@@ -223,10 +223,10 @@ taken_by n a c b (Some p) took k q after =
       post = p;
       other = (omega (arith, q.1.from.0, k.own.1), λ e. q.1.from.1 (e ∙ sym k.own.0));
       told = some_same took (took_of p (heap.released (heap_of c) p.name).answer) after.0 ∙ ap (λ (g : HeapState). took_of p (heap.released g p.name).answer) h;
-      heap = after.1 ∙ ap (λ (g : HeapState). (heap.released g p.name).heap) h;
+      heap = after.1.heap ∙ ap (λ (g : HeapState). (heap.released g p.name).heap) h;
       got = (λ t. got_by (after.2.1 t).own) ∙ q.1.some;
       ends = (λ t. queue_to (after.2.1 t)) ∙ q.1.same;
-      keeps = keeps_then a c b (queues_keep_take a c (Some p) q) (queues_keep_heap c b after.2 (call_keeps (heap_of c) (heap_of b) (heap.Release p.name) after.1));
+      keeps = keeps_then a c b (queues_keep_take a c (Some p) q) (queues_keep_heap c b after.2 (call_keeps (heap_of c) (heap_of b) (heap.Release p.name) after.1.heap));
     }
 
 one_taken : {sli : ℕ} (n : ℕ) (a b : Worker sli Queues) (took : Took) → KnowsQueueYard n a → TakenFromQueue a b (Some took) → OneTaken n a b took

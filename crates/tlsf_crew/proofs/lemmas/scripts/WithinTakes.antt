@@ -75,14 +75,14 @@ some_case a b v limits left from (Some p) took near fewer lane then =
     let at = id_of a in
     let x : Took = record { from = p.from; name = p.name; answer = (heap.released (heap_of b) p.name).answer } in
     let e : took ≡ x = let d = then.0 in cc in
-    let yard = heap_keeps b v then.2 (call_keeps (heap_of b) (heap_of v) (heap.Release p.name) then.1) in (
+    let yard = heap_keeps b v then.2 (call_keeps (heap_of b) (heap_of v) (heap.Release p.name) then.1.heap) in (
       λ made.
           let first = moved_take at made a b limits left from x near fewer lane in
           let all = moved_then at made a b v limits left left [] [] (one at (Take from) (Taken x)) [] first (moved_still at made b v left (still_heap at b v then.2 yard)) in
           subst (λ y. LaneMoved at made a limits [] (one at (Take from) (Taken y)) v left) (sym e) all,
       p,
       e ∙ ap (λ h. took_by h p) (ports_heap a b lane.0),
-      then.1 ∙ ap (λ h. (heap.released h p.name).heap) (ports_heap a b lane.0),
+      then.1.heap ∙ ap (λ h. (heap.released h p.name).heap) (ports_heap a b lane.0),
     )
 
 pub within_some : {sli : ℕ} (a v : Worker sli Lanes) (limits left : List ℕ) (from : ℕ) (took : Took) → from < 8 → OneFewer limits from left → TakenFromLane a v from (Some took) → LaneTakenWithin a limits from v left (Some took)

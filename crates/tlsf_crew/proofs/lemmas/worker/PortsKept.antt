@@ -38,7 +38,7 @@ pub release_keeps : {sli : ℕ} {P : Type 0} (reaches : P → ℕ → Type 0) (p
     → (name.heap ≡ id_of a → ReleasedHere a v name answer) → (name.heap ≢ id_of a → reaches a.ports name.heap → ReleasedThere puts a v name answer)
     → (name.heap ≢ id_of a → ¬ (reaches a.ports name.heap) → (answer ≡ Err Stranger) × (v ≡ a)) → keeps a v
 release_keeps reaches puts keeps k a v name answer here there nowhere = elim (cases_eq name.heap (id_of a)) [
-  | inl is ↦ let h = here is in k.heap a v h.same (call_keeps (heap_of a) (heap_of v) (heap.Release name) h.heap)
+  | inl is ↦ let h = here is in k.heap a v h.same (call_keeps (heap_of a) (heap_of v) (heap.Release name) h.releases.heap)
   | inr ne ↦ elim (k.either a.ports name.heap) [
     | inl has ↦ let t = there ne has in k.put a v name t.posted t.post.same t.post.through
     | inr none ↦ keeping_same reaches puts keeps k a v (nowhere ne none).1

@@ -39,7 +39,7 @@ woven {sli} {P} {N} by p q a v x y source [] turns r =
 woven {sli} {P} {N} by p q a v x y source (took ∷ tooks) turns r = (
   record r.0 { ports = turns.0 },
   r.1,
-  record { between = record a { ports = turns.0 }; post = Some (post_of took); took = ((refl, refl), turns.1); then = (r.2.0, r.2.1, (r.2.2.0, refl), r.2.3) },
+  record { between = record a { ports = turns.0 }; post = Some (post_of took); took = ((refl, refl), turns.1); then = (r.2.0, r.2.1, (r.2.2.0, refl)) },
   r.3,
   woven by turns.0 q r.0 v r.1 y source tooks turns.2 r.4,
 )

@@ -38,7 +38,7 @@ some_heap : {sli : ℕ} {P : Type 0} (a v : Worker sli P) (post : Option Post) (
 some_heap a v None took then = let e = then.0 in absurd cc
 some_heap a v (Some post) took then =
     let e : took ≡ record { from = post.from; name = post.name; answer = (released (heap_of a) post.name).answer } = let d = then.0 in cc in
-    then.1 ∙ ap (λ (t : Took). (released (heap_of a) t.name).heap) (sym e)
+    then.1.heap ∙ ap (λ (t : Took). (released (heap_of a) t.name).heap) (sym e)
 
 nothing_heap : {sli : ℕ} {P : Type 0} (a v : Worker sli P) (post : Option Post) → AfterTake a v post None → heap_of v ≡ heap_of a
 nothing_heap a v None then = ap heap_of then.1

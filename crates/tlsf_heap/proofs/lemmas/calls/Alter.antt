@@ -30,10 +30,6 @@ use Rattle.tlsf_heap.proofs.lemmas.words.Bytes.{length-bytes_in, held_bytes, hel
 
 -- ---- the payload of a name
 
--- a name of a block is live
-pub live_is : (h : HeapState) (name : Name) → IsNamed h name → IsLive h name
-live_is h name is_named = (is_named.0, subst IsSome (sym (named_is name h.blocks is_named.1.0 is_named.1.1)) refl)
-
 -- the first of some that passes
 record First {X : Type 0} (p : X → Bool) (d : X) (xs : List X) : Type 0 where
   place : ℕ

@@ -1,8 +1,11 @@
 -- What a call on a name comes to, by the index of the block that it names.
 use Rattle.std.proofs.Common.{◌≡◌, ℕ, ◌+◌, ◌<◌, Bool, true, false, cond, eqb, List, length, Option, Some, None, refl, sym, ap, ◌∙◌, subst, arith, eq-eqb}
+use Rattle.std.specs.Prelude.{IsSome}
 use Rattle.std.proofs.lemmas.Bool.{eqb-true, false≢true}
 use Rattle.tlsf_heap.specs.Blocks.{Block, Live, Free, HeapState, is_free, StandsAt, IsPlace}
 use Rattle.tlsf_heap.specs.Lawful.{IsLawful}
+use Rattle.tlsf_heap.specs.Laws.{IsLive}
+use Rattle.tlsf_heap.specs.Shown.{Seen}
 use Rattle.tlsf_heap.specs.GoodFit.{Site, sites, block_at, site_at}
 use Rattle.tlsf_heap.specs.Calls.{is_named, has_serial, named}
 use Rattle.tlsf_heap.specs.Named.{NoneNamed, IsFirst, IsNamed, RefusesName}
@@ -67,12 +70,17 @@ named_inside h name lawful i first =
     let stands = named_stands name.at name.serial h.blocks i first in
     omega (arith, words_up_to stands, words_in-take h.blocks (i + 1), four_words h.blocks lawful.rooms i stands.within, lawful.whole)
 
+-- it is live
+pub live_is : (h : HeapState) (name : Name) → IsNamed h name → IsLive h name
+live_is h name is_named = (is_named.0, subst IsSome (sym (named_is name h.blocks is_named.1.0 is_named.1.1)) refl)
+
 -- so it was not forged, whatever a call with it touches
-pub not_forged : (h : HeapState) (name : Name) → IsLawful h → IsNamed h name → (before behind : ℕ) → FollowsNoForgery h name before behind
-not_forged h name lawful is_named before behind = record {
+pub not_forged : (old : Seen) (name : Name) → IsLawful old.heap → IsNamed old.heap name → (new : Seen) → FollowsNoForgery old new name
+not_forged old name lawful is_named new = record {
   foreign = λ other. absurd (other is_named.0);
-  outside = λ past. absurd (omega (arith, past, named_inside h name lawful is_named.1.0 is_named.1.1));
-  nowhere = λ own inside none. absurd (none (is_named.1.0, named_stands name.at name.serial h.blocks is_named.1.0 is_named.1.1));
+  outside = λ past. absurd (omega (arith, past, named_inside old.heap name lawful is_named.1.0 is_named.1.1));
+  nowhere = λ own inside none. absurd (none (is_named.1.0, named_stands name.at name.serial old.heap.blocks is_named.1.0 is_named.1.1));
+  stale = λ dead. absurd (dead (live_is old.heap name is_named));
 }
 
 -- nor was a place where a block begins

@@ -19,7 +19,7 @@ use Rattle.tlsf_heap.specs.Laws.{IsLive, IsGiven}
 use Rattle.tlsf_heap.specs.Moved.{resized_or_moved}
 use Rattle.tlsf_heap.specs.Named.{IsNamed}
 use Rattle.tlsf_heap.specs.Unset.{unset_from}
-use Rattle.tlsf_heap.proofs.lemmas.calls.Alter.{live_is}
+use Rattle.tlsf_heap.proofs.lemmas.calls.Named.{live_is}
 use Rattle.tlsf_heap.proofs.lemmas.calls.ResizeOrMove.{by_resized_or_moved}
 use Rattle.tlsf_heap.proofs.lemmas.words.Bytes.{size_of-with_bytes}
 use Rattle.tlsf_heap.proofs.lemmas.words.Says.{named_here}

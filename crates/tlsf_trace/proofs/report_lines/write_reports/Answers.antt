@@ -21,8 +21,8 @@ loop-number-preserved g c =
     let within : i < length heaps = omega (arith, len) in
     let here : get_or heaps i (heap_of found) ≡ heap_of a = ap (λ l. get_or l i (heap_of found)) (sym inv.heaps) ∙ get_or-map heap_of ws i found in
     let line : string_bytes c.write_line.new.text ≡ string_bytes c.loop-number.text ++ report_line i (report_of g.row.SLI (heap_of a)) =
-    c.in_ok-write_line.ensures ∙ ap (λ (r : Report). string_bytes c.loop-number.text ++ report_line i r) c.report-report.ensures.report in
+    c.in_ok-write_line.ensures ∙ ap (λ (r : Report). string_bytes c.loop-number.text ++ report_line i r) c.report-report.ensures.reports.report_is in
     record {
-      heaps = map-set_same heap_of ws i c.report-report.new.self found c.report-report.ensures.heap ∙ inv.heaps;
+      heaps = map-set_same heap_of ws i c.report-report.new.self found c.report-report.ensures.reports.heap ∙ inv.heaps;
       so_far = rw line (goes_on g.row.SLI _ _ heaps i (heap_of found) (heap_of a) within here inv.so_far);
     }

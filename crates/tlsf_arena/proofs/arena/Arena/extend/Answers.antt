@@ -25,7 +25,7 @@ replace_with-rest-requires g c =
     let live = subst (λ (m : Name). Holds heap m (units_of t)) c.requires.loan.0 (book t known.2) in
     let e = c.resize_words.ensures in
     let got = extends g.row.SLI u a.units heap c.resize_words.new.self.heap a.space.free name (units_of t) n mapped e.keeps.was_lawful (held_of heap name (units_of t) live.0 e.keeps.was_lawful live.2 live.3)
-    (sym c.in_default.is ∙ e.answer ∙ ap (λ (j : ℕ). (resized_words heap name n j).answer) c.lacking.ensures) (e.heap ∙ ap (λ (j : ℕ). (resized_words heap name n j).heap) c.lacking.ensures)
+    (sym c.in_default.is ∙ e.resizes.answer_is ∙ ap (λ (j : ℕ). (resized_words heap name n j).answer) c.lacking.ensures) (e.resizes.heap ∙ ap (λ (j : ℕ). (resized_words heap name n j).heap) c.lacking.ensures)
     c.grains_before.result c.bytes_of.result c.args.size c.grains_before.ensures.grains c.bytes_of.ensures.bytes c.requires.loan.1
     (subst (λ (j : ℕ). c.args.size < j) (ap (λ (j : ℕ). u * j) (sym c.units_of-units.ensures.units) ∙ sym c.bytes_of.ensures.bytes) c.requires.longer) in
     got.0
@@ -59,15 +59,15 @@ invariant_of-self-2 g c =
     let live = subst (λ (m : Name). Holds heap m (units_of t)) c.requires.loan.0 (book t known.2) in
     let e = c.resize_words.ensures in
     let got = extends g.row.SLI u a.units heap c.resize_words.new.self.heap a.space.free name (units_of t) n mapped e.keeps.was_lawful (held_of heap name (units_of t) live.0 e.keeps.was_lawful live.2 live.3)
-    (sym c.in_default.is ∙ e.answer ∙ ap (λ (j : ℕ). (resized_words heap name n j).answer) c.lacking.ensures) (e.heap ∙ ap (λ (j : ℕ). (resized_words heap name n j).heap) c.lacking.ensures)
+    (sym c.in_default.is ∙ e.resizes.answer_is ∙ ap (λ (j : ℕ). (resized_words heap name n j).answer) c.lacking.ensures) (e.resizes.heap ∙ ap (λ (j : ℕ). (resized_words heap name n j).heap) c.lacking.ensures)
     c.grains_before.result c.bytes_of.result c.args.size c.grains_before.ensures.grains c.bytes_of.ensures.bytes c.requires.loan.1
     (subst (λ (j : ℕ). c.args.size < j) (ap (λ (j : ℕ). u * j) (sym c.units_of-units.ensures.units) ∙ sym c.bytes_of.ensures.bytes) c.requires.longer) in
     let lent = c.replace_with-rest.ensures in
     let left = c.replace_with-right-2.ensures.0.1 ∙ (λ i. loan_of name n ∷ without (known.1 i).loan (known.0 i).out) in (
       got.1 c.replace_with-rest.new.dest.free lent.2,
       (lent.0 ∙ c.self.invariant.1.0, c.self.invariant.1.1),
-      c.self.invariant.2 ∙ ap (λ s. s.heap.id) (sym value) ∙ sym (ap (λ (h : HeapState). h.id) e.heap ∙ resized_id heap name n c.lacking.result),
-      after_resize heap c.resize_words.new.self.heap name t n c.lacking.result a.book.out c.replace_with-right-2.new.dest.out book known.2 c.requires.loan.0 c.lacking.ensures (sym (sym c.in_default.is ∙ e.answer)) e.heap e.keeps.lawful left,
+      c.self.invariant.2 ∙ ap (λ s. s.heap.id) (sym value) ∙ sym (ap (λ (h : HeapState). h.id) e.resizes.heap ∙ resized_id heap name n c.lacking.result),
+      after_resize heap c.resize_words.new.self.heap name t n c.lacking.result a.book.out c.replace_with-right-2.new.dest.out book known.2 c.requires.loan.0 c.lacking.ensures (sym (sym c.in_default.is ∙ e.resizes.answer_is)) e.resizes.heap e.keeps.lawful left,
     )
 
 pub returns-clause-others : goal.returns-clause-others
@@ -75,4 +75,4 @@ returns-clause-others g c = λ other units apart holds.
     let heap = c.deref_mut.result.now.heap in
     let same : heap ≡ c.args.self.now.heap = ap (λ s. s.heap) c.deref_mut.ensures.value ∙ ap (λ s. s.heap) c.self.view_is in
     let e = c.resize_words.ensures in
-    stays_resized heap c.resize_words.new.self.heap other c.args.name units e.keeps.lawful apart (subst (λ (h : HeapState). Holds h other units) (sym same) holds) c.units_of-units.result c.lacking.result e.heap
+    stays_resized heap c.resize_words.new.self.heap other c.args.name units e.keeps.lawful apart (subst (λ (h : HeapState). Holds h other units) (sym same) holds) c.units_of-units.result c.lacking.result e.resizes.heap

@@ -32,7 +32,7 @@ replace_with-requires g c =
     let long : piece.size / 16 ≡ u / 16 * units_of t = omega (arith, c.requires.loan.1, grains_of u (units_of t) mapped.unit) in
     let got = refits g.row.SLI u a.units heap c.resize_words.new.self.heap a.space.free name (units_of t) n (grain_of a.space.region piece.at) piece.size (u / 16 * name.at) (16 * (u / 16 * n))
     mapped e.keeps.was_lawful (held_of heap name (units_of t) live.0 e.keeps.was_lawful live.2 live.3)
-    (sym c.in-Ok.is ∙ e.answer ∙ ap (λ (j : ℕ). (resized_words heap name n j).answer) c.lacking.ensures) (e.heap ∙ ap (λ (j : ℕ). (resized_words heap name n j).heap) c.lacking.ensures) place long
+    (sym c.in-Ok.is ∙ e.resizes.answer_is ∙ ap (λ (j : ℕ). (resized_words heap name n j).answer) c.lacking.ensures) (e.resizes.heap ∙ ap (λ (j : ℕ). (resized_words heap name n j).heap) c.lacking.ensures) place long
     refl (omega arith) in
     (region, got.0)
 
@@ -56,7 +56,7 @@ replace_with-piece-requires g c =
     let long : piece.size / 16 ≡ u / 16 * units_of t = omega (arith, c.requires.loan.1, grains_of u (units_of t) mapped.unit) in
     let got = refits g.row.SLI u a.units heap c.resize_words.new.self.heap a.space.free name (units_of t) n (grain_of a.space.region piece.at) piece.size c.grains_before-at.result c.bytes_of-size.result
     mapped e.keeps.was_lawful (held_of heap name (units_of t) live.0 e.keeps.was_lawful live.2 live.3)
-    (sym c.in-Ok.is ∙ e.answer ∙ ap (λ (j : ℕ). (resized_words heap name n j).answer) c.lacking.ensures) (e.heap ∙ ap (λ (j : ℕ). (resized_words heap name n j).heap) c.lacking.ensures) place long
+    (sym c.in-Ok.is ∙ e.resizes.answer_is ∙ ap (λ (j : ℕ). (resized_words heap name n j).answer) c.lacking.ensures) (e.resizes.heap ∙ ap (λ (j : ℕ). (resized_words heap name n j).heap) c.lacking.ensures) place long
     c.grains_before-at.ensures.grains c.bytes_of-size.ensures.grains in
     let opened = got.1 c.replace_with.new.dest.free c.replace_with.ensures.2 in
     (opened.0, omega (arith, c.units_of-units.ensures.least, c.bytes_of-size.ensures.least), c.bytes_of-size.ensures.whole)
@@ -95,13 +95,13 @@ invariant_of-self g c =
     let long : piece.size / 16 ≡ u / 16 * units_of t = omega (arith, c.requires.loan.1, grains_of u (units_of t) mapped.unit) in
     let got = refits g.row.SLI u a.units heap c.resize_words.new.self.heap a.space.free name (units_of t) n (grain_of a.space.region piece.at) piece.size c.grains_before-at.result c.bytes_of-size.result
     mapped e.keeps.was_lawful (held_of heap name (units_of t) live.0 e.keeps.was_lawful live.2 live.3)
-    (sym c.in-Ok.is ∙ e.answer ∙ ap (λ (j : ℕ). (resized_words heap name n j).answer) c.lacking.ensures) (e.heap ∙ ap (λ (j : ℕ). (resized_words heap name n j).heap) c.lacking.ensures) place long
+    (sym c.in-Ok.is ∙ e.resizes.answer_is ∙ ap (λ (j : ℕ). (resized_words heap name n j).answer) c.lacking.ensures) (e.resizes.heap ∙ ap (λ (j : ℕ). (resized_words heap name n j).heap) c.lacking.ensures) place long
     c.grains_before-at.ensures.grains c.bytes_of-size.ensures.grains in
     let opened = got.1 c.replace_with.new.dest.free c.replace_with.ensures.2 in
     let lent = c.replace_with-piece.ensures in
     let left = c.replace_with-right-in-Ok.ensures.0.1 ∙ (λ i. loan_of name n ∷ without (known.1 i).loan (known.0 i).out) in (
       opened.1 c.replace_with-piece.new.dest.free lent.2,
       (lent.0 ∙ c.replace_with.ensures.0 ∙ c.self.invariant.1.0, c.self.invariant.1.1),
-      c.self.invariant.2 ∙ ap (λ s. s.heap.id) (sym value) ∙ sym (ap (λ (h : HeapState). h.id) e.heap ∙ resized_id heap name n c.lacking.result),
-      after_resize heap c.resize_words.new.self.heap name t n c.lacking.result a.book.out c.replace_with-right-in-Ok.new.dest.out book known.2 c.requires.loan.0 c.lacking.ensures (sym (sym c.in-Ok.is ∙ e.answer)) e.heap e.keeps.lawful left,
+      c.self.invariant.2 ∙ ap (λ s. s.heap.id) (sym value) ∙ sym (ap (λ (h : HeapState). h.id) e.resizes.heap ∙ resized_id heap name n c.lacking.result),
+      after_resize heap c.resize_words.new.self.heap name t n c.lacking.result a.book.out c.replace_with-right-in-Ok.new.dest.out book known.2 c.requires.loan.0 c.lacking.ensures (sym (sym c.in-Ok.is ∙ e.resizes.answer_is)) e.resizes.heap e.keeps.lawful left,
     )

@@ -64,7 +64,7 @@ module _ {M : Type 1} {𝓤 : Ura M} (𝓛 : Logic 𝓤) (at_mem : Memory → SP
       let Post = (walk_of 𝓛 F.ended stayed (F.clauses 𝓛 at_mem run)).post z in
       let a = z.0.3.0 in let p = z.0.3.1.0 in let us = z.0.4.0 in let vs = z.0.4.1.0 in
       let To = type_at (F.signature).result tt in
-      let made : To.Denot = record { at = p; alloc = a; full = false; value = record { level = 0; offsets = record { heap = record { id = 0; words = 0; tick = 0; blocks = [] }; unit = 0; extents = record { words = record { address = null_ptr; capacity = 0 }; starts = record { address = null_ptr; capacity = 0 } }; touches = 0 } } } in
+      let made : To.Denot = record { at = p; alloc = a; full = false; value = record { level = 0; offsets = record { heap = record { id = 0; words = 0; tick = 0; blocks = [] }; unit = 0; extents = record { words = record { address = null_ptr; capacity = 0 }; starts = record { address = null_ptr; capacity = 0 } }; touches = 0; touched = [] } } } in
       qed 𝓛 ((‵ ftrue ⊛ ‵ (owns (Heap.the_row ∷ RawPtr ∷ []) (a, (p, tt)) (us, (vs, tt)))) ∷ raw (emp 𝓤) ∷ []) ∵ split ! $ drop ! $ fsplit ! $
       handle_tells E.al ! a us (λ hv ea fa. move ! (1 ∷ 0 ∷ []) $ fsplit ! $ feq_l ! (λ ev. move ! (0 ∷ 1 ∷ []) $
       let v : Val = both p hv in

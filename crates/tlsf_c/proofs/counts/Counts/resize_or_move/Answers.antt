@@ -3,6 +3,7 @@ use Rattle.tlsf_heap.proofs.lemmas.calls.Kept.{heap_as_before}
 use Rattle.tlsf_c.proofs.CountSums.{live_not_forged, moved_refused, Moves, moves}
 use Rattle.tlsf_heap.specs.Blocks.{HeapState}
 use Rattle.tlsf_heap.specs.Footprint.{IsLiveWord, IsOthersWord}
+use Rattle.tlsf_heap.specs.Shown.{seen}
 use Rattle.tlsf_heap.proofs.lemmas.words.Footprint.{any_word}
 use Rattle.tlsf_c.proofs.LeftWords.{moved_left}
 use Rattle.tlsf_c.proofs.counts.Counts.resize_or_move.Goals as goal
@@ -23,7 +24,7 @@ moved-requires g c =
     (omega arith, (m.live, (m.sum, (m.refused, (m.small, (c.requires.are_counts.most, m.room))))))
 
 pub returns-clause-forged : goal.returns-clause-forged
-returns-clause-forged g c = live_not_forged c.args.heap.now.heap c.args.name c.in-Ok.ensures.keeps.was_lawful c.in-Ok.ensures.live _ _
+returns-clause-forged g c = live_not_forged (seen c.args.heap.now) c.args.name c.in-Ok.ensures.keeps.was_lawful c.in-Ok.ensures.live _
 
 -- ---- the payloads of other blocks
 

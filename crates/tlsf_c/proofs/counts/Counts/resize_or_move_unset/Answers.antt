@@ -6,6 +6,7 @@ use Rattle.tlsf_heap.specs.Footprint.{IsOthersWord}
 use Rattle.tlsf_heap.proofs.lemmas.words.Footprint.{any_word}
 use Rattle.std.specs.Prelude.{length, min}
 use Rattle.tlsf_heap.specs.InPlace.{payload_of}
+use Rattle.tlsf_heap.specs.Shown.{seen}
 use Rattle.tlsf_c.proofs.LeftWords.{moved_unset_left}
 use Rattle.tlsf_c.proofs.counts.Counts.resize_or_move_unset.Goals as goal
 
@@ -22,7 +23,7 @@ moved-requires g c =
     (omega arith, (m.live, (m.sum, (m.refused, (m.small, (c.requires.are_counts.most, m.room))))))
 
 pub returns-clause-forged : goal.returns-clause-forged
-returns-clause-forged g c = live_not_forged c.args.heap.now.heap c.args.name c.in-Ok.ensures.keeps.was_lawful c.in-Ok.ensures.live _ _
+returns-clause-forged g c = live_not_forged (seen c.args.heap.now) c.args.name c.in-Ok.ensures.keeps.was_lawful c.in-Ok.ensures.live _
 
 -- ---- the payloads of other blocks
 

@@ -17,7 +17,7 @@ returns-in-Err-clause-answer g c =
 pub returns-in-Some-clause-answer : goal.returns-in-Some-clause-answer
 returns-in-Some-clause-answer g c =
     answer_of_few (heap_of c.args.worker.now) c.args.name c.args.from c.args.n _ _
-    (ap Ok c.in-Some.ensures.chunk ∙ few_ok (read_of (heap_of c.args.worker.now) c.args.name c.args.from _) _ _ _ c.in-Ok-read.ensures.answer c.in-Ok-read.ensures.bytes) (length-take-le c.args.n (replicate 64 0) (omega arith)) (omega arith)
+    (ap Ok c.in-Some.ensures.chunk ∙ few_ok (read_of (heap_of c.args.worker.now) c.args.name c.args.from _) _ _ _ c.in-Ok-read.ensures.answer c.in-Ok-read.ensures.reads.bytes_are) (length-take-le c.args.n (replicate 64 0) (omega arith)) (omega arith)
 
 pub returns-in-Err-read-clause-answer : goal.returns-in-Err-read-clause-answer
 returns-in-Err-read-clause-answer g c =

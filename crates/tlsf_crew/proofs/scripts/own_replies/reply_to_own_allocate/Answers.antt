@@ -5,8 +5,8 @@ use Rattle.tlsf_crew.proofs.scripts.own_replies.reply_to_own_allocate.Goals as g
 
 pub returns-in-Ok-clause-replied : goal.returns-in-Ok-clause-replied
 unfolding allocated
-returns-in-Ok-clause-replied g c = record { same = by_ok Made _ c.in-Ok.name c.in-Ok.ensures.answer; left = c.in-Ok.ensures.heap }
+returns-in-Ok-clause-replied g c = record { same = by_ok Made _ c.in-Ok.name c.in-Ok.ensures.answer; left = c.in-Ok.ensures.allocates.heap }
 
 pub returns-in-Err-clause-replied : goal.returns-in-Err-clause-replied
 unfolding allocated
-returns-in-Err-clause-replied g c = record { same = by_err Made _ c.in-Err.why c.in-Err.ensures.answer; left = c.in-Err.ensures.heap }
+returns-in-Err-clause-replied g c = record { same = by_err Made _ c.in-Err.why c.in-Err.ensures.answer; left = c.in-Err.ensures.allocates.heap }

@@ -8,7 +8,7 @@ pub returns-in_default-clause-replied : goal.returns-in_default-clause-replied
 returns-in_default-clause-replied g c = own_unmade_is (heap_of c.args.worker.now) _ _ (sym c.in_default.is)
 
 pub returns-in-Ok-clause-replied : goal.returns-in-Ok-clause-replied
-returns-in-Ok-clause-replied g c = own_resize_is (heap_of c.args.worker.now) _ _ c.in-Some.name c.args.len _ (sym c.in-Some.is) (by_ok (λ done. Resized) _ c.in-Ok.field-0 c.in-Ok.ensures.answer) c.in-Ok.ensures.heap
+returns-in-Ok-clause-replied g c = own_resize_is (heap_of c.args.worker.now) _ _ c.in-Some.name c.args.len _ (sym c.in-Some.is) (by_ok (λ done. Resized) _ c.in-Ok.field-0 c.in-Ok.ensures.answer) c.in-Ok.ensures.resizes.heap
 
 pub returns-in-Err-clause-replied : goal.returns-in-Err-clause-replied
-returns-in-Err-clause-replied g c = own_resize_is (heap_of c.args.worker.now) _ _ c.in-Some.name c.args.len _ (sym c.in-Some.is) (by_err (λ done. Resized) _ c.in-Err.why c.in-Err.ensures.answer) c.in-Err.ensures.heap
+returns-in-Err-clause-replied g c = own_resize_is (heap_of c.args.worker.now) _ _ c.in-Some.name c.args.len _ (sym c.in-Some.is) (by_err (λ done. Resized) _ c.in-Err.why c.in-Err.ensures.answer) c.in-Err.ensures.resizes.heap

@@ -11,10 +11,10 @@ pub returns-in-Ok-clause-replied : goal.returns-in-Ok-clause-replied
 returns-in-Ok-clause-replied g c =
     let list = c.as_slice-list.result.now in
     own_write_is (heap_of c.args.worker.now) _ _ c.in-Some.name c.args.from list _ _ (sym c.in-Some.is) c.as_slice-list.ensures.bytes
-    (by_ok (λ done. Wrote (length list)) _ c.in-Ok.field-0 c.in-Ok.ensures.answer) c.in-Ok.ensures.heap
+    (by_ok (λ done. Wrote (length list)) _ c.in-Ok.field-0 c.in-Ok.ensures.answer) c.in-Ok.ensures.writes.heap
 
 pub returns-in-Err-clause-replied : goal.returns-in-Err-clause-replied
 returns-in-Err-clause-replied g c =
     let list = c.as_slice-list.result.now in
     own_write_is (heap_of c.args.worker.now) _ _ c.in-Some.name c.args.from list _ _ (sym c.in-Some.is) c.as_slice-list.ensures.bytes
-    (by_err (λ done. Wrote (length list)) _ c.in-Err.why c.in-Err.ensures.answer) c.in-Err.ensures.heap
+    (by_err (λ done. Wrote (length list)) _ c.in-Err.why c.in-Err.ensures.answer) c.in-Err.ensures.writes.heap

@@ -3,8 +3,8 @@ use Rattle.tlsf_crew.proofs.worker.worker.release_post.Goals as goal
 
 pub returns-clause-released : goal.returns-clause-released
 returns-clause-released g c =
-    let e = c.release-answer.ensures in
-    (ap (λ x. Some (record { from = c.args.post.from; name = c.args.post.name; answer = x })) e.answer, e.heap, (refl, refl), e.leaves)
+    let e = c.release-answer.ensures.releases in
+    (ap (λ x. Some (record { from = c.args.post.from; name = c.args.post.name; answer = x })) e.answer_is, rw (← e.answer_is) e, (refl, refl))
 
 pub returns-clause-stays : goal.returns-clause-stays
 returns-clause-stays g c = (c.release-answer.ensures.keeps.stays, refl)

@@ -49,8 +49,8 @@ loop-post-preserved g c =
               (n.0, omega (arith, n.1)))
         ],
       );
-      touches = omega (arith, i.touches, e.touches);
-      rise = omega (arith, i.rise, e.touches_rise);
+      touches = omega (arith, i.touches, e.released.1.touches);
+      rise = omega (arith, i.rise, e.released.1.rise);
       stays = (e.stays.0 ∙ i.stays.0, e.stays.1 ∙ i.stays.1);
     }
 

@@ -65,7 +65,7 @@ move_on-requires g c =
     let lawful = subst IsLawful view c.self.invariant.lawful in
     let left : h.tick + 3 < last_tick = omega (arith, ap (λ (s : HeapState). s.tick) view, c.if-self.false) in
     let least : 4 ≤ c.want-words.result = omega (arith, c.want-words.ensures) in
-    let moves = first_moves g.row.SLI c.self.invariant.level h c.want-words.result c.max-step.result c.args.skew lawful left (omega (arith, c.max-step.ensures)) least a c.in-Ok.first c.gap-gap.result c.allocate_words.ensures.heap c.in-Ok.ensures.answer c.allocate_words.ensures.keeps.lawful c.gap-gap.ensures in (
+    let moves = first_moves g.row.SLI c.self.invariant.level h c.want-words.result c.max-step.result c.args.skew lawful left (omega (arith, c.max-step.ensures)) least a c.in-Ok.first c.gap-gap.result c.allocate_words.ensures.allocates.heap c.in-Ok.ensures.allocates.answer_is c.allocate_words.ensures.keeps.lawful c.gap-gap.ensures in (
       omega arith,
       (
         has_live a c.in-Ok.first (c.gap-gap.result + c.want-words.result) moves.has,
@@ -86,7 +86,7 @@ set_length-requires g c =
     let view = ap (λ (s : Shown). s.heap) c.self.view_is in
     let lawful = subst IsLawful view c.self.invariant.lawful in
     let left : h.tick + 3 < last_tick = omega (arith, ap (λ (s : HeapState). s.tick) view, c.if-self.false) in
-    let done = first_moved g.row.SLI c.self.invariant.level h c.want-words.result c.max-step.result c.args.skew lawful left (omega (arith, c.max-step.ensures)) (omega (arith, c.want-words.ensures)) a c.in-Ok.first c.gap-gap.result c.allocate_words.ensures.heap c.in-Ok.ensures.answer c.allocate_words.ensures.keeps.lawful c.gap-gap.ensures
+    let done = first_moved g.row.SLI c.self.invariant.level h c.want-words.result c.max-step.result c.args.skew lawful left (omega (arith, c.max-step.ensures)) (omega (arith, c.want-words.ensures)) a c.in-Ok.first c.gap-gap.result c.allocate_words.ensures.allocates.heap c.in-Ok.ensures.allocates.answer_is c.allocate_words.ensures.keeps.lawful c.gap-gap.ensures
     m c.in_ok-name.name c.move_on.ensures.heap c.in_ok-name.ensures.answer in
     let has = done.gives.has in
     let room = has_room m c.in_ok-name.name c.want-words.result c.move_on.ensures.keeps.lawful has in
@@ -99,7 +99,7 @@ done g c =
     let view = ap (λ (s : Shown). s.heap) c.self.view_is in
     let lawful = subst IsLawful view c.self.invariant.lawful in
     let left : h.tick + 3 < last_tick = omega (arith, ap (λ (s : HeapState). s.tick) view, c.if-self.false) in
-    first_moved g.row.SLI c.self.invariant.level h c.want-words.result c.max-step.result c.args.skew lawful left (omega (arith, c.max-step.ensures)) (omega (arith, c.want-words.ensures)) a c.in-Ok.first c.gap-gap.result c.allocate_words.ensures.heap c.in-Ok.ensures.answer c.allocate_words.ensures.keeps.lawful c.gap-gap.ensures
+    first_moved g.row.SLI c.self.invariant.level h c.want-words.result c.max-step.result c.args.skew lawful left (omega (arith, c.max-step.ensures)) (omega (arith, c.want-words.ensures)) a c.in-Ok.first c.gap-gap.result c.allocate_words.ensures.allocates.heap c.in-Ok.ensures.allocates.answer_is c.allocate_words.ensures.keeps.lawful c.gap-gap.ensures
     c.move_on.new.self.heap c.in_ok-name.name c.move_on.ensures.heap c.in_ok-name.ensures.answer
 
 pub returns-clause-answer : goal.returns-clause-answer
@@ -125,7 +125,7 @@ returns-clause-gives g c =
 -- ---- the payloads of other blocks
 
 pub returns-in-Err-clause-leaves : goal.returns-in-Err-clause-leaves
-returns-in-Err-clause-leaves g c k live = c.allocate_words.ensures.leaves k live
+returns-in-Err-clause-leaves g c k live = c.allocate_words.ensures.allocates.leaves k live
 
 pub returns-in_err-name-clause-leaves : goal.returns-in_err-name-clause-leaves
 returns-in_err-name-clause-leaves g c k live =
@@ -133,8 +133,8 @@ returns-in_err-name-clause-leaves g c k live =
     let first = c.in-Ok.first in
     let e = c.allocate_words.ensures in
     let given = given_word h (suc live.1) k (live.0, live.1, live.2, live.3, λ e. omega (arith, e)) g.row.SLI _ 0 e.keeps.was_lawful in
-    let left = subst (λ (s : HeapState). IsOthersWord s.blocks first.at k) (sym e.heap) (given.1 first (sym e.answer ∙ c.in-Ok.is)) in
-    c.move_on.ensures.leaves k left ∙ e.leaves k live
+    let left = subst (λ (s : HeapState). IsOthersWord s.blocks first.at k) (sym e.allocates.heap) (given.1 first (sym e.allocates.answer_is ∙ c.in-Ok.is)) in
+    c.move_on.ensures.leaves k left ∙ e.allocates.leaves k live
 
 pub returns-clause-leaves : goal.returns-clause-leaves
 returns-clause-leaves g c k live =
@@ -142,9 +142,9 @@ returns-clause-leaves g c k live =
     let first = c.in-Ok.first in
     let e = c.allocate_words.ensures in
     let given = given_word h (suc live.1) k (live.0, live.1, live.2, live.3, λ e. omega (arith, e)) g.row.SLI _ 0 e.keeps.was_lawful in
-    let left = subst (λ (s : HeapState). IsOthersWord s.blocks first.at k) (sym e.heap) (given.1 first (sym e.answer ∙ c.in-Ok.is)) in
+    let left = subst (λ (s : HeapState). IsOthersWord s.blocks first.at k) (sym e.allocates.heap) (given.1 first (sym e.allocates.answer_is ∙ c.in-Ok.is)) in
     let after = subst (λ (s : HeapState). IsLiveWord s.blocks k) (sym c.move_on.ensures.heap) (moved_word c.allocate_words.new.self.heap first c.gap-gap.result c.want-words.result k left) in
-    c.set_length.ensures.leaves k after ∙ c.move_on.ensures.leaves k left ∙ e.leaves k live
+    c.set_length.ensures.leaves k after ∙ c.move_on.ensures.leaves k left ∙ e.allocates.leaves k live
 
 -- ---- groups of eight words
 

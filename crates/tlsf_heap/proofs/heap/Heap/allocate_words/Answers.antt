@@ -1,4 +1,4 @@
-use Rattle.std.proofs.Common.{◌+◌, ◌-◌, ◌/◌, ◌≤◌, sym, ap, ◌∙◌, subst, Ok, Err, arith}
+use Rattle.std.proofs.Common.{◌+◌, ◌-◌, ◌/◌, ◌≤◌, sym, ap, ◌∙◌, subst, Ok, Err, arith, rules}
 use Rattle.tlsf_heap.specs.Blocks.{HeapState, size_of, words_in, payload_words, want, StandsAt}
 use Rattle.tlsf_heap.specs.Calls.{named}
 use Rattle.tlsf_heap.specs.Given.{payload_words_at, payload_words_given}
@@ -51,17 +51,19 @@ nothing g c =
     allocates_none g.row.SLI c.self.invariant.level (state_of g.row.SLI c.self.inside) c.args.self.now.heap c.args.words c.args.len c.requires c.self.invariant.lawful (ap (λ (s : Shown). s.heap) c.self.view_is)
     c.choose.new.region c.choose.ensures.reads.words c.choose.ensures.reads.blocks c.in_default.ensures.best
 
-pub returns-in_default-clause-answer : goal.returns-in_default-clause-answer
-returns-in_default-clause-answer g c = (nothing g c).is_answer
-
-pub returns-in_default-clause-heap : goal.returns-in_default-clause-heap
-returns-in_default-clause-heap g c = (nothing g c).is_heap
-
-pub returns-in_default-clause-no_fit : goal.returns-in_default-clause-no_fit
-returns-in_default-clause-no_fit g c = (nothing g c).no_fit
-
-pub returns-in_default-clause-ok : goal.returns-in_default-clause-ok
-returns-in_default-clause-ok g c = (nothing g c).ok
+pub returns-in_default-clause-allocates : goal.returns-in_default-clause-allocates
+returns-in_default-clause-allocates g c =
+    let none = nothing g c in
+    record {
+      answer_is = none.is_answer;
+      heap = none.is_heap;
+      no_fit = none.no_fit;
+      ok = none.ok;
+      touches = search rules;
+      few = search rules;
+      rise = search rules;
+      leaves = seen_live g.row.SLI c.self.inside c.self.view_is _ c.choose.ensures.touched;
+    }
 
 -- ---- the tick is at its last value
 
@@ -70,14 +72,19 @@ worn g c =
     allocates_worn g.row.SLI c.self.invariant.level (state_of g.row.SLI c.self.inside) c.args.self.now.heap c.args.words c.args.len c.requires c.self.invariant.lawful (ap (λ (s : Shown). s.heap) c.self.view_is)
     c.choose.new.region c.choose.ensures.reads.words c.in-Some.ensures.best.1 c.in-Some.ensures.best.3 c.choose.ensures.reads.blocks c.if-self.true
 
-pub returns-then-self-clause-answer : goal.returns-then-self-clause-answer
-returns-then-self-clause-answer g c = (worn g c).is_answer
-
-pub returns-then-self-clause-heap : goal.returns-then-self-clause-heap
-returns-then-self-clause-heap g c = (worn g c).is_heap
-
-pub returns-then-self-clause-no_fit : goal.returns-then-self-clause-no_fit
-returns-then-self-clause-no_fit g c = (worn g c).no_fit
+pub returns-then-self-clause-allocates : goal.returns-then-self-clause-allocates
+returns-then-self-clause-allocates g c =
+    let late = worn g c in
+    record {
+      answer_is = late.is_answer;
+      heap = late.is_heap;
+      no_fit = late.no_fit;
+      ok = late.ok;
+      touches = search rules;
+      few = search rules;
+      rise = search rules;
+      leaves = seen_live g.row.SLI c.self.inside c.self.view_is _ c.choose.ensures.touched;
+    }
 
 pub invariant_of-self-then-self : goal.invariant_of-self-then-self
 invariant_of-self-then-self g c =
@@ -137,18 +144,6 @@ given g c =
     rw c.carve-at.ensures.tick (allocates_some g.row.SLI c.self.invariant.level (state_of g.row.SLI c.self.inside) c.args.self.now.heap c.args.words c.args.len c.requires c.self.invariant.lawful (ap (λ (s : Shown). s.heap) c.self.view_is)
     c.carve-at.new.region ((carved g c).words ∙ c.choose.ensures.reads.words) best.1 best.3 c.carve-at.result (stands g c).place ((rw c.choose.ensures.reads.blocks at c.carve-at.ensures.blocks) best.1 (stands g c)) c.if-self.false)
 
-pub returns-clause-answer : goal.returns-clause-answer
-returns-clause-answer g c = (given g c).is_answer
-
-pub returns-clause-heap : goal.returns-clause-heap
-returns-clause-heap g c = (given g c).is_heap
-
-pub returns-clause-no_fit : goal.returns-clause-no_fit
-returns-clause-no_fit g c = (given g c).no_fit
-
-pub returns-clause-ok : goal.returns-clause-ok
-returns-clause-ok g c = (given g c).ok
-
 pub invariant_of-self-2 : goal.invariant_of-self-2
 invariant_of-self-2 g c = record {
   lawful = (given g c).lawful;
@@ -182,13 +177,18 @@ touched g c =
     let regions = lawful_regions g.row.SLI heap (given g c).lawful (omega (arith, (carved g c).words, c.choose.ensures.reads.words, c.self.invariant.small)) in
     omega (arith, (carved g c).touches, named_payload g.row.SLI heap name best.1 regions now.0 live, c.choose.ensures.reads.touches)
 
-pub returns-clause-touches : goal.returns-clause-touches
-returns-clause-touches g c =
+pub returns-clause-allocates : goal.returns-clause-allocates
+returns-clause-allocates g c =
     let seen = ap (λ (s : Shown). s.touches) c.self.view_is in
     record {
-      touches = omega (arith, few g c, seen);
-      most_touches = omega (arith, few g c, seen);
-      given_touches = omega (arith, touched g c, seen);
+      answer_is = (given g c).is_answer;
+      heap = (given g c).is_heap;
+      no_fit = (given g c).no_fit;
+      ok = (given g c).ok;
+      touches = omega (arith, touched g c, seen);
+      few = omega (arith, few g c, seen);
+      rise = search rules;
+      leaves = seen_live g.row.SLI c.self.inside c.self.view_is _ (λ k live. (rw c.choose.ensures.reads.blocks at c.carve-at.ensures.touched) k live ∙ c.choose.ensures.touched k live);
     }
 
 pub returns-clause-room : goal.returns-clause-room
@@ -210,17 +210,6 @@ returns-in_default-clause-keeps g c = keeps_read g.row.SLI c.self.inside c.self.
 
 pub returns-then-self-clause-keeps : goal.returns-then-self-clause-keeps
 returns-then-self-clause-keeps g c = keeps_read g.row.SLI c.self.inside c.self.view_is c.self.invariant _ c.choose.ensures.reads
-
--- ---- the payloads of other blocks
-
-pub returns-in_default-clause-leaves : goal.returns-in_default-clause-leaves
-returns-in_default-clause-leaves g c = seen_live g.row.SLI c.self.inside c.self.view_is _ c.choose.ensures.touched
-
-pub returns-then-self-clause-leaves : goal.returns-then-self-clause-leaves
-returns-then-self-clause-leaves g c = seen_live g.row.SLI c.self.inside c.self.view_is _ c.choose.ensures.touched
-
-pub returns-clause-leaves : goal.returns-clause-leaves
-returns-clause-leaves g c = seen_live g.row.SLI c.self.inside c.self.view_is _ (λ k live. (rw c.choose.ensures.reads.blocks at c.carve-at.ensures.touched) k live ∙ c.choose.ensures.touched k live)
 
 -- ---- groups of eight words
 

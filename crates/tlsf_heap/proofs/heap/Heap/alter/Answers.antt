@@ -4,15 +4,15 @@ use Rattle.tlsf_words.specs.Bytes.{bytes_in, payload_byte}
 use Rattle.tlsf_heap.specs.Blocks.{HeapState, StandsAt, bytes_of}
 use Rattle.tlsf_heap.specs.GoodFit.{block_at}
 use Rattle.tlsf_heap.specs.InPlace.{payload_at, payload_of}
-use Rattle.tlsf_heap.specs.Shown.{Shown}
+use Rattle.tlsf_heap.specs.Shown.{Shown, seen}
 use Rattle.tlsf_heap.specs.Calls.{written}
 use Rattle.tlsf_heap.specs.FreePlaces.{free_places}
 use Rattle.tlsf_heap.specs.Regions.{list_in}
 use Rattle.tlsf_heap.specs.Stored.{state_of}
-use Rattle.tlsf_heap.proofs.lemmas.calls.Alter.{are_payload, bytes_there, live_is, payload_is, stood_in}
+use Rattle.tlsf_heap.proofs.lemmas.calls.Alter.{are_payload, bytes_there, payload_is, stood_in}
 use Rattle.tlsf_heap.proofs.lemmas.lists.FreeLists.{same_lists}
 use Rattle.tlsf_heap.proofs.lemmas.blocks.Lawful.{with_region}
-use Rattle.tlsf_heap.proofs.lemmas.calls.Named.{not_forged}
+use Rattle.tlsf_heap.proofs.lemmas.calls.Named.{live_is, not_forged}
 use Rattle.tlsf_heap.proofs.lemmas.words.Bytes.{length-bytes_in}
 use Rattle.tlsf_heap.proofs.lemmas.calls.Write.{Writes, writes, read_none, read_refused, range_is}
 use Rattle.tlsf_heap.proofs.lemmas.blocks.Stands.{behind_one}
@@ -105,7 +105,7 @@ returns-clause-touches g c =
 -- ---- the name was not forged
 
 pub returns-clause-forged : goal.returns-clause-forged
-returns-clause-forged g c = not_forged c.args.self.now.heap c.args.name c.in_ok-len.ensures.keeps.was_lawful c.in_ok-len.ensures.answer.0 _ _
+returns-clause-forged g c = not_forged (seen c.args.self.now) c.args.name c.in_ok-len.ensures.keeps.was_lawful c.in_ok-len.ensures.answer.0 _
 
 -- ---- what is kept
 

@@ -1,6 +1,6 @@
 use Rattle.std.proofs.Common.{sym, ap, ◌∙◌, arith, ◌≡◌, subst}
 use Rattle.std.proofs.lemmas.Result.{err_from_is_err_and}
-use Rattle.tlsf_heap.specs.Shown.{Shown}
+use Rattle.tlsf_heap.specs.Shown.{Shown, seen}
 use Rattle.tlsf_heap.specs.Calls.{read_answer}
 use Rattle.tlsf_heap.specs.Stored.{state_of}
 use Rattle.tlsf_heap.proofs.lemmas.calls.Named.{named_same, named_stands, named_live, not_forged}
@@ -40,10 +40,10 @@ returns-clause-place g c = (within g c).range
 -- ---- the name was not forged
 
 pub returns-then-at-n-clause-forged : goal.returns-then-at-n-clause-forged
-returns-then-at-n-clause-forged g c = not_forged c.args.self.now.heap c.args.name c.in_ok-check.ensures.keeps.was_lawful c.in_ok-check.ensures.answer.0 _ _
+returns-then-at-n-clause-forged g c = not_forged (seen c.args.self.now) c.args.name c.in_ok-check.ensures.keeps.was_lawful c.in_ok-check.ensures.answer.0 _
 
 pub returns-clause-forged : goal.returns-clause-forged
-returns-clause-forged g c = not_forged c.args.self.now.heap c.args.name c.in_ok-check.ensures.keeps.was_lawful c.in_ok-check.ensures.answer.0 _ _
+returns-clause-forged g c = not_forged (seen c.args.self.now) c.args.name c.in_ok-check.ensures.keeps.was_lawful c.in_ok-check.ensures.answer.0 _
 
 -- ---- the payloads of live blocks
 

@@ -18,7 +18,7 @@ returns-in_err-release-clause-answer g c =
     let bytes = take c.min-len.result (payload_of c.length-2.new.self.heap c.args.name) in
     let copied = c.copy.ensures.heap ∙ ap (λ (s : HeapState). (written s c.args.new 0 bytes).heap) same in
     let done = ap (λ (s : HeapState). (released s c.args.name).answer) copied ∙ release_done g.row.SLI h c.args.name c.args.new bytes c.requires.from c.requires.tick in
-    let bad : ◌≡◌ {A = Result (Unit {0}) Refusal} (Err c.in_err-release.field-0.0) (Ok tt) = c.in_err-release.ensures.answer ∙ done in cc
+    let bad : ◌≡◌ {A = Result (Unit {0}) Refusal} (Err c.in_err-release.field-0.0) (Ok tt) = c.in_err-release.ensures.releases.answer_is ∙ done in cc
 
 -- ---- the payloads of other blocks
 
@@ -31,7 +31,7 @@ returns-in_err-release-clause-leaves g c k o p =
     let same = c.length-2.ensures.same.heap ∙ once in
     let was = subst (λ (s : HeapState). IsOthersWord s.blocks name.at k) (sym same) o in
     let left = subst (λ (s : HeapState). IsOthersWord s.blocks name.at k) (sym c.copy.ensures.heap) (written_word c.length-2.new.self.heap name.at k was new 0 _) in
-    c.in_err-release.ensures.leaves k left
+    c.in_err-release.ensures.releases.leaves k left
     ∙ c.copy.ensures.leaves k was (subst (λ (s : HeapState). IsOthersWord s.blocks new.at k) (sym same) p)
     ∙ c.length-2.ensures.leaves k (subst (λ (s : HeapState). IsLiveWord s.blocks k) (sym once) (any_word h.blocks name.at k o))
     ∙ c.length.ensures.leaves k (any_word h.blocks name.at k o)
@@ -45,7 +45,7 @@ returns-clause-leaves g c k o p =
     let same = c.length-2.ensures.same.heap ∙ once in
     let was = subst (λ (s : HeapState). IsOthersWord s.blocks name.at k) (sym same) o in
     let left = subst (λ (s : HeapState). IsOthersWord s.blocks name.at k) (sym c.copy.ensures.heap) (written_word c.length-2.new.self.heap name.at k was new 0 _) in
-    c.in_ok-release.ensures.leaves k left
+    c.in_ok-release.ensures.releases.leaves k left
     ∙ c.copy.ensures.leaves k was (subst (λ (s : HeapState). IsOthersWord s.blocks new.at k) (sym same) p)
     ∙ c.length-2.ensures.leaves k (subst (λ (s : HeapState). IsLiveWord s.blocks k) (sym once) (any_word h.blocks name.at k o))
     ∙ c.length.ensures.leaves k (any_word h.blocks name.at k o)

@@ -1,10 +1,10 @@
 use Rattle.std.proofs.Common.{◌≡◌, ap, ◌∙◌, arith}
 use Rattle.std.proofs.lemmas.Result.{err_from_is_err_and}
 use Rattle.tlsf_heap.specs.InPlace.{payload_at}
-use Rattle.tlsf_heap.specs.Shown.{Shown}
+use Rattle.tlsf_heap.specs.Shown.{Shown, seen}
 use Rattle.tlsf_heap.specs.Stored.{state_of}
-use Rattle.tlsf_heap.proofs.lemmas.calls.Alter.{are_payload, live_is, stood_in}
-use Rattle.tlsf_heap.proofs.lemmas.calls.Named.{not_forged}
+use Rattle.tlsf_heap.proofs.lemmas.calls.Alter.{are_payload, stood_in}
+use Rattle.tlsf_heap.proofs.lemmas.calls.Named.{live_is, not_forged}
 use Rattle.tlsf_heap.proofs.lemmas.calls.Write.{read_none, read_refused}
 use Rattle.tlsf_heap.proofs.heap.Heap.inspect.Goals as goal
 
@@ -42,4 +42,4 @@ returns-clause-inspected g c =
 -- ---- the name was not forged
 
 pub returns-clause-forged : goal.returns-clause-forged
-returns-clause-forged g c = not_forged c.args.self.now.heap c.args.name c.in_ok-len.ensures.keeps.was_lawful c.in_ok-len.ensures.answer.0 _ _
+returns-clause-forged g c = not_forged (seen c.args.self.now) c.args.name c.in_ok-len.ensures.keeps.was_lawful c.in_ok-len.ensures.answer.0 _

@@ -8,7 +8,8 @@ use Rattle.tlsf_heap.specs.declared.name.Name.{Name}
 use Rattle.tlsf_heap.specs.declared.refusal.Refusal.{Refusal}
 use Rattle.tlsf_heap.specs.declared.refusal.Refusal.TheVariants.{NoFit, Worn, Foreign, Stale, Range, NoRoom}
 use Rattle.tlsf_words.specs.declared.tag.Tag.{Tag}
-use Rattle.tlsf_heap.proofs.lemmas.calls.Alter.{live_is, named_of}
+use Rattle.tlsf_heap.proofs.lemmas.calls.Named.{live_is}
+use Rattle.tlsf_heap.proofs.lemmas.calls.Alter.{named_of}
 use Rattle.tlsf_heap.proofs.heap.Heap.is_live.Goals as goal
 
 -- where a name is refused, no live block has it
@@ -25,7 +26,14 @@ live_if_found : (h : HeapState) (name : Name) (found : Result Tag Refusal) → I
 live_if_found h name (Ok tag) check = (λ _. live_is h name check.0, λ _. refl)
 live_if_found h name (Err why) refuses = (λ e. absurd (false≢true e), λ live. absurd (not_named h name why refuses (named_of h name live)))
 
-pub returns-clause-live : goal.returns-clause-live
-returns-clause-live g c =
+pub returns-clause-asks : goal.returns-clause-asks
+returns-clause-asks g c =
     let both = live_if_found c.args.self.now.heap c.args.name c.check.result c.check.ensures.answer in
-    search (rules, both.0, both.1)
+    record {
+      live = search (rules, both.0, both.1);
+      heap = search rules;
+      touches = search rules;
+      rise = search rules;
+      leaves = search rules;
+      forged = search rules;
+    }

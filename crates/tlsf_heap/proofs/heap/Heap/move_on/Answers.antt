@@ -15,7 +15,7 @@ use Rattle.tlsf_heap.proofs.heap.Heap.move_on.Goals as goal
 stays : (g : Over) (c : goal.After-from_residual g) → ⊥
 stays g c =
     let has = room_has c.args.self.now.heap c.args.name (c.args.gap + c.args.words) c.requires.live (omega (arith, c.requires.least)) c.requires.room in
-    shrink_done c.args.self.now.heap c.args.name c.args.gap c.args.words c.resize_words.ensures.keeps.was_lawful has c.requires.least c.requires.left c.in_err-resize_words.field-0.0 c.args.words (omega arith) c.in_err-resize_words.ensures.answer
+    shrink_done c.args.self.now.heap c.args.name c.args.gap c.args.words c.resize_words.ensures.keeps.was_lawful has c.requires.least c.requires.left c.in_err-resize_words.field-0.0 c.args.words (omega arith) c.in_err-resize_words.ensures.resizes.answer_is
 
 pub returns-in_err-resize_words-clause-answer : goal.returns-in_err-resize_words-clause-answer
 returns-in_err-resize_words-clause-answer g c = absurd (stays g c)
@@ -26,7 +26,7 @@ returns-in_err-resize_words-clause-ok g c = absurd (stays g c)
 cut : (g : Over) (c : goal.After-from_residual-in_err-resize_words-2 g) → ⊥
 cut g c =
     let has = room_has c.args.self.now.heap c.args.name (c.args.gap + c.args.words) c.requires.live (omega (arith, c.requires.least)) c.requires.room in
-    shrink_done c.args.self.now.heap c.args.name c.args.gap c.args.words c.resize_words-2.ensures.keeps.was_lawful has c.requires.least c.requires.left c.in_err-resize_words-2.field-0.0 c.args.gap (omega arith) c.in_err-resize_words-2.ensures.answer
+    shrink_done c.args.self.now.heap c.args.name c.args.gap c.args.words c.resize_words-2.ensures.keeps.was_lawful has c.requires.least c.requires.left c.in_err-resize_words-2.field-0.0 c.args.gap (omega arith) c.in_err-resize_words-2.ensures.resizes.answer_is
 
 pub returns-in_err-resize_words-2-clause-answer : goal.returns-in_err-resize_words-2-clause-answer
 returns-in_err-resize_words-2-clause-answer g c = absurd (cut g c)
@@ -45,7 +45,7 @@ overflow_add-name g c =
 given : (g : Over) (c : goal.After-from_residual-in_err-moved g) → ⊥
 given g c =
     let has = room_has c.args.self.now.heap c.args.name (c.args.gap + c.args.words) c.requires.live (omega (arith, c.requires.least)) c.requires.room in
-    let there = from_done_there c.args.self.now.heap c.args.name c.args.gap c.args.words c.resize_words-2.ensures.keeps.was_lawful has c.requires.least c.requires.left c.resize_words-2.new.self.heap c.resize_words-2.ensures.heap in
+    let there = from_done_there c.args.self.now.heap c.args.name c.args.gap c.args.words c.resize_words-2.ensures.keeps.was_lawful has c.requires.least c.requires.left c.resize_words-2.new.self.heap c.resize_words-2.ensures.resizes.heap in
     false≢true (c.in_err-moved.ensures.cases.ok.1 there)
 
 pub returns-in_err-moved-clause-heap : goal.returns-in_err-moved-clause-heap
@@ -57,9 +57,9 @@ returns-in_err-moved-clause-ok g c = absurd (given g c)
 freed : (g : Over) (c : goal.After-from_residual-in_err-release g) → ⊥
 freed g c =
     let has = room_has c.args.self.now.heap c.args.name (c.args.gap + c.args.words) c.requires.live (omega (arith, c.requires.least)) c.requires.room in
-    let same = c.resize_words-2.ensures.heap in
+    let same = c.resize_words-2.ensures.resizes.heap in
     moved_done c.args.self.now.heap c.args.name c.args.gap c.args.words c.resize_words-2.ensures.keeps.was_lawful has c.requires.least c.requires.left
-    c.words_from.new.self.heap c.in_err-release.field-0.0 c.in_ok-moved.moved (rw same at c.words_from.ensures.heap) (rw same at c.in_ok-moved.ensures.answer) c.in_err-release.ensures.answer
+    c.words_from.new.self.heap c.in_err-release.field-0.0 c.in_ok-moved.moved (rw same at c.words_from.ensures.heap) (rw same at c.in_ok-moved.ensures.answer) c.in_err-release.ensures.releases.answer_is
 
 pub returns-in_err-release-clause-answer : goal.returns-in_err-release-clause-answer
 returns-in_err-release-clause-answer g c = absurd (freed g c)
@@ -75,8 +75,8 @@ returns-in_err-moved-clause-leaves g c k o =
     let name = c.args.name in
     let cut = c.resize_words-2.ensures in
     let small = c.resize_words-2.new.self.heap in
-    let left = subst (λ (s : HeapState). IsOthersWord s.blocks name.at k) (sym cut.heap) (resized_word h name.at k o name c.args.gap 0 o.4) in
-    c.words_from.ensures.leaves k (any_word small.blocks name.at k left) ∙ cut.leaves k o
+    let left = subst (λ (s : HeapState). IsOthersWord s.blocks name.at k) (sym cut.resizes.heap) (resized_word h name.at k o name c.args.gap 0 o.4) in
+    c.words_from.ensures.leaves k (any_word small.blocks name.at k left) ∙ cut.resizes.leaves k o
 
 pub returns-in_err-release-clause-leaves : goal.returns-in_err-release-clause-leaves
 returns-in_err-release-clause-leaves g c k o =
@@ -84,9 +84,9 @@ returns-in_err-release-clause-leaves g c k o =
     let name = c.args.name in
     let cut = c.resize_words-2.ensures in
     let small = c.resize_words-2.new.self.heap in
-    let left = subst (λ (s : HeapState). IsOthersWord s.blocks name.at k) (sym cut.heap) (resized_word h name.at k o name c.args.gap 0 o.4) in
+    let left = subst (λ (s : HeapState). IsOthersWord s.blocks name.at k) (sym cut.resizes.heap) (resized_word h name.at k o name c.args.gap 0 o.4) in
     let given = subst (λ (s : HeapState). IsOthersWord s.blocks name.at k) (sym c.words_from.ensures.heap) (from_word small name.at k left (name.at + c.args.gap) c.args.words) in
-    c.release.ensures.leaves k given ∙ c.words_from.ensures.leaves k (any_word small.blocks name.at k left) ∙ cut.leaves k o
+    c.release.ensures.releases.leaves k given ∙ c.words_from.ensures.leaves k (any_word small.blocks name.at k left) ∙ cut.resizes.leaves k o
 
 pub returns-clause-leaves : goal.returns-clause-leaves
 returns-clause-leaves g c k o =
@@ -94,9 +94,9 @@ returns-clause-leaves g c k o =
     let name = c.args.name in
     let cut = c.resize_words-2.ensures in
     let small = c.resize_words-2.new.self.heap in
-    let left = subst (λ (s : HeapState). IsOthersWord s.blocks name.at k) (sym cut.heap) (resized_word h name.at k o name c.args.gap 0 o.4) in
+    let left = subst (λ (s : HeapState). IsOthersWord s.blocks name.at k) (sym cut.resizes.heap) (resized_word h name.at k o name c.args.gap 0 o.4) in
     let given = subst (λ (s : HeapState). IsOthersWord s.blocks name.at k) (sym c.words_from.ensures.heap) (from_word small name.at k left (name.at + c.args.gap) c.args.words) in
-    c.release.ensures.leaves k given ∙ c.words_from.ensures.leaves k (any_word small.blocks name.at k left) ∙ cut.leaves k o
+    c.release.ensures.releases.leaves k given ∙ c.words_from.ensures.leaves k (any_word small.blocks name.at k left) ∙ cut.resizes.leaves k o
 
 -- ---- groups of eight words
 

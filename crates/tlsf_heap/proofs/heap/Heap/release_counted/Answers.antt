@@ -1,4 +1,4 @@
-use Rattle.std.proofs.Common.{◌≡◌, ◌≤◌, ℕ, sym, ap, ◌∙◌, subst, Ok, Err, arith}
+use Rattle.std.proofs.Common.{◌≡◌, ◌≤◌, ℕ, sym, ap, ◌∙◌, subst, Ok, Err, arith, rules}
 use Rattle.std.proofs.lemmas.Result.{err_from_is_err_and}
 use Rattle.tlsf_heap.specs.Blocks.{HeapState, size_of}
 use Rattle.tlsf_words.specs.Touched.{times, InGroups}
@@ -6,7 +6,7 @@ use Rattle.tlsf_heap.specs.Footprint.{IsOthersWord}
 use Rattle.tlsf_heap.specs.GoodFit.{site_at, block_at}
 use Rattle.tlsf_heap.specs.Named.{IsNamed, IsNameCheck}
 use Rattle.tlsf_heap.specs.Regions.{IsTagOf}
-use Rattle.tlsf_heap.specs.Shown.{Shown}
+use Rattle.tlsf_heap.specs.Shown.{Shown, seen}
 use Rattle.tlsf_heap.specs.Stored.{state_of}
 use Rattle.tlsf_heap.specs.WordsInUse.{words_in_use, words_at}
 use Rattle.tlsf_heap.specs.declared.name.Name.{Name}
@@ -24,14 +24,20 @@ use Rattle.tlsf_heap.proofs.heap.Heap.release_counted.Goals as goal
 
 -- ---- the name is refused
 
-pub returns-in_err-own-clause-answer : goal.returns-in_err-own-clause-answer
-returns-in_err-own-clause-answer g c =
+pub returns-in_err-own-clause-releases : goal.returns-in_err-own-clause-releases
+returns-in_err-own-clause-releases g c =
+    let e = c.in_err-own.ensures in
     let p = err_from_is_err_and c.from_residual.result c.from_residual.ensures.1 in
-    rw (p.1, p.2) (releases_refused c.args.self.now.heap c.check.new.self.heap c.args.name c.in_err-own.ensures.keeps.was_lawful c.in_err-own.ensures.same.heap _ c.in_err-own.ensures.answer).is_answer
-
-pub returns-in_err-own-clause-heap : goal.returns-in_err-own-clause-heap
-returns-in_err-own-clause-heap g c =
-    (releases_refused c.args.self.now.heap c.check.new.self.heap c.args.name c.in_err-own.ensures.keeps.was_lawful c.in_err-own.ensures.same.heap _ c.in_err-own.ensures.answer).is_heap
+    let refuses = releases_refused c.args.self.now.heap c.check.new.self.heap c.args.name e.keeps.was_lawful e.same.heap _ e.answer in
+    record {
+      answer_is = rw (p.1, p.2) refuses.is_answer;
+      heap = refuses.is_heap;
+      touches = search rules;
+      rise = search rules;
+      leaves = λ k o. e.leaves k (o.0, o.1, o.2, o.3);
+      refused = search rules;
+      forged = search rules;
+    }
 
 -- ---- the tick is at its last value
 
@@ -41,11 +47,18 @@ worn g c =
     releases_worn c.args.self.now.heap c.check.new.self.heap c.args.name c.in_ok-own.ensures.keeps.was_lawful c.in_ok-own.ensures.same.heap c.in_ok-own.ensures.answer.0
     (sym (ap (λ (s : HeapState). s.tick) same) ∙ c.if-self.true)
 
-pub returns-then-self-clause-answer : goal.returns-then-self-clause-answer
-returns-then-self-clause-answer g c = (worn g c).is_answer
-
-pub returns-then-self-clause-heap : goal.returns-then-self-clause-heap
-returns-then-self-clause-heap g c = (worn g c).is_heap
+pub returns-then-self-clause-releases : goal.returns-then-self-clause-releases
+returns-then-self-clause-releases g c =
+    let e = c.in_ok-own.ensures in
+    record {
+      answer_is = (worn g c).is_answer;
+      heap = (worn g c).is_heap;
+      touches = search rules;
+      rise = search rules;
+      leaves = λ k o. e.leaves k (o.0, o.1, o.2, o.3);
+      refused = λ k live. e.leaves k live;
+      forged = not_forged (seen c.args.self.now) c.args.name e.keeps.was_lawful e.answer.0 _;
+    }
 
 -- ---- the block is released
 
@@ -88,8 +101,21 @@ freed g c =
     (releases_block (state_of g.row.SLI c.self.inside) c.args.name c.coalesce.new.region named c.self.invariant.lawful c.coalesce.ensures.edits.words
     (c.coalesce.ensures.blocks named.1.0 (named_stands _ _ _ _ named.1.1)) c.if-self.false))
 
-pub returns-clause-answer : goal.returns-clause-answer
-returns-clause-answer g c = (freed g c).is_answer
+pub returns-clause-releases : goal.returns-clause-releases
+returns-clause-releases g c =
+    let e = c.in_ok-own.ensures in
+    let same : state_of g.row.SLI c.self.inside ≡ c.args.self.now.heap = ap (λ (s : Shown). s.heap) c.self.view_is ∙ e.same.heap in
+    record {
+      answer_is = (freed g c).is_answer;
+      heap = (freed g c).is_heap;
+      touches = search rules;
+      rise = search rules;
+      leaves = λ k o. c.coalesce.ensures.touched k (subst (λ (h : HeapState). IsOthersWord h.blocks c.args.name.at k) (sym same) o)
+          ∙ ap (λ (s : Shown). times s.touched k) c.self.view_is
+          ∙ e.leaves k (o.0, o.1, o.2, o.3);
+      refused = search rules;
+      forged = not_forged (seen c.args.self.now) c.args.name e.keeps.was_lawful e.answer.0 _;
+    }
 
 -- the words in use have those of a named block
 named_part : (h : HeapState) (name : Name) (named : IsNamed h name) → size_of (block_at h.blocks named.1.0) ≤ words_in_use h
@@ -109,9 +135,6 @@ returns-clause-off g c =
     let sum = in_use_released h c.args.name lawful (sym (freed g c).is_answer) in
     record { sum = omega (arith, sum, ap words_in_use (freed g c).is_heap); count = omega (arith, words, c.size.ensures.value, found.1.size, named_part h c.args.name found.0, c.requires.counted) }
 
-pub returns-clause-heap : goal.returns-clause-heap
-returns-clause-heap g c = (freed g c).is_heap
-
 pub invariant_of-self : goal.invariant_of-self
 invariant_of-self g c = record {
   lawful = (freed g c).lawful;
@@ -123,36 +146,10 @@ invariant_of-self g c = record {
   listed = c.coalesce.ensures.listed;
 }
 
--- ---- the name was not forged
-
-pub returns-then-self-clause-forged : goal.returns-then-self-clause-forged
-returns-then-self-clause-forged g c = not_forged c.args.self.now.heap c.args.name c.in_ok-own.ensures.keeps.was_lawful c.in_ok-own.ensures.answer.0 _ _
-
-pub returns-clause-forged : goal.returns-clause-forged
-returns-clause-forged g c = not_forged c.args.self.now.heap c.args.name c.in_ok-own.ensures.keeps.was_lawful c.in_ok-own.ensures.answer.0 _ _
-
 -- ---- what is kept
 
 pub returns-clause-keeps : goal.returns-clause-keeps
 returns-clause-keeps g c = keeps_both c.in_ok-own.ensures.keeps (keeps_stored g.row.SLI c.self.inside c.self.view_is c.self.invariant _ (invariant_of-self g c) c.coalesce.ensures.edits.rise c.coalesce.ensures.edits.stays)
-
--- ---- the payloads of other blocks
-
-pub returns-in_err-own-clause-leaves : goal.returns-in_err-own-clause-leaves
-returns-in_err-own-clause-leaves g c k o = c.in_err-own.ensures.leaves k (o.0, o.1, o.2, o.3)
-
-pub returns-then-self-clause-leaves : goal.returns-then-self-clause-leaves
-returns-then-self-clause-leaves g c k o = c.in_ok-own.ensures.leaves k (o.0, o.1, o.2, o.3)
-
-pub returns-clause-leaves : goal.returns-clause-leaves
-returns-clause-leaves g c k o =
-    let same : state_of g.row.SLI c.self.inside ≡ c.args.self.now.heap = ap (λ (s : Shown). s.heap) c.self.view_is ∙ c.in_ok-own.ensures.same.heap in
-    c.coalesce.ensures.touched k (subst (λ (h : HeapState). IsOthersWord h.blocks c.args.name.at k) (sym same) o)
-    ∙ ap (λ (s : Shown). times s.touched k) c.self.view_is
-    ∙ c.in_ok-own.ensures.leaves k (o.0, o.1, o.2, o.3)
-
-pub returns-then-self-clause-refused : goal.returns-then-self-clause-refused
-returns-then-self-clause-refused g c k live = c.in_ok-own.ensures.leaves k live
 
 -- ---- groups of eight words
 

@@ -23,14 +23,14 @@ hand_over-requires g c =
     let h = c.args.self.now.heap in
     let name = c.args.name in
     let new = c.in_ok-new.new in
-    let given = c.in_ok-new.ensures.heap in
+    let given = c.in_ok-new.ensures.allocates.heap in
     let fresh : h.tick + 1 < last_tick = omega (arith, c.if-self.false, ap (λ (s : Shown). s.heap.tick) c.self.view_is) in (
       omega arith,
       (
-        subst (λ (s : HeapState). IsLive s name) (sym given) (old_lives g.row.SLI h name c.args.len new c.in_ok-new.ensures.answer c.requires),
+        subst (λ (s : HeapState). IsLive s name) (sym given) (old_lives g.row.SLI h name c.args.len new c.in_ok-new.ensures.allocates.answer_is c.requires),
         (
-          subst (λ (s : HeapState). IsLive s new) (sym given) (new_lives g.row.SLI h name c.args.len new c.in_ok-new.ensures.answer c.requires),
-          λ worn. let left = ap (λ (s : HeapState). s.tick) given in let later = ticks g.row.SLI h name c.args.len new c.in_ok-new.ensures.answer c.requires in omega (arith, worn, left, later, fresh),
+          subst (λ (s : HeapState). IsLive s new) (sym given) (new_lives g.row.SLI h name c.args.len new c.in_ok-new.ensures.allocates.answer_is c.requires),
+          λ worn. let left = ap (λ (s : HeapState). s.tick) given in let later = ticks g.row.SLI h name c.args.len new c.in_ok-new.ensures.allocates.answer_is c.requires in omega (arith, worn, left, later, fresh),
         ),
       ),
     )
@@ -41,12 +41,12 @@ pub returns-clause-touches : goal.returns-clause-touches
 returns-clause-touches g c =
     let h = c.args.self.now.heap in
     let new = c.in_ok-new.new in
-    let given = c.in_ok-new.ensures.heap in
+    let given = c.in_ok-new.ensures.allocates.heap in
     let words : payload_words_given (allocated g.row.SLI h c.args.len).answer (allocated g.row.SLI h c.args.len).heap ≡ payload_words_at (named new c.allocate.new.self.heap.blocks) =
-    ap (λ (r : Result Name Refusal). payload_words_given r (allocated g.row.SLI h c.args.len).heap) (sym c.in_ok-new.ensures.answer) ∙ ap (λ (s : HeapState). payload_words_at (named new s.blocks)) (sym given) in
-    let lives = subst (λ (s : HeapState). IsLive s new) (sym given) (new_lives g.row.SLI h c.args.name c.args.len new c.in_ok-new.ensures.answer c.requires) in
+    ap (λ (r : Result Name Refusal). payload_words_given r (allocated g.row.SLI h c.args.len).heap) (sym c.in_ok-new.ensures.allocates.answer_is) ∙ ap (λ (s : HeapState). payload_words_at (named new s.blocks)) (sym given) in
+    let lives = subst (λ (s : HeapState). IsLive s new) (sym given) (new_lives g.row.SLI h c.args.name c.args.len new c.in_ok-new.ensures.allocates.answer_is c.requires) in
     let fits = payload_fits c.allocate.new.self.heap new c.in_ok-new.ensures.keeps.lawful lives in
-    omega (arith, words, fits, c.in_ok-new.ensures.most_touches, c.hand_over.ensures.touches)
+    omega (arith, words, fits, c.in_ok-new.ensures.allocates.touches, c.hand_over.ensures.touches)
 
 -- ---- what is kept
 
@@ -56,7 +56,7 @@ returns-then-self-clause-keeps g c = keeps_same g.row.SLI c.self.inside c.self.v
 -- ---- the payloads of other blocks
 
 pub returns-in_err-new-clause-leaves : goal.returns-in_err-new-clause-leaves
-returns-in_err-new-clause-leaves g c k o = c.in_err-new.ensures.leaves k (any_word c.args.self.now.heap.blocks c.args.name.at k o)
+returns-in_err-new-clause-leaves g c k o = c.in_err-new.ensures.allocates.leaves k (any_word c.args.self.now.heap.blocks c.args.name.at k o)
 
 pub returns-clause-leaves : goal.returns-clause-leaves
 returns-clause-leaves g c k o =
@@ -65,8 +65,8 @@ returns-clause-leaves g c k o =
     let new = c.in_ok-new.new in
     let e = c.in_ok-new.ensures in
     let left = given_word h name.at k o g.row.SLI (want c.args.len) c.args.len e.keeps.was_lawful in
-    c.hand_over.ensures.leaves k (subst (λ (s : HeapState). IsOthersWord s.blocks name.at k) (sym e.heap) left.0) (subst (λ (s : HeapState). IsOthersWord s.blocks new.at k) (sym e.heap) (left.1 new (sym e.answer)))
-    ∙ e.leaves k (any_word h.blocks name.at k o)
+    c.hand_over.ensures.leaves k (subst (λ (s : HeapState). IsOthersWord s.blocks name.at k) (sym e.allocates.heap) left.0) (subst (λ (s : HeapState). IsOthersWord s.blocks new.at k) (sym e.allocates.heap) (left.1 new (sym e.allocates.answer_is)))
+    ∙ e.allocates.leaves k (any_word h.blocks name.at k o)
 
 -- ---- groups of eight words
 
@@ -80,6 +80,6 @@ returns-in_err-new-clause-groups g c = more_groups (omega arith) c.in_err-new.en
 pub returns-clause-groups : goal.returns-clause-groups
 returns-clause-groups g c =
     let given = c.in_ok-new.ensures in
-    let many = given_length g.row.SLI c.args.self.now.heap c.args.len c.in_ok-new.new given.keeps.was_lawful (sym given.answer) in
-    let held = ap (λ (s : HeapState). length (payload_of s c.in_ok-new.new)) given.heap in
+    let many = given_length g.row.SLI c.args.self.now.heap c.args.len c.in_ok-new.new given.keeps.was_lawful (sym given.allocates.answer_is) in
+    let held = ap (λ (s : HeapState). length (payload_of s c.in_ok-new.new)) given.allocates.heap in
     more_groups (omega (arith, many, held)) (groups_then given.groups c.hand_over.ensures.groups)

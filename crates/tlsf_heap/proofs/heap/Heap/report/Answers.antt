@@ -1,4 +1,4 @@
-use Rattle.std.proofs.Common.{◌≡◌, ◌*◌, ◌≤◌, length, ap, sym, ◌∙◌, subst, arith}
+use Rattle.std.proofs.Common.{◌≡◌, ◌*◌, ◌≤◌, length, ap, sym, ◌∙◌, subst, arith, rules}
 use Rattle.tlsf_heap.specs.Blocks.{HeapState}
 use Rattle.tlsf_heap.specs.Shown.{Shown}
 use Rattle.tlsf_heap.specs.Reports.{report_of, IsGrant}
@@ -57,25 +57,19 @@ is g c =
     ∙ told_is g.row.SLI c.self.invariant.level (state_of g.row.SLI c.self.inside) c.self.invariant.lawful c.self.invariant.small c.of.result c.of.ensures.sums
     ∙ ap (report_of g.row.SLI) (shown g c)
 
-pub returns-clause-report : goal.returns-clause-report
-returns-clause-report g c = is g c
-
-pub returns-clause-grant : goal.returns-clause-grant
-returns-clause-grant g c =
+pub returns-clause-reports : goal.returns-clause-reports
+returns-clause-reports g c =
     let h = c.args.self.now.heap in
-    subst (λ (r : Report). IsGrant g.row.SLI h.blocks r.grant) (sym (is g c)) (subst (λ (s : HeapState). IsGrant g.row.SLI s.blocks (report_of g.row.SLI s).grant) (shown g c) (greatest_length g.row.SLI c.self.invariant.level (state_of g.row.SLI c.self.inside) c.self.invariant.lawful))
-
--- ---- two touches for each block
-
-pub returns-clause-few : goal.returns-clause-few
-returns-clause-few g c =
-    subst (λ (s : HeapState). 4 * length s.blocks ≤ s.words) (shown g c)
-    (let lawful = c.self.invariant.lawful in omega (arith, four_each c.self.inside.region.blocks lawful.rooms, lawful.whole))
+    let lawful = c.self.invariant.lawful in
+    record {
+      report_is = is g c;
+      grant = subst (λ (r : Report). IsGrant g.row.SLI h.blocks r.grant) (sym (is g c)) (subst (λ (s : HeapState). IsGrant g.row.SLI s.blocks (report_of g.row.SLI s).grant) (shown g c) (greatest_length g.row.SLI c.self.invariant.level (state_of g.row.SLI c.self.inside) lawful));
+      heap = search rules;
+      touches = search rules;
+      few = subst (λ (s : HeapState). 4 * length s.blocks ≤ s.words) (shown g c) (omega (arith, four_each c.self.inside.region.blocks lawful.rooms, lawful.whole));
+      rise = search rules;
+      leaves = seen_live g.row.SLI c.self.inside c.self.view_is _ c.of.ensures.touched;
+    }
 
 pub returns-clause-keeps : goal.returns-clause-keeps
 returns-clause-keeps g c = keeps_read g.row.SLI c.self.inside c.self.view_is c.self.invariant _ c.of.ensures.reads
-
--- ---- the payloads of other blocks
-
-pub returns-clause-leaves : goal.returns-clause-leaves
-returns-clause-leaves g c = seen_live g.row.SLI c.self.inside c.self.view_is _ c.of.ensures.touched

@@ -21,7 +21,7 @@ returns-in-Some-clause-leaves g c k o =
     let name = c.in-Some.name in
     let seen = c.in-Some.ensures in
     let here = subst (λ (at : ℕ). IsOthersWord h.blocks at k) (sym seen.live.1) o in
-    c.resize_words.ensures.leaves k (subst (λ (s : HeapState). IsOthersWord s.blocks name.at k) (sym seen.same.heap) here) ∙ seen.leaves k (any_word h.blocks c.args.at k o)
+    c.resize_words.ensures.resizes.leaves k (subst (λ (s : HeapState). IsOthersWord s.blocks name.at k) (sym seen.same.heap) here) ∙ seen.leaves k (any_word h.blocks c.args.at k o)
 
 -- two calls in turn, of which the second may be refused
 refused_both : {A E : Type 0} (bs mid : List Block) (first between last : List ℕ) (answer : Result A E) → mid ≡ bs → LeavesLive bs first between → OnErr answer (LeavesLive mid between last) → OnErr answer (LeavesLive bs first last)
@@ -32,7 +32,7 @@ pub returns-in-Some-clause-refused : goal.returns-in-Some-clause-refused
 returns-in-Some-clause-refused g c =
     let seen = c.in-Some.ensures in
     refused_both c.args.self.now.heap.blocks c.name_at.new.self.heap.blocks c.args.self.now.touched c.name_at.new.self.touched c.resize_words.new.self.touched c.resize_words.result
-    (ap (λ (s : HeapState). s.blocks) seen.same.heap) seen.leaves c.resize_words.ensures.refused
+    (ap (λ (s : HeapState). s.blocks) seen.same.heap) seen.leaves c.resize_words.ensures.resizes.refused
 
 -- ---- groups of eight words
 

@@ -3,6 +3,7 @@ use Rattle.tlsf_heap.proofs.lemmas.calls.ResizeOrMove.{no_room_live}
 use Rattle.tlsf_heap.proofs.lemmas.calls.Named.{not_forged}
 use Rattle.std.proofs.Common.{sym, ◌∙◌, subst, arith}
 use Rattle.tlsf_heap.specs.Blocks.{HeapState}
+use Rattle.tlsf_heap.specs.Shown.{seen}
 use Rattle.tlsf_heap.specs.Footprint.{IsOthersWord}
 use Rattle.tlsf_words.proofs.Touching.{more_groups, groups_then}
 use Rattle.tlsf_heap.proofs.heap.Heap.resize_or_move_unset.Goals as goal
@@ -11,7 +12,7 @@ pub returns-in-Err-NoRoom-clause-forged : goal.returns-in-Err-NoRoom-clause-forg
 returns-in-Err-NoRoom-clause-forged g c =
     let h = c.args.self.now.heap in
     let refused = rw c.in-Err-NoRoom.field-0-is at c.in-Err-NoRoom.ensures.answer in
-    not_forged h c.args.name c.in-Err-NoRoom.ensures.keeps.was_lawful (named_of h c.args.name (no_room_live h c.args.name c.args.len refused)) _ _
+    not_forged (seen c.args.self.now) c.args.name c.in-Err-NoRoom.ensures.keeps.was_lawful (named_of h c.args.name (no_room_live h c.args.name c.args.len refused)) _
 
 -- ---- the payloads of other blocks
 

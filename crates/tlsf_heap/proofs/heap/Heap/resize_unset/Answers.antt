@@ -10,9 +10,10 @@ use Rattle.tlsf_heap.specs.Lawful.{IsLawful}
 use Rattle.tlsf_heap.specs.Laws.{IsLive}
 use Rattle.tlsf_heap.specs.Named.{IsNamed}
 use Rattle.tlsf_heap.specs.Unset.{lying, unset_from, with_payload}
+use Rattle.tlsf_heap.specs.Shown.{seen}
 use Rattle.tlsf_heap.specs.declared.name.Name.{Name}
-use Rattle.tlsf_heap.proofs.lemmas.calls.Alter.{live_is, payload_is}
-use Rattle.tlsf_heap.proofs.lemmas.calls.Named.{not_forged}
+use Rattle.tlsf_heap.proofs.lemmas.calls.Alter.{payload_is}
+use Rattle.tlsf_heap.proofs.lemmas.calls.Named.{live_is, not_forged}
 use Rattle.tlsf_heap.proofs.lemmas.calls.OtherBytes.{resized_answers}
 use Rattle.tlsf_heap.proofs.lemmas.calls.Resize.{resized_refused}
 use Rattle.tlsf_heap.proofs.lemmas.calls.Unset.{shorter_lives, left_answer, left_room, resized_unset}
@@ -39,12 +40,12 @@ pub returns-in_err-resize_words-clause-answer : goal.returns-in_err-resize_words
 returns-in_err-resize_words-clause-answer g c =
     let h = c.args.self.now.heap in
     let p = err_from_is_err_and c.from_residual-in_err-resize_words.result c.from_residual-in_err-resize_words.ensures.1 in
-    rw (p.1, p.2) (c.in_err-resize_words.ensures.answer
+    rw (p.1, p.2) (c.in_err-resize_words.ensures.resizes.answer_is
     ∙ ap (λ (o : Outcome (Unit {0})). o.answer) (asked h c.check_payload.new.self.heap c.args.name c.want.result c.args.len c.min-kept.result c.in_ok-check_payload.ensures.same.heap c.want.ensures)
     ∙ resized_answers h c.args.name (want c.args.len) c.min-kept.result c.args.len)
 
 pub returns-in_err-resize_words-clause-forged : goal.returns-in_err-resize_words-clause-forged
-returns-in_err-resize_words-clause-forged g c = not_forged c.args.self.now.heap c.args.name c.in_ok-check_payload.ensures.keeps.was_lawful c.in_ok-check_payload.ensures.answer.0 _ _
+returns-in_err-resize_words-clause-forged g c = not_forged (seen c.args.self.now) c.args.name c.in_ok-check_payload.ensures.keeps.was_lawful c.in_ok-check_payload.ensures.answer.0 _
 
 -- ---- the bytes lie there
 
@@ -72,7 +73,7 @@ pub set_length-requires : goal.set_length-requires
 set_length-requires g c =
     let name = c.args.name in
     let s = shortens c.args.self.now.heap c.check_payload.new.self.heap c.resize_words.new.self.heap name c.want.result c.args.len c.in_ok-check_payload.field-0 c.min-kept.result
-    c.in_ok-check_payload.ensures.answer.0 c.in_ok-check_payload.ensures.keeps.was_lawful c.in_ok-check_payload.ensures.answer.1 c.min-kept.ensures c.in_ok-check_payload.ensures.same.heap c.want.ensures c.in_ok-resize_words.ensures.answer c.in_ok-resize_words.ensures.heap in (
+    c.in_ok-check_payload.ensures.answer.0 c.in_ok-check_payload.ensures.keeps.was_lawful c.in_ok-check_payload.ensures.answer.1 c.min-kept.ensures c.in_ok-check_payload.ensures.same.heap c.want.ensures c.in_ok-resize_words.ensures.resizes.answer_is c.in_ok-resize_words.ensures.resizes.heap in (
       omega arith,
       subst (λ (l : HeapState). IsLive l name × (words_for c.args.len ≤ 3 + payload_words_at (named name l.blocks))) (sym s.heap)
           (shorter_lives _ name c.args.len _ s.lawful s.live s.least s.answer, left_room _ name c.args.len _ s.lawful s.live s.least s.answer),
@@ -81,7 +82,7 @@ set_length-requires g c =
 pub returns-clause-answer : goal.returns-clause-answer
 returns-clause-answer g c =
     let s = shortens c.args.self.now.heap c.check_payload.new.self.heap c.resize_words.new.self.heap c.args.name c.want.result c.args.len c.in_ok-check_payload.field-0 c.min-kept.result
-    c.in_ok-check_payload.ensures.answer.0 c.in_ok-check_payload.ensures.keeps.was_lawful c.in_ok-check_payload.ensures.answer.1 c.min-kept.ensures c.in_ok-check_payload.ensures.same.heap c.want.ensures c.in_ok-resize_words.ensures.answer c.in_ok-resize_words.ensures.heap in
+    c.in_ok-check_payload.ensures.answer.0 c.in_ok-check_payload.ensures.keeps.was_lawful c.in_ok-check_payload.ensures.answer.1 c.min-kept.ensures c.in_ok-check_payload.ensures.same.heap c.want.ensures c.in_ok-resize_words.ensures.resizes.answer_is c.in_ok-resize_words.ensures.resizes.heap in
     sym (left_answer _ c.args.name c.args.len _ s.lawful s.live s.least s.answer)
 
 pub returns-clause-heap : goal.returns-clause-heap
@@ -91,7 +92,7 @@ returns-clause-heap g c =
     let m = c.set_length.new.self.stored in
     let len = c.args.len in
     let s = shortens h c.check_payload.new.self.heap c.resize_words.new.self.heap name c.want.result len c.in_ok-check_payload.field-0 c.min-kept.result
-    c.in_ok-check_payload.ensures.answer.0 c.in_ok-check_payload.ensures.keeps.was_lawful c.in_ok-check_payload.ensures.answer.1 c.min-kept.ensures c.in_ok-check_payload.ensures.same.heap c.want.ensures c.in_ok-resize_words.ensures.answer c.in_ok-resize_words.ensures.heap in
+    c.in_ok-check_payload.ensures.answer.0 c.in_ok-check_payload.ensures.keeps.was_lawful c.in_ok-check_payload.ensures.answer.1 c.min-kept.ensures c.in_ok-check_payload.ensures.same.heap c.want.ensures c.in_ok-resize_words.ensures.resizes.answer_is c.in_ok-resize_words.ensures.resizes.heap in
     c.set_length.ensures.heap
     ∙ ap (λ (l : HeapState). with_payload l name (lying m name.at len)) s.heap
     ∙ resized_unset h name len c.min-kept.result s.lawful s.live s.least s.answer c.resize_words.new.self.stored m (subst (λ (l : HeapState). Shows c.resize_words.new.self.stored l.blocks) s.heap c.in_ok-resize_words.ensures.keeps.shows) c.set_length.ensures.lies
@@ -101,10 +102,10 @@ pub returns-clause-touches : goal.returns-clause-touches
 returns-clause-touches g c =
     let held = ap length (payload_is c.args.self.now.heap c.args.name c.in_ok-check_payload.ensures.answer.0) in
     let before = ap (λ (s : HeapState). length (payload_of s c.args.name)) c.in_ok-check_payload.ensures.same.heap in
-    omega (arith, held, before, c.in_ok-check_payload.ensures.answer.1, c.min-kept.ensures, c.in_ok-check_payload.ensures.touches, c.resize_words.ensures.grown_touches, c.set_length.ensures.touches)
+    omega (arith, held, before, c.in_ok-check_payload.ensures.answer.1, c.min-kept.ensures, c.in_ok-check_payload.ensures.touches, c.resize_words.ensures.resizes.grown, c.set_length.ensures.touches)
 
 pub returns-clause-forged : goal.returns-clause-forged
-returns-clause-forged g c = not_forged c.args.self.now.heap c.args.name c.in_ok-check_payload.ensures.keeps.was_lawful c.in_ok-check_payload.ensures.answer.0 _ _
+returns-clause-forged g c = not_forged (seen c.args.self.now) c.args.name c.in_ok-check_payload.ensures.keeps.was_lawful c.in_ok-check_payload.ensures.answer.0 _
 
 -- ---- the payloads of other blocks
 
@@ -114,14 +115,14 @@ returns-in_err-check_payload-clause-leaves g c k o = c.in_err-check_payload.ensu
 pub returns-in_err-resize_words-clause-leaves : goal.returns-in_err-resize_words-clause-leaves
 returns-in_err-resize_words-clause-leaves g c k o =
     let seen = c.in_ok-check_payload.ensures in
-    c.in_err-resize_words.ensures.leaves k (subst (λ (s : HeapState). IsOthersWord s.blocks c.args.name.at k) (sym seen.same.heap) o)
+    c.in_err-resize_words.ensures.resizes.leaves k (subst (λ (s : HeapState). IsOthersWord s.blocks c.args.name.at k) (sym seen.same.heap) o)
     ∙ seen.leaves k (any_word c.args.self.now.heap.blocks c.args.name.at k o)
 
 pub returns-in_err-resize_words-clause-refused : goal.returns-in_err-resize_words-clause-refused
 returns-in_err-resize_words-clause-refused g c =
     let seen = c.in_ok-check_payload.ensures in
     rw (err_from_is_err_and c.from_residual-in_err-resize_words.result c.from_residual-in_err-resize_words.ensures.1).1
-    (λ k live. c.in_err-resize_words.ensures.refused k (subst (λ (s : HeapState). IsLiveWord s.blocks k) (sym seen.same.heap) live) ∙ seen.leaves k live)
+    (λ k live. c.in_err-resize_words.ensures.resizes.refused k (subst (λ (s : HeapState). IsLiveWord s.blocks k) (sym seen.same.heap) live) ∙ seen.leaves k live)
 
 pub returns-clause-leaves : goal.returns-clause-leaves
 returns-clause-leaves g c k o =
@@ -131,8 +132,8 @@ returns-clause-leaves g c k o =
     let cut = c.in_ok-resize_words.ensures in
     let was = subst (λ (s : HeapState). IsOthersWord s.blocks name.at k) (sym seen.same.heap) o in
     let left = resized_word c.check_payload.new.self.heap name.at k was name c.want.result c.min-kept.result was.4 in
-    c.set_length.ensures.leaves k (subst (λ (s : HeapState). IsLiveWord s.blocks k) (sym cut.heap) (any_word _ name.at k left))
-    ∙ cut.leaves k was
+    c.set_length.ensures.leaves k (subst (λ (s : HeapState). IsLiveWord s.blocks k) (sym cut.resizes.heap) (any_word _ name.at k left))
+    ∙ cut.resizes.leaves k was
     ∙ seen.leaves k (any_word h.blocks name.at k o)
 
 -- ---- groups of eight words

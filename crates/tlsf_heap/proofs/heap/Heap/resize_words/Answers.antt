@@ -1,4 +1,4 @@
-use Rattle.std.proofs.Common.{◌≡◌, ℕ, ◌+◌, ◌-◌, ◌/◌, ◌≤◌, List, length, sym, ap, ◌∙◌, subst, Ok, Err, arith}
+use Rattle.std.proofs.Common.{◌≡◌, ℕ, ◌+◌, ◌-◌, ◌/◌, ◌≤◌, List, length, sym, ap, ◌∙◌, subst, Ok, Err, arith, rules}
 use Rattle.std.proofs.lemmas.Result.{err_from_is_err_and}
 use Rattle.tlsf_class.proofs.TwoLevels.{most_words_any}
 use Rattle.tlsf_heap.specs.Blocks.{HeapState, words_in, words_for}
@@ -7,7 +7,7 @@ use Rattle.tlsf_heap.specs.Given.{payload_words_at}
 use Rattle.tlsf_heap.specs.GoodFit.{site_at}
 use Rattle.tlsf_heap.specs.Named.{IsNameCheck}
 use Rattle.tlsf_heap.specs.Regions.{RegionState, IsTagOf}
-use Rattle.tlsf_heap.specs.Shown.{Shown}
+use Rattle.tlsf_heap.specs.Shown.{Shown, seen}
 use Rattle.tlsf_heap.specs.Stored.{state_of}
 use Rattle.tlsf_heap.specs.declared.name.Name.{Name}
 use Rattle.tlsf_heap.specs.declared.refusal.Refusal.TheVariants.{Worn, NoRoom}
@@ -19,25 +19,33 @@ use Rattle.tlsf_heap.proofs.lemmas.calls.LeftBlock.{Found, found, room_small, re
 use Rattle.tlsf_heap.proofs.lemmas.calls.Named.{named_same, named_stands, named_live, not_forged}
 use Rattle.tlsf_heap.proofs.lemmas.words.Says.{at_index}
 use Rattle.tlsf_heap.proofs.lemmas.calls.Resize.{Resizes, resized_refused, resizes_refused}
-use Rattle.tlsf_heap.proofs.lemmas.calls.Kept.{keeps_both, keeps_stored}
-use Rattle.tlsf_words.specs.Touched.{times, InGroups}
-use Rattle.tlsf_heap.specs.Footprint.{IsOthersWord, IsLiveWord}
+use Rattle.tlsf_heap.proofs.lemmas.calls.Kept.{keeps_both, keeps_stored, shown_of}
+use Rattle.tlsf_words.specs.Touched.{InGroups}
+use Rattle.tlsf_heap.specs.Footprint.{IsOthersWord, IsLiveWord, LeavesLive}
+use Rattle.tlsf_heap.specs.declared.heap.Heap.TheInside.{Inside}
+use Rattle.tlsf_heap.proofs.lemmas.calls.Leaves.{seen_live}
 use Rattle.tlsf_heap.proofs.lemmas.words.Footprint.{any_word}
 use Rattle.tlsf_words.proofs.Touching.{more_groups, groups_then}
-use Rattle.tlsf_heap.specs.Touched.{resize_groups}
 use Rattle.tlsf_heap.proofs.heap.Heap.resize_words.Given.{Over}
 use Rattle.tlsf_heap.proofs.heap.Heap.resize_words.Goals as goal
 
 -- ---- the name is refused
 
-pub returns-in_err-own-clause-answer : goal.returns-in_err-own-clause-answer
-returns-in_err-own-clause-answer g c =
+pub returns-in_err-own-clause-resizes : goal.returns-in_err-own-clause-resizes
+returns-in_err-own-clause-resizes g c =
+    let e = c.in_err-own.ensures in
     let p = err_from_is_err_and c.from_residual.result c.from_residual.ensures.1 in
-    rw (p.1, p.2) (resizes_refused c.args.self.now.heap c.check.new.self.heap c.args.name c.args.words c.args.len _ c.in_err-own.ensures.keeps.was_lawful c.in_err-own.ensures.same.heap (resized_refused c.args.self.now.heap c.args.name c.args.words c.args.len _ c.in_err-own.ensures.answer)).is_answer
-
-pub returns-in_err-own-clause-heap : goal.returns-in_err-own-clause-heap
-returns-in_err-own-clause-heap g c =
-    (resizes_refused c.args.self.now.heap c.check.new.self.heap c.args.name c.args.words c.args.len _ c.in_err-own.ensures.keeps.was_lawful c.in_err-own.ensures.same.heap (resized_refused c.args.self.now.heap c.args.name c.args.words c.args.len _ c.in_err-own.ensures.answer)).is_heap
+    let refuses = resizes_refused c.args.self.now.heap c.check.new.self.heap c.args.name c.args.words c.args.len _ e.keeps.was_lawful e.same.heap (resized_refused c.args.self.now.heap c.args.name c.args.words c.args.len _ e.answer) in
+    record {
+      answer_is = rw (p.1, p.2) refuses.is_answer;
+      heap = refuses.is_heap;
+      touches = search rules;
+      grown = search rules;
+      rise = search rules;
+      leaves = λ k o. e.leaves k (any_word c.args.self.now.heap.blocks c.args.name.at k o);
+      refused = search rules;
+      forged = search rules;
+    }
 
 -- ---- the block behind
 
@@ -73,11 +81,25 @@ short g c =
     let reads = c.look_behind-next.ensures.reads in
     resizes_short g.row.SLI f same c.self.invariant.lawful c.args.words c.args.len c.requires c.look_behind-next.new.region reads.words reads.blocks (omega (arith, c.if-room-words.true, c.size.ensures.value, c.size-2.ensures.value))
 
-pub returns-then-room-words-clause-answer : goal.returns-then-room-words-clause-answer
-returns-then-room-words-clause-answer g c = (short g c).is_answer
+-- the check and the look behind read no live block's payload
+looked : (g : Over) (old : Shown) {mid : Shown} (h : Inside g.row.SLI) → shown_of g.row.SLI h ≡ mid → mid.heap ≡ old.heap → LeavesLive old.heap.blocks old.touched mid.touched → (touched : List ℕ)
+    → LeavesLive h.region.blocks h.region.touched touched → LeavesLive old.heap.blocks old.touched touched
+looked g old h view same checked touched leaves = λ k live. seen_live g.row.SLI h view touched leaves k (subst (λ (s : HeapState). IsLiveWord s.blocks k) (sym same) live) ∙ checked k live
 
-pub returns-then-room-words-clause-heap : goal.returns-then-room-words-clause-heap
-returns-then-room-words-clause-heap g c = (short g c).is_heap
+pub returns-then-room-words-clause-resizes : goal.returns-then-room-words-clause-resizes
+returns-then-room-words-clause-resizes g c =
+    let e = c.in_ok-own.ensures in
+    let unseen = looked g c.args.self.now c.self.inside c.self.view_is e.same.heap e.leaves c.look_behind-next.new.region.touched c.look_behind-next.ensures.touched in
+    record {
+      answer_is = (short g c).is_answer;
+      heap = (short g c).is_heap;
+      touches = search rules;
+      grown = search rules;
+      rise = search rules;
+      leaves = λ k o. unseen k (any_word c.args.self.now.heap.blocks c.args.name.at k o);
+      refused = unseen;
+      forged = not_forged (seen c.args.self.now) c.args.name e.keeps.was_lawful e.answer.0 _;
+    }
 
 -- ---- the tick is at its last value
 
@@ -88,11 +110,20 @@ worn g c =
     let reads = c.look_behind-next.ensures.reads in
     resizes_worn g.row.SLI f same c.self.invariant.lawful c.args.words c.args.len c.requires c.look_behind-next.new.region reads.words reads.blocks (omega (arith, c.if-room-words.false, c.size.ensures.value, c.size-2.ensures.value)) c.if-self.true
 
-pub returns-then-self-clause-answer : goal.returns-then-self-clause-answer
-returns-then-self-clause-answer g c = (worn g c).is_answer
-
-pub returns-then-self-clause-heap : goal.returns-then-self-clause-heap
-returns-then-self-clause-heap g c = (worn g c).is_heap
+pub returns-then-self-clause-resizes : goal.returns-then-self-clause-resizes
+returns-then-self-clause-resizes g c =
+    let e = c.in_ok-own.ensures in
+    let unseen = looked g c.args.self.now c.self.inside c.self.view_is e.same.heap e.leaves c.look_behind-next.new.region.touched c.look_behind-next.ensures.touched in
+    record {
+      answer_is = (worn g c).is_answer;
+      heap = (worn g c).is_heap;
+      touches = search rules;
+      grown = search rules;
+      rise = search rules;
+      leaves = λ k o. unseen k (any_word c.args.self.now.heap.blocks c.args.name.at k o);
+      refused = unseen;
+      forged = not_forged (seen c.args.self.now) c.args.name e.keeps.was_lawful e.answer.0 _;
+    }
 
 -- ---- the block is resized
 
@@ -159,12 +190,6 @@ fits g c =
       payload = payload_left g.row.SLI f same c.self.invariant.lawful c.args.words c.args.len c.requires room c.if-self.false c.refit.new.region words blocks c.self.invariant.small;
     }
 
-pub returns-clause-answer : goal.returns-clause-answer
-returns-clause-answer g c = (fits g c).resizes.is_answer
-
-pub returns-clause-heap : goal.returns-clause-heap
-returns-clause-heap g c = (fits g c).resizes.is_heap
-
 pub invariant_of-self-2 : goal.invariant_of-self-2
 invariant_of-self-2 g c = record {
   lawful = (fits g c).resizes.lawful;
@@ -176,81 +201,33 @@ invariant_of-self-2 g c = record {
   listed = c.refit.ensures.listed;
 }
 
--- three to check the name, one for the tag behind, twenty to cut the block, and the payload
-pub returns-clause-touches : goal.returns-clause-touches
-returns-clause-touches g c =
-    omega (arith, c.refit.ensures.edits.touches, c.look_behind-next.ensures.reads.touches, c.in_ok-own.ensures.touches, ap (λ (s : Shown). s.touches) c.self.view_is)
-
-pub returns-clause-most_touches : goal.returns-clause-most_touches
-returns-clause-most_touches g c =
-    omega (arith, (fits g c).payload, c.refit.ensures.edits.touches, c.look_behind-next.ensures.reads.touches, c.in_ok-own.ensures.touches, ap (λ (s : Shown). s.touches) c.self.view_is)
-
--- and of the payload only what grows
-pub returns-clause-grown_touches : goal.returns-clause-grown_touches
-returns-clause-grown_touches g c =
-    let same : state_of g.row.SLI c.self.inside ≡ c.args.self.now.heap = ap (λ (s : Shown). s.heap) c.self.view_is ∙ c.in_ok-own.ensures.same.heap in
-    let is_named = named_same (state_of g.row.SLI c.self.inside) c.args.self.now.heap c.args.name same c.in_ok-own.ensures.answer.0 in
+-- three to check the name, one for the tag behind, twenty to cut the block, and the payload: of that only what grows
+pub returns-clause-resizes : goal.returns-clause-resizes
+returns-clause-resizes g c =
+    let e = c.in_ok-own.ensures in
+    let same : state_of g.row.SLI c.self.inside ≡ c.args.self.now.heap = ap (λ (s : Shown). s.heap) c.self.view_is ∙ e.same.heap in
+    let is_named = named_same (state_of g.row.SLI c.self.inside) c.args.self.now.heap c.args.name same e.answer.0 in
     let reads = c.look_behind-next.ensures.reads in
     let grown = (rw reads.blocks at c.refit.ensures.grown) is_named.1.0 (named_stands _ _ _ _ is_named.1.1) in
     let held = ap (λ (l : List ℕ). words_for (length l)) (ap (λ (h : HeapState). payload_of h c.args.name) (sym same) ∙ payload_is (state_of g.row.SLI c.self.inside) c.args.name is_named) in
-    omega (arith, grown, held, reads.touches, c.in_ok-own.ensures.touches, ap (λ (s : Shown). s.touches) c.self.view_is)
-
--- ---- the name was not forged
-
-pub returns-then-room-words-clause-forged : goal.returns-then-room-words-clause-forged
-returns-then-room-words-clause-forged g c = not_forged c.args.self.now.heap c.args.name c.in_ok-own.ensures.keeps.was_lawful c.in_ok-own.ensures.answer.0 _ _
-
-pub returns-then-self-clause-forged : goal.returns-then-self-clause-forged
-returns-then-self-clause-forged g c = not_forged c.args.self.now.heap c.args.name c.in_ok-own.ensures.keeps.was_lawful c.in_ok-own.ensures.answer.0 _ _
-
-pub returns-clause-forged : goal.returns-clause-forged
-returns-clause-forged g c = not_forged c.args.self.now.heap c.args.name c.in_ok-own.ensures.keeps.was_lawful c.in_ok-own.ensures.answer.0 _ _
+    let checked = ap (λ (s : Shown). s.touches) c.self.view_is in
+    let unseen = looked g c.args.self.now c.self.inside c.self.view_is e.same.heap e.leaves c.look_behind-next.new.region.touched c.look_behind-next.ensures.touched in
+    record {
+      answer_is = (fits g c).resizes.is_answer;
+      heap = (fits g c).resizes.is_heap;
+      touches = omega (arith, (fits g c).payload, c.refit.ensures.edits.touches, reads.touches, e.touches, checked);
+      grown = omega (arith, grown, held, reads.touches, e.touches, checked);
+      rise = search rules;
+      leaves = λ k o. (rw reads.blocks at c.refit.ensures.touched) k (subst (λ (h : HeapState). IsOthersWord h.blocks c.args.name.at k) (sym same) o)
+          ∙ unseen k (any_word c.args.self.now.heap.blocks c.args.name.at k o);
+      refused = search rules;
+      forged = not_forged (seen c.args.self.now) c.args.name e.keeps.was_lawful e.answer.0 _;
+    }
 
 -- ---- what is kept
 
 pub returns-clause-keeps : goal.returns-clause-keeps
 returns-clause-keeps g c = keeps_both c.in_ok-own.ensures.keeps (keeps_stored g.row.SLI c.self.inside c.self.view_is c.self.invariant _ (invariant_of-self-2 g c) (omega (arith, c.refit.ensures.edits.rise, c.look_behind-next.ensures.reads.rise)) (c.refit.ensures.edits.stays ∙ c.look_behind-next.ensures.reads.stays))
-
--- ---- the payloads of other blocks
-
-pub returns-in_err-own-clause-leaves : goal.returns-in_err-own-clause-leaves
-returns-in_err-own-clause-leaves g c k o = c.in_err-own.ensures.leaves k (any_word c.args.self.now.heap.blocks c.args.name.at k o)
-
-pub returns-then-room-words-clause-leaves : goal.returns-then-room-words-clause-leaves
-returns-then-room-words-clause-leaves g c k o =
-    let same : state_of g.row.SLI c.self.inside ≡ c.args.self.now.heap = ap (λ (s : Shown). s.heap) c.self.view_is ∙ c.in_ok-own.ensures.same.heap in
-    let there : IsOthersWord c.self.inside.region.blocks c.args.name.at k = subst (λ (h : HeapState). IsOthersWord h.blocks c.args.name.at k) (sym same) o in
-    c.look_behind-next.ensures.touched k (any_word c.self.inside.region.blocks c.args.name.at k there)
-    ∙ ap (λ (s : Shown). times s.touched k) c.self.view_is ∙ c.in_ok-own.ensures.leaves k (any_word c.args.self.now.heap.blocks c.args.name.at k o)
-
-pub returns-then-self-clause-leaves : goal.returns-then-self-clause-leaves
-returns-then-self-clause-leaves g c k o =
-    let same : state_of g.row.SLI c.self.inside ≡ c.args.self.now.heap = ap (λ (s : Shown). s.heap) c.self.view_is ∙ c.in_ok-own.ensures.same.heap in
-    let there : IsOthersWord c.self.inside.region.blocks c.args.name.at k = subst (λ (h : HeapState). IsOthersWord h.blocks c.args.name.at k) (sym same) o in
-    c.look_behind-next.ensures.touched k (any_word c.self.inside.region.blocks c.args.name.at k there)
-    ∙ ap (λ (s : Shown). times s.touched k) c.self.view_is ∙ c.in_ok-own.ensures.leaves k (any_word c.args.self.now.heap.blocks c.args.name.at k o)
-
-pub returns-clause-leaves : goal.returns-clause-leaves
-returns-clause-leaves g c k o =
-    let same : state_of g.row.SLI c.self.inside ≡ c.args.self.now.heap = ap (λ (s : Shown). s.heap) c.self.view_is ∙ c.in_ok-own.ensures.same.heap in
-    let there : IsOthersWord c.self.inside.region.blocks c.args.name.at k = subst (λ (h : HeapState). IsOthersWord h.blocks c.args.name.at k) (sym same) o in
-    (rw c.look_behind-next.ensures.reads.blocks at c.refit.ensures.touched) k there
-    ∙ c.look_behind-next.ensures.touched k (any_word c.self.inside.region.blocks c.args.name.at k there)
-    ∙ ap (λ (s : Shown). times s.touched k) c.self.view_is ∙ c.in_ok-own.ensures.leaves k (any_word c.args.self.now.heap.blocks c.args.name.at k o)
-
-pub returns-then-room-words-clause-refused : goal.returns-then-room-words-clause-refused
-returns-then-room-words-clause-refused g c k live =
-    let same : state_of g.row.SLI c.self.inside ≡ c.args.self.now.heap = ap (λ (s : Shown). s.heap) c.self.view_is ∙ c.in_ok-own.ensures.same.heap in
-    let there : IsLiveWord c.self.inside.region.blocks k = subst (λ (h : HeapState). IsLiveWord h.blocks k) (sym same) live in
-    c.look_behind-next.ensures.touched k there
-    ∙ ap (λ (s : Shown). times s.touched k) c.self.view_is ∙ c.in_ok-own.ensures.leaves k live
-
-pub returns-then-self-clause-refused : goal.returns-then-self-clause-refused
-returns-then-self-clause-refused g c k live =
-    let same : state_of g.row.SLI c.self.inside ≡ c.args.self.now.heap = ap (λ (s : Shown). s.heap) c.self.view_is ∙ c.in_ok-own.ensures.same.heap in
-    let there : IsLiveWord c.self.inside.region.blocks k = subst (λ (h : HeapState). IsLiveWord h.blocks k) (sym same) live in
-    c.look_behind-next.ensures.touched k there
-    ∙ ap (λ (s : Shown). times s.touched k) c.self.view_is ∙ c.in_ok-own.ensures.leaves k live
 
 -- ---- groups of eight words
 

@@ -1,7 +1,7 @@
-use Rattle.std.proofs.Common.{◌≡◌, ℕ, length, sym, ap, ◌∙◌, arith, subst}
+use Rattle.std.proofs.Common.{◌≡◌, ℕ, length, sym, ap, ◌∙◌, arith, subst, rules}
 use Rattle.std.proofs.lemmas.Result.{err_from_is_err_and}
 use Rattle.tlsf_heap.specs.Blocks.{HeapState, StandsAt}
-use Rattle.tlsf_heap.specs.Shown.{Shown}
+use Rattle.tlsf_heap.specs.Shown.{Shown, seen}
 use Rattle.tlsf_heap.specs.Calls.{Outcome}
 use Rattle.tlsf_heap.specs.FreePlaces.{free_places}
 use Rattle.tlsf_heap.specs.Regions.{list_in}
@@ -18,15 +18,20 @@ use Rattle.tlsf_heap.proofs.lemmas.words.Footprint.{any_word}
 use Rattle.tlsf_heap.proofs.heap.Heap.write.Given.{Over}
 use Rattle.tlsf_heap.proofs.heap.Heap.write.Goals as goal
 
-pub returns-in_err-check_range-clause-answer : goal.returns-in_err-check_range-clause-answer
-returns-in_err-check_range-clause-answer g c =
+pub returns-in_err-check_range-clause-writes : goal.returns-in_err-check_range-clause-writes
+returns-in_err-check_range-clause-writes g c =
+    let e = c.in_err-check_range.ensures in
     let p = err_from_is_err_and c.from_residual.result c.from_residual.ensures.1 in
-    rw (p.1, p.2) (sym (ap (λ (o : Outcome (Unit {0})). o.answer) (unwritten c.args.self.now.heap c.args.name c.args.at c.args.bytes.now _ c.in_err-check_range.ensures.answer)))
-
-pub returns-in_err-check_range-clause-heap : goal.returns-in_err-check_range-clause-heap
-returns-in_err-check_range-clause-heap g c =
-    c.in_err-check_range.ensures.same.heap
-    ∙ sym (ap (λ (o : Outcome (Unit {0})). o.heap) (unwritten c.args.self.now.heap c.args.name c.args.at c.args.bytes.now _ c.in_err-check_range.ensures.answer))
+    let none = unwritten c.args.self.now.heap c.args.name c.args.at c.args.bytes.now _ e.answer in
+    record {
+      answer_is = rw (p.1, p.2) (sym (ap (λ (o : Outcome (Unit {0})). o.answer) none));
+      heap = e.same.heap ∙ sym (ap (λ (o : Outcome (Unit {0})). o.heap) none);
+      touches = search rules;
+      rise = search rules;
+      leaves = λ k o. e.leaves k (any_word c.args.self.now.heap.blocks c.args.name.at k o);
+      refused = search rules;
+      forged = search rules;
+    }
 
 pub write-requires : goal.write-requires
 write-requires g c = (
@@ -62,20 +67,20 @@ invariant_of-self g c =
       listed = rw places (same_lists (free_places g.row.SLI 0 c.self.inside.region.blocks) (list_in c.self.inside.region.lists) (list_in c.write.new.self.lists) change.lists c.self.invariant.listed);
     }
 
-pub returns-clause-answer : goal.returns-clause-answer
-returns-clause-answer g c = (wrote g c).is_answer
-
-pub returns-clause-heap : goal.returns-clause-heap
-returns-clause-heap g c = (wrote g c).is_heap
-
-pub returns-clause-touches : goal.returns-clause-touches
-returns-clause-touches g c =
-    omega (arith, (c.write.ensures.change (stood g c).0 (stood g c).1).edits.touches, c.in_ok-check_range.ensures.touches, ap (λ (s : Shown). s.touches) c.self.view_is)
-
--- ---- the name was not forged
-
-pub returns-clause-forged : goal.returns-clause-forged
-returns-clause-forged g c = not_forged c.args.self.now.heap c.args.name c.in_ok-check_range.ensures.keeps.was_lawful (range_named c.args.self.now.heap c.args.name c.args.at (length c.args.bytes.now) c.in_ok-check_range.ensures.answer c.in_ok-check_range.ensures.place) _ _
+pub returns-clause-writes : goal.returns-clause-writes
+returns-clause-writes g c =
+    let e = c.in_ok-check_range.ensures in
+    let same : state_of g.row.SLI c.self.inside ≡ c.args.self.now.heap = ap (λ (s : Shown). s.heap) c.self.view_is ∙ e.same.heap in
+    record {
+      answer_is = (wrote g c).is_answer;
+      heap = (wrote g c).is_heap;
+      touches = omega (arith, (c.write.ensures.change (stood g c).0 (stood g c).1).edits.touches, e.touches, ap (λ (s : Shown). s.touches) c.self.view_is);
+      rise = omega (arith, (c.write.ensures.change (stood g c).0 (stood g c).1).edits.rise, e.keeps.touches_rise, ap (λ (s : Shown). s.touches) c.self.view_is);
+      leaves = λ k o. c.write.ensures.touched k (subst (λ (h : HeapState). IsOthersWord h.blocks c.args.name.at k) (sym same) o)
+          ∙ ap (λ (s : Shown). times s.touched k) c.self.view_is ∙ e.leaves k (any_word c.args.self.now.heap.blocks c.args.name.at k o);
+      refused = search rules;
+      forged = not_forged (seen c.args.self.now) c.args.name e.keeps.was_lawful (range_named c.args.self.now.heap c.args.name c.args.at (length c.args.bytes.now) e.answer e.place) _;
+    }
 
 -- ---- what is kept
 
@@ -83,15 +88,3 @@ pub returns-clause-keeps : goal.returns-clause-keeps
 returns-clause-keeps g c =
     let edits = (c.write.ensures.change (stood g c).0 (stood g c).1).edits in
     keeps_both c.in_ok-check_range.ensures.keeps (keeps_stored g.row.SLI c.self.inside c.self.view_is c.self.invariant _ (invariant_of-self g c) edits.rise edits.stays)
-
--- ---- the payloads of other blocks
-
-pub returns-in_err-check_range-clause-leaves : goal.returns-in_err-check_range-clause-leaves
-returns-in_err-check_range-clause-leaves g c k o = c.in_err-check_range.ensures.leaves k (any_word c.args.self.now.heap.blocks c.args.name.at k o)
-
-pub returns-clause-leaves : goal.returns-clause-leaves
-returns-clause-leaves g c k o =
-    let same : state_of g.row.SLI c.self.inside ≡ c.args.self.now.heap = ap (λ (s : Shown). s.heap) c.self.view_is ∙ c.in_ok-check_range.ensures.same.heap in
-    let there : IsOthersWord c.self.inside.region.blocks c.args.name.at k = subst (λ (h : HeapState). IsOthersWord h.blocks c.args.name.at k) (sym same) o in
-    c.write.ensures.touched k there
-    ∙ ap (λ (s : Shown). times s.touched k) c.self.view_is ∙ c.in_ok-check_range.ensures.leaves k (any_word c.args.self.now.heap.blocks c.args.name.at k o)

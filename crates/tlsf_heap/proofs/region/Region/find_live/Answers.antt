@@ -2,7 +2,7 @@ use Rattle.std.proofs.Common.{ℕ, sym, ap, ◌∙◌, eq-eqb, List, subst, arit
 use Rattle.std.specs.Prelude.{◌==◌}
 use Rattle.tlsf_heap.proofs.lemmas.words.Says.{none_named, named_here, has_serial-live}
 use Rattle.tlsf_heap.specs.Regions.{RegionState}
-use Rattle.tlsf_words.specs.Touched.{InGroups}
+use Rattle.tlsf_words.specs.Touched.{times, InGroups}
 use Rattle.tlsf_words.proofs.Touching.{more_groups, groups_then}
 use Rattle.tlsf_heap.proofs.region.Region.find_live.Goals as goal
 use Rattle.tlsf_heap.proofs.region.Region.find_live.Goals.{then-is_free-via-then-is_free, then-is_free-via-else-is_free+then-mark-serial}
@@ -22,6 +22,19 @@ returns-clause-answer g c =
 
 pub returns-clause-nowhere : goal.returns-clause-nowhere
 returns-clause-nowhere g c inside none = absurd (none (c.begins.ensures.yes c.if-not-begins.false))
+
+-- ---- the tag and the serial
+
+pub returns-then-is_free-clause-only : goal.returns-then-is_free-clause-only
+returns-then-is_free-clause-only g c k tag serial =
+    let tagged = c.tag-tag.ensures.only k tag serial ∙ ap (λ (l : List ℕ). times l k) c.begins.ensures.untouched in
+    elim c.then-is_free.branch [
+      | then-is_free-via-then-is_free w ↦ ap (λ (r : RegionState). times r.touched k) w.self-is ∙ tagged
+      | then-is_free-via-else-is_free+then-mark-serial w ↦ ap (λ (r : RegionState). times r.touched k) w.self-is ∙ w.mark.ensures.only k tag serial ∙ tagged
+    ]
+
+pub returns-clause-only : goal.returns-clause-only
+returns-clause-only g c k tag serial = c.mark.ensures.only k tag serial ∙ c.tag-tag.ensures.only k tag serial ∙ ap (λ (l : List ℕ). times l k) c.begins.ensures.untouched
 
 -- ---- groups of eight words
 

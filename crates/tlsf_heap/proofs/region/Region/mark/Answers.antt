@@ -1,9 +1,9 @@
-use Rattle.std.proofs.Common.{◌∙◌, arith, ◌+◌, refl, ap, subst}
+use Rattle.std.proofs.Common.{ℕ, List, ◌∙◌, arith, ◌+◌, refl, ap, subst}
 use Rattle.tlsf_heap.proofs.lemmas.words.Says.{shows_state, holds_read, in_region, says_here}
 use Rattle.tlsf_words.specs.Touched.{times, InGroups}
 use Rattle.tlsf_heap.proofs.lemmas.words.Footprint.{reads_header}
 use Rattle.tlsf_heap.specs.Regions.{RegionState}
-use Rattle.tlsf_words.proofs.Touching.{one_touch}
+use Rattle.tlsf_words.proofs.Touching.{one_touch, times_other}
 use Rattle.tlsf_heap.proofs.region.Region.mark.Goals as goal
 
 pub mark-requires : goal.mark-requires
@@ -22,3 +22,7 @@ returns-clause-touched g c k live =
 
 pub returns-clause-groups : goal.returns-clause-groups
 returns-clause-groups g c = subst (λ (r : RegionState). InGroups 1 r.touched c.mark.new.self.touched) c.self.view_is (one_touch (c.args.at + 1) c.mark.ensures.touched)
+
+pub returns-clause-only : goal.returns-clause-only
+returns-clause-only g c k tag serial =
+    ap (λ (l : List ℕ). times l k) c.mark.ensures.touched ∙ times_other (c.args.at + 1) k c.self.inside.words.touched serial ∙ ap (λ (r : RegionState). times r.touched k) c.self.view_is

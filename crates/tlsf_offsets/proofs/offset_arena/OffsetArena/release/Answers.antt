@@ -7,16 +7,16 @@ use Rattle.tlsf_offsets.proofs.offset_arena.OffsetArena.release.Goals as goal
 
 pub returns-clause-others : goal.returns-clause-others
 returns-clause-others g c =
-    kept_released c.args.self.now _ (ap (λ (o : Offsets). o.unit) c.self.view_is) c.args.name (c.release.ensures.heap ∙ ap (λ (o : Offsets). (released o.heap c.args.name).heap) c.self.view_is)
+    kept_released c.args.self.now _ (ap (λ (o : Offsets). o.unit) c.self.view_is) c.args.name (c.release.ensures.releases.heap ∙ ap (λ (o : Offsets). (released o.heap c.args.name).heap) c.self.view_is)
 
 pub returns-clause-gone : goal.returns-clause-gone
 returns-clause-gone g c =
     let is : IsOffsets g.row.SLI c.args.self.now = search rules in
-    gone c.args.self.now _ c.args.name c.release.result is.lawful (c.release.ensures.answer ∙ ap (λ (o : Offsets). (released o.heap c.args.name).answer) c.self.view_is)
-    (c.release.ensures.heap ∙ ap (λ (o : Offsets). (released o.heap c.args.name).heap) c.self.view_is)
+    gone c.args.self.now _ c.args.name c.release.result is.lawful (c.release.ensures.releases.answer_is ∙ ap (λ (o : Offsets). (released o.heap c.args.name).answer) c.self.view_is)
+    (c.release.ensures.releases.heap ∙ ap (λ (o : Offsets). (released o.heap c.args.name).heap) c.self.view_is)
 
 pub returns-clause-lawful : goal.returns-clause-lawful
 returns-clause-lawful g c =
     let is : IsOffsets g.row.SLI c.args.self.now = search rules in
     stays g.row.SLI c.args.self.now _ is (ap (λ (o : Offsets). o.unit) c.self.view_is)
-    (ap (λ (h : HeapState). h.words) c.release.ensures.heap ∙ words_released c.self.inside.heap.heap c.args.name ∙ ap (λ (o : Offsets). o.heap.words) c.self.view_is) c.release.ensures.keeps.lawful
+    (ap (λ (h : HeapState). h.words) c.release.ensures.releases.heap ∙ words_released c.self.inside.heap.heap c.args.name ∙ ap (λ (o : Offsets). o.heap.words) c.self.view_is) c.release.ensures.keeps.lawful

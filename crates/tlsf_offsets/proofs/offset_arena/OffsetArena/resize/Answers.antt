@@ -1,67 +1,81 @@
-use Rattle.std.proofs.Common.{rules, arith, sym, ◌∙◌, refl, Ok, Err}
-use Rattle.tlsf_offsets.specs.Offsets.{IsOffsets, span_units}
-use Rattle.tlsf_offsets.proofs.Spans.{Alters, alters, alters_close, alters_enough, alters_made, kept_resized, made_live, resized_not_forged}
+use Rattle.std.proofs.Common.{rules, arith, sym, ◌∙◌, refl, Ok, Err, ◌+◌, subst, ap}
+use Rattle.tlsf_offsets.specs.Offsets.{IsOffsets, span_units, seen_of}
+use Rattle.tlsf_offsets.proofs.Spans.{Alters, alters, alters_close, alters_enough, alters_made, kept_resized, made_live, resized_named}
 use Rattle.tlsf_offsets.proofs.offset_arena.OffsetArena.resize.Goals as goal
+use Rattle.tlsf_heap.specs.Effects.{Resizes}
+use Rattle.tlsf_heap.specs.Touched.{resize_touches}
+use Rattle.tlsf_heap.proofs.lemmas.calls.Looked.{resizes_looked}
+use Rattle.tlsf_heap.specs.Shown.{seen}
+use Rattle.tlsf_heap.specs.Footprint.{LeavesLive}
+use Rattle.tlsf_heap.specs.Given.{payload_words_left}
+use Rattle.std.specs.Prelude.{OnErr}
 
 pub returns-in-Err-clause-answer : goal.returns-in-Err-clause-answer
 returns-in-Err-clause-answer g c =
     let is : IsOffsets g.row.SLI c.args.self.now = search rules in
-    let a : Alters g.row.SLI c.args.self.now (record { heap = c.resize_words.new.self.heap; unit = c.self.inside.unit; extents = c.resize_words.new.self.extents; touches = c.resize_words.new.self.touches }) c.args.name c.args.len (Err c.in-Err.refusal) =
-    alters g.row.SLI _ c.args.self.now _ c.args.name c.args.len c.units_of.result _ is c.self.view_is c.units_of.ensures (sym c.in-Err.is ∙ c.resize_words.ensures.answer) c.resize_words.ensures.heap refl c.resize_words.ensures.keeps.lawful in
-    a.answer_is
+    let a : Alters g.row.SLI c.args.self.now (record { heap = c.resize_words.new.self.heap; unit = c.self.inside.unit; extents = c.resize_words.new.self.extents; touches = c.resize_words.new.self.touches; touched = c.resize_words.new.self.touched }) c.args.name c.args.len (Err c.in-Err.refusal) =
+    alters g.row.SLI _ c.args.self.now _ c.args.name c.args.len c.units_of.result _ is c.self.view_is c.units_of.ensures c.in-Err.ensures.resizes refl c.resize_words.ensures.keeps.lawful in
+    sym a.resizes.answer_is
 
-pub returns-in-Err-clause-heap : goal.returns-in-Err-clause-heap
-returns-in-Err-clause-heap g c =
+pub returns-in-Err-clause-resizes : goal.returns-in-Err-clause-resizes
+returns-in-Err-clause-resizes g c =
     let is : IsOffsets g.row.SLI c.args.self.now = search rules in
-    let a : Alters g.row.SLI c.args.self.now (record { heap = c.resize_words.new.self.heap; unit = c.self.inside.unit; extents = c.resize_words.new.self.extents; touches = c.resize_words.new.self.touches }) c.args.name c.args.len (Err c.in-Err.refusal) =
-    alters g.row.SLI _ c.args.self.now _ c.args.name c.args.len c.units_of.result _ is c.self.view_is c.units_of.ensures (sym c.in-Err.is ∙ c.resize_words.ensures.answer) c.resize_words.ensures.heap refl c.resize_words.ensures.keeps.lawful in
-    a.heap_is
+    let a : Alters g.row.SLI c.args.self.now (record { heap = c.resize_words.new.self.heap; unit = c.self.inside.unit; extents = c.resize_words.new.self.extents; touches = c.resize_words.new.self.touches; touched = c.resize_words.new.self.touched }) c.args.name c.args.len (Err c.in-Err.refusal) =
+    alters g.row.SLI _ c.args.self.now _ c.args.name c.args.len c.units_of.result _ is c.self.view_is c.units_of.ensures c.in-Err.ensures.resizes refl c.resize_words.ensures.keeps.lawful in
+    let r = a.resizes in
+    record {
+      answer_is = refl;
+      heap = r.heap;
+      touches = omega (arith, r.touches, ap (λ x. payload_words_left x c.resize_words.new.self.heap c.args.name) r.answer_is);
+      grown = omega (arith, r.grown);
+      rise = r.rise;
+      leaves = r.leaves;
+      refused = subst (λ x. OnErr x (LeavesLive c.args.self.now.heap.blocks c.args.self.now.touched c.resize_words.new.self.touched)) r.answer_is r.refused;
+      forged = r.forged;
+    }
 
 pub span_of-requires : goal.span_of-requires
 span_of-requires g c =
     let is : IsOffsets g.row.SLI c.args.self.now = search rules in
-    let a : Alters g.row.SLI c.args.self.now (record { heap = c.resize_words.new.self.heap; unit = c.self.inside.unit; extents = c.resize_words.new.self.extents; touches = c.resize_words.new.self.touches }) c.args.name c.args.len (Ok tt) =
-    alters g.row.SLI _ c.args.self.now _ c.args.name c.args.len c.units_of.result _ is c.self.view_is c.units_of.ensures (sym c.in-Ok.is ∙ c.resize_words.ensures.answer) c.resize_words.ensures.heap refl c.resize_words.ensures.keeps.lawful in
+    let a : Alters g.row.SLI c.args.self.now (record { heap = c.resize_words.new.self.heap; unit = c.self.inside.unit; extents = c.resize_words.new.self.extents; touches = c.resize_words.new.self.touches; touched = c.resize_words.new.self.touched }) c.args.name c.args.len (Ok tt) =
+    alters g.row.SLI _ c.args.self.now _ c.args.name c.args.len c.units_of.result _ is c.self.view_is c.units_of.ensures c.in-Ok.ensures.resizes refl c.resize_words.ensures.keeps.lawful in
     (omega arith, made_live c.args.name (span_units c.args.self.now.unit c.args.len) c.resize_words.new.self.heap (alters_made g.row.SLI c.args.self.now _ c.args.name c.args.len a).0)
 
 pub returns-in-Ok-clause-answer : goal.returns-in-Ok-clause-answer
 returns-in-Ok-clause-answer g c =
     let is : IsOffsets g.row.SLI c.args.self.now = search rules in
-    let a : Alters g.row.SLI c.args.self.now (record { heap = c.resize_words.new.self.heap; unit = c.self.inside.unit; extents = c.resize_words.new.self.extents; touches = c.resize_words.new.self.touches }) c.args.name c.args.len (Ok tt) =
-    alters g.row.SLI _ c.args.self.now _ c.args.name c.args.len c.units_of.result _ is c.self.view_is c.units_of.ensures (sym c.in-Ok.is ∙ c.resize_words.ensures.answer) c.resize_words.ensures.heap refl c.resize_words.ensures.keeps.lawful in
-    (a.answer_is, c.span_of.ensures.name)
+    let a : Alters g.row.SLI c.args.self.now (record { heap = c.resize_words.new.self.heap; unit = c.self.inside.unit; extents = c.resize_words.new.self.extents; touches = c.resize_words.new.self.touches; touched = c.resize_words.new.self.touched }) c.args.name c.args.len (Ok tt) =
+    alters g.row.SLI _ c.args.self.now _ c.args.name c.args.len c.units_of.result _ is c.self.view_is c.units_of.ensures c.in-Ok.ensures.resizes refl c.resize_words.ensures.keeps.lawful in
+    (sym a.resizes.answer_is, c.span_of.ensures.name)
 
-pub returns-in-Ok-clause-heap : goal.returns-in-Ok-clause-heap
-returns-in-Ok-clause-heap g c =
+pub returns-in-Ok-clause-resizes : goal.returns-in-Ok-clause-resizes
+returns-in-Ok-clause-resizes g c =
     let is : IsOffsets g.row.SLI c.args.self.now = search rules in
-    let a : Alters g.row.SLI c.args.self.now (record { heap = c.resize_words.new.self.heap; unit = c.self.inside.unit; extents = c.resize_words.new.self.extents; touches = c.resize_words.new.self.touches }) c.args.name c.args.len (Ok tt) =
-    alters g.row.SLI _ c.args.self.now _ c.args.name c.args.len c.units_of.result _ is c.self.view_is c.units_of.ensures (sym c.in-Ok.is ∙ c.resize_words.ensures.answer) c.resize_words.ensures.heap refl c.resize_words.ensures.keeps.lawful in
-    c.span_of.ensures.same.0 ∙ a.heap_is
+    let a : Alters g.row.SLI c.args.self.now (record { heap = c.resize_words.new.self.heap; unit = c.self.inside.unit; extents = c.resize_words.new.self.extents; touches = c.resize_words.new.self.touches; touched = c.resize_words.new.self.touched }) c.args.name c.args.len (Ok tt) =
+    alters g.row.SLI _ c.args.self.now _ c.args.name c.args.len c.units_of.result _ is c.self.view_is c.units_of.ensures c.in-Ok.ensures.resizes refl c.resize_words.ensures.keeps.lawful in
+    let e = c.span_of.ensures in
+    let n = span_units c.args.self.now.unit c.args.len in
+    let named = resized_named c.args.self.now.heap c.args.name n (sym a.resizes.answer_is) in
+    subst (λ r. Resizes (resize_touches + 4) n 0 (seen_of c.args.self.now) (seen_of c.span_of.new.self) c.args.name r) a.resizes.answer_is
+    (resizes_looked resize_touches 4 n 0 (seen_of c.args.self.now) (seen c.resize_words.new.self) (seen_of c.span_of.new.self) c.args.name is.lawful named a.resizes (record { heap = e.same.0; touches = e.touches; rise = e.touches_rise; leaves = e.leaves }))
 
 pub returns-in-Ok-clause-enough : goal.returns-in-Ok-clause-enough
 returns-in-Ok-clause-enough g c =
     let is : IsOffsets g.row.SLI c.args.self.now = search rules in
-    let a : Alters g.row.SLI c.args.self.now (record { heap = c.resize_words.new.self.heap; unit = c.self.inside.unit; extents = c.resize_words.new.self.extents; touches = c.resize_words.new.self.touches }) c.args.name c.args.len (Ok tt) =
-    alters g.row.SLI _ c.args.self.now _ c.args.name c.args.len c.units_of.result _ is c.self.view_is c.units_of.ensures (sym c.in-Ok.is ∙ c.resize_words.ensures.answer) c.resize_words.ensures.heap refl c.resize_words.ensures.keeps.lawful in
+    let a : Alters g.row.SLI c.args.self.now (record { heap = c.resize_words.new.self.heap; unit = c.self.inside.unit; extents = c.resize_words.new.self.extents; touches = c.resize_words.new.self.touches; touched = c.resize_words.new.self.touched }) c.args.name c.args.len (Ok tt) =
+    alters g.row.SLI _ c.args.self.now _ c.args.name c.args.len c.units_of.result _ is c.self.view_is c.units_of.ensures c.in-Ok.ensures.resizes refl c.resize_words.ensures.keeps.lawful in
     alters_enough g.row.SLI c.args.self.now _ c.args.name c.args.len a c.span_of.result c.span_of.ensures.name c.span_of.ensures.held
 
 pub returns-in-Ok-clause-close : goal.returns-in-Ok-clause-close
 returns-in-Ok-clause-close g c =
     let is : IsOffsets g.row.SLI c.args.self.now = search rules in
-    let a : Alters g.row.SLI c.args.self.now (record { heap = c.resize_words.new.self.heap; unit = c.self.inside.unit; extents = c.resize_words.new.self.extents; touches = c.resize_words.new.self.touches }) c.args.name c.args.len (Ok tt) =
-    alters g.row.SLI _ c.args.self.now _ c.args.name c.args.len c.units_of.result _ is c.self.view_is c.units_of.ensures (sym c.in-Ok.is ∙ c.resize_words.ensures.answer) c.resize_words.ensures.heap refl c.resize_words.ensures.keeps.lawful in
+    let a : Alters g.row.SLI c.args.self.now (record { heap = c.resize_words.new.self.heap; unit = c.self.inside.unit; extents = c.resize_words.new.self.extents; touches = c.resize_words.new.self.touches; touched = c.resize_words.new.self.touched }) c.args.name c.args.len (Ok tt) =
+    alters g.row.SLI _ c.args.self.now _ c.args.name c.args.len c.units_of.result _ is c.self.view_is c.units_of.ensures c.in-Ok.ensures.resizes refl c.resize_words.ensures.keeps.lawful in
     alters_close g.row.SLI c.args.self.now _ c.args.name c.args.len a c.span_of.result c.span_of.ensures.name c.span_of.ensures.held
 
 pub returns-in-Ok-clause-others : goal.returns-in-Ok-clause-others
 returns-in-Ok-clause-others g c =
     let is : IsOffsets g.row.SLI c.args.self.now = search rules in
-    let a : Alters g.row.SLI c.args.self.now (record { heap = c.resize_words.new.self.heap; unit = c.self.inside.unit; extents = c.resize_words.new.self.extents; touches = c.resize_words.new.self.touches }) c.args.name c.args.len (Ok tt) =
-    alters g.row.SLI _ c.args.self.now _ c.args.name c.args.len c.units_of.result _ is c.self.view_is c.units_of.ensures (sym c.in-Ok.is ∙ c.resize_words.ensures.answer) c.resize_words.ensures.heap refl c.resize_words.ensures.keeps.lawful in
-    kept_resized c.args.self.now c.span_of.new.self (c.span_of.ensures.same.1 ∙ a.unit_is) c.args.name (span_units c.args.self.now.unit c.args.len) (c.span_of.ensures.same.0 ∙ a.heap_is)
-
-pub returns-in-Ok-clause-forged : goal.returns-in-Ok-clause-forged
-returns-in-Ok-clause-forged g c =
-    let is : IsOffsets g.row.SLI c.args.self.now = search rules in
-    let a : Alters g.row.SLI c.args.self.now (record { heap = c.resize_words.new.self.heap; unit = c.self.inside.unit; extents = c.resize_words.new.self.extents; touches = c.resize_words.new.self.touches }) c.args.name c.args.len (Ok tt) =
-    alters g.row.SLI _ c.args.self.now _ c.args.name c.args.len c.units_of.result _ is c.self.view_is c.units_of.ensures (sym c.in-Ok.is ∙ c.resize_words.ensures.answer) c.resize_words.ensures.heap refl c.resize_words.ensures.keeps.lawful in
-    resized_not_forged c.args.self.now.heap c.args.name (span_units c.args.self.now.unit c.args.len) is.lawful a.answer_is _ _
+    let a : Alters g.row.SLI c.args.self.now (record { heap = c.resize_words.new.self.heap; unit = c.self.inside.unit; extents = c.resize_words.new.self.extents; touches = c.resize_words.new.self.touches; touched = c.resize_words.new.self.touched }) c.args.name c.args.len (Ok tt) =
+    alters g.row.SLI _ c.args.self.now _ c.args.name c.args.len c.units_of.result _ is c.self.view_is c.units_of.ensures c.in-Ok.ensures.resizes refl c.resize_words.ensures.keeps.lawful in
+    kept_resized c.args.self.now c.span_of.new.self (c.span_of.ensures.same.1 ∙ a.unit_is) c.args.name (span_units c.args.self.now.unit c.args.len) (c.span_of.ensures.same.0 ∙ a.resizes.heap)

@@ -4,4 +4,4 @@ use Rattle.tlsf_crew.proofs.lemmas.worker.OwnHeaps.{call_keeps}
 use Rattle.tlsf_crew.proofs.worker.worker.Worker.free.Goals as goal
 
 pub returns-clause-yard : goal.returns-clause-yard
-returns-clause-yard g c = c.as_crew.ensures.yard g.row.SLI _ _ (refl, refl) (call_keeps _ _ (Release c.args.name) c.release.ensures.heap)
+returns-clause-yard g c = c.as_crew.ensures.yard g.row.SLI _ _ (refl, refl) (call_keeps _ _ (Release c.args.name) c.release.ensures.releases.heap)

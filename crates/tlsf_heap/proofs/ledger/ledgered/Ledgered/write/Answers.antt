@@ -1,8 +1,9 @@
-use Rattle.std.proofs.Common.{subst, OnErr}
-use Rattle.tlsf_heap.specs.Footprint.{LeavesLive}
+use Rattle.std.proofs.Common.{length, subst}
+use Rattle.tlsf_heap.specs.Touched.{write_touches}
+use Rattle.tlsf_heap.specs.Effects.{Writes, seen_by}
+use Rattle.tlsf_heap.specs.Shown.{seen}
 use Rattle.tlsf_heap.specs.ledger.Ledgers.{LedgerState}
 use Rattle.tlsf_heap.proofs.ledger.ledgered.Ledgered.write.Goals as goal
 
-pub returns-clause-refused : goal.returns-clause-refused
-returns-clause-refused g c =
-    subst (λ (s : LedgerState _). OnErr c.write.result (LeavesLive s.heap.blocks s.touched c.write.new.self.touched)) c.self.view_is c.write.ensures.refused
+pub returns-clause-writes : goal.returns-clause-writes
+returns-clause-writes g c = subst (λ (s : LedgerState _). Writes (write_touches (length c.args.bytes.now)) (seen_by s) (seen c.write.new.self) c.args.name c.args.at c.args.bytes.now c.write.result) c.self.view_is c.write.ensures.writes

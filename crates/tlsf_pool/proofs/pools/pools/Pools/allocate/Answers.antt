@@ -15,7 +15,7 @@ invariant_of-self g c =
     let found : part_in p.parts c.args.len ≡ Some c.in-Some.part = sym (c.in-Some.ensures ∙ ap (λ (parts : List TableState). part_in parts c.args.len) c.deref.ensures.value) in
     let e = c.allocate.ensures in
     lift_kept p c.in-Some.part c.index_mut.result.now c.allocate.new.self (part_of p c.args.len) found (part_has p.parts c.args.len c.in-Some.part found).0 c.index_mut.ensures.value g.row.SLI c.self.invariant e.keeps.is
-    (given_number g.row.SLI c.index_mut.result.now c.allocate.new.self c.args.len c.allocate.result (on_ok _ c.allocate.result e.tells.ok e.heap) e.err)
+    (given_number g.row.SLI c.index_mut.result.now c.allocate.new.self c.args.len c.allocate.result (on_ok _ c.allocate.result e.tells.ok (λ admits. (e.allocates admits).heap)) e.err)
 
 pub returns-clause-pools : goal.returns-clause-pools
 returns-clause-pools g c = invariant_of-self g c
@@ -25,14 +25,14 @@ returns-clause-allocates g c =
     let p : PoolsState = record { id = c.self.inside.id; parts = c.self.inside.parts.items; extent = record { address = c.self.inside.parts.ptr; capacity = c.self.inside.parts.cap } } in
     let found : part_in p.parts c.args.len ≡ Some c.in-Some.part = sym (c.in-Some.ensures ∙ ap (λ (parts : List TableState). part_in parts c.args.len) c.deref.ensures.value) in
     let e = c.allocate.ensures in
-    let heap = on_ok _ c.allocate.result e.tells.ok e.heap in
+    let heap = on_ok _ c.allocate.result e.tells.ok (λ admits. (e.allocates admits).heap) in
     let here : Allocates g.row.SLI c.index_mut.result.now c.allocate.new.self c.args.len c.allocate.result = record {
       answer_is = e.tells.name;
-      heap = heap;
+      allocates = on_ok _ c.allocate.result e.tells.ok e.allocates;
       counts = e.given;
       err = e.err;
       kinds = e.limits.kinds;
-      touches = e.words_touches;
+      touches = e.few;
       given = left_given _ _ _ c.allocate.result heap e.tells.given;
       rise = e.keeps.touches_rise;
       leaves = e.leaves;

@@ -1,4 +1,4 @@
-use Rattle.std.proofs.Common.{◌≡◌, List, Some, set, sym, ap, ◌∙◌, subst, arith}
+use Rattle.std.proofs.Common.{◌≡◌, List, Some, set, sym, ap, ◌∙◌, subst}
 use Rattle.std.specs.Prelude.{IfSome}
 use Rattle.tlsf_pool.specs.pools.Parts.{PoolsState, Releases, named_in, part_at, part_named, rows_in, table_of, Stay}
 use Rattle.tlsf_pool.specs.pools.Tables.{TableState}
@@ -12,7 +12,7 @@ invariant_of-self g c =
     let found : named_in p.id p.parts c.args.name ≡ Some c.in-Some.part = sym (c.in-Some.ensures ∙ ap (λ (parts : List TableState). named_in p.id parts c.args.name) c.deref.ensures.value) in
     let within = (named_within p.id p.parts c.args.name c.in-Some.part found).0 in
     lift_kept p c.in-Some.part c.index_mut.result.now c.release.new.self (named_in p.id p.parts c.args.name) found within c.index_mut.ensures.value g.row.SLI c.self.invariant c.release.ensures.keeps.is
-    (taken_number c.index_mut.result.now c.release.new.self c.args.name c.release.ensures.heap)
+    (taken_number c.index_mut.result.now c.release.new.self c.args.name c.release.ensures.releases.heap)
 
 pub returns-clause-pools : goal.returns-clause-pools
 returns-clause-pools g c = invariant_of-self g c
@@ -24,7 +24,7 @@ returns-clause-releases g c =
     let within = (named_within p.id p.parts c.args.name c.in-Some.part found).0 in
     let e = c.release.ensures in
     let made : Releases c.index_mut.result.now c.release.new.self c.args.name c.release.result =
-    record { answer_is = e.answer; heap = e.heap; counts = e.returned; err = e.err; kinds = e.limits.kinds; touches = omega (arith, e.most_touches); rise = e.keeps.touches_rise; forged = e.forged; leaves = e.leaves; refused = e.refused } in
+    record { releases = e.releases; counts = e.returned; err = e.err; kinds = e.limits.kinds } in
     subst (λ (q : PoolsState). IfSome (part_named q c.args.name) (λ i. Releases (part_at q i) (part_at (record { id = p.id; parts = set p.parts c.in-Some.part c.release.new.self; extent = p.extent }) i) c.args.name c.release.result)) c.self.view_is
     (lift_both p c.in-Some.part c.index_mut.result.now c.release.new.self (named_in p.id p.parts c.args.name) found within c.index_mut.ensures.value (λ a b. Releases a b c.args.name c.release.result) made)
 

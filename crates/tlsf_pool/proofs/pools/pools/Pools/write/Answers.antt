@@ -11,7 +11,7 @@ invariant_of-self g c =
     let found : named_in p.id p.parts c.args.name ≡ Some c.in-Some.part = sym (c.in-Some.ensures ∙ ap (λ (parts : List TableState). named_in p.id parts c.args.name) c.deref.ensures.value) in
     let within = (named_within p.id p.parts c.args.name c.in-Some.part found).0 in
     lift_kept p c.in-Some.part c.index_mut.result.now c.write.new.self (named_in p.id p.parts c.args.name) found within c.index_mut.ensures.value g.row.SLI c.self.invariant c.write.ensures.keeps.is
-    (written_number c.index_mut.result.now c.write.new.self c.args.name c.args.at c.args.bytes.now c.write.ensures.heap)
+    (written_number c.index_mut.result.now c.write.new.self c.args.name c.args.at c.args.bytes.now c.write.ensures.writes.heap)
 
 pub returns-clause-pools : goal.returns-clause-pools
 returns-clause-pools g c = invariant_of-self g c

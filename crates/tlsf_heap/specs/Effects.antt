@@ -1,0 +1,110 @@
+-- What one call of a heap does, told once: each layer above says it of its own view.
+use Rattle.std.specs.Prelude.{◌≡◌, ℕ, ◌+◌, ◌-◌, ◌*◌, ◌≤◌, ◌↔◌, List, [], Bool, Option, Result, length, OnErr, IsOk, IsErrOf, IsTrue}
+use Rattle.std.specs.Result.{result_unwrap_or}
+use Rattle.tlsf_heap.specs.Blocks.{want, words_for}
+use Rattle.tlsf_heap.specs.Calls.{allocated_words, last_tick, read_answer, read_of, released, resized_words, written}
+use Rattle.tlsf_heap.specs.Footprint.{LeavesLive, LeavesPayloads}
+use Rattle.tlsf_heap.specs.Given.{payload_words_given, payload_words_left}
+use Rattle.tlsf_heap.specs.GoodFit.{fits}
+use Rattle.tlsf_heap.specs.InPlace.{payload_of}
+use Rattle.tlsf_heap.specs.Laws.{IsLive}
+use Rattle.tlsf_heap.specs.Placed.{placed_at}
+use Rattle.tlsf_heap.specs.Reports.{report_of, IsGrant}
+use Rattle.tlsf_heap.specs.Shown.{Seen}
+use Rattle.tlsf_heap.specs.Touched.{FollowsNoForgery, FollowsNoPlace}
+use Rattle.tlsf_heap.specs.declared.name.Name.{Name}
+use Rattle.tlsf_heap.specs.declared.placed_block.PlacedBlock.{PlacedBlock}
+use Rattle.tlsf_heap.specs.declared.refusal.Refusal.{Refusal}
+use Rattle.tlsf_heap.specs.declared.refusal.Refusal.TheVariants.{NoFit}
+use Rattle.tlsf_heap.specs.declared.report.Report.{Report}
+use Rattle.tlsf_heap.specs.ledger.Ledgers.{LedgerState}
+
+-- what a heap with a ledger shows of its heap
+abbrev pub seen_by : {L : Type 0} → LedgerState L → Seen
+seen_by s = record { heap = s.heap; touches = s.touches; touched = s.touched }
+
+-- a request of n words for `len` bytes: it answers and leaves what the sequential heap does, which is NoFit exactly where no block fits, and
+-- a name where one does and the tick isn't at its last value. It takes so many touches at most, and one for each payload word of the block
+-- given, but no more for these than the words wanted for the bytes; none is of a live block's payload
+pub record Allocates (most sli n len : ℕ) (old new : Seen) (answer : Result Name Refusal) : Type 0 where
+  pub answer_is : answer ≡ (allocated_words sli old.heap n len).answer
+  pub heap : new.heap ≡ (allocated_words sli old.heap n len).heap
+  pub no_fit : IsErrOf answer NoFit ↔ (fits sli n old.heap.blocks ≡ [])
+  pub ok : IsOk answer ↔ (¬ (fits sli n old.heap.blocks ≡ []) × ¬ (old.heap.tick ≡ last_tick))
+  pub touches : new.touches ≤ old.touches + most + payload_words_given answer new.heap
+  pub few : new.touches ≤ old.touches + most + want len
+  pub rise : old.touches ≤ new.touches
+  pub leaves : LeavesLive old.heap.blocks old.touched new.touched
+
+-- a release of a name, of so many touches at most: it answers and leaves what the sequential heap does, and touches no other live block's
+-- payload, where it is refused none, and follows no forged name
+pub record Releases (most : ℕ) (old new : Seen) (name : Name) (answer : Result (Unit {0}) Refusal) : Type 0 where
+  pub answer_is : answer ≡ (released old.heap name).answer
+  pub heap : new.heap ≡ (released old.heap name).heap
+  pub touches : new.touches ≤ old.touches + most
+  pub rise : old.touches ≤ new.touches
+  pub leaves : LeavesPayloads old.heap.blocks name.at old.touched new.touched
+  pub refused : OnErr answer (LeavesLive old.heap.blocks old.touched new.touched)
+  pub forged : FollowsNoForgery old new name
+
+-- a resize of the block of a name to n words for `len` bytes. It takes so many touches at most, and one for each payload word of the block
+-- left, but no more for these than one, and one for each word by which the payload grows
+pub record Resizes (most n len : ℕ) (old new : Seen) (name : Name) (answer : Result (Unit {0}) Refusal) : Type 0 where
+  pub answer_is : answer ≡ (resized_words old.heap name n len).answer
+  pub heap : new.heap ≡ (resized_words old.heap name n len).heap
+  pub touches : new.touches ≤ old.touches + most + payload_words_left answer new.heap name
+  pub grown : new.touches ≤ old.touches + most + 1 + (words_for len - words_for (length (payload_of old.heap name)))
+  pub rise : old.touches ≤ new.touches
+  pub leaves : LeavesPayloads old.heap.blocks name.at old.touched new.touched
+  pub refused : OnErr answer (LeavesLive old.heap.blocks old.touched new.touched)
+  pub forged : FollowsNoForgery old new name
+
+-- a write of bytes into the payload of a name's block, from byte `at` of it on
+pub record Writes (most : ℕ) (old new : Seen) (name : Name) (at : ℕ) (bytes : List ℕ) (answer : Result (Unit {0}) Refusal) : Type 0 where
+  pub answer_is : answer ≡ (written old.heap name at bytes).answer
+  pub heap : new.heap ≡ (written old.heap name at bytes).heap
+  pub touches : new.touches ≤ old.touches + most
+  pub rise : old.touches ≤ new.touches
+  pub leaves : LeavesPayloads old.heap.blocks name.at old.touched new.touched
+  pub refused : OnErr answer (LeavesLive old.heap.blocks old.touched new.touched)
+  pub forged : FollowsNoForgery old new name
+
+-- a read of the payload of a name's block, from byte `at` of it on: it fills these bytes with others, and leaves the heap
+pub record Reads (most : ℕ) (old new : Seen) (name : Name) (at : ℕ) (bytes filled : List ℕ) (answer : Result (Unit {0}) Refusal) : Type 0 where
+  pub answer_is : answer ≡ read_answer (read_of old.heap name at (length bytes))
+  pub bytes_are : filled ≡ result_unwrap_or (read_of old.heap name at (length bytes)) bytes
+  pub heap : new.heap ≡ old.heap
+  pub touches : new.touches ≤ old.touches + most
+  pub rise : old.touches ≤ new.touches
+  pub leaves : LeavesPayloads old.heap.blocks name.at old.touched new.touched
+  pub refused : OnErr answer (LeavesLive old.heap.blocks old.touched new.touched)
+  pub forged : FollowsNoForgery old new name
+
+-- a question whether a live block has a name
+pub record AsksLive (old new : Seen) (name : Name) (answer : Bool) : Type 0 where
+  pub live : IsTrue answer ↔ IsLive old.heap name
+  pub heap : new.heap ≡ old.heap
+  pub touches : new.touches ≤ old.touches + 3
+  pub rise : old.touches ≤ new.touches
+  pub leaves : LeavesLive old.heap.blocks old.touched new.touched
+  pub forged : FollowsNoForgery old new name
+
+-- a look at the block that begins at a place
+pub record Looks (old new : Seen) (at : ℕ) (answer : Option PlacedBlock) : Type 0 where
+  pub answer_is : answer ≡ placed_at old.heap.blocks at
+  pub heap : new.heap ≡ old.heap
+  pub touches : new.touches ≤ old.touches + 4
+  pub rise : old.touches ≤ new.touches
+  pub leaves : LeavesLive old.heap.blocks old.touched new.touched
+  pub wild : FollowsNoPlace old.heap at old.touches new.touches
+
+-- a report: what the grant comes to is that no request for more is served, and one for so much is, unless nothing is free. It takes two
+-- touches for each block, and no block has fewer than four words
+pub record Reports (sli : ℕ) (old new : Seen) (report : Report) : Type 0 where
+  pub report_is : report ≡ report_of sli old.heap
+  pub grant : IsGrant sli old.heap.blocks report.grant
+  pub heap : new.heap ≡ old.heap
+  pub touches : new.touches ≤ old.touches + 2 * length old.heap.blocks
+  pub few : 4 * length old.heap.blocks ≤ old.heap.words
+  pub rise : old.touches ≤ new.touches
+  pub leaves : LeavesLive old.heap.blocks old.touched new.touched
