@@ -16,7 +16,7 @@ use Rattle.tlsf_check.specs.Kinds.{header_kinds, passes}
 use Rattle.tlsf_check.specs.Passing.{FindsWrong, IsFirstFailing, all_pass, passing_count}
 use Rattle.tlsf_check.specs.declared.judge.Judge.TheVariants as judge
 use Rattle.tlsf_check.specs.declared.kind.Kind.{Kind}
-use Rattle.tlsf_check.specs.declared.kind.Kind.TheVariants.{Worker, Label, Length, Offset, Payload, Count, Most, Workers, Words, Capacity}
+use Rattle.tlsf_check.specs.declared.kind.Kind.TheVariants.{Worker, Payload, Workers, Words, Capacity}
 use Rattle.tlsf_check.proofs.Astray.{astray_at, never}
 use Rattle.tlsf_check.proofs.LineSpots.{last_of, wrong_or_last}
 use Rattle.tlsf_check.proofs.PassingSteps.{front_passes, next_fails}
@@ -37,16 +37,8 @@ words_pass Two = refl
 
 sample_passes : (kind : Kind) → good kind (sample kind) ≡ true
 unfolding hex_on_literals
-sample_passes Worker = refl
-sample_passes Label = refl
-sample_passes Length = refl
-sample_passes Offset = refl
-sample_passes Payload = refl
-sample_passes Count = refl
-sample_passes Most = refl
-sample_passes Workers = refl
 sample_passes (Words version) = words_pass version
-sample_passes Capacity = refl
+sample_passes kind = refl
 
 -- ---- whether fields are a header, by the first of them
 

@@ -42,12 +42,7 @@ kind_of _ = spelled.Label  -- in no line behind the header
 
 kinds_told : (w : Word) → map kind_of (kinds_behind w) ≡ kinds_of w
 kinds_told word.Allocate = refl
-kinds_told word.Release = refl
-kinds_told word.Write = refl
-kinds_told word.Read = refl
-kinds_told word.Resize = refl
-kinds_told word.Drain = refl
-kinds_told word.Phase = refl
+kinds_told w = refl
 
 -- ---- shapes
 
@@ -63,16 +58,8 @@ payload_shown None = refl
 payload_shown (Some chunk) = refl
 
 shape_told : (workers : ℕ) (kind : Kind) (field : List ℕ) → is_some (value_in workers (kind_of kind) field) ≡ shape kind field
-shape_told workers Worker field = digits_shown (is_digits field) _
-shape_told workers Label field = digits_shown (is_digits field) _
-shape_told workers Length field = digits_shown (is_digits field) _
-shape_told workers Offset field = digits_shown (is_digits field) _
 shape_told workers Payload field = payload_shown (chunk_in field)
-shape_told workers Count field = digits_shown (is_digits field) _
-shape_told workers Most field = digits_shown (is_digits field) _
-shape_told workers Workers field = digits_shown (is_digits field) _
-shape_told workers (Words version) field = digits_shown (is_digits field) _
-shape_told workers Capacity field = digits_shown (is_digits field) _
+shape_told workers kind field = digits_shown (is_digits field) _
 
 both : (value : Option Value) (values : Option (List Value)) → is_some (value >>= λ v. (values >>= λ vs. Some (v ∷ vs))) ≡ cond (is_some value) (is_some values) false
 both None values = refl
@@ -96,15 +83,7 @@ sample _ = codes "1"
 sample_passes : (kind : Kind) → shape kind (sample kind) ≡ true
 unfolding hex_on_literals
 sample_passes Worker = refl
-sample_passes Label = refl
-sample_passes Length = refl
-sample_passes Offset = refl
-sample_passes Payload = refl
-sample_passes Count = refl
-sample_passes Most = refl
-sample_passes Workers = refl
-sample_passes (Words version) = refl
-sample_passes Capacity = refl
+sample_passes kind = refl
 
 -- behind a word a line has its shape where its fields pass
 shaped_line : (workers : ℕ) (first : List ℕ) (w : Word) (fields : List (List ℕ)) → word_of words first ≡ Some w → is_shaped workers (first ∷ fields) ≡ all_pass shape (kinds_behind w) fields
@@ -220,16 +199,11 @@ payload_told (Some chunk) (Number n) is = cc
 payload_told (Some chunk) BadNumber is = cc
 
 value_told : (workers : ℕ) (kind : Kind) (field : List ℕ) (value : Value) → IsOfLine kind → value_in workers (kind_of kind) field ≡ Some value → IsTold (good workers kind field) (kind_of kind) value
-value_told workers Worker field value of is = number_told _ _ _ value is
-value_told workers Label field value of is = number_told _ _ _ value is
-value_told workers Length field value of is = number_told _ _ _ value is
-value_told workers Offset field value of is = number_told _ _ _ value is
 value_told workers Payload field value of is = payload_told (chunk_in field) value is
-value_told workers Count field value of is = number_told _ _ _ value is
-value_told workers Most field value of is = number_told _ _ _ value is
 value_told workers Workers field value of is = absurd of
 value_told workers (Words version) field value of is = absurd of
 value_told workers Capacity field value of is = absurd of
+value_told workers kind field value of is = number_told _ _ _ value is
 
 -- the values are good, one for each kind
 abbrev are_good : List spelled.Kind → List Value → Bool
@@ -242,12 +216,7 @@ IsJudged kinds values i = IsFirstBad values i ⊎ (are_good kinds values ≡ tru
 
 not_good : (kind : spelled.Kind) → is_good kind BadNumber ≡ false
 not_good spelled.Worker = refl
-not_good spelled.Label = refl
-not_good spelled.Length = refl
-not_good spelled.Offset = refl
-not_good spelled.Hex = refl
-not_good spelled.Count = refl
-not_good spelled.Most = refl
+not_good kind = refl
 
 good_is : (kind : spelled.Kind) (value : Value) → is_good kind value ≡ true → value ≡ BadNumber → ⊥
 good_is kind value is bad = let no = not_good kind in cc (ap (λ v. is_good kind v) bad)

@@ -9,7 +9,7 @@ use Rattle.std.proofs.lemmas.List.FromFn.{get_or-map-range_with_len, length-map-
 use Rattle.tlsf_class.specs.Classes.{class_of, last_class, most_words, IsLevel}
 use Rattle.tlsf_class.proofs.ClassOfSize.{class_of-bounds, class_of-rises}
 use Rattle.tlsf_heap.specs.Blocks.{HeapState, want}
-use Rattle.tlsf_heap.specs.Calls.{Call, Allocate, Release, Write, Resize, Read, Answer, Got, opened, run}
+use Rattle.tlsf_heap.specs.Calls.{Call, Allocate, Answer, Got, opened, run}
 use Rattle.tlsf_pool.specs.laws.Kinds.{Ledger, ledger_after, lengths, AreOfKinds, ArePlanned, IsPlanned}
 use Rattle.tlsf_pool.specs.laws.MixedSizes.{HasRoomFor}
 use Rattle.tlsf_pool.specs.declared.kind.Kind.{Kind}
@@ -175,10 +175,7 @@ module _ (row : ℕ → ℕ) (rises : (a b : ℕ) → a ≤ b → row a ≤ row 
       one_planned : (ledger : Ledger) (call : Call) (answer : Answer) (calls : List Call) (answers : List Answer)
           → ((i : ℕ) → i < to → KeepWithin row i (all i) ledger (call ∷ calls) (answer ∷ answers)) → IsPlanned (kinds_of (used (map all (range_with_len 0 to)))) ledger call
       one_planned ledger (Allocate n) answer calls answers each = of_kinds 0 to (n ∷ lengths ledger) (omega arith) (λ i inside. (each i inside).0) (all_between (n ∷ lengths ledger) below)
-      one_planned ledger (Release name) answer calls answers each = tt
-      one_planned ledger (Write name from bytes) answer calls answers each = tt
-      one_planned ledger (Resize name n) answer calls answers each = tt
-      one_planned ledger (Read name from n) answer calls answers each = tt
+      one_planned ledger call answer calls answers each = tt
 
       all_planned : (ledger : Ledger) (calls : List Call) (answers : List Answer) → ((i : ℕ) → i < to → KeepWithin row i (all i) ledger calls answers)
           → ArePlanned (kinds_of (used (map all (range_with_len 0 to)))) ledger calls answers

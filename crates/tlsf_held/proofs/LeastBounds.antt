@@ -13,11 +13,11 @@ use Rattle.tlsf_pool.specs.laws.MixedSizes.{AreModest, IsModest}
 use Rattle.tlsf_calls.specs.Bytes.{bytes_of}
 use Rattle.tlsf_calls.specs.declared.call.Call.{Call}
 use Rattle.tlsf_calls.specs.declared.call.Call.TheVariants.{Allocate, Release, Write, Read, Resize, Take, Drain}
-use Rattle.tlsf_calls.specs.declared.crew_refusal.CrewRefusal.TheVariants.{Heap, Full, Stranger, Unmade}
+use Rattle.tlsf_calls.specs.declared.crew_refusal.CrewRefusal.TheVariants.{Heap}
 use Rattle.tlsf_calls.specs.declared.entry.Entry.{Entry}
 use Rattle.tlsf_calls.specs.declared.event.Event.{Event}
 use Rattle.tlsf_calls.specs.declared.reply.Reply.{Reply}
-use Rattle.tlsf_calls.specs.declared.reply.Reply.TheVariants.{Made, Freed, Posted, Wrote, Got, Resized, Took, Empty, Drained, Refused}
+use Rattle.tlsf_calls.specs.declared.reply.Reply.TheVariants.{Made, Freed, Resized, Took, Refused}
 use Rattle.tlsf_crew.specs.histories.History.{answer_told, answers_on, call_on_own, calls_on, entries_of, meant, name_on_heap}
 use Rattle.tlsf_crew.specs.model.World.{World, replies}
 use Rattle.tlsf_crew.proofs.lemmas.histories.AllEntries.{replies_tell}
@@ -60,14 +60,12 @@ no_answer t None = refl
 no_answer t (Some call) = refl
 
 of_write : (t : Tally) (at : ℕ) (bytes : List ℕ) (o : Option Name) (a : Option heap.Answer) → t ≡ tally_with t (option_map (λ name. heap.Write name at bytes) o) a
-of_write t at bytes None a = refl
-of_write t at bytes (Some name) None = refl
 of_write t at bytes (Some name) (Some answer) = refl
+of_write t at bytes o a = refl
 
 of_read : (t : Tally) (at n : ℕ) (o : Option Name) (a : Option heap.Answer) → t ≡ tally_with t (option_map (λ name. heap.Read name at n) o) a
-of_read t at n None a = refl
-of_read t at n (Some name) None = refl
 of_read t at n (Some name) (Some answer) = refl
+of_read t at n o a = refl
 
 of_post : (t : Tally) (name : Name) (r : Result (Unit {0}) Refusal) → with_release t (is_ok r) ≡ tally_after t (heap.Release name) (heap.Released r)
 of_post t name (Ok done) = refl
@@ -77,59 +75,21 @@ of_post t name (Err why) = refl
 entry_noted : (made : List (Option Name)) (at : ℕ) (t : Tally) (call : Call) (reply : Reply) → is_some (call_on_own made at call reply) ≡ is_some (answer_told call reply)
     → noted t call reply ≡ tally_with t (call_on_own made at call reply) (answer_told call reply)
 entry_noted made at t (Allocate len) (Made name) even = refl
-entry_noted made at t (Allocate len) Freed even = absurd (true≢false even)
-entry_noted made at t (Allocate len) Posted even = absurd (true≢false even)
-entry_noted made at t (Allocate len) (Wrote n) even = absurd (true≢false even)
-entry_noted made at t (Allocate len) (Got bytes) even = absurd (true≢false even)
-entry_noted made at t (Allocate len) Resized even = absurd (true≢false even)
-entry_noted made at t (Allocate len) (Took took) even = absurd (true≢false even)
-entry_noted made at t (Allocate len) Empty even = absurd (true≢false even)
-entry_noted made at t (Allocate len) (Drained n) even = absurd (true≢false even)
 entry_noted made at t (Allocate len) (Refused (Heap why)) even = refl
-entry_noted made at t (Allocate len) (Refused (Full name)) even = absurd (true≢false even)
-entry_noted made at t (Allocate len) (Refused Stranger) even = absurd (true≢false even)
-entry_noted made at t (Allocate len) (Refused Unmade) even = absurd (true≢false even)
-entry_noted made at t (Release target) (Made name) even = no_answer t _
+entry_noted made at t (Allocate len) reply even = absurd (true≢false even)
 entry_noted made at t (Release target) Freed even = by_call t _ heap.Release (name_on_heap at (meant made target Freed)) (heap.Released (Ok tt)) even (λ name. refl)
-entry_noted made at t (Release target) Posted even = no_answer t _
-entry_noted made at t (Release target) (Wrote n) even = no_answer t _
-entry_noted made at t (Release target) (Got bytes) even = no_answer t _
-entry_noted made at t (Release target) Resized even = no_answer t _
-entry_noted made at t (Release target) (Took took) even = no_answer t _
-entry_noted made at t (Release target) Empty even = no_answer t _
-entry_noted made at t (Release target) (Drained n) even = no_answer t _
 entry_noted made at t (Release target) (Refused (Heap why)) even =
     by_call t _ heap.Release (name_on_heap at (meant made target (Refused (Heap why)))) (heap.Released (Err why)) even (λ name. refl)
-entry_noted made at t (Release target) (Refused (Full name)) even = no_answer t _
-entry_noted made at t (Release target) (Refused Stranger) even = no_answer t _
-entry_noted made at t (Release target) (Refused Unmade) even = no_answer t (call_on_own made at (Release target) (Refused Unmade))
+entry_noted made at t (Release target) reply even = no_answer t (call_on_own made at (Release target) reply)
 entry_noted made at t (Write target from bytes) reply even = of_write t from (bytes_of bytes) (meant made target reply) (answer_told (Write target from bytes) reply)
 entry_noted made at t (Read target from n) reply even = of_read t from n (meant made target reply) (answer_told (Read target from n) reply)
-entry_noted made at t (Resize target len) (Made name) even = no_answer t _
-entry_noted made at t (Resize target len) Freed even = no_answer t _
-entry_noted made at t (Resize target len) Posted even = no_answer t _
-entry_noted made at t (Resize target len) (Wrote n) even = no_answer t _
-entry_noted made at t (Resize target len) (Got bytes) even = no_answer t _
 entry_noted made at t (Resize target len) Resized even =
     by_call t _ (λ name. heap.Resize name len) (meant made target Resized) (heap.Resized (Ok tt)) even (λ name. refl)
-entry_noted made at t (Resize target len) (Took took) even = no_answer t _
-entry_noted made at t (Resize target len) Empty even = no_answer t _
-entry_noted made at t (Resize target len) (Drained n) even = no_answer t _
 entry_noted made at t (Resize target len) (Refused (Heap why)) even =
     by_call t _ (λ name. heap.Resize name len) (meant made target (Refused (Heap why))) (heap.Resized (Err why)) even (λ name. refl)
-entry_noted made at t (Resize target len) (Refused (Full name)) even = no_answer t _
-entry_noted made at t (Resize target len) (Refused Stranger) even = no_answer t _
-entry_noted made at t (Resize target len) (Refused Unmade) even = no_answer t (call_on_own made at (Resize target len) (Refused Unmade))
-entry_noted made at t (Take from) (Made name) even = refl
-entry_noted made at t (Take from) Freed even = refl
-entry_noted made at t (Take from) Posted even = refl
-entry_noted made at t (Take from) (Wrote n) even = refl
-entry_noted made at t (Take from) (Got bytes) even = refl
-entry_noted made at t (Take from) Resized even = refl
+entry_noted made at t (Resize target len) reply even = no_answer t (call_on_own made at (Resize target len) reply)
 entry_noted made at t (Take from) (Took took) even = of_post t took.name took.answer
-entry_noted made at t (Take from) Empty even = refl
-entry_noted made at t (Take from) (Drained n) even = refl
-entry_noted made at t (Take from) (Refused why) even = refl
+entry_noted made at t (Take from) reply even = refl
 entry_noted made at t (Drain most) reply even = refl
 
 -- ---- all entries
@@ -173,24 +133,15 @@ module _ (made : List (Option Name)) (workers j : ℕ) (inside : j < workers) wh
 
 quiet_write : (held : ℕ) (name : Name) (at : ℕ) (bytes : List ℕ) (answer : heap.Answer) → held ≡ held_after held (heap.Write name at bytes) answer
 quiet_write held name at bytes (heap.Allocated r) = refl
-quiet_write held name at bytes (heap.Released r) = refl
-quiet_write held name at bytes (heap.Written r) = refl
-quiet_write held name at bytes (heap.Resized r) = refl
-quiet_write held name at bytes (heap.Got r) = refl
+quiet_write held name at bytes answer = refl
 
 quiet_resize : (held : ℕ) (name : Name) (n : ℕ) (answer : heap.Answer) → held ≡ held_after held (heap.Resize name n) answer
 quiet_resize held name n (heap.Allocated r) = refl
-quiet_resize held name n (heap.Released r) = refl
-quiet_resize held name n (heap.Written r) = refl
-quiet_resize held name n (heap.Resized r) = refl
-quiet_resize held name n (heap.Got r) = refl
+quiet_resize held name n answer = refl
 
 quiet_read : (held : ℕ) (name : Name) (at n : ℕ) (answer : heap.Answer) → held ≡ held_after held (heap.Read name at n) answer
 quiet_read held name at n (heap.Allocated r) = refl
-quiet_read held name at n (heap.Released r) = refl
-quiet_read held name at n (heap.Written r) = refl
-quiet_read held name at n (heap.Resized r) = refl
-quiet_read held name at n (heap.Got r) = refl
+quiet_read held name at n answer = refl
 
 held_is : (t : Tally) (call : heap.Call) (answer : heap.Answer) → (tally_after t call answer).held ≡ held_after t.held call answer
 held_is t (heap.Allocate n) answer = refl

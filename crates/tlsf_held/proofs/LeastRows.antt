@@ -37,12 +37,8 @@ module _ (row : ℕ → ℕ) where
   noted_whole rows len lens = length-set rows (row len) (joined (get_or rows (row len) no_row) (row_in row (row len) lens))
 
   behind_whole : (rows : List Row) (len : ℕ) (answer : Answer) (ledger : Ledger) → length (rows_behind row rows len answer ledger) ≡ length rows
-  behind_whole rows len (Allocated r) ledger = refl
-  behind_whole rows len (Released r) ledger = refl
-  behind_whole rows len (Written r) ledger = refl
   behind_whole rows len (Resized (Ok done)) ledger = noted_whole rows len (lengths ledger)
-  behind_whole rows len (Resized (Err why)) ledger = refl
-  behind_whole rows len (Got r) ledger = refl
+  behind_whole rows len answer ledger = refl
 
   after_whole : (rows : List Row) (call : Call) (answer : Answer) (ledger behind : Ledger) → length (rows_after row rows call answer ledger behind) ≡ length rows
   after_whole rows (Allocate len) answer ledger behind = noted_whole rows len (len ∷ lengths ledger)
@@ -166,12 +162,8 @@ module _ (row : ℕ → ℕ) (at : ℕ) where
   ]
 
   own_behind : (rows : List Row) (len : ℕ) (answer : Answer) (ledger : Ledger) → at < length rows → HasOwn (get_or rows at no_row) → HasOwn (get_or (rows_behind row rows len answer ledger) at no_row)
-  own_behind rows len (Allocated r) ledger inside own = own
-  own_behind rows len (Released r) ledger inside own = own
-  own_behind rows len (Written r) ledger inside own = own
   own_behind rows len (Resized (Ok done)) ledger inside own = own_raised rows len (lengths ledger) inside own
-  own_behind rows len (Resized (Err why)) ledger inside own = own
-  own_behind rows len (Got r) ledger inside own = own
+  own_behind rows len answer ledger inside own = own
 
   own_after : (rows : List Row) (call : Call) (answer : Answer) (ledger behind : Ledger) → at < length rows → HasOwn (get_or rows at no_row)
       → HasOwn (get_or (rows_after row rows call answer ledger behind) at no_row)
@@ -212,19 +204,11 @@ module _ (row : ℕ → ℕ) (at : ℕ) where
 
   given_within : (ledger : Ledger) (len : ℕ) (answer : Answer) → IsWithin (row_in row at (lengths (ledger_after ledger (Allocate len) answer))) (row_in row at (len ∷ lengths ledger))
   given_within ledger len (Allocated (Ok name)) = same_within (row_in row at (len ∷ lengths ledger))
-  given_within ledger len (Allocated (Err why)) = cons_within len (lengths ledger)
-  given_within ledger len (Released r) = cons_within len (lengths ledger)
-  given_within ledger len (Written r) = cons_within len (lengths ledger)
-  given_within ledger len (Resized r) = cons_within len (lengths ledger)
-  given_within ledger len (Got r) = cons_within len (lengths ledger)
+  given_within ledger len answer = cons_within len (lengths ledger)
 
   taken_within : (ledger : Ledger) (name : Name) (answer : Answer) → IsWithin (row_in row at (lengths (ledger_after ledger (Release name) answer))) (row_in row at (lengths ledger))
-  taken_within ledger name (Allocated r) = same_within (row_in row at (lengths ledger))
   taken_within ledger name (Released (Ok done)) = freed_within name ledger
-  taken_within ledger name (Released (Err why)) = same_within (row_in row at (lengths ledger))
-  taken_within ledger name (Written r) = same_within (row_in row at (lengths ledger))
-  taken_within ledger name (Resized r) = same_within (row_in row at (lengths ledger))
-  taken_within ledger name (Got r) = same_within (row_in row at (lengths ledger))
+  taken_within ledger name answer = same_within (row_in row at (lengths ledger))
 
   -- the rows stay, and what is held is no more
   module _ (rows : List Row) (ledger : Ledger) (inside : at < length rows) (held : IsWithin (row_in row at (lengths ledger)) (get_or rows at no_row)) where
@@ -277,10 +261,7 @@ module _ (row : ℕ → ℕ) (at : ℕ) where
 
   asked_first : (bound : Row) (ledger : Ledger) (call : Call) → IsWithin (row_in row at (lengths_with ledger call)) bound → IsWithin (row_in row at (lengths ledger)) bound
   asked_first bound ledger (Allocate len) within = within_trans _ _ _ (cons_within len (lengths ledger)) within
-  asked_first bound ledger (Release name) within = within
-  asked_first bound ledger (Write name from bytes) within = within
-  asked_first bound ledger (Resize name len) within = within
-  asked_first bound ledger (Read name from n) within = within
+  asked_first bound ledger call within = within
 
   held_now : (bound : Row) (ledger : Ledger) (calls : List Call) (answers : List Answer) → KeepWithin row at bound ledger calls answers → IsWithin (row_in row at (lengths ledger)) bound
   held_now bound ledger [] answers keep = keep

@@ -14,11 +14,11 @@ use Rattle.tlsf_pool.specs.laws.Kinds.{Ledger, ledger_after}
 use Rattle.tlsf_calls.specs.Bytes.{bytes_of}
 use Rattle.tlsf_calls.specs.declared.call.Call.{Call}
 use Rattle.tlsf_calls.specs.declared.call.Call.TheVariants.{Allocate, Release, Write, Read, Resize, Take, Drain}
-use Rattle.tlsf_calls.specs.declared.crew_refusal.CrewRefusal.TheVariants.{Heap, Full, Stranger, Unmade}
+use Rattle.tlsf_calls.specs.declared.crew_refusal.CrewRefusal.TheVariants.{Heap}
 use Rattle.tlsf_calls.specs.declared.entry.Entry.{Entry}
 use Rattle.tlsf_calls.specs.declared.event.Event.{Event}
 use Rattle.tlsf_calls.specs.declared.reply.Reply.{Reply}
-use Rattle.tlsf_calls.specs.declared.reply.Reply.TheVariants.{Made, Freed, Posted, Wrote, Got, Resized, Took, Empty, Drained, Refused}
+use Rattle.tlsf_calls.specs.declared.reply.Reply.TheVariants.{Made, Freed, Resized, Took, Refused}
 use Rattle.tlsf_crew.specs.histories.History.{answer_told, answers_on, call_on_own, calls_on, entries_of, meant, name_on_heap}
 use Rattle.tlsf_crew.specs.model.World.{World, name_of, replies}
 use Rattle.tlsf_crew.proofs.lemmas.histories.AllEntries.{replies_tell}
@@ -60,14 +60,12 @@ no_answer a None = refl
 no_answer a (Some call) = refl
 
 of_write : (a : Account) (at : ℕ) (bytes : List ℕ) (o : Option Name) (answer : Option heap.Answer) → a ≡ account_with a (option_map (λ name. heap.Write name at bytes) o) answer
-of_write a at bytes None answer = refl
-of_write a at bytes (Some name) None = refl
 of_write a at bytes (Some name) (Some answer) = refl
+of_write a at bytes o answer = refl
 
 of_read : (a : Account) (at n : ℕ) (o : Option Name) (answer : Option heap.Answer) → a ≡ account_with a (option_map (λ name. heap.Read name at n) o) answer
-of_read a at n None answer = refl
-of_read a at n (Some name) None = refl
 of_read a at n (Some name) (Some answer) = refl
+of_read a at n o answer = refl
 
 own_freed : (a : Account) (name : Name) (own : Bool) → is_some (option_map heap.Release (cond own (Some name) None)) ≡ true
     → with_taken a (Some name) ≡ account_with a (option_map heap.Release (cond own (Some name) None)) (Some (heap.Released (Ok tt)))
@@ -99,59 +97,21 @@ of_post a name (Err why) = refl
 pub entry_accounted : (made : List (Option Name)) (at : ℕ) (a : Account) (call : Call) (reply : Reply) → is_some (call_on_own made at call reply) ≡ is_some (answer_told call reply)
     → accounted made a call reply ≡ account_with a (call_on_own made at call reply) (answer_told call reply)
 entry_accounted made at a (Allocate len) (Made name) even = refl
-entry_accounted made at a (Allocate len) Freed even = absurd (true≢false even)
-entry_accounted made at a (Allocate len) Posted even = absurd (true≢false even)
-entry_accounted made at a (Allocate len) (Wrote n) even = absurd (true≢false even)
-entry_accounted made at a (Allocate len) (Got bytes) even = absurd (true≢false even)
-entry_accounted made at a (Allocate len) Resized even = absurd (true≢false even)
-entry_accounted made at a (Allocate len) (Took took) even = absurd (true≢false even)
-entry_accounted made at a (Allocate len) Empty even = absurd (true≢false even)
-entry_accounted made at a (Allocate len) (Drained n) even = absurd (true≢false even)
 entry_accounted made at a (Allocate len) (Refused (Heap why)) even = refl
-entry_accounted made at a (Allocate len) (Refused (Full name)) even = absurd (true≢false even)
-entry_accounted made at a (Allocate len) (Refused Stranger) even = absurd (true≢false even)
-entry_accounted made at a (Allocate len) (Refused Unmade) even = absurd (true≢false even)
-entry_accounted made at a (Release target) (Made name) even = no_answer a _
+entry_accounted made at a (Allocate len) reply even = absurd (true≢false even)
 entry_accounted made at a (Release target) Freed even = of_freed a at (name_of made target) even
-entry_accounted made at a (Release target) Posted even = no_answer a _
-entry_accounted made at a (Release target) (Wrote n) even = no_answer a _
-entry_accounted made at a (Release target) (Got bytes) even = no_answer a _
-entry_accounted made at a (Release target) Resized even = no_answer a _
-entry_accounted made at a (Release target) (Took took) even = no_answer a _
-entry_accounted made at a (Release target) Empty even = no_answer a _
-entry_accounted made at a (Release target) (Drained n) even = no_answer a _
 entry_accounted made at a (Release target) (Refused (Heap why)) even =
     not_freed a why (name_on_heap at (name_of made target))
-entry_accounted made at a (Release target) (Refused (Full name)) even = no_answer a _
-entry_accounted made at a (Release target) (Refused Stranger) even = no_answer a _
-entry_accounted made at a (Release target) (Refused Unmade) even = no_answer a (call_on_own made at (Release target) (Refused Unmade))
+entry_accounted made at a (Release target) reply even = no_answer a (call_on_own made at (Release target) reply)
 entry_accounted made at a (Write target from bytes) reply even = of_write a from (bytes_of bytes) (meant made target reply) (answer_told (Write target from bytes) reply)
 entry_accounted made at a (Read target from n) reply even = of_read a from n (meant made target reply) (answer_told (Read target from n) reply)
-entry_accounted made at a (Resize target len) (Made name) even = no_answer a _
-entry_accounted made at a (Resize target len) Freed even = no_answer a _
-entry_accounted made at a (Resize target len) Posted even = no_answer a _
-entry_accounted made at a (Resize target len) (Wrote n) even = no_answer a _
-entry_accounted made at a (Resize target len) (Got bytes) even = no_answer a _
 entry_accounted made at a (Resize target len) Resized even =
     of_resized a len (name_of made target)
-entry_accounted made at a (Resize target len) (Took took) even = no_answer a _
-entry_accounted made at a (Resize target len) Empty even = no_answer a _
-entry_accounted made at a (Resize target len) (Drained n) even = no_answer a _
 entry_accounted made at a (Resize target len) (Refused (Heap why)) even =
     not_resized a len why (name_of made target)
-entry_accounted made at a (Resize target len) (Refused (Full name)) even = no_answer a _
-entry_accounted made at a (Resize target len) (Refused Stranger) even = no_answer a _
-entry_accounted made at a (Resize target len) (Refused Unmade) even = no_answer a (call_on_own made at (Resize target len) (Refused Unmade))
-entry_accounted made at a (Take from) (Made name) even = refl
-entry_accounted made at a (Take from) Freed even = refl
-entry_accounted made at a (Take from) Posted even = refl
-entry_accounted made at a (Take from) (Wrote n) even = refl
-entry_accounted made at a (Take from) (Got bytes) even = refl
-entry_accounted made at a (Take from) Resized even = refl
+entry_accounted made at a (Resize target len) reply even = no_answer a (call_on_own made at (Resize target len) reply)
 entry_accounted made at a (Take from) (Took took) even = of_post a took.name took.answer
-entry_accounted made at a (Take from) Empty even = refl
-entry_accounted made at a (Take from) (Drained n) even = refl
-entry_accounted made at a (Take from) (Refused why) even = refl
+entry_accounted made at a (Take from) reply even = refl
 entry_accounted made at a (Drain most) reply even = refl
 
 -- ---- all entries
@@ -197,42 +157,24 @@ fewer_words name (entry ∷ ledger) = kept_words (not (is_same name entry.0)) en
 
 given_words : (ledger : Ledger) (len : ℕ) (answer : heap.Answer) → wanted_in (ledger_after ledger (heap.Allocate len) answer) ≤ want len + wanted_in ledger
 given_words ledger len (heap.Allocated (Ok name)) = omega arith
-given_words ledger len (heap.Allocated (Err why)) = omega arith
-given_words ledger len (heap.Released r) = omega arith
-given_words ledger len (heap.Written r) = omega arith
-given_words ledger len (heap.Resized r) = omega arith
-given_words ledger len (heap.Got r) = omega arith
+given_words ledger len answer = omega arith
 
 freed_words : (ledger : Ledger) (name : Name) (answer : heap.Answer) → wanted_in (ledger_after ledger (heap.Release name) answer) ≤ wanted_in ledger
-freed_words ledger name (heap.Allocated r) = omega arith
 freed_words ledger name (heap.Released (Ok done)) = fewer_words name ledger
-freed_words ledger name (heap.Released (Err why)) = omega arith
-freed_words ledger name (heap.Written r) = omega arith
-freed_words ledger name (heap.Resized r) = omega arith
-freed_words ledger name (heap.Got r) = omega arith
+freed_words ledger name answer = omega arith
 
 -- the ledger is that of the law
 pub written_ledger : (ledger : Ledger) (name : Name) (at : ℕ) (bytes : List ℕ) (answer : heap.Answer) → ledger ≡ ledger_after ledger (heap.Write name at bytes) answer
 written_ledger ledger name at bytes (heap.Allocated r) = refl
-written_ledger ledger name at bytes (heap.Released r) = refl
-written_ledger ledger name at bytes (heap.Written r) = refl
-written_ledger ledger name at bytes (heap.Resized r) = refl
-written_ledger ledger name at bytes (heap.Got r) = refl
+written_ledger ledger name at bytes answer = refl
 
 pub read_ledger : (ledger : Ledger) (name : Name) (at n : ℕ) (answer : heap.Answer) → ledger ≡ ledger_after ledger (heap.Read name at n) answer
 read_ledger ledger name at n (heap.Allocated r) = refl
-read_ledger ledger name at n (heap.Released r) = refl
-read_ledger ledger name at n (heap.Written r) = refl
-read_ledger ledger name at n (heap.Resized r) = refl
-read_ledger ledger name at n (heap.Got r) = refl
+read_ledger ledger name at n answer = refl
 
 resized_ledger : (a : Account) (name : Name) (len : ℕ) (answer : heap.Answer) → (resized_after a name len answer).ledger ≡ ledger_after a.ledger (heap.Resize name len) answer
-resized_ledger a name len (heap.Allocated r) = refl
-resized_ledger a name len (heap.Released r) = refl
-resized_ledger a name len (heap.Written r) = refl
 resized_ledger a name len (heap.Resized (Ok done)) = refl
-resized_ledger a name len (heap.Resized (Err why)) = refl
-resized_ledger a name len (heap.Got r) = refl
+resized_ledger a name len answer = refl
 
 pub ledger_is : (a : Account) (call : heap.Call) (answer : heap.Answer) → (account_after a call answer).ledger ≡ ledger_after a.ledger call answer
 ledger_is a (heap.Allocate len) answer = refl
@@ -246,26 +188,18 @@ abbrev IsWithin : Account → Type 0
 IsWithin a = wanted_in a.ledger ≤ a.most
 
 resized_within : (a : Account) (name : Name) (len : ℕ) (answer : heap.Answer) → IsWithin a → IsWithin (resized_after a name len answer)
-resized_within a name len (heap.Allocated r) within = within
-resized_within a name len (heap.Released r) within = within
-resized_within a name len (heap.Written r) within = within
 resized_within a name len (heap.Resized (Ok done)) within = omega arith
-resized_within a name len (heap.Resized (Err why)) within = within
-resized_within a name len (heap.Got r) within = within
+resized_within a name len answer within = within
 
 within_after : (a : Account) (call : heap.Call) (answer : heap.Answer) → IsWithin a → IsWithin (account_after a call answer)
 within_after a (heap.Allocate len) answer within = omega (arith, given_words a.ledger len answer)
 within_after a (heap.Release name) answer within = omega (arith, freed_words a.ledger name answer, within)
-within_after a (heap.Write name at bytes) answer within = within
 within_after a (heap.Resize name len) answer within = resized_within a name len answer within
-within_after a (heap.Read name at n) answer within = within
+within_after a call answer within = within
 
 wanted_first : (words : ℕ) (ledger : Ledger) (call : heap.Call) → wanted_with ledger call ≤ words → wanted_in ledger ≤ words
 wanted_first words ledger (heap.Allocate len) upto = omega (arith, upto)
-wanted_first words ledger (heap.Release name) upto = upto
-wanted_first words ledger (heap.Write name at bytes) upto = upto
-wanted_first words ledger (heap.Resize name len) upto = upto
-wanted_first words ledger (heap.Read name at n) upto = upto
+wanted_first words ledger call upto = upto
 
 module _ (words : ℕ) where
   wanted_now : (ledger : Ledger) (calls : List heap.Call) (answers : List heap.Answer) → WantAtMost words ledger calls answers → wanted_in ledger ≤ words
@@ -274,19 +208,13 @@ module _ (words : ℕ) where
   wanted_now ledger (call ∷ calls) (answer ∷ answers) upto = wanted_first words ledger call upto.0
 
   resize_keeps : (a : Account) (name : Name) (len : ℕ) (answer : heap.Answer) → wanted_in (resized_after a name len answer).ledger ≤ words → a.most ≤ words → (resized_after a name len answer).most ≤ words
-  resize_keeps a name len (heap.Allocated r) upto most = most
-  resize_keeps a name len (heap.Released r) upto most = most
-  resize_keeps a name len (heap.Written r) upto most = most
   resize_keeps a name len (heap.Resized (Ok done)) upto most = omega (arith, upto, most)
-  resize_keeps a name len (heap.Resized (Err why)) upto most = most
-  resize_keeps a name len (heap.Got r) upto most = most
+  resize_keeps a name len answer upto most = most
 
   call_keeps : (a : Account) (call : heap.Call) (answer : heap.Answer) → wanted_with a.ledger call ≤ words → wanted_in (account_after a call answer).ledger ≤ words → a.most ≤ words → (account_after a call answer).most ≤ words
   call_keeps a (heap.Allocate len) answer upto behind most = omega (arith, upto, most)
-  call_keeps a (heap.Release name) answer upto behind most = most
-  call_keeps a (heap.Write name at bytes) answer upto behind most = most
   call_keeps a (heap.Resize name len) answer upto behind most = resize_keeps a name len answer behind most
-  call_keeps a (heap.Read name at n) answer upto behind most = most
+  call_keeps a call answer upto behind most = most
 
   calls_keep : (a : Account) (calls : List heap.Call) (answers : List heap.Answer) → WantAtMost words a.ledger calls answers → a.most ≤ words → (account_after_all a calls answers).most ≤ words
   calls_keep a [] answers upto most = most
@@ -296,12 +224,8 @@ module _ (words : ℕ) where
       calls_keep (account_after a call answer) calls answers rest (call_keeps a call answer upto.0 (wanted_now (account_after a call answer).ledger calls answers rest) most)
 
   resize_kept : (a : Account) (name : Name) (len : ℕ) (answer : heap.Answer) → (resized_after a name len answer).most ≤ words → a.most ≤ words
-  resize_kept a name len (heap.Allocated r) most = most
-  resize_kept a name len (heap.Released r) most = most
-  resize_kept a name len (heap.Written r) most = most
   resize_kept a name len (heap.Resized (Ok done)) most = omega (arith, most)
-  resize_kept a name len (heap.Resized (Err why)) most = most
-  resize_kept a name len (heap.Got r) most = most
+  resize_kept a name len answer most = most
 
   call_kept : (a : Account) (call : heap.Call) (answer : heap.Answer) → IsWithin a → (account_after a call answer).most ≤ words → (wanted_with a.ledger call ≤ words) × (a.most ≤ words)
   call_kept a (heap.Allocate len) answer within most = (omega (arith, most), omega (arith, most))

@@ -11,10 +11,10 @@ use Rattle.tlsf_heap.specs.declared.refusal.Refusal.{Refusal}
 use Rattle.tlsf_pool.specs.laws.Kinds.{Ledger, ledger_after, lengths}
 use Rattle.tlsf_calls.specs.declared.call.Call.{Call}
 use Rattle.tlsf_calls.specs.declared.call.Call.TheVariants.{Allocate, Release, Write, Read, Resize, Take, Drain}
-use Rattle.tlsf_calls.specs.declared.crew_refusal.CrewRefusal.TheVariants.{Heap, Full, Stranger, Unmade}
+use Rattle.tlsf_calls.specs.declared.crew_refusal.CrewRefusal.TheVariants.{Heap}
 use Rattle.tlsf_calls.specs.declared.entry.Entry.{Entry}
 use Rattle.tlsf_calls.specs.declared.reply.Reply.{Reply}
-use Rattle.tlsf_calls.specs.declared.reply.Reply.TheVariants.{Made, Freed, Posted, Wrote, Got, Resized, Took, Empty, Drained, Refused}
+use Rattle.tlsf_calls.specs.declared.reply.Reply.TheVariants.{Made, Resized, Refused}
 use Rattle.tlsf_crew.specs.histories.History.{answer_told, answers_on, call_on_own, calls_on, entries_of}
 use Rattle.tlsf_crew.specs.model.World.{name_of}
 use Rattle.tlsf_crew.proofs.lemmas.histories.JoinedEntries.{HasItsAnswer}
@@ -70,19 +70,16 @@ module _ (row : ℕ → ℕ) (rows : List Row) (before behind : Ledger) where
   no_answer (Some call) = refl
 
   of_release : (o : Option Name) (r : Option heap.Answer) → rows ≡ rows_with row rows (option_map heap.Release o) r before behind
-  of_release None r = refl
-  of_release (Some name) None = refl
   of_release (Some name) (Some answer) = refl
+  of_release o r = refl
 
   of_write : (at : ℕ) (bytes : List ℕ) (o : Option Name) (r : Option heap.Answer) → rows ≡ rows_with row rows (option_map (λ name. heap.Write name at bytes) o) r before behind
-  of_write at bytes None r = refl
-  of_write at bytes (Some name) None = refl
   of_write at bytes (Some name) (Some answer) = refl
+  of_write at bytes o r = refl
 
   of_read : (at n : ℕ) (o : Option Name) (r : Option heap.Answer) → rows ≡ rows_with row rows (option_map (λ name. heap.Read name at n) o) r before behind
-  of_read at n None r = refl
-  of_read at n (Some name) None = refl
   of_read at n (Some name) (Some answer) = refl
+  of_read at n o r = refl
 
   resized : (len : ℕ) (o : Option Name) → is_some (option_map (λ name. heap.Resize name len) o) ≡ true
       → with_lengths row rows len (lengths behind) ≡ rows_with row rows (option_map (λ name. heap.Resize name len) o) (Some (heap.Resized (Ok tt))) before behind
@@ -97,34 +94,14 @@ module _ (row : ℕ → ℕ) (rows : List Row) (before behind : Ledger) where
   entry_rows : (made : List (Option Name)) (at : ℕ) (call : Call) (reply : Reply) → is_some (call_on_own made at call reply) ≡ is_some (answer_told call reply)
       → rows_left row (rows_asked row rows call before) call reply behind ≡ rows_with row rows (call_on_own made at call reply) (answer_told call reply) before behind
   entry_rows made at (Allocate len) (Made name) even = refl
-  entry_rows made at (Allocate len) Freed even = absurd (true≢false even)
-  entry_rows made at (Allocate len) Posted even = absurd (true≢false even)
-  entry_rows made at (Allocate len) (Wrote n) even = absurd (true≢false even)
-  entry_rows made at (Allocate len) (Got bytes) even = absurd (true≢false even)
-  entry_rows made at (Allocate len) Resized even = absurd (true≢false even)
-  entry_rows made at (Allocate len) (Took took) even = absurd (true≢false even)
-  entry_rows made at (Allocate len) Empty even = absurd (true≢false even)
-  entry_rows made at (Allocate len) (Drained n) even = absurd (true≢false even)
   entry_rows made at (Allocate len) (Refused (Heap why)) even = refl
-  entry_rows made at (Allocate len) (Refused (Full name)) even = absurd (true≢false even)
-  entry_rows made at (Allocate len) (Refused Stranger) even = absurd (true≢false even)
-  entry_rows made at (Allocate len) (Refused Unmade) even = absurd (true≢false even)
+  entry_rows made at (Allocate len) reply even = absurd (true≢false even)
   entry_rows made at (Release target) reply even = of_release _ (answer_told (Release target) reply)
   entry_rows made at (Write target from bytes) reply even = of_write from _ _ (answer_told (Write target from bytes) reply)
   entry_rows made at (Read target from n) reply even = of_read from n _ (answer_told (Read target from n) reply)
-  entry_rows made at (Resize target len) (Made name) even = no_answer _
-  entry_rows made at (Resize target len) Freed even = no_answer _
-  entry_rows made at (Resize target len) Posted even = no_answer _
-  entry_rows made at (Resize target len) (Wrote n) even = no_answer _
-  entry_rows made at (Resize target len) (Got bytes) even = no_answer _
   entry_rows made at (Resize target len) Resized even = resized len (name_of made target) even
-  entry_rows made at (Resize target len) (Took took) even = no_answer _
-  entry_rows made at (Resize target len) Empty even = no_answer _
-  entry_rows made at (Resize target len) (Drained n) even = no_answer _
   entry_rows made at (Resize target len) (Refused (Heap why)) even = not_resized len why (name_of made target)
-  entry_rows made at (Resize target len) (Refused (Full name)) even = no_answer _
-  entry_rows made at (Resize target len) (Refused Stranger) even = no_answer _
-  entry_rows made at (Resize target len) (Refused Unmade) even = no_answer (call_on_own made at (Resize target len) (Refused Unmade))
+  entry_rows made at (Resize target len) reply even = no_answer (call_on_own made at (Resize target len) reply)
   entry_rows made at (Take from) reply even = of_release _ (answer_told (Take from) reply)
   entry_rows made at (Drain most) reply even = refl
 

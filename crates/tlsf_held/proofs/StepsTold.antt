@@ -6,10 +6,10 @@ use Rattle.tlsf_heap.specs.declared.name.Name.{Name}
 use Rattle.tlsf_pool.specs.laws.Contents.{is_same}
 use Rattle.tlsf_pool.specs.laws.Kinds.{Ledger, lengths, with_length}
 use Rattle.tlsf_calls.specs.declared.call.Call.{Call}
-use Rattle.tlsf_calls.specs.declared.call.Call.TheVariants.{Allocate, Release, Write, Read, Resize, Take, Drain}
+use Rattle.tlsf_calls.specs.declared.call.Call.TheVariants.{Allocate, Release, Resize, Take}
 use Rattle.tlsf_calls.specs.declared.entry.Entry.{Entry}
 use Rattle.tlsf_calls.specs.declared.reply.Reply.{Reply}
-use Rattle.tlsf_calls.specs.declared.reply.Reply.TheVariants.{Made, Freed as WasFreed, Posted, Wrote, Got, Resized, Took, Empty, Drained, Refused}
+use Rattle.tlsf_calls.specs.declared.reply.Reply.TheVariants.{Made, Resized}
 use Rattle.tlsf_crew.specs.model.World.{name_of}
 use Rattle.tlsf_held.specs.Loans.{accounted, freed_by, with_resized, with_taken, Account}
 use Rattle.tlsf_held.specs.Merges.{is_between, span_of}
@@ -275,30 +275,12 @@ module _ (from to : ℕ) where
 
     entry : (made : List (Option Name)) (call : Call) (reply : Reply) → Tells (span_after from to span (entry_steps made ledger call reply)) (row_accounted (span_of from to) made told call reply)
     entry made (Allocate len) (Made name) = given len _ name refl
-    entry made (Allocate len) WasFreed = not_given len _ refl
-    entry made (Allocate len) Posted = not_given len _ refl
-    entry made (Allocate len) (Wrote n) = not_given len _ refl
-    entry made (Allocate len) (Got bytes) = not_given len _ refl
-    entry made (Allocate len) Resized = not_given len _ refl
-    entry made (Allocate len) (Took took) = not_given len _ refl
-    entry made (Allocate len) Empty = not_given len _ refl
-    entry made (Allocate len) (Drained n) = not_given len _ refl
-    entry made (Allocate len) (Refused why) = not_given len _ refl
+    entry made (Allocate len) reply = not_given len _ refl
     entry made (Release target) reply = of_taken (freed_by made (Release target) reply)
     entry made (Take from) reply = of_taken (freed_by made (Take from) reply)
-    entry made (Resize target len) (Made name) = stays told.account refl
-    entry made (Resize target len) WasFreed = stays told.account refl
-    entry made (Resize target len) Posted = stays told.account refl
-    entry made (Resize target len) (Wrote n) = stays told.account refl
-    entry made (Resize target len) (Got bytes) = stays told.account refl
     entry made (Resize target len) Resized = resized len (name_of made target)
-    entry made (Resize target len) (Took took) = stays told.account refl
-    entry made (Resize target len) Empty = stays told.account refl
-    entry made (Resize target len) (Drained n) = stays told.account refl
-    entry made (Resize target len) (Refused why) = stays told.account refl
-    entry made (Write target at bytes) reply = stays told.account refl
-    entry made (Read target at n) reply = stays told.account refl
-    entry made (Drain most) reply = stays told.account refl
+    entry made (Resize target len) reply = stays told.account refl
+    entry made other reply = stays told.account refl
 
   -- ---- all entries
 

@@ -1,4 +1,4 @@
--- Events that are kept: one more, and which can be.
+-- Events that are kept: one more.
 use Rattle.std.proofs.Common.{◌≡◌, ℕ, ◌+◌, ◌-◌, ◌≤◌, List, [], ◌∷◌, ◌++◌, length, take, drop, map, Option, Some, None, All, refl, ap, sym, subst, ◌∙◌, arith, length-append}
 use Rattle.std.proofs.lemmas.List.{drop-map, get_or_append_left, map-append, take-map, take_all}
 use Rattle.std.proofs.lemmas.List.Elements.{All-head, All-push, All-tail, All-weaker}
@@ -7,43 +7,17 @@ use Rattle.tlsf_calls.specs.declared.call.Call.{Call}
 use Rattle.tlsf_calls.specs.declared.call.Call.TheVariants as call
 use Rattle.tlsf_calls.specs.declared.chunk.Chunk.{Chunk}
 use Rattle.tlsf_calls.specs.declared.event.Event.{Event}
-use Rattle.tlsf_calls.specs.declared.target.Target.{Target}
 use Rattle.tlsf_lines.specs.declared.kept_event.KeptCall.{KeptCall}
-use Rattle.tlsf_lines.specs.declared.kept_event.KeptCall.TheVariants.{Allocate, Release, Write, Read, Resize, Drain}
+use Rattle.tlsf_lines.specs.declared.kept_event.KeptCall.TheVariants.{Write}
 use Rattle.tlsf_lines.specs.declared.kept_event.KeptEvent.{KeptEvent}
-use Rattle.tlsf_lines.specs.declared.line.Line.{Line}
-use Rattle.tlsf_lines.specs.declared.line.Line.TheVariants as line
-use Rattle.tlsf_lines.specs.Events.{made_by, maker_of, target_used}
-use Rattle.tlsf_lines.specs.KeptEvents.{Grows, IsCallWithin, IsMade, IsWithin, call_kept, event_kept}
-
--- ---- what a line uses
-
-made_is_made : (maker : Option ℕ) → IsMade (made_by maker)
-made_is_made None = tt
-made_is_made (Some k) = tt
-
-line_uses_made : (workers : ℕ) (before : List Line) (line : Line) → IsMade (target_used workers before line)
-line_uses_made workers before (line.Allocate worker label len) = tt
-line_uses_made workers before (line.Release worker label) = made_is_made (maker_of workers label before)
-line_uses_made workers before (line.Write worker label at bytes) = made_is_made (maker_of workers label before)
-line_uses_made workers before (line.Read worker label at n) = made_is_made (maker_of workers label before)
-line_uses_made workers before (line.Resize worker label len) = made_is_made (maker_of workers label before)
-line_uses_made workers before (line.Drain worker most) = tt
-line_uses_made workers before line.Phase = tt
-
--- what a line uses has no name
-pub used_is_made : (workers : ℕ) (before : List Line) (line : Line) (target : Target) → target ≡ target_used workers before line → IsMade target
-used_is_made workers before line target is = subst IsMade (sym is) (line_uses_made workers before line)
+use Rattle.tlsf_lines.specs.Events.{made_by}
+use Rattle.tlsf_lines.specs.KeptEvents.{Grows, IsCallWithin, IsWithin, call_kept, event_kept}
 
 -- ---- the bytes of more writes
 
 call_stays : (chunks more : List Chunk) (kept : KeptCall) → IsCallWithin (length chunks) kept → call_kept (chunks ++ more) kept ≡ call_kept chunks kept
-call_stays chunks more (Allocate len) within = refl
-call_stays chunks more (Release made) within = refl
 call_stays chunks more (Write made at place) within = ap (λ (bytes : Chunk). call.Write (made_by made) at bytes) (get_or_append_left chunks more (chunk_of []) place within)
-call_stays chunks more (Read made at n) within = refl
-call_stays chunks more (Resize made len) within = refl
-call_stays chunks more (Drain most) within = refl
+call_stays chunks more kept within = refl
 
 abbrev event_by : ℕ → Call → Event
 event_by worker call = record { worker = worker; call = call }
@@ -55,12 +29,8 @@ events_stay chunks more (k ∷ kept) within =
     rw (first, events_stay chunks more kept (All-tail (IsWithin (length chunks)) k kept within)) refl
 
 call_is_within : (n m : ℕ) (kept : KeptCall) → n ≤ m → IsCallWithin n kept → IsCallWithin m kept
-call_is_within n m (Allocate len) le within = tt
-call_is_within n m (Release made) le within = tt
 call_is_within n m (Write made at place) le within = omega (arith, le, within)
-call_is_within n m (Read made at n') le within = tt
-call_is_within n m (Resize made len) le within = tt
-call_is_within n m (Drain most) le within = tt
+call_is_within n m kept le within = tt
 
 module _ (chunks chunks' : List Chunk) (kept : List KeptEvent) (grows : Grows chunks chunks') (within : All (IsWithin (length chunks)) kept) where
   -- the bytes of all writes are there
@@ -74,9 +44,8 @@ module _ (chunks chunks' : List Chunk) (kept : List KeptEvent) (grows : Grows ch
   more_within k is = All-push (IsWithin (length chunks')) kept k still_within is
 
   -- the events, and one more
-  pub one_more : (k : KeptEvent) (call : Call) → call_kept chunks' k.call ≡ call
-      → map (event_kept chunks') (kept ++ k ∷ []) ≡ map (event_kept chunks) kept ++ event_by k.worker call ∷ []
-  one_more k call is =
+  pub one_more : (k : KeptEvent) (events : List Event) → event_kept chunks' k ∷ [] ≡ events → map (event_kept chunks') (kept ++ k ∷ []) ≡ map (event_kept chunks) kept ++ events
+  one_more k events is =
       let before : map (event_kept chunks') kept ≡ map (event_kept chunks) kept = rw grows.is (events_stay chunks grows.more kept within) in
       map-append (event_kept chunks') kept (k ∷ []) ∙ rw (before, is) refl
 

@@ -20,7 +20,7 @@ pub mod PrefixSteps  -- a prefix that grows by what the writer took
 pub mod FirstFault  -- a fault at a line is the first one
 pub mod TextFault  -- the fault that a text has instead of a trace
 -- Events and reply lines.
-pub mod KeptSteps  -- events that are kept: one more, and which can be
+pub mod KeptSteps  -- events that are kept: one more
 pub mod ScriptSteps  -- events and labels of lines, one line after another
 pub mod ReplySteps  -- reply lines of entries, one entry after another
 -- Races.

@@ -41,13 +41,8 @@ module _ (workers : ℕ) (before prefix : List Line) (n : ℕ) (rest : List ℕ)
 
 -- no line stands for more than eight events
 pub few_more : (workers : ℕ) (line : Line) → workers ≤ 8 → width_of workers line ≤ 8
-few_more workers (Allocate worker label len) few = omega arith
-few_more workers (Release worker label) few = omega arith
-few_more workers (Write worker label at bytes) few = omega arith
-few_more workers (Read worker label at n) few = omega arith
-few_more workers (Resize worker label len) few = omega arith
-few_more workers (Drain worker most) few = omega arith
 few_more workers Phase few = few
+few_more workers line few = omega arith
 
 -- no line yet
 pub with_none : (said : Result (List Line) (LineFault × ℕ)) → put_behind [] said ≡ said

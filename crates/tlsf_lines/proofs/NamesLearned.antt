@@ -6,7 +6,7 @@ use Rattle.tlsf_heap.specs.declared.name.Name.{Name}
 use Rattle.tlsf_lines.specs.CallMemory.{with_line}
 use Rattle.tlsf_lines.specs.Phases.{known_behind, call_that_makes, name_by}
 use Rattle.tlsf_lines.specs.declared.line.Line.{Line}
-use Rattle.tlsf_lines.specs.declared.line.Line.TheVariants.{Allocate, Release, Write, Read, Resize, Drain, Phase}
+use Rattle.tlsf_lines.specs.declared.line.Line.TheVariants.{Allocate}
 
 -- the name of a label that this line makes, or else by the lines before
 one_case : (b : Bool) (k n : ℕ) (maker : Option ℕ) (made : List (Option Name)) (earlier : Option Name) → k ≡ n
@@ -17,12 +17,7 @@ one_case false k n maker made earlier is = refl
 behind_line : (known : ℕ → Option Name) (before : List Line) (line : Line) (made : List (Option Name)) (n : ℕ) → length before ≡ n → (label : ℕ)
     → name_by (call_that_makes label (line ∷ before)) made (known label) ≡ with_line (λ label. name_by (call_that_makes label before) made (known label)) line (get_or made n None) label
 behind_line known before (Allocate worker made_label len) made n is label = one_case (made_label == label) (length before) n (call_that_makes label before) made (known label) is
-behind_line known before (Release worker used) made n is label = refl
-behind_line known before (Write worker used at bytes) made n is label = refl
-behind_line known before (Read worker used at k) made n is label = refl
-behind_line known before (Resize worker used len) made n is label = refl
-behind_line known before (Drain worker most) made n is label = refl
-behind_line known before Phase made n is label = refl
+behind_line known before line made n is label = refl
 
 pub behind_more : (known : ℕ → Option Name) (lines : List Line) (line : Line) (made : List (Option Name))
     → known_behind known (lines ++ line ∷ []) made ≡ with_line (known_behind known lines made) line (get_or made (length lines) None)

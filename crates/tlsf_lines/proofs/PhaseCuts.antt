@@ -3,27 +3,17 @@ use Rattle.std.proofs.Common.{◌≡◌, ℕ, zero, suc, ◌<◌, true, false, L
 use Rattle.tlsf_lines.specs.Lines.{is_call}
 use Rattle.tlsf_lines.specs.Phases.{in_first, phases_of}
 use Rattle.tlsf_lines.specs.declared.line.Line.{Line}
-use Rattle.tlsf_lines.specs.declared.line.Line.TheVariants.{Allocate, Release, Write, Read, Resize, Drain, Phase}
+use Rattle.tlsf_lines.specs.declared.line.Line.TheVariants.{Phase}
 
 -- a call stands in the first phase
 call_first : (line : Line) (lines : List Line) → is_call line ≡ true → phases_of (line ∷ lines) ≡ in_first line (phases_of lines)
-call_first (Allocate worker label len) lines call = refl
-call_first (Release worker label) lines call = refl
-call_first (Write worker label at bytes) lines call = refl
-call_first (Read worker label at n) lines call = refl
-call_first (Resize worker label len) lines call = refl
-call_first (Drain worker most) lines call = refl
 call_first Phase lines call = cc
+call_first line lines call = refl
 
 -- the end of a phase ends the first
 phase_first : (line : Line) (lines : List Line) → is_call line ≡ false → phases_of (line ∷ lines) ≡ [] ∷ phases_of lines
-phase_first (Allocate worker label len) lines call = cc
-phase_first (Release worker label) lines call = cc
-phase_first (Write worker label at bytes) lines call = cc
-phase_first (Read worker label at n) lines call = cc
-phase_first (Resize worker label len) lines call = cc
-phase_first (Drain worker most) lines call = cc
 phase_first Phase lines call = refl
+phase_first line lines call = cc
 
 -- the first n lines are calls
 abbrev pub AreCalls : List Line → ℕ → Type 0

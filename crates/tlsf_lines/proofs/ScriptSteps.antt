@@ -1,5 +1,5 @@
 -- Scripts, one line after another.
-use Rattle.std.proofs.Common.{◌≡◌, ℕ, zero, suc, ◌+◌, ◌<◌, ◌≤◌, cond, List, [], ◌∷◌, ◌++◌, length, take, get_or, count_by, refl, sym, subst, ap, ◌∙◌, arith, append_assoc, append-nil, replicate, None}
+use Rattle.std.proofs.Common.{◌≡◌, ℕ, zero, suc, true, ◌+◌, ◌<◌, ◌≤◌, cond, List, [], ◌∷◌, ◌++◌, length, take, get_or, count_by, refl, sym, subst, ap, ◌∙◌, arith, append_assoc, append-nil, replicate, None}
 use Rattle.std.specs.List.{range_with_len}
 use Rattle.std.proofs.lemmas.List.{length-append, length-map, map-append}
 use Rattle.std.proofs.lemmas.List.FromFn.{length-range_with_len}
@@ -9,8 +9,8 @@ use Rattle.tlsf_lines.specs.declared.line.Line.{Line}
 use Rattle.tlsf_lines.specs.declared.script.Script.{Script}
 use Rattle.tlsf_calls.specs.declared.event.Event.{Event}
 use Rattle.tlsf_lines.specs.Events.{last_drain, last_drains, ends_from, events_in, events_from, labels_in, labels_from, width_in, width_of}
-use Rattle.tlsf_lines.specs.declared.line.Line.TheVariants.{Allocate, Release, Write, Read, Resize, Drain, Phase}
-use Rattle.tlsf_lines.specs.Lines.{is_call, request_in}
+use Rattle.tlsf_lines.specs.declared.line.Line.TheVariants.{Phase}
+use Rattle.tlsf_lines.specs.Lines.{is_call, label_in, request_in}
 use Rattle.tlsf_lines.specs.ScriptSoFar.{Adds, Holds, IsScript}
 
 -- calls among some lines, and one more
@@ -21,13 +21,13 @@ calls_with lines line =
 
 -- a line has as many events as it stands for
 width_is : (workers : ℕ) (before : List Line) (line : Line) → length (events_in workers before line) ≡ width_of workers line
-width_is workers before (Allocate worker label len) = refl
-width_is workers before (Release worker label) = refl
-width_is workers before (Write worker label at bytes) = refl
-width_is workers before (Read worker label at n) = refl
-width_is workers before (Resize worker label len) = refl
-width_is workers before (Drain worker most) = refl
 width_is workers before Phase = length-map (range_with_len 0 workers) last_drain ∙ length-range_with_len 0 workers
+width_is workers before line = refl
+
+-- a line that is a call has one label
+pub one_label : (workers : ℕ) (line : Line) → (line ≡ Phase → ⊥) → (is_call line ≡ true) × (labels_in workers line ≡ label_in line ∷ [])
+one_label workers Phase other = absurd (other refl)
+one_label workers line other = (refl, refl)
 
 width_with : (workers : ℕ) (lines : List Line) (line : Line) → width_in workers (lines ++ line ∷ []) ≡ width_in workers lines + width_of workers line
 width_with workers [] line = omega arith

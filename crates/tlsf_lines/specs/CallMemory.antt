@@ -3,7 +3,7 @@ use Rattle.std.specs.Prelude.{ℕ, ◌≡◌, List, Option, IfSome}
 use Rattle.tlsf_heap.specs.declared.name.Name.{Name}
 use Rattle.tlsf_lines.specs.ByLabel.{kept_of}
 use Rattle.tlsf_lines.specs.Phases.{call_that_makes, with_name}
-use Rattle.tlsf_lines.specs.Records.{label_in}
+use Rattle.tlsf_lines.specs.Lines.{label_in}
 use Rattle.tlsf_lines.specs.declared.line.Line.{Line}
 use Rattle.tlsf_lines.specs.declared.line.Line.TheVariants.{Allocate}
 

@@ -9,6 +9,7 @@ use Rattle.tlsf_calls.specs.declared.target.Target.TheVariants.{Made, Absent}
 use Rattle.tlsf_lines.specs.declared.line.Line.{Line}
 use Rattle.tlsf_lines.specs.declared.line.Line.TheVariants.{Allocate, Release, Write, Read, Resize, Drain, Phase}
 use Rattle.tlsf_lines.specs.Labels.{counted_at}
+use Rattle.tlsf_lines.specs.Lines.{label_in}
 use Rattle.tlsf_lines.specs.Trace.{Trace}
 
 -- ---- drains
@@ -25,13 +26,8 @@ last_drains workers = map last_drain (range_with_len 0 workers)
 
 -- how many events a line stands for
 abbrev pub width_of : ℕ → Line → ℕ
-width_of workers (Allocate worker label len) = 1
-width_of workers (Release worker label) = 1
-width_of workers (Write worker label at bytes) = 1
-width_of workers (Read worker label at n) = 1
-width_of workers (Resize worker label len) = 1
-width_of workers (Drain worker most) = 1
 width_of workers Phase = workers
+width_of workers _ = 1
 
 -- how many events some lines stand for
 abbrev pub width_in : ℕ → List Line → ℕ
@@ -59,15 +55,13 @@ made_by (Some k) = Made k
 abbrev pub target_of : ℕ → ℕ → List Line → Target
 target_of workers label before = made_by (maker_of workers label before)
 
--- what the label stands for that a line uses, behind the lines before; a line that uses none has no target
-abbrev pub target_used : ℕ → List Line → Line → Target
-target_used workers before (Allocate worker label len) = Absent
-target_used workers before (Release worker label) = target_of workers label before
-target_used workers before (Write worker label at bytes) = target_of workers label before
-target_used workers before (Read worker label at n) = target_of workers label before
-target_used workers before (Resize worker label len) = target_of workers label before
-target_used workers before (Drain worker most) = Absent
-target_used workers before Phase = Absent
+-- the event that makes the label that a line uses, behind the lines before; a line that uses none has no such event
+abbrev pub maker_used : ℕ → List Line → Line → Option ℕ
+maker_used workers before (Release worker label) = maker_of workers label before
+maker_used workers before (Write worker label at bytes) = maker_of workers label before
+maker_used workers before (Read worker label at n) = maker_of workers label before
+maker_used workers before (Resize worker label len) = maker_of workers label before
+maker_used workers before _ = None
 
 -- ---- events
 
@@ -96,13 +90,8 @@ events_of trace = events_from trace.header.workers [] trace.lines
 
 -- the label of each event of a line: a drain has none
 abbrev pub labels_in : ℕ → Line → List (Option ℕ)
-labels_in workers (Allocate worker label len) = Some label ∷ []
-labels_in workers (Release worker label) = Some label ∷ []
-labels_in workers (Write worker label at bytes) = Some label ∷ []
-labels_in workers (Read worker label at n) = Some label ∷ []
-labels_in workers (Resize worker label len) = Some label ∷ []
-labels_in workers (Drain worker most) = None ∷ []
 labels_in workers Phase = replicate workers None
+labels_in workers line = label_in line ∷ []
 
 -- the label of each event of the lines, and of the drains at the end
 abbrev pub labels_from : ℕ → List Line → List (Option ℕ)

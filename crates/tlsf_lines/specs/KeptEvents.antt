@@ -1,32 +1,14 @@
--- Events that are kept in little memory: which can be, and what is kept of each. Contracts of public functions see the events alone.
+-- Events that are kept in little memory: what is kept of each. Contracts of public functions see the events alone.
 use Rattle.std.specs.Prelude.{ℕ, ◌≡◌, ◌<◌, List, [], ◌++◌, get_or}
 use Rattle.tlsf_calls.specs.Bytes.{chunk_of}
 use Rattle.tlsf_calls.specs.declared.call.Call.{Call}
 use Rattle.tlsf_calls.specs.declared.call.Call.TheVariants as call
 use Rattle.tlsf_calls.specs.declared.chunk.Chunk.{Chunk}
 use Rattle.tlsf_calls.specs.declared.event.Event.{Event}
-use Rattle.tlsf_calls.specs.declared.target.Target.{Target}
-use Rattle.tlsf_calls.specs.declared.target.Target.TheVariants.{Named, Made, Absent}
 use Rattle.tlsf_lines.specs.declared.kept_event.KeptCall.{KeptCall}
 use Rattle.tlsf_lines.specs.declared.kept_event.KeptCall.TheVariants.{Allocate, Release, Write, Read, Resize, Drain}
 use Rattle.tlsf_lines.specs.declared.kept_event.KeptEvent.{KeptEvent}
 use Rattle.tlsf_lines.specs.Events.{made_by}
-
--- a target that a label stands for has no name
-abbrev pub IsMade : Target → Type 0
-IsMade (Named name) = ⊥
-IsMade (Made event) = Unit {0}
-IsMade Absent = Unit {0}
-
--- a call that a line says
-abbrev pub CanBeKept : Call → Type 0
-CanBeKept (call.Allocate len) = Unit {0}
-CanBeKept (call.Release target) = IsMade target
-CanBeKept (call.Write target at bytes) = IsMade target
-CanBeKept (call.Read target at n) = IsMade target
-CanBeKept (call.Resize target len) = IsMade target
-CanBeKept (call.Take from) = ⊥
-CanBeKept (call.Drain most) = Unit {0}
 
 -- the call that is kept so, where the bytes of writes are these
 abbrev pub call_kept : List Chunk → KeptCall → Call
@@ -42,12 +24,8 @@ event_kept chunks kept = record { worker = kept.worker; call = call_kept chunks 
 
 -- the bytes of a write are among so many
 abbrev pub IsCallWithin : ℕ → KeptCall → Type 0
-IsCallWithin count (Allocate len) = Unit {0}
-IsCallWithin count (Release made) = Unit {0}
 IsCallWithin count (Write made at place) = place < count
-IsCallWithin count (Read made at n) = Unit {0}
-IsCallWithin count (Resize made len) = Unit {0}
-IsCallWithin count (Drain most) = Unit {0}
+IsCallWithin count _ = Unit {0}
 
 abbrev pub IsWithin : ℕ → KeptEvent → Type 0
 IsWithin count kept = IsCallWithin count kept.call

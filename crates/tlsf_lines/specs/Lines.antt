@@ -50,3 +50,12 @@ is_call _ = true
 abbrev pub request_in : Line → Option Request
 request_in (Allocate worker label len) = Some (record { worker = worker; len = len })
 request_in _ = None
+
+-- the label of a line, which a drain has not
+abbrev pub label_in : Line → Option ℕ
+label_in (Allocate worker label len) = Some label
+label_in (Release worker label) = Some label
+label_in (Write worker label at bytes) = Some label
+label_in (Read worker label at n) = Some label
+label_in (Resize worker label len) = Some label
+label_in _ = None

@@ -1,6 +1,5 @@
 -- A trace as the definitions see it, and what a function gives beside what a definition says.
-use Rattle.std.specs.Prelude.{ℕ, ◌≡◌, ◌+◌, ◌<◌, List, [], length, Result, Ok, Err}
-use Rattle.tlsf_calls.specs.declared.target.Target.{Target}
+use Rattle.std.specs.Prelude.{ℕ, ◌≡◌, ◌+◌, ◌<◌, List, [], length, Option, Result, Ok, Err}
 use Rattle.tlsf_lines.specs.declared.line.Line.{Line}
 use Rattle.tlsf_lines.specs.declared.trace.Trace.{Trace as Held}
 use Rattle.tlsf_lines.specs.declared.line_fault.LineFault.{LineFault}
@@ -20,7 +19,7 @@ FailsAt whole.NoMemory said = Unit {0}
 FailsAt (whole.At fault n) said = said ≡ Err (fault, n)
 
 -- the line that was found, without what else was
-abbrev pub line_found : Result (Line × Target) LineFault → Result Line LineFault
+abbrev pub line_found : Result (Line × Option ℕ) LineFault → Result Line LineFault
 line_found (Ok found) = Ok found.0
 line_found (Err fault) = Err fault
 

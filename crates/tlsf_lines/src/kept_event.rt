@@ -1,7 +1,10 @@
-ghost use Rattle.std.specs.Prelude.{◌≡◌, ◌∷◌, ◌++◌, [], length, IfOk, OnErr, OnOk};
-ghost use Rattle.tlsf_lines.specs.Events.{made_by};
-ghost use Rattle.tlsf_lines.specs.KeptEvents.{CanBeKept, Grows, IsCallWithin, IsMade, IsWithin, call_kept, event_kept};
+ghost use Rattle.std.specs.Prelude.{ℕ, ◌≡◌, ◌≢◌, List, ◌∷◌, ◌++◌, [], length, IfOk, OnErr, OnOk};
+ghost use Rattle.tlsf_lines.specs.Events.{events_in, made_by, maker_used};
+ghost use Rattle.tlsf_lines.specs.KeptEvents.{Grows, IsWithin, event_kept};
+ghost use Rattle.tlsf_lines.specs.declared.line.Line.{Line as ALine};
+ghost use Rattle.tlsf_lines.specs.declared.line.Line.TheVariants.{Phase};
 
+use crate::line::Line;
 use std::alloc::AllocError;
 use tlsf_calls::{Call, Chunk, Event, Target};
 
@@ -41,19 +44,6 @@ pub enum KeptCall {
     },
 }
 
-// The number of the event that makes the block.
-#[inline]
-fn made_of(target: Target) -> Option<u32>
-    requires { IsMade target }
-    ensures { made_by result ≡ target }
-{
-    match target {
-        Target::Made(event) => Some(event),
-        Target::Absent => None,
-        Target::Named(_) => unreachable!(),
-    }
-}
-
 // Adds the bytes of a write to those of the writes so far, and answers their place.
 #[inline(always)]
 fn keep_bytes(chunks: &mut Vec<Chunk>, bytes: Chunk) -> Result<u32, AllocError>
@@ -69,36 +59,37 @@ fn keep_bytes(chunks: &mut Vec<Chunk>, bytes: Chunk) -> Result<u32, AllocError>
     Ok(place)
 }
 
-/// What is kept of a call, where the bytes of the writes so far are these.
+/// What is kept of the event of a line, where the bytes of the writes so far are these, and this event made the label that the line uses.
 #[inline(always)]
-pub fn keep(chunks: &mut Vec<Chunk>, call: Call) -> Result<KeptCall, AllocError>
-    requires { CanBeKept call }
+pub fn keep(
+    chunks: &mut Vec<Chunk>,
+    line: &Line,
+    made: Option<u32>,
+) -> Result<KeptEvent, AllocError>
+    requires { line.now ≢ Phase }
     ensures grows { Grows chunks.old.items chunks.new.items }
-    ensures call { IfOk result (λ kept. call_kept chunks.new.items kept ≡ call) }
-    ensures within { IfOk result (λ kept. IsCallWithin (length chunks.new.items) kept) }
+    ensures event { (workers : ℕ) (before : List ALine) → made ≡ maker_used workers before line.now
+        → IfOk result (λ kept. event_kept chunks.new.items kept ∷ [] ≡ events_in workers before line.now) }
+    ensures within { IfOk result (IsWithin (length chunks.new.items)) }
 {
-    Ok(match call {
-        Call::Allocate { len } => KeptCall::Allocate { len },
-        Call::Release { target } => KeptCall::Release {
-            made: made_of(target),
-        },
-        Call::Write { target, at, bytes } => KeptCall::Write {
-            made: made_of(target),
+    let (worker, call) = match *line {
+        Line::Allocate { worker, len, .. } => (worker, KeptCall::Allocate { len }),
+        Line::Release { worker, .. } => (worker, KeptCall::Release { made }),
+        Line::Write {
+            worker,
             at,
-            place: keep_bytes(chunks, bytes)?,
-        },
-        Call::Read { target, at, n } => KeptCall::Read {
-            made: made_of(target),
-            at,
-            n,
-        },
-        Call::Resize { target, len } => KeptCall::Resize {
-            made: made_of(target),
-            len,
-        },
-        Call::Drain { most } => KeptCall::Drain { most },
-        Call::Take { .. } => unreachable!(),
-    })
+            bytes,
+            ..
+        } => {
+            let place = keep_bytes(chunks, bytes)?;
+            (worker, KeptCall::Write { made, at, place })
+        }
+        Line::Read { worker, at, n, .. } => (worker, KeptCall::Read { made, at, n }),
+        Line::Resize { worker, len, .. } => (worker, KeptCall::Resize { made, len }),
+        Line::Drain { worker, most } => (worker, KeptCall::Drain { most }),
+        Line::Phase => unreachable!(),
+    };
+    Ok(KeptEvent { worker, call })
 }
 
 // The block that the event of this number makes.

@@ -1,10 +1,13 @@
-ghost use Rattle.std.specs.Prelude.{◌≡◌, ◌+◌, ◌≤◌, ◌∷◌, ◌++◌, [], length, take, drop, IfOk, OnOk};
-ghost use Rattle.tlsf_lines.specs.KeptEvents.{CanBeKept};
+ghost use Rattle.std.specs.Prelude.{ℕ, ◌≡◌, ◌≢◌, ◌+◌, ◌≤◌, ◌++◌, List, [], length, take, drop, IfOk, OnOk};
+ghost use Rattle.tlsf_lines.specs.Events.{events_in, maker_used};
+ghost use Rattle.tlsf_lines.specs.declared.line.Line.{Line as ALine};
+ghost use Rattle.tlsf_lines.specs.declared.line.Line.TheVariants.{Phase};
 
 use crate::kept_event::{KeptEvent, add_kept, keep};
+use crate::line::Line;
 use std::alloc::{AllocError, Global};
 use std::marker::Model;
-use tlsf_calls::{Call, Chunk, Event};
+use tlsf_calls::{Chunk, Event};
 
 /// The events of a trace, in 24 bytes each and 72 more for the bytes of a write, where an [`Event`] has 120. A contract sees
 /// the list of the events, and a run makes them part by part.
@@ -65,14 +68,15 @@ impl KeptEvents {
         Ok(())
     }
 
-    /// Adds an event.
+    /// Adds the event of a line that is a call, where this event made the label that the line uses.
     #[inline(always)]
-    pub(crate) fn push(&mut self, worker: u32, call: Call) -> Result<(), AllocError>
-        requires { CanBeKept call }
-        ensures { OnOk result (self.new ≡ self.old ++ record { worker = worker; call = call } ∷ []) }
+    pub(crate) fn push(&mut self, line: &Line, made: Option<u32>) -> Result<(), AllocError>
+        requires { line.now ≢ Phase }
+        ensures { (workers : ℕ) (before : List ALine) → made ≡ maker_used workers before line.now
+            → OnOk result (self.new ≡ self.old ++ events_in workers before line.now) }
     {
-        let call = keep(&mut self.chunks, call)?;
-        self.kept.push(KeptEvent { worker, call })?;
+        let kept = keep(&mut self.chunks, line, made)?;
+        self.kept.push(kept)?;
         Ok(())
     }
 }

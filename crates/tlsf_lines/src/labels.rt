@@ -1,5 +1,5 @@
-ghost use Rattle.std.specs.Prelude.{◌≡◌, ℕ, ◌+◌, ◌<◌, ◌≤◌, ◌^◌, List, [], ◌∷◌, is_some, IfSome, OnOk};
-ghost use Rattle.tlsf_lines.specs.Events.{target_of, target_used, width_in};
+ghost use Rattle.std.specs.Prelude.{◌≡◌, ℕ, ◌+◌, ◌<◌, ◌≤◌, ◌^◌, List, [], ◌∷◌, is_some, None, IfSome, OnOk};
+ghost use Rattle.tlsf_lines.specs.Events.{maker_of, maker_used, width_in};
 ghost use Rattle.tlsf_lines.specs.Labels.{can_make, can_use, is_in_order, made_of};
 ghost use Rattle.tlsf_lines.specs.LabelMemory.{Recalls, Remembers};
 ghost use Rattle.tlsf_lines.specs.declared.line.Line.{Line as ALine};
@@ -10,7 +10,6 @@ use crate::line::Line;
 use crate::maker::Maker;
 use std::alloc::{AllocError, Global};
 use std::marker::Model;
-use tlsf_calls::Target;
 
 /// The labels that the lines so far have made. A contract sees the phase and, at the place of each label, who made it, in
 /// which phase and by which event.
@@ -41,40 +40,40 @@ impl Labels {
         }
     }
 
-    // What a label of an earlier line stands for to the worker: it made the label, or anybody did in an earlier phase.
-    fn judge_use(&self, label: u32, worker: u32) -> Option<Target>
+    // The event that made a label of an earlier line, where the worker may use it: it made the label, or anybody did in an earlier phase.
+    fn judge_use(&self, label: u32, worker: u32) -> Option<Option<u32>>
         ensures order { (before : List ALine) → Remembers self.now before
             → is_some result ≡ can_use worker (made_of label before) }
-        ensures target { (workers : ℕ) (before : List ALine) → Recalls workers self.now before
-            → IfSome result (λ target. target ≡ target_of workers label before) }
+        ensures made { (workers : ℕ) (before : List ALine) → Recalls workers self.now before
+            → IfSome result (λ made. made ≡ maker_of workers label before) }
     {
         let maker = self.makers.get(label)?;
         if maker.phase == self.phase && maker.worker != worker {
             return None;
         }
-        Some(Target::Made(maker.event))
+        Some(Some(maker.event))
     }
 
-    // `Absent` for a label that no line before made.
-    fn judge_making(&self, label: u32) -> Option<Target>
+    // Whether no line before made a label; a line that makes one uses none.
+    fn judge_making(&self, label: u32) -> Option<Option<u32>>
         ensures order { (before : List ALine) → Remembers self.now before
             → is_some result ≡ can_make (made_of label before) }
-        ensures target { IfSome result (λ target. target ≡ Target.Absent) }
+        ensures made { IfSome result (λ made. made ≡ None) }
     {
         match self.makers.get(label) {
-            None => Some(Target::Absent),
+            None => Some(None),
             Some(_) => None,
         }
     }
 
-    /// What the label stands for that a line uses, `Absent` for a line that uses none; `None` where the line may not
+    /// The event that made the label that a line uses, `Some(None)` for a line that uses none; `None` where the line may not
     /// stand here: it makes a label that a line before it made, or uses one that no line made, or another worker in this
     /// phase.
-    pub fn judge(&self, line: &Line) -> Option<Target>
+    pub fn judge(&self, line: &Line) -> Option<Option<u32>>
         ensures order { (before : List ALine) → Remembers self.now before
             → is_some result ≡ is_in_order before line.now }
-        ensures target { (workers : ℕ) (before : List ALine) → Recalls workers self.now before
-            → IfSome result (λ target. target ≡ target_used workers before line.now) }
+        ensures made { (workers : ℕ) (before : List ALine) → Recalls workers self.now before
+            → IfSome result (λ made. made ≡ maker_used workers before line.now) }
     {
         match line {
             Line::Allocate { label, .. } => self.judge_making(*label),
@@ -82,8 +81,8 @@ impl Labels {
             Line::Write { worker, label, .. } => self.judge_use(*label, *worker),
             Line::Read { worker, label, .. } => self.judge_use(*label, *worker),
             Line::Resize { worker, label, .. } => self.judge_use(*label, *worker),
-            Line::Drain { .. } => Some(Target::Absent),
-            Line::Phase => Some(Target::Absent),
+            Line::Drain { .. } => Some(None),
+            Line::Phase => Some(None),
         }
     }
 

@@ -12,13 +12,16 @@ use std::alloc::{AllocError, Global};
 use tlsf_calls::{Entry, Reply};
 use tlsf_heap::Name;
 
-// The name that a reply gives, where it gives one.
-fn made_by(reply: Reply) -> Option<Name>
-    ensures { result ≡ made reply }
+// The name that a call of a script made, where it made one; what a drain took is no call of the script.
+fn name_made(entry: &Entry) -> Option<Option<Name>>
+    ensures { result ≡ spelled.name_made entry.now }
 {
-    match reply {
-        Reply::Made(name) => Some(name),
-        _ => None,
+    if is_taken(entry.call) {
+        return None;
+    }
+    match entry.reply {
+        Reply::Made(name) => Some(Some(name)),
+        _ => Some(None),
     }
 }
 
@@ -27,11 +30,7 @@ pub fn names_in(alloc: Global, entries: &[Entry]) -> Result<Vec<Option<Name>>, A
     ensures { IfOk result (λ names. names.items ≡ spelled.names_in entries.now) }
 {
     let mut names = Vec::with_capacity(alloc, entries.len())?;
-    for entry in entries {
-        if !is_taken(entry.call) {
-            names.push(made_by(entry.reply))?;
-        }
-    }
+    names.extend(entries.iter().filter_map(name_made))?;
     Ok(names)
 }
 

@@ -1,5 +1,5 @@
 ghost use Rattle.std.specs.Prelude.{◌≡◌, ◌<◌, List, IfOk};
-ghost use Rattle.tlsf_lines.specs.Events.{target_used};
+ghost use Rattle.tlsf_lines.specs.Events.{maker_used};
 ghost use Rattle.tlsf_lines.specs.LabelMemory.{Recalls, Remembers};
 ghost use Rattle.tlsf_lines.specs.Trace.{judged_line};
 ghost use Rattle.tlsf_lines.specs.Views.{line_found};
@@ -11,7 +11,7 @@ use crate::line_fault::LineFault;
 use crate::reading::parse_fields;
 use crate::request::Request;
 use crate::word::word_of;
-use tlsf_calls::{Chunk, Target};
+use tlsf_calls::Chunk;
 
 /// A line of a trace behind its header: one call that a worker makes, or the end of a phase. A worker is less than the
 /// header's number of workers, a label at most 65535, and `len` and `at` are bytes of a payload, at most 4294967295.
@@ -66,7 +66,6 @@ impl Line {
     ghost use Rattle.tlsf_lines.specs.Events;
     ghost use Rattle.tlsf_lines.specs.Lines;
     ghost use Rattle.tlsf_lines.specs.Phases;
-    ghost use Rattle.tlsf_lines.specs.Records;
 
     /// Whether the line is a call of a worker, and not the end of a phase.
     pub(crate) fn is_call(&self) -> bool
@@ -130,7 +129,7 @@ impl Line {
 
     /// The label that the line makes or uses; a drain and the end of a phase have none.
     pub(crate) fn label(&self) -> Option<u32>
-        ensures { result ≡ Records.label_in self.now }
+        ensures { result ≡ Lines.label_in self.now }
     {
         match self {
             Line::Allocate { label, .. }
@@ -143,13 +142,17 @@ impl Line {
     }
 }
 
-/// The line that a piece says, judged behind the lines that the labels remember, and what the label stands for that it uses.
-pub fn judge_line(workers: u32, labels: &Labels, piece: &[u8]) -> Result<(Line, Target), LineFault>
+/// The line that a piece says, judged behind the lines that the labels remember, and the event that made the label that it uses.
+pub fn judge_line(
+    workers: u32,
+    labels: &Labels,
+    piece: &[u8],
+) -> Result<(Line, Option<u32>), LineFault>
     requires { 0 < workers }
     ensures line { (before : List ALine) → Remembers labels.now before
         → judged_line workers before piece.now ≡ line_found result }
-    ensures target { (before : List ALine) → Recalls workers labels.now before
-        → IfOk result (λ found. found.1 ≡ target_used workers before found.0) }
+    ensures made { (before : List ALine) → Recalls workers labels.now before
+        → IfOk result (λ found. found.1 ≡ maker_used workers before found.0) }
 {
     let Some(line) = cut_feed(piece) else {
         return Err(LineFault::BadLine);
@@ -165,7 +168,7 @@ pub fn judge_line(workers: u32, labels: &Labels, piece: &[u8]) -> Result<(Line, 
         return Err(LineFault::BadNumber);
     };
     match labels.judge(&line) {
-        Some(target) => Ok((line, target)),
+        Some(made) => Ok((line, made)),
         None => Err(LineFault::LabelOrder),
     }
 }

@@ -1,6 +1,6 @@
 //! A text, read line by line: the one loop that judges a trace, whatever is made of its lines.
 ghost use Rattle.std.specs.Prelude.{◌≡◌, ◌+◌, ◌<◌, ◌≤◌, ◌^◌, ◌∷◌, ◌++◌, List, [], length, IfErr, IfOk, OnOk};
-ghost use Rattle.tlsf_lines.specs.Events.{target_used};
+ghost use Rattle.tlsf_lines.specs.Events.{maker_used};
 ghost use Rattle.tlsf_lines.specs.Pieces.{pieces_of};
 ghost use Rattle.tlsf_lines.specs.Ranges.{IsHeaderInRange};
 ghost use Rattle.tlsf_lines.specs.Trace as spelled;
@@ -15,13 +15,11 @@ use crate::line_fault::LineFault;
 use crate::parse_error::ParseError;
 use crate::pieces::cut_piece;
 use std::alloc::{AllocError, Global};
-use tlsf_calls::Target;
 
 /// What is made of a trace, one line after another: its list of lines, or its events.
 pub trait FromLines {
     ghost use Rattle.std.specs.Prelude.{◌≡◌, ◌+◌, ◌<◌, ◌^◌, ◌∷◌, ◌++◌, List, [], length, IfOk, OnOk};
-    ghost use Rattle.tlsf_lines.specs.Events.{target_used};
-    ghost use Rattle.tlsf_lines.specs.KeptEvents.{IsMade};
+    ghost use Rattle.tlsf_lines.specs.Events.{maker_used};
     ghost use Rattle.tlsf_lines.specs.Trace as spelled;
     ghost use Rattle.tlsf_lines.specs.declared.header.Header.{Header as AHeader};
     ghost use Rattle.tlsf_lines.specs.declared.line.Line.{Line as ALine};
@@ -36,12 +34,11 @@ pub trait FromLines {
     fn begin(alloc: Global, header: Header, room: usize) -> Result<Self, AllocError>
         ensures { IfOk result (λ made. has made header [] []) };
 
-    /// One line more. The target is what the label stands for that the line uses.
-    fn add(&mut self, line: &Line, target: Target) -> Result<(), AllocError>
-        requires few { (header : AHeader) × (before : List ALine) × (lines : List ALine) × has self.old header before lines × (length lines < 2 ^ 20) }
-        requires target { IsMade target }
+    /// One line more. This event made the label that the line uses, where it uses one.
+    fn add(&mut self, line: &Line, made: Option<u32>) -> Result<(), AllocError>
+        requires { (header : AHeader) × (before : List ALine) × (lines : List ALine) × has self.old header before lines × (length lines < 2 ^ 20) }
         ensures { (header : AHeader) (before lines : List ALine) → has self.old header before lines
-            → target ≡ target_used header.workers before line.now
+            → made ≡ maker_used header.workers before line.now
             → OnOk result (has self.new header (line.now ∷ before) (lines ++ line.now ∷ [])) };
 
     /// No line is left.
@@ -96,11 +93,11 @@ fn add_lines<M: FromLines>(
     let mut events = 0;
     while !rest.is_empty() {
         let (piece, after) = cut_piece(rest);
-        let (line, target) = match judge_line(workers, &labels, piece) {
+        let (line, maker) = match judge_line(workers, &labels, piece) {
             Ok(judged) => judged,
             Err(fault) => return Err(ParseError::At(fault, number)),
         };
-        made.add(&line, target)?;
+        made.add(&line, maker)?;
         labels.remember(&line, events)?;
         events += line.width(workers);
         number += 1;

@@ -3,7 +3,7 @@ ghost use Rattle.std.specs.Prelude.{◌≡◌, ◌∷◌, ◌<◌, ◌≤◌, �
 ghost use Rattle.std.specs.List.{range_with_len};
 ghost use Rattle.tlsf_lines.specs.Phases as spelled;
 ghost use Rattle.tlsf_lines.specs.Phases.{calls_from, known_in, phases_of, scripts_in};
-ghost use Rattle.tlsf_lines.specs.Records as told;
+ghost use Rattle.tlsf_lines.specs.Lines.{label_in};
 ghost use Rattle.tlsf_lines.specs.CallMemory.{RecallsCallOf};
 ghost use Rattle.tlsf_lines.specs.declared.line.Line.{Line as ALine};
 
@@ -43,11 +43,7 @@ fn own_lines(alloc: Global, worker: u32, phase: &[Line]) -> Result<Vec<Line>, Al
 {
     // With eight workers that call alike this list does not grow.
     let mut own = Vec::with_capacity(alloc, phase.len() / 8)?;
-    for line in phase {
-        if line.is_of(worker) {
-            own.push(*line)?;
-        }
-    }
+    own.extend(phase.iter().copied().filter(|line| line.is_of(worker)))?;
     Ok(own)
 }
 
@@ -116,13 +112,9 @@ fn own_calls(alloc: Global, names: &mut Names, lines: &[Line]) -> Result<Vec<Cal
 
 // The label of each line, where it has one.
 pub fn labels_of(alloc: Global, lines: &[Line]) -> Result<Vec<Option<u32>>, AllocError>
-    ensures { IfOk result (λ labels. labels.items ≡ map told.label_in lines.now) }
+    ensures { IfOk result (λ labels. labels.items ≡ map label_in lines.now) }
 {
-    let mut labels = Vec::with_capacity(alloc, lines.len())?;
-    for line in lines {
-        labels.push(line.label())?;
-    }
-    Ok(labels)
+    lines.iter().map(|line| line.label()).collect(alloc)
 }
 
 /// What each worker does in a phase.

@@ -2,7 +2,8 @@
 ghost use Rattle.std.specs.Prelude.{◌≡◌, List, ◌++◌, length, map, string_bytes, OnOk};
 ghost use Rattle.std.specs.List.{range_with_len};
 ghost use Rattle.tlsf_lines.specs.Phases.{known_behind, known_below, known_in, names_in as names_told, own_lines};
-ghost use Rattle.tlsf_lines.specs.Records.{label_in, records_text};
+ghost use Rattle.tlsf_lines.specs.Lines.{label_in};
+ghost use Rattle.tlsf_lines.specs.Records.{records_text};
 ghost use Rattle.tlsf_lines.specs.ReplyLines.{reply_text};
 ghost use Rattle.tlsf_lines.specs.declared.line.Line.{Line as ALine};
 

@@ -1,10 +1,10 @@
-ghost use Rattle.std.specs.Prelude.{◌≡◌, ◌+◌, ◌^◌, ◌<◌, List, [], ◌∷◌, ◌++◌, replicate, None, OnOk};
-ghost use Rattle.tlsf_lines.specs.Events.{last_drains, target_used};
-ghost use Rattle.tlsf_lines.specs.KeptEvents.{CanBeKept, IsMade};
-ghost use Rattle.tlsf_lines.specs.Events.{events_by};
+ghost use Rattle.std.specs.Prelude.{ℕ, ◌≡◌, ◌≢◌, ◌+◌, ◌^◌, ◌<◌, List, [], ◌∷◌, ◌++◌, replicate, None, OnOk};
+ghost use Rattle.tlsf_lines.specs.Events.{events_by, events_in, last_drains, maker_used};
+ghost use Rattle.tlsf_lines.specs.Lines.{label_in};
 ghost use Rattle.tlsf_lines.specs.ScriptSoFar.{Adds, IsSameBut, IsScript};
 ghost use Rattle.tlsf_lines.specs.Trace.{Trace as ATrace};
 ghost use Rattle.tlsf_lines.specs.declared.line.Line.{Line as ALine};
+ghost use Rattle.tlsf_lines.specs.declared.line.Line.TheVariants.{Phase};
 
 use crate::header::Header;
 use crate::kept_events::KeptEvents;
@@ -12,7 +12,7 @@ use crate::line::Line;
 use crate::parsing::FromLines;
 use crate::request::Request;
 use std::alloc::{AllocError, Global};
-use tlsf_calls::{Call, MOST_DRAINED, Target};
+use tlsf_calls::MOST_DRAINED;
 
 /// What a trace asks for: its header, the events that its lines stand for, and the label of each, where it has one.
 ///
@@ -59,41 +59,19 @@ impl Script {
         }
     }
 
-    // Adds the events of a line. The target is what the label stands for that it uses.
-    fn add_events(&mut self, line: &Line, target: Target) -> Result<(), AllocError>
-        requires calls { self.old.calls + 1 < 2 ^ 32 }
-        requires target { IsMade target }
-        ensures { (before : List ALine) → target ≡ target_used self.old.header.workers before line.now
+    // Adds the events of a line. This event made the label that it uses.
+    fn add_events(&mut self, line: &Line, made: Option<u32>) -> Result<(), AllocError>
+        requires { self.old.calls + 1 < 2 ^ 32 }
+        ensures { (before : List ALine) → made ≡ maker_used self.old.header.workers before line.now
             → OnOk result (Adds self.old.header.workers before line.now self.old self.new) }
     {
-        if line.is_call() {
-            self.calls += 1;
+        if let Line::Phase = line {
+            self.drain_all()?;
+            return Ok(());
         }
-        match *line {
-            Line::Allocate { worker, label, len } => {
-                self.push(worker, Call::Allocate { len }, Some(label))
-            }
-            Line::Release { worker, label } => {
-                self.push(worker, Call::Release { target }, Some(label))
-            }
-            Line::Write {
-                worker,
-                label,
-                at,
-                bytes,
-            } => self.push(worker, Call::Write { target, at, bytes }, Some(label)),
-            Line::Read {
-                worker,
-                label,
-                at,
-                n,
-            } => self.push(worker, Call::Read { target, at, n }, Some(label)),
-            Line::Resize { worker, label, len } => {
-                self.push(worker, Call::Resize { target, len }, Some(label))
-            }
-            Line::Drain { worker, most } => self.push(worker, Call::Drain { most }, None),
-            Line::Phase => self.drain_all(),
-        }
+        self.calls += 1;
+        self.push(line, made)?;
+        Ok(())
     }
 
     // Adds a drain of each worker.
@@ -103,21 +81,23 @@ impl Script {
         ensures same { IsSameBut self.old self.new }
     {
         for worker in 0..self.header.workers {
-            self.push(worker, Call::Drain { most: MOST_DRAINED }, None)?;
+            let most = MOST_DRAINED;
+            self.push(&Line::Drain { worker, most }, None)?;
         }
         Ok(())
     }
 
-    // Adds an event and its label.
+    // Adds the event of a line that is a call, and its label.
     #[inline(always)]
-    fn push(&mut self, worker: u32, call: Call, label: Option<u32>) -> Result<(), AllocError>
-        requires { CanBeKept call }
-        ensures events { OnOk result (self.new.events ≡ self.old.events ++ record { worker = worker; call = call } ∷ []) }
-        ensures labels { OnOk result (self.new.labels.items ≡ self.old.labels.items ++ label ∷ []) }
+    fn push(&mut self, line: &Line, made: Option<u32>) -> Result<(), AllocError>
+        requires { line.now ≢ Phase }
+        ensures events { (workers : ℕ) (before : List ALine) → made ≡ maker_used workers before line.now
+            → OnOk result (self.new.events ≡ self.old.events ++ events_in workers before line.now) }
+        ensures labels { OnOk result (self.new.labels.items ≡ self.old.labels.items ++ label_in line.now ∷ []) }
         ensures same { IsSameBut self.old self.new }
     {
-        self.events.push(worker, call)?;
-        self.labels.push(label)?;
+        self.events.push(line, made)?;
+        self.labels.push(line.label())?;
         Ok(())
     }
 }
@@ -141,8 +121,8 @@ impl FromLines for Script {
         })
     }
 
-    fn add(&mut self, line: &Line, target: Target) -> Result<(), AllocError> {
-        self.add_events(line, target)?;
+    fn add(&mut self, line: &Line, made: Option<u32>) -> Result<(), AllocError> {
+        self.add_events(line, made)?;
         self.ends.push(self.events.len())?;
         self.requests.push(line.request())?;
         Ok(())

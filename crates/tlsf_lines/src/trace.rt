@@ -2,7 +2,6 @@ use crate::header::Header;
 use crate::line::Line;
 use crate::parsing::FromLines;
 use std::alloc::{AllocError, Global};
-use tlsf_calls::Target;
 
 /// A trace that is raced: what a text asks of a yard of workers, line by line.
 ///
@@ -53,7 +52,7 @@ impl FromLines for Trace {
         })
     }
 
-    fn add(&mut self, line: &Line, _target: Target) -> Result<(), AllocError> {
+    fn add(&mut self, line: &Line, _made: Option<u32>) -> Result<(), AllocError> {
         self.lines.push(*line)?;
         Ok(())
     }

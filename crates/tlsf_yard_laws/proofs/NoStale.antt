@@ -13,8 +13,8 @@ use Rattle.tlsf_calls.specs.declared.call.Call.{Call}
 use Rattle.tlsf_calls.specs.declared.call.Call.TheVariants.{Allocate, Release, Write, Read, Resize, Take, Drain}
 use Rattle.tlsf_calls.specs.declared.entry.Entry.{Entry}
 use Rattle.tlsf_calls.specs.declared.reply.Reply.{Reply}
-use Rattle.tlsf_calls.specs.declared.reply.Reply.TheVariants.{Made, Freed, Posted, Wrote, Got, Resized, Took as Taken, Empty, Drained, Refused}
-use Rattle.tlsf_calls.specs.declared.crew_refusal.CrewRefusal.TheVariants.{Heap, Full, Stranger, Unmade}
+use Rattle.tlsf_calls.specs.declared.reply.Reply.TheVariants.{Freed, Posted, Took as Taken, Refused}
+use Rattle.tlsf_calls.specs.declared.crew_refusal.CrewRefusal.TheVariants.{Heap}
 use Rattle.tlsf_calls.specs.declared.target.Target.{Target}
 use Rattle.tlsf_calls.specs.declared.took.Took.{Took}
 use Rattle.tlsf_crew.specs.model.World.{World, heap_in, name_of}
@@ -162,28 +162,10 @@ own_name j (Some name) own e = elim (cases_eq name.heap j) [
 let_go : (made : List (Option Name)) (e : Entry) (call : Call) (reply : Reply) (own : Name) → e.call ≡ call → e.reply ≡ reply → call_on_own made e.worker call reply ≡ Some (heap.Release own)
     → answer_told call reply ≡ Some (heap.Released (Ok tt)) → LetGo made e own
 let_go made e (Release target) Freed own c r is told = inl (target, c, own_name e.worker (name_of made target) own is, r)
-let_go made e (Release target) (Made name) own c r is told = cc
-let_go made e (Release target) Posted own c r is told = cc
-let_go made e (Release target) (Wrote n) own c r is told = cc
-let_go made e (Release target) (Got bytes) own c r is told = cc
-let_go made e (Release target) Resized own c r is told = cc
-let_go made e (Release target) (Taken t) own c r is told = cc
-let_go made e (Release target) Empty own c r is told = cc
-let_go made e (Release target) (Drained n) own c r is told = cc
 let_go made e (Release target) (Refused (Heap why)) own c r is told = cc
-let_go made e (Release target) (Refused (Full name)) own c r is told = cc
-let_go made e (Release target) (Refused Stranger) own c r is told = cc
-let_go made e (Release target) (Refused Unmade) own c r is told = cc
+let_go made e (Release target) reply own c r is told = cc
 let_go made e (Take from) (Taken t) own c r is told = let q : t.name ≡ own = cc in inr (from, t, c, r, q)
-let_go made e (Take from) (Made name) own c r is told = cc
-let_go made e (Take from) Freed own c r is told = cc
-let_go made e (Take from) Posted own c r is told = cc
-let_go made e (Take from) (Wrote n) own c r is told = cc
-let_go made e (Take from) (Got bytes) own c r is told = cc
-let_go made e (Take from) Resized own c r is told = cc
-let_go made e (Take from) Empty own c r is told = cc
-let_go made e (Take from) (Drained n) own c r is told = cc
-let_go made e (Take from) (Refused why) own c r is told = cc
+let_go made e (Take from) reply own c r is told = cc
 let_go made e (Allocate len) reply own c r is told = cc
 let_go made e (Write target from bytes) reply own c r is told = absurd (not_written (meant made target reply) (λ name. heap.Write name from (bytes_of bytes)) own (λ name q. cc) is)
 let_go made e (Read target from n) reply own c r is told = absurd (not_written (meant made target reply) (λ name. heap.Read name from n) own (λ name q. cc) is)

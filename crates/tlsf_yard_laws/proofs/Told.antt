@@ -4,7 +4,7 @@ use Rattle.std.specs.List.{AllByRecursion}
 use Rattle.tlsf_class.specs.Classes.{IsLevel, most_words}
 use Rattle.tlsf_heap.specs.Blocks.{HeapState, want}
 use Rattle.tlsf_heap.specs.Lawful.{IsRegion}
-use Rattle.tlsf_heap.specs.Calls.{Call, Allocate, Release, Write, Resize, Read, Answer, Allocated, Released, Written, Resized, Got, last_tick, opened, run}
+use Rattle.tlsf_heap.specs.Calls.{Call, Read, Answer, Got, last_tick, opened, run}
 use Rattle.tlsf_pool.specs.laws.Room.{live_count}
 use Rattle.tlsf_pool.specs.laws.Held.{held_after, held_after_all}
 use Rattle.tlsf_heap.specs.declared.name.Name.{Name}
@@ -25,16 +25,9 @@ use Rattle.tlsf_yard_laws.proofs.RaceRecords.{heap_runs, heaps_stay}
 use Rattle.tlsf_yard_laws.specs.Yards.{IsNew, YardHoldsWhatIsLive, YardKeepsBytes, YardMixedSizesServe, YardMixedSizesSuffice}
 
 held_same : (held : ℕ) (call : Call) (answer : Answer) → held_after held call (handed_on answer) ≡ held_after held call answer
-held_same held call (Allocated r) = refl
-held_same held call (Released r) = refl
-held_same held call (Written r) = refl
-held_same held call (Resized r) = refl
-held_same held (Allocate len) (Got (Ok bytes)) = refl
-held_same held (Release name) (Got (Ok bytes)) = refl
-held_same held (Write name at xs) (Got (Ok bytes)) = refl
-held_same held (Resize name len) (Got (Ok bytes)) = refl
-held_same held (Read name at n) (Got (Ok bytes)) = refl
 held_same held call (Got (Err why)) = refl
+held_same held (Read name at n) (Got (Ok bytes)) = refl
+held_same held call answer = refl
 
 all_held : (held : ℕ) (calls : List Call) (answers : List Answer) → held_after_all held calls (map handed_on answers) ≡ held_after_all held calls answers
 all_held held [] answers = refl
@@ -57,16 +50,9 @@ all_room [] all = tt
 all_room (answer ∷ answers) all = (room_same answer all.0, all_room answers all.1)
 
 after_same : (bytes : Contents) (call : Call) (answer : Answer) → after bytes call (handed_on answer) ≡ after bytes call answer
-after_same bytes call (Allocated r) = refl
-after_same bytes call (Released r) = refl
-after_same bytes call (Written r) = refl
-after_same bytes call (Resized r) = refl
-after_same bytes (Allocate len) (Got (Ok xs)) = refl
-after_same bytes (Release name) (Got (Ok xs)) = refl
-after_same bytes (Write name at new) (Got (Ok xs)) = refl
-after_same bytes (Resize name len) (Got (Ok xs)) = refl
-after_same bytes (Read name at n) (Got (Ok xs)) = refl
 after_same bytes call (Got (Err why)) = refl
+after_same bytes (Read name at n) (Got (Ok xs)) = refl
+after_same bytes call answer = refl
 
 all_after : (bytes : Contents) (calls : List Call) (answers : List Answer) → after_all bytes calls (map handed_on answers) ≡ after_all bytes calls answers
 all_after bytes [] answers = refl
@@ -80,16 +66,9 @@ served_on (Got (Ok bytes)) s = tt
 served_on answer s = s
 
 pub noted_same : (l : Ledger) (call : Call) (answer : Answer) → ledger_after l call (handed_on answer) ≡ ledger_after l call answer
-noted_same l call (Allocated r) = refl
-noted_same l call (Released r) = refl
-noted_same l call (Written r) = refl
-noted_same l call (Resized r) = refl
-noted_same l (Allocate len) (Got (Ok bytes)) = refl
-noted_same l (Release name) (Got (Ok bytes)) = refl
-noted_same l (Write name at xs) (Got (Ok bytes)) = refl
-noted_same l (Resize name len) (Got (Ok bytes)) = refl
-noted_same l (Read name at n) (Got (Ok bytes)) = refl
 noted_same l call (Got (Err why)) = refl
+noted_same l (Read name at n) (Got (Ok bytes)) = refl
+noted_same l call answer = refl
 
 all_served_on : (answers : List Answer) → AllByRecursion IsServed answers → AllByRecursion IsServed (map handed_on answers)
 all_served_on [] all = tt

@@ -8,7 +8,7 @@ use Rattle.tlsf_crew.specs.declared.worker.lanes.Lanes.{Lanes}
 use Rattle.tlsf_calls.specs.declared.entry.Entry.{Entry}
 use Rattle.tlsf_calls.specs.declared.event.Event.{Event}
 use Rattle.tlsf_calls.specs.declared.call.Call.{Call}
-use Rattle.tlsf_calls.specs.declared.call.Call.TheVariants.{Allocate, Release, Write, Read, Resize, Take, Drain}
+use Rattle.tlsf_calls.specs.declared.call.Call.TheVariants.{Release, Take, Drain}
 use Rattle.tlsf_calls.specs.declared.reply.Reply.{Reply}
 use Rattle.tlsf_crew.specs.lanes.Yard.{IsYard, take_at, waits_in, world_of}
 use Rattle.tlsf_crew.specs.model.World.{name_of, made_by, after, DrainState, Replayed}
@@ -26,25 +26,19 @@ pub record IsReplied {sli : ℕ} (r : Replayed sli) (event : Event) (entries : L
 
 -- the lane from i to j is one that an event may post into or take from
 abbrev pub ConcernsCall : List (Option Name) → ℕ → Call → ℕ → ℕ → Type 0
-ConcernsCall made at (Allocate len) i j = ⊥
 ConcernsCall made at (Release target) i j = (i ≡ at) × (name : Name) × (name_of made target ≡ Some name) × (j ≡ name.heap)
-ConcernsCall made at (Write target from bytes) i j = ⊥
-ConcernsCall made at (Read target from n) i j = ⊥
-ConcernsCall made at (Resize target len) i j = ⊥
 ConcernsCall made at (Take from) i j = j ≡ at
 ConcernsCall made at (Drain most) i j = j ≡ at
+ConcernsCall made at _ i j = ⊥
 
 abbrev pub Concerns : List (Option Name) → Event → ℕ → ℕ → Type 0
 Concerns made e i j = ConcernsCall made e.worker e.call i j
 
+-- a call that may take posts
 abbrev pub MayTake : Call → Type 0
-MayTake (Allocate len) = ⊥
-MayTake (Release target) = ⊥
-MayTake (Write target from bytes) = ⊥
-MayTake (Read target from n) = ⊥
-MayTake (Resize target len) = ⊥
 MayTake (Take from) = ⊤
 MayTake (Drain most) = ⊤
+MayTake _ = ⊥
 
 -- so many posts an event may take from each worker: no more than wait, and all that are ready, where it takes any
 pub record AreLimits {sli : ℕ} (ws : List (Worker sli Lanes)) (e : Event) (limits : List ℕ) : Type 0 where

@@ -43,15 +43,14 @@ fn settle_named<const SLI: u32>(workers: &mut [Worker<SLI>], at: usize, name: Op
     }
 }
 
-/// Settles the lanes that an event concerns whose target means this name. `limits` says then how many posts the worker may take from each other one:
+/// Settles the lanes that an event concerns whose target means this name. Answers how many posts the worker may then take from each other one:
 /// all that wait, where it takes any.
 #[inline(always)]
 fn settle_for<const SLI: u32>(
     workers: &mut [Worker<SLI>],
     event: &Event,
     name: Option<Name>,
-    limits: &mut [u64; 8],
-)
+) -> [u64; 8]
     requires yard { IsYard workers.old }
     requires inside { event.now.worker < length workers.old }
     ensures settled { (made : List (Option Name)) → target_name made event.now.call ≡ name → (i j : ℕ) → i < length workers.old → j < length workers.old → i ≢ j → Concerns made event.now i j
@@ -59,22 +58,19 @@ fn settle_for<const SLI: u32>(
     ensures yard { IsYard workers.new }
     ensures count { length workers.new ≡ length workers.old }
     ensures world { world_of workers.new ≡ world_of workers.old }
-    ensures limits { AreLimits workers.new event.now limits.new }
+    ensures limits { AreLimits workers.new event.now result }
 {
     let at = event.worker as usize;
     match event.call {
         Call::Release { .. } => {
             settle_named(workers, at, name);
-            *limits = [0; 8];
+            [0; 8]
         }
         Call::Take { .. } | Call::Drain { .. } => {
             settle_column(workers, at);
-            *limits = <Lanes as Scripted<NoRuntime>>::limits(&workers[at].ports, &[0; 8]);
+            <Lanes as Scripted<NoRuntime>>::limits(&workers[at].ports, &[0; 8])
         }
-        Call::Allocate { .. } => *limits = [0; 8],
-        Call::Write { .. } => *limits = [0; 8],
-        Call::Read { .. } => *limits = [0; 8],
-        Call::Resize { .. } => *limits = [0; 8],
+        _ => [0; 8],
     }
 }
 
@@ -93,10 +89,10 @@ pub(crate) fn reply_in_yard<const SLI: u32>(
     ensures replied { (made : List (Option Name)) → target_name made event.now.call ≡ name → IsReplied (replay_of made journal.old.entries.items workers.old) event.now journal.new.entries.items workers.new result }
     ensures capacity { vec_capacity journal.new.entries ≡ vec_capacity journal.old.entries }
 {
-    settle_for(workers, event, name, &mut journal.limits);
+    journal.limits = settle_for(workers, event, name);
     let worker = &mut workers[event.worker as usize];
     let reply = reply_to(worker, &NoRuntime, journal, &event.call, name);
-    settle_for(workers, event, name, &mut [0; 8]);
+    settle_for(workers, event, name);
     reply
 }
 

@@ -1,7 +1,6 @@
 use Rattle.std.proofs.Common.{◌≡◌, ◌+◌, ◌++◌, ◌∷◌, [], rules, refl, ap, arith, length}
 use Rattle.std.proofs.lemmas.List.{length_push, nil_from_length}
 use Rattle.tlsf_lines.specs.Pieces.{pieces_of}
-use Rattle.tlsf_lines.proofs.KeptSteps.{used_is_made}
 use Rattle.tlsf_lines.proofs.LineSteps.{ends, few_more, goes_on, is_done, with_none}
 use Rattle.tlsf_lines.proofs.parsing.add_lines.Goals as goal
 
@@ -30,10 +29,7 @@ returns-in-Err-clause-err g c =
 pub add-requires : goal.add-requires
 add-requires g c =
     let inv = c.loop-rest.invariant in
-    record {
-      few = (c.args.header, inv.before, inv.lines, inv.held, omega (arith, inv.behind, inv.numbers, c.requires.short, c.cut_piece.ensures.shorter));
-      target = used_is_made c.args.header.workers inv.before c.in-Ok.judged.0 c.in-Ok.judged.1 (c.in-Ok.ensures.target inv.before inv.recalls);
-    }
+    (c.args.header, inv.before, inv.lines, inv.held, omega (arith, inv.behind, inv.numbers, c.requires.short, c.cut_piece.ensures.shorter))
 
 pub loop-rest-preserved : goal.loop-rest-preserved
 loop-rest-preserved g c =
@@ -47,7 +43,7 @@ loop-rest-preserved g c =
       lines = inv.lines ++ line ∷ [];
       remembers = c.in_ok-remember.ensures.ok inv.before inv.remembers;
       recalls = c.in_ok-remember.ensures.recalls workers inv.before inv.recalls inv.events;
-      held = c.in_ok-add.ensures c.args.header inv.before inv.lines inv.held (c.in-Ok.ensures.target inv.before inv.recalls);
+      held = c.in_ok-add.ensures c.args.header inv.before inv.lines inv.held (c.in-Ok.ensures.made inv.before inv.recalls);
       so_far = goes_on workers inv.before inv.lines c.loop-rest.number c.loop-rest.rest.now _ inv.so_far
           c.cut_piece.result.0.now c.cut_piece.result.1.now line c.cut_piece.ensures.pieces (c.in-Ok.ensures.line inv.before inv.remembers);
       count = omega (arith, cut, longer, inv.count);

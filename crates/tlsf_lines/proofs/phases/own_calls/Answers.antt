@@ -5,7 +5,7 @@ use Rattle.tlsf_heap.specs.declared.name.Name.{Name}
 use Rattle.tlsf_lines.specs.ByLabel.{kept_of}
 use Rattle.tlsf_lines.specs.CallMemory.{RecallsCall, RecallsCallOf}
 use Rattle.tlsf_lines.specs.Phases.{call_in, calls_from, known_in}
-use Rattle.tlsf_lines.specs.Records.{label_in}
+use Rattle.tlsf_lines.specs.Lines.{label_in}
 use Rattle.tlsf_lines.specs.declared.line.Line.{Line}
 use Rattle.tlsf_lines.specs.declared.line.Line.TheVariants.{Allocate}
 use Rattle.tlsf_lines.proofs.LabelSteps.{IfSome-weaker}

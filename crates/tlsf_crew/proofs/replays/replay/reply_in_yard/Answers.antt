@@ -13,15 +13,15 @@ use Rattle.tlsf_crew.proofs.replays.replay.reply_in_yard.Goals as goal
 
 pub reply_to-reply-requires : goal.reply_to-reply-requires
 reply_to-reply-requires g c =
-    let e = c.settle_for.ensures in
-    let r = limit_room c.args.workers.now c.settle_for.new.workers c.args.event.now c.settle_for.new.limits e.limits e.world in
+    let e = c.settle_for-journal.ensures in
+    let r = limit_room c.args.workers.now c.settle_for-journal.new.workers c.args.event.now c.settle_for-journal.result e.limits e.world in
     let room = c.requires.room in
     (omega arith, omega arith)
 
 run_of : (g : Over) (c : goal.After-workers-2-1 g) (made : List (Option Name)) → target_name made c.args.event.now.call ≡ c.args.name → Run g.row.SLI
 run_of g c made known =
-    let vs = c.settle_for.new.workers in
-    let e = c.settle_for.ensures in
+    let vs = c.settle_for-journal.new.workers in
+    let e = c.settle_for-journal.ensures in
     let n = e.count in
     let p = c.requires.inside in
     let lt : c.args.event.now.worker < length vs = omega arith in
@@ -35,7 +35,7 @@ run_of g c made known =
       made = made;
       es = c.args.journal.now.entries.items;
       longer = c.reply_to-reply.new.journal.entries.items;
-      limits = c.settle_for.new.limits;
+      limits = c.settle_for-journal.result;
       left = c.reply_to-reply.new.journal.limits;
       call = c.args.event.now.call;
       reply = c.reply_to-reply.result;
@@ -45,12 +45,12 @@ run_of g c made known =
       step = c.reply_to-reply.ensures.stepped (length vs) made known (each_knows (length vs) vs refl e.yard c.args.event.now.worker c.index-workers-event.result lt);
     }
 
-pub settle_for-requires-2 : goal.settle_for-requires-2
-settle_for-requires-2 g c = (
+pub settle_for-requires : goal.settle_for-requires
+settle_for-requires g c = (
   omega arith,
   (
-    let vs = c.settle_for.new.workers in
-        let e = c.settle_for.ensures in
+    let vs = c.settle_for-journal.new.workers in
+        let e = c.settle_for-journal.ensures in
         let n = e.count in
         let p = c.requires.inside in
         let lt : c.args.event.now.worker < length vs = omega arith in
@@ -59,8 +59,8 @@ settle_for-requires-2 g c = (
         let step = c.reply_to-reply.ensures.stepped (length vs) c.requires.meant.0 c.requires.meant.1 (each_knows (length vs) vs refl e.yard c.args.event.now.worker c.index-workers-event.result lt) in
         let m = step.step.moved [] in
         m.yard vs c.args.event.now.worker is e.yard,
-    let vs = c.settle_for.new.workers in
-        let n = c.settle_for.ensures.count in
+    let vs = c.settle_for-journal.new.workers in
+        let n = c.settle_for-journal.ensures.count in
         let p = c.requires.inside in
         omega (arith, length-set vs c.args.event.now.worker c.reply_to-reply.new.worker),
   ),
@@ -69,14 +69,14 @@ settle_for-requires-2 g c = (
 pub returns-clause-replied : goal.returns-clause-replied
 unfolding run_of
 returns-clause-replied g c = λ made known.
-    let vs = c.settle_for.new.workers in
-    let e = c.settle_for.ensures in
-    let f = c.settle_for-2.ensures in
+    let vs = c.settle_for-journal.new.workers in
+    let e = c.settle_for-journal.ensures in
+    let f = c.settle_for.ensures in
     let n = e.count in
     let p = c.requires.inside in
     let lt : c.args.event.now.worker < length vs = omega arith in
     let a : Worker g.row.SLI Lanes = get_or vs c.args.event.now.worker c.index-workers-event.result in
     let is : slice_get vs c.args.event.now.worker ≡ Some a = slice_get-get_or vs c.args.event.now.worker c.index-workers-event.result lt in
     let own : id_of a ≡ c.args.event.now.worker = own_number vs c.args.event.now.worker a e.yard is in
-    let s = settles (run_of g c made known) c.args.workers.now c.settle_for-2.new.workers c.args.event.now.worker own e.count (e.settled made known) (f.settled made known) (λ may i t near q. e.limits.all may i t near q) f.yard f.count f.world in
-    replied (run_of g c made known) c.args.workers.now c.settle_for-2.new.workers c.args.event.now s e.world (sym own) refl
+    let s = settles (run_of g c made known) c.args.workers.now c.settle_for.new.workers c.args.event.now.worker own e.count (e.settled made known) (f.settled made known) (λ may i t near q. e.limits.all may i t near q) f.yard f.count f.world in
+    replied (run_of g c made known) c.args.workers.now c.settle_for.new.workers c.args.event.now s e.world (sym own) refl

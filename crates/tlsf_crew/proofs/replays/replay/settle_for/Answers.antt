@@ -1,10 +1,22 @@
-use Rattle.std.proofs.Common.{◌≡◌, ◌∙◌, ap, sym, subst, arith, Some, slice_get, slice_index, replicate}
+use Rattle.std.proofs.Common.{ℕ, ◌≡◌, ◌∙◌, ap, sym, subst, arith, refl, List, [], Option, Some, slice_get, slice_index, replicate}
 use Rattle.std.proofs.lemmas.List.{get_or-replicate}
 use Rattle.std.proofs.lemmas.Option.{slice_get-get_or}
+use Rattle.tlsf_heap.specs.declared.name.Name.{Name}
+use Rattle.tlsf_calls.specs.declared.call.Call.{Call}
+use Rattle.tlsf_calls.specs.declared.call.Call.TheVariants.{Release, Take, Drain}
+use Rattle.tlsf_calls.specs.declared.target.Target.{Target}
 use Rattle.tlsf_crew.specs.model.Targets.{target_name}
 use Rattle.tlsf_crew.specs.replays.ReplaySteps.{ConcernsCall, MayTake}
 use Rattle.tlsf_crew.proofs.lemmas.replays.Exact.{limits_are, zero_limits}
 use Rattle.tlsf_crew.proofs.replays.replay.settle_for.Goals as goal
+
+-- a call of another kind concerns no lane, and takes nothing
+concerns_none : (made : List (Option Name)) (at : ℕ) (call : Call) → ((target : Target) → call ≡ Release target → ⊥) → ((from : ℕ) → call ≡ Take from → ⊥)
+    → ((most : ℕ) → call ≡ Drain most → ⊥) → ((i j : ℕ) → ConcernsCall made at call i j → ⊥) × (MayTake call → ⊥)
+concerns_none made at (Release target) a b c = absurd (a target refl)
+concerns_none made at (Take from) a b c = absurd (b from refl)
+concerns_none made at (Drain most) a b c = absurd (c most refl)
+concerns_none made at other a b c = (λ i j none. none, λ none. none)
 
 pub returns-in-Release-clause-settled : goal.returns-in-Release-clause-settled
 returns-in-Release-clause-settled g c = λ made known i j a b ne k.
@@ -29,26 +41,12 @@ returns-in-Take-clause-limits g c =
 pub returns-in-Release-clause-limits : goal.returns-in-Release-clause-limits
 returns-in-Release-clause-limits g c = zero_limits _ c.args.event.now (λ m. subst MayTake c.in-Release.is m)
 
-pub returns-in-Allocate-clause-settled : goal.returns-in-Allocate-clause-settled
-returns-in-Allocate-clause-settled g c = λ made known i j a b ne k. absurd (subst (λ x. ConcernsCall made c.args.event.now.worker x i j) c.in-Allocate.is k)
+pub returns-in_default-clause-settled : goal.returns-in_default-clause-settled
+returns-in_default-clause-settled g c = λ made known i j a b ne k.
+    let e = c.args.event.now in
+    absurd ((concerns_none made e.worker e.call c.in_default.not-Release c.in_default.not-Take c.in_default.not-Drain).0 i j k)
 
-pub returns-in-Allocate-clause-limits : goal.returns-in-Allocate-clause-limits
-returns-in-Allocate-clause-limits g c = zero_limits _ c.args.event.now (λ m. subst MayTake c.in-Allocate.is m)
-
-pub returns-in-Write-clause-settled : goal.returns-in-Write-clause-settled
-returns-in-Write-clause-settled g c = λ made known i j a b ne k. absurd (subst (λ x. ConcernsCall made c.args.event.now.worker x i j) c.in-Write.is k)
-
-pub returns-in-Write-clause-limits : goal.returns-in-Write-clause-limits
-returns-in-Write-clause-limits g c = zero_limits _ c.args.event.now (λ m. subst MayTake c.in-Write.is m)
-
-pub returns-in-Read-clause-settled : goal.returns-in-Read-clause-settled
-returns-in-Read-clause-settled g c = λ made known i j a b ne k. absurd (subst (λ x. ConcernsCall made c.args.event.now.worker x i j) c.in-Read.is k)
-
-pub returns-in-Read-clause-limits : goal.returns-in-Read-clause-limits
-returns-in-Read-clause-limits g c = zero_limits _ c.args.event.now (λ m. subst MayTake c.in-Read.is m)
-
-pub returns-in-Resize-clause-settled : goal.returns-in-Resize-clause-settled
-returns-in-Resize-clause-settled g c = λ made known i j a b ne k. absurd (subst (λ x. ConcernsCall made c.args.event.now.worker x i j) c.in-Resize.is k)
-
-pub returns-in-Resize-clause-limits : goal.returns-in-Resize-clause-limits
-returns-in-Resize-clause-limits g c = zero_limits _ c.args.event.now (λ m. subst MayTake c.in-Resize.is m)
+pub returns-in_default-clause-limits : goal.returns-in_default-clause-limits
+returns-in_default-clause-limits g c =
+    let e = c.args.event.now in
+    zero_limits _ e (concerns_none [] 0 e.call c.in_default.not-Release c.in_default.not-Take c.in_default.not-Drain).1

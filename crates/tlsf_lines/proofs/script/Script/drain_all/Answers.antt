@@ -1,4 +1,4 @@
-use Rattle.std.proofs.Common.{◌≡◌, ℕ, Option, None, ◌+◌, [], ◌∷◌, ◌++◌, ap, ◌∙◌, arith, append_assoc}
+use Rattle.std.proofs.Common.{◌≡◌, ℕ, Option, None, ◌+◌, [], ◌∷◌, ◌++◌, refl, ap, ◌∙◌, arith, append_assoc}
 use Rattle.std.proofs.lemmas.List.{replicate_more}
 use Rattle.std.proofs.lemmas.List.FromFn.{map-range_with_len_more}
 use Rattle.tlsf_lines.specs.Events.{last_drain}
@@ -10,7 +10,7 @@ loop-worker-preserved c =
     let inv = c.loop-worker.invariant in
     let next : 0 + w ≡ w = omega arith in
     record {
-      events = rw (map-range_with_len_more last_drain 0 w w next) (c.in_ok-push.ensures.events ∙ (ap (λ l. l ++ last_drain w ∷ []) inv.events ∙ append_assoc c.args.self.now.events _ _));
+      events = rw (map-range_with_len_more last_drain 0 w w next) (c.in_ok-push.ensures.events 0 [] refl ∙ (ap (λ l. l ++ last_drain w ∷ []) inv.events ∙ append_assoc c.args.self.now.events _ _));
       labels = rw (← replicate_more {X = Option ℕ} w None) (c.in_ok-push.ensures.labels ∙ (ap (λ l. l ++ None ∷ []) inv.labels ∙ append_assoc c.args.self.now.labels.items _ _));
       header = c.in_ok-push.ensures.same.header ∙ inv.header;
       calls = c.in_ok-push.ensures.same.calls ∙ inv.calls;

@@ -1,7 +1,0 @@
-use Rattle.std.proofs.Common.{◌≡◌, ◌++◌, drop, map}
-use Rattle.tlsf_lines.specs.Records.{label_in}
-use Rattle.tlsf_lines.proofs.phases.labels_of.Given as goal
-
--- the labels so far and those of what is left are all
-abbrev pub invariant-loop-line : goal.invariant-loop-line
-invariant-loop-line l = record { so_far : l.labels.items ++ map label_in (drop l.line-index l.lines) ≡ map label_in l.lines }
