@@ -266,27 +266,5 @@ def plot_text(trace):
     return text_of(lines)
 
 
-def marks_line(points, length):
-    """The marks at the line to look at and at the peak, in the middle of what each has of 960 pixels."""
-    (look, _), peak = look_at(points, length), peak_at(points)
-    x, y = (80 + 480 * (2 * at + 1) // len(points) for at in (look, peak))
-    marks = f"<path class='mark' d='M{x} 78V580'/><text class='at' x='{x}' y='74'>line {look + 1}</text>"
-    return marks + f"<path class='peak' d='M{y} 80V264'/><text class='at' x='{y}' y='276'>peak: line {peak + 1}</text>"
-
-
-def path_text(trace):
-    """The lines of the SVG file that begin with a path: one unit wide for a point, and as high as its number; the words of the heap in both of
-    the frames of words; a mark for each refusal; and the marks of two lines."""
-    lines = []
-    for points, length in zip(*curves_of(trace)):
-        _, curve = curve_of(points, 2000)
-        for name in ("", "live", "asked", "", "free", "largest", "fragmentation"):
-            steps = "".join(f"V{getattr(it, name)}H{at}" for at, it in enumerate(curve, 1)) if name else ""
-            lines.append(f"<path class='{name}' d='M0 0{steps}V0'/>" if name else f"<path class='capacity' d='M0 {trace.words}H{len(curve)}'/>")
-        marks = "".join(f"M{at} 0h1v1h-1z" for at, it in enumerate(curve) if it.refused)
-        lines += [f"<path class='refused' d='{marks}'/>", marks_line(points, length)]
-    return text_of(lines)
-
-
 # What each command answers, in words of its command line.
-TEXTS = {"replay": replay_text, "replay --held": held_text, "race": race_text, "plot --text": plot_text, "plot": path_text}
+TEXTS = {"replay": replay_text, "replay --held": held_text, "race": race_text, "plot --text": plot_text}

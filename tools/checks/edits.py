@@ -1,4 +1,4 @@
-"""Each wrong body in gate/ and attack/ still applies: each text that it
+"""Each wrong body in gate/, attack/ and drawn/ still applies: each text that it
 changes stands once in its file, it changes something, and no other edit of its
 crate has its name. Where it turns a law, of a folder laws/ or of
 tlsf_yard_laws, its line `shown:` says what shows that the law is false then.
@@ -14,6 +14,8 @@ from checks.names import tests
 KNOWN = tree.TOP / "docs" / "WRONG_BODIES.md"
 HEADING = "## Known wrong allocators"
 ROW = re.compile(r"^\| (.+) \| (.+) \|$", re.M)
+# Beside those for the prover, the wrong pictures, which a test refuses.
+FOLDERS = (*tree.FOLDERS, "drawn")
 
 
 def is_of_law(crate, changes):
@@ -73,17 +75,17 @@ def faults():
     yield from known_faults()
     for crate in tree.crates():
         names = {}
-        for edit in tree.edits_of(crate):
+        for edit in tree.edits_of(crate, FOLDERS):
             told = edit.relative_to(tree.TOP)
             if other := names.get(edit.name):
                 yield f"{told}: has the name of {other}"
             names[edit.name] = told
             yield from (f"{told}: {fault}" for fault in faults_of(crate, edit))
-        for folder in tree.FOLDERS:
+        for folder in FOLDERS:
             for file in sorted((crate / folder).glob("*")):
                 if file.suffix not in (".edit", ".md"):
                     yield f"{file.relative_to(tree.TOP)}: no edit: its name ends in neither .edit nor .md"
 
 
 def looked_at():
-    return f"{sum(len(tree.edits_of(it)) for it in tree.crates())} wrong bodies, {len(known())} known ones"
+    return f"{sum(len(tree.edits_of(it, FOLDERS)) for it in tree.crates())} wrong bodies, {len(known())} known ones"

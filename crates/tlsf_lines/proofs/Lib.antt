@@ -28,6 +28,4 @@ pub mod WorkerByWorker  -- what is made for one worker after another
 pub mod NamesLearned  -- what labels stand for behind one line more
 pub mod PhaseCuts  -- a trace begins with its first phase
 -- The definitions on worked rows.
-pub mod WorkedTraces  -- whole traces
-pub mod WorkedLines  -- single lines
-mod WorkedOutput  -- events of a trace, and reply lines
+mod WorkedTraces  -- whole traces, and the events of one

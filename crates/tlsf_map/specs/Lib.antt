@@ -1,12 +1,4 @@
-pub mod Folds
-pub mod Grids
-pub mod Numbers
-pub mod Ages
-pub mod Svg
-pub mod Groups
-pub mod Page
-pub mod Columns
-pub mod Text
-pub mod Density
-pub mod TextPage
-pub mod Html
+-- What a picture tells of the heaps that it draws.
+pub mod Told
+-- The bounds of rows and characters, which keep sums in range. This serves the contracts of private functions alone.
+pub mod Layouts

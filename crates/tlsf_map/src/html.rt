@@ -1,11 +1,12 @@
 //! The heaps at some moments, as an HTML page that shows one of them at a time.
-ghost use Rattle.std.specs.Prelude.{◌≡◌, ◌++◌, ◌≤◌, length, OnOk, string_bytes};
-ghost use Rattle.tlsf_map.specs.Html.{Moment, content_item, drawing_part, heap_data, heaps_data, item_of, items_of, moment_data, named_item, named_items, named_part, page_foot, page_head, plotting_part, reading_part, script_part, showing_part, slider_part, style_part};
+ghost use Rattle.std.specs.Prelude.{◌≡◌, [], ◌∷◌, ◌++◌, OnOk, string_bytes};
+ghost use Rattle.tlsf_map.specs.Told.{Adds, all_told, head_told, heap_told, item_of, items_of, moment_told, named_item, named_items};
 
 use crate::mapped_heap::{LabelledBlock, MappedHeap};
 use crate::named_lines::NamedLines;
 use crate::numbers::write_numbers;
-use std::alloc::AllocError;
+use crate::title::write_title;
+use std::alloc::{AllocError, Global};
 use tlsf_heap::Content;
 
 // Colours by the reader's scheme, those of the picture.
@@ -56,24 +57,41 @@ fn write_items(text: &mut String, blocks: &[LabelledBlock]) -> Result<(), AllocE
     Ok(())
 }
 
-#[tactic(auto, unfolding(crate::specs::Html::heap_data))]
-fn write_heap_data(text: &mut String, words: u32, heap: &MappedHeap) -> Result<(), AllocError>
-    ensures { OnOk result (string_bytes text.new ≡ string_bytes text.old ++ heap_data words heap.now) }
-{
-    let id = heap.id;
-    let tick = heap.tick;
-    write!(text, "heap {id}: {words} words at tick {tick}\n")?;
-    write_numbers(text, &heap.report, "; ")?;
+// The line below the title of a heap: its numbers.
+fn numbers_of(alloc: Global, heap: &MappedHeap) -> Result<String, AllocError> {
+    let mut text = String::new(alloc);
     text.push_str("\n")?;
-    write_items(text, &heap.blocks)?;
-    text.push_str("\n")
+    write_numbers(&mut text, &heap.report, "; ")?;
+    text.push_str("\n")?;
+    Ok(text)
 }
 
-fn write_heaps_data(text: &mut String, words: u32, heaps: &[MappedHeap]) -> Result<(), AllocError>
-    ensures { OnOk result (string_bytes text.new ≡ string_bytes text.old ++ heaps_data words heaps.now) }
+fn write_heap(
+    alloc: Global,
+    text: &mut String,
+    words: u32,
+    heap: &MappedHeap,
+) -> Result<(), AllocError>
+    ensures { OnOk result (Adds (heap_told words heap.now) (string_bytes text.old) (string_bytes text.new)) }
+{
+    let numbers = numbers_of(alloc, heap)?;
+    write_title(text, words, heap)?;
+    text.push_str(&numbers)?;
+    write_items(text, &heap.blocks)?;
+    text.push_str("\n")?;
+    Ok(())
+}
+
+fn write_heaps(
+    alloc: Global,
+    text: &mut String,
+    words: u32,
+    heaps: &[MappedHeap],
+) -> Result<(), AllocError>
+    ensures { OnOk result (Adds (all_told (heap_told words) heaps.now) (string_bytes text.old) (string_bytes text.new)) }
 {
     for number in 0..heaps.len() {
-        write_heap_data(text, words, &heaps[number])?;
+        write_heap(alloc, text, words, &heaps[number])?;
     }
     Ok(())
 }
@@ -82,38 +100,25 @@ fn write_heaps_data(text: &mut String, words: u32, heaps: &[MappedHeap]) -> Resu
 ///
 /// ```text
 /// write_page_head(&mut text)?;
-/// write_moment(&mut text, 64, 1, &heaps)?;    // "line 1\nheap 0: 64 words at tick 1\nlive 0 blocks, ..\nf64,0;\n"
+/// write_moment(alloc, &mut text, 64, 1, &heaps)?; // "line 1\nheap 0: 64 words at tick 1\nlive 0 blocks, ..\nf64,0;\n"
 /// write_page_foot(&mut text, &named)?;
 /// ```
 ///
 /// # Errors
 ///
 /// Where memory runs out.
-#[tactic(auto, unfolding(crate::specs::Html::moment_data))]
 pub fn write_moment(
+    alloc: Global,
     text: &mut String,
     words: u32,
     line: u32,
     heaps: &[MappedHeap],
 ) -> Result<(), AllocError>
-    ensures { OnOk result (string_bytes text.new ≡ string_bytes text.old ++ moment_data words (record { line = line; heaps = heaps.now })) }
+    ensures { OnOk result (Adds (moment_told words (record { line = line; heaps = heaps.now })) (string_bytes text.old) (string_bytes text.new)) }
 {
     write!(text, "line {line}\n")?;
-    write_heaps_data(text, words, heaps)
-}
-
-#[tactic(auto, unfolding(crate::specs::Html::style_part))]
-fn write_style(text: &mut String) -> Result<(), AllocError>
-    ensures { OnOk result (string_bytes text.new ≡ string_bytes text.old ++ style_part) }
-{
-    text.push_str(PAGE_STYLE)
-}
-
-#[tactic(auto, unfolding(crate::specs::Html::slider_part))]
-fn write_slider(text: &mut String) -> Result<(), AllocError>
-    ensures { OnOk result (string_bytes text.new ≡ string_bytes text.old ++ slider_part) }
-{
-    text.push_str(SLIDER)
+    write_heaps(alloc, text, words, heaps)?;
+    Ok(())
 }
 
 /// Adds what stands on the page before the moments.
@@ -125,15 +130,15 @@ fn write_slider(text: &mut String) -> Result<(), AllocError>
 /// # Errors
 ///
 /// Where memory runs out.
-#[tactic(auto, unfolding(crate::specs::Html::page_head))]
 pub fn write_page_head(text: &mut String) -> Result<(), AllocError>
-    ensures { OnOk result (string_bytes text.new ≡ string_bytes text.old ++ page_head) }
+    ensures { OnOk result (Adds head_told (string_bytes text.old) (string_bytes text.new)) }
 {
-    write_style(text)?;
-    write_slider(text)
+    text.push_str(PAGE_STYLE)?;
+    text.push_str(SLIDER)?;
+    Ok(())
 }
 
-fn write_named_item(text: &mut String, named: NamedLines) -> Result<(), AllocError>
+fn write_named(text: &mut String, named: NamedLines) -> Result<(), AllocError>
     ensures { OnOk result (string_bytes text.new ≡ string_bytes text.old ++ named_item named) }
 {
     let peak = named.peak;
@@ -146,28 +151,9 @@ fn write_named_items(text: &mut String, named: &[NamedLines]) -> Result<(), Allo
     ensures { OnOk result (string_bytes text.new ≡ string_bytes text.old ++ named_items named.now) }
 {
     for number in 0..named.len() {
-        write_named_item(text, named[number])?;
+        write_named(text, named[number])?;
     }
     Ok(())
-}
-
-#[tactic(auto, unfolding(crate::specs::Html::named_part))]
-fn write_named(text: &mut String, named: &[NamedLines]) -> Result<(), AllocError>
-    ensures { OnOk result (string_bytes text.new ≡ string_bytes text.old ++ named_part named.now) }
-{
-    text.push_str("</script><script>'use strict';\nconst named=[")?;
-    write_named_items(text, named)?;
-    text.push_str("];\n")
-}
-
-#[tactic(auto, unfolding(crate::specs::Html::script_part, crate::specs::Html::reading_part, crate::specs::Html::drawing_part, crate::specs::Html::plotting_part, crate::specs::Html::showing_part))]
-fn write_script(text: &mut String) -> Result<(), AllocError>
-    ensures { OnOk result (string_bytes text.new ≡ string_bytes text.old ++ script_part) }
-{
-    text.push_str(READING)?;
-    text.push_str(DRAWING)?;
-    text.push_str(PLOTTING)?;
-    text.push_str(SHOWING)
 }
 
 /// Adds what stands on the page after the moments: the lines that are named of each heap, in the order of their numbers, and the
@@ -181,10 +167,15 @@ fn write_script(text: &mut String) -> Result<(), AllocError>
 /// # Errors
 ///
 /// Where memory runs out.
-#[tactic(auto, unfolding(crate::specs::Html::page_foot))]
 pub fn write_page_foot(text: &mut String, named: &[NamedLines]) -> Result<(), AllocError>
-    ensures { OnOk result (string_bytes text.new ≡ string_bytes text.old ++ page_foot named.now) }
+    ensures { OnOk result (Adds (named_items named.now ∷ []) (string_bytes text.old) (string_bytes text.new)) }
 {
-    write_named(text, named)?;
-    write_script(text)
+    text.push_str("</script><script>'use strict';\nconst named=[")?;
+    write_named_items(text, named)?;
+    text.push_str("];\n")?;
+    text.push_str(READING)?;
+    text.push_str(DRAWING)?;
+    text.push_str(PLOTTING)?;
+    text.push_str(SHOWING)?;
+    Ok(())
 }

@@ -12,10 +12,8 @@
 //! [`write_moment`] and [`write_page_foot`] make an HTML page that shows heaps at one moment at a time, and goes to the lines that
 //! are named of each.
 //!
-//! Contracts see the pictures as the texts that `svg_text` of `specs/Page.antt`, `text_of` of `specs/TextPage.antt`
-//! and `page_of` of `specs/Html.antt` spell. Rows and
-//! pieces are those of `specs/Grids.antt`, rows of which one is drawn for all those of `specs/Folds.antt`, neighbours that are drawn
-//! as one those of `specs/Groups.antt`, and characters those of `specs/Columns.antt` and `specs/Density.antt`.
+//! Contracts see what a picture tells of its heaps (`specs/Told.antt`): the title of each, and on a page all its blocks. No clause says
+//! how a picture looks: that is tested.
 #![tactic(auto)]
 
 mod columns;
@@ -26,7 +24,6 @@ mod free_blocks;
 mod grid;
 mod group;
 mod html;
-mod laws;
 mod mapped_heap;
 mod marks;
 mod named_lines;
@@ -34,9 +31,9 @@ mod numbers;
 mod page;
 mod rectangles;
 mod text_page;
+mod title;
 
 pub use html::{write_moment, write_page_foot, write_page_head};
-pub use laws::{free_blocks_are_drawn_by_age, groups_are_the_blocks, pieces_are_the_block};
 pub use mapped_heap::{LabelledBlock, MappedHeap};
 pub use named_lines::NamedLines;
 pub use page::write_svg;

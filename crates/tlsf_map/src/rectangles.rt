@@ -1,7 +1,6 @@
 //! Rectangles and lines of text. Lengths are in sixteenths of a pixel, so that each is a whole number.
-ghost use Rattle.std.specs.Prelude.{◌≡◌, ◌++◌, ◌≤◌, ◌^◌, true, OnOk, string_bytes};
-ghost use Rattle.tlsf_map.specs.Grids.{IsGrid};
-ghost use Rattle.tlsf_map.specs.Svg.{bar_text, begun_text, caption_at, caption_text, fold_text, label_text, piece_text, place_text, rectangle_text, rows_text, spread_text};
+ghost use Rattle.std.specs.Prelude.{◌≤◌, ◌^◌};
+ghost use Rattle.tlsf_map.specs.Layouts.{IsGrid};
 
 use crate::fold::Fold;
 use crate::grid::Grid;
@@ -11,38 +10,12 @@ use std::alloc::AllocError;
 fn write_place(text: &mut String, grid: Grid, at: u64) -> Result<(), AllocError>
     requires grid { IsGrid grid }
     requires place { at ≤ 2 ^ 34 }
-    ensures { OnOk result (string_bytes text.new ≡ string_bytes text.old ++ place_text grid at) }
 {
     let y = grid.top(at) + 328;
     write!(text, "<text class='place' x='-96' y='{y}'>{at}</text>")
 }
 
-// Adds the place, where a row begins there and it is wanted.
-#[tactic(auto, unfolding(crate::specs::Svg::begun_text))]
-fn write_begun(text: &mut String, grid: Grid, wanted: bool, at: u64) -> Result<(), AllocError>
-    requires grid { IsGrid grid }
-    requires place { at ≤ 2 ^ 34 }
-    ensures { OnOk result (string_bytes text.new ≡ string_bytes text.old ++ begun_text grid wanted at) }
-{
-    if wanted && at % grid.row == 0 {
-        return write_place(text, grid, at);
-    }
-    Ok(())
-}
-
-// Adds the rectangle of some words of one row.
-fn write_rectangle(text: &mut String, grid: Grid, at: u64, words: u64) -> Result<(), AllocError>
-    requires grid { IsGrid grid }
-    requires place { at ≤ 2 ^ 34 }
-    requires few { words ≤ 2 ^ 34 }
-    ensures { OnOk result (string_bytes text.new ≡ string_bytes text.old ++ rectangle_text grid at words) }
-{
-    let x = grid.left(at);
-    let y = grid.top(at);
-    let width = grid.width(at, words);
-    write!(text, "<rect x='{x}' y='{y}' width='{width}' height='560'/>")
-}
-
+// Adds the rectangle of some words of one row, and the place where a row begins there and it is wanted.
 fn write_piece(
     text: &mut String,
     grid: Grid,
@@ -53,15 +26,18 @@ fn write_piece(
     requires grid { IsGrid grid }
     requires place { at ≤ 2 ^ 34 }
     requires few { words ≤ 2 ^ 34 }
-    ensures { OnOk result (string_bytes text.new ≡ string_bytes text.old ++ piece_text grid wanted (record { at = at; words = words })) }
 {
-    write_begun(text, grid, wanted, at)?;
-    write_rectangle(text, grid, at, words)
+    if wanted && at % grid.row == 0 {
+        write_place(text, grid, at)?;
+    }
+    let x = grid.left(at);
+    let y = grid.top(at);
+    let width = grid.width(at, words);
+    write!(text, "<rect x='{x}' y='{y}' width='{width}' height='560'/>")
 }
 
 /// Adds a rectangle for each row that so many words from a place on touch, and the places of the rows that begin among them where
 /// these are wanted.
-#[tactic(auto, unfolding(crate::specs::Svg::spread_text))]
 pub fn write_spread(
     text: &mut String,
     grid: Grid,
@@ -72,15 +48,10 @@ pub fn write_spread(
     requires grid { IsGrid grid }
     requires place { at ≤ 2 ^ 33 }
     requires few { words ≤ 2 ^ 33 }
-    ensures { OnOk result (string_bytes text.new ≡ string_bytes text.old ++ spread_text grid wanted at words) }
 {
-    if words == 0 {
-        return Ok(());
-    }
     let mut place = at;
     let mut left = words;
-    let rows = grid.rows(place % grid.row + left);
-    for _ in 0..rows {
+    while left > 0 {
         let here = left.min(grid.row - place % grid.row);
         write_piece(text, grid, wanted, place, here)?;
         place += here;
@@ -89,35 +60,23 @@ pub fn write_spread(
     Ok(())
 }
 
-fn write_bar(text: &mut String, y: u64, rows: u64, words: u64) -> Result<(), AllocError>
-    requires { y ≤ 2 ^ 46 }
-    ensures { OnOk result (string_bytes text.new ≡ string_bytes text.old ++ bar_text y rows words) }
+// Adds the row that is drawn for all of some.
+fn write_fold(text: &mut String, grid: Grid, fold: Fold) -> Result<(), AllocError>
+    requires grid { IsGrid grid }
+    requires place { fold.at ≤ 2 ^ 33 }
 {
+    write_place(text, grid, fold.at)?;
+    let y = grid.top(fold.at);
     let base = y + 336;
+    let rows = fold.rows;
+    let words = fold.end.saturating_sub(fold.at);
     write!(
         text,
         "<rect class='fold' y='{y}' width='16384' height='560'/><g class='caption'><text class='fold' x='8192' y='{base}'>{rows} rows, {words} words</text></g>"
     )
 }
 
-// Adds the row that is drawn for all of some.
-#[tactic(auto, unfolding(crate::specs::Svg::fold_text))]
-fn write_fold(text: &mut String, grid: Grid, fold: Fold) -> Result<(), AllocError>
-    requires grid { IsGrid grid }
-    requires place { fold.at ≤ 2 ^ 33 }
-    ensures { OnOk result (string_bytes text.new ≡ string_bytes text.old ++ fold_text grid fold) }
-{
-    write_place(text, grid, fold.at)?;
-    write_bar(
-        text,
-        grid.top(fold.at),
-        fold.rows,
-        fold.end.saturating_sub(fold.at),
-    )
-}
-
 /// Adds the words of a block with these rows among them, of which one is drawn for all where there are three or more.
-#[tactic(auto, unfolding(crate::specs::Svg::rows_text))]
 pub fn write_rows(
     text: &mut String,
     grid: Grid,
@@ -131,7 +90,6 @@ pub fn write_rows(
     requires rows { fold.rows ≤ 2 ^ 33 }
     requires place { at ≤ 2 ^ 32 }
     requires few { words ≤ 2 ^ 32 }
-    ensures { OnOk result (string_bytes text.new ≡ string_bytes text.old ++ rows_text grid fold at words) }
 {
     if fold.hidden() == 0 {
         return write_spread(text, grid, true, at, words);
@@ -149,9 +107,7 @@ pub fn write_rows(
 }
 
 /// Adds a label, or this name where there is none.
-pub fn write_label(text: &mut String, label: Option<u32>, name: &str) -> Result<(), AllocError>
-    ensures { OnOk result (string_bytes text.new ≡ string_bytes text.old ++ label_text label name.now) }
-{
+pub fn write_label(text: &mut String, label: Option<u32>, name: &str) -> Result<(), AllocError> {
     match label {
         Some(label) => write!(text, "label {label}"),
         None => text.push_str(name),
@@ -167,29 +123,7 @@ pub struct Caption<'a> {
     pub unit: &'a str,
 }
 
-// Adds the two lines of a caption, at these places.
-#[tactic(auto, unfolding(crate::specs::Svg::caption_at))]
-fn write_caption_at(
-    text: &mut String,
-    x: u64,
-    y: u64,
-    below: u64,
-    caption: &Caption,
-) -> Result<(), AllocError>
-    ensures { OnOk result (string_bytes text.new ≡ string_bytes text.old ++ caption_at x y below caption.now.label caption.now.name.now caption.now.amount caption.now.unit.now) }
-{
-    write!(text, "<g class='caption'><text x='{x}' y='{y}'>")?;
-    write_label(text, caption.label, caption.name)?;
-    let amount = caption.amount;
-    let unit = caption.unit;
-    write!(
-        text,
-        "</text><text x='{x}' y='{below}'>{amount} {unit}</text></g>"
-    )
-}
-
 /// Adds the caption of a block, where its first piece is at least 80 pixels wide.
-#[tactic(auto, unfolding(crate::specs::Svg::caption_text))]
 pub fn write_caption(
     text: &mut String,
     grid: Grid,
@@ -200,7 +134,6 @@ pub fn write_caption(
     requires grid { IsGrid grid }
     requires place { at ≤ 2 ^ 33 }
     requires few { words ≤ 2 ^ 33 }
-    ensures { OnOk result (string_bytes text.new ≡ string_bytes text.old ++ caption_text grid at words caption.now.label caption.now.name.now caption.now.amount caption.now.unit.now) }
 {
     let here = words.min(grid.row - at % grid.row);
     if grid.width(at, here) < 1280 {
@@ -208,5 +141,13 @@ pub fn write_caption(
     }
     let x = grid.left(at) + 64;
     let y = grid.top(at) + 240;
-    write_caption_at(text, x, y, y + 224, caption)
+    write!(text, "<g class='caption'><text x='{x}' y='{y}'>")?;
+    write_label(text, caption.label, caption.name)?;
+    let below = y + 224;
+    let amount = caption.amount;
+    let unit = caption.unit;
+    write!(
+        text,
+        "</text><text x='{x}' y='{below}'>{amount} {unit}</text></g>"
+    )
 }

@@ -6,8 +6,8 @@
 --   Onward: a page, one moment after another
 --   Lines: the points of a heap, one line after another
 --   Charts: charts of heaps, one heap after another
+--   Telling: what a plot tells of a heap
 --   Peaks: where a heap has most live words, one point after another
---   Ticks: the axis of a plot, one tick after another
 --   Standings: where a heap stands worst, one point and one heap after another
 pub mod Labels
 pub mod Walking
@@ -18,4 +18,4 @@ pub mod Lines
 pub mod Charts
 pub mod Standings
 pub mod Peaks
-pub mod Ticks
+pub mod Telling

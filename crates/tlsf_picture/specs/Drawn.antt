@@ -5,8 +5,7 @@ use Rattle.tlsf_heap.specs.Blocks.{HeapState}
 use Rattle.tlsf_heap.specs.Placed.{placed_blocks}
 use Rattle.tlsf_heap.specs.Reports.{report_of}
 use Rattle.tlsf_heap.specs.declared.name.Name.{Name}
-use Rattle.tlsf_map.specs.Page.{svg_text}
-use Rattle.tlsf_map.specs.TextPage.{text_of}
+use Rattle.tlsf_map.specs.Told.{Tells, svg_told, text_told}
 use Rattle.tlsf_map.specs.declared.mapped_heap.MappedHeap.{MappedHeap}
 use Rattle.tlsf_picture.specs.Labelled.{label_of, labelled}
 use Rattle.tlsf_picture.specs.declared.form.Form.{Form}
@@ -34,16 +33,16 @@ IsMap sli made labels heap = IsMapBy sli (label_of heap.id made labels) heap
 abbrev pub AreMaps : ℕ → List (Option Name) → List (Option ℕ) → List HeapState → List MappedHeap → Type 0
 AreMaps sli made labels heaps maps = AllZip (IsMap sli made labels) heaps maps
 
--- a picture of heaps with so many words each
-abbrev pub picture_in : Form → ℕ → List MappedHeap → List ℕ
-picture_in Svg = svg_text
-picture_in Text = text_of
+-- what a picture tells of heaps with so many words each
+abbrev pub picture_told : Form → ℕ → List MappedHeap → List (List ℕ)
+picture_told Svg = svg_told
+picture_told Text = text_told
 
--- the text is a picture of the heaps of a trace as they stand after a line
+-- the text tells of the heaps of a trace as they stand after a line
 pub record DrawsAt (form : Form) (line : ℕ) (trace : Trace) (text : List ℕ) : Type 0 where
   pub maps : List MappedHeap
   pub mapped : AreMaps (level_in trace.header) (moment_of line trace).made (labels_of trace) (moment_of line trace).world.heaps maps
-  pub drawn : text ≡ picture_in form trace.header.words maps
+  pub drawn : Tells (picture_told form trace.header.words maps) text
 
 -- the line that is drawn: where none is given the end, which counts as one line more than the last
 abbrev pub line_in : Option ℕ → Trace → ℕ

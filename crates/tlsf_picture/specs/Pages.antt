@@ -3,7 +3,7 @@ use Rattle.std.specs.Prelude.{◌≡◌, ℕ, zero, suc, ◌+◌, ◌-◌, ◌*�
 use Rattle.std.specs.List.{AllZip, range_with_len}
 use Rattle.tlsf_lines.specs.Events.{labels_of}
 use Rattle.tlsf_lines.specs.Trace.{Trace}
-use Rattle.tlsf_map.specs.Html.{Moment, page_of}
+use Rattle.tlsf_map.specs.Told.{Moment, Tells, page_told}
 use Rattle.tlsf_map.specs.declared.named_lines.NamedLines.{NamedLines}
 use Rattle.tlsf_picture.specs.Drawn.{AreMaps}
 use Rattle.tlsf_picture.specs.plots.Peaks.{IsPeak}
@@ -75,10 +75,10 @@ pub record IsMoment (trace : Trace) (line : ℕ) (moment : Moment) : Type 0 wher
   pub line_is : moment.line ≡ line
   pub mapped : AreMaps (level_in trace.header) (moment_of line trace).made (labels_of trace) (moment_of line trace).world.heaps moment.heaps
 
--- the text is the page of the moments behind these lines
+-- the text tells of the moments behind these lines: all blocks of each
 pub record DrawsPage (trace : Trace) (text : List ℕ) : Type 0 where
   pub named : List NamedLines
   pub noted : AreNoted trace named
   pub moments : List Moment
   pub shown : AllZip (IsMoment trace) (lines_shown (length trace.lines) named) moments
-  pub drawn : text ≡ page_of trace.header.words moments named
+  pub drawn : Tells (page_told trace.header.words moments named) text

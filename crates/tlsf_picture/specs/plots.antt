@@ -2,8 +2,6 @@ pub mod Points
 pub mod Curves
 pub mod Standings
 pub mod Peaks
-pub mod Axis
-pub mod Svg
-pub mod Rows
+pub mod Told
 pub mod Plots
 pub mod Worst

@@ -31,7 +31,7 @@ pub fn picture_behind<const SLI: u32>(
     player.step_to(alloc, script, line)?;
     let maps = map_heaps(alloc, &mut player.workers, &player.made, &script.labels)?;
     let mut text = String::new(alloc);
-    form.write(&mut text, script.header.words, &maps)?;
+    form.write(alloc, &mut text, script.header.words, &maps)?;
     Ok(text)
 }
 

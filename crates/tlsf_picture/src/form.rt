@@ -1,6 +1,7 @@
-ghost use Rattle.tlsf_picture.specs.Drawn.{picture_in};
+ghost use Rattle.tlsf_map.specs.Told.{Adds};
+ghost use Rattle.tlsf_picture.specs.Drawn.{picture_told};
 
-use std::alloc::AllocError;
+use std::alloc::{AllocError, Global};
 use tlsf_map::{MappedHeap, write_svg, write_text};
 
 /// How heaps are drawn.
@@ -13,21 +14,22 @@ pub enum Form {
 }
 
 impl Form {
-    ghost use Rattle.std.specs.Prelude.{◌≡◌, ◌≤◌, ◌++◌, length, OnOk, string_bytes};
+    ghost use Rattle.std.specs.Prelude.{◌≤◌, length, OnOk, string_bytes};
 
     /// Adds the picture of heaps with so many words each, at most eight.
     pub fn write(
         self,
+        alloc: Global,
         text: &mut String,
         words: u32,
         heaps: &[MappedHeap],
     ) -> Result<(), AllocError>
         requires { length heaps.now ≤ 8 }
-        ensures { OnOk result (string_bytes text.new ≡ string_bytes text.old ++ picture_in self words heaps.now) }
+        ensures { OnOk result (Adds (picture_told self words heaps.now) (string_bytes text.old) (string_bytes text.new)) }
     {
         match self {
-            Form::Svg => write_svg(text, words, heaps),
-            Form::Text => write_text(text, words, heaps),
+            Form::Svg => write_svg(alloc, text, words, heaps),
+            Form::Text => write_text(alloc, text, words, heaps),
         }
     }
 }

@@ -8,10 +8,9 @@
 //! long trace several lines are one point, the worst of each number. [`draw_trace_at_worst`] draws the heaps after the line that the
 //! plot names (`specs/plots/Worst.antt`).
 //!
-//! Contracts see the trace that a text spells and the world that it leaves by the definitions of `tlsf_trace`, and the text of
-//! the picture by those of `tlsf_map`; `Draws` and `DrawsText` of `specs/Drawn.antt` join them. They see a point as `point_at` of
-//! `specs/plots/Points.antt`, and the text of a plot by `svg_text` of `specs/plots/Svg.antt` and `text_of` of `specs/plots/Rows.antt`;
-//! `Plots` of `specs/plots/Plots.antt` joins them.
+//! Contracts see the trace that a text spells and the world that it leaves by the definitions of `tlsf_trace`. What is drawn is a table
+//! of each heap, `IsMapBy` of `specs/Drawn.antt`, or the points of each, `point_at` of `specs/plots/Points.antt`. `DrawsAt`,
+//! `DrawsPage` and `Plots` say what the text tells of them; no clause says how it looks.
 #![tactic(auto)]
 
 mod block_labels;

@@ -94,7 +94,7 @@ fn add_moment<const SLI: u32>(
         → OnOk result (AddsMoment line trace (string_bytes text.old) (string_bytes text.new)) }
 {
     let maps = map_heaps(alloc, &mut player.workers, &player.made, &script.labels)?;
-    write_moment(text, script.header.words, line, &maps)
+    write_moment(alloc, text, script.header.words, line, &maps)
 }
 
 // Runs on to the line of a number, where the header's is 0, and adds its moment to the page, where it has one.

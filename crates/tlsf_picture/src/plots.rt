@@ -13,4 +13,5 @@ mod rows;
 mod series;
 mod standing;
 mod svg;
+mod told;
 pub(crate) mod worst;

@@ -2,14 +2,14 @@
 use Rattle.std.specs.Prelude.{◌≡◌, ℕ, ◌+◌, List, length}
 use Rattle.std.specs.List.{AllZip, range_with_len}
 use Rattle.tlsf_lines.specs.Trace.{Trace}
+use Rattle.tlsf_map.specs.Told.{Tells}
 use Rattle.tlsf_picture.specs.plots.Curves.{curve_of, span_for}
 use Rattle.tlsf_picture.specs.plots.Peaks.{IsPeak}
 use Rattle.tlsf_picture.specs.plots.Points.{longest_of, points_of}
 use Rattle.tlsf_picture.specs.declared.form.Form.{Form}
 use Rattle.tlsf_picture.specs.declared.form.Form.TheVariants.{Svg, Text}
-use Rattle.tlsf_picture.specs.plots.Rows.{text_of}
 use Rattle.tlsf_picture.specs.plots.Standings.{IsLook}
-use Rattle.tlsf_picture.specs.plots.Svg.{svg_text}
+use Rattle.tlsf_picture.specs.plots.Told.{plot_told}
 use Rattle.tlsf_picture.specs.declared.plots.chart.Chart.{Chart}
 use Rattle.tlsf_picture.specs.declared.plots.point.Point.{Point}
 use Rattle.tlsf_trace.specs.Output.{level_in}
@@ -38,13 +38,8 @@ abbrev pub most_points : Form → ℕ
 most_points Svg = 2000
 most_points Text = 56
 
--- a plot of heaps
-abbrev pub plot_in : Form → List Chart → List ℕ
-plot_in Svg = svg_text
-plot_in Text = text_of
-
--- the text is the plot of the heaps of a trace in this form
+-- the text tells of the charts of the heaps of a trace
 pub record Plots (form : Form) (trace : Trace) (text : List ℕ) : Type 0 where
   pub charts : List Chart
   pub charted : AreCharts (most_points form) trace charts
-  pub plotted : text ≡ plot_in form charts
+  pub plotted : Tells (plot_told form charts) text

@@ -1,23 +1,18 @@
-//! The axis of the lines of a trace, and the marks at two of them.
-ghost use Rattle.std.specs.Prelude.{◌≡◌, ◌++◌, ◌<◌, ◌≤◌, ◌^◌, OnOk, string_bytes};
-ghost use Rattle.tlsf_picture.specs.plots.Axis as drawn;
-ghost use Rattle.tlsf_picture.specs.plots.Axis.{axis_text, look_mark, peak_mark, tick_text, ticks_text, x_of};
+//! The axis of the lines of a trace, and the marks at two of them. Lengths are in pixels.
+ghost use Rattle.std.specs.Prelude.{◌<◌, ◌≤◌, ◌^◌};
 
+use crate::plots::chart::Chart;
 use std::alloc::AllocError;
 
-// The middle of what a line has of the axis of so many lines.
-#[tactic(auto, unfolding(crate::specs::plots::Axis::x_of))]
-pub fn x_at(lines: u32, line: u64) -> u64
+// The middle of what a line has of the axis of so many lines, which is 960 long and begins at 80.
+fn x_at(lines: u32, line: u64) -> u64
     requires { line < 2 ^ 48 }
-    ensures { result ≡ x_of lines line }
 {
     80 + 480 * (2 * line).saturating_sub(1) / u64::from(lines.max(1))
 }
 
-// The least round number of which at most ten are in so many lines.
-#[tactic(auto, unfolding(crate::specs::plots::Axis::round_step))]
+// The least of 1, 2, 5, 10, 20, 50 and so on of which at most ten are in so many lines.
 fn round_step(lines: u32) -> u64
-    ensures step { result ≡ drawn.round_step lines }
     ensures some { 0 < result }
     ensures few { result ≤ 5000 }
 {
@@ -48,56 +43,33 @@ fn round_step(lines: u32) -> u64
     }
 }
 
-fn write_tick(text: &mut String, x: u64, line: u64) -> Result<(), AllocError>
-    ensures { OnOk result (string_bytes text.new ≡ string_bytes text.old ++ tick_text x line) }
-{
-    write!(
-        text,
-        "<path class='tick' d='M{x} 580v6'/><text class='at' x='{x}' y='600'>{line}</text>"
-    )
-}
-
-// Adds so many ticks, one after each step.
-fn write_ticks(text: &mut String, lines: u32, step: u64, count: u64) -> Result<(), AllocError>
-    requires step { step ≤ 5000 }
-    requires count { count < 2 ^ 32 }
-    ensures { OnOk result (string_bytes text.new ≡ string_bytes text.old ++ ticks_text lines step 0 count) }
-{
-    let mut line = 0;
-    for number in 0..count {
-        line += step;
-        write_tick(text, x_at(lines, line), line)?;
-    }
-    Ok(())
-}
-
-/// Adds the axis of so many lines.
-#[tactic(auto, unfolding(crate::specs::plots::Axis::axis_text))]
-pub fn write_axis(text: &mut String, lines: u32) -> Result<(), AllocError>
-    ensures { OnOk result (string_bytes text.new ≡ string_bytes text.old ++ axis_text lines) }
-{
+/// Adds the axis of so many lines: a tick at each round number.
+pub fn write_axis(text: &mut String, lines: u32) -> Result<(), AllocError> {
     let step = round_step(lines);
     text.push_str("<text class='scale' x='72' y='600'>line</text>")?;
-    write_ticks(text, lines, step, u64::from(lines) / step)?;
+    for number in 0..u64::from(lines) / step {
+        let line = (number + 1) * step;
+        let x = x_at(lines, line);
+        write!(
+            text,
+            "<path class='tick' d='M{x} 580v6'/><text class='at' x='{x}' y='600'>{line}</text>"
+        )?;
+    }
     text.push_str("<text class='bytes' x='1060' y='600'>end</text>\n")
 }
 
-/// Adds the mark at the line to look at.
-pub fn write_look_mark(text: &mut String, x: u64, line: u32) -> Result<(), AllocError>
-    ensures { OnOk result (string_bytes text.new ≡ string_bytes text.old ++ look_mark x line) }
-{
+/// Adds the marks at the line to look at, through all frames, and at the peak, through the first.
+pub fn write_marks(text: &mut String, chart: &Chart) -> Result<(), AllocError> {
+    let look = chart.look.line;
+    let peak = chart.peak.line;
+    let x = x_at(chart.lines, u64::from(look));
     write!(
         text,
-        "<path class='mark' d='M{x} 78V580'/><text class='at' x='{x}' y='74'>line {line}</text>"
-    )
-}
-
-/// Adds the mark at the peak.
-pub fn write_peak_mark(text: &mut String, x: u64, line: u32) -> Result<(), AllocError>
-    ensures { OnOk result (string_bytes text.new ≡ string_bytes text.old ++ peak_mark x line) }
-{
+        "<path class='mark' d='M{x} 78V580'/><text class='at' x='{x}' y='74'>line {look}</text>"
+    )?;
+    let x = x_at(chart.lines, u64::from(peak));
     write!(
         text,
-        "<path class='peak' d='M{x} 80V264'/><text class='at' x='{x}' y='276'>peak: line {line}</text>\n"
+        "<path class='peak' d='M{x} 80V264'/><text class='at' x='{x}' y='276'>peak: line {peak}</text>\n"
     )
 }

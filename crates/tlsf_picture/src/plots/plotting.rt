@@ -96,7 +96,7 @@ impl<const SLI: u32> Plays<SLI> for Plot {
     {
         let charts = charts_at::<SLI>(alloc, script, most_points(self.form))?;
         let mut text = String::new(alloc);
-        write_plot(&mut text, self.form, &charts)?;
+        write_plot(alloc, &mut text, self.form, &charts)?;
         Ok(text)
     }
 }

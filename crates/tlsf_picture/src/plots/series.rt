@@ -1,6 +1,3 @@
-ghost use Rattle.std.specs.Prelude.{◌≡◌};
-ghost use Rattle.tlsf_picture.specs.plots.Svg as drawn;
-
 use crate::plots::point::Point;
 
 /// A number of points that is drawn as a line.
@@ -20,9 +17,7 @@ pub enum Series {
 
 impl Series {
     /// That number of a point.
-    pub fn of(self, point: &Point) -> u32
-        ensures { result ≡ drawn.number_of self point.now }
-    {
+    pub fn of(self, point: &Point) -> u32 {
         match self {
             Series::Live => point.live,
             Series::Asked => point.asked,
@@ -33,15 +28,24 @@ impl Series {
     }
 
     /// The class of its line in the SVG file.
-    pub fn class(self) -> &'static str
-        ensures { result.now ≡ drawn.class_of self }
-    {
+    pub fn class(self) -> &'static str {
         match self {
             Series::Live => "live",
             Series::Asked => "asked",
             Series::Free => "free",
             Series::Largest => "largest",
             Series::Fragmentation => "fragmentation",
+        }
+    }
+
+    /// What its row begins with, in characters.
+    pub fn title(self) -> &'static str {
+        match self {
+            Series::Live => "live words    |",
+            Series::Asked => "asked for     |",
+            Series::Free => "free words    |",
+            Series::Largest => "largest free  |",
+            Series::Fragmentation => "fragmentation |",
         }
     }
 }

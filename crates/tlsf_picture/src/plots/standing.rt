@@ -1,5 +1,6 @@
 ghost use Rattle.std.specs.Prelude.{◌≡◌};
 ghost use Rattle.tlsf_picture.specs.plots.Standings as told;
+ghost use Rattle.tlsf_picture.specs.plots.Told.{words_told};
 
 use crate::plots::point::Point;
 
@@ -28,6 +29,16 @@ fn is_fuller(live: u32, fragmentation: u32, other: u32, less: u32) -> bool
 }
 
 impl Standing {
+    /// The words that are told of it: those that are free without room, and else those that are live.
+    pub(crate) fn words(self) -> u32
+        ensures { result ≡ words_told self }
+    {
+        match self {
+            Standing::NoRoom { free } => free,
+            Standing::Room { live, .. } => live,
+        }
+    }
+
     /// At a point, where the longest request is of so many bytes.
     pub(crate) fn of(len: u32, point: &Point) -> Standing
         ensures { result ≡ told.standing_of len point.now }

@@ -1,10 +1,10 @@
-use Rattle.std.proofs.Common.{◌≡◌, ◌+◌, ◌*◌, ◌≤◌, ◌^◌, ◌++◌, drop, string_bytes}
-use Rattle.tlsf_map.specs.Page.{heaps_text}
+use Rattle.std.proofs.Common.{◌+◌, ◌*◌, ◌≤◌, ◌^◌, take, string_bytes}
+use Rattle.tlsf_map.specs.Told.{Adds, all_told, title_of}
 use Rattle.tlsf_map.proofs.page.write_heaps.Given as goal
 
--- what is written and the heaps that are left are the text of all
+-- the heaps so far have their titles
 abbrev pub invariant-loop-number : goal.invariant-loop-number
 invariant-loop-number l = record {
-  so_far : string_bytes l.text ++ heaps_text l.y l.words (drop l.number l.heaps) ≡ string_bytes l.fn.text ++ heaps_text 1088 l.words l.heaps;
+  so_far : Adds (all_told (title_of l.words) (take l.number l.heaps)) (string_bytes l.fn.text) (string_bytes l.text);
   most : l.y ≤ 1088 + l.number * 2 ^ 46;
 }

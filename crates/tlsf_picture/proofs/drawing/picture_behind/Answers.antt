@@ -1,7 +1,9 @@
-use Rattle.std.proofs.Common.{length, map, ap, ◌∙◌, arith}
+use Rattle.std.proofs.Common.{[], length, map, ap, subst, arith, string_bytes}
 use Rattle.std.proofs.lemmas.List.{length-map}
 use Rattle.tlsf_crew.specs.worker.Workers.{heap_of}
-use Rattle.tlsf_picture.specs.Drawn.{IsMap, picture_in}
+use Rattle.tlsf_map.specs.Told.{Adds}
+use Rattle.tlsf_map.proofs.Telling.{tells_whole}
+use Rattle.tlsf_picture.specs.Drawn.{IsMap, picture_told}
 use Rattle.tlsf_picture.proofs.Maps.{as_many, maps_behind}
 use Rattle.tlsf_lines.specs.declared.header.Header.{Header}
 use Rattle.tlsf_trace.proofs.Onward.{plays_on}
@@ -24,6 +26,6 @@ returns g c = λ trace level is.
     record {
       maps = c.in_ok-maps.maps.items;
       mapped = maps_behind c.args.line trace c.args.script.now c.step_to.new.self c.in_ok-maps.maps.items level is plays.stands mapped;
-      drawn = (rw (c.deref-3.ensures.value, c.new-text.ensures.bytes) at c.in_ok-write.ensures)
-          ∙ ap (λ (header : Header). picture_in c.args.form header.words c.in_ok-maps.maps.items) is.header;
+      drawn = tells_whole _ _ (subst (λ (header : Header). Adds (picture_told c.args.form header.words c.in_ok-maps.maps.items) [] (string_bytes c.write.new.text)) is.header
+          (rw (c.deref-3.ensures.value, c.new-text.ensures.bytes) at c.in_ok-write.ensures));
     }

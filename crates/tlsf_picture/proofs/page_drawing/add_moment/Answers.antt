@@ -1,7 +1,7 @@
-use Rattle.std.proofs.Common.{◌++◌, refl, ap, ◌∙◌, string_bytes}
+use Rattle.std.proofs.Common.{refl, subst, string_bytes}
 use Rattle.std.proofs.lemmas.Result.{on_ok_weaker}
 use Rattle.tlsf_lines.specs.declared.header.Header.{Header}
-use Rattle.tlsf_map.specs.Html.{Moment, moment_data}
+use Rattle.tlsf_map.specs.Told.{Adds, Moment, moment_told}
 use Rattle.tlsf_picture.proofs.Maps.{maps_behind}
 use Rattle.tlsf_picture.proofs.page_drawing.add_moment.Goals as goal
 
@@ -13,5 +13,5 @@ returns-clause-added g c = λ trace level is stands.
     on_ok_weaker c.write_moment.result (λ added. record {
       moment = moment;
       is = record { line_is = refl; mapped = maps_behind c.args.line trace c.args.script.now c.args.player.now c.in_ok-maps.maps.items level is stands mapped };
-      added = added ∙ ap (λ (header : Header). string_bytes c.args.text.now ++ moment_data header.words moment) is.header;
+      added = subst (λ (header : Header). Adds (moment_told header.words moment) (string_bytes c.args.text.now) (string_bytes c.write_moment.new.text)) is.header added;
     }) wrote

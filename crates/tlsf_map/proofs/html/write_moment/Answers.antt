@@ -1,0 +1,5 @@
+use Rattle.tlsf_map.proofs.Telling.{adds_text, adds_then}
+use Rattle.tlsf_map.proofs.html.write_moment.Goals as goal
+
+pub returns : goal.returns
+returns c = let told = adds_then _ _ _ _ _ (adds_text _ _ _ c.in_ok-write.ensures.bytes) c.in_ok-write_heaps.ensures in told

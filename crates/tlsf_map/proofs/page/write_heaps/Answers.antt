@@ -1,0 +1,20 @@
+use Rattle.std.proofs.Common.{◌≡◌, get_or, arith, rules}
+use Rattle.tlsf_map.proofs.Telling.{adds_all, adds_next, adds_none}
+use Rattle.tlsf_map.specs.Told.{title_of}
+use Rattle.tlsf_map.proofs.page.write_heaps.Goals as goal
+
+pub loop-number-init : goal.loop-number-init
+loop-number-init c = record { so_far = adds_none _; most = omega arith }
+
+pub loop-number-preserved : goal.loop-number-preserved
+loop-number-preserved c =
+    let heaps = c.args.heaps.now in
+    let heap = c.index-heaps-number.result in
+    let found : get_or heaps c.loop-number.number heap ≡ heap = search rules in
+    record {
+      so_far = adds_next (title_of c.args.words) heaps c.loop-number.number heap _ _ _ (search rules) found c.loop-number.invariant.so_far c.in_ok-write_heap.ensures;
+      most = omega (arith, c.loop-number.invariant.most, c.height-y.ensures);
+    }
+
+pub returns : goal.returns
+returns c = adds_all (title_of c.args.words) c.args.heaps.now c.loop-number.number _ _ (search rules) c.loop-number.invariant.so_far

@@ -1,0 +1,5 @@
+use Rattle.tlsf_map.proofs.Telling.{adds_text, adds_then}
+use Rattle.tlsf_map.proofs.text_page.write_text.Goals as goal
+
+pub returns : goal.returns
+returns c = let told = adds_then _ _ _ _ _ (adds_text _ _ _ c.in_ok-push_str.ensures.bytes) c.in_ok-write_heaps.ensures in told

@@ -1,0 +1,8 @@
+use Rattle.std.proofs.Common.{take, string_bytes}
+use Rattle.tlsf_map.specs.Told.{Adds, all_told}
+use Rattle.tlsf_picture.specs.plots.Told.{chart_told}
+use Rattle.tlsf_picture.proofs.plots.rows.write_charts.Given as goal
+
+-- the charts so far are told
+abbrev pub invariant-loop-number : goal.invariant-loop-number
+invariant-loop-number l = Adds (all_told chart_told (take l.number l.charts)) (string_bytes l.fn.text) (string_bytes l.text)
