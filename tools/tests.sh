@@ -84,6 +84,26 @@ block() {
         inside { text = text $0 "\n" }' "$2"
 }
 
+# rust_for SYSTEM TARGET TOOLS RUN TRIED COMMAND..: the command takes lines for a shell. They are those of the crates' page for
+# another target, which names aarch64, and calls of cargo: one example, or where `all` is TRIED, all tests. RUN runs what is built.
+rust_for() {
+    system=$1 target=$2 tools=$3 run=$4 calls='cargo run --example voices'
+    [ "$5" != all ] || calls="$calls && cargo run --example two_threads && cargo test --tests"
+    shift 5
+    has "Rust for $system" cargo rustc "$tools-gcc" "${run%% *}" || return
+    [ -d "$(rustc --print sysroot 2> /dev/null)/lib/rustlib/$target/lib" ] || {
+        echo "$name_of_test: rustc has no library for $system, so Rust for it isn't tried" >&2
+        return
+    }
+    small=$(echo "$target" | tr - _) large=$(echo "$target" | tr a-z- A-Z_)
+    lines=$(block sh bindings/rust/README.md --target | sed "s/aarch64-linux-gnu/$tools/; s/aarch64-unknown-linux-gnu/$target/
+s/aarch64_unknown_linux_gnu/$small/; s/AARCH64_UNKNOWN_LINUX_GNU/$large/")
+    holds "Rust for $system" "$@" "cd bindings/rust
+export CARGO_NET_OFFLINE=true CARGO_BUILD_TARGET=$target CARGO_TARGET_${large}_RUNNER='$run'
+$lines
+$calls"
+}
+
 # Tells how much holds, as a status too.
 conclude() {
     echo "$name_of_test: $right right, $wrong wrong"

@@ -32,6 +32,7 @@ fn main() {
     println!("cargo:rustc-link-search=native={folder}");
     println!("cargo:rustc-link-lib=static={archive}");
     println!("cargo:rustc-env=PEACHANCHOR_ARCHIVE={folder}/lib{archive}.a");
+    println!("cargo:rustc-env=PEACHANCHOR_CC={}", compiler());
 }
 
 fn stop(why: &str) -> ! {
@@ -59,6 +60,11 @@ fn told_for_target(name: &str) -> Option<String> {
     names.iter().find_map(|it| told(it)).or_else(|| told(name))
 }
 
+/// The C compiler for this target.
+fn compiler() -> String {
+    told_for_target("CC").unwrap_or_else(|| "cc".to_owned())
+}
+
 /// What the C preprocessor knows where it is for this target, if there is assembly for that.
 fn macros() -> Option<String> {
     let (processor, system) = (said("CARGO_CFG_TARGET_ARCH"), said("CARGO_CFG_TARGET_OS"));
@@ -82,9 +88,9 @@ fn assemble(archive: &str, takes_malloc: bool) -> String {
     let own = macros().unwrap_or_else(|| {
         stop(&format!("there is no assembly for {target}; PEACHANCHOR_PREFIX may say where lib/lib{archive}.a is"))
     });
-    let told = told_for_target("CC").unwrap_or_else(|| "cc".to_owned());
+    let told = compiler();
     let flags = told_for_target("CFLAGS").unwrap_or_default();
-    let compiler: Vec<_> = told.split_whitespace().chain(flags.split_whitespace()).collect();
+    let words: Vec<_> = told.split_whitespace().chain(flags.split_whitespace()).collect();
     let wrong = format!("{told} is for another target: set CC_{} to a C compiler", target.replace('-', "_"));
     let source = format!(
         "#if !({own})\n#error \"{wrong} for {target}\"\n#else\n#include \"{}/asm/tlsf.S\"\n#endif\n",
@@ -93,8 +99,8 @@ fn assemble(archive: &str, takes_malloc: bool) -> String {
     let (file, object, to) = (format!("{out}/whole.S"), format!("{out}/tlsf.o"), format!("{out}/lib{archive}.a"));
     fs::write(&file, source).unwrap_or_else(|why| stop(&format!("{file}: {why}")));
     let defined = if takes_malloc { &[][..] } else { &["-DTLSF_NO_MALLOC"] };
-    run(compiler[0], Command::new(compiler[0]).args(&compiler[1..]).args(defined).args(["-c", &file, "-o", &object]));
-    let ar = told_for_target("AR").unwrap_or_else(|| archiver(&compiler));
+    run(words[0], Command::new(words[0]).args(&words[1..]).args(defined).args(["-c", &file, "-o", &object]));
+    let ar = told_for_target("AR").unwrap_or_else(|| archiver(&words));
     let _ = fs::remove_file(&to);
     run(&ar, Command::new(&ar).args(["rcs", &to, &object]));
     out

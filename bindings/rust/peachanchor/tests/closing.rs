@@ -1,5 +1,5 @@
 //! Heaps and lanes give back what they took from `malloc`. One test alone, since it counts what the process has.
-#![cfg(all(feature = "malloc", target_env = "gnu"))]
+#![cfg(all(feature = "malloc", target_os = "linux", target_env = "gnu"))]
 
 use peachanchor::{lane, Heap, Level};
 

@@ -33,8 +33,9 @@ impl InC {
         Path::new(include).join("tlsf.h").exists().then_some(())?;
         let to = format!("{}/inline.so", env!("CARGO_TARGET_TMPDIR"));
         let source = concat!(env!("CARGO_MANIFEST_DIR"), "/tests/inline/inline.c");
-        let mut cc = Command::new("cc");
-        cc.args(["-shared", "-fPIC", "-O2", source, "-o", &to]);
+        let mut words = env!("PEACHANCHOR_CC").split_whitespace();
+        let mut cc = Command::new(words.next()?);
+        cc.args(words).args(["-shared", "-fPIC", "-O2", source, "-o", &to]);
         cc.args(["-I", include, env!("PEACHANCHOR_ARCHIVE")]);
         assert!(cc.status().ok()?.success(), "inline.c is compiled");
         let file = CString::new(to).unwrap();

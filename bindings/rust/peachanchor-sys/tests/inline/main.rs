@@ -1,5 +1,7 @@
-//! The calls that are inline in `tlsf.h` answer in Rust as they do in C: by chance on two heaps, one for each. It needs `cc`,
-//! and `tlsf.h` where the repository and a release have it.
+//! The calls that are inline in `tlsf.h` answer in Rust as they do in C: by chance on two heaps, one for each. It needs a C
+//! compiler, `tlsf.h` where the repository and a release have it, and a system that loads libraries by `dlopen`.
+
+#![cfg(unix)]
 
 mod in_c;
 mod pair;

@@ -14,7 +14,7 @@ overflow_add-at g c =
     let h = heap_of c.args.worker.now in
     let same = c.loop-block.invariant.heap in
     let lawful : IsLawful h = subst IsLawful same c.in-Some.ensures.was_lawful in
-    let found : placed_at h.blocks c.loop-block.at ≡ Some c.in-Some.block = ap (λ (x : HeapState). placed_at x.blocks c.loop-block.at) (sym same) ∙ sym c.in-Some.ensures.block in
+    let found : placed_at h.blocks c.loop-block.at ≡ Some c.in-Some.block = ap (λ (x : HeapState). placed_at x.blocks c.loop-block.at) (sym same) ∙ sym c.in-Some.ensures.looks.answer_is in
     let goes = walk_on (labelled (known_in c.args.labels.now)) h.blocks c.loop-block.at c.loop-block.blocks.items lawful.rooms c.loop-block.invariant.walked c.in-Some.block found in
     let words = ap (λ (x : HeapState). x.words) same in
     omega (arith, goes.inside, lawful.whole, words, c.in-Some.ensures.most, most_words_any g.row.SLI)
@@ -24,7 +24,7 @@ loop-block-smaller g c =
     let h = heap_of c.args.worker.now in
     let same = c.loop-block.invariant.heap in
     let lawful : IsLawful h = subst IsLawful same c.in-Some.ensures.was_lawful in
-    let found : placed_at h.blocks c.loop-block.at ≡ Some c.in-Some.block = ap (λ (x : HeapState). placed_at x.blocks c.loop-block.at) (sym same) ∙ sym c.in-Some.ensures.block in
+    let found : placed_at h.blocks c.loop-block.at ≡ Some c.in-Some.block = ap (λ (x : HeapState). placed_at x.blocks c.loop-block.at) (sym same) ∙ sym c.in-Some.ensures.looks.answer_is in
     let goes = walk_on (labelled (known_in c.args.labels.now)) h.blocks c.loop-block.at c.loop-block.blocks.items lawful.rooms c.loop-block.invariant.walked c.in-Some.block found in
     omega (arith, goes.inside, goes.long, lawful.whole)
 
@@ -33,13 +33,13 @@ loop-block-preserved g c =
     let h = heap_of c.args.worker.now in
     let same = c.loop-block.invariant.heap in
     let lawful : IsLawful h = subst IsLawful same c.in-Some.ensures.was_lawful in
-    let found : placed_at h.blocks c.loop-block.at ≡ Some c.in-Some.block = ap (λ (x : HeapState). placed_at x.blocks c.loop-block.at) (sym same) ∙ sym c.in-Some.ensures.block in
+    let found : placed_at h.blocks c.loop-block.at ≡ Some c.in-Some.block = ap (λ (x : HeapState). placed_at x.blocks c.loop-block.at) (sym same) ∙ sym c.in-Some.ensures.looks.answer_is in
     let label = labelled (known_in c.args.labels.now) in
     let goes = walk_on label h.blocks c.loop-block.at c.loop-block.blocks.items lawful.rooms c.loop-block.invariant.walked c.in-Some.block found in
     let items : c.push.new.self.items ≡ c.loop-block.blocks.items ++ label c.in-Some.block ∷ [] =
     c.in_ok-push.ensures.items ∙ ap (λ (b : LabelledBlock). c.loop-block.blocks.items ++ b ∷ []) c.labelled.ensures in
     record {
-      heap = c.in-Some.ensures.heap ∙ same;
+      heap = c.in-Some.ensures.looks.heap ∙ same;
       same = (c.in-Some.ensures.same.0 ∙ c.loop-block.invariant.same.0, c.in-Some.ensures.same.1 ∙ c.loop-block.invariant.same.1);
       walked = subst (HasWalked label h.blocks (c.loop-block.at + c.in-Some.block.size)) (sym items) goes.walked;
     }
@@ -49,5 +49,5 @@ returns-clause-blocks g c =
     let h = heap_of c.args.worker.now in
     let same = c.loop-block.invariant.heap in
     let lawful : IsLawful h = subst IsLawful same c.block_at.ensures.was_lawful in
-    let none : placed_at h.blocks c.loop-block.at ≡ None = ap (λ (x : HeapState). placed_at x.blocks c.loop-block.at) (sym same) ∙ (sym c.block_at.ensures.block ∙ c.in_default.is) in
+    let none : placed_at h.blocks c.loop-block.at ≡ None = ap (λ (x : HeapState). placed_at x.blocks c.loop-block.at) (sym same) ∙ (sym c.block_at.ensures.looks.answer_is ∙ c.in_default.is) in
     walk_ends (labelled (known_in c.args.labels.now)) h.blocks c.loop-block.at c.loop-block.blocks.items lawful.rooms c.loop-block.invariant.walked none

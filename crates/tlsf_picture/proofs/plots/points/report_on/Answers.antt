@@ -16,11 +16,11 @@ returns-clause-world g c =
     let ws = c.args.workers.now in
     let found = c.index-workers-heap.result in
     let is = slice_get-get_or ws c.args.heap found c.requires.heap in
-    same_yard ws c.args.heap (get_or ws c.args.heap found) c.report.new.self is c.report.ensures.same c.report.ensures.heap
+    same_yard ws c.args.heap (get_or ws c.args.heap found) c.report.new.self is c.report.ensures.same c.report.ensures.reports.heap
 
 pub returns-clause-report : goal.returns-clause-report
 returns-clause-report g c =
     let ws = c.args.workers.now in
     let found = c.index-workers-heap.result in
     let is = slice_get-get_or ws c.args.heap found c.requires.heap in
-    c.report.ensures.report ∙ ap (report_of g.row.SLI) (sym (heap_in_is ws c.args.heap (get_or ws c.args.heap found) is))
+    c.report.ensures.reports.report_is ∙ ap (report_of g.row.SLI) (sym (heap_in_is ws c.args.heap (get_or ws c.args.heap found) is))
