@@ -1,28 +1,15 @@
 -- The book of an arena, under the calls of its heap.
-use Rattle.std.proofs.Common.{◌≡◌, ◌≢◌, ℕ, ◌+◌, ◌<◌, ◌≤◌, Bool, true, false, cond, eqb, nat_le, nat_lt, ◌||◌, List, [], ◌∷◌, ◌++◌, length, Option, Some, Ok, refl, sym, ap, subst, ◌∙◌, arith, inl, inr}
-use Rattle.std.specs.Prelude.{IsSome}
-use Rattle.std.proofs.lemmas.Bool.{eq-eqb, eqb-true, false≢true, cases_lt}
-use Rattle.std.proofs.lemmas.Bool.Decides.{nat_tests}
-use Rattle.tlsf_heap.specs.Blocks.{Block, Live, Free, HeapState, size_of, bytes_of, words_in}
-use Rattle.tlsf_heap.specs.GoodFit.{Site, place_of}
-use Rattle.tlsf_heap.specs.Lawful.{IsLawful}
-use Rattle.tlsf_heap.specs.Laws.{IsLive}
-use Rattle.tlsf_heap.specs.Calls.{allocated_words, fitted, first_free, has_serial, is_sized, past_free, recut, refitted, released, resized_words, room_of}
-use Rattle.tlsf_heap.specs.declared.name.Name.{Name}
+use Rattle.tlsf_arena.proofs.Common.{◌≡◌, ◌≢◌, ℕ, ◌+◌, ◌<◌, ◌≤◌, Bool, true, false, cond, eqb, nat_le, nat_lt, ◌||◌, List, [], ◌∷◌, ◌++◌, length, Option, Some, Ok, refl, sym, ap, subst, ◌∙◌, arith, inl, inr, IsSome, eq-eqb, eqb-true, false≢true, cases_lt, nat_tests, Block, Live, Free, HeapState, size_of, bytes_of, words_in, Site, place_of, IsLawful, IsLive, allocated_words, fitted, first_free, has_serial, is_sized, past_free, recut, refitted, released, resized_words, room_of, Name, Holds, Loan, loan_of, name_of, units_of, is_out, same_loan, without, IsBook, held_units, lacking, IsLevel}
 use Rattle.tlsf_heap.proofs.lemmas.blocks.Find.{and_left, and_right}
 use Rattle.tlsf_heap.proofs.lemmas.words.NewBytes.{length-fitted}
 use Rattle.tlsf_heap.proofs.lemmas.laws.Lasting.{HasFrom, in_right}
 use Rattle.tlsf_heap.proofs.lemmas.laws.Live.{new_words}
 use Rattle.tlsf_heap.proofs.lemmas.calls.Outcomes.{by_resized_words, resizes}
 use Rattle.tlsf_heap.proofs.lemmas.words.Recut.{cut_small, cut_large}
-use Rattle.tlsf_arena.specs.Arenas.{Holds}
-use Rattle.tlsf_arena.specs.Loans.{Loan, loan_of, name_of, units_of, is_out, same_loan, without, IsBook}
-use Rattle.tlsf_arena.specs.Places.{held_units, lacking}
 use Rattle.tlsf_arena.proofs.Holding.{IsBlockOf, Keeps, allocated_keeps, by_place, kept, stays_released, stays_resized}
 use Rattle.tlsf_arena.proofs.Mapped.{lacks}
 use Rattle.tlsf_arena.proofs.Maps.{Tells, holds_given}
 use Rattle.tlsf_arena.proofs.Rights.{is_same, was_out, out_no_more}
-use Rattle.tlsf_class.specs.Classes.{IsLevel}
 
 -- ---- a block that is held
 

@@ -1,5 +1,5 @@
 -- A block for several values: its type and its parts, a piece as room for it, and what `moved` gave. Assumes `Logic`.
-use Rattle.std.proofs.Common.{◌≡◌, ℕ, ◌+◌, ◌-◌, ◌*◌, ◌/◌, ◌%◌, ◌≤◌, List, [], ◌∷◌, ◌++◌, MatchResult, Ok, Err, refl, sym, ap, ◌∙◌, arith}
+use Rattle.tlsf_arena.proofs.Common.{◌≡◌, ℕ, ◌+◌, ◌-◌, ◌*◌, ◌/◌, ◌%◌, ◌≤◌, List, [], ◌∷◌, ◌++◌, MatchResult, Ok, Err, refl, sym, ap, ◌∙◌, arith, array_of, block_with_items, El, room_split, glued, add_times, Home, ints, ways, behind, whole_token}
 use seplogic.Ra.Ura.{Ura}
 use mir.Syntax.{Ty, Width, ty_array}
 use mir.Raw.{raw as bare}
@@ -16,12 +16,9 @@ use denote.RawPtr.{Ptr, RawPtr, block_ptr, null_ptr, ptr_val, in_a_block}
 use denote.Param.{layout}
 use denote.Shadow.{shadow, makes_shadow, pure_l}
 use denote.Steps.{only}
-use Rattle.std.specs.Allocator.{array_of, block_with_items}
-use Rattle.core.proofs.ptr.Rows.{El, room_split, glued, add_times}
 use Rattle.core.specs.contracts.result.Result as result
 use Rattle.linked_list_allocator.specs.Ownership.{bytes_at, units_of}
 use Rattle.linked_list_allocator.proofs.Values.{plainly}
-use Rattle.tlsf_arena.specs.Ownership.{Home, ints, ways, behind, whole_token}
 use Rattle.tlsf_arena.proofs.Taken.{even, as_ints, from_ints}
 use Rattle.tlsf_arena.proofs.Ways.{ints_cut, ints_glue, left_even, opens, closes, ways_cut, ways_glue}
 use prog.Align.{align_w}

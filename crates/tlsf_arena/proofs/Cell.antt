@@ -1,5 +1,5 @@
 -- What a `Slot` holds is one machine value, and is reached through a `&` with the thread's token. Assumes `Logic`.
-use Rattle.std.proofs.Common.{◌≡◌, ℕ, List, [], ◌∷◌, IfSome, None, Some, T, refl}
+use Rattle.tlsf_arena.proofs.Common.{◌≡◌, ℕ, List, [], ◌∷◌, IfSome, None, Some, T, refl, Good, round, wraps, unwraps, Home}
 use seplogic.Ra.Ura.{Ura}
 use mir.Syntax.{Ty}
 use mir.Val.{Val}
@@ -21,9 +21,7 @@ use denote.Steps.{nothing}
 use denote.Struct.Members.{Member}
 use Rattle.core.specs.contracts.option.Option as option
 use Rattle.core.proofs.option.Option.TheLaws.{the_row_laws as option_laws}
-use Rattle.core.proofs.cell.Inside.{Good, round, wraps, unwraps}
 use Rattle.linked_list_allocator.specs.Ownership.{fields_with}
-use Rattle.tlsf_arena.specs.Ownership.{Home}
 use Rattle.tlsf_arena.specs.contracts.boxed.BoxedArena as arena
 use Rattle.tlsf_arena.specs.contracts.slot.Slot as slot
 use Rattle.tlsf_arena.specs.contracts.slot.Slot.TheInside as inside

@@ -1,18 +1,9 @@
 -- Blocks that are held stay held through calls on others.
-use Rattle.std.proofs.Common.{◌≡◌, ◌≢◌, ℕ, ◌+◌, true, List, [], ◌∷◌, ◌++◌, length, Some, refl, sym, ap, subst, ◌∙◌, arith, append_assoc, inl, inr}
-use Rattle.std.proofs.lemmas.Bool.{eqb-true, false≢true}
-use Rattle.tlsf_heap.specs.Blocks.{Block, Live, Free, HeapState, size_of, bytes_of, words_in}
-use Rattle.tlsf_heap.specs.GoodFit.{Site, place_of}
-use Rattle.tlsf_heap.specs.Calls.{allocated_words, carved, has_serial, is_named, refitted, released, resized_words}
-use Rattle.tlsf_heap.specs.Lawful.{IsLawful}
-use Rattle.tlsf_heap.specs.Laws.{IsLive}
-use Rattle.tlsf_heap.specs.declared.name.Name.{Name}
+use Rattle.tlsf_arena.proofs.Common.{◌≡◌, ◌≢◌, ℕ, ◌+◌, true, List, [], ◌∷◌, ◌++◌, length, Some, refl, sym, ap, subst, ◌∙◌, arith, append_assoc, inl, inr, eqb-true, false≢true, Block, Live, Free, HeapState, size_of, bytes_of, words_in, Site, place_of, allocated_words, carved, has_serial, is_named, refitted, released, resized_words, IsLawful, IsLive, Name, Holds, held_at, held_units}
 use Rattle.tlsf_heap.proofs.lemmas.blocks.Find.{and_left, and_right}
 use Rattle.tlsf_heap.proofs.lemmas.laws.Lasting.{HasFrom, in_left, in_right, in_either, edited, released_lasts, refitted_lasts}
 use Rattle.tlsf_heap.proofs.lemmas.laws.Live.{shown, one_serial, same_name, words_carved, no_serial}
 use Rattle.tlsf_heap.proofs.lemmas.calls.Outcomes.{by_allocated_words, by_released, by_resized_words, named_site}
-use Rattle.tlsf_arena.specs.Arenas.{Holds}
-use Rattle.tlsf_arena.specs.Places.{held_at, held_units}
 use Rattle.tlsf_arena.proofs.Maps.{holds_live, stands_held}
 
 -- the live block of that serial, of which n units are held

@@ -1,3 +1,4 @@
+mod Common
 pub mod Books
 pub mod Buffers
 pub mod Cell

@@ -1,6 +1,5 @@
 -- A piece as room that a vector of bytes has, and `lodge` and `dislodge` at a call. Assumes `Logic`.
-use Rattle.std.proofs.Common.{◌≡◌, ℕ, ◌+◌, ◌-◌, ◌*◌, ◌/◌, ◌%◌, ◌^◌, ◌<◌, ◌≤◌, List, [], ◌∷◌, length, true, refl, sym, ap, ◌∙◌, arith, Vec}
-use Rattle.std.proofs.lemmas.Bool.{ne_eqb, not_from_false}
+use Rattle.tlsf_arena.proofs.Common.{◌≡◌, ℕ, ◌+◌, ◌-◌, ◌*◌, ◌/◌, ◌%◌, ◌^◌, ◌<◌, ◌≤◌, List, [], ◌∷◌, length, true, refl, sym, ap, ◌∙◌, arith, Vec, ne_eqb, not_from_false, handle_tells, block_with_items, lodged, owns_if, has_block, ints, ways}
 use seplogic.Ra.Ura.{Ura}
 use lib.Dec.{T}
 use mir.Syntax.{w8, w64, ty_int, ty_array, given as dict_at}
@@ -29,9 +28,6 @@ use denote.Struct.Field.{u8-field}
 use denote.Struct.Laws.{u8-laws, u8-copy}
 use denote.Triple.Spec.{triple_of}
 use denote.Triple.Statement.{Contract}
-use Rattle.std.proofs.alloc.Calls.{handle_tells}
-use Rattle.std.specs.Allocator.{block_with_items}
-use Rattle.std_alloc.specs.Vec.Ownership.{lodged, owns_if, has_block}
 use Rattle.std_alloc.specs.declared.vec.lodged.Lodged.{Lodged}
 use Rattle.std_alloc.specs.contracts.vec.Vec as V
 use Rattle.std_alloc.specs.contracts.vec.lodged.Lodged as L
@@ -41,7 +37,6 @@ use Rattle.std_alloc.specs.contracts.vec.lodged.Vec+T+Lodged.dislodge as DL
 use Rattle.std_alloc.proofs.vec.Vec.TheLaws as vec_laws
 use Rattle.std_alloc.proofs.vec.lodged.Lodged.TheLaws as lodged-laws
 use Rattle.linked_list_allocator.specs.Ownership.{units_of}
-use Rattle.tlsf_arena.specs.Ownership.{ints, ways}
 use Rattle.tlsf_arena.proofs.Ways.{opens, closes, ints_glue}
 
 abbrev pub byte_laws : Laws u8

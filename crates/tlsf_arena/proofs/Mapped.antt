@@ -1,17 +1,5 @@
 -- An arena's map of free grains under the calls of its heap.
-use Rattle.std.proofs.lemmas.Bool.{cases_lt, cases_cond}
-use Rattle.tlsf_class.specs.Classes.{most_words}
-use Rattle.tlsf_heap.specs.Lawful.{IsRegion}
-use Rattle.std.proofs.Common.{◌≡◌, ℕ, ◌+◌, ◌-◌, ◌*◌, ◌/◌, ◌%◌, ◌^◌, ◌<◌, ◌≤◌, Bool, true, false, eqb, List, length, replicate, Some, Ok, inl, inr, refl, sym, ap, subst, ◌∙◌, arith}
-use Rattle.std.proofs.lemmas.List.{length-replicate, append-nil}
-use Rattle.tlsf_class.specs.Classes.{IsLevel}
-use Rattle.tlsf_heap.specs.Blocks.{HeapState}
-use Rattle.tlsf_heap.specs.Calls.{allocated_words, opened, released, resized_words}
-use Rattle.tlsf_heap.specs.Lawful.{IsLawful}
-use Rattle.tlsf_heap.specs.Placed.{placed_at}
-use Rattle.tlsf_heap.specs.declared.name.Name.{Name}
-use Rattle.tlsf_arena.specs.Arenas.{IsMapped}
-use Rattle.tlsf_arena.specs.Places.{IsUnit, IsRun, lacking, marked, spread, free_map, held_at, free_units_in}
+use Rattle.tlsf_arena.proofs.Common.{cases_lt, cases_cond, most_words, IsRegion, ◌≡◌, ℕ, ◌+◌, ◌-◌, ◌*◌, ◌/◌, ◌%◌, ◌^◌, ◌<◌, ◌≤◌, Bool, true, false, eqb, List, length, replicate, Some, Ok, inl, inr, refl, sym, ap, subst, ◌∙◌, arith, length-replicate, append-nil, IsLevel, HeapState, allocated_words, opened, released, resized_words, IsLawful, placed_at, Name, IsMapped, IsUnit, IsRun, lacking, marked, spread, free_map, held_at, free_units_in}
 use Rattle.tlsf_arena.proofs.Maps.{Tells, arena_carves, arena_frees, whole_map}
 use Rattle.tlsf_arena.proofs.Resizes.{arena_refits}
 use Rattle.tlsf_arena.proofs.Rooms.{marked_length}

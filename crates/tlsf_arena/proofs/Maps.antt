@@ -1,18 +1,5 @@
 -- The map of free units under the calls of the heap.
-use Rattle.std.proofs.Common.{◌≡◌, ℕ, ◌+◌, ◌-◌, ◌*◌, ◌<◌, ◌≤◌, Bool, true, false, eqb, ◌&&◌, List, [], ◌∷◌, ◌++◌, length, take, replicate, Some, None, Option, Ok, refl, sym, ap, subst, ◌∙◌, arith, append_assoc, inl, inr, length-append}
-use Rattle.std.specs.Prelude.{IsSome}
-use Rattle.std.specs.List.{AllByRecursion}
-use Rattle.std.proofs.lemmas.Bool.{eqb-true, false≢true, cases_lt}
-use Rattle.std.proofs.lemmas.List.{length-replicate, append-nil, replicate-append-replicate}
-use Rattle.tlsf_class.specs.Classes.{IsLevel}
-use Rattle.tlsf_heap.specs.Blocks.{Block, Live, Free, HeapState, size_of, bytes_of, words_in, StandsAt}
-use Rattle.tlsf_heap.specs.GoodFit.{Site, place_of, is_fit, block_at}
-use Rattle.tlsf_heap.specs.Lawful.{IsLawful, HasRoom}
-use Rattle.tlsf_heap.specs.Laws.{IsLive}
-use Rattle.tlsf_arena.specs.Arenas.{Holds}
-use Rattle.tlsf_heap.specs.Placed.{placed_at, placed}
-use Rattle.tlsf_heap.specs.Calls.{Outcome, carved, allocated_words, released, coalesced, named, first_free, past_free, last_free, before_free, has_serial}
-use Rattle.tlsf_heap.specs.declared.name.Name.{Name}
+use Rattle.tlsf_arena.proofs.Common.{◌≡◌, ℕ, ◌+◌, ◌-◌, ◌*◌, ◌<◌, ◌≤◌, Bool, true, false, eqb, ◌&&◌, List, [], ◌∷◌, ◌++◌, length, take, replicate, Some, None, Option, Ok, refl, sym, ap, subst, ◌∙◌, arith, append_assoc, inl, inr, length-append, IsSome, AllByRecursion, eqb-true, false≢true, cases_lt, length-replicate, append-nil, replicate-append-replicate, IsLevel, Block, Live, Free, HeapState, size_of, bytes_of, words_in, StandsAt, Site, place_of, is_fit, block_at, IsLawful, HasRoom, IsLive, Holds, placed_at, placed, Outcome, carved, allocated_words, released, coalesced, named, first_free, past_free, last_free, before_free, has_serial, Name, IsRun, marked, spread, free_map, held_units, held_at, held_in, free_units_in}
 use Rattle.tlsf_heap.proofs.lemmas.blocks.Find.{and_left, and_right}
 use Rattle.tlsf_heap.proofs.lemmas.blocks.Replace.{carved_small, carved_large}
 use Rattle.tlsf_heap.proofs.lemmas.calls.Allocate.{fits_size}
@@ -21,7 +8,6 @@ use Rattle.tlsf_heap.proofs.lemmas.blocks.Lawful.{all_left, all_right}
 use Rattle.tlsf_heap.proofs.lemmas.blocks.ByPlace.{placed_found}
 use Rattle.tlsf_heap.proofs.lemmas.laws.Live.{given_words}
 use Rattle.tlsf_heap.proofs.lemmas.calls.Outcomes.{IsSiteOf, gives_words, takes, named_site, by_allocated_words, by_released}
-use Rattle.tlsf_arena.specs.Places.{IsRun, marked, spread, free_map, held_units, held_at, held_in, free_units_in}
 use Rattle.tlsf_arena.proofs.Rooms.{marked_run}
 use Rattle.tlsf_arena.proofs.Spread.{spread_run, spread_marked}
 

@@ -1,19 +1,9 @@
 -- What stands at the place of a name that is held.
-use Rattle.std.proofs.Common.{◌≡◌, ℕ, ◌+◌, ◌*◌, ◌/◌, ◌<◌, ◌≤◌, ◌≢◌, true, eqb, Bool, List, ◌∷◌, length, Option, Some, None, sym, ap, subst, ◌∙◌, arith}
-use Rattle.std.specs.List.{AllByRecursion}
-use Rattle.std.proofs.lemmas.Bool.{eqb-true, false≢true}
-use Rattle.tlsf_heap.specs.Blocks.{Block, Live, Free, HeapState, size_of, words_in}
-use Rattle.tlsf_heap.specs.GoodFit.{Site, place_of, block_at}
-use Rattle.tlsf_heap.specs.Calls.{has_serial, named}
-use Rattle.tlsf_heap.specs.Lawful.{IsLawful, HasRoom}
-use Rattle.tlsf_heap.specs.Placed.{placed_at, placed}
-use Rattle.tlsf_heap.specs.declared.name.Name.{Name}
+use Rattle.tlsf_arena.proofs.Common.{◌≡◌, ℕ, ◌+◌, ◌*◌, ◌/◌, ◌<◌, ◌≤◌, ◌≢◌, true, eqb, Bool, List, ◌∷◌, length, Option, Some, None, sym, ap, subst, ◌∙◌, arith, AllByRecursion, eqb-true, false≢true, Block, Live, Free, HeapState, size_of, words_in, Site, place_of, block_at, has_serial, named, IsLawful, HasRoom, placed_at, placed, Name, Holds, IsMapped, free_map, held_at}
 use Rattle.tlsf_heap.proofs.lemmas.blocks.Find.{and_left, and_right}
 use Rattle.tlsf_heap.proofs.lemmas.blocks.Lawful.{all_right, words_in-append}
 use Rattle.tlsf_heap.proofs.lemmas.calls.Outcomes.{named_site}
 use Rattle.tlsf_heap.proofs.lemmas.blocks.ByPlace.{placed_found}
-use Rattle.tlsf_arena.specs.Arenas.{Holds, IsMapped}
-use Rattle.tlsf_arena.specs.Places.{free_map, held_at}
 use Rattle.tlsf_heap.specs.ByPlace.{serial_at, serial_in}
 use Rattle.tlsf_arena.proofs.Maps.{held_of, length-map, stands}
 use Rattle.tlsf_arena.proofs.Spread.{length-spread}

@@ -1,20 +1,10 @@
 -- The map of free units once a block is resized where it stands.
-use Rattle.std.proofs.Common.{◌≡◌, ℕ, ◌+◌, ◌-◌, ◌*◌, ◌<◌, ◌≤◌, Bool, true, false, eqb, nat_le, nat_lt, ◌&&◌, List, [], ◌∷◌, ◌++◌, length, replicate, Some, Ok, refl, sym, ap, subst, ◌∙◌, arith, append_assoc, inl, inr, cond}
-use Rattle.std.specs.List.{AllByRecursion}
-use Rattle.std.proofs.lemmas.Bool.{eqb-true, false≢true, cases_lt}
-use Rattle.std.proofs.lemmas.Bool.Decides.{nat_tests}
-use Rattle.std.proofs.lemmas.List.{append-nil}
-use Rattle.tlsf_heap.specs.Blocks.{Block, Live, Free, HeapState, size_of}
-use Rattle.tlsf_heap.specs.GoodFit.{Site, place_of}
-use Rattle.tlsf_heap.specs.Lawful.{IsLawful, HasRoom}
-use Rattle.tlsf_heap.specs.Calls.{Outcome, cut, fitted, recut, refitted, is_sized, room_of, resized_words, first_free, past_free, has_serial}
-use Rattle.tlsf_heap.specs.declared.name.Name.{Name}
+use Rattle.tlsf_arena.proofs.Common.{◌≡◌, ℕ, ◌+◌, ◌-◌, ◌*◌, ◌<◌, ◌≤◌, Bool, true, false, eqb, nat_le, nat_lt, ◌&&◌, List, [], ◌∷◌, ◌++◌, length, replicate, Some, Ok, refl, sym, ap, subst, ◌∙◌, arith, append_assoc, inl, inr, cond, AllByRecursion, eqb-true, false≢true, cases_lt, nat_tests, append-nil, Block, Live, Free, HeapState, size_of, Site, place_of, IsLawful, HasRoom, Outcome, cut, fitted, recut, refitted, is_sized, room_of, resized_words, first_free, past_free, has_serial, Name, IsRun, marked, spread, free_map, held_units, held_at}
 use Rattle.tlsf_heap.proofs.lemmas.blocks.Find.{and_left, and_right}
 use Rattle.tlsf_heap.proofs.lemmas.blocks.Lawful.{all_left, all_right}
 use Rattle.tlsf_heap.proofs.lemmas.calls.Outcomes.{IsSiteOf, by_resized_words, resizes}
 use Rattle.tlsf_heap.proofs.lemmas.words.Recut.{cut_small, cut_large}
 use Rattle.tlsf_heap.proofs.lemmas.words.NewBytes.{length-fitted}
-use Rattle.tlsf_arena.specs.Places.{IsRun, marked, spread, free_map, held_units, held_at}
 use Rattle.tlsf_arena.proofs.Rooms.{marked_run}
 use Rattle.tlsf_arena.proofs.Maps.{Tells, map-append, past_map, joined, length-map, held_fit, seen_held}
 use Rattle.tlsf_arena.proofs.Spread.{spread_run, spread_marked}

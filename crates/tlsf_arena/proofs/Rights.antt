@@ -1,6 +1,5 @@
 -- A right goes out of the book and comes back, and whoever has one knows that its block is out. Assumes `Logic`.
-use Rattle.std.proofs.Common.{◌≡◌, Bool, true, false, cond, not, eqb, ◌&&◌, ◌||◌, List, [], ◌∷◌, refl, sym, ap, subst, ◌∙◌}
-use Rattle.std.proofs.lemmas.Bool.{eq-eqb, eqb-true, and_from, or_from, false_from_ne_true, true≢false}
+use Rattle.tlsf_arena.proofs.Common.{◌≡◌, Bool, true, false, cond, not, eqb, ◌&&◌, ◌||◌, List, [], ◌∷◌, refl, sym, ap, subst, ◌∙◌, eq-eqb, eqb-true, and_from, or_from, false_from_ne_true, true≢false, Loan, same_loan, is_out, without, rights, row, right, rest_of}
 use mathlib.Core.Option.{Option, none, some}
 use mathlib.Mathlib.Data.Part.{Part, ◌∈◌}
 use seplogic.Ra.Pcs.{OpDef}
@@ -13,7 +12,6 @@ use base.Fml.{GName}
 use types.Logic.{Logic, sem}
 use types.Owned.{basic, own_new, own_join, own_sum}
 use Rattle.tlsf_heap.proofs.lemmas.blocks.Find.{and_left, and_right}
-use Rattle.tlsf_arena.specs.Loans.{Loan, same_loan, is_out, without, rights, row, right, rest_of}
 
 -- ---- loans
 

@@ -1,6 +1,5 @@
 -- The bytes of free units, cut out of the rest and put back. Assumes `Logic`.
-use Rattle.std.proofs.Common.{◌≡◌, ℕ, zero, suc, ◌+◌, ◌*◌, Bool, true, false, List, [], ◌∷◌, ◌++◌, length, take, drop, replicate, refl, sym, ap, ◌∙◌, arith, length-append}
-use Rattle.std.proofs.lemmas.List.{length-replicate}
+use Rattle.tlsf_arena.proofs.Common.{◌≡◌, ℕ, zero, suc, ◌+◌, ◌*◌, Bool, true, false, List, [], ◌∷◌, ◌++◌, length, take, drop, replicate, refl, sym, ap, ◌∙◌, arith, length-append, length-replicate, free_rooms, IsRun, marked}
 use seplogic.Ra.Ura.{Ura}
 use base.Logic.{SProp, ent, sep, via}
 use base.Fml.{froom, ftrue}
@@ -9,8 +8,6 @@ use types.Kit.{‵, ◌⊛◌, ◌$◌, ◌∵◌, !, qed, by, move, drop as los
 use denote.Steps.{nothing}
 use Rattle.linked_list_allocator.specs.Ownership.{units_of}
 use Rattle.linked_list_allocator.proofs.Nodes.{cuts, glues, resized}
-use Rattle.tlsf_arena.specs.Ownership.{free_rooms}
-use Rattle.tlsf_arena.specs.Places.{IsRun, marked}
 
 -- ---- maps
 

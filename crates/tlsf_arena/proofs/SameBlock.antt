@@ -1,8 +1,7 @@
 -- A block that comes back is the one that was given: one of its name, its piece and its right.
-use Rattle.std.proofs.Common.{◌≡◌, ℕ, ◌+◌, ◌*◌}
+use Rattle.tlsf_arena.proofs.Common.{◌≡◌, ℕ, ◌+◌, ◌*◌, IsLoan}
 use mathlib.Core.HLevel.{is_prop→PathP}
 use Rattle.std.proofs.Props.{props}
-use Rattle.tlsf_arena.specs.Loans.{IsLoan}
 use Rattle.tlsf_arena.specs.declared.block.Block.{Block}
 use Rattle.tlsf_arena.specs.declared.piece.Piece.{Piece}
 use Rattle.tlsf_arena.specs.declared.right.Right.{Right}

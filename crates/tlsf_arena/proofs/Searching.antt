@@ -1,9 +1,6 @@
 -- A search by halves: which units stay in question, and in how many steps one is left.
-use Rattle.std.proofs.Common.{◌≡◌, ℕ, ◌+◌, ◌-◌, ◌*◌, ◌/◌, ◌^◌, ◌<◌, ◌≤◌, Bool, false, sym, ap, subst, ◌∙◌, arith, mul_assoc, mul-le-mul_left, pow_mono, inl, inr}
-use Rattle.std.specs.Bool.{Decides}
-use Rattle.std.proofs.lemmas.Bool.{cases_lt, false≢true}
+use Rattle.tlsf_arena.proofs.Common.{◌≡◌, ℕ, ◌+◌, ◌-◌, ◌*◌, ◌/◌, ◌^◌, ◌<◌, ◌≤◌, Bool, false, sym, ap, subst, ◌∙◌, arith, mul_assoc, mul-le-mul_left, pow_mono, inl, inr, Decides, cases_lt, false≢true, IsUnit}
 use Rattle.std.proofs.lemmas.Grind.{pow_more}
-use Rattle.tlsf_arena.specs.Places.{IsUnit}
 use Rattle.tlsf_arena.proofs.UnitCases.{by_unit}
 
 -- ---- units are in the order of their bytes

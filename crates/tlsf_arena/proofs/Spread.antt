@@ -1,8 +1,6 @@
 -- A map in which each entry stands n times.
-use Rattle.std.proofs.Common.{◌≡◌, ℕ, zero, suc, ◌+◌, ◌*◌, Bool, List, [], ◌∷◌, ◌++◌, length, replicate, refl, sym, ap, ◌∙◌, arith, append_assoc, length-append}
+use Rattle.tlsf_arena.proofs.Common.{◌≡◌, ℕ, zero, suc, ◌+◌, ◌*◌, Bool, List, [], ◌∷◌, ◌++◌, length, replicate, refl, sym, ap, ◌∙◌, arith, append_assoc, length-append, length-replicate, replicate-append-replicate, IsRun, marked, spread}
 use Rattle.std.proofs.Math.Nat.{mul-suc}
-use Rattle.std.proofs.lemmas.List.{length-replicate, replicate-append-replicate}
-use Rattle.tlsf_arena.specs.Places.{IsRun, marked, spread}
 use Rattle.tlsf_arena.proofs.Rooms.{marked_run}
 
 spread-append : (n : ℕ) (xs ys : List Bool) → spread n (xs ++ ys) ≡ spread n xs ++ spread n ys

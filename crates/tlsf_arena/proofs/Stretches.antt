@@ -1,7 +1,5 @@
 -- A block that grows or shrinks where it stands: the entries of the map that change.
-use Rattle.std.proofs.Common.{◌≡◌, ℕ, ◌+◌, ◌-◌, ◌≤◌, Bool, true, false, List, ◌++◌, length, take, drop, replicate, sym, ap, ◌∙◌, arith, append_assoc, length-append}
-use Rattle.std.proofs.lemmas.List.{length-replicate}
-use Rattle.tlsf_arena.specs.Places.{IsRun, marked}
+use Rattle.tlsf_arena.proofs.Common.{◌≡◌, ℕ, ◌+◌, ◌-◌, ◌≤◌, Bool, true, false, List, ◌++◌, length, take, drop, replicate, sym, ap, ◌∙◌, arith, append_assoc, length-append, length-replicate, IsRun, marked}
 use Rattle.tlsf_arena.proofs.Maps.{joined}
 use Rattle.tlsf_arena.proofs.Rooms.{take_front, drop_both, marked_run}
 

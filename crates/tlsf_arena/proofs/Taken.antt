@@ -1,5 +1,5 @@
 -- The two cases of what `take` gave, and a piece as room for a type. Assumes `Logic`.
-use Rattle.std.proofs.Common.{◌+◌, ◌-◌, ◌*◌, ◌/◌, ◌%◌, ◌≡◌, ℕ, ◌^◌, ◌<◌, ◌≤◌, List, [], ◌∷◌, ◌++◌, IfSome, None, Some, refl, sym, ap, subst, ◌∙◌, arith}
+use Rattle.tlsf_arena.proofs.Common.{◌+◌, ◌-◌, ◌*◌, ◌/◌, ◌%◌, ◌≡◌, ℕ, ◌^◌, ◌<◌, ◌≤◌, List, [], ◌∷◌, ◌++◌, IfSome, None, Some, refl, sym, ap, subst, ◌∙◌, arith, IsUnit, piece_size, units_for, IsPiece, Loan, name_of, right, Home, IsLoanAt, ints, ways, behind, block_token, whole_token}
 use seplogic.Ra.Ura.{Ura}
 use mir.Syntax.{Ty}
 use mir.Val.{Val, vcons, vnil, of_list, bytes}
@@ -17,10 +17,8 @@ use denote.Shadow.{pure_l}
 use denote.Steps.{only}
 use Rattle.core.specs.contracts.option.Option as option
 use Rattle.linked_list_allocator.specs.Region.{Region}
-use Rattle.tlsf_arena.specs.Places.{IsUnit, piece_size, units_for, IsPiece}
-use Rattle.tlsf_arena.specs.Loans.{Loan, name_of, units_of as units_in, right}
+use Rattle.tlsf_arena.specs.Loans.{units_of as units_in}
 use Rattle.linked_list_allocator.specs.Ownership.{bytes_at, units_of}
-use Rattle.tlsf_arena.specs.Ownership.{Home, IsLoanAt, ints, ways, behind, block_token, whole_token}
 use Rattle.tlsf_arena.specs.contracts.grant.Grant as grant
 use Rattle.linked_list_allocator.proofs.Values.{sized_val, sized_own, sized_told}
 use Rattle.tlsf_arena.proofs.UnitCases.{piece_holds}

@@ -1,7 +1,5 @@
 -- What holds of a unit of 16, 32 and 64 bytes holds of each.
-use Rattle.std.proofs.Common.{◌≡◌, ℕ, ◌+◌, ◌-◌, ◌*◌, ◌/◌, ◌%◌, ◌≤◌, eqb, ◌||◌, inl, inr, sym, subst, arith}
-use Rattle.std.proofs.lemmas.Bool.{eqb-true, or_cases}
-use Rattle.tlsf_arena.specs.Places.{IsUnit, piece_size}
+use Rattle.tlsf_arena.proofs.Common.{◌≡◌, ℕ, ◌+◌, ◌-◌, ◌*◌, ◌/◌, ◌%◌, ◌≤◌, eqb, ◌||◌, inl, inr, sym, subst, arith, eqb-true, or_cases, IsUnit, piece_size}
 
 pub by_unit : (P : ℕ → Type 0) → P 16 → P 32 → P 64 → (u : ℕ) → IsUnit u → P u
 by_unit P a b c u is = elim (or_cases (eqb u 16) (eqb u 32 || eqb u 64) is) [

@@ -1,5 +1,5 @@
 -- Grains as integers of a width, and the ways back. Assumes `Logic`.
-use Rattle.std.proofs.Common.{◌≡◌, ℕ, zero, suc, ◌+◌, ◌-◌, ◌*◌, ◌/◌, ◌%◌, ◌≤◌, [], ◌∷◌, refl, sym, ap, ◌∙◌, arith, suc-mul}
+use Rattle.tlsf_arena.proofs.Common.{◌≡◌, ℕ, zero, suc, ◌+◌, ◌-◌, ◌*◌, ◌/◌, ◌%◌, ◌≤◌, [], ◌∷◌, refl, sym, ap, ◌∙◌, arith, suc-mul, ints, ways}
 use seplogic.Ra.Ura.{Ura}
 use mir.Syntax.{Width, w8, w16, w32, w64, w128, ty_int, ty_array}
 use mir.Val.{bytes}
@@ -12,7 +12,6 @@ use denote.RawPtr.Room.{room_cut, room_glue, past}
 use denote.Steps.{nothing}
 use Rattle.linked_list_allocator.specs.Ownership.{units_of}
 use Rattle.linked_list_allocator.proofs.Nodes.{cuts, glues, resized}
-use Rattle.tlsf_arena.specs.Ownership.{ints, ways}
 
 by_width : (P : ℕ → Type 0) → P 1 → P 2 → P 4 → P 8 → P 16 → (w : Width) → P (bytes w)
 by_width P a b c d e w8 = a

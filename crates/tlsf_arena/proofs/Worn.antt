@@ -1,10 +1,5 @@
 -- A release of a block that is live is refused at the last tick, and nowhere else.
-use Rattle.std.proofs.Common.{◌≡◌, ◌==◌, Bool, true, false, if◌then◌else◌, Option, Some, None, Ok, Err, refl, sym, ◌∙◌}
-use Rattle.std.proofs.lemmas.Bool.{eq-eqb, eqb-true, true≢false}
-use Rattle.tlsf_heap.specs.Blocks.{HeapState}
-use Rattle.tlsf_heap.specs.Calls.{Outcome, coalesced, is_worn, last_tick, named, refused, released, released_at, ticked}
-use Rattle.tlsf_heap.specs.GoodFit.{Site}
-use Rattle.tlsf_heap.specs.declared.name.Name.{Name}
+use Rattle.tlsf_arena.proofs.Common.{◌≡◌, ◌==◌, Bool, true, false, if◌then◌else◌, Option, Some, None, Ok, Err, refl, sym, ◌∙◌, eq-eqb, eqb-true, true≢false, HeapState, Outcome, coalesced, is_worn, last_tick, named, refused, released, released_at, ticked, Site, Name}
 use Rattle.tlsf_heap.specs.declared.refusal.Refusal.TheVariants.{Worn, Foreign}
 
 -- ---- one that answers Worn is at the last tick

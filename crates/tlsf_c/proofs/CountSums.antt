@@ -1,22 +1,14 @@
 -- What a heap counts over its calls.
-use Rattle.std.proofs.Common.{◌≡◌, drop, ℕ, ◌+◌, ◌-◌, ◌≤◌, max, List, Result, Ok, Err, refl, sym, ap, ◌∙◌, subst, arith}
-use Rattle.std.specs.Prelude.{IfOk, OnErr}
+use Rattle.tlsf_c.proofs.Common.{◌≡◌, drop, ℕ, ◌+◌, ◌-◌, ◌≤◌, max, List, Result, Ok, Err, refl, sym, ap, ◌∙◌, subst, arith, IfOk, OnErr, HeapState, want, Release, Write, refused, allocated, allocated_words, resized_words, written, FollowsNoForgery, Seen, Shown, words_in_use, words_at, Name, Refusal, counted, AreCounts, Counts}
 use Rattle.tlsf_class.specs.Classes.{IsLevel}
 use Rattle.tlsf_heap.specs.Aligned.{words_aligned}
-use Rattle.tlsf_heap.specs.Blocks.{HeapState, want}
-use Rattle.tlsf_heap.specs.Calls.{Release, Write, refused, allocated, allocated_words, resized_words, written}
 use Rattle.tlsf_heap.specs.Lawful.{IsLawful}
 use Rattle.tlsf_heap.specs.Laws.{IsLive}
 use Rattle.tlsf_heap.specs.Moved.{copied, resized_or_moved}
 use Rattle.tlsf_heap.specs.Named.{RefusesName}
-use Rattle.tlsf_heap.specs.Touched.{FollowsNoForgery}
 use Rattle.tlsf_heap.specs.Image.{Image}
 use Rattle.tlsf_heap.specs.Kept.{IsAsBefore}
-use Rattle.tlsf_heap.specs.Shown.{Seen, Shown}
 use Rattle.tlsf_heap.specs.Unset.{GivesUnset, lying, unset_from}
-use Rattle.tlsf_heap.specs.WordsInUse.{words_in_use, words_at}
-use Rattle.tlsf_heap.specs.declared.name.Name.{Name}
-use Rattle.tlsf_heap.specs.declared.refusal.Refusal.{Refusal}
 use Rattle.tlsf_heap.proofs.lemmas.laws.AlignedWords.{in_use_aligned, in_use_payload, words_payload}
 use Rattle.tlsf_heap.proofs.lemmas.calls.Alter.{named_of}
 use Rattle.tlsf_heap.proofs.lemmas.laws.Live.{given_words, kept}
@@ -26,8 +18,6 @@ use Rattle.tlsf_heap.proofs.lemmas.calls.Named.{named_stands, named_live, not_fo
 use Rattle.tlsf_heap.proofs.lemmas.calls.Outcomes.{by_allocated, by_allocated_words, by_released, by_resized, by_written}
 use Rattle.tlsf_heap.proofs.lemmas.calls.Resize.{resized_refused}
 use Rattle.tlsf_heap.proofs.lemmas.laws.WordsInUse.{words_named, words_part, words_within, in_use_allocated, in_use_resized, in_use_written, words_written}
-use Rattle.tlsf_c.specs.Counting.{counted, AreCounts}
-use Rattle.tlsf_c.specs.declared.counts.Counts.{Counts}
 
 -- a live block has no more words than are in use
 pub part : (h : HeapState) (name : Name) → IsLawful h → IsLive h name → words_at h name.at ≤ words_in_use h

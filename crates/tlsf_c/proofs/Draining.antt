@@ -1,13 +1,7 @@
 -- A drain goes on by some posts.
-use Rattle.std.proofs.Common.{◌≡◌, ℕ, ◌+◌, ◌<◌, ◌≤◌, inl, inr, List, [], ◌∷◌, ◌++◌, length, refl, ap, sym, ◌∙◌, arith, append_assoc, length-append}
+use Rattle.tlsf_c.proofs.Common.{◌≡◌, ℕ, ◌+◌, ◌<◌, ◌≤◌, inl, inr, List, [], ◌∷◌, ◌++◌, length, refl, ap, sym, ◌∙◌, arith, append_assoc, length-append, cases_lt, HeapState, released, Post, drained, Counts}
 use Rattle.std.proofs.lemmas.List.Sums.{fold-append}
-use Rattle.std.proofs.lemmas.Bool.{cases_lt}
 use mathlib.Core.List.{IsPrefix}
-use Rattle.tlsf_heap.specs.Blocks.{HeapState}
-use Rattle.tlsf_heap.specs.Calls.{released}
-use Rattle.tlsf_post.specs.declared.post.Post.{Post}
-use Rattle.tlsf_c.specs.Drains.{drained}
-use Rattle.tlsf_c.specs.declared.counts.Counts.{Counts}
 
 -- more posts were taken
 pub taken_more : (first last now posts more : List Post) → last ≡ first ++ posts → now ≡ last ++ more → now ≡ first ++ (posts ++ more)

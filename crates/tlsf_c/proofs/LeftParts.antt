@@ -1,16 +1,11 @@
 -- Which payloads a call by name on pools leaves: of the part that the name names what its heap leaves, and of the others all.
-use Rattle.std.proofs.Common.{◌≡◌, ◌≢◌, ℕ, List, Option, Some, None, Result, inl, inr, refl, sym, ap, ◌∙◌, subst, get_or}
-use Rattle.std.specs.Prelude.{IfSome}
+use Rattle.tlsf_c.proofs.Common.{◌≡◌, ◌≢◌, ℕ, List, Option, Some, None, Result, inl, inr, refl, sym, ap, ◌∙◌, subst, get_or, IfSome, LeavesLive, LeavesPayloads, Name, Refusal, ReleasesInPools, WritesInPools, ReadsInPools, PartsLeavePayloads}
 use Rattle.std.proofs.lemmas.Bool.Decides.{eqb_tells}
 use Rattle.std.proofs.lemmas.List.{get_or-set_other}
 use Rattle.std.proofs.lemmas.Option.{IfSome_then}
 use Rattle.tlsf_words.specs.Touched.{times}
-use Rattle.tlsf_heap.specs.Footprint.{LeavesLive, LeavesPayloads}
-use Rattle.tlsf_heap.specs.declared.name.Name.{Name}
-use Rattle.tlsf_heap.specs.declared.refusal.Refusal.{Refusal}
 use Rattle.tlsf_pool.specs.pools.Parts.{PoolsState, OnlyPart, no_part, part_at, part_named}
 use Rattle.tlsf_pool.specs.pools.Tables.{TableState}
-use Rattle.tlsf_c.specs.PoolCalls.{ReleasesInPools, WritesInPools, ReadsInPools, PartsLeavePayloads}
 
 -- another part is as it was
 other_part : (old new : PoolsState) (i j : ℕ) → OnlyPart old new i → j ≢ i → part_at new j ≡ part_at old j

@@ -1,21 +1,14 @@
 -- Which payloads a drain leaves: it goes on by some posts.
-use Rattle.std.proofs.Common.{◌≡◌, ℕ, suc, ◌+◌, ◌<◌, ◌++◌, [], ◌∷◌, List, length, take, ap, sym, ◌∙◌, subst, arith}
+use Rattle.tlsf_c.proofs.Common.{◌≡◌, ℕ, suc, ◌+◌, ◌<◌, ◌++◌, [], ◌∷◌, List, length, take, ap, sym, ◌∙◌, subst, arith, eqb-true, false≢true, Block, HeapState, words_in, has_serial, released, IsOthersWord, LeavesPayloads, Name, Post, drained, LeavesUnnamed}
 use Rattle.std.proofs.Math.Seq.{take-suc}
 use lib.ListN.{get_or}
 use Rattle.std.specs.List.{AllByRecursion}
-use Rattle.std.proofs.lemmas.Bool.{eqb-true, false≢true}
-use Rattle.tlsf_heap.specs.Blocks.{Block, HeapState, words_in}
-use Rattle.tlsf_heap.specs.Calls.{has_serial, released}
-use Rattle.tlsf_heap.specs.Footprint.{IsOthersWord, LeavesPayloads}
-use Rattle.tlsf_heap.specs.declared.name.Name.{Name}
-use Rattle.tlsf_post.specs.declared.post.Post.{Post}
 use Rattle.tlsf_heap.proofs.lemmas.blocks.Find.{and_right}
 use Rattle.tlsf_heap.proofs.lemmas.blocks.Lawful.{all_left, all_right}
 use Rattle.tlsf_heap.proofs.lemmas.calls.Leaves.{has_site}
 use Rattle.tlsf_heap.proofs.lemmas.calls.Outcomes.{by_released, takes}
 use Rattle.tlsf_heap.proofs.lemmas.laws.Lasting.{released_lasts}
 use Rattle.tlsf_heap.proofs.lemmas.words.Footprint.{HoldsWord, held_word, one_place}
-use Rattle.tlsf_c.specs.Drains.{drained, LeavesUnnamed}
 use Rattle.tlsf_c.proofs.Draining.{released_more}
 
 -- a word of another block than two is one of another than the first once the second is released

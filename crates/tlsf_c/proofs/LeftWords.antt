@@ -1,20 +1,12 @@
 -- A word of a live block's payload is one behind the calls that count.
-use Rattle.std.proofs.Common.{◌≡◌, ℕ, suc, ◌+◌, [], ◌∷◌, List, Option, Some, None, Result, Ok, Err, inl, inr, refl, sym, ◌∙◌, subst, arith, drop, length, take, min}
-use Rattle.std.specs.Prelude.{IfOk, OnErr, nat_le}
+use Rattle.tlsf_c.proofs.Common.{◌≡◌, ℕ, suc, ◌+◌, [], ◌∷◌, List, Option, Some, None, Result, Ok, Err, inl, inr, refl, sym, ◌∙◌, subst, arith, drop, length, take, min, IfOk, OnErr, nat_le, Block, HeapState, want, Outcome, refused, last_tick, named, with_bytes, allocated, allocated_words, written, IsLiveWord, IsOthersWord, LeavesLive, payload_of, Shown, Name, Refusal}
 use Rattle.tlsf_heap.specs.Aligned.{words_aligned, aligned_words, aligned_by, gap_of}
-use Rattle.tlsf_heap.specs.Blocks.{Block, HeapState, want}
-use Rattle.tlsf_heap.specs.Calls.{Outcome, refused, last_tick, named, with_bytes, allocated, allocated_words, written}
-use Rattle.tlsf_heap.specs.Footprint.{IsLiveWord, IsOthersWord, LeavesLive}
 use Rattle.tlsf_heap.specs.GoodFit.{Site}
 use Rattle.tlsf_heap.specs.Image.{Image}
-use Rattle.tlsf_heap.specs.InPlace.{payload_of}
 use Rattle.tlsf_heap.specs.Kept.{IsAsBefore}
 use Rattle.tlsf_heap.specs.Lawful.{IsLawful}
 use Rattle.tlsf_heap.specs.Moved.{resized_or_moved}
-use Rattle.tlsf_heap.specs.Shown.{Shown}
 use Rattle.tlsf_heap.specs.Unset.{GivesUnset, lying, unset_from, with_payload, with_payload_at}
-use Rattle.tlsf_heap.specs.declared.name.Name.{Name}
-use Rattle.tlsf_heap.specs.declared.refusal.Refusal.{Refusal}
 use Rattle.tlsf_heap.specs.declared.refusal.Refusal.TheVariants.{Worn}
 use Rattle.tlsf_heap.proofs.lemmas.calls.Leaves.{given_word, given_live, has_site, resized_word, written_word}
 use Rattle.tlsf_heap.proofs.lemmas.calls.LeavesAligned.{released_word, moved_word}

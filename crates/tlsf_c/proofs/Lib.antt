@@ -1,3 +1,4 @@
+mod Common
 pub mod HeapBox
 pub mod PostBox
 pub mod TakeBox

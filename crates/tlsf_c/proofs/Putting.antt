@@ -1,10 +1,7 @@
 -- Names go into a lane by slices.
-use Rattle.std.proofs.Common.{◌≡◌, ℕ, ◌+◌, ◌≤◌, List, ◌++◌, take, drop, ap, sym, ◌∙◌, append_assoc}
+use Rattle.tlsf_c.proofs.Common.{◌≡◌, ℕ, ◌+◌, ◌≤◌, List, ◌++◌, take, drop, ap, sym, ◌∙◌, append_assoc, Post, post_of, posts_named, name_of}
 use Rattle.std.proofs.Math.Seq.{take-add}
 use Rattle.std.proofs.lemmas.List.{take-take, take-map, map-append}
-use Rattle.tlsf_post.specs.declared.post.Post.{Post}
-use Rattle.tlsf_c.specs.Handles.{post_of, posts_named}
-use Rattle.tlsf_c.specs.Names.{name_of}
 use Rattle.tlsf_c.specs.declared.names.BlockName.{BlockName}
 
 -- the first names, and then those of a slice of the rest that went

@@ -1,8 +1,6 @@
 -- What stays of a queue over several calls, and how a drain of one goes on.
-use Rattle.std.proofs.Common.{refl, ◌∙◌}
-use Rattle.std.specs.Prelude.{Option, Some, None}
+use Rattle.tlsf_c.proofs.Common.{refl, ◌∙◌, Option, Some, None, KeepsQueue}
 use Rattle.tlsf_post.specs.declared.owner_end.OwnerEnd.{OwnerEnd}
-use Rattle.tlsf_c.specs.Queues.{KeepsQueue}
 
 pub keeps_self : (a : Option OwnerEnd) → KeepsQueue a a
 keeps_self (Some a) = (refl, refl, refl, refl, refl)

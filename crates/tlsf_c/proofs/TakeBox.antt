@@ -2,9 +2,8 @@
 use mir.Syntax.{impl, tnil, dnil}
 use mathlib.Core.List.{[]}
 use denote.Signature.{Slot, plain}
-use Rattle.std_alloc.proofs.BoxSteps.Form.{Bx}
+use Rattle.tlsf_c.proofs.Common.{Bx, ghosts, dict}
 use Rattle.std_heap.specs.contracts.Global as Heap
-use Rattle.std_heap.specs.contracts.GlobalAllocator.TheImpl.{ghosts, dict}
 use Rattle.std_heap.proofs.Global.TheLaws as heap
 use Rattle.tlsf_post.specs.contracts.take_end.TakeEnd as Home
 use Rattle.tlsf_post.proofs.take_end.TakeEnd.TheLaws as home

@@ -1,6 +1,5 @@
 -- The field by which fields go astray.
-use Rattle.std.proofs.Common.{◌≡◌, ◌⊎◌, inl, inr, ℕ, suc, ◌+◌, ◌-◌, Bool, false, List, ◌++◌, length, take, subst, arith}
-use Rattle.tlsf_check.specs.FieldFaults.{CanBegin, GoAstrayAt}
+use Rattle.tlsf_check.proofs.Common.{◌≡◌, ◌⊎◌, inl, inr, ℕ, suc, ◌+◌, ◌-◌, Bool, false, List, ◌++◌, length, take, subst, arith, CanBegin, GoAstrayAt}
 
 -- behind m fields that can begin a whole line
 pub astray_at : (is_whole : List (List ℕ) → Bool) (fields : List (List ℕ)) (m n : ℕ) → n ≡ m + 1 → CanBegin is_whole (take m fields)

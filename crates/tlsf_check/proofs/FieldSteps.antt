@@ -1,15 +1,9 @@
 -- The fields of a line as bytes of it.
-use Rattle.std.proofs.Common.{◌≡◌, ℕ, ◌+◌, ◌-◌, ◌<◌, ◌≤◌, Bool, true, false, cond, List, [], ◌∷◌, ◌++◌, Option, Some, None, length, take, drop, min, refl, sym, ap, subst, ◌∙◌, arith, append_assoc, append-nil, length-append}
-use Rattle.std.specs.Prelude.{◌==◌}
-use Rattle.std.specs.Borrow.{Bor}
+use Rattle.tlsf_check.proofs.Common.{◌≡◌, ℕ, ◌+◌, ◌-◌, ◌<◌, ◌≤◌, Bool, true, false, cond, List, [], ◌∷◌, ◌++◌, Option, Some, None, length, take, drop, min, refl, sym, ap, subst, ◌∙◌, arith, append_assoc, append-nil, length-append, ◌==◌, Bor, fields_left, fields_of, field, fields_in, pieces_of, HasBefore, IsFieldAt, MarksField, ShowsAt, ShowsField, spaces_in, without_feed}
 use Rattle.std.specs.List.{join_with_byte}
 use Rattle.std.proofs.lemmas.List.{length-take-le, take-append-drop, take_at}
 use Rattle.std.proofs.lemmas.List.Splits.{join_with_byte-slice_split, length-slice_split}
 use Rattle.std.proofs.lemmas.List.Sums.{sum_by-append, sum_by-cons}
-use Rattle.tlsf_lines.specs.CutFields.{fields_left, fields_of}
-use Rattle.tlsf_lines.specs.Fields.{field, fields_in}
-use Rattle.tlsf_lines.specs.Pieces.{pieces_of}
-use Rattle.tlsf_check.specs.Shown.{HasBefore, IsFieldAt, MarksField, ShowsAt, ShowsField, spaces_in, without_feed}
 
 pub spaces_both : (a b : List ℕ) → spaces_in (a ++ b) ≡ spaces_in a + spaces_in b
 spaces_both a b = sum_by-append (λ byte. cond (byte == 32) 1 0) a b

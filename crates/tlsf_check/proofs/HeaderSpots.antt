@@ -1,21 +1,13 @@
 -- The field by which a first line is no header.
-use Rattle.std.proofs.Common.{◌≡◌, inl, inr, ℕ, suc, ◌+◌, ◌==◌, ◌&&◌, Bool, true, false, cond, is_some, List, [], ◌∷◌, ◌++◌, length, take, drop, map, codes, count_by, Option, Some, None, unwrap_or, refl, ap, ◌∙◌, arith}
+use Rattle.tlsf_check.proofs.Common.{◌≡◌, inl, inr, ℕ, suc, ◌+◌, ◌==◌, ◌&&◌, Bool, true, false, cond, is_some, List, [], ◌∷◌, ◌++◌, length, take, drop, map, codes, count_by, Option, Some, None, unwrap_or, refl, ap, ◌∙◌, arith, fields_of, ◌>>=◌, field, fields_in, header_from, header_in, header_of, number_in, BadHeader, CanBegin, GoAstrayAt, IsFieldOf, is_header, header_kinds, passes, FindsWrong, IsFirstFailing, all_pass, passing_count, Kind}
 use Rattle.std.proofs.lemmas.Bool.{ne_eqb}
 use Rattle.std.specs.Str.{bytes_eq}
-use Rattle.tlsf_lines.specs.CutFields.{fields_of}
-use Rattle.tlsf_lines.specs.Fields.{◌>>=◌, field, fields_in}
-use Rattle.tlsf_lines.specs.Header.{header_from, header_in, header_of, number_in}
 use Rattle.tlsf_lines.specs.Versions.{most_words_of, version_in}
 use Rattle.tlsf_lines.specs.declared.header.Header.{Header}
-use Rattle.tlsf_lines.specs.declared.line_fault.LineFault.TheVariants.{BadHeader}
 use Rattle.tlsf_lines.specs.declared.version.Version.{Version}
 use Rattle.tlsf_lines.specs.declared.version.Version.TheVariants.{One, Two}
 use Rattle.hex.proofs.OnLiterals.{hex_on_literals}
-use Rattle.tlsf_check.specs.FieldFaults.{CanBegin, GoAstrayAt, IsFieldOf, is_header}
-use Rattle.tlsf_check.specs.Kinds.{header_kinds, passes}
-use Rattle.tlsf_check.specs.Passing.{FindsWrong, IsFirstFailing, all_pass, passing_count}
 use Rattle.tlsf_check.specs.declared.judge.Judge.TheVariants as judge
-use Rattle.tlsf_check.specs.declared.kind.Kind.{Kind}
 use Rattle.tlsf_check.specs.declared.kind.Kind.TheVariants.{Worker, Payload, Workers, Words, Capacity}
 use Rattle.tlsf_check.proofs.Astray.{astray_at, never}
 use Rattle.tlsf_check.proofs.LineSpots.{last_of, wrong_or_last}

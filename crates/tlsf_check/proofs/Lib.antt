@@ -1,4 +1,5 @@
 -- The lemmas of this crate, a line a file.
+mod Common
 pub mod PassingSteps  -- fields that pass as those of their kinds, one after another
 pub mod Astray  -- the field by which fields go astray
 pub mod Refusals  -- what a fault tells of the fields of a line

@@ -1,28 +1,16 @@
 -- The field of a line's fault.
-use Rattle.std.proofs.Common.{◌≡◌, ◌≢◌, ◌⊎◌, inl, inr, ℕ, zero, suc, ◌+◌, ◌-◌, ◌<◌, ◌==◌, count_by, Bool, true, false, cond, is_some, List, [], ◌∷◌, ◌++◌, length, take, drop, map, codes, slice_get, Option, Some, None, option_map, unwrap_or, Err, refl, sym, ap, subst, ◌∙◌, arith}
-use Rattle.std.specs.Prelude.{MatchBool}
+use Rattle.tlsf_check.proofs.Common.{◌≡◌, ◌≢◌, ◌⊎◌, inl, inr, ℕ, zero, suc, ◌+◌, ◌-◌, ◌<◌, ◌==◌, count_by, Bool, true, false, cond, is_some, List, [], ◌∷◌, ◌++◌, length, take, drop, map, codes, slice_get, Option, Some, None, option_map, unwrap_or, Err, refl, sym, ap, subst, ◌∙◌, arith, MatchBool, fields_of, ◌>>=◌, fields_in, is_digits, value_in, values_in, number_of_value, kinds_of, line_from, word_of, words, judged_line, Line, LineFault, GoAstrayAt, HasFirstBadNumberAt, IsFieldOf, IsFirstBad, IsFirstWrong, IsWrongOrLast, is_line, is_shaped, kinds_behind, passes, FindsWrong, IsFirstFailing, all_pass, passing_count, Kind}
 use Rattle.hex.proofs.OnLiterals.{hex_on_literals}
 use Rattle.tlsf_calls.specs.declared.chunk.Chunk.{Chunk}
-use Rattle.tlsf_lines.specs.CutFields.{fields_of}
-use Rattle.tlsf_lines.specs.Fields.{◌>>=◌, fields_in, is_digits, value_in, values_in}
-use Rattle.tlsf_lines.specs.Header.{number_of_value}
-use Rattle.tlsf_lines.specs.Lines.{kinds_of, line_from, word_of, words}
 use Rattle.tlsf_lines.specs.Payloads.{chunk_in}
-use Rattle.tlsf_lines.specs.Trace.{judged_line}
 use Rattle.tlsf_lines.specs.Values.{Value, Number, BadNumber, Bytes}
 use Rattle.tlsf_lines.specs.Values as spelled
-use Rattle.tlsf_lines.specs.declared.line.Line.{Line}
-use Rattle.tlsf_lines.specs.declared.line_fault.LineFault.{LineFault}
 use Rattle.tlsf_lines.specs.declared.line_fault.LineFault.TheVariants as fault
 use Rattle.tlsf_lines.specs.declared.word.Word.{Word}
 use Rattle.tlsf_lines.specs.declared.word.Word.TheVariants as word
 use Rattle.tlsf_lines.proofs.CutSteps.{fields_count}
 use Rattle.tlsf_lines.proofs.LineJudged.{without_feed}
-use Rattle.tlsf_check.specs.FieldFaults.{GoAstrayAt, HasFirstBadNumberAt, IsFieldOf, IsFirstBad, IsFirstWrong, IsWrongOrLast, is_line, is_shaped}
-use Rattle.tlsf_check.specs.Kinds.{kinds_behind, passes}
-use Rattle.tlsf_check.specs.Passing.{FindsWrong, IsFirstFailing, all_pass, passing_count}
 use Rattle.tlsf_check.specs.declared.judge.Judge.TheVariants as judge
-use Rattle.tlsf_check.specs.declared.kind.Kind.{Kind}
 use Rattle.tlsf_check.specs.declared.kind.Kind.TheVariants.{Worker, Label, Length, Offset, Payload, Count, Most, Workers, Words, Capacity}
 use Rattle.tlsf_check.proofs.Astray.{astray_at, never}
 use Rattle.tlsf_check.proofs.Refusals.{Tells, line_is_shaped, told, unshaped_is_no_line}

@@ -1,7 +1,5 @@
 -- What is noted of a fault.
-use Rattle.std.proofs.Common.{◌≡◌, ◌⊎◌, inl, inr, ℕ, List, Some, ap, arith}
-use Rattle.tlsf_lines.specs.TraceFaults.{IsLineFault, fault_of, no_memory_fault}
-use Rattle.tlsf_lines.specs.declared.trace_fault.TraceFault.{TraceFault}
+use Rattle.tlsf_check.proofs.Common.{◌≡◌, ◌⊎◌, inl, inr, ℕ, List, Some, ap, arith, IsLineFault, fault_of, no_memory_fault, TraceFault}
 use Rattle.tlsf_check.specs.Checks.{Notes, NotesField}
 use Rattle.tlsf_check.proofs.UnreadRuns.{in_no_line, other_number}
 

@@ -1,6 +1,5 @@
 -- Fields that pass as those of their kinds, one after another.
-use Rattle.std.proofs.Common.{◌≡◌, ◌⊎◌, inl, inr, ℕ, zero, suc, ◌<◌, ◌≤◌, Bool, true, false, cond, List, [], ◌∷◌, ◌++◌, length, take, drop, map, refl, ap, arith}
-use Rattle.tlsf_check.specs.Passing.{all_pass, passing_count}
+use Rattle.tlsf_check.proofs.Common.{◌≡◌, ◌⊎◌, inl, inr, ℕ, zero, suc, ◌<◌, ◌≤◌, Bool, true, false, cond, List, [], ◌∷◌, ◌++◌, length, take, drop, map, refl, ap, arith, all_pass, passing_count}
 
 -- the fields that pass, and then samples for the kinds that are left
 module _ {A : Type 0} (pass : A → List ℕ → Bool) (sample : A → List ℕ) (good : (kind : A) → pass kind (sample kind) ≡ true) where

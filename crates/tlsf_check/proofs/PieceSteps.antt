@@ -1,7 +1,5 @@
 -- The pieces of a text, one after another.
-use Rattle.std.proofs.Common.{◌≡◌, ℕ, zero, suc, ◌+◌, ◌≤◌, List, [], ◌∷◌, drop, length, refl, sym, add-one, arith}
-use Rattle.tlsf_lines.specs.Fields.{field}
-use Rattle.tlsf_lines.specs.Pieces.{pieces_of}
+use Rattle.tlsf_check.proofs.Common.{◌≡◌, ℕ, zero, suc, ◌+◌, ◌≤◌, List, [], ◌∷◌, drop, length, refl, sym, add-one, arith, field, pieces_of}
 
 -- there is none past the last
 beyond : (pieces : List (List ℕ)) (i k : ℕ) → drop i pieces ≡ [] → i ≤ k → field pieces k ≡ []

@@ -1,15 +1,10 @@
 -- What a fault tells of the fields of a line.
-use Rattle.std.proofs.Common.{◌≡◌, ℕ, Bool, true, false, is_some, List, drop, Option, Some, None, option_and_then, Ok, Err, refl, sym, subst}
-use Rattle.tlsf_lines.specs.Fields.{field, fields_in, values_in}
+use Rattle.tlsf_check.proofs.Common.{◌≡◌, ℕ, Bool, true, false, is_some, List, drop, Option, Some, None, option_and_then, Ok, Err, refl, sym, subst, field, fields_in, values_in, kinds_of, line_from, word_of, words, judged_line, some_or, unless, Line, LineFault, is_line, is_shaped}
 use Rattle.tlsf_lines.specs.Labels.{is_in_order}
-use Rattle.tlsf_lines.specs.Lines.{kinds_of, line_from, word_of, words}
-use Rattle.tlsf_lines.specs.Trace.{◌>>=◌, judged_line, some_or, unless}
+use Rattle.tlsf_lines.specs.Trace.{◌>>=◌}
 use Rattle.tlsf_lines.specs.Values.{Value}
-use Rattle.tlsf_lines.specs.declared.line.Line.{Line}
-use Rattle.tlsf_lines.specs.declared.line_fault.LineFault.{LineFault}
 use Rattle.tlsf_lines.specs.declared.line_fault.LineFault.TheVariants as fault
 use Rattle.tlsf_lines.specs.declared.word.Word.{Word}
-use Rattle.tlsf_check.specs.FieldFaults.{is_line, is_shaped}
 
 -- whether the fields have the shape of a line, and whether they are one, by the fault
 abbrev pub Tells : Bool → Bool → LineFault → Type 0

@@ -1,19 +1,8 @@
 -- The field of a text's fault.
-use Rattle.std.proofs.Common.{◌≡◌, inl, inr, ℕ, suc, ◌-◌, List, [], ◌∷◌, drop, Some, None, Result, Ok, Err, refl, sym, ap, subst, ◌∙◌, arith}
-use Rattle.tlsf_lines.specs.Fields.{field}
-use Rattle.tlsf_lines.specs.Header.{header_in}
+use Rattle.tlsf_check.proofs.Common.{◌≡◌, inl, inr, ℕ, suc, ◌-◌, List, [], ◌∷◌, drop, Some, None, Result, Ok, Err, refl, sym, ap, subst, ◌∙◌, arith, field, header_in, pieces_of, Trace, judged_line, trace_of, fault_by, fault_in, fault_of, Line, LineFault, BadHeader, TraceFault, IsFieldOf, IsFoundIn, workers_by, workers_in}
 use Rattle.tlsf_lines.specs.Laws.{FailsAtHeader, FailsAtLine, after}
-use Rattle.tlsf_lines.specs.Pieces.{pieces_of}
-use Rattle.tlsf_lines.specs.Trace.{Trace, judged_line, trace_of}
-use Rattle.tlsf_lines.specs.TraceFaults.{fault_by, fault_in, fault_of}
 use Rattle.tlsf_lines.specs.declared.header.Header.{Header}
-use Rattle.tlsf_lines.specs.declared.line.Line.{Line}
-use Rattle.tlsf_lines.specs.declared.line_fault.LineFault.{LineFault}
-use Rattle.tlsf_lines.specs.declared.line_fault.LineFault.TheVariants.{BadHeader}
-use Rattle.tlsf_lines.specs.declared.trace_fault.TraceFault.{TraceFault}
 use Rattle.tlsf_lines.proofs.FirstFault.{is_first}
-use Rattle.tlsf_check.specs.FieldFaults.{IsFieldOf, IsFoundIn}
-use Rattle.tlsf_check.specs.Kinds.{workers_by, workers_in}
 
 -- piece i behind the first is piece i + 1
 behind_first : (pieces : List (List ℕ)) (i : ℕ) → field (drop 1 pieces) i ≡ field pieces (suc i)

@@ -1,13 +1,10 @@
 -- A trace that was not read whole.
-use Rattle.std.proofs.Common.{◌≡◌, inl, inr, ℕ, List, Option, Some, None, Err, refl, sym, ap, ◌∙◌, arith}
-use Rattle.std.specs.Prelude.{IfSome}
+use Rattle.tlsf_check.proofs.Common.{◌≡◌, inl, inr, ℕ, List, Option, Some, None, Err, refl, sym, ap, ◌∙◌, arith, IfSome, IsLineFault, fault_numbered, TraceFault}
 use Rattle.std.proofs.KnownBytes.{Keeps-refl}
 use Rattle.tlsf_lines.specs.Limits.{IsTooLong, Passes}
-use Rattle.tlsf_lines.specs.TraceFaults.{IsLineFault, fault_numbered}
 use Rattle.tlsf_lines.specs.declared.limit.Limit.{Limit}
 use Rattle.tlsf_lines.specs.declared.read_error.ReadError.{ReadError}
 use Rattle.tlsf_lines.specs.declared.read_error.ReadError.TheVariants.{NoMemory, TooLong, Read}
-use Rattle.tlsf_lines.specs.declared.trace_fault.TraceFault.{TraceFault}
 use Rattle.tlsf_lines.proofs.LongInputs.{if_too_long}
 use Rattle.tlsf_trace.specs.Replay.{IsFault, IsRun}
 use Rattle.tlsf_check.specs.Checks.{Checks, Notes}

@@ -1,12 +1,7 @@
 -- What the operations on the words of the bitmaps make of the members.
-use Rattle.std.proofs.Common.{◌≡◌, ◌≢◌, ℕ, ◌+◌, ◌*◌, ◌/◌, ◌%◌, ◌<◌, ◌≤◌, Bool, true, false, not, ◌&&◌, ◌||◌, eqb, List, get_or, set, length, min, Some, None, refl, sym, ap, ◌∙◌, inl, inr, arith, get_or-set_same, get_or-set_other, replicate, []}
-use Rattle.std.specs.Prelude.{◌↔◌, Contains}
-use Rattle.std.specs.Int.{bit_at}
+use Rattle.tlsf_class.proofs.Common.{◌≡◌, ◌≢◌, ℕ, ◌+◌, ◌*◌, ◌/◌, ◌%◌, ◌<◌, ◌≤◌, Bool, true, false, not, ◌&&◌, ◌||◌, eqb, List, get_or, set, length, min, Some, None, refl, sym, ap, ◌∙◌, inl, inr, arith, get_or-set_same, get_or-set_other, replicate, [], ◌↔◌, Contains, bit_at, cases_eq, cases_lt, eq-eqb, eqb-true, ne_eqb, cases_order, bit_at-zero, IsLevel, level_classes, last_class, classes}
 use Rattle.std.proofs.lemmas.List.{length-set}
-use Rattle.std.proofs.lemmas.Bool.{cases_eq, cases_lt, eq-eqb, eqb-true, ne_eqb, cases_order}
-use Rattle.std.proofs.lemmas.Nat.Bits.{bit_at-zero}
 use Rattle.std.proofs.lemmas.List.Elements.{filter_agree}
-use Rattle.tlsf_class.specs.Classes.{IsLevel, level_classes, last_class, classes}
 use Rattle.tlsf_class.proofs.TwoLevels.{by_level, split, first_at, second_at, second_below, first_inside, first_rises, second_more, same_class, first_below, second_less}
 use Rattle.tlsf_class.specs.Members.{with_member, without_member, next_member}
 use Rattle.tlsf_class.specs.Bitmaps.{is_set, members_of, marked_in, AreLevels}

@@ -1,10 +1,6 @@
 -- The class of a size by its highest bits.
-use Rattle.std.proofs.Common.{◌≡◌, ℕ, ◌+◌, ◌-◌, ◌*◌, ◌/◌, ◌%◌, ◌^◌, ◌<◌, ◌≤◌, nat_lt, Some, refl, sym, ap, ◌∙◌, inl, inr, arith}
-use Rattle.std.proofs.lemmas.Bool.{cases_lt, cases_eq, cond-false, cond_below, le-ltb}
-use Rattle.std.proofs.lemmas.Nat.{pow-add, pow_pos, div_below, le-div, shr_split, mod_below, pow_below, one_shl, shl_whole, div-mul-add, or_lt, le_or_l, le_or_r}
-use Rattle.std.proofs.Math.Nat.{pow-le-pow_right, mul-add, add-mul, mul_assoc}
+use Rattle.tlsf_class.proofs.Common.{◌≡◌, ℕ, ◌+◌, ◌-◌, ◌*◌, ◌/◌, ◌%◌, ◌^◌, ◌<◌, ◌≤◌, nat_lt, Some, refl, sym, ap, ◌∙◌, inl, inr, arith, cases_lt, cases_eq, cond-false, cond_below, le-ltb, pow-add, pow_pos, div_below, le-div, shr_split, mod_below, pow_below, one_shl, shl_whole, div-mul-add, or_lt, le_or_l, le_or_r, pow-le-pow_right, mul-add, add-mul, mul_assoc, IsLevel, level_classes, last_class, most_words, low, class_of, search_of}
 use Rattle.std.specs.Int.RustNames.{bit_or}
-use Rattle.tlsf_class.specs.Classes.{IsLevel, level_classes, last_class, most_words, low, class_of, search_of}
 use Rattle.tlsf_class.specs.Steps.{IsStep, last_step}
 use Rattle.tlsf_class.proofs.TwoLevels.{by_level, bounds_of, first_at, second_at, first_inside, second_below}
 use Rattle.tlsf_class.proofs.ClassOfSize.{class_of-between, search_of-same, search_of-next}

@@ -1,8 +1,6 @@
 -- The class and the search class of a size, by the least sizes below and above it.
-use Rattle.std.proofs.Common.{◌≡◌, ℕ, zero, suc, ◌+◌, ◌-◌, ◌<◌, ◌≤◌, nat_le, true, false, Some, None, sym, ap, ◌∙◌, inl, inr, arith}
+use Rattle.tlsf_class.proofs.Common.{◌≡◌, ℕ, zero, suc, ◌+◌, ◌-◌, ◌<◌, ◌≤◌, nat_le, true, false, Some, None, sym, ap, ◌∙◌, inl, inr, arith, false≢true, cases_lt, le-leb, lt-leb, leb-true, IsLevel, last_class, most_words, low, classes, class_of, search_of, serves}
 use Rattle.std.specs.Option.{option_map_or}
-use Rattle.std.proofs.lemmas.Bool.{false≢true, cases_lt, le-leb, lt-leb, leb-true}
-use Rattle.tlsf_class.specs.Classes.{IsLevel, last_class, most_words, low, classes, class_of, search_of, serves}
 use Rattle.tlsf_class.proofs.RangeSearch.{find-range, find-range_none, greatest-range, greatest-range_none}
 use Rattle.tlsf_class.proofs.Lows.{low-next, low-rises, low-rises_or_same, low-first, low-last}
 use Rattle.tlsf_class.proofs.TwoLevels.{bounds_of}

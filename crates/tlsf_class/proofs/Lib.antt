@@ -1,4 +1,5 @@
 -- The lemmas of this crate, a line a file.
+--   Common: the names that most proofs cite, passed on from one place
 --   BitmapWords: what the operations on the words of the bitmaps make of the members
 --   ClassByBits: the class of a size by its highest bit and the bits below
 --   ClassOfSize: the class and the search class of a size, by the least sizes below and above it
@@ -8,6 +9,7 @@
 --   RangeSearch: what searches among numbers in rising order find
 --   Tables: the definitions of classes against known values
 --   TwoLevels: what holds of second levels of 4 and of 5 bits, and how the number of a class splits into its two levels
+mod Common
 pub mod BitmapWords
 pub mod ClassByBits
 pub mod ClassOfSize

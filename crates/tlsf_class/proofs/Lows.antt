@@ -1,7 +1,5 @@
 -- The least sizes rise strictly from class to class.
-use Rattle.std.proofs.Common.{◌≡◌, ℕ, zero, suc, ◌+◌, ◌-◌, ◌^◌, ◌<◌, ◌≤◌, true, nat_lt, refl, inl, inr, arith, add-zero}
-use Rattle.std.proofs.lemmas.Bool.{ltb-true, agree_below, agree_below_at, cases_eq}
-use Rattle.tlsf_class.specs.Classes.{IsLevel, last_class, most_words, low}
+use Rattle.tlsf_class.proofs.Common.{◌≡◌, ℕ, zero, suc, ◌+◌, ◌-◌, ◌^◌, ◌<◌, ◌≤◌, true, nat_lt, refl, inl, inr, arith, add-zero, ltb-true, agree_below, agree_below_at, cases_eq, IsLevel, last_class, most_words, low}
 use Rattle.tlsf_class.proofs.TwoLevels.{by_level}
 
 -- by a table for each level, up to one class above the last

@@ -1,6 +1,5 @@
 -- The definitions against known values.
-use Rattle.std.proofs.Common.{◌≡◌, ℕ, Some, refl, List, [], ◌∷◌, map}
-use Rattle.tlsf_class.specs.Classes.{low, classes, class_of, search_of}
+use Rattle.tlsf_class.proofs.Common.{◌≡◌, ℕ, Some, refl, List, [], ◌∷◌, map, low, classes, class_of, search_of}
 
 -- the least sizes of the first and the last class of first levels 0, 1, 2, 3 and 16, and of the last class
 lows_of_first_levels : map (low 4) (4 ∷ 15 ∷ 16 ∷ 31 ∷ 32 ∷ 47 ∷ 48 ∷ 63 ∷ 256 ∷ 271 ∷ 272 ∷ []) ≡ 4 ∷ 15 ∷ 16 ∷ 31 ∷ 32 ∷ 62 ∷ 64 ∷ 124 ∷ 524288 ∷ 1015808 ∷ 1048576 ∷ []

@@ -1,9 +1,5 @@
 -- What holds at level 4 and at level 5, and how the number of a class splits into its first level and its second level.
-use Rattle.std.proofs.Common.{cond, eqb, true, false, ◌≡◌, ℕ, ◌+◌, ◌*◌, ◌/◌, ◌%◌, ◌^◌, ◌<◌, ◌≤◌, sym, ◌∙◌, inl, inr, arith}
-use Rattle.std.proofs.lemmas.Bool.{cases_lt}
-use Rattle.std.proofs.lemmas.Nat.{mod_below, div-mul-add, mod-mul-add}
-use Rattle.std.proofs.Math.Nat.{div-add-mod, mul_comm}
-use Rattle.tlsf_class.specs.Classes.{IsLevel, level_classes, last_class, most_words}
+use Rattle.tlsf_class.proofs.Common.{cond, eqb, true, false, ◌≡◌, ℕ, ◌+◌, ◌*◌, ◌/◌, ◌%◌, ◌^◌, ◌<◌, ◌≤◌, sym, ◌∙◌, inl, inr, arith, cases_lt, mod_below, div-mul-add, mod-mul-add, div-add-mod, mul_comm, IsLevel, level_classes, last_class, most_words}
 
 -- what holds at 4 and at 5 holds at each level
 pub by_level : (P : ℕ → Type 0) → P 4 → P 5 → (sli : ℕ) → IsLevel sli → P sli

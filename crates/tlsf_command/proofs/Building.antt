@@ -1,12 +1,11 @@
 -- The program's commands, one argument after the other.
-use Rattle.std.proofs.Common.{◌≡◌, ◌∙◌, Bool, List, [], ◌∷◌, ◌++◌, ap, ap₂, map, refl}
+use Rattle.tlsf_command.proofs.Common.{◌≡◌, ◌∙◌, Bool, List, [], ◌∷◌, ◌++◌, ap, ap₂, map, refl, IsArg, IsOf}
 use Rattle.std.proofs.lemmas.List.{map-append}
 use Rattle.std.specs.Borrow.{Bor}
 use Rattle.clap.specs.Adds.{AddsAliases}
 use Rattle.clap.specs.Words.{AddsArg, App, Rule, Text, rule_of, with_rule}
 use Rattle.clap.specs.declared.builder.arg.Arg.{Arg}
 use Rattle.clap.specs.declared.builder.command.Command.{Command}
-use Rattle.tlsf_command.specs.CommandLine.{IsArg, IsOf}
 
 -- a command with one argument more
 pub with_argument : {old new : Command} {arg : Arg} {app : App} {rule : Rule} → IsOf app old → IsArg rule arg → AddsArg old arg new → IsOf (with_rule app rule) new

@@ -1,9 +1,6 @@
 -- What the words ask for, by the command that they name.
-use Rattle.std.proofs.Common.{◌≡◌, ◌∙◌, ℕ, Bool, false, true, true≢false, cond, List, [], ◌∷◌, Option, Some, None, Result, Ok, Err, codes, inl, inr, length, option_map, refl, sym, ap, ap₂, subst, arith}
-use Rattle.std.specs.Option.{unwrap_or}
+use Rattle.tlsf_command.proofs.Common.{◌≡◌, ◌∙◌, ℕ, Bool, false, true, true≢false, cond, List, [], ◌∷◌, Option, Some, None, Result, Ok, Err, codes, inl, inr, length, option_map, refl, sym, ap, ap₂, subst, arith, unwrap_or, string_bytes, IfOk, bytes_eq, Arguments, first_number, texts_in, texts_of, Asks, IsAnswerable, IsAskedBy, IsCommand, IsRunOn, IsTip, Names, ReadsTrace, faults_of, number_for, run_asked, takes_number, tip_line, tlsf_app, rivals_given, Does, Refuses, Streams, TraceRun, Replay, Held, HeldKinds, Least, Race, RaceQueues, Map, MapHtml, MapWorst, Plot, Check}
 use Rattle.std.specs.Box.{box_value}
-use Rattle.std.specs.Prelude.{string_bytes, IfOk}
-use Rattle.std.specs.Str.{bytes_eq}
 use Rattle.std.proofs.Math.Path.{fun_ext}
 use Rattle.clap.specs.Matches.{found_of, subcommand_name_of}
 use Rattle.clap.specs.Walk.{Row, Text, rows_of}
@@ -12,18 +9,12 @@ use Rattle.clap.specs.declared.error.Error.{Error}
 use Rattle.clap.specs.declared.parser.matches.ArgMatches.{ArgMatches}
 use Rattle.clap.specs.declared.parser.matches.ArgMatches.TheViews.{out-ArgMatches, out-SubCommand}
 use Rattle.clap.proofs.WalkLemmas.{raw_values-rows}
-use Rattle.tlsf_command.specs.Arguments.{Arguments, first_number, texts_in, texts_of}
 use Rattle.tlsf_command.specs.ClassQuestions.{HasClasses, IsClassQuestion}
-use Rattle.tlsf_command.specs.CommandLine.{Asks, IsAnswerable, IsAskedBy, IsCommand, IsRunOn, IsTip, Names, ReadsTrace, faults_of, number_for, run_asked, takes_number, tip_line, tlsf_app}
-use Rattle.tlsf_command.specs.Rivals.{rivals_given}
-use Rattle.tlsf_command.specs.Runs.{Does, Refuses, Streams}
 use Rattle.tlsf_command.specs.declared.class_question.ClassQuestion.{ClassQuestion}
 use Rattle.tlsf_command.specs.declared.class_question.ClassQuestion.TheVariants.{Coarse, Fine, NoClass}
 use Rattle.tlsf_command.specs.declared.command_line.Choice.{Choice}
 use Rattle.tlsf_command.specs.declared.command_line.Choice.TheVariants.{Trace, File, Classes, Size, At, Heaps, Excluded}
 use Rattle.tlsf_command.specs.declared.rivals.Rivals.{Rivals}
-use Rattle.tlsf_command.specs.declared.trace_run.TraceRun.{TraceRun}
-use Rattle.tlsf_command.specs.declared.trace_run.TraceRun.TheVariants.{Replay, Held, HeldKinds, Least, Race, RaceQueues, Map, MapHtml, MapWorst, Plot, Check}
 use Rattle.tlsf_picture.specs.declared.form.Form.{Form}
 use Rattle.tlsf_command.proofs.Faultless.{some_named}
 use Rattle.tlsf_command.proofs.NamedRuns.{NamesRun}

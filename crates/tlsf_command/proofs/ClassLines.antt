@@ -1,7 +1,6 @@
 -- The line on a size, piece by piece.
-use Rattle.std.proofs.Common.{◌≡◌, ◌∙◌, ℕ, List, ◌++◌, Some, codes, ap, sym, append_assoc}
+use Rattle.tlsf_command.proofs.Common.{◌≡◌, ◌∙◌, ℕ, List, ◌++◌, Some, codes, ap, sym, append_assoc, class_of, low, search_of}
 use Rattle.std.specs.Fmt.{decimal}
-use Rattle.tlsf_class.specs.Classes.{class_of, low, search_of}
 use Rattle.tlsf_command.specs.ClassLines.{class_line, class_text}
 
 -- the pieces of a class, and what follows them

@@ -1,7 +1,6 @@
 -- A front of two texts in a row.
-use Rattle.std.proofs.Common.{◌≡◌, ◌+◌, ℕ, suc, List, [], ◌∷◌, ◌++◌, length, take, min, Option, refl, sym, ap, ◌∙◌, subst, arith}
+use Rattle.tlsf_command.proofs.Common.{◌≡◌, ◌+◌, ℕ, suc, List, [], ◌∷◌, ◌++◌, length, take, min, Option, refl, sym, ap, ◌∙◌, subst, arith, Appends-trans}
 use Rattle.std.specs.Io.KnownBytes.{Appends}
-use Rattle.std.proofs.KnownBytes.{Appends-trans}
 use Rattle.std.proofs.lemmas.List.{take-append-le, take_min}
 use Rattle.tlsf_lines.specs.Prefixes.{AppendsFront}
 

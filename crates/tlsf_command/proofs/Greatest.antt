@@ -1,12 +1,7 @@
 -- The most bytes for so many blocks.
-use Rattle.std.proofs.Common.{◌≡◌, ◌≤◌, ℕ, zero, suc, Option, Some, None, inl, inr, refl, arith, le_trans}
-use Rattle.std.specs.Prelude.{IfSome}
-use Rattle.std.specs.Option.{unwrap_or}
-use Rattle.tlsf_class.specs.Classes.{IsLevel, most_words}
-use Rattle.tlsf_heap.specs.Blocks.{want}
+use Rattle.tlsf_command.proofs.Common.{◌≡◌, ◌≤◌, ℕ, zero, suc, Option, Some, None, inl, inr, refl, arith, le_trans, IfSome, unwrap_or, IsLevel, most_words, want, IsGreatest, IsReached}
 use Rattle.tlsf_pool.specs.laws.MixedSizes.{mixed_words}
 use Rattle.tlsf_pool.proofs.lemmas.sizes.Bounds.{words_rise}
-use Rattle.tlsf_command.specs.SizeLines.{IsGreatest, IsReached}
 
 least : (k : ℕ) → 0 ≤ k
 least k = omega arith

@@ -1,4 +1,5 @@
 -- Lemmas, a line for each file.
+mod Common
 pub mod ClassLines  -- the line on a size, piece by piece
 pub mod Building  -- the program's commands, one argument after the other
 pub mod NamedRuns  -- words that are written out, and name a run of a trace

@@ -1,16 +1,10 @@
 -- Words that are written out, and name a run of a trace.
-use Rattle.std.proofs.Common.{◌≡◌, ◌≢◌, ◌==◌, ◌++◌, ℕ, false, List, [], ◌∷◌, None, codes, refl, arith}
+use Rattle.tlsf_command.proofs.Common.{◌≡◌, ◌≢◌, ◌==◌, ◌++◌, ℕ, false, List, [], ◌∷◌, None, codes, refl, arith, bytes_eq, Arguments, faults_of, run_asked, tlsf_app, words_of, IsPlainWord, Names, rivals_given, TraceRun, Replay, Held, HeldKinds, Least, Race, RaceQueues, Map, MapHtml, MapWorst, Plot, Check}
 use Rattle.std.proofs.lemmas.Bool.Decides.{nat_tests}
-use Rattle.std.specs.Str.{bytes_eq}
 use Rattle.clap.specs.Lexer.{long_of, short_of}
 use Rattle.clap.specs.Words.{Text, subcommand_of}
 use Rattle.clap.proofs.OnLiterals.{clap_on_literals}
-use Rattle.tlsf_command.specs.Arguments.{Arguments}
-use Rattle.tlsf_command.specs.CommandLine.{faults_of, run_asked, tlsf_app, words_of, IsPlainWord, Names}
-use Rattle.tlsf_command.specs.Rivals.{rivals_given}
 use Rattle.tlsf_picture.specs.declared.form.Form.TheVariants.{Svg, Text as Characters}
-use Rattle.tlsf_command.specs.declared.trace_run.TraceRun.{TraceRun}
-use Rattle.tlsf_command.specs.declared.trace_run.TraceRun.TheVariants.{Replay, Held, HeldKinds, Least, Race, RaceQueues, Map, MapHtml, MapWorst, Plot, Check}
 
 -- the name is none of those of the commands that read no trace
 abbrev pub IsNoOther : Text → Type 0

@@ -1,12 +1,8 @@
 -- What is noted of a fault.
-use Rattle.std.proofs.Common.{◌≡◌, ◌∙◌, ℕ, Bool, List, [], Option, Result, Ok, Err, refl, subst}
-use Rattle.std.specs.Prelude.{IfErr, IfSome, OnOk}
+use Rattle.tlsf_command.proofs.Common.{◌≡◌, ◌∙◌, ℕ, Bool, List, [], Option, Result, Ok, Err, refl, subst, IfErr, IfSome, OnOk, tip_on, ChecksNote, IsNote, TraceRun, Replay, Held, HeldKinds, Least, Race, RaceQueues, Map, MapHtml, MapWorst, Plot, Check}
 use Rattle.tlsf_check.specs.Checks.{Notes}
 use Rattle.tlsf_lines.specs.declared.trace_fault.TraceFault.{TraceFault}
 use Rattle.tlsf_trace.specs.declared.summary.Summary.{Summary}
-use Rattle.tlsf_command.specs.Runs.{tip_on, ChecksNote, IsNote}
-use Rattle.tlsf_command.specs.declared.trace_run.TraceRun.{TraceRun}
-use Rattle.tlsf_command.specs.declared.trace_run.TraceRun.TheVariants.{Replay, Held, HeldKinds, Least, Race, RaceQueues, Map, MapHtml, MapWorst, Plot, Check}
 
 -- what a check adds to no note is the note
 pub check_notes : (answer : Result Summary TraceFault) (text : Option (List ℕ)) (old new : List ℕ) → old ≡ []

@@ -1,7 +1,5 @@
 -- A name between quotes, up to each quote of its own.
-use Rattle.std.proofs.Common.{◌≡◌, ◌∙◌, ◌==◌, ◌+◌, ◌<◌, ◌++◌, ℕ, Bool, false, true, List, [], ◌∷◌, codes, flat_map, length, suc, refl, sym, ap, arith, append_assoc, length-drop}
-use Rattle.std.specs.List.{after_first, before_first, position_or_len}
-use Rattle.tlsf_command.specs.Quotes.{within_quotes}
+use Rattle.tlsf_command.proofs.Common.{◌≡◌, ◌∙◌, ◌==◌, ◌+◌, ◌<◌, ◌++◌, ℕ, Bool, false, true, List, [], ◌∷◌, codes, flat_map, length, suc, refl, sym, ap, arith, append_assoc, length-drop, after_first, before_first, position_or_len, within_quotes}
 
 abbrev pub is_quote : ℕ → Bool
 is_quote = λ byte. byte == 39

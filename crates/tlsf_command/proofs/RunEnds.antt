@@ -1,12 +1,9 @@
 -- How a run ends, by what its words name.
-use Rattle.std.proofs.Common.{◌≡◌, ◌⊎◌, ◌∷◌, ◌++◌, ◌∙◌, ℕ, Bool, List, [], inl, inr, ap, subst, sym}
+use Rattle.tlsf_command.proofs.Common.{◌≡◌, ◌⊎◌, ◌∷◌, ◌++◌, ◌∙◌, ℕ, Bool, List, [], inl, inr, ap, subst, sym, Asks, faults_of, words_of, IsPlainWord, Streams, Does, Ends, LacksMemory, RunsOrLacksMemory, ShowsAnswer, TipsOrLacksMemory, TraceRun}
 use Rattle.clap.specs.Words.{IsAmong, Text}
 use Rattle.clap.specs.declared.error.kind.ErrorKind.{ErrorKind}
 use Rattle.clap.specs.declared.error.kind.ErrorKind.TheVariants.{OutOfMemory}
-use Rattle.tlsf_command.specs.CommandLine.{Asks, faults_of, words_of, IsPlainWord}
-use Rattle.tlsf_command.specs.Runs.{Streams, Does, Ends, LacksMemory, RunsOrLacksMemory, ShowsAnswer, TipsOrLacksMemory}
 use Rattle.tlsf_command.specs.declared.command_line.Choice.{Choice}
-use Rattle.tlsf_command.specs.declared.trace_run.TraceRun.{TraceRun}
 use Rattle.tlsf_command.proofs.ChosenCommands.{only_run, only_tip}
 use Rattle.tlsf_command.proofs.NamedRuns.{file_named, run_named, NameRun}
 

@@ -1,27 +1,19 @@
 -- Tables of kinds, and the numbers of texts.
-use Rattle.std.proofs.Common.{◌≡◌, ◌≤◌, ◌<◌, ◌+◌, ◌*◌, ◌^◌, ℕ, suc, Bool, true, false, cond, List, [], ◌∷◌, Option, Some, None, Result, Ok, Err, codes, fold, map, max, nat_le, nat_lt, ◌∙◌, length, refl, sym, ap, arith}
+use Rattle.tlsf_command.proofs.Common.{◌≡◌, ◌≤◌, ◌<◌, ◌+◌, ◌*◌, ◌^◌, ℕ, suc, Bool, true, false, cond, List, [], ◌∷◌, Option, Some, None, Result, Ok, Err, codes, fold, map, max, nat_le, nat_lt, ◌∙◌, length, refl, sym, ap, arith, IfSome, AllByRecursion, list_all, leb-true, lt-ltb, asked_bytes, AreReached, HasNoSplit, IsCheapest, IsFiner, IsServable, IsSplitOf, Arguments, number_of, most_words, want, Kind}
 use Rattle.std.proofs.Math.Nat.{mul-le-mul}
-use Rattle.std.specs.Prelude.{IfSome}
-use Rattle.std.specs.List.{AllByRecursion, list_all}
-use Rattle.std.proofs.lemmas.Bool.{leb-true, lt-ltb}
 use Rattle.std.proofs.lemmas.Bool.Decides.{nat_tests}
 use Rattle.std.specs.Result.{result_unwrap_or}
 use Rattle.std.specs.Str.Parse.{ParsesUnsigned, digits_value, without_leading_plus}
 use Rattle.clap.specs.ValueTests.{accepts}
 use Rattle.clap.specs.declared.builder.value_parser.ValueParser.TheVariants.{Unsigned}
 use Rattle.clap.proofs.ValueTestLemmas.{accepts-Accepts, Accepts-accepts}
-use Rattle.tlsf_command.specs.SizeLines.{asked_bytes, AreReached, HasNoSplit, IsCheapest, IsFiner, IsServable, IsSplitOf}
 use Rattle.clap.specs.Words.{Text}
-use Rattle.tlsf_command.specs.Arguments.{Arguments, number_of}
 use Rattle.tlsf_command.specs.SizeQuestions.{kinds_in, AreOfTexts, HasKinds, HasTable, IsQuestion}
 use Rattle.tlsf_command.specs.declared.size_question.SizeQuestion.{SizeQuestion}
 use Rattle.tlsf_command.specs.declared.size_question.SizeQuestion.TheVariants.{Table, FineTable, Split, FineSplit, Unpaired}
-use Rattle.tlsf_class.specs.Classes.{most_words}
 use Rattle.tlsf_class.proofs.TwoLevels.{most_words_any}
-use Rattle.tlsf_heap.specs.Blocks.{want}
 use Rattle.tlsf_heap.proofs.lemmas.blocks.Find.{and_left, and_right}
 use Rattle.tlsf_pool.specs.laws.Kinds.{are_fours, count_in, kinds_words, resized_words, table_words, used, words_with, HasClass}
-use Rattle.tlsf_pool.specs.declared.kind.Kind.{Kind}
 use Rattle.tlsf_pool.specs.declared.sizes.split.Split.{Split as Way}
 
 -- ---- numbers

@@ -1,22 +1,13 @@
 -- The heaps of a split, one after the other.
-use Rattle.std.proofs.Common.{◌≡◌, ◌≤◌, ◌<◌, ◌+◌, ◌-◌, ◌*◌, ◌^◌, ℕ, zero, suc, Bool, cond, fold, map, max, List, [], ◌∷◌, ◌++◌, length, get_or, take, drop, min, refl, sym, ap, ap₂, ◌∙◌, subst, inl, inr, arith, append_assoc, append-nil, length-take, take-append-drop, drop_of_length-le, take_all}
-use Rattle.std.specs.List.{AllByRecursion}
-use Rattle.std.proofs.lemmas.Bool.{cases_lt}
+use Rattle.tlsf_command.proofs.Common.{◌≡◌, ◌≤◌, ◌<◌, ◌+◌, ◌-◌, ◌*◌, ◌^◌, ℕ, zero, suc, Bool, cond, fold, map, max, List, [], ◌∷◌, ◌++◌, length, get_or, take, drop, min, refl, sym, ap, ap₂, ◌∙◌, subst, inl, inr, arith, append_assoc, append-nil, length-take, take-append-drop, drop_of_length-le, take_all, AllByRecursion, cases_lt, Kind, cut_by, joined, parts_of, words_together, IsCut, IsPart, Split, asked_bytes, heap_line, heap_lines, IsCheapest, IsServable, IsLevel, most_words, want, lt-ltb}
 use Rattle.tlsf_class.proofs.TwoLevels.{most_words_any}
-use Rattle.tlsf_pool.specs.declared.kind.Kind.{Kind}
-use Rattle.tlsf_pool.specs.sizes.Splits.{cut_by, joined, parts_of, words_together, IsCut, IsPart}
-use Rattle.tlsf_pool.specs.declared.sizes.split.Split.{Split}
-use Rattle.tlsf_command.specs.SizeLines.{asked_bytes, heap_line, heap_lines, IsCheapest, IsServable}
 use Rattle.tlsf_command.proofs.SizeTables.{max_least, moved, products, same}
-use Rattle.tlsf_class.specs.Classes.{IsLevel, most_words}
-use Rattle.tlsf_heap.specs.Blocks.{want}
 use Rattle.tlsf_pool.specs.laws.Kinds.{count_in, used, HasClass}
 use Rattle.tlsf_pool.specs.laws.OneLarge as pool
 use Rattle.tlsf_pool.specs.laws.Room.{sure}
 use Rattle.tlsf_pool.proofs.lemmas.laws.FreeRoom.{sure_enough}
 use Rattle.tlsf_pool.proofs.lemmas.laws.Tables.{all_used}
 use Rattle.tlsf_pool.proofs.lemmas.sizes.Sizes.{longest_class}
-use Rattle.std.proofs.lemmas.Bool.{lt-ltb}
 
 -- ---- what they ask for
 

@@ -1,18 +1,8 @@
 -- How many blocks of a heap are live after each call on it.
-use Rattle.std.proofs.Common.{◌≡◌, ℕ, ◌+◌, ◌-◌, ◌≤◌, ◌&&◌, true, cond, eqb, nat_le, nat_lt, List, [], ◌∷◌, ◌++◌, Option, Some, None, Ok, length, refl, sym, ap, ◌∙◌, arith, length-append, add-zero}
-use Rattle.std.proofs.lemmas.List.Elements.{filter-append}
-use Rattle.std.proofs.lemmas.Bool.{false≢true}
-use Rattle.tlsf_heap.specs.Blocks.{Block, Live, Free, HeapState, size_of, bytes_of, want}
-use Rattle.tlsf_heap.specs.GoodFit.{Site, is_fit}
-use Rattle.tlsf_heap.specs.Reports.{live_among}
-use Rattle.tlsf_heap.specs.Calls.{Outcome, carved, allocated, has_serial, is_worn, named, past_free, before_free, first_free, last_free, refused, released, room_of, fitted, cut, refitted, resized, resized_at, ticked, overwritten, with_bytes, written}
-use Rattle.tlsf_heap.specs.declared.name.Name.{Name}
-use Rattle.tlsf_heap.specs.declared.refusal.Refusal.{Refusal}
-use Rattle.tlsf_heap.specs.declared.refusal.Refusal.TheVariants.{Foreign, Stale, NoRoom, Worn}
+use Rattle.tlsf_heap.proofs.Common.{◌≡◌, ℕ, ◌+◌, ◌-◌, ◌≤◌, ◌&&◌, true, cond, eqb, nat_le, nat_lt, List, [], ◌∷◌, ◌++◌, Option, Some, None, Ok, length, refl, sym, ap, ◌∙◌, arith, length-append, add-zero, filter-append, false≢true, Block, Live, Free, HeapState, size_of, bytes_of, want, Site, is_fit, live_among, Outcome, carved, allocated, has_serial, is_worn, named, past_free, before_free, first_free, last_free, refused, released, room_of, fitted, cut, refitted, resized, resized_at, ticked, overwritten, with_bytes, written, Name, Refusal, Foreign, Stale, NoRoom, Worn, AreCounts, GrantCount, live_count, accepted}
 use Rattle.tlsf_heap.proofs.lemmas.blocks.Find.{and_left}
 use Rattle.tlsf_heap.proofs.lemmas.blocks.Coalesce.{by_last}
 use Rattle.tlsf_heap.proofs.lemmas.calls.Outcomes.{IsSiteOf, by_test, by_allocated, by_released, by_written, named_site}
-use Rattle.tlsf_heap.specs.ledger.Grants.{AreCounts, GrantCount, live_count, accepted}
 
 abbrev live_in : List Block → ℕ
 live_in bs = length (live_among bs)

@@ -1,9 +1,5 @@
 -- The words of the parts of a table, as they are kept.
-use Rattle.std.proofs.Common.{◌≡◌, ℕ, zero, suc, ◌+◌, ◌-◌, ◌^◌, ◌<◌, ◌≤◌, List, [], ◌∷◌, get_or, length, replicate, set, refl, sym, ap, ap₂, ◌∙◌, subst, arith, get_or-set_same}
-use Rattle.tlsf_held.specs.Divisions.{cost_in, lens_of, part_words, rows_by, words_by, AreCosts, Divide, IsBest, IsCheapest}
-use Rattle.tlsf_held.specs.declared.row.Row.{Row}
-use Rattle.tlsf_held.specs.declared.steps.Step.{Step}
-use Rattle.tlsf_pool.specs.declared.sizes.split.Split.{Split}
+use Rattle.tlsf_held.proofs.Common.{◌≡◌, ℕ, zero, suc, ◌+◌, ◌-◌, ◌^◌, ◌<◌, ◌≤◌, List, [], ◌∷◌, get_or, length, replicate, set, refl, sym, ap, ap₂, ◌∙◌, subst, arith, get_or-set_same, cost_in, lens_of, part_words, rows_by, words_by, AreCosts, Divide, IsBest, IsCheapest, Row, Step, Split}
 use Rattle.tlsf_held.proofs.Divided.{how_many}
 
 pub zeros : (n k : ℕ) → get_or (replicate n 0) k 0 ≤ 2 ^ 32

@@ -1,10 +1,5 @@
 -- The division of the fewest words, found from its end.
-use Rattle.std.proofs.Common.{◌≡◌, ◌≢◌, ℕ, zero, suc, ◌+◌, ◌-◌, ◌^◌, ◌<◌, ◌≤◌, ◌⊎◌, Bool, true, false, cond, List, [], ◌∷◌, length, get_or, set, inl, inr, refl, sym, ap, ◌∙◌, subst, arith, add-one, get_or-set_other, get_or-set_same, length-set}
-use Rattle.std.specs.Prelude.{nat_lt}
-use Rattle.std.proofs.lemmas.Bool.{cases_eq, cases_lt}
-use Rattle.std.proofs.lemmas.Bool.Decides.{nat_tests}
-use Rattle.tlsf_held.specs.Divisions.{cheaper, lens_in, lens_of, no_split, nothing, with_first, words_by, AreBest, Divide, HasAtMost, HasFirst, IsBest, IsBestAmong}
-use Rattle.tlsf_pool.specs.declared.sizes.split.Split.{Split}
+use Rattle.tlsf_held.proofs.Common.{◌≡◌, ◌≢◌, ℕ, zero, suc, ◌+◌, ◌-◌, ◌^◌, ◌<◌, ◌≤◌, ◌⊎◌, Bool, true, false, cond, List, [], ◌∷◌, length, get_or, set, inl, inr, refl, sym, ap, ◌∙◌, subst, arith, add-one, get_or-set_other, get_or-set_same, length-set, nat_lt, cases_eq, cases_lt, nat_tests, cheaper, lens_in, lens_of, no_split, nothing, with_first, words_by, AreBest, Divide, HasAtMost, HasFirst, IsBest, IsBestAmong, Split}
 
 -- ---- a first part more
 

@@ -1,25 +1,10 @@
 -- The words for mixed sizes are enough.
-use Rattle.std.proofs.Common.{◌≡◌, ◌==◌, ℕ, ◌≤◌, ◌<◌, Bool, true, false, true≢false, cond, List, [], ◌∷◌, length, map, Option, Some, Result, Ok, Err, inl, inr, sym, subst, arith}
-use Rattle.std.specs.List.{AllByRecursion}
-use Rattle.std.proofs.lemmas.Bool.{cases_eq}
-use Rattle.std.proofs.lemmas.Bool.Decides.{nat_tests}
-use Rattle.std.proofs.lemmas.List.FromFn.{get_or-map-range_with_len, length-map-range_with_len}
-use Rattle.tlsf_class.specs.Classes.{most_words}
-use Rattle.tlsf_heap.specs.Blocks.{HeapState, want}
-use Rattle.tlsf_heap.specs.Calls.{Call, Allocate, Release, Write, Resize, Read, Got, answered, opened, read_of, run}
-use Rattle.tlsf_heap.specs.declared.refusal.Refusal.{Refusal}
+use Rattle.tlsf_held.proofs.Common.{◌≡◌, ◌==◌, ℕ, ◌≤◌, ◌<◌, Bool, true, false, true≢false, cond, List, [], ◌∷◌, length, map, Option, Some, Result, Ok, Err, inl, inr, sym, subst, arith, AllByRecursion, cases_eq, nat_tests, get_or-map-range_with_len, length-map-range_with_len, most_words, HeapState, want, Call, Got, answered, opened, read_of, run, Refusal, mixed_region, mixed_words, AreModest, HasRoomFor, Event, answers_on, calls_on, handed_on, World, heap_in, replies, no_heap, events_of, level_in, yard_of, held_region, HeldWordsSuffice}
+use Rattle.tlsf_heap.specs.Calls.{Allocate, Release, Write, Resize, Read}
 use Rattle.tlsf_pool.specs.laws.Held.{held_after}
-use Rattle.tlsf_pool.specs.laws.MixedSizes.{mixed_region, mixed_words, AreModest, HasRoomFor}
 use Rattle.tlsf_pool.proofs.lemmas.laws.ModestCalls.{region_is}
-use Rattle.tlsf_calls.specs.declared.event.Event.{Event}
-use Rattle.tlsf_crew.specs.histories.History.{answers_on, calls_on, handed_on}
-use Rattle.tlsf_crew.specs.model.World.{World, heap_in, replies, no_heap}
 use Rattle.tlsf_crew.proofs.lemmas.histories.AllEntries.{replies_tell}
 use Rattle.tlsf_yard_laws.proofs.Told.{never_refuses}
-use Rattle.tlsf_lines.specs.Events.{events_of}
-use Rattle.tlsf_trace.specs.Output.{level_in, yard_of}
-use Rattle.tlsf_held.specs.HeldLines.{held_region}
-use Rattle.tlsf_held.specs.Measures.{HeldWordsSuffice}
 use Rattle.tlsf_held.proofs.Measured.{is_level}
 
 -- a region that has the words is one for which the law speaks

@@ -1,8 +1,5 @@
 -- The first list that is short enough, where those before it were not.
-use Rattle.std.proofs.Common.{◌≡◌, ℕ, suc, ◌+◌, ◌-◌, ◌<◌, ◌≤◌, false, true, nat_le, List, length, refl, ap, ◌∙◌, arith}
-use Rattle.std.proofs.lemmas.Bool.{le-leb, lt-leb}
-use Rattle.tlsf_held.specs.RowTallies.{first_few}
-use Rattle.tlsf_held.specs.declared.row.Row.{Row}
+use Rattle.tlsf_held.proofs.Common.{◌≡◌, ℕ, suc, ◌+◌, ◌-◌, ◌<◌, ◌≤◌, false, true, nat_le, List, length, refl, ap, ◌∙◌, arith, le-leb, lt-leb, first_few, Row}
 
 pub first_step : (lists : ℕ → List Row) (at : ℕ) → at < 4 → 64 < length (lists at) → first_few lists at (4 - at) ≡ first_few lists (at + 1) (4 - (at + 1))
 first_step lists at inside many =

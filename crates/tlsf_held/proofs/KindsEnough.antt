@@ -1,29 +1,12 @@
 -- The words of a table of kinds are enough.
-use Rattle.std.proofs.Common.{◌≡◌, ◌≢◌, ◌==◌, ℕ, zero, suc, ◌+◌, ◌<◌, ◌≤◌, Bool, true, false, cond, nat_le, nat_lt, List, [], ◌∷◌, length, map, max, Ok, inl, inr, refl, sym, subst, arith, le_trans}
-use Rattle.std.specs.Prelude.{filter}
-use Rattle.std.specs.List.{range_with_len, AllByRecursion}
+use Rattle.tlsf_held.proofs.Common.{◌≡◌, ◌≢◌, ◌==◌, ℕ, zero, suc, ◌+◌, ◌<◌, ◌≤◌, Bool, true, false, cond, nat_le, nat_lt, List, [], ◌∷◌, length, map, max, Ok, inl, inr, refl, sym, subst, arith, le_trans, filter, range_with_len, AllByRecursion, cases_eq, cases_lt, le-leb, lt-leb, le-ltb, lt-ltb, ltb-true, nat_tests, get_or-map-range_with_len, length-map-range_with_len, class_of, last_class, most_words, IsLevel, HeapState, want, Call, Answer, Got, opened, run, Ledger, ledger_after, lengths, AreOfKinds, ArePlanned, IsPlanned, HasRoomFor, answers_on, calls_on, handed_on, heap_in, no_heap, events_of, level_in, run_of, yard_of, kinds_of, AreRows, IsOfRow, KeepWithin, HeldKindsSuffice, class_number, row_count, row_in, row_of, used, IsWithin, Row}
 use Rattle.std.proofs.Math.Pow.{shr_mono}
-use Rattle.std.proofs.lemmas.Bool.{cases_eq, cases_lt, le-leb, lt-leb, le-ltb, lt-ltb, ltb-true}
-use Rattle.std.proofs.lemmas.Bool.Decides.{nat_tests}
-use Rattle.std.proofs.lemmas.List.FromFn.{get_or-map-range_with_len, length-map-range_with_len}
-use Rattle.tlsf_class.specs.Classes.{class_of, last_class, most_words, IsLevel}
 use Rattle.tlsf_class.proofs.ClassOfSize.{class_of-bounds, class_of-rises}
-use Rattle.tlsf_heap.specs.Blocks.{HeapState, want}
-use Rattle.tlsf_heap.specs.Calls.{Call, Allocate, Answer, Got, opened, run}
-use Rattle.tlsf_pool.specs.laws.Kinds.{Ledger, ledger_after, lengths, AreOfKinds, ArePlanned, IsPlanned}
-use Rattle.tlsf_pool.specs.laws.MixedSizes.{HasRoomFor}
+use Rattle.tlsf_heap.specs.Calls.{Allocate}
 use Rattle.tlsf_pool.specs.declared.kind.Kind.{Kind}
 use Rattle.tlsf_pool.proofs.lemmas.laws.PlannedCalls.{kinds_suffice}
-use Rattle.tlsf_crew.specs.histories.History.{answers_on, calls_on, handed_on}
-use Rattle.tlsf_crew.specs.model.World.{heap_in, no_heap}
 use Rattle.tlsf_crew.proofs.lemmas.histories.AllEntries.{replies_tell}
 use Rattle.tlsf_yard_laws.proofs.Told.{noted_same}
-use Rattle.tlsf_lines.specs.Events.{events_of}
-use Rattle.tlsf_trace.specs.Output.{level_in, run_of, yard_of}
-use Rattle.tlsf_held.specs.KindTables.{kinds_of, AreRows, IsOfRow, KeepWithin}
-use Rattle.tlsf_held.specs.Measures.{HeldKindsSuffice}
-use Rattle.tlsf_held.specs.Rows.{class_number, row_count, row_in, row_of, used, IsWithin}
-use Rattle.tlsf_held.specs.declared.row.Row.{Row}
 use Rattle.tlsf_held.proofs.LeastRows.{both_within, cons_within, one_within, same_within, within_trans}
 use Rattle.tlsf_held.proofs.Measured.{is_level}
 

@@ -1,29 +1,12 @@
 -- What is tallied is the least bounds of the calls that the entries tell.
-use Rattle.std.proofs.Common.{◌≡◌, ◌==◌, ℕ, ◌+◌, ◌<◌, ◌≤◌, true, false, true≢false, List, [], ◌∷◌, length, All, fold, max, Option, Some, None, Result, Ok, Err, option_map, inl, inr, refl, sym, ap, ◌∙◌, subst, arith}
-use Rattle.std.specs.Prelude.{is_ok, is_some}
-use Rattle.std.specs.List.{cons_option}
-use Rattle.std.proofs.lemmas.Bool.{cases_eq}
-use Rattle.std.proofs.lemmas.Bool.Decides.{nat_tests}
-use Rattle.std.proofs.lemmas.List.Elements.{All-head, All-tail}
+use Rattle.tlsf_held.proofs.Common.{◌≡◌, ◌==◌, ℕ, ◌+◌, ◌<◌, ◌≤◌, true, false, true≢false, List, [], ◌∷◌, length, All, fold, max, Option, Some, None, Result, Ok, Err, option_map, inl, inr, refl, sym, ap, ◌∙◌, subst, arith, is_ok, is_some, cons_option, cases_eq, nat_tests, All-head, All-tail, Name, Refusal, AreModest, IsModest, Allocate, Release, Write, Read, Resize, Take, Drain, Heap, Entry, Event, Reply, Made, Freed, Resized, Took, Refused, answer_told, answers_on, call_on_own, calls_on, entries_of, meant, name_on_heap, World, replies, AreLeastBounds, no_calls, noted, tally_of, with_release}
 use Rattle.tlsf_heap.specs.Calls as heap
-use Rattle.tlsf_heap.specs.declared.name.Name.{Name}
-use Rattle.tlsf_heap.specs.declared.refusal.Refusal.{Refusal}
 use Rattle.tlsf_pool.specs.laws.Held.{held_after}
-use Rattle.tlsf_pool.specs.laws.MixedSizes.{AreModest, IsModest}
 use Rattle.tlsf_calls.specs.Bytes.{bytes_of}
 use Rattle.tlsf_calls.specs.declared.call.Call.{Call}
-use Rattle.tlsf_calls.specs.declared.call.Call.TheVariants.{Allocate, Release, Write, Read, Resize, Take, Drain}
-use Rattle.tlsf_calls.specs.declared.crew_refusal.CrewRefusal.TheVariants.{Heap}
-use Rattle.tlsf_calls.specs.declared.entry.Entry.{Entry}
-use Rattle.tlsf_calls.specs.declared.event.Event.{Event}
-use Rattle.tlsf_calls.specs.declared.reply.Reply.{Reply}
-use Rattle.tlsf_calls.specs.declared.reply.Reply.TheVariants.{Made, Freed, Resized, Took, Refused}
-use Rattle.tlsf_crew.specs.histories.History.{answer_told, answers_on, call_on_own, calls_on, entries_of, meant, name_on_heap}
-use Rattle.tlsf_crew.specs.model.World.{World, replies}
 use Rattle.tlsf_crew.proofs.lemmas.histories.AllEntries.{replies_tell}
 use Rattle.tlsf_crew.proofs.lemmas.histories.JoinedEntries.{HasItsAnswer}
-use Rattle.tlsf_held.specs.Measures.{AreLeastBounds}
-use Rattle.tlsf_held.specs.Tallies.{no_calls, noted, tally_of, with_length, with_release}
+use Rattle.tlsf_held.specs.Tallies.{with_length}
 use Rattle.tlsf_held.specs.declared.tally.Tally.{Tally}
 
 -- ---- by the calls on the heap and its answers

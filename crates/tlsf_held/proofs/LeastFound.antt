@@ -1,25 +1,13 @@
 -- The least words of heaps, found by replays.
-use Rattle.std.proofs.Common.{◌≡◌, ℕ, ◌<◌, ◌≤◌, List, Option, Some, None, IfSome, ap, ap₂, ◌∙◌, subst, sym, arith, lit≤}
+use Rattle.tlsf_held.proofs.Common.{◌≡◌, ℕ, ◌<◌, ◌≤◌, List, Option, Some, None, IfSome, ap, ap₂, ◌∙◌, subst, sym, arith, lit≤, length-map-range_with_len, Name, Entry, held_region, with_least, with_words, AreLeastWords, IsScriptBut, account_of, IsMostWantedOf, tally_of, events_of, Trace, most_words_of, Header, level_in, run_of, yard_of}
 use Rattle.std.specs.Option.{unwrap_or}
-use Rattle.std.proofs.lemmas.List.FromFn.{length-map-range_with_len}
 use Rattle.tlsf_heap.specs.Calls as heap
-use Rattle.tlsf_heap.specs.declared.name.Name.{Name}
-use Rattle.tlsf_calls.specs.declared.entry.Entry.{Entry}
-use Rattle.tlsf_held.specs.HeldLines.{held_region}
-use Rattle.tlsf_held.specs.Least.{with_least, with_words, AreLeastWords, IsLeastRow, IsScriptBut}
-use Rattle.tlsf_held.specs.Loans.{account_of}
-use Rattle.tlsf_held.specs.Measures.{IsMostWantedOf}
+use Rattle.tlsf_held.specs.Least.{IsLeastRow}
 use Rattle.tlsf_held.specs.Runs.{IsRunOf}
-use Rattle.tlsf_held.specs.Tallies.{tally_of}
-use Rattle.tlsf_lines.specs.Events.{events_of}
 use Rattle.tlsf_lines.specs.ScriptSoFar.{IsScript}
-use Rattle.tlsf_lines.specs.Trace.{Trace}
-use Rattle.tlsf_lines.specs.Versions.{most_words_of}
-use Rattle.tlsf_lines.specs.declared.header.Header.{Header}
 use Rattle.tlsf_lines.specs.declared.script.Script.{Script}
 use Rattle.tlsf_lines.specs.declared.version.Version.{Version}
 use Rattle.tlsf_lines.specs.declared.version.Version.TheVariants.{One, Two}
-use Rattle.tlsf_trace.specs.Output.{level_in, run_of, yard_of}
 use Rattle.tlsf_held.proofs.LeastBounds.{tally_bounds}
 use Rattle.tlsf_held.proofs.MostWanted.{account_bounds}
 

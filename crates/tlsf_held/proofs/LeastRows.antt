@@ -1,18 +1,8 @@
 -- The rows that calls come to are the least that they keep within.
-use Rattle.std.proofs.Common.{◌≡◌, ◌≢◌, ◌⊎◌, ◌==◌, ℕ, ◌<◌, Bool, true, false, cond, List, [], ◌∷◌, length, get_or, max, replicate, Ok, Err, inl, inr, refl, sym, ap, ap₂, ◌∙◌, subst, arith}
-use Rattle.std.specs.Prelude.{filter, not}
-use Rattle.std.proofs.lemmas.Bool.{cases_eq, cases_lt, eqb-true}
-use Rattle.std.proofs.lemmas.Bool.Decides.{nat_tests}
+use Rattle.tlsf_held.proofs.Common.{◌≡◌, ◌≢◌, ◌⊎◌, ◌==◌, ℕ, ◌<◌, Bool, true, false, cond, List, [], ◌∷◌, length, get_or, max, replicate, Ok, Err, inl, inr, refl, sym, ap, ap₂, ◌∙◌, subst, arith, filter, not, cases_eq, cases_lt, eqb-true, nat_tests, get_or-set_other, length-set, Call, Answer, Allocated, Released, Written, Got, Name, is_same, Ledger, ledger_after, lengths, with_length, lengths_with, IsLeastRow, IsOfRow, KeepWithin, with_lengths, joined, no_row, row_in, with_one, IsWithin, Row}
 use Rattle.std.proofs.lemmas.Grind.{get_or-set_at}
-use Rattle.std.proofs.lemmas.List.{get_or-set_other, get_or-replicate, length-replicate, length-set}
-use Rattle.tlsf_heap.specs.Calls.{Call, Allocate, Release, Write, Resize, Read, Answer, Allocated, Released, Written, Resized, Got}
-use Rattle.tlsf_heap.specs.declared.name.Name.{Name}
-use Rattle.tlsf_pool.specs.laws.Contents.{is_same}
-use Rattle.tlsf_pool.specs.laws.Kinds.{Ledger, ledger_after, lengths, with_length}
-use Rattle.tlsf_held.specs.KindTables.{lengths_with, IsLeastRow, IsOfRow, KeepWithin}
-use Rattle.tlsf_held.specs.RowTallies.{with_lengths}
-use Rattle.tlsf_held.specs.Rows.{joined, no_row, row_in, with_one, IsWithin}
-use Rattle.tlsf_held.specs.declared.row.Row.{Row}
+use Rattle.std.proofs.lemmas.List.{get_or-replicate, length-replicate}
+use Rattle.tlsf_heap.specs.Calls.{Allocate, Release, Write, Resize, Read, Resized}
 use Rattle.tlsf_held.proofs.MostWanted.{read_ledger, written_ledger}
 use Rattle.tlsf_held.proofs.RowEntries.{rows_after, rows_after_all, rows_behind}
 

@@ -1,10 +1,5 @@
 -- Loans as a ledger.
-use Rattle.std.proofs.Common.{◌≡◌, ℕ, Bool, true, false, cond, List, [], ◌∷◌, fold, map, refl, ap, ◌∙◌}
-use Rattle.std.specs.Prelude.{filter, not}
-use Rattle.tlsf_heap.specs.declared.name.Name.{Name}
-use Rattle.tlsf_pool.specs.laws.Contents.{is_same}
-use Rattle.tlsf_pool.specs.laws.Kinds.{Ledger, with_length}
-use Rattle.tlsf_held.specs.Lent.{ledger_of, others, with_len, with_loan}
+use Rattle.tlsf_held.proofs.Common.{◌≡◌, ℕ, Bool, true, false, cond, List, [], ◌∷◌, fold, map, refl, ap, ◌∙◌, filter, not, Name, is_same, Ledger, with_length, ledger_of, others, with_len, with_loan}
 use Rattle.tlsf_held.specs.declared.loans.Loan.{Loan}
 
 -- ---- a name taken back

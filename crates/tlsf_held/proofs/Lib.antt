@@ -1,4 +1,5 @@
 -- The lemmas of this crate, a line a file.
+--   Common: the names that most proofs cite, passed on from one place
 --   Lent: loans as a ledger
 --   LeastBounds: what is tallied is the least bounds of the calls that the entries tell
 --   MostWanted: what is accounted is the most words that they want at once
@@ -16,6 +17,7 @@
 --   Enough: the words for mixed sizes are enough
 --   KindsEnough: and so are those of a table of kinds
 --   LeastFound: the least words, found by replays
+mod Common
 pub mod Lent
 pub mod LeastBounds
 pub mod MostWanted

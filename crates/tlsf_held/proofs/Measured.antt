@@ -1,33 +1,16 @@
 -- What is told of a run's entries is what the trace asks for.
-use Rattle.std.proofs.Common.{◌≡◌, ℕ, ◌+◌, ◌<◌, ◌++◌, List, [], Option, length, vec_len, ap, ap₂, sym, ◌∙◌, subst, arith}
-use Rattle.std.proofs.lemmas.List.FromFn.{length-map-range_with_len}
+use Rattle.tlsf_held.proofs.Common.{◌≡◌, ℕ, ◌+◌, ◌<◌, ◌++◌, List, [], Option, length, vec_len, ap, ap₂, sym, ◌∙◌, subst, arith, length-map-range_with_len, Name, Entry, Replayed, events_of, Trace, level_of, Header, IsLevel, level_in, run_at, run_of, yard_of, held_text, kinds_text, account_of, Measures, TellsKinds, TellsMerged, AddsMerged, table_of, tally_of}
 use Rattle.tlsf_heap.specs.Calls as heap
-use Rattle.tlsf_heap.specs.declared.name.Name.{Name}
-use Rattle.tlsf_calls.specs.declared.entry.Entry.{Entry}
-use Rattle.tlsf_crew.specs.model.World.{Replayed}
-use Rattle.tlsf_lines.specs.Events.{events_of}
 use Rattle.tlsf_lines.specs.ScriptSoFar.{IsScript}
 use Rattle.tlsf_lines.specs.declared.script.Script.{Script}
 use Rattle.tlsf_lines.proofs.ScriptSteps.{ends_count}
-use Rattle.tlsf_lines.specs.Trace.{Trace}
-use Rattle.tlsf_lines.specs.Versions.{level_of}
-use Rattle.tlsf_lines.specs.declared.header.Header.{Header}
 use Rattle.tlsf_lines.specs.declared.version.Version.{Version}
 use Rattle.tlsf_lines.specs.declared.version.Version.TheVariants.{One, Two}
-use Rattle.tlsf_class.specs.Classes.{IsLevel}
 use Rattle.tlsf_class.proofs.TwoLevels.{level_4, level_5}
-use Rattle.tlsf_trace.specs.Output.{level_in, run_at, run_of, yard_of}
 use Rattle.tlsf_trace.specs.Players.{PlaysOn}
 use Rattle.tlsf_trace.specs.declared.player.Player.{Player}
 use Rattle.tlsf_trace.proofs.Onward.{ends, nothing_told}
-use Rattle.tlsf_held.specs.HeldLines.{held_text}
-use Rattle.tlsf_held.specs.KindLines.{kinds_text}
-use Rattle.tlsf_held.specs.Loans.{account_of}
-use Rattle.tlsf_held.specs.Measures.{Measures, TellsKinds, TellsMerged}
-use Rattle.tlsf_held.specs.MergedLines.{AddsMerged}
-use Rattle.tlsf_held.specs.RowTallies.{table_of}
 use Rattle.tlsf_held.specs.Runs.{IsRunOf}
-use Rattle.tlsf_held.specs.Tallies.{tally_of}
 use Rattle.tlsf_held.proofs.LeastBounds.{tally_bounds}
 use Rattle.tlsf_held.proofs.MergesTold.{merged_is}
 use Rattle.tlsf_held.proofs.MostWanted.{account_bounds}

@@ -1,16 +1,5 @@
 -- The lines on merged kinds, one worker after the other.
-use Rattle.std.proofs.Common.{◌≡◌, ◌==◌, ℕ, zero, suc, ◌+◌, ◌<◌, Bool, true, false, cond, List, [], ◌++◌, Option, inl, inr, refl, sym, ap, ap₂, ◌∙◌, subst, arith, add-one, append_assoc, append-nil}
-use Rattle.std.proofs.lemmas.Bool.{cases_eq}
-use Rattle.std.proofs.lemmas.Bool.Decides.{nat_tests}
-use Rattle.tlsf_heap.specs.declared.name.Name.{Name}
-use Rattle.tlsf_calls.specs.declared.entry.Entry.{Entry}
-use Rattle.tlsf_held.specs.Divisions.{IsCheapest}
-use Rattle.tlsf_held.specs.KindLines.{kinds_line, kinds_text}
-use Rattle.tlsf_held.specs.MergedLines.{AddsMerged}
-use Rattle.tlsf_held.specs.Merges.{heaps_of}
-use Rattle.tlsf_held.specs.RowTallies.{table_of}
-use Rattle.tlsf_held.specs.Steps.{steps_told}
-use Rattle.tlsf_held.specs.declared.row.Row.{Row}
+use Rattle.tlsf_held.proofs.Common.{◌≡◌, ◌==◌, ℕ, zero, suc, ◌+◌, ◌<◌, Bool, true, false, cond, List, [], ◌++◌, Option, inl, inr, refl, sym, ap, ap₂, ◌∙◌, subst, arith, add-one, append_assoc, append-nil, cases_eq, nat_tests, Name, Entry, IsCheapest, kinds_line, kinds_text, AddsMerged, heaps_of, table_of, steps_told, Row}
 
 text_same : (sli : ℕ) (f g : ℕ → List Row) (workers : ℕ) → ((j : ℕ) → j < workers → f j ≡ g j) → kinds_text sli f workers ≡ kinds_text sli g workers
 text_same sli f g zero same = refl

@@ -1,21 +1,6 @@
 -- A table that is merged by the steps of its worker is the one that the calls on the heap keep to, merged for the fewest words.
-use Rattle.std.proofs.Common.{◌≡◌, ℕ, suc, ◌+◌, ◌<◌, List, [], ◌∷◌, length, get_or, Option, refl, sym, ap, ap₂, ◌∙◌, subst, arith}
-use Rattle.tlsf_class.specs.Classes.{IsLevel}
-use Rattle.tlsf_heap.specs.Calls.{Call, Answer}
-use Rattle.tlsf_heap.specs.declared.name.Name.{Name}
-use Rattle.tlsf_calls.specs.declared.entry.Entry.{Entry}
-use Rattle.tlsf_calls.specs.declared.event.Event.{Event}
-use Rattle.tlsf_crew.specs.histories.History.{answers_on, calls_on, entries_of}
-use Rattle.tlsf_crew.specs.model.World.{World, replies}
+use Rattle.tlsf_held.proofs.Common.{◌≡◌, ℕ, suc, ◌+◌, ◌<◌, List, [], ◌∷◌, length, get_or, Option, refl, sym, ap, ap₂, ◌∙◌, subst, arith, IsLevel, Call, Answer, Name, Entry, Event, answers_on, calls_on, entries_of, World, replies, part_row, part_words, rows_by, words_by, Divide, IsCheapest, IsLeastRow, heaps_of, rows_words, span_of, starts_at, AreMerged, IsLeastMerge, IsMergedTable, IsSpanRow, no_rows, table_of, no_row, row_between, steps_told, Row, Step}
 use Rattle.tlsf_crew.proofs.lemmas.histories.AllEntries.{replies_tell}
-use Rattle.tlsf_held.specs.Divisions.{part_row, part_words, rows_by, words_by, Divide, IsCheapest}
-use Rattle.tlsf_held.specs.KindTables.{IsLeastRow}
-use Rattle.tlsf_held.specs.Merges.{heaps_of, rows_words, span_of, starts_at, AreMerged, IsLeastMerge, IsMergedTable, IsSpanRow}
-use Rattle.tlsf_held.specs.RowTallies.{no_rows, table_of}
-use Rattle.tlsf_held.specs.Rows.{no_row}
-use Rattle.tlsf_held.specs.Steps.{row_between, steps_told}
-use Rattle.tlsf_held.specs.declared.row.Row.{Row}
-use Rattle.tlsf_held.specs.declared.steps.Step.{Step}
 use Rattle.tlsf_held.proofs.LeastRows.{least_row, same_within}
 use Rattle.tlsf_held.proofs.RowEntries.{entries_rowed}
 use Rattle.tlsf_held.proofs.StepsTold.{span_told}

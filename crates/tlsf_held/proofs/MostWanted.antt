@@ -1,29 +1,10 @@
 -- What the entries of a run account for is the most words that the calls want at once.
-use Rattle.std.proofs.Common.{◌≡◌, ◌==◌, ℕ, ◌+◌, ◌<◌, ◌≤◌, Bool, true, false, true≢false, cond, List, [], ◌∷◌, length, All, fold, max, Option, Some, None, Result, Ok, Err, inl, inr, refl, sym, ap, ◌∙◌, subst, arith}
-use Rattle.std.specs.Prelude.{filter, is_ok, is_some, not, option_map}
-use Rattle.std.specs.List.{cons_option}
-use Rattle.std.proofs.lemmas.Bool.{cases_eq}
-use Rattle.std.proofs.lemmas.Bool.Decides.{nat_tests}
-use Rattle.std.proofs.lemmas.List.Elements.{All-head, All-tail}
-use Rattle.tlsf_heap.specs.Blocks.{want}
+use Rattle.tlsf_held.proofs.Common.{◌≡◌, ◌==◌, ℕ, ◌+◌, ◌<◌, ◌≤◌, Bool, true, false, true≢false, cond, List, [], ◌∷◌, length, All, fold, max, Option, Some, None, Result, Ok, Err, inl, inr, refl, sym, ap, ◌∙◌, subst, arith, filter, is_ok, is_some, not, option_map, cons_option, cases_eq, nat_tests, All-head, All-tail, want, Name, Refusal, is_same, Ledger, ledger_after, Allocate, Release, Write, Read, Resize, Take, Drain, Heap, Entry, Event, Reply, Made, Freed, Resized, Took, Refused, answer_told, answers_on, call_on_own, calls_on, entries_of, meant, name_on_heap, World, name_of, replies, accounted, account_of, no_loans, wanted_in, wanted_with, with_resized, with_taken, Account, IsMostWanted, WantAtMost}
 use Rattle.tlsf_heap.specs.Calls as heap
-use Rattle.tlsf_heap.specs.declared.name.Name.{Name}
-use Rattle.tlsf_heap.specs.declared.refusal.Refusal.{Refusal}
-use Rattle.tlsf_pool.specs.laws.Contents.{is_same}
-use Rattle.tlsf_pool.specs.laws.Kinds.{Ledger, ledger_after}
 use Rattle.tlsf_calls.specs.Bytes.{bytes_of}
 use Rattle.tlsf_calls.specs.declared.call.Call.{Call}
-use Rattle.tlsf_calls.specs.declared.call.Call.TheVariants.{Allocate, Release, Write, Read, Resize, Take, Drain}
-use Rattle.tlsf_calls.specs.declared.crew_refusal.CrewRefusal.TheVariants.{Heap}
-use Rattle.tlsf_calls.specs.declared.entry.Entry.{Entry}
-use Rattle.tlsf_calls.specs.declared.event.Event.{Event}
-use Rattle.tlsf_calls.specs.declared.reply.Reply.{Reply}
-use Rattle.tlsf_calls.specs.declared.reply.Reply.TheVariants.{Made, Freed, Resized, Took, Refused}
-use Rattle.tlsf_crew.specs.histories.History.{answer_told, answers_on, call_on_own, calls_on, entries_of, meant, name_on_heap}
-use Rattle.tlsf_crew.specs.model.World.{World, name_of, replies}
 use Rattle.tlsf_crew.proofs.lemmas.histories.AllEntries.{replies_tell}
 use Rattle.tlsf_crew.proofs.lemmas.histories.JoinedEntries.{HasItsAnswer}
-use Rattle.tlsf_held.specs.Loans.{accounted, account_of, no_loans, wanted_in, wanted_with, with_resized, with_taken, Account, IsMostWanted, WantAtMost}
 use Rattle.tlsf_held.proofs.LeastBounds.{one_told}
 
 -- ---- by the calls on the heap and its answers

@@ -1,26 +1,8 @@
 -- What the entries of a run tell of rows, by the calls on the heap and its answers.
-use Rattle.std.proofs.Common.{◌≡◌, ◌==◌, ℕ, ◌<◌, true, false, true≢false, List, [], ◌∷◌, All, fold, Option, Some, None, Ok, Err, inl, inr, refl, sym, ap, ◌∙◌, arith}
-use Rattle.std.specs.Prelude.{is_some, option_map}
-use Rattle.std.specs.List.{cons_option}
-use Rattle.std.proofs.lemmas.Bool.{cases_eq}
-use Rattle.std.proofs.lemmas.Bool.Decides.{nat_tests}
-use Rattle.std.proofs.lemmas.List.Elements.{All-head, All-tail}
+use Rattle.tlsf_held.proofs.Common.{◌≡◌, ◌==◌, ℕ, ◌<◌, true, false, true≢false, List, [], ◌∷◌, All, fold, Option, Some, None, Ok, Err, inl, inr, refl, sym, ap, ◌∙◌, arith, is_some, option_map, cons_option, cases_eq, nat_tests, All-head, All-tail, Name, Refusal, Ledger, ledger_after, lengths, Allocate, Release, Write, Read, Resize, Take, Drain, Heap, Entry, Reply, Made, Resized, Refused, answer_told, answers_on, call_on_own, calls_on, entries_of, name_of, accounted, Account, row_accounted, rows_asked, rows_left, with_lengths, RowAccount, Row}
 use Rattle.tlsf_heap.specs.Calls as heap
-use Rattle.tlsf_heap.specs.declared.name.Name.{Name}
-use Rattle.tlsf_heap.specs.declared.refusal.Refusal.{Refusal}
-use Rattle.tlsf_pool.specs.laws.Kinds.{Ledger, ledger_after, lengths}
 use Rattle.tlsf_calls.specs.declared.call.Call.{Call}
-use Rattle.tlsf_calls.specs.declared.call.Call.TheVariants.{Allocate, Release, Write, Read, Resize, Take, Drain}
-use Rattle.tlsf_calls.specs.declared.crew_refusal.CrewRefusal.TheVariants.{Heap}
-use Rattle.tlsf_calls.specs.declared.entry.Entry.{Entry}
-use Rattle.tlsf_calls.specs.declared.reply.Reply.{Reply}
-use Rattle.tlsf_calls.specs.declared.reply.Reply.TheVariants.{Made, Resized, Refused}
-use Rattle.tlsf_crew.specs.histories.History.{answer_told, answers_on, call_on_own, calls_on, entries_of}
-use Rattle.tlsf_crew.specs.model.World.{name_of}
 use Rattle.tlsf_crew.proofs.lemmas.histories.JoinedEntries.{HasItsAnswer}
-use Rattle.tlsf_held.specs.Loans.{accounted, Account}
-use Rattle.tlsf_held.specs.RowTallies.{row_accounted, rows_asked, rows_left, with_lengths, RowAccount}
-use Rattle.tlsf_held.specs.declared.row.Row.{Row}
 use Rattle.tlsf_held.proofs.LeastBounds.{one_told}
 use Rattle.tlsf_held.proofs.MostWanted.{account_with, entry_accounted, ledger_is}
 

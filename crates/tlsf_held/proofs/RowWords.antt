@@ -1,14 +1,9 @@
 -- No region has room for very many blocks.
-use Rattle.std.proofs.Common.{◌≡◌, ℕ, zero, suc, ◌*◌, ◌^◌, ◌<◌, ◌≤◌, inl, inr, refl, arith}
-use Rattle.std.proofs.lemmas.Bool.{cases_lt, le-leb, lt-leb}
-use Rattle.tlsf_class.specs.Classes.{IsLevel, most_words}
+use Rattle.tlsf_held.proofs.Common.{◌≡◌, ℕ, zero, suc, ◌*◌, ◌^◌, ◌<◌, ◌≤◌, inl, inr, refl, arith, cases_lt, le-leb, lt-leb, IsLevel, most_words, want, no_region, row_words, Row}
 use Rattle.tlsf_class.proofs.TwoLevels.{by_level}
-use Rattle.tlsf_heap.specs.Blocks.{want}
 use Rattle.tlsf_pool.specs.laws.FixedSize.{fixed_words}
 use Rattle.tlsf_pool.specs.laws.Room.{sure}
 use Rattle.tlsf_pool.proofs.lemmas.laws.FreeRoom.{sure_enough}
-use Rattle.tlsf_held.specs.Merges.{no_region, row_words}
-use Rattle.tlsf_held.specs.declared.row.Row.{Row}
 
 many : (most s : ℕ) → 2 ^ 32 ≤ most → 0 < s → 2 ^ 32 ≤ most * s
 many most zero big some = absurd (omega (arith, some))

@@ -1,24 +1,7 @@
 -- What steps tell of a span of lengths is the row that the calls come to.
-use Rattle.std.proofs.Common.{◌≡◌, ◌≢◌, ◌==◌, ℕ, ◌+◌, ◌-◌, ◌<◌, ◌≤◌, Bool, true, false, cond, List, [], ◌∷◌, ◌++◌, fold, length, get_or, max, Option, Some, None, inl, inr, refl, sym, ap, ap₂, ◌∙◌, subst, arith}
-use Rattle.std.specs.Prelude.{filter, not}
-use Rattle.std.proofs.lemmas.Bool.{cases_eq}
-use Rattle.tlsf_heap.specs.declared.name.Name.{Name}
-use Rattle.tlsf_pool.specs.laws.Contents.{is_same}
-use Rattle.tlsf_pool.specs.laws.Kinds.{Ledger, lengths, with_length}
+use Rattle.tlsf_held.proofs.Common.{◌≡◌, ◌≢◌, ◌==◌, ℕ, ◌+◌, ◌-◌, ◌<◌, ◌≤◌, Bool, true, false, cond, List, [], ◌∷◌, ◌++◌, fold, length, get_or, max, Option, Some, None, inl, inr, refl, sym, ap, ap₂, ◌∙◌, subst, arith, filter, not, cases_eq, Name, is_same, Ledger, lengths, with_length, Allocate, Release, Resize, Take, Entry, Reply, Made, Resized, name_of, accounted, freed_by, with_resized, with_taken, Account, is_between, span_of, no_rows, row_accounted, with_lengths, RowAccount, no_row, row_in, with_one, IsWithin, entry_steps, freed_steps, moved_steps, no_span, no_steps, resized_steps, span_after, span_step, stepped, stepped_all, taken_steps, with_freed, with_held, StepAccount, Row, Step}
 use Rattle.tlsf_calls.specs.declared.call.Call.{Call}
-use Rattle.tlsf_calls.specs.declared.call.Call.TheVariants.{Allocate, Release, Resize, Take}
-use Rattle.tlsf_calls.specs.declared.entry.Entry.{Entry}
-use Rattle.tlsf_calls.specs.declared.reply.Reply.{Reply}
-use Rattle.tlsf_calls.specs.declared.reply.Reply.TheVariants.{Made, Resized}
-use Rattle.tlsf_crew.specs.model.World.{name_of}
-use Rattle.tlsf_held.specs.Loans.{accounted, freed_by, with_resized, with_taken, Account}
-use Rattle.tlsf_held.specs.Merges.{is_between, span_of}
-use Rattle.tlsf_held.specs.RowTallies.{no_rows, row_accounted, with_lengths, RowAccount}
-use Rattle.tlsf_held.specs.Rows.{no_row, row_in, with_one, IsWithin}
-use Rattle.tlsf_held.specs.Steps.{entry_steps, freed_steps, moved_steps, no_span, no_steps, resized_steps, span_after, span_step, stepped, stepped_all, taken_steps, with_freed, with_held, StepAccount}
-use Rattle.tlsf_held.specs.declared.row.Row.{Row}
 use Rattle.tlsf_held.specs.declared.spans.Span.{Span}
-use Rattle.tlsf_held.specs.declared.steps.Step.{Step}
 use Rattle.tlsf_held.specs.declared.steps.Step.TheVariants.{Held, Freed, Reached}
 use Rattle.tlsf_held.proofs.LeastRows.{freed_within, noted_here, noted_other, noted_whole, resized_within}
 

@@ -1,25 +1,9 @@
 -- What the entries of a run tell of rows is the table that the calls on the heap keep to.
-use Rattle.std.proofs.Common.{◌≡◌, ◌⊎◌, ℕ, zero, suc, ◌+◌, ◌<◌, ◌≤◌, Bool, true, false, cond, nat_le, List, [], length, get_or, map, replicate, Option, inl, inr, refl, sym, ap, ap₂, ◌∙◌, subst, arith}
-use Rattle.std.specs.Prelude.{nat_lt}
-use Rattle.std.specs.List.{range_with_len}
-use Rattle.std.proofs.lemmas.Bool.{leb-true, cases_eq}
-use Rattle.std.proofs.lemmas.Bool.Decides.{nat_tests}
+use Rattle.tlsf_held.proofs.Common.{◌≡◌, ◌⊎◌, ℕ, zero, suc, ◌+◌, ◌<◌, ◌≤◌, Bool, true, false, cond, nat_le, List, [], length, get_or, map, replicate, Option, inl, inr, refl, sym, ap, ap₂, ◌∙◌, subst, arith, nat_lt, range_with_len, leb-true, cases_eq, nat_tests, get_or-map-range_with_len, length-map-range_with_len, IsLevel, Call, Answer, Name, Entry, Event, answers_on, calls_on, World, replies, AreRows, IsLeastRow, IsOfRow, IsTable, first_few, no_rows, rows_told, table_of, used_rows, no_row, row_count, row_of, used, IsWithin, Row}
 use Rattle.std.proofs.lemmas.List.{ext_get_or, length-replicate}
 use Rattle.std.proofs.lemmas.List.Sums.{length-filter, count_by-le-length}
-use Rattle.std.proofs.lemmas.List.FromFn.{get_or-map-range_with_len, length-map-range_with_len}
-use Rattle.tlsf_class.specs.Classes.{IsLevel}
 use Rattle.tlsf_class.proofs.TwoLevels.{by_level}
-use Rattle.tlsf_heap.specs.Calls.{Call, Answer}
-use Rattle.tlsf_heap.specs.declared.name.Name.{Name}
-use Rattle.tlsf_calls.specs.declared.entry.Entry.{Entry}
-use Rattle.tlsf_calls.specs.declared.event.Event.{Event}
-use Rattle.tlsf_crew.specs.histories.History.{answers_on, calls_on}
-use Rattle.tlsf_crew.specs.model.World.{World, replies}
 use Rattle.tlsf_crew.proofs.lemmas.histories.AllEntries.{replies_tell}
-use Rattle.tlsf_held.specs.KindTables.{AreRows, IsLeastRow, IsOfRow, IsTable}
-use Rattle.tlsf_held.specs.RowTallies.{first_few, no_rows, rows_told, table_of, used_rows}
-use Rattle.tlsf_held.specs.Rows.{no_row, row_count, row_of, used, IsWithin}
-use Rattle.tlsf_held.specs.declared.row.Row.{Row}
 use Rattle.tlsf_held.proofs.LeastRows.{all_whole, least_row, own_row, same_within}
 use Rattle.tlsf_held.proofs.RowEntries.{entries_rowed, rows_after_all}
 

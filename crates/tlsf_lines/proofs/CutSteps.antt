@@ -1,11 +1,7 @@
 -- Fields that are cut off a line, one after another.
-use Rattle.std.proofs.Common.{◌≡◌, ℕ, zero, suc, ◌+◌, ◌-◌, ◌<◌, ◌==◌, count_by, false, eqb, List, [], ◌∷◌, length, get_or, take, drop, Option, Some, None, option_map, refl, arith, add-one}
-use Rattle.std.proofs.lemmas.Grind.{common_steps}
-use Rattle.std.proofs.lemmas.List.Splits.{length-slice_split}
+use Rattle.tlsf_lines.proofs.Common.{◌≡◌, ℕ, zero, suc, ◌+◌, ◌-◌, ◌<◌, ◌==◌, count_by, false, eqb, List, [], ◌∷◌, length, get_or, take, drop, Option, Some, None, option_map, refl, arith, add-one, common_steps, length-slice_split, fields_of, first_by, only_by, with_rest, value_in, values_in, Kind, Value}
 use Rattle.std.proofs.lemmas.Option.{some_pair_parts}
-use Rattle.tlsf_lines.specs.CutFields.{fields_of, first_by, only_by, with_rest}
-use Rattle.tlsf_lines.specs.Fields.{◌>>=◌, value_in, values_in}
-use Rattle.tlsf_lines.specs.Values.{Kind, Value}
+use Rattle.tlsf_lines.specs.Fields.{◌>>=◌}
 
 -- ---- the first field of a line
 

@@ -1,14 +1,5 @@
 -- The digits that a line of fields begins with, and what its first field says by them.
-use Rattle.std.proofs.Common.{◌≡◌, ℕ, zero, suc, ◌+◌, ◌-◌, ◌<◌, ◌≤◌, eqb, true, false, Bool, ◌&&◌, List, [], ◌∷◌, length, get_or, take, drop, Some, None, Option, refl, arith, ◌∙◌, sym, ap}
-use Rattle.std.specs.Char.{is_ascii_digit}
-use Rattle.std.specs.List.{onto_first}
-use Rattle.std.specs.Str.{all_ascii_digits}
-use Rattle.std.proofs.lemmas.Bool.{and_parts}
-use Rattle.std.proofs.lemmas.Grind.{common_steps}
-use Rattle.std.proofs.lemmas.List.Splits.{slice_split-cons_no, slice_split-cons_yes}
-use Rattle.tlsf_lines.specs.CutFields.{fields_of, first_by}
-use Rattle.tlsf_lines.specs.Fields.{digits_in, number_within}
-use Rattle.tlsf_lines.specs.Values.{Value}
+use Rattle.tlsf_lines.proofs.Common.{◌≡◌, ℕ, zero, suc, ◌+◌, ◌-◌, ◌<◌, ◌≤◌, eqb, true, false, Bool, ◌&&◌, List, [], ◌∷◌, length, get_or, take, drop, Some, None, Option, refl, arith, ◌∙◌, sym, ap, is_ascii_digit, onto_first, all_ascii_digits, and_parts, common_steps, slice_split-cons_no, slice_split-cons_yes, fields_of, first_by, digits_in, number_within, Value}
 use Rattle.tlsf_lines.proofs.CutSteps.{NoSpaces, cut_at, not_cut}
 use Rattle.tlsf_lines.proofs.LastField.{digit_is}
 

@@ -1,7 +1,4 @@
-use Rattle.std.proofs.Common.{◌≡◌, ℕ, List, [], ◌∷◌, length, Err, refl, arith}
-use Rattle.tlsf_lines.specs.declared.line_fault.LineFault.TheVariants.{BadHeader}
-use Rattle.tlsf_lines.specs.Trace.{trace_of}
-use Rattle.tlsf_lines.specs.Header.{header_in}
+use Rattle.tlsf_lines.proofs.Common.{◌≡◌, ℕ, List, [], ◌∷◌, length, Err, refl, arith, BadHeader, trace_of, header_in}
 
 pub empty_text : (text : List ℕ) → length text ≡ 0 → trace_of text ≡ Err (BadHeader, 1)
 unfolding trace_of header_in

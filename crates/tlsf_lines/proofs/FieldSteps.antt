@@ -1,8 +1,5 @@
 -- What the first fields of a line say, whatever the kinds of those behind them.
-use Rattle.std.proofs.Common.{◌≡◌, ℕ, List, [], ◌∷◌, ◌++◌, Option, Some, None, option_map, refl}
-use Rattle.tlsf_lines.specs.CutFields.{SayFirst, SayNothing, first_by, only_by}
-use Rattle.tlsf_lines.specs.Fields.{value_in, values_in}
-use Rattle.tlsf_lines.specs.Values.{Kind, Value}
+use Rattle.tlsf_lines.proofs.Common.{◌≡◌, ℕ, List, [], ◌∷◌, ◌++◌, Option, Some, None, option_map, refl, SayFirst, SayNothing, first_by, only_by, value_in, values_in, Kind, Value}
 use Rattle.tlsf_lines.proofs.CutSteps.{last, no_more, one_more}
 
 -- ---- one field

@@ -1,13 +1,5 @@
 -- A fault at a line is the first one.
-use Rattle.std.proofs.Common.{◌≡◌, ℕ, suc, ◌+◌, List, [], ◌∷◌, drop, Result, Ok, Err, Option, Some, None, refl, sym, ap, arith, inl, inr}
-use Rattle.tlsf_lines.specs.declared.line_fault.LineFault.{LineFault}
-use Rattle.tlsf_lines.specs.declared.header.Header.{Header}
-use Rattle.tlsf_lines.specs.declared.line.Line.{Line}
-use Rattle.tlsf_lines.specs.declared.line_fault.LineFault.TheVariants.{BadHeader}
-use Rattle.tlsf_lines.specs.Fields.{field}
-use Rattle.tlsf_lines.specs.Header.{header_in}
-use Rattle.tlsf_lines.specs.Pieces.{pieces_of}
-use Rattle.tlsf_lines.specs.Trace.{◌>>=◌, at_line, judged_line, lines_in, Trace, trace_of}
+use Rattle.tlsf_lines.proofs.Common.{◌≡◌, ℕ, suc, ◌+◌, List, [], ◌∷◌, drop, Result, Ok, Err, Option, Some, None, refl, sym, ap, arith, inl, inr, LineFault, Header, Line, BadHeader, field, header_in, pieces_of, ◌>>=◌, at_line, judged_line, lines_in, Trace, trace_of}
 use Rattle.tlsf_lines.specs.Laws.{FailsFirst, IsFirstFault}
 
 abbrev Found : ℕ → ℕ → ℕ → List Line → List (List ℕ) → LineFault → Type 0

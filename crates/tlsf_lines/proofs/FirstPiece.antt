@@ -1,8 +1,6 @@
 -- A text begins with its first piece.
-use Rattle.std.proofs.Common.{◌≡◌, ℕ, zero, suc, ◌+◌, ◌<◌, false, eqb, List, [], ◌∷◌, length, get_or, take, drop, refl, arith, add-one}
-use Rattle.std.proofs.lemmas.Bool.{false_from_ne_true}
+use Rattle.tlsf_lines.proofs.Common.{◌≡◌, ℕ, zero, suc, ◌+◌, ◌<◌, false, eqb, List, [], ◌∷◌, length, get_or, take, drop, refl, arith, add-one, false_from_ne_true, pieces_of}
 use Rattle.memchr.specs.Find.{Nowhere, Passes, is_byte}
-use Rattle.tlsf_lines.specs.Pieces.{pieces_of}
 
 -- no line feed among the first n
 abbrev pub NoFeeds : List ℕ → ℕ → Type 0

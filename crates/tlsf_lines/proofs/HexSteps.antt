@@ -1,6 +1,5 @@
 -- A loop over pairs of hexadecimal digits that reads them all before it judges them.
-use Rattle.std.proofs.Common.{◌≡◌, ℕ, ◌+◌, ◌*◌, ◌%◌, ◌<◌, ◌≤◌, max, ◌⊎◌, inl, inr, Option, Some, None, List, length, take, drop, slice_index, slice_set, Ok, Err, if◌then◌else◌, nat_lt, refl, ap, ◌∙◌, arith}
-use Rattle.std.proofs.lemmas.Bool.{cases_lt}
+use Rattle.tlsf_lines.proofs.Common.{◌≡◌, ℕ, ◌+◌, ◌*◌, ◌%◌, ◌<◌, ◌≤◌, max, ◌⊎◌, inl, inr, Option, Some, None, List, length, take, drop, slice_index, slice_set, Ok, Err, if◌then◌else◌, nat_lt, refl, ap, ◌∙◌, arith, cases_lt}
 use Rattle.std.specs.Result.{result_ok}
 use Rattle.hex.specs.Hex.{decode_of, decode_pairs, digit_or_error, hex_digit_value, pair_value, value_at}
 use Rattle.hex.specs.declared.error.FromHexError.{FromHexError}

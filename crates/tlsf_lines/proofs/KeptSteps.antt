@@ -1,17 +1,12 @@
 -- Events that are kept: one more.
-use Rattle.std.proofs.Common.{◌≡◌, ℕ, ◌+◌, ◌-◌, ◌≤◌, List, [], ◌∷◌, ◌++◌, length, take, drop, map, Option, Some, None, All, refl, ap, sym, subst, ◌∙◌, arith, length-append}
-use Rattle.std.proofs.lemmas.List.{drop-map, get_or_append_left, map-append, take-map, take_all}
-use Rattle.std.proofs.lemmas.List.Elements.{All-head, All-push, All-tail, All-weaker}
+use Rattle.tlsf_lines.proofs.Common.{◌≡◌, ℕ, ◌+◌, ◌-◌, ◌≤◌, List, [], ◌∷◌, ◌++◌, length, take, drop, map, Option, Some, None, All, refl, ap, sym, subst, ◌∙◌, arith, length-append, drop-map, get_or_append_left, map-append, take-map, take_all, All-head, All-push, All-tail, All-weaker, Event, made_by, Grows, IsCallWithin, IsWithin, call_kept, event_kept}
 use Rattle.tlsf_calls.specs.Bytes.{chunk_of}
 use Rattle.tlsf_calls.specs.declared.call.Call.{Call}
 use Rattle.tlsf_calls.specs.declared.call.Call.TheVariants as call
 use Rattle.tlsf_calls.specs.declared.chunk.Chunk.{Chunk}
-use Rattle.tlsf_calls.specs.declared.event.Event.{Event}
 use Rattle.tlsf_lines.specs.declared.kept_event.KeptCall.{KeptCall}
 use Rattle.tlsf_lines.specs.declared.kept_event.KeptCall.TheVariants.{Write}
 use Rattle.tlsf_lines.specs.declared.kept_event.KeptEvent.{KeptEvent}
-use Rattle.tlsf_lines.specs.Events.{made_by}
-use Rattle.tlsf_lines.specs.KeptEvents.{Grows, IsCallWithin, IsWithin, call_kept, event_kept}
 
 -- ---- the bytes of more writes
 

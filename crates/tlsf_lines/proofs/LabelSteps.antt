@@ -1,13 +1,6 @@
 -- What labels remember, one line later.
-use Rattle.std.proofs.Common.{◌≡◌, ℕ, ◌+◌, ◌≤◌, Bool, true, false, cond, eqb, List, [], ◌∷◌, Option, Some, None, IfSome, nat_eq, refl, ap, ◌∙◌, arith}
-use Rattle.std.proofs.lemmas.Bool.{ne_eqb}
-use Rattle.tlsf_lines.specs.ByLabel.{IsSet, kept_of}
-use Rattle.tlsf_lines.specs.CallMemory.{RecallsCall}
-use Rattle.tlsf_lines.specs.Events.{width_in}
+use Rattle.tlsf_lines.proofs.Common.{◌≡◌, ℕ, ◌+◌, ◌≤◌, Bool, true, false, cond, eqb, List, [], ◌∷◌, Option, Some, None, IfSome, nat_eq, refl, ap, ◌∙◌, arith, ne_eqb, IsSet, kept_of, RecallsCall, width_in, Memory, Recalls, Remembers, event_by, when_made, Line, Allocate, Phase}
 use Rattle.tlsf_lines.specs.Labels.{Earlier, Made, Now, at_phase, made_of}
-use Rattle.tlsf_lines.specs.LabelMemory.{Memory, Recalls, Remembers, event_by, when_made}
-use Rattle.tlsf_lines.specs.declared.line.Line.{Line}
-use Rattle.tlsf_lines.specs.declared.line.Line.TheVariants.{Allocate, Phase}
 use Rattle.tlsf_lines.specs.declared.maker.Maker.{Maker}
 
 -- ---- where a phase ends

@@ -1,19 +1,9 @@
 -- The last field of a line. What refuses a space may read all that is left: where another field stands behind, it refuses both.
-use Rattle.std.proofs.Common.{◌≡◌, ℕ, true, false, Bool, ◌==◌, List, [], ◌∷◌, Option, None, option_map, Result, Ok, Err, refl, arith}
-use Rattle.std.specs.Char.{is_ascii_digit}
-use Rattle.std.specs.List.{All, AllByRecursion, join_with_byte}
-use Rattle.std.specs.Str.{all_ascii_digits}
-use Rattle.std.proofs.lemmas.Bool.{and_parts, eqb-true, false_from_ne_true}
-use Rattle.std.proofs.lemmas.Bool.Decides.{nat_tests}
-use Rattle.std.proofs.lemmas.List.Elements.{All-cons, All-nil, recursion_from_All}
-use Rattle.std.proofs.lemmas.List.Splits.{join_with_byte-slice_split, slice_split_none}
+use Rattle.tlsf_lines.proofs.Common.{◌≡◌, ℕ, true, false, Bool, ◌==◌, List, [], ◌∷◌, Option, None, option_map, Result, Ok, Err, refl, arith, is_ascii_digit, All, AllByRecursion, join_with_byte, all_ascii_digits, and_parts, eqb-true, false_from_ne_true, nat_tests, All-cons, All-nil, recursion_from_All, join_with_byte-slice_split, slice_split_none, fields_of, only_by, digits_in, Value, Bytes}
 use Rattle.hex.specs.Hex.{decode_of, is_hex_digit}
 use Rattle.hex.specs.declared.error.FromHexError.{FromHexError}
 use Rattle.hex.proofs.HexLemmas.{decode_of-ok}
-use Rattle.tlsf_lines.specs.CutFields.{fields_of, only_by}
-use Rattle.tlsf_lines.specs.Fields.{digits_in}
 use Rattle.tlsf_lines.specs.Payloads.{chunk_in}
-use Rattle.tlsf_lines.specs.Values.{Value, Bytes}
 
 -- no byte is a space
 abbrev pub HasNoSpace : List ℕ → Type 0

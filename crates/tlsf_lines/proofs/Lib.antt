@@ -1,4 +1,5 @@
 -- Fields and lines.
+mod Common
 pub mod CutSteps  -- fields that are cut off a line, one after another
 pub mod DigitSteps  -- the digits that a line of fields begins with
 pub mod FieldSteps  -- what the fields of a line say, up to one that has not its shape

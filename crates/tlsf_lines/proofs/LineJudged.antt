@@ -1,14 +1,6 @@
 -- A line is judged by its parts: its first field, and what stands behind it.
-use Rattle.std.proofs.Common.{◌≡◌, ℕ, List, ◌∷◌, Option, Some, None, option_map, Result, Ok, Err, refl, ◌∙◌, ap}
-use Rattle.tlsf_lines.specs.CutFields.{line_behind}
-use Rattle.tlsf_lines.specs.Fields.{fields_in, values_in}
+use Rattle.tlsf_lines.proofs.Common.{◌≡◌, ℕ, List, ◌∷◌, Option, Some, None, option_map, Result, Ok, Err, refl, ◌∙◌, ap, line_behind, fields_in, values_in, kinds_of, line_from, word_of, words, ◌>>=◌, judged_line, some_or, unless, Value, Line, LineFault, BadLine, BadNumber, LabelOrder}
 use Rattle.tlsf_lines.specs.Labels.{is_in_order}
-use Rattle.tlsf_lines.specs.Lines.{kinds_of, line_from, word_of, words}
-use Rattle.tlsf_lines.specs.Trace.{◌>>=◌, judged_line, some_or, unless}
-use Rattle.tlsf_lines.specs.Values.{Value}
-use Rattle.tlsf_lines.specs.declared.line.Line.{Line}
-use Rattle.tlsf_lines.specs.declared.line_fault.LineFault.{LineFault}
-use Rattle.tlsf_lines.specs.declared.line_fault.LineFault.TheVariants.{BadLine, BadNumber, LabelOrder}
 use Rattle.tlsf_lines.specs.declared.word.Word.{Word}
 
 -- what comes of what the fields behind a word say

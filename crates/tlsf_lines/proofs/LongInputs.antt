@@ -1,10 +1,7 @@
 -- An input that passes a limit.
-use Rattle.std.proofs.Common.{◌≡◌, ℕ, ◌+◌, ◌++◌, ◌≤◌, List, length, Option, Some, None, Result, Ok, Err, inl, inr, refl, arith, ap, subst, length-append}
-use Rattle.std.specs.Prelude.{IfErr, IfSome}
-use Rattle.std.specs.Io.KnownBytes.{Consumes}
+use Rattle.tlsf_lines.proofs.Common.{◌≡◌, ℕ, ◌+◌, ◌++◌, ◌≤◌, List, length, Option, Some, None, Result, Ok, Err, inl, inr, refl, arith, ap, subst, length-append, IfErr, IfSome, Consumes, fault_of_read, too_long_fault}
 use Rattle.tlsf_lines.specs.Limits.{IsTooLong, Passes}
 use Rattle.tlsf_lines.specs.ReadCounts.{IsOver, ReadsSoFar}
-use Rattle.tlsf_lines.specs.TraceFaults.{fault_of_read, too_long_fault}
 use Rattle.tlsf_lines.specs.declared.limit.Limit.{Limit}
 use Rattle.tlsf_lines.specs.declared.limit.Limit.TheVariants.{Bytes, Lines, Reads}
 use Rattle.tlsf_lines.specs.declared.read_error.ReadError.{ReadError}

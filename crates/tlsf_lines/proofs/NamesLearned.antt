@@ -1,12 +1,6 @@
 -- What labels stand for behind one line more.
-use Rattle.std.proofs.Common.{◌≡◌, ◌∷◌, ◌++◌, [], ℕ, ◌+◌, ◌<◌, Bool, true, false, List, Option, None, Some, length, get_or, take, reverse, refl, ap, ◌∙◌, arith, cond, ◌==◌}
+use Rattle.tlsf_lines.proofs.Common.{◌≡◌, ◌∷◌, ◌++◌, [], ℕ, ◌+◌, ◌<◌, Bool, true, false, List, Option, None, Some, length, get_or, take, reverse, refl, ap, ◌∙◌, arith, cond, ◌==◌, reverse-append, length-reverse, length-take-le, take_more, Name, with_line, known_behind, call_that_makes, name_by, Line, Allocate}
 use mathlib.Core.Path.{fun_ext}
-use Rattle.std.proofs.lemmas.List.{reverse-append, length-reverse, length-take-le, take_more}
-use Rattle.tlsf_heap.specs.declared.name.Name.{Name}
-use Rattle.tlsf_lines.specs.CallMemory.{with_line}
-use Rattle.tlsf_lines.specs.Phases.{known_behind, call_that_makes, name_by}
-use Rattle.tlsf_lines.specs.declared.line.Line.{Line}
-use Rattle.tlsf_lines.specs.declared.line.Line.TheVariants.{Allocate}
 
 -- the name of a label that this line makes, or else by the lines before
 one_case : (b : Bool) (k n : ℕ) (maker : Option ℕ) (made : List (Option Name)) (earlier : Option Name) → k ≡ n

@@ -1,9 +1,5 @@
 -- A trace begins with its first phase.
-use Rattle.std.proofs.Common.{◌≡◌, ℕ, zero, suc, ◌<◌, true, false, List, [], ◌∷◌, length, get_or, take, drop, refl, arith, ap, ◌∙◌}
-use Rattle.tlsf_lines.specs.Lines.{is_call}
-use Rattle.tlsf_lines.specs.Phases.{in_first, phases_of}
-use Rattle.tlsf_lines.specs.declared.line.Line.{Line}
-use Rattle.tlsf_lines.specs.declared.line.Line.TheVariants.{Phase}
+use Rattle.tlsf_lines.proofs.Common.{◌≡◌, ℕ, zero, suc, ◌<◌, true, false, List, [], ◌∷◌, length, get_or, take, drop, refl, arith, ap, ◌∙◌, is_call, in_first, phases_of, Line, Phase}
 
 -- a call stands in the first phase
 call_first : (line : Line) (lines : List Line) → is_call line ≡ true → phases_of (line ∷ lines) ≡ in_first line (phases_of lines)

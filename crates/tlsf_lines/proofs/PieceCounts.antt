@@ -1,9 +1,5 @@
 -- How many pieces a text has: its line feeds, and one more where the last byte is no line feed.
-use Rattle.std.proofs.Common.{◌≡◌, ℕ, suc, ◌+◌, ◌-◌, ◌<◌, ◌≤◌, Bool, true, false, cond, eqb, List, [], ◌∷◌, ◌++◌, length, get_or, count_by, refl, sym, ap, ◌∙◌, arith, length-append, append-nil}
-use Rattle.std.specs.List.{onto_first}
-use Rattle.std.proofs.lemmas.List.{get_or-append_right}
-use Rattle.std.proofs.lemmas.List.Sums.{sum_by-cons, sum_by-append}
-use Rattle.tlsf_lines.specs.Pieces.{pieces_of}
+use Rattle.tlsf_lines.proofs.Common.{◌≡◌, ℕ, suc, ◌+◌, ◌-◌, ◌<◌, ◌≤◌, Bool, true, false, cond, eqb, List, [], ◌∷◌, ◌++◌, length, get_or, count_by, refl, sym, ap, ◌∙◌, arith, length-append, append-nil, onto_first, get_or-append_right, sum_by-cons, sum_by-append, pieces_of}
 use Rattle.tlsf_lines.specs.OpenLines.{open_count}
 
 -- whether the byte is a line feed

@@ -1,8 +1,5 @@
 -- The pieces of a text, joined, are the text.
-use Rattle.std.proofs.Common.{◌≡◌, ℕ, Bool, true, false, cond, eqb, List, [], ◌∷◌, refl, ap, ◌∙◌, arith, inl, inr}
-use Rattle.std.specs.List.{concat, onto_first}
-use Rattle.std.proofs.lemmas.Bool.{eqb-true}
-use Rattle.tlsf_lines.specs.Pieces.{AreCut, ArePieces, IsRest, IsWhole, pieces_of}
+use Rattle.tlsf_lines.proofs.Common.{◌≡◌, ℕ, Bool, true, false, cond, eqb, List, [], ◌∷◌, refl, ap, ◌∙◌, arith, inl, inr, concat, onto_first, eqb-true, AreCut, ArePieces, IsRest, IsWhole, pieces_of}
 
 -- a line feed alone
 feed : IsWhole (10 ∷ [])

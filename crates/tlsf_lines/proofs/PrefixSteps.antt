@@ -1,6 +1,5 @@
 -- A prefix that grows by what the writer took.
-use Rattle.std.proofs.Common.{◌≡◌, ℕ, ◌+◌, List, take, drop, Option, sym, subst, take-add}
-use Rattle.std.specs.Io.KnownBytes.{Appends}
+use Rattle.tlsf_lines.proofs.Common.{◌≡◌, ℕ, ◌+◌, List, take, drop, Option, sym, subst, take-add, Appends}
 use Rattle.std.proofs.KnownBytes.{Appends-trans}
 
 pub prefix_grows : (a b c : Option (List ℕ)) (done count : ℕ) (text rest : List ℕ) → Appends a b (take done text) → rest ≡ drop done text → Appends b c (take count rest) → Appends a c (take (done + count) text)

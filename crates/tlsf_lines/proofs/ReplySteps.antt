@@ -1,6 +1,5 @@
 -- Reply lines of entries, one entry after another.
-use Rattle.std.proofs.Common.{[], ◌∷◌, ◌≡◌, ◌+◌, ◌<◌, ◌++◌, ℕ, Bool, true, false, List, Option, None, length, get_or, drop, refl, sym, ap, ◌∙◌, cond, append_assoc}
-use Rattle.std.proofs.lemmas.List.{at_drop_more}
+use Rattle.tlsf_lines.proofs.Common.{[], ◌∷◌, ◌≡◌, ◌+◌, ◌<◌, ◌++◌, ℕ, Bool, true, false, List, Option, None, length, get_or, drop, refl, sym, ap, ◌∙◌, cond, append_assoc, at_drop_more}
 use Rattle.tlsf_calls.specs.declared.entry.Entry.{Entry}
 use Rattle.tlsf_lines.specs.ReplyLines.{is_taken, labels_left, reply_line, reply_text}
 

@@ -1,16 +1,6 @@
 -- Scripts, one line after another.
-use Rattle.std.proofs.Common.{◌≡◌, ℕ, zero, suc, true, ◌+◌, ◌<◌, ◌≤◌, cond, List, [], ◌∷◌, ◌++◌, length, take, get_or, count_by, refl, sym, subst, ap, ◌∙◌, arith, append_assoc, append-nil, replicate, None}
-use Rattle.std.specs.List.{range_with_len}
-use Rattle.std.proofs.lemmas.List.{length-append, length-map, map-append}
-use Rattle.std.proofs.lemmas.List.FromFn.{length-range_with_len}
-use Rattle.std.proofs.lemmas.List.Sums.{count_by-le-length, sum_by-append}
-use Rattle.tlsf_lines.specs.declared.header.Header.{Header}
-use Rattle.tlsf_lines.specs.declared.line.Line.{Line}
+use Rattle.tlsf_lines.proofs.Common.{◌≡◌, ℕ, zero, suc, true, ◌+◌, ◌<◌, ◌≤◌, cond, List, [], ◌∷◌, ◌++◌, length, take, get_or, count_by, refl, sym, subst, ap, ◌∙◌, arith, append_assoc, append-nil, replicate, None, range_with_len, length-append, length-map, map-append, length-range_with_len, count_by-le-length, sum_by-append, Header, Line, Event, last_drain, last_drains, ends_from, events_in, events_from, labels_in, labels_from, width_in, width_of, Phase, is_call, label_in, request_in}
 use Rattle.tlsf_lines.specs.declared.script.Script.{Script}
-use Rattle.tlsf_calls.specs.declared.event.Event.{Event}
-use Rattle.tlsf_lines.specs.Events.{last_drain, last_drains, ends_from, events_in, events_from, labels_in, labels_from, width_in, width_of}
-use Rattle.tlsf_lines.specs.declared.line.Line.TheVariants.{Phase}
-use Rattle.tlsf_lines.specs.Lines.{is_call, label_in, request_in}
 use Rattle.tlsf_lines.specs.ScriptSoFar.{Adds, Holds, IsScript}
 
 -- calls among some lines, and one more

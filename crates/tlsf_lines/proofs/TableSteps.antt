@@ -1,10 +1,6 @@
 -- A table by label, when a thing is kept at a place that it reaches.
-use Rattle.std.proofs.Common.{◌≡◌, ◌∙◌, ℕ, ◌<◌, List, length, Option, None, sym, inl, inr}
-use Rattle.std.proofs.lemmas.Bool.Decides.{eqb_tells}
-use Rattle.std.proofs.lemmas.Grind.{get_or-set_at}
-use Rattle.std.proofs.lemmas.List.{get_or-set_other}
+use Rattle.tlsf_lines.proofs.Common.{◌≡◌, ◌∙◌, ℕ, ◌<◌, List, length, Option, None, sym, inl, inr, eqb_tells, get_or-set_at, get_or-set_other, IsSet, kept_of}
 use Rattle.std.proofs.Math.ListN.{set}
-use Rattle.tlsf_lines.specs.ByLabel.{IsSet, kept_of}
 
 pub set_is : {T : Type 0} (old reached : List (Option T)) (label : ℕ) (thing : Option T) → ((q : ℕ) → kept_of reached q ≡ kept_of old q) → label < length reached
     → IsSet old (set reached label thing) label thing

@@ -1,10 +1,6 @@
 -- The fault that a text has instead of a trace.
-use Rattle.std.proofs.Common.{◌≡◌, ◌⊎◌, inl, inr, ℕ, ◌≤◌, List, Some, Err, refl, ap, arith}
-use Rattle.tlsf_lines.specs.TraceFaults.{IsLineFault, fault_by, fault_of}
-use Rattle.tlsf_lines.specs.Trace.{trace_of}
-use Rattle.tlsf_lines.specs.TraceFaults.{fault_of_parse, no_memory_fault}
+use Rattle.tlsf_lines.proofs.Common.{◌≡◌, ◌⊎◌, inl, inr, ℕ, ◌≤◌, List, Some, Err, refl, ap, arith, IsLineFault, fault_by, fault_of, trace_of, fault_of_parse, no_memory_fault, LineFault}
 use Rattle.tlsf_lines.specs.Views.{FailsAt}
-use Rattle.tlsf_lines.specs.declared.line_fault.LineFault.{LineFault}
 use Rattle.tlsf_lines.specs.declared.parse_error.ParseError.{ParseError}
 use Rattle.tlsf_lines.specs.declared.parse_error.ParseError.TheVariants as parsing
 use Rattle.tlsf_lines.specs.declared.trace_fault.TraceFault.{TraceFault}

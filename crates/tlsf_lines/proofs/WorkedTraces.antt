@@ -1,19 +1,10 @@
 -- Worked traces, judged by the definitions. What else is well or faulty is in tests/program/faults.toml.
-use Rattle.std.proofs.Common.{◌≡◌, ℕ, List, [], ◌∷◌, ◌++◌, Result, Some, None, Ok, Err, refl}
-use Rattle.std.specs.Prelude.{codes}
+use Rattle.tlsf_lines.proofs.Common.{◌≡◌, ℕ, List, [], ◌∷◌, ◌++◌, Result, Some, None, Ok, Err, refl, codes, Header, events_of, labels_of, Allocate, Drain, Phase, Read, Release, Resize, Write, LineFault, BadLine, LabelOrder, line_from, header_from, header_in, Trace, trace_of, lines_in, judged_line}
 use Rattle.hex.proofs.OnLiterals.{hex_on_literals}
 use Rattle.tlsf_calls.specs.Bytes.{chunk_of}
 use Rattle.tlsf_calls.specs.declared.call.Call.TheVariants as call
 use Rattle.tlsf_calls.specs.declared.target.Target.TheVariants.{Made}
-use Rattle.tlsf_lines.specs.declared.header.Header.{Header}
-use Rattle.tlsf_lines.specs.Events.{events_of, labels_of}
 use Rattle.tlsf_lines.specs.declared.version.Version.TheVariants.{One, Two}
-use Rattle.tlsf_lines.specs.declared.line.Line.TheVariants.{Allocate, Drain, Phase, Read, Release, Resize, Write}
-use Rattle.tlsf_lines.specs.declared.line_fault.LineFault.{LineFault}
-use Rattle.tlsf_lines.specs.declared.line_fault.LineFault.TheVariants.{BadLine, LabelOrder}
-use Rattle.tlsf_lines.specs.Lines.{line_from}
-use Rattle.tlsf_lines.specs.Header.{header_from, header_in}
-use Rattle.tlsf_lines.specs.Trace.{Trace, trace_of, lines_in, judged_line}
 
 -- these lines, each with its line feed
 abbrev pub text : List (List ℕ) → List ℕ

@@ -1,10 +1,7 @@
 -- What is made for one worker after another.
-use Rattle.std.proofs.Common.{◌≡◌, ◌+◌, ◌<◌, ◌++◌, ◌∷◌, [], ℕ, List, length, get_or, map, sym, ap, ◌∙◌, arith}
-use Rattle.std.specs.List.{range_with_len}
+use Rattle.tlsf_lines.proofs.Common.{◌≡◌, ◌+◌, ◌<◌, ◌++◌, ◌∷◌, [], ℕ, List, length, get_or, map, sym, ap, ◌∙◌, arith, range_with_len, get_or-map, map-append, get_or-map-range_with_len, map-range_with_len_more}
 use Rattle.std.specs.declared.vec.Vec.{Vec}
 use Rattle.std.specs.declared.alloc.Global.{Global}
-use Rattle.std.proofs.lemmas.List.{get_or-map, map-append}
-use Rattle.std.proofs.lemmas.List.FromFn.{get_or-map-range_with_len, map-range_with_len_more}
 
 -- a list more is that of the next worker
 pub one_more : {B : Type 0} (f : ℕ → List B) (made : List (Vec B Global)) (more : Vec B Global) (w : ℕ)

@@ -1,7 +1,6 @@
 -- What a text tells, with more behind it.
-use Rattle.std.proofs.Common.{◌≡◌, ℕ, ◌+◌, ◌<◌, ◌≤◌, List, [], ◌∷◌, ◌++◌, length, get_or, take, take_all, refl, sym, ap, ◌∙◌, subst, append_assoc, append-nil}
+use Rattle.tlsf_map.proofs.Common.{◌≡◌, ℕ, ◌+◌, ◌<◌, ◌≤◌, List, [], ◌∷◌, ◌++◌, length, get_or, take, take_all, refl, sym, ap, ◌∙◌, subst, append_assoc, append-nil, Adds, Tells, all_told}
 use Rattle.std.proofs.lemmas.List.{take_more}
-use Rattle.tlsf_map.specs.Told.{Adds, Tells, all_told}
 
 tells_behind : (told : List (List ℕ)) (front text : List ℕ) → Tells told text → Tells told (front ++ text)
 tells_behind [] front text tells = tt

@@ -1,14 +1,6 @@
 -- Charts of heaps, one heap after another.
-use Rattle.std.proofs.Common.{◌≡◌, ℕ, zero, suc, ◌+◌, List, [], ◌∷◌, ◌++◌, length, sym, ap, ◌∙◌, subst, arith}
-use Rattle.std.specs.List.{AllZip, range_with_len}
-use Rattle.std.proofs.lemmas.List.FromFn.{length-map-range_with_len}
-use Rattle.tlsf_lines.specs.Trace.{Trace}
-use Rattle.tlsf_picture.specs.plots.Plots.{heap_points}
-use Rattle.tlsf_picture.specs.plots.Points.{point_at, points_of}
-use Rattle.tlsf_picture.specs.plots.Standings.{IsLook}
+use Rattle.tlsf_picture.proofs.Common.{◌≡◌, ℕ, zero, suc, ◌+◌, List, [], ◌∷◌, ◌++◌, length, sym, ap, ◌∙◌, subst, arith, AllZip, range_with_len, length-map-range_with_len, Trace, heap_points, point_at, points_of, IsLook, Point, level_in}
 use Rattle.tlsf_picture.specs.declared.plots.look.Look.{Look}
-use Rattle.tlsf_picture.specs.declared.plots.point.Point.{Point}
-use Rattle.tlsf_trace.specs.Output.{level_in}
 
 -- one more, of the next number
 zip_more : {B : Type 0} (R : ℕ → B → Type 0) (a n : ℕ) (xs : List B) (x : B) → AllZip R (range_with_len a n) xs → R (a + n) x → AllZip R (range_with_len a (suc n)) (xs ++ x ∷ [])

@@ -1,9 +1,7 @@
 -- The labels of blocks, one event after another.
-use Rattle.std.proofs.Common.{◌≡◌, ℕ, zero, suc, ◌<◌, List, [], ◌∷◌, length, drop, get_or, Option, None, refl, ap, ◌∙◌, arith}
-use Rattle.std.specs.Prelude.{slice_index_or}
+use Rattle.tlsf_picture.proofs.Common.{◌≡◌, ℕ, zero, suc, ◌<◌, List, [], ◌∷◌, length, drop, get_or, Option, None, refl, ap, ◌∙◌, arith, slice_index_or, label_of, with_label}
 use mathlib.Core.Path.{fun_ext}
 use Rattle.tlsf_heap.specs.declared.name.Name.{Name}
-use Rattle.tlsf_picture.specs.Labelled.{label_of, with_label}
 
 none_left : (i : ℕ) → drop {A = Option ℕ} i [] ≡ []
 none_left zero = refl

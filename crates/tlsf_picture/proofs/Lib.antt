@@ -1,4 +1,5 @@
 -- The lemmas of this crate, a line a file.
+--   Common: the names that most proofs cite, passed on from one place
 --   Labels: the labels of blocks, one event after another
 --   Walking: a walk over the blocks of a heap by their places
 --   Maps: maps of heaps, one heap after another
@@ -9,6 +10,7 @@
 --   Telling: what a plot tells of a heap
 --   Peaks: where a heap has most live words, one point after another
 --   Standings: where a heap stands worst, one point and one heap after another
+mod Common
 pub mod Labels
 pub mod Walking
 pub mod Maps

@@ -1,18 +1,12 @@
 -- The points of a heap, one line after another.
-use Rattle.std.proofs.Common.{◌≡◌, ℕ, suc, ◌+◌, ◌-◌, List, [], ◌∷◌, ◌++◌, Option, None, length, map, drop, refl, sym, ap, ◌∙◌, arith}
-use Rattle.std.specs.Prelude.{slice_index, slice_index_or}
+use Rattle.tlsf_picture.proofs.Common.{◌≡◌, ℕ, suc, ◌+◌, ◌-◌, List, [], ◌∷◌, ◌++◌, Option, None, length, map, drop, refl, sym, ap, ◌∙◌, arith, slice_index, slice_index_or, report_of, heap_in, Trace, asked_at, asked_in, has_refusal, point_at, point_of, request_of, told_at, words_asked, words_by, Point}
 use Rattle.std.proofs.Math.ListN.{get_or-map}
 use Rattle.std.proofs.Math.Seq.{drop-append_seam}
 use Rattle.tlsf_calls.specs.declared.entry.Entry.{Entry}
-use Rattle.tlsf_heap.specs.Reports.{report_of}
-use Rattle.tlsf_crew.specs.model.World.{heap_in}
 use Rattle.tlsf_heap.specs.declared.report.Report.{Report}
 use Rattle.tlsf_lines.specs.Lines.{request_in}
-use Rattle.tlsf_lines.specs.Trace.{Trace}
 use Rattle.tlsf_lines.specs.declared.line.Line.{Line}
 use Rattle.tlsf_lines.specs.declared.request.Request.{Request}
-use Rattle.tlsf_picture.specs.plots.Points.{asked_at, asked_in, has_refusal, point_at, point_of, request_of, told_at, words_asked, words_by}
-use Rattle.tlsf_picture.specs.declared.plots.point.Point.{Point}
 use Rattle.tlsf_trace.specs.Moments.{moment_at}
 
 -- what is made of the requests of lines is what is made of the lines

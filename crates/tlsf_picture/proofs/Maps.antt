@@ -1,20 +1,10 @@
 -- Maps of heaps, one heap after another.
-use Rattle.std.proofs.Common.{◌≡◌, ℕ, ◌+◌, ◌<◌, List, [], ◌∷◌, ◌++◌, length, map, get_or, take, Option, refl, sym, subst, arith}
-use Rattle.std.specs.List.{AllZip}
-use Rattle.std.proofs.lemmas.List.{take_more}
-use Rattle.tlsf_crew.specs.worker.Workers.{heap_of}
-use Rattle.tlsf_heap.specs.Blocks.{HeapState}
+use Rattle.tlsf_picture.proofs.Common.{◌≡◌, ℕ, ◌+◌, ◌<◌, List, [], ◌∷◌, ◌++◌, length, map, get_or, take, Option, refl, sym, subst, arith, AllZip, take_more, heap_of, HeapState, AreMaps, IsMap, IsMapBy, label_of, IsScript, level_in, Stands, Trace}
 use Rattle.tlsf_heap.specs.declared.name.Name.{Name}
 use Rattle.tlsf_map.specs.declared.mapped_heap.MappedHeap.{MappedHeap}
-use Rattle.tlsf_picture.specs.Drawn.{AreMaps, IsMap, IsMapBy}
-use Rattle.tlsf_picture.specs.Labelled.{label_of}
 use Rattle.tlsf_lines.specs.Events.{labels_of}
-use Rattle.tlsf_lines.specs.ScriptSoFar.{IsScript}
 use Rattle.tlsf_lines.specs.declared.script.Script.{Script}
 use Rattle.tlsf_trace.specs.Moments.{moment_at, moment_of}
-use Rattle.tlsf_trace.specs.Output.{level_in}
-use Rattle.tlsf_trace.specs.Players.{Stands}
-use Rattle.tlsf_lines.specs.Trace.{Trace}
 use Rattle.tlsf_trace.specs.declared.player.Player.{Player}
 use Rattle.tlsf_trace.proofs.WholeOutput.{heaps_in}
 

@@ -1,10 +1,6 @@
 -- A page, one moment after another.
-use Rattle.std.proofs.Common.{◌≡◌, ℕ, suc, ◌+◌, Bool, false, true, cond, List, [], ◌∷◌, ◌++◌, length, sym, ap, ◌∙◌, subst, arith}
-use Rattle.tlsf_lines.specs.Trace.{Trace}
-use Rattle.tlsf_map.specs.Told.{Adds, all_told, head_told, moment_told, named_items, page_told}
+use Rattle.tlsf_picture.proofs.Common.{◌≡◌, ℕ, suc, ◌+◌, Bool, false, true, cond, List, [], ◌∷◌, ◌++◌, length, sym, ap, ◌∙◌, subst, arith, Trace, Adds, all_told, head_told, moment_told, named_items, page_told, AreNoted, DrawsPage, IsMoment, is_shown, lines_shown, shown_until, AddsMoment, HasShown}
 use Rattle.tlsf_map.specs.declared.named_lines.NamedLines.{NamedLines}
-use Rattle.tlsf_picture.specs.Pages.{AreNoted, DrawsPage, IsMoment, is_shown, lines_shown, shown_until}
-use Rattle.tlsf_picture.specs.Steps.{AddsMoment, HasShown}
 use Rattle.tlsf_map.proofs.Telling.{adds_then, tells_whole, told_more}
 use Rattle.tlsf_picture.proofs.Maps.{push_both}
 

@@ -1,12 +1,9 @@
 -- Where a heap has most live words, one point after another.
-use Rattle.std.proofs.Common.{◌≡◌, ℕ, ◌+◌, ◌<◌, ◌≤◌, List, length, subst, arith}
-use Rattle.tlsf_lines.specs.Trace.{Trace}
+use Rattle.tlsf_picture.proofs.Common.{◌≡◌, ℕ, ◌+◌, ◌<◌, ◌≤◌, List, length, subst, arith, Trace, heap_points, Point}
 use Rattle.tlsf_picture.proofs.Charts.{many_points}
 use Rattle.tlsf_picture.proofs.Standings.{last_or}
 use Rattle.tlsf_picture.specs.plots.Peaks.{IsPeak, live_in}
-use Rattle.tlsf_picture.specs.plots.Plots.{heap_points}
 use Rattle.tlsf_picture.specs.declared.plots.peak.Peak.{Peak}
-use Rattle.tlsf_picture.specs.declared.plots.point.Point.{Point}
 
 pub first_peak : (points : List Point) (live : ℕ) → live ≡ live_in points 0 → IsPeak points 1 (record { line = 1; live = live })
 first_peak points live is = record {

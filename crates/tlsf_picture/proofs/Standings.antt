@@ -1,13 +1,9 @@
 -- Where a heap stands worst, one point and one heap after another.
-use Rattle.std.proofs.Common.{◌≡◌, ℕ, ◌+◌, ◌<◌, ◌≤◌, Bool, false, true, inl, inr, ◌⊎◌, List, length, refl, sym, ◌∙◌, subst, arith, true≢false}
-use Rattle.std.specs.Prelude.{nat_lt}
+use Rattle.tlsf_picture.proofs.Common.{◌≡◌, ℕ, ◌+◌, ◌<◌, ◌≤◌, Bool, false, true, inl, inr, ◌⊎◌, List, length, refl, sym, ◌∙◌, subst, arith, true≢false, nat_lt, Trace, IsLook, is_fuller, is_worse, standing_in, Point}
 use Rattle.std.proofs.lemmas.Bool.{cases_eq}
 use Rattle.std.proofs.lemmas.Bool.Decides.{nat_tests}
-use Rattle.tlsf_lines.specs.Trace.{Trace}
-use Rattle.tlsf_picture.specs.plots.Standings.{IsLook, is_fuller, is_worse, standing_in}
 use Rattle.tlsf_picture.specs.plots.Worst.{IsNamed, IsWorstOf, standing_at}
 use Rattle.tlsf_picture.specs.declared.plots.look.Look.{Look}
-use Rattle.tlsf_picture.specs.declared.plots.point.Point.{Point}
 use Rattle.tlsf_picture.specs.declared.plots.standing.Standing.{Standing}
 use Rattle.tlsf_picture.specs.declared.plots.standing.Standing.TheVariants.{NoRoom, Room}
 

@@ -1,6 +1,5 @@
 -- What a plot tells of a heap.
-use Rattle.std.proofs.Common.{◌≡◌, ℕ, List, [], ◌∷◌, ◌++◌, subst}
-use Rattle.tlsf_map.specs.Told.{Adds}
+use Rattle.tlsf_picture.proofs.Common.{◌≡◌, ℕ, List, [], ◌∷◌, ◌++◌, subst, Adds}
 use Rattle.tlsf_map.proofs.Telling.{adds_before, adds_on, adds_one, adds_then}
 
 -- what is added to a text that something else was added to

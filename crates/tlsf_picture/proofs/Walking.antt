@@ -1,9 +1,6 @@
 -- A walk over the blocks of a heap by their places.
-use Rattle.std.proofs.Common.{◌≡◌, ℕ, ◌+◌, ◌<◌, ◌≤◌, List, [], ◌∷◌, ◌++◌, length, map, take, take_all, drop, Some, None, inl, inr, sym, ap, ◌∙◌, subst, arith, append_assoc, append-nil}
-use Rattle.std.specs.List.{AllByRecursion}
+use Rattle.tlsf_picture.proofs.Common.{◌≡◌, ℕ, ◌+◌, ◌<◌, ◌≤◌, List, [], ◌∷◌, ◌++◌, length, map, take, take_all, drop, Some, None, inl, inr, sym, ap, ◌∙◌, subst, arith, append_assoc, append-nil, AllByRecursion, at_drop_all, at_drop_more, Block, Free, words_in, StandsAt}
 use Rattle.std.proofs.lemmas.Bool.{cases_lt}
-use Rattle.std.proofs.lemmas.List.{at_drop_all, at_drop_more}
-use Rattle.tlsf_heap.specs.Blocks.{Block, Free, words_in, StandsAt}
 use Rattle.tlsf_heap.specs.GoodFit.{block_at}
 use Rattle.tlsf_heap.specs.Lawful.{HasRoom}
 use Rattle.tlsf_heap.specs.Placed.{placed, placed_from, placed_blocks, placed_at}

@@ -1,11 +1,8 @@
 -- A yard in which one heap was looked at.
-use Rattle.std.proofs.Common.{◌≡◌, ℕ, List, Some, get_or, set, refl, ap}
-use Rattle.std.specs.List.{slice_get}
+use Rattle.tlsf_picture.proofs.Common.{◌≡◌, ℕ, List, Some, get_or, set, refl, ap, slice_get, IsYard, world_of, SameButHeap, heap_of}
 use Rattle.tlsf_crew.specs.declared.worker.lanes.Lanes.{Lanes}
 use Rattle.tlsf_crew.specs.declared.worker.worker.Worker.{Worker}
 use Rattle.tlsf_crew.specs.lanes.LaneWorkers.{id_and_capacity}
-use Rattle.tlsf_crew.specs.lanes.Yard.{IsYard, world_of}
-use Rattle.tlsf_crew.specs.worker.Workers.{SameButHeap, heap_of}
 use Rattle.tlsf_crew.proofs.lemmas.lanes.LaneChanges.{heap_lanes, heap_yard}
 use Rattle.tlsf_crew.proofs.lemmas.lanes.LaneSlots.{map_same, same_parts}
 use Rattle.tlsf_crew.proofs.lemmas.model.Edits.{same_world}

@@ -1,2 +1,4 @@
+-- The names that most proofs cite, passed on from one place.
+mod Common
 -- The lemmas, by the folder of what they are on.
 pub mod lemmas

@@ -1,11 +1,5 @@
 -- What a look at each place in turn leaves.
-use Rattle.std.proofs.Common.{◌≡◌, ℕ, suc, ◌+◌, ◌*◌, ◌≤◌, Bool, true, false, List, [], ◌∷◌, ◌++◌, length, length-append, length-set, set, slice_get, Option, Some, None, refl, sym, ap, ◌∙◌, inl, inr, append_assoc, append-nil, arith}
-use Rattle.std.proofs.lemmas.Bool.{cases_eq, false≢true}
-use Rattle.tlsf_heap.specs.Blocks.{HeapState}
-use Rattle.tlsf_heap.specs.Calls.{last_tick, released}
-use Rattle.tlsf_pool_arena.specs.PoolArenas.{SamePlan}
-use Rattle.tlsf_pool_arena.specs.Remotes.{RemoteState, TakesHome, home_from, home_released, looks_from, still_away}
-use Rattle.tlsf_pool_arena.specs.declared.parcel.Parcel.{Parcel}
+use Rattle.tlsf_pool_arena.proofs.Common.{◌≡◌, ℕ, suc, ◌+◌, ◌*◌, ◌≤◌, Bool, true, false, List, [], ◌∷◌, ◌++◌, length, length-append, length-set, set, slice_get, Option, Some, None, refl, sym, ap, ◌∙◌, inl, inr, append_assoc, append-nil, arith, cases_eq, false≢true, HeapState, last_tick, released, SamePlan, RemoteState, TakesHome, home_from, home_released, looks_from, still_away, Parcel}
 
 -- ---- what one look more comes to
 

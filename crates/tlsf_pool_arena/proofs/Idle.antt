@@ -1,14 +1,11 @@
 -- The places by which no block is away, while blocks go out and come home.
-use Rattle.std.proofs.Common.{◌≡◌, ◌≢◌, ◌↔◌, ℕ, zero, suc, ◌+◌, ◌-◌, ◌<◌, ◌≤◌, cond, List, [], ◌∷◌, ◌++◌, length, length-set, set, take, slice_get, slice_index_or, replicate, Option, Some, None, is_none, Result, IsErrOf, Err, refl, sym, ap, subst, ◌∙◌, ◌⊎◌, inl, inr, ⊎_elim, arith}
+use Rattle.tlsf_pool_arena.proofs.Common.{◌≡◌, ◌≢◌, ◌↔◌, ℕ, zero, suc, ◌+◌, ◌-◌, ◌<◌, ◌≤◌, cond, List, [], ◌∷◌, ◌++◌, length, length-set, set, take, slice_get, slice_index_or, replicate, Option, Some, None, is_none, Result, IsErrOf, Err, refl, sym, ap, subst, ◌∙◌, ◌⊎◌, inl, inr, ⊎_elim, arith, PoolArenaState, Parcel, AreIdle, NoneLost, RemoteState, idle_places}
 use Rattle.std.specs.List.{range_with_len}
 use Rattle.std.proofs.lemmas.List.FromFn.{length-range_with_len}
 use Rattle.std.proofs.lemmas.List.Sums.{sum_by-cons, sum_by-set}
 use Rattle.std.proofs.lemmas.Option.{slice_get-get_or, slice_get_within}
-use Rattle.tlsf_pool_arena.specs.PoolArenas.{PoolArenaState}
 use Rattle.tlsf_pool.specs.declared.pools.pool_refusal.PoolRefusal.{PoolRefusal}
 use Rattle.tlsf_pool.specs.declared.pools.pool_refusal.PoolRefusal.TheVariants.{Full}
-use Rattle.tlsf_pool_arena.specs.declared.parcel.Parcel.{Parcel}
-use Rattle.tlsf_pool_arena.specs.Remotes.{AreIdle, NoneLost, RemoteState, idle_places}
 use Rattle.tlsf_pool_arena.proofs.Lent.{got_set}
 
 one_more : (a n : ℕ) → range_with_len a (suc n) ≡ range_with_len a n ++ (a + n) ∷ []

@@ -1,16 +1,13 @@
 -- An arena of blocks of a fixed size: what its calls answer and leave.
-use Rattle.std.specs.Prelude.{◌↔◌, IfErr, IsSome, MatchResult}
+use Rattle.tlsf_pool_arena.proofs.Common.{◌↔◌, IfErr, IsSome, MatchResult, ◌≡◌, ◌≢◌, ℕ, ◌+◌, ◌-◌, ◌*◌, ◌<◌, ◌≤◌, Bool, true, false, cond, [], ◌∷◌, Option, Some, Result, Ok, Err, IsOk, refl, sym, ap, ◌∙◌, subst, arith, eq-eqb, false≢true, eqb-true, le-ltb, Live, Free, HeapState, size_of, Outcome, Allocate, Allocated, Release, Released, Resize, allocated_words, has_serial, is_worn, last_tick, named, refused, released, resized_at, resized_words, room_of, live_count, sure, Holds, requested, lacking, piece_size, units_for, IsPoolArena, PoolArenaState, fixed_bytes, fixed_size}
 use base.Fml.{GName}
-use Rattle.std.proofs.Common.{◌≡◌, ◌≢◌, ℕ, ◌+◌, ◌-◌, ◌*◌, ◌<◌, ◌≤◌, Bool, true, false, cond, [], ◌∷◌, Option, Some, Result, Ok, Err, IsOk, refl, sym, ap, ◌∙◌, subst, arith, eq-eqb}
 use Rattle.std.proofs.Math.Nat.{mul-le-mul}
-use Rattle.std.proofs.lemmas.Bool.{false≢true, eqb-true, le-ltb}
 use Rattle.linked_list_allocator.specs.Region.{Region}
-use Rattle.tlsf_heap.specs.Blocks.{Block, Live, Free, HeapState, size_of}
+use Rattle.tlsf_heap.specs.Blocks.{Block}
 use Rattle.tlsf_heap.specs.GoodFit.{Site, fits}
 use Rattle.tlsf_heap.specs.Memory.{Extents}
 use Rattle.tlsf_heap.specs.Lawful.{IsLawful}
 use Rattle.tlsf_heap.specs.Laws.{IsLive}
-use Rattle.tlsf_heap.specs.Calls.{Outcome, Allocate, Allocated, Release, Released, Resize, allocated_words, has_serial, is_worn, last_tick, named, refused, released, resized_at, resized_words, room_of}
 use Rattle.tlsf_heap.specs.declared.name.Name.{Name}
 use Rattle.tlsf_heap.specs.declared.refusal.Refusal.{Refusal}
 use Rattle.tlsf_heap.specs.declared.refusal.Refusal.TheVariants.{Foreign, NoRoom, Worn}
@@ -19,15 +16,12 @@ use Rattle.tlsf_heap.proofs.lemmas.laws.Live.{new_words}
 use Rattle.tlsf_heap.proofs.lemmas.calls.Outcomes.{by_allocated_words, by_resized_words, lawful_allocated_words, lawful_resized_words, lawful_run, named_site, resizes}
 use Rattle.tlsf_pool.specs.laws.FixedSize.{HasFixedSize, IsFixedSize}
 use Rattle.tlsf_pool.specs.laws.Held.{held_after}
-use Rattle.tlsf_pool.specs.laws.Room.{live_count, sure}
 use Rattle.tlsf_pool.proofs.lemmas.laws.Around.{around_site, words_kept}
 use Rattle.tlsf_pool.proofs.lemmas.laws.FixedCalls.{held_fixed}
 use Rattle.tlsf_pool.proofs.lemmas.laws.FixedSize.{finds_fixed, fixed_kept, sure_again, sure_region}
 use Rattle.tlsf_pool.proofs.lemmas.laws.FreeRoom.{sure_enough}
 use Rattle.tlsf_pool.proofs.lemmas.laws.Held.{held_is}
-use Rattle.tlsf_arena.specs.Arenas.{Holds, requested, refitted as refitted_to}
-use Rattle.tlsf_arena.specs.Places.{lacking, piece_size, units_for}
-use Rattle.tlsf_pool_arena.specs.PoolArenas.{IsPoolArena, PoolArenaState, fixed_bytes, fixed_size}
+use Rattle.tlsf_arena.specs.Arenas.{refitted as refitted_to}
 use Rattle.tlsf_pool_arena.proofs.UnitWords.{lacks_few, units_again, units_rise}
 
 -- where a block has the words that are wanted, a resize is refused at the last tick alone

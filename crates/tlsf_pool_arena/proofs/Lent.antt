@@ -1,10 +1,7 @@
 -- The blocks that are away are the arena's, and are taken back.
-use Rattle.std.proofs.Common.{◌≡◌, ◌≢◌, ℕ, zero, suc, List, [], ◌∷◌, set, slice_get, replicate, Option, Some, None, refl, sym, ap, subst, ◌⊎◌, inl, inr, ⊎_elim}
+use Rattle.tlsf_pool_arena.proofs.Common.{◌≡◌, ◌≢◌, ℕ, zero, suc, List, [], ◌∷◌, set, slice_get, replicate, Option, Some, None, refl, sym, ap, subst, ◌⊎◌, inl, inr, ⊎_elim, Parcel, Block, AreAway, IsFrom}
 use base.Fml.{GName}
 use Rattle.linked_list_allocator.specs.Region.{Region}
-use Rattle.tlsf_pool_arena.specs.declared.parcel.Parcel.{Parcel}
-use Rattle.tlsf_arena.specs.declared.block.Block.{Block}
-use Rattle.tlsf_pool_arena.specs.Remotes.{AreAway, IsFrom}
 
 -- what is found in a list with one entry changed
 pub got_set : {A : Type 0} (l : List A) (k j : ℕ) (a b : A) → slice_get (set l k a) j ≡ Some b → ((j ≡ k) × (a ≡ b)) ⊎ ((j ≢ k) × (slice_get l j ≡ Some b))

@@ -1,5 +1,7 @@
 -- The lemmas of this crate, a line a file.
+--   Common: the names that most proofs cite, passed on from one place
 --   UnitWords: units, and the words that requests for them want
+mod Common
 pub mod UnitWords
 --   Kept: an arena of blocks of a fixed size, a new one and what its calls leave
 pub mod Kept

@@ -1,9 +1,7 @@
 -- An arena of mixed sizes: a new one, what its calls leave, and that a request finds room.
-use Rattle.std.proofs.Common.{◌≡◌, ℕ, ◌+◌, ◌<◌, ◌≤◌, ◌++◌, Result, Ok, Err, [], refl, sym, subst, arith}
+use Rattle.tlsf_pool_arena.proofs.Common.{◌≡◌, ℕ, ◌+◌, ◌<◌, ◌≤◌, ◌++◌, Result, Ok, Err, [], refl, sym, subst, arith, HeapState, size_of, want, Outcome, Release, Released, allocated_words, carved, released, resized_words, live_count, requested, IsUnit, lacking, units_for}
 use Rattle.tlsf_class.specs.Classes.{IsLevel, most_words}
-use Rattle.tlsf_heap.specs.Blocks.{HeapState, size_of, want}
 use Rattle.tlsf_heap.specs.GoodFit.{fits}
-use Rattle.tlsf_heap.specs.Calls.{Outcome, Release, Released, allocated_words, carved, released, resized_words}
 use Rattle.tlsf_heap.specs.declared.name.Name.{Name}
 use Rattle.tlsf_heap.specs.declared.refusal.Refusal.{Refusal}
 use Rattle.tlsf_heap.proofs.lemmas.blocks.Find.{and_left}
@@ -13,14 +11,12 @@ use Rattle.tlsf_heap.proofs.lemmas.laws.NoFit.{no_fit}
 use Rattle.tlsf_pool.specs.laws.Held.{held_after}
 use Rattle.tlsf_pool.specs.laws.FixedSize.{HasFixedSize}
 use Rattle.tlsf_pool.specs.laws.MixedSizes.{IsSmall}
-use Rattle.tlsf_pool.specs.laws.Room.{live_count}
 use Rattle.tlsf_pool.proofs.lemmas.laws.Around.{around_site}
 use Rattle.tlsf_pool.proofs.lemmas.laws.FixedSize.{fixed_kept}
 use Rattle.tlsf_pool.proofs.lemmas.laws.Held.{counted, held_is, one}
 use Rattle.tlsf_pool.proofs.lemmas.laws.Loads.{load_given_words, load_resized_words}
 use Rattle.tlsf_pool.proofs.lemmas.laws.ModestCalls.{AreSmall, InMixed, has_room, kept, opens, region_is, small_carved, small_refitted}
-use Rattle.tlsf_arena.specs.Arenas.{requested, refitted as refitted_to}
-use Rattle.tlsf_arena.specs.Places.{IsUnit, lacking, units_for}
+use Rattle.tlsf_arena.specs.Arenas.{refitted as refitted_to}
 use Rattle.tlsf_pool_arena.specs.MixedUnits.{IsMixedArena, MixedUnitsAreKept, MixedUnitsBegin, MixedUnitsFindRoom, length_for}
 use Rattle.tlsf_pool_arena.proofs.UnitWords.{lacks_few, least_units, lengths_rise, units_rise, wants_units}
 

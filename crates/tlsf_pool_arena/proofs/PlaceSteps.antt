@@ -1,6 +1,5 @@
 -- Each step keeps the rule of the places.
-use Rattle.std.proofs.Common.{◌≡◌, ◌≢◌, ℕ, zero, suc, ◌<◌, Bool, true, false, eqb, List, [], ◌∷◌, ◌++◌, map, length, replicate, set, get_or, slice_get, Option, Some, None, refl, sym, ap, subst, ◌∙◌, ◌⊎◌, inl, inr, ⊎_elim, length-set, arith}
-use Rattle.std.proofs.lemmas.Bool.{false≢true}
+use Rattle.tlsf_pool_arena.proofs.Common.{◌≡◌, ◌≢◌, ℕ, zero, suc, ◌<◌, Bool, true, false, eqb, List, [], ◌∷◌, ◌++◌, map, length, replicate, set, get_or, slice_get, Option, Some, None, refl, sym, ap, subst, ◌∙◌, ◌⊎◌, inl, inr, ⊎_elim, length-set, arith, false≢true, Seated, announced, sent_out, ticket_of, reached, put_back, looked, cleared, is_away, place_of, value_of, out_by, looks_by}
 use mathlib.Core.Option.{some, none, some-injective, some-ne-none}
 use mathlib.Core.Option as maybe
 use lib.ListN.{get_elem?}
@@ -10,7 +9,6 @@ use Rattle.atomic_table.proofs.Lists.{at_set, set_here, set_else, set_again, at_
 use Rattle.tlsf_pool_arena.specs.declared.returns.role.Role.{Role}
 use Rattle.tlsf_pool_arena.specs.declared.returns.role.Role.TheVariants.{Owns, Sends, Takes, Away, Puts, Gave}
 use Rattle.tlsf_pool_arena.specs.returns.Places.{Spot, idle, away, moving, home, taken, word_of, slot_of, value_at, OwnerFits, Fits, Kept, first_role}
-use Rattle.tlsf_pool_arena.specs.returns.Steps.{Seated, announced, sent_out, ticket_of, reached, put_back, looked, cleared, is_away, place_of, value_of, out_by, looks_by}
 
 -- ---- lists
 

@@ -1,7 +1,5 @@
 -- Units, and the words that requests for them want.
-use Rattle.std.proofs.Common.{◌≡◌, ℕ, ◌-◌, ◌*◌, ◌≤◌, arith}
-use Rattle.tlsf_heap.specs.Blocks.{want}
-use Rattle.tlsf_arena.specs.Places.{IsUnit, lacking, units_for}
+use Rattle.tlsf_pool_arena.proofs.Common.{◌≡◌, ℕ, ◌-◌, ◌*◌, ◌≤◌, arith, want, IsUnit, lacking, units_for}
 use Rattle.tlsf_arena.proofs.UnitCases.{by_unit}
 use Rattle.tlsf_pool_arena.specs.MixedUnits.{length_for}
 

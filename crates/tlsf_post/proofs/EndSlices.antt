@@ -1,10 +1,8 @@
 -- A slice that came out of a lane's end is one post, and then a slice of the others.
-use Rattle.std.proofs.Common.{[], ◌∷◌, ◌++◌, ◌≡◌, ◌+◌, List, length, drop, refl, sym, ◌∙◌, ap, arith, append_assoc, append-nil, length-append, length-drop}
-use Rattle.std.proofs.lemmas.List.{drop-append-le}
+use Rattle.tlsf_post.proofs.Common.{[], ◌∷◌, ◌++◌, ◌≡◌, ◌+◌, List, length, drop, refl, sym, ◌∙◌, ap, arith, append_assoc, append-nil, length-append, length-drop, drop-append-le, Post}
 use mathlib.Core.List.{IsPrefix}
 use Rattle.rtrb.specs.Fifo.{position_of}
 use Rattle.rtrb.specs.Ring.{received}
-use Rattle.tlsf_post.specs.declared.post.Post.{Post}
 use Rattle.tlsf_post.specs.declared.take_end.TakeEnd.{TakeEnd}
 use Rattle.tlsf_post.specs.Lanes.{waited, taken, ready, IsLane, KeepsTake}
 

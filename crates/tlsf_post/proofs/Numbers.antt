@@ -1,10 +1,5 @@
 -- Numbers that rise by one, and lists that grow.
-use Rattle.std.proofs.Common.{◌≡◌, ◌≢◌, ◌⊎◌, inl, inr, ⊎_elim, append_assoc, length, eqb, eq-eqb, ne_eqb, ◌<◌, ℕ, zero, suc, ◌+◌, ◌-◌, ◌≤◌, List, [], ◌∷◌, ◌++◌, All, refl, ap, ◌∙◌, arith, sym, subst}
-use Rattle.std.proofs.lemmas.List.Elements.{All-push}
-use Rattle.std.proofs.lemmas.Bool.{cases_eq, cond-true, cond-false}
-use Rattle.std.proofs.lemmas.List.{same_from_push, append-nil}
-use Rattle.tlsf_post.specs.Mailboxes.{below_but}
-use Rattle.tlsf_post.specs.Rounds.{run, next_but}
+use Rattle.tlsf_post.proofs.Common.{◌≡◌, ◌≢◌, ◌⊎◌, inl, inr, ⊎_elim, append_assoc, length, eqb, eq-eqb, ne_eqb, ◌<◌, ℕ, zero, suc, ◌+◌, ◌-◌, ◌≤◌, List, [], ◌∷◌, ◌++◌, All, refl, ap, ◌∙◌, arith, sym, subst, All-push, cases_eq, cond-true, cond-false, same_from_push, append-nil, below_but, run, next_but}
 
 run_more : (from k : ℕ) → run from (suc k) ≡ run from k ++ (from + k) ∷ []
 run_more from zero = let e : from ≡ from + 0 = omega arith in ap (λ (n : ℕ). n ∷ []) e

@@ -1,6 +1,5 @@
 -- What was taken from a lane and then waits is what had waited and was sent.
-use Rattle.std.proofs.Common.{◌≡◌, ◌≤◌, List, ◌++◌, length, take, drop, append_assoc}
-use Rattle.std.proofs.lemmas.List.{drop-append-le, take-append-drop}
+use Rattle.tlsf_post.proofs.Common.{◌≡◌, ◌≤◌, List, ◌++◌, length, take, drop, append_assoc, drop-append-le, take-append-drop}
 use Rattle.std.proofs.Math.Seq.{drop-append_seam}
 
 -- at the mark `rec` had been received, `known` waited and `marked` had been sent; now they are `taken`, `waiting` and `sent`

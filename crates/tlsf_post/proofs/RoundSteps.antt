@@ -1,15 +1,7 @@
 -- What is known once all posters came back and went out again.
-use Rattle.std.proofs.Common.{◌≡◌, ◌≢◌, ◌⊎◌, inl, inr, ⊎_elim, ℕ, ◌+◌, ◌<◌, ◌≤◌, true, false, List, [], ◌∷◌, ◌++◌, length, map, All, refl, sym, ap, ◌∙◌, arith, subst}
-use Rattle.std.proofs.lemmas.Bool.{cases_eq}
-use Rattle.std.proofs.lemmas.List.{map-append}
-use Rattle.tlsf_post.specs.declared.post.Post.{Post}
-use Rattle.tlsf_post.specs.declared.view.View.{View}
+use Rattle.tlsf_post.proofs.Common.{◌≡◌, ◌≢◌, ◌⊎◌, inl, inr, ⊎_elim, ℕ, ◌+◌, ◌<◌, ◌≤◌, true, false, List, [], ◌∷◌, ◌++◌, length, map, All, refl, sym, ap, ◌∙◌, arith, subst, cases_eq, map-append, Post, View, posts_of, posts_but, owner_view, AreOfPosters, IsIn, Shows, All-weaker, number_of, put_by, gone_from, below_but, next_but, IsFreshAt, IsOfPass, CameBack}
 use Rattle.tlsf_post.specs.declared.poster_end.PosterEnd.{PosterEnd}
-use Rattle.tlsf_post.specs.Rule.{posts_of, posts_but, owner_view, AreOfPosters, IsIn, Shows}
 use Rattle.crossbeam_queue.specs.Passes.{Pass, view}
-use Rattle.std.proofs.lemmas.List.Elements.{All-weaker}
-use Rattle.tlsf_post.specs.Mailboxes.{number_of, put_by, gone_from, below_but}
-use Rattle.tlsf_post.specs.Rounds.{next_but, IsFreshAt, IsOfPass, CameBack}
 use Rattle.tlsf_post.proofs.RuleSteps.{back_own, back_other}
 use Rattle.tlsf_post.proofs.Numbers.{but_last, but_next, but_none, all_pushed}
 

@@ -1,15 +1,8 @@
 -- What the ends of a mailbox say of the posts that waited.
-use Rattle.std.proofs.Common.{◌≡◌, ◌≢◌, ℕ, ◌+◌, ◌<◌, ◌≤◌, List, [], ◌∷◌, ◌++◌, length, refl, sym, ap, ◌∙◌, subst, arith, length-append}
-use Rattle.std.proofs.lemmas.List.Elements.{All-tail}
-use Rattle.std.specs.Prelude.{Option, Some, None, MatchOption, IfSome}
+use Rattle.tlsf_post.proofs.Common.{◌≡◌, ◌≢◌, ℕ, ◌+◌, ◌<◌, ◌≤◌, List, [], ◌∷◌, ◌++◌, length, refl, sym, ap, ◌∙◌, subst, arith, length-append, All-tail, Option, Some, None, MatchOption, IfSome, Post, Plan, View, posts_of, plan_for, MayPut, AreOfPosters, Shows, HasTaken, owner_of, out_of, plan_at, OwnerSaw}
 use mathlib.Core.List.{IsPrefix}
 use Rattle.crossbeam_queue.specs.Passes.{view}
-use Rattle.tlsf_post.specs.declared.post.Post.{Post}
-use Rattle.tlsf_post.specs.declared.plan.Plan.{Plan}
-use Rattle.tlsf_post.specs.declared.view.View.{View}
 use Rattle.tlsf_post.specs.declared.owner_end.OwnerEnd.{OwnerEnd}
-use Rattle.tlsf_post.specs.Rule.{posts_of, plan_for, MayPut, AreOfPosters, Shows, HasTaken}
-use Rattle.tlsf_post.specs.Mailboxes.{owner_of, out_of, plan_at, OwnerSaw}
 use Rattle.tlsf_post.proofs.RuleSteps.{of_own, of_plan}
 
 -- ---- the owner's end

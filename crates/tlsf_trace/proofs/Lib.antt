@@ -1,4 +1,5 @@
 -- The run and its text.
+mod Common
 pub mod Onward  -- a trace that is run from one of its moments to the next
 pub mod PartByPart  -- entries whose lines are written part by part
 pub mod ReportSteps  -- report lines of heaps, one heap after another

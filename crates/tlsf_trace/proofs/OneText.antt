@@ -1,24 +1,13 @@
 -- A trace without `d` lines gives one text.
-use Rattle.std.proofs.Common.{Bool, true, false, ◌==◌, ◌≡◌, ◌≤◌, ◌∷◌, ◌++◌, [], ℕ, zero, suc, List, Option, length, map, get_or, arith, refl, sym, ap, ◌∙◌, subst}
-use Rattle.std.specs.List.{AllByRecursion}
-use Rattle.tlsf_heap.specs.declared.name.Name.{Name}
-use Rattle.tlsf_calls.specs.declared.call.Call.{Call}
-use Rattle.tlsf_calls.specs.declared.entry.Entry.{Entry}
-use Rattle.tlsf_crew.specs.model.World.{World}
+use Rattle.tlsf_trace.proofs.Common.{Bool, true, false, ◌==◌, ◌≡◌, ◌≤◌, ◌∷◌, ◌++◌, [], ℕ, zero, suc, List, Option, length, map, get_or, arith, refl, sym, ap, ◌∙◌, subst, AllByRecursion, Name, Call, Entry, World, call_in, calls_from, in_first, is_line_of, known_below, none_known, own_lines, phases_of, script_in, scripts_in, records_text, Trace, Line, level_in, yard_of, IsOutputBy, IsQueueRaceOutput, IsRaceText, RaceRelation}
 use Rattle.tlsf_crew.specs.race_laws.Alone.{OnlyLastDrains, TakesNoPost}
 use Rattle.tlsf_crew.specs.races.Race.{IsRace}
 use Rattle.tlsf_crew.specs.race_laws.QueueAlone.{IsUncontendedRace}
 use Rattle.tlsf_crew.specs.races.QueueRace.{IsQueueRace}
 use Rattle.tlsf_crew.proofs.lemmas.race_laws.QueueAlone.{queue_race_is_one, two_uncontended}
 use Rattle.tlsf_crew.proofs.lemmas.race_laws.OneRace.{race_is_one}
-use Rattle.tlsf_lines.specs.Phases.{call_in, calls_from, in_first, is_line_of, known_below, none_known, own_lines, phases_of, script_in, scripts_in}
-use Rattle.tlsf_lines.specs.Records.{records_text}
-use Rattle.tlsf_lines.specs.Trace.{Trace}
-use Rattle.tlsf_lines.specs.declared.line.Line.{Line}
 use Rattle.tlsf_lines.specs.declared.line.Line.TheVariants.{Allocate, Release, Write, Read, Resize, Drain, Phase}
 use Rattle.tlsf_trace.specs.OneText.{HasNoDrain, IsNoDrain, IsUncontendedOutput, RaceGivesOneText}
-use Rattle.tlsf_trace.specs.Output.{level_in, yard_of}
-use Rattle.tlsf_trace.specs.RaceOutput.{IsOutputBy, IsQueueRaceOutput, IsRaceText, RaceRelation}
 use Rattle.tlsf_trace.proofs.RacedPhases.{opened_count}
 
 -- ---- a phase without `d` lines

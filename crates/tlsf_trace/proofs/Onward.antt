@@ -1,20 +1,9 @@
 -- A trace that is run from one of its moments to the next.
-use Rattle.std.proofs.Common.{◌≡◌, ℕ, zero, suc, ◌+◌, ◌-◌, ◌<◌, ◌≤◌, false, true, List, [], ◌∷◌, ◌++◌, Option, length, take, take_all, drop, max, min, refl, subst, sym, ap, ◌∙◌, inl, inr, arith}
-use Rattle.std.specs.Prelude.{nat_lt}
+use Rattle.tlsf_trace.proofs.Common.{◌≡◌, ℕ, zero, suc, ◌+◌, ◌-◌, ◌<◌, ◌≤◌, false, true, List, [], ◌∷◌, ◌++◌, Option, length, take, take_all, drop, max, min, refl, subst, sym, ap, ◌∙◌, inl, inr, arith, nat_lt, drop-take, length-take, take-append-drop, take-take, take_min, Entry, World, Replayed, begun, replies, replies_behind, Name, events_by, events_of, width_in, Trace, Line, moment_at, run_at, yard_of, PlaysOn}
 use Rattle.std.proofs.lemmas.Bool.{cases_lt}
 use Rattle.std.proofs.lemmas.Bool.Decides.{nat_tests}
-use Rattle.std.proofs.lemmas.List.{drop-take, length-take, take-append-drop, take-take, take_min}
-use Rattle.tlsf_calls.specs.declared.entry.Entry.{Entry}
 use Rattle.tlsf_calls.specs.declared.event.Event.{Event}
-use Rattle.tlsf_crew.specs.model.World.{World, Replayed, begun, replies, replies_behind}
 use Rattle.tlsf_crew.proofs.lemmas.model.InParts.{behind, replies_alone, replies_in_parts}
-use Rattle.tlsf_heap.specs.declared.name.Name.{Name}
-use Rattle.tlsf_lines.specs.Events.{events_by, events_of, width_in}
-use Rattle.tlsf_lines.specs.Trace.{Trace}
-use Rattle.tlsf_lines.specs.declared.line.Line.{Line}
-use Rattle.tlsf_trace.specs.Moments.{moment_at}
-use Rattle.tlsf_trace.specs.Output.{run_at, yard_of}
-use Rattle.tlsf_trace.specs.Players.{PlaysOn}
 use Rattle.tlsf_trace.specs.declared.player.Player.{Player}
 
 -- more lines stand for no fewer events

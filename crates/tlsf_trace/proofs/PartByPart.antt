@@ -1,7 +1,5 @@
 -- Entries in two parts, whose lines are written one part behind the other.
-use Rattle.std.proofs.Common.{◌≡◌, ℕ, Bool, true, false, cond, List, [], ◌∷◌, ◌++◌, Option, drop, refl}
-use Rattle.tlsf_calls.specs.declared.entry.Entry.{Entry}
-use Rattle.tlsf_lines.specs.ReplyLines.{is_taken, labels_left}
+use Rattle.tlsf_trace.proofs.Common.{◌≡◌, ℕ, Bool, true, false, cond, List, [], ◌∷◌, ◌++◌, Option, drop, refl, Entry, is_taken, labels_left}
 
 one_more : (xs ys : List Entry) (labels : List (Option ℕ)) (taken : Bool)
     → labels_left (xs ++ ys) labels ≡ labels_left ys (labels_left xs labels) → labels_left (xs ++ ys) (drop 1 labels) ≡ labels_left ys (labels_left xs (drop 1 labels))

@@ -1,42 +1,27 @@
 -- What the text of a raced trace tells.
-use Rattle.std.proofs.Common.{◌≡◌, ◌≢◌, ◌∷◌, ◌++◌, ◌<◌, [], ℕ, List, Option, length, map, refl, sym, ap, ◌∙◌, arith, subst, append_assoc, length-append}
+use Rattle.tlsf_trace.proofs.Common.{◌≡◌, ◌≢◌, ◌∷◌, ◌++◌, ◌<◌, [], ℕ, List, Option, length, map, refl, sym, ap, ◌∙◌, arith, subst, append_assoc, length-append, get_or-map-range_with_len, length-map-range_with_len, All, HeapState, opened, Name, Call, Entry, World, heap_in, no_heap, known_below, none_known, phases_of, script_in, scripts_in, records_text, Trace, Line, level_in, yard_of, IsOutputBy, IsQueueRaceOutput, IsRaceOutput, IsRaceText, RaceRelation, report_text}
 use Rattle.std.proofs.Math.Seq.{take-append_seam}
 use Rattle.std.proofs.lemmas.Grind.{flat_map-append}
 use Rattle.std.proofs.lemmas.List.Elements.{All-append, All-cons, All-head, All-nil, All-tail, All-take}
-use Rattle.std.proofs.lemmas.List.FromFn.{get_or-map-range_with_len, length-map-range_with_len}
-use Rattle.std.specs.List.{All}
 use Rattle.tlsf_class.specs.Classes.{IsLevel}
-use Rattle.tlsf_heap.specs.Blocks.{HeapState}
 use Rattle.tlsf_heap.specs.Calls as heap
-use Rattle.tlsf_heap.specs.Calls.{opened}
 use Rattle.tlsf_heap.specs.Lawful.{IsLawful}
-use Rattle.tlsf_heap.specs.declared.name.Name.{Name}
 use Rattle.tlsf_heap.proofs.lemmas.blocks.Lawful.{opened_lawful}
 use Rattle.tlsf_heap.proofs.lemmas.calls.Outcomes.{lawful_run}
 use Rattle.tlsf_calls.specs.Entries.{record_of}
-use Rattle.tlsf_calls.specs.declared.call.Call.{Call}
-use Rattle.tlsf_calls.specs.declared.entry.Entry.{Entry}
 use Rattle.tlsf_crew.specs.races.QueueRace.{IsQueueRace}
 use Rattle.tlsf_crew.specs.races.Race.{IsRace}
 use Rattle.tlsf_crew.specs.scripts.Scripts.{last_call, script_of}
 use Rattle.tlsf_crew.specs.histories.History.{RunsTo, answer_told, answers_on, call_on_own, calls_on, posts_made, posts_taken}
-use Rattle.tlsf_crew.specs.model.World.{World, heap_in, no_heap}
 use Rattle.tlsf_crew.proofs.lemmas.race_laws.QueueRecords.{queue_race_answered, queue_race_posts, queue_race_runs, queue_race_tells}
 use Rattle.tlsf_crew.proofs.lemmas.race_laws.RecordHistory.{race_answered, race_posts, race_runs, race_tells}
 use Rattle.tlsf_crew.proofs.lemmas.histories.Fronts.{as_many, run_split}
 use Rattle.tlsf_crew.proofs.lemmas.histories.JoinedEntries.{HasItsAnswer, runs_then, told_then}
-use Rattle.tlsf_lines.specs.Phases.{known_below, none_known, phases_of, script_in, scripts_in}
-use Rattle.tlsf_lines.specs.Records.{records_text}
-use Rattle.tlsf_lines.specs.Trace.{Trace}
 use Rattle.tlsf_lines.specs.Versions.{level_of}
 use Rattle.tlsf_lines.specs.declared.header.Header.{Header}
-use Rattle.tlsf_lines.specs.declared.line.Line.{Line}
 use Rattle.tlsf_lines.specs.declared.version.Version.{Version}
 use Rattle.tlsf_lines.specs.declared.version.Version.TheVariants.{One, Two}
-use Rattle.tlsf_trace.specs.Output.{level_in, yard_of}
 use Rattle.tlsf_trace.specs.RaceHistory.{ArePhasesTold, HasHistory, IsPhaseTold, LeadsThrough, LeadsTo, PhaseTold, RecordRelation, TellsOverLanes, TellsOverQueues, ToldEntry, answers_in_history, calls_in_history, history_of, phases_text}
-use Rattle.tlsf_trace.specs.RaceOutput.{IsOutputBy, IsQueueRaceOutput, IsRaceOutput, IsRaceText, RaceRelation}
-use Rattle.tlsf_trace.specs.ReportLines.{report_text}
 
 -- ---- one race
 

@@ -1,30 +1,10 @@
 -- Phases that are raced one after another, over lanes or over queues.
-use Rattle.std.proofs.Common.{◌≡◌, ◌++◌, ◌∷◌, [], ℕ, suc, ◌<◌, ◌≤◌, arith, IfSome, List, Option, Some, None, Bor, length, map, refl, sym, ap, ◌∙◌, subst, append_assoc, append-nil}
-use Rattle.std.specs.Prelude.{MatchOption}
-use Rattle.std.proofs.lemmas.List.{length-map}
-use Rattle.std.proofs.lemmas.List.FromFn.{length-map-range_with_len}
-use Rattle.tlsf_heap.specs.Blocks.{HeapState}
-use Rattle.tlsf_heap.specs.Calls.{opened}
-use Rattle.tlsf_heap.specs.declared.name.Name.{Name}
+use Rattle.tlsf_trace.proofs.Common.{◌≡◌, ◌++◌, ◌∷◌, [], ℕ, suc, ◌<◌, ◌≤◌, arith, IfSome, List, Option, Some, None, Bor, length, map, refl, sym, ap, ◌∙◌, subst, append_assoc, append-nil, MatchOption, length-map, length-map-range_with_len, HeapState, opened, Name, Call, Entry, heap_of, World, world_of, known_below, none_known, phases_of, IsOutputBy, IsRaceText, RaceRelation, records_text, yard_of, IsPhaseRaced, IsRaceSoFar, RacePoint, race_start, HasRaced, IsWhole, count_in, kind_in, races_over, world_in, OverLanes, OverQueues, report_text, Line}
 use Rattle.tlsf_crew.specs.queues.QueueYard.{queue_world_of}
-use Rattle.tlsf_calls.specs.declared.call.Call.{Call}
-use Rattle.tlsf_calls.specs.declared.entry.Entry.{Entry}
-use Rattle.tlsf_crew.specs.worker.Workers.{heap_of}
-use Rattle.tlsf_crew.specs.model.World.{World}
-use Rattle.tlsf_crew.specs.lanes.Yard.{world_of}
-use Rattle.tlsf_lines.specs.Phases.{known_below, none_known, phases_of}
-use Rattle.tlsf_trace.specs.RaceOutput.{IsOutputBy, IsRaceText, RaceRelation}
-use Rattle.tlsf_lines.specs.Records.{records_text}
-use Rattle.tlsf_trace.specs.Output.{yard_of}
-use Rattle.tlsf_trace.specs.RaceSoFar.{IsPhaseRaced, IsRaceSoFar, RacePoint, race_start}
-use Rattle.tlsf_trace.specs.RacedYards.{HasRaced, IsWhole, count_in, kind_in, races_over, world_in}
 use Rattle.tlsf_trace.specs.declared.raced_yard.PortKind.{PortKind}
 use Rattle.tlsf_trace.specs.declared.raced_yard.PortKind.TheVariants.{Lanes, Queues}
 use Rattle.tlsf_trace.specs.declared.raced_yard.RacedYard.{RacedYard}
-use Rattle.tlsf_trace.specs.declared.raced_yard.RacedYard.TheVariants.{OverLanes, OverQueues}
-use Rattle.tlsf_trace.specs.ReportLines.{report_text}
 use Rattle.tlsf_lines.specs.declared.header.Header.{Header}
-use Rattle.tlsf_lines.specs.declared.line.Line.{Line}
 
 -- the phases of the lines that are left
 abbrev pub phases_left : Option (Bor (List Line)) → List (List Line)

@@ -1,9 +1,6 @@
 -- Report lines of heaps, one heap after another.
-use Rattle.std.proofs.Common.{◌≡◌, ℕ, ◌+◌, ◌<◌, List, ◌∷◌, ◌++◌, length, get_or, drop, sym, ap, ◌∙◌, append_assoc}
-use Rattle.std.proofs.lemmas.List.{at_drop_more}
-use Rattle.tlsf_heap.specs.Blocks.{HeapState}
+use Rattle.tlsf_trace.proofs.Common.{◌≡◌, ℕ, ◌+◌, ◌<◌, List, ◌∷◌, ◌++◌, length, get_or, drop, sym, ap, ◌∙◌, append_assoc, at_drop_more, HeapState, report_line, report_text_from}
 use Rattle.tlsf_heap.specs.Reports.{report_of}
-use Rattle.tlsf_trace.specs.ReportLines.{report_line, report_text_from}
 
 -- the line of this heap, and then those of the heaps behind it
 pub goes_on : (sli : ℕ) (text whole : List ℕ) (heaps : List HeapState) (i : ℕ) (d heap : HeapState) → i < length heaps → get_or heaps i d ≡ heap

@@ -1,10 +1,7 @@
 -- What is put out, from its parts.
-use Rattle.std.proofs.Common.{◌≡◌, ℕ, List, map, ap}
+use Rattle.tlsf_trace.proofs.Common.{◌≡◌, ℕ, List, map, ap, World, world_of, heap_of}
 use Rattle.tlsf_crew.specs.declared.worker.worker.Worker.{Worker}
 use Rattle.tlsf_crew.specs.declared.worker.lanes.Lanes.{Lanes}
-use Rattle.tlsf_crew.specs.model.World.{World}
-use Rattle.tlsf_crew.specs.lanes.Yard.{world_of}
-use Rattle.tlsf_crew.specs.worker.Workers.{heap_of}
 
 -- the heaps of the world that a yard shows
 pub heaps_in : {sli : ℕ} → (ws : List (Worker sli Lanes)) (w : World sli) → world_of ws ≡ w → map heap_of ws ≡ w.heaps

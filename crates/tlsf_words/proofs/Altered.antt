@@ -1,6 +1,5 @@
 -- Words of which some were handed out and came back.
-use Rattle.std.proofs.Common.{◌≡◌, ℕ, ◌+◌, ◌-◌, ◌≤◌, ◌<◌, List, ◌++◌, length, get_or, take, drop, ap, ◌∙◌, arith, length-append, length-take-le, length-drop, get_or-take}
-use Rattle.std.proofs.lemmas.List.{get_or_append_left, get_or-append_right, get_or-drop}
+use Rattle.tlsf_words.proofs.Common.{◌≡◌, ℕ, ◌+◌, ◌-◌, ◌≤◌, ◌<◌, List, ◌++◌, length, get_or, take, drop, ap, ◌∙◌, arith, length-append, length-take-le, length-drop, get_or-take, get_or_append_left, get_or-append_right, get_or-drop}
 
 -- those before stay
 pub altered_before : (old new part : List ℕ) (at n : ℕ) → new ≡ take at old ++ part ++ drop (at + n) old → (k : ℕ) → k < at → at ≤ length old → get_or new k 0 ≡ get_or old k 0

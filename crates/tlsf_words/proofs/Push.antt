@@ -1,13 +1,5 @@
 -- A place is put at the head of a list.
-use Rattle.std.proofs.Common.{◌≡◌, ◌≢◌, ℕ, ◌+◌, ◌-◌, ◌^◌, ◌<◌, ◌≤◌, List, [], ◌∷◌, length, get_or, set, sym, ap, ◌∙◌, subst, inl, inr, arith, get_or-set_same, get_or-set_other}
-use Rattle.std.specs.List.{Contains}
-use Rattle.std.proofs.lemmas.Bool.{cases_eq}
-use Rattle.std.proofs.lemmas.List.{length-set}
-use Rattle.std.proofs.lemmas.List.FromFn.{length-range_with_len, get_or-range_with_len}
-use Rattle.tlsf_class.specs.Classes.{IsLevel, last_class, classes}
-use Rattle.tlsf_class.specs.Members.{with_member}
-use Rattle.tlsf_words.specs.Fields.{low_half, links_word}
-use Rattle.tlsf_words.specs.Lists.{nowhere, list_of, first_of, LinkedFrom, AreDistinct, listed_classes, IsUnlisted, OnlyLinksChange, AreThreaded}
+use Rattle.tlsf_words.proofs.Common.{◌≡◌, ◌≢◌, ℕ, ◌+◌, ◌-◌, ◌^◌, ◌<◌, ◌≤◌, List, [], ◌∷◌, length, get_or, set, sym, ap, ◌∙◌, subst, inl, inr, arith, get_or-set_same, get_or-set_other, Contains, cases_eq, length-set, length-range_with_len, get_or-range_with_len, IsLevel, last_class, classes, with_member, low_half, links_word, nowhere, list_of, first_of, LinkedFrom, AreDistinct, listed_classes, IsUnlisted, OnlyLinksChange, AreThreaded}
 use Rattle.tlsf_words.proofs.FieldLaws.{low_half-links_word}
 use Rattle.tlsf_words.proofs.ListedClasses.{some-cons, some-first, listed-with, listed-same}
 use Rattle.tlsf_words.proofs.PlaceLists.{member_here, member_behind, member_cases, first_member, all_member, all_from_members}

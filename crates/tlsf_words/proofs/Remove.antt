@@ -1,12 +1,5 @@
 -- A place is taken out of its list by its own links.
-use Rattle.std.proofs.Common.{◌≡◌, ◌≢◌, ℕ, ◌+◌, ◌^◌, ◌<◌, ◌≤◌, true, List, [], ◌∷◌, ◌++◌, length, get_or, refl, sym, ap, ◌∙◌, subst, inl, inr, arith}
-use Rattle.std.specs.List.{AllByRecursion, Contains}
-use Rattle.std.proofs.lemmas.Bool.{cases_eq}
-use Rattle.std.proofs.lemmas.List.Elements.{Contains-append_left, Contains-append_right}
-use Rattle.tlsf_class.specs.Members.{without_member}
-use Rattle.tlsf_words.specs.Fields.{low_half, high_half, links_word}
-use Rattle.tlsf_words.specs.Lists.{nowhere, list_of, first_of, LinkedFrom, AreDistinct, without_place, listed_classes, OnlyLinksChange, AreThreaded}
-use Rattle.tlsf_words.specs.Ties.{AreTied}
+use Rattle.tlsf_words.proofs.Common.{◌≡◌, ◌≢◌, ℕ, ◌+◌, ◌^◌, ◌<◌, ◌≤◌, true, List, [], ◌∷◌, ◌++◌, length, get_or, refl, sym, ap, ◌∙◌, subst, inl, inr, arith, AllByRecursion, Contains, cases_eq, Contains-append_left, Contains-append_right, without_member, low_half, high_half, links_word, nowhere, list_of, first_of, LinkedFrom, AreDistinct, without_place, listed_classes, OnlyLinksChange, AreThreaded, AreTied}
 use Rattle.tlsf_words.proofs.FieldLaws.{low_half-links_word, high_half-links_word}
 use Rattle.tlsf_words.proofs.ListedClasses.{are_some, some-member, none-first, listed-same, listed-without}
 use Rattle.tlsf_words.proofs.PlaceLists.{last_of, Split, split_member, member_here, first_member, last_member, all_member, all_weaker, all_right, all_last, distinct_without, without_split, without_within}

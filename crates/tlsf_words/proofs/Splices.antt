@@ -1,11 +1,7 @@
 -- The bytes of a word that is put together from two, and of one that loses its low bytes.
-use Rattle.std.proofs.Common.{◌≡◌, ℕ, zero, suc, ◌+◌, ◌-◌, ◌*◌, ◌/◌, ◌%◌, ◌^◌, ◌<◌, ◌≤◌, ◌++◌, get_or, length, take, drop, w64, refl, sym, ap, ◌∙◌, inl, inr, arith, length-append, length-drop, length-take-le}
-use Rattle.std.specs.Int.{to_le_bytes}
+use Rattle.tlsf_words.proofs.Common.{◌≡◌, ℕ, zero, suc, ◌+◌, ◌-◌, ◌*◌, ◌/◌, ◌%◌, ◌^◌, ◌<◌, ◌≤◌, ◌++◌, get_or, length, take, drop, w64, refl, sym, ap, ◌∙◌, inl, inr, arith, length-append, length-drop, length-take-le, to_le_bytes, cases_lt, ext_get_or, get_or-take, get_or-drop, get_or_append_left, get_or-append_right, pow-add, pow_pos, mod-pow-add, div-mul-add, mod-mul-add}
 use Rattle.std.proofs.Math.Nat.{div-div-eq-div-mul, mod-eq_of_lt, mod-lt, mul-le-mul_right}
 use Rattle.std.proofs.Math.Pow.{mod-mod-pow, pow-lt}
-use Rattle.std.proofs.lemmas.Bool.{cases_lt}
-use Rattle.std.proofs.lemmas.List.{ext_get_or, get_or-take, get_or-drop, get_or_append_left, get_or-append_right}
-use Rattle.std.proofs.lemmas.Nat.{pow-add, pow_pos, mod-pow-add, div-mul-add, mod-mul-add}
 
 -- byte j of a word is entry j of its bytes
 byte_at : (word j : ℕ) → j < 8 → get_or (to_le_bytes w64 word) j 0 ≡ word / 2 ^ (8 * j) % 2 ^ 8

@@ -1,7 +1,5 @@
 -- What sums and differences of tags as words say.
-use Rattle.std.proofs.Common.{◌≡◌, ℕ, ◌+◌, ◌-◌, ◌*◌, ◌/◌, ◌%◌, ◌^◌, ◌<◌, ◌≤◌, inl, inr, Bool, true, false, eqb, ap, ◌∙◌, sym, arith, eq-eqb}
-use Rattle.std.proofs.lemmas.Bool.{false≢true, cases_eq, eqb-true, ne_eqb}
-use Rattle.tlsf_words.specs.Fields.{low_half, high_half, size_in, last_in, free_in, back_in}
+use Rattle.tlsf_words.proofs.Common.{◌≡◌, ℕ, ◌+◌, ◌-◌, ◌*◌, ◌/◌, ◌%◌, ◌^◌, ◌<◌, ◌≤◌, inl, inr, Bool, true, false, eqb, ap, ◌∙◌, sym, arith, eq-eqb, false≢true, cases_eq, eqb-true, ne_eqb, low_half, high_half, size_in, last_in, free_in, back_in}
 
 -- what a word says as a tag
 pub record Says (word n : ℕ) (is_free is_last : Bool) (at : ℕ) : Type 0 where

@@ -1,12 +1,6 @@
 -- Lists threaded through words: which words they rest on, and what becomes of them when one of them is threaded anew.
-use Rattle.std.proofs.Common.{◌≡◌, ◌≢◌, ℕ, zero, suc, ◌+◌, ◌^◌, ◌<◌, ◌≤◌, Bool, true, false, cond, not, eqb, List, [], ◌∷◌, length, get_or, refl, sym, ap, ◌∙◌, subst, inl, inr, arith}
-use Rattle.std.specs.List.{AllByRecursion, Contains}
-use Rattle.std.proofs.lemmas.Bool.{cases_eq, eqb-true, eq-eqb, ne_eqb}
-use Rattle.std.proofs.lemmas.List.Elements.{filter_agree}
-use Rattle.tlsf_class.specs.Classes.{IsLevel, classes}
+use Rattle.tlsf_words.proofs.Common.{◌≡◌, ◌≢◌, ℕ, zero, suc, ◌+◌, ◌^◌, ◌<◌, ◌≤◌, Bool, true, false, cond, not, eqb, List, [], ◌∷◌, length, get_or, refl, sym, ap, ◌∙◌, subst, inl, inr, arith, AllByRecursion, Contains, cases_eq, eqb-true, eq-eqb, ne_eqb, filter_agree, IsLevel, classes, low_half, nowhere, places_from, list_of, first_of, LinkedFrom, AreDistinct, listed_classes, AreThreaded}
 use Rattle.tlsf_class.proofs.TwoLevels.{by_level}
-use Rattle.tlsf_words.specs.Fields.{low_half}
-use Rattle.tlsf_words.specs.Lists.{nowhere, places_from, list_of, first_of, LinkedFrom, AreDistinct, listed_classes, AreThreaded}
 use Rattle.tlsf_words.proofs.FieldLaws.{low_half-links_word}
 use Rattle.tlsf_words.proofs.PlaceLists.{member_here, member_behind, first_member, all_member, all_weaker, distinct_few}
 

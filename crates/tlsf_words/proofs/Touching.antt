@@ -1,11 +1,5 @@
 -- A touch of one place is none of another.
-use Rattle.std.proofs.Common.{◌≡◌, ◌≢◌, ℕ, suc, ◌+◌, ◌/◌, ◌<◌, ◌≤◌, List, [], ◌∷◌, ◌++◌, cond, refl, sym, ap, ◌∙◌, subst, arith}
-use Rattle.std.specs.Prelude.{Contains}
-use Rattle.std.proofs.lemmas.List.{length-append}
-use Rattle.std.proofs.lemmas.List.Elements.{Contains-append_left, Contains-append_right}
-use Rattle.std.proofs.lemmas.Bool.{ne_eqb}
-use Rattle.tlsf_words.specs.Counted.{Tallied, Within}
-use Rattle.tlsf_words.specs.Touched.{times, InGroups}
+use Rattle.tlsf_words.proofs.Common.{◌≡◌, ◌≢◌, ℕ, suc, ◌+◌, ◌/◌, ◌<◌, ◌≤◌, List, [], ◌∷◌, ◌++◌, cond, refl, sym, ap, ◌∙◌, subst, arith, Contains, length-append, Contains-append_left, Contains-append_right, ne_eqb, Tallied, Within, times, InGroups}
 
 pub times_other : (at k : ℕ) (l : List ℕ) → k ≢ at → times (at ∷ l) k ≡ times l k
 unfolding times

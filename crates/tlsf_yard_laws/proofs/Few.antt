@@ -1,12 +1,6 @@
 -- A ledger in which no name stands twice is no longer than a list that has all its names; what the lanes to a worker have is no more than they hold.
-use Rattle.std.proofs.Common.{◌≡◌, ◌≢◌, ℕ, zero, suc, ◌+◌, ◌*◌, ◌<◌, ◌≤◌, ◌⊎◌, Bool, true, false, not, cond, eqb, List, [], ◌∷◌, ◌++◌, length, map, filter, Option, Some, None, refl, sym, ap, ◌∙◌, subst, inl, inr, arith, length-append, eq-eqb}
-use Rattle.std.proofs.lemmas.Bool.{cases_eq, false≢true, ne_eqb}
-use Rattle.std.proofs.lemmas.List.{length-map}
-use Rattle.tlsf_heap.specs.declared.name.Name.{Name}
+use Rattle.tlsf_yard_laws.proofs.Common.{◌≡◌, ◌≢◌, ℕ, zero, suc, ◌+◌, ◌*◌, ◌<◌, ◌≤◌, ◌⊎◌, Bool, true, false, not, cond, eqb, List, [], ◌∷◌, ◌++◌, length, map, filter, Option, Some, None, refl, sym, ap, ◌∙◌, subst, inl, inr, arith, length-append, eq-eqb, cases_eq, false≢true, ne_eqb, length-map, Name, Post, is_same, Ledger}
 use Rattle.tlsf_heap.proofs.lemmas.blocks.Find.{not_true}
-use Rattle.tlsf_post.specs.declared.post.Post.{Post}
-use Rattle.tlsf_pool.specs.laws.Contents.{is_same}
-use Rattle.tlsf_pool.specs.laws.Kinds.{Ledger}
 use Rattle.tlsf_pool.proofs.lemmas.laws.Names.{same_self, same_is}
 use Rattle.tlsf_pool.proofs.lemmas.laws.Ledgers.{AreNamesApart, lookup}
 

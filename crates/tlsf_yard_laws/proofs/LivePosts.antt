@@ -1,22 +1,10 @@
 -- A live block stays live until its release is accepted.
-use Rattle.std.proofs.Common.{true, false, Bool, [], ◌∷◌, ◌≡◌, ◌≢◌, ℕ, ◌<◌, List, Option, Some, None, Result, Ok, Err, All, map, replicate, refl, sym, ap, ◌∙◌, subst, inl, inr}
-use Rattle.std.specs.Prelude.{IsSome, if◌then◌else◌}
-use Rattle.std.specs.List.{AllByRecursion, cons_option}
-use Rattle.std.specs.Option.{option_map}
-use Rattle.std.proofs.lemmas.Bool.{cases_eq}
-use Rattle.std.proofs.lemmas.List.Elements.{All-tail}
-use Rattle.tlsf_class.specs.Classes.{IsLevel}
-use Rattle.tlsf_heap.specs.Blocks.{HeapState}
+use Rattle.tlsf_yard_laws.proofs.Common.{true, false, Bool, [], ◌∷◌, ◌≡◌, ◌≢◌, ℕ, ◌<◌, List, Option, Some, None, Result, Ok, Err, All, map, replicate, refl, sym, ap, ◌∙◌, subst, inl, inr, IsSome, if◌then◌else◌, AllByRecursion, cons_option, option_map, cases_eq, All-tail, IsLevel, HeapState, IsLawful, Name, Contents, after, contents, is_same, Entry, RunsTo, answer_told, answers_on, call_on_own, calls_on, handed_on}
 use Rattle.tlsf_heap.specs.Calls as heap
-use Rattle.tlsf_heap.specs.Lawful.{IsLawful}
 use Rattle.tlsf_heap.specs.Laws.{IsLive}
-use Rattle.tlsf_heap.specs.declared.name.Name.{Name}
 use Rattle.tlsf_heap.specs.declared.refusal.Refusal.{Refusal}
-use Rattle.tlsf_pool.specs.laws.Contents.{Contents, after, contents, is_same}
 use Rattle.tlsf_pool.proofs.lemmas.laws.Looks.{change, live}
 use Rattle.tlsf_pool.proofs.lemmas.laws.Names.{same_is}
-use Rattle.tlsf_calls.specs.declared.entry.Entry.{Entry}
-use Rattle.tlsf_crew.specs.histories.History.{RunsTo, answer_told, answers_on, call_on_own, calls_on, handed_on}
 use Rattle.tlsf_crew.proofs.lemmas.histories.Fronts.{runs_through}
 use Rattle.tlsf_crew.proofs.lemmas.histories.JoinedEntries.{HasItsAnswer, told_other, told_own}
 

@@ -1,33 +1,14 @@
 -- Request by request: what is live is held by the programs or under way at some moment, so each request of a race finds room.
-use Rattle.std.proofs.Common.{◌==◌, ◌≡◌, ◌≢◌, ℕ, zero, suc, ◌+◌, ◌-◌, ◌*◌, ◌<◌, ◌≤◌, ◌⊎◌, Bool, true, false, cond, eqb, List, [], ◌∷◌, ◌++◌, length, map, Option, Some, None, refl, sym, ap, ◌∙◌, subst, inl, inr, arith, length-append, append_assoc, append-nil, eq-eqb}
-use Rattle.std.specs.List.{cons_option, filter_map}
+use Rattle.tlsf_yard_laws.proofs.Common.{◌==◌, ◌≡◌, ◌≢◌, ℕ, zero, suc, ◌+◌, ◌-◌, ◌*◌, ◌<◌, ◌≤◌, ◌⊎◌, Bool, true, false, cond, eqb, List, [], ◌∷◌, ◌++◌, length, map, Option, Some, None, refl, sym, ap, ◌∙◌, subst, inl, inr, arith, length-append, append_assoc, append-nil, eq-eqb, cons_option, filter_map, cases_eq, false≢true, length-map, filter-append, IsLevel, HeapState, IsLawful, Name, Post, AreModest, IsModest, is_same, Ledger, ledger_after, ledger_after_all, World, heap_in, RunsTo, answer_told, answers_on, call_on_own, calls_on, entries_of, handed_on, post_of_release, post_of_take, record_of, Call, Entry, Carrier, IsRaceOver, OverLanes, OverQueues, most_under_way, without_post}
 use mathlib.Core.List.{IsPrefix}
-use Rattle.std.proofs.lemmas.Bool.{cases_eq, false≢true}
-use Rattle.std.proofs.lemmas.List.{length-map}
-use Rattle.std.proofs.lemmas.List.Elements.{filter-append}
-use Rattle.tlsf_class.specs.Classes.{IsLevel}
-use Rattle.tlsf_heap.specs.Blocks.{HeapState}
 use Rattle.tlsf_heap.specs.Calls as heap
-use Rattle.tlsf_heap.specs.Lawful.{IsLawful}
-use Rattle.tlsf_heap.specs.declared.name.Name.{Name}
 use Rattle.tlsf_heap.proofs.lemmas.calls.Outcomes.{lawful_run}
 use Rattle.tlsf_heap.proofs.lemmas.blocks.Lawful.{opened_lawful}
-use Rattle.tlsf_post.specs.declared.post.Post.{Post}
 use Rattle.tlsf_pool.specs.laws.Held.{held_after, held_after_all}
-use Rattle.tlsf_pool.specs.laws.MixedSizes.{AreModest, IsModest}
-use Rattle.tlsf_pool.specs.laws.Contents.{is_same}
-use Rattle.tlsf_pool.specs.laws.Kinds.{Ledger, ledger_after, ledger_after_all}
 use Rattle.tlsf_pool.proofs.lemmas.laws.Names.{same_is, same_self}
 use Rattle.tlsf_pool.proofs.lemmas.laws.Ledgers.{Agrees, agrees_run, live_agrees, lookup, new_agrees}
-use Rattle.tlsf_crew.specs.model.World.{World, heap_in}
-use Rattle.tlsf_crew.specs.histories.History.{RunsTo, answer_told, answers_on, call_on_own, calls_on, entries_of, handed_on, post_of_release, post_of_take}
-use Rattle.tlsf_crew.specs.races.Race.{record_of}
-use Rattle.tlsf_calls.specs.declared.call.Call.{Call}
-use Rattle.tlsf_calls.specs.declared.entry.Entry.{Entry}
 use Rattle.tlsf_crew.proofs.lemmas.histories.JoinedEntries.{runs_then, told_other, told_own, told_then, length_told}
-use Rattle.tlsf_yard_laws.specs.Carriers.{Carrier, IsRaceOver, OverLanes, OverQueues}
 use Rattle.tlsf_yard_laws.specs.Races.{HasPast}
-use Rattle.tlsf_yard_laws.specs.Sharing.{most_under_way, without_post}
 use Rattle.tlsf_yard_laws.specs.Moments.{IsShort, OrdersHaveMoments, RaceSharedMixedSizesServe, all_under_way, unreleased, AreSparingInRace}
 use Rattle.tlsf_yard_laws.proofs.Few.{IsAmong, among_left, among_right, few, names_of, posted, still_among, one_more}
 use Rattle.tlsf_yard_laws.proofs.RaceRecords.{heap_between}

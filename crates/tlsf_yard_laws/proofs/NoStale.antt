@@ -1,31 +1,14 @@
 -- A post that is taken finds its block live, where no name is given back twice.
-use Rattle.std.proofs.Common.{[], ◌∷◌, ◌++◌, ◌≡◌, ◌≢◌, ◌⊎◌, ℕ, ◌<◌, List, Option, Some, None, Ok, All, length, refl, sym, ap, ◌∙◌, subst, inl, inr, arith, append_assoc, length-append}
-use Rattle.std.specs.List.{AllByRecursion, cons_option, filter_map}
-use Rattle.std.specs.Option.{option_map}
-use Rattle.std.proofs.lemmas.Bool.{cases_eq, cases_lt}
-use Rattle.std.proofs.lemmas.List.Elements.{All-take}
+use Rattle.tlsf_yard_laws.proofs.Common.{[], ◌∷◌, ◌++◌, ◌≡◌, ◌≢◌, ◌⊎◌, ℕ, ◌<◌, List, Option, Some, None, Ok, All, length, refl, sym, ap, ◌∙◌, subst, inl, inr, arith, append_assoc, length-append, AllByRecursion, cons_option, filter_map, option_map, cases_eq, cases_lt, All-take, Name, Post, Call, Allocate, Release, Write, Read, Resize, Take, Drain, Entry, Reply, Freed, Posted, Refused, Heap, Target, World, heap_in, name_of, StandsBehind, answer_told, call_on_own, entries_of, meant, name_on_heap, post_of_release, posts_made, posts_taken, record_of, bytes_of, Carrier, IsRaceOver}
 use Rattle.tlsf_heap.specs.Calls as heap
 use Rattle.tlsf_heap.specs.Laws.{IsLive}
-use Rattle.tlsf_heap.specs.declared.name.Name.{Name}
 use Rattle.tlsf_heap.proofs.lemmas.laws.Live.{known}
-use Rattle.tlsf_post.specs.declared.post.Post.{Post}
-use Rattle.tlsf_calls.specs.declared.call.Call.{Call}
-use Rattle.tlsf_calls.specs.declared.call.Call.TheVariants.{Allocate, Release, Write, Read, Resize, Take, Drain}
-use Rattle.tlsf_calls.specs.declared.entry.Entry.{Entry}
-use Rattle.tlsf_calls.specs.declared.reply.Reply.{Reply}
-use Rattle.tlsf_calls.specs.declared.reply.Reply.TheVariants.{Freed, Posted, Took as Taken, Refused}
-use Rattle.tlsf_calls.specs.declared.crew_refusal.CrewRefusal.TheVariants.{Heap}
-use Rattle.tlsf_calls.specs.declared.target.Target.{Target}
+use Rattle.tlsf_calls.specs.declared.reply.Reply.TheVariants.{Took as Taken}
 use Rattle.tlsf_calls.specs.declared.took.Took.{Took}
-use Rattle.tlsf_crew.specs.model.World.{World, heap_in, name_of}
-use Rattle.tlsf_crew.specs.histories.History.{StandsBehind, answer_told, call_on_own, entries_of, meant, name_on_heap, post_of_release, posts_made, posts_taken}
-use Rattle.tlsf_crew.specs.races.Race.{record_of}
 use Rattle.tlsf_crew.proofs.lemmas.race_laws.SameDrains.{own_post, ran_take, take_entry}
 use Rattle.tlsf_crew.proofs.lemmas.histories.LaneCalls.{of_other, of_same}
-use Rattle.tlsf_calls.specs.Bytes.{bytes_of}
 use Rattle.std.proofs.Math.Seq.{take-append_seam}
 use Rattle.tlsf_crew.proofs.lemmas.histories.JoinedEntries.{HasItsAnswer, told_nothing, told_other, told_own, told_then, taken_then}
-use Rattle.tlsf_yard_laws.specs.Carriers.{Carrier, IsRaceOver}
 use Rattle.tlsf_yard_laws.proofs.LivePosts.{SparesIn, entries_live}
 use Rattle.tlsf_yard_laws.proofs.RaceRecords.{Away, each_answered, heap_between, posts_match, takes_none_of}
 use Rattle.tlsf_yard_laws.specs.Posts.{GiveBackOnce, GivesBack, NoPostIsStale}

@@ -1,25 +1,12 @@
 -- What the records of a race tell, whatever carries its posts.
-use Rattle.std.proofs.Common.{◌==◌, false, [], ◌∷◌, ◌++◌, ◌≡◌, ◌≢◌, ℕ, ◌<◌, ◌≤◌, List, Option, None, All, length, refl, sym, ap, ◌∙◌, subst, inl, inr, arith, append-nil}
-use Rattle.std.proofs.lemmas.Bool.{cases_eq}
+use Rattle.tlsf_yard_laws.proofs.Common.{◌==◌, false, [], ◌∷◌, ◌++◌, ◌≡◌, ◌≢◌, ℕ, ◌<◌, ◌≤◌, List, Option, None, All, length, refl, sym, ap, ◌∙◌, subst, inl, inr, arith, append-nil, cases_eq, IsLevel, IsLawful, Name, Post, Call, Allocate, Release, Write, Read, Resize, Take, Drain, Stranger, Entry, Reply, Drained, Refused, record_of, RunsThrough, RunsTo, answers_on, calls_on, post_of_take, posts_made, posts_taken, World, Replayed, called, draining, heap_in, taking, Carrier, IsRaceOver, OverLanes, OverQueues}
 use Rattle.std.proofs.lemmas.Bool.Decides.{nat_tests}
-use Rattle.tlsf_class.specs.Classes.{IsLevel}
-use Rattle.tlsf_heap.specs.Lawful.{IsLawful}
-use Rattle.tlsf_heap.specs.declared.name.Name.{Name}
 use Rattle.tlsf_post.specs.Rule.{posts_of}
-use Rattle.tlsf_post.specs.declared.post.Post.{Post}
-use Rattle.tlsf_calls.specs.declared.call.Call.{Call}
-use Rattle.tlsf_calls.specs.declared.call.Call.TheVariants.{Allocate, Release, Write, Read, Resize, Take, Drain}
-use Rattle.tlsf_calls.specs.declared.crew_refusal.CrewRefusal.TheVariants.{Stranger}
-use Rattle.tlsf_calls.specs.declared.entry.Entry.{Entry}
-use Rattle.tlsf_calls.specs.declared.reply.Reply.{Reply}
-use Rattle.tlsf_calls.specs.declared.reply.Reply.TheVariants.{Took as Taken, Drained, Refused}
+use Rattle.tlsf_calls.specs.declared.reply.Reply.TheVariants.{Took as Taken}
 use Rattle.tlsf_crew.specs.model.QueueProgress.{MayTellQueue, MayTellQueueAll, IsFromOther, with_reply, with_takes}
 use Rattle.tlsf_crew.specs.race_laws.Alone.{TakesNoPost}
 use Rattle.tlsf_crew.specs.scripts.Scripts.{last_call, script_of}
-use Rattle.tlsf_crew.specs.races.Race.{record_of}
-use Rattle.tlsf_crew.specs.histories.History.{RunsThrough, RunsTo, answers_on, calls_on, post_of_take, posts_made, posts_taken}
 use Rattle.tlsf_crew.specs.model.Progress.{Progress, MayTell, MayTellAll, untold}
-use Rattle.tlsf_crew.specs.model.World.{World, Replayed, called, draining, heap_in, taking}
 use Rattle.tlsf_crew.proofs.lemmas.race_laws.QueueRecords.{queue_race_answered, queue_race_runs}
 use Rattle.tlsf_crew.proofs.lemmas.races.QueueTakes.{none_of_others, takes_of_posts}
 use Rattle.tlsf_crew.proofs.lemmas.race_laws.AloneRuns.{takes_none}
@@ -31,7 +18,6 @@ use Rattle.tlsf_crew.proofs.lemmas.histories.AllEntries.{called_knows, called_to
 use Rattle.tlsf_crew.proofs.lemmas.histories.Fronts.{runs_through}
 use Rattle.tlsf_crew.proofs.lemmas.histories.JoinedEntries.{HasItsAnswer, told_nothing, taken_then}
 use Rattle.tlsf_crew.proofs.lemmas.model.OneEvent.{taking_far, taking_own}
-use Rattle.tlsf_yard_laws.specs.Carriers.{Carrier, IsRaceOver, OverLanes, OverQueues}
 
 -- ---- no worker takes what it posted itself, or what one that isn't there did
 

@@ -1,37 +1,17 @@
 -- Entry by entry: what is live in a heap is held by the programs, or its name waits in a lane. So each request finds room.
-use Rattle.std.proofs.Common.{◌==◌, ◌≡◌, ◌≢◌, ℕ, suc, ◌+◌, ◌*◌, ◌<◌, ◌≤◌, ◌⊎◌, Bool, true, false, cond, eqb, List, [], ◌∷◌, ◌++◌, length, Option, Some, None, Result, Ok, Err, refl, sym, ap, ◌∙◌, subst, inl, inr, arith, length-append, eq-eqb, append-nil}
-use Rattle.std.specs.Prelude.{⊤}
-use Rattle.std.specs.List.{AllByRecursion, cons_option}
-use Rattle.std.specs.Option.{option_map}
-use Rattle.std.proofs.lemmas.Bool.{cases_eq, false≢true, ne_eqb}
-use Rattle.std.proofs.lemmas.List.{length-map}
-use Rattle.tlsf_class.specs.Classes.{IsLevel, most_words}
-use Rattle.tlsf_heap.specs.Blocks.{HeapState, want}
+use Rattle.tlsf_yard_laws.proofs.Common.{◌==◌, ◌≡◌, ◌≢◌, ℕ, suc, ◌+◌, ◌*◌, ◌<◌, ◌≤◌, ◌⊎◌, Bool, true, false, cond, eqb, List, [], ◌∷◌, ◌++◌, length, Option, Some, None, Result, Ok, Err, refl, sym, ap, ◌∙◌, subst, inl, inr, arith, length-append, eq-eqb, append-nil, ⊤, AllByRecursion, cons_option, option_map, cases_eq, false≢true, ne_eqb, length-map, IsLevel, most_words, HeapState, want, Name, Post, mixed_words, IsModest, IsServed, bytes_there, is_same, Ledger, ledger_after, with_length, bytes_of, RunsTo, answer_told, answers_on, call_on_own, calls_on, handed_on, meant, name_on_heap, post_of_release, post_of_take, posts_made, posts_taken, taken_name, Entry, Call, Allocate, Release, Write, Read, Resize, Take, Drain, Target, Reply, AreSparing, IsSparing, unreleased_after, with_call, without_post}
 use Rattle.tlsf_heap.specs.GoodFit.{Site}
 use Rattle.tlsf_heap.specs.Calls as heap
-use Rattle.tlsf_heap.specs.declared.name.Name.{Name}
 use Rattle.tlsf_heap.specs.declared.refusal.Refusal.{Refusal}
 use Rattle.tlsf_heap.specs.declared.refusal.Refusal.TheVariants.{Foreign, Worn}
 use Rattle.tlsf_heap.proofs.lemmas.blocks.Lawful.{all_append}
 use Rattle.tlsf_heap.proofs.lemmas.calls.Outcomes.{takes}
-use Rattle.tlsf_post.specs.declared.post.Post.{Post}
 use Rattle.tlsf_pool.specs.laws.Room.{live_count}
-use Rattle.tlsf_pool.specs.laws.MixedSizes.{mixed_words, IsModest, IsServed}
-use Rattle.tlsf_pool.specs.laws.Contents.{bytes_there, is_same}
-use Rattle.tlsf_pool.specs.laws.Kinds.{Ledger, ledger_after, with_length}
 use Rattle.tlsf_pool.proofs.lemmas.laws.Names.{same_is, same_self}
 use Rattle.tlsf_pool.proofs.lemmas.laws.Ledgers.{Agrees, agrees_call, live_agrees, lookup, lookup_without}
 use Rattle.tlsf_pool.proofs.lemmas.laws.ModestCalls.{InMixed, is_served, kept, tick_kept}
-use Rattle.tlsf_calls.specs.Bytes.{bytes_of}
-use Rattle.tlsf_crew.specs.histories.History.{RunsTo, answer_told, answers_on, call_on_own, calls_on, handed_on, meant, name_on_heap, post_of_release, post_of_take, posts_made, posts_taken, taken_name}
-use Rattle.tlsf_calls.specs.declared.entry.Entry.{Entry}
-use Rattle.tlsf_calls.specs.declared.call.Call.{Call}
-use Rattle.tlsf_calls.specs.declared.call.Call.TheVariants.{Allocate, Release, Write, Read, Resize, Take, Drain}
-use Rattle.tlsf_calls.specs.declared.target.Target.{Target}
-use Rattle.tlsf_calls.specs.declared.reply.Reply.{Reply}
 use Rattle.tlsf_calls.specs.declared.reply.Reply.TheVariants.{Took as Taken}
 use Rattle.tlsf_crew.proofs.lemmas.histories.JoinedEntries.{told_other, told_own, told_then}
-use Rattle.tlsf_yard_laws.specs.Sharing.{AreSparing, IsSparing, unreleased_after, with_call, without_post}
 use Rattle.tlsf_yard_laws.proofs.Told.{noted_same, served_on}
 use Rattle.tlsf_yard_laws.proofs.Few.{IsAmong, among_left, among_right, few, in_lanes, lane_names, lanes_few, names_of, posted, still_among}
 

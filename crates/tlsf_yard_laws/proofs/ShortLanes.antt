@@ -1,17 +1,7 @@
 -- No event makes a lane hold more posts than its capacity, nor changes the capacity.
-use Rattle.std.proofs.Common.{◌==◌, true, false, zero, suc, [], ◌∷◌, ◌++◌, ◌≡◌, ℕ, ◌-◌, ◌≤◌, List, Option, Some, None, length, take, drop, refl, ap, ◌∙◌, arith, inl, inr, subst}
-use Rattle.std.specs.List.{fold}
-use Rattle.std.proofs.lemmas.Bool.{cases_eq, cases_lt}
+use Rattle.tlsf_yard_laws.proofs.Common.{◌==◌, true, false, zero, suc, [], ◌∷◌, ◌++◌, ◌≡◌, ℕ, ◌-◌, ◌≤◌, List, Option, Some, None, length, take, drop, refl, ap, ◌∙◌, arith, inl, inr, subst, fold, cases_eq, cases_lt, length-drop, length_push, HeapState, Name, Post, bytes_of, Call, Allocate, Release, Write, Read, Resize, Take, Drain, World, Replayed, DrainState, by_own, called, draining, after_drain, drained_below, drained_waiting, name_of, posting, releasing_named, taking, taking_next, took_first, took_more, with_waiting}
 use Rattle.std.proofs.lemmas.Bool.Decides.{nat_tests}
-use Rattle.std.proofs.lemmas.List.{length-drop, length_push}
-use Rattle.tlsf_heap.specs.Blocks.{HeapState}
-use Rattle.tlsf_heap.specs.declared.name.Name.{Name}
-use Rattle.tlsf_post.specs.declared.post.Post.{Post}
-use Rattle.tlsf_calls.specs.Bytes.{bytes_of}
-use Rattle.tlsf_calls.specs.declared.call.Call.{Call}
-use Rattle.tlsf_calls.specs.declared.call.Call.TheVariants.{Allocate, Release, Write, Read, Resize, Take, Drain}
 use Rattle.tlsf_crew.specs.model.OwnReplies.{HeapReply, own_reading, own_resizing, own_writing}
-use Rattle.tlsf_crew.specs.model.World.{World, Replayed, DrainState, by_own, called, draining, after_drain, drained_below, drained_waiting, name_of, posting, releasing_named, taking, taking_next, took_first, took_more, with_waiting}
 use Rattle.tlsf_crew.proofs.lemmas.model.Edits.{edited_other, edited_same}
 use Rattle.tlsf_crew.proofs.lemmas.model.OneEvent.{from_other, from_own, releasing_far, releasing_post, taking_far, taking_lane, taking_own}
 

@@ -1,25 +1,14 @@
 -- Answers as they are handed on tell the same of what is held and of bytes.
-use Rattle.std.proofs.Common.{◌≡◌, ℕ, ◌+◌, ◌<◌, ◌≤◌, List, [], ◌∷◌, length, map, None, Ok, Err, refl, sym, ap, ◌∙◌, subst, arith}
-use Rattle.std.specs.List.{AllByRecursion}
-use Rattle.tlsf_class.specs.Classes.{IsLevel, most_words}
-use Rattle.tlsf_heap.specs.Blocks.{HeapState, want}
-use Rattle.tlsf_heap.specs.Lawful.{IsRegion}
+use Rattle.tlsf_yard_laws.proofs.Common.{◌≡◌, ℕ, ◌+◌, ◌<◌, ◌≤◌, List, [], ◌∷◌, length, map, None, Ok, Err, refl, sym, ap, ◌∙◌, subst, arith, AllByRecursion, IsLevel, most_words, HeapState, want, IsRegion, Name, mixed_words, AreModest, HasRoomFor, IsServed, Ledger, ledger_after, Contents, contents, after, after_all, World, heap_in, replies, RunsTo, calls_on, answers_on, handed_on, Carrier}
 use Rattle.tlsf_heap.specs.Calls.{Call, Read, Answer, Got, last_tick, opened, run}
 use Rattle.tlsf_pool.specs.laws.Room.{live_count}
 use Rattle.tlsf_pool.specs.laws.Held.{held_after, held_after_all}
-use Rattle.tlsf_heap.specs.declared.name.Name.{Name}
-use Rattle.tlsf_pool.specs.laws.MixedSizes.{mixed_words, AreModest, HasRoomFor, IsServed}
-use Rattle.tlsf_pool.specs.laws.Kinds.{Ledger, ledger_after}
-use Rattle.tlsf_pool.specs.laws.Contents.{Contents, contents, after, after_all}
 use Rattle.tlsf_pool.proofs.lemmas.laws.Held.{holds}
 use Rattle.tlsf_pool.proofs.lemmas.laws.ModestCalls.{serves, suffices}
 use Rattle.tlsf_pool.proofs.lemmas.laws.Looks.{told_new}
-use Rattle.tlsf_crew.specs.model.World.{World, heap_in, replies}
-use Rattle.tlsf_crew.specs.histories.History.{RunsTo, calls_on, answers_on, handed_on}
 use Rattle.tlsf_calls.specs.declared.event.Event.{Event}
 use Rattle.tlsf_crew.proofs.lemmas.histories.AllEntries.{replies_tell}
 use Rattle.tlsf_crew.proofs.lemmas.histories.JoinedEntries.{runs_then}
-use Rattle.tlsf_yard_laws.specs.Carriers.{Carrier}
 use Rattle.tlsf_yard_laws.specs.Races.{NewHasNoPast, RaceAddsToPast, RaceHoldsWhatIsLive, RaceKeepsBytes, RaceMixedSizesServe, RaceMixedSizesSuffice, ReplayAddsToPast}
 use Rattle.tlsf_yard_laws.proofs.RaceRecords.{heap_runs, heaps_stay}
 use Rattle.tlsf_yard_laws.specs.Yards.{IsNew, YardHoldsWhatIsLive, YardKeepsBytes, YardMixedSizesServe, YardMixedSizesSuffice}

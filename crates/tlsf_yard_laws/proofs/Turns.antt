@@ -1,33 +1,16 @@
 -- The entries of a list of events lead, one after another, from the first world to the last.
-use Rattle.std.proofs.Common.{zero, suc, [], ◌∷◌, ◌++◌, ◌≡◌, ◌≢◌, ℕ, ◌+◌, ◌-◌, ◌*◌, ◌<◌, ◌≤◌, List, Option, Some, None, length, All, refl, sym, ap, ◌∙◌, arith, inl, inr, subst, append_assoc, append-nil, length-append}
-use Rattle.std.specs.List.{AllByRecursion, fold}
-use Rattle.std.proofs.lemmas.Bool.{cases_lt}
-use Rattle.std.proofs.lemmas.List.Elements.{All-tail}
-use Rattle.tlsf_class.specs.Classes.{IsLevel}
-use Rattle.tlsf_heap.specs.Blocks.{HeapState, want}
-use Rattle.tlsf_heap.specs.Lawful.{IsLawful}
-use Rattle.tlsf_heap.specs.declared.name.Name.{Name}
+use Rattle.tlsf_yard_laws.proofs.Common.{zero, suc, [], ◌∷◌, ◌++◌, ◌≡◌, ◌≢◌, ℕ, ◌+◌, ◌-◌, ◌*◌, ◌<◌, ◌≤◌, List, Option, Some, None, length, All, refl, sym, ap, ◌∙◌, arith, inl, inr, subst, append_assoc, append-nil, length-append, AllByRecursion, fold, cases_lt, All-tail, IsLevel, HeapState, want, IsLawful, Name, Post, mixed_words, IsServed, World, Replayed, answered, begun, called, heap_in, replies, AreTakes, RunsTo, TellsCall, answer_told, answers_on, call_on_own, calls_on, post_of_release, post_of_take, posts_made, posts_taken, Entry, Call, Allocate, Release, Write, Read, Resize, Take, Drain, Target, Drained, Refused, Stranger, SharedMixedSizesServe}
 use Rattle.tlsf_heap.proofs.lemmas.calls.Outcomes.{lawful_run}
-use Rattle.tlsf_post.specs.declared.post.Post.{Post}
-use Rattle.tlsf_pool.specs.laws.MixedSizes.{mixed_words, IsServed}
 use Rattle.tlsf_pool.proofs.lemmas.laws.Ledgers.{Agrees, new_agrees}
 use Rattle.tlsf_pool.proofs.lemmas.laws.ModestCalls.{InMixed, opens}
-use Rattle.tlsf_crew.specs.model.World.{World, Replayed, after, answered, begun, called, heap_in, replies}
-use Rattle.tlsf_crew.specs.histories.History.{AreTakes, RunsTo, TellsCall, answer_told, answers_on, call_on_own, calls_on, post_of_release, post_of_take, posts_made, posts_taken}
-use Rattle.tlsf_calls.specs.declared.entry.Entry.{Entry}
+use Rattle.tlsf_crew.specs.model.World.{after}
 use Rattle.tlsf_calls.specs.declared.event.Event.{Event}
-use Rattle.tlsf_calls.specs.declared.call.Call.{Call}
-use Rattle.tlsf_calls.specs.declared.call.Call.TheVariants.{Allocate, Release, Write, Read, Resize, Take, Drain}
-use Rattle.tlsf_calls.specs.declared.target.Target.{Target}
-use Rattle.tlsf_calls.specs.declared.reply.Reply.TheVariants.{Drained, Refused}
-use Rattle.tlsf_calls.specs.declared.crew_refusal.CrewRefusal.TheVariants.{Stranger}
 use Rattle.tlsf_crew.proofs.lemmas.histories.AllEntries.{called_knows, called_told, more_knows}
 use Rattle.tlsf_crew.proofs.lemmas.histories.DrainEntries.{ToldOnce}
 use Rattle.tlsf_crew.proofs.lemmas.model.EventSteps.{after_far, after_near}
 use Rattle.tlsf_crew.proofs.lemmas.histories.Fronts.{runs_through}
 use Rattle.tlsf_crew.proofs.lemmas.histories.JoinedEntries.{HasItsAnswer, told_nothing, told_other, told_then}
 use Rattle.tlsf_crew.proofs.lemmas.histories.OwnCalls.{Knows}
-use Rattle.tlsf_yard_laws.specs.Sharing.{SharedMixedSizesServe}
 use Rattle.tlsf_yard_laws.proofs.Shares.{AllLead, all_served}
 use Rattle.tlsf_yard_laws.proofs.ShortLanes.{AreShort, StayShort, called_short}
 

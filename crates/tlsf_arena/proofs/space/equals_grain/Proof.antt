@@ -1,7 +1,5 @@
 -- Assumes `Logic`.
-use Rattle.std.proofs.Common.{◌≡◌, ℕ, ◌+◌, ◌*◌, ◌^◌, ◌<◌, true, false, List, [], ◌∷◌, ◌++◌, refl, sym, ap, subst, ◌∙◌, arith, eqb, eqb→eq, eq-eqb, T, T_not, w64}
-use Rattle.std.specs.Bool.{Decides}
-use Rattle.std.proofs.lemmas.Bool.{false≢true}
+use Rattle.tlsf_arena.proofs.Common.{◌≡◌, ℕ, ◌+◌, ◌*◌, ◌^◌, ◌<◌, true, false, List, [], ◌∷◌, ◌++◌, refl, sym, ap, subst, ◌∙◌, arith, eqb, eqb→eq, eq-eqb, T, T_not, w64, Decides, false≢true, after, proved_at, leaves}
 use mir.Syntax.{Fn}
 use mir.Val.{Val, vbool, vint, vptr}
 use base.Logic.{SProp, emp}
@@ -17,8 +15,6 @@ use denote.Signature.{types_at}
 use denote.Steps.{nothing, heard}
 use denote.Triple.Entry.{alive}
 use denote.Triple.Walked.{Stays, stay_dropped, walk_of, Goes-dropped}
-use Rattle.std.proofs.alloc.Shapes.{after}
-use Rattle.std.proofs.raw_atomic.Walks.{proved_at, leaves}
 use Rattle.linked_list_allocator.proofs.Walks.{slot_at}
 use Rattle.tlsf_arena.specs.contracts.space.equals_grain.{ended, clauses}
 use Rattle.tlsf_arena.specs.contracts.space.equals_grain.Key.{name as #self}

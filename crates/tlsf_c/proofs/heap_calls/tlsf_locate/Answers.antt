@@ -1,9 +1,4 @@
-use Rattle.std.proofs.Common.{Ok, ap, subst}
-use Rattle.tlsf_heap.specs.Blocks.{HeapState}
-use Rattle.tlsf_heap.specs.InPlace.{IsPayloadCheck}
-use Rattle.tlsf_heap.specs.declared.name.Name.{Name}
-use Rattle.tlsf_c.specs.Levels.{LevelHeap}
-use Rattle.tlsf_c.specs.Names.{name_of}
+use Rattle.tlsf_c.proofs.Common.{Ok, ap, subst, HeapState, IsPayloadCheck, Name, LevelHeap, name_of}
 use Rattle.tlsf_c.proofs.heap_calls.tlsf_locate.Goals as goal
 
 pub returns-in-Ok-clause-len : goal.returns-in-Ok-clause-len

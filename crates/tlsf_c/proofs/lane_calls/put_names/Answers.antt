@@ -1,6 +1,4 @@
-use Rattle.std.proofs.Common.{arith, ap, ◌∙◌, length, take, List}
-use Rattle.std.proofs.lemmas.Bool.{ltb-true}
-use Rattle.tlsf_post.specs.Lanes.{posts_sent}
+use Rattle.tlsf_c.proofs.Common.{arith, ap, ◌∙◌, length, take, List, ltb-true, posts_sent}
 use Rattle.tlsf_c.specs.declared.names.BlockName.{BlockName}
 use Rattle.tlsf_c.proofs.Putting.{sent_more}
 use Rattle.tlsf_c.proofs.lane_calls.put_names.Goals as goal

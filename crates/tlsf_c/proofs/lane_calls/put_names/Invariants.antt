@@ -1,7 +1,4 @@
-use Rattle.std.proofs.Common.{◌≡◌, ◌-◌, ◌≤◌, true, ◌++◌, length, take, if◌then◌else◌}
-use Rattle.tlsf_post.specs.Lanes.{posts_sent, free_slots, IsLane}
-use Rattle.tlsf_post.specs.declared.take_end.TakeEnd.{TakeEnd}
-use Rattle.tlsf_c.specs.Handles.{posts_named}
+use Rattle.tlsf_c.proofs.Common.{◌≡◌, ◌-◌, ◌≤◌, true, ◌++◌, length, take, if◌then◌else◌, posts_sent, free_slots, IsLane, TakeEnd, posts_named}
 use Rattle.tlsf_c.proofs.lane_calls.put_names.Given as goal
 
 abbrev pub invariant-loop-count : goal.invariant-loop-count

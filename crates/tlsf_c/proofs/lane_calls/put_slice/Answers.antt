@@ -1,5 +1,4 @@
-use Rattle.std.proofs.Common.{◌≡◌, ℕ, ◌∙◌, arith, ap, sym, length, take}
-use Rattle.tlsf_post.specs.Lanes.{posts_sent}
+use Rattle.tlsf_c.proofs.Common.{◌≡◌, ℕ, ◌∙◌, arith, ap, sym, length, take, posts_sent}
 use Rattle.tlsf_c.proofs.Putting.{sent_named}
 use Rattle.tlsf_c.proofs.lane_calls.put_slice.Goals as goal
 

@@ -1,5 +1,4 @@
-use Rattle.std.proofs.Common.{◌≡◌, length, take}
-use Rattle.tlsf_c.specs.Handles.{posts_named}
+use Rattle.tlsf_c.proofs.Common.{◌≡◌, length, take, posts_named}
 use Rattle.tlsf_c.proofs.lane_calls.put_slice.Given as goal
 
 abbrev pub invariant-loop-k : goal.invariant-loop-k

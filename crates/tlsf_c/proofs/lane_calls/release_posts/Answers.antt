@@ -1,6 +1,4 @@
-use Rattle.std.proofs.Common.{rules}
-use Rattle.tlsf_c.specs.Handles.{heap_in}
-use Rattle.tlsf_c.specs.Names.{name_of}
+use Rattle.tlsf_c.proofs.Common.{rules, heap_in, name_of}
 use Rattle.tlsf_c.proofs.LeftUnnamed.{drained_one, leaves_next}
 use Rattle.tlsf_c.proofs.lane_calls.release_posts.Goals as goal
 

@@ -1,9 +1,4 @@
-use Rattle.std.proofs.Common.{◌≡◌, ◌+◌, ◌*◌, ◌<◌, ◌≤◌, true, take}
-use Rattle.tlsf_heap.specs.Touched.{release_touches}
-use Rattle.tlsf_heap.specs.WordsInUse.{words_in_use}
-use Rattle.tlsf_c.specs.Drains.{drained, LeavesUnnamed}
-use Rattle.tlsf_c.specs.Levels.{GoesOn}
-use Rattle.tlsf_c.specs.Handles.{counts_in, heap_in, touches_in, touched_in}
+use Rattle.tlsf_c.proofs.Common.{◌≡◌, ◌+◌, ◌*◌, ◌<◌, ◌≤◌, true, take, release_touches, words_in_use, drained, LeavesUnnamed, GoesOn, counts_in, heap_in, touches_in, touched_in}
 use Rattle.tlsf_c.proofs.lane_calls.release_posts.Given as goal
 
 abbrev pub invariant-loop-post : goal.invariant-loop-post

@@ -1,9 +1,5 @@
-use Rattle.std.proofs.Common.{◌≡◌, ◌++◌, arith, ap, sym, subst, inl, inr, ◌∙◌, List, length, length-append}
-use Rattle.std.proofs.lemmas.Bool.{cases_lt}
+use Rattle.tlsf_c.proofs.Common.{◌≡◌, ◌++◌, arith, ap, sym, subst, inl, inr, ◌∙◌, List, length, length-append, cases_lt, words_in_use, Post, heap_in, taken_in, ready_in, touched_in}
 use mathlib.Core.List.{IsPrefix}
-use Rattle.tlsf_heap.specs.WordsInUse.{words_in_use}
-use Rattle.tlsf_post.specs.declared.post.Post.{Post}
-use Rattle.tlsf_c.specs.Handles.{heap_in, taken_in, ready_in, touched_in}
 use Rattle.tlsf_c.proofs.Draining.{taken_more, released_more, drained_none, counts_more, still_ready}
 use Rattle.tlsf_c.proofs.LeftUnnamed.{leaves_more}
 use Rattle.tlsf_c.proofs.lane_calls.tlsf_drain.Goals as goal

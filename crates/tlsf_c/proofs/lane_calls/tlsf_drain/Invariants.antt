@@ -1,11 +1,4 @@
-use Rattle.std.proofs.Common.{◌≡◌, ◌+◌, ◌*◌, ◌<◌, ◌≤◌, true, List, ◌++◌, Option, length}
-use Rattle.tlsf_heap.specs.Touched.{release_touches}
-use Rattle.tlsf_heap.specs.WordsInUse.{words_in_use}
-use Rattle.tlsf_post.specs.declared.post.Post.{Post}
-use Rattle.tlsf_post.specs.declared.post_end.PostEnd.{PostEnd}
-use Rattle.tlsf_c.specs.Drains.{drained, LeavesUnnamed}
-use Rattle.tlsf_c.specs.Levels.{GoesOn}
-use Rattle.tlsf_c.specs.Handles.{counts_in, heap_in, touches_in, touched_in, taken_in, ready_in, AreEnds}
+use Rattle.tlsf_c.proofs.Common.{◌≡◌, ◌+◌, ◌*◌, ◌<◌, ◌≤◌, true, List, ◌++◌, Option, length, release_touches, words_in_use, Post, PostEnd, drained, LeavesUnnamed, GoesOn, counts_in, heap_in, touches_in, touched_in, taken_in, ready_in, AreEnds}
 use Rattle.tlsf_c.proofs.lane_calls.tlsf_drain.Given as goal
 
 abbrev pub invariant-loop-left : goal.invariant-loop-left

@@ -1,6 +1,4 @@
-use Rattle.std.proofs.Common.{◌≡◌, rules, sym, subst, ◌∙◌}
-use Rattle.tlsf_offsets.specs.Offsets.{IsHeld}
-use Rattle.tlsf_c.specs.OffsetLevels.{LevelOffsets}
+use Rattle.tlsf_c.proofs.Common.{◌≡◌, rules, sym, subst, ◌∙◌, IsHeld, LevelOffsets}
 use Rattle.tlsf_c.proofs.offset_calls.tlsf_offsets_release.Goals as goal
 
 pub returns-in-Ok-clause-gone : goal.returns-in-Ok-clause-gone

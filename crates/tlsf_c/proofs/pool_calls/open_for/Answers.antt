@@ -1,5 +1,4 @@
-use Rattle.std.proofs.Common.{◌≡◌, ◌↔◌, ◌∙◌, ℕ, List, length, take, take_all, ap, subst, arith, rules}
-use Rattle.std.specs.Prelude.{IsErrOf}
+use Rattle.tlsf_c.proofs.Common.{◌≡◌, ◌↔◌, ◌∙◌, ℕ, List, length, take, take_all, ap, subst, arith, rules, IsErrOf}
 use Rattle.tlsf_heap.specs.declared.open_fault.OpenFault.TheVariants.{BadSize}
 use Rattle.tlsf_c.specs.declared.kind_row.KindRow.{KindRow}
 use Rattle.tlsf_pool.specs.declared.kind.Kind.{Kind}

@@ -1,6 +1,4 @@
-use Rattle.std.proofs.Common.{rules, arith, [], ◌∷◌, ◌++◌, length-append}
-use Rattle.tlsf_c.specs.Handles.{heap_in}
-use Rattle.tlsf_c.specs.Queues.{got_in}
+use Rattle.tlsf_c.proofs.Common.{rules, arith, [], ◌∷◌, ◌++◌, length-append, heap_in, got_in}
 use Rattle.tlsf_c.proofs.Draining.{taken_more, released_more}
 use Rattle.tlsf_c.proofs.LeftUnnamed.{leaves_more}
 use Rattle.tlsf_c.proofs.queue_calls.tlsf_queue_drain.Goals as goal

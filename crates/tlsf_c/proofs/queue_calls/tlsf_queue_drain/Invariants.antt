@@ -1,11 +1,4 @@
-use Rattle.std.proofs.Common.{◌≡◌, ◌+◌, ◌*◌, ◌<◌, ◌≤◌, true, List, ◌++◌, length}
-use Rattle.tlsf_heap.specs.Touched.{release_touches}
-use Rattle.tlsf_heap.specs.WordsInUse.{words_in_use}
-use Rattle.tlsf_post.specs.declared.post.Post.{Post}
-use Rattle.tlsf_c.specs.Drains.{drained, LeavesUnnamed}
-use Rattle.tlsf_c.specs.Levels.{GoesOn}
-use Rattle.tlsf_c.specs.Handles.{counts_in, heap_in, touches_in, touched_in}
-use Rattle.tlsf_c.specs.Queues.{owner_in, left_in, got_in, KeepsQueue}
+use Rattle.tlsf_c.proofs.Common.{◌≡◌, ◌+◌, ◌*◌, ◌<◌, ◌≤◌, true, List, ◌++◌, length, release_touches, words_in_use, Post, drained, LeavesUnnamed, GoesOn, counts_in, heap_in, touches_in, touched_in, owner_in, left_in, got_in, KeepsQueue}
 use Rattle.tlsf_c.proofs.queue_calls.tlsf_queue_drain.Given as goal
 
 abbrev pub invariant-loop-left : goal.invariant-loop-left

@@ -1,7 +1,4 @@
-use Rattle.std.proofs.Common.{◌≡◌, ap, sym, subst, ◌∙◌}
-use Rattle.std.specs.Prelude.{Option, Some}
-use Rattle.tlsf_c.specs.Queues.{owner_of_end, left_of, IsNew}
-use Rattle.tlsf_c.specs.declared.queue_end.QueueEnd.{QueueEnd}
+use Rattle.tlsf_c.proofs.Common.{◌≡◌, ap, sym, subst, ◌∙◌, Option, Some, owner_of_end, left_of, IsNew, QueueEnd}
 use Rattle.tlsf_c.proofs.queue_calls.tlsf_queue_open.Goals as goal
 
 pub returns-clause-queue : goal.returns-clause-queue

@@ -1,5 +1,4 @@
-use Rattle.std.proofs.Common.{◌≡◌, ◌++◌, length, map}
-use Rattle.std.specs.Prelude.{vec_len, vec_capacity}
+use Rattle.tlsf_c.proofs.Common.{◌≡◌, ◌++◌, length, map, vec_len, vec_capacity}
 use Rattle.std.specs.Vec.Iter.{into_iter_items, into_iter_len}
 use Rattle.tlsf_c.proofs.queue_end.boxed.Given as goal
 

@@ -1,6 +1,5 @@
-use Rattle.std.proofs.Common.{Err, ap, arith, string_bytes}
+use Rattle.tlsf_check.proofs.Common.{Err, ap, arith, string_bytes, is_call}
 use Rattle.std.proofs.lemmas.List.Sums.{count_by-le-length}
-use Rattle.tlsf_lines.specs.Lines.{is_call}
 use Rattle.tlsf_lines.specs.Views.{view_trace}
 use Rattle.tlsf_trace.proofs.WholeReplay.{run_is_done}
 use Rattle.tlsf_check.proofs.UnreadRuns.{unread_notes, unread_run}

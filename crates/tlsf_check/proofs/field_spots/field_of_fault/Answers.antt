@@ -1,12 +1,4 @@
-use Rattle.std.proofs.Common.{◌≡◌, ℕ, List, Err, sym, ap, subst, ◌∙◌}
-use Rattle.tlsf_lines.specs.Fields.{field}
-use Rattle.tlsf_lines.specs.Header.{header_in}
-use Rattle.tlsf_lines.specs.Pieces.{pieces_of}
-use Rattle.tlsf_lines.specs.Trace.{judged_line}
-use Rattle.tlsf_lines.specs.declared.line.Line.{Line}
-use Rattle.tlsf_lines.specs.declared.line_fault.LineFault.{LineFault}
-use Rattle.tlsf_lines.specs.declared.line_fault.LineFault.TheVariants.{BadHeader}
-use Rattle.tlsf_check.specs.FieldFaults.{IsFieldOf}
+use Rattle.tlsf_check.proofs.Common.{◌≡◌, ℕ, List, Err, sym, ap, subst, ◌∙◌, field, header_in, pieces_of, judged_line, Line, LineFault, BadHeader, IsFieldOf}
 use Rattle.tlsf_check.proofs.TextSpots.{found_in_header, found_in_line}
 use Rattle.tlsf_check.proofs.field_spots.field_of_fault.Goals as goal
 

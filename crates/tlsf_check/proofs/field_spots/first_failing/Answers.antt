@@ -1,7 +1,4 @@
-use Rattle.std.proofs.Common.{◌≡◌, ◌<◌, ℕ, List, [], length, drop, Option, Bor, ap, ◌∙◌, arith, length-drop}
-use Rattle.tlsf_check.specs.Kinds.{passes}
-use Rattle.tlsf_check.specs.Passing.{all_pass, passing_count}
-use Rattle.tlsf_lines.specs.CutFields.{fields_left, fields_of}
+use Rattle.tlsf_check.proofs.Common.{◌≡◌, ◌<◌, ℕ, List, [], length, drop, Option, Bor, ap, ◌∙◌, arith, length-drop, passes, all_pass, passing_count, fields_left, fields_of}
 use Rattle.tlsf_lines.proofs.CutSteps.{fields_count}
 use Rattle.tlsf_check.proofs.PassingSteps.{drop_all, left_over, none_for, none_left}
 use Rattle.tlsf_check.proofs.field_spots.first_failing.Goals as goal

@@ -1,7 +1,4 @@
-use Rattle.std.proofs.Common.{◌≡◌, ◌+◌, drop}
-use Rattle.tlsf_check.specs.Kinds.{passes}
-use Rattle.tlsf_check.specs.Passing.{all_pass, passing_count}
-use Rattle.tlsf_lines.specs.CutFields.{fields_left}
+use Rattle.tlsf_check.proofs.Common.{◌≡◌, ◌+◌, drop, passes, all_pass, passing_count, fields_left}
 use Rattle.tlsf_check.proofs.field_spots.first_failing.Given as goal
 
 -- those before pass

@@ -1,7 +1,4 @@
-use Rattle.std.proofs.Common.{◌+◌, ℕ, ap, sym, subst}
-use Rattle.tlsf_lines.specs.CutFields.{fields_of}
-use Rattle.tlsf_lines.specs.declared.line_fault.LineFault.TheVariants.{BadHeader}
-use Rattle.tlsf_check.specs.FieldFaults.{IsFieldOf}
+use Rattle.tlsf_check.proofs.Common.{◌+◌, ℕ, ap, sym, subst, fields_of, BadHeader, IsFieldOf}
 use Rattle.tlsf_check.proofs.HeaderSpots.{ended, unended}
 use Rattle.tlsf_check.proofs.field_spots.header_spot.Goals as goal
 

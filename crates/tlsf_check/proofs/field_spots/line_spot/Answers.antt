@@ -1,6 +1,4 @@
-use Rattle.std.proofs.Common.{◌+◌, ℕ, ap, sym, subst}
-use Rattle.tlsf_lines.specs.CutFields.{fields_of}
-use Rattle.tlsf_check.specs.FieldFaults.{IsFieldOf}
+use Rattle.tlsf_check.proofs.Common.{◌+◌, ℕ, ap, sym, subst, fields_of, IsFieldOf}
 use Rattle.tlsf_check.proofs.LineSpots.{ended, unended}
 use Rattle.tlsf_check.proofs.field_spots.line_spot.Goals as goal
 

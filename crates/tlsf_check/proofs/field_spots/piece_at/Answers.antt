@@ -1,5 +1,4 @@
-use Rattle.std.proofs.Common.{◌∙◌, rules, arith}
-use Rattle.tlsf_lines.specs.Pieces.{pieces_of}
+use Rattle.tlsf_check.proofs.Common.{◌∙◌, rules, arith, pieces_of}
 use Rattle.tlsf_check.proofs.PieceSteps.{next_left, past}
 use Rattle.tlsf_check.proofs.field_spots.piece_at.Goals as goal
 

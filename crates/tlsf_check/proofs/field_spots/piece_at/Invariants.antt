@@ -1,5 +1,4 @@
-use Rattle.std.proofs.Common.{◌≡◌, drop}
-use Rattle.tlsf_lines.specs.Pieces.{pieces_of}
+use Rattle.tlsf_check.proofs.Common.{◌≡◌, drop, pieces_of}
 use Rattle.tlsf_check.proofs.field_spots.piece_at.Given as goal
 
 -- the pieces that are left

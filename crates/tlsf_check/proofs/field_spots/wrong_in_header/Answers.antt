@@ -1,7 +1,4 @@
-use Rattle.std.proofs.Common.{◌≡◌, ◌+◌, ◌∷◌, ℕ, List, Option, Some, None, ap, sym, subst, ◌∙◌}
-use Rattle.tlsf_check.specs.FieldFaults.{GoAstrayAt, is_header}
-use Rattle.tlsf_check.specs.Passing.{FindsWrong}
-use Rattle.tlsf_lines.specs.CutFields.{fields_left}
+use Rattle.tlsf_check.proofs.Common.{◌≡◌, ◌+◌, ◌∷◌, ℕ, List, Option, Some, None, ap, sym, subst, ◌∙◌, GoAstrayAt, is_header, FindsWrong, fields_left}
 use Rattle.tlsf_check.proofs.HeaderSpots.{bad_name, bad_number, bad_version, no_version, no_wrong}
 use Rattle.tlsf_check.proofs.field_spots.wrong_in_header.Goals as goal
 

@@ -1,10 +1,5 @@
-use Rattle.std.proofs.Common.{◌≡◌, ◌+◌, ℕ, List, Option, Some, None, sym, subst, ◌∙◌}
-use Rattle.tlsf_check.specs.FieldFaults.{IsFirstWrong, is_line}
-use Rattle.tlsf_check.specs.Kinds.{passes}
-use Rattle.tlsf_check.specs.Passing.{FindsWrong, IsFirstFailing}
+use Rattle.tlsf_check.proofs.Common.{◌≡◌, ◌+◌, ℕ, List, Option, Some, None, sym, subst, ◌∙◌, IsFirstWrong, is_line, passes, FindsWrong, IsFirstFailing, Kind, fields_left}
 use Rattle.tlsf_check.specs.declared.judge.Judge.TheVariants as judge
-use Rattle.tlsf_check.specs.declared.kind.Kind.{Kind}
-use Rattle.tlsf_lines.specs.CutFields.{fields_left}
 use Rattle.tlsf_check.proofs.LineSpots.{bad_number, no_shape, no_word, no_wrong}
 use Rattle.tlsf_check.proofs.field_spots.wrong_in_line.Goals as goal
 

@@ -1,6 +1,5 @@
-use Rattle.std.proofs.Common.{◌≡◌, ◌++◌, string_bytes, take}
+use Rattle.tlsf_check.proofs.Common.{◌≡◌, ◌++◌, string_bytes, take, shown_byte}
 use Rattle.std.specs.List.{flat_map}
-use Rattle.tlsf_check.specs.Shown.{shown_byte}
 use Rattle.tlsf_check.proofs.line_view.push_bytes.Given as goal
 
 -- the bytes so far are added as they are shown

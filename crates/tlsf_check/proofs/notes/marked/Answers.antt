@@ -1,5 +1,4 @@
-use Rattle.std.proofs.Common.{◌≡◌, ◌+◌, ◌-◌, List, ℕ, inl, rules, subst, take}
-use Rattle.tlsf_check.specs.Shown.{spaces_in}
+use Rattle.tlsf_check.proofs.Common.{◌≡◌, ◌+◌, ◌-◌, List, ℕ, inl, rules, subst, take, spaces_in}
 use Rattle.tlsf_check.proofs.FieldSteps.{before_mark}
 use Rattle.tlsf_check.proofs.notes.marked.Goals as goal
 

@@ -1,4 +1,4 @@
-use Rattle.tlsf_check.specs.Shown.{HasBefore}
+use Rattle.tlsf_check.proofs.Common.{HasBefore}
 use Rattle.tlsf_check.proofs.places.behind_fields.Given as goal
 
 -- so many fields stand before the rest

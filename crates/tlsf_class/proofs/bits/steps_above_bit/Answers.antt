@@ -1,8 +1,4 @@
-use Rattle.std.proofs.Common.{◌≡◌, ℕ, ◌+◌, ◌-◌, ◌/◌, ◌^◌, ◌<◌, inl, inr, sym, ap, ◌∙◌, arith, bit_and}
-use Rattle.std.specs.Int.{bit_at}
-use Rattle.std.proofs.Math.Nat.{div-le_self}
-use Rattle.std.proofs.lemmas.Bool.{cases_lt}
-use Rattle.std.proofs.lemmas.Nat.Bits.{bit_at-zero}
+use Rattle.tlsf_class.proofs.Common.{◌≡◌, ℕ, ◌+◌, ◌-◌, ◌/◌, ◌^◌, ◌<◌, inl, inr, sym, ap, ◌∙◌, arith, bit_and, bit_at, div-le_self, cases_lt, bit_at-zero}
 use Rattle.tlsf_class.proofs.OneBit.{masked_from, masked_below, shifted_from}
 use Rattle.tlsf_class.proofs.bits.steps_above_bit.Goals as goal
 

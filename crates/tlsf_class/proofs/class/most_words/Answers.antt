@@ -1,5 +1,4 @@
-use Rattle.std.proofs.Common.{◌+◌, ◌*◌, sym, ◌∙◌, arith}
-use Rattle.std.proofs.lemmas.Nat.{one_shl}
+use Rattle.tlsf_class.proofs.Common.{◌+◌, ◌*◌, sym, ◌∙◌, arith, one_shl}
 use Rattle.tlsf_class.proofs.ClassByBits.{tops}
 use Rattle.tlsf_class.proofs.class.most_words.Goals as goal
 

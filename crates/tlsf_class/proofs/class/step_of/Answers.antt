@@ -1,6 +1,4 @@
-use Rattle.std.proofs.Common.{◌≡◌, ℕ, ◌*◌, ◌%◌, ◌^◌, arith}
-use Rattle.std.proofs.lemmas.Nat.{le_or_r, one_shl}
-use Rattle.tlsf_class.specs.Classes.{IsLevel, level_classes}
+use Rattle.tlsf_class.proofs.Common.{◌≡◌, ℕ, ◌*◌, ◌%◌, ◌^◌, arith, le_or_r, one_shl, IsLevel, level_classes}
 use Rattle.tlsf_class.proofs.TwoLevels.{bounds_of}
 use Rattle.tlsf_class.proofs.ClassByBits.{IsStep-top}
 use Rattle.tlsf_class.proofs.class.step_of.Goals as goal

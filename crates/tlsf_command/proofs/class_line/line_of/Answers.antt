@@ -1,5 +1,4 @@
-use Rattle.std.proofs.Common.{◌∙◌}
-use Rattle.std.proofs.lemmas.Fmt.{contents_after_writes}
+use Rattle.tlsf_command.proofs.Common.{◌∙◌, contents_after_writes}
 use Rattle.tlsf_command.proofs.ClassLines.{pieces_join}
 use Rattle.tlsf_command.proofs.class_line.line_of.Goals as goal
 

@@ -1,8 +1,6 @@
-use Rattle.std.proofs.Common.{◌∙◌, ap, codes}
-use Rattle.std.proofs.lemmas.Result.{IfOk-weaker}
+use Rattle.tlsf_command.proofs.Common.{◌∙◌, ap, codes, IfOk-weaker, IsOf}
 use Rattle.clap.specs.Simple.{app_of_fields}
 use Rattle.clap.specs.Words.{new_app}
-use Rattle.tlsf_command.specs.CommandLine.{IsOf}
 use Rattle.tlsf_command.proofs.Building.{with_argument}
 use Rattle.tlsf_command.proofs.command_line.check_command.Goals as goal
 

@@ -1,8 +1,4 @@
-use Rattle.std.proofs.Common.{◌≡◌, ◌∙◌, None, false, codes, rules, sym}
-use Rattle.std.specs.Str.{bytes_eq}
-use Rattle.std.proofs.lemmas.Result.{IfOk-weaker}
-use Rattle.tlsf_command.specs.Arguments.{texts_of}
-use Rattle.tlsf_command.specs.Rivals.{rivals_given}
+use Rattle.tlsf_command.proofs.Common.{◌≡◌, ◌∙◌, None, false, codes, rules, sym, bytes_eq, IfOk-weaker, texts_of, rivals_given}
 use Rattle.tlsf_command.proofs.ChosenCommands.{asked_by_run, reads_trace}
 use Rattle.tlsf_command.proofs.command_line.chosen.Goals as goal
 

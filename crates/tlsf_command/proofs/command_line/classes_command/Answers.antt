@@ -1,4 +1,4 @@
-use Rattle.std.proofs.lemmas.Result.{IfOk-weaker}
+use Rattle.tlsf_command.proofs.Common.{IfOk-weaker}
 use Rattle.tlsf_command.proofs.Building.{with_argument}
 use Rattle.tlsf_command.proofs.command_line.classes_command.Goals as goal
 

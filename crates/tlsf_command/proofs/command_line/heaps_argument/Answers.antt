@@ -1,5 +1,4 @@
-use Rattle.std.proofs.Common.{rules, ◌≡◌, ◌∙◌, Some, codes, ap}
-use Rattle.std.specs.Prelude.{pos}
+use Rattle.tlsf_command.proofs.Common.{rules, ◌≡◌, ◌∙◌, Some, codes, ap, pos}
 use Rattle.clap.specs.Words.{Rule, new_rule, rule_of}
 use Rattle.clap.specs.declared.builder.action.ArgAction.TheVariants.{Set}
 use Rattle.clap.specs.declared.builder.arg.Arg.{Arg}

@@ -1,5 +1,4 @@
-use Rattle.std.proofs.Common.{◌∙◌, ap}
-use Rattle.std.proofs.lemmas.Result.{IfOk-weaker}
+use Rattle.tlsf_command.proofs.Common.{◌∙◌, ap, IfOk-weaker}
 use Rattle.clap.specs.Simple.{app_of_fields}
 use Rattle.tlsf_command.proofs.command_line.tlsf_command.Goals as goal
 

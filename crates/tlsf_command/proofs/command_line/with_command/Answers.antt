@@ -1,5 +1,4 @@
-use Rattle.std.proofs.Common.{◌∙◌, ap₂}
-use Rattle.std.proofs.lemmas.Result.{IfOk-weaker}
+use Rattle.tlsf_command.proofs.Common.{◌∙◌, ap₂, IfOk-weaker}
 use Rattle.clap.specs.Words.{App, with_subcommand}
 use Rattle.tlsf_command.proofs.command_line.with_command.Goals as goal
 

@@ -1,5 +1,4 @@
-use Rattle.std.proofs.Common.{rules, map, inl, inr}
-use Rattle.tlsf_command.specs.Runs.{streams}
+use Rattle.tlsf_command.proofs.Common.{rules, map, inl, inr, streams}
 use Rattle.tlsf_command.proofs.ChosenCommands.{answerable}
 use Rattle.tlsf_command.proofs.RunEnds.{Run, answer_ends, does, ends_file, ends_run, fails}
 use Rattle.tlsf_command.proofs.commands.run.Goals as goal

@@ -1,7 +1,6 @@
-use Rattle.std.proofs.Common.{◌≡◌, ◌∙◌, ap, string_bytes}
+use Rattle.tlsf_command.proofs.Common.{◌≡◌, ◌∙◌, ap, string_bytes, Map}
 use Rattle.tlsf_picture.specs.declared.form.Form.{Form}
 use Rattle.tlsf_picture.specs.declared.form.Form.TheVariants.{Svg, Text as Characters}
-use Rattle.tlsf_command.specs.declared.trace_run.TraceRun.TheVariants.{Map}
 use Rattle.tlsf_command.proofs.Notes.{check_notes}
 use Rattle.tlsf_command.proofs.commands.traced.Goals as goal
 

@@ -1,6 +1,4 @@
-use Rattle.std.proofs.Common.{◌≡◌, drop}
-use Rattle.std.specs.List.{list_all}
-use Rattle.tlsf_command.specs.Quotes.{is_plain}
+use Rattle.tlsf_command.proofs.Common.{◌≡◌, drop, list_all, is_plain}
 use Rattle.tlsf_command.proofs.quotes.are_plain.Given as goal
 
 -- all are such where those that are left are

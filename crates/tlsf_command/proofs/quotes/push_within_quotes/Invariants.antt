@@ -1,7 +1,6 @@
-use Rattle.std.proofs.Common.{◌≡◌, ◌++◌, flat_map, string_bytes, length}
+use Rattle.tlsf_command.proofs.Common.{◌≡◌, ◌++◌, flat_map, string_bytes, length, within_quotes}
 use denote.Text.{Utf8}
 use denote.Shadow.{shadow}
-use Rattle.tlsf_command.specs.Quotes.{within_quotes}
 use Rattle.tlsf_command.proofs.quotes.push_within_quotes.Given as goal
 
 -- with what is left, the word is whole

@@ -1,6 +1,4 @@
-use Rattle.std.proofs.Common.{◌↔◌, drop}
-use Rattle.std.specs.List.{AllByRecursion}
-use Rattle.tlsf_command.specs.SizeLines.{IsServable}
+use Rattle.tlsf_command.proofs.Common.{◌↔◌, drop, AllByRecursion, IsServable}
 use Rattle.tlsf_command.proofs.size_line.are_servable.Given as goal
 
 -- all are such where those that are left are

@@ -1,5 +1,4 @@
-use Rattle.std.proofs.Common.{◌≡◌, ◌+◌, drop}
-use Rattle.tlsf_command.specs.SizeLines.{asked_bytes}
+use Rattle.tlsf_command.proofs.Common.{◌≡◌, ◌+◌, drop, asked_bytes}
 use Rattle.tlsf_command.proofs.size_line.asked_bytes.Given as goal
 
 abbrev pub invariant-loop-kind : goal.invariant-loop-kind

@@ -1,5 +1,4 @@
-use Rattle.std.proofs.Common.{◌≤◌, arith, subst, sym}
-use Rattle.tlsf_command.specs.SizeLines.{IsGreatest, IsReached}
+use Rattle.tlsf_command.proofs.Common.{◌≤◌, arith, subst, sym, IsGreatest, IsReached}
 use Rattle.tlsf_command.proofs.Greatest.{longest_is}
 use Rattle.tlsf_command.proofs.size_line.bytes_for.Goals as goal
 

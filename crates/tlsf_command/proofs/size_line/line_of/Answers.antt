@@ -1,5 +1,4 @@
-use Rattle.std.proofs.Common.{arith}
-use Rattle.std.proofs.lemmas.Fmt.{contents_after_writes}
+use Rattle.tlsf_command.proofs.Common.{arith, contents_after_writes}
 use Rattle.tlsf_class.proofs.TwoLevels.{most_words_any}
 use Rattle.tlsf_command.proofs.SizeTables.{few_bytes, some_byte}
 use Rattle.tlsf_command.proofs.size_line.line_of.Goals as goal

@@ -1,6 +1,4 @@
-use Rattle.std.proofs.Common.{[], ◌∷◌}
-use Rattle.std.proofs.KnownBytes.{Appends-nil}
-use Rattle.tlsf_command.specs.SizeLines.{IsFiner, IsSplitOf}
+use Rattle.tlsf_command.proofs.Common.{[], ◌∷◌, Appends-nil, IsFiner, IsSplitOf}
 use Rattle.tlsf_command.proofs.SizeTables.{finer_of, split_told}
 use Rattle.tlsf_command.proofs.size_line.write_unreached_line.Goals as goal
 

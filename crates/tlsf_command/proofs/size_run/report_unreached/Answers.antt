@@ -1,8 +1,4 @@
-use Rattle.std.proofs.Common.{◌≡◌, ℕ, List, [], ◌∷◌, Option, length, refl, arith}
-use Rattle.tlsf_command.specs.Runs.{ReportsUnreached}
-use Rattle.tlsf_command.specs.SizeLines.{unreached_table_line, IsFiner, IsFirstUnreached, IsSplitOf}
-use Rattle.tlsf_pool.specs.declared.kind.Kind.{Kind}
-use Rattle.tlsf_pool.specs.declared.sizes.split.Split.{Split}
+use Rattle.tlsf_command.proofs.Common.{◌≡◌, ℕ, List, [], ◌∷◌, Option, length, refl, arith, ReportsUnreached, unreached_table_line, IsFiner, IsFirstUnreached, IsSplitOf, Kind, Split}
 use Rattle.tlsf_lines.specs.Prefixes.{AppendsFront}
 use Rattle.tlsf_command.proofs.size_run.report_unreached.Goals as goal
 

@@ -1,5 +1,4 @@
-use Rattle.std.proofs.Common.{arith}
-use Rattle.std.proofs.lemmas.Fmt.{contents_after_writes}
+use Rattle.tlsf_command.proofs.Common.{arith, contents_after_writes}
 use Rattle.tlsf_command.proofs.SizeTables.{some_byte}
 use Rattle.tlsf_command.proofs.SplitParts.{few_bytes}
 use Rattle.tlsf_command.proofs.split_lines.add_heap_line.Goals as goal

@@ -1,6 +1,4 @@
-use Rattle.std.proofs.Common.{◌≡◌, ◌-◌, ◌++◌, ℕ, ap, arith}
-use Rattle.tlsf_command.specs.SizeLines.{heap_lines}
-use Rattle.tlsf_pool.specs.sizes.Splits.{cut_by}
+use Rattle.tlsf_command.proofs.Common.{◌≡◌, ◌-◌, ◌++◌, ℕ, ap, arith, heap_lines, cut_by}
 use Rattle.tlsf_command.proofs.SplitParts.{all_left, all_written, left_of, next_text, part_of, servable_of, split_heaps}
 use Rattle.tlsf_command.proofs.split_lines.add_heap_lines.Goals as goal
 

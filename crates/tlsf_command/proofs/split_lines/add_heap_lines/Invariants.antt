@@ -1,7 +1,5 @@
-use Rattle.std.proofs.Common.{◌≡◌, ◌+◌, ◌-◌, ◌++◌, length}
-use Rattle.tlsf_command.specs.SizeLines.{heap_lines}
+use Rattle.tlsf_command.proofs.Common.{◌≡◌, ◌+◌, ◌-◌, ◌++◌, length, heap_lines, cut_by, parts_of}
 use Rattle.tlsf_command.proofs.SplitParts.{AreLeft}
-use Rattle.tlsf_pool.specs.sizes.Splits.{cut_by, parts_of}
 use Rattle.tlsf_command.proofs.split_lines.add_heap_lines.Given as goal
 
 -- the lines so far and those on the heaps that are left are all

@@ -1,5 +1,4 @@
-use Rattle.std.proofs.Common.{arith, sym}
-use Rattle.std.proofs.lemmas.Fmt.{contents_after_writes}
+use Rattle.tlsf_command.proofs.Common.{arith, sym, contents_after_writes}
 use Rattle.tlsf_command.proofs.SizeTables.{some_byte}
 use Rattle.tlsf_command.proofs.SplitParts.{split_bytes, split_count, split_words}
 use Rattle.tlsf_command.proofs.split_lines.lines_of.Goals as goal

@@ -1,5 +1,4 @@
-use Rattle.std.proofs.Common.{◌≡◌, drop, max}
-use Rattle.tlsf_command.specs.SizeLines.{longest_of}
+use Rattle.tlsf_command.proofs.Common.{◌≡◌, drop, max, longest_of}
 use Rattle.tlsf_command.proofs.split_lines.longest_of.Given as goal
 
 abbrev pub invariant-loop-kind : goal.invariant-loop-kind

@@ -1,5 +1,4 @@
-use Rattle.std.proofs.Common.{◌<◌, ◌-◌, length, take}
-use Rattle.tlsf_command.specs.SizeLines.{AreReached}
+use Rattle.tlsf_command.proofs.Common.{◌<◌, ◌-◌, length, take, AreReached}
 use Rattle.tlsf_command.proofs.unreached_table.reached_kinds.Given as goal
 
 abbrev pub invariant-loop-reached : goal.invariant-loop-reached

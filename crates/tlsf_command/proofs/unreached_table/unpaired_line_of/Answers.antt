@@ -1,4 +1,4 @@
-use Rattle.std.proofs.lemmas.Fmt.{contents_after_writes}
+use Rattle.tlsf_command.proofs.Common.{contents_after_writes}
 use Rattle.tlsf_command.proofs.unreached_table.unpaired_line_of.Goals as goal
 
 pub returns : goal.returns

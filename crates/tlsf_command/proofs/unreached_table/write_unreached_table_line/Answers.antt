@@ -1,5 +1,4 @@
-use Rattle.std.proofs.KnownBytes.{Appends-nil}
-use Rattle.tlsf_command.specs.SizeLines.{IsFiner, IsSplitOf}
+use Rattle.tlsf_command.proofs.Common.{Appends-nil, IsFiner, IsSplitOf}
 use Rattle.tlsf_command.proofs.SizeTables.{finer_of, split_told}
 use Rattle.tlsf_command.proofs.unreached_table.write_unreached_table_line.Goals as goal
 

@@ -1,21 +1,5 @@
 -- A fair event is not answered Stale, and keeps the names.
-use Rattle.std.proofs.Common.{suc, zero, ◌==◌, true, false, [], ◌∷◌, ◌++◌, ◌≡◌, ◌≢◌, ℕ, ◌<◌, List, Option, Some, None, Result, Ok, Err, length, sym, ◌∙◌, ap, arith, refl, inl, inr, subst, ◌⊎◌}
-use Rattle.std.specs.Prelude.{⊤}
-use Rattle.std.specs.List.{Contains, slice_index_or}
-use Rattle.std.proofs.lemmas.Bool.{cases_eq}
-use Rattle.std.proofs.lemmas.Bool.Decides.{nat_tests}
-use Rattle.std.proofs.lemmas.List.Elements.{Contains-append_cases}
-use Rattle.tlsf_heap.specs.Blocks.{HeapState}
-use Rattle.tlsf_heap.specs.Laws.{IsLive}
-use Rattle.tlsf_heap.specs.declared.name.Name.{Name}
-use Rattle.tlsf_heap.specs.declared.refusal.Refusal.{Refusal}
-use Rattle.tlsf_heap.specs.declared.refusal.Refusal.TheVariants.{Stale}
-use Rattle.tlsf_crew.specs.model.Heaps.{allocated, released}
-use Rattle.tlsf_calls.specs.declared.reply.Reply.TheVariants.{Freed, Posted, Refused}
-use Rattle.tlsf_calls.specs.declared.crew_refusal.CrewRefusal.{CrewRefusal}
-use Rattle.tlsf_calls.specs.declared.crew_refusal.CrewRefusal.TheVariants.{Heap, Full}
-use Rattle.tlsf_crew.specs.model.World.{World, WorldReply, Replayed, with_heap, with_waiting, heap_in, made_by, reply_made, reply_freed, releasing, freeing, posting}
-use Rattle.tlsf_crew.specs.fair_runs.FairRuns.{IsNotStale}
+use Rattle.tlsf_crew.proofs.Common.{suc, zero, ◌==◌, true, false, [], ◌∷◌, ◌++◌, ◌≡◌, ◌≢◌, ℕ, ◌<◌, List, Option, Some, None, Result, Ok, Err, length, sym, ◌∙◌, ap, arith, refl, inl, inr, subst, ◌⊎◌, ⊤, Contains, slice_index_or, cases_eq, nat_tests, Contains-append_cases, HeapState, IsLive, Name, Refusal, Stale, allocated, released, Freed, Posted, Refused, CrewRefusal, Heap, Full, World, WorldReply, Replayed, with_heap, with_waiting, heap_in, made_by, reply_made, reply_freed, releasing, freeing, posting, IsNotStale}
 use Rattle.tlsf_crew.proofs.lemmas.worker.Slots.{some_same}
 use Rattle.tlsf_crew.proofs.lemmas.model.OneEvent.{releasing_post}
 use Rattle.tlsf_crew.proofs.lemmas.fair_runs.HeapNames.{allocated_known, allocated_id, allocated_stays, allocated_new, released_known, released_id, released_stays, refused_stays}

@@ -1,13 +1,5 @@
 -- A small run that is fair.
-use Rattle.std.proofs.Common.{◌≡◌, [], ◌∷◌, Some, refl, arith, inl, inr}
-use Rattle.tlsf_class.specs.Classes.{search_of, classes, low, class_of}
-use Rattle.tlsf_heap.specs.declared.name.Name.{Name}
-use Rattle.tlsf_calls.specs.declared.event.Event.{Event}
-use Rattle.tlsf_calls.specs.declared.call.Call.TheVariants.{Allocate}
-use Rattle.tlsf_crew.specs.model.Heaps.{allocated, released}
-use Rattle.tlsf_crew.specs.model.Opening.{opened_world}
-use Rattle.tlsf_crew.specs.model.World.{after, after_drain, begun, drained_waiting, draining, posting, replies}
-use Rattle.tlsf_crew.specs.fair_runs.FairRuns.{IsFairRun, fair_entries, fair_events}
+use Rattle.tlsf_crew.proofs.Common.{◌≡◌, [], ◌∷◌, Some, refl, arith, inl, inr, search_of, classes, low, class_of, Name, Event, Allocate, allocated, released, opened_world, after, after_drain, begun, drained_waiting, draining, posting, replies, IsFairRun, fair_entries, fair_events}
 
 abbrev allocates : Event
 allocates = record { worker = 0; call = Allocate 8 }

@@ -1,25 +1,5 @@
 -- No answer to a fair list of events is Stale.
-use Rattle.std.proofs.Common.{[], ◌∷◌, ◌++◌, ◌≡◌, ◌≢◌, ℕ, ◌<◌, List, Option, Some, None, Result, Ok, Err, length, get_or, sym, ◌∙◌, ap, arith, refl, inl, inr, subst, ◌⊎◌}
-use Rattle.std.specs.List.{fold}
-use Rattle.std.proofs.lemmas.Bool.{cases_eq, cases_lt}
-use Rattle.std.proofs.lemmas.Option.{slice_get-get_or}
-use Rattle.tlsf_post.specs.declared.post.Post.{Post}
-use Rattle.tlsf_heap.specs.Laws.{IsLive}
-use Rattle.tlsf_heap.specs.declared.name.Name.{Name}
-use Rattle.tlsf_heap.specs.declared.refusal.Refusal.{Refusal}
-use Rattle.tlsf_heap.specs.declared.refusal.Refusal.TheVariants.{Stale}
-use Rattle.tlsf_calls.specs.Bytes.{bytes_of}
-use Rattle.tlsf_crew.specs.model.Heaps.{allocated, written, resized, chunk_read}
-use Rattle.tlsf_calls.specs.declared.chunk.Chunk.{Chunk}
-use Rattle.tlsf_calls.specs.declared.event.Event.{Event}
-use Rattle.tlsf_calls.specs.declared.call.Call.{Call}
-use Rattle.tlsf_calls.specs.declared.call.Call.TheVariants.{Allocate, Release, Write, Read, Resize, Take, Drain}
-use Rattle.tlsf_calls.specs.declared.target.Target.{Target}
-use Rattle.tlsf_calls.specs.declared.reply.Reply.{Reply}
-use Rattle.tlsf_calls.specs.declared.reply.Reply.TheVariants.{Freed, Posted, Refused}
-use Rattle.tlsf_calls.specs.declared.crew_refusal.CrewRefusal.TheVariants.{Stranger}
-use Rattle.tlsf_crew.specs.model.World.{World, WorldReply, Replayed, with_heap, heap_in, reply_wrote, reply_got, reply_resized, releasing, releasing_named, writing_named, reading_named, resizing_named, taking, taking_next, took_first, took, name_of, called, after, draining, begun, replies}
-use Rattle.tlsf_crew.specs.fair_runs.FairRuns.{NoneStale, IsUsable, IsFairCall, IsAnswered, GivesBack, IsFair, HasIds, IsFairRun, WaitLive}
+use Rattle.tlsf_crew.proofs.Common.{[], ◌∷◌, ◌++◌, ◌≡◌, ◌≢◌, ℕ, ◌<◌, List, Option, Some, None, Result, Ok, Err, length, get_or, sym, ◌∙◌, ap, arith, refl, inl, inr, subst, ◌⊎◌, fold, cases_eq, cases_lt, slice_get-get_or, Post, IsLive, Name, Refusal, Stale, bytes_of, allocated, written, resized, chunk_read, Chunk, Event, Call, Allocate, Release, Write, Read, Resize, Take, Drain, Target, Reply, Freed, Posted, Refused, Stranger, World, WorldReply, Replayed, with_heap, heap_in, reply_wrote, reply_got, reply_resized, releasing, releasing_named, writing_named, reading_named, resizing_named, taking, taking_next, took_first, took, name_of, called, after, draining, begun, replies, NoneStale, IsUsable, IsFairCall, IsAnswered, GivesBack, IsFair, HasIds, IsFairRun, WaitLive}
 use Rattle.tlsf_crew.proofs.lemmas.model.OneEvent.{same_heap, taking_lane, taking_own, taking_far}
 use Rattle.tlsf_crew.proofs.lemmas.model.EventSteps.{after_far, after_near, replies_is}
 use Rattle.tlsf_crew.proofs.lemmas.fair_runs.HeapNames.{written_known, written_id, written_stays, resized_known, resized_id, resized_stays, chunk_known}

@@ -1,17 +1,10 @@
 -- A call on a heap by a live name isn't answered Stale, and each other live name stays live.
-use Rattle.std.proofs.Common.{◌≡◌, ◌≢◌, ℕ, eqb, nat_le, nat_lt, List, length, take, drop, Option, Some, None, Result, Ok, Err, sym, ap}
-use Rattle.std.specs.Prelude.{IsSome}
-use Rattle.std.proofs.lemmas.Bool.{eqb-true, false≢true}
-use Rattle.tlsf_heap.specs.Blocks.{HeapState, bytes_of, want}
+use Rattle.tlsf_crew.proofs.Common.{◌≡◌, ◌≢◌, ℕ, eqb, nat_le, nat_lt, List, length, take, drop, Option, Some, None, Result, Ok, Err, sym, ap, IsSome, eqb-true, false≢true, HeapState, want, refused, is_worn, allocated_at, named, has_bytes, written_at, resized_at, room_of, read_at, IsLive, Name, Refusal, Stale, Foreign, Worn, Range, NoRoom, allocated, released, written, resized, bytes_read, too_many, as_chunk, chunk_read}
+use Rattle.tlsf_heap.specs.Blocks.{bytes_of}
 use Rattle.tlsf_heap.specs.GoodFit.{Site, choice}
-use Rattle.tlsf_heap.specs.Calls.{refused, is_worn, allocated_at, named, has_bytes, written_at, resized_at, room_of, read_at, Allocate, Release, Write, Resize}
-use Rattle.tlsf_heap.specs.Laws.{IsLive}
-use Rattle.tlsf_heap.specs.declared.name.Name.{Name}
-use Rattle.tlsf_heap.specs.declared.refusal.Refusal.{Refusal}
-use Rattle.tlsf_heap.specs.declared.refusal.Refusal.TheVariants.{Stale, Foreign, Worn, Range, NoRoom}
+use Rattle.tlsf_heap.specs.Calls.{Allocate, Release, Write, Resize}
 use Rattle.tlsf_heap.proofs.lemmas.calls.Outcomes.{by_test, gives, writes, ids}
 use Rattle.tlsf_heap.proofs.lemmas.laws.Live.{given, kept, known}
-use Rattle.tlsf_crew.specs.model.Heaps.{allocated, released, written, resized, bytes_read, too_many, as_chunk, chunk_read}
 
 abbrev IsKnown : {A : Type 0} → Result A Refusal → Type 0
 IsKnown answer = answer ≢ Err Stale

@@ -1,14 +1,5 @@
 -- Names stay live while they are not gone, and each that waits is gone.
-use Rattle.std.proofs.Common.{[], ◌∷◌, ◌++◌, ◌≡◌, ◌≢◌, ℕ, ◌<◌, Some, length, sym, ◌∙◌, ap, arith, inl, inr, subst, ◌⊎◌}
-use Rattle.std.specs.List.{slice_get}
-use Rattle.std.proofs.lemmas.Bool.{cases_eq}
-use Rattle.std.proofs.lemmas.List.{length-set, get_or-set_same, get_or-set_other}
-use Rattle.tlsf_post.specs.declared.post.Post.{Post}
-use Rattle.tlsf_heap.specs.declared.name.Name.{Name}
-use Rattle.tlsf_heap.specs.Blocks.{HeapState}
-use Rattle.tlsf_heap.specs.Laws.{IsLive}
-use Rattle.tlsf_crew.specs.model.World.{World, with_waiting, with_heap, heap_in, no_heap}
-use Rattle.tlsf_crew.specs.fair_runs.FairRuns.{HasIds, IsLiveIn}
+use Rattle.tlsf_crew.proofs.Common.{[], ◌∷◌, ◌++◌, ◌≡◌, ◌≢◌, ℕ, ◌<◌, Some, length, sym, ◌∙◌, ap, arith, inl, inr, subst, ◌⊎◌, slice_get, cases_eq, length-set, get_or-set_same, get_or-set_other, Post, Name, HeapState, IsLive, World, with_waiting, with_heap, heap_in, no_heap, HasIds, IsLiveIn}
 use Rattle.tlsf_crew.proofs.lemmas.worker.Slots.{at_push}
 use Rattle.tlsf_crew.proofs.lemmas.model.Edits.{edited_same, edited_other}
 

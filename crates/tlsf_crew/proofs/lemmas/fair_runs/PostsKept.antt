@@ -1,17 +1,5 @@
 -- A take or a drain keeps the names.
-use Rattle.std.proofs.Common.{suc, zero, [], ◌∷◌, ◌++◌, ◌≡◌, ℕ, ◌-◌, ◌<◌, List, Some, length, take, drop, sym, ◌∙◌, ap, arith, refl, inl, inr, subst, ◌⊎◌}
-use Rattle.std.specs.List.{slice_get, fold}
-use Rattle.std.proofs.lemmas.Bool.{cases_eq}
-use Rattle.std.proofs.lemmas.List.{take-append-drop}
-use Rattle.std.proofs.lemmas.List.Elements.{All-push}
-use Rattle.tlsf_post.specs.declared.post.Post.{Post}
-use Rattle.tlsf_heap.specs.declared.name.Name.{Name}
-use Rattle.tlsf_heap.specs.Laws.{IsLive}
-use Rattle.tlsf_crew.specs.model.Heaps.{released}
-use Rattle.tlsf_calls.specs.declared.took.Took.{Took}
-use Rattle.tlsf_calls.specs.declared.entry.Entry.{Entry}
-use Rattle.tlsf_crew.specs.model.World.{World, with_waiting, heap_in, took, took_more, DrainState, drained_waiting, drained_below, after_drain}
-use Rattle.tlsf_crew.specs.fair_runs.FairRuns.{IsNotStale, NoneStale}
+use Rattle.tlsf_crew.proofs.Common.{suc, zero, [], ◌∷◌, ◌++◌, ◌≡◌, ℕ, ◌-◌, ◌<◌, List, Some, length, take, drop, sym, ◌∙◌, ap, arith, refl, inl, inr, subst, ◌⊎◌, slice_get, fold, cases_eq, take-append-drop, All-push, Post, Name, IsLive, released, Took, Entry, World, with_waiting, heap_in, took, took_more, DrainState, drained_waiting, drained_below, after_drain, IsNotStale, NoneStale}
 use Rattle.tlsf_crew.proofs.lemmas.model.Edits.{edited_same, edited_other}
 use Rattle.tlsf_crew.proofs.lemmas.model.OneEvent.{from_other, from_own}
 use Rattle.tlsf_crew.proofs.lemmas.fair_runs.HeapNames.{released_known, released_id, released_stays}

@@ -1,22 +1,7 @@
 -- The entries of a replay tell its events, the calls on each heap and the posts of each lane, and leave each heap lawful.
-use Rattle.std.proofs.Common.{zero, suc, [], ◌∷◌, ◌++◌, ◌≡◌, ◌≢◌, ℕ, ◌<◌, ◌≤◌, List, Option, Some, None, All, length, get_or, sym, ◌∙◌, ap, arith, refl, inl, inr, subst, append_assoc, append-nil}
-use Rattle.std.specs.List.{fold}
-use Rattle.std.proofs.lemmas.Bool.{cases_lt}
-use Rattle.std.proofs.lemmas.List.Elements.{All-nil, All-cons}
-use Rattle.tlsf_heap.specs.Lawful.{IsLawful}
+use Rattle.tlsf_crew.proofs.Common.{zero, suc, [], ◌∷◌, ◌++◌, ◌≡◌, ◌≢◌, ℕ, ◌<◌, ◌≤◌, List, Option, Some, None, All, length, get_or, sym, ◌∙◌, ap, arith, refl, inl, inr, subst, append_assoc, append-nil, fold, cases_lt, All-nil, All-cons, IsLawful, Name, bytes_of, Entry, Event, Call, Allocate, Release, Write, Read, Resize, Take, Drain, Reply, Refused, Stranger, AreLawful, Tells, TellsCall, TellsEvent, TookFromOther, answer_told, call_on_own, calls_on, post_of_release, post_of_take, World, Replayed, after, allocating, begun, called, draining, heap_in, name_of, reading_named, releasing_named, replies, resizing_named, taking, writing_named}
 use Rattle.tlsf_heap.proofs.lemmas.calls.Outcomes.{lawful_run}
-use Rattle.tlsf_heap.specs.declared.name.Name.{Name}
-use Rattle.tlsf_calls.specs.Bytes.{bytes_of}
-use Rattle.tlsf_calls.specs.declared.entry.Entry.{Entry}
-use Rattle.tlsf_calls.specs.declared.event.Event.{Event}
-use Rattle.tlsf_calls.specs.declared.call.Call.{Call}
-use Rattle.tlsf_calls.specs.declared.call.Call.TheVariants.{Allocate, Release, Write, Read, Resize, Take, Drain}
 use Rattle.tlsf_calls.specs.declared.target.Target.TheVariants.{Named, Made as MadeBy, Absent}
-use Rattle.tlsf_calls.specs.declared.reply.Reply.{Reply}
-use Rattle.tlsf_calls.specs.declared.reply.Reply.TheVariants.{Refused}
-use Rattle.tlsf_calls.specs.declared.crew_refusal.CrewRefusal.TheVariants.{Stranger}
-use Rattle.tlsf_crew.specs.histories.History.{AreLawful, Tells, TellsCall, TellsEvent, TookFromOther, answer_told, call_on_own, calls_on, post_of_release, post_of_take}
-use Rattle.tlsf_crew.specs.model.World.{World, Replayed, after, allocating, begun, called, draining, heap_in, name_of, reading_named, releasing_named, replies, resizing_named, taking, writing_named}
 use Rattle.tlsf_crew.proofs.lemmas.histories.DrainEntries.{ToldOnce, drain_told}
 use Rattle.tlsf_crew.proofs.lemmas.model.EventSteps.{after_far, after_near}
 use Rattle.tlsf_crew.proofs.lemmas.histories.LaneCalls.{release_told, take_told}

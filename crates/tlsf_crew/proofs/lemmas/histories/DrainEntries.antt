@@ -1,17 +1,6 @@
 -- The entries of a drain tell the posts that it took and the releases of their names.
-use Rattle.std.proofs.Common.{zero, suc, [], ◌∷◌, ◌++◌, ◌≡◌, ◌≢◌, ℕ, ◌+◌, ◌-◌, ◌<◌, ◌≤◌, List, Option, None, All, length, take, drop, sym, ◌∙◌, ap, arith, refl, inl, inr, subst, append_assoc, append-nil, length-append, length-take}
-use Rattle.std.specs.List.{fold}
-use Rattle.std.proofs.lemmas.Bool.{cases_eq}
-use Rattle.std.proofs.lemmas.List.{take-append-drop}
-use Rattle.std.proofs.lemmas.List.Elements.{All-append, All-cons, All-nil}
-use Rattle.tlsf_heap.specs.declared.name.Name.{Name}
-use Rattle.tlsf_post.specs.declared.post.Post.{Post}
-use Rattle.tlsf_calls.specs.declared.entry.Entry.{Entry}
-use Rattle.tlsf_calls.specs.declared.call.Call.TheVariants.{Take, Drain}
-use Rattle.tlsf_calls.specs.declared.took.Took.{Took}
-use Rattle.tlsf_calls.specs.declared.reply.Reply.TheVariants.{Took as Taken, Drained}
-use Rattle.tlsf_crew.specs.histories.History.{AreTakes, TellsCall, TookFromOther, IsDrain, post_of_release, posts_made}
-use Rattle.tlsf_crew.specs.model.World.{Replayed, DrainState, took, took_more, drained_waiting, drained_below, after_drain, draining}
+use Rattle.tlsf_crew.proofs.Common.{zero, suc, [], ◌∷◌, ◌++◌, ◌≡◌, ◌≢◌, ℕ, ◌+◌, ◌-◌, ◌<◌, ◌≤◌, List, Option, None, All, length, take, drop, sym, ◌∙◌, ap, arith, refl, inl, inr, subst, append_assoc, append-nil, length-append, length-take, fold, cases_eq, take-append-drop, All-append, All-cons, All-nil, Name, Post, Entry, Take, Drain, Took, Drained, AreTakes, TellsCall, TookFromOther, IsDrain, post_of_release, posts_made, Replayed, DrainState, took, took_more, drained_waiting, drained_below, after_drain, draining}
+use Rattle.tlsf_calls.specs.declared.reply.Reply.TheVariants.{Took as Taken}
 use Rattle.tlsf_crew.proofs.lemmas.histories.LaneCalls.{took_told}
 use Rattle.tlsf_crew.proofs.lemmas.model.OneEvent.{from_other, from_own}
 use Rattle.tlsf_crew.proofs.lemmas.histories.OwnCalls.{none_done}

@@ -1,19 +1,7 @@
 -- What some of the entries of a replay leave, behind which the others come.
-use Rattle.std.proofs.Common.{[], ◌∷◌, ◌++◌, ◌≡◌, ℕ, ◌+◌, ◌<◌, List, Option, All, length, map, take, drop, sym, ◌∙◌, ap, arith, refl, inl, inr, subst, length-append}
-use Rattle.std.proofs.Math.Seq.{take-append_seam, drop-append_seam}
-use Rattle.std.proofs.lemmas.Bool.{cases_eq}
-use Rattle.std.proofs.lemmas.List.{length-map, map-append}
-use Rattle.std.proofs.lemmas.List.Elements.{All-head, All-tail, All-take}
-use Rattle.tlsf_class.specs.Classes.{IsLevel}
-use Rattle.tlsf_heap.specs.Blocks.{HeapState}
+use Rattle.tlsf_crew.proofs.Common.{[], ◌∷◌, ◌++◌, ◌≡◌, ℕ, ◌+◌, ◌<◌, List, Option, All, length, map, take, drop, sym, ◌∙◌, ap, arith, refl, inl, inr, subst, length-append, take-append_seam, drop-append_seam, cases_eq, length-map, map-append, All-head, All-tail, All-take, IsLevel, HeapState, IsLawful, Name, Entry, Event, AreLawful, RunsThrough, RunsTo, answer_told, answers_on, call_on_own, calls_on, handed_on, World, heap_in, replies}
 use Rattle.tlsf_heap.specs.Calls as heap
-use Rattle.tlsf_heap.specs.Lawful.{IsLawful}
-use Rattle.tlsf_heap.specs.declared.name.Name.{Name}
 use Rattle.tlsf_heap.proofs.lemmas.calls.Outcomes.{lawful_run}
-use Rattle.tlsf_calls.specs.declared.entry.Entry.{Entry}
-use Rattle.tlsf_calls.specs.declared.event.Event.{Event}
-use Rattle.tlsf_crew.specs.histories.History.{AreLawful, RunsThrough, RunsTo, answer_told, answers_on, call_on_own, calls_on, handed_on}
-use Rattle.tlsf_crew.specs.model.World.{World, heap_in, replies}
 use Rattle.tlsf_crew.proofs.lemmas.histories.AllEntries.{replies_tell}
 use Rattle.tlsf_crew.proofs.lemmas.histories.JoinedEntries.{HasItsAnswer, length_run, run_more, told_other, told_own, told_then}
 

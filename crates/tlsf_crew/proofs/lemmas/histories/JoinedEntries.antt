@@ -1,16 +1,6 @@
 -- Entries that follow others tell of each heap and each lane what these tell, and then what they tell themselves.
-use Rattle.std.proofs.Common.{◌==◌, true, false, [], ◌∷◌, ◌++◌, ◌≡◌, ◌≢◌, ℕ, suc, ◌<◌, List, Option, None, All, length, map, sym, ◌∙◌, ap, arith, refl, inl, inr, subst, append_assoc, append-nil}
-use Rattle.std.specs.List.{filter_map, cons_option}
-use Rattle.std.proofs.lemmas.Bool.{cases_eq}
-use Rattle.std.proofs.lemmas.Bool.Decides.{nat_tests}
-use Rattle.std.proofs.lemmas.List.{length-map, map-append}
-use Rattle.std.proofs.lemmas.List.Elements.{All-nil, All-cons, All-append, filter_map-append, filter-append}
-use Rattle.tlsf_heap.specs.Blocks.{HeapState}
+use Rattle.tlsf_crew.proofs.Common.{◌==◌, true, false, [], ◌∷◌, ◌++◌, ◌≡◌, ◌≢◌, ℕ, suc, ◌<◌, List, Option, None, All, length, map, sym, ◌∙◌, ap, arith, refl, inl, inr, subst, append_assoc, append-nil, filter_map, cons_option, cases_eq, nat_tests, length-map, map-append, All-nil, All-cons, All-append, filter_map-append, filter-append, HeapState, Name, Entry, IsNoPost, RunsTo, answer_told, answers_on, call_on_own, calls_on, entries_of, handed_on, post_of_release, post_of_take, posts_made, posts_taken, World, heap_in}
 use Rattle.tlsf_heap.specs.Calls as heap
-use Rattle.tlsf_heap.specs.declared.name.Name.{Name}
-use Rattle.tlsf_calls.specs.declared.entry.Entry.{Entry}
-use Rattle.tlsf_crew.specs.histories.History.{IsNoPost, RunsTo, answer_told, answers_on, call_on_own, calls_on, entries_of, handed_on, post_of_release, post_of_take, posts_made, posts_taken}
-use Rattle.tlsf_crew.specs.model.World.{World, heap_in}
 
 -- ---- runs in turn
 

@@ -1,22 +1,6 @@
 -- The entry of a release tells the call on its own heap or the post that it made, and that of a take what it took.
-use Rattle.std.proofs.Common.{◌==◌, true, false, [], ◌∷◌, ◌++◌, ◌≡◌, ◌≢◌, ℕ, ◌<◌, List, Option, Some, None, Result, Ok, Err, length, sym, ◌∙◌, ap, arith, refl, inl, inr, append-nil}
-use Rattle.std.specs.List.{cons_option}
-use Rattle.std.proofs.lemmas.Bool.{cases_eq, cases_lt}
-use Rattle.std.proofs.lemmas.Bool.Decides.{nat_tests}
-use Rattle.std.proofs.lemmas.List.{length-set}
+use Rattle.tlsf_crew.proofs.Common.{◌==◌, true, false, [], ◌∷◌, ◌++◌, ◌≡◌, ◌≢◌, ℕ, ◌<◌, List, Option, Some, None, Result, Ok, Err, length, sym, ◌∙◌, ap, arith, refl, inl, inr, append-nil, cons_option, cases_eq, cases_lt, nat_tests, length-set, Name, Refusal, Post, Entry, Release, Take, Target, Reply, Freed, Posted, Empty, Refused, Full, Stranger, Unmade, released, answer_told, call_on_own, meant, name_on_heap, post_of_release, post_of_take, posts_made, posts_taken, World, heap_in, with_heap, with_waiting, freeing, posting, releasing_named, taking, taking_next, took, took_first, reply_freed, name_of}
 use Rattle.tlsf_heap.specs.Calls as heap
-use Rattle.tlsf_heap.specs.declared.name.Name.{Name}
-use Rattle.tlsf_heap.specs.declared.refusal.Refusal.{Refusal}
-use Rattle.tlsf_post.specs.declared.post.Post.{Post}
-use Rattle.tlsf_calls.specs.declared.entry.Entry.{Entry}
-use Rattle.tlsf_calls.specs.declared.call.Call.TheVariants.{Release, Take}
-use Rattle.tlsf_calls.specs.declared.target.Target.{Target}
-use Rattle.tlsf_calls.specs.declared.reply.Reply.{Reply}
-use Rattle.tlsf_calls.specs.declared.reply.Reply.TheVariants.{Freed, Posted, Empty, Refused}
-use Rattle.tlsf_calls.specs.declared.crew_refusal.CrewRefusal.TheVariants.{Full, Stranger, Unmade}
-use Rattle.tlsf_crew.specs.model.Heaps.{released}
-use Rattle.tlsf_crew.specs.histories.History.{answer_told, call_on_own, meant, name_on_heap, post_of_release, post_of_take, posts_made, posts_taken}
-use Rattle.tlsf_crew.specs.model.World.{World, heap_in, with_heap, with_waiting, freeing, posting, releasing_named, taking, taking_next, took, took_first, reply_freed, name_of}
 use Rattle.tlsf_crew.proofs.lemmas.model.OneEvent.{releasing_post, releasing_far, taking_lane, taking_own, taking_far}
 use Rattle.tlsf_crew.proofs.lemmas.model.Edits.{edited_same, edited_other}
 use Rattle.tlsf_crew.proofs.lemmas.histories.OwnCalls.{Tells1, by_meant, done_here, done_told, none_done}

@@ -1,20 +1,5 @@
 -- A call is refused as Unmade exactly where its target means no name, and a release of a block of another's heap is answered as a post.
-use Rattle.std.proofs.Common.{[], ◌∷◌, ◌≡◌, ◌≢◌, ◌==◌, ◌<◌, true, false, ℕ, List, Option, Some, None, Result, Ok, Err, length, arith, refl, inl, inr, subst}
-use Rattle.std.specs.Prelude.{◌↔◌}
-use Rattle.std.proofs.lemmas.Bool.{cases_eq, cases_lt}
-use Rattle.std.proofs.lemmas.Bool.Decides.{nat_tests}
-use Rattle.tlsf_heap.specs.Blocks.{HeapState}
-use Rattle.tlsf_heap.specs.declared.name.Name.{Name}
-use Rattle.tlsf_heap.specs.declared.refusal.Refusal.{Refusal}
-use Rattle.tlsf_post.specs.declared.post.Post.{Post}
-use Rattle.tlsf_calls.specs.declared.call.Call.TheVariants.{Take}
-use Rattle.tlsf_calls.specs.declared.reply.Reply.{Reply}
-use Rattle.tlsf_calls.specs.declared.reply.Reply.TheVariants.{Freed, Made, Wrote, Got, Resized, Refused}
-use Rattle.tlsf_calls.specs.declared.crew_refusal.CrewRefusal.TheVariants.{Unmade}
-use Rattle.tlsf_crew.specs.model.OwnReplies.{HeapReply, own_named, reply_by}
-use Rattle.tlsf_crew.specs.histories.History.{AnswersPost, TookFromOther}
-use Rattle.tlsf_crew.specs.model.Heaps.{allocated, chunk_read, released, resized, written}
-use Rattle.tlsf_crew.specs.model.World.{World, allocating, heap_in, posting, reading_named, releasing, releasing_named, resizing_named, taking, taking_next, took_first, writing_named}
+use Rattle.tlsf_crew.proofs.Common.{[], ◌∷◌, ◌≡◌, ◌≢◌, ◌==◌, ◌<◌, true, false, ℕ, List, Option, Some, None, Result, Ok, Err, length, arith, refl, inl, inr, subst, ◌↔◌, cases_eq, cases_lt, nat_tests, HeapState, Name, Refusal, Post, Take, Reply, Freed, Made, Wrote, Got, Resized, Refused, Unmade, HeapReply, own_named, reply_by, AnswersPost, TookFromOther, allocated, chunk_read, released, resized, written, World, allocating, heap_in, posting, reading_named, releasing, releasing_named, resizing_named, taking, taking_next, took_first, writing_named}
 use Rattle.tlsf_crew.proofs.lemmas.model.OneEvent.{releasing_post, releasing_far, taking_lane, taking_own, taking_far}
 
 by_known : {A : Type 0} (given : A → Reply) (r : Result A Refusal) → ((x : A) → given x ≢ Refused Unmade) → reply_by given r ≢ Refused Unmade

@@ -1,17 +1,6 @@
 -- From whom no lane comes nothing is taken.
-use Rattle.std.proofs.Common.{suc, zero, [], ◌∷◌, ◌++◌, ◌≡◌, ◌≢◌, ℕ, ◌-◌, ◌≤◌, List, None, length, take, drop, ◌∙◌, ap, subst, arith, refl, inl, inr, ◌==◌, false}
-use Rattle.std.specs.List.{fold}
-use Rattle.std.proofs.lemmas.Bool.{cases_eq}
-use Rattle.std.proofs.lemmas.Bool.Decides.{nat_tests}
-use Rattle.tlsf_post.specs.declared.post.Post.{Post}
-use Rattle.tlsf_calls.specs.declared.entry.Entry.{Entry}
-use Rattle.tlsf_calls.specs.declared.call.Call.{Call}
-use Rattle.tlsf_calls.specs.declared.call.Call.TheVariants.{Take, Drain}
-use Rattle.tlsf_calls.specs.declared.reply.Reply.{Reply}
+use Rattle.tlsf_crew.proofs.Common.{suc, zero, [], ◌∷◌, ◌++◌, ◌≡◌, ◌≢◌, ℕ, ◌-◌, ◌≤◌, List, None, length, take, drop, ◌∙◌, ap, subst, arith, refl, inl, inr, ◌==◌, false, fold, cases_eq, nat_tests, Post, Entry, Call, Take, Drain, Reply, post_of_take, posts_taken, World, DrainState, Replayed, took, took_more, taking, drained_waiting, drained_below, after_drain, draining, called, Progress, MayTell, MayTellAll}
 use Rattle.tlsf_calls.specs.declared.reply.Reply.TheVariants.{Took as Taken}
-use Rattle.tlsf_crew.specs.histories.History.{post_of_take, posts_taken}
-use Rattle.tlsf_crew.specs.model.World.{World, DrainState, Replayed, took, took_more, taking, drained_waiting, drained_below, after_drain, draining, called}
-use Rattle.tlsf_crew.specs.model.Progress.{Progress, MayTell, MayTellAll}
 use Rattle.tlsf_crew.proofs.lemmas.model.OneEvent.{from_other, from_own, taking_own, taking_far}
 use Rattle.tlsf_crew.proofs.lemmas.histories.JoinedEntries.{told_nothing, taken_then}
 

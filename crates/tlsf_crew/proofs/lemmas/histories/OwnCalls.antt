@@ -1,28 +1,8 @@
 -- The entry of an allocate, a write, a resize, a read or a refused call tells the call on its worker's own heap.
-use Rattle.std.proofs.Common.{◌==◌, nat_le, true, false, Bool, cond, [], ◌∷◌, ◌≡◌, ℕ, ◌<◌, ◌≤◌, List, Option, Some, None, Result, Ok, Err, length, take, drop, ◌∙◌, ap, arith, refl, inl, inr}
-use Rattle.std.specs.List.{cons_option}
-use Rattle.std.proofs.lemmas.Bool.{cases_lt}
-use Rattle.std.proofs.lemmas.Bool.Decides.{nat_tests}
-use Rattle.std.proofs.lemmas.List.{length-set, set-get_or, get_or-set_same, get_or-set_other, length-take, length-drop}
-use Rattle.tlsf_heap.specs.Blocks.{HeapState}
+use Rattle.tlsf_crew.proofs.Common.{◌==◌, nat_le, true, false, Bool, cond, [], ◌∷◌, ◌≡◌, ℕ, ◌<◌, ◌≤◌, List, Option, Some, None, Result, Ok, Err, length, take, drop, ◌∙◌, ap, arith, refl, inl, inr, cons_option, cases_lt, nat_tests, length-set, set-get_or, get_or-set_same, get_or-set_other, length-take, length-drop, HeapState, Name, Refusal, Foreign, Range, bytes_of, Chunk, Call, Allocate, Write, Read, Resize, Target, Reply, Got, Resized, Wrote, Refused, Unmade, allocated, written, resized, chunk_read, as_chunk, too_many, IsNoPost, RunsTo, answer_told, call_on_own, handed_on, meant, World, WorldReply, by_own, heap_in, with_heap, allocating, writing_named, reading_named, resizing_named, reply_made, reply_wrote, reply_got, reply_resized, name_of, no_heap, own_unmade, reply_by}
 use Rattle.tlsf_heap.specs.Blocks as blocks
 use Rattle.tlsf_heap.specs.GoodFit.{Site}
 use Rattle.tlsf_heap.specs.Calls as heap
-use Rattle.tlsf_heap.specs.declared.name.Name.{Name}
-use Rattle.tlsf_heap.specs.declared.refusal.Refusal.{Refusal}
-use Rattle.tlsf_heap.specs.declared.refusal.Refusal.TheVariants.{Foreign, Range}
-use Rattle.tlsf_calls.specs.Bytes.{bytes_of}
-use Rattle.tlsf_calls.specs.declared.chunk.Chunk.{Chunk}
-use Rattle.tlsf_calls.specs.declared.call.Call.{Call}
-use Rattle.tlsf_calls.specs.declared.call.Call.TheVariants.{Allocate, Write, Read, Resize}
-use Rattle.tlsf_calls.specs.declared.target.Target.{Target}
-use Rattle.tlsf_calls.specs.declared.reply.Reply.{Reply}
-use Rattle.tlsf_calls.specs.declared.reply.Reply.TheVariants.{Got, Resized, Wrote, Refused}
-use Rattle.tlsf_calls.specs.declared.crew_refusal.CrewRefusal.TheVariants.{Unmade}
-use Rattle.tlsf_crew.specs.model.Heaps.{allocated, written, resized, chunk_read, as_chunk, too_many}
-use Rattle.tlsf_crew.specs.histories.History.{IsNoPost, RunsTo, answer_told, call_on_own, handed_on, meant}
-use Rattle.tlsf_crew.specs.model.World.{World, WorldReply, by_own, heap_in, with_heap, allocating, writing_named, reading_named, resizing_named, reply_made, reply_wrote, reply_got, reply_resized, name_of, no_heap}
-use Rattle.tlsf_crew.specs.model.OwnReplies.{own_unmade, reply_by}
 use Rattle.tlsf_calls.proofs.Padding.{bytes_back}
 use Rattle.tlsf_crew.proofs.lemmas.model.ChunkReads.{chunk_of_few, read_many}
 use Rattle.tlsf_crew.proofs.lemmas.histories.JoinedEntries.{IsHistory, IsOwnCall, history_quiet}

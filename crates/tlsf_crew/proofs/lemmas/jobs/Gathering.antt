@@ -1,21 +1,5 @@
 -- Where each job was prepared and done, the workers ran their scripts; over lanes the yard is whole then, and each record has its room.
-use Rattle.std.proofs.Common.{suc, zero, [], ◌∷◌, ◌++◌, ◌≡◌, ℕ, ◌<◌, List, Option, Some, None, length, map, get_or, slice_index, sym, ◌∙◌, ap, subst, arith, refl}
-use Rattle.std.proofs.lemmas.List.{length-map}
-use Rattle.std.specs.Option.{option_map}
-use Rattle.std.specs.List.{slice_get, All}
-use Rattle.std.specs.declared.vec.Vec.{Vec}
-use Rattle.std.specs.declared.alloc.Global.{Global}
-use Rattle.std.proofs.lemmas.Option.{slice_get_within, slice_get-map, get_or_from_slice_get}
-use Rattle.tlsf_heap.specs.declared.name.Name.{Name}
-use Rattle.tlsf_crew.specs.declared.worker.worker.Worker.{Worker}
-use Rattle.tlsf_calls.specs.declared.entry.Entry.{Entry}
-use Rattle.tlsf_calls.specs.declared.call.Call.{Call}
-use Rattle.tlsf_crew.specs.declared.jobs.job.Job.{Job}
-use Rattle.tlsf_crew.specs.scripts.Counts.{releases_of}
-use Rattle.tlsf_crew.specs.scripts.Scripts.{ScriptPromise, script_of}
-use Rattle.tlsf_calls.specs.Entries.{record_of}
-use Rattle.tlsf_crew.specs.jobs.Job.{IsDone}
-use Rattle.tlsf_crew.specs.jobs.Parts.{AllDone, IsPrepared, JobRan, EachJobRan}
+use Rattle.tlsf_crew.proofs.Common.{suc, zero, [], ◌∷◌, ◌++◌, ◌≡◌, ℕ, ◌<◌, List, Option, Some, None, length, map, get_or, slice_index, sym, ◌∙◌, ap, subst, arith, refl, length-map, option_map, slice_get, All, Vec, Global, slice_get_within, slice_get-map, get_or_from_slice_get, Name, Worker, Entry, Call, Job, releases_of, ScriptPromise, script_of, record_of, IsDone, AllDone, IsPrepared, JobRan, EachJobRan}
 use Rattle.tlsf_crew.proofs.lemmas.worker.Slots.{some_same}
 
 -- one job more, behind the others

@@ -1,6 +1,5 @@
 -- A list that was taken from its end, one element after another, and stands in another list in the reverse order.
-use Rattle.std.proofs.Common.{◌≡◌, List, [], ◌∷◌, ◌++◌, map, reverse, refl, sym, ap, ◌∙◌}
-use Rattle.std.proofs.lemmas.List.{append_assoc, map-append, reverse-append}
+use Rattle.tlsf_crew.proofs.Common.{◌≡◌, List, [], ◌∷◌, ◌++◌, map, reverse, refl, sym, ap, ◌∙◌, append_assoc, map-append, reverse-append}
 
 map_reverse : {X Y : Type 0} (f : Y → X) (js : List Y) → map f (reverse js) ≡ reverse (map f js)
 map_reverse f [] = refl

@@ -1,13 +1,5 @@
 -- Settling a lane leaves the world as it is, and a post or a take over a settled lane changes that lane alone.
-use Rattle.std.proofs.Common.{◌≡◌, ◌≢◌, ℕ, List, Some, length, sym, ◌∙◌, refl, subst}
-use Rattle.std.proofs.lemmas.List.{drop_at, append-nil}
-use Rattle.tlsf_post.specs.declared.post_end.PostEnd.{PostEnd}
-use Rattle.tlsf_post.specs.declared.take_end.TakeEnd.{TakeEnd}
-use Rattle.tlsf_post.specs.Lanes.{waited, taken}
-use Rattle.tlsf_crew.specs.declared.worker.worker.Worker.{Worker}
-use Rattle.tlsf_crew.specs.declared.worker.lanes.Lanes.{Lanes}
-use Rattle.tlsf_crew.specs.lanes.Yard.{post_at, take_at, BothBeside, IsYard, lane_waits, world_of}
-use Rattle.tlsf_crew.specs.lanes.LaneSteps.{OnlyLaneSettled}
+use Rattle.tlsf_crew.proofs.Common.{◌≡◌, ◌≢◌, ℕ, List, Some, length, sym, ◌∙◌, refl, subst, drop_at, append-nil, PostEnd, TakeEnd, waited, taken, Worker, Lanes, post_at, take_at, BothBeside, IsYard, lane_waits, world_of, OnlyLaneSettled}
 use Rattle.tlsf_crew.proofs.lemmas.lanes.LaneSlots.{step_change}
 use Rattle.tlsf_crew.proofs.lemmas.model.Edits.{with_same}
 use Rattle.tlsf_crew.proofs.lemmas.lanes.LaneChanges.{changed_world, waits_between, changed_yard}

@@ -1,10 +1,5 @@
 -- Where the lanes of a column, and then the columns, were settled one after another, all lanes were.
-use Rattle.std.proofs.Common.{◌≡◌, ◌≢◌, ℕ, ◌+◌, ◌<◌, ◌≤◌, List, length, sym, ◌∙◌, arith, refl, inl, inr}
-use Rattle.std.proofs.lemmas.Bool.{cases_eq}
-use Rattle.tlsf_crew.specs.declared.worker.worker.Worker.{Worker}
-use Rattle.tlsf_crew.specs.declared.worker.lanes.Lanes.{Lanes}
-use Rattle.tlsf_crew.specs.lanes.Settle.{LaneSettled}
-use Rattle.tlsf_crew.specs.lanes.LaneSteps.{OnlyLaneSettled, SameLane, ColumnSettled, EachColumnSettled}
+use Rattle.tlsf_crew.proofs.Common.{◌≡◌, ◌≢◌, ℕ, ◌+◌, ◌<◌, ◌≤◌, List, length, sym, ◌∙◌, arith, refl, inl, inr, cases_eq, Worker, Lanes, LaneSettled, OnlyLaneSettled, SameLane, ColumnSettled, EachColumnSettled}
 use Rattle.tlsf_crew.proofs.lemmas.lanes.LaneSlots.{step_change, step_same, same_then}
 
 pub step_settled : {sli : ℕ} (ws vs : List (Worker sli Lanes)) (i j : ℕ) → i ≢ j → OnlyLaneSettled ws i j vs → LaneSettled ws vs i j

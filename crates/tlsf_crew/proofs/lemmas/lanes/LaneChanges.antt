@@ -1,25 +1,7 @@
 -- Where one lane of a yard changes, its world changes by what waits in that lane, and by nothing else.
-use Rattle.std.proofs.Common.{◌≡◌, ℕ, ◌<◌, List, Some, length, get_or, set, sym, ◌∙◌, ap, map, subst, inl, inr, arith, ◌++◌, ◌≢◌, drop, refl, None, ◌≤◌}
-use Rattle.std.specs.List.{slice_get}
-use Rattle.std.proofs.lemmas.Option.{slice_get_within, slice_get-get_or}
-use Rattle.std.proofs.lemmas.Bool.{cases_eq}
-use Rattle.std.proofs.Math.ListN.{length-set}
-use Rattle.tlsf_heap.specs.Blocks.{HeapState}
-use Rattle.tlsf_heap.specs.Lawful.{IsLawful}
-use Rattle.tlsf_crew.specs.declared.worker.worker.Worker.{Worker}
-use Rattle.tlsf_crew.specs.declared.worker.lanes.Lanes.{Lanes}
-use Rattle.tlsf_crew.specs.worker.Workers.{heap_of, KeepsHeap, IsHeapOf, SameButHeap}
-use Rattle.tlsf_crew.specs.lanes.Yard.{heap_of_worker, world_of, post_at, take_at, HasYardLane, IsYard, capacity_in, lane_waits}
-use Rattle.tlsf_crew.specs.model.World.{no_heap, with_waiting, heap_in}
+use Rattle.tlsf_crew.proofs.Common.{◌≡◌, ℕ, ◌<◌, List, Some, length, get_or, set, sym, ◌∙◌, ap, map, subst, inl, inr, arith, ◌++◌, ◌≢◌, drop, refl, None, ◌≤◌, slice_get, slice_get_within, slice_get-get_or, cases_eq, length-set, HeapState, IsLawful, Worker, Lanes, heap_of, KeepsHeap, IsHeapOf, SameButHeap, heap_of_worker, world_of, post_at, take_at, HasYardLane, IsYard, capacity_in, lane_waits, no_heap, with_waiting, heap_in, length-map, Post, PostEnd, TakeEnd, posts_sent, capacity_of, waited, taken, id_and_capacity, LaneChange, SameLane}
 use Rattle.tlsf_crew.proofs.lemmas.worker.Slots.{get_set_same, get_set_other, some_same, none_or_some}
 use Rattle.tlsf_crew.proofs.lemmas.lanes.LaneSlots.{heap_at, same_parts, map_same}
-use Rattle.std.proofs.lemmas.List.{length-map}
-use Rattle.tlsf_post.specs.declared.post.Post.{Post}
-use Rattle.tlsf_post.specs.declared.post_end.PostEnd.{PostEnd}
-use Rattle.tlsf_post.specs.declared.take_end.TakeEnd.{TakeEnd}
-use Rattle.tlsf_post.specs.Lanes.{posts_sent, capacity_of, waited, taken}
-use Rattle.tlsf_crew.specs.lanes.LaneWorkers.{id_and_capacity}
-use Rattle.tlsf_crew.specs.lanes.LaneSteps.{LaneChange, SameLane}
 use Rattle.tlsf_crew.proofs.lemmas.lanes.Signed.{AreFrom, same_signed, changed_signed}
 use Rattle.tlsf_crew.proofs.lemmas.model.Edits.{same_world, edited_same, edited_other}
 

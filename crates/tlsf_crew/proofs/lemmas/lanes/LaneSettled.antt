@@ -1,14 +1,5 @@
 -- What a yard shows whose lanes were settled: what waits, the capacity, and no post for a worker that isn't there.
-use Rattle.std.proofs.Common.{[], ◌≡◌, ◌≢◌, ℕ, ◌≤◌, List, Option, Some, None, length, refl, inl, inr, ◌+◌, ◌<◌, get_or, sym, ◌∙◌, ap, arith}
-use Rattle.std.proofs.lemmas.Bool.{cases_eq}
-use Rattle.tlsf_post.specs.declared.post_end.PostEnd.{PostEnd}
-use Rattle.tlsf_post.specs.declared.take_end.TakeEnd.{TakeEnd}
-use Rattle.tlsf_crew.specs.declared.worker.worker.Worker.{Worker}
-use Rattle.tlsf_crew.specs.declared.worker.lanes.Lanes.{Lanes}
-use Rattle.tlsf_crew.specs.lanes.Yard.{IsYard, post_at, take_at, lane_waits, waits_in, heap_of_worker, capacity_in, world_of}
-use Rattle.tlsf_post.specs.Lanes.{free_slots, capacity_of, waited}
-use Rattle.tlsf_crew.specs.model.World.{World}
-use Rattle.tlsf_crew.specs.lanes.Settle.{LaneSettled}
+use Rattle.tlsf_crew.proofs.Common.{[], ◌≡◌, ◌≢◌, ℕ, ◌≤◌, List, Option, Some, None, length, refl, inl, inr, ◌+◌, ◌<◌, get_or, sym, ◌∙◌, ap, arith, cases_eq, PostEnd, TakeEnd, Worker, Lanes, IsYard, post_at, take_at, lane_waits, waits_in, heap_of_worker, capacity_in, world_of, free_slots, capacity_of, waited, World, LaneSettled}
 use Rattle.tlsf_crew.proofs.lemmas.worker.Slots.{some_same}
 use Rattle.tlsf_crew.proofs.lemmas.lanes.Across.{waits_after}
 

@@ -1,13 +1,6 @@
 -- A slice that came out of a lane is as many takes one after another.
-use Rattle.std.proofs.Common.{[], ◌∷◌, ◌≡◌, ◌≢◌, ◌<◌, ◌≤◌, ℕ, List, Some, length, set, refl, sym, ◌∙◌, ap, arith, append-nil, length-set}
-use Rattle.std.proofs.lemmas.Option.{slice_get_within}
-use Rattle.tlsf_post.specs.declared.post.Post.{Post}
-use Rattle.tlsf_post.specs.declared.take_end.TakeEnd.{TakeEnd}
-use Rattle.tlsf_post.specs.Lanes.{ready, taken}
+use Rattle.tlsf_crew.proofs.Common.{[], ◌∷◌, ◌≡◌, ◌≢◌, ◌<◌, ◌≤◌, ℕ, List, Some, length, set, refl, sym, ◌∙◌, ap, arith, append-nil, length-set, slice_get_within, Post, TakeEnd, ready, taken, Lanes, lane_from, lane_to, TookThrough, PortsInTurn, SliceTaken}
 use Rattle.tlsf_post.proofs.EndSlices.{EndSlice, cut_first}
-use Rattle.tlsf_crew.specs.declared.worker.lanes.Lanes.{Lanes}
-use Rattle.tlsf_crew.specs.lanes.LaneWorkers.{lane_from, lane_to, TookThrough}
-use Rattle.tlsf_crew.specs.worker.Slices.{PortsInTurn, SliceTaken}
 use Rattle.tlsf_crew.proofs.lemmas.worker.Slots.{from_slot, slot_new, slot_other}
 
 -- the lanes q are p with another end from i

@@ -1,18 +1,5 @@
 -- A worker whose ends, or whose heap, are another's: what its yard has in each slot.
-use Rattle.std.proofs.Common.{◌≡◌, ℕ, ap, suc, zero, [], ◌∷◌, ◌≢◌, ◌<◌, List, Option, Some, None, length, set, sym, ◌∙◌, map, refl, inl, inr}
-use Rattle.tlsf_crew.specs.declared.worker.worker.Worker.{Worker}
-use Rattle.tlsf_crew.specs.declared.worker.lanes.Lanes.{Lanes}
-use Rattle.tlsf_crew.specs.lanes.LaneWorkers.{id_and_capacity, end_to, end_from, lane_to, lane_from, lane_extents, lane_memory}
-use Rattle.tlsf_crew.specs.worker.Workers.{SameButHeap, SameButPorts, Stays, heap_of, slot_of}
-use Rattle.std.specs.List.{slice_get}
-use Rattle.std.proofs.lemmas.Option.{get_or_from_slice_get, slice_get_within}
-use Rattle.std.proofs.lemmas.Bool.{cases_eq}
-use Rattle.std.proofs.Math.ListN.{length-set}
-use Rattle.std.proofs.Math.Seq.{map-set_same}
-use Rattle.tlsf_post.specs.declared.post_end.PostEnd.{PostEnd}
-use Rattle.tlsf_post.specs.declared.take_end.TakeEnd.{TakeEnd}
-use Rattle.tlsf_crew.specs.lanes.Yard.{end_to_in, end_from_in, heap_of_worker, HasYardLane}
-use Rattle.tlsf_crew.specs.lanes.LaneSteps.{OnlyLaneSettled, LaneChange, SameLane, InYard}
+use Rattle.tlsf_crew.proofs.Common.{◌≡◌, ℕ, ap, suc, zero, [], ◌∷◌, ◌≢◌, ◌<◌, List, Option, Some, None, length, set, sym, ◌∙◌, map, refl, inl, inr, Worker, Lanes, id_and_capacity, end_to, end_from, lane_to, lane_from, lane_extents, lane_memory, SameButHeap, SameButPorts, Stays, heap_of, slot_of, slice_get, get_or_from_slice_get, slice_get_within, cases_eq, length-set, map-set_same, PostEnd, TakeEnd, end_to_in, end_from_in, heap_of_worker, HasYardLane, OnlyLaneSettled, LaneChange, SameLane, InYard}
 use Rattle.tlsf_crew.proofs.lemmas.worker.Slots.{get_set_same, get_set_other, got, got_first, got_second, from_slot, some_same}
 
 pub same_parts : {sli : ℕ} (a v : Worker sli Lanes) → SameButHeap a v → (id_and_capacity v ≡ id_and_capacity a) × (end_to v ≡ end_to a) × (end_from v ≡ end_from a)

@@ -1,22 +1,9 @@
 -- Takes one after another from a lane, and from lane after lane, make up a drain.
-use Rattle.std.proofs.Common.{◌++◌, ◌≡◌, ◌-◌, ℕ, zero, suc, List, Option, Some, None, length, refl, sym, ◌∙◌, ap, subst, inl, inr}
-use Rattle.std.proofs.lemmas.List.Sums.{fold-append}
-use Rattle.tlsf_heap.specs.Blocks.{HeapState}
+use Rattle.tlsf_crew.proofs.Common.{◌++◌, ◌≡◌, ◌-◌, ℕ, zero, suc, List, Option, Some, None, length, refl, sym, ◌∙◌, ap, subst, inl, inr, fold-append, HeapState, Post, PostEnd, Took, Worker, Lanes, end_from, lane_to, TookThrough, lane_places, heap_of, id_of, AfterTake, TakesInTurn, TakenFromLane, KeepsYards, PutsIntoLane, heap_after, SourceNoted, TurnNoted, EachNoted, AllNoted}
 use Rattle.tlsf_heap.specs.Calls.{released}
-use Rattle.tlsf_post.specs.declared.post.Post.{Post}
-use Rattle.tlsf_post.specs.declared.post_end.PostEnd.{PostEnd}
 use Rattle.tlsf_calls.specs.declared.drained.Drained.{Drained}
-use Rattle.tlsf_calls.specs.declared.took.Took.{Took}
-use Rattle.tlsf_crew.specs.declared.worker.worker.Worker.{Worker}
-use Rattle.tlsf_crew.specs.declared.worker.lanes.Lanes.{Lanes}
-use Rattle.tlsf_crew.specs.lanes.LaneWorkers.{end_from, lane_to, TookThrough, lane_places}
-use Rattle.tlsf_crew.specs.worker.Workers.{heap_of, id_of}
-use Rattle.tlsf_crew.specs.worker.Calls.{AfterTake, TakesInTurn}
-use Rattle.tlsf_crew.specs.lanes.LaneCalls.{TakenFromLane, KeepsYards, PutsIntoLane}
 use Rattle.tlsf_crew.specs.lanes.LaneTurns.{LaneDrained, TurnDrained, EachLaneDrained, DrainedAll}
-use Rattle.tlsf_crew.specs.worker.Drains.{heap_after}
 use Rattle.tlsf_crew.specs.lanes.LaneNotes.{lane_rules}
-use Rattle.tlsf_crew.specs.worker.Notes.{SourceNoted, TurnNoted, EachNoted, AllNoted}
 use Rattle.tlsf_crew.proofs.lemmas.worker.PortsKept.{Keeping}
 use Rattle.tlsf_crew.proofs.lemmas.worker.Slots.{end_or}
 use Rattle.tlsf_crew.proofs.lemmas.worker.SourceTurns.{none_heap, takes_heap, takes_of, turns_keep}

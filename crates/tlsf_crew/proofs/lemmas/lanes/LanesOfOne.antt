@@ -1,14 +1,5 @@
 -- A worker of a whole yard has its own number, a lawful heap, and a lane to and from each other worker.
-use Rattle.std.proofs.Common.{suc, zero, ◌∷◌, [], ◌≡◌, ℕ, ◌≤◌, List, Some, length, sym, ◌∙◌, ap, refl, subst, inl, inr, get_or, arith}
-use Rattle.std.specs.Prelude.{◌↔◌}
-use Rattle.std.specs.List.{slice_get, All}
-use Rattle.std.proofs.lemmas.Option.{slice_get_within, slice_get-get_or}
-use Rattle.std.proofs.lemmas.Bool.{cases_lt}
-use Rattle.tlsf_crew.specs.declared.worker.worker.Worker.{Worker}
-use Rattle.tlsf_crew.specs.declared.worker.lanes.Lanes.{Lanes}
-use Rattle.tlsf_crew.specs.worker.Workers.{IsOther, heap_of, id_of, IsHeapOf}
-use Rattle.tlsf_crew.specs.lanes.LaneWorkers.{end_to, end_from, HasPost, HasTake, KnowsYard}
-use Rattle.tlsf_crew.specs.lanes.Yard.{post_at, take_at, id_in, IsYard}
+use Rattle.tlsf_crew.proofs.Common.{suc, zero, ◌∷◌, [], ◌≡◌, ℕ, ◌≤◌, List, Some, length, sym, ◌∙◌, ap, refl, subst, inl, inr, get_or, arith, ◌↔◌, slice_get, All, slice_get_within, slice_get-get_or, cases_lt, Worker, Lanes, IsOther, heap_of, id_of, IsHeapOf, end_to, end_from, HasPost, HasTake, KnowsYard, post_at, take_at, id_in, IsYard}
 use Rattle.tlsf_crew.proofs.lemmas.worker.Slots.{some_same, none_or_some}
 use Rattle.tlsf_crew.proofs.lemmas.lanes.LaneSlots.{heap_at}
 

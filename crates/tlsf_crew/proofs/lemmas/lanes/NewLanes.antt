@@ -1,32 +1,12 @@
 -- Where all lanes were laid, row by row, the yard is whole and its world is the opened one.
-use Rattle.std.proofs.Common.{suc, zero, [], ◌∷◌, ◌++◌, ◌≡◌, ◌≢◌, ℕ, ◌+◌, ◌<◌, List, Option, Some, None, length, get_or, set, replicate, sym, ◌∙◌, ap, map, arith, refl, inl, inr, subst, ◌≤◌}
-use Rattle.std.specs.List.{slice_get, range_with_len}
-use Rattle.std.proofs.lemmas.Option.{slice_get_past}
-use Rattle.std.proofs.lemmas.Bool.{cases_eq}
-use Rattle.std.proofs.lemmas.List.{map-append, length-replicate, length-set}
-use Rattle.std.proofs.lemmas.List.Elements.{All-nil}
+use Rattle.tlsf_crew.proofs.Common.{suc, zero, [], ◌∷◌, ◌++◌, ◌≡◌, ◌≢◌, ℕ, ◌+◌, ◌<◌, List, Option, Some, None, length, get_or, set, replicate, sym, ◌∙◌, ap, map, arith, refl, inl, inr, subst, ◌≤◌, slice_get, range_with_len, slice_get_past, cases_eq, map-append, length-replicate, length-set, All-nil, IsLevel, Post, PostEnd, TakeEnd, posts_sent, free_slots, capacity_of, waited, taken, ready, IsLane, Worker, Lanes, post_at, take_at, capacity_in, lane_waits, IsYard, heap_of_worker, world_of, no_heap, opened_heaps, opened_world, slot_of, heap_of, id_and_capacity, IsBefore, IsLaid, opened_numbers, HeapState, opened}
 use Rattle.std.proofs.lemmas.List.FromFn.{map-range_with_len_more, get_or-map-range_with_len}
-use Rattle.tlsf_class.specs.Classes.{IsLevel}
-use Rattle.tlsf_post.specs.declared.post.Post.{Post}
-use Rattle.tlsf_post.specs.declared.post_end.PostEnd.{PostEnd}
-use Rattle.tlsf_post.specs.declared.take_end.TakeEnd.{TakeEnd}
-use Rattle.tlsf_post.specs.Lanes.{posts_sent, free_slots, capacity_of, waited, taken, ready, IsLane}
-use Rattle.tlsf_crew.specs.declared.worker.worker.Worker.{Worker}
-use Rattle.tlsf_crew.specs.declared.worker.lanes.Lanes.{Lanes}
-use Rattle.tlsf_crew.specs.lanes.Yard.{post_at, take_at, capacity_in, lane_waits, IsYard, heap_of_worker, world_of}
-use Rattle.tlsf_crew.specs.model.World.{no_heap}
 use Rattle.tlsf_crew.specs.worker.Sizes.{AreSizes}
-use Rattle.tlsf_crew.specs.model.Opening.{opened_heaps, opened_world}
-use Rattle.tlsf_crew.specs.worker.Workers.{slot_of, heap_of}
-use Rattle.tlsf_crew.specs.lanes.LaneWorkers.{id_and_capacity}
-use Rattle.tlsf_crew.specs.lanes.NewLanes.{IsBefore, IsLaid, opened_numbers}
 use Rattle.tlsf_crew.proofs.lemmas.worker.Slots.{get_set_same, get_set_other, some_same, none_or_some, slot_new, slot_other, no_slot}
 use Rattle.tlsf_crew.proofs.lemmas.lanes.LaneSlots.{map_same}
 use Rattle.tlsf_crew.proofs.lemmas.model.Edits.{same_world}
 use Rattle.tlsf_crew.proofs.lemmas.lanes.OneEnd.{posts_set, takes_set}
 use Rattle.tlsf_crew.proofs.lemmas.worker.OwnHeaps.{opened_lawful}
-use Rattle.tlsf_heap.specs.Blocks.{HeapState}
-use Rattle.tlsf_heap.specs.Calls.{opened}
 
 -- each worker still has its slots
 slots_set : {sli : ℕ} (ws : List (Worker sli Lanes)) (n i : ℕ) (v : Worker sli Lanes) → i < length ws → ((x : ℕ) (a : Worker sli Lanes) → slice_get ws x ≡ Some a → (length a.ports.posts.items ≡ n) × (length a.ports.takes.items ≡ n))

@@ -1,14 +1,5 @@
 -- Where one worker of a yard changes one of its ends, that lane changes and no other.
-use Rattle.std.proofs.Common.{◌≡◌, ◌≢◌, ℕ, List, Some, set, ap, refl, inl, inr}
-use Rattle.std.specs.List.{slice_get}
-use Rattle.std.proofs.lemmas.Option.{slice_get_within}
-use Rattle.std.proofs.lemmas.Bool.{cases_eq}
-use Rattle.tlsf_post.specs.declared.post_end.PostEnd.{PostEnd}
-use Rattle.tlsf_post.specs.declared.take_end.TakeEnd.{TakeEnd}
-use Rattle.tlsf_crew.specs.declared.worker.worker.Worker.{Worker}
-use Rattle.tlsf_crew.specs.declared.worker.lanes.Lanes.{Lanes}
-use Rattle.tlsf_crew.specs.lanes.LaneWorkers.{end_to, end_from}
-use Rattle.tlsf_crew.specs.lanes.Yard.{post_at, take_at}
+use Rattle.tlsf_crew.proofs.Common.{◌≡◌, ◌≢◌, ℕ, List, Some, set, ap, refl, inl, inr, slice_get, slice_get_within, cases_eq, PostEnd, TakeEnd, Worker, Lanes, end_to, end_from, post_at, take_at}
 use Rattle.tlsf_crew.proofs.lemmas.worker.Slots.{get_set_same, get_set_other}
 
 -- worker i got an end that posts to j

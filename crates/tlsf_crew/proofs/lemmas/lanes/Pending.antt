@@ -1,13 +1,5 @@
 -- Where all lanes of a yard were settled, all posts that wait are ready; a change of one lane changes their sum by that lane.
-use Rattle.std.proofs.Common.{◌≡◌, ℕ, ◌+◌, ◌<◌, List, Some, length, slice_get, ap, arith, refl, inl, inr, add-one}
-use Rattle.std.proofs.lemmas.Bool.{cases_eq}
-use Rattle.tlsf_post.specs.Lanes.{waited}
-use Rattle.tlsf_crew.specs.declared.worker.worker.Worker.{Worker}
-use Rattle.tlsf_crew.specs.declared.worker.lanes.Lanes.{Lanes}
-use Rattle.tlsf_crew.specs.lanes.Yard.{lane_waits, take_at, IsYard, world_of}
-use Rattle.tlsf_crew.specs.lanes.Settle.{EachLaneSettled}
-use Rattle.tlsf_crew.specs.model.Sums.{sum_below, waiting_count}
-use Rattle.tlsf_crew.specs.lanes.Ready.{count_of, ready_from, ready_below, ready_in}
+use Rattle.tlsf_crew.proofs.Common.{◌≡◌, ℕ, ◌+◌, ◌<◌, List, Some, length, slice_get, ap, arith, refl, inl, inr, add-one, cases_eq, waited, Worker, Lanes, lane_waits, take_at, IsYard, world_of, EachLaneSettled, sum_below, waiting_count, count_of, ready_from, ready_below, ready_in}
 use Rattle.tlsf_crew.proofs.lemmas.lanes.Across.{waits_after}
 use Rattle.tlsf_crew.proofs.lemmas.lanes.LaneChanges.{heaps_count}
 use Rattle.tlsf_crew.proofs.lemmas.model.Sums.{same_sum}

@@ -1,18 +1,5 @@
 -- Each post that waits in a lane was posted by the worker at the lane's other end.
-use Rattle.std.proofs.Common.{suc, zero, [], ◌∷◌, ◌++◌, ◌≡◌, ℕ, ◌+◌, List, Option, Some, None, Result, Ok, Err, length, drop, sym, ◌∙◌, ap, inl, inr}
-use Rattle.std.specs.List.{All}
-use Rattle.std.proofs.lemmas.Bool.{cases_eq}
-use Rattle.std.proofs.lemmas.List.{append_assoc, length_push, drop-drop}
-use Rattle.std.proofs.lemmas.List.Elements.{All-nil, All-push, All-drop}
-use Rattle.tlsf_post.specs.declared.post.Post.{Post}
-use Rattle.tlsf_post.specs.declared.post_end.PostEnd.{PostEnd}
-use Rattle.tlsf_post.specs.declared.take_end.TakeEnd.{TakeEnd}
-use Rattle.tlsf_post.specs.Lanes.{posts_sent, waited, taken}
-use Rattle.tlsf_crew.specs.declared.worker.worker.Worker.{Worker}
-use Rattle.tlsf_crew.specs.declared.worker.lanes.Lanes.{Lanes}
-use Rattle.tlsf_crew.specs.lanes.LaneWorkers.{PostEndPut, TakeEndTook}
-use Rattle.tlsf_crew.specs.lanes.Yard.{post_at, take_at, lane_waits}
-use Rattle.tlsf_crew.specs.lanes.LaneSteps.{LaneChange, SameLane}
+use Rattle.tlsf_crew.proofs.Common.{suc, zero, [], ◌∷◌, ◌++◌, ◌≡◌, ℕ, ◌+◌, List, Option, Some, None, Result, Ok, Err, length, drop, sym, ◌∙◌, ap, inl, inr, All, cases_eq, append_assoc, length_push, drop-drop, All-nil, All-push, All-drop, Post, PostEnd, TakeEnd, posts_sent, waited, taken, Worker, Lanes, PostEndPut, TakeEndTook, post_at, take_at, lane_waits, LaneChange, SameLane}
 
 -- each of the posts was posted by worker i
 abbrev pub AreFrom : ℕ → List Post → Type 0

@@ -1,19 +1,5 @@
 -- A worker's own calls keep its yard whole.
-use Rattle.std.proofs.Common.{suc, zero, [], ◌∷◌, ◌≡◌, ◌≢◌, ℕ, ◌<◌, List, Option, Some, Result, length, get_or, set, sym, ◌∙◌, ap, arith, refl, inl, inr, subst}
-use Rattle.std.specs.List.{slice_get}
-use Rattle.std.proofs.lemmas.Option.{slice_get_within}
-use Rattle.std.proofs.lemmas.Bool.{cases_eq}
-use Rattle.std.proofs.lemmas.List.{length-set}
-use Rattle.tlsf_post.specs.declared.post.Post.{Post}
-use Rattle.tlsf_post.specs.declared.post_end.PostEnd.{PostEnd}
-use Rattle.tlsf_post.specs.declared.take_end.TakeEnd.{TakeEnd}
-use Rattle.tlsf_post.specs.Lanes.{capacity_of, IsLane}
-use Rattle.tlsf_crew.specs.declared.worker.worker.Worker.{Worker}
-use Rattle.tlsf_crew.specs.declared.worker.lanes.Lanes.{Lanes}
-use Rattle.tlsf_crew.specs.lanes.Yard.{post_at, take_at, capacity_in, HasYardLane, IsYard}
-use Rattle.tlsf_crew.specs.lanes.LaneWorkers.{id_and_capacity, PostEndPut, TakeEndTook}
-use Rattle.tlsf_crew.specs.worker.Workers.{SameButHeap, KeepsHeap, heap_of, id_of}
-use Rattle.tlsf_crew.specs.lanes.LaneCalls.{KeepsYards}
+use Rattle.tlsf_crew.proofs.Common.{suc, zero, [], ◌∷◌, ◌≡◌, ◌≢◌, ℕ, ◌<◌, List, Option, Some, Result, length, get_or, set, sym, ◌∙◌, ap, arith, refl, inl, inr, subst, slice_get, slice_get_within, cases_eq, length-set, Post, PostEnd, TakeEnd, capacity_of, IsLane, Worker, Lanes, post_at, take_at, capacity_in, HasYardLane, IsYard, id_and_capacity, PostEndPut, TakeEndTook, SameButHeap, KeepsHeap, heap_of, id_of, KeepsYards}
 use Rattle.tlsf_crew.proofs.lemmas.worker.SameParts.{ports_heap}
 use Rattle.tlsf_crew.proofs.lemmas.lanes.LaneSlots.{ports_numbers, map_same}
 use Rattle.tlsf_crew.proofs.lemmas.worker.Slots.{get_set_same, some_same, none_or_some}

@@ -1,18 +1,6 @@
 -- A chunk's read of at most 64 bytes is the heap's read; one of more is refused as Range where the heap's would be done.
-use Rattle.std.proofs.Common.{◌≡◌, ◌≤◌, ◌<◌, ℕ, List, Result, Ok, Err, nat_le, true, false, arith, refl, sym, ap, ◌∙◌}
-use Rattle.std.proofs.lemmas.Bool.Decides.{nat_tests}
-use Rattle.tlsf_heap.specs.Blocks.{HeapState}
-use Rattle.tlsf_heap.specs.Calls.{read_of, read_answer}
-use Rattle.tlsf_heap.specs.declared.name.Name.{Name}
-use Rattle.tlsf_heap.specs.declared.refusal.Refusal.{Refusal}
-use Rattle.tlsf_heap.specs.declared.refusal.Refusal.TheVariants.{Range}
+use Rattle.tlsf_crew.proofs.Common.{◌≡◌, ◌≤◌, ◌<◌, ℕ, List, Result, Ok, Err, nat_le, true, false, arith, refl, sym, ap, ◌∙◌, nat_tests, HeapState, read_of, read_answer, Name, Refusal, Range, chunk_of, Chunk, CrewRefusal, Heap, by_heap, chunk_read, as_chunk, too_many}
 use Rattle.std.specs.Result.{result_unwrap_or}
-use Rattle.tlsf_calls.specs.Bytes.{chunk_of}
-use Rattle.tlsf_calls.specs.declared.chunk.Chunk.{Chunk}
-use Rattle.tlsf_calls.specs.declared.crew_refusal.CrewRefusal.{CrewRefusal}
-use Rattle.tlsf_calls.specs.declared.crew_refusal.CrewRefusal.TheVariants.{Heap}
-use Rattle.tlsf_crew.specs.worker.Calls.{by_heap}
-use Rattle.tlsf_crew.specs.model.Heaps.{chunk_read, as_chunk, too_many}
 
 pub chunk_of_few : (h : HeapState) (name : Name) (from n : ℕ) → n ≤ 64 → chunk_read h name from n ≡ as_chunk (read_of h name from n)
 unfolding chunk_read

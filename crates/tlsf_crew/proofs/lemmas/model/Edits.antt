@@ -1,9 +1,5 @@
 -- A world whose posts of one lane are others: what it has there, and elsewhere.
-use Rattle.std.proofs.Common.{◌≡◌, ℕ, List, sym, ◌∙◌, arith, refl, inl, inr}
-use Rattle.std.proofs.lemmas.Bool.{cases_eq}
-use Rattle.std.proofs.lemmas.Bool.Decides.{nat_tests}
-use Rattle.tlsf_post.specs.declared.post.Post.{Post}
-use Rattle.tlsf_crew.specs.model.World.{World, edited, with_waiting}
+use Rattle.tlsf_crew.proofs.Common.{◌≡◌, ℕ, List, sym, ◌∙◌, arith, refl, inl, inr, cases_eq, nat_tests, Post, World, edited, with_waiting}
 
 -- worlds are equal by heaps, by what waits in each pair, and by capacity
 pub same_world : {sli : ℕ} (v w : World sli) → v.heaps ≡ w.heaps → ((i j : ℕ) → v.waiting i j ≡ w.waiting i j) → v.capacity ≡ w.capacity → v ≡ w

@@ -1,13 +1,5 @@
 -- A drain that may take no fewer posts than wait empties each lane to its worker, and touches nothing else.
-use Rattle.std.proofs.Common.{suc, zero, [], ◌∷◌, ◌++◌, ◌≡◌, ◌≢◌, ℕ, ◌+◌, ◌-◌, ◌<◌, ◌≤◌, List, length, take, drop, sym, ◌∙◌, ap, arith, refl, inl, inr, append-nil, get_or-set_other}
-use Rattle.std.specs.List.{fold}
-use Rattle.std.proofs.lemmas.Bool.{cases_eq}
-use Rattle.std.proofs.lemmas.List.{length_push, take_all}
-use Rattle.tlsf_post.specs.declared.post.Post.{Post}
-use Rattle.tlsf_calls.specs.declared.call.Call.TheVariants.{Take}
-use Rattle.tlsf_crew.specs.model.Heaps.{released}
-use Rattle.tlsf_crew.specs.model.World.{no_heap, DrainState, heap_in, took, took_more, drained_waiting, drained_below, after_drain}
-use Rattle.tlsf_crew.specs.model.Sums.{sum_below}
+use Rattle.tlsf_crew.proofs.Common.{suc, zero, [], ◌∷◌, ◌++◌, ◌≡◌, ◌≢◌, ℕ, ◌+◌, ◌-◌, ◌<◌, ◌≤◌, List, length, take, drop, sym, ◌∙◌, ap, arith, refl, inl, inr, append-nil, get_or-set_other, fold, cases_eq, length_push, take_all, Post, Take, released, no_heap, DrainState, heap_in, took, took_more, drained_waiting, drained_below, after_drain, sum_below}
 use Rattle.tlsf_crew.proofs.lemmas.model.OneEvent.{from_other, from_own}
 use Rattle.tlsf_crew.proofs.lemmas.model.Edits.{edited_same, edited_other}
 

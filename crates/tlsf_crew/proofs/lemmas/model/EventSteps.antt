@@ -1,13 +1,5 @@
 -- Each event is answered as the model answers it, and there is room for its entries.
-use Rattle.std.proofs.Common.{nat_lt, true, false, ◌≡◌, ℕ, ◌+◌, ◌<◌, ◌≤◌, List, length, ap, arith, refl}
-use Rattle.std.specs.List.{fold}
-use Rattle.std.proofs.lemmas.Bool.Decides.{nat_tests}
-use Rattle.std.proofs.lemmas.List.{length_push}
-use Rattle.tlsf_calls.specs.declared.event.Event.{Event}
-use Rattle.tlsf_calls.specs.declared.call.Call.{Call}
-use Rattle.tlsf_calls.specs.declared.reply.Reply.TheVariants.{Refused}
-use Rattle.tlsf_calls.specs.declared.crew_refusal.CrewRefusal.TheVariants.{Stranger}
-use Rattle.tlsf_crew.specs.model.World.{World, WorldReply, Replayed, answered, called, after, replies, begun}
+use Rattle.tlsf_crew.proofs.Common.{nat_lt, true, false, ◌≡◌, ℕ, ◌+◌, ◌<◌, ◌≤◌, List, length, ap, arith, refl, fold, nat_tests, length_push, Event, Call, Refused, Stranger, World, WorldReply, Replayed, answered, called, after, replies, begun}
 
 pub after_far : {sli : ℕ} (r : Replayed sli) (e : Event) → length r.world.heaps ≤ e.worker → after r e ≡ answered r e.worker e.call (record { reply = Refused Stranger; world = r.world })
 unfolding after

@@ -1,17 +1,7 @@
 -- What a heap answers is what its worker replies: where the call's target means a name, and where it means none.
-use Rattle.std.proofs.Common.{◌≡◌, ℕ, List, Option, Some, None, Result, Ok, Err, length, ap, refl, subst}
-use Rattle.tlsf_heap.specs.Blocks.{HeapState}
+use Rattle.tlsf_crew.proofs.Common.{◌≡◌, ℕ, List, Option, Some, None, Result, Ok, Err, length, ap, refl, subst, HeapState, Name, Refusal, Reply, Refused, CrewRefusal, Heap, Unmade, KeepsHeap, by_heap, written, resized, chunk_read, IsHeapReply, HeapReply, own_named, own_writing, own_reading, own_resizing, reply_by}
 use Rattle.tlsf_heap.specs.Calls as heap
-use Rattle.tlsf_heap.specs.declared.name.Name.{Name}
-use Rattle.tlsf_heap.specs.declared.refusal.Refusal.{Refusal}
-use Rattle.tlsf_calls.specs.declared.reply.Reply.{Reply}
-use Rattle.tlsf_calls.specs.declared.reply.Reply.TheVariants.{Refused}
-use Rattle.tlsf_calls.specs.declared.crew_refusal.CrewRefusal.{CrewRefusal}
-use Rattle.tlsf_calls.specs.declared.crew_refusal.CrewRefusal.TheVariants.{Heap, Unmade}
-use Rattle.tlsf_crew.specs.worker.Workers.{KeepsHeap}
-use Rattle.tlsf_crew.specs.worker.Calls.{by_heap}
-use Rattle.tlsf_crew.specs.model.Heaps.{written, resized, chunk_read}
-use Rattle.tlsf_crew.specs.model.OwnReplies.{IsHeapReply, HeapReply, own_named, own_writing, own_reading, own_resizing, reply_by, reply_wrote, reply_got, reply_resized}
+use Rattle.tlsf_crew.specs.model.OwnReplies.{reply_wrote, reply_got, reply_resized}
 use Rattle.tlsf_crew.proofs.lemmas.worker.OwnHeaps.{call_keeps, same_heap_keeps}
 
 pub by_ok : {A : Type 0} (given : A → Reply) (o : Result A Refusal) (x : A) → Ok x ≡ by_heap o → given x ≡ reply_by given o

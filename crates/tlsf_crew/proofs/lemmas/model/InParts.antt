@@ -1,16 +1,5 @@
 -- What a list of events is answered doesn't depend on the entries before it: they stay in front. So a list can be run in parts.
-use Rattle.std.proofs.Common.{zero, suc, [], ◌∷◌, ◌++◌, ◌≡◌, ℕ, ◌-◌, ◌+◌, List, Option, None, length, take, drop, sym, ◌∙◌, ap, refl, inl, inr, append_assoc, append-nil}
-use Rattle.std.specs.List.{fold}
-use Rattle.std.proofs.lemmas.Bool.{cases_eq, cases_lt}
-use Rattle.std.proofs.lemmas.List.Sums.{fold-append}
-use Rattle.tlsf_heap.specs.declared.name.Name.{Name}
-use Rattle.tlsf_post.specs.declared.post.Post.{Post}
-use Rattle.tlsf_calls.specs.declared.entry.Entry.{Entry}
-use Rattle.tlsf_calls.specs.declared.event.Event.{Event}
-use Rattle.tlsf_calls.specs.declared.call.Call.{Call}
-use Rattle.tlsf_calls.specs.declared.call.Call.TheVariants.{Allocate, Release, Write, Read, Resize, Take, Drain}
-use Rattle.tlsf_calls.specs.declared.reply.Reply.TheVariants.{Drained}
-use Rattle.tlsf_crew.specs.model.World.{World, WorldReply, Replayed, DrainState, made_by, took, took_more, drained_waiting, drained_below, after_drain, draining, answered, called, after, replies, resumed, replies_behind}
+use Rattle.tlsf_crew.proofs.Common.{zero, suc, [], ◌∷◌, ◌++◌, ◌≡◌, ℕ, ◌-◌, ◌+◌, List, Option, None, length, take, drop, sym, ◌∙◌, ap, refl, inl, inr, append_assoc, append-nil, fold, cases_eq, cases_lt, fold-append, Name, Post, Entry, Event, Call, Allocate, Release, Write, Read, Resize, Take, Drain, Drained, World, WorldReply, Replayed, DrainState, made_by, took, took_more, drained_waiting, drained_below, after_drain, draining, answered, called, after, replies, resumed, replies_behind}
 use Rattle.tlsf_crew.proofs.lemmas.model.EventSteps.{after_far, after_near}
 use Rattle.tlsf_crew.proofs.lemmas.model.OneEvent.{from_other, from_own}
 

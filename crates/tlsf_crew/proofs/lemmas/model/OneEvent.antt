@@ -1,13 +1,5 @@
 -- A call that a worker makes on its yard is the model's step of the world.
-use Rattle.std.proofs.Common.{◌==◌, nat_lt, true, false, ◌≡◌, ◌≢◌, ℕ, ◌<◌, ◌≤◌, Option, Some, None, length, ap, arith, refl, inl, inr}
-use Rattle.std.proofs.lemmas.Bool.{cases_eq, cases_lt}
-use Rattle.std.proofs.lemmas.Bool.Decides.{nat_tests}
-use Rattle.tlsf_heap.specs.declared.name.Name.{Name}
-use Rattle.tlsf_heap.specs.Blocks.{HeapState}
-use Rattle.std.proofs.lemmas.List.{set-get_or}
-use Rattle.tlsf_calls.specs.declared.reply.Reply.TheVariants.{Refused}
-use Rattle.tlsf_calls.specs.declared.crew_refusal.CrewRefusal.TheVariants.{Stranger}
-use Rattle.tlsf_crew.specs.model.World.{World, with_heap, posting, taking_next, taking, releasing, releasing_named, heap_in, DrainState, drained_waiting, drained_from, no_heap}
+use Rattle.tlsf_crew.proofs.Common.{◌==◌, nat_lt, true, false, ◌≡◌, ◌≢◌, ℕ, ◌<◌, ◌≤◌, Option, Some, None, length, ap, arith, refl, inl, inr, cases_eq, cases_lt, nat_tests, Name, HeapState, set-get_or, Refused, Stranger, World, with_heap, posting, taking_next, taking, releasing, releasing_named, heap_in, DrainState, drained_waiting, drained_from, no_heap}
 
 pub same_heap : {sli : ℕ} (w : World sli) (at : ℕ) (h : HeapState) → h ≡ heap_in w at → with_heap w at h ≡ w
 same_heap w at h e = rw e (ap (λ l. record { heaps = l; waiting = w.waiting; capacity = w.capacity }) (set-get_or w.heaps at no_heap))

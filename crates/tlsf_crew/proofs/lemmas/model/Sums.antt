@@ -1,9 +1,5 @@
 -- The sum of two sums, the bound of a sum by its greatest part, and the sum over more numbers.
-use Rattle.std.proofs.Common.{suc, zero, ◌≡◌, ℕ, ◌+◌, ◌*◌, ◌<◌, ◌≤◌, arith, refl, inl, inr, ◌≢◌, List, length, sym, ap}
-use Rattle.std.proofs.lemmas.Bool.{cases_eq}
-use Rattle.tlsf_crew.specs.model.Sums.{sum_below, lanes_sum}
-use Rattle.tlsf_post.specs.declared.post.Post.{Post}
-use Rattle.tlsf_crew.specs.model.World.{edited}
+use Rattle.tlsf_crew.proofs.Common.{suc, zero, ◌≡◌, ℕ, ◌+◌, ◌*◌, ◌<◌, ◌≤◌, arith, refl, inl, inr, ◌≢◌, List, length, sym, ap, cases_eq, sum_below, lanes_sum, Post, edited}
 use Rattle.tlsf_crew.proofs.lemmas.model.Edits.{edited_same, edited_other}
 
 pub same_sum : (n : ℕ) (f g : ℕ → ℕ) → ((x : ℕ) → x < n → g x ≡ f x) → sum_below n g ≡ sum_below n f

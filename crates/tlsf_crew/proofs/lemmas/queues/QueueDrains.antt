@@ -1,17 +1,7 @@
 -- Takes one after another from a queue make up a drain.
-use Rattle.std.proofs.Common.{◌≡◌, ◌<◌, ◌⊎◌, ℕ, List, Option, Some, None, length, refl, sym, ◌∙◌, ap, subst, inl, inr}
+use Rattle.tlsf_crew.proofs.Common.{◌≡◌, ◌<◌, ◌⊎◌, ℕ, List, Option, Some, None, length, refl, sym, ◌∙◌, ap, subst, inl, inr, Post, PosterEnd, Took, IsCountOf, Worker, Queues, heap_of, SameButPorts, AfterTake, TakenFrom, SourceEnds, SourceNoted, queue_to, KeepsQueueYards, PutsIntoQueue, AsksQueue}
 use Rattle.tlsf_heap.specs.Calls as heap
-use Rattle.tlsf_post.specs.declared.post.Post.{Post}
-use Rattle.tlsf_post.specs.declared.poster_end.PosterEnd.{PosterEnd}
 use Rattle.tlsf_calls.specs.declared.drained.Drained.{Drained}
-use Rattle.tlsf_calls.specs.declared.took.Took.{Took}
-use Rattle.tlsf_crew.specs.worker.Drains.{IsCountOf}
-use Rattle.tlsf_crew.specs.declared.worker.worker.Worker.{Worker}
-use Rattle.tlsf_crew.specs.declared.queues.queues.Queues.{Queues}
-use Rattle.tlsf_crew.specs.worker.Workers.{heap_of, SameButPorts}
-use Rattle.tlsf_crew.specs.worker.Calls.{AfterTake, TakenFrom}
-use Rattle.tlsf_crew.specs.worker.Notes.{SourceEnds, SourceNoted}
-use Rattle.tlsf_crew.specs.queues.QueueWorkers.{queue_to, KeepsQueueYards, PutsIntoQueue, AsksQueue}
 use Rattle.tlsf_crew.specs.queues.QueueCalls.{TakenFromQueue, DrainedQueue}
 use Rattle.tlsf_crew.specs.queues.QueueNotes.{queue_rules, StopsAtQueue}
 use Rattle.tlsf_crew.proofs.lemmas.worker.OwnHeaps.{call_keeps}

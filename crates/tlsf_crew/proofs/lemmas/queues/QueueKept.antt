@@ -1,15 +1,5 @@
 -- A worker's own calls keep its place in a yard over queues.
-use Rattle.std.proofs.Common.{◌≡◌, ℕ, Option, Some, None, Result, sym, ◌∙◌, ap, arith, refl, inl, inr, subst}
-use Rattle.std.proofs.lemmas.Bool.{cases_eq}
-use Rattle.tlsf_heap.specs.declared.name.Name.{Name}
-use Rattle.tlsf_post.specs.Mailboxes.{KeepsPoster, KeepsOwner}
-use Rattle.tlsf_post.specs.declared.owner_end.OwnerEnd.{OwnerEnd}
-use Rattle.tlsf_post.specs.declared.poster_end.PosterEnd.{PosterEnd}
-use Rattle.tlsf_post.specs.declared.post.Post.{Post}
-use Rattle.tlsf_crew.specs.declared.worker.worker.Worker.{Worker}
-use Rattle.tlsf_crew.specs.declared.queues.queues.Queues.{Queues}
-use Rattle.tlsf_crew.specs.worker.Workers.{heap_of, SameButHeap, KeepsHeap}
-use Rattle.tlsf_crew.specs.queues.QueueWorkers.{queue_to, queue_end_to, KnowsQueueYard, KeepsSlot, KeepsQueueYards, PosterEndPut, OwnEndTook}
+use Rattle.tlsf_crew.proofs.Common.{◌≡◌, ℕ, Option, Some, None, Result, sym, ◌∙◌, ap, arith, refl, inl, inr, subst, cases_eq, Name, KeepsPoster, KeepsOwner, OwnerEnd, PosterEnd, Post, Worker, Queues, heap_of, SameButHeap, KeepsHeap, queue_to, queue_end_to, KnowsQueueYard, KeepsSlot, KeepsQueueYards, PosterEndPut, OwnEndTook}
 use Rattle.tlsf_crew.proofs.lemmas.worker.OwnHeaps.{same_heap_keeps}
 use Rattle.tlsf_crew.proofs.lemmas.worker.SameParts.{ports_heap}
 use Rattle.tlsf_crew.proofs.lemmas.worker.Slots.{some_same}

@@ -1,25 +1,5 @@
 -- Once all ends of a queue were side by side, its owner knows what was put into it, and all else of the yard stays.
-use Rattle.std.proofs.Common.{suc, zero, [], ◌∷◌, ◌++◌, ◌≡◌, ◌≢◌, ℕ, ◌+◌, ◌<◌, ◌≤◌, List, Option, Some, None, All, length, get_or, set, sym, ◌∙◌, ap, map, arith, refl, inl, inr, ◌⊎◌, subst}
-use Rattle.std.specs.List.{slice_get}
-use Rattle.std.specs.declared.vec.Vec.{Vec}
-use Rattle.std.specs.declared.alloc.Global.{Global}
-use Rattle.std.specs.Option.{option_to_list}
-use Rattle.std.proofs.lemmas.Option.{slice_get-get_or, slice_get_within}
-use Rattle.std.proofs.lemmas.Bool.{cases_eq, cases_lt}
-use Rattle.std.proofs.lemmas.List.{append-nil, length-set, map-append}
-use Rattle.std.proofs.lemmas.List.Elements.{All-append, All-cons, All-head, All-nil, All-tail}
-use Rattle.tlsf_post.specs.Rule.{posts_of}
-use Rattle.tlsf_post.specs.Mailboxes.{below_but, number_of, put_by, gone_from, owner_of, out_of, most_of, got_by, known_to, IsMailbox, IsWhole, AllBeside}
-use Rattle.tlsf_post.specs.declared.owner_end.OwnerEnd.{OwnerEnd}
-use Rattle.tlsf_post.specs.declared.post.Post.{Post}
-use Rattle.tlsf_post.specs.declared.poster_end.PosterEnd.{PosterEnd}
-use Rattle.tlsf_crew.specs.declared.worker.worker.Worker.{Worker}
-use Rattle.tlsf_crew.specs.declared.queues.queues.Queues.{Queues}
-use Rattle.tlsf_crew.specs.worker.Workers.{IsOther, slot_of, id_of, IsHeapOf}
-use Rattle.tlsf_crew.specs.queues.QueueWorkers.{queue_end_to, KnowsQueueYard}
-use Rattle.tlsf_crew.specs.queues.QueueYard.{FitsQueueYard, IsQueueYard, first_capacity, queue_capacity_in, queue_end_in}
-use Rattle.tlsf_crew.specs.queues.QueueOpening.{GaveEnds, GotEnd}
-use Rattle.tlsf_crew.specs.queues.QueueSettle.{Gathered, GaveUpEnd, QueueKnown, QueueSettled, EachQueueSettled, StaysPut, StaysSettled, end_at, ends_below}
+use Rattle.tlsf_crew.proofs.Common.{suc, zero, [], ◌∷◌, ◌++◌, ◌≡◌, ◌≢◌, ℕ, ◌+◌, ◌<◌, ◌≤◌, List, Option, Some, None, All, length, get_or, set, sym, ◌∙◌, ap, map, arith, refl, inl, inr, ◌⊎◌, subst, slice_get, Vec, Global, option_to_list, slice_get-get_or, slice_get_within, cases_eq, cases_lt, append-nil, length-set, map-append, All-append, All-cons, All-head, All-nil, All-tail, posts_of, below_but, number_of, put_by, gone_from, owner_of, out_of, most_of, got_by, known_to, IsMailbox, IsWhole, AllBeside, OwnerEnd, Post, PosterEnd, Worker, Queues, IsOther, slot_of, id_of, IsHeapOf, queue_end_to, KnowsQueueYard, FitsQueueYard, IsQueueYard, first_capacity, queue_capacity_in, queue_end_in, GaveEnds, GotEnd, Gathered, GaveUpEnd, QueueKnown, QueueSettled, EachQueueSettled, StaysPut, StaysSettled, end_at, ends_below}
 use Rattle.tlsf_post.proofs.Numbers.{but_more, but_skip}
 use Rattle.tlsf_crew.proofs.lemmas.queues.QueueOpened.{holds_of_member}
 use Rattle.tlsf_crew.proofs.lemmas.worker.Slots.{from_slot, get_set_same, get_set_other, none_or_some, slot_emptied, slot_new, slot_other, some_same, some_at}

@@ -1,17 +1,5 @@
 -- Settling the queues of a yard leaves the world that it shows.
-use Rattle.std.proofs.Common.{◌≡◌, ◌≢◌, ◌<◌, ◌∙◌, ℕ, List, Some, None, drop, length, map, arith, inl, inr, refl, sym, ap}
-use Rattle.std.specs.List.{slice_get}
-use Rattle.std.proofs.lemmas.Bool.{cases_eq, cases_lt}
-use Rattle.std.proofs.lemmas.List.{length-map, same_lists}
-use Rattle.std.proofs.lemmas.Option.{slice_get_past}
-use Rattle.tlsf_post.specs.Rule.{posts_of}
-use Rattle.tlsf_post.specs.Mailboxes.{number_of, put_by}
-use Rattle.tlsf_crew.specs.declared.worker.worker.Worker.{Worker}
-use Rattle.tlsf_crew.specs.declared.queues.queues.Queues.{Queues}
-use Rattle.tlsf_crew.specs.worker.Workers.{heap_of}
-use Rattle.tlsf_crew.specs.queues.QueueWorkers.{queue_end_to}
-use Rattle.tlsf_crew.specs.queues.QueueYard.{IsQueueYard, first_capacity, queue_capacity_in, queue_waits_in, queue_world_of, waits_of}
-use Rattle.tlsf_crew.specs.queues.QueueSettle.{EachQueueSettled, StaysPut}
+use Rattle.tlsf_crew.proofs.Common.{◌≡◌, ◌≢◌, ◌<◌, ◌∙◌, ℕ, List, Some, None, drop, length, map, arith, inl, inr, refl, sym, ap, slice_get, cases_eq, cases_lt, length-map, same_lists, slice_get_past, posts_of, number_of, put_by, Worker, Queues, heap_of, queue_end_to, IsQueueYard, first_capacity, queue_capacity_in, queue_waits_in, queue_world_of, waits_of, EachQueueSettled, StaysPut}
 use Rattle.tlsf_crew.proofs.lemmas.queues.QueueOpened.{map_at}
 use Rattle.tlsf_crew.proofs.lemmas.worker.Slots.{some_at}
 use Rattle.tlsf_crew.proofs.lemmas.queues.QueueSettled.{owner_none}

@@ -1,18 +1,5 @@
 -- Each worker of a whole yard over queues has an end to each other queue, and the yard stays whole where one takes the place of the one that it was.
-use Rattle.std.proofs.Common.{◌≡◌, ℕ, List, Option, Some, None, length, set, sym, ◌∙◌, ap, arith, refl, inl, inr, subst}
-use Rattle.std.specs.List.{slice_get}
-use Rattle.std.proofs.lemmas.Option.{slice_get_past, slice_get_within}
-use Rattle.std.specs.Prelude.{◌↔◌}
-use Rattle.std.proofs.lemmas.Bool.{cases_eq, cases_lt}
-use Rattle.std.proofs.lemmas.List.{length-set}
-use Rattle.tlsf_post.specs.Mailboxes.{KeepsPoster}
-use Rattle.tlsf_post.specs.Rule.{plan_for}
-use Rattle.tlsf_post.specs.declared.poster_end.PosterEnd.{PosterEnd}
-use Rattle.tlsf_crew.specs.declared.worker.worker.Worker.{Worker}
-use Rattle.tlsf_crew.specs.declared.queues.queues.Queues.{Queues}
-use Rattle.tlsf_crew.specs.worker.Workers.{IsOther, IsHeapOf, heap_of, id_of}
-use Rattle.tlsf_crew.specs.queues.QueueWorkers.{queue_end_to, HasQueueEnd, KnowsQueueYard, KeepsQueueYards, KeepsSlot}
-use Rattle.tlsf_crew.specs.queues.QueueYard.{IsQueueYard, first_capacity, queue_capacity_in}
+use Rattle.tlsf_crew.proofs.Common.{◌≡◌, ℕ, List, Option, Some, None, length, set, sym, ◌∙◌, ap, arith, refl, inl, inr, subst, slice_get, slice_get_past, slice_get_within, ◌↔◌, cases_eq, cases_lt, length-set, KeepsPoster, plan_for, PosterEnd, Worker, Queues, IsOther, IsHeapOf, heap_of, id_of, queue_end_to, HasQueueEnd, KnowsQueueYard, KeepsQueueYards, KeepsSlot, IsQueueYard, first_capacity, queue_capacity_in}
 use Rattle.tlsf_crew.proofs.lemmas.worker.Slots.{get_set_same, get_set_other, none_or_some, some_same, some_at}
 use Rattle.tlsf_crew.proofs.lemmas.queues.QueueKept.{keeps_all, knows_kept}
 

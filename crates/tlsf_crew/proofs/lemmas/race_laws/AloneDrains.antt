@@ -1,19 +1,5 @@
 -- The last drain of a worker takes in a race what it takes where each worker ran alone.
-use Rattle.std.proofs.Common.{zero, suc, [], ◌∷◌, ◌++◌, ◌≡◌, ◌≢◌, ◌-◌, ℕ, ◌+◌, ◌<◌, ◌≤◌, List, length, take, drop, sym, ◌∙◌, ap, arith, refl, inl, inr, subst, append-nil, length-append}
-use Rattle.std.specs.List.{fold}
-use Rattle.std.proofs.lemmas.Bool.{cases_eq}
-use Rattle.std.proofs.lemmas.List.{take_all}
-use Rattle.tlsf_post.specs.declared.post.Post.{Post}
-use Rattle.tlsf_calls.specs.declared.call.Call.{Call}
-use Rattle.tlsf_calls.specs.declared.entry.Entry.{Entry}
-use Rattle.tlsf_calls.specs.declared.took.Took.{Took}
-use Rattle.tlsf_crew.specs.model.World.{World, Replayed, DrainState, called, after_drain, drained_below, drained_waiting, draining, took_more}
-use Rattle.tlsf_crew.specs.model.Progress.{MayTell, told_by}
-use Rattle.tlsf_crew.specs.model.Sums.{sum_below}
-use Rattle.tlsf_crew.specs.histories.History.{AreTakes, posts_taken}
-use Rattle.tlsf_crew.specs.races.Race.{IsRace}
-use Rattle.tlsf_crew.specs.scripts.Scripts.{last_call}
-use Rattle.tlsf_crew.specs.race_laws.Alone.{OnlyLastDrains, RaceRunsAlone, alone, drained_alone, posted_alone}
+use Rattle.tlsf_crew.proofs.Common.{zero, suc, [], ◌∷◌, ◌++◌, ◌≡◌, ◌≢◌, ◌-◌, ℕ, ◌+◌, ◌<◌, ◌≤◌, List, length, take, drop, sym, ◌∙◌, ap, arith, refl, inl, inr, subst, append-nil, length-append, fold, cases_eq, take_all, Post, Call, Entry, Took, World, Replayed, DrainState, called, after_drain, drained_below, drained_waiting, draining, took_more, MayTell, told_by, sum_below, AreTakes, posts_taken, IsRace, last_call, OnlyLastDrains, RaceRunsAlone, alone, drained_alone, posted_alone}
 use Rattle.tlsf_crew.proofs.lemmas.races.TwoRecords.{drain_takes}
 use Rattle.tlsf_crew.proofs.lemmas.race_laws.OneRace.{drained, told_alone, told_in, turn_of}
 use Rattle.tlsf_crew.proofs.lemmas.race_laws.SameDrains.{lane_apart, last_drain, last_posts, other_post, own_post, same_last, take_entry}

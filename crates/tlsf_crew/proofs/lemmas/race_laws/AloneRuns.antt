@@ -1,24 +1,6 @@
 -- A worker whose script takes no post is told in a race what it is told alone.
-use Rattle.std.proofs.Common.{[], ◌∷◌, ◌++◌, ◌≡◌, ◌≢◌, ℕ, ◌+◌, ◌<◌, ◌≤◌, List, Option, Some, None, length, sym, ◌∙◌, ap, arith, refl, inl, inr, subst, append_assoc, append-nil, length-append, get_or-set_same}
-use Rattle.std.specs.List.{AllByRecursion, fold}
-use Rattle.std.proofs.lemmas.Bool.{cases_eq, cases_lt}
-use Rattle.tlsf_heap.specs.Blocks.{HeapState}
-use Rattle.tlsf_heap.specs.declared.name.Name.{Name}
-use Rattle.tlsf_post.specs.declared.post.Post.{Post}
-use Rattle.tlsf_calls.specs.Bytes.{bytes_of}
-use Rattle.tlsf_calls.specs.declared.call.Call.{Call}
-use Rattle.tlsf_calls.specs.declared.call.Call.TheVariants.{Allocate, Release, Write, Read, Resize, Take, Drain}
-use Rattle.tlsf_calls.specs.declared.entry.Entry.{Entry}
-use Rattle.tlsf_calls.specs.declared.reply.Reply.{Reply}
-use Rattle.tlsf_calls.specs.declared.reply.Reply.TheVariants.{Posted, Empty, Refused}
-use Rattle.tlsf_calls.specs.declared.crew_refusal.CrewRefusal.TheVariants.{Full}
-use Rattle.tlsf_calls.specs.declared.target.Target.{Target}
-use Rattle.tlsf_crew.specs.model.OwnReplies.{HeapReply, own_allocating, own_freeing, own_reading, own_resizing, own_writing}
-use Rattle.tlsf_crew.specs.model.World.{no_heap, World, WorldReply, Replayed, after, allocating, answered, by_own, called, heap_in, name_of, posting, reading_named, releasing_named, resizing_named, with_heap, writing_named}
+use Rattle.tlsf_crew.proofs.Common.{[], ◌∷◌, ◌++◌, ◌≡◌, ◌≢◌, ℕ, ◌+◌, ◌<◌, ◌≤◌, List, Option, Some, None, length, sym, ◌∙◌, ap, arith, refl, inl, inr, subst, append_assoc, append-nil, length-append, get_or-set_same, AllByRecursion, fold, cases_eq, cases_lt, HeapState, Name, Post, bytes_of, Call, Allocate, Release, Write, Read, Resize, Take, Drain, Entry, Reply, Posted, Empty, Refused, Full, Target, HeapReply, own_allocating, own_freeing, own_reading, own_resizing, own_writing, no_heap, World, WorldReply, Replayed, after, allocating, answered, by_own, called, heap_in, name_of, posting, reading_named, releasing_named, resizing_named, with_heap, writing_named, Progress, MayTell, MayTellAll, told_by, StandsBehind, TellsCall, post_of_release, post_of_take, posts_made, posts_taken, events_by, TakesNoPost}
 use Rattle.tlsf_calls.specs.Entries.{made_by}
-use Rattle.tlsf_crew.specs.model.Progress.{Progress, MayTell, MayTellAll, told_by}
-use Rattle.tlsf_crew.specs.histories.History.{StandsBehind, TellsCall, post_of_release, post_of_take, posts_made, posts_taken}
-use Rattle.tlsf_crew.specs.races.Race.{events_by}
 use Rattle.tlsf_crew.proofs.lemmas.histories.AllEntries.{called_knows, called_told}
 use Rattle.tlsf_crew.proofs.lemmas.model.EventSteps.{after_near}
 use Rattle.tlsf_crew.proofs.lemmas.histories.JoinedEntries.{told_nothing, told_own, made_then, taken_then}
@@ -27,7 +9,6 @@ use Rattle.tlsf_crew.proofs.lemmas.model.OneEvent.{release_capacity, releasing_f
 use Rattle.tlsf_crew.proofs.lemmas.scripts.OwnTold.{own_name, posted_world, full_world}
 use Rattle.tlsf_crew.proofs.lemmas.race_laws.CallsTold.{knows_all}
 use Rattle.tlsf_crew.proofs.lemmas.race_laws.RecordHistory.{knows_one}
-use Rattle.tlsf_crew.specs.race_laws.Alone.{TakesNoPost}
 
 -- ---- one call
 

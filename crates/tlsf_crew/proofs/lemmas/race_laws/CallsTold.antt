@@ -1,17 +1,6 @@
 -- The entries of some calls of a worker, whatever its ports: they tell each call, and the history of its heap.
-use Rattle.std.proofs.Common.{[], ◌∷◌, ◌++◌, ◌≡◌, ℕ, ◌<◌, List, Option, All, length, sym, ◌∙◌, ap, arith, refl, subst, append_assoc, append-nil}
-use Rattle.std.proofs.lemmas.List.Elements.{All-nil, All-append}
-use Rattle.tlsf_class.specs.Classes.{IsLevel}
-use Rattle.tlsf_heap.specs.Blocks.{HeapState}
-use Rattle.tlsf_heap.specs.Lawful.{IsLawful}
-use Rattle.tlsf_heap.specs.declared.name.Name.{Name}
+use Rattle.tlsf_crew.proofs.Common.{[], ◌∷◌, ◌++◌, ◌≡◌, ℕ, ◌<◌, List, Option, All, length, sym, ◌∙◌, ap, arith, refl, subst, append_assoc, append-nil, All-nil, All-append, IsLevel, HeapState, IsLawful, Name, Call, Entry, AreLawful, RunsThrough, RunsTo, answer_told, answers_on, call_on_own, calls_on, AllTold, Progress, untold, World, heap_in, record_of}
 use Rattle.tlsf_heap.proofs.lemmas.calls.Outcomes.{lawful_run}
-use Rattle.tlsf_calls.specs.declared.call.Call.{Call}
-use Rattle.tlsf_calls.specs.declared.entry.Entry.{Entry}
-use Rattle.tlsf_crew.specs.histories.History.{AreLawful, RunsThrough, RunsTo, answer_told, answers_on, call_on_own, calls_on}
-use Rattle.tlsf_crew.specs.model.Progress.{AllTold, Progress, untold}
-use Rattle.tlsf_crew.specs.model.World.{World, heap_in}
-use Rattle.tlsf_calls.specs.Entries.{record_of}
 use Rattle.tlsf_crew.proofs.lemmas.histories.Fronts.{runs_through}
 use Rattle.tlsf_crew.proofs.lemmas.histories.JoinedEntries.{HasItsAnswer, runs_then, told_then}
 use Rattle.tlsf_crew.proofs.lemmas.histories.OwnCalls.{Knows}

@@ -1,24 +1,11 @@
 -- Two races of the same scripts, which take no post, are the same.
-use Rattle.std.proofs.Common.{[], ◌∷◌, ◌++◌, ◌≡◌, ◌≢◌, ℕ, ◌<◌, List, Option, None, length, drop, sym, ◌∙◌, ap, arith, refl, append_assoc, append-nil, length-append}
-use Rattle.std.specs.List.{AllByRecursion}
-use Rattle.std.proofs.Math.Seq.{drop-append_seam}
-use Rattle.std.proofs.lemmas.List.{ext_get_or}
-use Rattle.tlsf_heap.specs.declared.name.Name.{Name}
-use Rattle.tlsf_calls.specs.declared.call.Call.{Call}
-use Rattle.tlsf_calls.specs.declared.entry.Entry.{Entry}
-use Rattle.tlsf_crew.specs.model.World.{no_heap, World, begun, heap_in, replies}
-use Rattle.tlsf_crew.specs.model.Progress.{Progress, MayTellAll, told_by, untold}
-use Rattle.tlsf_crew.specs.histories.History.{StandsBehind, posts_made, posts_taken}
-use Rattle.tlsf_crew.specs.races.Race.{IsRace}
-use Rattle.tlsf_calls.specs.Entries.{record_of}
-use Rattle.tlsf_crew.specs.scripts.Scripts.{script_of}
+use Rattle.tlsf_crew.proofs.Common.{[], ◌∷◌, ◌++◌, ◌≡◌, ◌≢◌, ℕ, ◌<◌, List, Option, None, length, drop, sym, ◌∙◌, ap, arith, refl, append_assoc, append-nil, length-append, AllByRecursion, drop-append_seam, ext_get_or, Name, Call, Entry, no_heap, World, begun, heap_in, replies, Progress, MayTellAll, told_by, untold, StandsBehind, posts_made, posts_taken, IsRace, record_of, script_of, OnlyLastDrains, alone, RaceIsOne, TakesNoPost}
 use Rattle.tlsf_crew.proofs.lemmas.histories.DrainEntries.{drain_makes}
 use Rattle.tlsf_crew.proofs.lemmas.races.TwoRecords.{each_post_same}
 use Rattle.tlsf_crew.proofs.lemmas.model.Edits.{same_world}
 use Rattle.tlsf_crew.proofs.lemmas.histories.JoinedEntries.{made_then, taken_then}
 use Rattle.tlsf_crew.proofs.lemmas.race_laws.AloneRuns.{HasLanes, IsAlone, alone_runs, alone_told, none_taken}
 use Rattle.tlsf_crew.proofs.lemmas.race_laws.SameDrains.{LastDrain, drain_along, last_drain, same_last}
-use Rattle.tlsf_crew.specs.race_laws.Alone.{OnlyLastDrains, alone, RaceIsOne, TakesNoPost}
 
 -- ---- what one worker was told
 

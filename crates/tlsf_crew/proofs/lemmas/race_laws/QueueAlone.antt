@@ -1,27 +1,8 @@
 -- Two races over queues of the same scripts, which take no post, are the same where each queue has one poster, and of more than two workers
 -- none met a full queue.
-use Rattle.std.proofs.Common.{[], ◌∷◌, ◌++◌, ◌≡◌, ◌≢◌, ℕ, ◌+◌, ◌-◌, ◌<◌, ◌≤◌, List, Option, Some, None, length, sym, ◌∙◌, ap, arith, refl, inl, inr, subst, append_assoc, append-nil, length-append}
-use Rattle.std.specs.List.{AllByRecursion, cons_option, fold}
-use Rattle.std.proofs.lemmas.Bool.{cases_eq, cases_lt}
-use Rattle.std.proofs.lemmas.List.{ext_get_or}
-use Rattle.tlsf_heap.specs.declared.name.Name.{Name}
-use Rattle.tlsf_post.specs.Rule.{posts_of}
-use Rattle.tlsf_post.specs.declared.post.Post.{Post}
+use Rattle.tlsf_crew.proofs.Common.{[], ◌∷◌, ◌++◌, ◌≡◌, ◌≢◌, ℕ, ◌+◌, ◌-◌, ◌<◌, ◌≤◌, List, Option, Some, None, length, sym, ◌∙◌, ap, arith, refl, inl, inr, subst, append_assoc, append-nil, length-append, AllByRecursion, cons_option, fold, cases_eq, cases_lt, ext_get_or, Name, posts_of, Post, Call, Take, Drain, Entry, Drained, no_heap, World, after, begun, heap_in, Progress, MayTell, MayTellAll, told_by, untold, post_of_release, posts_made, posts_taken, OnlyLastDrains, TakesNoPost, events_by, last_call, script_of, record_of, IsQueueRace, MayTellQueue, MayTellQueueAll, with_reply, with_takes}
 use Rattle.tlsf_post.proofs.RuleSteps.{parts}
-use Rattle.tlsf_calls.specs.declared.call.Call.{Call}
-use Rattle.tlsf_calls.specs.declared.call.Call.TheVariants.{Take, Drain}
-use Rattle.tlsf_calls.specs.declared.entry.Entry.{Entry}
-use Rattle.tlsf_calls.specs.declared.reply.Reply.TheVariants.{Drained}
-use Rattle.tlsf_crew.specs.model.World.{no_heap, World, after, begun, heap_in}
-use Rattle.tlsf_crew.specs.model.Progress.{Progress, MayTell, MayTellAll, told_by, untold}
-use Rattle.tlsf_crew.specs.histories.History.{post_of_release, posts_made, posts_taken}
-use Rattle.tlsf_crew.specs.race_laws.Alone.{OnlyLastDrains, TakesNoPost}
-use Rattle.tlsf_crew.specs.races.Race.{events_by}
-use Rattle.tlsf_crew.specs.scripts.Scripts.{last_call, script_of}
-use Rattle.tlsf_calls.specs.Entries.{record_of}
 use Rattle.tlsf_crew.specs.race_laws.QueueAlone.{IsUncontendedRace, MeetsNoFull, QueueRaceIsOne}
-use Rattle.tlsf_crew.specs.races.QueueRace.{IsQueueRace}
-use Rattle.tlsf_crew.specs.model.QueueProgress.{MayTellQueue, MayTellQueueAll, with_reply, with_takes}
 use Rattle.tlsf_crew.proofs.lemmas.histories.JoinedEntries.{told_nothing, told_other, told_own, made_then}
 use Rattle.tlsf_crew.proofs.lemmas.model.Edits.{same_world}
 use Rattle.tlsf_crew.proofs.lemmas.scripts.ManyEntries.{count_made}

@@ -1,23 +1,6 @@
 -- A record over queues tells the calls of its script and the history of its worker's heap.
-use Rattle.std.proofs.Common.{[], ◌∷◌, ◌++◌, ◌≡◌, ◌≢◌, ℕ, suc, ◌<◌, ◌≤◌, List, Option, None, All, length, sym, ◌∙◌, ap, arith, refl, subst, append_assoc, append-nil}
-use Rattle.std.proofs.lemmas.List.Elements.{All-nil, All-cons, All-head, All-tail, All-append}
-use Rattle.tlsf_heap.specs.Blocks.{HeapState}
-use Rattle.tlsf_heap.specs.declared.name.Name.{Name}
-use Rattle.tlsf_post.specs.declared.post.Post.{Post}
-use Rattle.tlsf_calls.specs.declared.call.Call.{Call}
-use Rattle.tlsf_calls.specs.declared.call.Call.TheVariants.{Allocate, Release, Write, Read, Resize, Take, Drain}
-use Rattle.tlsf_calls.specs.declared.entry.Entry.{Entry}
-use Rattle.tlsf_calls.specs.declared.crew_refusal.CrewRefusal.TheVariants.{Stranger}
-use Rattle.tlsf_calls.specs.declared.reply.Reply.TheVariants.{Drained, Refused}
-use Rattle.tlsf_crew.specs.model.Heaps.{released}
-use Rattle.tlsf_crew.specs.histories.History.{AreLawful, RunsThrough, RunsTo, answer_told, answers_on, call_on_own, calls_on, posts_made, posts_taken}
-use Rattle.tlsf_crew.specs.model.Progress.{Progress}
-use Rattle.tlsf_crew.specs.model.World.{World, heap_in}
-use Rattle.tlsf_crew.specs.scripts.Scripts.{last_call, script_of}
-use Rattle.tlsf_calls.specs.Entries.{record_of}
-use Rattle.tlsf_crew.specs.model.QueueProgress.{IsFromOther, MayTellQueue, take_entry, with_reply, with_take, with_takes}
+use Rattle.tlsf_crew.proofs.Common.{[], ◌∷◌, ◌++◌, ◌≡◌, ◌≢◌, ℕ, suc, ◌<◌, ◌≤◌, List, Option, None, All, length, sym, ◌∙◌, ap, arith, refl, subst, append_assoc, append-nil, All-nil, All-cons, All-head, All-tail, All-append, HeapState, Name, Post, Call, Allocate, Release, Write, Read, Resize, Take, Drain, Entry, Stranger, Drained, Refused, released, AreLawful, RunsThrough, RunsTo, answer_told, answers_on, call_on_own, calls_on, posts_made, posts_taken, Progress, World, heap_in, last_call, script_of, record_of, IsFromOther, MayTellQueue, take_entry, with_reply, with_take, with_takes, IsQueueRace}
 use Rattle.tlsf_crew.specs.histories.QueueHistory.{AreQueueTakes, TellsQueue, TellsQueueCall}
-use Rattle.tlsf_crew.specs.races.QueueRace.{IsQueueRace}
 use Rattle.tlsf_crew.proofs.lemmas.histories.AllEntries.{more_knows}
 use Rattle.tlsf_crew.proofs.lemmas.histories.JoinedEntries.{HasItsAnswer, told_nothing, told_own}
 use Rattle.tlsf_crew.proofs.lemmas.histories.OwnCalls.{Knows}

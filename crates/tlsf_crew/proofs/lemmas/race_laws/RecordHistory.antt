@@ -1,16 +1,5 @@
 -- A record tells the calls of its script and the history of its worker's heap.
-use Rattle.std.proofs.Common.{[], ◌∷◌, ◌++◌, ◌≡◌, ◌≢◌, ℕ, ◌<◌, List, Option, All, length, sym, ◌∙◌, ap, arith, refl, subst}
-use Rattle.tlsf_class.specs.Classes.{IsLevel}
-use Rattle.tlsf_heap.specs.Lawful.{IsLawful}
-use Rattle.tlsf_heap.specs.declared.name.Name.{Name}
-use Rattle.tlsf_calls.specs.declared.call.Call.{Call}
-use Rattle.tlsf_calls.specs.declared.entry.Entry.{Entry}
-use Rattle.tlsf_crew.specs.histories.History.{AreLawful, RunsThrough, RunsTo, Tells, TellsEvent, TookFromOther, answers_on, calls_on, posts_made, posts_taken}
-use Rattle.tlsf_crew.specs.model.Progress.{Progress, MayTell, untold}
-use Rattle.tlsf_crew.specs.model.World.{World, Replayed, called, heap_in}
-use Rattle.tlsf_crew.specs.races.Race.{IsRace, events_by, events_of_race}
-use Rattle.tlsf_crew.specs.scripts.Scripts.{last_call, script_of}
-use Rattle.tlsf_calls.specs.Entries.{record_of}
+use Rattle.tlsf_crew.proofs.Common.{[], ◌∷◌, ◌++◌, ◌≡◌, ◌≢◌, ℕ, ◌<◌, List, Option, All, length, sym, ◌∙◌, ap, arith, refl, subst, IsLevel, IsLawful, Name, Call, Entry, AreLawful, RunsThrough, RunsTo, Tells, TellsEvent, TookFromOther, answers_on, calls_on, posts_made, posts_taken, Progress, MayTell, untold, World, Replayed, called, heap_in, IsRace, events_by, events_of_race, last_call, script_of, record_of}
 use Rattle.tlsf_crew.proofs.lemmas.histories.AllEntries.{called_knows, called_told}
 use Rattle.tlsf_crew.proofs.lemmas.histories.JoinedEntries.{HasItsAnswer}
 use Rattle.tlsf_crew.proofs.lemmas.histories.OwnCalls.{Knows}

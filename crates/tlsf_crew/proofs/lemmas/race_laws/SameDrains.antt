@@ -1,20 +1,7 @@
 -- Two drains of the same heap that took the same posts are the same.
-use Rattle.std.proofs.Common.{◌==◌, true, false, zero, suc, [], ◌∷◌, ◌++◌, ◌≡◌, ◌≢◌, ◌-◌, ℕ, ◌<◌, ◌≤◌, List, Option, Some, None, length, take, sym, ◌∙◌, ap, arith, refl, inl, inr, subst, append-nil, length-append}
-use Rattle.std.specs.List.{cons_option, fold}
-use Rattle.std.proofs.lemmas.Bool.Decides.{nat_tests}
-use Rattle.std.proofs.lemmas.Bool.{cases_eq, cases_lt}
-use Rattle.tlsf_heap.specs.Blocks.{HeapState}
+use Rattle.tlsf_crew.proofs.Common.{◌==◌, true, false, zero, suc, [], ◌∷◌, ◌++◌, ◌≡◌, ◌≢◌, ◌-◌, ℕ, ◌<◌, ◌≤◌, List, Option, Some, None, length, take, sym, ◌∙◌, ap, arith, refl, inl, inr, subst, append-nil, length-append, cons_option, fold, nat_tests, cases_eq, cases_lt, HeapState, Name, Post, Take, Drain, Entry, Drained, Took, Replayed, DrainState, after_drain, drained_below, drained_waiting, draining, heap_in, took_more, Progress, MayTell, AreTakes, IsDrain, RunsTo, answer_told, answers_on, call_on_own, calls_on, post_of_take, posts_taken, last_call}
 use Rattle.tlsf_heap.specs.Calls as heap
-use Rattle.tlsf_heap.specs.declared.name.Name.{Name}
-use Rattle.tlsf_post.specs.declared.post.Post.{Post}
-use Rattle.tlsf_calls.specs.declared.call.Call.TheVariants.{Take, Drain}
-use Rattle.tlsf_calls.specs.declared.entry.Entry.{Entry}
-use Rattle.tlsf_calls.specs.declared.reply.Reply.TheVariants.{Took as Taken, Drained}
-use Rattle.tlsf_calls.specs.declared.took.Took.{Took}
-use Rattle.tlsf_crew.specs.model.World.{Replayed, DrainState, after_drain, drained_below, drained_waiting, draining, heap_in, took_more}
-use Rattle.tlsf_crew.specs.model.Progress.{Progress, MayTell}
-use Rattle.tlsf_crew.specs.histories.History.{AreTakes, IsDrain, RunsTo, answer_told, answers_on, call_on_own, calls_on, post_of_take, posts_taken}
-use Rattle.tlsf_crew.specs.scripts.Scripts.{last_call}
+use Rattle.tlsf_calls.specs.declared.reply.Reply.TheVariants.{Took as Taken}
 use Rattle.tlsf_crew.proofs.lemmas.histories.DrainEntries.{drain_makes, drain_told}
 use Rattle.tlsf_crew.proofs.lemmas.races.TwoRecords.{drain_takes}
 use Rattle.tlsf_crew.proofs.lemmas.histories.JoinedEntries.{told_nothing, told_own, told_then, taken_then}

@@ -1,33 +1,6 @@
 -- Where each worker over lanes ran its script, the yard is whole, and each record has its room.
-use Rattle.std.proofs.Common.{[], ◌≡◌, ℕ, ◌≤◌, List, Option, Some, length, subst, append-nil, suc, ◌∷◌, ◌++◌, ◌+◌, map, set, slice_index, vec_capacity, sym, ◌∙◌, ap, arith, refl, append_assoc}
+use Rattle.tlsf_crew.proofs.Common.{[], ◌≡◌, ℕ, ◌≤◌, List, Option, Some, length, subst, append-nil, suc, ◌∷◌, ◌++◌, ◌+◌, map, set, slice_index, vec_capacity, sym, ◌∙◌, ap, arith, refl, append_assoc, take_all, length-map, TakeEnd, ready, Name, Worker, Lanes, Entry, Call, id_of, end_from, KnowsYard, LaneWorkerRan, EachLaneWorkerRan, HaveRooms, posts_taken, LaneMoved, Spent, lane_promise, ScriptRun, at_stage, script_of, slice_get, All, Vec, Global, set-append_seam, slice_get_within, get_or_from_slice_get, IsYard, AreLaneLimits, releases_of, count_of, ready_from, record_of, KnowsSome, KeepsYards, EachJobRan}
 use mathlib.Core.List.{IsPrefix}
-use Rattle.std.specs.Prelude.{slice_index}
-use Rattle.std.proofs.lemmas.List.{take_all, length-map}
-use Rattle.tlsf_post.specs.declared.take_end.TakeEnd.{TakeEnd}
-use Rattle.tlsf_post.specs.Lanes.{ready}
-use Rattle.tlsf_heap.specs.declared.name.Name.{Name}
-use Rattle.tlsf_crew.specs.declared.worker.worker.Worker.{Worker}
-use Rattle.tlsf_crew.specs.declared.worker.lanes.Lanes.{Lanes}
-use Rattle.tlsf_calls.specs.declared.entry.Entry.{Entry}
-use Rattle.tlsf_calls.specs.declared.call.Call.{Call}
-use Rattle.tlsf_crew.specs.worker.Workers.{id_of}
-use Rattle.tlsf_crew.specs.lanes.LaneWorkers.{end_from, KnowsYard}
-use Rattle.tlsf_crew.specs.races.LaneTasks.{LaneWorkerRan, EachLaneWorkerRan, HaveRooms}
-use Rattle.tlsf_crew.specs.histories.History.{posts_taken}
-use Rattle.tlsf_crew.specs.scripts.LaneMoves.{LaneMoved, Spent, lane_promise}
-use Rattle.tlsf_crew.specs.scripts.Scripts.{ScriptRun, at_stage, script_of}
-use Rattle.std.specs.List.{slice_get, All}
-use Rattle.std.specs.declared.vec.Vec.{Vec}
-use Rattle.std.specs.declared.alloc.Global.{Global}
-use Rattle.std.proofs.Math.Seq.{set-append_seam}
-use Rattle.std.proofs.lemmas.Option.{slice_get_within, get_or_from_slice_get}
-use Rattle.tlsf_crew.specs.lanes.Yard.{IsYard}
-use Rattle.tlsf_crew.specs.scripts.Counts.{AreLaneLimits, releases_of}
-use Rattle.tlsf_crew.specs.lanes.Ready.{count_of, ready_from}
-use Rattle.tlsf_calls.specs.Entries.{record_of}
-use Rattle.tlsf_crew.specs.jobs.Job.{KnowsSome}
-use Rattle.tlsf_crew.specs.lanes.LaneCalls.{KeepsYards}
-use Rattle.tlsf_crew.specs.jobs.Parts.{EachJobRan}
 use Rattle.tlsf_crew.proofs.lemmas.worker.Slots.{some_same}
 use Rattle.tlsf_crew.proofs.lemmas.model.Sums.{same_sum}
 use Rattle.tlsf_crew.proofs.lemmas.jobs.Gathering.{record_at}

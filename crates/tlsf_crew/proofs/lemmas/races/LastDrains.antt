@@ -1,30 +1,6 @@
 -- The last drains, worker after worker, take all that waits, are told, and have their room.
-use Rattle.std.proofs.Common.{[], ◌∷◌, ◌++◌, ◌≡◌, ◌≢◌, ℕ, ◌+◌, ◌*◌, ◌<◌, ◌≤◌, List, Option, Some, None, length, map, set, get_or, sym, ◌∙◌, ap, subst, arith, refl, inl, inr, append-nil, length-append, get_or-set_same, get_or-set_other}
-use Rattle.std.proofs.lemmas.Bool.{cases_eq, cases_lt}
-use Rattle.std.proofs.lemmas.List.{length-map, length-set, map-set}
-use Rattle.std.proofs.lemmas.Option.{slice_get_within, slice_get-map, get_or_from_slice_get}
-use Rattle.std.specs.List.{slice_get}
-use Rattle.std.specs.Option.{option_map}
-use Rattle.std.specs.declared.vec.Vec.{Vec}
-use Rattle.std.specs.declared.alloc.Global.{Global}
-use Rattle.tlsf_heap.specs.declared.name.Name.{Name}
-use Rattle.tlsf_post.specs.declared.post.Post.{Post}
-use Rattle.tlsf_crew.specs.declared.worker.worker.Worker.{Worker}
-use Rattle.tlsf_crew.specs.declared.worker.lanes.Lanes.{Lanes}
-use Rattle.tlsf_calls.specs.declared.entry.Entry.{Entry}
-use Rattle.tlsf_crew.specs.lanes.Yard.{IsYard, heap_of_worker, capacity_in, waits_in, world_of}
-use Rattle.tlsf_crew.specs.model.World.{World, Replayed, made_by, called, after_drain, draining}
-use Rattle.tlsf_crew.specs.model.Sums.{sum_below}
-use Rattle.tlsf_crew.specs.histories.History.{posts_made, posts_taken}
-use Rattle.tlsf_crew.specs.replays.ReplaySteps.{drain_of, replay_of, IsReplied}
-use Rattle.tlsf_calls.specs.declared.event.Event.{Event}
-use Rattle.tlsf_calls.specs.declared.reply.Reply.{Reply}
-use Rattle.tlsf_calls.specs.declared.reply.Reply.TheVariants.{Drained}
+use Rattle.tlsf_crew.proofs.Common.{[], ◌∷◌, ◌++◌, ◌≡◌, ◌≢◌, ℕ, ◌+◌, ◌*◌, ◌<◌, ◌≤◌, List, Option, Some, None, length, map, set, get_or, sym, ◌∙◌, ap, subst, arith, refl, inl, inr, append-nil, length-append, get_or-set_same, get_or-set_other, cases_eq, cases_lt, length-map, length-set, map-set, slice_get_within, slice_get-map, get_or_from_slice_get, slice_get, option_map, Vec, Global, Name, Post, Worker, Lanes, Entry, IsYard, heap_of_worker, capacity_in, waits_in, world_of, World, Replayed, made_by, called, after_drain, draining, sum_below, posts_made, posts_taken, drain_of, replay_of, IsReplied, Event, Reply, Drained, last_call, record_of, MayTell, HasFew, HasLastRoom, LastTold, EachLastDrained}
 use Rattle.tlsf_crew.proofs.lemmas.model.EventSteps.{after_near}
-use Rattle.tlsf_crew.specs.scripts.Scripts.{last_call}
-use Rattle.tlsf_calls.specs.Entries.{record_of}
-use Rattle.tlsf_crew.specs.model.Progress.{MayTell}
-use Rattle.tlsf_crew.specs.races.LaneTasks.{HasFew, HasLastRoom, LastTold, EachLastDrained}
 use Rattle.tlsf_crew.proofs.lemmas.lanes.LaneChanges.{heaps_count}
 use Rattle.tlsf_crew.proofs.lemmas.histories.DrainEntries.{drain_told, drain_makes}
 use Rattle.tlsf_crew.proofs.lemmas.model.Emptied.{LanesOut, waits_below, all_out}

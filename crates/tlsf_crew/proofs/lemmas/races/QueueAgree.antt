@@ -1,10 +1,6 @@
 -- Two records over queues agree: what one worker was answered to have posted is what the other took of it.
-use Rattle.std.proofs.Common.{[], ◌++◌, ◌≡◌, ℕ, List, length, drop, sym, ◌∙◌, ap, arith, append_assoc, append-nil, length-append}
+use Rattle.tlsf_crew.proofs.Common.{[], ◌++◌, ◌≡◌, ℕ, List, length, drop, sym, ◌∙◌, ap, arith, append_assoc, append-nil, length-append, drop-append_seam, append_cancel_left, nil_from_length, posts_of, Post}
 use mathlib.Core.List.{IsPrefix}
-use Rattle.std.proofs.Math.Seq.{drop-append_seam}
-use Rattle.std.proofs.lemmas.List.{append_cancel_left, nil_from_length}
-use Rattle.tlsf_post.specs.Rule.{posts_of}
-use Rattle.tlsf_post.specs.declared.post.Post.{Post}
 use Rattle.tlsf_post.proofs.RuleSteps.{of_append}
 
 -- a list that begins with another and is its beginning is that list

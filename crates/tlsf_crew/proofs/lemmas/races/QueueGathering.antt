@@ -1,22 +1,6 @@
 -- Where each worker over queues ran its script, each record has a place left.
-use Rattle.std.proofs.Common.{◌∙◌, ℕ, List, length, map, get_or, vec_capacity, All, ap, sym, arith, subst}
-use Rattle.std.specs.Prelude.{slice_index}
-use Rattle.std.specs.declared.vec.Vec.{Vec}
-use Rattle.std.specs.declared.alloc.Global.{Global}
-use Rattle.std.proofs.lemmas.List.{length-map}
-use Rattle.std.proofs.lemmas.Option.{slice_get-get_or, slice_get_within}
-use Rattle.tlsf_calls.specs.declared.call.Call.{Call}
-use Rattle.tlsf_calls.specs.declared.entry.Entry.{Entry}
-use Rattle.tlsf_crew.specs.declared.worker.worker.Worker.{Worker}
-use Rattle.tlsf_crew.specs.declared.queues.queues.Queues.{Queues}
-use Rattle.tlsf_crew.specs.races.LaneTasks.{KeepRooms}
-use Rattle.tlsf_crew.specs.jobs.Parts.{EachJobRan}
-use Rattle.tlsf_crew.specs.scripts.Scripts.{script_of}
+use Rattle.tlsf_crew.proofs.Common.{◌∙◌, ℕ, List, length, map, get_or, vec_capacity, All, ap, sym, arith, subst, slice_index, Vec, Global, length-map, slice_get-get_or, slice_get_within, Call, Entry, Worker, Queues, KeepRooms, EachJobRan, script_of, releases_of, queue_promise, HasPlace, EachQueueWorkerRan, KnowsSomeYard, IsQueueYard}
 use Rattle.tlsf_crew.specs.races.Rooms.{HaveQueueRecordRooms}
-use Rattle.tlsf_crew.specs.scripts.Counts.{releases_of}
-use Rattle.tlsf_crew.specs.scripts.QueueMoves.{queue_promise}
-use Rattle.tlsf_crew.specs.races.QueueTasks.{HasPlace, EachQueueWorkerRan, KnowsSomeYard}
-use Rattle.tlsf_crew.specs.queues.QueueYard.{IsQueueYard}
 use Rattle.tlsf_crew.proofs.lemmas.scripts.QueueRuns.{queue_moves}
 use Rattle.tlsf_crew.proofs.lemmas.scripts.ScriptRuns.{script_room}
 use Rattle.tlsf_crew.proofs.lemmas.jobs.Gathering.{record_at}

@@ -1,28 +1,6 @@
 -- The last drains of a race over queues, worker after worker, take all that was known to have been put, and are told.
-use Rattle.std.proofs.Common.{[], ◌∷◌, ◌++◌, ◌≡◌, ◌≢◌, ℕ, ◌+◌, ◌<◌, ◌≤◌, List, Option, Some, length, set, sym, ◌∙◌, ap, subst, arith, refl, inl, inr, append_assoc, append-nil, get_or, get_or-set_other}
+use Rattle.tlsf_crew.proofs.Common.{[], ◌∷◌, ◌++◌, ◌≡◌, ◌≢◌, ℕ, ◌+◌, ◌<◌, ◌≤◌, List, Option, Some, length, set, sym, ◌∙◌, ap, subst, arith, refl, inl, inr, append_assoc, append-nil, get_or, get_or-set_other, cases_eq, length-map, length-set, map-set, slice_get_within, slice_get, Vec, Global, Name, posts_of, got_by, known_to, Entry, Drained, Stage, last_call, record_of, sum_of, posts_taken, post_of_take, Worker, Queues, id_of, queue_end_to, KeepsQueueYards, KnowsQueueYard, IsQueueYard, QueueStepped, entry_by, QueueLastDrained, EachQueueLastDrained}
 use mathlib.Core.List.{IsPrefix}
-use Rattle.std.proofs.lemmas.Bool.{cases_eq}
-use Rattle.std.proofs.lemmas.List.{length-map, length-set, map-set}
-use Rattle.std.proofs.lemmas.Option.{slice_get_within}
-use Rattle.std.specs.List.{slice_get}
-use Rattle.std.specs.declared.vec.Vec.{Vec}
-use Rattle.std.specs.declared.alloc.Global.{Global}
-use Rattle.tlsf_heap.specs.declared.name.Name.{Name}
-use Rattle.tlsf_post.specs.Rule.{posts_of}
-use Rattle.tlsf_post.specs.Mailboxes.{got_by, known_to}
-use Rattle.tlsf_calls.specs.declared.entry.Entry.{Entry}
-use Rattle.tlsf_calls.specs.declared.reply.Reply.TheVariants.{Drained}
-use Rattle.tlsf_crew.specs.scripts.Scripts.{Stage, last_call}
-use Rattle.tlsf_calls.specs.Entries.{record_of}
-use Rattle.tlsf_crew.specs.model.Sums.{sum_of}
-use Rattle.tlsf_crew.specs.histories.History.{posts_taken, post_of_take}
-use Rattle.tlsf_crew.specs.declared.worker.worker.Worker.{Worker}
-use Rattle.tlsf_crew.specs.declared.queues.queues.Queues.{Queues}
-use Rattle.tlsf_crew.specs.worker.Workers.{id_of}
-use Rattle.tlsf_crew.specs.queues.QueueWorkers.{queue_end_to, KeepsQueueYards, KnowsQueueYard}
-use Rattle.tlsf_crew.specs.queues.QueueYard.{IsQueueYard}
-use Rattle.tlsf_crew.specs.scripts.QueueMoves.{QueueStepped, entry_by}
-use Rattle.tlsf_crew.specs.races.QueueTasks.{QueueLastDrained, EachQueueLastDrained}
 use Rattle.tlsf_crew.proofs.lemmas.races.LastDrains.{items_of, record_items}
 use Rattle.tlsf_crew.proofs.lemmas.histories.JoinedEntries.{told_nothing, taken_then}
 use Rattle.tlsf_crew.proofs.lemmas.worker.Slots.{get_set_other, get_set_same, some_same, some_at}

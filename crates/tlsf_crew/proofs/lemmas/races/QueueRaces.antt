@@ -1,40 +1,9 @@
 -- A race over queues leads from the yard that was handed in to the one that comes back: each record is legal, and each two agree.
-use Rattle.std.proofs.Common.{◌==◌, true, false, [], ◌∷◌, ◌++◌, ◌≡◌, ◌≢◌, ℕ, ◌+◌, ◌<◌, ◌≤◌, List, Some, None, All, length, map, drop, sym, ◌∙◌, ap, subst, arith, refl, inl, inr, append_assoc, append-nil, length-append, length-drop}
+use Rattle.tlsf_crew.proofs.Common.{◌==◌, true, false, [], ◌∷◌, ◌++◌, ◌≡◌, ◌≢◌, ℕ, ◌+◌, ◌<◌, ◌≤◌, List, Some, None, All, length, map, drop, sym, ◌∙◌, ap, subst, arith, refl, inl, inr, append_assoc, append-nil, length-append, length-drop, slice_get, cases_eq, cases_lt, nat_tests, append_cancel_left, length-map, nil_from_length, same_from_push, All-nil, All-cons, All-tail, get_or_from_slice_get, slice_get_past, slice_get_within, HeapState, Name, posts_of, number_of, put_by, gone_from, plan_of, got_by, known_to, most_of, IsOnlyPoster, Post, PosterEnd, Call, Drain, Entry, Full, Drained, Refused, StandsBehind, posts_made, posts_taken, Progress, untold, heap_in, no_heap, last_call, script_of, record_of, Worker, Queues, heap_of, id_of, queue_end_to, KeepsQueueYards, KnowsQueueYard, IsQueueYard, first_capacity, queue_capacity_in, queue_end_in, queue_waits_in, queue_world_of, waits_of, MayTellQueue, with_takes, AgreeQueue, IsLegalQueue, IsQueueRace, QueueKnown, EachQueueSettled, StaysPut, end_at, QueueLastDrained, SettledAndDrained, EachQueueWorkerRan, QueueWorkerRan}
 use mathlib.Core.List.{IsPrefix}
-use Rattle.std.specs.List.{slice_get}
-use Rattle.std.proofs.lemmas.Bool.{cases_eq, cases_lt}
-use Rattle.std.proofs.lemmas.Bool.Decides.{nat_tests}
-use Rattle.std.proofs.lemmas.List.{append_cancel_left, length-map, nil_from_length, same_from_push}
-use Rattle.std.proofs.lemmas.List.Elements.{All-nil, All-cons, All-tail}
-use Rattle.std.proofs.lemmas.Option.{get_or_from_slice_get, slice_get_past, slice_get_within}
-use Rattle.tlsf_heap.specs.Blocks.{HeapState}
-use Rattle.tlsf_heap.specs.declared.name.Name.{Name}
-use Rattle.tlsf_post.specs.Rule.{posts_of}
-use Rattle.tlsf_post.specs.Mailboxes.{number_of, put_by, gone_from, plan_of, got_by, known_to, most_of, IsOnlyPoster}
 use Rattle.tlsf_post.specs.declared.plan.Plan.{Plan}
 use Rattle.tlsf_post.proofs.RuleSteps.{of_append}
-use Rattle.tlsf_post.specs.declared.post.Post.{Post}
-use Rattle.tlsf_post.specs.declared.poster_end.PosterEnd.{PosterEnd}
-use Rattle.tlsf_calls.specs.declared.call.Call.{Call}
-use Rattle.tlsf_calls.specs.declared.call.Call.TheVariants.{Drain}
-use Rattle.tlsf_calls.specs.declared.entry.Entry.{Entry}
-use Rattle.tlsf_calls.specs.declared.crew_refusal.CrewRefusal.TheVariants.{Full}
-use Rattle.tlsf_calls.specs.declared.reply.Reply.TheVariants.{Drained, Refused}
-use Rattle.tlsf_crew.specs.histories.History.{StandsBehind, posts_made, posts_taken}
-use Rattle.tlsf_crew.specs.model.Progress.{Progress, untold}
-use Rattle.tlsf_crew.specs.model.World.{heap_in, no_heap}
-use Rattle.tlsf_crew.specs.scripts.Scripts.{last_call, script_of}
-use Rattle.tlsf_calls.specs.Entries.{record_of}
-use Rattle.tlsf_crew.specs.declared.worker.worker.Worker.{Worker}
-use Rattle.tlsf_crew.specs.declared.queues.queues.Queues.{Queues}
-use Rattle.tlsf_crew.specs.worker.Workers.{heap_of, id_of}
-use Rattle.tlsf_crew.specs.queues.QueueWorkers.{queue_end_to, KeepsQueueYards, KnowsQueueYard}
-use Rattle.tlsf_crew.specs.queues.QueueYard.{IsQueueYard, first_capacity, queue_capacity_in, queue_end_in, queue_waits_in, queue_world_of, waits_of}
-use Rattle.tlsf_crew.specs.model.QueueProgress.{MayTellQueue, with_takes}
 use Rattle.tlsf_crew.specs.scripts.QueueMoves.{told_of}
-use Rattle.tlsf_crew.specs.races.QueueRace.{AgreeQueue, IsLegalQueue, IsQueueRace}
-use Rattle.tlsf_crew.specs.queues.QueueSettle.{QueueKnown, EachQueueSettled, StaysPut, end_at}
-use Rattle.tlsf_crew.specs.races.QueueTasks.{QueueLastDrained, SettledAndDrained, EachQueueWorkerRan, QueueWorkerRan}
 use Rattle.tlsf_crew.proofs.lemmas.jobs.Gathering.{map_at}
 use Rattle.tlsf_crew.proofs.lemmas.histories.JoinedEntries.{made_then, taken_then}
 use Rattle.tlsf_crew.proofs.lemmas.scripts.ManyEntries.{prefix_then, stands_split}

@@ -1,19 +1,6 @@
 -- The takes of a drain over queues: what they add to a record, and when two drains took the same posts.
-use Rattle.std.proofs.Common.{zero, suc, [], ◌∷◌, ◌++◌, ◌≡◌, ◌≢◌, ℕ, ◌<◌, ◌≤◌, List, Option, All, length, refl, sym, ◌∙◌, ap, arith, subst, inl, inr, append_assoc, append-nil}
-use Rattle.std.proofs.lemmas.Bool.{cases_eq}
-use Rattle.std.proofs.lemmas.List.Elements.{All-head, All-tail}
-use Rattle.tlsf_heap.specs.declared.name.Name.{Name}
-use Rattle.tlsf_post.specs.Rule.{posts_but, posts_of}
-use Rattle.tlsf_post.specs.declared.post.Post.{Post}
+use Rattle.tlsf_crew.proofs.Common.{zero, suc, [], ◌∷◌, ◌++◌, ◌≡◌, ◌≢◌, ℕ, ◌<◌, ◌≤◌, List, Option, All, length, refl, sym, ◌∙◌, ap, arith, subst, inl, inr, append_assoc, append-nil, cases_eq, All-head, All-tail, Name, posts_but, posts_of, Post, Entry, Full, Drained, Refused, released, StandsBehind, post_of_release, post_of_take, posts_made, posts_taken, Progress, last_call, IsFromOther, take_entry, with_reply, with_take, with_takes}
 use Rattle.tlsf_post.proofs.RuleSteps.{of_append, of_kept, of_other, of_others, of_own, parts}
-use Rattle.tlsf_calls.specs.declared.entry.Entry.{Entry}
-use Rattle.tlsf_calls.specs.declared.crew_refusal.CrewRefusal.TheVariants.{Full}
-use Rattle.tlsf_calls.specs.declared.reply.Reply.TheVariants.{Drained, Refused}
-use Rattle.tlsf_crew.specs.model.Heaps.{released}
-use Rattle.tlsf_crew.specs.histories.History.{StandsBehind, post_of_release, post_of_take, posts_made, posts_taken}
-use Rattle.tlsf_crew.specs.model.Progress.{Progress}
-use Rattle.tlsf_crew.specs.scripts.Scripts.{last_call}
-use Rattle.tlsf_crew.specs.model.QueueProgress.{IsFromOther, take_entry, with_reply, with_take, with_takes}
 use Rattle.tlsf_crew.proofs.lemmas.histories.JoinedEntries.{told_nothing, made_then, taken_then}
 use Rattle.tlsf_crew.proofs.lemmas.scripts.OneEntry.{stands_last}
 use Rattle.tlsf_crew.proofs.lemmas.scripts.QueueSteps.{take_tells}

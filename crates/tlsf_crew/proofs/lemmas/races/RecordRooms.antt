@@ -1,22 +1,6 @@
 -- The room that the records of a race have when they come back is that which was made for what waited and for the scripts.
-use Rattle.std.proofs.Common.{◌≡◌, ℕ, ◌+◌, ◌<◌, List, Some, length, set, vec_capacity, sym, ◌∙◌, ap, arith, inl, inr}
-use Rattle.std.specs.List.{slice_get}
-use Rattle.std.specs.declared.vec.Vec.{Vec}
-use Rattle.std.specs.declared.alloc.Global.{Global}
-use Rattle.std.proofs.lemmas.Bool.{cases_eq, cases_lt}
-use Rattle.std.proofs.lemmas.Option.{slice_get_within}
-use Rattle.tlsf_crew.specs.declared.worker.worker.Worker.{Worker}
-use Rattle.tlsf_crew.specs.declared.worker.lanes.Lanes.{Lanes}
-use Rattle.tlsf_calls.specs.declared.entry.Entry.{Entry}
-use Rattle.tlsf_calls.specs.declared.call.Call.{Call}
-use Rattle.tlsf_crew.specs.lanes.Yard.{IsYard, take_at, end_from_in, world_of}
-use Rattle.tlsf_crew.specs.model.World.{World}
-use Rattle.tlsf_crew.specs.lanes.Settle.{EachLaneSettled}
-use Rattle.tlsf_crew.specs.lanes.Ready.{count_of, ready_from}
-use Rattle.tlsf_crew.specs.scripts.Counts.{releases_of}
-use Rattle.tlsf_crew.specs.scripts.Scripts.{script_of}
+use Rattle.tlsf_crew.proofs.Common.{◌≡◌, ℕ, ◌+◌, ◌<◌, List, Some, length, set, vec_capacity, sym, ◌∙◌, ap, arith, inl, inr, slice_get, Vec, Global, cases_eq, cases_lt, slice_get_within, Worker, Lanes, Entry, Call, IsYard, take_at, end_from_in, world_of, World, EachLaneSettled, count_of, ready_from, releases_of, script_of, HaveRooms, KeepRooms}
 use Rattle.tlsf_crew.specs.races.Rooms.{HaveRecordRooms}
-use Rattle.tlsf_crew.specs.races.LaneTasks.{HaveRooms, KeepRooms}
 use Rattle.tlsf_crew.proofs.lemmas.worker.Slots.{some_same, get_set_same, get_set_other, some_at}
 use Rattle.tlsf_crew.proofs.lemmas.model.Sums.{same_sum}
 use Rattle.tlsf_crew.proofs.lemmas.lanes.Pending.{lane_ready}

@@ -1,25 +1,8 @@
 -- Two records agree: what one worker was answered to have posted is what the other took, in order and each once.
-use Rattle.std.proofs.Common.{suc, zero, [], ◌∷◌, ◌++◌, ◌≡◌, ℕ, ◌+◌, ◌<◌, ◌≤◌, List, Option, Some, None, length, get_or, sym, ◌∙◌, ap, subst, refl, inl, inr, append-nil, ◌⊎◌}
-use Rattle.std.specs.List.{filter_map, cons_option}
-use Rattle.std.specs.Option.{option_map}
+use Rattle.tlsf_crew.proofs.Common.{suc, zero, [], ◌∷◌, ◌++◌, ◌≡◌, ℕ, ◌+◌, ◌<◌, ◌≤◌, List, Option, Some, None, length, get_or, sym, ◌∙◌, ap, subst, refl, inl, inr, append-nil, ◌⊎◌, filter_map, cons_option, option_map, drop-append_seam, cases_eq, All-nil, All-append, All-push, Name, Post, Entry, Call, Release, Take, Drain, Target, Took, Reply, Posted, Empty, Drained, Refused, Full, name_of, AreTakes, IsDrain, name_on_heap, post_of_release, post_of_take, posts_made, posts_taken, entries_of, StandsBehind, Agree}
 use mathlib.Core.List.{IsPrefix}
-use Rattle.std.proofs.Math.Seq.{drop-append_seam}
-use Rattle.std.proofs.lemmas.Bool.{cases_eq}
-use Rattle.std.proofs.lemmas.List.Elements.{All-nil, All-append, All-push}
-use Rattle.tlsf_heap.specs.declared.name.Name.{Name}
-use Rattle.tlsf_post.specs.declared.post.Post.{Post}
-use Rattle.tlsf_calls.specs.declared.entry.Entry.{Entry}
-use Rattle.tlsf_calls.specs.declared.call.Call.{Call}
-use Rattle.tlsf_calls.specs.declared.call.Call.TheVariants.{Release, Take, Drain}
-use Rattle.tlsf_calls.specs.declared.target.Target.{Target}
 use Rattle.tlsf_calls.specs.declared.target.Target.TheVariants.{Named, Made as MadeBy, Absent}
-use Rattle.tlsf_calls.specs.declared.took.Took.{Took}
-use Rattle.tlsf_calls.specs.declared.reply.Reply.{Reply}
-use Rattle.tlsf_calls.specs.declared.reply.Reply.TheVariants.{Posted, Took as Taken, Empty, Drained, Refused}
-use Rattle.tlsf_calls.specs.declared.crew_refusal.CrewRefusal.TheVariants.{Full}
-use Rattle.tlsf_crew.specs.model.World.{name_of}
-use Rattle.tlsf_crew.specs.histories.History.{AreTakes, IsDrain, name_on_heap, post_of_release, post_of_take, posts_made, posts_taken, entries_of, StandsBehind}
-use Rattle.tlsf_crew.specs.races.Race.{Agree}
+use Rattle.tlsf_calls.specs.declared.reply.Reply.TheVariants.{Took as Taken}
 use Rattle.tlsf_crew.proofs.lemmas.lanes.Signed.{AreFrom}
 use Rattle.tlsf_crew.proofs.lemmas.histories.JoinedEntries.{told_own, told_other, told_nothing, made_then, taken_then}
 use Rattle.tlsf_crew.proofs.lemmas.histories.DrainEntries.{drain_makes}

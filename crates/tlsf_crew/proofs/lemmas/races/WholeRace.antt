@@ -1,36 +1,6 @@
 -- A race leads from the yard that was handed in to the one that comes back: each record is legal, and each two agree.
-use Rattle.std.proofs.Math.Seq.{take-append_seam}
-use Rattle.std.proofs.Common.{[], ◌∷◌, ◌++◌, ◌≡◌, ◌≢◌, ℕ, ◌+◌, ◌<◌, ◌≤◌, List, Option, Some, None, length, map, take, drop, vec_len, vec_capacity, sym, ◌∙◌, ap, subst, arith, refl, inl, inr, length-append}
-use Rattle.std.specs.List.{slice_get}
-use Rattle.std.specs.declared.vec.Vec.{Vec}
-use Rattle.std.specs.declared.alloc.Global.{Global}
+use Rattle.tlsf_crew.proofs.Common.{take-append_seam, [], ◌∷◌, ◌++◌, ◌≡◌, ◌≢◌, ℕ, ◌+◌, ◌<◌, ◌≤◌, List, Option, Some, None, length, map, take, drop, vec_len, vec_capacity, sym, ◌∙◌, ap, subst, arith, refl, inl, inr, length-append, slice_get, Vec, Global, cases_eq, cases_lt, length-map, slice_get_within, Name, HeapState, Post, PostEnd, TakeEnd, posts_sent, waited, taken, ready, Worker, Lanes, Entry, Call, heap_of, id_of, id_and_capacity, end_to, end_from, IsYard, heap_of_worker, post_at, take_at, end_to_in, end_from_in, capacity_in, waits_in, world_of, EachLaneSettled, sum_below, count_of, ready_from, releases_of, posts_made, posts_taken, last_call, script_of, IsLegal, Agree, IsRace, record_of, untold, MayTell, MayTellAll, LaneWorkerRan, EachLaneWorkerRan, HaveRooms, EachHasLastRoom, HasFew, EachLastDrained}
 use mathlib.Core.List.{IsPrefix}
-use Rattle.std.proofs.lemmas.Bool.{cases_eq, cases_lt}
-use Rattle.std.proofs.lemmas.List.{length-map}
-use Rattle.std.proofs.lemmas.Option.{slice_get_within}
-use Rattle.tlsf_heap.specs.declared.name.Name.{Name}
-use Rattle.tlsf_heap.specs.Blocks.{HeapState}
-use Rattle.tlsf_post.specs.declared.post.Post.{Post}
-use Rattle.tlsf_post.specs.declared.post_end.PostEnd.{PostEnd}
-use Rattle.tlsf_post.specs.declared.take_end.TakeEnd.{TakeEnd}
-use Rattle.tlsf_post.specs.Lanes.{posts_sent, waited, taken, ready}
-use Rattle.tlsf_crew.specs.declared.worker.worker.Worker.{Worker}
-use Rattle.tlsf_crew.specs.declared.worker.lanes.Lanes.{Lanes}
-use Rattle.tlsf_calls.specs.declared.entry.Entry.{Entry}
-use Rattle.tlsf_calls.specs.declared.call.Call.{Call}
-use Rattle.tlsf_crew.specs.worker.Workers.{heap_of, id_of}
-use Rattle.tlsf_crew.specs.lanes.LaneWorkers.{id_and_capacity, end_to, end_from}
-use Rattle.tlsf_crew.specs.lanes.Yard.{IsYard, heap_of_worker, post_at, take_at, end_to_in, end_from_in, capacity_in, waits_in, world_of}
-use Rattle.tlsf_crew.specs.lanes.Settle.{EachLaneSettled}
-use Rattle.tlsf_crew.specs.model.Sums.{sum_below}
-use Rattle.tlsf_crew.specs.lanes.Ready.{count_of, ready_from}
-use Rattle.tlsf_crew.specs.scripts.Counts.{releases_of}
-use Rattle.tlsf_crew.specs.histories.History.{posts_made, posts_taken}
-use Rattle.tlsf_crew.specs.scripts.Scripts.{last_call, script_of}
-use Rattle.tlsf_crew.specs.races.Race.{IsLegal, Agree, IsRace}
-use Rattle.tlsf_calls.specs.Entries.{record_of}
-use Rattle.tlsf_crew.specs.model.Progress.{untold, MayTell, MayTellAll}
-use Rattle.tlsf_crew.specs.races.LaneTasks.{LaneWorkerRan, EachLaneWorkerRan, HaveRooms, EachHasLastRoom, HasFew, EachLastDrained}
 use Rattle.tlsf_crew.proofs.lemmas.worker.Slots.{some_same, some_at}
 use Rattle.tlsf_crew.proofs.lemmas.lanes.LaneSlots.{from_post, from_take, heap_at}
 use Rattle.tlsf_crew.proofs.lemmas.lanes.LanesOfOne.{own_number}

@@ -1,41 +1,9 @@
 -- A call in a yard whose lanes it concerns are settled before and after: it is answered, and leaves the yard, as the model says.
-use Rattle.std.proofs.Common.{ℕ, ◌+◌, ◌≤◌, List, length, ap, arith, ◌==◌, true, false, suc, zero, [], ◌∷◌, ◌++◌, ◌≡◌, ◌≢◌, ◌⊎◌, ◌-◌, ◌<◌, Option, Some, None, map, take, drop, get_or, set, slice_get, replicate, sym, ◌∙◌, subst, refl, inl, inr, append_assoc, append-nil, length-append}
-use Rattle.std.proofs.lemmas.List.{length_push, get_or-replicate, length-set, map-set, drop_at, drop-drop, nil_from_length, take_all, append_cancel_left}
-use Rattle.tlsf_crew.specs.declared.worker.worker.Worker.{Worker}
-use Rattle.tlsf_crew.specs.declared.worker.lanes.Lanes.{Lanes}
-use Rattle.tlsf_calls.specs.declared.reply.Reply.{Reply}
-use Rattle.tlsf_calls.specs.declared.entry.Entry.{Entry}
-use Rattle.tlsf_calls.specs.declared.event.Event.{Event}
-use Rattle.tlsf_crew.specs.model.World.{Replayed, after, no_heap, World, DrainState, heap_in, made_by, name_of, called, draining, posting, releasing_named, taking, taking_next, took_first, took_more, drained_waiting, drained_below, after_drain}
-use Rattle.tlsf_crew.specs.replays.ReplaySteps.{IsReplied, replay_of, ConcernsCall, MayTake, AreLimits}
+use Rattle.tlsf_crew.proofs.Common.{ℕ, ◌+◌, ◌≤◌, List, length, ap, arith, ◌==◌, true, false, suc, zero, [], ◌∷◌, ◌++◌, ◌≡◌, ◌≢◌, ◌⊎◌, ◌-◌, ◌<◌, Option, Some, None, map, take, drop, get_or, set, slice_get, replicate, sym, ◌∙◌, subst, refl, inl, inr, append_assoc, append-nil, length-append, length_push, get_or-replicate, length-set, map-set, drop_at, drop-drop, nil_from_length, take_all, append_cancel_left, Worker, Lanes, Reply, Entry, Event, Replayed, after, no_heap, World, DrainState, heap_in, made_by, name_of, called, draining, posting, releasing_named, taking, taking_next, took_first, took_more, drained_waiting, drained_below, after_drain, IsReplied, replay_of, ConcernsCall, AreLimits, slice_index, fold, filter_map, cases_eq, cases_lt, nat_tests, filter-append, slice_get_within, HeapState, Name, Post, PostEnd, TakeEnd, posts_sent, waited, taken, ready, Took, Target, Call, Allocate, Release, Write, Read, Resize, Take, Drain, Posted, Empty, Drained, Refused, Full, heap_of, id_of, id_and_capacity, end_to, end_from, KnowsYard, IsYard, post_at, take_at, end_to_in, end_from_in, lane_waits, capacity_in, waits_in, world_of, sum_below, sum_of, count_of, ready_from, LaneSettled, AreTakes, TellsCall, RunsTo, calls_on, answers_on, call_on_own, post_of_release, post_of_take, posts_made, posts_taken, entries_of, one, LaneMoved, Spent, SuitsCall, LaneStepped, at_stage}
+use Rattle.tlsf_crew.specs.replays.ReplaySteps.{MayTake}
 use mathlib.Core.List.{IsPrefix}
-use Rattle.std.specs.Prelude.{slice_index}
-use Rattle.std.specs.List.{fold, filter_map}
-use Rattle.std.proofs.lemmas.Bool.{cases_eq, cases_lt}
-use Rattle.std.proofs.lemmas.Bool.Decides.{nat_tests}
-use Rattle.std.proofs.lemmas.List.Elements.{filter-append}
-use Rattle.std.proofs.lemmas.Option.{slice_get_within}
-use Rattle.tlsf_heap.specs.Blocks.{HeapState}
 use Rattle.tlsf_heap.specs.Calls as heap
-use Rattle.tlsf_heap.specs.declared.name.Name.{Name}
-use Rattle.tlsf_post.specs.declared.post.Post.{Post}
-use Rattle.tlsf_post.specs.declared.post_end.PostEnd.{PostEnd}
-use Rattle.tlsf_post.specs.declared.take_end.TakeEnd.{TakeEnd}
-use Rattle.tlsf_post.specs.Lanes.{posts_sent, waited, taken, ready}
-use Rattle.tlsf_calls.specs.declared.took.Took.{Took}
-use Rattle.tlsf_calls.specs.declared.target.Target.{Target}
-use Rattle.tlsf_calls.specs.declared.call.Call.{Call}
-use Rattle.tlsf_calls.specs.declared.call.Call.TheVariants.{Allocate, Release, Write, Read, Resize, Take, Drain}
-use Rattle.tlsf_calls.specs.declared.reply.Reply.TheVariants.{Posted, Took as Taken, Empty, Drained, Refused}
-use Rattle.tlsf_calls.specs.declared.crew_refusal.CrewRefusal.TheVariants.{Full}
-use Rattle.tlsf_crew.specs.worker.Workers.{heap_of, id_of}
-use Rattle.tlsf_crew.specs.lanes.LaneWorkers.{id_and_capacity, end_to, end_from, KnowsYard}
-use Rattle.tlsf_crew.specs.lanes.Yard.{IsYard, post_at, take_at, end_to_in, end_from_in, lane_waits, capacity_in, waits_in, world_of}
-use Rattle.tlsf_crew.specs.model.Sums.{sum_below, sum_of}
-use Rattle.tlsf_crew.specs.lanes.Ready.{count_of, ready_from}
-use Rattle.tlsf_crew.specs.lanes.Settle.{LaneSettled}
-use Rattle.tlsf_crew.specs.histories.History.{AreTakes, TellsCall, RunsTo, calls_on, answers_on, call_on_own, post_of_release, post_of_take, posts_made, posts_taken, entries_of}
-use Rattle.tlsf_crew.specs.scripts.LaneMoves.{one, LaneMoved, Spent, SuitsCall, LaneStepped}
+use Rattle.tlsf_calls.specs.declared.reply.Reply.TheVariants.{Took as Taken}
 use Rattle.tlsf_crew.proofs.lemmas.histories.DrainEntries.{drain_makes}
 use Rattle.tlsf_crew.proofs.lemmas.model.EventSteps.{after_near}
 use Rattle.tlsf_crew.proofs.lemmas.histories.AllEntries.{called_told, more_knows}
@@ -49,7 +17,6 @@ use Rattle.tlsf_crew.proofs.lemmas.model.Sums.{least_sum}
 use Rattle.tlsf_crew.proofs.lemmas.worker.Slots.{get_set_same, get_set_other, some_same}
 use Rattle.tlsf_crew.proofs.lemmas.lanes.LaneSlots.{map_same}
 use Rattle.tlsf_crew.proofs.lemmas.model.Edits.{same_world, edited_other}
-use Rattle.tlsf_crew.specs.scripts.Scripts.{at_stage}
 
 -- there is room for the entry
 pub replied_room : {sli : ℕ} (r : Replayed sli) (event : Event) (es : List Entry) (vs : List (Worker sli Lanes)) (reply : Reply) (n : ℕ)

@@ -1,31 +1,9 @@
 -- A list of events makes at most one entry for each event, for each release and for each post that waits.
-use Rattle.std.proofs.Common.{suc, zero, cond, ◌==◌, true, false, [], ◌∷◌, ◌++◌, ◌≡◌, ℕ, ◌+◌, ◌-◌, ◌<◌, ◌≤◌, List, Option, Some, None, length, take, drop, sym, ◌∙◌, ap, arith, refl, inl, inr}
-use Rattle.std.specs.List.{fold}
-use Rattle.std.proofs.lemmas.Bool.{cases_eq, cases_lt}
-use Rattle.std.proofs.lemmas.Bool.Decides.{nat_tests}
-use Rattle.std.proofs.lemmas.List.{length_push, length-set, take-append-drop}
-use Rattle.std.proofs.lemmas.List.Sums.{sum_by-cons}
-use Rattle.tlsf_heap.specs.Blocks.{HeapState}
-use Rattle.tlsf_heap.specs.declared.name.Name.{Name}
-use Rattle.tlsf_post.specs.declared.post.Post.{Post}
-use Rattle.tlsf_calls.specs.declared.event.Event.{Event}
-use Rattle.tlsf_calls.specs.declared.call.Call.{Call}
-use Rattle.tlsf_calls.specs.declared.call.Call.TheVariants.{Allocate, Release, Write, Read, Resize, Take, Drain}
-use Rattle.tlsf_calls.specs.declared.reply.Reply.TheVariants.{Drained, Refused}
-use Rattle.tlsf_calls.specs.declared.crew_refusal.CrewRefusal.TheVariants.{Stranger}
-use Rattle.tlsf_calls.specs.Bytes.{bytes_of}
-use Rattle.tlsf_crew.specs.model.Heaps.{released}
-use Rattle.tlsf_crew.specs.model.OwnReplies.{HeapReply, own_allocating, own_reading, own_resizing, own_writing}
-use Rattle.tlsf_crew.specs.model.World.{World, WorldReply, Replayed, with_heap, with_waiting, heap_in, by_own, posting, releasing, releasing_named, taking, taking_next, took_first, took, took_more, DrainState, drained_waiting, drained_below, after_drain, draining, answered, called, after, resumed, name_of}
-use Rattle.tlsf_crew.specs.lanes.Yard.{world_of, IsYard, waits_in}
-use Rattle.tlsf_crew.specs.model.Sums.{sum_below, waiting_count}
-use Rattle.tlsf_crew.specs.scripts.Counts.{is_release, releases_in}
+use Rattle.tlsf_crew.proofs.Common.{suc, zero, cond, ◌==◌, true, false, [], ◌∷◌, ◌++◌, ◌≡◌, ℕ, ◌+◌, ◌-◌, ◌<◌, ◌≤◌, List, Option, Some, None, length, take, drop, sym, ◌∙◌, ap, arith, refl, inl, inr, fold, cases_eq, cases_lt, nat_tests, length_push, length-set, take-append-drop, sum_by-cons, HeapState, Name, Post, Event, Call, Allocate, Release, Write, Read, Resize, Take, Drain, Drained, Refused, Stranger, bytes_of, released, HeapReply, own_allocating, own_reading, own_resizing, own_writing, World, WorldReply, Replayed, with_heap, with_waiting, heap_in, by_own, posting, releasing, releasing_named, taking, taking_next, took_first, took, took_more, DrainState, drained_waiting, drained_below, after_drain, draining, answered, called, after, resumed, name_of, world_of, IsYard, waits_in, sum_below, waiting_count, is_release, releases_in, Worker, Lanes}
 use Rattle.tlsf_crew.proofs.lemmas.model.Edits.{edited_same}
 use Rattle.tlsf_crew.proofs.lemmas.lanes.LaneChanges.{heaps_count}
 use Rattle.tlsf_crew.proofs.lemmas.model.OneEvent.{releasing_post, releasing_far, taking_lane, taking_own, taking_far, from_other, from_own}
 use Rattle.tlsf_crew.proofs.lemmas.model.EventSteps.{after_far, after_near}
-use Rattle.tlsf_crew.specs.declared.worker.worker.Worker.{Worker}
-use Rattle.tlsf_crew.specs.declared.worker.lanes.Lanes.{Lanes}
 use Rattle.tlsf_crew.proofs.lemmas.scripts.LaneMoves.{sum_has}
 use Rattle.tlsf_crew.proofs.lemmas.lanes.LaneSettled.{none_wait, none_for}
 use Rattle.tlsf_crew.proofs.lemmas.model.Sums.{edited_sum}

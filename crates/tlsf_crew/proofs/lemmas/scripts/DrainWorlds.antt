@@ -1,25 +1,5 @@
 -- A drain under limits is a drain in the world in which those posts wait that it took.
-use Rattle.std.proofs.Math.Seq.{take-append_seam}
-use Rattle.std.proofs.Common.{◌⊎◌, append-nil, [], ◌∷◌, ◌++◌, ◌≡◌, ◌≢◌, ◌-◌, ℕ, zero, suc, ◌+◌, ◌<◌, ◌≤◌, List, Option, None, length, take, drop, sym, ◌∙◌, ap, arith, refl, inl, inr, subst}
-use Rattle.std.specs.List.{fold}
-use Rattle.std.proofs.lemmas.Bool.{cases_eq}
-use Rattle.std.proofs.lemmas.List.{length-set, get_or-set_same, take_all}
-use Rattle.tlsf_heap.specs.declared.name.Name.{Name}
-use Rattle.tlsf_post.specs.declared.post.Post.{Post}
-use Rattle.tlsf_crew.specs.declared.worker.worker.Worker.{Worker}
-use Rattle.tlsf_crew.specs.declared.worker.lanes.Lanes.{Lanes}
-use Rattle.tlsf_calls.specs.declared.entry.Entry.{Entry}
-use Rattle.tlsf_calls.specs.declared.call.Call.TheVariants.{Drain}
-use Rattle.tlsf_calls.specs.declared.reply.Reply.TheVariants.{Drained}
-use Rattle.tlsf_crew.specs.model.Heaps.{released}
-use Rattle.tlsf_crew.specs.worker.Workers.{heap_of, id_of}
-use Rattle.tlsf_crew.specs.lanes.LaneWorkers.{KnowsYard}
-use Rattle.tlsf_crew.specs.model.World.{no_heap, World, DrainState, heap_in, called, draining, after_drain, drained_below, drained_waiting, took_more}
-use Rattle.tlsf_crew.specs.model.Progress.{MayTell, HasHeap, told_by}
-use Rattle.tlsf_crew.specs.model.Sums.{sum_below}
-use Rattle.tlsf_crew.specs.histories.History.{posts_taken}
-use Rattle.tlsf_crew.specs.scripts.LaneMoves.{one, Spent, WorkerDrain, took_posts, took_each_lane, drain_at, EachLaneTaken, EachLaneSpent, SuitsDrain, LaneStepped}
-use Rattle.tlsf_crew.specs.scripts.Scripts.{Stage, told_of}
+use Rattle.tlsf_crew.proofs.Common.{take-append_seam, ◌⊎◌, append-nil, [], ◌∷◌, ◌++◌, ◌≡◌, ◌≢◌, ◌-◌, ℕ, zero, suc, ◌+◌, ◌<◌, ◌≤◌, List, Option, None, length, take, drop, sym, ◌∙◌, ap, arith, refl, inl, inr, subst, fold, cases_eq, length-set, get_or-set_same, take_all, Name, Post, Worker, Lanes, Entry, Drain, Drained, released, heap_of, id_of, KnowsYard, no_heap, World, DrainState, heap_in, called, draining, after_drain, drained_below, drained_waiting, took_more, MayTell, HasHeap, told_by, sum_below, posts_taken, one, Spent, WorkerDrain, took_posts, took_each_lane, drain_at, EachLaneTaken, EachLaneSpent, SuitsDrain, LaneStepped, Stage, told_of}
 use Rattle.tlsf_crew.proofs.lemmas.scripts.LaneTakes.{lanes_other_turn, took_each_lane_turn, count_below, lanes_taken_count}
 use Rattle.tlsf_crew.proofs.lemmas.model.Sums.{same_sum, sum_longer}
 use Rattle.tlsf_crew.proofs.lemmas.model.OneEvent.{from_other, from_own}

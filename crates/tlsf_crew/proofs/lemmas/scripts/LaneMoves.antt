@@ -1,28 +1,7 @@
 -- A worker who posts once, or takes once, has moved as that entry tells.
-use Rattle.std.proofs.Common.{◌==◌, true, false, [], ◌∷◌, ◌≡◌, ◌≢◌, ℕ, zero, suc, ◌+◌, ◌<◌, ◌≤◌, List, Option, Some, None, Result, Ok, Err, length, take, sym, ◌∙◌, ap, arith, refl, inl, inr, append-nil}
+use Rattle.tlsf_crew.proofs.Common.{◌==◌, true, false, [], ◌∷◌, ◌≡◌, ◌≢◌, ℕ, zero, suc, ◌+◌, ◌<◌, ◌≤◌, List, Option, Some, None, Result, Ok, Err, length, take, sym, ◌∙◌, ap, arith, refl, inl, inr, append-nil, slice_index, cases_eq, cases_lt, nat_tests, Post, PostEnd, TakeEnd, posts_sent, free_slots, taken, ready, Name, Worker, Lanes, Entry, Release, Take, Target, Took, Posted, id_of, end_to, end_from, PostEndPut, TakeEndTook, sum_below, posts_made, posts_taken, post_of_release, post_of_take, name_of, OneFewer, one, PostEndMoved, TakeEndMoved, Spent, LaneMoved}
 use mathlib.Core.List.{IsPrefix}
-use Rattle.std.specs.Prelude.{slice_index}
-use Rattle.std.proofs.lemmas.Bool.{cases_eq, cases_lt}
-use Rattle.std.proofs.lemmas.Bool.Decides.{nat_tests}
-use Rattle.tlsf_post.specs.declared.post.Post.{Post}
-use Rattle.tlsf_post.specs.declared.post_end.PostEnd.{PostEnd}
-use Rattle.tlsf_post.specs.declared.take_end.TakeEnd.{TakeEnd}
-use Rattle.tlsf_post.specs.Lanes.{posts_sent, free_slots, taken, ready}
-use Rattle.tlsf_heap.specs.declared.name.Name.{Name}
-use Rattle.tlsf_crew.specs.declared.worker.worker.Worker.{Worker}
-use Rattle.tlsf_crew.specs.declared.worker.lanes.Lanes.{Lanes}
-use Rattle.tlsf_calls.specs.declared.entry.Entry.{Entry}
-use Rattle.tlsf_calls.specs.declared.call.Call.TheVariants.{Release, Take}
-use Rattle.tlsf_calls.specs.declared.target.Target.{Target}
-use Rattle.tlsf_calls.specs.declared.took.Took.{Took}
-use Rattle.tlsf_calls.specs.declared.reply.Reply.TheVariants.{Posted, Took as Taken}
-use Rattle.tlsf_crew.specs.worker.Workers.{id_of}
-use Rattle.tlsf_crew.specs.lanes.LaneWorkers.{end_to, end_from, PostEndPut, TakeEndTook}
-use Rattle.tlsf_crew.specs.model.Sums.{sum_below}
-use Rattle.tlsf_crew.specs.histories.History.{posts_made, posts_taken, post_of_release, post_of_take}
-use Rattle.tlsf_crew.specs.model.World.{name_of}
-use Rattle.tlsf_crew.specs.scripts.Journals.{OneFewer}
-use Rattle.tlsf_crew.specs.scripts.LaneMoves.{one, PostEndMoved, TakeEndMoved, Spent, LaneMoved}
+use Rattle.tlsf_calls.specs.declared.reply.Reply.TheVariants.{Took as Taken}
 use Rattle.tlsf_crew.proofs.lemmas.lanes.LaneSlots.{ports_numbers}
 use Rattle.tlsf_crew.proofs.lemmas.lanes.YardKept.{put_keeps, take_keeps}
 use Rattle.tlsf_crew.proofs.lemmas.histories.LaneCalls.{of_same, of_other}

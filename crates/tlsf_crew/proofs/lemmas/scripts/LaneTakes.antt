@@ -1,30 +1,8 @@
 -- A worker's takes from one lane after another, in a drain under limits.
-use Rattle.std.proofs.Common.{slice_get, ◌==◌, true, false, Bool, [], ◌∷◌, ◌++◌, ◌≡◌, ◌≢◌, ◌-◌, ℕ, zero, suc, ◌+◌, ◌<◌, ◌≤◌, List, Option, Some, None, length, sym, ◌∙◌, ap, arith, refl, inl, inr, subst, append_assoc, append-nil, length-append, add-one}
-use Rattle.std.specs.Prelude.{if◌then◌else◌, slice_index}
-use Rattle.std.proofs.lemmas.Bool.{cases_eq, cases_lt}
-use Rattle.std.proofs.lemmas.Option.{slice_get_within}
-use Rattle.std.proofs.lemmas.Bool.Decides.{nat_tests}
-use Rattle.std.proofs.lemmas.List.Sums.{fold-append}
-use Rattle.tlsf_heap.specs.declared.name.Name.{Name}
-use Rattle.tlsf_post.specs.declared.post.Post.{Post}
-use Rattle.tlsf_crew.specs.declared.worker.worker.Worker.{Worker}
-use Rattle.tlsf_crew.specs.declared.worker.lanes.Lanes.{Lanes}
-use Rattle.tlsf_calls.specs.declared.entry.Entry.{Entry}
-use Rattle.tlsf_calls.specs.declared.call.Call.TheVariants.{Take}
-use Rattle.tlsf_calls.specs.declared.took.Took.{Took}
+use Rattle.tlsf_crew.proofs.Common.{slice_get, ◌==◌, true, false, Bool, [], ◌∷◌, ◌++◌, ◌≡◌, ◌≢◌, ◌-◌, ℕ, zero, suc, ◌+◌, ◌<◌, ◌≤◌, List, Option, Some, None, length, sym, ◌∙◌, ap, arith, refl, inl, inr, subst, append_assoc, append-nil, length-append, add-one, if◌then◌else◌, slice_index, cases_eq, cases_lt, slice_get_within, nat_tests, fold-append, Name, Post, Worker, Lanes, Entry, Take, Took, Journal, released, heap_of, id_of, SameButPorts, end_from, HasTake, lane_places, KnowsYard, sum_below, posts_taken, SourceNoted, EachNoted, AllNoted, EachTakeNoted, EntersTake, IsAdmitted, one, Spent, LaneMoved, LaneTakenWithin, took_by, WorkerDrain, took_post, took_posts, took_each_lane, drain_at, LaneTaken, LaneSpent, EachLaneTaken, EachLaneSpent, Stage, at_stage, stage_of}
 use Rattle.tlsf_calls.specs.declared.drained.Drained.{Drained}
-use Rattle.tlsf_crew.specs.declared.scripts.journal.Journal.{Journal}
 use Rattle.tlsf_calls.specs.declared.reply.Reply.TheVariants.{Took as Taken}
-use Rattle.tlsf_crew.specs.model.Heaps.{released}
-use Rattle.tlsf_crew.specs.worker.Workers.{heap_of, id_of, SameButPorts}
-use Rattle.tlsf_crew.specs.lanes.LaneWorkers.{end_from, HasTake, lane_places, KnowsYard}
-use Rattle.tlsf_crew.specs.model.Sums.{sum_below}
-use Rattle.tlsf_crew.specs.histories.History.{posts_taken}
-use Rattle.tlsf_crew.specs.worker.Notes.{SourceNoted, EachNoted, AllNoted, EachTakeNoted}
 use Rattle.tlsf_crew.specs.lanes.LaneNotes.{lane_rules}
-use Rattle.tlsf_crew.specs.scripts.Journals.{EntersTake, IsAdmitted}
-use Rattle.tlsf_crew.specs.scripts.LaneMoves.{one, Spent, LaneMoved, LaneTakenWithin, took_by, WorkerDrain, took_post, took_posts, took_each_lane, drain_at, LaneTaken, LaneSpent, EachLaneTaken, EachLaneSpent}
-use Rattle.tlsf_crew.specs.scripts.Scripts.{Stage, at_stage, stage_of}
 use Rattle.tlsf_crew.proofs.lemmas.lanes.YardKept.{same_keeps}
 use Rattle.tlsf_crew.proofs.lemmas.scripts.ManyEntries.{moved_then, spent_then, spent_more}
 use Rattle.tlsf_crew.proofs.lemmas.histories.JoinedEntries.{taken_then}

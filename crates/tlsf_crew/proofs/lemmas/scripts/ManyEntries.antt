@@ -1,20 +1,6 @@
 -- A worker who has moved by some calls and then by others has moved by all of them.
-use Rattle.std.proofs.Common.{[], ◌∷◌, ◌++◌, ◌≡◌, ℕ, zero, suc, ◌+◌, ◌≤◌, List, Option, length, take, sym, ◌∙◌, ap, arith, refl, inl, inr, ◌⊎◌, subst, append_assoc, length-append, cond}
+use Rattle.tlsf_crew.proofs.Common.{[], ◌∷◌, ◌++◌, ◌≡◌, ℕ, zero, suc, ◌+◌, ◌≤◌, List, Option, length, take, sym, ◌∙◌, ap, arith, refl, inl, inr, ◌⊎◌, subst, append_assoc, length-append, cond, slice_index, sum_by-append, PostEnd, TakeEnd, posts_sent, taken, ready, Name, Worker, Lanes, Entry, Call, sum_below, sum_of, is_release, posts_made, posts_taken, StandsBehind, PostEndMoved, TakeEndMoved, Spent, LaneMoved}
 use mathlib.Core.List.{IsPrefix}
-use Rattle.std.specs.Prelude.{slice_index}
-use Rattle.std.proofs.lemmas.List.Sums.{sum_by-append}
-use Rattle.tlsf_post.specs.declared.post_end.PostEnd.{PostEnd}
-use Rattle.tlsf_post.specs.declared.take_end.TakeEnd.{TakeEnd}
-use Rattle.tlsf_post.specs.Lanes.{posts_sent, taken, ready}
-use Rattle.tlsf_heap.specs.declared.name.Name.{Name}
-use Rattle.tlsf_crew.specs.declared.worker.worker.Worker.{Worker}
-use Rattle.tlsf_crew.specs.declared.worker.lanes.Lanes.{Lanes}
-use Rattle.tlsf_calls.specs.declared.entry.Entry.{Entry}
-use Rattle.tlsf_calls.specs.declared.call.Call.{Call}
-use Rattle.tlsf_crew.specs.model.Sums.{sum_below, sum_of}
-use Rattle.tlsf_crew.specs.scripts.Counts.{is_release}
-use Rattle.tlsf_crew.specs.histories.History.{posts_made, posts_taken, StandsBehind}
-use Rattle.tlsf_crew.specs.scripts.LaneMoves.{PostEndMoved, TakeEndMoved, Spent, LaneMoved}
 use Rattle.tlsf_crew.proofs.lemmas.lanes.YardKept.{keeps_then}
 use Rattle.tlsf_crew.proofs.lemmas.histories.JoinedEntries.{made_then, taken_then}
 

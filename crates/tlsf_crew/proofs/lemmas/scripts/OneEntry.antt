@@ -1,23 +1,6 @@
 -- A worker who makes no entry, or one that tells of no lane, has moved as it tells.
-use Rattle.std.proofs.Common.{[], ◌∷◌, ◌++◌, ◌≡◌, ℕ, ◌<◌, ◌≤◌, List, Option, Some, length, sym, ◌∙◌, ap, arith, refl, inl, inr, ◌⊎◌, subst, append-nil, length-append}
+use Rattle.tlsf_crew.proofs.Common.{[], ◌∷◌, ◌++◌, ◌≡◌, ℕ, ◌<◌, ◌≤◌, List, Option, Some, length, sym, ◌∙◌, ap, arith, refl, inl, inr, ◌⊎◌, subst, append-nil, length-append, ◌↔◌, PostEnd, TakeEnd, posts_sent, free_slots, taken, ready, Name, Worker, Lanes, Entry, Call, Take, Drain, Empty, Drained, Refused, Full, id_of, SameButHeap, id_and_capacity, end_to, end_from, HasPost, HasTake, KnowsYard, KeepsYards, IsNoPost, posts_made, posts_taken, post_of_release, post_of_take, StandsBehind, PostEndMoved, TakeEndMoved, Spent, LaneMoved}
 use mathlib.Core.List.{IsPrefix}
-use Rattle.std.specs.Prelude.{◌↔◌}
-use Rattle.tlsf_post.specs.declared.post_end.PostEnd.{PostEnd}
-use Rattle.tlsf_post.specs.declared.take_end.TakeEnd.{TakeEnd}
-use Rattle.tlsf_post.specs.Lanes.{posts_sent, free_slots, taken, ready}
-use Rattle.tlsf_heap.specs.declared.name.Name.{Name}
-use Rattle.tlsf_crew.specs.declared.worker.worker.Worker.{Worker}
-use Rattle.tlsf_crew.specs.declared.worker.lanes.Lanes.{Lanes}
-use Rattle.tlsf_calls.specs.declared.entry.Entry.{Entry}
-use Rattle.tlsf_calls.specs.declared.call.Call.{Call}
-use Rattle.tlsf_calls.specs.declared.call.Call.TheVariants.{Take, Drain}
-use Rattle.tlsf_calls.specs.declared.reply.Reply.TheVariants.{Empty, Drained, Refused}
-use Rattle.tlsf_calls.specs.declared.crew_refusal.CrewRefusal.TheVariants.{Full}
-use Rattle.tlsf_crew.specs.worker.Workers.{id_of, SameButHeap}
-use Rattle.tlsf_crew.specs.lanes.LaneWorkers.{id_and_capacity, end_to, end_from, HasPost, HasTake, KnowsYard}
-use Rattle.tlsf_crew.specs.lanes.LaneCalls.{KeepsYards}
-use Rattle.tlsf_crew.specs.histories.History.{IsNoPost, posts_made, posts_taken, post_of_release, post_of_take, StandsBehind}
-use Rattle.tlsf_crew.specs.scripts.LaneMoves.{PostEndMoved, TakeEndMoved, Spent, LaneMoved}
 use Rattle.tlsf_crew.proofs.lemmas.lanes.LaneSlots.{same_parts}
 use Rattle.tlsf_crew.proofs.lemmas.model.Sums.{same_sum}
 use Rattle.tlsf_crew.proofs.lemmas.histories.JoinedEntries.{made_then, taken_then, told_nothing}

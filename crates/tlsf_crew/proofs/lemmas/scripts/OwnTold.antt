@@ -1,30 +1,8 @@
 -- A call that takes nothing is answered as the model answers it, whatever the ports of its worker.
-use Rattle.std.proofs.Common.{◌==◌, true, false, ◌≡◌, ◌≢◌, ◌⊎◌, ℕ, ◌<◌, ◌≤◌, List, Option, Some, None, Result, Ok, Err, length, sym, ◌∙◌, ap, arith, refl, subst, inl, inr}
-use Rattle.std.proofs.lemmas.Bool.{cases_eq}
-use Rattle.std.proofs.lemmas.Bool.Decides.{nat_tests}
-use Rattle.tlsf_heap.specs.Blocks.{HeapState}
+use Rattle.tlsf_crew.proofs.Common.{◌==◌, true, false, ◌≡◌, ◌≢◌, ◌⊎◌, ℕ, ◌<◌, ◌≤◌, List, Option, Some, None, Result, Ok, Err, length, sym, ◌∙◌, ap, arith, refl, subst, inl, inr, cases_eq, nat_tests, HeapState, Name, Refusal, bytes_of, Chunk, Entry, Call, Allocate, Release, Write, Read, Resize, Target, Released, Reply, Made, Posted, Wrote, Got, Resized, Refused, CrewRefusal, Full, Stranger, Unmade, Worker, allocated, chunk_read, released, resized, written, heap_of, id_of, SameButHeap, KeepsHeap, ReleasedHere, ReleasedThere, freed_by, posted_as, put_answer, IsHeapReply, HeapReply, own_allocating, own_freeing, own_named, own_writing, own_reading, own_resizing, reply_by, IsQuiet, ReleasedAnywhere, QuietCall, reply_released, told_of, HasHeap, IsModelAnswer, MayTell, Progress, told_by, told_more, World, WorldReply, answered, by_own, called, freeing, heap_in, name_of, posting, releasing, releasing_named}
 use Rattle.tlsf_heap.specs.Calls as heap
-use Rattle.tlsf_heap.specs.declared.name.Name.{Name}
-use Rattle.tlsf_heap.specs.declared.refusal.Refusal.{Refusal}
-use Rattle.tlsf_calls.specs.Bytes.{bytes_of}
-use Rattle.tlsf_calls.specs.declared.chunk.Chunk.{Chunk}
-use Rattle.tlsf_calls.specs.declared.entry.Entry.{Entry}
-use Rattle.tlsf_calls.specs.declared.call.Call.{Call}
-use Rattle.tlsf_calls.specs.declared.call.Call.TheVariants.{Allocate, Release, Write, Read, Resize}
-use Rattle.tlsf_calls.specs.declared.target.Target.{Target}
-use Rattle.tlsf_calls.specs.declared.released.Released.{Released}
-use Rattle.tlsf_calls.specs.declared.reply.Reply.{Reply}
-use Rattle.tlsf_calls.specs.declared.reply.Reply.TheVariants.{Made, Posted, Wrote, Got, Resized, Refused}
-use Rattle.tlsf_calls.specs.declared.crew_refusal.CrewRefusal.{CrewRefusal}
-use Rattle.tlsf_calls.specs.declared.crew_refusal.CrewRefusal.TheVariants.{Full, Stranger, Unmade}
-use Rattle.tlsf_crew.specs.declared.worker.worker.Worker.{Worker}
-use Rattle.tlsf_crew.specs.model.Heaps.{allocated, chunk_read, released, resized, written}
-use Rattle.tlsf_crew.specs.worker.Workers.{heap_of, id_of, SameButHeap, KeepsHeap}
-use Rattle.tlsf_crew.specs.worker.Calls.{ReleasedHere, ReleasedThere, freed_by, posted_as, put_answer}
-use Rattle.tlsf_crew.specs.model.OwnReplies.{IsHeapReply, HeapReply, own_allocating, own_freeing, own_named, own_writing, own_reading, own_resizing, reply_by, reply_freed}
-use Rattle.tlsf_crew.specs.scripts.Scripts.{IsQuiet, ReleasedAnywhere, QuietCall, entry_by, reply_released, told_of}
-use Rattle.tlsf_crew.specs.model.Progress.{HasHeap, IsModelAnswer, MayTell, Progress, told_by, told_more}
-use Rattle.tlsf_crew.specs.model.World.{World, WorldReply, answered, by_own, called, freeing, heap_in, name_of, posting, releasing, releasing_named}
+use Rattle.tlsf_crew.specs.model.OwnReplies.{reply_freed}
+use Rattle.tlsf_crew.specs.scripts.Scripts.{entry_by}
 use Rattle.tlsf_crew.proofs.lemmas.model.OneEvent.{releasing_post, releasing_far}
 use Rattle.tlsf_crew.proofs.lemmas.worker.OwnHeaps.{call_keeps, same_heap_keeps}
 use Rattle.tlsf_crew.proofs.lemmas.scripts.Witnesses.{a_suit, heap_left}

@@ -1,19 +1,7 @@
 -- What calls over queues leave, one after another.
-use Rattle.std.proofs.Common.{[], ◌++◌, ◌≡◌, ℕ, List, Option, length, sym, ◌∙◌, ap, arith, inl, inr, subst, append_assoc, append-nil, length-append}
+use Rattle.tlsf_crew.proofs.Common.{[], ◌++◌, ◌≡◌, ℕ, List, Option, length, sym, ◌∙◌, ap, arith, inl, inr, subst, append_assoc, append-nil, length-append, Name, posts_of, put_by, got_by, known_to, Call, Entry, Worker, Queues, posts_made, posts_taken, id_of, queue_end_to, QueueMoved, queue_promise, AreMoves}
 use mathlib.Core.List.{IsPrefix}
-use Rattle.tlsf_heap.specs.declared.name.Name.{Name}
-use Rattle.tlsf_post.specs.Rule.{posts_of}
-use Rattle.tlsf_post.specs.Mailboxes.{put_by, got_by, known_to}
 use Rattle.tlsf_post.specs.declared.plan.Plan.{Plan}
-use Rattle.tlsf_calls.specs.declared.call.Call.{Call}
-use Rattle.tlsf_calls.specs.declared.entry.Entry.{Entry}
-use Rattle.tlsf_crew.specs.declared.worker.worker.Worker.{Worker}
-use Rattle.tlsf_crew.specs.declared.queues.queues.Queues.{Queues}
-use Rattle.tlsf_crew.specs.histories.History.{posts_made, posts_taken}
-use Rattle.tlsf_crew.specs.worker.Workers.{id_of}
-use Rattle.tlsf_crew.specs.queues.QueueWorkers.{queue_end_to}
-use Rattle.tlsf_crew.specs.scripts.QueueMoves.{QueueMoved, queue_promise}
-use Rattle.tlsf_crew.specs.scripts.Scripts.{AreMoves}
 use Rattle.tlsf_crew.proofs.lemmas.histories.JoinedEntries.{made_then, taken_then}
 use Rattle.tlsf_crew.proofs.lemmas.scripts.ManyEntries.{stands_split}
 use Rattle.tlsf_crew.proofs.lemmas.scripts.OneEntry.{no_entry}

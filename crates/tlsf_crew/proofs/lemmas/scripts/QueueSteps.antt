@@ -1,48 +1,11 @@
 -- One call of a worker over queues, and the entries that tell of it.
-use Rattle.std.proofs.Common.{◌==◌, true, false, [], ◌∷◌, ◌++◌, ◌≡◌, ◌≢◌, ℕ, suc, ◌+◌, ◌-◌, ◌<◌, ◌≤◌, List, Option, Some, None, Result, Ok, Err, All, length, sym, ◌∙◌, ap, arith, refl, inl, inr, ◌⊎◌, subst, append_assoc, append-nil, length-append}
+use Rattle.tlsf_crew.proofs.Common.{◌==◌, true, false, [], ◌∷◌, ◌++◌, ◌≡◌, ◌≢◌, ℕ, suc, ◌+◌, ◌-◌, ◌<◌, ◌≤◌, List, Option, Some, None, Result, Ok, Err, All, length, sym, ◌∙◌, ap, arith, refl, inl, inr, ◌⊎◌, subst, append_assoc, append-nil, length-append, cons_option, slice_index, cases_eq, cases_lt, nat_tests, All-nil, All-cons, HeapState, Name, Refusal, posts_of, number_of, put_by, got_by, known_to, IsAllTaken, IsOnlyPoster, HasFilled, Post, OwnerEnd, PosterEnd, Call, Release, Take, Drain, Entry, Target, Released, Took, CrewRefusal, Full, Stranger, Reply, Posted, Drained, Refused, released, sum_of, IsNoPost, StandsBehind, posts_made, posts_taken, post_of_release, post_of_take, IsModelAnswer, MayTell, Progress, name_of, Worker, Queues, Journal, IsOther, heap_of, id_of, SameButHeap, AfterTake, ReleasedThere, posted_as, put_answer, SourceNoted, EachNoted, EachTakeNoted, IsAdmitted, OneFewer, EntersTake, IsNoTake, QuietCall, at_stage, stage_of, reply_released, queue_to, queue_end_to, PutsIntoQueue, HasQueueEnd, KnowsQueueYard, KeepsQueueYards, PosterEndPut, OwnEndTook, IsFromOther, MayTellQueue, take_entry, with_reply, with_take, with_takes, QueueMoved, QueueStepped, entry_by}
 use mathlib.Core.List.{IsPrefix}
-use Rattle.std.specs.List.{cons_option}
-use Rattle.std.specs.Prelude.{slice_index}
-use Rattle.std.proofs.lemmas.Bool.{cases_eq, cases_lt}
-use Rattle.std.proofs.lemmas.Bool.Decides.{nat_tests}
-use Rattle.std.proofs.lemmas.List.Elements.{All-nil, All-cons}
-use Rattle.tlsf_heap.specs.Blocks.{HeapState}
 use Rattle.tlsf_heap.specs.Calls as heap
-use Rattle.tlsf_heap.specs.declared.name.Name.{Name}
-use Rattle.tlsf_heap.specs.declared.refusal.Refusal.{Refusal}
-use Rattle.tlsf_post.specs.Rule.{posts_of}
-use Rattle.tlsf_post.specs.Mailboxes.{number_of, put_by, got_by, known_to, IsAllTaken, IsOnlyPoster, HasFilled}
-use Rattle.tlsf_post.specs.declared.post.Post.{Post}
-use Rattle.tlsf_post.specs.declared.owner_end.OwnerEnd.{OwnerEnd}
-use Rattle.tlsf_post.specs.declared.poster_end.PosterEnd.{PosterEnd}
-use Rattle.tlsf_calls.specs.declared.call.Call.{Call}
-use Rattle.tlsf_calls.specs.declared.call.Call.TheVariants.{Release, Take, Drain}
-use Rattle.tlsf_calls.specs.declared.entry.Entry.{Entry}
-use Rattle.tlsf_calls.specs.declared.target.Target.{Target}
-use Rattle.tlsf_calls.specs.declared.released.Released.{Released}
-use Rattle.tlsf_calls.specs.declared.took.Took.{Took}
-use Rattle.tlsf_calls.specs.declared.crew_refusal.CrewRefusal.{CrewRefusal}
-use Rattle.tlsf_calls.specs.declared.crew_refusal.CrewRefusal.TheVariants.{Full, Stranger}
-use Rattle.tlsf_calls.specs.declared.reply.Reply.{Reply}
-use Rattle.tlsf_calls.specs.declared.reply.Reply.TheVariants.{Posted, Took as Taken, Drained, Refused}
-use Rattle.tlsf_crew.specs.model.Heaps.{released}
-use Rattle.tlsf_crew.specs.model.Sums.{sum_of}
-use Rattle.tlsf_crew.specs.histories.History.{IsNoPost, StandsBehind, posts_made, posts_taken, post_of_release, post_of_take}
-use Rattle.tlsf_crew.specs.model.Progress.{IsModelAnswer, MayTell, Progress}
-use Rattle.tlsf_crew.specs.model.World.{name_of}
-use Rattle.tlsf_crew.specs.declared.worker.worker.Worker.{Worker}
-use Rattle.tlsf_crew.specs.declared.queues.queues.Queues.{Queues}
-use Rattle.tlsf_crew.specs.declared.scripts.journal.Journal.{Journal}
-use Rattle.tlsf_crew.specs.worker.Workers.{IsOther, heap_of, id_of, SameButHeap}
-use Rattle.tlsf_crew.specs.worker.Calls.{AfterTake, ReleasedThere, posted_as, put_answer}
-use Rattle.tlsf_crew.specs.worker.Notes.{SourceNoted, EachNoted, EachTakeNoted}
-use Rattle.tlsf_crew.specs.scripts.Journals.{IsAdmitted, OneFewer, EntersTake}
-use Rattle.tlsf_crew.specs.scripts.Scripts.{IsNoTake, QuietCall, at_stage, stage_of, reply_released}
-use Rattle.tlsf_crew.specs.queues.QueueWorkers.{queue_to, queue_end_to, PutsIntoQueue, HasQueueEnd, KnowsQueueYard, KeepsQueueYards, PosterEndPut, OwnEndTook}
+use Rattle.tlsf_calls.specs.declared.reply.Reply.TheVariants.{Took as Taken}
 use Rattle.tlsf_crew.specs.queues.QueueCalls.{TakenFromQueue}
 use Rattle.tlsf_crew.specs.queues.QueueNotes.{queue_rules}
-use Rattle.tlsf_crew.specs.model.QueueProgress.{IsFromOther, MayTellQueue, take_entry, with_reply, with_take, with_takes}
-use Rattle.tlsf_crew.specs.scripts.QueueMoves.{QueueMoved, QueueStepped, entry_by, told_of}
+use Rattle.tlsf_crew.specs.scripts.QueueMoves.{told_of}
 use Rattle.tlsf_post.proofs.RuleSteps.{of_append}
 use Rattle.tlsf_crew.proofs.lemmas.histories.AllEntries.{more_knows}
 use Rattle.tlsf_crew.proofs.lemmas.histories.JoinedEntries.{told_nothing, told_own, made_then, taken_then}

@@ -1,28 +1,5 @@
 -- One call of a worker, and the entry that tells of it.
-use Rattle.std.proofs.Common.{[], ◌∷◌, ◌++◌, ◌≡◌, ◌≢◌, ◌⊎◌, ℕ, ◌≤◌, List, Option, Some, Result, Ok, Err, sym, ◌∙◌, ap, arith, refl, inl, inr, subst, append-nil}
-use Rattle.std.proofs.lemmas.Bool.{cases_eq, cases_lt}
-use Rattle.tlsf_heap.specs.declared.name.Name.{Name}
-use Rattle.tlsf_post.specs.declared.post.Post.{Post}
-use Rattle.tlsf_crew.specs.declared.worker.worker.Worker.{Worker}
-use Rattle.tlsf_crew.specs.declared.worker.lanes.Lanes.{Lanes}
-use Rattle.tlsf_calls.specs.declared.entry.Entry.{Entry}
-use Rattle.tlsf_calls.specs.declared.call.Call.{Call}
-use Rattle.tlsf_calls.specs.declared.call.Call.TheVariants.{Release, Take, Drain}
-use Rattle.tlsf_calls.specs.declared.crew_refusal.CrewRefusal.{CrewRefusal}
-use Rattle.tlsf_calls.specs.declared.crew_refusal.CrewRefusal.TheVariants.{Full, Stranger}
-use Rattle.tlsf_calls.specs.declared.released.Released.{Released}
-use Rattle.tlsf_calls.specs.declared.reply.Reply.{Reply}
-use Rattle.tlsf_calls.specs.declared.reply.Reply.TheVariants.{Refused}
-use Rattle.tlsf_calls.specs.declared.target.Target.{Target}
-use Rattle.tlsf_calls.specs.declared.took.Took.{Took}
-use Rattle.tlsf_crew.specs.lanes.LaneCalls.{KeepsYards, PutsIntoLane}
-use Rattle.tlsf_crew.specs.worker.Calls.{ReleasedThere, posted_as, put_answer}
-use Rattle.tlsf_crew.specs.scripts.LaneMoves.{one, LaneMoved, LaneStepped, lane_promise}
-use Rattle.tlsf_crew.specs.scripts.Scripts.{reply_took, AreMoves, IsNoTake, IsQuiet, QuietCall, TakenWithin, at_stage, reply_released, told_of}
-use Rattle.tlsf_crew.specs.model.Progress.{IsModelAnswer}
-use Rattle.tlsf_crew.specs.worker.Workers.{heap_of, id_of}
-use Rattle.tlsf_crew.specs.lanes.LaneWorkers.{end_to, HasPost, HasTake, KnowsYard, PostEndPut, TookThrough}
-use Rattle.tlsf_crew.specs.model.World.{name_of}
+use Rattle.tlsf_crew.proofs.Common.{[], ◌∷◌, ◌++◌, ◌≡◌, ◌≢◌, ◌⊎◌, ℕ, ◌≤◌, List, Option, Some, Result, Ok, Err, sym, ◌∙◌, ap, arith, refl, inl, inr, subst, append-nil, cases_eq, cases_lt, Name, Post, Worker, Lanes, Entry, Call, Release, Take, Drain, CrewRefusal, Full, Stranger, Released, Reply, Refused, Target, Took, KeepsYards, PutsIntoLane, ReleasedThere, posted_as, put_answer, one, LaneMoved, LaneStepped, lane_promise, reply_took, AreMoves, IsNoTake, IsQuiet, QuietCall, TakenWithin, at_stage, reply_released, told_of, IsModelAnswer, heap_of, id_of, end_to, HasPost, HasTake, KnowsYard, PostEndPut, TookThrough, name_of}
 use Rattle.tlsf_crew.proofs.lemmas.histories.AllEntries.{more_knows}
 use Rattle.tlsf_crew.proofs.lemmas.scripts.LaneMoves.{moved_post, none_free, still_full}
 use Rattle.tlsf_crew.proofs.lemmas.scripts.LaneTakes.{moved_none}

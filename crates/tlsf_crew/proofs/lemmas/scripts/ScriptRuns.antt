@@ -1,16 +1,6 @@
 -- The calls of a script, one after another, by a worker with ports of any kind.
-use Rattle.std.proofs.Common.{[], ◌∷◌, ◌++◌, ◌≡◌, ℕ, ◌+◌, ◌<◌, ◌≤◌, List, Option, length, get_or, take, sym, ◌∙◌, ap, arith, refl, subst, append_assoc, length-append}
-use Rattle.std.proofs.lemmas.List.{take_more}
-use Rattle.tlsf_heap.specs.declared.name.Name.{Name}
-use Rattle.tlsf_crew.specs.declared.worker.worker.Worker.{Worker}
-use Rattle.tlsf_calls.specs.declared.entry.Entry.{Entry}
-use Rattle.tlsf_calls.specs.declared.call.Call.{Call}
-use Rattle.tlsf_calls.specs.declared.reply.Reply.{Reply}
-use Rattle.tlsf_crew.specs.worker.Workers.{heap_of, id_of}
-use Rattle.tlsf_crew.specs.model.Progress.{Progress, AllTold, untold}
-use Rattle.tlsf_crew.specs.model.Sums.{sum_of}
-use Rattle.tlsf_crew.specs.scripts.Scripts.{AreMoves, CallMade, ScriptRun, Stage, Step, ScriptPromise, at_stage, entry_by, told_at}
-use Rattle.tlsf_crew.specs.model.World.{made_by}
+use Rattle.tlsf_crew.proofs.Common.{[], ◌∷◌, ◌++◌, ◌≡◌, ℕ, ◌+◌, ◌<◌, ◌≤◌, List, Option, length, get_or, take, sym, ◌∙◌, ap, arith, refl, subst, append_assoc, length-append, take_more, Name, Worker, Entry, Call, Reply, heap_of, id_of, Progress, AllTold, untold, sum_of, AreMoves, CallMade, ScriptRun, Stage, Step, ScriptPromise, at_stage, told_at, made_by}
+use Rattle.tlsf_crew.specs.scripts.Scripts.{entry_by}
 
 pub tell_more : (tells : Progress → Call → Progress → Type 0) (s u t : Progress) (calls : List Call) (call : Call) → AllTold tells s calls u → tells u call t → AllTold tells s (calls ++ call ∷ []) t
 tell_more tells s u t [] call all more = (t, subst (λ (x : Progress). tells x call t) all more, refl)

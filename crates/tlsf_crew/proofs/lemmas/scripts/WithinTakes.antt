@@ -1,34 +1,11 @@
 -- A take of a worker in a race, where a limit says how many it may take.
-use Rattle.std.proofs.Common.{[], ◌∷◌, ◌≡◌, ◌≢◌, ◌-◌, ℕ, ◌<◌, ◌≤◌, List, Option, Some, None, length, take, set, sym, ◌∙◌, ap, arith, refl, inl, inr, ◌⊎◌, subst}
+use Rattle.tlsf_crew.proofs.Common.{[], ◌∷◌, ◌≡◌, ◌≢◌, ◌-◌, ℕ, ◌<◌, ◌≤◌, List, Option, Some, None, length, take, set, sym, ◌∙◌, ap, arith, refl, inl, inr, ◌⊎◌, subst, slice_index, cases_lt, get_or-set_same, get_or-set_other, Name, Post, ready, Worker, Lanes, Entry, Call, Take, Took, Empty, Refused, Stranger, released, heap_of, id_of, TakeEndTook, TookThrough, AfterTake, TakenFromLane, IsModelAnswer, Progress, World, WorldReply, answered, called, heap_in, taking, taking_next, took, took_first, reply_took, TakenWithin, told_of, one, Spent, LaneMoved, LaneTakenWithin, took_by, OneFewer}
 use mathlib.Core.List.{IsPrefix}
-use Rattle.std.specs.Prelude.{slice_index}
-use Rattle.std.proofs.lemmas.Bool.{cases_lt}
-use Rattle.std.proofs.lemmas.List.{get_or-set_same, get_or-set_other}
 use Rattle.tlsf_heap.specs.Calls as heap
-use Rattle.tlsf_heap.specs.declared.name.Name.{Name}
-use Rattle.tlsf_post.specs.declared.post.Post.{Post}
-use Rattle.tlsf_post.specs.Lanes.{ready}
-use Rattle.tlsf_crew.specs.declared.worker.worker.Worker.{Worker}
-use Rattle.tlsf_crew.specs.declared.worker.lanes.Lanes.{Lanes}
-use Rattle.tlsf_calls.specs.declared.entry.Entry.{Entry}
-use Rattle.tlsf_calls.specs.declared.call.Call.{Call}
-use Rattle.tlsf_calls.specs.declared.call.Call.TheVariants.{Take}
-use Rattle.tlsf_calls.specs.declared.took.Took.{Took}
-use Rattle.tlsf_calls.specs.declared.reply.Reply.TheVariants.{Took as Taken, Empty, Refused}
-use Rattle.tlsf_calls.specs.declared.crew_refusal.CrewRefusal.TheVariants.{Stranger}
-use Rattle.tlsf_crew.specs.model.Heaps.{released}
-use Rattle.tlsf_crew.specs.worker.Workers.{heap_of, id_of}
-use Rattle.tlsf_crew.specs.lanes.LaneWorkers.{TakeEndTook, TookThrough}
-use Rattle.tlsf_crew.specs.worker.Calls.{AfterTake}
-use Rattle.tlsf_crew.specs.lanes.LaneCalls.{TakenFromLane}
-use Rattle.tlsf_crew.specs.model.Progress.{IsModelAnswer, Progress}
-use Rattle.tlsf_crew.specs.model.World.{World, WorldReply, answered, called, heap_in, taking, taking_next, took, took_first}
-use Rattle.tlsf_crew.specs.scripts.Scripts.{reply_took, TakenWithin, told_of}
-use Rattle.tlsf_crew.specs.scripts.LaneMoves.{one, Spent, LaneMoved, LaneTakenWithin, took_by}
+use Rattle.tlsf_calls.specs.declared.reply.Reply.TheVariants.{Took as Taken}
 use Rattle.tlsf_crew.proofs.lemmas.worker.SameParts.{ports_heap}
 use Rattle.tlsf_crew.proofs.lemmas.lanes.YardKept.{heap_keeps, same_keeps}
 use Rattle.tlsf_crew.proofs.lemmas.scripts.LaneMoves.{moved_take, spent_none, still_empty}
-use Rattle.tlsf_crew.specs.scripts.Journals.{OneFewer}
 use Rattle.tlsf_crew.proofs.lemmas.scripts.ManyEntries.{moved_then}
 use Rattle.tlsf_crew.proofs.lemmas.model.OneEvent.{taking_far, taking_lane, taking_own}
 use Rattle.tlsf_crew.proofs.lemmas.scripts.OneEntry.{Still, IsIdle, moved_still, moved_idle, still_heap}

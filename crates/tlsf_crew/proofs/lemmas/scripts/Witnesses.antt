@@ -1,15 +1,6 @@
 -- A world in which a call is answered as a worker answered it.
-use Rattle.std.proofs.Common.{[], ◌∷◌, ◌≡◌, ℕ, ◌<◌, List, Option, length, set, sym, ◌∙◌, ap, arith, replicate}
-use Rattle.std.proofs.lemmas.List.{length-set, length-replicate, get_or-set_same}
-use Rattle.tlsf_heap.specs.Blocks.{HeapState}
-use Rattle.tlsf_heap.specs.declared.name.Name.{Name}
-use Rattle.tlsf_post.specs.declared.post.Post.{Post}
-use Rattle.tlsf_calls.specs.declared.call.Call.{Call}
-use Rattle.tlsf_calls.specs.declared.reply.Reply.{Reply}
-use Rattle.tlsf_calls.specs.declared.reply.Reply.TheVariants.{Took as Taken, Refused}
-use Rattle.tlsf_calls.specs.declared.crew_refusal.CrewRefusal.TheVariants.{Full}
-use Rattle.tlsf_crew.specs.model.World.{no_heap, World, heap_in, with_heap}
-use Rattle.tlsf_crew.specs.model.Progress.{HasHeap, Suits}
+use Rattle.tlsf_crew.proofs.Common.{[], ◌∷◌, ◌≡◌, ℕ, ◌<◌, List, Option, length, set, sym, ◌∙◌, ap, arith, replicate, length-set, length-replicate, get_or-set_same, HeapState, Name, Post, Call, Reply, Refused, Full, no_heap, World, heap_in, with_heap, HasHeap, Suits}
+use Rattle.tlsf_calls.specs.declared.reply.Reply.TheVariants.{Took as Taken}
 
 -- n workers, one of whom has this heap; these posts wait in all lanes from each
 abbrev pub a_world : {sli : ℕ} → ℕ → ℕ → HeapState → (ℕ → List Post) → ℕ → World sli

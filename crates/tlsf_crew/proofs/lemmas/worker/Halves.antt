@@ -1,9 +1,5 @@
 -- A list that is cut in two, written at one place of each part and joined again is the list with these two places written.
-use Rattle.std.proofs.Common.{◌≡◌, ℕ, ◌+◌, ◌-◌, ◌<◌, ◌≤◌, List, ◌++◌, Some, length, get_or, set, take, drop, ◌∙◌, arith, refl}
-use Rattle.std.specs.List.{slice_get}
-use Rattle.std.proofs.lemmas.Option.{get_or_from_slice_get}
-use Rattle.std.proofs.lemmas.List.{set-append_left, set-append_right, take-append-drop, get_or-take, get_or-drop, length-take-le}
-use Rattle.std.proofs.Math.ListN.{length-set}
+use Rattle.tlsf_crew.proofs.Common.{◌≡◌, ℕ, ◌+◌, ◌-◌, ◌<◌, ◌≤◌, List, ◌++◌, Some, length, get_or, set, take, drop, ◌∙◌, arith, refl, slice_get, get_or_from_slice_get, set-append_left, set-append_right, take-append-drop, get_or-take, get_or-drop, length-take-le, length-set}
 
 pub low_is : {X : Type 0} (ws low : List X) (k l : ℕ) (a d : X) → low ≡ take l ws → k < l → slice_get ws k ≡ Some a → get_or low k d ≡ a
 low_is ws low k l a d e lt s = rw (e, get_or-take l ws k d lt) (get_or_from_slice_get ws k a d s)

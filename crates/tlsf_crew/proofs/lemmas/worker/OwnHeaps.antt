@@ -1,17 +1,12 @@
 -- A call leaves a heap its number, and leaves it lawful.
-use Rattle.std.proofs.Common.{◌≡◌, ℕ, List, [], ◌∷◌, sym, ◌∙◌, ap, subst, refl, arith}
+use Rattle.tlsf_crew.proofs.Common.{◌≡◌, ℕ, List, [], ◌∷◌, sym, ◌∙◌, ap, subst, refl, arith, Result, Ok, Err, IfOk, OnErr, HeapState, IsLawful, IsRegion, opened, Name, KeepsHeap, IsHeapOf}
 use Rattle.std.specs.Borrow.{MutBor}
 use Rattle.std.specs.Fn.{Once}
-use Rattle.std.specs.Prelude.{Result, Ok, Err, IfOk, OnErr}
-use Rattle.tlsf_heap.specs.Blocks.{HeapState}
-use Rattle.tlsf_heap.specs.Lawful.{IsLawful, IsRegion}
-use Rattle.tlsf_heap.specs.Calls.{Call, answered, opened, Allocate, Write}
+use Rattle.tlsf_heap.specs.Calls.{Call, answered, Allocate, Write}
 use Rattle.tlsf_heap.specs.InPlace.{Alters}
 use Rattle.tlsf_heap.specs.Kept.{IsAsBefore}
 use Rattle.tlsf_heap.specs.Shown.{Shown}
-use Rattle.tlsf_heap.specs.declared.name.Name.{Name}
 use Rattle.tlsf_heap.proofs.lemmas.calls.Outcomes.{ids, lawful_run}
-use Rattle.tlsf_crew.specs.worker.Workers.{KeepsHeap, IsHeapOf}
 use Rattle.tlsf_class.proofs.TwoLevels.{level_4}
 
 pub same_heap_keeps : (h k : HeapState) → k ≡ h → KeepsHeap h k

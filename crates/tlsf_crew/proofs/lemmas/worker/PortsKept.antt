@@ -1,14 +1,6 @@
 -- A release and a post keep what another heap and what a put keep, over ports of any kind.
-use Rattle.std.proofs.Common.{◌≡◌, ◌≢◌, ◌⊎◌, ℕ, Result, Err, refl, sym, subst, inl, inr}
-use Rattle.std.proofs.lemmas.Bool.{cases_eq}
+use Rattle.tlsf_crew.proofs.Common.{◌≡◌, ◌≢◌, ◌⊎◌, ℕ, Result, Err, refl, sym, subst, inl, inr, cases_eq, Name, CrewRefusal, Stranger, Released, Worker, heap_of, id_of, SameButHeap, SameButPorts, KeepsHeap, PostedThere, ReleasedHere, ReleasedThere}
 use Rattle.tlsf_heap.specs.Calls as heap
-use Rattle.tlsf_heap.specs.declared.name.Name.{Name}
-use Rattle.tlsf_calls.specs.declared.crew_refusal.CrewRefusal.{CrewRefusal}
-use Rattle.tlsf_calls.specs.declared.crew_refusal.CrewRefusal.TheVariants.{Stranger}
-use Rattle.tlsf_calls.specs.declared.released.Released.{Released}
-use Rattle.tlsf_crew.specs.declared.worker.worker.Worker.{Worker}
-use Rattle.tlsf_crew.specs.worker.Workers.{heap_of, id_of, SameButHeap, SameButPorts, KeepsHeap}
-use Rattle.tlsf_crew.specs.worker.Calls.{PostedThere, ReleasedHere, ReleasedThere}
 use Rattle.tlsf_crew.proofs.lemmas.worker.OwnHeaps.{call_keeps, same_heap_keeps}
 
 -- what ports keep of the yards that a worker fits

@@ -1,13 +1,5 @@
 -- A slice of posts that was taken at once, and whose blocks were then released, is as many takes one after another.
-use Rattle.std.proofs.Common.{[], ◌∷◌, ◌++◌, ◌≡◌, ◌≢◌, ◌+◌, ◌<◌, ◌≤◌, ℕ, zero, suc, List, Option, Some, None, map, length, take, get_or, refl, sym, ◌∙◌, ap, arith, subst}
-use Rattle.std.proofs.lemmas.List.{map_push, take_more}
-use Rattle.tlsf_post.specs.declared.post.Post.{Post}
-use Rattle.tlsf_calls.specs.declared.took.Took.{Took}
-use Rattle.tlsf_crew.specs.declared.worker.worker.Worker.{Worker}
-use Rattle.tlsf_crew.specs.worker.Workers.{id_of}
-use Rattle.tlsf_crew.specs.worker.Calls.{AfterTake, TakenFrom}
-use Rattle.tlsf_crew.specs.worker.Notes.{TakeRules, EachTakeNoted}
-use Rattle.tlsf_crew.specs.worker.Slices.{post_of, PortsInTurn, SliceTaken, EachReleased, MayTake}
+use Rattle.tlsf_crew.proofs.Common.{[], ◌∷◌, ◌++◌, ◌≡◌, ◌≢◌, ◌+◌, ◌<◌, ◌≤◌, ℕ, zero, suc, List, Option, Some, None, map, length, take, get_or, refl, sym, ◌∙◌, ap, arith, subst, map_push, take_more, Post, Took, Worker, id_of, AfterTake, TakenFrom, TakeRules, EachTakeNoted, post_of, PortsInTurn, SliceTaken, EachReleased, MayTake}
 
 -- one take more
 pub ports_more : {P : Type 0} (takes : P → P → ℕ → Option Post → Type 0) (p r q : P) (source : ℕ) (posts : List Post) (post : Post)

@@ -1,18 +1,7 @@
 -- Takes one after another from a source of any kind.
-use Rattle.std.proofs.Common.{[], ◌∷◌, ◌++◌, ◌≡◌, ◌+◌, ◌-◌, ◌≤◌, ℕ, List, Option, Some, None, length, refl, sym, ◌∙◌, ap, arith, subst, true, false, cond, add-one}
-use Rattle.std.specs.List.{count_by}
-use Rattle.std.proofs.lemmas.List.Sums.{count_by-le-length, sum_by-append}
-use Rattle.std.proofs.lemmas.List.{append-nil, length-append}
-use Rattle.tlsf_heap.specs.Blocks.{HeapState}
+use Rattle.tlsf_crew.proofs.Common.{[], ◌∷◌, ◌++◌, ◌≡◌, ◌+◌, ◌-◌, ◌≤◌, ℕ, List, Option, Some, None, length, refl, sym, ◌∙◌, ap, arith, subst, true, false, cond, add-one, count_by, count_by-le-length, sum_by-append, append-nil, length-append, HeapState, Post, Took, Worker, heap_of, AfterTake, TakenFrom, TakesInTurn, heap_after, is_freed, IsCountOf, TakeRules, EachNoted, EachTakeNoted, SourceNoted}
 use Rattle.tlsf_heap.specs.Calls.{released}
-use Rattle.tlsf_post.specs.declared.post.Post.{Post}
 use Rattle.tlsf_calls.specs.declared.drained.Drained.{Drained}
-use Rattle.tlsf_calls.specs.declared.took.Took.{Took}
-use Rattle.tlsf_crew.specs.declared.worker.worker.Worker.{Worker}
-use Rattle.tlsf_crew.specs.worker.Workers.{heap_of}
-use Rattle.tlsf_crew.specs.worker.Calls.{AfterTake, TakenFrom, TakesInTurn}
-use Rattle.tlsf_crew.specs.worker.Drains.{heap_after, is_freed, IsCountOf}
-use Rattle.tlsf_crew.specs.worker.Notes.{TakeRules, EachNoted, EachTakeNoted, SourceNoted}
 use Rattle.tlsf_crew.proofs.lemmas.worker.SameParts.{ports_heap}
 
 pub takes_of : {sli : ℕ} {P N : Type 0} (by : TakeRules P N) (a v : Worker sli P) (x y : N) (source : ℕ) (tooks : List Took)

@@ -1,7 +1,5 @@
 -- An end that is read from a slot is the one that stands there.
-use Rattle.std.proofs.Common.{◌≡◌, ℕ, List, Option, Some, None, get_or, ◌∙◌}
-use Rattle.std.specs.List.{slice_get}
-use Rattle.std.proofs.lemmas.Option.{get_or_from_slice_get}
+use Rattle.tlsf_crew.proofs.Common.{◌≡◌, ℕ, List, Option, Some, None, get_or, ◌∙◌, slice_get, get_or_from_slice_get}
 
 pub same_end : {X : Type 0} (o : Option X) (xs : List (Option X)) (i : ℕ) (x y : X)
     → o ≡ get_or xs i o → slice_get xs i ≡ Some (Some x) → Some y ≡ o → y ≡ x

@@ -1,7 +1,4 @@
-use Rattle.std.proofs.Common.{◌≡◌, ◌+◌, List, ℕ, Bool, length, sym, ap, ◌∙◌, eq-eqb, cond, subst, arith}
-use Rattle.tlsf_heap.specs.Checks.{Begins, OnlyHeaders}
-use Rattle.tlsf_heap.specs.Image.{Image}
-use Rattle.tlsf_heap.specs.Regions.{image_of}
+use Rattle.tlsf_heap.proofs.Common.{◌≡◌, ◌+◌, List, ℕ, Bool, length, sym, ap, ◌∙◌, eq-eqb, cond, subst, arith, Begins, OnlyHeaders, Image, image_of}
 use Rattle.tlsf_heap.proofs.lemmas.words.Checks.{same_image, sound_up_to}
 use Rattle.tlsf_heap.proofs.check.check_words.Goals as goal
 

@@ -1,6 +1,4 @@
-use Rattle.std.proofs.Common.{◌+◌, ◌*◌, ◌≤◌}
-use Rattle.tlsf_heap.specs.Checks.{Begins, AreSound, OnlyLooks, OnlyHeaders, block_touches}
-use Rattle.tlsf_heap.specs.Regions.{image_of}
+use Rattle.tlsf_heap.proofs.Common.{◌+◌, ◌*◌, ◌≤◌, Begins, AreSound, OnlyLooks, OnlyHeaders, block_touches, image_of}
 use Rattle.tlsf_heap.proofs.check.check_words.Given as goal
 
 -- so many blocks, each of four words or more, are sound up to the place, where one more begins, and nothing was written

@@ -1,7 +1,4 @@
-use Rattle.std.proofs.Common.{◌≡◌, ◌∙◌, ℕ, ◌∷◌, sym, subst, arith}
-use Rattle.tlsf_words.specs.Memory.{Memory}
-use Rattle.tlsf_heap.specs.Checks.{Begins, OnlyLooks}
-use Rattle.tlsf_heap.specs.Regions.{image_of}
+use Rattle.tlsf_heap.proofs.Common.{◌≡◌, ◌∙◌, ℕ, ◌∷◌, sym, subst, arith, Memory, Begins, OnlyLooks, image_of}
 use Rattle.tlsf_heap.proofs.lemmas.words.Checks.{Seen, image_same, same_image, header_begun, seen_more, begins_seen}
 use Rattle.tlsf_heap.proofs.check.examine.Goals as goal
 use Rattle.tlsf_heap.proofs.check.examine.Goals.{then-is_free, else-is_free, else-end-len-2-via-then-end-len-2+else-not-joins_behind, else-end-len-2-via-else-end-len-2}

@@ -1,5 +1,4 @@
-use Rattle.std.proofs.Common.{◌+◌, refl, arith}
-use Rattle.tlsf_heap.specs.Regions.{image_of}
+use Rattle.tlsf_heap.proofs.Common.{◌+◌, refl, arith, image_of}
 use Rattle.tlsf_heap.proofs.lemmas.words.Checks.{header_read}
 use Rattle.tlsf_heap.proofs.check.holds_length.Goals as goal
 

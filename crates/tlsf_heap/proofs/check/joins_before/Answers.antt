@@ -1,5 +1,4 @@
-use Rattle.std.proofs.Common.{arith}
-use Rattle.tlsf_heap.specs.Regions.{image_of}
+use Rattle.tlsf_heap.proofs.Common.{arith, image_of}
 use Rattle.tlsf_heap.proofs.lemmas.words.Checks.{header_begun}
 use Rattle.tlsf_heap.proofs.check.joins_before.Goals as goal
 

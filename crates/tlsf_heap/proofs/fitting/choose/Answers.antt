@@ -1,5 +1,4 @@
-use Rattle.std.proofs.Common.{arith}
-use Rattle.tlsf_heap.specs.Regions.{list_in}
+use Rattle.tlsf_heap.proofs.Common.{arith, list_in}
 use Rattle.tlsf_heap.proofs.lemmas.lists.Chosen.{none_above, best_class}
 use Rattle.tlsf_heap.proofs.fitting.choose.Goals as goal
 

@@ -1,13 +1,6 @@
-use Rattle.std.proofs.Common.{List, ◌≡◌, ℕ, ◌+◌, ◌-◌, true, suc, take, drop, refl, sym, ap, ◌∙◌, subst, arith}
-use Rattle.tlsf_class.specs.Classes.{class_of}
-use Rattle.tlsf_heap.specs.Blocks.{size_of, is_free, StandsAt}
-use Rattle.tlsf_heap.specs.Calls.{first_free, last_free}
-use Rattle.tlsf_heap.specs.GoodFit.{block_at}
-use Rattle.tlsf_heap.specs.Regions.{AreUnlisted, list_in}
+use Rattle.tlsf_heap.proofs.Common.{List, ◌≡◌, ℕ, ◌+◌, ◌-◌, true, suc, take, drop, refl, sym, ap, ◌∙◌, subst, arith, class_of, size_of, is_free, StandsAt, first_free, last_free, block_at, AreUnlisted, list_in, Block, IsLiveWord}
 use Rattle.tlsf_heap.proofs.lemmas.lists.Withheld.{is_between, nothing_out, size_region, rest_unlisted, withheld_listed, merged_free, merged_listed}
 use Rattle.tlsf_heap.proofs.lemmas.blocks.Around.{one_index}
-use Rattle.tlsf_heap.specs.Blocks.{Block}
-use Rattle.tlsf_heap.specs.Footprint.{IsLiveWord}
 use Rattle.tlsf_heap.proofs.lemmas.words.Footprint.{others_last}
 use Rattle.tlsf_words.proofs.Touching.{more_groups, groups_then}
 use Rattle.tlsf_heap.proofs.fitting.coalesce.Goals as goal

@@ -1,17 +1,9 @@
-use Rattle.std.proofs.Common.{◌≡◌, ℕ, ◌+◌, ◌-◌, ◌<◌, ◌≤◌, suc, List, [], ◌∷◌, ◌++◌, take, drop, ap, ◌∙◌, sym, subst, refl, arith}
+use Rattle.tlsf_heap.proofs.Common.{◌≡◌, ℕ, ◌+◌, ◌-◌, ◌<◌, ◌≤◌, suc, List, [], ◌∷◌, ◌++◌, take, drop, ap, ◌∙◌, sym, subst, refl, arith, class_of, bytes_in, payload_byte, size_of, StandsAt, Block, carved, block_at, Rewrites, list_in, RegionState, times, InGroups, IsOthersWord}
 use Rattle.tlsf_class.proofs.TwoLevels.{most_words_any}
-use Rattle.tlsf_class.specs.Classes.{class_of}
-use Rattle.tlsf_words.specs.Bytes.{bytes_in, payload_byte}
-use Rattle.tlsf_heap.specs.Blocks.{size_of, StandsAt, Block}
-use Rattle.tlsf_heap.specs.Calls.{carved}
-use Rattle.tlsf_heap.specs.GoodFit.{block_at}
 use Rattle.tlsf_heap.proofs.lemmas.words.ClearPayload.{zeroed_block}
-use Rattle.tlsf_heap.specs.Regions.{Rewrites, list_in, RegionState}
 use Rattle.tlsf_heap.proofs.lemmas.lists.Carved.{IsReady, is_out, out_unlisted, end_within, by_grant, by_split, split_rest_free, split_rest_unlisted, zeroed_around, zeroed_carved, zeroed_listed}
 use Rattle.tlsf_heap.proofs.lemmas.words.Bytes.{length-bytes_in}
 use Rattle.tlsf_heap.proofs.lemmas.blocks.Around.{block_around, stands_around, one_index, around, region_around}
-use Rattle.tlsf_words.specs.Touched.{times, InGroups}
-use Rattle.tlsf_heap.specs.Footprint.{IsOthersWord}
 use Rattle.tlsf_heap.proofs.lemmas.words.Footprint.{kept_others, free_elsewhere, any_word}
 use Rattle.tlsf_words.proofs.Touching.{more_groups, groups_then}
 use Rattle.tlsf_heap.proofs.fitting.give.Given.{Over}

@@ -1,5 +1,4 @@
-use Rattle.std.proofs.Common.{◌+◌, refl, sym, ap, ◌∙◌, arith}
-use Rattle.std.proofs.lemmas.Bool.{false≢true}
+use Rattle.tlsf_heap.proofs.Common.{◌+◌, refl, sym, ap, ◌∙◌, arith, false≢true}
 use Rattle.tlsf_class.proofs.TwoLevels.{most_words_any}
 use Rattle.tlsf_heap.proofs.lemmas.blocks.Neighbours.{inner_is}
 use Rattle.tlsf_heap.proofs.lemmas.calls.Kept.{edits_both}

@@ -1,10 +1,6 @@
-use Rattle.std.proofs.Common.{subst, List, refl, sym, ap, ◌∙◌, arith}
-use Rattle.tlsf_class.specs.Classes.{class_of}
+use Rattle.tlsf_heap.proofs.Common.{subst, List, refl, sym, ap, ◌∙◌, arith, class_of, list_in, Block, IsLiveWord}
 use Rattle.tlsf_class.proofs.TwoLevels.{most_words_any}
-use Rattle.tlsf_heap.specs.Regions.{list_in}
 use Rattle.tlsf_heap.proofs.lemmas.lists.Withheld.{is_between, size_region, end_within, before_within, rest_unlisted, merged_free, merged_listed}
-use Rattle.tlsf_heap.specs.Blocks.{Block}
-use Rattle.tlsf_heap.specs.Footprint.{IsLiveWord}
 use Rattle.tlsf_heap.proofs.lemmas.words.Footprint.{others_last}
 use Rattle.tlsf_words.proofs.Touching.{groups_then}
 use Rattle.tlsf_heap.proofs.fitting.merge.Goals as goal

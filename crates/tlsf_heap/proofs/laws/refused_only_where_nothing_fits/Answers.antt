@@ -1,4 +1,4 @@
-use Rattle.tlsf_heap.specs.Calls.{opened, run}
+use Rattle.tlsf_heap.proofs.Common.{opened, run}
 use Rattle.tlsf_heap.proofs.lemmas.laws.NoFit.{no_fit, ok}
 use Rattle.tlsf_heap.proofs.laws.refused_only_where_nothing_fits.Goals as goal
 

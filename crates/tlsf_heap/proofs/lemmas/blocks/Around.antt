@@ -1,17 +1,5 @@
 -- A block where it stands, and the words, free neighbours and places around it.
-use Rattle.std.proofs.Common.{inl, inr, ◌≡◌, ℕ, zero, suc, ◌+◌, ◌-◌, ◌<◌, ◌≤◌, true, List, [], ◌∷◌, ◌++◌, length, get_or, take, drop, refl, sym, ap, ◌∙◌, subst, arith, append_assoc, length-take-le, length-append}
-use Rattle.std.specs.Prelude.{Contains}
-use Rattle.std.specs.List.{AllByRecursion}
-use Rattle.std.proofs.lemmas.List.Elements.{Contains-append_cases}
-use Rattle.std.proofs.lemmas.List.{take_at, drop_at, get_or_at, append-nil}
-use Rattle.std.proofs.lemmas.Bool.{false≢true}
-use Rattle.tlsf_class.specs.Classes.{class_of}
-use Rattle.tlsf_heap.specs.Blocks.{Block, Live, Free, size_of, words_in, is_free, stamp_of, stamps, StandsAt}
-use Rattle.tlsf_heap.specs.Lawful.{IsRegion}
-use Rattle.tlsf_heap.specs.Regions.{AreRegions}
-use Rattle.tlsf_heap.specs.GoodFit.{block_at}
-use Rattle.tlsf_heap.specs.FreePlaces.{FreePlace, free_places}
-use Rattle.tlsf_heap.specs.Calls.{first_free, past_free, last_free, before_free}
+use Rattle.tlsf_heap.proofs.Common.{inl, inr, ◌≡◌, ℕ, zero, suc, ◌+◌, ◌-◌, ◌<◌, ◌≤◌, true, List, [], ◌∷◌, ◌++◌, length, get_or, take, drop, refl, sym, ap, ◌∙◌, subst, arith, append_assoc, length-take-le, length-append, Contains, AllByRecursion, Contains-append_cases, take_at, drop_at, get_or_at, append-nil, false≢true, class_of, Block, Live, Free, size_of, words_in, is_free, stamp_of, stamps, StandsAt, IsRegion, AreRegions, block_at, FreePlace, free_places, first_free, past_free, last_free, before_free}
 use Rattle.tlsf_heap.proofs.lemmas.blocks.Lawful.{all_left, all_right, words_in-append, stamps-append}
 use Rattle.tlsf_heap.proofs.lemmas.calls.Allocate.{split_at}
 use Rattle.tlsf_heap.proofs.lemmas.blocks.Coalesce.{by_last}

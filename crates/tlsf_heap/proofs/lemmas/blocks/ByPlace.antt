@@ -1,12 +1,5 @@
 -- The block that begins at a place, by its index.
-use Rattle.std.proofs.Common.{◌≡◌, ℕ, zero, suc, ◌+◌, ◌<◌, Bool, true, false, cond, List, [], ◌∷◌, length, take, find, Some, None, refl, sym, ap, ◌∙◌, arith, eq-eqb}
-use Rattle.std.specs.Prelude.{◌==◌}
-use Rattle.std.specs.List.{AllByRecursion}
-use Rattle.std.proofs.lemmas.Bool.{eqb-true, false≢true}
-use Rattle.tlsf_heap.specs.Blocks.{Block, Live, Free, size_of, words_in, is_free, bytes_of, StandsAt, IsPlace}
-use Rattle.tlsf_heap.specs.Lawful.{HasRoom}
-use Rattle.tlsf_heap.specs.GoodFit.{block_at}
-use Rattle.tlsf_heap.specs.Image.{mark_of}
+use Rattle.tlsf_heap.proofs.Common.{◌≡◌, ℕ, zero, suc, ◌+◌, ◌<◌, Bool, true, false, cond, List, [], ◌∷◌, length, take, find, Some, None, refl, sym, ap, ◌∙◌, arith, eq-eqb, ◌==◌, AllByRecursion, eqb-true, false≢true, Block, Live, Free, size_of, words_in, is_free, bytes_of, StandsAt, IsPlace, HasRoom, block_at, mark_of}
 use Rattle.tlsf_heap.specs.Placed.{content_of, placed, placed_from, placed_at}
 use Rattle.tlsf_heap.specs.declared.placed_block.Content.TheVariants as content
 use Rattle.tlsf_heap.proofs.lemmas.blocks.Find.{not_true}

@@ -1,10 +1,5 @@
 -- A block that is released and merged with its free neighbours leaves a lawful heap.
-use Rattle.std.proofs.Common.{◌≡◌, ◌≢◌, ℕ, ◌+◌, ◌<◌, ◌⊎◌, inl, inr, List, [], ◌∷◌, ◌++◌, refl, sym, ap, ◌∙◌, subst, arith, append_assoc, add_assoc, add-zero, zero-add}
-use Rattle.std.specs.List.{AllByRecursion}
-use Rattle.tlsf_heap.specs.Blocks.{Block, Live, Free, HeapState, words_in, serials, stamps}
-use Rattle.tlsf_heap.specs.Lawful.{IsLawful, HasRoom, FreeBlocksAreApart}
-use Rattle.tlsf_words.specs.Lists.{AreDistinct}
-use Rattle.tlsf_heap.specs.Calls.{with_blocks, ticked, first_free, past_free, last_free, before_free}
+use Rattle.tlsf_heap.proofs.Common.{◌≡◌, ◌≢◌, ℕ, ◌+◌, ◌<◌, ◌⊎◌, inl, inr, List, [], ◌∷◌, ◌++◌, refl, sym, ap, ◌∙◌, subst, arith, append_assoc, add_assoc, add-zero, zero-add, AllByRecursion, Block, Live, Free, HeapState, words_in, serials, stamps, IsLawful, HasRoom, FreeBlocksAreApart, AreDistinct, with_blocks, ticked, first_free, past_free, last_free, before_free}
 use Rattle.tlsf_heap.proofs.lemmas.blocks.LastFree.{ends_free, ends_live}
 use Rattle.tlsf_words.proofs.PlaceLists.{distinct_without}
 use Rattle.tlsf_heap.proofs.lemmas.blocks.Lawful.{all_append, all_left, all_right, all_weaker, all_without, all_insert, serials-append, stamps-append, words_in-append, distinct_insert}

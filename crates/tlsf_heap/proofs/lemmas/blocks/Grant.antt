@@ -1,19 +1,8 @@
 -- The greatest length that is served: the payload of the least block of the class of the greatest free block.
-use Rattle.std.proofs.Common.{◌≡◌, ℕ, zero, suc, ◌*◌, ◌-◌, ◌<◌, ◌≤◌, nat_lt, inl, inr, Bool, true, false, cond, List, [], ◌∷◌, length, refl, sym, ap, ◌∙◌, arith}
-use Rattle.std.specs.Prelude.{◌==◌}
-use Rattle.std.specs.List.{AllByRecursion, list_all}
-use Rattle.std.proofs.lemmas.Bool.{false≢true, cases_lt, and_from, le-leb, leb-true}
-use Rattle.std.proofs.lemmas.Bool.Decides.{nat_tests}
-use Rattle.tlsf_class.specs.Classes.{IsLevel, low, class_of, serves, last_class, most_words}
+use Rattle.tlsf_heap.proofs.Common.{◌≡◌, ℕ, zero, suc, ◌*◌, ◌-◌, ◌<◌, ◌≤◌, nat_lt, inl, inr, Bool, true, false, cond, List, [], ◌∷◌, length, refl, sym, ap, ◌∙◌, arith, ◌==◌, AllByRecursion, list_all, false≢true, cases_lt, and_from, le-leb, leb-true, nat_tests, IsLevel, low, class_of, serves, last_class, most_words, Block, Live, Free, size_of, words_in, is_free, want, HasRoom, Site, sites, fits, is_fit, block_at, NoneFits, free_among, largest_of, is_served, grant_of, IsGrant, granted}
 use Rattle.tlsf_class.proofs.Lows.{low-first, low-last, low-rises_or_same}
 use Rattle.tlsf_class.proofs.ClassOfSize.{class_of-is, class_of-rises, search_of-is, serves-from}
 use Rattle.tlsf_class.proofs.RangeSearch.{greatest-range, greatest-range_none}
-use Rattle.tlsf_heap.specs.Blocks.{Block, Live, Free, size_of, words_in, is_free, want}
-use Rattle.tlsf_heap.specs.Lawful.{HasRoom}
-use Rattle.tlsf_heap.specs.GoodFit.{Site, sites, fits, is_fit, block_at}
-use Rattle.tlsf_heap.specs.Chosen.{NoneFits}
-use Rattle.tlsf_heap.specs.Reports.{free_among, largest_of, is_served, grant_of, IsGrant}
-use Rattle.tlsf_heap.specs.Tallies.{granted}
 use Rattle.tlsf_heap.proofs.lemmas.blocks.Find.{not_true, and_left, and_right, filter_none, in_all}
 use Rattle.tlsf_heap.proofs.lemmas.blocks.Sites.{nowhere, length-sites, get_or-sites, fits_nothing}
 use Rattle.tlsf_heap.proofs.lemmas.lists.Chosen.{none_above}

@@ -1,9 +1,5 @@
 -- The free block that a list ends with.
-use Rattle.std.proofs.Common.{◌≡◌, ℕ, List, [], ◌∷◌, ◌++◌, sym, ap, ◌∙◌}
-use Rattle.std.specs.Prelude.{reverse}
-use Rattle.std.proofs.lemmas.List.{reverse-append, reverse-reverse}
-use Rattle.tlsf_heap.specs.Blocks.{Block, Live, Free}
-use Rattle.tlsf_heap.specs.Calls.{first_free, past_free, last_free, before_free}
+use Rattle.tlsf_heap.proofs.Common.{◌≡◌, ℕ, List, [], ◌∷◌, ◌++◌, sym, ap, ◌∙◌, reverse, reverse-append, reverse-reverse, Block, Live, Free, first_free, past_free, last_free, before_free}
 
 turned : (front : List Block) (b : Block) → reverse (front ++ b ∷ []) ≡ b ∷ reverse front
 turned front b = reverse-append front (b ∷ [])

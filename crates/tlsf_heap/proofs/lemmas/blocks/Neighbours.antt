@@ -1,14 +1,5 @@
 -- The blocks on either side of one, and what their tags say of them.
-use Rattle.std.proofs.Common.{◌≡◌, ◌≢◌, ℕ, zero, suc, ◌+◌, ◌^◌, ◌<◌, ◌≤◌, inl, inr, true, false, eqb, List, [], ◌∷◌, ◌++◌, length, take, drop, refl, sym, ap, ◌∙◌, subst, arith, eq-eqb}
-use Rattle.std.proofs.lemmas.List.{drop_more, take_all, take_more}
-use Rattle.std.proofs.lemmas.Bool.{false≢true, cases_lt, cases_eq, eqb-true, ne_eqb}
-use Rattle.tlsf_words.specs.Lists.{nowhere}
-use Rattle.tlsf_words.specs.declared.tag.Tag.{Tag}
-use Rattle.tlsf_heap.specs.Blocks.{Block, Live, Free, size_of, words_in, is_free, StandsAt, IsPlace}
-use Rattle.tlsf_heap.specs.Calls.{first_free, last_free}
-use Rattle.tlsf_heap.specs.GoodFit.{Site, block_at, site_at, place_of}
-use Rattle.tlsf_heap.specs.Image.{back_behind}
-use Rattle.tlsf_heap.specs.Regions.{AreRegions, EachAt, IsTagOf, IsNextTag, IsPreviousTag, IsTagBehind}
+use Rattle.tlsf_heap.proofs.Common.{◌≡◌, ◌≢◌, ℕ, zero, suc, ◌+◌, ◌^◌, ◌<◌, ◌≤◌, inl, inr, true, false, eqb, List, [], ◌∷◌, ◌++◌, length, take, drop, refl, sym, ap, ◌∙◌, subst, arith, eq-eqb, drop_more, take_all, take_more, false≢true, cases_lt, cases_eq, eqb-true, ne_eqb, nowhere, Tag, Block, Live, Free, size_of, words_in, is_free, StandsAt, IsPlace, first_free, last_free, Site, block_at, site_at, place_of, back_behind, AreRegions, EachAt, IsTagOf, IsNextTag, IsPreviousTag, IsTagBehind}
 use Rattle.tlsf_heap.proofs.lemmas.blocks.Replace.{first_free-words}
 use Rattle.tlsf_heap.proofs.lemmas.blocks.LastFree.{ends_free, ends_live}
 use Rattle.tlsf_heap.proofs.lemmas.blocks.Lawful.{words_in-append}

@@ -1,9 +1,5 @@
 -- Where the blocks of a list lie.
-use Rattle.std.proofs.Common.{ℕ, zero, suc, ◌+◌, ◌<◌, ◌≤◌, List, [], ◌∷◌, length, take, arith}
-use Rattle.tlsf_heap.specs.Blocks.{Block, HeapState, size_of, words_in}
-use Rattle.tlsf_heap.specs.GoodFit.{block_at}
-use Rattle.tlsf_heap.specs.Lawful.{IsLawful}
-use Rattle.tlsf_heap.specs.Laws.{LieApart, LieInRegion}
+use Rattle.tlsf_heap.proofs.Common.{ℕ, zero, suc, ◌+◌, ◌<◌, ◌≤◌, List, [], ◌∷◌, length, take, arith, Block, HeapState, size_of, words_in, block_at, IsLawful, LieApart, LieInRegion}
 
 -- a block ends among the words up to it
 ends_within : (bs : List Block) (i : ℕ) → i < length bs → words_in (take i bs) + size_of (block_at bs i) ≤ words_in bs

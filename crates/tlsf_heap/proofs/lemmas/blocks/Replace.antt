@@ -1,11 +1,5 @@
 -- Edits of the list of blocks.
-use Rattle.std.proofs.Common.{◌≡◌, ℕ, ◌+◌, ◌-◌, inl, inr, Bool, true, false, cond, nat_le, replicate, ◌<◌, ◌≤◌, List, [], ◌∷◌, take, drop, ap, arith}
-use Rattle.std.proofs.lemmas.List.{take-append-drop}
-use Rattle.tlsf_heap.specs.Calls.{carved, first_free}
-use Rattle.tlsf_heap.specs.Regions.{rest_of}
-use Rattle.std.proofs.lemmas.Bool.{cases_lt}
-use Rattle.std.proofs.lemmas.Bool.Decides.{nat_tests}
-use Rattle.tlsf_heap.specs.Blocks.{Block, Live, Free, words_in}
+use Rattle.tlsf_heap.proofs.Common.{◌≡◌, ℕ, ◌+◌, ◌-◌, inl, inr, Bool, true, false, cond, nat_le, replicate, ◌<◌, ◌≤◌, List, [], ◌∷◌, take, drop, ap, arith, take-append-drop, carved, first_free, rest_of, cases_lt, nat_tests, Block, Live, Free, words_in}
 use Rattle.tlsf_heap.proofs.lemmas.blocks.Lawful.{words_in-append}
 
 pub words_in-take : (bs : List Block) (j : ℕ) → words_in (take j bs) ≤ words_in bs

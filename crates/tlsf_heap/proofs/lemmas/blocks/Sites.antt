@@ -1,13 +1,5 @@
 -- The sites of a list by their places in it, and the choice among them.
-use Rattle.std.proofs.Common.{◌≡◌, ◌≢◌, ℕ, zero, suc, ◌<◌, Bool, true, false, ◌&&◌, List, [], ◌∷◌, ◌++◌, length, get_or, take, drop, find, Some, None, refl, sym, ap, ◌∙◌, arith, append_assoc}
-use Rattle.std.specs.List.{list_all, AllByRecursion}
-use Rattle.std.proofs.lemmas.List.{append-nil}
-use Rattle.std.proofs.lemmas.Bool.{false≢true}
-use Rattle.std.proofs.lemmas.Bool.Decides.{nat_tests}
-use Rattle.tlsf_heap.specs.Blocks.{Block, Live, Free, is_free, stamp_of, stamps}
-use Rattle.tlsf_words.specs.Lists.{AreDistinct}
-use Rattle.tlsf_heap.specs.GoodFit.{Site, sites, sites_behind, is_fit, fits, is_as_good, choice, block_at, site_at}
-use Rattle.tlsf_heap.specs.Chosen.{NoneFits, IsChoice}
+use Rattle.tlsf_heap.proofs.Common.{◌≡◌, ◌≢◌, ℕ, zero, suc, ◌<◌, Bool, true, false, ◌&&◌, List, [], ◌∷◌, ◌++◌, length, get_or, take, drop, find, Some, None, refl, sym, ap, ◌∙◌, arith, append_assoc, list_all, AllByRecursion, append-nil, false≢true, nat_tests, Block, Live, Free, is_free, stamp_of, stamps, AreDistinct, Site, sites, sites_behind, is_fit, fits, is_as_good, choice, block_at, site_at, NoneFits, IsChoice}
 use Rattle.tlsf_heap.proofs.lemmas.blocks.Find.{and_left, and_right, not_true, find-filter, find_at, filter_none, all_in, in_all}
 
 length-sites_behind : (p bs : List Block) → length (sites_behind p bs) ≡ length bs

@@ -1,11 +1,6 @@
 -- Blocks where they stand in a list: the one behind, where it begins, and the list around them.
-use Rattle.std.proofs.Common.{◌≡◌, ℕ, suc, ◌+◌, ◌<◌, List, [], ◌∷◌, ◌++◌, length, take, drop, sym, ap, ◌∙◌, arith, append_assoc, add_assoc, add-zero, zero-add}
-use Rattle.std.proofs.lemmas.List.{take_more}
-use Rattle.tlsf_heap.specs.Blocks.{Block, Free, size_of, words_in, StandsAt}
-use Rattle.tlsf_heap.specs.GoodFit.{block_at}
-use Rattle.tlsf_words.specs.Lists.{nowhere}
+use Rattle.tlsf_heap.proofs.Common.{◌≡◌, ℕ, suc, ◌+◌, ◌<◌, List, [], ◌∷◌, ◌++◌, length, take, drop, sym, ap, ◌∙◌, arith, append_assoc, add_assoc, add-zero, zero-add, take_more, Block, Free, size_of, words_in, StandsAt, block_at, nowhere, back_behind}
 use Rattle.tlsf_heap.proofs.lemmas.blocks.Lawful.{words_in-append}
-use Rattle.tlsf_heap.specs.Image.{back_behind}
 use Rattle.tlsf_heap.proofs.lemmas.words.Image.{parted}
 
 -- a block between those before it and those behind it

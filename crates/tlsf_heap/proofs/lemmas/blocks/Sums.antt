@@ -1,16 +1,6 @@
 -- The sums over the blocks of a list, and over one block more.
-use Rattle.std.proofs.Common.{◌≡◌, ℕ, zero, suc, ◌+◌, ◌*◌, ◌<◌, ◌≤◌, ◌⊎◌, inl, inr, max, min, true, List, [], ◌∷◌, ◌++◌, length, map, fold, refl, ap, ◌∙◌, arith, length-append}
-use Rattle.std.specs.List.{AllByRecursion}
-use Rattle.std.proofs.lemmas.List.{append-nil, map-append}
+use Rattle.tlsf_heap.proofs.Common.{◌≡◌, ℕ, zero, suc, ◌+◌, ◌*◌, ◌<◌, ◌≤◌, ◌⊎◌, inl, inr, max, min, true, List, [], ◌∷◌, ◌++◌, length, map, fold, refl, ap, ◌∙◌, arith, length-append, AllByRecursion, append-nil, map-append, filter-append, false≢true, cases_lt, Block, Live, Free, size_of, words_in, is_free, stamps, HasRoom, block_at, live_among, free_among, payload_in, largest_of, tally_of, Tally}
 use Rattle.std.proofs.lemmas.List.Sums.{fold-append}
-use Rattle.std.proofs.lemmas.List.Elements.{filter-append}
-use Rattle.std.proofs.lemmas.Bool.{false≢true, cases_lt}
-use Rattle.tlsf_heap.specs.Blocks.{Block, Live, Free, size_of, words_in, is_free, stamps}
-use Rattle.tlsf_heap.specs.Lawful.{HasRoom}
-use Rattle.tlsf_heap.specs.GoodFit.{block_at}
-use Rattle.tlsf_heap.specs.Reports.{live_among, free_among, payload_in, largest_of}
-use Rattle.tlsf_heap.specs.Tallies.{tally_of}
-use Rattle.tlsf_heap.specs.declared.tally.Tally.{Tally}
 use Rattle.tlsf_heap.proofs.lemmas.blocks.Lawful.{words_in-append, stamps-append}
 
 payload_in-append : (xs ys : List Block) → payload_in (xs ++ ys) ≡ payload_in xs + payload_in ys

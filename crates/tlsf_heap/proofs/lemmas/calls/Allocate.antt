@@ -1,20 +1,5 @@
 -- What allocating answers and leaves, by the place of the block that is chosen.
-use Rattle.std.proofs.Common.{find, None, ◌≡◌, ℕ, suc, ◌+◌, ◌-◌, ◌^◌, ◌<◌, ◌≤◌, Bool, true, false, cond, eqb, List, [], ◌∷◌, ◌++◌, length, take, drop, Some, Result, Ok, Err, IsOk, refl, sym, ap, ◌∙◌, subst, inl, inr, arith, add-one, eq-eqb}
-use Rattle.std.specs.Prelude.{◌↔◌}
-use Rattle.std.specs.List.{AllByRecursion, list_all}
-use Rattle.std.proofs.lemmas.List.{drop_more, take-append-drop}
-use Rattle.std.proofs.lemmas.Bool.{false≢true, cases_lt}
-use Rattle.std.proofs.lemmas.Bool.Decides.{nat_tests}
-use Rattle.tlsf_class.specs.Classes.{IsLevel, most_words}
-use Rattle.tlsf_heap.specs.Blocks.{Block, Live, Free, HeapState, size_of, words_in, is_free, want}
-use Rattle.tlsf_heap.specs.Lawful.{IsLawful, HasRoom}
-use Rattle.tlsf_heap.specs.Regions.{AreRegions, RegionState}
-use Rattle.tlsf_heap.specs.GoodFit.{Site, is_fit, fits, is_as_good, choice, block_at, site_at}
-use Rattle.tlsf_heap.specs.Chosen.{NoneFits, IsChoice}
-use Rattle.tlsf_heap.specs.Calls.{with_blocks, carved, ticked, allocated_words, allocated_at, refused, Outcome, last_tick}
-use Rattle.tlsf_heap.specs.declared.name.Name.{Name}
-use Rattle.tlsf_heap.specs.declared.refusal.Refusal.{Refusal}
-use Rattle.tlsf_heap.specs.declared.refusal.Refusal.TheVariants.{NoFit, Worn}
+use Rattle.tlsf_heap.proofs.Common.{find, None, ◌≡◌, ℕ, suc, ◌+◌, ◌-◌, ◌^◌, ◌<◌, ◌≤◌, Bool, true, false, cond, eqb, List, [], ◌∷◌, ◌++◌, length, take, drop, Some, Result, Ok, Err, IsOk, refl, sym, ap, ◌∙◌, subst, inl, inr, arith, add-one, eq-eqb, ◌↔◌, AllByRecursion, list_all, drop_more, take-append-drop, false≢true, cases_lt, nat_tests, IsLevel, most_words, Block, Live, Free, HeapState, size_of, words_in, is_free, want, IsLawful, HasRoom, AreRegions, RegionState, Site, is_fit, fits, is_as_good, choice, block_at, site_at, NoneFits, IsChoice, with_blocks, carved, ticked, allocated_words, allocated_at, refused, Outcome, last_tick, Name, Refusal, NoFit, Worn}
 use Rattle.tlsf_heap.proofs.lemmas.blocks.Find.{and_left, not_true}
 use Rattle.tlsf_class.proofs.ClassOfSize.{le_from_serves}
 use Rattle.tlsf_heap.proofs.lemmas.blocks.Sites.{choice_none, choice_is, fits_nothing}

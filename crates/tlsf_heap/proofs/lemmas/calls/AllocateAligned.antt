@@ -1,24 +1,5 @@
 -- What the calls come to of which a block with an aligned payload is made.
-use Rattle.std.proofs.Common.{◌≡◌, ◌≢◌, ℕ, suc, ◌+◌, ◌-◌, ◌*◌, ◌/◌, ◌%◌, ◌<◌, ◌≤◌, Bool, true, false, cond, nat_le, nat_lt, eqb, List, [], ◌∷◌, ◌++◌, length, take, drop, find, Option, Some, None, Result, Ok, Err, refl, sym, ap, ◌∙◌, subst, inl, inr, arith, append_assoc, eq-eqb}
-use Rattle.std.specs.Prelude.{IsSome}
-use Rattle.std.proofs.lemmas.Bool.{eqb-true, false≢true, ne_eqb}
-use Rattle.std.proofs.lemmas.Bool.Decides.{nat_tests}
-use Rattle.std.proofs.Math.Nat.{add-mod-mod, add-mul-mod_self_right, mod-add-div', mod-lt, mod_self}
-use Rattle.tlsf_class.specs.Classes.{IsLevel}
-use Rattle.tlsf_heap.specs.Aligned.{HasRoomAt, is_free_at, given_from, words_from, gap_of, moved_by, moved_on, aligned_by, aligned_words, words_aligned}
-use Rattle.tlsf_heap.specs.Blocks.{Block, Live, Free, HeapState, size_of, is_free, words_in, payload_words, StandsAt}
-use Rattle.tlsf_heap.specs.Calls.{Outcome, refused, is_worn, last_tick, ticked, carved, first_free, past_free, fitted, has_serial, is_named, named, with_blocks, allocated_at, allocated_words, released, resized_words, resized_at, refitted, room_of, with_bytes}
-use Rattle.tlsf_heap.specs.Chosen.{NoneFits}
-use Rattle.tlsf_heap.specs.Given.{payload_words_at}
-use Rattle.tlsf_heap.specs.GoodFit.{Site, sites, is_fit, block_at, site_at, place_of}
-use Rattle.tlsf_heap.specs.Lawful.{IsLawful}
-use Rattle.tlsf_heap.specs.Laws.{IsLive}
-use Rattle.tlsf_heap.specs.Named.{IsFirst}
-use Rattle.tlsf_heap.specs.Steady.{Holds, HasPayload}
-use Rattle.tlsf_heap.specs.Unset.{with_payload, with_payload_at}
-use Rattle.tlsf_heap.specs.declared.name.Name.{Name}
-use Rattle.tlsf_heap.specs.declared.refusal.Refusal.{Refusal}
-use Rattle.tlsf_heap.specs.declared.refusal.Refusal.TheVariants.{NoFit, Stale, Worn, NoRoom}
+use Rattle.tlsf_heap.proofs.Common.{◌≡◌, ◌≢◌, ℕ, suc, ◌+◌, ◌-◌, ◌*◌, ◌/◌, ◌%◌, ◌<◌, ◌≤◌, Bool, true, false, cond, nat_le, nat_lt, eqb, List, [], ◌∷◌, ◌++◌, length, take, drop, find, Option, Some, None, Result, Ok, Err, refl, sym, ap, ◌∙◌, subst, inl, inr, arith, append_assoc, eq-eqb, IsSome, eqb-true, false≢true, ne_eqb, nat_tests, add-mod-mod, add-mul-mod_self_right, mod-add-div', mod-lt, mod_self, IsLevel, HasRoomAt, is_free_at, given_from, words_from, gap_of, moved_by, moved_on, aligned_by, aligned_words, words_aligned, Block, Live, Free, HeapState, size_of, is_free, words_in, payload_words, StandsAt, Outcome, refused, is_worn, last_tick, ticked, carved, first_free, past_free, fitted, has_serial, is_named, named, with_blocks, allocated_at, allocated_words, released, resized_words, resized_at, refitted, room_of, with_bytes, NoneFits, payload_words_at, Site, sites, is_fit, block_at, site_at, place_of, IsLawful, IsLive, IsFirst, Holds, HasPayload, with_payload, with_payload_at, Name, Refusal, NoFit, Stale, Worn, NoRoom}
 use Rattle.tlsf_heap.proofs.lemmas.calls.Alter.{named_of}
 use Rattle.tlsf_heap.proofs.lemmas.calls.Allocate.{fits_size}
 use Rattle.tlsf_heap.proofs.lemmas.blocks.Find.{and_left, and_right, not_true}

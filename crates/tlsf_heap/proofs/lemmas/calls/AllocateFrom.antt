@@ -1,18 +1,5 @@
 -- What giving the free block that begins at a place comes to.
-use Rattle.std.proofs.Common.{◌≡◌, ℕ, suc, ◌+◌, ◌<◌, ◌≤◌, Bool, true, false, cond, ◌&&◌, nat_lt, eqb, List, ◌++◌, length, take, drop, find, Some, None, Result, Ok, Err, refl, sym, ap, ◌∙◌, subst, arith, eq-eqb}
-use Rattle.std.specs.List.{AllByRecursion}
-use Rattle.std.proofs.lemmas.Bool.{eqb-true, false≢true}
-use Rattle.std.proofs.lemmas.Bool.Decides.{nat_tests}
-use Rattle.tlsf_heap.specs.Aligned.{AnswersFrom, IsFreeAt, HasFreeAt, HasRoomAt, is_free_at, given_from, words_from}
-use Rattle.tlsf_heap.specs.Blocks.{Block, HeapState, size_of, is_free, words_in, want}
-use Rattle.tlsf_heap.specs.Calls.{Outcome, refused, is_worn, last_tick, ticked, carved, with_blocks}
-use Rattle.tlsf_heap.specs.GoodFit.{sites, block_at, site_at}
-use Rattle.tlsf_heap.specs.Lawful.{IsLawful, HasRoom}
-use Rattle.tlsf_heap.specs.Regions.{RegionState}
-use Rattle.tlsf_heap.specs.Touched.{FollowsNoPlace}
-use Rattle.tlsf_heap.specs.declared.name.Name.{Name}
-use Rattle.tlsf_heap.specs.declared.refusal.Refusal.{Refusal}
-use Rattle.tlsf_heap.specs.declared.refusal.Refusal.TheVariants.{Stale, NoRoom, Worn}
+use Rattle.tlsf_heap.proofs.Common.{◌≡◌, ℕ, suc, ◌+◌, ◌<◌, ◌≤◌, Bool, true, false, cond, ◌&&◌, nat_lt, eqb, List, ◌++◌, length, take, drop, find, Some, None, Result, Ok, Err, refl, sym, ap, ◌∙◌, subst, arith, eq-eqb, AllByRecursion, eqb-true, false≢true, nat_tests, AnswersFrom, IsFreeAt, HasFreeAt, HasRoomAt, is_free_at, given_from, words_from, Block, HeapState, size_of, is_free, words_in, want, Outcome, refused, is_worn, last_tick, ticked, carved, with_blocks, sites, block_at, site_at, IsLawful, HasRoom, RegionState, FollowsNoPlace, Name, Refusal, Stale, NoRoom, Worn}
 use Rattle.tlsf_heap.proofs.lemmas.calls.Allocate.{lawful_given, split_at}
 use Rattle.tlsf_heap.proofs.lemmas.blocks.Replace.{words_in-take}
 use Rattle.tlsf_heap.proofs.lemmas.blocks.Find.{and_left, and_right, not_true, find_at, find_none}

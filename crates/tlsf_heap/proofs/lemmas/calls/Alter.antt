@@ -1,28 +1,12 @@
 -- A block's payload as its words are handed out, and what is left where all its bytes may become others.
-use Rattle.std.proofs.Common.{◌≡◌, ℕ, zero, suc, ◌+◌, ◌*◌, ◌/◌, ◌<◌, ◌≤◌, Bool, true, false, cond, List, ◌∷◌, [], ◌++◌, find, Some, length, get_or, take, drop, refl, sym, ap, ◌∙◌, arith, subst, length-take, length-drop}
-use Rattle.std.specs.Prelude.{Result, Ok, Err, IfOk, OnErr, IsSome}
+use Rattle.tlsf_heap.proofs.Common.{◌≡◌, ℕ, zero, suc, ◌+◌, ◌*◌, ◌/◌, ◌<◌, ◌≤◌, Bool, true, false, cond, List, ◌∷◌, [], ◌++◌, find, Some, length, get_or, take, drop, refl, sym, ap, ◌∙◌, arith, subst, length-take, length-drop, Result, Ok, Err, IfOk, OnErr, IsSome, Once, Shown, Refusal, drop_all, append-nil, false≢true, bytes_in, payload_byte, tag_word, size_in, last_in, back_in, bytes_at, payload_at, payload_of, ArePayload, Alters, IsRefusedAsRead, IsLive, Image, Shows, IsNamed, Name, Block, HeapState, bytes_of, StandsAt, Outcome, is_named, overwritten, read_answer, with_bytes, written, sites, block_at}
 use Rattle.std.specs.Borrow.{MutBor}
-use Rattle.std.specs.Fn.{Once}
 use Rattle.tlsf_heap.specs.Kept.{IsAsBefore}
-use Rattle.tlsf_heap.specs.Shown.{Shown}
-use Rattle.tlsf_heap.specs.declared.refusal.Refusal.{Refusal}
 use Rattle.tlsf_heap.proofs.lemmas.calls.Write.{unwritten}
-use Rattle.std.proofs.lemmas.List.{drop_all, append-nil}
 use Rattle.tlsf_heap.proofs.lemmas.calls.Named.{named_is, named_stands}
 use Rattle.tlsf_heap.proofs.lemmas.blocks.Sites.{nowhere, length-sites, get_or-sites}
-use Rattle.std.proofs.lemmas.Bool.{false≢true}
-use Rattle.tlsf_words.specs.Bytes.{bytes_in, payload_byte}
-use Rattle.tlsf_words.specs.Fields.{tag_word, size_in, last_in, back_in}
 use Rattle.tlsf_words.proofs.Bytes.{bytes_in-part}
 use Rattle.tlsf_words.proofs.FieldLaws.{tag_word-fields}
-use Rattle.tlsf_heap.specs.InPlace.{bytes_at, payload_at, payload_of, ArePayload, Alters, IsRefusedAsRead}
-use Rattle.tlsf_heap.specs.Laws.{IsLive}
-use Rattle.tlsf_heap.specs.Image.{Image, Shows}
-use Rattle.tlsf_heap.specs.Named.{IsNamed}
-use Rattle.tlsf_heap.specs.declared.name.Name.{Name}
-use Rattle.tlsf_heap.specs.Blocks.{Block, HeapState, bytes_of, StandsAt}
-use Rattle.tlsf_heap.specs.Calls.{Outcome, is_named, overwritten, read_answer, with_bytes, written}
-use Rattle.tlsf_heap.specs.GoodFit.{sites, block_at}
 use Rattle.tlsf_heap.proofs.lemmas.words.Image.{word_at, shown_here, room_here}
 use Rattle.tlsf_heap.proofs.lemmas.words.Says.{says_here}
 use Rattle.tlsf_heap.proofs.lemmas.words.Edit.{Leaves, leaves, one_changed}

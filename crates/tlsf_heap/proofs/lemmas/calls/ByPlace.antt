@@ -1,20 +1,5 @@
 -- The name of the live block that begins at a place.
-use Rattle.std.proofs.Common.{◌≡◌, ℕ, ◌+◌, ◌<◌, true, List, take, Some, None, Result, Err, refl, sym, ap, ◌∙◌, subst, arith, eq-eqb, inl, inr}
-use Rattle.std.specs.Prelude.{is_some}
-use Rattle.std.specs.List.{AllByRecursion}
-use Rattle.std.proofs.lemmas.Bool.{cases_lt, eqb-true}
-use Rattle.tlsf_heap.specs.Blocks.{Block, HeapState, is_free, words_in, StandsAt, IsPlace}
-use Rattle.tlsf_heap.specs.ByPlace.{serial_of, serial_in, serial_at, name_with, name_at, call_by, released_by_place, IsLiveAt}
-use Rattle.tlsf_heap.specs.Calls.{Outcome, has_serial, released}
-use Rattle.tlsf_heap.specs.GoodFit.{block_at}
-use Rattle.tlsf_heap.specs.Image.{mark_of}
-use Rattle.tlsf_heap.specs.Lawful.{IsLawful, HasRoom}
-use Rattle.tlsf_heap.specs.Laws.{IsLive}
-use Rattle.tlsf_heap.specs.Named.{IsFirst, IsNamed}
-use Rattle.tlsf_heap.specs.Touched.{FollowsNoPlace}
-use Rattle.tlsf_heap.specs.declared.name.Name.{Name}
-use Rattle.tlsf_heap.specs.declared.refusal.Refusal.{Refusal}
-use Rattle.tlsf_heap.specs.declared.refusal.Refusal.TheVariants.{Stale}
+use Rattle.tlsf_heap.proofs.Common.{◌≡◌, ℕ, ◌+◌, ◌<◌, true, List, take, Some, None, Result, Err, refl, sym, ap, ◌∙◌, subst, arith, eq-eqb, inl, inr, is_some, AllByRecursion, cases_lt, eqb-true, Block, HeapState, is_free, words_in, StandsAt, IsPlace, serial_of, serial_in, serial_at, name_with, name_at, call_by, released_by_place, IsLiveAt, Outcome, has_serial, released, block_at, mark_of, IsLawful, HasRoom, IsLive, IsFirst, IsNamed, FollowsNoPlace, Name, Refusal, Stale}
 use Rattle.tlsf_heap.proofs.lemmas.blocks.ByPlace.{placed_found, placed_none, content-free, content-live}
 use Rattle.tlsf_heap.proofs.lemmas.words.Says.{has_serial-live, named_here}
 use Rattle.tlsf_heap.proofs.lemmas.blocks.Find.{and_left}

@@ -1,14 +1,5 @@
 -- The block that an allocate gave, and its payload words.
-use Rattle.std.proofs.Common.{◌≡◌, ℕ, suc, ◌+◌, ◌-◌, ◌<◌, List, [], ◌∷◌, ◌++◌, length, take, drop, replicate, Option, Some, None, refl, sym, ap, ◌∙◌, inl, inr, append_assoc, arith}
-use Rattle.std.specs.Prelude.{IsSome}
-use Rattle.std.proofs.lemmas.Bool.{eqb-true, false≢true, cases_lt}
-use Rattle.tlsf_heap.specs.Blocks.{Block, Live, Free, HeapState, size_of, payload_words, StandsAt}
-use Rattle.tlsf_heap.specs.GoodFit.{Site, block_at}
-use Rattle.tlsf_heap.specs.Regions.{AreRegions}
-use Rattle.tlsf_heap.specs.Calls.{carved, has_serial, named}
-use Rattle.tlsf_heap.specs.Given.{payload_words_at}
-use Rattle.tlsf_heap.specs.Laws.{IsLive}
-use Rattle.tlsf_heap.specs.declared.name.Name.{Name}
+use Rattle.tlsf_heap.proofs.Common.{◌≡◌, ℕ, suc, ◌+◌, ◌-◌, ◌<◌, List, [], ◌∷◌, ◌++◌, length, take, drop, replicate, Option, Some, None, refl, sym, ap, ◌∙◌, inl, inr, append_assoc, arith, IsSome, eqb-true, false≢true, cases_lt, Block, Live, Free, HeapState, size_of, payload_words, StandsAt, Site, block_at, AreRegions, carved, has_serial, named, payload_words_at, IsLive, Name}
 use Rattle.tlsf_heap.proofs.lemmas.blocks.Find.{and_right}
 use Rattle.tlsf_heap.proofs.lemmas.blocks.Replace.{carved_small, carved_large}
 use Rattle.tlsf_heap.proofs.lemmas.blocks.Around.{Around, around, block_around, stands_around, one_index}

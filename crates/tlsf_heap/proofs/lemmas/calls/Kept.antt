@@ -1,11 +1,6 @@
 -- What a call keeps, by what is stored of a heap before it and after.
-use Rattle.std.proofs.Common.{◌≡◌, ℕ, ◌+◌, ◌≤◌, Result, Ok, Err, refl, ◌∙◌, subst, arith}
-use Rattle.std.specs.Prelude.{OnErr}
+use Rattle.tlsf_heap.proofs.Common.{◌≡◌, ℕ, ◌+◌, ◌≤◌, Result, Ok, Err, refl, ◌∙◌, subst, arith, OnErr, RegionState, OnlyReads, Edits, Shown, IsStored, state_of, Inside}
 use Rattle.tlsf_heap.specs.Kept.{IsAsBefore, Keeps}
-use Rattle.tlsf_heap.specs.Regions.{RegionState, OnlyReads, Edits}
-use Rattle.tlsf_heap.specs.Shown.{Shown}
-use Rattle.tlsf_heap.specs.Stored.{IsStored, state_of}
-use Rattle.tlsf_heap.specs.declared.heap.Heap.TheInside.{Inside}
 use Rattle.tlsf_heap.proofs.lemmas.blocks.Lawful.{with_region}
 use Rattle.tlsf_heap.proofs.lemmas.lists.FreeLists.{stored_lists}
 

@@ -1,15 +1,5 @@
 -- A word of another block's payload is one behind the calls too.
-use Rattle.std.proofs.Common.{◌≡◌, ◌≢◌, ℕ, suc, ◌+◌, ◌<◌, List, [], ◌∷◌, ◌++◌, true, length, inl, inr, refl, sym, ap, ◌∙◌, subst, arith, append_assoc, Ok}
-use Rattle.std.specs.List.{AllByRecursion}
-use Rattle.std.proofs.lemmas.Bool.{eqb-true, false≢true}
-use Rattle.tlsf_heap.specs.Blocks.{Block, Live, Free, HeapState, size_of, bytes_of, is_free, words_in}
-use Rattle.tlsf_heap.specs.Calls.{carved, allocated_words, resized_words, refitted, with_bytes, overwritten, written, has_serial}
-use Rattle.tlsf_heap.specs.Footprint.{IsOthersWord, IsLiveWord, LeavesLive, LeavesPayloads, LeavesBoth}
-use Rattle.tlsf_heap.specs.GoodFit.{Site, place_of}
-use Rattle.tlsf_heap.specs.Lawful.{IsLawful, HasRoom}
-use Rattle.tlsf_heap.specs.Shown.{Shown}
-use Rattle.tlsf_heap.specs.declared.heap.Heap.TheInside.{Inside}
-use Rattle.tlsf_heap.specs.declared.name.Name.{Name}
+use Rattle.tlsf_heap.proofs.Common.{◌≡◌, ◌≢◌, ℕ, suc, ◌+◌, ◌<◌, List, [], ◌∷◌, ◌++◌, true, length, inl, inr, refl, sym, ap, ◌∙◌, subst, arith, append_assoc, Ok, AllByRecursion, eqb-true, false≢true, Block, Live, Free, HeapState, size_of, bytes_of, is_free, words_in, carved, allocated_words, resized_words, refitted, with_bytes, overwritten, written, has_serial, IsOthersWord, IsLiveWord, LeavesLive, LeavesPayloads, LeavesBoth, Site, place_of, IsLawful, HasRoom, Shown, Inside, Name}
 use Rattle.tlsf_heap.proofs.lemmas.calls.Kept.{shown_of}
 use Rattle.tlsf_heap.proofs.lemmas.blocks.Around.{Around, stands_around, block_around}
 use Rattle.tlsf_heap.proofs.lemmas.blocks.Find.{and_left, and_right}

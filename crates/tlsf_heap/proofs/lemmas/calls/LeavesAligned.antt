@@ -1,11 +1,5 @@
 -- A word of another block's payload is one behind the calls that give a free block by its place or an aligned payload.
-use Rattle.std.proofs.Common.{◌≡◌, ◌≢◌, ℕ, suc, ◌+◌, eqb, List, [], ◌∷◌, true, inl, inr, sym, ◌∙◌, subst, arith, append_assoc}
-use Rattle.std.proofs.lemmas.Bool.{eqb-true, false≢true}
-use Rattle.tlsf_heap.specs.Aligned.{words_from, moved_on}
-use Rattle.tlsf_heap.specs.Blocks.{Block, HeapState, size_of, is_free, words_in}
-use Rattle.tlsf_heap.specs.Calls.{Outcome, carved, has_serial, released, resized_words}
-use Rattle.tlsf_heap.specs.Footprint.{IsOthersWord, IsLiveWord}
-use Rattle.tlsf_heap.specs.declared.name.Name.{Name}
+use Rattle.tlsf_heap.proofs.Common.{◌≡◌, ◌≢◌, ℕ, suc, ◌+◌, eqb, List, [], ◌∷◌, true, inl, inr, sym, ◌∙◌, subst, arith, append_assoc, eqb-true, false≢true, words_from, moved_on, Block, HeapState, size_of, is_free, words_in, Outcome, carved, has_serial, released, resized_words, IsOthersWord, IsLiveWord, Name}
 use Rattle.tlsf_heap.proofs.lemmas.blocks.Find.{and_left, and_right}
 use Rattle.tlsf_heap.proofs.lemmas.calls.AllocateAligned.{by_words_from, gives_from}
 use Rattle.tlsf_heap.proofs.lemmas.calls.Leaves.{has_site, resized_word}

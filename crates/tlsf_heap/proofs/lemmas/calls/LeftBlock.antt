@@ -1,20 +1,5 @@
 -- What a resize goes by: the block that is named and the free one behind it; and the block that it leaves.
-use Rattle.std.proofs.Common.{◌≡◌, ℕ, suc, ◌+◌, ◌<◌, ◌≤◌, false, List, ◌∷◌, ◌++◌, take, drop, Ok, Err, refl, sym, ap, ◌∙◌, subst, arith}
-use Rattle.std.specs.Prelude.{IsSome}
-use Rattle.std.proofs.lemmas.Bool.{false≢true}
-use Rattle.tlsf_class.specs.Classes.{most_words}
-use Rattle.tlsf_words.specs.declared.tag.Tag.{Tag}
-use Rattle.tlsf_heap.specs.Blocks.{Block, Live, Free, HeapState, size_of, is_free, words_for, want}
-use Rattle.tlsf_heap.specs.Calls.{refused, last_tick, room_of, refitted, resized_words, named}
-use Rattle.tlsf_heap.specs.Given.{payload_words_at}
-use Rattle.tlsf_heap.specs.GoodFit.{block_at, site_at}
-use Rattle.tlsf_heap.specs.Lawful.{IsLawful}
-use Rattle.tlsf_heap.specs.Laws.{IsLive}
-use Rattle.tlsf_heap.specs.Named.{IsNamed, IsNameCheck}
-use Rattle.tlsf_heap.specs.Regions.{RegionState, EachAt, IsTagOf, IsTagBehind}
-use Rattle.tlsf_heap.specs.declared.name.Name.{Name}
-use Rattle.tlsf_heap.specs.declared.refusal.Refusal.{Refusal}
-use Rattle.tlsf_heap.specs.declared.refusal.Refusal.TheVariants.{Worn, NoRoom}
+use Rattle.tlsf_heap.proofs.Common.{◌≡◌, ℕ, suc, ◌+◌, ◌<◌, ◌≤◌, false, List, ◌∷◌, ◌++◌, take, drop, Ok, Err, refl, sym, ap, ◌∙◌, subst, arith, IsSome, false≢true, most_words, Tag, Block, Live, Free, HeapState, size_of, is_free, words_for, want, refused, last_tick, room_of, refitted, resized_words, named, payload_words_at, block_at, site_at, IsLawful, IsLive, IsNamed, IsNameCheck, RegionState, EachAt, IsTagOf, IsTagBehind, Name, Refusal, Worn, NoRoom}
 use Rattle.tlsf_heap.proofs.lemmas.calls.Allocate.{lawful_regions}
 use Rattle.tlsf_heap.proofs.lemmas.blocks.Replace.{first_free-words}
 use Rattle.tlsf_heap.proofs.lemmas.calls.GivenBlock.{named_payload}

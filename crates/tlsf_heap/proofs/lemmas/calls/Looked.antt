@@ -1,23 +1,9 @@
 -- A call of a heap with a look before it or behind it: one that leaves the heap, and touches no word of a live payload.
-use Rattle.std.proofs.Common.{◌≡◌, ◌+◌, ◌≤◌, ◌∙◌, ℕ, List, Result, Ok, Err, inl, inr, sym, ap, subst, arith, refl}
-use Rattle.std.specs.Prelude.{◌⊎◌, OnErr, ◌↔◌, [], IsErrOf, IsOk}
-use Rattle.tlsf_heap.specs.Blocks.{HeapState}
-use Rattle.tlsf_heap.specs.Effects.{Allocates, Releases, Resizes}
-use Rattle.tlsf_heap.specs.Footprint.{IsLiveWord, IsOthersWord, LeavesLive}
-use Rattle.tlsf_heap.specs.Given.{payload_words_given, payload_words_left}
-use Rattle.tlsf_heap.specs.Lawful.{IsLawful}
-use Rattle.tlsf_heap.specs.Named.{IsNamed}
-use Rattle.tlsf_heap.specs.Shown.{Seen}
-use Rattle.tlsf_heap.specs.Touched.{FollowsNoForgery}
-use Rattle.tlsf_heap.specs.declared.name.Name.{Name}
-use Rattle.tlsf_heap.specs.declared.refusal.Refusal.{Refusal}
+use Rattle.tlsf_heap.proofs.Common.{◌≡◌, ◌+◌, ◌≤◌, ◌∙◌, ℕ, List, Result, Ok, Err, inl, inr, sym, ap, subst, arith, refl, ◌⊎◌, OnErr, ◌↔◌, [], IsErrOf, IsOk, HeapState, Allocates, Releases, Resizes, IsLiveWord, IsOthersWord, LeavesLive, payload_words_given, payload_words_left, IsLawful, IsNamed, Seen, FollowsNoForgery, Name, Refusal, Outcome, allocated_words, resized_words, last_tick, fits, NoFit}
 use Rattle.tlsf_heap.proofs.lemmas.calls.Leaves.{given_live, resized_word}
 use Rattle.tlsf_heap.proofs.lemmas.calls.Named.{not_forged}
 use Rattle.tlsf_heap.proofs.lemmas.words.Footprint.{any_word}
-use Rattle.tlsf_heap.specs.Calls.{Outcome, allocated_words, resized_words, last_tick}
-use Rattle.tlsf_heap.specs.GoodFit.{fits}
 use Rattle.tlsf_heap.proofs.lemmas.laws.NoFit.{no_fit_words, ok_words}
-use Rattle.tlsf_heap.specs.declared.refusal.Refusal.TheVariants.{NoFit}
 
 -- from one state to the next, by so many touches at most
 pub record Looked (most : ℕ) (old new : Seen) : Type 0 where

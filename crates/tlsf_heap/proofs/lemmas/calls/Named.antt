@@ -1,18 +1,5 @@
 -- What a call on a name comes to, by the index of the block that it names.
-use Rattle.std.proofs.Common.{◌≡◌, ℕ, ◌+◌, ◌<◌, Bool, true, false, cond, eqb, List, length, Option, Some, None, refl, sym, ap, ◌∙◌, subst, arith, eq-eqb}
-use Rattle.std.specs.Prelude.{IsSome}
-use Rattle.std.proofs.lemmas.Bool.{eqb-true, false≢true}
-use Rattle.tlsf_heap.specs.Blocks.{Block, Live, Free, HeapState, is_free, StandsAt, IsPlace}
-use Rattle.tlsf_heap.specs.Lawful.{IsLawful}
-use Rattle.tlsf_heap.specs.Laws.{IsLive}
-use Rattle.tlsf_heap.specs.Shown.{Seen}
-use Rattle.tlsf_heap.specs.GoodFit.{Site, sites, block_at, site_at}
-use Rattle.tlsf_heap.specs.Calls.{is_named, has_serial, named}
-use Rattle.tlsf_heap.specs.Named.{NoneNamed, IsFirst, IsNamed, RefusesName}
-use Rattle.tlsf_heap.specs.Touched.{FollowsNoForgery, FollowsNoPlace}
-use Rattle.tlsf_heap.specs.declared.name.Name.{Name}
-use Rattle.tlsf_heap.specs.declared.refusal.Refusal.{Refusal}
-use Rattle.tlsf_heap.specs.declared.refusal.Refusal.TheVariants.{NoFit, Worn, Foreign, Stale, Range, NoRoom}
+use Rattle.tlsf_heap.proofs.Common.{◌≡◌, ℕ, ◌+◌, ◌<◌, Bool, true, false, cond, eqb, List, length, Option, Some, None, refl, sym, ap, ◌∙◌, subst, arith, eq-eqb, IsSome, eqb-true, false≢true, Block, Live, Free, HeapState, is_free, StandsAt, IsPlace, IsLawful, IsLive, Seen, Site, sites, block_at, site_at, is_named, has_serial, named, NoneNamed, IsFirst, IsNamed, RefusesName, FollowsNoForgery, FollowsNoPlace, Name, Refusal, NoFit, Worn, Foreign, Stale, Range, NoRoom}
 use Rattle.tlsf_heap.proofs.lemmas.blocks.Find.{and_left, and_right, not_true, find_at, find_none}
 use Rattle.tlsf_heap.proofs.lemmas.blocks.Replace.{words_in-take}
 use Rattle.tlsf_heap.proofs.lemmas.blocks.Grant.{four_words}

@@ -1,20 +1,5 @@
 -- Heaps of which the live block of one serial has other bytes: each call does to them what it does to the others.
-use Rattle.std.proofs.Common.{◌≡◌, ◌≢◌, ℕ, suc, ◌+◌, ◌-◌, ◌≤◌, Bool, true, false, cond, eqb, nat_le, nat_lt, List, [], ◌∷◌, ◌++◌, ◌&&◌, length, take, drop, find, replicate, Option, Some, None, Ok, refl, sym, ap, ◌∙◌, subst, arith, eq-eqb}
-use Rattle.std.specs.Prelude.{IsSome}
-use Rattle.std.specs.List.{AllByRecursion}
-use Rattle.std.proofs.lemmas.Bool.{false≢true, eqb-true, ne_eqb}
-use Rattle.std.proofs.lemmas.Bool.Decides.{nat_tests}
-use Rattle.tlsf_words.specs.Lists.{AreDistinct}
-use Rattle.tlsf_heap.specs.Blocks.{Block, Live, Free, HeapState, size_of, bytes_of, words_in, serials}
-use Rattle.tlsf_heap.specs.GoodFit.{Site, sites_behind, block_at, choice}
-use Rattle.tlsf_heap.specs.Calls.{Outcome, refused, is_worn, carved, allocated_at, allocated_words, has_serial, is_named, named, first_free, past_free, last_free, before_free, coalesced, released, released_at, ticked, with_bytes, with_blocks, overwritten, has_bytes, written, written_at, recut, is_sized, room_of, refitted, resized_words, resized_at, fitted}
-use Rattle.tlsf_heap.specs.InPlace.{bytes_at, payload_of}
-use Rattle.tlsf_heap.specs.Lawful.{IsLawful}
-use Rattle.tlsf_heap.specs.Laws.{IsLive}
-use Rattle.tlsf_heap.specs.Named.{IsNamed}
-use Rattle.tlsf_heap.specs.Unset.{with_payload, with_payload_at}
-use Rattle.tlsf_heap.specs.declared.name.Name.{Name}
-use Rattle.tlsf_heap.specs.declared.refusal.Refusal.TheVariants.{Worn, Foreign, Range, NoRoom}
+use Rattle.tlsf_heap.proofs.Common.{◌≡◌, ◌≢◌, ℕ, suc, ◌+◌, ◌-◌, ◌≤◌, Bool, true, false, cond, eqb, nat_le, nat_lt, List, [], ◌∷◌, ◌++◌, ◌&&◌, length, take, drop, find, replicate, Option, Some, None, Ok, refl, sym, ap, ◌∙◌, subst, arith, eq-eqb, IsSome, AllByRecursion, false≢true, eqb-true, ne_eqb, nat_tests, AreDistinct, Block, Live, Free, HeapState, size_of, bytes_of, words_in, serials, Site, sites_behind, block_at, choice, Outcome, refused, is_worn, carved, allocated_at, allocated_words, has_serial, is_named, named, first_free, past_free, last_free, before_free, coalesced, released, released_at, ticked, with_bytes, with_blocks, overwritten, has_bytes, written, written_at, recut, is_sized, room_of, refitted, resized_words, resized_at, fitted, bytes_at, payload_of, IsLawful, IsLive, IsNamed, with_payload, with_payload_at, Name, Worn, Foreign, Range, NoRoom}
 use Rattle.tlsf_heap.proofs.lemmas.calls.Alter.{named_of, payload_is}
 use Rattle.tlsf_heap.proofs.lemmas.calls.Allocate.{split_at}
 use Rattle.tlsf_heap.proofs.lemmas.blocks.Coalesce.{by_last}

@@ -1,17 +1,5 @@
 -- What a call comes to: a refusal, or an edit at the site of one block.
-use Rattle.std.proofs.Common.{◌≡◌, ℕ, Bool, true, false, cond, nat_lt, eqb, ◌≤◌, arith, List, [], ◌∷◌, ◌++◌, length, filter, find, Option, Some, None, Ok, refl, sym, subst, inl, inr, append_assoc}
-use Rattle.std.specs.Prelude.{IsSome, ◌⊎◌}
-use Rattle.std.specs.List.{AllByRecursion}
-use Rattle.std.proofs.lemmas.Bool.{eqb-true, false≢true}
-use Rattle.std.proofs.lemmas.Bool.Decides.{nat_tests}
-use Rattle.tlsf_class.specs.Classes.{IsLevel}
-use Rattle.tlsf_heap.specs.Blocks.{Block, HeapState, size_of, bytes_of, want}
-use Rattle.tlsf_heap.specs.GoodFit.{Site, sites, sites_behind, place_of, is_fit, fits, choice}
-use Rattle.tlsf_heap.specs.Lawful.{IsLawful}
-use Rattle.tlsf_heap.specs.Calls.{Outcome, refused, is_worn, ticked, with_blocks, carved, allocated, allocated_words, allocated_at, is_named, named, coalesced, released, released_at, overwritten, with_bytes, has_bytes, written, written_at, refitted, room_of, resized, resized_words, resized_at, Call, Allocate, Release, Resize, Write, Read, answered, run}
-use Rattle.tlsf_heap.specs.declared.name.Name.{Name}
-use Rattle.tlsf_heap.specs.declared.refusal.Refusal.{Refusal}
-use Rattle.tlsf_heap.specs.declared.refusal.Refusal.TheVariants.{NoFit, Worn, Foreign, Stale, Range, NoRoom}
+use Rattle.tlsf_heap.proofs.Common.{◌≡◌, ℕ, Bool, true, false, cond, nat_lt, eqb, ◌≤◌, arith, List, [], ◌∷◌, ◌++◌, length, filter, find, Option, Some, None, Ok, refl, sym, subst, inl, inr, append_assoc, IsSome, ◌⊎◌, AllByRecursion, eqb-true, false≢true, nat_tests, IsLevel, Block, HeapState, size_of, bytes_of, want, Site, sites, sites_behind, place_of, is_fit, fits, choice, IsLawful, Outcome, refused, is_worn, ticked, with_blocks, carved, allocated, allocated_words, allocated_at, is_named, named, coalesced, released, released_at, overwritten, with_bytes, has_bytes, written, written_at, refitted, room_of, resized, resized_words, resized_at, Call, Allocate, Release, Resize, Write, Read, answered, run, Name, Refusal, NoFit, Worn, Foreign, Stale, Range, NoRoom}
 use Rattle.tlsf_heap.proofs.lemmas.blocks.Find.{and_left}
 use Rattle.tlsf_heap.proofs.lemmas.calls.Allocate.{lawful_carved}
 use Rattle.tlsf_heap.proofs.lemmas.calls.Release.{lawful_at}

@@ -1,16 +1,5 @@
 -- What releasing answers and leaves, by the index of the named block.
-use Rattle.std.proofs.Common.{◌≡◌, ℕ, suc, ◌+◌, Bool, true, false, cond, eqb, List, ◌∷◌, ◌++◌, take, drop, Result, Ok, Err, refl, sym, ap, ◌∙◌, subst, arith, eq-eqb}
-use Rattle.std.proofs.lemmas.Bool.{false≢true}
-use Rattle.std.proofs.lemmas.Bool.Decides.{nat_tests}
-use Rattle.tlsf_heap.specs.Blocks.{Block, Live, Free, HeapState}
-use Rattle.tlsf_heap.specs.Lawful.{IsLawful}
-use Rattle.tlsf_heap.specs.GoodFit.{block_at, site_at}
-use Rattle.tlsf_heap.specs.Calls.{with_blocks, Outcome, has_serial, coalesced, ticked, released, released_at, refused, last_tick}
-use Rattle.tlsf_heap.specs.Regions.{RegionState}
-use Rattle.tlsf_heap.specs.Named.{IsFirst, IsNamed, RefusesName}
-use Rattle.tlsf_heap.specs.declared.name.Name.{Name}
-use Rattle.tlsf_heap.specs.declared.refusal.Refusal.{Refusal}
-use Rattle.tlsf_heap.specs.declared.refusal.Refusal.TheVariants.{Worn}
+use Rattle.tlsf_heap.proofs.Common.{◌≡◌, ℕ, suc, ◌+◌, Bool, true, false, cond, eqb, List, ◌∷◌, ◌++◌, take, drop, Result, Ok, Err, refl, sym, ap, ◌∙◌, subst, arith, eq-eqb, false≢true, nat_tests, Block, Live, Free, HeapState, IsLawful, block_at, site_at, with_blocks, Outcome, has_serial, coalesced, ticked, released, released_at, refused, last_tick, RegionState, IsFirst, IsNamed, RefusesName, Name, Refusal, Worn}
 use Rattle.tlsf_heap.proofs.lemmas.blocks.Find.{and_left, not_true}
 use Rattle.tlsf_heap.proofs.lemmas.calls.Named.{refused_name, at_name}
 use Rattle.tlsf_heap.proofs.lemmas.calls.Allocate.{split_at}

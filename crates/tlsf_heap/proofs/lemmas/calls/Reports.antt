@@ -1,12 +1,6 @@
 -- The report that the sums over a heap make.
-use Rattle.std.proofs.Common.{◌≡◌, ℕ, ◌*◌, ◌-◌, ◌^◌, ◌<◌, ◌≤◌, inl, inr, refl, sym, ap, ◌∙◌, subst, arith}
+use Rattle.tlsf_heap.proofs.Common.{◌≡◌, ℕ, ◌*◌, ◌-◌, ◌^◌, ◌<◌, ◌≤◌, inl, inr, refl, sym, ap, ◌∙◌, subst, arith, IsLevel, low, class_of, most_words, HeapState, stamps, IsLawful, IsRegion, free_among, largest_of, report_of, IsGrant, tally_of, told, Tally}
 use Rattle.tlsf_class.proofs.TwoLevels.{most_words_any}
-use Rattle.tlsf_class.specs.Classes.{IsLevel, low, class_of, most_words}
-use Rattle.tlsf_heap.specs.Blocks.{HeapState, stamps}
-use Rattle.tlsf_heap.specs.Lawful.{IsLawful, IsRegion}
-use Rattle.tlsf_heap.specs.Reports.{free_among, largest_of, report_of, IsGrant}
-use Rattle.tlsf_heap.specs.Tallies.{tally_of, told}
-use Rattle.tlsf_heap.specs.declared.tally.Tally.{Tally}
 use Rattle.tlsf_heap.proofs.lemmas.blocks.Sums.{words_apart, payload_small, oldest_small, greatest_part, greatest_reached}
 use Rattle.tlsf_heap.proofs.lemmas.blocks.Grant.{is_granted, four_words, granted_large}
 

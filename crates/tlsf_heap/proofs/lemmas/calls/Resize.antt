@@ -1,18 +1,5 @@
 -- A block that is resized leaves a lawful heap; what resizing answers and leaves, by the index of the named block.
-use Rattle.std.proofs.Common.{◌≡◌, ℕ, suc, ◌+◌, ◌-◌, ◌<◌, ◌≤◌, inl, inr, Bool, true, false, cond, nat_lt, eqb, List, [], ◌∷◌, ◌++◌, take, drop, Result, Ok, Err, refl, sym, ap, ◌∙◌, subst, arith, eq-eqb}
-use Rattle.std.specs.List.{AllByRecursion}
-use Rattle.std.proofs.lemmas.Bool.{false≢true, cases_lt}
-use Rattle.std.proofs.lemmas.Bool.Decides.{nat_tests}
-use Rattle.tlsf_words.specs.Lists.{AreDistinct}
-use Rattle.tlsf_heap.specs.Blocks.{Block, Live, Free, HeapState, words_in, serials, stamps, words_for, want}
-use Rattle.tlsf_heap.specs.Lawful.{IsLawful, HasRoom, FreeBlocksAreApart}
-use Rattle.tlsf_heap.specs.GoodFit.{block_at}
-use Rattle.tlsf_heap.specs.Calls.{with_blocks, Outcome, has_serial, ticked, refused, last_tick, first_free, past_free, fitted, recut, refitted, room_of, is_worn, resized_words, resized_at}
-use Rattle.tlsf_heap.specs.Regions.{RegionState}
-use Rattle.tlsf_heap.specs.Named.{IsFirst, IsNamed, RefusesName}
-use Rattle.tlsf_heap.specs.declared.name.Name.{Name}
-use Rattle.tlsf_heap.specs.declared.refusal.Refusal.{Refusal}
-use Rattle.tlsf_heap.specs.declared.refusal.Refusal.TheVariants.{Worn, NoRoom}
+use Rattle.tlsf_heap.proofs.Common.{◌≡◌, ℕ, suc, ◌+◌, ◌-◌, ◌<◌, ◌≤◌, inl, inr, Bool, true, false, cond, nat_lt, eqb, List, [], ◌∷◌, ◌++◌, take, drop, Result, Ok, Err, refl, sym, ap, ◌∙◌, subst, arith, eq-eqb, AllByRecursion, false≢true, cases_lt, nat_tests, AreDistinct, Block, Live, Free, HeapState, words_in, serials, stamps, words_for, want, IsLawful, HasRoom, FreeBlocksAreApart, block_at, with_blocks, Outcome, has_serial, ticked, refused, last_tick, first_free, past_free, fitted, recut, refitted, room_of, is_worn, resized_words, resized_at, RegionState, IsFirst, IsNamed, RefusesName, Name, Refusal, Worn, NoRoom}
 use Rattle.tlsf_heap.proofs.lemmas.calls.Allocate.{split_at}
 use Rattle.tlsf_heap.proofs.lemmas.blocks.Coalesce.{free_first}
 use Rattle.tlsf_heap.proofs.lemmas.blocks.Find.{and_left, not_true}

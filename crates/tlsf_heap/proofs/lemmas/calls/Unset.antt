@@ -1,24 +1,6 @@
 -- What the calls that fill nothing come to.
-use Rattle.std.proofs.Common.{◌≡◌, ◌≢◌, ℕ, suc, ◌+◌, ◌-◌, ◌<◌, ◌≤◌, true, List, [], ◌∷◌, ◌++◌, length, take, drop, min, replicate, Option, Some, None, Ok, refl, sym, ap, ◌∙◌, subst, inl, inr, arith, length-append, length-drop, length-take-le}
-use Rattle.std.specs.Prelude.{IsSome}
-use Rattle.std.specs.List.{AllByRecursion}
-use Rattle.std.proofs.lemmas.Bool.{false≢true, eqb-true, cases_lt}
+use Rattle.tlsf_heap.proofs.Common.{◌≡◌, ◌≢◌, ℕ, suc, ◌+◌, ◌-◌, ◌<◌, ◌≤◌, true, List, [], ◌∷◌, ◌++◌, length, take, drop, min, replicate, Option, Some, None, Ok, refl, sym, ap, ◌∙◌, subst, inl, inr, arith, length-append, length-drop, length-take-le, IsSome, AllByRecursion, false≢true, eqb-true, cases_lt, append-nil, take-append-le, take-append-drop, drop_all, length-replicate, IsLevel, bytes_in, payload_byte, AreDistinct, Block, Live, Free, HeapState, size_of, bytes_of, payload_words, serials, want, words_for, Release, Write, carved, allocated, overwritten, released, written, allocated_words, has_serial, named, first_free, past_free, fitted, refitted, resized, resized_words, room_of, with_blocks, payload_words_at, Site, block_at, is_fit, Image, Shows, bytes_at, payload_of, IsLawful, IsLive, copied, lying, unset_from, with_payload, Name}
 use Rattle.std.proofs.Math.Seq.{take-length, drop-append_seam}
-use Rattle.std.proofs.lemmas.List.{append-nil, take-append-le, take-append-drop, drop_all, length-replicate}
-use Rattle.tlsf_class.specs.Classes.{IsLevel}
-use Rattle.tlsf_words.specs.Bytes.{bytes_in, payload_byte}
-use Rattle.tlsf_words.specs.Lists.{AreDistinct}
-use Rattle.tlsf_heap.specs.Blocks.{Block, Live, Free, HeapState, size_of, bytes_of, payload_words, serials, want, words_for}
-use Rattle.tlsf_heap.specs.Calls.{Release, Write, carved, allocated, overwritten, released, written, allocated_words, has_serial, named, first_free, past_free, fitted, refitted, resized, resized_words, room_of, with_blocks}
-use Rattle.tlsf_heap.specs.Given.{payload_words_at}
-use Rattle.tlsf_heap.specs.GoodFit.{Site, block_at, is_fit}
-use Rattle.tlsf_heap.specs.Image.{Image, Shows}
-use Rattle.tlsf_heap.specs.InPlace.{bytes_at, payload_of}
-use Rattle.tlsf_heap.specs.Lawful.{IsLawful}
-use Rattle.tlsf_heap.specs.Laws.{IsLive}
-use Rattle.tlsf_heap.specs.Moved.{copied}
-use Rattle.tlsf_heap.specs.Unset.{lying, unset_from, with_payload}
-use Rattle.tlsf_heap.specs.declared.name.Name.{Name}
 use Rattle.tlsf_heap.proofs.lemmas.calls.Allocate.{split_at}
 use Rattle.tlsf_heap.proofs.lemmas.calls.Alter.{first_bytes, named_of, payload_is}
 use Rattle.tlsf_heap.proofs.lemmas.blocks.Replace.{carved_small, carved_large}

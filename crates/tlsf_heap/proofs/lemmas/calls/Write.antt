@@ -1,20 +1,6 @@
 -- What reading and writing payload bytes answer and leave, by the index of the named block.
-use Rattle.std.proofs.Common.{◌≡◌, ℕ, suc, ◌+◌, ◌<◌, ◌≤◌, Bool, true, false, cond, eqb, List, [], ◌∷◌, ◌++◌, length, take, drop, Option, Some, None, Result, Ok, Err, refl, sym, ap, ◌∙◌, subst, arith, add-one, append_assoc, length-append, length-drop, length-take-le}
+use Rattle.tlsf_heap.proofs.Common.{◌≡◌, ℕ, suc, ◌+◌, ◌<◌, ◌≤◌, Bool, true, false, cond, eqb, List, [], ◌∷◌, ◌++◌, length, take, drop, Option, Some, None, Result, Ok, Err, refl, sym, ap, ◌∙◌, subst, arith, add-one, append_assoc, length-append, length-drop, length-take-le, eqb-true, nat_tests, Block, Live, Free, HeapState, bytes_of, words_in, serials, stamps, StandsAt, IsLawful, HasRoom, FreeBlocksAreApart, AreDistinct, AllByRecursion, Site, block_at, Outcome, refused, named, has_bytes, overwritten, with_bytes, with_blocks, written, written_at, read_of, read_at, read_answer, free_places, RegionState, IsFirst, IsNamed, RefusesName, Name, Refusal, Foreign, Stale, Range}
 use Rattle.std.specs.Result.{result_unwrap_or}
-use Rattle.std.proofs.lemmas.Bool.{eqb-true}
-use Rattle.std.proofs.lemmas.Bool.Decides.{nat_tests}
-use Rattle.tlsf_heap.specs.Blocks.{Block, Live, Free, HeapState, bytes_of, words_in, serials, stamps, StandsAt}
-use Rattle.tlsf_heap.specs.Lawful.{IsLawful, HasRoom, FreeBlocksAreApart}
-use Rattle.tlsf_words.specs.Lists.{AreDistinct}
-use Rattle.std.specs.List.{AllByRecursion}
-use Rattle.tlsf_heap.specs.GoodFit.{Site, block_at}
-use Rattle.tlsf_heap.specs.Calls.{Outcome, refused, named, has_bytes, overwritten, with_bytes, with_blocks, written, written_at, read_of, read_at, read_answer}
-use Rattle.tlsf_heap.specs.FreePlaces.{free_places}
-use Rattle.tlsf_heap.specs.Regions.{RegionState}
-use Rattle.tlsf_heap.specs.Named.{IsFirst, IsNamed, RefusesName}
-use Rattle.tlsf_heap.specs.declared.name.Name.{Name}
-use Rattle.tlsf_heap.specs.declared.refusal.Refusal.{Refusal}
-use Rattle.tlsf_heap.specs.declared.refusal.Refusal.TheVariants.{Foreign, Stale, Range}
 use Rattle.tlsf_heap.proofs.lemmas.calls.Named.{refused_name, at_name, named_stands}
 use Rattle.tlsf_heap.proofs.lemmas.calls.Allocate.{split_at}
 use Rattle.tlsf_heap.proofs.lemmas.blocks.Lawful.{all_append, all_left, all_right, serials-append, stamps-append, words_in-append, with_region, region_is}

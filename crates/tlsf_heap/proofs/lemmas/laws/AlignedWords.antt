@@ -1,17 +1,5 @@
 -- The words in use over a request for a block whose payload is aligned.
-use Rattle.std.proofs.Common.{◌≡◌, ◌≢◌, ℕ, ◌+◌, ◌<◌, ◌≤◌, List, Option, Some, None, Result, Ok, Err, refl, sym, ap, ◌∙◌, subst, inl, inr, arith}
-use Rattle.std.proofs.lemmas.Bool.{cases_lt}
-use Rattle.tlsf_class.specs.Classes.{IsLevel}
-use Rattle.tlsf_heap.specs.Aligned.{words_from, gap_of, moved_by, moved_on, aligned_words, words_aligned}
-use Rattle.tlsf_heap.specs.Blocks.{HeapState, words_in, want}
-use Rattle.tlsf_heap.specs.Calls.{Outcome, last_tick, named, allocated_words, released, resized_words}
-use Rattle.tlsf_heap.specs.GoodFit.{Site}
-use Rattle.tlsf_heap.specs.Lawful.{IsLawful}
-use Rattle.tlsf_heap.specs.Laws.{IsLive, IsTaken}
-use Rattle.tlsf_heap.specs.Unset.{with_payload, with_payload_at}
-use Rattle.tlsf_heap.specs.WordsInUse.{words_in_use, words_at}
-use Rattle.tlsf_heap.specs.declared.name.Name.{Name}
-use Rattle.tlsf_heap.specs.declared.refusal.Refusal.{Refusal}
+use Rattle.tlsf_heap.proofs.Common.{◌≡◌, ◌≢◌, ℕ, ◌+◌, ◌<◌, ◌≤◌, List, Option, Some, None, Result, Ok, Err, refl, sym, ap, ◌∙◌, subst, inl, inr, arith, cases_lt, IsLevel, words_from, gap_of, moved_by, moved_on, aligned_words, words_aligned, HeapState, words_in, want, Outcome, last_tick, named, allocated_words, released, resized_words, Site, IsLawful, IsLive, IsTaken, with_payload, with_payload_at, words_in_use, words_at, Name, Refusal}
 use Rattle.tlsf_heap.proofs.lemmas.calls.AllocateAligned.{has_live, gives_from, by_words_from, from_has, from_lasts, moved_done, gap_fits, first_given, by_gap, aligned_worn, aligned_refused, aligned_is, first_has}
 use Rattle.tlsf_heap.proofs.lemmas.calls.Allocate.{lawful_given}
 use Rattle.tlsf_heap.proofs.lemmas.blocks.Find.{and_left}

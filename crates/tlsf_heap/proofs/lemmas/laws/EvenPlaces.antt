@@ -1,19 +1,5 @@
 -- Blocks that begin an even number of words behind a place go on doing so.
-use Rattle.std.proofs.Common.{◌≡◌, ℕ, zero, suc, ◌+◌, ◌*◌, ◌/◌, ◌%◌, nat_le, Option, Some, None, Result, Ok, Err, ◌<◌, ◌≤◌, List, [], ◌∷◌, ◌++◌, length, take, false, true, refl, sym, ap, ◌∙◌, subst, inl, inr, arith}
-use Rattle.std.specs.Prelude.{◌⊎◌, ⊤}
-use Rattle.std.specs.List.{AllByRecursion}
-use Rattle.std.proofs.Math.Nat.{add-zero, mod-add-div', mul-add-mod_self_right, mul_assoc}
-use Rattle.std.proofs.lemmas.Bool.{false≢true, eqb-true, cases_lt}
-use Rattle.tlsf_heap.specs.Blocks.{Block, Live, Free, HeapState, size_of, bytes_of, words_in, is_free, want}
-use Rattle.tlsf_heap.specs.GoodFit.{Site, block_at, place_of}
-use Rattle.tlsf_heap.specs.Calls.{Outcome, refused, last_tick, named, Call, Allocate, Release, Resize, Write, Read, carved, coalesced, first_free, past_free, before_free, has_serial, with_bytes, overwritten, opened, allocated_words, released, resized_words, written, refitted, room_of, answered, run}
-use Rattle.tlsf_heap.specs.Aligned.{words_from, gap_of, aligned_by, aligned_words, words_aligned}
-use Rattle.tlsf_heap.specs.Moved.{resized_or_moved}
-use Rattle.tlsf_heap.specs.Steady.{IsEven, IsEvenFrom, AreEvenFrom, IsEvenCall}
-use Rattle.tlsf_heap.specs.Unset.{with_payload, with_payload_at}
-use Rattle.tlsf_heap.specs.declared.name.Name.{Name}
-use Rattle.tlsf_heap.specs.declared.refusal.Refusal.{Refusal}
-use Rattle.tlsf_heap.specs.declared.refusal.Refusal.TheVariants.{Worn}
+use Rattle.tlsf_heap.proofs.Common.{◌≡◌, ℕ, zero, suc, ◌+◌, ◌*◌, ◌/◌, ◌%◌, nat_le, Option, Some, None, Result, Ok, Err, ◌<◌, ◌≤◌, List, [], ◌∷◌, ◌++◌, length, take, false, true, refl, sym, ap, ◌∙◌, subst, inl, inr, arith, ◌⊎◌, ⊤, AllByRecursion, add-zero, mod-add-div', mul-add-mod_self_right, mul_assoc, false≢true, eqb-true, cases_lt, Block, Live, Free, HeapState, size_of, bytes_of, words_in, is_free, want, Site, block_at, place_of, Outcome, refused, last_tick, named, Call, Allocate, Release, Resize, Write, Read, carved, coalesced, first_free, past_free, before_free, has_serial, with_bytes, overwritten, opened, allocated_words, released, resized_words, written, refitted, room_of, answered, run, words_from, gap_of, aligned_by, aligned_words, words_aligned, resized_or_moved, IsEven, IsEvenFrom, AreEvenFrom, IsEvenCall, with_payload, with_payload_at, Name, Refusal, Worn}
 use Rattle.tlsf_heap.proofs.lemmas.calls.AllocateAligned.{by_words_from, by_gap, gap_fits}
 use Rattle.tlsf_heap.proofs.lemmas.blocks.Coalesce.{by_last}
 use Rattle.tlsf_heap.proofs.lemmas.blocks.Replace.{carved_small, carved_large}

@@ -1,13 +1,5 @@
 -- A released name is never live again.
-use Rattle.std.proofs.Common.{◌≡◌, ◌≢◌, ℕ, ◌+◌, ◌<◌, ◌≤◌, true, nat_le, List, [], ◌∷◌, ◌++◌, Ok, refl, sym, subst, arith}
-use Rattle.std.specs.List.{AllByRecursion}
-use Rattle.std.proofs.lemmas.Bool.{eqb-true, false≢true}
-use Rattle.tlsf_heap.specs.Blocks.{Block, Live, Free, HeapState, size_of, serials, want}
-use Rattle.tlsf_heap.specs.Lawful.{IsLawful}
-use Rattle.tlsf_words.specs.Lists.{AreDistinct}
-use Rattle.tlsf_heap.specs.Calls.{ticked, with_blocks, carved, allocated_words, has_serial, past_free, before_free, coalesced, released, with_bytes, is_sized, refitted, resized_words, room_of, Call, Allocate, Release, Resize, Write, Read, answered, run}
-use Rattle.tlsf_heap.specs.Laws.{IsLive, IsTaken, IsGone}
-use Rattle.tlsf_heap.specs.declared.name.Name.{Name}
+use Rattle.tlsf_heap.proofs.Common.{◌≡◌, ◌≢◌, ℕ, ◌+◌, ◌<◌, ◌≤◌, true, nat_le, List, [], ◌∷◌, ◌++◌, Ok, refl, sym, subst, arith, AllByRecursion, eqb-true, false≢true, Block, Live, Free, HeapState, size_of, serials, want, IsLawful, AreDistinct, ticked, with_blocks, carved, allocated_words, has_serial, past_free, before_free, coalesced, released, with_bytes, is_sized, refitted, resized_words, room_of, Call, Allocate, Release, Resize, Write, Read, answered, run, IsLive, IsTaken, IsGone, Name}
 use Rattle.tlsf_heap.proofs.lemmas.blocks.Find.{and_left}
 use Rattle.tlsf_heap.proofs.lemmas.blocks.Lawful.{all_append, all_left, all_right, all_weaker, serials-append}
 use Rattle.tlsf_heap.proofs.lemmas.blocks.Coalesce.{by_last}

@@ -1,9 +1,5 @@
 -- Which live blocks last: a block at a place, of which something holds that holds of no free block, through the changes that calls make.
-use Rattle.std.proofs.Common.{◌≡◌, ℕ, zero, suc, ◌+◌, ◌<◌, ◌≤◌, List, [], ◌∷◌, ◌++◌, length, take, subst, inl, inr, arith, refl}
-use Rattle.std.specs.Prelude.{◌⊎◌}
-use Rattle.tlsf_heap.specs.Blocks.{Block, Live, Free, size_of, words_in}
-use Rattle.tlsf_heap.specs.Calls.{first_free, past_free, last_free, before_free, coalesced, room_of, is_sized, refitted}
-use Rattle.tlsf_heap.specs.GoodFit.{block_at}
+use Rattle.tlsf_heap.proofs.Common.{◌≡◌, ℕ, zero, suc, ◌+◌, ◌<◌, ◌≤◌, List, [], ◌∷◌, ◌++◌, length, take, subst, inl, inr, arith, refl, ◌⊎◌, Block, Live, Free, size_of, words_in, first_free, past_free, last_free, before_free, coalesced, room_of, is_sized, refitted, block_at}
 use Rattle.tlsf_heap.proofs.lemmas.blocks.Lawful.{words_in-append}
 use Rattle.tlsf_heap.proofs.lemmas.blocks.Coalesce.{by_last}
 use Rattle.tlsf_heap.proofs.lemmas.calls.Outcomes.{by_test}

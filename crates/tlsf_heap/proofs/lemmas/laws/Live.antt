@@ -1,15 +1,5 @@
 -- Which names are live.
-use Rattle.std.proofs.Common.{◌≡◌, ◌≢◌, ℕ, ◌+◌, ◌<◌, Bool, true, cond, nat_le, List, [], ◌∷◌, ◌++◌, ◌&&◌, find, Option, Some, None, Ok, Err, refl, sym, ap, ◌∙◌, subst, inl, inr, arith, append_assoc, eq-eqb}
-use Rattle.std.specs.Prelude.{IsSome}
-use Rattle.std.specs.List.{AllByRecursion}
-use Rattle.std.proofs.lemmas.Bool.{eqb-true, false≢true, cases_lt}
-use Rattle.tlsf_heap.specs.Blocks.{Block, Live, Free, HeapState, size_of, bytes_of, words_in, serials, want}
-use Rattle.tlsf_heap.specs.GoodFit.{Site, sites_behind, place_of, is_fit}
-use Rattle.tlsf_heap.specs.Lawful.{IsLawful}
-use Rattle.tlsf_heap.specs.Calls.{Outcome, refused, is_worn, carved, allocated, allocated_words, has_serial, is_named, named, released, released_at, overwritten, with_bytes, refitted, resized_words, Call, Allocate, Release, Resize, Write, Read, answered}
-use Rattle.tlsf_heap.specs.Laws.{IsLive, IsGiven, IsTaken, TakesBack}
-use Rattle.tlsf_heap.specs.declared.name.Name.{Name}
-use Rattle.tlsf_heap.specs.declared.refusal.Refusal.TheVariants.{Worn, Foreign, Stale}
+use Rattle.tlsf_heap.proofs.Common.{◌≡◌, ◌≢◌, ℕ, ◌+◌, ◌<◌, Bool, true, cond, nat_le, List, [], ◌∷◌, ◌++◌, ◌&&◌, find, Option, Some, None, Ok, Err, refl, sym, ap, ◌∙◌, subst, inl, inr, arith, append_assoc, eq-eqb, IsSome, AllByRecursion, eqb-true, false≢true, cases_lt, Block, Live, Free, HeapState, size_of, bytes_of, words_in, serials, want, Site, sites_behind, place_of, is_fit, IsLawful, Outcome, refused, is_worn, carved, allocated, allocated_words, has_serial, is_named, named, released, released_at, overwritten, with_bytes, refitted, resized_words, Call, Allocate, Release, Resize, Write, Read, answered, IsLive, IsGiven, IsTaken, TakesBack, Name, Worn, Foreign, Stale}
 use Rattle.tlsf_heap.proofs.lemmas.blocks.Find.{and_left, and_right}
 use Rattle.tlsf_heap.proofs.lemmas.laws.Lasting.{HasFrom, moved, in_left, in_right, in_either, edited, released_lasts, refitted_lasts}
 use Rattle.tlsf_heap.proofs.lemmas.blocks.Lawful.{words_in-append}

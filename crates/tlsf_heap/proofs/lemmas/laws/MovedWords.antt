@@ -1,17 +1,5 @@
 -- The words in use over a resize that may move the block.
-use Rattle.std.proofs.Common.{◌≡◌, ◌≢◌, ℕ, ◌+◌, ◌<◌, Result, Ok, Err, [], ◌∷◌, length, take, min, refl, sym, ap, ◌∙◌, subst, inl, inr, arith}
-use Rattle.std.proofs.lemmas.Bool.{cases_lt}
-use Rattle.tlsf_class.specs.Classes.{IsLevel}
-use Rattle.tlsf_heap.specs.Blocks.{HeapState, want}
-use Rattle.tlsf_heap.specs.Calls.{Outcome, Release, Write, refused, last_tick, allocated, released, resized, written}
-use Rattle.tlsf_heap.specs.InPlace.{payload_of}
-use Rattle.tlsf_heap.specs.Lawful.{IsLawful}
-use Rattle.tlsf_heap.specs.Laws.{IsLive}
-use Rattle.tlsf_heap.specs.Moved.{copied, moved, resized_or_moved}
-use Rattle.tlsf_heap.specs.WordsInUse.{words_in_use, words_at}
-use Rattle.tlsf_heap.specs.declared.name.Name.{Name}
-use Rattle.tlsf_heap.specs.declared.refusal.Refusal.{Refusal}
-use Rattle.tlsf_heap.specs.declared.refusal.Refusal.TheVariants.{NoFit, Worn, Foreign, Stale, Range, NoRoom}
+use Rattle.tlsf_heap.proofs.Common.{◌≡◌, ◌≢◌, ℕ, ◌+◌, ◌<◌, Result, Ok, Err, [], ◌∷◌, length, take, min, refl, sym, ap, ◌∙◌, subst, inl, inr, arith, cases_lt, IsLevel, HeapState, want, Outcome, Release, Write, refused, last_tick, allocated, released, resized, written, payload_of, IsLawful, IsLive, copied, moved, resized_or_moved, words_in_use, words_at, Name, Refusal, NoFit, Worn, Foreign, Stale, Range, NoRoom}
 use Rattle.tlsf_heap.proofs.lemmas.laws.Live.{new as fresh_name, kept, kept_resized}
 use Rattle.tlsf_heap.proofs.lemmas.calls.ResizeOrMove.{moved_worn, moved_refused, moved_done, old_lives, new_lives, ticks, release_done, stays, moves, refuses, no_room_live}
 use Rattle.tlsf_heap.proofs.lemmas.calls.Outcomes.{lawful_run, lawful_allocated_words}

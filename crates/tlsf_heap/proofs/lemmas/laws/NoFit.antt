@@ -1,15 +1,5 @@
 -- A request is refused as NoFit where no block fits, and nowhere else.
-use Rattle.std.proofs.Common.{◌≡◌, ℕ, zero, suc, ◌<◌, Bool, true, false, ◌&&◌, cond, List, [], ◌∷◌, length, get_or, find, Option, Some, None, Result, Ok, Err, IsOk, refl, sym, ap, ◌∙◌, arith, eq-eqb}
-use Rattle.std.specs.Prelude.{◌↔◌}
-use Rattle.std.specs.List.{list_all}
-use Rattle.std.proofs.lemmas.Bool.{false≢true, eqb-true}
-use Rattle.std.proofs.lemmas.Bool.Decides.{nat_tests}
-use Rattle.tlsf_heap.specs.Blocks.{Block, HeapState, want}
-use Rattle.tlsf_heap.specs.GoodFit.{Site, fits, is_as_good, choice}
-use Rattle.tlsf_heap.specs.Calls.{Outcome, allocated, allocated_words, allocated_at, is_worn, last_tick, refused}
-use Rattle.tlsf_heap.specs.declared.name.Name.{Name}
-use Rattle.tlsf_heap.specs.declared.refusal.Refusal.{Refusal}
-use Rattle.tlsf_heap.specs.declared.refusal.Refusal.TheVariants.{NoFit, Worn}
+use Rattle.tlsf_heap.proofs.Common.{◌≡◌, ℕ, zero, suc, ◌<◌, Bool, true, false, ◌&&◌, cond, List, [], ◌∷◌, length, get_or, find, Option, Some, None, Result, Ok, Err, IsOk, refl, sym, ap, ◌∙◌, arith, eq-eqb, ◌↔◌, list_all, false≢true, eqb-true, nat_tests, Block, HeapState, want, Site, fits, is_as_good, choice, Outcome, allocated, allocated_words, allocated_at, is_worn, last_tick, refused, Name, Refusal, NoFit, Worn}
 use Rattle.tlsf_heap.proofs.lemmas.calls.Outcomes.{gives_words}
 use Rattle.tlsf_heap.proofs.lemmas.blocks.Sites.{nowhere}
 

@@ -1,15 +1,5 @@
 -- Words of the payload of a name, through each call that isn't about it.
-use Rattle.std.proofs.Common.{◌≡◌, ◌≢◌, ℕ, ◌+◌, ◌<◌, ◌≤◌, true, false, List, [], ◌∷◌, inl, inr, refl, sym, ap, ◌∙◌, subst, arith}
-use Rattle.std.specs.List.{AllByRecursion}
-use Rattle.std.proofs.lemmas.Bool.{false≢true}
-use Rattle.tlsf_heap.specs.Blocks.{Block, Live, Free, HeapState, StandsAt, size_of, bytes_of, is_free, want}
-use Rattle.tlsf_heap.specs.Calls.{allocated_words, released, resized_words, written, has_serial, with_bytes, overwritten, Call, Allocate, Release, Resize, Write, Read, answered, run}
-use Rattle.tlsf_heap.specs.Footprint.{IsLiveWord, IsOthersWord}
-use Rattle.tlsf_heap.specs.GoodFit.{block_at}
-use Rattle.tlsf_heap.specs.Lawful.{IsLawful}
-use Rattle.tlsf_heap.specs.Laws.{IsLive}
-use Rattle.tlsf_heap.specs.Steady.{IsOfOthers, IsPayloadWord}
-use Rattle.tlsf_heap.specs.declared.name.Name.{Name}
+use Rattle.tlsf_heap.proofs.Common.{◌≡◌, ◌≢◌, ℕ, ◌+◌, ◌<◌, ◌≤◌, true, false, List, [], ◌∷◌, inl, inr, refl, sym, ap, ◌∙◌, subst, arith, AllByRecursion, false≢true, Block, Live, Free, HeapState, StandsAt, size_of, bytes_of, is_free, want, allocated_words, released, resized_words, written, has_serial, with_bytes, overwritten, Call, Allocate, Release, Resize, Write, Read, answered, run, IsLiveWord, IsOthersWord, block_at, IsLawful, IsLive, IsOfOthers, IsPayloadWord, Name}
 use Rattle.tlsf_heap.proofs.lemmas.blocks.Find.{and_left}
 use Rattle.tlsf_heap.proofs.lemmas.calls.Alter.{named_of}
 use Rattle.tlsf_heap.proofs.lemmas.calls.Named.{named_stands}

@@ -1,24 +1,10 @@
 -- Payloads that stay through each call that isn't about them.
-use Rattle.std.proofs.Common.{◌≡◌, ◌≢◌, ℕ, ◌+◌, List, [], ◌∷◌, ◌++◌, length, take, true, refl, sym, ◌∙◌, subst, inl, inr, arith, append_assoc, Ok, ap, eq-eqb}
-use Rattle.std.specs.List.{AllByRecursion}
-use Rattle.std.proofs.lemmas.Bool.{false≢true, eqb-true}
-use Rattle.tlsf_heap.specs.Blocks.{Block, Live, Free, HeapState, size_of, words_in, bytes_of, want}
-use Rattle.tlsf_heap.specs.GoodFit.{Site, block_at, is_fit}
-use Rattle.tlsf_heap.specs.Calls.{carved, has_serial, allocated_words, released, resized_words, refitted, is_named, Call, Allocate, Release, Resize, Write, Read, has_bytes, with_bytes, overwritten, allocated, resized, written, read_of, answered, run}
-use Rattle.tlsf_heap.specs.Steady.{Holds, HasPayload, IsOfOthers}
-use Rattle.tlsf_heap.specs.declared.name.Name.{Name}
+use Rattle.tlsf_heap.proofs.Common.{◌≡◌, ◌≢◌, ℕ, ◌+◌, List, [], ◌∷◌, ◌++◌, length, take, true, refl, sym, ◌∙◌, subst, inl, inr, arith, append_assoc, Ok, ap, eq-eqb, AllByRecursion, false≢true, eqb-true, Block, Live, Free, HeapState, size_of, words_in, bytes_of, want, Site, block_at, is_fit, carved, has_serial, allocated_words, released, resized_words, refitted, is_named, Call, Allocate, Release, Resize, Write, Read, has_bytes, with_bytes, overwritten, allocated, resized, written, read_of, answered, run, Holds, HasPayload, IsOfOthers, Name, nat_tests, Image, IsLawful, IsLive, IsGiven, resized_or_moved, IsNamed, unset_from}
 use Rattle.tlsf_heap.proofs.lemmas.blocks.Find.{and_left, and_right}
 use Rattle.tlsf_heap.proofs.lemmas.laws.Lasting.{HasFrom, of_index, to_index, in_left, in_right, in_either, edited, released_lasts, refitted_lasts, moved}
 use Rattle.tlsf_heap.proofs.lemmas.laws.Live.{words_carved, same_name, new_words}
 use Rattle.tlsf_heap.proofs.lemmas.calls.Outcomes.{IsSiteOf, by_allocated_words, by_released, by_resized_words, writes, by_written_named}
 use Rattle.std.proofs.Math.Seq.{take-length}
-use Rattle.std.proofs.lemmas.Bool.Decides.{nat_tests}
-use Rattle.tlsf_heap.specs.Image.{Image}
-use Rattle.tlsf_heap.specs.Lawful.{IsLawful}
-use Rattle.tlsf_heap.specs.Laws.{IsLive, IsGiven}
-use Rattle.tlsf_heap.specs.Moved.{resized_or_moved}
-use Rattle.tlsf_heap.specs.Named.{IsNamed}
-use Rattle.tlsf_heap.specs.Unset.{unset_from}
 use Rattle.tlsf_heap.proofs.lemmas.calls.Named.{live_is}
 use Rattle.tlsf_heap.proofs.lemmas.calls.ResizeOrMove.{by_resized_or_moved}
 use Rattle.tlsf_heap.proofs.lemmas.words.Bytes.{size_of-with_bytes}

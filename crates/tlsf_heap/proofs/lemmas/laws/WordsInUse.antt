@@ -1,24 +1,9 @@
 -- The words in use add up over the calls.
-use Rattle.std.proofs.Common.{◌≡◌, ◌≢◌, Bool, cond, eqb, find, ℕ, suc, false, take, drop, ◌+◌, ◌≤◌, List, [], ◌∷◌, ◌++◌, ◌-◌, length, replicate, true, Option, Some, Ok, refl, sym, ap, ◌∙◌, subst, inl, inr, arith, append_assoc}
-use Rattle.std.specs.Prelude.{◌==◌}
-use Rattle.std.specs.List.{AllByRecursion}
-use Rattle.std.proofs.lemmas.List.Elements.{filter-append}
-use Rattle.std.proofs.lemmas.Bool.{eqb-true, false≢true, cases_lt}
-use Rattle.tlsf_class.specs.Classes.{IsLevel}
-use Rattle.tlsf_heap.specs.Blocks.{Block, Live, Free, HeapState, size_of, words_in, is_free, bytes_of, want}
-use Rattle.tlsf_heap.specs.Calls.{Outcome, carved, ticked, with_blocks, past_free, before_free, has_serial, allocated_words, overwritten, with_bytes, released, resized_words, refitted, room_of, written}
-use Rattle.tlsf_heap.specs.GoodFit.{Site, block_at}
-use Rattle.tlsf_heap.specs.Lawful.{IsLawful, HasRoom}
-use Rattle.tlsf_heap.specs.Laws.{IsLive, IsTaken}
+use Rattle.tlsf_heap.proofs.Common.{◌≡◌, ◌≢◌, Bool, cond, eqb, find, ℕ, suc, false, take, drop, ◌+◌, ◌≤◌, List, [], ◌∷◌, ◌++◌, ◌-◌, length, replicate, true, Option, Some, Ok, refl, sym, ap, ◌∙◌, subst, inl, inr, arith, append_assoc, ◌==◌, AllByRecursion, filter-append, eqb-true, false≢true, cases_lt, IsLevel, Block, Live, Free, HeapState, size_of, words_in, is_free, bytes_of, want, Outcome, carved, ticked, with_blocks, past_free, before_free, has_serial, allocated_words, overwritten, with_bytes, released, resized_words, refitted, room_of, written, Site, block_at, IsLawful, HasRoom, IsLive, IsTaken, IsNamed, live_among, words_in_use, words_held, live_words, words_at, released_by_place, IsLiveAt, Name}
 use Rattle.tlsf_heap.specs.Placed.{placed, placed_from}
-use Rattle.tlsf_heap.specs.Named.{IsNamed}
-use Rattle.tlsf_heap.specs.Reports.{live_among}
-use Rattle.tlsf_heap.specs.WordsInUse.{words_in_use, words_held, live_words, words_at}
-use Rattle.tlsf_heap.specs.ByPlace.{released_by_place, IsLiveAt}
 use Rattle.tlsf_heap.specs.declared.placed_block.PlacedBlock.{PlacedBlock}
 use Rattle.tlsf_heap.proofs.lemmas.laws.Payloads.{lasts_allocated, lasts_released}
 use Rattle.tlsf_heap.proofs.lemmas.blocks.Sums.{words_apart}
-use Rattle.tlsf_heap.specs.declared.name.Name.{Name}
 use Rattle.tlsf_heap.proofs.lemmas.calls.Alter.{named_of}
 use Rattle.tlsf_heap.proofs.lemmas.calls.ByPlace.{name_here, call_found}
 use Rattle.tlsf_heap.proofs.lemmas.blocks.Coalesce.{by_last}

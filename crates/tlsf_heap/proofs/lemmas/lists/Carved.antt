@@ -1,16 +1,5 @@
 -- A free block that becomes a live one, and the lists of the free blocks.
-use Rattle.std.proofs.Common.{◌≡◌, ◌≢◌, ℕ, suc, ◌+◌, ◌-◌, ◌<◌, ◌≤◌, true, List, [], ◌∷◌, ◌++◌, length, take, drop, replicate, Option, Some, None, sym, ap, ◌∙◌, subst, arith, append_assoc}
-use Rattle.std.specs.Prelude.{slice_get, Contains}
-use Rattle.tlsf_class.specs.Classes.{class_of}
-use Rattle.tlsf_heap.specs.Blocks.{Block, Live, Free, size_of, words_in, is_free, stamp_of, StandsAt}
-use Rattle.tlsf_heap.specs.Chosen.{IsHead}
-use Rattle.tlsf_heap.specs.Lawful.{IsRegion}
-use Rattle.tlsf_heap.specs.Regions.{RegionState, AreRegions, AreUnlisted, SameLists, BeginsZero, EachAt, HasAt, IsTagOf, Edits, Rewrites, PutInFront, TakenOut, list_in, withheld_alone}
-use Rattle.tlsf_heap.specs.GoodFit.{block_at, site_at}
-use Rattle.tlsf_heap.specs.Calls.{carved}
-use Rattle.tlsf_heap.specs.FreePlaces.{FreePlace, free_places, AreFreeLists}
-use Rattle.tlsf_words.specs.Lists.{IsUnlisted, without_place}
-use Rattle.tlsf_words.specs.declared.tag.Tag.{Tag}
+use Rattle.tlsf_heap.proofs.Common.{◌≡◌, ◌≢◌, ℕ, suc, ◌+◌, ◌-◌, ◌<◌, ◌≤◌, true, List, [], ◌∷◌, ◌++◌, length, take, drop, replicate, Option, Some, None, sym, ap, ◌∙◌, subst, arith, append_assoc, slice_get, Contains, class_of, Block, Live, Free, size_of, words_in, is_free, stamp_of, StandsAt, IsHead, IsRegion, RegionState, AreRegions, AreUnlisted, SameLists, BeginsZero, EachAt, HasAt, IsTagOf, Edits, Rewrites, PutInFront, TakenOut, list_in, withheld_alone, block_at, site_at, carved, FreePlace, free_places, AreFreeLists, IsUnlisted, without_place, Tag}
 use Rattle.tlsf_heap.proofs.lemmas.words.ClearPayload.{zeroed_block}
 use Rattle.tlsf_heap.proofs.lemmas.blocks.Replace.{carved_small, carved_large}
 use Rattle.tlsf_heap.proofs.lemmas.lists.FreeLists.{AreListed, IsFresh, fresh_both, contains_own, not_listed, same_lists, unlisted_same, taken, given}

@@ -1,22 +1,10 @@
 -- The choice by classes: the free block of the least class that serves a request, which became free last.
-use Rattle.std.proofs.Common.{◌≡◌, ℕ, zero, suc, ◌<◌, ◌≤◌, nat_le, eqb, ◌||◌, Bool, true, false, List, [], ◌∷◌, length, filter, Option, Some, None, refl, sym, ap, ◌∙◌, inl, inr, arith}
-use Rattle.std.specs.Prelude.{slice_get}
-use Rattle.std.specs.List.{list_any}
+use Rattle.tlsf_heap.proofs.Common.{◌≡◌, ℕ, zero, suc, ◌<◌, ◌≤◌, nat_le, eqb, ◌||◌, Bool, true, false, List, [], ◌∷◌, length, filter, Option, Some, None, refl, sym, ap, ◌∙◌, inl, inr, arith, slice_get, list_any, cases_lt, false≢true, and_from, leb-true, le-leb, eq-eqb, nat_tests, IsLevel, class_of, search_of, serves, classes, most_words, Block, Live, Free, size_of, is_free, stamp_of, IsRegion, AreRegions, is_fit, is_as_good, block_at, NoneFits, IsChoice, IsHead, IsBestClass, listed_classes, AreFreeLists}
 use Rattle.std.proofs.lemmas.List.Folds.{list_any_at}
-use Rattle.std.proofs.lemmas.Bool.{cases_lt, false≢true, and_from, leb-true, le-leb, eq-eqb}
-use Rattle.std.proofs.lemmas.Bool.Decides.{nat_tests}
 use Rattle.std.specs.Option.{option_map_or}
-use Rattle.tlsf_class.specs.Classes.{IsLevel, class_of, search_of, serves, classes, most_words}
 use Rattle.tlsf_class.specs.Members.{next_member}
 use Rattle.tlsf_class.proofs.ClassOfSize.{search_of-above, serves-from, class_of-bounds, HasClass}
 use Rattle.tlsf_class.proofs.Members.{filter-classes_same, next_member-filter_is, next_member-filter_is_none, IsNextMember}
-use Rattle.tlsf_heap.specs.Blocks.{Block, Live, Free, size_of, is_free, stamp_of}
-use Rattle.tlsf_heap.specs.Lawful.{IsRegion}
-use Rattle.tlsf_heap.specs.Regions.{AreRegions}
-use Rattle.tlsf_heap.specs.GoodFit.{is_fit, is_as_good, block_at}
-use Rattle.tlsf_heap.specs.Chosen.{NoneFits, IsChoice, IsHead, IsBestClass}
-use Rattle.tlsf_words.specs.Lists.{listed_classes}
-use Rattle.tlsf_heap.specs.FreePlaces.{AreFreeLists}
 use Rattle.tlsf_heap.proofs.lemmas.blocks.Find.{not_true}
 use Rattle.tlsf_heap.proofs.lemmas.lists.Heads.{is_free_of, NoneOf, IsLastFreed, IsLastFreedAt, free_and_of, is_some_list, some_listed, head_is_last}
 

@@ -1,18 +1,5 @@
 -- The list of the free blocks of a class, as free blocks come and go.
-use Rattle.std.proofs.lemmas.List.{map-append}
-use Rattle.std.proofs.Common.{◌≡◌, ◌≢◌, ℕ, zero, suc, ◌<◌, ◌⊎◌, inl, inr, Bool, true, false, cond, eqb, not, List, [], ◌∷◌, ◌++◌, length, get_or, filter, map, refl, sym, ap, ◌∙◌, subst, arith}
-use Rattle.std.specs.Prelude.{Contains, IsPermutation}
-use Rattle.std.specs.List.{AllByRecursion}
-use Rattle.std.proofs.lemmas.Bool.{eqb-true, eq-eqb, false≢true}
-use Rattle.std.proofs.lemmas.List.Elements.{filter-append, Contains-append_left, Contains-append_right, Contains-append_cases}
-use Rattle.std.proofs.lemmas.List.Sorted.{IsPermutation-refl, IsPermutation-sym, IsPermutation-cons, IsPermutation-trans, IsPermutation-middle, Contains-permutation}
-use Rattle.tlsf_class.specs.Classes.{class_of}
-use Rattle.tlsf_heap.specs.Blocks.{Free}
-use Rattle.tlsf_words.specs.Lists.{without_place, IsUnlisted}
-use Rattle.tlsf_heap.specs.Regions.{SameLists, list_in}
-use Rattle.tlsf_heap.specs.FreePlaces.{FreePlace, of_class, AreFalling, IsFreeList, AreFreeLists, ShowsLists}
-use Rattle.tlsf_heap.specs.Stored.{IsStored}
-use Rattle.tlsf_heap.specs.declared.heap.Heap.TheInside.{Inside}
+use Rattle.tlsf_heap.proofs.Common.{map-append, ◌≡◌, ◌≢◌, ℕ, zero, suc, ◌<◌, ◌⊎◌, inl, inr, Bool, true, false, cond, eqb, not, List, [], ◌∷◌, ◌++◌, length, get_or, filter, map, refl, sym, ap, ◌∙◌, subst, arith, Contains, IsPermutation, AllByRecursion, eqb-true, eq-eqb, false≢true, filter-append, Contains-append_left, Contains-append_right, Contains-append_cases, IsPermutation-refl, IsPermutation-sym, IsPermutation-cons, IsPermutation-trans, IsPermutation-middle, Contains-permutation, class_of, Free, without_place, IsUnlisted, SameLists, list_in, FreePlace, of_class, AreFalling, IsFreeList, AreFreeLists, ShowsLists, IsStored, Inside}
 use Rattle.tlsf_heap.proofs.lemmas.blocks.Find.{not_true}
 use Rattle.tlsf_heap.proofs.lemmas.blocks.Lawful.{all_append, all_left, all_right}
 use Rattle.tlsf_heap.proofs.lemmas.lists.Permutations.{Parted, parted, taken_out}

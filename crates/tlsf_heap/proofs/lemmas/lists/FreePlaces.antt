@@ -1,13 +1,5 @@
 -- The free blocks of a list by their places: where they lie, and their classes and stamps.
-use Rattle.std.proofs.Common.{◌≡◌, ℕ, zero, suc, ◌+◌, ◌<◌, ◌≤◌, true, List, [], ◌∷◌, ◌++◌, length, get_or, take, refl, ap, ◌∙◌, subst, arith}
-use Rattle.std.specs.Prelude.{Contains}
-use Rattle.std.specs.List.{AllByRecursion}
-use Rattle.std.proofs.lemmas.Bool.{false≢true}
-use Rattle.tlsf_class.specs.Classes.{class_of}
-use Rattle.tlsf_heap.specs.Blocks.{Block, Live, Free, size_of, words_in, is_free, stamp_of, stamps}
-use Rattle.tlsf_heap.specs.Regions.{AreRegions}
-use Rattle.tlsf_heap.specs.GoodFit.{block_at}
-use Rattle.tlsf_heap.specs.FreePlaces.{FreePlace, free_places}
+use Rattle.tlsf_heap.proofs.Common.{◌≡◌, ℕ, zero, suc, ◌+◌, ◌<◌, ◌≤◌, true, List, [], ◌∷◌, ◌++◌, length, get_or, take, refl, ap, ◌∙◌, subst, arith, Contains, AllByRecursion, false≢true, class_of, Block, Live, Free, size_of, words_in, is_free, stamp_of, stamps, AreRegions, block_at, FreePlace, free_places}
 
 -- the same places, counted from another place
 from_place : (sli a b : ℕ) (blocks : List Block) → a ≡ b → free_places sli a blocks ≡ free_places sli b blocks

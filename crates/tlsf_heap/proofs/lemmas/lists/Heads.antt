@@ -1,14 +1,5 @@
 -- The head of the list of a class: the free block that became free last.
-use Rattle.std.proofs.Common.{◌≡◌, ℕ, suc, ◌+◌, ◌<◌, ◌≤◌, inl, inr, Bool, true, false, cond, eqb, not, ◌||◌, List, [], ◌∷◌, length, map, Option, refl, sym, ap, ◌∙◌, subst, arith}
-use Rattle.std.specs.Prelude.{◌==◌, ◌&&◌, slice_get, Contains, IsPermutation, MatchOption}
-use Rattle.std.specs.List.{list_any}
-use Rattle.std.proofs.lemmas.Bool.{and_parts, and_from, eqb-true, eq-eqb}
-use Rattle.std.proofs.lemmas.Bool.Decides.{nat_tests}
-use Rattle.std.proofs.lemmas.List.Sorted.{IsPermutation-sym, Contains-permutation, length_permutation}
-use Rattle.tlsf_class.specs.Classes.{class_of}
-use Rattle.tlsf_heap.specs.Blocks.{Block, Live, Free, size_of, is_free, stamp_of, StandsAt}
-use Rattle.tlsf_heap.specs.GoodFit.{block_at}
-use Rattle.tlsf_heap.specs.FreePlaces.{FreePlace, free_places, of_class, AreFalling, IsFreeList}
+use Rattle.tlsf_heap.proofs.Common.{◌≡◌, ℕ, suc, ◌+◌, ◌<◌, ◌≤◌, inl, inr, Bool, true, false, cond, eqb, not, ◌||◌, List, [], ◌∷◌, length, map, Option, refl, sym, ap, ◌∙◌, subst, arith, ◌==◌, ◌&&◌, slice_get, Contains, IsPermutation, MatchOption, list_any, and_parts, and_from, eqb-true, eq-eqb, nat_tests, IsPermutation-sym, Contains-permutation, length_permutation, class_of, Block, Live, Free, size_of, is_free, stamp_of, StandsAt, block_at, FreePlace, free_places, of_class, AreFalling, IsFreeList}
 use Rattle.tlsf_heap.proofs.lemmas.blocks.Find.{not_true}
 use Rattle.tlsf_heap.proofs.lemmas.lists.FreePlaces.{place_at, place_listed, listed_place}
 use Rattle.tlsf_heap.proofs.lemmas.lists.FreeLists.{is_of, first_of, first_or_later, at_all, from_filter, to_filter, contains_map}

@@ -1,13 +1,5 @@
 -- The lists of the free blocks when a live block takes the free block behind it in, and is cut.
-use Rattle.std.proofs.Common.{◌≡◌, ◌≢◌, ℕ, suc, ◌+◌, ◌-◌, ◌<◌, ◌≤◌, true, List, [], ◌∷◌, ◌++◌, take, drop, sym, ap, ◌∙◌, subst, arith}
-use Rattle.tlsf_class.specs.Classes.{class_of}
-use Rattle.tlsf_heap.specs.Blocks.{Block, Live, Free, size_of, is_free, bytes_of, StandsAt}
-use Rattle.tlsf_heap.specs.Calls.{first_free, past_free, cut, recut}
-use Rattle.tlsf_heap.specs.FreePlaces.{FreePlace, free_places, AreFreeLists}
-use Rattle.tlsf_heap.specs.GoodFit.{block_at}
-use Rattle.tlsf_heap.specs.Image.{mark_of}
-use Rattle.tlsf_heap.specs.Regions.{AreUnlisted, SameLists}
-use Rattle.tlsf_words.specs.Lists.{IsUnlisted}
+use Rattle.tlsf_heap.proofs.Common.{◌≡◌, ◌≢◌, ℕ, suc, ◌+◌, ◌-◌, ◌<◌, ◌≤◌, true, List, [], ◌∷◌, ◌++◌, take, drop, sym, ap, ◌∙◌, subst, arith, class_of, Block, Live, Free, size_of, is_free, bytes_of, StandsAt, first_free, past_free, cut, recut, FreePlace, free_places, AreFreeLists, block_at, mark_of, AreUnlisted, SameLists, IsUnlisted}
 use Rattle.tlsf_heap.proofs.lemmas.lists.Withheld.{Forgets, IsBetween, between, fresh_behind, left_next}
 use Rattle.tlsf_heap.proofs.lemmas.lists.FreeLists.{AreListed, IsFresh, fresh_both, not_listed, same_lists, unlisted_same, given}
 use Rattle.tlsf_heap.proofs.lemmas.words.Recut.{live_as, cut_small, cut_large}

@@ -1,18 +1,5 @@
 -- A block with other payload bytes or of another size, where it stands among the others, and the lists of the free blocks.
-use Rattle.std.proofs.Common.{◌≡◌, ℕ, suc, ◌+◌, ◌-◌, ◌<◌, ◌≤◌, inl, inr, Bool, true, false, cond, nat_le, nat_lt, eqb, List, [], ◌∷◌, ◌++◌, length, take, drop, refl, sym, ap, ◌∙◌, subst, arith, append_assoc, length-append}
-use Rattle.std.specs.Prelude.{◌&&◌}
-use Rattle.std.proofs.lemmas.Bool.{false≢true, cases_lt}
-use Rattle.std.proofs.lemmas.Bool.Decides.{nat_tests}
-use Rattle.std.proofs.lemmas.List.{drop_at}
-use Rattle.tlsf_words.specs.declared.tag.Tag.{Tag}
-use Rattle.tlsf_heap.specs.Blocks.{Block, Live, Free, size_of, words_in, is_free, bytes_of, stamps, words_for, StandsAt}
-use Rattle.std.specs.List.{AllByRecursion}
-use Rattle.tlsf_heap.specs.Lawful.{HasRoom}
-use Rattle.tlsf_heap.specs.Calls.{first_free, past_free, with_bytes, fitted, recut, refitted}
-use Rattle.tlsf_heap.specs.FreePlaces.{FreePlace, free_places, AreFreeLists}
-use Rattle.tlsf_heap.specs.GoodFit.{Site, block_at, site_at, place_of}
-use Rattle.tlsf_heap.specs.Image.{mark_of}
-use Rattle.tlsf_heap.specs.Regions.{IsTagOf, IsTagBehind, SameLists}
+use Rattle.tlsf_heap.proofs.Common.{◌≡◌, ℕ, suc, ◌+◌, ◌-◌, ◌<◌, ◌≤◌, inl, inr, Bool, true, false, cond, nat_le, nat_lt, eqb, List, [], ◌∷◌, ◌++◌, length, take, drop, refl, sym, ap, ◌∙◌, subst, arith, append_assoc, length-append, ◌&&◌, false≢true, cases_lt, nat_tests, drop_at, Tag, Block, Live, Free, size_of, words_in, is_free, bytes_of, stamps, words_for, StandsAt, AllByRecursion, HasRoom, first_free, past_free, with_bytes, fitted, recut, refitted, FreePlace, free_places, AreFreeLists, Site, block_at, site_at, place_of, mark_of, IsTagOf, IsTagBehind, SameLists}
 use Rattle.tlsf_heap.proofs.lemmas.blocks.Lawful.{stamps-append, all_right}
 use Rattle.tlsf_heap.proofs.lemmas.lists.FreeLists.{AreListed, same_lists}
 use Rattle.tlsf_heap.proofs.lemmas.words.Bytes.{size_of-with_bytes, is_free-with_bytes}

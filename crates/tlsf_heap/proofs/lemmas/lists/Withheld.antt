@@ -1,16 +1,5 @@
 -- The lists of the free blocks when a live block becomes one with its free neighbours.
-use Rattle.std.proofs.Common.{◌≡◌, ◌≢◌, ℕ, zero, suc, ◌+◌, ◌-◌, ◌<◌, ◌≤◌, true, false, List, [], ◌∷◌, ◌++◌, length, take, drop, refl, sym, ap, ◌∙◌, subst, arith, append_assoc}
-use Rattle.std.specs.Prelude.{Contains}
-use Rattle.std.proofs.lemmas.Bool.{false≢true}
-use Rattle.tlsf_class.specs.Classes.{class_of}
-use Rattle.tlsf_heap.specs.Blocks.{Block, Live, Free, size_of, words_in, is_free, StandsAt}
-use Rattle.tlsf_heap.specs.Lawful.{IsRegion}
-use Rattle.tlsf_heap.specs.Regions.{RegionState, AreRegions, AreTagsAround, AreUnlisted, EachAt, SameLists, TakenOut, list_in, withheld}
-use Rattle.tlsf_heap.specs.GoodFit.{block_at, site_at}
-use Rattle.tlsf_words.specs.Lists.{without_place}
-use Rattle.tlsf_words.specs.declared.tag.Tag.{Tag}
-use Rattle.tlsf_heap.specs.Calls.{coalesced, first_free, past_free, last_free, before_free}
-use Rattle.tlsf_heap.specs.FreePlaces.{FreePlace, free_places, AreFreeLists}
+use Rattle.tlsf_heap.proofs.Common.{◌≡◌, ◌≢◌, ℕ, zero, suc, ◌+◌, ◌-◌, ◌<◌, ◌≤◌, true, false, List, [], ◌∷◌, ◌++◌, length, take, drop, refl, sym, ap, ◌∙◌, subst, arith, append_assoc, Contains, false≢true, class_of, Block, Live, Free, size_of, words_in, is_free, StandsAt, IsRegion, RegionState, AreRegions, AreTagsAround, AreUnlisted, EachAt, SameLists, TakenOut, list_in, withheld, block_at, site_at, without_place, Tag, coalesced, first_free, past_free, last_free, before_free, FreePlace, free_places, AreFreeLists}
 use Rattle.tlsf_heap.proofs.lemmas.blocks.Replace.{first_free-words}
 use Rattle.tlsf_heap.proofs.lemmas.lists.FreeLists.{AreListed, IsFresh, fresh_both, contains_own, not_listed, same_lists, taken, given}
 use Rattle.tlsf_heap.proofs.lemmas.blocks.Around.{Around, around, around_first, around_last, one_index, block_around, stands_around, words_around, region_around, regions_front, regions_back, next_is, next_none, last_is, last_none, last_words, past_regions, before_regions, place, places_behind, fresh_front, fresh_back, ArePast, past_around, newest, past_past, before_past}

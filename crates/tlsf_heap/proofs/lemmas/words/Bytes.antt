@@ -1,16 +1,7 @@
 -- Payload bytes, as the words of a region have them, and what a write of some leaves.
-use Rattle.std.proofs.Common.{◌≡◌, ℕ, ◌+◌, ◌-◌, ◌*◌, ◌^◌, ◌<◌, ◌≤◌, Bool, false, List, ◌∷◌, [], ◌++◌, length, get_or, take, drop, inl, inr, refl, sym, ap, ◌∙◌, arith, rules, length-take, length-drop, get_or-take, get_or-drop, ext_get_or}
-use Rattle.std.proofs.lemmas.Bool.{false≢true, cases_lt}
-use Rattle.std.proofs.lemmas.List.{places}
+use Rattle.tlsf_heap.proofs.Common.{◌≡◌, ℕ, ◌+◌, ◌-◌, ◌*◌, ◌^◌, ◌<◌, ◌≤◌, Bool, false, List, ◌∷◌, [], ◌++◌, length, get_or, take, drop, inl, inr, refl, sym, ap, ◌∙◌, arith, rules, length-take, length-drop, get_or-take, get_or-drop, ext_get_or, false≢true, cases_lt, places, byte_in, bytes_in, payload_byte, Image, mark_of, HoldsPayload, Shows, tag_word, size_in, last_in, back_in, length_word, low_half, Block, Live, Free, size_of, is_free, bytes_of, StandsAt, overwritten, with_bytes, block_at, HasRoom}
 use Rattle.std.proofs.lemmas.List.FromFn.{length-map-range_with_len, get_or-map-range_with_len}
-use Rattle.tlsf_words.specs.Bytes.{byte_in, bytes_in, payload_byte}
-use Rattle.tlsf_heap.specs.Image.{Image, mark_of, HoldsPayload, Shows}
-use Rattle.tlsf_words.specs.Fields.{tag_word, size_in, last_in, back_in, length_word, low_half}
 use Rattle.tlsf_words.proofs.FieldLaws.{tag_word-fields, low_half-length_word}
-use Rattle.tlsf_heap.specs.Blocks.{Block, Live, Free, size_of, is_free, bytes_of, StandsAt}
-use Rattle.tlsf_heap.specs.Calls.{overwritten, with_bytes}
-use Rattle.tlsf_heap.specs.GoodFit.{block_at}
-use Rattle.tlsf_heap.specs.Lawful.{HasRoom}
 use Rattle.tlsf_heap.proofs.lemmas.words.Image.{word_at, shown_here, room_here}
 use Rattle.tlsf_heap.proofs.lemmas.words.Says.{at_index, says_here}
 use Rattle.tlsf_heap.proofs.lemmas.words.Edit.{Leaves, leaves, one_changed}

@@ -1,11 +1,6 @@
 -- What a check of blocks finds, from one block to the next.
-use Rattle.std.proofs.Common.{◌≡◌, ℕ, zero, suc, ◌+◌, ◌<◌, Bool, List, ◌∷◌, ap, ◌∙◌, subst, sym, arith}
-use Rattle.tlsf_words.specs.Memory.{Memory}
-use Rattle.tlsf_words.specs.Touched.{times}
+use Rattle.tlsf_heap.proofs.Common.{◌≡◌, ℕ, zero, suc, ◌+◌, ◌<◌, Bool, List, ◌∷◌, ap, ◌∙◌, subst, sym, arith, Memory, times, Image, Begins, IsSound, AreSound, OnlyLooks, OnlyHeaders, end_at, image_of}
 use Rattle.tlsf_words.proofs.Touching.{times_other}
-use Rattle.tlsf_heap.specs.Image.{Image}
-use Rattle.tlsf_heap.specs.Checks.{Begins, IsSound, AreSound, OnlyLooks, OnlyHeaders, end_at}
-use Rattle.tlsf_heap.specs.Regions.{image_of}
 
 -- one more sound block
 pub sound_next : (m : Image) (count from at : ℕ) → AreSound m count from at → IsSound m at → AreSound m (suc count) from (end_at m at)

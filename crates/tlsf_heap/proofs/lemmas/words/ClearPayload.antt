@@ -1,16 +1,6 @@
 -- A payload whose words are made zero behind its first one, which is: the words show the block with zeros.
-use Rattle.std.proofs.Common.{◌≡◌, ℕ, ◌+◌, ◌*◌, ◌/◌, ◌<◌, ◌≤◌, Bool, List, [], ◌∷◌, ◌++◌, length, get_or, take, drop, replicate, inl, inr, refl, sym, ap, ◌∙◌, arith, ext_get_or}
-use Rattle.std.proofs.lemmas.Bool.{false≢true, cases_lt}
-use Rattle.std.proofs.lemmas.List.{length-replicate, get_or-replicate}
-use Rattle.tlsf_words.specs.Bytes.{bytes_in}
-use Rattle.tlsf_words.specs.Fields.{tag_word, size_in, last_in, back_in}
-use Rattle.tlsf_words.specs.Lists.{ListHeads}
+use Rattle.tlsf_heap.proofs.Common.{◌≡◌, ℕ, ◌+◌, ◌*◌, ◌/◌, ◌<◌, ◌≤◌, Bool, List, [], ◌∷◌, ◌++◌, length, get_or, take, drop, replicate, inl, inr, refl, sym, ap, ◌∙◌, arith, ext_get_or, false≢true, cases_lt, length-replicate, get_or-replicate, bytes_in, tag_word, size_in, last_in, back_in, ListHeads, Block, bytes_of, StandsAt, with_bytes, block_at, Image, Shows, RegionState, AwaitsZeros}
 use Rattle.tlsf_words.proofs.FieldLaws.{tag_word-fields}
-use Rattle.tlsf_heap.specs.Blocks.{Block, bytes_of, StandsAt}
-use Rattle.tlsf_heap.specs.Calls.{with_bytes}
-use Rattle.tlsf_heap.specs.GoodFit.{block_at}
-use Rattle.tlsf_heap.specs.Image.{Image, Shows}
-use Rattle.tlsf_heap.specs.Regions.{RegionState, AwaitsZeros}
 use Rattle.tlsf_heap.proofs.lemmas.words.Edit.{Leaves, leaves, one_changed}
 use Rattle.tlsf_heap.proofs.lemmas.words.Links.{HoldsState, Relists}
 use Rattle.tlsf_heap.proofs.lemmas.words.Bytes.{length-bytes_in, get_or-bytes_in, held_bytes, size_of-with_bytes, is_free-with_bytes, mark_of-with_bytes, room-with_bytes, holds-with_bytes}

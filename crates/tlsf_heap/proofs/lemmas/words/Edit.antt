@@ -1,17 +1,6 @@
 -- What an edit of the words of a region leaves.
-use Rattle.std.proofs.Common.{◌≡◌, ◌≢◌, ℕ, ◌+◌, ◌<◌, ◌≤◌, Bool, inl, inr, false, List, [], ◌∷◌, ◌++◌, length, get_or, set, take, drop, refl, sym, ap, ◌∙◌, subst, arith}
-use Rattle.std.specs.List.{AllByRecursion}
-use Rattle.std.proofs.lemmas.List.{length-set, get_or-set_other, set-get_or}
-use Rattle.std.proofs.lemmas.Bool.{cases_lt}
-use Rattle.tlsf_heap.specs.Image.{Image, mark_of, HoldsPayload, BlockAt, ShowsFrom, back_behind, Shows}
-use Rattle.tlsf_words.specs.Fields.{tag_word, size_in, last_in, free_in, back_in}
+use Rattle.tlsf_heap.proofs.Common.{◌≡◌, ◌≢◌, ℕ, ◌+◌, ◌<◌, ◌≤◌, Bool, inl, inr, false, List, [], ◌∷◌, ◌++◌, length, get_or, set, take, drop, refl, sym, ap, ◌∙◌, subst, arith, AllByRecursion, length-set, get_or-set_other, set-get_or, cases_lt, Image, mark_of, HoldsPayload, BlockAt, ShowsFrom, back_behind, Shows, tag_word, size_in, last_in, free_in, back_in, Block, size_of, words_in, is_free, StandsAt, block_at, with_back, nowhere, blocks_of, HasRoom}
 use Rattle.tlsf_words.proofs.FieldLaws.{tag_word-fields}
-use Rattle.tlsf_heap.specs.Blocks.{Block, size_of, words_in, is_free, StandsAt}
-use Rattle.tlsf_heap.specs.GoodFit.{block_at}
-use Rattle.tlsf_heap.specs.Headers.{with_back}
-use Rattle.tlsf_words.specs.Lists.{nowhere}
-use Rattle.tlsf_heap.specs.Read.{blocks_of}
-use Rattle.tlsf_heap.specs.Lawful.{HasRoom}
 use Rattle.tlsf_heap.proofs.lemmas.words.Image.{word_at, start_at, blocks_replaced}
 use Rattle.tlsf_heap.proofs.lemmas.blocks.Stands.{around, stands_next, back_next}
 use Rattle.tlsf_heap.proofs.lemmas.blocks.Neighbours.{ends_last}

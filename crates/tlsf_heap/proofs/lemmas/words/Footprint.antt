@@ -1,18 +1,10 @@
 -- Words of payloads: where they lie, and that a change of other blocks leaves them so.
-use Rattle.std.specs.Prelude.{◌⊎◌}
-use Rattle.std.proofs.Common.{◌++◌, ◌≡◌, ◌≢◌, ℕ, suc, ◌+◌, ◌-◌, ◌<◌, ◌≤◌, List, ◌∷◌, true, false, inl, inr, refl, sym, ap, ◌∙◌, subst, arith, take, drop, length, append_assoc}
-use Rattle.std.proofs.lemmas.Bool.{false≢true, cases_lt}
-use Rattle.tlsf_heap.specs.Blocks.{Block, Live, Free, is_free, words_in, size_of, StandsAt}
-use Rattle.tlsf_heap.specs.GoodFit.{block_at, site_at}
-use Rattle.tlsf_heap.specs.Footprint.{IsWordOf, LeavesLive, IsLiveWord, IsOthersWord}
-use Rattle.tlsf_heap.specs.Image.{Image, Shows}
-use Rattle.tlsf_heap.specs.Calls.{first_free, past_free, last_free, coalesced, cut, recut}
+use Rattle.tlsf_heap.proofs.Common.{◌⊎◌, ◌++◌, ◌≡◌, ◌≢◌, ℕ, suc, ◌+◌, ◌-◌, ◌<◌, ◌≤◌, List, ◌∷◌, true, false, inl, inr, refl, sym, ap, ◌∙◌, subst, arith, take, drop, length, append_assoc, false≢true, cases_lt, Block, Live, Free, is_free, words_in, size_of, StandsAt, block_at, site_at, IsWordOf, LeavesLive, IsLiveWord, IsOthersWord, Image, Shows, first_free, past_free, last_free, coalesced, cut, recut, times}
 use Rattle.tlsf_heap.proofs.lemmas.words.Says.{says_here}
 use Rattle.tlsf_heap.proofs.lemmas.words.Recut.{cut_small, cut_large}
 use Rattle.tlsf_heap.proofs.lemmas.blocks.Neighbours.{place_behind}
 use Rattle.tlsf_heap.proofs.lemmas.laws.Lasting.{HasFrom, of_index, to_index, moved, in_left, in_right, in_either, past_lasts, released_lasts}
 use Rattle.tlsf_heap.proofs.lemmas.blocks.Around.{Around, around, around_first, around_last, stands_around, block_around, last_words}
-use Rattle.tlsf_words.specs.Touched.{times}
 use Rattle.tlsf_words.proofs.Touching.{times_other}
 use Rattle.tlsf_heap.proofs.lemmas.blocks.Order.{ends_before}
 

@@ -1,15 +1,5 @@
 -- A live block that becomes free, alone or with its free neighbours: the words show the blocks, and leave the lists.
-use Rattle.std.proofs.Common.{◌≡◌, ℕ, suc, ◌+◌, ◌-◌, false, true, eqb, List, [], ◌∷◌, length, take, drop, sym, ap, ◌∙◌, refl, subst, arith}
-use Rattle.std.specs.List.{AllByRecursion}
-use Rattle.tlsf_words.specs.Lists.{ListHeads, nowhere}
-use Rattle.tlsf_words.specs.declared.tag.Tag.{Tag}
-use Rattle.tlsf_heap.specs.Blocks.{Block, Free, size_of, words_in, StandsAt}
-use Rattle.tlsf_heap.specs.Calls.{coalesced, first_free, last_free, before_free}
-use Rattle.tlsf_heap.specs.GoodFit.{Site, block_at, site_at, place_of}
-use Rattle.tlsf_heap.specs.Headers.{HasFree, Merges, OnlyFrom, with_back, without_start}
-use Rattle.tlsf_heap.specs.Image.{Image, Shows, back_behind}
-use Rattle.tlsf_heap.specs.Lawful.{HasRoom}
-use Rattle.tlsf_heap.specs.Regions.{RegionState, AreNeighbours, AreTagsAround, AreUnlisted, IsTagOf, list_in}
+use Rattle.tlsf_heap.proofs.Common.{◌≡◌, ℕ, suc, ◌+◌, ◌-◌, false, true, eqb, List, [], ◌∷◌, length, take, drop, sym, ap, ◌∙◌, refl, subst, arith, AllByRecursion, ListHeads, nowhere, Tag, Block, Free, size_of, words_in, StandsAt, coalesced, first_free, last_free, before_free, Site, block_at, site_at, place_of, HasFree, Merges, OnlyFrom, with_back, without_start, Image, Shows, back_behind, HasRoom, RegionState, AreNeighbours, AreTagsAround, AreUnlisted, IsTagOf, list_in}
 use Rattle.tlsf_heap.proofs.lemmas.blocks.Coalesce.{by_last}
 use Rattle.tlsf_heap.proofs.lemmas.words.Edit.{next_same}
 use Rattle.tlsf_heap.proofs.lemmas.blocks.Lawful.{all_left, all_right}

@@ -1,11 +1,5 @@
 -- In how many groups of eight words the words lie that stand in a row.
-use Rattle.std.specs.Prelude.{◌⊎◌, Contains}
-use Rattle.std.proofs.Common.{◌≡◌, ◌≢◌, ℕ, zero, suc, ◌+◌, ◌*◌, ◌-◌, ◌/◌, ◌<◌, ◌≤◌, List, [], ◌∷◌, ◌++◌, length, refl, sym, ap, ◌∙◌, subst, inl, inr, arith}
-use Rattle.std.proofs.lemmas.Bool.{cases_lt}
-use Rattle.std.proofs.lemmas.List.{length-append}
-use Rattle.std.proofs.lemmas.List.Elements.{Contains-append_left, Contains-append_right}
-use Rattle.tlsf_words.specs.Touched.{times, InGroups}
-use Rattle.tlsf_heap.specs.Touched.{groups_of}
+use Rattle.tlsf_heap.proofs.Common.{◌⊎◌, Contains, ◌≡◌, ◌≢◌, ℕ, zero, suc, ◌+◌, ◌*◌, ◌-◌, ◌/◌, ◌<◌, ◌≤◌, List, [], ◌∷◌, ◌++◌, length, refl, sym, ap, ◌∙◌, subst, inl, inr, arith, cases_lt, length-append, Contains-append_left, Contains-append_right, times, InGroups, groups_of}
 
 -- so many numbers from one on
 numbers : ℕ → ℕ → List ℕ

@@ -1,8 +1,5 @@
 -- What the writes of a header leave.
-use Rattle.std.proofs.Common.{◌≡◌, Bool, false, eqb, ℕ, ◌+◌, ◌<◌, ◌≤◌, ◌^◌, List, ◌++◌, length, get_or, take, drop, replicate, ◌∙◌, sym, arith, length-take-le, length-append, get_or-take}
-use Rattle.std.proofs.lemmas.Bool.{eqb-false}
-use Rattle.std.proofs.lemmas.List.{get_or_append_left}
-use Rattle.tlsf_words.specs.Fields.{size_in, low_half}
+use Rattle.tlsf_heap.proofs.Common.{◌≡◌, Bool, false, eqb, ℕ, ◌+◌, ◌<◌, ◌≤◌, ◌^◌, List, ◌++◌, length, get_or, take, drop, replicate, ◌∙◌, sym, arith, length-take-le, length-append, get_or-take, eqb-false, get_or_append_left, size_in, low_half}
 
 -- a header says a size below 2^30
 pub size_in_below : (word : ℕ) → size_in word < 2 ^ 30

@@ -1,20 +1,6 @@
 -- What words that show blocks say of each block, and which words may change.
-use Rattle.std.proofs.Common.{◌≡◌, ℕ, zero, suc, ◌+◌, ◌/◌, ◌%◌, ◌^◌, ◌*◌, ◌<◌, ◌≤◌, Bool, true, false, cond, ltb, List, [], ◌∷◌, ◌++◌, length, take, drop, get_or, inl, inr, refl, sym, ap, ◌∙◌, subst, arith, map, append_assoc, add_assoc, add-zero, zero-add}
-use Rattle.std.specs.Prelude.{◌==◌}
-use Rattle.std.specs.List.{AllByRecursion, range_with_len}
-use Rattle.std.proofs.lemmas.List.{take-append-drop, drop_more}
-use Rattle.std.proofs.lemmas.Bool.{false≢true, cases_lt}
-use Rattle.std.proofs.lemmas.Bool.Decides.{nat_tests}
-use Rattle.tlsf_heap.specs.Image.{Image, HoldsPayload, BlockAt, ShowsFrom, back_behind, Shows}
-use Rattle.tlsf_words.specs.Fields.{tag_word, size_in, free_in, low_half}
+use Rattle.tlsf_heap.proofs.Common.{◌≡◌, ℕ, zero, suc, ◌+◌, ◌/◌, ◌%◌, ◌^◌, ◌*◌, ◌<◌, ◌≤◌, Bool, true, false, cond, ltb, List, [], ◌∷◌, ◌++◌, length, take, drop, get_or, inl, inr, refl, sym, ap, ◌∙◌, subst, arith, map, append_assoc, add_assoc, add-zero, zero-add, ◌==◌, AllByRecursion, range_with_len, take-append-drop, drop_more, false≢true, cases_lt, nat_tests, Image, HoldsPayload, BlockAt, ShowsFrom, back_behind, Shows, tag_word, size_in, free_in, low_half, Block, Live, Free, size_of, words_in, is_free, StandsAt, IsPlace, HasRoom, block_at, with_back, byte_in, bytes_in, nowhere, block_in, blocks_from, blocks_of}
 use Rattle.tlsf_words.proofs.FieldLaws.{size_in-tag_word, last_in-tag_word, free_in-tag_word, low_half-length_word}
-use Rattle.tlsf_heap.specs.Blocks.{Block, Live, Free, size_of, words_in, is_free, StandsAt, IsPlace}
-use Rattle.tlsf_heap.specs.Lawful.{HasRoom}
-use Rattle.tlsf_heap.specs.GoodFit.{block_at}
-use Rattle.tlsf_heap.specs.Headers.{with_back}
-use Rattle.tlsf_words.specs.Bytes.{byte_in, bytes_in}
-use Rattle.tlsf_words.specs.Lists.{nowhere}
-use Rattle.tlsf_heap.specs.Read.{block_in, blocks_from, blocks_of}
 use Rattle.tlsf_heap.proofs.lemmas.blocks.Lawful.{words_in-append, all_append, all_left, all_right}
 
 -- the word at a place

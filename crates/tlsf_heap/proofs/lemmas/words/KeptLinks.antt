@@ -1,12 +1,5 @@
 -- What other payload bytes leave of the free lists of a region.
-use Rattle.std.proofs.Common.{◌≡◌, ℕ, ◌+◌, ◌*◌, ◌≤◌, ◌⊎◌, inl, inr, true, List, [], ◌∷◌, ◌++◌, length, take, drop, ◌∙◌, arith}
-use Rattle.tlsf_heap.specs.Image.{Image}
-use Rattle.tlsf_words.specs.Bytes.{payload_byte}
-use Rattle.tlsf_words.specs.Lists.{ListHeads}
-use Rattle.tlsf_heap.specs.Blocks.{Block, size_of, is_free, bytes_of, StandsAt}
-use Rattle.tlsf_heap.specs.GoodFit.{block_at}
-use Rattle.tlsf_heap.specs.Calls.{with_bytes}
-use Rattle.tlsf_heap.specs.Regions.{RegionState, list_in}
+use Rattle.tlsf_heap.proofs.Common.{◌≡◌, ℕ, ◌+◌, ◌*◌, ◌≤◌, ◌⊎◌, inl, inr, true, List, [], ◌∷◌, ◌++◌, length, take, drop, ◌∙◌, arith, Image, payload_byte, ListHeads, Block, size_of, is_free, bytes_of, StandsAt, block_at, with_bytes, RegionState, list_in}
 use Rattle.tlsf_heap.proofs.lemmas.words.Image.{word_at, room_here}
 use Rattle.tlsf_heap.proofs.lemmas.blocks.Stands.{around}
 use Rattle.tlsf_heap.proofs.lemmas.words.Bytes.{held_within, size_of-with_bytes, is_free-with_bytes}

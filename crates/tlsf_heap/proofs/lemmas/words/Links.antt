@@ -1,24 +1,10 @@
 -- The free lists of a region, and what an edit of its words leaves of them.
-use Rattle.std.proofs.Common.{◌≡◌, ◌≢◌, ℕ, suc, zero, ◌+◌, ◌<◌, ◌≤◌, ◌⊎◌, inl, inr, Bool, true, List, [], ◌∷◌, ◌++◌, length, take, get_or, refl, sym, ap, ◌∙◌, subst, arith, append_assoc}
-use Rattle.std.specs.Prelude.{◌==◌, Contains}
-use Rattle.std.specs.List.{AllByRecursion}
+use Rattle.tlsf_heap.proofs.Common.{◌≡◌, ◌≢◌, ℕ, suc, zero, ◌+◌, ◌<◌, ◌≤◌, ◌⊎◌, inl, inr, Bool, true, List, [], ◌∷◌, ◌++◌, length, take, get_or, refl, sym, ap, ◌∙◌, subst, arith, append_assoc, ◌==◌, Contains, AllByRecursion, false≢true, cases_eq, cases_order, classes, Extents, tag_word, Image, HoldsPayload, StartsOnce, BlockAt, ShowsFrom, Shows, ListHeads, nowhere, places_from, list_of, without_place, LinkedFrom, AreThreaded, OnlyLinksChange, Block, Live, Free, size_of, words_in, is_free, StandsAt, block_at, blocks_of, HasRoom, AreMarked, RegionState, SameLists, AreUnlisted, AreLinked, list_in}
 use Rattle.std.proofs.Math.ListN.{get_or-map}
-use Rattle.std.proofs.lemmas.Bool.{false≢true, cases_eq, cases_order}
-use Rattle.tlsf_class.specs.Classes.{classes}
-use Rattle.tlsf_words.specs.Memory.{Extents}
-use Rattle.tlsf_words.specs.Fields.{tag_word}
-use Rattle.tlsf_heap.specs.Image.{Image, HoldsPayload, StartsOnce, BlockAt, ShowsFrom, Shows}
-use Rattle.tlsf_words.specs.Lists.{ListHeads, nowhere, places_from, list_of, without_place, LinkedFrom, AreThreaded, OnlyLinksChange}
 use Rattle.tlsf_words.proofs.ListedClasses.{are_some, some-cons}
 use Rattle.tlsf_words.proofs.PlaceLists.{member_cases, without_within}
 use Rattle.tlsf_words.proofs.Threads.{kept}
-use Rattle.tlsf_heap.specs.Blocks.{Block, Live, Free, size_of, words_in, is_free, StandsAt}
-use Rattle.tlsf_heap.specs.GoodFit.{block_at}
-use Rattle.tlsf_heap.specs.Read.{blocks_of}
-use Rattle.tlsf_heap.specs.Lawful.{HasRoom}
-use Rattle.tlsf_heap.specs.FreePlaces.{AreMarked}
 use Rattle.tlsf_heap.specs.Listed.{AreFreeBlocks, lists_of, HoldsLists}
-use Rattle.tlsf_heap.specs.Regions.{RegionState, SameLists, AreUnlisted, AreLinked, list_in}
 use Rattle.tlsf_heap.proofs.lemmas.lists.FreeLists.{from_filter, to_filter}
 use Rattle.tlsf_heap.proofs.lemmas.blocks.Order.{ends_before}
 use Rattle.tlsf_heap.proofs.lemmas.words.Image.{Replaces, word_at, least, same_payload, four_here, blocks_of-shown, blocks_replaced}

@@ -1,15 +1,5 @@
 -- The words of a region whose block was merged with its free neighbours show the one block.
-use Rattle.std.proofs.Common.{◌≡◌, ℕ, zero, suc, ◌+◌, ◌-◌, ◌<◌, ◌≤◌, inl, inr, Bool, true, false, cond, eqb, List, [], ◌∷◌, ◌++◌, length, take, drop, get_or, set, refl, sym, ap, ◌∙◌, subst, arith, append_assoc, length-append}
-use Rattle.std.proofs.lemmas.Bool.{cases_lt, cases_order, ne_eqb}
-use Rattle.std.proofs.lemmas.List.{length-set, get_or-set_same, get_or-set_other}
-use Rattle.tlsf_heap.specs.Image.{Image, BlockAt, StartsOnce, back_behind, Shows}
-use Rattle.tlsf_words.specs.Lists.{nowhere}
-use Rattle.tlsf_heap.specs.Blocks.{Block, Free, size_of, words_in, StandsAt}
-use Rattle.tlsf_heap.specs.Calls.{first_free, past_free, last_free, before_free, coalesced}
-use Rattle.tlsf_heap.specs.GoodFit.{block_at, site_at, place_of}
-use Rattle.tlsf_heap.specs.Headers.{Merges, without_start}
-use Rattle.tlsf_heap.specs.Regions.{AreNeighbours}
-use Rattle.tlsf_words.specs.declared.tag.Tag.{Tag}
+use Rattle.tlsf_heap.proofs.Common.{◌≡◌, ℕ, zero, suc, ◌+◌, ◌-◌, ◌<◌, ◌≤◌, inl, inr, Bool, true, false, cond, eqb, List, [], ◌∷◌, ◌++◌, length, take, drop, get_or, set, refl, sym, ap, ◌∙◌, subst, arith, append_assoc, length-append, cases_lt, cases_order, ne_eqb, length-set, get_or-set_same, get_or-set_other, Image, BlockAt, StartsOnce, back_behind, Shows, nowhere, Block, Free, size_of, words_in, StandsAt, first_free, past_free, last_free, before_free, coalesced, block_at, site_at, place_of, Merges, without_start, AreNeighbours, Tag}
 use Rattle.tlsf_heap.proofs.lemmas.blocks.Lawful.{words_in-append}
 use Rattle.tlsf_heap.proofs.lemmas.words.Image.{Replaces, start_at}
 use Rattle.tlsf_heap.proofs.lemmas.words.Says.{says_here}

@@ -1,9 +1,5 @@
 -- A payload of another length: the bytes that stay, and the zeros behind them.
-use Rattle.std.proofs.Common.{◌≡◌, ◌≢◌, ℕ, ◌+◌, ◌-◌, ◌*◌, ◌/◌, ◌<◌, ◌≤◌, List, length, get_or, set, take, replicate, inl, inr, sym, ◌∙◌, arith, length-append, length-take, get_or-take, ext_get_or, refl}
-use Rattle.std.proofs.lemmas.Bool.{cases_lt}
-use Rattle.std.proofs.lemmas.List.{places, length-replicate, get_or-set_other}
-use Rattle.tlsf_words.specs.Bytes.{byte_in, bytes_in}
-use Rattle.tlsf_heap.specs.Calls.{fitted}
+use Rattle.tlsf_heap.proofs.Common.{◌≡◌, ◌≢◌, ℕ, ◌+◌, ◌-◌, ◌*◌, ◌/◌, ◌<◌, ◌≤◌, List, length, get_or, set, take, replicate, inl, inr, sym, ◌∙◌, arith, length-append, length-take, get_or-take, ext_get_or, refl, cases_lt, places, length-replicate, get_or-set_other, byte_in, bytes_in, fitted}
 use Rattle.tlsf_heap.proofs.lemmas.words.Bytes.{length-bytes_in, get_or-bytes_in}
 use Rattle.tlsf_heap.proofs.lemmas.words.Zeros.{same_byte}
 

@@ -1,26 +1,7 @@
 -- A block whose header says another length of its payload: no other word changes, so its bytes are those that lie there.
-use Rattle.std.proofs.Common.{◌≡◌, ℕ, suc, ◌+◌, ◌*◌, ◌/◌, ◌<◌, ◌≤◌, Bool, true, false, List, ◌∷◌, [], ◌++◌, length, take, drop, inl, inr, sym, ap, ◌∙◌, arith, subst, append_assoc}
-use Rattle.std.specs.Prelude.{Contains}
-use Rattle.std.specs.List.{AllByRecursion}
-use Rattle.std.proofs.lemmas.Bool.{false≢true}
-use Rattle.tlsf_words.specs.Bytes.{bytes_in, payload_byte}
-use Rattle.tlsf_words.specs.Fields.{tag_word, size_in, last_in, back_in, length_word}
-use Rattle.tlsf_words.specs.Lists.{ListHeads, AreDistinct}
+use Rattle.tlsf_heap.proofs.Common.{◌≡◌, ℕ, suc, ◌+◌, ◌*◌, ◌/◌, ◌<◌, ◌≤◌, Bool, true, false, List, ◌∷◌, [], ◌++◌, length, take, drop, inl, inr, sym, ap, ◌∙◌, arith, subst, append_assoc, Contains, AllByRecursion, false≢true, bytes_in, payload_byte, tag_word, size_in, last_in, back_in, length_word, ListHeads, AreDistinct, Image, Shows, Block, Live, Free, HeapState, size_of, is_free, payload_words, serials, stamps, words_for, StandsAt, named, with_bytes, with_blocks, payload_words_at, IsLive, lying, with_payload, with_payload_at, free_places, block_at, OnlyFrom, IsLawful, HasRoom, IsNamed, RegionState, list_in, Name}
 use Rattle.tlsf_words.proofs.Bytes.{bytes_in-same, byte_in-same}
 use Rattle.tlsf_words.proofs.FieldLaws.{tag_word-fields}
-use Rattle.tlsf_heap.specs.Image.{Image, Shows}
-use Rattle.tlsf_heap.specs.Blocks.{Block, Live, Free, HeapState, size_of, is_free, payload_words, serials, stamps, words_for, StandsAt}
-use Rattle.tlsf_heap.specs.Calls.{named, with_bytes, with_blocks}
-use Rattle.tlsf_heap.specs.Given.{payload_words_at}
-use Rattle.tlsf_heap.specs.Laws.{IsLive}
-use Rattle.tlsf_heap.specs.Unset.{lying, with_payload, with_payload_at}
-use Rattle.tlsf_heap.specs.FreePlaces.{free_places}
-use Rattle.tlsf_heap.specs.GoodFit.{block_at}
-use Rattle.tlsf_heap.specs.Headers.{OnlyFrom}
-use Rattle.tlsf_heap.specs.Lawful.{IsLawful, HasRoom}
-use Rattle.tlsf_heap.specs.Named.{IsNamed}
-use Rattle.tlsf_heap.specs.Regions.{RegionState, list_in}
-use Rattle.tlsf_heap.specs.declared.name.Name.{Name}
 use Rattle.tlsf_heap.proofs.lemmas.calls.Allocate.{split_at}
 use Rattle.tlsf_heap.proofs.lemmas.words.Edit.{Leaves, leaves, one_changed}
 use Rattle.tlsf_heap.proofs.lemmas.blocks.Lawful.{all_append, all_left, all_right, serials-append, stamps-append, words_in-append, with_region, region_is}

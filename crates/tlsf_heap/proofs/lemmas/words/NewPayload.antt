@@ -1,18 +1,6 @@
 -- The words of a region whose block got a payload of another length.
-use Rattle.std.proofs.Common.{◌≡◌, ℕ, ◌+◌, ◌*◌, ◌≤◌, Bool, true, false, List, ◌∷◌, [], ◌++◌, length, take, drop, inl, inr, sym, ap, ◌∙◌, arith, get_or, subst}
-use Rattle.std.specs.Prelude.{Contains}
-use Rattle.std.proofs.lemmas.Bool.{false≢true}
-use Rattle.tlsf_words.specs.Bytes.{bytes_in}
-use Rattle.tlsf_words.specs.Fields.{tag_word, size_in, last_in, back_in, length_word, low_half}
-use Rattle.tlsf_words.specs.Lists.{ListHeads}
+use Rattle.tlsf_heap.proofs.Common.{◌≡◌, ℕ, ◌+◌, ◌*◌, ◌≤◌, Bool, true, false, List, ◌∷◌, [], ◌++◌, length, take, drop, inl, inr, sym, ap, ◌∙◌, arith, get_or, subst, Contains, false≢true, bytes_in, tag_word, size_in, last_in, back_in, length_word, low_half, ListHeads, Image, HoldsPayload, Shows, Block, Live, Free, size_of, is_free, bytes_of, words_for, StandsAt, HasRoom, block_at, fitted, with_bytes, OnlyFrom, RegionState, list_in}
 use Rattle.tlsf_words.proofs.FieldLaws.{tag_word-fields}
-use Rattle.tlsf_heap.specs.Image.{Image, HoldsPayload, Shows}
-use Rattle.tlsf_heap.specs.Blocks.{Block, Live, Free, size_of, is_free, bytes_of, words_for, StandsAt}
-use Rattle.tlsf_heap.specs.Lawful.{HasRoom}
-use Rattle.tlsf_heap.specs.GoodFit.{block_at}
-use Rattle.tlsf_heap.specs.Calls.{fitted, with_bytes}
-use Rattle.tlsf_heap.specs.Headers.{OnlyFrom}
-use Rattle.tlsf_heap.specs.Regions.{RegionState, list_in}
 use Rattle.tlsf_heap.proofs.lemmas.words.Edit.{Leaves, leaves, one_changed}
 use Rattle.tlsf_heap.proofs.lemmas.words.NewBytes.{length-fitted}
 use Rattle.tlsf_heap.proofs.lemmas.words.Links.{HoldsState, IsListed, Relists}

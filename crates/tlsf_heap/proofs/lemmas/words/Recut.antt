@@ -1,18 +1,5 @@
 -- The words of a region whose block took the free block behind it in, and was cut, show the blocks.
-use Rattle.std.proofs.Common.{◌≡◌, ◌≢◌, ℕ, suc, ◌+◌, ◌-◌, ◌<◌, ◌≤◌, inl, inr, Bool, true, false, cond, nat_le, eqb, List, [], ◌∷◌, ◌++◌, length, take, drop, get_or, refl, sym, ap, ◌∙◌, subst, arith, append_assoc}
-use Rattle.std.proofs.lemmas.Bool.{false≢true, cases_lt, cases_order, ne_eqb}
-use Rattle.std.proofs.lemmas.Bool.Decides.{nat_tests}
-use Rattle.std.proofs.lemmas.List.{length-set, get_or-set_same, get_or-set_other}
-use Rattle.tlsf_heap.specs.Image.{Image, mark_of, HoldsPayload, BlockAt, back_behind, Shows}
-use Rattle.tlsf_words.specs.Fields.{tag_word}
-use Rattle.tlsf_words.specs.Lists.{ListHeads, nowhere}
-use Rattle.tlsf_words.specs.declared.tag.Tag.{Tag}
-use Rattle.tlsf_heap.specs.Blocks.{Block, Live, Free, size_of, words_in, is_free, bytes_of, words_for, StandsAt}
-use Rattle.tlsf_heap.specs.Lawful.{HasRoom}
-use Rattle.tlsf_heap.specs.Calls.{first_free, past_free, cut, recut}
-use Rattle.tlsf_heap.specs.GoodFit.{Site, block_at, site_at, place_of}
-use Rattle.tlsf_heap.specs.Headers.{Widens, Recuts, without_start}
-use Rattle.tlsf_heap.specs.Regions.{RegionState, AreUnlisted, IsTagOf, IsTagBehind, list_in}
+use Rattle.tlsf_heap.proofs.Common.{◌≡◌, ◌≢◌, ℕ, suc, ◌+◌, ◌-◌, ◌<◌, ◌≤◌, inl, inr, Bool, true, false, cond, nat_le, eqb, List, [], ◌∷◌, ◌++◌, length, take, drop, get_or, refl, sym, ap, ◌∙◌, subst, arith, append_assoc, false≢true, cases_lt, cases_order, ne_eqb, nat_tests, length-set, get_or-set_same, get_or-set_other, Image, mark_of, HoldsPayload, BlockAt, back_behind, Shows, tag_word, ListHeads, nowhere, Tag, Block, Live, Free, size_of, words_in, is_free, bytes_of, words_for, StandsAt, HasRoom, first_free, past_free, cut, recut, Site, block_at, site_at, place_of, Widens, Recuts, without_start, RegionState, AreUnlisted, IsTagOf, IsTagBehind, list_in}
 use Rattle.tlsf_heap.proofs.lemmas.words.Links.{HoldsState, Reshapes, reshaped}
 use Rattle.tlsf_heap.proofs.lemmas.words.Merge.{Cleared, cleared, next_starts}
 use Rattle.tlsf_heap.proofs.lemmas.words.Says.{Says, says_here}

@@ -1,21 +1,7 @@
 -- What the words say of the block at a place.
-use Rattle.std.proofs.Common.{◌≡◌, ℕ, ◌+◌, ◌^◌, ◌<◌, ◌≤◌, Bool, true, false, ◌&&◌, eqb, List, length, take, get_or, refl, sym, ap, ◌∙◌, subst, arith}
-use Rattle.std.specs.Prelude.{◌==◌}
-use Rattle.std.specs.List.{AllByRecursion}
-use Rattle.std.proofs.lemmas.Bool.{false≢true, eq-eqb, eqb-true}
-use Rattle.tlsf_heap.specs.Image.{Image, mark_of, StartsOnce, back_behind, Shows}
-use Rattle.tlsf_words.specs.Memory.{Extents}
-use Rattle.tlsf_words.specs.Fields.{size_in, last_in, free_in, back_in}
+use Rattle.tlsf_heap.proofs.Common.{◌≡◌, ℕ, ◌+◌, ◌^◌, ◌<◌, ◌≤◌, Bool, true, false, ◌&&◌, eqb, List, length, take, get_or, refl, sym, ap, ◌∙◌, subst, arith, ◌==◌, AllByRecursion, false≢true, eq-eqb, eqb-true, Image, mark_of, StartsOnce, back_behind, Shows, Extents, size_in, last_in, free_in, back_in, Block, Live, Free, size_of, words_in, is_free, StandsAt, IsPlace, block_at, site_at, HasRoom, has_serial, is_named, nowhere, ListHeads, list_of, AreThreaded, blocks_of, NoneNamed, IsFirst, RegionState}
 use Rattle.tlsf_words.proofs.FieldLaws.{size_in-tag_word, last_in-tag_word, free_in-tag_word, back_in-tag_word}
-use Rattle.tlsf_heap.specs.Blocks.{Block, Live, Free, size_of, words_in, is_free, StandsAt, IsPlace}
-use Rattle.tlsf_heap.specs.GoodFit.{block_at, site_at}
-use Rattle.tlsf_heap.specs.Lawful.{HasRoom}
-use Rattle.tlsf_heap.specs.Calls.{has_serial, is_named}
-use Rattle.tlsf_words.specs.Lists.{nowhere, ListHeads, list_of, AreThreaded}
-use Rattle.tlsf_heap.specs.Read.{blocks_of}
 use Rattle.tlsf_heap.specs.Listed.{AreFreeBlocks, lists_of, HoldsLists}
-use Rattle.tlsf_heap.specs.Named.{NoneNamed, IsFirst}
-use Rattle.tlsf_heap.specs.Regions.{RegionState}
 use Rattle.tlsf_heap.proofs.lemmas.blocks.Find.{not_true, and_left, and_right}
 use Rattle.tlsf_heap.proofs.lemmas.words.Image.{word_at, start_at, shown_here, four_here, ends_here, stands_once, place_of_start}
 use Rattle.tlsf_heap.proofs.lemmas.words.Links.{shows_linked}

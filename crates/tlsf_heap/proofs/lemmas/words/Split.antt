@@ -1,20 +1,8 @@
 -- The words of a region whose block was made a live one, whole or with a free rest, show the blocks.
-use Rattle.std.proofs.Common.{◌≡◌, ◌≢◌, ℕ, suc, inl, inr, ◌+◌, ◌-◌, ◌*◌, ◌/◌, ◌≤◌, Bool, true, false, eqb, List, [], ◌∷◌, ◌++◌, length, take, drop, get_or, refl, sym, ap, ◌∙◌, arith, append_assoc}
-use Rattle.std.proofs.lemmas.Bool.{cases_lt, ne_eqb}
-use Rattle.std.proofs.lemmas.List.{get_or_past, length-set, get_or-set_same, get_or-set_other}
-use Rattle.tlsf_heap.specs.Image.{Image, HoldsPayload, BlockAt, back_behind, Shows}
-use Rattle.tlsf_words.specs.Fields.{tag_word, length_word}
-use Rattle.tlsf_words.specs.Bytes.{bytes_in, payload_byte}
-use Rattle.tlsf_words.specs.declared.tag.Tag.{Tag}
-use Rattle.tlsf_words.specs.Lists.{nowhere}
-use Rattle.tlsf_heap.specs.Blocks.{Block, Live, Free, size_of, words_for, StandsAt}
-use Rattle.tlsf_heap.specs.GoodFit.{block_at, site_at}
-use Rattle.tlsf_heap.specs.Headers.{HasLive, Splits, Wholes}
+use Rattle.tlsf_heap.proofs.Common.{◌≡◌, ◌≢◌, ℕ, suc, inl, inr, ◌+◌, ◌-◌, ◌*◌, ◌/◌, ◌≤◌, Bool, true, false, eqb, List, [], ◌∷◌, ◌++◌, length, take, drop, get_or, refl, sym, ap, ◌∙◌, arith, append_assoc, cases_lt, ne_eqb, get_or_past, length-set, get_or-set_same, get_or-set_other, Image, HoldsPayload, BlockAt, back_behind, Shows, tag_word, length_word, bytes_in, payload_byte, Tag, nowhere, Block, Live, Free, size_of, words_for, StandsAt, block_at, site_at, HasLive, Splits, Wholes, ListHeads, RegionState, AreUnlisted, IsTagOf, BeginsZero, list_in}
 use Rattle.tlsf_heap.proofs.lemmas.words.Image.{Replaces, start_at}
 use Rattle.tlsf_heap.proofs.lemmas.words.Says.{says_here}
 use Rattle.tlsf_heap.proofs.lemmas.words.Edit.{next_same}
-use Rattle.tlsf_words.specs.Lists.{ListHeads}
-use Rattle.tlsf_heap.specs.Regions.{RegionState, AreUnlisted, IsTagOf, BeginsZero, list_in}
 use Rattle.tlsf_heap.proofs.lemmas.calls.Allocate.{split_at}
 use Rattle.tlsf_heap.proofs.lemmas.words.Bytes.{length-bytes_in, get_or-bytes_in}
 use Rattle.tlsf_heap.proofs.lemmas.words.Zeros.{zero_byte}

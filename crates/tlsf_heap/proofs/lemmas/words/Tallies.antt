@@ -1,15 +1,5 @@
 -- The sums over the blocks of a region before a place, up to the next place and to the end.
-use Rattle.std.proofs.Common.{◌≡◌, ℕ, ◌+◌, ◌*◌, ◌<◌, ◌≤◌, inl, inr, true, false, List, [], ◌∷◌, ◌++◌, length, take, drop, sym, ap, ◌∙◌, subst, arith}
-use Rattle.std.specs.List.{AllByRecursion}
-use Rattle.std.proofs.lemmas.List.{take_more, take_all}
-use Rattle.std.proofs.lemmas.Bool.{false≢true, cases_lt}
-use Rattle.tlsf_heap.specs.Blocks.{Block, Live, Free, size_of, words_in, is_free, bytes_of, StandsAt}
-use Rattle.tlsf_heap.specs.Lawful.{HasRoom}
-use Rattle.tlsf_heap.specs.GoodFit.{block_at}
-use Rattle.tlsf_heap.specs.Image.{mark_of}
-use Rattle.tlsf_heap.specs.Reports.{live_among, free_among, payload_in}
-use Rattle.tlsf_heap.specs.Tallies.{tally_of, IsTallyUpTo}
-use Rattle.tlsf_heap.specs.declared.tally.Tally.{Tally}
+use Rattle.tlsf_heap.proofs.Common.{◌≡◌, ℕ, ◌+◌, ◌*◌, ◌<◌, ◌≤◌, inl, inr, true, false, List, [], ◌∷◌, ◌++◌, length, take, drop, sym, ap, ◌∙◌, subst, arith, AllByRecursion, take_more, take_all, false≢true, cases_lt, Block, Live, Free, size_of, words_in, is_free, bytes_of, StandsAt, HasRoom, block_at, mark_of, live_among, free_among, payload_in, tally_of, IsTallyUpTo, Tally}
 use Rattle.tlsf_heap.proofs.lemmas.blocks.Lawful.{all_left, all_right}
 use Rattle.tlsf_heap.proofs.lemmas.blocks.Replace.{words_in-take}
 use Rattle.tlsf_heap.proofs.lemmas.words.Image.{parted}

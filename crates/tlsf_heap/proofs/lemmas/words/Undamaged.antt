@@ -1,25 +1,10 @@
 -- Each block of a heap that keeps its invariant is sound, so that a check from the place of one finds all of them so.
-use Rattle.std.proofs.Common.{◌≡◌, ◌≢◌, ℕ, zero, suc, ◌+◌, ◌-◌, ◌^◌, ◌<◌, ◌≤◌, inl, inr, Bool, true, false, cond, eqb, ltb, List, [], ◌∷◌, length, take, get_or, Option, Some, None, refl, sym, ap, ◌∙◌, subst, arith}
-use Rattle.std.specs.Prelude.{Contains, MatchOption}
-use Rattle.std.proofs.lemmas.List.{take_all}
-use Rattle.std.proofs.lemmas.List.Sorted.{Contains-permutation}
-use Rattle.std.proofs.lemmas.Bool.{false≢true, cases_lt, cases_eq, eq-eqb, ne_eqb}
-use Rattle.std.proofs.lemmas.Bool.Decides.{nat_tests}
-use Rattle.tlsf_words.specs.Fields.{free_in, low_half, high_half, links_word, length_word}
-use Rattle.tlsf_words.specs.Lists.{nowhere, first_of, LinkedFrom}
+use Rattle.tlsf_heap.proofs.Common.{◌≡◌, ◌≢◌, ℕ, zero, suc, ◌+◌, ◌-◌, ◌^◌, ◌<◌, ◌≤◌, inl, inr, Bool, true, false, cond, eqb, ltb, List, [], ◌∷◌, length, take, get_or, Option, Some, None, refl, sym, ap, ◌∙◌, subst, arith, Contains, MatchOption, take_all, Contains-permutation, false≢true, cases_lt, cases_eq, eq-eqb, ne_eqb, nat_tests, free_in, low_half, high_half, links_word, length_word, nowhere, first_of, LinkedFrom, Block, Live, Free, size_of, words_in, words_for, is_free, StandsAt, IsPlace, Begins, BeginsFree, JoinsBefore, JoinsBehind, NextLeadsBack, PreviousLeadsBack, LeadsBack, IsSound, AreSound, GoSound, Tells, IsCheck, FindsSound, OnlyHeaders, end_at, place_or_first, LeavesLive, FreePlace, free_places, of_class, IsFreeList, AreFreeLists, block_at, Image, HoldsPayload, back_behind, Shows, HasRoom, FreeBlocksAreApart, AreLinked}
 use Rattle.tlsf_words.proofs.FieldLaws.{low_half-links_word, high_half-links_word}
 use Rattle.tlsf_words.proofs.Threads.{first_small}
 use Rattle.tlsf_words.proofs.PlaceLists.{member_here, member_behind, member_cases}
-use Rattle.tlsf_heap.specs.Blocks.{Block, Live, Free, size_of, words_in, words_for, is_free, StandsAt, IsPlace}
-use Rattle.tlsf_heap.specs.Checks.{Begins, BeginsFree, JoinsBefore, JoinsBehind, NextLeadsBack, PreviousLeadsBack, LeadsBack, IsSound, AreSound, GoSound, Tells, IsCheck, FindsSound, OnlyHeaders, end_at, place_or_first}
 use Rattle.tlsf_heap.specs.declared.checked.Checked.{Checked}
 use Rattle.tlsf_heap.specs.declared.checked.Checked.TheVariants.{Sound, Damaged}
-use Rattle.tlsf_heap.specs.Footprint.{LeavesLive}
-use Rattle.tlsf_heap.specs.FreePlaces.{FreePlace, free_places, of_class, IsFreeList, AreFreeLists}
-use Rattle.tlsf_heap.specs.GoodFit.{block_at}
-use Rattle.tlsf_heap.specs.Image.{Image, HoldsPayload, back_behind, Shows}
-use Rattle.tlsf_heap.specs.Lawful.{HasRoom, FreeBlocksAreApart}
-use Rattle.tlsf_heap.specs.Regions.{AreLinked}
 use Rattle.tlsf_heap.proofs.lemmas.lists.FreeLists.{from_map, from_filter, is_of, listed_own}
 use Rattle.tlsf_heap.proofs.lemmas.lists.FreePlaces.{place_at, place_listed, listed_place}
 use Rattle.tlsf_heap.proofs.lemmas.words.Footprint.{header_apart}

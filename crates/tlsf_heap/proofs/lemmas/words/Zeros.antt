@@ -1,10 +1,6 @@
 -- Bytes of words that are made zero.
-use Rattle.std.proofs.Common.{◌≡◌, ℕ, ◌+◌, ◌*◌, ◌/◌, ◌%◌, ◌^◌, ◌<◌, ◌≤◌, List, ◌++◌, length, get_or, take, drop, replicate, ap, ◌∙◌, inl, inr, arith}
-use Rattle.std.proofs.Math.Nat.{zero-div}
-use Rattle.std.proofs.lemmas.Bool.{cases_lt}
+use Rattle.tlsf_heap.proofs.Common.{◌≡◌, ℕ, ◌+◌, ◌*◌, ◌/◌, ◌%◌, ◌^◌, ◌<◌, ◌≤◌, List, ◌++◌, length, get_or, take, drop, replicate, ap, ◌∙◌, inl, inr, arith, zero-div, cases_lt, byte_in, OnlyFrom}
 use Rattle.std.proofs.lemmas.Grind.{elements}
-use Rattle.tlsf_words.specs.Bytes.{byte_in}
-use Rattle.tlsf_heap.specs.Headers.{OnlyFrom}
 use Rattle.tlsf_heap.proofs.lemmas.words.Headers.{zeroed_before}
 
 -- the same word has the same bytes

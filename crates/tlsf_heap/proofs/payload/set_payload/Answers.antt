@@ -1,10 +1,6 @@
-use Rattle.std.proofs.Common.{◌≡◌, ℕ, ◌+◌, ◌-◌, ◌*◌, ◌/◌, ◌≤◌, List, ◌∷◌, set, ap, ◌∙◌, arith}
-use Rattle.tlsf_words.specs.Bytes.{byte_in}
-use Rattle.tlsf_words.specs.Fields.{length_word}
+use Rattle.tlsf_heap.proofs.Common.{◌≡◌, ℕ, ◌+◌, ◌-◌, ◌*◌, ◌/◌, ◌≤◌, List, ◌∷◌, set, ap, ◌∙◌, arith, byte_in, length_word, times, InGroups, words_for}
 use Rattle.tlsf_heap.proofs.lemmas.words.NewBytes.{bytes_fitted, bytes_behind}
-use Rattle.tlsf_words.specs.Touched.{times, InGroups}
 use Rattle.tlsf_words.proofs.Touching.{more_groups, groups_then, one_word, times_other}
-use Rattle.tlsf_heap.specs.Blocks.{words_for}
 use Rattle.tlsf_heap.proofs.lemmas.words.Groups.{one_row}
 use Rattle.tlsf_heap.proofs.payload.set_payload.Goals as goal
 

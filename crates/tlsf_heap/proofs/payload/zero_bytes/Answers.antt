@@ -1,6 +1,4 @@
-use Rattle.std.proofs.Common.{refl, ◌+◌, ◌*◌, ◌-◌, sym, subst, arith}
-use Rattle.tlsf_words.specs.Memory.{Memory}
-use Rattle.tlsf_heap.specs.Blocks.{words_for}
+use Rattle.tlsf_heap.proofs.Common.{refl, ◌+◌, ◌*◌, ◌-◌, sym, subst, arith, Memory, words_for}
 use Rattle.tlsf_heap.proofs.lemmas.words.Zeros.{Clears, clears_more}
 use Rattle.tlsf_heap.proofs.payload.zero_bytes.Goals as goal
 use Rattle.tlsf_heap.proofs.payload.zero_bytes.Goals.{then-from-gt0, else-from-gt0}

@@ -1,10 +1,5 @@
-use Rattle.std.proofs.Common.{◌≡◌, ◌+◌, ◌-◌, suc, drop, refl, ap, ◌∙◌, arith}
+use Rattle.tlsf_heap.proofs.Common.{◌≡◌, ◌+◌, ◌-◌, suc, drop, refl, ap, ◌∙◌, arith, class_of, size_of, first_free, block_at, list_in}
 use Rattle.tlsf_class.proofs.TwoLevels.{most_words_any}
-use Rattle.tlsf_class.specs.Classes.{class_of}
-use Rattle.tlsf_heap.specs.Blocks.{size_of}
-use Rattle.tlsf_heap.specs.Calls.{first_free}
-use Rattle.tlsf_heap.specs.GoodFit.{block_at}
-use Rattle.tlsf_heap.specs.Regions.{list_in}
 use Rattle.tlsf_heap.proofs.lemmas.blocks.Replace.{rest_some, rest_none}
 use Rattle.tlsf_heap.proofs.lemmas.lists.Recut.{own_unlisted, wide_listed, cut_free, cut_unlisted, cut_listed}
 use Rattle.tlsf_heap.proofs.lemmas.lists.Withheld.{is_between, forgets, end_within, next_region, contains_next}

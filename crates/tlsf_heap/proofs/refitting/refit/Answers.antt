@@ -1,10 +1,4 @@
-use Rattle.std.proofs.Common.{◌≡◌, ℕ, suc, ◌+◌, ◌<◌, ◌≤◌, List, ◌++◌, take, drop, false, length, sym, ap, ◌∙◌, subst, arith, ◌∷◌, []}
-use Rattle.std.specs.List.{AllByRecursion}
-use Rattle.tlsf_words.specs.declared.tag.Tag.{Tag}
-use Rattle.tlsf_heap.specs.Blocks.{Block, StandsAt, size_of, is_free, bytes_of, words_for}
-use Rattle.tlsf_heap.specs.Calls.{first_free, with_bytes, fitted, recut}
-use Rattle.tlsf_heap.specs.GoodFit.{Site, block_at, site_at}
-use Rattle.tlsf_heap.specs.Regions.{AreRegions, EachAt, IsTagOf, IsTagBehind, list_in}
+use Rattle.tlsf_heap.proofs.Common.{◌≡◌, ℕ, suc, ◌+◌, ◌<◌, ◌≤◌, List, ◌++◌, take, drop, false, length, sym, ap, ◌∙◌, subst, arith, ◌∷◌, [], AllByRecursion, Tag, Block, StandsAt, size_of, is_free, bytes_of, words_for, first_free, with_bytes, fitted, recut, Site, block_at, site_at, AreRegions, EachAt, IsTagOf, IsTagBehind, list_in}
 use Rattle.tlsf_heap.proofs.lemmas.calls.Allocate.{regions_of}
 use Rattle.tlsf_heap.proofs.lemmas.words.NewBytes.{length-fitted}
 use Rattle.tlsf_heap.proofs.lemmas.words.Bytes.{is_free-with_bytes, size_of-with_bytes}

@@ -1,5 +1,4 @@
-use Rattle.std.proofs.Common.{ap, arith}
-use Rattle.tlsf_class.specs.Classes.{low}
+use Rattle.tlsf_heap.proofs.Common.{ap, arith, low}
 use Rattle.tlsf_class.proofs.TwoLevels.{most_words_any}
 use Rattle.tlsf_heap.proofs.lemmas.blocks.Grant.{low_bounds}
 use Rattle.tlsf_heap.proofs.tally.grant.Goals as goal

@@ -1,5 +1,4 @@
-use Rattle.std.proofs.Common.{◌≡◌, ℕ, ◌+◌, ◌<◌, ◌≤◌, length, get_or}
-use Rattle.tlsf_held.specs.Divisions.{cost_in, no_split, IsBest}
+use Rattle.tlsf_held.proofs.Common.{◌≡◌, ℕ, ◌+◌, ◌<◌, ◌≤◌, length, get_or, cost_in, no_split, IsBest}
 use Rattle.tlsf_held.proofs.divisions.allow_one_more.Given as goal
 
 -- one part more is allowed in front of a place, and not yet from there on

@@ -1,6 +1,5 @@
-use Rattle.std.proofs.Common.{◌∙◌, ◌-◌, [], get_or, length, length-set, refl, arith}
+use Rattle.tlsf_held.proofs.Common.{◌∙◌, ◌-◌, [], get_or, length, length-set, refl, arith, cost_in}
 use Rattle.tlsf_held.proofs.Divided.{one_best, row_more}
-use Rattle.tlsf_held.specs.Divisions.{cost_in}
 use Rattle.tlsf_held.proofs.divisions.begin.Goals as goal
 
 pub loop-at-preserved : goal.loop-at-preserved

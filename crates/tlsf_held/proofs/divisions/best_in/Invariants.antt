@@ -1,5 +1,4 @@
-use Rattle.std.proofs.Common.{◌≡◌, ◌+◌, length}
-use Rattle.tlsf_held.specs.Divisions.{cost_in, AreBest}
+use Rattle.tlsf_held.proofs.Common.{◌≡◌, ◌+◌, length, cost_in, AreBest}
 use Rattle.tlsf_held.proofs.divisions.best_in.Given as goal
 
 -- so many parts are allowed

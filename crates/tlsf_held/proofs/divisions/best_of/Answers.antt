@@ -1,7 +1,5 @@
-use Rattle.std.proofs.Common.{◌≡◌, ◌+◌, ◌-◌, ◌∙◌, ℕ, List, [], ap, sym, subst, get_or, length, arith}
+use Rattle.tlsf_held.proofs.Common.{◌≡◌, ◌+◌, ◌-◌, ◌∙◌, ℕ, List, [], ap, sym, subst, get_or, length, arith, cheaper, cost_in, no_split, HasFirst, IsBestAmong, Split}
 use Rattle.tlsf_held.proofs.Divided.{first_more}
-use Rattle.tlsf_held.specs.Divisions.{cheaper, cost_in, no_split, HasFirst, IsBestAmong}
-use Rattle.tlsf_pool.specs.declared.sizes.split.Split.{Split}
 use Rattle.tlsf_held.proofs.divisions.best_of.Goals as goal
 
 pub loop-last-preserved : goal.loop-last-preserved

@@ -1,5 +1,4 @@
-use Rattle.std.proofs.Common.{◌+◌, ◌≤◌, length}
-use Rattle.tlsf_held.specs.Divisions.{cost_in, HasFirst, IsBestAmong}
+use Rattle.tlsf_held.proofs.Common.{◌+◌, ◌≤◌, length, cost_in, HasFirst, IsBestAmong}
 use Rattle.tlsf_held.proofs.divisions.best_of.Given as goal
 
 -- the best of the splits whose first part ends so far at most

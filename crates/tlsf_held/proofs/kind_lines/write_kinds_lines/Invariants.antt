@@ -1,6 +1,4 @@
-use Rattle.std.proofs.Common.{◌≡◌, ◌++◌, string_bytes}
-use Rattle.tlsf_held.specs.KindLines.{kinds_text}
-use Rattle.tlsf_held.specs.RowTallies.{table_of}
+use Rattle.tlsf_held.proofs.Common.{◌≡◌, ◌++◌, string_bytes, kinds_text, table_of}
 use Rattle.tlsf_held.proofs.kind_lines.write_kinds_lines.Given as goal
 
 abbrev pub invariant-loop-worker : goal.invariant-loop-worker

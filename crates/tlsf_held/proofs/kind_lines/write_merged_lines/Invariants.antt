@@ -1,5 +1,4 @@
-use Rattle.std.proofs.Common.{string_bytes}
-use Rattle.tlsf_held.specs.MergedLines.{AddsMerged}
+use Rattle.tlsf_held.proofs.Common.{string_bytes, AddsMerged}
 use Rattle.tlsf_held.proofs.kind_lines.write_merged_lines.Given as goal
 
 abbrev pub invariant-loop-worker : goal.invariant-loop-worker

@@ -1,5 +1,4 @@
-use Rattle.std.proofs.Common.{◌≡◌, ◌++◌, drop, string_bytes}
-use Rattle.tlsf_held.specs.KindLines.{pairs_text}
+use Rattle.tlsf_held.proofs.Common.{◌≡◌, ◌++◌, drop, string_bytes, pairs_text}
 use Rattle.tlsf_held.proofs.kind_lines.write_pairs.Given as goal
 
 -- with the pairs of what is left, the text is that of all

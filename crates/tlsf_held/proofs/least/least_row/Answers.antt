@@ -1,14 +1,7 @@
-use Rattle.std.proofs.Common.{◌≡◌, ◌≤◌, ℕ, List, Option, ap, ap₂, sym, subst, ◌∙◌, arith, lit<}
+use Rattle.tlsf_held.proofs.Common.{◌≡◌, ◌≤◌, ℕ, List, Option, ap, ap₂, sym, subst, ◌∙◌, arith, lit<, Name, Entry, held_region, account_of, Account, tally_of, level_of, most_words_of, Header}
 use Rattle.std.specs.Option.{unwrap_or}
-use Rattle.tlsf_heap.specs.declared.name.Name.{Name}
-use Rattle.tlsf_calls.specs.declared.entry.Entry.{Entry}
-use Rattle.tlsf_held.specs.HeldLines.{held_region}
-use Rattle.tlsf_held.specs.Loans.{account_of, Account}
-use Rattle.tlsf_held.specs.Tallies.{tally_of}
 use Rattle.tlsf_held.specs.declared.tally.Tally.{Tally}
 use Rattle.tlsf_held.proofs.LeastFound.{row_told, words_within}
-use Rattle.tlsf_lines.specs.Versions.{level_of, most_words_of}
-use Rattle.tlsf_lines.specs.declared.header.Header.{Header}
 use Rattle.tlsf_held.proofs.least.least_row.Goals as goal
 
 pub replayed-requires : goal.replayed-requires

@@ -1,6 +1,4 @@
-use Rattle.std.proofs.Common.{◌≡◌}
-use Rattle.tlsf_held.specs.Least.{AreLeastRows, IsReady, IsScriptBut}
-use Rattle.tlsf_lines.specs.Trace.{Trace}
+use Rattle.tlsf_held.proofs.Common.{◌≡◌, AreLeastRows, IsReady, IsScriptBut, Trace}
 use Rattle.tlsf_held.proofs.least.least_rows.Given as goal
 
 abbrev pub invariant-loop-worker : goal.invariant-loop-worker

@@ -1,6 +1,4 @@
-use Rattle.std.proofs.Common.{◌≡◌, ◌+◌, ◌-◌, ◌<◌, ◌≤◌}
-use Rattle.tlsf_held.specs.Least.{IsReady, IsScriptBut, IsSpan}
-use Rattle.tlsf_lines.specs.Trace.{Trace}
+use Rattle.tlsf_held.proofs.Common.{◌≡◌, ◌+◌, ◌-◌, ◌<◌, ◌≤◌, IsReady, IsScriptBut, IsSpan, Trace}
 use Rattle.tlsf_held.proofs.least.least_words.Given as goal
 
 abbrev pub invariant-loop-served : goal.invariant-loop-served

@@ -1,9 +1,6 @@
-use Rattle.std.proofs.Common.{ap, sym, ◌∙◌, arith}
+use Rattle.tlsf_held.proofs.Common.{ap, sym, ◌∙◌, arith, with_words, level_of, Header}
 use Rattle.tlsf_held.proofs.LeastFound.{with_other}
 use Rattle.tlsf_held.proofs.Measured.{run_told}
-use Rattle.tlsf_held.specs.Least.{with_words}
-use Rattle.tlsf_lines.specs.Versions.{level_of}
-use Rattle.tlsf_lines.specs.declared.header.Header.{Header}
 use Rattle.tlsf_held.proofs.least.replayed.Goals as goal
 
 pub returns-clause-run : goal.returns-clause-run

@@ -1,5 +1,4 @@
-use Rattle.std.proofs.Common.{◌≡◌, ◌++◌, drop, string_bytes}
-use Rattle.tlsf_held.specs.Least.{least_text}
+use Rattle.tlsf_held.proofs.Common.{◌≡◌, ◌++◌, drop, string_bytes, least_text}
 use Rattle.tlsf_held.proofs.least.write_least_lines.Given as goal
 
 -- with the lines of what is left, the text is that of all

@@ -1,7 +1,4 @@
-use Rattle.std.proofs.Common.{◌≡◌, ◌++◌, string_bytes}
-use Rattle.tlsf_held.specs.HeldLines.{held_text}
-use Rattle.tlsf_held.specs.Loans.{account_of}
-use Rattle.tlsf_held.specs.Tallies.{tally_of}
+use Rattle.tlsf_held.proofs.Common.{◌≡◌, ◌++◌, string_bytes, held_text, account_of, tally_of}
 use Rattle.tlsf_held.proofs.lines.write_held_lines.Given as goal
 
 abbrev pub invariant-loop-worker : goal.invariant-loop-worker

@@ -1,7 +1,6 @@
-use Rattle.std.proofs.Common.{arith}
+use Rattle.tlsf_held.proofs.Common.{arith, with_len}
 use Rattle.std.proofs.lemmas.Grind.{common_steps}
 use Rattle.std.proofs.lemmas.List.Edits.{map_over_more}
-use Rattle.tlsf_held.specs.Lent.{with_len}
 use Rattle.tlsf_held.proofs.loans.change_len.Goals as goal
 
 pub loop-loan-preserved : goal.loop-loan-preserved

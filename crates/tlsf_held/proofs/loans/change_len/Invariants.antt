@@ -1,5 +1,4 @@
-use Rattle.std.proofs.Common.{◌≡◌, ◌++◌, drop, map, take}
-use Rattle.tlsf_held.specs.Lent.{with_len}
+use Rattle.tlsf_held.proofs.Common.{◌≡◌, ◌++◌, drop, map, take, with_len}
 use Rattle.tlsf_held.proofs.loans.change_len.Given as goal
 
 -- the loans so far have the length, and the others are as before

@@ -1,7 +1,4 @@
-use Rattle.std.proofs.Common.{◌≡◌, ◌≤◌, take}
-use Rattle.tlsf_pool.specs.laws.Kinds.{lengths}
-use Rattle.tlsf_held.specs.Lent.{ledger_of}
-use Rattle.tlsf_held.specs.Rows.{row_in, row_of}
+use Rattle.tlsf_held.proofs.Common.{◌≡◌, ◌≤◌, take, lengths, ledger_of, row_in, row_of}
 use Rattle.tlsf_held.proofs.loans.row_in.Given as goal
 
 -- what the loans so far come to

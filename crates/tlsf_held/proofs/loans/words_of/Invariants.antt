@@ -1,6 +1,4 @@
-use Rattle.std.proofs.Common.{◌≡◌, ◌≤◌, ◌*◌, ◌^◌, take}
-use Rattle.tlsf_held.specs.Lent.{ledger_of}
-use Rattle.tlsf_held.specs.Loans.{wanted_in}
+use Rattle.tlsf_held.proofs.Common.{◌≡◌, ◌≤◌, ◌*◌, ◌^◌, take, ledger_of, wanted_in}
 use Rattle.tlsf_held.proofs.loans.words_of.Given as goal
 
 -- the words of the loans so far, and a bound of them

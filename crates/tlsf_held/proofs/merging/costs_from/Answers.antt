@@ -1,10 +1,5 @@
-use Rattle.std.proofs.Common.{◌∙◌, ◌+◌, ◌^◌, ◌<◌, ◌≤◌, ℕ, List, inl, inr, ap, length, length-set, get_or-set_other, refl, subst, sym, arith}
-use Rattle.std.proofs.lemmas.Bool.{cases_eq}
+use Rattle.tlsf_held.proofs.Common.{◌∙◌, ◌+◌, ◌^◌, ◌<◌, ◌≤◌, ℕ, List, inl, inr, ap, length, length-set, get_or-set_other, refl, subst, sym, arith, cases_eq, part_words, row_words, Row, Step}
 use Rattle.tlsf_held.proofs.Costs.{set_here, zeros}
-use Rattle.tlsf_held.specs.Divisions.{part_words}
-use Rattle.tlsf_held.specs.Merges.{row_words}
-use Rattle.tlsf_held.specs.declared.row.Row.{Row}
-use Rattle.tlsf_held.specs.declared.steps.Step.{Step}
 use Rattle.tlsf_held.proofs.merging.costs_from.Goals as goal
 
 pub loop-last-init : goal.loop-last-init

@@ -1,5 +1,4 @@
-use Rattle.std.proofs.Common.{◌≡◌, ℕ, ◌+◌, ◌<◌, ◌≤◌, ◌^◌, length, get_or}
-use Rattle.tlsf_held.specs.Divisions.{part_words}
+use Rattle.tlsf_held.proofs.Common.{◌≡◌, ℕ, ◌+◌, ◌<◌, ◌≤◌, ◌^◌, length, get_or, part_words}
 use Rattle.tlsf_held.proofs.merging.costs_from.Given as goal
 
 -- the words of the parts that end so far

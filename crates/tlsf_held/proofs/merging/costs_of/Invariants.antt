@@ -1,5 +1,4 @@
-use Rattle.std.proofs.Common.{◌≡◌, ℕ, ◌+◌, ◌<◌, ◌≤◌, ◌^◌, [], get_or, length}
-use Rattle.tlsf_held.specs.Divisions.{cost_in, part_words}
+use Rattle.tlsf_held.proofs.Common.{◌≡◌, ℕ, ◌+◌, ◌<◌, ◌≤◌, ◌^◌, [], get_or, length, cost_in, part_words}
 use Rattle.tlsf_held.proofs.merging.costs_of.Given as goal
 
 -- the words of the parts that begin so far

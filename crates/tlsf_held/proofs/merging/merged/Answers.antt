@@ -1,7 +1,6 @@
-use Rattle.std.proofs.Common.{ℕ, List, length, subst}
+use Rattle.tlsf_held.proofs.Common.{ℕ, List, length, subst, cost_in, IsBest}
 use Rattle.std.proofs.lemmas.Result.{IfOk-weaker}
 use Rattle.tlsf_held.proofs.Costs.{cheapest_told}
-use Rattle.tlsf_held.specs.Divisions.{cost_in, IsBest}
 use Rattle.tlsf_held.proofs.merging.merged.Goals as goal
 
 pub returns : goal.returns

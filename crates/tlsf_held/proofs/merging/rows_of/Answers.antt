@@ -1,8 +1,5 @@
-use Rattle.std.proofs.Common.{◌≡◌, ◌+◌, ◌-◌, ◌∙◌, ◌++◌, ℕ, List, [], ◌∷◌, ap, sym, subst, append_assoc, get_or, length, arith}
+use Rattle.tlsf_held.proofs.Common.{◌≡◌, ◌+◌, ◌-◌, ◌∙◌, ◌++◌, ℕ, List, [], ◌∷◌, ap, sym, subst, append_assoc, get_or, length, arith, lens_in, rows_by, Divide, Row, Step}
 use Rattle.tlsf_held.proofs.Divided.{lens_step}
-use Rattle.tlsf_held.specs.Divisions.{lens_in, rows_by, Divide}
-use Rattle.tlsf_held.specs.declared.row.Row.{Row}
-use Rattle.tlsf_held.specs.declared.steps.Step.{Step}
 use Rattle.tlsf_held.proofs.merging.rows_of.Goals as goal
 
 pub loop-left-preserved : goal.loop-left-preserved

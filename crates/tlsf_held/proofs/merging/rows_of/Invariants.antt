@@ -1,5 +1,4 @@
-use Rattle.std.proofs.Common.{◌≡◌, ◌++◌, ◌≤◌, length}
-use Rattle.tlsf_held.specs.Divisions.{lens_in, lens_of, rows_by, Divide}
+use Rattle.tlsf_held.proofs.Common.{◌≡◌, ◌++◌, ◌≤◌, length, lens_in, lens_of, rows_by, Divide}
 use Rattle.tlsf_held.proofs.merging.rows_of.Given as goal
 
 -- with the rows of what is left, the rows so far are all

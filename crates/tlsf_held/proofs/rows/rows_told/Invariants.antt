@@ -1,7 +1,4 @@
-use Rattle.std.proofs.Common.{◌≡◌, drop, fold, length}
-use Rattle.tlsf_crew.specs.histories.History.{entries_of}
-use Rattle.tlsf_held.specs.RowTallies.{row_accounted, rows_told, RowAccount}
-use Rattle.tlsf_held.specs.Rows.{row_count, row_of}
+use Rattle.tlsf_held.proofs.Common.{◌≡◌, drop, fold, length, entries_of, row_accounted, rows_told, RowAccount, row_count, row_of}
 use Rattle.tlsf_held.proofs.rows.rows_told.Given as goal
 
 -- with what is left, the rows so far are those of all

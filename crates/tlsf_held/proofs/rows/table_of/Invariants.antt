@@ -1,5 +1,4 @@
-use Rattle.std.proofs.Common.{◌≡◌, ◌-◌}
-use Rattle.tlsf_held.specs.RowTallies.{first_few, table_of, used_rows}
+use Rattle.tlsf_held.proofs.Common.{◌≡◌, ◌-◌, first_few, table_of, used_rows}
 use Rattle.tlsf_held.proofs.rows.table_of.Given as goal
 
 -- the coarser ones are left to be tried

@@ -1,5 +1,4 @@
-use Rattle.std.proofs.Common.{◌≡◌, ◌≤◌, drop}
-use Rattle.tlsf_held.specs.Steps.{no_span, span_after}
+use Rattle.tlsf_held.proofs.Common.{◌≡◌, ◌≤◌, drop, no_span, span_after}
 use Rattle.tlsf_held.proofs.spans.row_between.Given as goal
 
 -- with what is left, the steps so far are all

@@ -1,6 +1,4 @@
-use Rattle.std.proofs.Common.{◌≡◌, ◌++◌, take}
-use Rattle.tlsf_held.specs.Lent.{ledger_of}
-use Rattle.tlsf_held.specs.Steps.{moved_steps}
+use Rattle.tlsf_held.proofs.Common.{◌≡◌, ◌++◌, take, ledger_of, moved_steps}
 use Rattle.tlsf_held.proofs.steps.push_moved.Given as goal
 
 -- the steps of the loans so far

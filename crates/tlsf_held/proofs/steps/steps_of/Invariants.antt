@@ -1,6 +1,4 @@
-use Rattle.std.proofs.Common.{◌≡◌, drop}
-use Rattle.tlsf_crew.specs.histories.History.{entries_of}
-use Rattle.tlsf_held.specs.Steps.{steps_told, stepped_all, StepAccount}
+use Rattle.tlsf_held.proofs.Common.{◌≡◌, drop, entries_of, steps_told, stepped_all, StepAccount}
 use Rattle.tlsf_held.proofs.steps.steps_of.Given as goal
 
 -- with what is left, the steps so far are those of all

@@ -1,5 +1,4 @@
-use Rattle.std.proofs.Common.{◌∙◌, ap, option_map}
-use Rattle.tlsf_lines.specs.Values.{Bytes}
+use Rattle.tlsf_lines.proofs.Common.{◌∙◌, ap, option_map, Bytes}
 use Rattle.tlsf_lines.proofs.LastField.{last_chunk}
 use Rattle.tlsf_lines.proofs.fields.last_payload.Goals as goal
 

@@ -1,8 +1,6 @@
-use Rattle.std.proofs.Common.{◌≡◌, ◌<◌, ◌^◌, ◌++◌, ◌∙◌, length, take, arith, length-append, length-take, count_by, eqb}
+use Rattle.tlsf_lines.proofs.Common.{◌≡◌, ◌<◌, ◌^◌, ◌++◌, ◌∙◌, length, take, arith, length-append, length-take, count_by, eqb, common_steps, pieces_of}
 use Rattle.std.proofs.KnownBytes.{Consumes-trans}
-use Rattle.std.proofs.lemmas.Grind.{common_steps}
 use Rattle.tlsf_lines.proofs.PieceCounts.{length-pieces_of-append, feeds_of_both}
-use Rattle.tlsf_lines.specs.Pieces.{pieces_of}
 use Rattle.tlsf_lines.specs.declared.limit.Limit.TheVariants.{Bytes, Lines}
 use Rattle.tlsf_lines.proofs.LongInputs.{over_named}
 use Rattle.tlsf_lines.proofs.ReadSteps.{gave_bytes}

@@ -1,5 +1,4 @@
-use Rattle.std.proofs.Common.{◌≡◌, ◌==◌, ◌≤◌, ◌+◌, length, count_by}
-use Rattle.std.specs.Io.KnownBytes.{Consumes}
+use Rattle.tlsf_lines.proofs.Common.{◌≡◌, ◌==◌, ◌≤◌, ◌+◌, length, count_by, Consumes}
 use Rattle.tlsf_lines.specs.Limits.{IsWithinLimits}
 use Rattle.tlsf_lines.specs.declared.last_read.LastRead.TheVariants.{Open}
 use Rattle.tlsf_lines.proofs.input.read_counted.Given as goal

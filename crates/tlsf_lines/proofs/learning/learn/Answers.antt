@@ -1,8 +1,4 @@
-use Rattle.std.proofs.Common.{rules, ◌≡◌, ℕ, Option, None, get_or, take, ap, sym, ◌∙◌}
-use Rattle.tlsf_heap.specs.declared.name.Name.{Name}
-use Rattle.tlsf_lines.specs.Phases.{known_behind, known_in}
-use Rattle.tlsf_lines.specs.CallMemory.{with_line}
-use Rattle.tlsf_lines.specs.declared.line.Line.TheVariants.{Allocate}
+use Rattle.tlsf_lines.proofs.Common.{rules, ◌≡◌, ℕ, Option, None, get_or, take, ap, sym, ◌∙◌, Name, known_behind, known_in, with_line, Allocate}
 use Rattle.tlsf_lines.proofs.NamesLearned.{behind_more_at}
 use Rattle.tlsf_lines.proofs.learning.learn.Goals as goal
 

@@ -1,5 +1,4 @@
-use Rattle.std.proofs.Common.{◌≡◌, take}
-use Rattle.tlsf_lines.specs.Phases.{known_behind, known_in}
+use Rattle.tlsf_lines.proofs.Common.{◌≡◌, take, known_behind, known_in}
 use Rattle.tlsf_lines.proofs.learning.learn.Given as goal
 
 -- the labels of the lines so far have their names

@@ -1,8 +1,7 @@
-use Rattle.std.proofs.Common.{rules}
+use Rattle.tlsf_lines.proofs.Common.{rules, name_made}
 use Rattle.std.proofs.lemmas.Iterator.{YieldsList-from_slice}
 use Rattle.std.proofs.lemmas.Iterator.Adapters.{items_from_extend}
 use Rattle.std.proofs.lemmas.Iterator.Consumers.{YieldsList-from_filter_map}
-use Rattle.tlsf_lines.specs.Phases.{name_made}
 use Rattle.tlsf_lines.proofs.learning.names_in.Goals as goal
 
 pub returns : goal.returns

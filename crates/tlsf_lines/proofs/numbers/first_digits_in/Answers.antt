@@ -1,6 +1,4 @@
-use Rattle.std.proofs.Common.{◌≡◌, ◌<◌, eqb, false, get_or, length, arith}
-use Rattle.std.proofs.lemmas.Bool.Decides.{nat_tests}
-use Rattle.tlsf_lines.specs.CutFields.{value_of}
+use Rattle.tlsf_lines.proofs.Common.{◌≡◌, ◌<◌, eqb, false, get_or, length, arith, nat_tests, value_of}
 use Rattle.tlsf_lines.proofs.DigitSteps.{no_number, up_to_space, whole}
 use Rattle.tlsf_lines.proofs.numbers.first_digits_in.Goals as goal
 

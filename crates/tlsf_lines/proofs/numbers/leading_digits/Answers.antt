@@ -1,6 +1,4 @@
-use Rattle.std.proofs.Common.{◌≡◌, ℕ, ◌-◌, ◌≤◌, true, get_or, add-one, arith}
-use Rattle.std.specs.Char.{digit_value, is_ascii_digit}
-use Rattle.std.proofs.lemmas.Bool.Decides.{nat_tests}
+use Rattle.tlsf_lines.proofs.Common.{◌≡◌, ℕ, ◌-◌, ◌≤◌, true, get_or, add-one, arith, digit_value, is_ascii_digit, nat_tests}
 use Rattle.std.proofs.lemmas.Int.Digits.{digits_value_more}
 use Rattle.tlsf_lines.proofs.DigitSteps.{one_more}
 use Rattle.tlsf_lines.proofs.numbers.leading_digits.Goals as goal

@@ -1,5 +1,4 @@
-use Rattle.std.proofs.Common.{◌≡◌, min, take, true}
-use Rattle.std.specs.Str.{all_ascii_digits}
+use Rattle.tlsf_lines.proofs.Common.{◌≡◌, min, take, true, all_ascii_digits}
 use Rattle.std.specs.Str.Parse.{digits_value}
 use Rattle.tlsf_lines.proofs.numbers.leading_digits.Given as goal
 

@@ -1,6 +1,4 @@
-use Rattle.std.proofs.Common.{◌≡◌, ◌+◌, ◌++◌, ◌∷◌, [], rules, refl, ap, arith, length}
-use Rattle.std.proofs.lemmas.List.{length_push, nil_from_length}
-use Rattle.tlsf_lines.specs.Pieces.{pieces_of}
+use Rattle.tlsf_lines.proofs.Common.{◌≡◌, ◌+◌, ◌++◌, ◌∷◌, [], rules, refl, ap, arith, length, length_push, nil_from_length, pieces_of}
 use Rattle.tlsf_lines.proofs.LineSteps.{ends, few_more, goes_on, is_done, with_none}
 use Rattle.tlsf_lines.proofs.parsing.add_lines.Goals as goal
 

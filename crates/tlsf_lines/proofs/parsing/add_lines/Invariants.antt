@@ -1,9 +1,4 @@
-use Rattle.std.proofs.Common.{◌≡◌, ◌+◌, ◌*◌, ◌<◌, ◌≤◌, List, [], length}
-use Rattle.tlsf_lines.specs.Events.{width_in}
-use Rattle.tlsf_lines.specs.LabelMemory.{Recalls, Remembers}
-use Rattle.tlsf_lines.specs.Pieces.{pieces_of}
-use Rattle.tlsf_lines.specs.Trace.{lines_in}
-use Rattle.tlsf_lines.specs.declared.line.Line.{Line}
+use Rattle.tlsf_lines.proofs.Common.{◌≡◌, ◌+◌, ◌*◌, ◌<◌, ◌≤◌, List, [], length, width_in, Recalls, Remembers, pieces_of, lines_in, Line}
 use Rattle.tlsf_lines.proofs.LineSteps.{put_behind}
 use Rattle.tlsf_lines.proofs.parsing.add_lines.Given as goal
 

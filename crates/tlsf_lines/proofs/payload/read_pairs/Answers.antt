@@ -1,6 +1,4 @@
-use Rattle.std.proofs.Common.{◌≡◌, ◌+◌, ◌*◌, ◌%◌, max, refl, arith}
-use Rattle.std.proofs.lemmas.Grind.{common_steps}
-use Rattle.std.proofs.lemmas.List.{length-set}
+use Rattle.tlsf_lines.proofs.Common.{◌≡◌, ◌+◌, ◌*◌, ◌%◌, max, refl, arith, common_steps, length-set}
 use Rattle.tlsf_lines.proofs.HexSteps.{all_read, one_pair_more}
 use Rattle.tlsf_lines.proofs.payload.read_pairs.Goals as goal
 

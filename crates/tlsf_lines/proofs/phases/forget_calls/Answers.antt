@@ -1,8 +1,4 @@
-use Rattle.std.proofs.Common.{[], take, ◌∙◌}
-use Rattle.std.proofs.lemmas.List.Elements.{All-more, All-weaker}
-use Rattle.tlsf_lines.specs.CallMemory.{RecallsCall, RecallsCallOf}
-use Rattle.tlsf_lines.specs.Lines.{label_in}
-use Rattle.tlsf_lines.specs.declared.line.Line.TheVariants.{Allocate}
+use Rattle.tlsf_lines.proofs.Common.{[], take, ◌∙◌, All-more, All-weaker, RecallsCall, RecallsCallOf, label_in, Allocate}
 use Rattle.tlsf_lines.proofs.LabelSteps.{IfSome-weaker}
 use Rattle.tlsf_lines.proofs.phases.forget_calls.Goals as goal
 

@@ -1,5 +1,4 @@
-use Rattle.std.proofs.Common.{◌≡◌, [], All, take}
-use Rattle.tlsf_lines.specs.CallMemory.{RecallsCallOf}
+use Rattle.tlsf_lines.proofs.Common.{◌≡◌, [], All, take, RecallsCallOf}
 use Rattle.tlsf_lines.proofs.phases.forget_calls.Given as goal
 
 -- the calls of the lines so far are forgotten

@@ -1,13 +1,4 @@
-use Rattle.std.proofs.Common.{◌≡◌, ℕ, ◌+◌, ◌∷◌, ◌++◌, [], List, Option, get_or, drop, sym, ap, ◌∙◌, arith, append_assoc}
-use Rattle.std.proofs.lemmas.List.{at_drop_more}
-use Rattle.std.proofs.lemmas.List.Elements.{All-get_or, All-weaker}
-use Rattle.tlsf_heap.specs.declared.name.Name.{Name}
-use Rattle.tlsf_lines.specs.ByLabel.{kept_of}
-use Rattle.tlsf_lines.specs.CallMemory.{RecallsCall, RecallsCallOf}
-use Rattle.tlsf_lines.specs.Phases.{call_in, calls_from, known_in}
-use Rattle.tlsf_lines.specs.Lines.{label_in}
-use Rattle.tlsf_lines.specs.declared.line.Line.{Line}
-use Rattle.tlsf_lines.specs.declared.line.Line.TheVariants.{Allocate}
+use Rattle.tlsf_lines.proofs.Common.{◌≡◌, ℕ, ◌+◌, ◌∷◌, ◌++◌, [], List, Option, get_or, drop, sym, ap, ◌∙◌, arith, append_assoc, at_drop_more, All-get_or, All-weaker, Name, kept_of, RecallsCall, RecallsCallOf, call_in, calls_from, known_in, label_in, Line, Allocate}
 use Rattle.tlsf_lines.proofs.LabelSteps.{IfSome-weaker}
 use Rattle.tlsf_lines.proofs.phases.own_calls.Goals as goal
 

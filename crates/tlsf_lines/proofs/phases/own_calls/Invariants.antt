@@ -1,7 +1,4 @@
-use Rattle.std.proofs.Common.{◌≡◌, ◌++◌, [], All, List, length, drop, vec_len}
-use Rattle.tlsf_lines.specs.Phases.{calls_from, known_in}
-use Rattle.tlsf_lines.specs.CallMemory.{RecallsCallOf}
-use Rattle.tlsf_lines.specs.declared.line.Line.{Line}
+use Rattle.tlsf_lines.proofs.Common.{◌≡◌, ◌++◌, [], All, List, length, drop, vec_len, calls_from, known_in, RecallsCallOf, Line}
 use Rattle.tlsf_lines.proofs.phases.own_calls.Given as goal
 
 -- the calls so far and those of the lines that are left are all; of each label the lines so far are remembered

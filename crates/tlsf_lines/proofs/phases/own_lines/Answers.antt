@@ -1,10 +1,7 @@
-use Rattle.std.proofs.Common.{◌≡◌, ap, arith, length, List, rules}
+use Rattle.tlsf_lines.proofs.Common.{◌≡◌, ap, arith, length, List, rules, count_by-le-length, length-filter, is_line_of, own_lines, Line}
 use Rattle.std.proofs.lemmas.Iterator.{YieldsList-from_slice}
 use Rattle.std.proofs.lemmas.Iterator.Adapters.{items_from_extend}
 use Rattle.std.proofs.lemmas.Iterator.Consumers.{YieldsList-from_copied, YieldsList-from_filter}
-use Rattle.std.proofs.lemmas.List.Sums.{count_by-le-length, length-filter}
-use Rattle.tlsf_lines.specs.Phases.{is_line_of, own_lines}
-use Rattle.tlsf_lines.specs.declared.line.Line.{Line}
 use Rattle.tlsf_lines.proofs.phases.own_lines.Goals as goal
 
 pub returns : goal.returns

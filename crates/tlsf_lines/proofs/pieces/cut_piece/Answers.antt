@@ -1,4 +1,4 @@
-use Rattle.std.proofs.lemmas.Bool.{eqb-true}
+use Rattle.tlsf_lines.proofs.Common.{eqb-true}
 use Rattle.tlsf_lines.proofs.FirstPiece.{cut_at, free_before, not_cut}
 use Rattle.tlsf_lines.proofs.pieces.cut_piece.Goals as goal
 

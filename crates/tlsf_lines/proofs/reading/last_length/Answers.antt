@@ -1,6 +1,4 @@
-use Rattle.std.proofs.Common.{[], ◌∷◌, Some, None, refl, sym}
-use Rattle.tlsf_lines.specs.CutFields.{fields_left, value_of}
-use Rattle.tlsf_lines.specs.Values.{Worker, Label, Length}
+use Rattle.tlsf_lines.proofs.Common.{[], ◌∷◌, Some, None, refl, sym, fields_left, value_of, Worker, Label, Length}
 use Rattle.tlsf_lines.proofs.FieldSteps.{then_last}
 use Rattle.tlsf_lines.proofs.reading.last_length.Goals as goal
 

@@ -1,6 +1,4 @@
-use Rattle.std.proofs.Common.{[], ◌∷◌}
-use Rattle.tlsf_lines.specs.CutFields.{fields_left, value_of}
-use Rattle.tlsf_lines.specs.Values.{Worker, Label}
+use Rattle.tlsf_lines.proofs.Common.{[], ◌∷◌, fields_left, value_of, Worker, Label}
 use Rattle.tlsf_lines.proofs.FieldSteps.{first_said, first_unsaid, then_said, then_unsaid}
 use Rattle.tlsf_lines.proofs.reading.next_block.Goals as goal
 

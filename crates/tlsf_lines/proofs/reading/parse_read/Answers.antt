@@ -1,6 +1,4 @@
-use Rattle.std.proofs.Common.{rules, [], ◌∷◌, Some, None, refl, sym}
-use Rattle.tlsf_lines.specs.CutFields.{fields_left, value_of}
-use Rattle.tlsf_lines.specs.Values.{Worker, Label, Offset, Count}
+use Rattle.tlsf_lines.proofs.Common.{rules, [], ◌∷◌, Some, None, refl, sym, fields_left, value_of, Worker, Label, Offset, Count}
 use Rattle.tlsf_lines.proofs.FieldSteps.{then_last}
 use Rattle.tlsf_lines.proofs.reading.parse_read.Goals as goal
 

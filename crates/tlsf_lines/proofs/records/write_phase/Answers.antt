@@ -1,11 +1,9 @@
-use Rattle.std.proofs.Common.{add-one, append_assoc, ◌≡◌, length, map, string_bytes, ap, ◌∙◌, arith}
+use Rattle.tlsf_lines.proofs.Common.{add-one, append_assoc, ◌≡◌, length, map, string_bytes, ap, ◌∙◌, arith, own_lines, Line}
 use Rattle.std.specs.declared.vec.Vec.{Vec}
 use Rattle.std.specs.declared.alloc.Global.{Global}
 use Rattle.tlsf_calls.specs.declared.entry.Entry.{Entry}
 use Rattle.tlsf_calls.specs.Entries.{record_of}
-use Rattle.tlsf_lines.specs.Phases.{own_lines}
 use Rattle.tlsf_lines.specs.Records.{record_text, records_text}
-use Rattle.tlsf_lines.specs.declared.line.Line.{Line}
 use Rattle.tlsf_lines.proofs.WorkerByWorker.{items_at, items_of}
 use Rattle.tlsf_lines.proofs.records.write_phase.Goals as goal
 

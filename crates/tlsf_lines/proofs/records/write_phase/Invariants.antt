@@ -1,8 +1,5 @@
-use Rattle.std.proofs.Common.{◌≡◌, ◌++◌, List, length, map, string_bytes}
-use Rattle.std.specs.List.{range_with_len}
-use Rattle.tlsf_lines.specs.Phases.{known_below, known_in, own_lines}
+use Rattle.tlsf_lines.proofs.Common.{◌≡◌, ◌++◌, List, length, map, string_bytes, range_with_len, known_below, known_in, own_lines, Line}
 use Rattle.tlsf_lines.specs.Records.{records_text}
-use Rattle.tlsf_lines.specs.declared.line.Line.{Line}
 use Rattle.tlsf_lines.proofs.records.write_phase.Given as goal
 
 -- the records of the workers so far were told, and their labels are known

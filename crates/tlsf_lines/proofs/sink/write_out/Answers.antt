@@ -1,5 +1,4 @@
-use Rattle.std.proofs.Common.{arith}
-use Rattle.std.proofs.lemmas.Grind.{common_steps}
+use Rattle.tlsf_lines.proofs.Common.{arith, common_steps}
 use Rattle.tlsf_lines.proofs.PrefixSteps.{prefix_grows}
 use Rattle.tlsf_lines.proofs.sink.write_out.Goals as goal
 

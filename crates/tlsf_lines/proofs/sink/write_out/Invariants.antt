@@ -1,5 +1,4 @@
-use Rattle.std.proofs.Common.{length, take, ◌-◌, ◌≤◌}
-use Rattle.std.specs.Io.KnownBytes.{Appends}
+use Rattle.tlsf_lines.proofs.Common.{length, take, ◌-◌, ◌≤◌, Appends}
 use Rattle.tlsf_lines.proofs.sink.write_out.Given as goal
 
 abbrev pub invariant-loop-done : goal.invariant-loop-done

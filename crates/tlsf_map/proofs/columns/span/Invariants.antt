@@ -1,5 +1,4 @@
-use Rattle.std.proofs.Common.{◌-◌, ◌^◌}
-use Rattle.tlsf_map.specs.Layouts.{IsSpan}
+use Rattle.tlsf_map.proofs.Common.{◌-◌, ◌^◌, IsSpan}
 use Rattle.tlsf_map.proofs.columns.span.Given as goal
 
 abbrev pub invariant-loop-span : goal.invariant-loop-span

@@ -1,5 +1,4 @@
-use Rattle.std.proofs.Common.{take, string_bytes}
-use Rattle.tlsf_map.specs.Told.{Adds, all_told, heap_told}
+use Rattle.tlsf_map.proofs.Common.{take, string_bytes, Adds, all_told, heap_told}
 use Rattle.tlsf_map.proofs.html.write_heaps.Given as goal
 
 -- the heaps so far are told

@@ -1,5 +1,4 @@
-use Rattle.std.proofs.Common.{◌≡◌, ◌++◌, drop, string_bytes}
-use Rattle.tlsf_map.specs.Told.{items_of}
+use Rattle.tlsf_map.proofs.Common.{◌≡◌, ◌++◌, drop, string_bytes, items_of}
 use Rattle.tlsf_map.proofs.html.write_items.Given as goal
 
 -- what is written and the blocks that are left are all

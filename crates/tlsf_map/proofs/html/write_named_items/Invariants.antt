@@ -1,5 +1,4 @@
-use Rattle.std.proofs.Common.{◌≡◌, ◌++◌, drop, string_bytes}
-use Rattle.tlsf_map.specs.Told.{named_items}
+use Rattle.tlsf_map.proofs.Common.{◌≡◌, ◌++◌, drop, string_bytes, named_items}
 use Rattle.tlsf_map.proofs.html.write_named_items.Given as goal
 
 -- what is written and the lines that are left are all

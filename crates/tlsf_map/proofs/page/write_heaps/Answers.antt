@@ -1,6 +1,5 @@
-use Rattle.std.proofs.Common.{◌≡◌, get_or, arith, rules}
+use Rattle.tlsf_map.proofs.Common.{◌≡◌, get_or, arith, rules, title_of}
 use Rattle.tlsf_map.proofs.Telling.{adds_all, adds_next, adds_none}
-use Rattle.tlsf_map.specs.Told.{title_of}
 use Rattle.tlsf_map.proofs.page.write_heaps.Goals as goal
 
 pub loop-number-init : goal.loop-number-init

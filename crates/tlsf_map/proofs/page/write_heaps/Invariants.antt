@@ -1,5 +1,4 @@
-use Rattle.std.proofs.Common.{◌+◌, ◌*◌, ◌≤◌, ◌^◌, take, string_bytes}
-use Rattle.tlsf_map.specs.Told.{Adds, all_told, title_of}
+use Rattle.tlsf_map.proofs.Common.{◌+◌, ◌*◌, ◌≤◌, ◌^◌, take, string_bytes, Adds, all_told, title_of}
 use Rattle.tlsf_map.proofs.page.write_heaps.Given as goal
 
 -- the heaps so far have their titles

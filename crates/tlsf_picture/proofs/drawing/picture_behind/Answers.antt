@@ -1,11 +1,6 @@
-use Rattle.std.proofs.Common.{[], length, map, ap, subst, arith, string_bytes}
-use Rattle.std.proofs.lemmas.List.{length-map}
-use Rattle.tlsf_crew.specs.worker.Workers.{heap_of}
-use Rattle.tlsf_map.specs.Told.{Adds}
+use Rattle.tlsf_picture.proofs.Common.{[], length, map, ap, subst, arith, string_bytes, length-map, heap_of, Adds, IsMap, picture_told, Header}
 use Rattle.tlsf_map.proofs.Telling.{tells_whole}
-use Rattle.tlsf_picture.specs.Drawn.{IsMap, picture_told}
 use Rattle.tlsf_picture.proofs.Maps.{as_many, maps_behind}
-use Rattle.tlsf_lines.specs.declared.header.Header.{Header}
 use Rattle.tlsf_trace.proofs.Onward.{plays_on}
 use Rattle.tlsf_picture.proofs.drawing.picture_behind.Goals as goal
 

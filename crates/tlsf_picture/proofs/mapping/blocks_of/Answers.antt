@@ -1,11 +1,8 @@
 use Rattle.tlsf_class.proofs.TwoLevels.{most_words_any}
-use Rattle.std.proofs.Common.{◌≡◌, ◌+◌, ◌∷◌, ◌++◌, [], Some, None, sym, ap, ◌∙◌, subst, arith}
-use Rattle.tlsf_crew.specs.worker.Workers.{heap_of}
-use Rattle.tlsf_heap.specs.Blocks.{HeapState}
+use Rattle.tlsf_picture.proofs.Common.{◌≡◌, ◌+◌, ◌∷◌, ◌++◌, [], Some, None, sym, ap, ◌∙◌, subst, arith, heap_of, HeapState, known_in, labelled}
 use Rattle.tlsf_heap.specs.Lawful.{IsLawful}
 use Rattle.tlsf_heap.specs.Placed.{placed_at}
 use Rattle.tlsf_map.specs.declared.mapped_heap.LabelledBlock.{LabelledBlock}
-use Rattle.tlsf_picture.specs.Labelled.{known_in, labelled}
 use Rattle.tlsf_picture.proofs.Walking.{HasWalked, walk_ends, walk_on}
 use Rattle.tlsf_picture.proofs.mapping.blocks_of.Goals as goal
 

@@ -1,6 +1,4 @@
-use Rattle.std.proofs.Common.{◌≡◌, ◌-◌}
-use Rattle.tlsf_crew.specs.worker.Workers.{SameButHeap, heap_of}
-use Rattle.tlsf_picture.specs.Labelled.{known_in, labelled}
+use Rattle.tlsf_picture.proofs.Common.{◌≡◌, ◌-◌, SameButHeap, heap_of, known_in, labelled}
 use Rattle.tlsf_picture.proofs.Walking.{HasWalked}
 use Rattle.tlsf_picture.proofs.mapping.blocks_of.Given as goal
 

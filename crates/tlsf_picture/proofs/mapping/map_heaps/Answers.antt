@@ -1,11 +1,6 @@
-use Rattle.std.proofs.Common.{◌≡◌, ◌+◌, ◌<◌, List, length, map, get_or, take, sym, ap, ◌∙◌, subst, arith}
-use Rattle.std.proofs.lemmas.List.{get_or_default, length-map}
+use Rattle.tlsf_picture.proofs.Common.{◌≡◌, ◌+◌, ◌<◌, List, length, map, get_or, take, sym, ap, ◌∙◌, subst, arith, get_or_default, length-map, heap_of, no_heap, HeapState, AreMaps}
 use Rattle.std.proofs.Math.ListN.{get_or-map}
 use Rattle.std.proofs.Math.Seq.{map-set_same}
-use Rattle.tlsf_crew.specs.worker.Workers.{heap_of}
-use Rattle.tlsf_crew.specs.model.World.{no_heap}
-use Rattle.tlsf_heap.specs.Blocks.{HeapState}
-use Rattle.tlsf_picture.specs.Drawn.{AreMaps}
 use Rattle.std.proofs.lemmas.Option.{slice_get-get_or}
 use Rattle.tlsf_picture.proofs.Yards.{same_yard, yard_stays}
 use Rattle.tlsf_picture.proofs.Maps.{map_more}

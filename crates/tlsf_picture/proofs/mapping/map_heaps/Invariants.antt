@@ -1,7 +1,4 @@
-use Rattle.std.proofs.Common.{◌≡◌, map, take}
-use Rattle.tlsf_crew.specs.lanes.Yard.{IsYard, world_of}
-use Rattle.tlsf_crew.specs.worker.Workers.{heap_of}
-use Rattle.tlsf_picture.specs.Drawn.{AreMaps}
+use Rattle.tlsf_picture.proofs.Common.{◌≡◌, map, take, IsYard, world_of, heap_of, AreMaps}
 use Rattle.tlsf_picture.proofs.mapping.map_heaps.Given as goal
 
 -- the heaps stay, and those below this number have their maps

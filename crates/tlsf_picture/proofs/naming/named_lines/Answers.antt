@@ -1,8 +1,6 @@
-use Rattle.std.proofs.Common.{◌+◌, List, sym, subst}
-use Rattle.std.specs.List.{AllZip, range_with_len}
+use Rattle.tlsf_picture.proofs.Common.{◌+◌, List, sym, subst, AllZip, range_with_len, IsNoted}
 use Rattle.tlsf_map.specs.declared.named_lines.NamedLines.{NamedLines}
 use Rattle.tlsf_picture.proofs.Charts.{one_more}
-use Rattle.tlsf_picture.specs.Pages.{IsNoted}
 use Rattle.tlsf_picture.proofs.naming.named_lines.Goals as goal
 
 pub loop-heap-preserved : goal.loop-heap-preserved

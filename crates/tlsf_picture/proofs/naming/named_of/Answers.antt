@@ -1,6 +1,4 @@
-use Rattle.std.proofs.Common.{ℕ, ◌+◌, length, refl, subst}
-use Rattle.tlsf_picture.specs.plots.Plots.{heap_points}
-use Rattle.tlsf_picture.specs.plots.Standings.{IsLook}
+use Rattle.tlsf_picture.proofs.Common.{ℕ, ◌+◌, length, refl, subst, heap_points, IsLook}
 use Rattle.tlsf_picture.proofs.Charts.{look_is, points_are}
 use Rattle.tlsf_picture.proofs.Peaks.{peak_is}
 use Rattle.tlsf_picture.proofs.naming.named_of.Goals as goal

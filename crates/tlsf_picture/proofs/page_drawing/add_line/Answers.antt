@@ -1,9 +1,6 @@
-use Rattle.std.proofs.Common.{◌≡◌, ℕ, ◌+◌, ◌≤◌, false, true, List, length, sym, ap, subst, ◌∙◌, arith, string_bytes}
-use Rattle.std.proofs.lemmas.Result.{on_ok_weaker}
+use Rattle.tlsf_picture.proofs.Common.{◌≡◌, ℕ, ◌+◌, ◌≤◌, false, true, List, length, sym, ap, subst, ◌∙◌, arith, string_bytes, on_ok_weaker, is_shown, shown_until, HasShown}
 use Rattle.tlsf_lines.proofs.ScriptSteps.{ends_count}
 use Rattle.tlsf_picture.proofs.Onward.{line_left, line_shown, shown_more}
-use Rattle.tlsf_picture.specs.Pages.{is_shown, shown_until}
-use Rattle.tlsf_picture.specs.Steps.{HasShown}
 use Rattle.tlsf_trace.proofs.Onward.{plays_on}
 use Rattle.tlsf_picture.proofs.page_drawing.add_line.Goals as goal
 

@@ -1,7 +1,4 @@
-use Rattle.std.proofs.Common.{refl, subst, string_bytes}
-use Rattle.std.proofs.lemmas.Result.{on_ok_weaker}
-use Rattle.tlsf_lines.specs.declared.header.Header.{Header}
-use Rattle.tlsf_map.specs.Told.{Adds, Moment, moment_told}
+use Rattle.tlsf_picture.proofs.Common.{refl, subst, string_bytes, on_ok_weaker, Header, Adds, Moment, moment_told}
 use Rattle.tlsf_picture.proofs.Maps.{maps_behind}
 use Rattle.tlsf_picture.proofs.page_drawing.add_moment.Goals as goal
 

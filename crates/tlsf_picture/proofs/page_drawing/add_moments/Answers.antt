@@ -1,7 +1,5 @@
-use Rattle.std.proofs.Common.{◌≡◌, ℕ, ◌+◌, List, length, ap, subst, ◌∙◌, arith, string_bytes}
+use Rattle.tlsf_picture.proofs.Common.{◌≡◌, ℕ, ◌+◌, List, length, ap, subst, ◌∙◌, arith, string_bytes, shown_until, HasShown}
 use Rattle.tlsf_lines.proofs.ScriptSteps.{ends_count}
-use Rattle.tlsf_picture.specs.Pages.{shown_until}
-use Rattle.tlsf_picture.specs.Steps.{HasShown}
 use Rattle.tlsf_picture.proofs.page_drawing.add_moments.Goals as goal
 
 pub loop-number-init : goal.loop-number-init

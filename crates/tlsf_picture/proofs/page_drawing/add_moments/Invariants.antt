@@ -1,12 +1,5 @@
-use Rattle.std.proofs.Common.{◌≡◌, ℕ, ◌≤◌, [], length, string_bytes}
-use Rattle.tlsf_crew.specs.lanes.Yard.{IsYard}
-use Rattle.tlsf_lines.specs.ScriptSoFar.{IsScript}
-use Rattle.tlsf_lines.specs.Trace.{Trace}
-use Rattle.tlsf_picture.specs.Pages.{shown_until}
-use Rattle.tlsf_picture.specs.Steps.{HasShown}
+use Rattle.tlsf_picture.proofs.Common.{◌≡◌, ℕ, ◌≤◌, [], length, string_bytes, IsYard, IsScript, Trace, shown_until, HasShown, level_in, Stands}
 use Rattle.tlsf_picture.proofs.page_drawing.add_moments.Given as goal
-use Rattle.tlsf_trace.specs.Output.{level_in}
-use Rattle.tlsf_trace.specs.Players.{Stands}
 
 -- the yard stands after a line that isn't behind these, and those of these that have a moment are shown
 abbrev pub invariant-loop-number : goal.invariant-loop-number

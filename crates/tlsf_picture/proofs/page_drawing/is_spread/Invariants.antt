@@ -1,5 +1,4 @@
-use Rattle.std.proofs.Common.{◌≡◌}
-use Rattle.tlsf_picture.specs.Pages.{is_among}
+use Rattle.tlsf_picture.proofs.Common.{◌≡◌, is_among}
 use Rattle.tlsf_picture.proofs.page_drawing.is_spread.Given as goal
 
 -- whether it is the line of one so far

@@ -1,13 +1,5 @@
 -- The block that good fit chooses: no other that may serve is of a lower class.
-use Rattle.std.proofs.Common.{◌≡◌, ℕ, ◌≤◌, ◌||◌, ◌&&◌, ◌==◌, Bool, true, false, cond, nat_lt, List, [], ◌∷◌, ◌++◌, filter, find, Option, Some, None, refl, sym, ◌∙◌, subst, arith, append_assoc}
-use Rattle.std.specs.List.{AllByRecursion, list_all}
-use Rattle.std.proofs.lemmas.Bool.Decides.{nat_tests}
-use Rattle.tlsf_heap.specs.Blocks.{Block, HeapState, want}
-use Rattle.tlsf_heap.specs.GoodFit.{Site, sites_behind, is_fit, is_as_good, fits, choice}
-use Rattle.tlsf_heap.specs.Calls.{Outcome, allocated, allocated_at, refused, is_worn}
-use Rattle.tlsf_heap.specs.declared.name.Name.{Name}
-use Rattle.tlsf_heap.specs.declared.refusal.Refusal.{Refusal}
-use Rattle.tlsf_heap.specs.declared.refusal.Refusal.TheVariants.{NoFit, Worn}
+use Rattle.tlsf_pool.proofs.Common.{◌≡◌, ℕ, ◌≤◌, ◌||◌, ◌&&◌, ◌==◌, Bool, true, false, cond, nat_lt, List, [], ◌∷◌, ◌++◌, filter, find, Option, Some, None, refl, sym, ◌∙◌, subst, arith, append_assoc, AllByRecursion, list_all, nat_tests, Block, HeapState, want, Site, sites_behind, is_fit, is_as_good, fits, choice, Outcome, allocated, allocated_at, refused, is_worn, Name, Refusal, NoFit, Worn}
 use Rattle.tlsf_heap.proofs.lemmas.blocks.Find.{and_left, and_right}
 use Rattle.tlsf_heap.proofs.lemmas.calls.Outcomes.{IsSiteOf, by_test, gives}
 

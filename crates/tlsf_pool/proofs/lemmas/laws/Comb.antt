@@ -1,17 +1,9 @@
 -- The bound for one block can't be lowered: a heap that has one word less refuses.
-use Rattle.std.proofs.Common.{◌≡◌, ℕ, zero, suc, ◌<◌, ◌≤◌, false, [], ◌∷◌, sym, ◌∙◌, inl, inr, arith}
-use Rattle.std.proofs.lemmas.Bool.{cases_lt, leb-true}
-use Rattle.tlsf_class.specs.Classes.{IsLevel, class_of, most_words}
+use Rattle.tlsf_pool.proofs.Common.{◌≡◌, ℕ, zero, suc, ◌<◌, ◌≤◌, false, [], ◌∷◌, sym, ◌∙◌, inl, inr, arith, cases_lt, leb-true, IsLevel, class_of, most_words, Free, want, is_fit, NoneFits, opened, sure, mixed_words, OneBlockIsTight}
 use Rattle.tlsf_class.proofs.Lows.{low-rises_or_same}
 use Rattle.tlsf_class.proofs.ClassOfSize.{class_of-is, class_of-small, search_of-is, serves-from}
-use Rattle.tlsf_heap.specs.Blocks.{Free, want}
-use Rattle.tlsf_heap.specs.GoodFit.{is_fit}
-use Rattle.tlsf_heap.specs.Chosen.{NoneFits}
-use Rattle.tlsf_heap.specs.Calls.{opened}
 use Rattle.tlsf_heap.proofs.lemmas.blocks.Find.{not_true}
 use Rattle.tlsf_heap.proofs.lemmas.blocks.Sites.{fits_nothing}
-use Rattle.tlsf_pool.specs.laws.Room.{sure}
-use Rattle.tlsf_pool.specs.laws.MixedSizes.{mixed_words, OneBlockIsTight}
 use Rattle.tlsf_pool.proofs.lemmas.laws.FreeRoom.{sure_enough, sure_is}
 use Rattle.tlsf_pool.proofs.lemmas.laws.ModestCalls.{mixed_of_fours, mixed_of_more}
 use Rattle.tlsf_heap.proofs.lemmas.laws.NoFit.{no_fit}

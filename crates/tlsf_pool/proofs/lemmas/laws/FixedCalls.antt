@@ -1,22 +1,9 @@
 -- Calls whose each request takes the words of a fixed size: a program within the bounds is served.
-use Rattle.std.proofs.Common.{◌≡◌, ℕ, zero, suc, ◌+◌, ◌*◌, ◌<◌, ◌≤◌, List, [], ◌∷◌, length, replicate, Result, Ok, Err, IsOk, refl, sym, ap, ◌∙◌, subst, arith}
-use Rattle.std.specs.List.{AllByRecursion}
-use Rattle.std.proofs.lemmas.Bool.{false≢true}
-use Rattle.tlsf_class.specs.Classes.{IsLevel, most_words}
-use Rattle.tlsf_heap.specs.Blocks.{HeapState, want}
-use Rattle.tlsf_heap.specs.GoodFit.{fits}
-use Rattle.tlsf_heap.specs.Lawful.{IsLawful, IsRegion}
-use Rattle.tlsf_heap.specs.Calls.{Call, Allocate, Release, Write, Resize, Read, Answer, Allocated, Resized, allocated_words, resized_words, answered, opened, run, last_tick}
-use Rattle.tlsf_heap.specs.declared.name.Name.{Name}
-use Rattle.tlsf_heap.specs.declared.refusal.Refusal.{Refusal}
-use Rattle.tlsf_heap.specs.declared.refusal.Refusal.TheVariants.{NoFit}
+use Rattle.tlsf_pool.proofs.Common.{◌≡◌, ℕ, zero, suc, ◌+◌, ◌*◌, ◌<◌, ◌≤◌, List, [], ◌∷◌, length, replicate, Result, Ok, Err, IsOk, refl, sym, ap, ◌∙◌, subst, arith, AllByRecursion, false≢true, IsLevel, most_words, HeapState, want, fits, IsLawful, IsRegion, Call, Allocate, Release, Write, Resize, Read, Answer, Allocated, Resized, allocated_words, answered, opened, run, last_tick, Name, Refusal, NoFit, live_count, sure, held_after, IsModest, AreModest, HasRoomFor, IsServed, HasFixedSize, answered_fixed, run_fixed, fixed_words, FixedSizeSuffices, FixedSizeServes, FixedSizeIsExact, WantsWords, OneLengthSuffices}
+use Rattle.tlsf_heap.specs.Calls.{resized_words}
 use Rattle.tlsf_heap.proofs.lemmas.blocks.Lawful.{opened_lawful}
 use Rattle.tlsf_heap.proofs.lemmas.calls.Outcomes.{by_allocated_words, by_released, by_resized_words, by_written, gives_words, lawful_allocated_words, lawful_resized_words, lawful_run, resizes}
 use Rattle.tlsf_heap.proofs.lemmas.laws.NoFit.{no_fit_words, ok_words}
-use Rattle.tlsf_pool.specs.laws.Room.{live_count, sure}
-use Rattle.tlsf_pool.specs.laws.Held.{held_after}
-use Rattle.tlsf_pool.specs.laws.MixedSizes.{IsModest, AreModest, HasRoomFor, IsServed}
-use Rattle.tlsf_pool.specs.laws.FixedSize.{HasFixedSize, answered_fixed, run_fixed, fixed_words, FixedSizeSuffices, FixedSizeServes, FixedSizeIsExact, WantsWords, OneLengthSuffices}
 use Rattle.tlsf_pool.proofs.lemmas.laws.Around.{words_kept}
 use Rattle.tlsf_pool.proofs.lemmas.laws.FixedSize.{finds_fixed, fixed_kept, live_least, new_fixed, sure_again, sure_region}
 use Rattle.tlsf_pool.proofs.lemmas.laws.FreeRoom.{sure_enough, wants}

@@ -1,27 +1,15 @@
 -- Blocks of a fixed size: each begins at a multiple of it, so each free block but the last one serves.
-use Rattle.std.proofs.Common.{◌≡◌, ℕ, ◌+◌, ◌-◌, ◌*◌, ◌<◌, ◌≤◌, true, List, [], ◌∷◌, ◌++◌, length, refl, sym, ap, ◌∙◌, subst, inl, inr, arith, append_assoc}
-use Rattle.std.specs.List.{AllByRecursion}
-use Rattle.std.specs.Option.{option_map_or}
-use Rattle.std.proofs.Math.Nat.{mul-le-mul_right}
-use Rattle.std.proofs.lemmas.Bool.{cases_lt, false≢true}
-use Rattle.tlsf_class.specs.Classes.{IsLevel, most_words, low, classes, search_of}
+use Rattle.tlsf_pool.proofs.Common.{◌≡◌, ℕ, ◌+◌, ◌-◌, ◌*◌, ◌<◌, ◌≤◌, true, List, [], ◌∷◌, ◌++◌, length, refl, sym, ap, ◌∙◌, subst, inl, inr, arith, append_assoc, AllByRecursion, option_map_or, mul-le-mul_right, cases_lt, false≢true, IsLevel, most_words, low, classes, search_of, Block, Live, Free, HeapState, size_of, words_in, bytes_of, Site, fits, is_fit, IsLawful, HasRoom, allocated_words, released, written, carved, past_free, before_free, first_free, last_free, with_bytes, has_serial, refitted, overwritten, live_among, Name, live_count, sure, IsMultiple, BeginAtMultiples, IsFixedSize, HasFixedSize, SureIsSure, NewHasFixedSize, FixedSizeIsKept, FixedSizeFindsRoom, FixedSizeIsTight, IsWhole, BlocksAreWhole}
 use Rattle.tlsf_class.proofs.TwoLevels.{by_level}
 use Rattle.tlsf_class.proofs.Lows.{low-rises, low-rises_or_same, low-first}
 use Rattle.tlsf_class.proofs.ClassOfSize.{IsSearchOf, search_of-is, search_of-above, search_of-between, le_from_serves}
-use Rattle.tlsf_heap.specs.Blocks.{Block, Live, Free, HeapState, size_of, words_in, bytes_of}
-use Rattle.tlsf_heap.specs.GoodFit.{Site, fits, is_fit}
-use Rattle.tlsf_heap.specs.Lawful.{IsLawful, HasRoom}
-use Rattle.tlsf_heap.specs.Calls.{allocated_words, released, resized_words, written, carved, past_free, before_free, first_free, last_free, with_bytes, has_serial, refitted, overwritten}
-use Rattle.tlsf_heap.specs.Reports.{live_among}
-use Rattle.tlsf_heap.specs.declared.name.Name.{Name}
+use Rattle.tlsf_heap.specs.Calls.{resized_words}
 use Rattle.tlsf_heap.proofs.lemmas.blocks.Coalesce.{by_last}
 use Rattle.tlsf_heap.proofs.lemmas.blocks.Find.{and_left, and_right}
 use Rattle.tlsf_heap.proofs.lemmas.blocks.Lawful.{all_append}
 use Rattle.tlsf_heap.proofs.lemmas.blocks.Replace.{carved_small, carved_large}
 use Rattle.tlsf_heap.proofs.lemmas.calls.Outcomes.{IsSiteOf, by_allocated_words, by_released, by_resized_words, by_written}
 use Rattle.tlsf_heap.proofs.lemmas.laws.NoFit.{no_fit_words}
-use Rattle.tlsf_pool.specs.laws.Room.{live_count, sure}
-use Rattle.tlsf_pool.specs.laws.FixedSize.{IsMultiple, BeginAtMultiples, IsFixedSize, HasFixedSize, SureIsSure, NewHasFixedSize, FixedSizeIsKept, FixedSizeFindsRoom, FixedSizeIsTight, IsWhole, BlocksAreWhole}
 use Rattle.tlsf_pool.proofs.lemmas.laws.Around.{past_all, before_all, around_site}
 use Rattle.tlsf_pool.proofs.lemmas.laws.FreeRoom.{IsHole, holes_where_none, sure_is}
 use Rattle.tlsf_pool.proofs.lemmas.laws.Refits.{by_refit}

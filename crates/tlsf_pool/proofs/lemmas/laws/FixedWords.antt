@@ -1,16 +1,6 @@
 -- The words for blocks of a fixed size are never more than those for mixed sizes, nor than those of a table.
-use Rattle.std.proofs.Common.{◌≡◌, ℕ, zero, suc, ◌+◌, ◌-◌, ◌*◌, ◌<◌, ◌≤◌, ◌&&◌, Bool, true, false, cond, nat_le, nat_lt, List, [], ◌∷◌, map, fold, max, refl, sym, ap, ◌∙◌, subst, inl, inr, arith, le_trans}
-use Rattle.std.specs.List.{AllByRecursion, list_all}
-use Rattle.std.proofs.lemmas.Bool.{cases_lt, false≢true, leb-true, le-leb}
-use Rattle.std.proofs.lemmas.Bool.Decides.{nat_tests}
-use Rattle.tlsf_class.specs.Classes.{IsLevel, most_words, low, classes, search_of}
-use Rattle.tlsf_heap.specs.Blocks.{want}
+use Rattle.tlsf_pool.proofs.Common.{◌≡◌, ℕ, zero, suc, ◌+◌, ◌-◌, ◌*◌, ◌<◌, ◌≤◌, ◌&&◌, Bool, true, false, cond, nat_le, nat_lt, List, [], ◌∷◌, map, fold, max, refl, sym, ap, ◌∙◌, subst, inl, inr, arith, le_trans, AllByRecursion, list_all, cases_lt, false≢true, leb-true, le-leb, nat_tests, IsLevel, most_words, low, classes, search_of, want, Kind, sure, are_fours, count_in, resized_words, table_words, used, words_with, HasClass, longest_of, fixed_words, FewerThanMixedSizes, FewerThanATable, HundredOfFixedSize}
 use Rattle.tlsf_heap.proofs.lemmas.blocks.Find.{and_left, and_right}
-use Rattle.tlsf_pool.specs.declared.kind.Kind.{Kind}
-use Rattle.tlsf_pool.specs.laws.Room.{sure}
-use Rattle.tlsf_pool.specs.laws.Kinds.{are_fours, count_in, resized_words, table_words, used, words_with, HasClass}
-use Rattle.tlsf_pool.specs.laws.OneLarge.{longest_of}
-use Rattle.tlsf_pool.specs.laws.FixedSize.{fixed_words, FewerThanMixedSizes, FewerThanATable, HundredOfFixedSize}
 use Rattle.tlsf_pool.proofs.lemmas.laws.FixedSize.{sure_four}
 use Rattle.tlsf_pool.proofs.lemmas.laws.FreeRoom.{sure_enough}
 use Rattle.tlsf_pool.proofs.lemmas.laws.ModestCalls.{mixed_of_fours, mixed_of_more}

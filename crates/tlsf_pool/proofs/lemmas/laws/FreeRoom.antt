@@ -1,20 +1,9 @@
 -- Room by counting: free blocks are few, and those that don't serve are small.
-use Rattle.std.proofs.Common.{◌≡◌, ℕ, suc, ◌+◌, ◌-◌, ◌*◌, ◌<◌, ◌≤◌, true, List, [], ◌∷◌, length, refl, sym, ap, ◌∙◌, inl, inr, arith}
-use Rattle.std.specs.List.{AllByRecursion}
-use Rattle.std.specs.Option.{option_map_or}
-use Rattle.std.proofs.Math.Nat.{mul-le-mul_right}
-use Rattle.std.proofs.lemmas.Bool.{false≢true, cases_lt, le-leb}
-use Rattle.tlsf_class.specs.Classes.{IsLevel, low, class_of, most_words}
+use Rattle.tlsf_pool.proofs.Common.{◌≡◌, ℕ, suc, ◌+◌, ◌-◌, ◌*◌, ◌<◌, ◌≤◌, true, List, [], ◌∷◌, length, refl, sym, ap, ◌∙◌, inl, inr, arith, AllByRecursion, option_map_or, mul-le-mul_right, false≢true, cases_lt, le-leb, IsLevel, low, class_of, most_words, Block, Live, Free, HeapState, size_of, is_free, words_in, want, fits, is_fit, NoneFits, IsLawful, HasRoom, FreeBlocksAreApart, live_among, free_among, live_count, free_words, sure}
 use Rattle.tlsf_class.proofs.Lows.{low-rises_or_same}
 use Rattle.tlsf_class.proofs.ClassOfSize.{IsSearchOf, class_of-is, search_of-is, serves-from}
-use Rattle.tlsf_heap.specs.Blocks.{Block, Live, Free, HeapState, size_of, is_free, words_in, want}
-use Rattle.tlsf_heap.specs.GoodFit.{fits, is_fit}
-use Rattle.tlsf_heap.specs.Chosen.{NoneFits}
-use Rattle.tlsf_heap.specs.Lawful.{IsLawful, HasRoom, FreeBlocksAreApart}
-use Rattle.tlsf_heap.specs.Reports.{live_among, free_among}
 use Rattle.tlsf_heap.proofs.lemmas.blocks.Find.{not_true}
 use Rattle.tlsf_heap.proofs.lemmas.blocks.Grant.{fits_something}
-use Rattle.tlsf_pool.specs.laws.Room.{live_count, free_words, sure}
 
 -- free blocks don't touch, so at most one more is free than live
 pub few_free : (bs : List Block) → FreeBlocksAreApart bs → length (free_among bs) ≤ length (live_among bs) + 1

@@ -1,11 +1,6 @@
 -- As many blocks are live as are held.
-use Rattle.std.proofs.Common.{◌≡◌, ℕ, List, [], ◌∷◌, length, refl, ap, ◌∙◌, arith}
-use Rattle.tlsf_heap.specs.Blocks.{Block, Live, Free, HeapState}
-use Rattle.tlsf_heap.specs.Calls.{Call, Allocate, Release, Write, Resize, Read, Allocated, Released, Written, Resized, answered, opened, run}
-use Rattle.tlsf_heap.specs.Reports.{live_among}
+use Rattle.tlsf_pool.proofs.Common.{◌≡◌, ℕ, List, [], ◌∷◌, length, refl, ap, ◌∙◌, arith, Block, Live, Free, HeapState, Call, Allocate, Release, Write, Resize, Read, Allocated, Released, Written, Resized, answered, opened, run, live_among, live_count, held_after, held_after_all, HoldsWhatIsLive}
 use Rattle.tlsf_heap.proofs.lemmas.calls.Outcomes.{by_allocated, by_released, by_written, gives, takes, writes}
-use Rattle.tlsf_pool.specs.laws.Room.{live_count}
-use Rattle.tlsf_pool.specs.laws.Held.{held_after, held_after_all, HoldsWhatIsLive}
 use Rattle.tlsf_pool.proofs.lemmas.laws.Loads.{load, load_given, load_taken, load_resized, load_written}
 use Rattle.tlsf_pool.proofs.lemmas.laws.Refits.{by_resize, refits}
 

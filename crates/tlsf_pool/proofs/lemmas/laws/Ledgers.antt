@@ -1,23 +1,9 @@
 -- A ledger agrees with the heap: it has the length of each live block, under its name.
-use Rattle.std.proofs.Common.{◌≡◌, ℕ, ◌+◌, Bool, true, false, not, cond, eqb, List, [], ◌∷◌, length, replicate, filter, Option, Some, None, refl, sym, ap, ◌∙◌, subst, arith}
-use Rattle.std.specs.Prelude.{⊤}
-use Rattle.std.specs.Option.{option_map}
-use Rattle.std.proofs.lemmas.List.{length-replicate}
-use Rattle.std.proofs.lemmas.Bool.{eqb-true, false≢true}
-use Rattle.tlsf_class.specs.Classes.{IsLevel}
-use Rattle.tlsf_heap.specs.Blocks.{HeapState, bytes_of, want}
-use Rattle.tlsf_heap.specs.GoodFit.{Site, place_of, is_fit}
-use Rattle.tlsf_heap.specs.Lawful.{IsLawful}
-use Rattle.tlsf_heap.specs.Calls.{Outcome, Call, Allocate, Release, Write, Resize, Read, Allocated, Released, Written, Resized, refused, is_worn, named, is_named, released_at, fitted, overwritten, has_bytes, written_at, answered, opened, run}
-use Rattle.tlsf_heap.specs.declared.name.Name.{Name}
-use Rattle.tlsf_heap.specs.declared.refusal.Refusal.TheVariants.{Worn, Foreign, Range}
+use Rattle.tlsf_pool.proofs.Common.{◌≡◌, ℕ, ◌+◌, Bool, true, false, not, cond, eqb, List, [], ◌∷◌, length, replicate, filter, Option, Some, None, refl, sym, ap, ◌∙◌, subst, arith, ⊤, option_map, length-replicate, eqb-true, false≢true, IsLevel, HeapState, bytes_of, want, Site, place_of, is_fit, IsLawful, Outcome, Call, Allocate, Release, Write, Resize, Read, Allocated, Released, Written, Resized, refused, is_worn, named, is_named, released_at, fitted, overwritten, has_bytes, written_at, answered, opened, run, Name, Worn, Foreign, Range, live_count, contents, is_same, Ledger, lengths, with_length, ledger_after, ledger_after_all, LedgerHoldsWhatIsLive}
 use Rattle.tlsf_heap.proofs.lemmas.calls.Write.{length-overwritten, range_fits}
 use Rattle.tlsf_heap.proofs.lemmas.calls.Outcomes.{by_test, IsSiteOf, named_site, gives, by_allocated, takes, writes, lawful_run}
 use Rattle.tlsf_heap.proofs.lemmas.blocks.Lawful.{opened_lawful}
 use Rattle.tlsf_heap.proofs.lemmas.words.NewBytes.{length-fitted}
-use Rattle.tlsf_pool.specs.laws.Room.{live_count}
-use Rattle.tlsf_pool.specs.laws.Contents.{contents, is_same}
-use Rattle.tlsf_pool.specs.laws.Kinds.{Ledger, lengths, with_length, ledger_after, ledger_after_all, LedgerHoldsWhatIsLive}
 use Rattle.tlsf_pool.proofs.lemmas.laws.Names.{same_is, same_flip}
 use Rattle.tlsf_pool.proofs.lemmas.laws.Loads.{load, load_given, load_taken, load_resized, load_written}
 use Rattle.tlsf_pool.proofs.lemmas.laws.Held.{one, counted}

@@ -1,10 +1,5 @@
 -- The sum over the live blocks of a number for the length of each payload, and what the calls make of it.
-use Rattle.std.proofs.Common.{◌≡◌, ℕ, ◌+◌, true, List, [], ◌∷◌, ◌++◌, length, replicate, refl, ap, ◌∙◌, inl, inr, arith, add-zero}
-use Rattle.std.proofs.lemmas.List.{length-replicate}
-use Rattle.std.proofs.lemmas.Bool.{false≢true, cases_lt}
-use Rattle.tlsf_heap.specs.Blocks.{Block, Live, Free, HeapState, size_of, bytes_of, want}
-use Rattle.tlsf_heap.specs.GoodFit.{Site, is_fit}
-use Rattle.tlsf_heap.specs.Calls.{carved, has_serial, is_named, past_free, before_free, first_free, last_free, with_bytes, fitted, refitted, overwritten, has_bytes}
+use Rattle.tlsf_pool.proofs.Common.{◌≡◌, ℕ, ◌+◌, true, List, [], ◌∷◌, ◌++◌, length, replicate, refl, ap, ◌∙◌, inl, inr, arith, add-zero, length-replicate, false≢true, cases_lt, Block, Live, Free, HeapState, size_of, bytes_of, want, Site, is_fit, carved, has_serial, is_named, past_free, before_free, first_free, last_free, with_bytes, fitted, refitted, overwritten, has_bytes}
 use Rattle.tlsf_heap.proofs.lemmas.blocks.Find.{and_left}
 use Rattle.tlsf_heap.proofs.lemmas.blocks.Replace.{carved_small, carved_large}
 use Rattle.tlsf_heap.proofs.lemmas.blocks.Coalesce.{by_last}

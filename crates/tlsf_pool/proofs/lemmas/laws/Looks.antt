@@ -1,21 +1,7 @@
 -- The bytes under a name, by a look through the blocks from the first on.
-use Rattle.std.proofs.Common.{◌≤◌, Result, arith, length-take-le, take, drop, ◌≡◌, ◌≢◌, ℕ, ◌+◌, ◌<◌, Bool, true, false, cond, eqb, ◌&&◌, List, [], ◌∷◌, ◌++◌, length, replicate, find, Option, Some, None, Ok, Err, refl, sym, ap, ◌∙◌, subst, inl, inr, append_assoc, eq-eqb}
-use Rattle.std.specs.Prelude.{◌↔◌, IsSome}
-use Rattle.std.specs.List.{AllByRecursion}
-use Rattle.std.specs.Option.{option_map}
-use Rattle.std.specs.Option.{is_some}
-use Rattle.std.proofs.lemmas.List.{drop_at, take_at}
-use Rattle.tlsf_class.specs.Classes.{IsLevel}
+use Rattle.tlsf_pool.proofs.Common.{◌≤◌, Result, arith, length-take-le, take, drop, ◌≡◌, ◌≢◌, ℕ, ◌+◌, ◌<◌, Bool, true, false, cond, eqb, ◌&&◌, List, [], ◌∷◌, ◌++◌, length, replicate, find, Option, Some, None, Ok, Err, refl, sym, ap, ◌∙◌, subst, inl, inr, append_assoc, eq-eqb, ◌↔◌, IsSome, AllByRecursion, option_map, is_some, drop_at, take_at, IsLevel, le-leb, lt-leb, eqb-true, false≢true, cases_lt, cases_eq, ne_eqb, Block, Live, Free, HeapState, size_of, words_in, serials, bytes_of, want, Site, sites_behind, place_of, is_fit, IsLawful, Outcome, refused, carved, has_serial, is_named, named, first_free, past_free, last_free, before_free, coalesced, fitted, refitted, overwritten, with_bytes, has_bytes, written, written_at, read_of, read_at, Call, Allocate, Release, Write, Resize, Read, Answer, Allocated, Released, Written, Resized, Got, answered, opened, run, Name, Refusal, Foreign, Range, Contents, bytes_there, contents, is_same, with_contents, after, after_all, got, HasWhatIsLive, ChangesOneName, part, WritesIntoContents, ReadsBack, ReadsWhatWasWritten}
 use Rattle.tlsf_heap.proofs.lemmas.calls.Write.{length-overwritten}
-use Rattle.std.proofs.lemmas.Bool.{le-leb, lt-leb, eqb-true, false≢true, cases_lt, cases_eq, ne_eqb}
-use Rattle.tlsf_heap.specs.Blocks.{Block, Live, Free, HeapState, size_of, words_in, serials, bytes_of, want}
-use Rattle.tlsf_heap.specs.GoodFit.{Site, sites_behind, place_of, is_fit}
 use Rattle.tlsf_words.specs.Lists.{AreDistinct}
-use Rattle.tlsf_heap.specs.Lawful.{IsLawful}
-use Rattle.tlsf_heap.specs.Calls.{Outcome, refused, carved, has_serial, is_named, named, first_free, past_free, last_free, before_free, coalesced, fitted, refitted, overwritten, with_bytes, has_bytes, written, written_at, read_of, read_at, Call, Allocate, Release, Write, Resize, Read, Answer, Allocated, Released, Written, Resized, Got, answered, opened, run}
-use Rattle.tlsf_heap.specs.declared.name.Name.{Name}
-use Rattle.tlsf_heap.specs.declared.refusal.Refusal.{Refusal}
-use Rattle.tlsf_heap.specs.declared.refusal.Refusal.TheVariants.{Foreign, Range}
 use Rattle.tlsf_heap.proofs.lemmas.blocks.Find.{and_left, and_right}
 use Rattle.tlsf_heap.proofs.lemmas.blocks.Lawful.{all_left, all_right, all_weaker, words_in-append, serials-append, opened_lawful}
 use Rattle.tlsf_heap.proofs.lemmas.blocks.Replace.{carved_small, carved_large}
@@ -23,7 +9,7 @@ use Rattle.tlsf_heap.proofs.lemmas.blocks.Coalesce.{by_last}
 use Rattle.tlsf_heap.proofs.lemmas.blocks.Around.{last_words}
 use Rattle.tlsf_heap.proofs.lemmas.calls.Outcomes.{by_test, IsSiteOf, named_site, gives, by_allocated, takes, by_released, writes, lawful_run}
 use Rattle.tlsf_pool.proofs.lemmas.laws.Names.{same_self}
-use Rattle.tlsf_pool.specs.laws.Contents.{Contents, bytes_there, contents, is_same, with_contents, after, after_all, part_of, got, HasWhatIsLive, ChangesOneName, part, WritesIntoContents, ReadsBack, ReadsWhatWasWritten}
+use Rattle.tlsf_pool.specs.laws.Contents.{part_of}
 use Rattle.tlsf_pool.proofs.lemmas.laws.Refits.{by_refit, by_resize, refits}
 
 abbrev or_else : {X : Type 0} → Option X → Option X → Option X

@@ -1,26 +1,11 @@
 -- A heap that never refuses blocks of mixed sizes: what each call leaves of its bounds.
-use Rattle.std.proofs.Common.{◌≡◌, ◌≢◌, ℕ, ◌+◌, ◌-◌, ◌*◌, ◌<◌, ◌≤◌, ◌&&◌, max, Bool, true, false, cond, nat_le, List, [], ◌∷◌, ◌++◌, length, Option, Some, None, Err, refl, sym, ap, ap₂, ◌∙◌, subst, inl, inr, arith}
-use Rattle.std.specs.List.{AllByRecursion}
-use Rattle.std.proofs.Math.Nat.{mul-le-mul, mul-le-mul_right}
-use Rattle.std.proofs.lemmas.Bool.{false≢true, cases_lt, ne_eqb, le-leb, leb-true, lt-leb}
-use Rattle.tlsf_class.specs.Classes.{IsLevel, most_words}
-use Rattle.tlsf_heap.specs.Blocks.{Block, Live, Free, HeapState, size_of, words_in, want}
-use Rattle.tlsf_heap.specs.GoodFit.{Site, choice, fits}
-use Rattle.tlsf_heap.specs.Lawful.{IsLawful, IsRegion}
-use Rattle.tlsf_heap.specs.Calls.{Outcome, Call, Allocate, Release, Write, Resize, Read, Allocated, allocated, allocated_at, refused, carved, before_free, with_bytes, has_serial, refitted, answered, opened, run, is_worn, last_tick}
-use Rattle.tlsf_heap.specs.Reports.{live_among}
-use Rattle.tlsf_heap.specs.declared.name.Name.{Name}
-use Rattle.tlsf_heap.specs.declared.refusal.Refusal.TheVariants.{NoFit, Worn}
+use Rattle.tlsf_pool.proofs.Common.{◌≡◌, ◌≢◌, ℕ, ◌+◌, ◌-◌, ◌*◌, ◌<◌, ◌≤◌, ◌&&◌, max, Bool, true, false, cond, nat_le, List, [], ◌∷◌, ◌++◌, length, Option, Some, None, Err, refl, sym, ap, ap₂, ◌∙◌, subst, inl, inr, arith, AllByRecursion, mul-le-mul, mul-le-mul_right, false≢true, cases_lt, ne_eqb, le-leb, leb-true, lt-leb, IsLevel, most_words, Block, Live, Free, HeapState, size_of, words_in, want, Site, choice, fits, IsLawful, IsRegion, Outcome, Call, Allocate, Release, Write, Resize, Read, Allocated, allocated, allocated_at, refused, carved, before_free, with_bytes, has_serial, refitted, answered, opened, run, is_worn, last_tick, live_among, Name, NoFit, Worn, live_count, sure, held_after, HasFixedSize, WantsWords, mixed_region, mixed_words, HasMixedRegion, IsSmall, IsModest, AreModest, HasRoomFor, IsServed, MixedSizesSuffice, MixedSizesServe, RegionHasMixedWords}
 use Rattle.tlsf_heap.proofs.lemmas.blocks.Find.{and_left}
 use Rattle.tlsf_heap.proofs.lemmas.blocks.Lawful.{all_append, opened_lawful}
 use Rattle.tlsf_heap.proofs.lemmas.blocks.Replace.{carved_small, carved_large}
 use Rattle.tlsf_heap.proofs.lemmas.blocks.Sums.{words_apart}
 use Rattle.tlsf_heap.proofs.lemmas.calls.Outcomes.{by_test, gives, by_allocated, by_released, by_written, lawful_run}
 use Rattle.tlsf_heap.proofs.lemmas.laws.NoFit.{no_fit}
-use Rattle.tlsf_pool.specs.laws.Room.{live_count, sure}
-use Rattle.tlsf_pool.specs.laws.Held.{held_after}
-use Rattle.tlsf_pool.specs.laws.FixedSize.{HasFixedSize, WantsWords}
-use Rattle.tlsf_pool.specs.laws.MixedSizes.{mixed_region, mixed_words, HasMixedRegion, IsSmall, IsModest, AreModest, HasRoomFor, IsServed, MixedSizesSuffice, MixedSizesServe, RegionHasMixedWords}
 use Rattle.tlsf_pool.proofs.lemmas.laws.FreeRoom.{finds_room, sure_rises}
 use Rattle.tlsf_pool.proofs.lemmas.laws.FixedCalls.{wants_kept}
 use Rattle.tlsf_pool.proofs.lemmas.laws.FixedSize.{finds_fixed, new_fixed, sure_four}

@@ -1,9 +1,6 @@
 -- Whether two names are the same.
-use Rattle.std.proofs.Common.{◌≡◌, Bool, true, false, refl, sym, ◌∙◌, subst, eq-eqb}
-use Rattle.std.proofs.lemmas.Bool.{eqb-true, false≢true, and_from}
-use Rattle.tlsf_heap.specs.declared.name.Name.{Name}
+use Rattle.tlsf_pool.proofs.Common.{◌≡◌, Bool, true, false, refl, sym, ◌∙◌, subst, eq-eqb, eqb-true, false≢true, and_from, Name, is_same}
 use Rattle.tlsf_heap.proofs.lemmas.blocks.Find.{and_left, and_right, not_true}
-use Rattle.tlsf_pool.specs.laws.Contents.{is_same}
 
 pub same_name : (a b : Name) → a.heap ≡ b.heap → a.at ≡ b.at → a.serial ≡ b.serial → a ≡ b
 same_name a b e f g = let is : ◌≡◌ {A = Name} (record { heap = a.heap; at = a.at; serial = a.serial }) (record { heap = b.heap; at = b.at; serial = b.serial }) = cc in is

@@ -1,17 +1,6 @@
 -- Many small blocks and one large one: what each call leaves of the reserve.
-use Rattle.std.proofs.Common.{◌≡◌, ◌≢◌, ℕ, ◌+◌, ◌-◌, ◌*◌, ◌<◌, ◌≤◌, ◌⊎◌, Bool, true, false, cond, max, nat_le, nat_lt, List, [], ◌∷◌, ◌++◌, length, map, fold, replicate, Err, refl, sym, ap, ◌∙◌, subst, inl, inr, arith, le_trans}
-use Rattle.std.specs.List.{AllByRecursion}
-use Rattle.std.proofs.Math.Nat.{mul-le-mul_right}
-use Rattle.std.proofs.lemmas.Bool.{cases_lt, false≢true, le-leb, leb-true, lt-ltb, le-ltb}
-use Rattle.std.proofs.lemmas.List.{length-replicate}
-use Rattle.tlsf_class.specs.Classes.{IsLevel, class_of, most_words}
+use Rattle.tlsf_pool.proofs.Common.{◌≡◌, ◌≢◌, ℕ, ◌+◌, ◌-◌, ◌*◌, ◌<◌, ◌≤◌, ◌⊎◌, Bool, true, false, cond, max, nat_le, nat_lt, List, [], ◌∷◌, ◌++◌, length, map, fold, replicate, Err, refl, sym, ap, ◌∙◌, subst, inl, inr, arith, le_trans, AllByRecursion, mul-le-mul_right, cases_lt, false≢true, le-leb, leb-true, lt-ltb, le-ltb, length-replicate, IsLevel, class_of, most_words, Block, Live, Free, HeapState, size_of, words_in, bytes_of, is_free, want, Site, is_fit, IsLawful, HasRoom, Call, Allocate, Release, Write, Resize, Read, carved, allocated, answered, opened, run, has_serial, overwritten, live_among, free_among, NoFit, live_count, sure, IsSnug, HasRoomFor, IsModest, IsSmall, Ledger, lengths, ledger_after, AreOfKinds, ArePlanned, IsPlanned, count_in, table_words, used, longest_of, scattered_words, one_large_words, ResizesNone, OneLargeSuffices, Kind}
 use Rattle.tlsf_class.proofs.ClassOfSize.{search_of-is, serves-from}
-use Rattle.tlsf_heap.specs.Blocks.{Block, Live, Free, HeapState, size_of, words_in, bytes_of, is_free, want}
-use Rattle.tlsf_heap.specs.GoodFit.{Site, is_fit}
-use Rattle.tlsf_heap.specs.Lawful.{IsLawful, HasRoom}
-use Rattle.tlsf_heap.specs.Calls.{Call, Allocate, Release, Write, Resize, Read, carved, allocated, answered, opened, run, has_serial, overwritten}
-use Rattle.tlsf_heap.specs.Reports.{live_among, free_among}
-use Rattle.tlsf_heap.specs.declared.refusal.Refusal.TheVariants.{NoFit}
 use Rattle.tlsf_heap.proofs.lemmas.blocks.Replace.{carved_small, carved_large}
 use Rattle.tlsf_heap.proofs.lemmas.blocks.Find.{and_left}
 use Rattle.tlsf_heap.proofs.lemmas.blocks.Lawful.{all_weaker, opened_lawful}
@@ -19,11 +8,6 @@ use Rattle.tlsf_heap.proofs.lemmas.calls.Outcomes.{IsSiteOf, by_released, by_wri
 use Rattle.tlsf_heap.proofs.lemmas.laws.NoFit.{no_fit}
 use Rattle.tlsf_heap.proofs.lemmas.blocks.Sums.{words_apart}
 use Rattle.tlsf_heap.proofs.lemmas.calls.Write.{length-overwritten, range_fits}
-use Rattle.tlsf_pool.specs.laws.Room.{live_count, sure, IsSnug}
-use Rattle.tlsf_pool.specs.laws.MixedSizes.{HasRoomFor, IsModest, IsSmall}
-use Rattle.tlsf_pool.specs.laws.Kinds.{Ledger, lengths, ledger_after, AreOfKinds, ArePlanned, IsPlanned, count_in, table_words, used}
-use Rattle.tlsf_pool.specs.laws.OneLarge.{longest_of, scattered_words, one_large_words, ResizesNone, OneLargeSuffices}
-use Rattle.tlsf_pool.specs.declared.kind.Kind.{Kind}
 use Rattle.tlsf_pool.proofs.lemmas.laws.Around.{around_site, words_kept}
 use Rattle.tlsf_pool.proofs.lemmas.laws.Choices.{IsChosen, IsNoBetter, by_chosen, no_lower}
 use Rattle.tlsf_pool.proofs.lemmas.laws.Comb.{too_small}

@@ -1,10 +1,5 @@
 -- The order of the kinds of a table doesn't change its words.
-use Rattle.std.proofs.Common.{◌≡◌, ℕ, ◌+◌, ◌-◌, ◌*◌, ◌&&◌, Bool, true, false, cond, List, [], ◌∷◌, ◌++◌, map, fold, max, nat_le, nat_lt, refl, ap, ◌∙◌, arith}
-use Rattle.std.specs.List.{list_all}
-use Rattle.tlsf_heap.specs.Blocks.{want}
-use Rattle.tlsf_pool.specs.laws.Room.{sure}
-use Rattle.tlsf_pool.specs.laws.Kinds.{are_fours, count_in, kinds_words, table_words, used, words_with, OrderIsNothing}
-use Rattle.tlsf_pool.specs.declared.kind.Kind.{Kind}
+use Rattle.tlsf_pool.proofs.Common.{◌≡◌, ℕ, ◌+◌, ◌-◌, ◌*◌, ◌&&◌, Bool, true, false, cond, List, [], ◌∷◌, ◌++◌, map, fold, max, nat_le, nat_lt, refl, ap, ◌∙◌, arith, list_all, want, sure, are_fours, count_in, kinds_words, table_words, used, words_with, OrderIsNothing, Kind}
 
 swap_sum : (a b n : ℕ) → a + (b + n) ≡ b + (a + n)
 swap_sum a b n = omega arith

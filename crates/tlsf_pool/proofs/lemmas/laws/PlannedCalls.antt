@@ -1,24 +1,10 @@
 -- A table of kinds that never refuses: what each call leaves of its bounds.
-use Rattle.std.proofs.Common.{◌≡◌, ◌≢◌, ℕ, zero, suc, ◌+◌, ◌-◌, ◌*◌, ◌<◌, ◌≤◌, Bool, true, false, cond, nat_le, nat_lt, List, [], ◌∷◌, length, map, fold, Err, refl, sym, ap, ◌∙◌, subst, max, add-zero, arith, le_trans}
-use Rattle.std.specs.List.{AllByRecursion, list_all}
-use Rattle.std.proofs.Math.Nat.{mul-le-mul}
-use Rattle.std.proofs.lemmas.Bool.{leb-true}
-use Rattle.std.proofs.lemmas.Bool.Decides.{nat_tests}
-use Rattle.tlsf_class.specs.Classes.{IsLevel, most_words}
-use Rattle.tlsf_heap.specs.Blocks.{Block, Live, Free, HeapState, words_in, want}
-use Rattle.tlsf_heap.specs.Lawful.{IsLawful}
-use Rattle.tlsf_heap.specs.Calls.{Call, Allocate, Release, Write, Resize, Read, allocated, answered, opened, run}
-use Rattle.tlsf_heap.specs.Reports.{live_among}
-use Rattle.tlsf_heap.specs.declared.refusal.Refusal.TheVariants.{NoFit}
+use Rattle.tlsf_pool.proofs.Common.{◌≡◌, ◌≢◌, ℕ, zero, suc, ◌+◌, ◌-◌, ◌*◌, ◌<◌, ◌≤◌, Bool, true, false, cond, nat_le, nat_lt, List, [], ◌∷◌, length, map, fold, Err, refl, sym, ap, ◌∙◌, subst, max, add-zero, arith, le_trans, AllByRecursion, list_all, mul-le-mul, leb-true, nat_tests, IsLevel, most_words, Block, Live, Free, HeapState, words_in, want, IsLawful, Call, Allocate, Release, Write, Resize, Read, allocated, answered, opened, run, live_among, NoFit, live_count, free_words, sure, IsSnug, AreModest, HasRoomFor, IsModest, Ledger, lengths, ledger_after, AreOfKinds, IsPlanned, ArePlanned, count_in, table_words, used, words_with, resized_words, are_fours, HasClass, StaysFour, KindsSuffice, ResizedSuffice, OneKindHasMixedWords, Kind}
 use Rattle.tlsf_heap.proofs.lemmas.blocks.Find.{and_left, and_right}
 use Rattle.tlsf_heap.proofs.lemmas.blocks.Sums.{words_apart}
 use Rattle.tlsf_heap.proofs.lemmas.calls.Outcomes.{lawful_run}
 use Rattle.tlsf_heap.proofs.lemmas.laws.NoFit.{no_fit}
 use Rattle.tlsf_heap.proofs.lemmas.blocks.Lawful.{opened_lawful}
-use Rattle.tlsf_pool.specs.laws.Room.{live_count, free_words, sure, IsSnug}
-use Rattle.tlsf_pool.specs.laws.MixedSizes.{AreModest, HasRoomFor, IsModest}
-use Rattle.tlsf_pool.specs.laws.Kinds.{Ledger, lengths, ledger_after, AreOfKinds, IsPlanned, ArePlanned, count_in, table_words, used, words_with, resized_words, are_fours, HasClass, StaysFour, KindsSuffice, ResizedSuffice, OneKindHasMixedWords}
-use Rattle.tlsf_pool.specs.declared.kind.Kind.{Kind}
 use Rattle.tlsf_pool.proofs.lemmas.laws.Around.{words_kept}
 use Rattle.tlsf_pool.proofs.lemmas.laws.FreeRoom.{finds_room, sure_rises, wants, less}
 use Rattle.tlsf_pool.proofs.lemmas.laws.Held.{one, counted, held_is}

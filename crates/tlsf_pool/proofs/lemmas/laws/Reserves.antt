@@ -1,14 +1,8 @@
 -- The reserve of a list of blocks: the words of its greatest hole, a large block in front of a hole counted to it. What edits leave of it.
-use Rattle.std.proofs.Common.{◌≡◌, ℕ, ◌+◌, ◌≤◌, ◌⊎◌, Bool, true, false, cond, max, nat_lt, List, [], ◌∷◌, ◌++◌, length, refl, sym, ap, ◌∙◌, subst, inl, inr, arith}
-use Rattle.std.specs.List.{AllByRecursion}
-use Rattle.std.proofs.lemmas.Bool.{false≢true, le-ltb}
-use Rattle.tlsf_heap.specs.Blocks.{Block, Live, Free, HeapState, size_of, words_in, bytes_of, is_free}
-use Rattle.tlsf_heap.specs.GoodFit.{Site}
-use Rattle.tlsf_heap.specs.Calls.{past_free, before_free, first_free, last_free, with_bytes}
+use Rattle.tlsf_pool.proofs.Common.{◌≡◌, ℕ, ◌+◌, ◌≤◌, ◌⊎◌, Bool, true, false, cond, max, nat_lt, List, [], ◌∷◌, ◌++◌, length, refl, sym, ap, ◌∙◌, subst, inl, inr, arith, AllByRecursion, false≢true, le-ltb, Block, Live, Free, HeapState, size_of, words_in, bytes_of, is_free, Site, past_free, before_free, first_free, last_free, with_bytes, IsSmall}
 use Rattle.tlsf_heap.proofs.lemmas.blocks.Coalesce.{by_last}
 use Rattle.tlsf_heap.proofs.lemmas.blocks.Lawful.{words_in-append}
 use Rattle.tlsf_heap.proofs.lemmas.calls.Outcomes.{IsSiteOf}
-use Rattle.tlsf_pool.specs.laws.MixedSizes.{IsSmall}
 use Rattle.tlsf_pool.proofs.lemmas.laws.FreeRoom.{IsHole}
 
 -- the free words that a list begins with, or those behind it where it is empty

@@ -1,20 +1,11 @@
 -- No live block has four words that it doesn't want.
-use Rattle.std.proofs.Common.{◌≡◌, ℕ, ◌+◌, ◌*◌, ◌≤◌, true, List, [], ◌∷◌, ◌++◌, length, replicate, sym, subst, inl, inr, arith}
-use Rattle.std.specs.List.{AllByRecursion}
-use Rattle.std.proofs.lemmas.List.{length-replicate}
-use Rattle.std.proofs.lemmas.Bool.{cases_lt, false≢true}
-use Rattle.tlsf_class.specs.Classes.{IsLevel}
-use Rattle.tlsf_heap.specs.Blocks.{Block, Live, Free, HeapState, size_of, words_in, bytes_of, want}
-use Rattle.tlsf_heap.specs.Calls.{Call, Allocate, Release, Write, Resize, Read, carved, before_free, with_bytes, has_serial, refitted, answered, opened, run}
-use Rattle.tlsf_heap.specs.Lawful.{IsLawful}
-use Rattle.tlsf_heap.specs.Reports.{live_among}
+use Rattle.tlsf_pool.proofs.Common.{◌≡◌, ℕ, ◌+◌, ◌*◌, ◌≤◌, true, List, [], ◌∷◌, ◌++◌, length, replicate, sym, subst, inl, inr, arith, AllByRecursion, length-replicate, cases_lt, false≢true, IsLevel, Block, Live, Free, HeapState, size_of, words_in, bytes_of, want, Call, Allocate, Release, Write, Resize, Read, carved, before_free, with_bytes, has_serial, refitted, answered, opened, run, IsLawful, live_among, IsSnug, BlocksAreSnug, wanted_words, SumSuffices}
 use Rattle.tlsf_heap.proofs.lemmas.blocks.Replace.{carved_small, carved_large}
 use Rattle.tlsf_heap.proofs.lemmas.blocks.Lawful.{all_append, opened_lawful}
 use Rattle.tlsf_heap.proofs.lemmas.blocks.Sums.{words_apart}
 use Rattle.tlsf_heap.proofs.lemmas.blocks.Find.{and_left}
 use Rattle.tlsf_heap.proofs.lemmas.calls.Write.{length-overwritten, range_fits}
 use Rattle.tlsf_heap.proofs.lemmas.calls.Outcomes.{by_allocated, by_released, by_written, lawful_run}
-use Rattle.tlsf_pool.specs.laws.Room.{IsSnug, BlocksAreSnug, wanted_words, SumSuffices}
 use Rattle.tlsf_heap.proofs.lemmas.laws.NoFit.{no_fit}
 use Rattle.tlsf_heap.proofs.lemmas.words.NewBytes.{length-fitted}
 use Rattle.tlsf_pool.proofs.lemmas.laws.FreeRoom.{finds_room}

@@ -1,13 +1,5 @@
 -- Blocks that fit a table of kinds: how many they are, and how many words they take.
-use Rattle.std.proofs.Common.{◌≡◌, ℕ, ◌+◌, ◌-◌, ◌*◌, ◌<◌, ◌≤◌, ◌⊎◌, suc, Bool, true, false, cond, List, [], ◌∷◌, length, map, filter, fold, max, nat_le, nat_lt, refl, sym, ap, ap₂, ◌∙◌, subst, inl, inr, arith, le_trans}
-use Rattle.std.specs.List.{AllByRecursion, list_all}
-use Rattle.std.proofs.Math.Nat.{mul-le-mul_right}
-use Rattle.std.proofs.lemmas.Bool.{cases_lt, lt-ltb, le-ltb, le-leb, lt-leb}
-use Rattle.std.proofs.lemmas.Bool.Decides.{nat_tests}
-use Rattle.tlsf_heap.specs.Blocks.{want}
-use Rattle.tlsf_pool.specs.laws.Room.{sure}
-use Rattle.tlsf_pool.specs.laws.Kinds.{AreOfKinds, count_in, table_words, used, EmptyKindsAreNothing}
-use Rattle.tlsf_pool.specs.declared.kind.Kind.{Kind}
+use Rattle.tlsf_pool.proofs.Common.{◌≡◌, ℕ, ◌+◌, ◌-◌, ◌*◌, ◌<◌, ◌≤◌, ◌⊎◌, suc, Bool, true, false, cond, List, [], ◌∷◌, length, map, filter, fold, max, nat_le, nat_lt, refl, sym, ap, ap₂, ◌∙◌, subst, inl, inr, arith, le_trans, AllByRecursion, list_all, mul-le-mul_right, cases_lt, lt-ltb, le-ltb, le-leb, lt-leb, nat_tests, want, sure, AreOfKinds, count_in, table_words, used, EmptyKindsAreNothing, Kind}
 use Rattle.tlsf_pool.proofs.lemmas.laws.Ledgers.{sum_of, sum_one}
 use Rattle.tlsf_pool.proofs.lemmas.laws.Held.{one}
 

@@ -1,24 +1,12 @@
 -- Calls that leave holes just too small for a request, each between two live blocks.
-use Rattle.std.proofs.Common.{◌≡◌, ℕ, zero, suc, ◌+◌, ◌-◌, ◌*◌, ◌^◌, ◌<◌, ◌≤◌, ◌||◌, ◌&&◌, ◌==◌, Bool, true, false, cond, nat_le, nat_lt, List, [], ◌∷◌, ◌++◌, length, replicate, filter, find, Option, Some, None, Ok, refl, sym, ap, ap₂, ◌∙◌, subst, arith, append_assoc, append-nil, eq-eqb}
-use Rattle.std.specs.List.{AllByRecursion, list_all}
-use Rattle.std.proofs.lemmas.Bool.{ne_eqb}
-use Rattle.std.proofs.lemmas.Bool.Decides.{nat_tests}
-use Rattle.tlsf_class.specs.Classes.{IsLevel, class_of, most_words}
+use Rattle.tlsf_pool.proofs.Common.{◌≡◌, ℕ, zero, suc, ◌+◌, ◌-◌, ◌*◌, ◌^◌, ◌<◌, ◌≤◌, ◌||◌, ◌&&◌, ◌==◌, Bool, true, false, cond, nat_le, nat_lt, List, [], ◌∷◌, ◌++◌, length, replicate, filter, find, Option, Some, None, Ok, refl, sym, ap, ap₂, ◌∙◌, subst, arith, append_assoc, append-nil, eq-eqb, AllByRecursion, list_all, ne_eqb, nat_tests, IsLevel, class_of, most_words, Block, Live, Free, HeapState, words_in, is_free, serials, want, Site, sites_behind, place_of, is_fit, is_as_good, fits, choice, NoneFits, Outcome, Call, Allocate, Release, carved, allocated_at, answered, before_free, last_free, first_free, past_free, is_named, refused, released_at, opened, run, last_tick, live_among, free_among, Name, Worn, live_count, free_words, sure, RoomIsTight}
 use Rattle.tlsf_class.proofs.TwoLevels.{most_words_any}
 use Rattle.tlsf_class.proofs.ClassOfSize.{search_of-is}
-use Rattle.tlsf_heap.specs.Blocks.{Block, Live, Free, HeapState, words_in, is_free, serials, want}
-use Rattle.tlsf_heap.specs.GoodFit.{Site, sites_behind, place_of, is_fit, is_as_good, fits, choice}
-use Rattle.tlsf_heap.specs.Chosen.{NoneFits}
-use Rattle.tlsf_heap.specs.Calls.{Outcome, Call, Allocate, Release, carved, allocated_at, answered, before_free, last_free, first_free, past_free, is_named, refused, released_at, opened, run, last_tick}
-use Rattle.tlsf_heap.specs.Reports.{live_among, free_among}
-use Rattle.tlsf_heap.specs.declared.name.Name.{Name}
-use Rattle.tlsf_heap.specs.declared.refusal.Refusal.TheVariants.{Worn}
 use Rattle.tlsf_heap.proofs.lemmas.blocks.Replace.{carved_large}
 use Rattle.tlsf_heap.proofs.lemmas.blocks.LastFree.{ends_live}
 use Rattle.tlsf_heap.proofs.lemmas.blocks.Lawful.{all_weaker, serials-append, words_in-append, all_append}
 use Rattle.tlsf_heap.proofs.lemmas.calls.Outcomes.{takes}
 use Rattle.tlsf_heap.proofs.lemmas.blocks.Sites.{fits_nothing}
-use Rattle.tlsf_pool.specs.laws.Room.{live_count, free_words, sure, RoomIsTight}
 use Rattle.tlsf_pool.proofs.lemmas.laws.Comb.{too_small}
 use Rattle.tlsf_pool.proofs.lemmas.laws.FreeRoom.{serves_sure, sure_is, sure_upto}
 use Rattle.tlsf_pool.proofs.lemmas.laws.FixedSize.{sure_four}

@@ -1,21 +1,8 @@
 -- What the clauses of a table's calls say.
-use Rattle.std.proofs.Common.{◌≡◌, ◌≢◌, ℕ, zero, suc, ◌+◌, ◌-◌, ◌<◌, ◌≤◌, ◌↔◌, List, [], ◌∷◌, length, get_or, set, Option, Some, None, Ok, Err, refl, sym, ap, ◌∙◌, subst, inl, inr, arith, le_trans}
-use Rattle.std.specs.List.{sum}
-use Rattle.std.specs.Prelude.{IsSomeAnd, slice_index}
-use Rattle.std.proofs.lemmas.Bool.{cases_lt}
-use Rattle.tlsf_heap.specs.Blocks.{HeapState, bytes_of, want}
-use Rattle.tlsf_heap.specs.Given.{payload_words_at}
-use Rattle.tlsf_heap.specs.GoodFit.{block_at}
+use Rattle.tlsf_pool.proofs.Common.{◌≡◌, ◌≢◌, ℕ, zero, suc, ◌+◌, ◌-◌, ◌<◌, ◌≤◌, ◌↔◌, List, [], ◌∷◌, length, get_or, set, Option, Some, None, Ok, Err, refl, sym, ap, ◌∙◌, subst, inl, inr, arith, le_trans, sum, IsSomeAnd, slice_index, cases_lt, HeapState, bytes_of, want, payload_words_at, block_at, IsGrant, live_among, named, released, Name, NoFit, fixed_size, AreOfKinds, count_in, HasPlace, HoldsOneMore, IsFull, IsTable, TableRows, held_of, lengths_in, most_at, row_of, table_allocated}
 use Rattle.tlsf_heap.specs.InPlace.{payload_of}
 use Rattle.tlsf_heap.specs.Named.{IsNamed}
-use Rattle.tlsf_heap.specs.Reports.{IsGrant, live_among}
-use Rattle.tlsf_heap.specs.Calls.{named, released}
-use Rattle.tlsf_heap.specs.declared.name.Name.{Name}
-use Rattle.tlsf_heap.specs.declared.refusal.Refusal.TheVariants.{NoFit}
 use Rattle.tlsf_heap.proofs.lemmas.calls.Alter.{payload_is}
-use Rattle.tlsf_pool.specs.laws.FixedSize.{fixed_size}
-use Rattle.tlsf_pool.specs.laws.Kinds.{AreOfKinds, count_in}
-use Rattle.tlsf_pool.specs.pools.Tables.{HasPlace, HoldsOneMore, IsFull, IsTable, TableRows, held_of, lengths_in, most_at, row_of, table_allocated}
 use Rattle.tlsf_pool.proofs.lemmas.pools.Counts.{HasOneMore, fit_less, fit_more, held_few, held_length, held_more, held_sum, none, place, row_is, row_within, same_held, this_row}
 use Rattle.tlsf_pool.proofs.lemmas.pools.TableKept.{given_table, taken_fit, taken_lengths, taken_table}
 use Rattle.tlsf_pool.proofs.lemmas.laws.PlannedCalls.{live_lengths}

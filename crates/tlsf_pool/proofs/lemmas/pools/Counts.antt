@@ -1,15 +1,8 @@
 -- How many lengths count for each row of a table. The order of the lengths doesn't matter, so all goes by sums over them.
-use Rattle.std.proofs.Common.{◌≡◌, ℕ, zero, suc, ◌+◌, ◌<◌, ◌≤◌, ◌⊎◌, Bool, true, false, not, cond, List, [], ◌∷◌, length, filter, replicate, get_or, set, nat_le, nat_lt, Option, Some, None, refl, sym, ap, ap₂, ◌∙◌, subst, inl, inr, arith, zero-add}
-use Rattle.std.specs.List.{position_or_len, sum}
-use Rattle.std.proofs.lemmas.Bool.Decides.{nat_tests}
-use Rattle.std.proofs.lemmas.List.Sums.{sum_by-cons}
-use Rattle.std.proofs.lemmas.Bool.{cases_lt, lt-ltb, le-ltb, le-leb, lt-leb}
-use Rattle.tlsf_pool.specs.laws.Kinds.{AreOfKinds}
-use Rattle.tlsf_pool.specs.declared.kind.Kind.{Kind}
+use Rattle.tlsf_pool.proofs.Common.{◌≡◌, ℕ, zero, suc, ◌+◌, ◌<◌, ◌≤◌, ◌⊎◌, Bool, true, false, not, cond, List, [], ◌∷◌, length, filter, replicate, get_or, set, nat_le, nat_lt, Option, Some, None, refl, sym, ap, ap₂, ◌∙◌, subst, inl, inr, arith, zero-add, position_or_len, sum, nat_tests, sum_by-cons, cases_lt, lt-ltb, le-ltb, le-leb, lt-leb, AreOfKinds, Kind, held_of, row_of}
 use Rattle.tlsf_pool.proofs.lemmas.laws.Held.{one}
 use Rattle.tlsf_pool.proofs.lemmas.laws.Ledgers.{sum_of, sum_one}
 use Rattle.tlsf_pool.proofs.lemmas.laws.Tables.{short, long, split}
-use Rattle.tlsf_pool.specs.pools.Tables.{held_of, row_of}
 
 -- ---- by sums
 

@@ -1,15 +1,7 @@
 -- The block that a pool gave has just the words of each.
-use Rattle.std.proofs.Common.{◌≡◌, ℕ, ◌-◌, ◌≤◌, false, true, Option, Some, None, refl, arith}
-use Rattle.std.proofs.lemmas.Bool.{false≢true}
-use Rattle.tlsf_heap.specs.Blocks.{Block, Live, Free, HeapState, is_free}
-use Rattle.tlsf_heap.specs.GoodFit.{Site}
-use Rattle.tlsf_heap.specs.Given.{payload_words_at}
-use Rattle.tlsf_heap.specs.Lawful.{IsLawful}
-use Rattle.tlsf_heap.specs.Calls.{has_serial, named}
-use Rattle.tlsf_heap.specs.declared.name.Name.{Name}
+use Rattle.tlsf_pool.proofs.Common.{◌≡◌, ℕ, ◌-◌, ◌≤◌, false, true, Option, Some, None, refl, arith, false≢true, Block, Live, Free, HeapState, is_free, Site, payload_words_at, IsLawful, has_serial, named, Name, HasFixedSize, IsMultiple, IsWhole}
 use Rattle.tlsf_heap.proofs.lemmas.blocks.Find.{and_left}
 use Rattle.tlsf_heap.proofs.lemmas.calls.Outcomes.{named_site}
-use Rattle.tlsf_pool.specs.laws.FixedSize.{HasFixedSize, IsMultiple, IsWhole}
 use Rattle.tlsf_pool.proofs.lemmas.laws.Around.{around_site}
 use Rattle.tlsf_pool.proofs.lemmas.laws.FixedSize.{blocks_whole}
 

@@ -1,21 +1,7 @@
 -- Several heaps stay heaps for the parts of a table, whichever of them a call changes.
-use Rattle.std.proofs.Common.{◌≡◌, ◌≢◌, ℕ, zero, suc, ◌+◌, ◌-◌, ◌<◌, ◌≤◌, ◌↔◌, ◌&&◌, Bool, true, false, cond, List, [], ◌∷◌, length, get_or, set, nat_le, nat_lt, Option, Some, None, Result, Ok, Err, refl, sym, ap, ◌∙◌, subst, inl, inr, arith}
-use Rattle.std.specs.List.{AllByRecursion}
-use Rattle.std.specs.Prelude.{IfSome, IsOk, IsSomeAnd, OnErr, OnOk, is_some}
-use Rattle.std.proofs.lemmas.Bool.{cases_lt, false≢true, le-ltb, lt-ltb}
-use Rattle.std.proofs.lemmas.List.Sums.{position_or_len_is}
-use Rattle.std.proofs.lemmas.Bool.Decides.{nat_tests}
+use Rattle.tlsf_pool.proofs.Common.{◌≡◌, ◌≢◌, ℕ, zero, suc, ◌+◌, ◌-◌, ◌<◌, ◌≤◌, ◌↔◌, ◌&&◌, Bool, true, false, cond, List, [], ◌∷◌, length, get_or, set, nat_le, nat_lt, Option, Some, None, Result, Ok, Err, refl, sym, ap, ◌∙◌, subst, inl, inr, arith, AllByRecursion, IfSome, IsOk, IsSomeAnd, OnErr, OnOk, is_some, cases_lt, false≢true, le-ltb, lt-ltb, position_or_len_is, nat_tests, HeapState, payload_words_given, Release, Write, released, written, Name, PoolRefusal, SameLedger, IsTabled, TableState, row_of, table_allocated, fixed_size, ArePools, OnlyPart, PoolsState, named_in, no_part, part_at, part_in}
 use Rattle.std.proofs.lemmas.List.Quantifiers.{position-Some}
-use Rattle.tlsf_heap.specs.Blocks.{HeapState}
-use Rattle.tlsf_heap.specs.Given.{payload_words_given}
-use Rattle.tlsf_heap.specs.Calls.{Release, Write, released, written}
-use Rattle.tlsf_heap.specs.declared.name.Name.{Name}
 use Rattle.tlsf_heap.proofs.lemmas.calls.Outcomes.{by_allocated_words, ids}
-use Rattle.tlsf_pool.specs.declared.pools.pool_refusal.PoolRefusal.{PoolRefusal}
-use Rattle.tlsf_heap.specs.ledger.Ledgers.{SameLedger}
-use Rattle.tlsf_pool.specs.pools.Tables.{IsTabled, TableState, row_of, table_allocated}
-use Rattle.tlsf_pool.specs.laws.FixedSize.{fixed_size}
-use Rattle.tlsf_pool.specs.pools.Parts.{ArePools, OnlyPart, PoolsState, named_in, no_part, part_at, part_in}
 use Rattle.tlsf_pool.proofs.lemmas.pools.Counts.{this_row}
 
 -- ---- one of a list

@@ -1,16 +1,6 @@
 -- New heaps for the parts of a table, one behind the other.
-use Rattle.std.proofs.Common.{◌≡◌, ℕ, zero, suc, ◌+◌, ◌-◌, ◌<◌, ◌≤◌, List, [], ◌∷◌, ◌++◌, length, replicate, get_or, take, drop, min, refl, sym, ap, ◌∙◌, subst, arith, append_assoc, add-zero, length-append, length-drop}
-use Rattle.std.specs.List.{AllByRecursion}
-use Rattle.tlsf_heap.specs.Blocks.{HeapState}
-use Rattle.tlsf_heap.specs.Calls.{opened}
+use Rattle.tlsf_pool.proofs.Common.{◌≡◌, ℕ, zero, suc, ◌+◌, ◌-◌, ◌<◌, ◌≤◌, List, [], ◌∷◌, ◌++◌, length, replicate, get_or, take, drop, min, refl, sym, ap, ◌∙◌, subst, arith, append_assoc, add-zero, length-append, length-drop, AllByRecursion, HeapState, opened, fixed_kinds_words, Kind, Rises, IsLeast, IsPart, HasWords, cut_by, parts_of, Split, IsTabled, TableState, AreNew, ArePools, IsNew, no_part}
 use Rattle.tlsf_heap.specs.Memory.{Extent}
-use Rattle.tlsf_pool.specs.laws.FixedSize.{fixed_kinds_words}
-use Rattle.tlsf_pool.specs.declared.kind.Kind.{Kind}
-use Rattle.tlsf_pool.specs.sizes.Rising.{Rises}
-use Rattle.tlsf_pool.specs.sizes.Splits.{IsLeast, IsPart, HasWords, cut_by, parts_of}
-use Rattle.tlsf_pool.specs.declared.sizes.split.Split.{Split}
-use Rattle.tlsf_pool.specs.pools.Tables.{IsTabled, TableState}
-use Rattle.tlsf_pool.specs.pools.Parts.{AreNew, ArePools, IsNew, no_part}
 use Rattle.tlsf_pool.proofs.lemmas.sizes.Risings.{parts_rise}
 
 module _ (sli first : ℕ) where

@@ -1,23 +1,9 @@
 -- A pool stays one through its calls.
-use Rattle.std.proofs.Common.{◌≡◌, ◌≢◌, ℕ, ◌+◌, ◌-◌, ◌*◌, ◌<◌, ◌≤◌, List, [], max, Result, Ok, Err, refl, sym, ap, ◌∙◌, subst, arith}
-use Rattle.std.proofs.Math.Nat.{mul-le-mul_right}
-use Rattle.tlsf_class.specs.Classes.{IsLevel, most_words}
-use Rattle.tlsf_heap.specs.Blocks.{HeapState, want}
-use Rattle.tlsf_heap.specs.GoodFit.{fits}
-use Rattle.tlsf_heap.specs.Reports.{IsGrant}
-use Rattle.tlsf_heap.specs.Calls.{Call, Allocate, Release, Write, Allocated, Released, released, written, opened}
-use Rattle.tlsf_heap.specs.declared.name.Name.{Name}
-use Rattle.tlsf_heap.specs.declared.refusal.Refusal.{Refusal}
-use Rattle.tlsf_heap.specs.declared.refusal.Refusal.TheVariants.{NoFit}
+use Rattle.tlsf_pool.proofs.Common.{◌≡◌, ◌≢◌, ℕ, ◌+◌, ◌-◌, ◌*◌, ◌<◌, ◌≤◌, List, [], max, Result, Ok, Err, refl, sym, ap, ◌∙◌, subst, arith, mul-le-mul_right, IsLevel, most_words, HeapState, want, fits, IsGrant, Call, Allocate, Release, Write, Allocated, Released, released, written, opened, Name, Refusal, NoFit, live_count, sure, IsMultiple, answered_fixed, fixed_words, held_after, IsModest, Bounds, IsPool, pool_allocated}
 use Rattle.tlsf_heap.proofs.lemmas.blocks.Lawful.{opened_lawful}
 use Rattle.tlsf_heap.proofs.lemmas.laws.NoFit.{no_fit_words}
-use Rattle.tlsf_pool.specs.laws.Room.{live_count, sure}
-use Rattle.tlsf_pool.specs.laws.FixedSize.{IsMultiple, answered_fixed, fixed_words}
-use Rattle.tlsf_pool.specs.laws.Held.{held_after}
-use Rattle.tlsf_pool.specs.laws.MixedSizes.{IsModest}
 use Rattle.tlsf_pool.proofs.lemmas.laws.FixedCalls.{InFixed, held_fixed, kept}
 use Rattle.tlsf_pool.proofs.lemmas.laws.FixedSize.{finds_fixed, finds_sure, new_fixed, sure_again, sure_region}
-use Rattle.tlsf_pool.specs.pools.Bounds.{Bounds, IsPool, pool_allocated}
 
 -- a new pool
 pub new_pool : (sli id most longest first : ℕ) (h : HeapState) → IsLevel sli → want longest ≤ most_words sli → h ≡ opened id (fixed_words sli most longest) first

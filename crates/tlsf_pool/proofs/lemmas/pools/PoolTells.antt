@@ -1,17 +1,8 @@
 -- What the answers of a pool tell.
-use Rattle.std.proofs.Common.{◌≡◌, ℕ, ◌<◌, ◌≤◌, Bool, true, false, cond, Result, Ok, Err, IsOk, refl, sym, subst, arith, nat_lt, nat_le}
-use Rattle.std.proofs.lemmas.Bool.{false≢true}
-use Rattle.std.proofs.lemmas.Bool.Decides.{nat_tests}
-use Rattle.tlsf_heap.specs.Blocks.{HeapState, want}
-use Rattle.tlsf_heap.specs.declared.name.Name.{Name}
-use Rattle.tlsf_heap.specs.declared.refusal.Refusal.{Refusal}
+use Rattle.tlsf_pool.proofs.Common.{◌≡◌, ℕ, ◌<◌, ◌≤◌, Bool, true, false, cond, Result, Ok, Err, IsOk, refl, sym, subst, arith, nat_lt, nat_le, false≢true, nat_tests, HeapState, want, Name, Refusal, PoolRefusal, TooLong, Full, sure, Bounds, IsPool, TellsBounds, answered_within, or_worn, pool_allocated}
 use Rattle.tlsf_heap.proofs.lemmas.laws.NoFit.{ok_words}
-use Rattle.tlsf_pool.specs.declared.pools.pool_refusal.PoolRefusal.{PoolRefusal}
-use Rattle.tlsf_pool.specs.declared.pools.pool_refusal.PoolRefusal.TheVariants.{TooLong, Full}
-use Rattle.tlsf_pool.specs.laws.Room.{sure}
 use Rattle.tlsf_pool.proofs.lemmas.pools.Given.{given_whole}
 use Rattle.tlsf_pool.proofs.lemmas.pools.PoolKept.{fits_pool, four, given_pool, room, whole_words}
-use Rattle.tlsf_pool.specs.pools.Bounds.{Bounds, IsPool, TellsBounds, answered_within, or_worn, pool_allocated}
 
 pub either : {X : Type 0} (P : X → Type 0) (b : Bool) (x y : X) → (b ≡ true → P x) → (b ≡ false → P y) → P (cond b x y)
 either P true x y f g = f refl

@@ -1,19 +1,6 @@
 -- A request that has a place in its table finds room.
-use Rattle.std.proofs.Common.{◌≡◌, ◌≢◌, ℕ, ◌+◌, ◌≤◌, List, [], ◌∷◌, length, Err, refl, ap, arith, le_trans}
-use Rattle.std.specs.List.{AllByRecursion}
-use Rattle.tlsf_class.specs.Classes.{IsLevel, most_words}
-use Rattle.tlsf_heap.specs.Blocks.{Block, HeapState, Live, Free, want}
-use Rattle.tlsf_heap.specs.GoodFit.{fits}
-use Rattle.tlsf_heap.specs.declared.refusal.Refusal.TheVariants.{NoFit}
+use Rattle.tlsf_pool.proofs.Common.{◌≡◌, ◌≢◌, ℕ, ◌+◌, ◌≤◌, List, [], ◌∷◌, length, Err, refl, ap, arith, le_trans, AllByRecursion, IsLevel, most_words, Block, HeapState, Live, Free, want, fits, NoFit, live_count, sure, AreOfKinds, HasClass, count_in, used, longest_of, fixed_size, fixed_words, IsModest, Allocate, Kind, IsTable, TableRows, lengths_in, table_allocated}
 use Rattle.tlsf_heap.proofs.lemmas.laws.NoFit.{no_fit_words}
-use Rattle.tlsf_pool.specs.laws.Room.{live_count, sure}
-use Rattle.tlsf_pool.specs.laws.Kinds.{AreOfKinds, HasClass, count_in, used}
-use Rattle.tlsf_pool.specs.laws.OneLarge.{longest_of}
-use Rattle.tlsf_pool.specs.laws.FixedSize.{fixed_size, fixed_words}
-use Rattle.tlsf_pool.specs.laws.MixedSizes.{IsModest}
-use Rattle.tlsf_heap.specs.Calls.{Allocate}
-use Rattle.tlsf_pool.specs.declared.kind.Kind.{Kind}
-use Rattle.tlsf_pool.specs.pools.Tables.{IsTable, TableRows, lengths_in, table_allocated}
 use Rattle.tlsf_pool.proofs.lemmas.laws.FixedCalls.{InFixed}
 use Rattle.tlsf_pool.proofs.lemmas.laws.FixedSize.{finds_fixed, finds_sure, sure_again, sure_region}
 use Rattle.tlsf_pool.proofs.lemmas.laws.Ledgers.{sum_of}

@@ -1,25 +1,10 @@
 -- A table stays one through its calls.
-use Rattle.std.proofs.Common.{◌≡◌, ℕ, ◌+◌, ◌≤◌, eqb, List, ◌∷◌, length, replicate, get_or, set, Option, Some, None, Ok, refl, sym, ap, ◌∙◌, subst}
-use Rattle.std.specs.List.{AllByRecursion}
-use Rattle.tlsf_class.specs.Classes.{IsLevel}
-use Rattle.tlsf_heap.specs.Blocks.{HeapState, bytes_of}
-use Rattle.tlsf_heap.specs.GoodFit.{Site}
-use Rattle.tlsf_heap.specs.Calls.{Outcome, Call, Allocate, Release, Write, allocated_words, released, written, named, released_at, refused, is_worn, opened}
+use Rattle.tlsf_pool.proofs.Common.{◌≡◌, ℕ, ◌+◌, ◌≤◌, eqb, List, ◌∷◌, length, replicate, get_or, set, Option, Some, None, Ok, refl, sym, ap, ◌∙◌, subst, AllByRecursion, IsLevel, HeapState, bytes_of, Site, Outcome, Call, Allocate, Release, Write, allocated_words, released, written, named, released_at, refused, is_worn, opened, IsLawful, Name, Foreign, Worn, live_count, answered_fixed, fixed_kinds_words, fixed_size, longest_of, IsModest, AreOfKinds, HasClass, count_in, used, Kind, IsTable, TableExtents, TableRows, held_of, lengths_in, table_allocated}
 use Rattle.tlsf_heap.specs.InPlace.{payload_of, bytes_at}
-use Rattle.tlsf_heap.specs.Lawful.{IsLawful}
-use Rattle.tlsf_heap.specs.declared.name.Name.{Name}
-use Rattle.tlsf_heap.specs.declared.refusal.Refusal.TheVariants.{Foreign, Worn}
 use Rattle.tlsf_heap.proofs.lemmas.calls.Outcomes.{by_test, by_allocated_words, by_written, named_site, gives_words, takes, writes}
-use Rattle.tlsf_pool.specs.laws.Room.{live_count}
-use Rattle.tlsf_pool.specs.laws.FixedSize.{answered_fixed, fixed_kinds_words, fixed_size}
-use Rattle.tlsf_pool.specs.laws.OneLarge.{longest_of}
-use Rattle.tlsf_pool.specs.laws.MixedSizes.{IsModest}
-use Rattle.tlsf_pool.specs.laws.Kinds.{AreOfKinds, HasClass, count_in, used}
-use Rattle.tlsf_pool.specs.declared.kind.Kind.{Kind}
 use Rattle.tlsf_pool.proofs.lemmas.laws.FixedCalls.{kept}
 use Rattle.tlsf_pool.proofs.lemmas.laws.FixedSize.{new_fixed}
 use Rattle.tlsf_pool.proofs.lemmas.laws.Loads.{load_given_words, load_taken, load_written}
-use Rattle.tlsf_pool.specs.pools.Tables.{IsTable, TableExtents, TableRows, held_of, lengths_in, table_allocated}
 use Rattle.tlsf_pool.proofs.lemmas.pools.Counts.{SameTotals, same_fit, same_held, held_none, fit_none, fit_less, held_more, place}
 use Rattle.tlsf_pool.proofs.lemmas.pools.Served.{enough, in_table, lengths_load, longest_used, modest}
 

@@ -1,17 +1,6 @@
 -- What the answers of a table tell.
-use Rattle.std.proofs.Common.{◌≡◌, ℕ, ◌<◌, ◌≤◌, false, Option, Some, None, Result, Ok, Err, IsOk, refl, sym, subst, arith, nat_lt, slice_index}
-use Rattle.std.proofs.lemmas.Bool.{false≢true}
-use Rattle.std.proofs.lemmas.Bool.Decides.{nat_tests}
-use Rattle.std.specs.Prelude.{IsSomeAnd}
-use Rattle.tlsf_heap.specs.Blocks.{HeapState}
-use Rattle.tlsf_heap.specs.declared.name.Name.{Name}
-use Rattle.tlsf_heap.specs.declared.refusal.Refusal.{Refusal}
+use Rattle.tlsf_pool.proofs.Common.{◌≡◌, ℕ, ◌<◌, ◌≤◌, false, Option, Some, None, Result, Ok, Err, IsOk, refl, sym, subst, arith, nat_lt, slice_index, false≢true, nat_tests, IsSomeAnd, HeapState, Name, Refusal, PoolRefusal, TooLong, Full, or_worn, IsTable, TableRows, TellsTable, answered_by_table, answered_in, most_at, row_of, table_allocated, fixed_size}
 use Rattle.tlsf_heap.proofs.lemmas.laws.NoFit.{ok_words}
-use Rattle.tlsf_pool.specs.declared.pools.pool_refusal.PoolRefusal.{PoolRefusal}
-use Rattle.tlsf_pool.specs.declared.pools.pool_refusal.PoolRefusal.TheVariants.{TooLong, Full}
-use Rattle.tlsf_pool.specs.pools.Bounds.{or_worn}
-use Rattle.tlsf_pool.specs.pools.Tables.{IsTable, TableRows, TellsTable, answered_by_table, answered_in, most_at, row_of, table_allocated}
-use Rattle.tlsf_pool.specs.laws.FixedSize.{fixed_size}
 use Rattle.tlsf_pool.proofs.lemmas.pools.Answering.{of_some, none_some, full_at, given_words, is_planned, planned, room}
 use Rattle.tlsf_pool.proofs.lemmas.pools.Served.{fits_table}
 use Rattle.tlsf_pool.proofs.lemmas.pools.PoolTells.{either}

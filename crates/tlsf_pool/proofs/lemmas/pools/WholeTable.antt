@@ -1,25 +1,8 @@
 -- The rows of the whole table, which the parts have one part behind the other.
-use Rattle.std.proofs.Common.{◌≡◌, ◌≢◌, ℕ, zero, suc, ◌+◌, ◌-◌, ◌<◌, ◌≤◌, ◌↔◌, ◌&&◌, Bool, true, false, cond, List, [], ◌∷◌, ◌++◌, length, take, get_or, set, nat_le, nat_lt, Option, Some, None, Result, Ok, Err, map, refl, sym, ap, ap₂, ◌∙◌, subst, inl, inr, arith, length-append}
-use Rattle.std.specs.List.{AllByRecursion, position_or_len}
-use Rattle.std.specs.Prelude.{IfOk, IsSomeAnd, OnOk, is_some}
-use Rattle.std.proofs.lemmas.Bool.{cases_lt, false≢true, le-leb, le-ltb, lt-leb, lt-ltb}
-use Rattle.std.proofs.lemmas.Bool.Decides.{nat_tests}
-use Rattle.std.proofs.lemmas.List.{get_or_append_left, get_or-append-add, set-append_left, set-append_right}
+use Rattle.tlsf_pool.proofs.Common.{◌≡◌, ◌≢◌, ℕ, zero, suc, ◌+◌, ◌-◌, ◌<◌, ◌≤◌, ◌↔◌, ◌&&◌, Bool, true, false, cond, List, [], ◌∷◌, ◌++◌, length, take, get_or, set, nat_le, nat_lt, Option, Some, None, Result, Ok, Err, map, refl, sym, ap, ap₂, ◌∙◌, subst, inl, inr, arith, length-append, AllByRecursion, position_or_len, IfOk, IsSomeAnd, OnOk, is_some, cases_lt, false≢true, le-leb, le-ltb, lt-leb, lt-ltb, nat_tests, get_or_append_left, get_or-append-add, set-append_left, set-append_right, fails_before_first, position_or_len_is, HeapState, allocated_words, place_of, Name, Kind, Rises, len_at, joined, PoolRefusal, AreAllReached, CountsOneMore, HoldsOneMore, IsTabled, TableExtents, TableState, lengths_in, row_of, table_allocated, fixed_size, AreNew, ArePools, HasRow, PoolsState, Stay, held_by, held_in, memory_of, named_in, no_part, part_at, part_in, part_named, part_of, rows_before, rows_in, table_of}
 use Rattle.std.proofs.lemmas.List.Quantifiers.{position-Some}
-use Rattle.std.proofs.lemmas.List.Sums.{fails_before_first, position_or_len_is}
-use Rattle.tlsf_heap.specs.Blocks.{HeapState}
-use Rattle.tlsf_heap.specs.Calls.{allocated_words}
-use Rattle.tlsf_heap.specs.GoodFit.{place_of}
 use Rattle.tlsf_heap.specs.Memory.{Extents}
-use Rattle.tlsf_heap.specs.declared.name.Name.{Name}
 use Rattle.tlsf_heap.proofs.lemmas.calls.Outcomes.{by_allocated_words}
-use Rattle.tlsf_pool.specs.declared.kind.Kind.{Kind}
-use Rattle.tlsf_pool.specs.sizes.Rising.{Rises, len_at}
-use Rattle.tlsf_pool.specs.sizes.Splits.{joined}
-use Rattle.tlsf_pool.specs.declared.pools.pool_refusal.PoolRefusal.{PoolRefusal}
-use Rattle.tlsf_pool.specs.pools.Tables.{AreAllReached, CountsOneMore, HoldsOneMore, IsTabled, TableExtents, TableState, lengths_in, row_of, table_allocated}
-use Rattle.tlsf_pool.specs.laws.FixedSize.{fixed_size}
-use Rattle.tlsf_pool.specs.pools.Parts.{AreNew, ArePools, HasRow, PoolsState, Stay, held_by, held_in, memory_of, named_in, no_part, part_at, part_in, part_named, part_of, rows_before, rows_in, table_of}
 use Rattle.tlsf_pool.proofs.lemmas.pools.Answering.{of_some, some_of}
 use Rattle.tlsf_pool.proofs.lemmas.pools.Counts.{held_length, next_row, place, row_is, this_row}
 use Rattle.tlsf_pool.proofs.lemmas.pools.Heaps.{is_part, part_has}

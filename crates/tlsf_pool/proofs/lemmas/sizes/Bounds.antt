@@ -1,12 +1,7 @@
 -- How far the greatest region goes.
-use Rattle.std.proofs.Common.{◌≡◌, ℕ, zero, suc, ◌+◌, ◌-◌, ◌*◌, ◌/◌, ◌<◌, ◌≤◌, max, arith, inl, inr, le_trans}
-use Rattle.std.proofs.lemmas.Bool.{cases_lt}
-use Rattle.tlsf_heap.specs.Blocks.{want}
-use Rattle.tlsf_pool.specs.laws.Room.{sure}
-use Rattle.tlsf_pool.specs.laws.MixedSizes.{mixed_words}
+use Rattle.tlsf_pool.proofs.Common.{◌≡◌, ℕ, zero, suc, ◌+◌, ◌-◌, ◌*◌, ◌/◌, ◌<◌, ◌≤◌, max, arith, inl, inr, le_trans, cases_lt, want, sure, mixed_words, IsLevel, most_words}
 use Rattle.tlsf_pool.proofs.lemmas.laws.FreeRoom.{sure_enough, sure_rises, wants, less}
 use Rattle.tlsf_pool.proofs.lemmas.laws.ModestCalls.{mixed_of_fours, mixed_of_more}
-use Rattle.tlsf_class.specs.Classes.{IsLevel, most_words}
 use Rattle.tlsf_pool.proofs.lemmas.sizes.Sizes.{products, some_words}
 
 sums : (a b c d : ℕ) → a ≤ b → c ≤ d → a + c + 1 ≤ b + d + 1

@@ -1,16 +1,7 @@
 -- The least way of cutting kinds, from its end.
-use Rattle.std.proofs.Common.{◌≡◌, ◌≢◌, ℕ, zero, suc, ◌+◌, ◌-◌, ◌^◌, ◌<◌, ◌≤◌, ◌⊎◌, inl, inr, Bool, true, false, cond, List, [], ◌∷◌, ◌++◌, length, get_or, set, take, drop, Option, Some, None, refl, ap, ap₂, sym, ◌∙◌, subst, arith, add-one, get_or-set_other, get_or-set_same, take-append-drop, length-take, length-drop, length-set, length-append, drop_of_length-le}
-use Rattle.std.proofs.Common.{drop-drop, get_or-drop, take_all}
-use Rattle.std.specs.Prelude.{nat_lt, IfSome}
-use Rattle.tlsf_class.specs.Classes.{IsLevel, most_words}
+use Rattle.tlsf_pool.proofs.Common.{◌≡◌, ◌≢◌, ℕ, zero, suc, ◌+◌, ◌-◌, ◌^◌, ◌<◌, ◌≤◌, ◌⊎◌, inl, inr, Bool, true, false, cond, List, [], ◌∷◌, ◌++◌, length, get_or, set, take, drop, Option, Some, None, refl, ap, ap₂, sym, ◌∙◌, subst, arith, add-one, get_or-set_other, get_or-set_same, take-append-drop, length-take, length-drop, length-set, length-append, drop_of_length-le, drop-drop, get_or-drop, take_all, nat_lt, IfSome, IsLevel, most_words, cases_eq, cases_lt, nat_tests, fixed_kinds_words, Kind, cheaper, with_first, AreBest, AreSmall, HasFirst, IsBest, IsBestAmong, cut_by, joined, parts_of, words_together, HasAtMost, HasWords, IsCut, IsLeastAmong, IsPart, Split}
 use Rattle.tlsf_class.proofs.TwoLevels.{by_level}
-use Rattle.std.proofs.lemmas.Bool.{cases_eq, cases_lt}
-use Rattle.std.proofs.lemmas.Bool.Decides.{nat_tests}
-use Rattle.tlsf_pool.specs.laws.FixedSize.{fixed_kinds_words}
-use Rattle.tlsf_pool.specs.declared.kind.Kind.{Kind}
-use Rattle.tlsf_pool.specs.sizes.Cheapest.{cheaper, with_first, AreBest, AreSmall, HasFirst, IsBest, IsBestAmong, IsSmall}
-use Rattle.tlsf_pool.specs.sizes.Splits.{cut_by, joined, parts_of, words_together, HasAtMost, HasWords, IsCut, IsLeastAmong, IsPart}
-use Rattle.tlsf_pool.specs.declared.sizes.split.Split.{Split}
+use Rattle.tlsf_pool.specs.sizes.Cheapest.{IsSmall}
 
 -- ---- a first heap more
 

@@ -1,12 +1,5 @@
 -- Tables whose rows rise, and their parts.
-use Rattle.std.proofs.Common.{◌≡◌, ℕ, zero, suc, ◌+◌, ◌-◌, ◌<◌, ◌≤◌, List, [], ◌∷◌, ◌++◌, length, Option, Some, None, refl, sym, ap, ◌∙◌, subst, inl, inr, arith, length-append}
-use Rattle.std.specs.List.{AllByRecursion}
-use Rattle.std.specs.Prelude.{IfSome}
-use Rattle.std.proofs.lemmas.Bool.{cases_lt}
-use Rattle.std.proofs.lemmas.List.{get_or_append_left, get_or-append-add}
-use Rattle.tlsf_pool.specs.declared.kind.Kind.{Kind}
-use Rattle.tlsf_pool.specs.sizes.Rising.{IsFirstFall, Rises, len_at}
-use Rattle.tlsf_pool.specs.sizes.Splits.{joined}
+use Rattle.tlsf_pool.proofs.Common.{◌≡◌, ℕ, zero, suc, ◌+◌, ◌-◌, ◌<◌, ◌≤◌, List, [], ◌∷◌, ◌++◌, length, Option, Some, None, refl, sym, ap, ◌∙◌, subst, inl, inr, arith, length-append, AllByRecursion, IfSome, cases_lt, get_or_append_left, get_or-append-add, Kind, IsFirstFall, Rises, len_at, joined}
 
 -- a table with a row that falls doesn't rise
 pub falls_so : (kinds : List Kind) (row : ℕ) → IsFirstFall kinds row → ¬ (Rises kinds)

@@ -1,14 +1,6 @@
 -- Sizes of regions by sums, and how large they get.
-use Rattle.std.proofs.Common.{◌≡◌, ℕ, zero, suc, ◌+◌, ◌*◌, ◌^◌, ◌<◌, ◌≤◌, Bool, true, false, cond, fold, map, max, ap, List, [], ◌∷◌, length, get_or, refl, arith, le_trans}
-use Rattle.std.specs.List.{AllByRecursion}
-use Rattle.std.proofs.Math.Nat.{mul-le-mul}
-use Rattle.tlsf_class.specs.Classes.{IsLevel, most_words, low, classes, search_of}
+use Rattle.tlsf_pool.proofs.Common.{◌≡◌, ℕ, zero, suc, ◌+◌, ◌*◌, ◌^◌, ◌<◌, ◌≤◌, Bool, true, false, cond, fold, map, max, ap, List, [], ◌∷◌, length, get_or, refl, arith, le_trans, AllByRecursion, mul-le-mul, IsLevel, most_words, low, classes, search_of, want, sure, are_fours, count_in, kinds_words, resized_words, HasClass, longest_of, Kind}
 use Rattle.tlsf_class.proofs.TwoLevels.{by_level}
-use Rattle.tlsf_heap.specs.Blocks.{want}
-use Rattle.tlsf_pool.specs.laws.Room.{sure}
-use Rattle.tlsf_pool.specs.laws.Kinds.{are_fours, count_in, kinds_words, resized_words, HasClass}
-use Rattle.tlsf_pool.specs.laws.OneLarge.{longest_of}
-use Rattle.tlsf_pool.specs.declared.kind.Kind.{Kind}
 use Rattle.tlsf_pool.proofs.lemmas.laws.FreeRoom.{sure_rises}
 use Rattle.tlsf_pool.specs.sizes.Limits.{most_kinds}
 

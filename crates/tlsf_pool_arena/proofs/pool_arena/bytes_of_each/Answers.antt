@@ -1,10 +1,8 @@
-use Rattle.std.proofs.Common.{◌≡◌, ℕ, ◌*◌, ◌<◌, ◌≤◌, ◌^◌, sym, ap, ◌∙◌, arith}
+use Rattle.tlsf_pool_arena.proofs.Common.{◌≡◌, ℕ, ◌*◌, ◌<◌, ◌≤◌, ◌^◌, sym, ap, ◌∙◌, arith, sure, IsUnit}
 use Rattle.std.specs.Option.{option_map_or}
 use Rattle.tlsf_class.specs.Classes.{low, most_words}
 use Rattle.tlsf_class.proofs.TwoLevels.{most_words_any}
-use Rattle.tlsf_pool.specs.laws.Room.{sure}
 use Rattle.tlsf_pool.proofs.lemmas.sizes.Sizes.{sure_most}
-use Rattle.tlsf_arena.specs.Places.{IsUnit}
 use Rattle.tlsf_arena.proofs.UnitCases.{by_unit}
 use Rattle.tlsf_pool_arena.proofs.pool_arena.bytes_of_each.Goals as goal
 

@@ -1,6 +1,5 @@
-use Rattle.std.proofs.Common.{ap}
+use Rattle.tlsf_post.proofs.Common.{ap, View}
 use Rattle.crossbeam_queue.specs.Passes.{view}
-use Rattle.tlsf_post.specs.declared.view.View.{View}
 use Rattle.tlsf_post.proofs.RuleSteps.{plans}
 use Rattle.tlsf_post.proofs.mailboxes.lay_out.Goals as goal
 

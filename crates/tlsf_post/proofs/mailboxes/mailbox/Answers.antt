@@ -1,11 +1,6 @@
-use Rattle.std.proofs.Common.{arith, ℕ, ◌≡◌, ap, sym, ◌∙◌, ◌++◌, ◌+◌, ◌-◌, map}
-use Rattle.tlsf_post.specs.declared.view.View.{View}
+use Rattle.tlsf_post.proofs.Common.{arith, ℕ, ◌≡◌, ap, sym, ◌∙◌, ◌++◌, ◌+◌, ◌-◌, map, View, common_steps, plan_for, number_of, below_but, run}
 use Rattle.std.specs.Arc.{arc_value}
-use Rattle.std.proofs.lemmas.Grind.{common_steps}
 use Rattle.crossbeam_queue.specs.Passes.{view, ruled_capacity}
-use Rattle.tlsf_post.specs.Rule.{plan_for}
-use Rattle.tlsf_post.specs.Mailboxes.{number_of, below_but}
-use Rattle.tlsf_post.specs.Rounds.{run}
 use Rattle.tlsf_post.proofs.RuleSteps.{begins, skips}
 use Rattle.tlsf_post.proofs.RoundSteps.{fresh_puts}
 use Rattle.tlsf_post.proofs.Numbers.{but_whole}

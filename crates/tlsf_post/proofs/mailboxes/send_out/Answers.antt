@@ -1,11 +1,5 @@
-use Rattle.std.proofs.Common.{rules, arith, ap, ◌∙◌, ◌+◌, ◌<◌, sym, subst}
-use Rattle.std.proofs.lemmas.Grind.{common_steps}
-use Rattle.std.proofs.lemmas.List.{map-append}
+use Rattle.tlsf_post.proofs.Common.{rules, arith, ap, ◌∙◌, ◌+◌, ◌<◌, sym, subst, common_steps, map-append, View, Plan, owner_view, poster_view, posts_of, MayPut, IsFreshAt}
 use Rattle.crossbeam_queue.specs.Passes.{view}
-use Rattle.tlsf_post.specs.declared.view.View.{View}
-use Rattle.tlsf_post.specs.declared.plan.Plan.{Plan}
-use Rattle.tlsf_post.specs.Rule.{owner_view, poster_view, posts_of, MayPut}
-use Rattle.tlsf_post.specs.Rounds.{IsFreshAt}
 use Rattle.tlsf_post.proofs.RuleSteps.{forks}
 use Rattle.tlsf_post.proofs.Numbers.{apart_from, run_push, all_pushed}
 use Rattle.tlsf_post.proofs.mailboxes.send_out.Goals as goal

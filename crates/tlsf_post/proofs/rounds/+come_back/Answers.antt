@@ -1,13 +1,5 @@
-use Rattle.std.proofs.Common.{arith, ap, sym, refl, subst, ◌∙◌, ◌≡◌, ◌++◌, ℕ, ◌<◌, Some, length}
-use Rattle.std.proofs.lemmas.Grind.{common_steps}
-use Rattle.std.proofs.lemmas.List.{append-nil}
-use Rattle.std.proofs.lemmas.List.Elements.{All-pop}
+use Rattle.tlsf_post.proofs.Common.{arith, ap, sym, refl, subst, ◌∙◌, ◌≡◌, ◌++◌, ℕ, ◌<◌, Some, length, common_steps, append-nil, All-pop, View, Plan, posts_but, owner_view, MayPut, put_by, below_but, IsOfPass}
 use Rattle.crossbeam_queue.specs.Passes.{view}
-use Rattle.tlsf_post.specs.declared.view.View.{View}
-use Rattle.tlsf_post.specs.declared.plan.Plan.{Plan}
-use Rattle.tlsf_post.specs.Rule.{posts_but, owner_view, MayPut}
-use Rattle.tlsf_post.specs.Mailboxes.{put_by, below_but}
-use Rattle.tlsf_post.specs.Rounds.{IsOfPass}
 use Rattle.tlsf_post.proofs.RuleSteps.{learns, merges, signed_of}
 use Rattle.tlsf_post.proofs.Numbers.{all_pushed}
 use Rattle.tlsf_post.proofs.RoundSteps.{ends_still, back_none, back_some, last_of, gap, no_items}

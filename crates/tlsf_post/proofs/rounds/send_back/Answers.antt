@@ -1,5 +1,4 @@
-use Rattle.std.proofs.Common.{ap, sym, ◌∙◌}
-use Rattle.tlsf_post.specs.declared.view.View.{View}
+use Rattle.tlsf_post.proofs.Common.{ap, sym, ◌∙◌, View}
 use Rattle.tlsf_post.proofs.RuleSteps.{forks, skips}
 use Rattle.tlsf_post.proofs.rounds.send_back.Goals as goal
 

@@ -1,12 +1,7 @@
-use Rattle.std.proofs.Common.{◌≡◌, ℕ, ◌+◌, ◌++◌, ◌<◌, ◌≤◌, List, length, sym, ap, subst, ◌∙◌, arith, append_assoc, append-nil, string_bytes}
-use Rattle.tlsf_calls.specs.declared.entry.Entry.{Entry}
-use Rattle.tlsf_lines.specs.Events.{labels_of}
-use Rattle.tlsf_lines.specs.ReplyLines.{labels_left, reply_text}
+use Rattle.tlsf_trace.proofs.Common.{◌≡◌, ℕ, ◌+◌, ◌++◌, ◌<◌, ◌≤◌, List, length, sym, ap, subst, ◌∙◌, arith, append_assoc, append-nil, string_bytes, Entry, labels_of, labels_left, reply_text, moment_at, Stands}
 use Rattle.tlsf_lines.proofs.ReplySteps.{reply_text-append}
 use Rattle.tlsf_lines.proofs.ScriptSteps.{ends_count}
-use Rattle.tlsf_trace.specs.Moments.{moment_at}
 use Rattle.tlsf_trace.proofs.PartByPart.{labels_left-append}
-use Rattle.tlsf_trace.specs.Players.{Stands}
 use Rattle.tlsf_trace.proofs.Onward.{ends, nothing_told, plays_on}
 use Rattle.tlsf_trace.proofs.output.write_run.Goals as goal
 

@@ -1,11 +1,5 @@
-use Rattle.std.proofs.Common.{◌≡◌, ◌+◌, ◌-◌, ◌++◌, ◌≤◌, string_bytes, vec_len}
-use Rattle.tlsf_crew.specs.lanes.Yard.{IsYard}
-use Rattle.tlsf_lines.specs.Events.{labels_of}
-use Rattle.tlsf_lines.specs.ReplyLines.{labels_left, reply_text}
+use Rattle.tlsf_trace.proofs.Common.{◌≡◌, ◌+◌, ◌-◌, ◌++◌, ◌≤◌, string_bytes, vec_len, IsYard, labels_of, labels_left, reply_text, Trace, moment_at, Stands}
 use Rattle.tlsf_lines.specs.ScriptSoFar.{IsScript}
-use Rattle.tlsf_lines.specs.Trace.{Trace}
-use Rattle.tlsf_trace.specs.Moments.{moment_at}
-use Rattle.tlsf_trace.specs.Players.{Stands}
 use Rattle.tlsf_trace.proofs.output.write_run.Given as goal
 
 -- the trace has run up to this line, and the text has what was answered so far

@@ -1,8 +1,5 @@
-use Rattle.std.proofs.Common.{refl, ℕ, ◌∙◌, string_bytes, length, IfSome, ◌≤◌, subst}
-use Rattle.tlsf_lines.specs.Phases.{known_in, none_known, phases_of}
+use Rattle.tlsf_trace.proofs.Common.{refl, ℕ, ◌∙◌, string_bytes, length, IfSome, ◌≤◌, subst, known_in, none_known, phases_of, IsPhaseRaced, RacePoint, point_at, count_in, kind_in, races_over}
 use Rattle.tlsf_trace.proofs.RacedPhases.{few_behind, left_behind, more_raced, none_raced}
-use Rattle.tlsf_trace.specs.RaceSoFar.{IsPhaseRaced, RacePoint, point_at}
-use Rattle.tlsf_trace.specs.RacedYards.{count_in, kind_in, races_over}
 use Rattle.tlsf_trace.specs.declared.raced_yard.PortKind.{PortKind}
 use Rattle.tlsf_trace.proofs.race_output.race_lines.Goals as goal
 

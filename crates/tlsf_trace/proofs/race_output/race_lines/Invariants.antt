@@ -1,7 +1,4 @@
-use Rattle.std.proofs.Common.{◌≡◌, ◌≤◌, IfSome, length, string_bytes}
-use Rattle.tlsf_lines.specs.Phases.{known_in, none_known, phases_of}
-use Rattle.tlsf_trace.specs.RaceSoFar.{IsRaceSoFar, point_at}
-use Rattle.tlsf_trace.specs.RacedYards.{IsWhole, count_in, kind_in, races_over}
+use Rattle.tlsf_trace.proofs.Common.{◌≡◌, ◌≤◌, IfSome, length, string_bytes, known_in, none_known, phases_of, IsRaceSoFar, point_at, IsWhole, count_in, kind_in, races_over}
 use Rattle.tlsf_trace.proofs.RacedPhases.{lines_left, phases_left}
 use Rattle.tlsf_trace.proofs.race_output.race_lines.Given as goal
 

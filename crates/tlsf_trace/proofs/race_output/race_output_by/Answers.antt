@@ -1,7 +1,4 @@
-use Rattle.std.proofs.Common.{◌≡◌, string_bytes, arith}
-use Rattle.tlsf_lines.specs.Phases.{none_known}
-use Rattle.tlsf_trace.specs.RaceSoFar.{point_at, race_start}
-use Rattle.tlsf_trace.specs.RacedYards.{world_in}
+use Rattle.tlsf_trace.proofs.Common.{◌≡◌, string_bytes, arith, none_known, point_at, race_start, world_in}
 use Rattle.tlsf_trace.proofs.RacedPhases.{all_raced, heap_count, opened_count}
 use Rattle.tlsf_trace.proofs.race_output.race_output_by.Goals as goal
 

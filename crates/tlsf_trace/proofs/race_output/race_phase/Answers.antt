@@ -1,15 +1,6 @@
-use Rattle.std.proofs.Common.{◌≡◌, ◌++◌, ℕ, List, Option, length, map, string_bytes, sym, ap, subst, ◌∙◌, arith}
-use Rattle.std.specs.List.{range_with_len}
-use Rattle.std.proofs.lemmas.List.{length-map}
+use Rattle.tlsf_trace.proofs.Common.{◌≡◌, ◌++◌, ℕ, List, Option, length, map, string_bytes, sym, ap, subst, ◌∙◌, arith, range_with_len, length-map, Name, Call, Entry, known_below, known_in, own_lines, scripts_in, records_text, Line, count_in, kind_in, races_over, world_in}
 use Rattle.std.specs.declared.vec.Vec.{Vec}
 use Rattle.std.specs.declared.alloc.Global.{Global}
-use Rattle.tlsf_heap.specs.declared.name.Name.{Name}
-use Rattle.tlsf_calls.specs.declared.call.Call.{Call}
-use Rattle.tlsf_calls.specs.declared.entry.Entry.{Entry}
-use Rattle.tlsf_lines.specs.Phases.{known_below, known_in, own_lines, scripts_in}
-use Rattle.tlsf_lines.specs.Records.{records_text}
-use Rattle.tlsf_lines.specs.declared.line.Line.{Line}
-use Rattle.tlsf_trace.specs.RacedYards.{count_in, kind_in, races_over, world_in}
 use Rattle.tlsf_trace.proofs.RacedPhases.{heap_count, record_count}
 use Rattle.tlsf_trace.proofs.race_output.race_phase.Goals as goal
 

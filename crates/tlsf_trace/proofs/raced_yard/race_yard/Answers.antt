@@ -1,5 +1,4 @@
-use Rattle.std.proofs.Common.{refl}
-use Rattle.tlsf_trace.specs.declared.raced_yard.RacedYard.TheVariants.{OverLanes, OverQueues}
+use Rattle.tlsf_trace.proofs.Common.{refl, OverLanes, OverQueues}
 use Rattle.tlsf_trace.proofs.RacedPhases.{has_raced}
 use Rattle.tlsf_trace.proofs.raced_yard.race_yard.Goals as goal
 

@@ -1,7 +1,4 @@
-use Rattle.std.proofs.Common.{◌≡◌, map}
-use Rattle.tlsf_crew.specs.worker.Workers.{heap_of}
-use Rattle.tlsf_trace.specs.RacedYards.{world_in}
-use Rattle.tlsf_trace.specs.declared.raced_yard.RacedYard.TheVariants.{OverLanes, OverQueues}
+use Rattle.tlsf_trace.proofs.Common.{◌≡◌, map, heap_of, world_in, OverLanes, OverQueues}
 use Rattle.tlsf_trace.proofs.RacedPhases.{heaps_are}
 use Rattle.tlsf_trace.proofs.raced_yard.report_yard.Goals as goal
 

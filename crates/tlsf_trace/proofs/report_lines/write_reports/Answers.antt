@@ -1,11 +1,8 @@
-use Rattle.std.proofs.Common.{◌≡◌, ◌<◌, ◌++◌, map, length, get_or, string_bytes, sym, ap, ◌∙◌, arith}
-use Rattle.std.proofs.lemmas.List.{length-map}
+use Rattle.tlsf_trace.proofs.Common.{◌≡◌, ◌<◌, ◌++◌, map, length, get_or, string_bytes, sym, ap, ◌∙◌, arith, length-map, heap_of, report_line}
 use Rattle.std.proofs.Math.ListN.{get_or-map}
 use Rattle.std.proofs.Math.Seq.{map-set_same}
 use Rattle.tlsf_heap.specs.declared.report.Report.{Report}
 use Rattle.tlsf_heap.specs.Reports.{report_of}
-use Rattle.tlsf_crew.specs.worker.Workers.{heap_of}
-use Rattle.tlsf_trace.specs.ReportLines.{report_line}
 use Rattle.tlsf_trace.proofs.ReportSteps.{goes_on}
 use Rattle.tlsf_trace.proofs.report_lines.write_reports.Goals as goal
 

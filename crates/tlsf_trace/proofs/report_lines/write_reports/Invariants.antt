@@ -1,6 +1,4 @@
-use Rattle.std.proofs.Common.{◌≡◌, ◌++◌, map, string_bytes, drop}
-use Rattle.tlsf_crew.specs.worker.Workers.{heap_of}
-use Rattle.tlsf_trace.specs.ReportLines.{report_text, report_text_from}
+use Rattle.tlsf_trace.proofs.Common.{◌≡◌, ◌++◌, map, string_bytes, drop, heap_of, report_text, report_text_from}
 use Rattle.tlsf_trace.proofs.report_lines.write_reports.Given as goal
 
 -- the heaps stay, and the lines so far and those of the heaps that are left are the lines of all

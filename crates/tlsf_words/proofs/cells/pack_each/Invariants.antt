@@ -1,6 +1,4 @@
-use Rattle.std.proofs.Common.{◌≡◌, ℕ, ◌+◌, ◌*◌, ◌<◌, get_or, length}
-use Rattle.tlsf_words.specs.Bytes.{byte_in}
-use Rattle.tlsf_words.specs.Counted.{Within}
+use Rattle.tlsf_words.proofs.Common.{◌≡◌, ℕ, ◌+◌, ◌*◌, ◌<◌, get_or, length, byte_in, Within}
 use Rattle.tlsf_words.proofs.cells.pack_each.Given as goal
 
 abbrev pub invariant-loop-i : goal.invariant-loop-i

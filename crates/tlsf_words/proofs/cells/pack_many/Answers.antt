@@ -1,6 +1,4 @@
-use Rattle.std.proofs.Common.{◌≡◌, ◌+◌, ◌-◌, ◌*◌, ◌/◌, length, get_or, drop, arith, ap, ◌∙◌, inl, inr, length-drop, length-take-le}
-use Rattle.std.proofs.lemmas.Bool.{cases_lt}
-use Rattle.std.proofs.lemmas.List.{get_or-take, get_or-drop}
+use Rattle.tlsf_words.proofs.Common.{◌≡◌, ◌+◌, ◌-◌, ◌*◌, ◌/◌, length, get_or, drop, arith, ap, ◌∙◌, inl, inr, length-drop, length-take-le, cases_lt, get_or-take, get_or-drop}
 use Rattle.tlsf_words.proofs.Bytes.{byte_in-append_left, byte_in-append_right}
 use Rattle.tlsf_words.proofs.Touching.{within_then}
 use Rattle.tlsf_words.proofs.cells.pack_many.Goals as goal

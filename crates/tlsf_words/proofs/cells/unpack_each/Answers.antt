@@ -1,5 +1,4 @@
-use Rattle.std.proofs.Common.{arith, ◌∙◌, inl, inr, ◌*◌}
-use Rattle.std.proofs.lemmas.Bool.{cases_lt}
+use Rattle.tlsf_words.proofs.Common.{arith, ◌∙◌, inl, inr, ◌*◌, cases_lt}
 use Rattle.tlsf_words.proofs.Touching.{within_then}
 use Rattle.tlsf_words.proofs.cells.unpack_each.Goals as goal
 

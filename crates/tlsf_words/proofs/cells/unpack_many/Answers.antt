@@ -1,7 +1,4 @@
-use Rattle.std.proofs.Common.{length-drop, length-take-le, ◌≡◌, ◌+◌, ◌-◌, ◌*◌, ◌/◌, length, take, drop, arith, ap, sym, ◌∙◌, inl, inr}
-use Rattle.std.proofs.lemmas.Bool.{cases_lt}
-use Rattle.std.proofs.lemmas.List.{get_or-take, get_or-drop, get_or_append_left, get_or-append_right}
-use Rattle.tlsf_words.specs.Bytes.{byte_in}
+use Rattle.tlsf_words.proofs.Common.{length-drop, length-take-le, ◌≡◌, ◌+◌, ◌-◌, ◌*◌, ◌/◌, length, take, drop, arith, ap, sym, ◌∙◌, inl, inr, cases_lt, get_or-take, get_or-drop, get_or_append_left, get_or-append_right, byte_in}
 use Rattle.tlsf_words.proofs.Bytes.{byte_in-part, byte_in-same}
 use Rattle.tlsf_words.proofs.Touching.{within_then}
 use Rattle.tlsf_words.proofs.cells.unpack_many.Goals as goal

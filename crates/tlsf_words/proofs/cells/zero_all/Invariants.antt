@@ -1,5 +1,4 @@
-use Rattle.std.proofs.Common.{◌≡◌, ◌+◌, ◌<◌, ◌≤◌, ℕ, replicate, drop, ◌++◌}
-use Rattle.tlsf_words.specs.Touched.{times}
+use Rattle.tlsf_words.proofs.Common.{◌≡◌, ◌+◌, ◌<◌, ◌≤◌, ℕ, replicate, drop, ◌++◌, times}
 use Rattle.tlsf_words.proofs.cells.zero_all.Given as goal
 
 abbrev pub invariant-loop-i : goal.invariant-loop-i

@@ -1,8 +1,4 @@
-use Rattle.std.proofs.Common.{◌≡◌, ℕ, ◌<◌, get_or, take, length, w64, ap, ◌∙◌, inl, inr, arith, length-take-le}
-use Rattle.std.specs.Int.{from_le_bytes}
-use Rattle.std.proofs.lemmas.Bool.{cases_lt}
-use Rattle.std.proofs.lemmas.List.{get_or-take, get_or_past}
-use Rattle.std.proofs.lemmas.Nat.{le_bytes_8}
+use Rattle.tlsf_words.proofs.Common.{◌≡◌, ℕ, ◌<◌, get_or, take, length, w64, ap, ◌∙◌, inl, inr, arith, length-take-le, from_le_bytes, cases_lt, get_or-take, get_or_past, le_bytes_8}
 use Rattle.tlsf_words.proofs.splice.first_word.Goals as goal
 
 pub returns : goal.returns

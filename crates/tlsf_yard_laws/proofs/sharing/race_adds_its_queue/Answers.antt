@@ -1,4 +1,4 @@
-use Rattle.tlsf_yard_laws.specs.Carriers.{OverQueues}
+use Rattle.tlsf_yard_laws.proofs.Common.{OverQueues}
 use Rattle.tlsf_yard_laws.proofs.Moments.{order_moments, race_shares}
 use Rattle.tlsf_yard_laws.proofs.sharing.race_adds_its_queue.Goals as goal
 

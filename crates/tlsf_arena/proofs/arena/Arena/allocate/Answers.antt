@@ -1,10 +1,4 @@
-use Rattle.std.proofs.Common.{◌≡◌, ℕ, ◌≤◌, sym, ap, subst, ◌∙◌, arith}
-use Rattle.tlsf_heap.specs.Calls.{allocated_words}
-use Rattle.tlsf_heap.specs.Blocks.{HeapState}
-use Rattle.tlsf_heap.specs.Lawful.{IsLawful}
-use Rattle.tlsf_arena.specs.Arenas.{Holds, IsMapped}
-use Rattle.tlsf_arena.specs.Loans.{IsBook}
-use Rattle.tlsf_arena.specs.Places.{lacking}
+use Rattle.tlsf_arena.proofs.Common.{◌≡◌, ℕ, ◌≤◌, sym, ap, subst, ◌∙◌, arith, allocated_words, HeapState, IsLawful, Holds, IsMapped, IsBook, lacking}
 use Rattle.tlsf_arena.proofs.Books.{after_allocate, fresh_loan}
 use Rattle.tlsf_arena.proofs.Holding.{Keeps, allocated_id, allocated_keeps, kept}
 use Rattle.tlsf_arena.proofs.Mapped.{carves, lacks}

@@ -1,8 +1,4 @@
-use Rattle.std.proofs.Common.{◌≡◌, ℕ, ◌+◌, ◌*◌, Option, Some, None, sym, ap, subst, ◌∙◌}
-use Rattle.tlsf_heap.specs.Blocks.{HeapState}
-use Rattle.tlsf_heap.specs.declared.name.Name.{Name}
-use Rattle.tlsf_arena.specs.Arenas.{Holds}
-use Rattle.tlsf_arena.specs.Loans.{name_of, units_of}
+use Rattle.tlsf_arena.proofs.Common.{◌≡◌, ℕ, ◌+◌, ◌*◌, Option, Some, None, sym, ap, subst, ◌∙◌, HeapState, Name, Holds, name_of, units_of}
 use Rattle.tlsf_arena.proofs.Results.{some_is}
 use Rattle.tlsf_arena.proofs.arena.Arena.found.Goals as goal
 

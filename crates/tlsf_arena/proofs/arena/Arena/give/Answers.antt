@@ -1,9 +1,4 @@
-use Rattle.std.proofs.Common.{◌≡◌, ◌+◌, ◌*◌, ◌/◌, sym, ap, subst, ◌∙◌, arith}
-use Rattle.tlsf_heap.specs.Blocks.{HeapState}
-use Rattle.tlsf_heap.specs.declared.name.Name.{Name}
-use Rattle.tlsf_arena.specs.Arenas.{Holds, IsMapped}
-use Rattle.tlsf_arena.specs.Loans.{units_of, without, IsBook}
-use Rattle.tlsf_arena.specs.Places.{grain_of}
+use Rattle.tlsf_arena.proofs.Common.{◌≡◌, ◌+◌, ◌*◌, ◌/◌, sym, ap, subst, ◌∙◌, arith, HeapState, Name, Holds, IsMapped, units_of, without, IsBook, grain_of}
 use Rattle.tlsf_arena.proofs.Books.{after_release}
 use Rattle.tlsf_arena.proofs.Holding.{released_id}
 use Rattle.tlsf_arena.proofs.Mapped.{frees}

@@ -1,6 +1,4 @@
-use Rattle.std.proofs.Common.{◌≡◌, sym, ap, ◌∙◌, arith}
-use Rattle.tlsf_heap.specs.Placed.{placed_at}
-use Rattle.tlsf_arena.specs.Places.{free_units_in}
+use Rattle.tlsf_arena.proofs.Common.{◌≡◌, sym, ap, ◌∙◌, arith, placed_at, free_units_in}
 use Rattle.tlsf_arena.proofs.Mapped.{whole_arena}
 use Rattle.tlsf_arena.proofs.arena.Arena.into_memory.Goals as goal
 

@@ -1,9 +1,5 @@
-use Rattle.std.proofs.Common.{◌≡◌, ℕ, ◌+◌, ◌*◌, Some, None, sym, ap, subst, ◌∙◌, arith}
-use Rattle.std.specs.Prelude.{option_map}
+use Rattle.tlsf_arena.proofs.Common.{◌≡◌, ℕ, ◌+◌, ◌*◌, Some, None, sym, ap, subst, ◌∙◌, arith, option_map, HeapState, Holds, held_at}
 use denote.RawPtr.{count_of}
-use Rattle.tlsf_heap.specs.Blocks.{HeapState}
-use Rattle.tlsf_arena.specs.Arenas.{Holds}
-use Rattle.tlsf_arena.specs.Places.{held_at}
 use Rattle.tlsf_heap.specs.ByPlace.{serial_at}
 use Rattle.tlsf_arena.proofs.Named.{at_a_unit, seen_there, the_one}
 use Rattle.tlsf_arena.proofs.Searching.{few_in_all}

@@ -1,8 +1,4 @@
-use Rattle.std.proofs.Common.{◌≡◌, ℕ, List, ◌/◌, true, replicate, sym, ap, subst, ◌∙◌}
-use Rattle.std.specs.List.{AllByRecursion}
-use Rattle.tlsf_heap.specs.Blocks.{HeapState}
-use Rattle.tlsf_heap.specs.Lawful.{HasRoom}
-use Rattle.tlsf_arena.specs.Loans.{Loan, IsBook}
+use Rattle.tlsf_arena.proofs.Common.{◌≡◌, ℕ, List, ◌/◌, true, replicate, sym, ap, subst, ◌∙◌, AllByRecursion, HeapState, HasRoom, Loan, IsBook}
 use Rattle.tlsf_arena.proofs.Books.{no_loans}
 use Rattle.tlsf_arena.proofs.Mapped.{few_units, opens}
 use Rattle.tlsf_arena.proofs.arena.Arena.open.Goals as goal

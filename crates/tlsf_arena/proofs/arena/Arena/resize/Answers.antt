@@ -1,4 +1,4 @@
-use Rattle.tlsf_arena.specs.Places.{lacking, units_for}
+use Rattle.tlsf_arena.proofs.Common.{lacking, units_for}
 use Rattle.tlsf_arena.proofs.Holding.{stays_resized}
 use Rattle.tlsf_arena.proofs.SameBlock.{same_block}
 use Rattle.tlsf_arena.proofs.arena.Arena.resize.Goals as goal

@@ -1,10 +1,4 @@
-use Rattle.std.proofs.Common.{◌≡◌, ℕ, ◌+◌, ◌*◌, ◌∷◌, sym, ap, subst, ◌∙◌}
-use Rattle.tlsf_heap.specs.Blocks.{HeapState}
-use Rattle.tlsf_heap.specs.Calls.{resized_words}
-use Rattle.tlsf_heap.specs.declared.name.Name.{Name}
-use Rattle.tlsf_arena.specs.Arenas.{Holds, IsMapped}
-use Rattle.tlsf_arena.specs.Loans.{is_out, loan_of, units_of, without, IsBook}
-use Rattle.tlsf_arena.specs.Places.{piece_size}
+use Rattle.tlsf_arena.proofs.Common.{◌≡◌, ℕ, ◌+◌, ◌*◌, ◌∷◌, sym, ap, subst, ◌∙◌, HeapState, resized_words, Name, Holds, IsMapped, is_out, loan_of, units_of, without, IsBook, piece_size}
 use Rattle.tlsf_arena.proofs.Books.{after_resize, no_second}
 use Rattle.tlsf_arena.proofs.Holding.{resized_id, stays_resized}
 use Rattle.tlsf_arena.proofs.Mapped.{shortens}

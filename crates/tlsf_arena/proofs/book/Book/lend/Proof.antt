@@ -1,5 +1,5 @@
 -- `lend` takes a right out of those that the book keeps. Assumes `Logic`.
-use Rattle.std.proofs.Common.{◌≡◌, false, List, [], ◌∷◌, ◌++◌, refl, w32, w64}
+use Rattle.tlsf_arena.proofs.Common.{◌≡◌, false, List, [], ◌∷◌, ◌++◌, refl, w32, w64, Goes-blank, pair_of, pair_val, proved_at, leaves, Loan, is_out, right, rest_of}
 use mir.Syntax.{Fn}
 use mir.Val.{Val, vint}
 use base.Logic.{SProp, emp}
@@ -17,12 +17,8 @@ use denote.Steps.{nothing, heard}
 use denote.Struct.Tuple.{Tuple}
 use denote.Triple.Entry.{alive}
 use denote.Triple.Walked.{Stays, stay_dropped, walk_of, Goes-dropped}
-use Rattle.std.proofs.alloc.Calls.{Goes-blank}
-use Rattle.std_alloc.proofs.Pairs.{pair_of, pair_val}
-use Rattle.std.proofs.raw_atomic.Walks.{proved_at, leaves}
 use Rattle.linked_list_allocator.proofs.Walks.{slot_at}
 use Rattle.linked_list_allocator.proofs.Values.{lease_val, lease_own, lease_told, lease_made}
-use Rattle.tlsf_arena.specs.Loans.{Loan, is_out, right, rest_of}
 use Rattle.tlsf_arena.proofs.Rights.{goes_out}
 use Rattle.tlsf_arena.specs.contracts.right.Right as right_type
 use Rattle.tlsf_arena.specs.contracts.book.Book as book

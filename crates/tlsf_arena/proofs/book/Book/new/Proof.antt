@@ -1,5 +1,5 @@
 -- `new` takes a new name, under which no block is out. Assumes `Logic`.
-use Rattle.std.proofs.Common.{◌≡◌, List, [], ◌∷◌, refl}
+use Rattle.tlsf_arena.proofs.Common.{◌≡◌, List, [], ◌∷◌, refl, proved_at, leaves, Loan, rest_of}
 use mir.Syntax.{Fn}
 use mir.Val.{Val}
 use base.Logic.{SProp, emp}
@@ -16,9 +16,7 @@ use denote.Signature.{types_at}
 use denote.Steps.{nothing}
 use denote.Triple.Entry.{alive}
 use denote.Triple.Walked.{Stays, walk_of}
-use Rattle.std.proofs.raw_atomic.Walks.{proved_at, leaves}
 use Rattle.linked_list_allocator.proofs.Values.{lease_val, lease_own, lease_made}
-use Rattle.tlsf_arena.specs.Loans.{Loan, rest_of}
 use Rattle.tlsf_arena.proofs.Rights.{book_new}
 use Rattle.tlsf_arena.specs.contracts.book.Book as book
 use Rattle.tlsf_arena.specs.contracts.book.Book.new.{ended, clauses}

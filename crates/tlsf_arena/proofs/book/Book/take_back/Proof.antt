@@ -1,5 +1,5 @@
 -- `take_back` puts the right to those that the book keeps. Assumes `Logic`.
-use Rattle.std.proofs.Common.{◌≡◌, List, [], ◌∷◌, ◌++◌, refl}
+use Rattle.tlsf_arena.proofs.Common.{◌≡◌, List, [], ◌∷◌, ◌++◌, refl, Goes-blank, pair_of, pair_val, proved_at, leaves, Loan, without, right, rest_of}
 use mir.Syntax.{Fn}
 use mir.Val.{Val, vunit}
 use base.Logic.{SProp, emp}
@@ -18,12 +18,8 @@ use denote.Steps.{nothing, heard}
 use denote.Struct.Tuple.{Tuple}
 use denote.Triple.Entry.{alive}
 use denote.Triple.Walked.{Stays, stay_dropped, walk_of}
-use Rattle.std.proofs.alloc.Calls.{Goes-blank}
-use Rattle.std_alloc.proofs.Pairs.{pair_of, pair_val}
-use Rattle.std.proofs.raw_atomic.Walks.{proved_at, leaves}
 use Rattle.linked_list_allocator.proofs.Walks.{slot_at}
 use Rattle.linked_list_allocator.proofs.Values.{lease_val, lease_own, lease_told, lease_made}
-use Rattle.tlsf_arena.specs.Loans.{Loan, without, right, rest_of}
 use Rattle.tlsf_arena.proofs.Rights.{comes_back}
 use Rattle.tlsf_arena.specs.contracts.book.Book as book
 use Rattle.tlsf_arena.specs.contracts.book.Book.take_back.{ended, clauses}

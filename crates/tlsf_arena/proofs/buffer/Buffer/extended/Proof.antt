@@ -1,5 +1,5 @@
 -- `extended` makes room for values of the piece behind theirs. Assumes `Logic`.
-use Rattle.std.proofs.Common.{◌≡◌, ℕ, ◌+◌, ◌-◌, ◌*◌, ◌≤◌, List, [], ◌∷◌, ◌++◌, refl, sym, ap, subst, ◌∙◌, arith, w64}
+use Rattle.tlsf_arena.proofs.Common.{◌≡◌, ℕ, ◌+◌, ◌-◌, ◌*◌, ◌≤◌, List, [], ◌∷◌, ◌++◌, refl, sym, ap, subst, ◌∙◌, arith, w64, Goes-blank, proved_at, leaves, block_with_items, El, IsUnit, piece_size, IsPiece, behind}
 use mir.Syntax.{Ty, Fn, Args, a_type}
 use mir.Val.{Val, vint}
 use mir.MapTy.{inst_fn}
@@ -20,16 +20,10 @@ use denote.Param.{param, layout, layouts}
 use denote.Signature.{types_at}
 use denote.Steps.{nothing, heard}
 use denote.Triple.Walked.{Stays, stay_dropped, walk_of, Goes-dropped}
-use Rattle.core.proofs.alloc.Calls.{Goes-blank}
-use Rattle.std.proofs.raw_atomic.Walks.{proved_at, leaves}
 use Rattle.linked_list_allocator.proofs.Walks.{slot_at}
 use Rattle.linked_list_allocator.proofs.Values.{sized_val, sized_told}
 use Rattle.linked_list_allocator.specs.Region.{Region}
 use Rattle.linked_list_allocator.specs.Ownership.{bytes_at}
-use Rattle.std.specs.Allocator.{block_with_items}
-use Rattle.core.proofs.ptr.Rows.{El}
-use Rattle.tlsf_arena.specs.Places.{IsUnit, piece_size, IsPiece}
-use Rattle.tlsf_arena.specs.Ownership.{behind}
 use Rattle.tlsf_arena.proofs.UnitCases.{piece_grains, piece_holds}
 use Rattle.tlsf_arena.proofs.Buffers.{buffer_val, buffer_own, buffer_told, buffer_made, extends, block_type, block_size}
 use Rattle.tlsf_arena.specs.contracts.buffer.Buffer as buffer

@@ -1,5 +1,5 @@
 -- `move_to` makes room of the new piece, moves the values there, and makes a piece of the old room. Assumes `Logic`.
-use Rattle.std.proofs.Common.{◌≡◌, ℕ, ◌+◌, ◌-◌, ◌*◌, ◌^◌, ◌<◌, ◌≤◌, List, [], ◌∷◌, ◌++◌, refl, sym, ap, subst, ◌∙◌, arith, w64}
+use Rattle.tlsf_arena.proofs.Common.{◌≡◌, ℕ, ◌+◌, ◌-◌, ◌*◌, ◌^◌, ◌<◌, ◌≤◌, List, [], ◌∷◌, ◌++◌, refl, sym, ap, subst, ◌∙◌, arith, w64, Goes-blank, after, fm, proved_at, leaves, pair_of, pair_val, block_with_items, El, times_below, IsUnit, piece_size, IsPiece, behind, block_token}
 use mir.Syntax.{Ty, Fn, Args, a_type, place, ty_array}
 use mir.Val.{Val, vint, vunit}
 use mir.MapTy.{inst_fn}
@@ -24,22 +24,13 @@ use denote.Steps.{nothing, heard}
 use denote.Struct.Tuple.{Tuple}
 use denote.Triple.Call.{calls_at_last}
 use denote.Triple.Walked.{Stays, stay_dropped, walk_of, Goes-dropped}
-use Rattle.core.proofs.alloc.Calls.{Goes-blank}
-use Rattle.core.proofs.alloc.Shapes.{after}
-use Rattle.core.proofs.atomic.Steps.{fm}
-use Rattle.std.proofs.raw_atomic.Walks.{proved_at, leaves}
-use Rattle.std_alloc.proofs.Pairs.{pair_of, pair_val}
 use Rattle.linked_list_allocator.proofs.Walks.{slot_at, then_runs, out_of_block}
 use Rattle.linked_list_allocator.proofs.Values.{sized_val, sized_own, sized_told, sized_made}
 use Rattle.linked_list_allocator.specs.Region.{Region}
 use Rattle.linked_list_allocator.specs.Ownership.{bytes_at}
-use Rattle.std.specs.Allocator.{block_with_items}
-use Rattle.core.proofs.ptr.Rows.{El, times_below}
 use Rattle.core.proofs.alloc.Moves.{Copies, at_copies, Copies-goes, Copies-gives}
 use denote.Array.{Array}
 use Rattle.core.proofs.ptr.copy_nonoverlapping.Met as callee
-use Rattle.tlsf_arena.specs.Places.{IsUnit, piece_size, IsPiece}
-use Rattle.tlsf_arena.specs.Ownership.{behind, block_token}
 use Rattle.tlsf_arena.proofs.Taken.{fits_out, takes_in}
 use Rattle.tlsf_arena.proofs.UnitCases.{piece_holds}
 use Rattle.tlsf_arena.proofs.Buffers.{buffer_val, buffer_own, buffer_told, buffer_made, block_type, block_size, emptied, parted}

@@ -1,5 +1,5 @@
 -- `trimmed` makes a piece of the bytes at the end of a buffer's. Assumes `Logic`.
-use Rattle.std.proofs.Common.{◌≡◌, ℕ, ◌+◌, ◌-◌, ◌*◌, ◌%◌, ◌^◌, ◌<◌, ◌≤◌, List, [], ◌∷◌, ◌++◌, refl, sym, ap, ◌∙◌, arith, w64}
+use Rattle.tlsf_arena.proofs.Common.{◌≡◌, ℕ, ◌+◌, ◌-◌, ◌*◌, ◌%◌, ◌^◌, ◌<◌, ◌≤◌, List, [], ◌∷◌, ◌++◌, refl, sym, ap, ◌∙◌, arith, w64, Goes-blank, after, pair_of, pair_val, proved_at, leaves, block_with_items, El, IsUnit, piece_size, IsPiece, behind}
 use mir.Syntax.{Ty, Fn, Args, a_type}
 use mir.Val.{Val, vint, vptr}
 use mir.MapTy.{inst_fn}
@@ -21,18 +21,10 @@ use denote.Signature.{types_at}
 use denote.Steps.{nothing, heard}
 use denote.Struct.Tuple.{Tuple}
 use denote.Triple.Walked.{Stays, stay_dropped, walk_of, Goes-dropped}
-use Rattle.core.proofs.alloc.Calls.{Goes-blank}
-use Rattle.core.proofs.alloc.Shapes.{after}
-use Rattle.std_alloc.proofs.Pairs.{pair_of, pair_val}
-use Rattle.std.proofs.raw_atomic.Walks.{proved_at, leaves}
 use Rattle.linked_list_allocator.proofs.Walks.{slot_at}
 use Rattle.linked_list_allocator.proofs.Values.{sized_val, sized_own, sized_made}
 use Rattle.linked_list_allocator.specs.Region.{Region}
 use Rattle.linked_list_allocator.specs.Ownership.{bytes_at}
-use Rattle.std.specs.Allocator.{block_with_items}
-use Rattle.core.proofs.ptr.Rows.{El}
-use Rattle.tlsf_arena.specs.Places.{IsUnit, piece_size, IsPiece}
-use Rattle.tlsf_arena.specs.Ownership.{behind}
 use Rattle.tlsf_arena.proofs.UnitCases.{least_piece, piece_grains, piece_holds}
 use Rattle.tlsf_arena.proofs.Buffers.{buffer_val, buffer_own, buffer_told, buffer_made, shortens, block_type, block_size}
 use Rattle.tlsf_arena.specs.contracts.piece.Piece as piece

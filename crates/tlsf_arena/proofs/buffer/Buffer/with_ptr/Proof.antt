@@ -1,5 +1,5 @@
 -- `with_ptr` reads the address, and that it is one of a piece. Assumes `Logic`.
-use Rattle.std.proofs.Common.{◌≡◌, ℕ, ◌*◌, List, [], ◌∷◌, ◌++◌, refl, sym, ap, subst, ◌∙◌}
+use Rattle.tlsf_arena.proofs.Common.{◌≡◌, ℕ, ◌*◌, List, [], ◌∷◌, ◌++◌, refl, sym, ap, subst, ◌∙◌, Goes-blank, pair_of, pair_val, proved_at, leaves, block_with_items, El, piece_size, IsPiece, behind, block_token}
 use mir.Syntax.{Ty, Fn, Args, a_type}
 use mir.Val.{Val}
 use mir.MapTy.{inst_fn}
@@ -21,15 +21,8 @@ use denote.Signature.{types_at}
 use denote.Steps.{nothing, heard}
 use denote.Struct.Tuple.{Tuple}
 use denote.Triple.Walked.{Stays, stay_dropped, walk_of}
-use Rattle.core.proofs.alloc.Calls.{Goes-blank}
-use Rattle.std_alloc.proofs.Pairs.{pair_of, pair_val}
-use Rattle.std.proofs.raw_atomic.Walks.{proved_at, leaves}
 use Rattle.linked_list_allocator.proofs.Walks.{slot_at}
 use Rattle.linked_list_allocator.specs.Region.{Region}
-use Rattle.std.specs.Allocator.{block_with_items}
-use Rattle.core.proofs.ptr.Rows.{El}
-use Rattle.tlsf_arena.specs.Places.{piece_size, IsPiece}
-use Rattle.tlsf_arena.specs.Ownership.{behind, block_token}
 use Rattle.tlsf_arena.proofs.Buffers.{buffer_val, buffer_own, buffer_told, buffer_made, block_type, block_size}
 use Rattle.tlsf_arena.specs.contracts.buffer.Buffer as buffer
 use Rattle.tlsf_arena.specs.contracts.buffer.Buffer.with_ptr.{ended, clauses}

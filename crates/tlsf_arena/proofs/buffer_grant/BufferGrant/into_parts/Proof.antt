@@ -1,5 +1,5 @@
 -- `into_parts` takes room for values and a right apart. Assumes `Logic`.
-use Rattle.std.proofs.Common.{◌≡◌, ℕ, ◌*◌, List, [], ◌∷◌, ◌++◌, refl, subst}
+use Rattle.tlsf_arena.proofs.Common.{◌≡◌, ℕ, ◌*◌, List, [], ◌∷◌, ◌++◌, refl, subst, Goes-blank, El, and_tt, pair_of, pair_val, proved_at, leaves, Home, IsLoanAt}
 use mir.Syntax.{Ty, Fn, Args, a_type}
 use mir.Val.{Val}
 use mir.MapTy.{inst_fn}
@@ -21,14 +21,8 @@ use denote.Signature.{types_at}
 use denote.Steps.{nothing, heard}
 use denote.Struct.Tuple.{Tuple}
 use denote.Triple.Walked.{Stays, stay_dropped, walk_of}
-use Rattle.core.proofs.alloc.Calls.{Goes-blank}
-use Rattle.core.proofs.ptr.Rows.{El}
-use Rattle.std_alloc.proofs.ResultValues.{and_tt}
-use Rattle.std_alloc.proofs.Pairs.{pair_of, pair_val}
-use Rattle.std.proofs.raw_atomic.Walks.{proved_at, leaves}
 use Rattle.linked_list_allocator.proofs.Walks.{slot_at}
 use Rattle.linked_list_allocator.proofs.Values.{ptr_typed, lease_val, lease_own, lease_made}
-use Rattle.tlsf_arena.specs.Ownership.{Home, IsLoanAt}
 use Rattle.tlsf_arena.proofs.Buffers.{buffer_val, buffer_own, buffer_told, buffer_made, block_size}
 use Rattle.tlsf_arena.specs.contracts.buffer.Buffer as buffer
 use Rattle.tlsf_arena.specs.contracts.right.Right as right_type

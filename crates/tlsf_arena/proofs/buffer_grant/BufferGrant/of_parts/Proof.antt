@@ -1,5 +1,5 @@
 -- `of_parts` puts room for values and a right together. Assumes `Logic`.
-use Rattle.std.proofs.Common.{◌≡◌, ℕ, ◌*◌, List, [], ◌∷◌, ◌++◌, refl, sym, subst}
+use Rattle.tlsf_arena.proofs.Common.{◌≡◌, ℕ, ◌*◌, List, [], ◌∷◌, ◌++◌, refl, sym, subst, Goes-blank, El, and_tt, proved_at, leaves, Loan, right, Home, IsLoanAt}
 use mir.Syntax.{Ty, Fn, Args, a_type}
 use mir.Val.{Val}
 use mir.MapTy.{inst_fn}
@@ -20,15 +20,9 @@ use denote.Param.{param, layout, layouts}
 use denote.Signature.{types_at}
 use denote.Steps.{nothing, heard}
 use denote.Triple.Walked.{Stays, stay_dropped, walk_of}
-use Rattle.core.proofs.alloc.Calls.{Goes-blank}
-use Rattle.core.proofs.ptr.Rows.{El}
-use Rattle.std_alloc.proofs.ResultValues.{and_tt}
-use Rattle.std.proofs.raw_atomic.Walks.{proved_at, leaves}
 use Rattle.linked_list_allocator.proofs.Walks.{slot_at}
 use Rattle.linked_list_allocator.proofs.Values.{ptr_typed, lease_val, lease_told}
 use Rattle.linked_list_allocator.specs.Region.{Region}
-use Rattle.tlsf_arena.specs.Loans.{Loan, right}
-use Rattle.tlsf_arena.specs.Ownership.{Home, IsLoanAt}
 use Rattle.tlsf_arena.proofs.Buffers.{buffer_val, buffer_own, buffer_told, buffer_made, block_type, block_size}
 use Rattle.tlsf_arena.specs.contracts.buffer_grant.BufferGrant as grant
 use Rattle.tlsf_arena.specs.contracts.buffer_grant.BufferGrant.of_parts.{ended, clauses}

@@ -1,5 +1,5 @@
 -- `into_parts` takes a piece and a right apart. Assumes `Logic`.
-use Rattle.std.proofs.Common.{◌≡◌, List, [], ◌∷◌, ◌++◌, refl}
+use Rattle.tlsf_arena.proofs.Common.{◌≡◌, List, [], ◌∷◌, ◌++◌, refl, Goes-blank, and_tt, pair_of, pair_val, proved_at, leaves}
 use mir.Syntax.{Fn}
 use mir.Val.{Val}
 use base.Logic.{SProp, emp}
@@ -17,10 +17,6 @@ use denote.Steps.{nothing}
 use denote.Struct.Tuple.{Tuple}
 use denote.Triple.Entry.{alive}
 use denote.Triple.Walked.{Stays, stay_dropped, walk_of}
-use Rattle.std.proofs.alloc.Calls.{Goes-blank}
-use Rattle.std_alloc.proofs.ResultValues.{and_tt}
-use Rattle.std_alloc.proofs.Pairs.{pair_of, pair_val}
-use Rattle.std.proofs.raw_atomic.Walks.{proved_at, leaves}
 use Rattle.linked_list_allocator.proofs.Walks.{slot_at}
 use Rattle.linked_list_allocator.proofs.Values.{ptr_typed, sized_val, sized_own, sized_told, sized_made, lease_val, lease_own, lease_made}
 use Rattle.tlsf_arena.specs.contracts.piece.Piece as piece

@@ -1,5 +1,5 @@
 -- `close` takes the bytes from `dislodge`. Assumes `Logic`.
-use Rattle.std.proofs.Common.{◌≡◌, ℕ, ◌<◌, ◌^◌, List, [], ◌∷◌, ◌++◌, refl, sym, ap, ◌∙◌, arith, w64}
+use Rattle.tlsf_arena.proofs.Common.{◌≡◌, ℕ, ◌<◌, ◌^◌, List, [], ◌∷◌, ◌++◌, refl, sym, ap, ◌∙◌, arith, w64, fm, Goes-blank, proved_at, leaves, lodged}
 use mir.Syntax.{Fn}
 use mir.Val.{Val, vint}
 use base.Logic.{SProp, emp}
@@ -18,10 +18,6 @@ use denote.Steps.{nothing, heard}
 use denote.Triple.Call.{calls_at}
 use denote.Triple.Entry.{alive}
 use denote.Triple.Walked.{Stays, stay_dropped, walk_of}
-use Rattle.core.proofs.atomic.Steps.{fm}
-use Rattle.std.proofs.alloc.Calls.{Goes-blank}
-use Rattle.std.proofs.raw_atomic.Walks.{proved_at, leaves}
-use Rattle.std_alloc.specs.Vec.Ownership.{lodged}
 use Rattle.std_alloc.proofs.vec.lodged.Vec+T+Lodged.dislodge.Met as callee
 use Rattle.linked_list_allocator.specs.Ownership.{bytes_at}
 use Rattle.linked_list_allocator.proofs.Walks.{slot_at}

@@ -1,5 +1,5 @@
 -- `open` hands the bytes of a piece to `lodge`. Assumes `Logic`.
-use Rattle.std.proofs.Common.{◌≡◌, ℕ, ◌/◌, ◌<◌, ◌^◌, List, [], ◌∷◌, ◌++◌, refl, sym, ap, ◌∙◌, subst, arith, w8, Vec}
+use Rattle.tlsf_arena.proofs.Common.{◌≡◌, ℕ, ◌/◌, ◌<◌, ◌^◌, List, [], ◌∷◌, ◌++◌, refl, sym, ap, ◌∙◌, subst, arith, w8, Vec, fm, Goes-blank, after, pair_of, pair_val, pair_Typed, proved_at, leaves, lodged, ways}
 use mir.Syntax.{Fn}
 use mir.Val.{Val}
 use base.Logic.{SProp, emp}
@@ -21,18 +21,11 @@ use denote.Struct.Tuple.{Tuple}
 use denote.Triple.Call.{calls_at_last}
 use denote.Triple.Entry.{alive}
 use denote.Triple.Walked.{Stays, stay_dropped, walk_of}
-use Rattle.core.proofs.atomic.Steps.{fm}
-use Rattle.std.proofs.alloc.Calls.{Goes-blank}
-use Rattle.std.proofs.alloc.Shapes.{after}
-use Rattle.std_alloc.proofs.Pairs.{pair_of, pair_val, pair_Typed}
-use Rattle.std.proofs.raw_atomic.Walks.{proved_at, leaves}
-use Rattle.std_alloc.specs.Vec.Ownership.{lodged}
 use Rattle.std_alloc.specs.declared.vec.lodged.Lodged.{Lodged}
 use Rattle.std_alloc.proofs.vec.lodge.Met as callee
 use Rattle.linked_list_allocator.specs.Ownership.{bytes_at}
 use Rattle.linked_list_allocator.proofs.Walks.{slot_at}
 use Rattle.linked_list_allocator.proofs.Values.{sized_val, sized_own, sized_told, sized_made}
-use Rattle.tlsf_arena.specs.Ownership.{ways}
 use Rattle.tlsf_arena.specs.FilledPieces.{piece_within}
 use Rattle.tlsf_arena.proofs.Lodging.{byte_laws, Housed, Good, vec_tells, piece_out, Lodges, at_lodge, IsLodged, lodge_goes, lodge_gives}
 use Rattle.tlsf_arena.specs.contracts.husk.Husk as husk

@@ -1,5 +1,5 @@
 -- `allocate` hands out the block as room for the type that was asked, and the way back as the token. Assumes `Logic`.
-use Rattle.std.proofs.Common.{◌^◌, ◌<◌, ◌≡◌, true, false, List, [], ◌∷◌, ◌++◌, refl, subst, lit<, w64, Ok, Err}
+use Rattle.tlsf_arena.proofs.Common.{◌^◌, ◌<◌, ◌≡◌, true, false, List, [], ◌∷◌, ◌++◌, refl, subst, lit<, w64, Ok, Err, Answer, answer_val, Answer-Ok, Answer-err, after, head, arm_body, fm, proved_at, leaves, Home, whole_token}
 use mir.Syntax.{Ty, Fn, Args, a_number}
 use mir.MapTy.{inst_fn}
 use mir.Val.{Val, vint, vptr}
@@ -24,13 +24,8 @@ use denote.Triple.Entry.{alive}
 use denote.Triple.Spec.{triple_of}
 use denote.Triple.Clauses.{Lasts, lasts}
 use denote.Triple.Walked.{Stays, stay_dropped, walk_of, Goes-dropped}
-use Rattle.core.proofs.alloc.Calls.{Answer, answer_val, Answer-Ok, Answer-err}
-use Rattle.core.proofs.alloc.Shapes.{after, head, arm_body}
-use Rattle.core.proofs.atomic.Steps.{fm}
-use Rattle.std.proofs.raw_atomic.Walks.{proved_at, leaves}
 use Rattle.linked_list_allocator.proofs.Walks.{slot_at, then_runs}
 use Rattle.linked_list_allocator.specs.Region.{Region}
-use Rattle.tlsf_arena.specs.Ownership.{Home, whole_token}
 use denote.Triple.Call.{calls_from}
 use Rattle.tlsf_arena.specs.contracts.local.LocalArena.take as callee
 use Rattle.tlsf_arena.specs.contracts.local.LocalArena.take.Key as take_key

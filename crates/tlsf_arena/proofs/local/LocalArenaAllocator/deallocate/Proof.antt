@@ -1,5 +1,5 @@
 -- `deallocate` turns the room into the piece again, takes the right out of the token, and gives both to the arena. Assumes `Logic`.
-use Rattle.std.proofs.Common.{◌≡◌, ℕ, ◌+◌, ◌*◌, ◌^◌, ◌<◌, List, [], ◌∷◌, ◌++◌, refl, sym, ap, ◌∙◌, arith, w64}
+use Rattle.tlsf_arena.proofs.Common.{◌≡◌, ℕ, ◌+◌, ◌*◌, ◌^◌, ◌<◌, List, [], ◌∷◌, ◌++◌, refl, sym, ap, ◌∙◌, arith, w64, fm, proved_at, leaves, IsUnit, piece_size, name_of, Home, whole_token}
 use mir.Syntax.{Ty, Fn, Args, a_number}
 use mir.MapTy.{inst_fn}
 use mir.Val.{Val, vint, vptr, vunit}
@@ -26,17 +26,13 @@ use denote.Triple.Spec.{triple_of}
 use denote.Triple.Call.{calls_at}
 use denote.Triple.Clauses.{Lasts, lasts}
 use denote.Triple.Walked.{Stays, stay_dropped, walk_of, Goes-dropped}
-use Rattle.core.proofs.atomic.Steps.{fm}
-use Rattle.std.proofs.raw_atomic.Walks.{proved_at, leaves}
 use Rattle.linked_list_allocator.proofs.Values.{sized_val, sized_own, sized_made, lease_val, lease_own, lease_made}
 use Rattle.linked_list_allocator.specs.Region.{Region}
-use Rattle.tlsf_arena.specs.Places.{IsUnit, piece_size}
-use Rattle.tlsf_arena.specs.Loans.{name_of, units_of as units_in}
+use Rattle.tlsf_arena.specs.Loans.{units_of as units_in}
 use Rattle.tlsf_arena.proofs.Taken.{takes_in}
 use Rattle.tlsf_arena.proofs.UnitCases.{piece_holds}
 use Rattle.tlsf_arena.specs.contracts.local.LocalArena as local
 use Rattle.linked_list_allocator.specs.Ownership.{bytes_at}
-use Rattle.tlsf_arena.specs.Ownership.{Home, whole_token}
 use Rattle.linked_list_allocator.proofs.Walks.{slot_at}
 use Rattle.tlsf_arena.specs.contracts.local.piece_bytes as sizer
 use Rattle.tlsf_arena.proofs.local.piece_bytes.Met.{met as aligns}

@@ -1,5 +1,5 @@
 -- `shrink` hands the block to `moved` as a value, and takes apart what comes back. Assumes `Logic`.
-use Rattle.std.proofs.Common.{◌≡◌, ◌*◌, ◌^◌, ◌<◌, ◌≤◌, true, false, List, [], ◌∷◌, ◌++◌, refl, sym, ap, ◌∙◌, arith, lit<, w64, Ok, Err}
+use Rattle.tlsf_arena.proofs.Common.{◌≡◌, ◌*◌, ◌^◌, ◌<◌, ◌≤◌, true, false, List, [], ◌∷◌, ◌++◌, refl, sym, ap, ◌∙◌, arith, lit<, w64, Ok, Err, Answer, answer_val, Answer-Ok, Answer-err, after, head, arm_body, fm, times_below, proved_at, leaves, array_of, block_with_items, FitsBlock, Home, whole_token}
 use mir.Syntax.{Fn, Args, a_type, a_number}
 use mir.Val.{Val, vint, vptr}
 use mir.MapTy.{inst_fn}
@@ -26,14 +26,7 @@ use denote.Triple.Spec.{triple_of}
 use denote.Triple.Call.{calls_at}
 use denote.Triple.Clauses.{Lasts, lasts}
 use denote.Triple.Walked.{Stays, stay_dropped, walk_of, Goes-dropped}
-use Rattle.core.proofs.alloc.Calls.{Answer, answer_val, Answer-Ok, Answer-err}
-use Rattle.core.proofs.alloc.Shapes.{after, head, arm_body}
-use Rattle.core.proofs.atomic.Steps.{fm}
-use Rattle.core.proofs.ptr.Rows.{times_below}
-use Rattle.std.proofs.raw_atomic.Walks.{proved_at, leaves}
-use Rattle.std.specs.Allocator.{array_of, block_with_items, FitsBlock}
 use Rattle.linked_list_allocator.proofs.Walks.{slot_at, then_runs}
-use Rattle.tlsf_arena.specs.Ownership.{Home, whole_token}
 use Rattle.tlsf_arena.specs.contracts.local.LocalArena as local
 use Rattle.tlsf_arena.specs.contracts.local.LocalArena.moved as callee
 use Rattle.tlsf_arena.proofs.local.LocalArena.moved.Met.{met as moves}

@@ -1,5 +1,5 @@
 -- `from_raw_parts` takes over what the caller owns. Assumes `Logic`.
-use Rattle.std.proofs.Common.{◌≡◌, List, [], ◌∷◌, ◌++◌, refl, w64}
+use Rattle.tlsf_arena.proofs.Common.{◌≡◌, List, [], ◌∷◌, ◌++◌, refl, w64, and_tt, proved_at, leaves}
 use mir.Syntax.{Fn}
 use mir.Val.{Val, vint}
 use base.Logic.{SProp, emp}
@@ -16,8 +16,6 @@ use denote.Signature.{types_at}
 use denote.Steps.{nothing, heard}
 use denote.Triple.Entry.{alive}
 use denote.Triple.Walked.{Stays, stay_dropped, walk_of, Goes-dropped}
-use Rattle.std_alloc.proofs.ResultValues.{and_tt}
-use Rattle.std.proofs.raw_atomic.Walks.{proved_at, leaves}
 use Rattle.linked_list_allocator.proofs.Values.{ptr_typed, sized_val, sized_own, sized_made}
 use Rattle.linked_list_allocator.specs.Region.{IsRegionSize}
 use Rattle.linked_list_allocator.specs.Ownership.{bytes_at}

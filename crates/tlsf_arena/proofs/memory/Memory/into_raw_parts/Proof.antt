@@ -1,5 +1,5 @@
 -- `into_raw_parts` hands over what the block owns. Assumes `Logic`.
-use Rattle.std.proofs.Common.{◌≡◌, ◌^◌, List, [], ◌∷◌, ◌++◌, refl, w64}
+use Rattle.tlsf_arena.proofs.Common.{◌≡◌, ◌^◌, List, [], ◌∷◌, ◌++◌, refl, w64, Goes-blank, and_tt, pair_of, pair_val, proved_at, leaves}
 use mir.Syntax.{Fn}
 use mir.Val.{Val, vint}
 use base.Logic.{SProp, emp}
@@ -19,10 +19,6 @@ use denote.Steps.{nothing}
 use denote.Struct.Tuple.{Tuple}
 use denote.Triple.Entry.{alive}
 use denote.Triple.Walked.{Stays, stay_dropped, walk_of}
-use Rattle.core.proofs.alloc.Calls.{Goes-blank}
-use Rattle.std_alloc.proofs.ResultValues.{and_tt}
-use Rattle.std_alloc.proofs.Pairs.{pair_of, pair_val}
-use Rattle.std.proofs.raw_atomic.Walks.{proved_at, leaves}
 use Rattle.linked_list_allocator.proofs.Values.{ptr_typed, sized_val, sized_told}
 use Rattle.linked_list_allocator.proofs.Walks.{slot_at}
 use Rattle.tlsf_arena.specs.contracts.memory.Memory.into_raw_parts.{ended, clauses}

@@ -1,5 +1,5 @@
 -- A piece owns room alone, which names no thread.
-use Rattle.std.specs.Prelude.{ℕ}
+use Rattle.tlsf_arena.proofs.Common.{ℕ}
 use base.Shift.{Keyless}
 use denote.RawPtr.{Ptr, block_ptr, null_ptr}
 use denote.Struct.Struct.{exits_of}

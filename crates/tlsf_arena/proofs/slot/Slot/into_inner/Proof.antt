@@ -1,5 +1,5 @@
 -- `into_inner` unwraps the arena. Assumes `Logic`.
-use Rattle.std.proofs.Common.{◌^◌, ◌<◌, List, [], ◌∷◌, ◌++◌, refl}
+use Rattle.tlsf_arena.proofs.Common.{◌^◌, ◌<◌, List, [], ◌∷◌, ◌++◌, refl, Goes-blank, round, and_tt, proved_at, leaves}
 use mir.Syntax.{Fn, Args, a_number}
 use mir.MapTy.{inst_fn}
 use mir.Val.{Val}
@@ -20,10 +20,6 @@ use denote.Signature.{types_at}
 use denote.Steps.{nothing}
 use denote.Triple.Entry.{alive}
 use denote.Triple.Walked.{Stays, stay_dropped, walk_of}
-use Rattle.core.proofs.alloc.Calls.{Goes-blank}
-use Rattle.core.proofs.cell.Inside.{round}
-use Rattle.std_alloc.proofs.ResultValues.{and_tt}
-use Rattle.std.proofs.raw_atomic.Walks.{proved_at, leaves}
 use Rattle.tlsf_arena.specs.contracts.slot.Slot as slot
 use Rattle.tlsf_arena.proofs.Cell.{Level, Unit_bytes, Held_arena, contents_out}
 use Rattle.linked_list_allocator.proofs.Walks.{slot_at}

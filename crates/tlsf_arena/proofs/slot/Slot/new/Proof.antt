@@ -1,5 +1,5 @@
 -- `new` wraps the arena. Assumes `Logic`.
-use Rattle.std.proofs.Common.{◌^◌, ◌<◌, ◌≡◌, List, [], ◌∷◌, ◌++◌, refl, lit<, Some}
+use Rattle.tlsf_arena.proofs.Common.{◌^◌, ◌<◌, ◌≡◌, List, [], ◌∷◌, ◌++◌, refl, lit<, Some, Goes-blank, one, round, and_tt, proved_at, leaves, Home}
 use mir.Syntax.{Fn, Args, a_number}
 use mir.MapTy.{inst_fn}
 use mir.Val.{Val, vcons, vnil}
@@ -22,12 +22,7 @@ use denote.Signature.{types_at}
 use denote.Steps.{nothing}
 use denote.Triple.Entry.{alive}
 use denote.Triple.Walked.{Stays, stay_dropped, walk_of}
-use Rattle.core.proofs.alloc.Calls.{Goes-blank}
-use Rattle.core.proofs.cell.Inside.{one, round}
 use Rattle.core.proofs.option.Made.{Some-of}
-use Rattle.std_alloc.proofs.ResultValues.{and_tt}
-use Rattle.std.proofs.raw_atomic.Walks.{proved_at, leaves}
-use Rattle.tlsf_arena.specs.Ownership.{Home}
 use Rattle.tlsf_arena.specs.contracts.slot.Slot as slot
 use Rattle.tlsf_arena.proofs.Cell.{Level, Unit_bytes, Held_arena, Held, Fields, contents_in}
 use denote.Laws.{Typed}

@@ -1,5 +1,5 @@
 -- `into_memory` sees the units, all free, as the memory again. Assumes `Logic`.
-use Rattle.std.proofs.Common.{◌≡◌, ℕ, suc, ◌-◌, ◌*◌, ◌/◌, Bool, true, replicate, List, [], ◌∷◌, ◌++◌, refl, sym, ap, ◌∙◌, arith, w64}
+use Rattle.tlsf_arena.proofs.Common.{◌≡◌, ℕ, suc, ◌-◌, ◌*◌, ◌/◌, Bool, true, replicate, List, [], ◌∷◌, ◌++◌, refl, sym, ap, ◌∙◌, arith, w64, Goes-blank, proved_at, leaves, free_rooms}
 use mir.Syntax.{Fn}
 use mir.Val.{Val, vint}
 use base.Logic.{SProp, emp}
@@ -16,14 +16,11 @@ use denote.Signature.{types_at}
 use denote.Steps.{nothing, heard}
 use denote.Triple.Entry.{alive}
 use denote.Triple.Walked.{Stays, stay_dropped, walk_of, Goes-dropped}
-use Rattle.std.proofs.alloc.Calls.{Goes-blank}
-use Rattle.std.proofs.raw_atomic.Walks.{proved_at, leaves}
 use Rattle.linked_list_allocator.proofs.Walks.{slot_at}
 use Rattle.linked_list_allocator.proofs.Values.{list_val, list_told, sized_val, sized_own, sized_made}
 use Rattle.linked_list_allocator.proofs.Nodes.{resized}
 use Rattle.linked_list_allocator.specs.Region.{Region, IsRegionSize}
 use Rattle.linked_list_allocator.specs.Ownership.{bytes_at}
-use Rattle.tlsf_arena.specs.Ownership.{free_rooms}
 use Rattle.tlsf_arena.proofs.Rooms.{whole as all_rooms}
 use Rattle.tlsf_arena.specs.contracts.memory.Memory as memory
 use Rattle.tlsf_arena.specs.contracts.space.Space.into_memory.{ended, clauses}

@@ -1,6 +1,5 @@
 -- `lend` cuts the bytes of some units out of the free ones. Assumes `Logic`.
-use Rattle.std.proofs.Common.{◌≡◌, ℕ, suc, ◌+◌, ◌-◌, ◌*◌, ◌/◌, ◌%◌, ◌^◌, ◌<◌, ◌≤◌, Bool, true, false, length, replicate, List, [], ◌∷◌, ◌++◌, refl, sym, ap, ◌∙◌, arith, w64, length-append}
-use Rattle.std.proofs.lemmas.List.{length-replicate}
+use Rattle.tlsf_arena.proofs.Common.{◌≡◌, ℕ, suc, ◌+◌, ◌-◌, ◌*◌, ◌/◌, ◌%◌, ◌^◌, ◌<◌, ◌≤◌, Bool, true, false, length, replicate, List, [], ◌∷◌, ◌++◌, refl, sym, ap, ◌∙◌, arith, w64, length-append, length-replicate, Goes-blank, after, pair_of, pair_val, proved_at, leaves, IsRun, marked, free_rooms}
 use mir.Syntax.{Fn}
 use mir.Val.{Val, vint, vptr}
 use base.Logic.{SProp, emp}
@@ -18,16 +17,10 @@ use denote.Steps.{nothing, heard}
 use denote.Struct.Tuple.{Tuple}
 use denote.Triple.Entry.{alive}
 use denote.Triple.Walked.{Stays, stay_dropped, walk_of, Goes-dropped}
-use Rattle.std.proofs.alloc.Calls.{Goes-blank}
-use Rattle.std.proofs.alloc.Shapes.{after}
-use Rattle.std_alloc.proofs.Pairs.{pair_of, pair_val}
-use Rattle.std.proofs.raw_atomic.Walks.{proved_at, leaves}
 use Rattle.linked_list_allocator.proofs.Walks.{slot_at}
 use Rattle.linked_list_allocator.proofs.Values.{list_val, list_own, list_told, list_made, sized_val, sized_own, sized_made}
 use Rattle.linked_list_allocator.specs.Region.{Region}
 use Rattle.linked_list_allocator.specs.Ownership.{bytes_at}
-use Rattle.tlsf_arena.specs.Places.{IsRun, marked}
-use Rattle.tlsf_arena.specs.Ownership.{free_rooms}
 use Rattle.tlsf_arena.proofs.Rooms.{marked_run, same_length, lends}
 use Rattle.tlsf_arena.specs.contracts.piece.Piece as piece
 use Rattle.tlsf_arena.specs.contracts.space.Space as space

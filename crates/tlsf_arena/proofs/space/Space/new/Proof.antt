@@ -1,6 +1,5 @@
 -- `new` sees the memory as units, each free. Assumes `Logic`.
-use Rattle.std.proofs.Common.{◌≡◌, ℕ, suc, ◌+◌, ◌-◌, ◌*◌, ◌/◌, ◌^◌, ◌<◌, Bool, true, length, replicate, List, [], ◌∷◌, ◌++◌, refl, sym, ap, subst, ◌∙◌, arith}
-use Rattle.std.proofs.lemmas.List.{length-replicate}
+use Rattle.tlsf_arena.proofs.Common.{◌≡◌, ℕ, suc, ◌+◌, ◌-◌, ◌*◌, ◌/◌, ◌^◌, ◌<◌, Bool, true, length, replicate, List, [], ◌∷◌, ◌++◌, refl, sym, ap, subst, ◌∙◌, arith, length-replicate, Goes-blank, proved_at, leaves, free_rooms}
 use mir.Syntax.{Fn}
 use mir.Val.{Val}
 use base.Logic.{SProp, emp, never, id⊢}
@@ -17,14 +16,11 @@ use denote.Signature.{types_at}
 use denote.Steps.{nothing, heard}
 use denote.Triple.Entry.{alive}
 use denote.Triple.Walked.{Stays, stay_dropped, walk_of}
-use Rattle.std.proofs.alloc.Calls.{Goes-blank}
-use Rattle.std.proofs.raw_atomic.Walks.{proved_at, leaves}
 use Rattle.linked_list_allocator.proofs.Walks.{slot_at}
 use Rattle.linked_list_allocator.proofs.Values.{list_val, list_own, list_made, sized_val, sized_told}
 use Rattle.linked_list_allocator.proofs.Nodes.{resized}
 use Rattle.linked_list_allocator.specs.Region.{Region, region_of}
 use Rattle.linked_list_allocator.specs.Ownership.{bytes_at}
-use Rattle.tlsf_arena.specs.Ownership.{free_rooms}
 use Rattle.tlsf_arena.proofs.Rooms.{cut_up}
 use Rattle.tlsf_arena.specs.contracts.space.Space as space
 use Rattle.tlsf_arena.specs.contracts.space.Space.new.{ended, clauses}

@@ -1,5 +1,5 @@
 -- `take_back` joins the bytes of the piece to those of the free units. Assumes `Logic`.
-use Rattle.std.proofs.Common.{◌≡◌, ℕ, suc, ◌+◌, ◌-◌, ◌*◌, ◌/◌, ◌%◌, ◌≤◌, Bool, true, false, length, replicate, List, [], ◌∷◌, ◌++◌, refl, sym, ap, subst, ◌∙◌, arith}
+use Rattle.tlsf_arena.proofs.Common.{◌≡◌, ℕ, suc, ◌+◌, ◌-◌, ◌*◌, ◌/◌, ◌%◌, ◌≤◌, Bool, true, false, length, replicate, List, [], ◌∷◌, ◌++◌, refl, sym, ap, subst, ◌∙◌, arith, Goes-blank, pair_of, pair_val, proved_at, leaves, IsRun, marked, grain_of, free_rooms}
 use mir.Syntax.{Fn}
 use mir.Val.{Val, vunit}
 use base.Logic.{SProp, emp}
@@ -18,15 +18,10 @@ use denote.Steps.{nothing, heard}
 use denote.Struct.Tuple.{Tuple}
 use denote.Triple.Entry.{alive}
 use denote.Triple.Walked.{Stays, stay_dropped, walk_of}
-use Rattle.std.proofs.alloc.Calls.{Goes-blank}
-use Rattle.std_alloc.proofs.Pairs.{pair_of, pair_val}
-use Rattle.std.proofs.raw_atomic.Walks.{proved_at, leaves}
 use Rattle.linked_list_allocator.proofs.Walks.{slot_at}
 use Rattle.linked_list_allocator.proofs.Values.{list_val, list_own, list_told, list_made, sized_val, sized_told}
 use Rattle.linked_list_allocator.specs.Region.{Region}
 use Rattle.linked_list_allocator.specs.Ownership.{bytes_at}
-use Rattle.tlsf_arena.specs.Places.{IsRun, marked, grain_of}
-use Rattle.tlsf_arena.specs.Ownership.{free_rooms}
 use Rattle.tlsf_arena.proofs.Rooms.{marked_run, same_length, takes}
 use Rattle.tlsf_arena.specs.contracts.space.Space as space
 use Rattle.tlsf_arena.specs.contracts.space.Space.take_back.{ended, clauses}

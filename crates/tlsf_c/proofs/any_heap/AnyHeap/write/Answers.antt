@@ -1,6 +1,4 @@
-use Rattle.std.proofs.Common.{sym, subst}
-use Rattle.tlsf_heap.specs.Blocks.{HeapState}
-use Rattle.tlsf_c.specs.Counting.{AreCounts}
+use Rattle.tlsf_c.proofs.Common.{sym, subst, HeapState, AreCounts}
 use Rattle.tlsf_c.specs.LevelOf.{shown}
 use Rattle.tlsf_c.specs.declared.any_heap.AnyHeap.TheInside.{Inside}
 use Rattle.tlsf_c.specs.declared.any_heap.OfLevel.{OfLevel}

@@ -1,11 +1,4 @@
-use Rattle.std.proofs.Common.{Result, ap, sym, ◌∙◌}
-use Rattle.tlsf_heap.specs.declared.name.Name.{Name}
-use Rattle.tlsf_heap.specs.declared.refusal.Refusal.{Refusal}
-use Rattle.tlsf_offsets.specs.Offsets.{KeepsOthers}
-use Rattle.tlsf_offsets.specs.declared.span.Span.{Span}
-use Rattle.tlsf_c.specs.declared.any_offsets.OffsetsOfLevel.{OffsetsOfLevel}
-use Rattle.tlsf_c.specs.OffsetLevels.{LevelOffsets}
-use Rattle.tlsf_c.specs.OffsetsOf.{offsets_shown}
+use Rattle.tlsf_c.proofs.Common.{Result, ap, sym, ◌∙◌, Name, Refusal, KeepsOthers, Span, OffsetsOfLevel, LevelOffsets, offsets_shown}
 use Rattle.tlsf_c.specs.declared.any_offsets.AnyOffsets.TheInside.{Inside}
 use Rattle.tlsf_c.proofs.Carried.{carried}
 use Rattle.tlsf_c.proofs.any_offsets.AnyOffsets.resize.Goals as goal

@@ -1,11 +1,5 @@
-use Rattle.std.proofs.Common.{ℕ, Result, ap, sym, ◌∙◌}
-use Rattle.tlsf_heap.specs.declared.name.Name.{Name}
+use Rattle.tlsf_c.proofs.Common.{ℕ, Result, ap, sym, ◌∙◌, Name, AllocatesInPools, LevelPools, pools_shown, PoolsOfLevel, Inside}
 use Rattle.tlsf_pool.specs.declared.pools.pool_refusal.PoolRefusal.{PoolRefusal}
-use Rattle.tlsf_c.specs.PoolCalls.{AllocatesInPools}
-use Rattle.tlsf_c.specs.PoolLevels.{LevelPools}
-use Rattle.tlsf_c.specs.PoolsOf.{pools_shown}
-use Rattle.tlsf_c.specs.declared.any_pools.PoolsOfLevel.{PoolsOfLevel}
-use Rattle.tlsf_c.specs.declared.any_pools.AnyPools.TheInside.{Inside}
 use Rattle.tlsf_c.proofs.Carried.{carried}
 use Rattle.tlsf_c.proofs.any_pools.AnyPools.allocate.Goals as goal
 use Rattle.tlsf_c.proofs.any_pools.AnyPools.allocate.Goals.{in-Four, in-Five}

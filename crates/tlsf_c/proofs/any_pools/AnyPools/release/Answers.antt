@@ -1,11 +1,4 @@
-use Rattle.std.proofs.Common.{Result, ap, sym, ◌∙◌}
-use Rattle.tlsf_heap.specs.declared.name.Name.{Name}
-use Rattle.tlsf_heap.specs.declared.refusal.Refusal.{Refusal}
-use Rattle.tlsf_c.specs.PoolCalls.{ReleasesInPools}
-use Rattle.tlsf_c.specs.PoolLevels.{LevelPools}
-use Rattle.tlsf_c.specs.PoolsOf.{pools_shown}
-use Rattle.tlsf_c.specs.declared.any_pools.PoolsOfLevel.{PoolsOfLevel}
-use Rattle.tlsf_c.specs.declared.any_pools.AnyPools.TheInside.{Inside}
+use Rattle.tlsf_c.proofs.Common.{Result, ap, sym, ◌∙◌, Name, Refusal, ReleasesInPools, LevelPools, pools_shown, PoolsOfLevel, Inside}
 use Rattle.tlsf_c.proofs.Carried.{carried}
 use Rattle.tlsf_c.proofs.any_pools.AnyPools.release.Goals as goal
 use Rattle.tlsf_c.proofs.any_pools.AnyPools.release.Goals.{in-Four, in-Five}

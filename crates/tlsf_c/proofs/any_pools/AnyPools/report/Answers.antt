@@ -1,10 +1,5 @@
-use Rattle.std.proofs.Common.{ℕ, Option, ap, sym, ◌∙◌}
+use Rattle.tlsf_c.proofs.Common.{ℕ, Option, ap, sym, ◌∙◌, ReportsInPools, LevelPools, pools_shown, PoolsOfLevel, Inside}
 use Rattle.tlsf_heap.specs.declared.report.Report.{Report}
-use Rattle.tlsf_c.specs.PoolCalls.{ReportsInPools}
-use Rattle.tlsf_c.specs.PoolLevels.{LevelPools}
-use Rattle.tlsf_c.specs.PoolsOf.{pools_shown}
-use Rattle.tlsf_c.specs.declared.any_pools.PoolsOfLevel.{PoolsOfLevel}
-use Rattle.tlsf_c.specs.declared.any_pools.AnyPools.TheInside.{Inside}
 use Rattle.tlsf_c.proofs.Carried.{carried}
 use Rattle.tlsf_c.proofs.any_pools.AnyPools.report.Goals as goal
 use Rattle.tlsf_c.proofs.any_pools.AnyPools.report.Goals.{in-Four, in-Five}

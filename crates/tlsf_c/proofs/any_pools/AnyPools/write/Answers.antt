@@ -1,11 +1,4 @@
-use Rattle.std.proofs.Common.{ℕ, Result, ap, sym, ◌∙◌, List}
-use Rattle.tlsf_heap.specs.declared.name.Name.{Name}
-use Rattle.tlsf_heap.specs.declared.refusal.Refusal.{Refusal}
-use Rattle.tlsf_c.specs.PoolCalls.{WritesInPools}
-use Rattle.tlsf_c.specs.PoolLevels.{LevelPools}
-use Rattle.tlsf_c.specs.PoolsOf.{pools_shown}
-use Rattle.tlsf_c.specs.declared.any_pools.PoolsOfLevel.{PoolsOfLevel}
-use Rattle.tlsf_c.specs.declared.any_pools.AnyPools.TheInside.{Inside}
+use Rattle.tlsf_c.proofs.Common.{ℕ, Result, ap, sym, ◌∙◌, List, Name, Refusal, WritesInPools, LevelPools, pools_shown, PoolsOfLevel, Inside}
 use Rattle.tlsf_c.proofs.Carried.{carried}
 use Rattle.tlsf_c.proofs.any_pools.AnyPools.write.Goals as goal
 use Rattle.tlsf_c.proofs.any_pools.AnyPools.write.Goals.{in-Four, in-Five}

@@ -34,12 +34,9 @@ use denote.Triple.Entry.{on_entry}
 use denote.Triple.Spec.{triple_of}
 use denote.Triple.Table.{entered}
 use denote.Triple.Walked.{says, needs, Stays, stay_dropped, walk_of, ends_at, Goes-spent_ref, walk_Meets}
-use Rattle.core.proofs.alloc.Calls.{token}
+use Rattle.tlsf_c.proofs.Common.{token, D, B, R, τ, word, handle, box_out, box_in, LevelHeap}
 use Rattle.std_alloc.proofs.VecSteps.Shapes.{after}
-use Rattle.std_alloc.proofs.BoxSteps.Form.{D, B, R, τ, word, handle}
-use Rattle.std_alloc.proofs.BoxSteps.Steps.{box_out, box_in}
 use Rattle.tlsf_c.specs.Lending.{holding}
-use Rattle.tlsf_c.specs.Levels.{LevelHeap}
 use Rattle.tlsf_c.specs.declared.boxed_heap.BoxedHeap.{BoxedHeap}
 use Rattle.tlsf_c.specs.contracts.any_heap.AnyHeap as Home
 use Rattle.tlsf_c.specs.contracts.boxed_heap.BoxedHeap as Sealed

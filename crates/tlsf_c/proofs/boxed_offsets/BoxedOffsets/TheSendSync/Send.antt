@@ -8,10 +8,8 @@ use denote.Struct.Struct.{exits_of}
 use denote.Struct.Owning.{shape, fields, to}
 use denote.Param.Send.{IsSend, AllSend, owning_send, struct_send, sendable}
 use Rattle.std.proofs.Crossing as heap
-use Rattle.std.specs.Global.{Global}
-use Rattle.std_alloc.proofs.SendSync.{quiet, lies}
+use Rattle.tlsf_c.proofs.Common.{Global, quiet, lies, LevelOffsets}
 use Rattle.std_heap.proofs.Global.TheSendSync as handle
-use Rattle.tlsf_c.specs.OffsetLevels.{LevelOffsets}
 use Rattle.tlsf_c.specs.contracts.any_offsets.AnyOffsets as Home
 use Rattle.tlsf_c.proofs.any_offsets.AnyOffsets.TheSendSync.{the_send as home}
 use Rattle.tlsf_c.specs.OffsetsOwned.{offsets_owned}

@@ -8,10 +8,8 @@ use denote.Struct.Struct.{exits_of}
 use denote.Struct.Owning.{shape, fields, to}
 use denote.Param.Send.{IsSend, AllSend, owning_send, struct_send, sendable}
 use Rattle.std.proofs.Crossing as heap
-use Rattle.std.specs.Global.{Global}
-use Rattle.std_alloc.proofs.SendSync.{quiet, lies}
+use Rattle.tlsf_c.proofs.Common.{Global, quiet, lies, LevelPools}
 use Rattle.std_heap.proofs.Global.TheSendSync as handle
-use Rattle.tlsf_c.specs.PoolLevels.{LevelPools}
 use Rattle.tlsf_c.specs.contracts.any_pools.AnyPools as Home
 use Rattle.tlsf_c.proofs.any_pools.AnyPools.TheSendSync.{the_send as home}
 use Rattle.tlsf_c.specs.PoolsOwned.{pools_owned}

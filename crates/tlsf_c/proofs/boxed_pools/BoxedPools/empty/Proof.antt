@@ -30,9 +30,7 @@ use denote.Struct.Owning.{shape}
 use denote.Triple.Spec.{triple_of}
 use denote.Triple.Table.{entered}
 use denote.Triple.Walked.{says, Stays, stay_dropped, walk_of, ends_at, Goes-dropped, walk_Meets}
-use Rattle.core.proofs.alloc.Calls.{α, Fits, handle_tells}
-use Rattle.std_alloc.proofs.BoxSteps.Form.{box_ty}
-use Rattle.std_alloc.proofs.ResultValues.{and_tt}
+use Rattle.tlsf_c.proofs.Common.{α, Fits, handle_tells, box_ty, and_tt}
 use Rattle.std_heap.specs.contracts.Global as Heap
 use Rattle.tlsf_c.specs.contracts.boxed_pools.BoxedPools as Sealed
 use Rattle.tlsf_c.proofs.PoolsBox.{E}

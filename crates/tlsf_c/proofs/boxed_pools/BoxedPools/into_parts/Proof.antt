@@ -26,8 +26,7 @@ use denote.Steps.{nothing, heard}
 use denote.Triple.Spec.{triple_of}
 use denote.Triple.Table.{entered}
 use denote.Triple.Walked.{says, Stays, stay_dropped, walk_of, ends_at, Goes-dropped, walk_Meets}
-use Rattle.std_alloc.proofs.BoxSteps.Form.{D, B, word, box_typed}
-use Rattle.std_alloc.proofs.BoxSteps.Steps.{box_out, box_in}
+use Rattle.tlsf_c.proofs.Common.{D, B, word, box_typed, box_out, box_in}
 use Rattle.tlsf_c.proofs.PoolsBox.{E, FromSeal as From}
 use Rattle.tlsf_c.specs.contracts.boxed_pools.BoxedPools.into_parts as F
 use Rattle.tlsf_c.specs.contracts.boxed_pools.BoxedPools.into_parts.Key.{name as #self}

@@ -7,11 +7,8 @@ use denote.Struct.Struct.{exits_of}
 use denote.Struct.Owning.{shape, fields, to}
 use denote.Param.Send.{IsSend, AllSend, owning_send, struct_send, sendable}
 use Rattle.std.proofs.Crossing as heap
-use Rattle.std.specs.Global.{Global}
-use Rattle.std.specs.Prelude.{Option, Some, None}
-use Rattle.std_alloc.proofs.SendSync.{quiet, lies}
+use Rattle.tlsf_c.proofs.Common.{Global, Option, Some, None, quiet, lies, PostEnd}
 use Rattle.std_heap.proofs.Global.TheSendSync as handle
-use Rattle.tlsf_post.specs.declared.post_end.PostEnd.{PostEnd}
 use Rattle.tlsf_post.specs.contracts.post_end.PostEnd as Home
 use Rattle.tlsf_post.proofs.post_end.PostEnd.TheSendSync.{the_send as home}
 use Rattle.tlsf_c.specs.PostOwned.{post_owned}

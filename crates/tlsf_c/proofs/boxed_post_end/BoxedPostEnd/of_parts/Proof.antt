@@ -2,7 +2,7 @@
 use mathlib.Core.Path.{refl, sym, subst}
 use mathlib.Core.List.{List, [], ◌∷◌, ◌++◌}
 use seplogic.Ra.Ura.{Ura}
-use Rattle.std.specs.Prelude.{Some}
+use Rattle.tlsf_c.proofs.Common.{Some, D, B, word, box_typed, box_out, box_in}
 use mir.Val.{Val}
 use base.Logic.{SProp, ent, emp, id⊢}
 use base.Fml.{ftrue, fsep}
@@ -23,8 +23,6 @@ use denote.Steps.{nothing}
 use denote.Triple.Spec.{triple_of}
 use denote.Triple.Table.{entered}
 use denote.Triple.Walked.{says, Stays, stay_dropped, walk_of, ends_at, Goes-dropped, walk_Meets}
-use Rattle.std_alloc.proofs.BoxSteps.Form.{D, B, word, box_typed}
-use Rattle.std_alloc.proofs.BoxSteps.Steps.{box_out, box_in}
 use Rattle.tlsf_c.proofs.PostBox.{E, FromParts as From}
 use Rattle.tlsf_c.specs.contracts.boxed_post_end.BoxedPostEnd.of_parts as F
 use Rattle.tlsf_c.specs.contracts.boxed_post_end.BoxedPostEnd.of_parts.Key.{name as #self}

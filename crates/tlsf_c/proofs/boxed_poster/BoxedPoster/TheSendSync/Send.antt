@@ -7,9 +7,7 @@ use denote.Struct.Struct.{exits_of}
 use denote.Struct.Owning.{shape, fields, to}
 use denote.Param.Send.{IsSend, AllSend, owning_send, struct_send, sendable}
 use Rattle.std.proofs.Crossing as heap
-use Rattle.std.specs.Global.{Global}
-use Rattle.std.specs.Prelude.{Option, Some, None}
-use Rattle.std_alloc.proofs.SendSync.{quiet, lies}
+use Rattle.tlsf_c.proofs.Common.{Global, Option, Some, None, quiet, lies}
 use Rattle.std_heap.proofs.Global.TheSendSync as handle
 use Rattle.tlsf_post.specs.declared.poster_end.PosterEnd.{PosterEnd}
 use Rattle.tlsf_post.specs.contracts.poster_end.PosterEnd as Home

@@ -1,7 +1,7 @@
 -- `empty` moves two plain values, and owns nothing.
 use mathlib.Core.Path.{refl, sym, subst}
 use mathlib.Core.List.{List, [], ◌∷◌, ◌++◌}
-use Rattle.std.specs.Prelude.{None}
+use Rattle.tlsf_c.proofs.Common.{None, α, Fits, handle_tells, box_ty, and_tt}
 use lib.Dec.{T, lit<}
 use seplogic.Ra.Ura.{Ura}
 use mir.Syntax.{ty_ptr}
@@ -30,9 +30,6 @@ use denote.Struct.Owning.{shape}
 use denote.Triple.Spec.{triple_of}
 use denote.Triple.Table.{entered}
 use denote.Triple.Walked.{says, Stays, stay_dropped, walk_of, ends_at, Goes-dropped, walk_Meets}
-use Rattle.core.proofs.alloc.Calls.{α, Fits, handle_tells}
-use Rattle.std_alloc.proofs.BoxSteps.Form.{box_ty}
-use Rattle.std_alloc.proofs.ResultValues.{and_tt}
 use Rattle.std_heap.specs.contracts.Global as Heap
 use Rattle.tlsf_c.specs.contracts.boxed_poster.BoxedPoster as Sealed
 use Rattle.tlsf_c.proofs.PosterBox.{E}

@@ -3,9 +3,8 @@ use mathlib.Core.Path.{refl, sym, subst}
 use mathlib.Core.List.{List, [], ◌∷◌, ◌++◌}
 use seplogic.Ra.Ura.{Ura}
 use mathlib.Core.Path.{◌≡◌}
-use Rattle.std.specs.Prelude.{Option, is_some}
+use Rattle.tlsf_c.proofs.Common.{Option, is_some, QueueEnd, D, B, word, box_typed, box_out, box_in}
 use mathlib.Core.Bool.{true}
-use Rattle.tlsf_c.specs.declared.queue_end.QueueEnd.{QueueEnd}
 use Rattle.tlsf_c.proofs.Unwrapping.{held_of}
 use mir.Val.{Val}
 use contract.Monad.{fact}
@@ -29,8 +28,6 @@ use denote.Steps.{nothing, heard}
 use denote.Triple.Spec.{triple_of}
 use denote.Triple.Table.{entered}
 use denote.Triple.Walked.{says, Stays, stay_dropped, walk_of, ends_at, Goes-dropped, walk_Meets}
-use Rattle.std_alloc.proofs.BoxSteps.Form.{D, B, word, box_typed}
-use Rattle.std_alloc.proofs.BoxSteps.Steps.{box_out, box_in}
 use Rattle.tlsf_c.proofs.QueueBox.{E, FromSeal as From}
 use Rattle.tlsf_c.specs.contracts.boxed_queue.BoxedQueue.into_parts as F
 use Rattle.tlsf_c.specs.contracts.boxed_queue.BoxedQueue.into_parts.Key.{name as #self}

@@ -1,7 +1,5 @@
-use Rattle.std.proofs.Common.{ℕ, arith, subst}
+use Rattle.tlsf_c.proofs.Common.{ℕ, arith, subst, seen, allocate_touches}
 use Rattle.tlsf_heap.specs.Effects.{Allocates}
-use Rattle.tlsf_heap.specs.Shown.{seen}
-use Rattle.tlsf_heap.specs.Touched.{allocate_touches}
 use Rattle.tlsf_heap.proofs.lemmas.calls.Looked.{allocates_looked}
 use Rattle.tlsf_c.proofs.CountSums.{given}
 use Rattle.tlsf_c.proofs.counts.Counts.allocate.Goals as goal

@@ -1,6 +1,5 @@
-use Rattle.std.proofs.Common.{arith, ◌∙◌, max}
+use Rattle.tlsf_c.proofs.Common.{arith, ◌∙◌, max, want}
 use Rattle.tlsf_c.proofs.CountSums.{given_aligned}
-use Rattle.tlsf_heap.specs.Blocks.{want}
 use Rattle.tlsf_c.proofs.LeftWords.{aligned_left}
 use Rattle.tlsf_c.proofs.counts.Counts.allocate_aligned.Goals as goal
 

@@ -1,17 +1,12 @@
-use Rattle.std.proofs.Common.{ℕ, ◌+◌, Ok, Err, inr, sym, ap, ◌∙◌, subst, arith, rules}
+use Rattle.tlsf_c.proofs.Common.{ℕ, ◌+◌, Ok, Err, inr, sym, ap, ◌∙◌, subst, arith, rules, HeapState, want, seen, resize_touches, words_in_use, Counts}
 use Rattle.tlsf_class.proofs.TwoLevels.{most_words_any}
-use Rattle.tlsf_heap.specs.Blocks.{HeapState, want}
 use Rattle.tlsf_heap.specs.Effects.{Resizes}
 use Rattle.tlsf_heap.specs.Laws.{IsLive}
-use Rattle.tlsf_heap.specs.Shown.{seen}
-use Rattle.tlsf_heap.specs.Touched.{resize_touches}
-use Rattle.tlsf_heap.specs.WordsInUse.{words_in_use}
 use Rattle.tlsf_heap.proofs.lemmas.calls.Alter.{named_of}
 use Rattle.tlsf_heap.proofs.lemmas.calls.Looked.{looked_resizes, resizes_looked}
 use Rattle.tlsf_heap.proofs.lemmas.calls.Resize.{resized_refused}
 use Rattle.tlsf_heap.proofs.lemmas.laws.Live.{kept_resized}
 use Rattle.tlsf_heap.proofs.lemmas.words.Footprint.{any_word}
-use Rattle.tlsf_c.specs.declared.counts.Counts.{Counts}
 use Rattle.tlsf_c.proofs.CountSums.{part, resized_sum, changed}
 use Rattle.tlsf_c.proofs.counts.Counts.resize.Goals as goal
 

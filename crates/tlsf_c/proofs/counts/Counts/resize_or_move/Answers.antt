@@ -1,9 +1,6 @@
-use Rattle.std.proofs.Common.{sym, ap, ◌∙◌, arith, subst}
+use Rattle.tlsf_c.proofs.Common.{sym, ap, ◌∙◌, arith, subst, HeapState, IsLiveWord, IsOthersWord, seen}
 use Rattle.tlsf_heap.proofs.lemmas.calls.Kept.{heap_as_before}
 use Rattle.tlsf_c.proofs.CountSums.{live_not_forged, moved_refused, Moves, moves}
-use Rattle.tlsf_heap.specs.Blocks.{HeapState}
-use Rattle.tlsf_heap.specs.Footprint.{IsLiveWord, IsOthersWord}
-use Rattle.tlsf_heap.specs.Shown.{seen}
 use Rattle.tlsf_heap.proofs.lemmas.words.Footprint.{any_word}
 use Rattle.tlsf_c.proofs.LeftWords.{moved_left}
 use Rattle.tlsf_c.proofs.counts.Counts.resize_or_move.Goals as goal

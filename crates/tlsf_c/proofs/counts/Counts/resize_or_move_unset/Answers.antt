@@ -1,12 +1,7 @@
-use Rattle.std.proofs.Common.{sym, ap, arith, ◌∙◌, subst}
+use Rattle.tlsf_c.proofs.Common.{sym, ap, arith, ◌∙◌, subst, HeapState, IsOthersWord, length, min, payload_of, seen}
 use Rattle.tlsf_heap.proofs.lemmas.calls.Kept.{heap_as_before}
 use Rattle.tlsf_c.proofs.CountSums.{live_not_forged, moved_refused, Moves, moves_unset}
-use Rattle.tlsf_heap.specs.Blocks.{HeapState}
-use Rattle.tlsf_heap.specs.Footprint.{IsOthersWord}
 use Rattle.tlsf_heap.proofs.lemmas.words.Footprint.{any_word}
-use Rattle.std.specs.Prelude.{length, min}
-use Rattle.tlsf_heap.specs.InPlace.{payload_of}
-use Rattle.tlsf_heap.specs.Shown.{seen}
 use Rattle.tlsf_c.proofs.LeftWords.{moved_unset_left}
 use Rattle.tlsf_c.proofs.counts.Counts.resize_or_move_unset.Goals as goal
 

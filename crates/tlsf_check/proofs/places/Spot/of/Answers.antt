@@ -1,5 +1,4 @@
-use Rattle.std.proofs.Common.{◌-◌, arith, rules}
-use Rattle.tlsf_check.specs.Shown.{HasBefore}
+use Rattle.tlsf_check.proofs.Common.{◌-◌, arith, rules, HasBefore}
 use Rattle.tlsf_check.proofs.FieldSteps.{field_at, rest_within}
 use Rattle.tlsf_check.proofs.places.Spot.of.Goals as goal
 

@@ -1,5 +1,4 @@
-use Rattle.std.proofs.Common.{◌≡◌, ap, refl, ◌∙◌, arith}
-use Rattle.std.specs.Int.{bit_at}
+use Rattle.tlsf_class.proofs.Common.{◌≡◌, ap, refl, ◌∙◌, arith, bit_at}
 use Rattle.tlsf_class.proofs.BitmapWords.{ClearsBit, ClearsBit-read, members_of-clear, marked_in-members, AreLevels-clear, first_bit-kept}
 use Rattle.tlsf_class.proofs.bitmaps.Bitmaps.clear.Given.{Over}
 use Rattle.tlsf_class.proofs.bitmaps.Bitmaps.clear.Goals as goal

@@ -1,5 +1,4 @@
-use Rattle.std.proofs.Common.{◌≡◌, ◌+◌, ◌-◌, sym, ap, refl, ◌∙◌, arith}
-use Rattle.std.specs.Int.{bit_at}
+use Rattle.tlsf_class.proofs.Common.{◌≡◌, ◌+◌, ◌-◌, sym, ap, refl, ◌∙◌, arith, bit_at}
 use Rattle.tlsf_class.proofs.BitmapWords.{further, next-same_level, next-later_level, next-none, marked_in-members}
 use Rattle.tlsf_class.proofs.bitmaps.Bitmaps.next_from.Goals as goal
 

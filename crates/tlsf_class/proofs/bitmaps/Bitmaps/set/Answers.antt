@@ -1,5 +1,4 @@
-use Rattle.std.proofs.Common.{◌≡◌, ap, refl, ◌∙◌, arith}
-use Rattle.std.specs.Int.{bit_at}
+use Rattle.tlsf_class.proofs.Common.{◌≡◌, ap, refl, ◌∙◌, arith, bit_at}
 use Rattle.tlsf_class.proofs.BitmapWords.{SetsBit, SetsBit-read, members_of-set, marked_in-members, AreLevels-set, first_bit-set}
 use Rattle.tlsf_class.proofs.bitmaps.Bitmaps.set.Given.{Over}
 use Rattle.tlsf_class.proofs.bitmaps.Bitmaps.set.Goals as goal

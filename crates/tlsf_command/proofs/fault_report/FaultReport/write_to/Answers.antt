@@ -1,4 +1,4 @@
-use Rattle.std.proofs.KnownBytes.{Appends-nil}
+use Rattle.tlsf_command.proofs.Common.{Appends-nil}
 use Rattle.tlsf_command.proofs.fault_report.FaultReport.write_to.Goals as goal
 
 pub returns-in-Ok-clause-front : goal.returns-in-Ok-clause-front

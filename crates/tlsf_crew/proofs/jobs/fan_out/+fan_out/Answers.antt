@@ -1,8 +1,4 @@
-use Rattle.std.proofs.Common.{◌≡◌, ◌∷◌, [], ◌++◌, Some, arith, subst}
-use Rattle.std.proofs.lemmas.Grind.{common_steps}
-use Rattle.std.proofs.lemmas.List.{nil_from_length}
-use Rattle.std.proofs.lemmas.List.Elements.{All-pop}
-use Rattle.tlsf_crew.specs.jobs.Parts.{AllDone}
+use Rattle.tlsf_crew.proofs.Common.{◌≡◌, ◌∷◌, [], ◌++◌, Some, arith, subst, common_steps, nil_from_length, All-pop, AllDone}
 use Rattle.tlsf_crew.proofs.lemmas.jobs.Gathering.{done_last}
 use Rattle.tlsf_crew.proofs.jobs.fan_out.+fan_out.Goals as goal
 

@@ -1,6 +1,4 @@
-use Rattle.std.proofs.Common.{◌≡◌, ◌<◌, ◌≤◌, ℕ, length, map, slice_index}
-use Rattle.tlsf_crew.specs.scripts.Scripts.{script_of}
-use Rattle.tlsf_crew.specs.scripts.Counts.{releases_of}
+use Rattle.tlsf_crew.proofs.Common.{◌≡◌, ◌<◌, ◌≤◌, ℕ, length, map, slice_index, script_of, releases_of}
 use Rattle.tlsf_crew.proofs.jobs.preparation.count_all.Given as goal
 
 abbrev pub invariant-loop-i : goal.invariant-loop-i

@@ -1,10 +1,5 @@
-use Rattle.std.proofs.Common.{◌<◌, ◌^◌, Some, vec_len, ap, length, arith}
-use Rattle.std.proofs.lemmas.List.{append-nil, length-map, nil_from_length}
-use Rattle.std.proofs.lemmas.List.Elements.{All-pop, All-push}
+use Rattle.tlsf_crew.proofs.Common.{◌<◌, ◌^◌, Some, vec_len, ap, length, arith, append-nil, length-map, nil_from_length, All-pop, All-push, Job, KnowsSome, IsPrepared}
 use Rattle.std.proofs.lemmas.List.Sorted.{All-permutation}
-use Rattle.tlsf_crew.specs.declared.jobs.job.Job.{Job}
-use Rattle.tlsf_crew.specs.jobs.Job.{KnowsSome}
-use Rattle.tlsf_crew.specs.jobs.Parts.{IsPrepared}
 use Rattle.tlsf_crew.proofs.lemmas.jobs.Popped.{popped_all, popped_more}
 use Rattle.tlsf_crew.proofs.jobs.preparation.prepare.Goals as goal
 

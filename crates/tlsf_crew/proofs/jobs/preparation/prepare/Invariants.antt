@@ -1,6 +1,4 @@
-use Rattle.std.proofs.Common.{◌≡◌, ◌+◌, ◌^◌, ◌<◌, ◌≤◌, ◌++◌, map, reverse, vec_len, vec_capacity, All}
-use Rattle.tlsf_crew.specs.jobs.Job.{KnowsSome}
-use Rattle.tlsf_crew.specs.jobs.Parts.{IsPrepared}
+use Rattle.tlsf_crew.proofs.Common.{◌≡◌, ◌+◌, ◌^◌, ◌<◌, ◌≤◌, ◌++◌, map, reverse, vec_len, vec_capacity, All, KnowsSome, IsPrepared}
 use Rattle.tlsf_crew.proofs.jobs.preparation.prepare.Given as goal
 
 -- what is left of the workers and of the scripts, and then the jobs, last first, is all that was there

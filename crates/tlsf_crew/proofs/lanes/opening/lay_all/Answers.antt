@@ -1,5 +1,4 @@
-use Rattle.std.proofs.Common.{◌≡◌, length, subst, ℕ, arith}
-use Rattle.tlsf_crew.specs.lanes.NewLanes.{IsLaid}
+use Rattle.tlsf_crew.proofs.Common.{◌≡◌, length, subst, ℕ, arith, IsLaid}
 use Rattle.tlsf_crew.proofs.lemmas.lanes.NewLanes.{lane_skipped, row_laid}
 use Rattle.tlsf_crew.proofs.lanes.opening.lay_all.Goals as goal
 use Rattle.tlsf_crew.proofs.lanes.opening.lay_all.Goals.{then-i-j+in_ok-lay_lane, else-i-j}

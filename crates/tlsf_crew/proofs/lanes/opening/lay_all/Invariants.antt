@@ -1,5 +1,4 @@
-use Rattle.std.proofs.Common.{length}
-use Rattle.tlsf_crew.specs.lanes.NewLanes.{IsLaid}
+use Rattle.tlsf_crew.proofs.Common.{length, IsLaid}
 use Rattle.tlsf_crew.proofs.lanes.opening.lay_all.Given as goal
 
 abbrev pub invariant-loop-i : goal.invariant-loop-i

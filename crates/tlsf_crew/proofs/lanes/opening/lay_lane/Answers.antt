@@ -1,8 +1,4 @@
-use Rattle.std.proofs.Common.{◌<◌, length, arith, get_or, set, sym}
-use Rattle.std.proofs.lemmas.Option.{slice_get-get_or}
-use Rattle.std.proofs.lemmas.List.{get_or-set_other, length-set}
-use Rattle.tlsf_crew.specs.declared.worker.worker.Worker.{Worker}
-use Rattle.tlsf_crew.specs.declared.worker.lanes.Lanes.{Lanes}
+use Rattle.tlsf_crew.proofs.Common.{◌<◌, length, arith, get_or, set, sym, slice_get-get_or, get_or-set_other, length-set, Worker, Lanes}
 use Rattle.tlsf_crew.proofs.lemmas.lanes.NewLanes.{lane_laid}
 use Rattle.tlsf_crew.proofs.lanes.opening.lay_lane.Goals as goal
 

@@ -1,9 +1,4 @@
-use Rattle.std.proofs.Common.{◌≡◌, length, ap, ◌∙◌, arith, refl}
-use Rattle.tlsf_heap.specs.Calls.{opened}
-use Rattle.tlsf_crew.specs.model.Opening.{opened_heaps}
-use Rattle.tlsf_crew.specs.worker.Workers.{heap_of}
-use Rattle.tlsf_crew.specs.lanes.LaneWorkers.{id_and_capacity}
-use Rattle.tlsf_crew.specs.lanes.NewLanes.{opened_numbers}
+use Rattle.tlsf_crew.proofs.Common.{◌≡◌, length, ap, ◌∙◌, arith, refl, opened, opened_heaps, heap_of, id_and_capacity, opened_numbers}
 use Rattle.tlsf_crew.proofs.lemmas.lanes.NewLanes.{map_push, alone_push, alone_laid}
 use Rattle.tlsf_crew.proofs.lanes.opening.open_alone.Goals as goal
 

@@ -1,8 +1,4 @@
-use Rattle.std.proofs.Common.{◌≡◌, ◌≤◌, map, vec_len, vec_capacity}
-use Rattle.tlsf_crew.specs.model.Opening.{opened_heaps}
-use Rattle.tlsf_crew.specs.worker.Workers.{heap_of}
-use Rattle.tlsf_crew.specs.lanes.LaneWorkers.{id_and_capacity}
-use Rattle.tlsf_crew.specs.lanes.NewLanes.{opened_numbers}
+use Rattle.tlsf_crew.proofs.Common.{◌≡◌, ◌≤◌, map, vec_len, vec_capacity, opened_heaps, heap_of, id_and_capacity, opened_numbers}
 use Rattle.tlsf_crew.proofs.lemmas.lanes.NewLanes.{AreAlone}
 use Rattle.tlsf_crew.proofs.lanes.opening.open_alone.Given as goal
 

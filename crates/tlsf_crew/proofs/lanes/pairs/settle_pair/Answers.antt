@@ -1,8 +1,4 @@
-use Rattle.std.proofs.Common.{◌≡◌, ◌∙◌, ◌∷◌, ◌++◌, arith, refl, sym, ap, Some, None}
-use Rattle.std.specs.Option.{option_copied_mut}
-use Rattle.std.proofs.lemmas.Option.{slice_get_within}
-use Rattle.tlsf_post.specs.Lanes.{post_extent, take_extent}
-use Rattle.tlsf_crew.specs.worker.Workers.{extent_of, end_extents}
+use Rattle.tlsf_crew.proofs.Common.{◌≡◌, ◌∙◌, ◌∷◌, ◌++◌, arith, refl, sym, ap, Some, None, option_copied_mut, slice_get_within, post_extent, take_extent, extent_of, end_extents}
 use Rattle.tlsf_crew.proofs.lemmas.worker.StandingEnd.{same_end, end_stands}
 use Rattle.tlsf_crew.proofs.lemmas.worker.Slots.{same_extents}
 use Rattle.tlsf_crew.proofs.lanes.pairs.settle_pair.Goals as goal

@@ -1,7 +1,4 @@
-use Rattle.std.proofs.Common.{◌≡◌, map}
-use Rattle.tlsf_crew.specs.lanes.LaneWorkers.{lane_memory}
-use Rattle.tlsf_crew.specs.lanes.Yard.{IsYard, world_of}
-use Rattle.tlsf_crew.specs.lanes.LaneSteps.{EachColumnSettled}
+use Rattle.tlsf_crew.proofs.Common.{◌≡◌, map, lane_memory, IsYard, world_of, EachColumnSettled}
 use Rattle.tlsf_crew.proofs.lanes.settle.settle.Given as goal
 
 abbrev pub invariant-loop-j : goal.invariant-loop-j

@@ -1,5 +1,4 @@
-use Rattle.std.proofs.Common.{◌≡◌, ◌∙◌, length, ℕ, subst, refl, arith}
-use Rattle.tlsf_crew.specs.lanes.LaneSteps.{ColumnSettled}
+use Rattle.tlsf_crew.proofs.Common.{◌≡◌, ◌∙◌, length, ℕ, subst, refl, arith, ColumnSettled}
 use Rattle.tlsf_crew.proofs.lemmas.lanes.Across.{settled_world, settled_yard}
 use Rattle.tlsf_crew.proofs.lemmas.lanes.LaneSlots.{step_memory}
 use Rattle.tlsf_crew.proofs.lemmas.lanes.LaneByLane.{column_first, column_step, column_skip}

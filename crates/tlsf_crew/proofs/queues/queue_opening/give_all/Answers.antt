@@ -1,6 +1,4 @@
-use Rattle.std.proofs.Common.{◌≡◌, ◌<◌, ◌+◌, ◌∙◌, ℕ, length, vec_len, sym, subst, refl, arith}
-use Rattle.std.proofs.lemmas.Grind.{common_steps}
-use Rattle.tlsf_crew.specs.queues.QueueOpening.{AreGiven, GaveEnds}
+use Rattle.tlsf_crew.proofs.Common.{◌≡◌, ◌<◌, ◌+◌, ◌∙◌, ℕ, length, vec_len, sym, subst, refl, arith, common_steps, AreGiven, GaveEnds}
 use Rattle.tlsf_crew.proofs.lemmas.queues.QueueOpened.{ends_kept, next_numbers, queue_given}
 use Rattle.tlsf_crew.proofs.queues.queue_opening.give_all.Goals as goal
 

@@ -1,5 +1,4 @@
-use Rattle.std.proofs.Common.{◌≡◌, ℕ, ◌≤◌, length, vec_len}
-use Rattle.tlsf_crew.specs.queues.QueueOpening.{AreUngiven, AreGiven}
+use Rattle.tlsf_crew.proofs.Common.{◌≡◌, ℕ, ◌≤◌, length, vec_len, AreUngiven, AreGiven}
 use Rattle.tlsf_crew.proofs.queues.queue_opening.give_all.Given as goal
 
 -- the ends of the queues behind those that are left were given

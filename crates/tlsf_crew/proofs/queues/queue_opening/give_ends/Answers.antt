@@ -1,10 +1,4 @@
-use Rattle.std.proofs.Common.{◌≡◌, ◌<◌, ◌+◌, ◌-◌, ◌∙◌, ℕ, length, get_or, sym, ap, subst, arith}
-use Rattle.std.proofs.lemmas.Grind.{common_steps}
-use Rattle.std.proofs.lemmas.List.{length-set}
-use Rattle.std.proofs.lemmas.Option.{slice_get-get_or}
-use Rattle.tlsf_crew.specs.declared.worker.worker.Worker.{Worker}
-use Rattle.tlsf_crew.specs.declared.queues.queues.Queues.{Queues}
-use Rattle.tlsf_crew.specs.queues.QueueOpening.{GaveEnds}
+use Rattle.tlsf_crew.proofs.Common.{◌≡◌, ◌<◌, ◌+◌, ◌-◌, ◌∙◌, ℕ, length, get_or, sym, ap, subst, arith, common_steps, length-set, slice_get-get_or, Worker, Queues, GaveEnds}
 use Rattle.tlsf_crew.proofs.lemmas.queues.QueueOpened.{end_left, gave_none, gave_own, gave_more, last_end, below_but_own, popped_none, slots_set}
 use Rattle.tlsf_crew.proofs.queues.queue_opening.give_ends.Goals as goal
 

@@ -1,8 +1,4 @@
-use Rattle.std.proofs.Common.{◌≡◌, ◌≤◌, List, length, map, vec_capacity}
-use Rattle.tlsf_post.specs.Mailboxes.{number_of, below_but}
-use Rattle.tlsf_crew.specs.declared.worker.worker.Worker.{Worker}
-use Rattle.tlsf_crew.specs.declared.queues.queues.Queues.{Queues}
-use Rattle.tlsf_crew.specs.queues.QueueOpening.{GaveEnds, HaveSlotsFor}
+use Rattle.tlsf_crew.proofs.Common.{◌≡◌, ◌≤◌, List, length, map, vec_capacity, number_of, below_but, Worker, Queues, GaveEnds, HaveSlotsFor}
 use Rattle.tlsf_crew.proofs.queues.queue_opening.give_ends.Given as goal
 
 -- whatever the ends that are left are given to, with it all ends were given

@@ -1,5 +1,4 @@
-use Rattle.std.proofs.Common.{◌≡◌, ◌∙◌, length, ap, arith}
-use Rattle.tlsf_crew.specs.declared.queues.queues.Queues.{Queues}
+use Rattle.tlsf_crew.proofs.Common.{◌≡◌, ◌∙◌, length, ap, arith, Queues}
 use Rattle.tlsf_crew.proofs.lemmas.queues.QueueOpened.{bare_none, bare_more, bare_given}
 use Rattle.tlsf_crew.proofs.queues.queue_opening.open_without_ends.Goals as goal
 

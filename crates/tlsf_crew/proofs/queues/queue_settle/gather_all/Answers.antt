@@ -1,9 +1,4 @@
-use Rattle.std.proofs.Common.{◌≡◌, ◌<◌, ◌≤◌, ◌∙◌, ℕ, Some, length, get_or, ap, arith, inl, refl, subst, sym}
-use Rattle.std.specs.List.{slice_get}
-use Rattle.std.proofs.lemmas.Option.{slice_get-get_or}
-use Rattle.tlsf_crew.specs.declared.worker.worker.Worker.{Worker}
-use Rattle.tlsf_crew.specs.declared.queues.queues.Queues.{Queues}
-use Rattle.tlsf_crew.specs.queues.QueueSettle.{Gathered}
+use Rattle.tlsf_crew.proofs.Common.{◌≡◌, ◌<◌, ◌≤◌, ◌∙◌, ℕ, Some, length, get_or, ap, arith, inl, refl, subst, sym, slice_get, slice_get-get_or, Worker, Queues, Gathered}
 use Rattle.tlsf_crew.proofs.lemmas.queues.QueueSettled.{gathered_none, gathered_more, gathered_own, own_end, slot_there}
 use Rattle.tlsf_crew.proofs.queues.queue_settle.gather_all.Goals as goal
 use Rattle.tlsf_crew.proofs.queues.queue_settle.gather_all.Goals.{then-i-j, else-i-j}

@@ -1,5 +1,4 @@
-use Rattle.std.proofs.Common.{◌≡◌, ◌≤◌, vec_len, vec_capacity}
-use Rattle.tlsf_crew.specs.queues.QueueSettle.{Gathered}
+use Rattle.tlsf_crew.proofs.Common.{◌≡◌, ◌≤◌, vec_len, vec_capacity, Gathered}
 use Rattle.tlsf_crew.proofs.queues.queue_settle.gather_all.Given as goal
 
 abbrev pub invariant-loop-i : goal.invariant-loop-i

@@ -1,5 +1,4 @@
-use Rattle.std.proofs.Common.{◌≡◌, ◌∙◌, ℕ, length, arith, refl, subst}
-use Rattle.tlsf_crew.specs.queues.QueueSettle.{EachQueueSettled}
+use Rattle.tlsf_crew.proofs.Common.{◌≡◌, ◌∙◌, ℕ, length, arith, refl, subst, EachQueueSettled}
 use Rattle.tlsf_crew.proofs.lemmas.queues.QueueSettled.{settled_none, settled_more}
 use Rattle.tlsf_crew.proofs.queues.queue_settle.settle_each_queue.Goals as goal
 

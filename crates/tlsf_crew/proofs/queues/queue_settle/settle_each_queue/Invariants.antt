@@ -1,5 +1,4 @@
-use Rattle.std.proofs.Common.{◌≡◌, vec_capacity}
-use Rattle.tlsf_crew.specs.queues.QueueSettle.{EachQueueSettled}
+use Rattle.tlsf_crew.proofs.Common.{◌≡◌, vec_capacity, EachQueueSettled}
 use Rattle.tlsf_crew.proofs.queues.queue_settle.settle_each_queue.Given as goal
 
 abbrev pub invariant-loop-j : goal.invariant-loop-j

@@ -1,9 +1,4 @@
-use Rattle.std.proofs.Common.{◌∙◌, ℕ, get_or, set, arith, subst, sym}
-use Rattle.std.proofs.lemmas.List.{length-set}
-use Rattle.tlsf_post.specs.Mailboxes.{IsWhole, below_but}
-use Rattle.tlsf_crew.specs.declared.worker.worker.Worker.{Worker}
-use Rattle.tlsf_crew.specs.declared.queues.queues.Queues.{Queues}
-use Rattle.tlsf_crew.specs.queues.QueueOpening.{GaveEnds}
+use Rattle.tlsf_crew.proofs.Common.{◌∙◌, ℕ, get_or, set, arith, subst, sym, length-set, IsWhole, below_but, Worker, Queues, GaveEnds}
 use Rattle.tlsf_crew.proofs.lemmas.queues.QueueSettled.{ends_whole, numbers_still, owner_there, queue_settled, slots_still}
 use Rattle.tlsf_crew.proofs.queues.queue_settle.settle_one_queue.Goals as goal
 

@@ -1,6 +1,4 @@
-use Rattle.std.proofs.Common.{◌≤◌, ◌∙◌, get_or, arith, refl, subst, sym}
-use Rattle.std.proofs.lemmas.Option.{slice_get-get_or}
-use Rattle.tlsf_crew.specs.races.QueueTasks.{HasPlace, KnowsSomeYard}
+use Rattle.tlsf_crew.proofs.Common.{◌≤◌, ◌∙◌, get_or, arith, refl, subst, sym, slice_get-get_or, HasPlace, KnowsSomeYard}
 use Rattle.tlsf_crew.proofs.lemmas.races.QueueLast.{queue_drain_next}
 use Rattle.tlsf_crew.proofs.lemmas.races.RecordRooms.{keeps_set}
 use Rattle.tlsf_crew.proofs.lemmas.worker.Slots.{get_set_other, some_same}

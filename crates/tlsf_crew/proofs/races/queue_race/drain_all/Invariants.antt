@@ -1,6 +1,4 @@
-use Rattle.std.proofs.Common.{◌≡◌, ◌≤◌, ℕ, map, slice_get}
-use Rattle.tlsf_crew.specs.races.QueueTasks.{EachQueueLastDrained}
-use Rattle.tlsf_crew.specs.races.LaneTasks.{KeepRooms}
+use Rattle.tlsf_crew.proofs.Common.{◌≡◌, ◌≤◌, ℕ, map, slice_get, EachQueueLastDrained, KeepRooms}
 use Rattle.tlsf_crew.proofs.races.queue_race.drain_all.Given as goal
 
 abbrev pub invariant-loop-j : goal.invariant-loop-j

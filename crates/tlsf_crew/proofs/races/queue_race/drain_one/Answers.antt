@@ -1,13 +1,4 @@
-use Rattle.std.proofs.Common.{◌≤◌, List, Option, [], ◌∙◌, ap, arith, refl, subst, vec_capacity, vec_len}
-use Rattle.std.specs.declared.vec.Vec.{Vec}
-use Rattle.std.specs.declared.alloc.Global.{Global}
-use Rattle.tlsf_heap.specs.declared.name.Name.{Name}
-use Rattle.tlsf_calls.specs.declared.entry.Entry.{Entry}
-use Rattle.tlsf_calls.specs.declared.reply.Reply.TheVariants.{Drained}
-use Rattle.tlsf_crew.specs.races.QueueTasks.{QueueLastDrained}
-use Rattle.tlsf_crew.specs.model.Sums.{sum_of}
-use Rattle.tlsf_crew.specs.scripts.QueueMoves.{QueueStepped}
-use Rattle.tlsf_crew.specs.scripts.Scripts.{last_call, stage_of}
+use Rattle.tlsf_crew.proofs.Common.{◌≤◌, List, Option, [], ◌∙◌, ap, arith, refl, subst, vec_capacity, vec_len, Vec, Global, Name, Entry, Drained, QueueLastDrained, sum_of, QueueStepped, last_call, stage_of}
 use Rattle.tlsf_crew.proofs.lemmas.races.QueueLast.{queue_drain_is_last}
 use Rattle.tlsf_crew.proofs.lemmas.scripts.QueueSteps.{drain_stepped, drain_ends, drain_few}
 use Rattle.tlsf_crew.proofs.lemmas.scripts.ScriptRuns.{step_room}

@@ -1,10 +1,6 @@
 use denote.Param.Send.{sendable}
 use Rattle.tlsf_crew.proofs.queues.queues.Queues.TheSendSync.{the_send}
-use Rattle.std.proofs.Common.{◌≡◌, ◌∙◌, ◌≤◌, arith, length, map, sym, vec_capacity}
-use Rattle.std.specs.declared.vec.Vec.{Vec}
-use Rattle.std.specs.declared.alloc.Global.{Global}
-use Rattle.std.proofs.lemmas.List.{length-map}
-use Rattle.tlsf_calls.specs.declared.entry.Entry.{Entry}
+use Rattle.tlsf_crew.proofs.Common.{◌≡◌, ◌∙◌, ◌≤◌, arith, length, map, sym, vec_capacity, Vec, Global, length-map, Entry}
 use Rattle.tlsf_crew.proofs.lemmas.races.WholeRace.{written_back}
 use Rattle.tlsf_crew.proofs.lemmas.races.QueueGathering.{each_knows_some, queue_places, queue_record_rooms, queue_rooms_kept, queues_ran}
 use Rattle.tlsf_crew.proofs.lemmas.races.QueueRaces.{queue_race_is, ran_yard}

@@ -1,5 +1,4 @@
-use Rattle.std.proofs.Common.{◌≡◌, ◌∙◌, ap, sym, refl, arith, Some, slice_get}
-use Rattle.std.proofs.lemmas.Option.{slice_get-get_or}
+use Rattle.tlsf_crew.proofs.Common.{◌≡◌, ◌∙◌, ap, sym, refl, arith, Some, slice_get, slice_get-get_or}
 use Rattle.tlsf_crew.proofs.lemmas.races.LastDrains.{lane_drain_next, room_next}
 use Rattle.tlsf_crew.proofs.lemmas.races.RecordRooms.{keeps_set}
 use Rattle.tlsf_crew.proofs.lemmas.worker.Slots.{get_set_other}

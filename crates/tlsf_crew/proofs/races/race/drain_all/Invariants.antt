@@ -1,5 +1,4 @@
-use Rattle.std.proofs.Common.{◌≡◌, ◌≤◌, ℕ, map, slice_get}
-use Rattle.tlsf_crew.specs.races.LaneTasks.{EachLastDrained, KeepRooms}
+use Rattle.tlsf_crew.proofs.Common.{◌≡◌, ◌≤◌, ℕ, map, slice_get, EachLastDrained, KeepRooms}
 use Rattle.tlsf_crew.proofs.races.race.drain_all.Given as goal
 
 abbrev pub invariant-loop-j : goal.invariant-loop-j

@@ -1,7 +1,4 @@
-use Rattle.std.proofs.Common.{[], ◌∙◌, ap, arith, refl, vec_capacity}
-use Rattle.std.specs.declared.vec.Vec.{Vec}
-use Rattle.std.specs.declared.alloc.Global.{Global}
-use Rattle.tlsf_calls.specs.declared.entry.Entry.{Entry}
+use Rattle.tlsf_crew.proofs.Common.{[], ◌∙◌, ap, arith, refl, vec_capacity, Vec, Global, Entry}
 use Rattle.tlsf_crew.proofs.lemmas.races.LastDrains.{last_fits, last_told}
 use Rattle.tlsf_crew.proofs.races.race.drain_one.Goals as goal
 

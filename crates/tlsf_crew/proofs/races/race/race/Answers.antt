@@ -1,10 +1,6 @@
 use denote.Param.Send.{sendable}
 use Rattle.tlsf_crew.proofs.worker.lanes.Lanes.TheSendSync.{the_send}
-use Rattle.std.proofs.Common.{◌++◌, ap, length, map, take, drop, sym, arith}
-use Rattle.std.specs.declared.vec.Vec.{Vec}
-use Rattle.std.specs.declared.alloc.Global.{Global}
-use Rattle.std.proofs.lemmas.List.{length-map}
-use Rattle.tlsf_calls.specs.declared.entry.Entry.{Entry}
+use Rattle.tlsf_crew.proofs.Common.{◌++◌, ap, length, map, take, drop, sym, arith, Vec, Global, length-map, Entry}
 use Rattle.tlsf_crew.proofs.lemmas.races.WholeRace.{settled_few, last_rooms, race_is, written_back}
 use Rattle.tlsf_crew.proofs.lemmas.races.LaneGathering.{each_knows_some, lanes_ran, lanes_rooms}
 use Rattle.tlsf_crew.proofs.lemmas.races.RecordRooms.{record_rooms}

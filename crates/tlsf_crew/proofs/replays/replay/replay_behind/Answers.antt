@@ -1,12 +1,4 @@
-use Rattle.std.proofs.Common.{◌+◌, ◌∙◌, ap, sym, length, arith, get_or}
-use Rattle.std.specs.List.{fold}
-use Rattle.std.proofs.lemmas.List.{take_all}
-use Rattle.std.proofs.lemmas.List.Sums.{fold_more}
-use Rattle.tlsf_calls.specs.declared.event.Event.{Event}
-use Rattle.tlsf_calls.specs.declared.call.Call.TheVariants.{Allocate}
-use Rattle.tlsf_crew.specs.lanes.Yard.{world_of}
-use Rattle.tlsf_crew.specs.model.World.{after, resumed}
-use Rattle.tlsf_crew.specs.model.Sums.{waiting_count}
+use Rattle.tlsf_crew.proofs.Common.{◌+◌, ◌∙◌, ap, sym, length, arith, get_or, fold, take_all, fold_more, Event, Allocate, world_of, after, resumed, waiting_count}
 use Rattle.tlsf_crew.proofs.lemmas.lanes.Pending.{all_ready}
 use Rattle.tlsf_crew.proofs.lemmas.model.InParts.{replies_behind_is}
 use Rattle.tlsf_crew.proofs.lemmas.replays.Room.{so_far, worker_waits}

@@ -1,8 +1,4 @@
-use Rattle.std.proofs.Common.{◌≡◌, ◌+◌, ◌≤◌, length, take, vec_len, vec_capacity}
-use Rattle.std.specs.List.{fold}
-use Rattle.tlsf_crew.specs.lanes.Yard.{IsYard, world_of}
-use Rattle.tlsf_crew.specs.model.World.{after, resumed}
-use Rattle.tlsf_crew.specs.replays.ReplaySteps.{replay_of}
+use Rattle.tlsf_crew.proofs.Common.{◌≡◌, ◌+◌, ◌≤◌, length, take, vec_len, vec_capacity, fold, IsYard, world_of, after, resumed, replay_of}
 use Rattle.tlsf_crew.proofs.replays.replay.replay_behind.Given as goal
 
 abbrev pub invariant-loop-event : goal.invariant-loop-event

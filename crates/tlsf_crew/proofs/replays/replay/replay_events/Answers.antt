@@ -1,9 +1,4 @@
-use Rattle.std.proofs.Common.{ℕ, ◌≡◌, List, arith, Result, Ok, Err, IfOk, OnOk}
-use Rattle.tlsf_crew.specs.lanes.Yard.{world_of, IsYard}
-use Rattle.tlsf_crew.specs.model.World.{replies}
-use Rattle.tlsf_crew.specs.declared.worker.worker.Worker.{Worker}
-use Rattle.tlsf_crew.specs.declared.worker.lanes.Lanes.{Lanes}
-use Rattle.tlsf_crew.specs.fair_runs.FairRuns.{HasIds}
+use Rattle.tlsf_crew.proofs.Common.{ℕ, ◌≡◌, List, arith, Result, Ok, Err, IfOk, OnOk, world_of, IsYard, replies, Worker, Lanes, HasIds}
 use Rattle.tlsf_crew.proofs.lemmas.lanes.LaneChanges.{heaps_count}
 use Rattle.tlsf_crew.proofs.lemmas.model.InParts.{replies_alone}
 use Rattle.tlsf_crew.proofs.lemmas.fair_runs.FairLists.{no_stale}

@@ -1,11 +1,4 @@
-use Rattle.std.proofs.lemmas.List.{length-set}
-use Rattle.std.proofs.Common.{[], ◌≡◌, ◌∙◌, ◌<◌, ap, sym, arith, length, refl, List, Option, Some, get_or, slice_get}
-use Rattle.std.proofs.lemmas.Option.{slice_get-get_or}
-use Rattle.tlsf_heap.specs.declared.name.Name.{Name}
-use Rattle.tlsf_crew.specs.model.Targets.{target_name}
-use Rattle.tlsf_crew.specs.declared.worker.worker.Worker.{Worker}
-use Rattle.tlsf_crew.specs.declared.worker.lanes.Lanes.{Lanes}
-use Rattle.tlsf_crew.specs.worker.Workers.{id_of}
+use Rattle.tlsf_crew.proofs.Common.{length-set, [], ◌≡◌, ◌∙◌, ◌<◌, ap, sym, arith, length, refl, List, Option, Some, get_or, slice_get, slice_get-get_or, Name, target_name, Worker, Lanes, id_of}
 use Rattle.tlsf_crew.proofs.lemmas.replays.Exact.{Run, settles, limit_room, replied}
 use Rattle.tlsf_crew.proofs.lemmas.lanes.LanesOfOne.{each_knows, own_number}
 use Rattle.tlsf_crew.proofs.replays.replay.reply_in_yard.Given.{Over}

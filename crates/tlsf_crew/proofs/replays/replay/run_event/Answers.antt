@@ -1,6 +1,4 @@
-use Rattle.std.proofs.Common.{◌≡◌, ◌≤◌, subst, sym, length, arith}
-use Rattle.tlsf_crew.specs.model.Targets.{target_name}
-use Rattle.tlsf_crew.specs.replays.ReplaySteps.{replay_of}
+use Rattle.tlsf_crew.proofs.Common.{◌≡◌, ◌≤◌, subst, sym, length, arith, target_name, replay_of}
 use Rattle.tlsf_crew.proofs.lemmas.lanes.LaneChanges.{heaps_count}
 use Rattle.tlsf_crew.proofs.lemmas.model.EventSteps.{after_far, single_room}
 use Rattle.tlsf_crew.proofs.lemmas.replays.Exact.{replied_room}

@@ -1,12 +1,5 @@
-use Rattle.std.proofs.Common.{ℕ, ◌≡◌, ◌∙◌, ap, sym, subst, arith, refl, List, [], Option, Some, slice_get, slice_index, replicate}
-use Rattle.std.proofs.lemmas.List.{get_or-replicate}
-use Rattle.std.proofs.lemmas.Option.{slice_get-get_or}
-use Rattle.tlsf_heap.specs.declared.name.Name.{Name}
-use Rattle.tlsf_calls.specs.declared.call.Call.{Call}
-use Rattle.tlsf_calls.specs.declared.call.Call.TheVariants.{Release, Take, Drain}
-use Rattle.tlsf_calls.specs.declared.target.Target.{Target}
-use Rattle.tlsf_crew.specs.model.Targets.{target_name}
-use Rattle.tlsf_crew.specs.replays.ReplaySteps.{ConcernsCall, MayTake}
+use Rattle.tlsf_crew.proofs.Common.{ℕ, ◌≡◌, ◌∙◌, ap, sym, subst, arith, refl, List, [], Option, Some, slice_get, slice_index, replicate, get_or-replicate, slice_get-get_or, Name, Call, Release, Take, Drain, Target, target_name, ConcernsCall}
+use Rattle.tlsf_crew.specs.replays.ReplaySteps.{MayTake}
 use Rattle.tlsf_crew.proofs.lemmas.replays.Exact.{limits_are, zero_limits}
 use Rattle.tlsf_crew.proofs.replays.replay.settle_for.Goals as goal
 

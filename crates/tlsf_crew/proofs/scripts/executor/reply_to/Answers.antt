@@ -1,8 +1,4 @@
-use Rattle.std.proofs.Common.{◌≡◌, subst, sym}
-use Rattle.tlsf_calls.specs.Bytes.{bytes_of}
-use Rattle.tlsf_crew.specs.model.OwnReplies.{IsHeapReply, own_writing, own_reading, own_resizing}
-use Rattle.tlsf_crew.specs.model.Targets.{target_name}
-use Rattle.tlsf_crew.specs.worker.Workers.{heap_of}
+use Rattle.tlsf_crew.proofs.Common.{◌≡◌, subst, sym, bytes_of, IsHeapReply, own_writing, own_reading, own_resizing, target_name, heap_of}
 use Rattle.tlsf_crew.proofs.lemmas.model.HeapReply.{read_keeps, resize_keeps, write_keeps}
 use Rattle.tlsf_crew.proofs.lemmas.scripts.OwnTold.{allocate_call, read_call, resize_call, write_call}
 use Rattle.tlsf_crew.proofs.scripts.executor.reply_to.Goals as goal

@@ -1,8 +1,4 @@
-use Rattle.std.proofs.Common.{◌∙◌, refl}
-use Rattle.tlsf_calls.specs.declared.call.Call.TheVariants.{Release}
-use Rattle.tlsf_calls.specs.declared.crew_refusal.CrewRefusal.TheVariants.{Unmade}
-use Rattle.tlsf_calls.specs.declared.reply.Reply.TheVariants.{Refused}
-use Rattle.tlsf_crew.specs.scripts.Scripts.{at_stage}
+use Rattle.tlsf_crew.proofs.Common.{◌∙◌, refl, Release, Unmade, Refused, at_stage}
 use Rattle.tlsf_crew.proofs.lemmas.worker.OwnHeaps.{same_heap_keeps}
 use Rattle.tlsf_crew.proofs.lemmas.scripts.OwnTold.{release_by, unmade_call}
 use Rattle.tlsf_crew.proofs.scripts.executor.reply_to_release.Goals as goal

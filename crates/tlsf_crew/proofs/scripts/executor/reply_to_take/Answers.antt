@@ -1,5 +1,4 @@
-use Rattle.std.proofs.Common.{Some, None, inl, inr, arith, refl}
-use Rattle.tlsf_crew.specs.scripts.Journals.{IsAdmitted, EntersTake}
+use Rattle.tlsf_crew.proofs.Common.{Some, None, inl, inr, arith, refl, IsAdmitted, EntersTake}
 use Rattle.tlsf_crew.proofs.lemmas.scripts.WithinTakes.{one_fewer}
 use Rattle.tlsf_crew.proofs.lemmas.worker.Slices.{may_one}
 use Rattle.tlsf_crew.proofs.scripts.executor.reply_to_take.Goals as goal

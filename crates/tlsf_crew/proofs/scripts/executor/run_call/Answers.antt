@@ -1,6 +1,4 @@
-use Rattle.std.proofs.Common.{◌≡◌, arith, refl, subst, sym}
-use Rattle.tlsf_crew.specs.model.Targets.{target_name}
-use Rattle.tlsf_crew.specs.scripts.Scripts.{stage_of}
+use Rattle.tlsf_crew.proofs.Common.{◌≡◌, arith, refl, subst, sym, target_name, stage_of}
 use Rattle.tlsf_crew.proofs.lemmas.scripts.ScriptRuns.{step_called, step_room}
 use Rattle.tlsf_crew.proofs.scripts.executor.run_call.Goals as goal
 

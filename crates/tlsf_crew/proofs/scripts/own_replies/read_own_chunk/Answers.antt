@@ -1,8 +1,4 @@
-use Rattle.std.proofs.Common.{◌∙◌, ap, sym, arith, replicate, Ok}
-use Rattle.std.proofs.lemmas.List.{length-take-le}
-use Rattle.tlsf_heap.specs.Calls.{read_of}
-use Rattle.tlsf_crew.specs.worker.Workers.{heap_of}
-use Rattle.tlsf_crew.specs.worker.Calls.{by_heap}
+use Rattle.tlsf_crew.proofs.Common.{◌∙◌, ap, sym, arith, replicate, Ok, length-take-le, read_of, heap_of, by_heap}
 use Rattle.tlsf_crew.proofs.lemmas.model.ChunkReads.{answer_of_few, few_err, few_ok, read_many, many_ok, many_err}
 use Rattle.tlsf_crew.proofs.scripts.own_replies.read_own_chunk.Goals as goal
 

@@ -1,5 +1,4 @@
-use Rattle.tlsf_calls.specs.declared.reply.Reply.TheVariants.{Made}
-use Rattle.tlsf_crew.specs.model.Heaps.{allocated}
+use Rattle.tlsf_crew.proofs.Common.{Made, allocated}
 use Rattle.tlsf_crew.proofs.lemmas.model.HeapReply.{by_ok, by_err}
 use Rattle.tlsf_crew.proofs.scripts.own_replies.reply_to_own_allocate.Goals as goal
 

@@ -1,6 +1,4 @@
-use Rattle.std.proofs.Common.{sym}
-use Rattle.tlsf_calls.specs.declared.reply.Reply.TheVariants.{Resized}
-use Rattle.tlsf_crew.specs.worker.Workers.{heap_of}
+use Rattle.tlsf_crew.proofs.Common.{sym, Resized, heap_of}
 use Rattle.tlsf_crew.proofs.lemmas.model.HeapReply.{by_ok, by_err, own_unmade_is, own_resize_is}
 use Rattle.tlsf_crew.proofs.scripts.own_replies.reply_to_own_resize.Goals as goal
 

@@ -1,6 +1,4 @@
-use Rattle.std.proofs.Common.{◌≡◌, ◌*◌, ◌≤◌}
-use Rattle.tlsf_crew.specs.model.Sums.{sum_below}
-use Rattle.tlsf_crew.specs.lanes.Ready.{ready_from}
+use Rattle.tlsf_crew.proofs.Common.{◌≡◌, ◌*◌, ◌≤◌, sum_below, ready_from}
 use Rattle.tlsf_crew.proofs.scripts.room.count_for.Given as goal
 
 abbrev pub invariant-loop-i : goal.invariant-loop-i

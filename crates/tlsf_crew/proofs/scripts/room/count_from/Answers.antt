@@ -1,8 +1,4 @@
-use Rattle.std.proofs.Common.{◌≡◌, ◌∙◌, Some, None, sym, ap}
-use Rattle.std.proofs.lemmas.Option.{slice_get-get_or, slice_get_past}
-use Rattle.tlsf_crew.specs.worker.Workers.{slot_of}
-use Rattle.tlsf_crew.specs.lanes.LaneWorkers.{lane_from}
-use Rattle.tlsf_crew.specs.lanes.Ready.{count_of}
+use Rattle.tlsf_crew.proofs.Common.{◌≡◌, ◌∙◌, Some, None, sym, ap, slice_get-get_or, slice_get_past, slot_of, lane_from, count_of}
 use Rattle.tlsf_crew.proofs.scripts.room.count_from.Goals as goal
 
 pub returns-in-Some-Some : goal.returns-in-Some-Some

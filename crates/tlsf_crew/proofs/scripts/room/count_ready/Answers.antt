@@ -1,6 +1,4 @@
-use Rattle.std.proofs.Common.{◌∙◌, Some, sym, ap, arith}
-use Rattle.std.proofs.lemmas.Option.{slice_get-get_or}
-use Rattle.tlsf_crew.specs.lanes.Ready.{ready_below, ready_in}
+use Rattle.tlsf_crew.proofs.Common.{◌∙◌, Some, sym, ap, arith, slice_get-get_or, ready_below, ready_in}
 use Rattle.tlsf_crew.proofs.lemmas.lanes.Pending.{worker_ready}
 use Rattle.tlsf_crew.proofs.scripts.room.count_ready.Goals as goal
 

@@ -1,5 +1,4 @@
-use Rattle.std.proofs.Common.{◌≡◌, ◌*◌, ◌≤◌}
-use Rattle.tlsf_crew.specs.lanes.Ready.{ready_below}
+use Rattle.tlsf_crew.proofs.Common.{◌≡◌, ◌*◌, ◌≤◌, ready_below}
 use Rattle.tlsf_crew.proofs.scripts.room.count_ready.Given as goal
 
 abbrev pub invariant-loop-worker : goal.invariant-loop-worker

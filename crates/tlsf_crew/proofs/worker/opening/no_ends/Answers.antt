@@ -1,5 +1,4 @@
-use Rattle.std.proofs.Common.{◌≡◌, ◌∙◌, ◌∷◌, ◌++◌, [], None, ap, arith, refl, vec_len}
-use Rattle.std.proofs.lemmas.List.{replicate-append-replicate}
+use Rattle.tlsf_crew.proofs.Common.{◌≡◌, ◌∙◌, ◌∷◌, ◌++◌, [], None, ap, arith, refl, vec_len, replicate-append-replicate}
 use Rattle.tlsf_crew.proofs.worker.opening.no_ends.Goals as goal
 
 pub returns : goal.returns

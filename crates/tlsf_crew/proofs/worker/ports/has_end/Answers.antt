@@ -1,7 +1,4 @@
-use Rattle.std.proofs.Common.{◌≡◌, ◌∙◌, Some, None, sym, ap}
-use Rattle.std.specs.List.{slice_get}
-use Rattle.std.proofs.lemmas.Option.{slice_get-get_or, slice_get_past}
-use Rattle.tlsf_crew.specs.worker.Workers.{slot_of}
+use Rattle.tlsf_crew.proofs.Common.{◌≡◌, ◌∙◌, Some, None, sym, ap, slice_get, slice_get-get_or, slice_get_past, slot_of}
 use Rattle.tlsf_crew.proofs.worker.ports.has_end.Goals as goal
 
 pub returns-in-Some-Some-clause-yes : goal.returns-in-Some-Some-clause-yes

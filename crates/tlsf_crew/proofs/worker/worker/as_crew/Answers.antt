@@ -1,5 +1,4 @@
-use Rattle.std.proofs.Common.{ap, sym}
-use Rattle.tlsf_crew.specs.worker.Calls.{by_heap}
+use Rattle.tlsf_crew.proofs.Common.{ap, sym, by_heap}
 use Rattle.tlsf_crew.proofs.worker.worker.as_crew.Goals as goal
 
 pub returns-in-Ok-clause-answer : goal.returns-in-Ok-clause-answer

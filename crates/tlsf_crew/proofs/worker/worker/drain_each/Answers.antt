@@ -1,5 +1,4 @@
-use Rattle.std.proofs.Common.{◌≡◌, ◌∙◌, ◌++◌, ◌-◌, [], refl, arith, subst}
-use Rattle.tlsf_crew.specs.worker.Notes.{TakeRules, SourceNoted, EachNoted}
+use Rattle.tlsf_crew.proofs.Common.{◌≡◌, ◌∙◌, ◌++◌, ◌-◌, [], refl, arith, subst, TakeRules, SourceNoted, EachNoted}
 use Rattle.tlsf_crew.proofs.lemmas.worker.SourceTurns.{counted_few, counts_then, turn_more, turn_none}
 use Rattle.tlsf_crew.proofs.worker.worker.drain_each.Goals as goal
 use Rattle.tlsf_crew.proofs.worker.worker.drain_each.Goals.{then-has_source, else-has_source}

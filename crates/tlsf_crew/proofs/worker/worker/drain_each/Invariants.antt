@@ -1,8 +1,4 @@
-use Rattle.std.proofs.Common.{◌≡◌, ◌+◌, ◌*◌, ◌≤◌, List}
-use Rattle.tlsf_calls.specs.declared.took.Took.{Took}
-use Rattle.tlsf_crew.specs.worker.Workers.{touches_of, Stays}
-use Rattle.tlsf_crew.specs.worker.Drains.{IsCountOf}
-use Rattle.tlsf_crew.specs.worker.Notes.{EachNoted}
+use Rattle.tlsf_crew.proofs.Common.{◌≡◌, ◌+◌, ◌*◌, ◌≤◌, List, Took, touches_of, Stays, IsCountOf, EachNoted}
 use Rattle.tlsf_crew.proofs.worker.worker.drain_each.Given as goal
 
 abbrev pub invariant-loop-source : goal.invariant-loop-source

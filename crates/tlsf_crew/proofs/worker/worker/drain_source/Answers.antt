@@ -1,6 +1,4 @@
-use Rattle.std.proofs.Common.{refl, ◌∙◌, ◌+◌, [], ◌++◌, inl, inr, arith, sym, subst, length}
-use Rattle.tlsf_crew.specs.worker.Drains.{IsCountOf}
-use Rattle.tlsf_crew.specs.worker.Notes.{TakeRules, EachTakeNoted}
+use Rattle.tlsf_crew.proofs.Common.{refl, ◌∙◌, ◌+◌, [], ◌++◌, inl, inr, arith, sym, subst, length, IsCountOf, TakeRules, EachTakeNoted}
 use Rattle.tlsf_crew.proofs.lemmas.worker.Slices.{slice_noted, noted_then, may_fewer}
 use Rattle.tlsf_crew.proofs.lemmas.worker.SourceTurns.{counted_few, counts_then}
 use Rattle.tlsf_crew.proofs.worker.worker.drain_source.Goals as goal

@@ -1,5 +1,4 @@
-use Rattle.std.proofs.Common.{◌≡◌, ◌≢◌, ◌-◌, ◌+◌, Some, refl, ◌∙◌, [], ◌∷◌, ◌++◌, arith, sym, subst, length, take_all}
-use Rattle.tlsf_crew.specs.worker.Calls.{AfterTake}
+use Rattle.tlsf_crew.proofs.Common.{◌≡◌, ◌≢◌, ◌-◌, ◌+◌, Some, refl, ◌∙◌, [], ◌∷◌, ◌++◌, arith, sym, subst, length, take_all, AfterTake}
 use Rattle.tlsf_crew.proofs.lemmas.worker.Slices.{released_more, may_one, may_next, posts_more}
 use Rattle.tlsf_crew.proofs.lemmas.worker.SourceTurns.{counts_then, one_freed, one_kept}
 use Rattle.tlsf_crew.proofs.worker.worker.release_posts.Goals as goal

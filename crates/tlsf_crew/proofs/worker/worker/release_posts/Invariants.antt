@@ -1,8 +1,4 @@
-use Rattle.std.proofs.Common.{◌≡◌, ◌+◌, ◌-◌, ◌*◌, ◌≤◌, List, length, map, take}
-use Rattle.tlsf_calls.specs.declared.took.Took.{Took}
-use Rattle.tlsf_crew.specs.worker.Workers.{touches_of, Stays}
-use Rattle.tlsf_crew.specs.worker.Drains.{IsCountOf}
-use Rattle.tlsf_crew.specs.worker.Slices.{post_of, EachReleased, MayTake}
+use Rattle.tlsf_crew.proofs.Common.{◌≡◌, ◌+◌, ◌-◌, ◌*◌, ◌≤◌, List, length, map, take, Took, touches_of, Stays, IsCountOf, post_of, EachReleased, MayTake}
 use Rattle.tlsf_crew.proofs.worker.worker.release_posts.Given as goal
 
 abbrev pub invariant-loop-post : goal.invariant-loop-post

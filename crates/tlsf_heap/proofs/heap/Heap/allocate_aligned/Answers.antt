@@ -1,18 +1,8 @@
-use Rattle.std.proofs.Common.{◌≡◌, ◌+◌, ◌≤◌, ◌<◌, max, [], refl, arith, sym, ap, ◌∙◌, subst, suc}
-use Rattle.std.proofs.lemmas.Bool.{false≢true}
+use Rattle.tlsf_heap.proofs.Common.{◌≡◌, ◌+◌, ◌≤◌, ◌<◌, max, [], refl, arith, sym, ap, ◌∙◌, subst, suc, false≢true, aligned_words, HeapState, want, Outcome, last_tick, fits, IsLawful, Shown, lying, with_payload, Name, IsOthersWord, IsLiveWord}
 use Rattle.tlsf_class.proofs.TwoLevels.{most_words_any}
-use Rattle.tlsf_heap.specs.Aligned.{aligned_words}
-use Rattle.tlsf_heap.specs.Blocks.{HeapState, want}
-use Rattle.tlsf_heap.specs.Calls.{Outcome, last_tick}
-use Rattle.tlsf_heap.specs.GoodFit.{fits}
-use Rattle.tlsf_heap.specs.Lawful.{IsLawful}
-use Rattle.tlsf_heap.specs.Shown.{Shown}
-use Rattle.tlsf_heap.specs.Unset.{lying, with_payload}
-use Rattle.tlsf_heap.specs.declared.name.Name.{Name}
 use Rattle.tlsf_heap.proofs.lemmas.calls.AllocateAligned.{IsAligned, has_live, has_room, none_fits, aligned_past, first_moves, first_moved, gives_name, gives_payload, gives_others}
 use Rattle.tlsf_heap.proofs.lemmas.blocks.Sites.{fits_nothing}
 use Rattle.tlsf_heap.proofs.lemmas.calls.Kept.{keeps_same}
-use Rattle.tlsf_heap.specs.Footprint.{IsOthersWord, IsLiveWord}
 use Rattle.tlsf_heap.proofs.lemmas.calls.Leaves.{given_word}
 use Rattle.tlsf_heap.proofs.lemmas.calls.LeavesAligned.{moved_word}
 use Rattle.tlsf_words.proofs.Touching.{no_groups, more_groups, groups_then}

@@ -1,9 +1,6 @@
-use Rattle.std.proofs.Common.{refl, arith, ap, sym, subst, ◌∙◌}
-use Rattle.tlsf_heap.specs.Blocks.{HeapState}
-use Rattle.tlsf_heap.specs.Unset.{lying, with_payload}
+use Rattle.tlsf_heap.proofs.Common.{refl, arith, ap, sym, subst, ◌∙◌, HeapState, lying, with_payload, IsLiveWord}
 use Rattle.tlsf_heap.proofs.lemmas.calls.AllocateAligned.{Gives, has_live, has_room, from_has, from_gives, gives_name, gives_payload, gives_others}
 use Rattle.tlsf_heap.proofs.lemmas.calls.AllocateFrom.{free_not_wild}
-use Rattle.tlsf_heap.specs.Footprint.{IsLiveWord}
 use Rattle.tlsf_heap.proofs.lemmas.calls.LeavesAligned.{given_from_live}
 use Rattle.tlsf_words.proofs.Touching.{more_groups, groups_then}
 use Rattle.tlsf_heap.proofs.heap.Heap.allocate_from.Given.{Over}

@@ -1,15 +1,7 @@
-use Rattle.std.proofs.Common.{◌≡◌, ℕ, sym, ap, ◌∙◌, subst, Result, Ok, arith}
-use Rattle.tlsf_heap.specs.Blocks.{HeapState, want}
-use Rattle.tlsf_heap.specs.Calls.{allocated_words}
-use Rattle.tlsf_heap.specs.Laws.{IsLive}
-use Rattle.tlsf_heap.specs.Lawful.{IsLawful}
-use Rattle.tlsf_heap.specs.Unset.{lying, with_payload}
-use Rattle.tlsf_heap.specs.declared.name.Name.{Name}
-use Rattle.tlsf_heap.specs.declared.refusal.Refusal.{Refusal}
+use Rattle.tlsf_heap.proofs.Common.{◌≡◌, ℕ, sym, ap, ◌∙◌, subst, Result, Ok, arith, HeapState, want, allocated_words, IsLive, IsLawful, lying, with_payload, Name, Refusal, IsLiveWord}
 use Rattle.tlsf_heap.proofs.lemmas.laws.Live.{given_words}
 use Rattle.tlsf_heap.proofs.lemmas.calls.OtherBytes.{allocated_answers}
 use Rattle.tlsf_heap.proofs.lemmas.calls.Unset.{given_answer, allocated_unset}
-use Rattle.tlsf_heap.specs.Footprint.{IsLiveWord}
 use Rattle.tlsf_heap.proofs.lemmas.calls.Leaves.{given_live}
 use Rattle.tlsf_words.proofs.Touching.{more_groups, groups_then}
 use Rattle.tlsf_heap.proofs.heap.Heap.allocate_unset.Goals as goal

@@ -1,17 +1,5 @@
-use Rattle.std.proofs.Common.{◌+◌, ◌-◌, ◌/◌, ◌≤◌, sym, ap, ◌∙◌, subst, Ok, Err, arith, rules}
-use Rattle.tlsf_heap.specs.Blocks.{HeapState, size_of, words_in, payload_words, want, StandsAt}
-use Rattle.tlsf_heap.specs.Calls.{named}
-use Rattle.tlsf_heap.specs.Given.{payload_words_at, payload_words_given}
+use Rattle.tlsf_heap.proofs.Common.{◌+◌, ◌-◌, ◌/◌, ◌≤◌, sym, ap, ◌∙◌, subst, Ok, Err, arith, rules, HeapState, size_of, words_in, payload_words, want, StandsAt, named, payload_words_at, payload_words_given, Edits, Shown, block_at, IsLawful, IsLive, Name, state_of, Refusal, NoFit, Worn, InGroups, allocate_groups}
 use Rattle.tlsf_heap.proofs.lemmas.lists.Carved.{head_stands}
-use Rattle.tlsf_heap.specs.Regions.{Edits}
-use Rattle.tlsf_heap.specs.Shown.{Shown}
-use Rattle.tlsf_heap.specs.GoodFit.{block_at}
-use Rattle.tlsf_heap.specs.Lawful.{IsLawful}
-use Rattle.tlsf_heap.specs.Laws.{IsLive}
-use Rattle.tlsf_heap.specs.declared.name.Name.{Name}
-use Rattle.tlsf_heap.specs.Stored.{state_of}
-use Rattle.tlsf_heap.specs.declared.refusal.Refusal.{Refusal}
-use Rattle.tlsf_heap.specs.declared.refusal.Refusal.TheVariants.{NoFit, Worn}
 use Rattle.tlsf_heap.proofs.lemmas.calls.Allocate.{Allocates, allocates_none, allocates_worn, allocates_some, lawful_regions, fits_size}
 use Rattle.tlsf_heap.proofs.lemmas.blocks.Lawful.{with_region}
 use Rattle.tlsf_heap.proofs.lemmas.blocks.Find.{and_left}
@@ -20,9 +8,7 @@ use Rattle.tlsf_heap.proofs.lemmas.laws.Live as living
 use Rattle.tlsf_heap.proofs.lemmas.calls.Unset.{given_block}
 use Rattle.tlsf_heap.proofs.lemmas.calls.Kept.{keeps_stored, keeps_read}
 use Rattle.tlsf_heap.proofs.lemmas.calls.Leaves.{seen_live}
-use Rattle.tlsf_words.specs.Touched.{InGroups}
 use Rattle.tlsf_words.proofs.Touching.{no_groups, more_groups, groups_then}
-use Rattle.tlsf_heap.specs.Touched.{allocate_groups}
 use Rattle.tlsf_heap.proofs.heap.Heap.allocate_words.Given.{Over}
 use Rattle.tlsf_heap.proofs.heap.Heap.allocate_words.Goals as goal
 

@@ -1,14 +1,4 @@
-use Rattle.std.proofs.Common.{◌≡◌, ℕ, List, length, sym, ap, ◌∙◌, arith}
-use Rattle.std.proofs.lemmas.Result.{err_from_is_err_and}
-use Rattle.tlsf_words.specs.Bytes.{bytes_in, payload_byte}
-use Rattle.tlsf_heap.specs.Blocks.{HeapState, StandsAt, bytes_of}
-use Rattle.tlsf_heap.specs.GoodFit.{block_at}
-use Rattle.tlsf_heap.specs.InPlace.{payload_at, payload_of}
-use Rattle.tlsf_heap.specs.Shown.{Shown, seen}
-use Rattle.tlsf_heap.specs.Calls.{written}
-use Rattle.tlsf_heap.specs.FreePlaces.{free_places}
-use Rattle.tlsf_heap.specs.Regions.{list_in}
-use Rattle.tlsf_heap.specs.Stored.{state_of}
+use Rattle.tlsf_heap.proofs.Common.{◌≡◌, ℕ, List, length, sym, ap, ◌∙◌, arith, err_from_is_err_and, bytes_in, payload_byte, HeapState, StandsAt, bytes_of, block_at, payload_at, payload_of, Shown, seen, written, free_places, list_in, state_of, times}
 use Rattle.tlsf_heap.proofs.lemmas.calls.Alter.{are_payload, bytes_there, payload_is, stood_in}
 use Rattle.tlsf_heap.proofs.lemmas.lists.FreeLists.{same_lists}
 use Rattle.tlsf_heap.proofs.lemmas.blocks.Lawful.{with_region}
@@ -17,7 +7,6 @@ use Rattle.tlsf_heap.proofs.lemmas.words.Bytes.{length-bytes_in}
 use Rattle.tlsf_heap.proofs.lemmas.calls.Write.{Writes, writes, read_none, read_refused, range_is}
 use Rattle.tlsf_heap.proofs.lemmas.blocks.Stands.{behind_one}
 use Rattle.tlsf_heap.proofs.lemmas.calls.Kept.{keeps_both, keeps_stored}
-use Rattle.tlsf_words.specs.Touched.{times}
 use Rattle.tlsf_heap.proofs.heap.Heap.alter.Given.{Over}
 use Rattle.tlsf_heap.proofs.heap.Heap.alter.Goals as goal
 

@@ -1,10 +1,5 @@
-use Rattle.std.proofs.Common.{ap, sym, ◌∙◌, subst, Ok, arith, refl}
-use Rattle.tlsf_heap.specs.Blocks.{HeapState}
-use Rattle.tlsf_heap.specs.Named.{IsNameCheck, RefusesName}
-use Rattle.tlsf_heap.specs.declared.refusal.Refusal.TheVariants.{Stale}
-use Rattle.tlsf_heap.specs.Shown.{Shown}
+use Rattle.tlsf_heap.proofs.Common.{ap, sym, ◌∙◌, subst, Ok, arith, refl, HeapState, IsNameCheck, RefusesName, Stale, Shown, InGroups}
 use Rattle.tlsf_heap.proofs.lemmas.calls.Kept.{keeps_same, keeps_read}
-use Rattle.tlsf_words.specs.Touched.{InGroups}
 use Rattle.tlsf_words.proofs.Touching.{no_groups, more_groups}
 use Rattle.tlsf_heap.proofs.heap.Heap.check.Goals as goal
 

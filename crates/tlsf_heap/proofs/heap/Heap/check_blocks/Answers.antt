@@ -1,8 +1,4 @@
-use Rattle.std.proofs.Common.{ap, subst, arith, rules}
-use Rattle.std.specs.Prelude.{MatchOption}
-use Rattle.tlsf_heap.specs.Blocks.{IsPlace}
-use Rattle.tlsf_heap.specs.Checks.{FindsSound}
-use Rattle.tlsf_heap.specs.Shown.{Shown}
+use Rattle.tlsf_heap.proofs.Common.{ap, subst, arith, rules, MatchOption, IsPlace, FindsSound, Shown}
 use Rattle.tlsf_heap.proofs.lemmas.words.Undamaged.{checked_sound, begins_there}
 use Rattle.tlsf_heap.proofs.lemmas.calls.Kept.{keeps_read}
 use Rattle.tlsf_heap.proofs.heap.Heap.check_blocks.Goals as goal

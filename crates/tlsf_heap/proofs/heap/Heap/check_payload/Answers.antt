@@ -1,12 +1,6 @@
-use Rattle.std.proofs.Common.{ap, ◌∙◌, arith, ◌≡◌, sym, subst}
-use Rattle.std.proofs.lemmas.Result.{err_from_is_err_and}
-use Rattle.tlsf_heap.specs.Shown.{Shown, seen}
-use Rattle.tlsf_heap.specs.Stored.{state_of}
+use Rattle.tlsf_heap.proofs.Common.{ap, ◌∙◌, arith, ◌≡◌, sym, subst, err_from_is_err_and, Shown, seen, state_of, HeapState, IsLiveWord, times, InGroups}
 use Rattle.tlsf_heap.proofs.lemmas.calls.Named.{named_same, named_stands, named_live, not_forged}
 use Rattle.tlsf_heap.proofs.lemmas.calls.Write.{length_is}
-use Rattle.tlsf_heap.specs.Blocks.{HeapState}
-use Rattle.tlsf_heap.specs.Footprint.{IsLiveWord}
-use Rattle.tlsf_words.specs.Touched.{times, InGroups}
 use Rattle.tlsf_words.proofs.Touching.{more_groups, groups_then}
 use Rattle.tlsf_heap.proofs.heap.Heap.check_payload.Goals as goal
 

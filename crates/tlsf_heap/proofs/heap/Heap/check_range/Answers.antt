@@ -1,13 +1,6 @@
-use Rattle.std.proofs.Common.{sym, ap, ◌∙◌, arith, ◌≡◌, subst}
-use Rattle.std.proofs.lemmas.Result.{err_from_is_err_and}
-use Rattle.tlsf_heap.specs.Shown.{Shown, seen}
-use Rattle.tlsf_heap.specs.Calls.{read_answer}
-use Rattle.tlsf_heap.specs.Stored.{state_of}
+use Rattle.tlsf_heap.proofs.Common.{sym, ap, ◌∙◌, arith, ◌≡◌, subst, err_from_is_err_and, Shown, seen, read_answer, state_of, HeapState, IsLiveWord, times}
 use Rattle.tlsf_heap.proofs.lemmas.calls.Named.{named_same, named_stands, named_live, not_forged}
 use Rattle.tlsf_heap.proofs.lemmas.calls.Write.{Ranged, read_refused, range_past, range_within}
-use Rattle.tlsf_heap.specs.Blocks.{HeapState}
-use Rattle.tlsf_heap.specs.Footprint.{IsLiveWord}
-use Rattle.tlsf_words.specs.Touched.{times}
 use Rattle.tlsf_heap.proofs.heap.Heap.check_range.Given.{Over}
 use Rattle.tlsf_heap.proofs.heap.Heap.check_range.Goals as goal
 

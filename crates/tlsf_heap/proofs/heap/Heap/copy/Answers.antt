@@ -1,12 +1,4 @@
-use Rattle.std.proofs.Common.{◌≡◌, ℕ, ◌+◌, ◌*◌, ◌/◌, ◌≤◌, List, length, sym, ap, ◌∙◌, subst, arith}
-use Rattle.tlsf_words.specs.Bytes.{bytes_in, payload_byte}
-use Rattle.tlsf_heap.specs.Blocks.{HeapState, StandsAt, bytes_of}
-use Rattle.tlsf_heap.specs.GoodFit.{block_at}
-use Rattle.tlsf_heap.specs.Shown.{Shown}
-use Rattle.tlsf_heap.specs.Calls.{written}
-use Rattle.tlsf_heap.specs.FreePlaces.{free_places}
-use Rattle.tlsf_heap.specs.Regions.{list_in}
-use Rattle.tlsf_heap.specs.Stored.{state_of}
+use Rattle.tlsf_heap.proofs.Common.{◌≡◌, ℕ, ◌+◌, ◌*◌, ◌/◌, ◌≤◌, List, length, sym, ap, ◌∙◌, subst, arith, bytes_in, payload_byte, HeapState, StandsAt, bytes_of, block_at, Shown, written, free_places, list_in, state_of, InGroups}
 use Rattle.tlsf_heap.proofs.lemmas.calls.Alter.{first_bytes, named_of, payload_is, room_in}
 use Rattle.tlsf_heap.proofs.lemmas.lists.FreeLists.{same_lists}
 use Rattle.tlsf_heap.proofs.lemmas.blocks.Lawful.{with_region}
@@ -15,7 +7,6 @@ use Rattle.tlsf_heap.proofs.lemmas.calls.Write.{Writes, writes, range_is}
 use Rattle.tlsf_heap.proofs.lemmas.blocks.Stands.{behind_one}
 use Rattle.tlsf_heap.proofs.lemmas.calls.Kept.{keeps_stored}
 use Rattle.tlsf_heap.proofs.lemmas.calls.Leaves.{seen_both}
-use Rattle.tlsf_words.specs.Touched.{InGroups}
 use Rattle.tlsf_heap.proofs.heap.Heap.copy.Given.{Over}
 use Rattle.tlsf_heap.proofs.heap.Heap.copy.Goals as goal
 

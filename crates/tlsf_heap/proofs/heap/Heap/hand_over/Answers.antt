@@ -1,10 +1,5 @@
-use Rattle.std.proofs.Common.{◌≡◌, Result, Ok, Err, take, length, ap, ◌∙◌, sym, subst, arith}
-use Rattle.tlsf_heap.specs.Blocks.{HeapState}
-use Rattle.tlsf_heap.specs.Calls.{released, written}
-use Rattle.tlsf_heap.specs.InPlace.{payload_of}
-use Rattle.tlsf_heap.specs.declared.refusal.Refusal.{Refusal}
+use Rattle.tlsf_heap.proofs.Common.{◌≡◌, Result, Ok, Err, take, length, ap, ◌∙◌, sym, subst, arith, HeapState, released, written, payload_of, Refusal, IsOthersWord, IsLiveWord}
 use Rattle.tlsf_heap.proofs.lemmas.calls.ResizeOrMove.{release_done}
-use Rattle.tlsf_heap.specs.Footprint.{IsOthersWord, IsLiveWord}
 use Rattle.tlsf_heap.proofs.lemmas.words.Footprint.{any_word}
 use Rattle.tlsf_heap.proofs.lemmas.calls.Leaves.{written_word}
 use Rattle.tlsf_words.proofs.Touching.{more_groups, groups_then}

@@ -1,8 +1,4 @@
-use Rattle.std.proofs.Common.{◌≡◌, ap, ◌∙◌, arith}
-use Rattle.std.proofs.lemmas.Result.{err_from_is_err_and}
-use Rattle.tlsf_heap.specs.InPlace.{payload_at}
-use Rattle.tlsf_heap.specs.Shown.{Shown, seen}
-use Rattle.tlsf_heap.specs.Stored.{state_of}
+use Rattle.tlsf_heap.proofs.Common.{◌≡◌, ap, ◌∙◌, arith, err_from_is_err_and, payload_at, Shown, seen, state_of}
 use Rattle.tlsf_heap.proofs.lemmas.calls.Alter.{are_payload, stood_in}
 use Rattle.tlsf_heap.proofs.lemmas.calls.Named.{live_is, not_forged}
 use Rattle.tlsf_heap.proofs.lemmas.calls.Write.{read_none, read_refused}

@@ -1,6 +1,4 @@
-use Rattle.std.proofs.Common.{subst}
-use Rattle.tlsf_heap.specs.FreePlaces.{ShowsLists}
-use Rattle.tlsf_heap.specs.Shown.{Shown}
+use Rattle.tlsf_heap.proofs.Common.{subst, ShowsLists, Shown}
 use Rattle.tlsf_heap.proofs.lemmas.lists.FreeLists.{stored_lists}
 use Rattle.tlsf_heap.proofs.heap.Heap.into_words.Goals as goal
 

@@ -1,13 +1,4 @@
-use Rattle.std.proofs.Common.{Ok, Err, refl, sym, ◌∙◌, rules}
-use Rattle.std.proofs.lemmas.Bool.{false≢true}
-use Rattle.std.specs.Prelude.{◌↔◌, Result, IsOk}
-use Rattle.tlsf_heap.specs.Blocks.{HeapState}
-use Rattle.tlsf_heap.specs.Laws.{IsLive}
-use Rattle.tlsf_heap.specs.Named.{IsNamed, IsNameCheck, RefusesName}
-use Rattle.tlsf_heap.specs.declared.name.Name.{Name}
-use Rattle.tlsf_heap.specs.declared.refusal.Refusal.{Refusal}
-use Rattle.tlsf_heap.specs.declared.refusal.Refusal.TheVariants.{NoFit, Worn, Foreign, Stale, Range, NoRoom}
-use Rattle.tlsf_words.specs.declared.tag.Tag.{Tag}
+use Rattle.tlsf_heap.proofs.Common.{Ok, Err, refl, sym, ◌∙◌, rules, false≢true, ◌↔◌, Result, IsOk, HeapState, IsLive, IsNamed, IsNameCheck, RefusesName, Name, Refusal, NoFit, Worn, Foreign, Stale, Range, NoRoom, Tag}
 use Rattle.tlsf_heap.proofs.lemmas.calls.Named.{live_is}
 use Rattle.tlsf_heap.proofs.lemmas.calls.Alter.{named_of}
 use Rattle.tlsf_heap.proofs.heap.Heap.is_live.Goals as goal

@@ -1,11 +1,8 @@
-use Rattle.std.proofs.Common.{length, sym, ap, ◌∙◌, subst, arith}
-use Rattle.tlsf_heap.specs.Shown.{Shown}
-use Rattle.tlsf_heap.specs.Stored.{state_of}
+use Rattle.tlsf_heap.proofs.Common.{length, sym, ap, ◌∙◌, subst, arith, Shown, state_of, InGroups}
 use Rattle.tlsf_heap.proofs.lemmas.calls.Kept.{keeps_read}
 use Rattle.tlsf_heap.proofs.lemmas.calls.Alter.{named_of, payload_is}
 use Rattle.tlsf_heap.proofs.lemmas.calls.Named.{named_same, named_stands, named_live}
 use Rattle.tlsf_heap.proofs.lemmas.calls.Write.{length_is}
-use Rattle.tlsf_words.specs.Touched.{InGroups}
 use Rattle.tlsf_heap.proofs.heap.Heap.length.Goals as goal
 
 pub length-requires : goal.length-requires

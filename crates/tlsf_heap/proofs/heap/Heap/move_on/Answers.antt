@@ -1,8 +1,5 @@
-use Rattle.std.proofs.Common.{◌+◌, arith, sym, ◌∙◌, subst}
-use Rattle.std.proofs.lemmas.Bool.{false≢true}
+use Rattle.tlsf_heap.proofs.Common.{◌+◌, arith, sym, ◌∙◌, subst, false≢true, HeapState, IsOthersWord}
 use Rattle.tlsf_heap.proofs.lemmas.calls.AllocateAligned.{room_has, has_within, shrink_done, from_done_there, moved_done}
-use Rattle.tlsf_heap.specs.Blocks.{HeapState}
-use Rattle.tlsf_heap.specs.Footprint.{IsOthersWord}
 use Rattle.tlsf_heap.proofs.lemmas.words.Footprint.{any_word}
 use Rattle.tlsf_heap.proofs.lemmas.calls.Leaves.{resized_word}
 use Rattle.tlsf_heap.proofs.lemmas.calls.LeavesAligned.{from_word}

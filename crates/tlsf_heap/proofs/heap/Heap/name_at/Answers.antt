@@ -1,12 +1,7 @@
-use Rattle.std.proofs.Common.{◌≡◌, ℕ, ◌<◌, Some, sym, ap, ◌∙◌, subst, arith}
-use Rattle.tlsf_heap.specs.ByPlace.{name_at}
-use Rattle.tlsf_heap.specs.Laws.{IsLive}
-use Rattle.tlsf_heap.specs.Shown.{Shown}
-use Rattle.tlsf_heap.specs.Stored.{state_of}
+use Rattle.tlsf_heap.proofs.Common.{◌≡◌, ℕ, ◌<◌, Some, sym, ap, ◌∙◌, subst, arith, name_at, IsLive, Shown, state_of, InGroups}
 use Rattle.tlsf_heap.proofs.lemmas.calls.ByPlace.{name_found, live_here, live_not_wild}
 use Rattle.tlsf_heap.proofs.lemmas.calls.Kept.{keeps_read, reads_both}
 use Rattle.tlsf_heap.proofs.lemmas.calls.Leaves.{seen_live}
-use Rattle.tlsf_words.specs.Touched.{InGroups}
 use Rattle.tlsf_words.proofs.Touching.{more_groups, groups_then}
 use Rattle.tlsf_heap.proofs.heap.Heap.name_at.Goals as goal
 

@@ -1,5 +1,4 @@
-use Rattle.std.proofs.Common.{length, refl, ap, arith}
-use Rattle.tlsf_heap.specs.Regions.{list_in}
+use Rattle.tlsf_heap.proofs.Common.{length, refl, ap, arith, list_in}
 use Rattle.tlsf_heap.proofs.lemmas.blocks.Lawful.{opened_lawful}
 use Rattle.tlsf_heap.proofs.lemmas.lists.FreeLists.{stored_lists, listed_first}
 use Rattle.tlsf_heap.proofs.heap.Heap.open.Goals as goal

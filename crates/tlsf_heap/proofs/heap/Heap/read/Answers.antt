@@ -1,13 +1,6 @@
-use Rattle.std.proofs.Common.{length, ap, ◌∙◌, arith, ◌≡◌, sym, subst, rules}
-use Rattle.std.proofs.lemmas.Result.{err_from_is_err_and}
-use Rattle.tlsf_heap.specs.Shown.{Shown, seen}
-use Rattle.tlsf_heap.specs.Calls.{read_of}
-use Rattle.tlsf_heap.specs.Stored.{state_of}
+use Rattle.tlsf_heap.proofs.Common.{length, ap, ◌∙◌, arith, ◌≡◌, sym, subst, rules, err_from_is_err_and, Shown, seen, read_of, state_of, times, HeapState, IsOthersWord}
 use Rattle.tlsf_heap.proofs.lemmas.calls.Named.{not_forged}
 use Rattle.tlsf_heap.proofs.lemmas.calls.Write.{range_named, range_stands, reads, unread}
-use Rattle.tlsf_words.specs.Touched.{times}
-use Rattle.tlsf_heap.specs.Blocks.{HeapState}
-use Rattle.tlsf_heap.specs.Footprint.{IsOthersWord}
 use Rattle.tlsf_heap.proofs.lemmas.words.Footprint.{any_word}
 use Rattle.tlsf_heap.proofs.heap.Heap.read.Goals as goal
 

@@ -1,7 +1,4 @@
-use Rattle.std.proofs.Common.{◌≤◌, subst, arith}
-use Rattle.tlsf_heap.specs.Shown.{Shown}
-use Rattle.tlsf_heap.specs.Stored.{state_of}
-use Rattle.tlsf_heap.specs.WordsInUse.{words_in_use}
+use Rattle.tlsf_heap.proofs.Common.{◌≤◌, subst, arith, Shown, state_of, words_in_use}
 use Rattle.tlsf_heap.proofs.lemmas.laws.WordsInUse.{words_within}
 use Rattle.tlsf_heap.proofs.heap.Heap.release_at.Goals as goal
 

@@ -1,16 +1,4 @@
-use Rattle.std.proofs.Common.{◌≡◌, ◌≤◌, ℕ, sym, ap, ◌∙◌, subst, Ok, Err, arith, rules}
-use Rattle.std.proofs.lemmas.Result.{err_from_is_err_and}
-use Rattle.tlsf_heap.specs.Blocks.{HeapState, size_of}
-use Rattle.tlsf_words.specs.Touched.{times, InGroups}
-use Rattle.tlsf_heap.specs.Footprint.{IsOthersWord}
-use Rattle.tlsf_heap.specs.GoodFit.{site_at, block_at}
-use Rattle.tlsf_heap.specs.Named.{IsNamed, IsNameCheck}
-use Rattle.tlsf_heap.specs.Regions.{IsTagOf}
-use Rattle.tlsf_heap.specs.Shown.{Shown, seen}
-use Rattle.tlsf_heap.specs.Stored.{state_of}
-use Rattle.tlsf_heap.specs.WordsInUse.{words_in_use, words_at}
-use Rattle.tlsf_heap.specs.declared.name.Name.{Name}
-use Rattle.tlsf_heap.specs.declared.refusal.Refusal.TheVariants.{Worn}
+use Rattle.tlsf_heap.proofs.Common.{◌≡◌, ◌≤◌, ℕ, sym, ap, ◌∙◌, subst, Ok, Err, arith, rules, err_from_is_err_and, HeapState, size_of, times, InGroups, IsOthersWord, site_at, block_at, IsNamed, IsNameCheck, IsTagOf, Shown, seen, state_of, words_in_use, words_at, Name, Worn}
 use Rattle.tlsf_heap.proofs.lemmas.calls.Allocate.{lawful_regions}
 use Rattle.tlsf_heap.proofs.lemmas.blocks.Lawful.{with_region}
 use Rattle.tlsf_heap.proofs.lemmas.calls.Named.{named_same, named_stands, named_live, not_forged}

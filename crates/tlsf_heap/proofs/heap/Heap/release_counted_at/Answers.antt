@@ -1,13 +1,4 @@
-use Rattle.std.proofs.Common.{◌≡◌, ℕ, ◌+◌, ◌≤◌, refl, sym, ap, ◌∙◌, subst, Ok, Err, arith}
-use Rattle.tlsf_heap.specs.Blocks.{HeapState, words_in, size_of}
-use Rattle.tlsf_heap.specs.ByPlace.{IsLiveAt}
-use Rattle.tlsf_heap.specs.GoodFit.{site_at, block_at}
-use Rattle.tlsf_heap.specs.Lawful.{IsLawful}
-use Rattle.tlsf_heap.specs.Regions.{IsTagOf}
-use Rattle.tlsf_heap.specs.Shown.{Shown}
-use Rattle.tlsf_heap.specs.Stored.{state_of}
-use Rattle.tlsf_heap.specs.WordsInUse.{words_in_use, words_at}
-use Rattle.tlsf_heap.specs.declared.refusal.Refusal.TheVariants.{Stale, Worn}
+use Rattle.tlsf_heap.proofs.Common.{◌≡◌, ℕ, ◌+◌, ◌≤◌, refl, sym, ap, ◌∙◌, subst, Ok, Err, arith, HeapState, words_in, size_of, IsLiveAt, site_at, block_at, IsLawful, IsTagOf, Shown, state_of, words_in_use, words_at, Stale, Worn, InGroups}
 use Rattle.tlsf_heap.proofs.lemmas.calls.Allocate.{lawful_regions}
 use Rattle.tlsf_heap.proofs.lemmas.calls.ByPlace.{ReleasesPlace, name_here, is_named_here, place_free, place_live, live_not_wild}
 use Rattle.tlsf_heap.proofs.lemmas.blocks.Lawful.{with_region}
@@ -17,7 +8,6 @@ use Rattle.tlsf_heap.proofs.lemmas.laws.WordsInUse.{words_live, words_part, in_u
 use Rattle.tlsf_heap.proofs.lemmas.calls.Kept.{keeps_stored, keeps_read}
 use Rattle.tlsf_heap.proofs.lemmas.calls.Leaves.{seen_live, seen_others}
 use Rattle.tlsf_heap.proofs.lemmas.words.Footprint.{any_word}
-use Rattle.tlsf_words.specs.Touched.{InGroups}
 use Rattle.tlsf_words.proofs.Touching.{more_groups, groups_then}
 use Rattle.tlsf_heap.proofs.heap.Heap.release_counted_at.Given.{Over}
 use Rattle.tlsf_heap.proofs.heap.Heap.release_counted_at.Goals as goal

@@ -1,17 +1,8 @@
-use Rattle.std.proofs.Common.{◌≡◌, ◌+◌, ◌<◌, Result, length, refl, sym, ap, ◌∙◌, subst, arith}
-use Rattle.tlsf_heap.specs.Blocks.{HeapState, want}
-use Rattle.tlsf_heap.specs.Calls.{allocated, last_tick, named}
-use Rattle.tlsf_heap.specs.Given.{payload_words_at, payload_words_given}
-use Rattle.tlsf_heap.specs.Laws.{IsLive}
-use Rattle.tlsf_heap.specs.Shown.{Shown}
-use Rattle.tlsf_heap.specs.declared.name.Name.{Name}
-use Rattle.tlsf_heap.specs.declared.refusal.Refusal.{Refusal}
+use Rattle.tlsf_heap.proofs.Common.{◌≡◌, ◌+◌, ◌<◌, Result, length, refl, sym, ap, ◌∙◌, subst, arith, HeapState, want, allocated, last_tick, named, payload_words_at, payload_words_given, IsLive, Shown, Name, Refusal, IsOthersWord, payload_of}
 use Rattle.tlsf_heap.proofs.lemmas.calls.ResizeOrMove.{new_lives, old_lives, payload_fits, ticks}
 use Rattle.tlsf_heap.proofs.lemmas.calls.Kept.{keeps_same}
-use Rattle.tlsf_heap.specs.Footprint.{IsOthersWord}
 use Rattle.tlsf_heap.proofs.lemmas.words.Footprint.{any_word}
 use Rattle.tlsf_heap.proofs.lemmas.calls.Leaves.{given_word}
-use Rattle.tlsf_heap.specs.InPlace.{payload_of}
 use Rattle.tlsf_heap.proofs.lemmas.calls.Unset.{given_length}
 use Rattle.tlsf_words.proofs.Touching.{no_groups, more_groups, groups_then}
 use Rattle.tlsf_heap.proofs.heap.Heap.relocate.Goals as goal

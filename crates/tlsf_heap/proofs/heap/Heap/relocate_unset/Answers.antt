@@ -1,17 +1,7 @@
-use Rattle.std.proofs.Common.{◌≡◌, ℕ, ◌+◌, ◌<◌, Result, length, min, refl, sym, ap, ◌∙◌, subst, arith}
-use Rattle.std.specs.Prelude.{IfOk}
-use Rattle.tlsf_heap.specs.Blocks.{HeapState, want}
-use Rattle.tlsf_heap.specs.Calls.{allocated, Outcome, last_tick}
-use Rattle.tlsf_heap.specs.InPlace.{payload_of}
-use Rattle.tlsf_heap.specs.Moved.{moved}
-use Rattle.tlsf_heap.specs.Shown.{Shown}
-use Rattle.tlsf_heap.specs.Unset.{unset_from}
-use Rattle.tlsf_heap.specs.declared.name.Name.{Name}
-use Rattle.tlsf_heap.specs.declared.refusal.Refusal.{Refusal}
+use Rattle.tlsf_heap.proofs.Common.{◌≡◌, ℕ, ◌+◌, ◌<◌, Result, length, min, refl, sym, ap, ◌∙◌, subst, arith, IfOk, HeapState, want, allocated, Outcome, last_tick, payload_of, moved, Shown, unset_from, Name, Refusal, IsOthersWord}
 use Rattle.tlsf_heap.proofs.lemmas.calls.ResizeOrMove.{moved_done}
 use Rattle.tlsf_heap.proofs.lemmas.calls.Unset.{first_lives, first_holds, moved_unset}
 use Rattle.tlsf_heap.proofs.lemmas.calls.Kept.{keeps_same}
-use Rattle.tlsf_heap.specs.Footprint.{IsOthersWord}
 use Rattle.tlsf_heap.proofs.lemmas.words.Footprint.{any_word}
 use Rattle.tlsf_heap.proofs.lemmas.calls.Leaves.{given_word, written_word}
 use Rattle.tlsf_words.proofs.Touching.{no_groups, more_groups, groups_then}

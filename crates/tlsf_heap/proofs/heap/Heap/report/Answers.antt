@@ -1,8 +1,4 @@
-use Rattle.std.proofs.Common.{◌≡◌, ◌*◌, ◌≤◌, length, ap, sym, ◌∙◌, subst, arith, rules}
-use Rattle.tlsf_heap.specs.Blocks.{HeapState}
-use Rattle.tlsf_heap.specs.Shown.{Shown}
-use Rattle.tlsf_heap.specs.Reports.{report_of, IsGrant}
-use Rattle.tlsf_heap.specs.Stored.{state_of}
+use Rattle.tlsf_heap.proofs.Common.{◌≡◌, ◌*◌, ◌≤◌, length, ap, sym, ◌∙◌, subst, arith, rules, HeapState, Shown, report_of, IsGrant, state_of}
 use Rattle.tlsf_heap.specs.declared.report.Report.{Report}
 use Rattle.tlsf_heap.proofs.lemmas.calls.Kept.{keeps_read}
 use Rattle.tlsf_heap.proofs.lemmas.blocks.Sums.{four_each}

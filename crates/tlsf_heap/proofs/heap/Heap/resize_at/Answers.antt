@@ -1,7 +1,4 @@
-use Rattle.std.proofs.Common.{◌≡◌, ℕ, List, Result, Ok, Err, sym, ap, ◌∙◌, subst, arith}
-use Rattle.std.specs.Prelude.{OnErr}
-use Rattle.tlsf_heap.specs.Blocks.{Block, HeapState, IsPlace}
-use Rattle.tlsf_heap.specs.Footprint.{IsOthersWord, IsLiveWord, LeavesLive}
+use Rattle.tlsf_heap.proofs.Common.{◌≡◌, ℕ, List, Result, Ok, Err, sym, ap, ◌∙◌, subst, arith, OnErr, Block, HeapState, IsPlace, IsOthersWord, IsLiveWord, LeavesLive}
 use Rattle.tlsf_heap.proofs.lemmas.words.Footprint.{any_word}
 use Rattle.tlsf_heap.proofs.lemmas.calls.Alter.{named_of}
 use Rattle.tlsf_heap.proofs.lemmas.calls.Named.{named_stands, not_wild}

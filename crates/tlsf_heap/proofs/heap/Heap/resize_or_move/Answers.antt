@@ -1,10 +1,7 @@
 use Rattle.tlsf_heap.proofs.lemmas.calls.Alter.{named_of}
 use Rattle.tlsf_heap.proofs.lemmas.calls.ResizeOrMove.{no_room_live}
 use Rattle.tlsf_heap.proofs.lemmas.calls.Named.{not_forged}
-use Rattle.std.proofs.Common.{sym, ◌∙◌, subst, arith}
-use Rattle.tlsf_heap.specs.Blocks.{HeapState}
-use Rattle.tlsf_heap.specs.Shown.{seen}
-use Rattle.tlsf_heap.specs.Footprint.{IsOthersWord}
+use Rattle.tlsf_heap.proofs.Common.{sym, ◌∙◌, subst, arith, HeapState, seen, IsOthersWord}
 use Rattle.tlsf_words.proofs.Touching.{more_groups, groups_then}
 use Rattle.tlsf_heap.proofs.heap.Heap.resize_or_move.Goals as goal
 

@@ -1,23 +1,9 @@
-use Rattle.std.proofs.Common.{◌≡◌, ℕ, ◌+◌, ◌≤◌, length, min, sym, ap, ◌∙◌, subst, Ok, arith}
-use Rattle.std.proofs.lemmas.Result.{err_from_is_err_and}
-use Rattle.tlsf_heap.specs.Blocks.{HeapState, bytes_of, want, words_for}
-use Rattle.tlsf_heap.specs.Calls.{Outcome, named, resized, resized_words}
-use Rattle.tlsf_heap.specs.Given.{payload_words_at}
-use Rattle.tlsf_heap.specs.GoodFit.{block_at}
-use Rattle.tlsf_heap.specs.Image.{Shows}
-use Rattle.tlsf_heap.specs.InPlace.{payload_of}
-use Rattle.tlsf_heap.specs.Lawful.{IsLawful}
-use Rattle.tlsf_heap.specs.Laws.{IsLive}
-use Rattle.tlsf_heap.specs.Named.{IsNamed}
-use Rattle.tlsf_heap.specs.Unset.{lying, unset_from, with_payload}
-use Rattle.tlsf_heap.specs.Shown.{seen}
-use Rattle.tlsf_heap.specs.declared.name.Name.{Name}
+use Rattle.tlsf_heap.proofs.Common.{◌≡◌, ℕ, ◌+◌, ◌≤◌, length, min, sym, ap, ◌∙◌, subst, Ok, arith, err_from_is_err_and, HeapState, bytes_of, want, words_for, Outcome, named, resized, resized_words, payload_words_at, block_at, Shows, payload_of, IsLawful, IsLive, IsNamed, lying, unset_from, with_payload, seen, Name, IsOthersWord, IsLiveWord}
 use Rattle.tlsf_heap.proofs.lemmas.calls.Alter.{payload_is}
 use Rattle.tlsf_heap.proofs.lemmas.calls.Named.{live_is, not_forged}
 use Rattle.tlsf_heap.proofs.lemmas.calls.OtherBytes.{resized_answers}
 use Rattle.tlsf_heap.proofs.lemmas.calls.Resize.{resized_refused}
 use Rattle.tlsf_heap.proofs.lemmas.calls.Unset.{shorter_lives, left_answer, left_room, resized_unset}
-use Rattle.tlsf_heap.specs.Footprint.{IsOthersWord, IsLiveWord}
 use Rattle.tlsf_heap.proofs.lemmas.words.Footprint.{any_word}
 use Rattle.tlsf_heap.proofs.lemmas.calls.Leaves.{resized_word}
 use Rattle.tlsf_words.proofs.Touching.{more_groups, groups_then}

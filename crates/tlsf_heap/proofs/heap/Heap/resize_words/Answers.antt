@@ -1,17 +1,5 @@
-use Rattle.std.proofs.Common.{◌≡◌, ℕ, ◌+◌, ◌-◌, ◌/◌, ◌≤◌, List, length, sym, ap, ◌∙◌, subst, Ok, Err, arith, rules}
-use Rattle.std.proofs.lemmas.Result.{err_from_is_err_and}
+use Rattle.tlsf_heap.proofs.Common.{◌≡◌, ℕ, ◌+◌, ◌-◌, ◌/◌, ◌≤◌, List, length, sym, ap, ◌∙◌, subst, Ok, Err, arith, rules, err_from_is_err_and, HeapState, words_in, words_for, named, payload_words_at, site_at, IsNameCheck, RegionState, IsTagOf, Shown, seen, state_of, Name, Worn, NoRoom, payload_of, InGroups, IsOthersWord, IsLiveWord, LeavesLive, Inside}
 use Rattle.tlsf_class.proofs.TwoLevels.{most_words_any}
-use Rattle.tlsf_heap.specs.Blocks.{HeapState, words_in, words_for}
-use Rattle.tlsf_heap.specs.Calls.{named}
-use Rattle.tlsf_heap.specs.Given.{payload_words_at}
-use Rattle.tlsf_heap.specs.GoodFit.{site_at}
-use Rattle.tlsf_heap.specs.Named.{IsNameCheck}
-use Rattle.tlsf_heap.specs.Regions.{RegionState, IsTagOf}
-use Rattle.tlsf_heap.specs.Shown.{Shown, seen}
-use Rattle.tlsf_heap.specs.Stored.{state_of}
-use Rattle.tlsf_heap.specs.declared.name.Name.{Name}
-use Rattle.tlsf_heap.specs.declared.refusal.Refusal.TheVariants.{Worn, NoRoom}
-use Rattle.tlsf_heap.specs.InPlace.{payload_of}
 use Rattle.tlsf_heap.proofs.lemmas.calls.Alter.{payload_is}
 use Rattle.tlsf_heap.proofs.lemmas.calls.Allocate.{lawful_regions}
 use Rattle.tlsf_heap.proofs.lemmas.blocks.Lawful.{with_region}
@@ -20,9 +8,6 @@ use Rattle.tlsf_heap.proofs.lemmas.calls.Named.{named_same, named_stands, named_
 use Rattle.tlsf_heap.proofs.lemmas.words.Says.{at_index}
 use Rattle.tlsf_heap.proofs.lemmas.calls.Resize.{Resizes, resized_refused, resizes_refused}
 use Rattle.tlsf_heap.proofs.lemmas.calls.Kept.{keeps_both, keeps_stored, shown_of}
-use Rattle.tlsf_words.specs.Touched.{InGroups}
-use Rattle.tlsf_heap.specs.Footprint.{IsOthersWord, IsLiveWord, LeavesLive}
-use Rattle.tlsf_heap.specs.declared.heap.Heap.TheInside.{Inside}
 use Rattle.tlsf_heap.proofs.lemmas.calls.Leaves.{seen_live}
 use Rattle.tlsf_heap.proofs.lemmas.words.Footprint.{any_word}
 use Rattle.tlsf_words.proofs.Touching.{more_groups, groups_then}

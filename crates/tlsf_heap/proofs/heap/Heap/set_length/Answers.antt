@@ -1,14 +1,4 @@
-use Rattle.std.proofs.Common.{◌≡◌, ◌≤◌, false, length, ap, ◌∙◌, subst, arith}
-use Rattle.tlsf_words.specs.Bytes.{payload_byte}
-use Rattle.tlsf_heap.specs.Blocks.{HeapState, size_of, is_free, words_for}
-use Rattle.tlsf_heap.specs.FreePlaces.{free_places}
-use Rattle.tlsf_heap.specs.GoodFit.{block_at}
-use Rattle.tlsf_heap.specs.Lawful.{IsLawful}
-use Rattle.tlsf_heap.specs.Named.{IsNamed}
-use Rattle.tlsf_heap.specs.Regions.{list_in}
-use Rattle.tlsf_heap.specs.Shown.{Shown}
-use Rattle.tlsf_heap.specs.Stored.{state_of}
-use Rattle.tlsf_heap.specs.Unset.{lying, with_payload}
+use Rattle.tlsf_heap.proofs.Common.{◌≡◌, ◌≤◌, false, length, ap, ◌∙◌, subst, arith, payload_byte, HeapState, size_of, is_free, words_for, free_places, block_at, IsLawful, IsNamed, list_in, Shown, state_of, lying, with_payload, InGroups}
 use Rattle.tlsf_heap.proofs.lemmas.blocks.Lawful.{with_region}
 use Rattle.tlsf_heap.proofs.lemmas.words.NewLength.{Relengths, relengths, same_lying, length_room}
 use Rattle.tlsf_heap.proofs.lemmas.lists.FreeLists.{same_lists}
@@ -16,7 +6,6 @@ use Rattle.tlsf_heap.proofs.lemmas.calls.Named.{named_stands}
 use Rattle.tlsf_heap.proofs.lemmas.words.Bytes.{length-bytes_in}
 use Rattle.tlsf_heap.proofs.lemmas.calls.Kept.{keeps_stored}
 use Rattle.tlsf_heap.proofs.lemmas.calls.Leaves.{seen_live}
-use Rattle.tlsf_words.specs.Touched.{InGroups}
 use Rattle.tlsf_heap.proofs.heap.Heap.set_length.Given.{Over}
 use Rattle.tlsf_heap.proofs.heap.Heap.set_length.Goals as goal
 

@@ -1,11 +1,4 @@
-use Rattle.std.proofs.Common.{◌≡◌, ℕ, ◌+◌, refl, sym, ap, ◌∙◌, subst, Ok, Err, arith}
-use Rattle.tlsf_class.specs.Classes.{class_of}
-use Rattle.tlsf_heap.specs.Blocks.{HeapState, size_of, words_in}
-use Rattle.tlsf_heap.specs.GoodFit.{block_at, site_at}
-use Rattle.tlsf_heap.specs.Regions.{IsTagOf}
-use Rattle.tlsf_heap.specs.Shown.{Shown}
-use Rattle.tlsf_heap.specs.Stored.{state_of}
-use Rattle.tlsf_heap.specs.declared.refusal.Refusal.TheVariants.{Stale, NoRoom, Worn}
+use Rattle.tlsf_heap.proofs.Common.{◌≡◌, ℕ, ◌+◌, refl, sym, ap, ◌∙◌, subst, Ok, Err, arith, class_of, HeapState, size_of, words_in, block_at, site_at, IsTagOf, Shown, state_of, Stale, NoRoom, Worn, InGroups}
 use Rattle.tlsf_heap.proofs.lemmas.calls.Allocate.{lawful_regions}
 use Rattle.tlsf_heap.proofs.lemmas.lists.Carved.{IsFreeHere, contains_here, region_here, taken_each}
 use Rattle.tlsf_heap.proofs.lemmas.calls.AllocateFrom.{GivesFrom, from_nowhere, from_small, from_worn, from_done, free_not_wild}
@@ -14,7 +7,6 @@ use Rattle.tlsf_heap.proofs.lemmas.blocks.Lawful.{with_region}
 use Rattle.tlsf_heap.proofs.lemmas.words.Says.{at_index}
 use Rattle.tlsf_heap.proofs.lemmas.calls.Kept.{keeps_stored, keeps_read}
 use Rattle.tlsf_heap.proofs.lemmas.calls.Leaves.{seen_live}
-use Rattle.tlsf_words.specs.Touched.{InGroups}
 use Rattle.tlsf_words.proofs.Touching.{more_groups, groups_then}
 use Rattle.tlsf_heap.proofs.heap.Heap.words_from.Given.{Over}
 use Rattle.tlsf_heap.proofs.heap.Heap.words_from.Goals as goal

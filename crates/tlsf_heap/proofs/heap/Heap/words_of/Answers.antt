@@ -1,5 +1,4 @@
-use Rattle.std.proofs.Common.{sym, ◌∙◌}
-use Rattle.std.proofs.lemmas.Result.{err_from_is_err_and}
+use Rattle.tlsf_heap.proofs.Common.{sym, ◌∙◌, err_from_is_err_and}
 use Rattle.tlsf_heap.proofs.lemmas.calls.Named.{live_is}
 use Rattle.tlsf_heap.proofs.lemmas.laws.WordsInUse.{words_named}
 use Rattle.tlsf_heap.proofs.heap.Heap.words_of.Goals as goal

@@ -1,12 +1,4 @@
-use Rattle.std.proofs.Common.{◌≡◌, ◌≤◌, ◌∙◌, sym, ap, subst, arith}
-use Rattle.tlsf_heap.specs.Blocks.{HeapState}
-use Rattle.tlsf_heap.specs.ByPlace.{IsLiveAt}
-use Rattle.tlsf_heap.specs.Laws.{IsLive}
-use Rattle.tlsf_heap.specs.Named.{IsNamed}
-use Rattle.tlsf_heap.specs.Shown.{Shown}
-use Rattle.tlsf_heap.specs.Stored.{state_of}
-use Rattle.tlsf_heap.specs.WordsInUse.{words_at, words_in_use}
-use Rattle.tlsf_heap.specs.declared.name.Name.{Name}
+use Rattle.tlsf_heap.proofs.Common.{◌≡◌, ◌≤◌, ◌∙◌, sym, ap, subst, arith, HeapState, IsLiveAt, IsLive, IsNamed, Shown, state_of, words_at, words_in_use, Name}
 use Rattle.tlsf_heap.proofs.lemmas.calls.Alter.{named_of}
 use Rattle.tlsf_heap.proofs.lemmas.calls.Kept.{keeps_read}
 use Rattle.tlsf_heap.proofs.lemmas.calls.Named.{named_stands, named_live}

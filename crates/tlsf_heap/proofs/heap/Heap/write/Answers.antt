@@ -1,19 +1,10 @@
-use Rattle.std.proofs.Common.{◌≡◌, ℕ, length, sym, ap, ◌∙◌, arith, subst, rules}
-use Rattle.std.proofs.lemmas.Result.{err_from_is_err_and}
-use Rattle.tlsf_heap.specs.Blocks.{HeapState, StandsAt}
-use Rattle.tlsf_heap.specs.Shown.{Shown, seen}
-use Rattle.tlsf_heap.specs.Calls.{Outcome}
-use Rattle.tlsf_heap.specs.FreePlaces.{free_places}
-use Rattle.tlsf_heap.specs.Regions.{list_in}
-use Rattle.tlsf_heap.specs.Stored.{state_of}
+use Rattle.tlsf_heap.proofs.Common.{◌≡◌, ℕ, length, sym, ap, ◌∙◌, arith, subst, rules, err_from_is_err_and, HeapState, StandsAt, Shown, seen, Outcome, free_places, list_in, state_of, times, IsOthersWord}
 use Rattle.tlsf_heap.proofs.lemmas.lists.FreeLists.{same_lists}
 use Rattle.tlsf_heap.proofs.lemmas.blocks.Lawful.{with_region}
 use Rattle.tlsf_heap.proofs.lemmas.calls.Named.{not_forged}
 use Rattle.tlsf_heap.proofs.lemmas.calls.Write.{range_named, range_stands, unwritten, Writes, writes}
 use Rattle.tlsf_heap.proofs.lemmas.blocks.Stands.{behind_one}
 use Rattle.tlsf_heap.proofs.lemmas.calls.Kept.{keeps_both, keeps_stored}
-use Rattle.tlsf_words.specs.Touched.{times}
-use Rattle.tlsf_heap.specs.Footprint.{IsOthersWord}
 use Rattle.tlsf_heap.proofs.lemmas.words.Footprint.{any_word}
 use Rattle.tlsf_heap.proofs.heap.Heap.write.Given.{Over}
 use Rattle.tlsf_heap.proofs.heap.Heap.write.Goals as goal

@@ -1,9 +1,4 @@
-use Rattle.std.proofs.Common.{◌≡◌, ℕ, ◌+◌, ◌/◌, List, ◌∷◌, [], ◌++◌, take, drop, subst, arith, ap, sym, ◌∙◌}
-use Rattle.std.specs.Fn.{FnOnceReturnsAtMut, FnOnceTakesAtMut}
-use Rattle.tlsf_heap.specs.Blocks.{bytes_of}
-use Rattle.tlsf_heap.specs.Calls.{overwritten, with_bytes}
-use Rattle.tlsf_heap.specs.GoodFit.{block_at}
-use Rattle.tlsf_words.specs.Bytes.{bytes_in, payload_byte}
+use Rattle.tlsf_heap.proofs.Common.{◌≡◌, ℕ, ◌+◌, ◌/◌, List, ◌∷◌, [], ◌++◌, take, drop, subst, arith, ap, sym, ◌∙◌, FnOnceReturnsAtMut, FnOnceTakesAtMut, bytes_of, overwritten, with_bytes, block_at, bytes_in, payload_byte, RegionState, image_of}
 use Rattle.tlsf_heap.proofs.lemmas.words.Says.{shows_state}
 use Rattle.tlsf_heap.proofs.lemmas.words.Bytes.{payload_inside}
 use Rattle.tlsf_heap.proofs.lemmas.calls.Alter.{altered}
@@ -11,7 +6,6 @@ use Rattle.tlsf_heap.proofs.lemmas.words.Links.{linked_lists, marked_lists, Reli
 use Rattle.tlsf_heap.proofs.lemmas.words.KeptLinks.{relisted_bytes}
 use Rattle.tlsf_heap.proofs.lemmas.blocks.Stands.{behind_one}
 use Rattle.tlsf_heap.proofs.lemmas.words.Edit.{Leaves}
-use Rattle.tlsf_heap.specs.Regions.{RegionState, image_of}
 use Rattle.tlsf_heap.proofs.region.Region.alter.Given.{Over}
 use Rattle.tlsf_heap.proofs.region.Region.alter.Goals as goal
 

@@ -1,6 +1,4 @@
-use Rattle.std.proofs.Common.{sym, ◌∙◌, ap, arith}
-use Rattle.std.proofs.lemmas.Bool.{false≢true}
-use Rattle.tlsf_heap.specs.Regions.{RegionState}
+use Rattle.tlsf_heap.proofs.Common.{sym, ◌∙◌, ap, arith, false≢true, RegionState}
 use Rattle.tlsf_heap.proofs.lemmas.words.Says.{shows_state, in_region, says_here, starts_here}
 use Rattle.tlsf_heap.proofs.region.Region.begins.Goals as goal
 

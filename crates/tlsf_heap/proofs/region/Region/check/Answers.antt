@@ -1,6 +1,4 @@
-use Rattle.std.proofs.Common.{ap, ◌∙◌}
-use Rattle.tlsf_words.specs.Touched.{times}
-use Rattle.tlsf_heap.specs.Regions.{RegionState}
+use Rattle.tlsf_heap.proofs.Common.{ap, ◌∙◌, times, RegionState}
 use Rattle.tlsf_heap.proofs.lemmas.words.Says.{shows_state, holds_read}
 use Rattle.tlsf_heap.proofs.lemmas.words.Undamaged.{headers_leave}
 use Rattle.tlsf_heap.proofs.region.Region.check.Goals as goal

@@ -1,9 +1,4 @@
-use Rattle.std.proofs.Common.{◌≡◌, ◌≤◌, ◌+◌, ◌*◌, ◌/◌, ℕ, List, ◌∷◌, [], ◌++◌, length, take, drop, inl, inr, sym, subst, arith, ap, ◌∙◌}
-use Rattle.tlsf_words.specs.Bytes.{bytes_in, payload_byte}
-use Rattle.std.proofs.lemmas.Bool.{cases_order}
-use Rattle.tlsf_heap.specs.Blocks.{bytes_of, words_in, StandsAt}
-use Rattle.tlsf_heap.specs.Calls.{overwritten, with_bytes}
-use Rattle.tlsf_heap.specs.GoodFit.{block_at}
+use Rattle.tlsf_heap.proofs.Common.{◌≡◌, ◌≤◌, ◌+◌, ◌*◌, ◌/◌, ℕ, List, ◌∷◌, [], ◌++◌, length, take, drop, inl, inr, sym, subst, arith, ap, ◌∙◌, bytes_in, payload_byte, cases_order, bytes_of, words_in, StandsAt, overwritten, with_bytes, block_at, RegionState, image_of, times, InGroups}
 use Rattle.tlsf_heap.proofs.lemmas.words.Says.{shows_state}
 use Rattle.tlsf_heap.proofs.lemmas.words.Bytes.{held_within, length-bytes_in, payload_inside, rewritten}
 use Rattle.tlsf_heap.proofs.lemmas.words.Image.{room_here}
@@ -12,8 +7,6 @@ use Rattle.tlsf_heap.proofs.lemmas.words.Links.{linked_lists, marked_lists, Reli
 use Rattle.tlsf_heap.proofs.lemmas.words.KeptLinks.{relisted_bytes}
 use Rattle.tlsf_heap.proofs.lemmas.blocks.Stands.{behind_one}
 use Rattle.tlsf_heap.proofs.lemmas.words.Edit.{Leaves}
-use Rattle.tlsf_heap.specs.Regions.{RegionState, image_of}
-use Rattle.tlsf_words.specs.Touched.{times, InGroups}
 use Rattle.tlsf_heap.proofs.lemmas.words.Footprint.{others_apart}
 use Rattle.tlsf_words.proofs.Touching.{more_groups}
 use Rattle.tlsf_heap.proofs.lemmas.words.Groups.{two_rows}

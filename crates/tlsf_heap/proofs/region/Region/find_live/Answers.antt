@@ -1,8 +1,5 @@
-use Rattle.std.proofs.Common.{ℕ, sym, ap, ◌∙◌, eq-eqb, List, subst, arith}
-use Rattle.std.specs.Prelude.{◌==◌}
+use Rattle.tlsf_heap.proofs.Common.{ℕ, sym, ap, ◌∙◌, eq-eqb, List, subst, arith, ◌==◌, RegionState, times, InGroups}
 use Rattle.tlsf_heap.proofs.lemmas.words.Says.{none_named, named_here, has_serial-live}
-use Rattle.tlsf_heap.specs.Regions.{RegionState}
-use Rattle.tlsf_words.specs.Touched.{times, InGroups}
 use Rattle.tlsf_words.proofs.Touching.{more_groups, groups_then}
 use Rattle.tlsf_heap.proofs.region.Region.find_live.Goals as goal
 use Rattle.tlsf_heap.proofs.region.Region.find_live.Goals.{then-is_free-via-then-is_free, then-is_free-via-else-is_free+then-mark-serial}

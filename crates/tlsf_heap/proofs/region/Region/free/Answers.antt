@@ -1,13 +1,8 @@
 -- The header of a free block of the words is one of the blocks, and leaves the lists.
-use Rattle.std.proofs.Common.{◌∷◌, ◌+◌, List, ℕ, length, sym, ap, ◌∙◌, subst, arith, refl}
-use Rattle.tlsf_heap.specs.Blocks.{StandsAt}
-use Rattle.tlsf_heap.specs.Calls.{coalesced}
-use Rattle.tlsf_heap.specs.GoodFit.{site_at}
-use Rattle.tlsf_heap.specs.Regions.{RegionState, AreNeighbours, IsTagOf, image_of}
+use Rattle.tlsf_heap.proofs.Common.{◌∷◌, ◌+◌, List, ℕ, length, sym, ap, ◌∙◌, subst, arith, refl, StandsAt, coalesced, site_at, RegionState, AreNeighbours, IsTagOf, image_of, times, InGroups}
 use Rattle.tlsf_heap.proofs.lemmas.words.Free.{merged, alone_are, merges_alone}
 use Rattle.tlsf_heap.proofs.lemmas.words.Links.{linked_lists, marked_lists, Reshapes, holds_state}
 use Rattle.tlsf_heap.proofs.lemmas.words.Says.{shows_state, at_index, in_region}
-use Rattle.tlsf_words.specs.Touched.{times, InGroups}
 use Rattle.tlsf_words.proofs.Touching.{times_other, one_touch, groups_then}
 use Rattle.tlsf_heap.proofs.lemmas.words.Footprint.{header_apart}
 use Rattle.tlsf_heap.proofs.region.Region.free.Given.{Over}

@@ -1,6 +1,4 @@
-use Rattle.std.proofs.Common.{ℕ, List, sym, ◌∙◌, subst, arith}
-use Rattle.std.proofs.lemmas.Bool.{false≢true}
-use Rattle.tlsf_words.specs.Touched.{InGroups}
+use Rattle.tlsf_heap.proofs.Common.{ℕ, List, sym, ◌∙◌, subst, arith, false≢true, InGroups}
 use Rattle.tlsf_words.proofs.Touching.{no_groups, more_groups}
 use Rattle.tlsf_heap.proofs.region.Region.free_at.Goals as goal
 

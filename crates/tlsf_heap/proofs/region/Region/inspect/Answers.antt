@@ -1,8 +1,6 @@
-use Rattle.std.proofs.Common.{◌≡◌, ℕ, ◌+◌, ◌/◌, List, take, drop, subst, arith, ap, sym}
-use Rattle.std.specs.Fn.{FnOnceReturnsAt, FnOnceTakesAt}
+use Rattle.tlsf_heap.proofs.Common.{◌≡◌, ℕ, ◌+◌, ◌/◌, List, take, drop, subst, arith, ap, sym, FnOnceReturnsAt, FnOnceTakesAt, RegionState}
 use Rattle.tlsf_heap.proofs.lemmas.words.Says.{shows_state}
 use Rattle.tlsf_heap.proofs.lemmas.words.Bytes.{payload_inside}
-use Rattle.tlsf_heap.specs.Regions.{RegionState}
 use Rattle.tlsf_heap.proofs.region.Region.inspect.Goals as goal
 
 pub inspect-requires-clause-within : goal.inspect-requires-clause-within

@@ -1,10 +1,7 @@
-use Rattle.std.proofs.Common.{◌∙◌, arith, ◌+◌, refl, ap, subst}
+use Rattle.tlsf_heap.proofs.Common.{◌∙◌, arith, ◌+◌, refl, ap, subst, times, RegionState, InGroups}
 use Rattle.tlsf_heap.proofs.lemmas.words.Says.{shows_state, holds_read, in_region}
 use Rattle.tlsf_heap.proofs.lemmas.words.Bytes.{length_read}
-use Rattle.tlsf_words.specs.Touched.{times}
 use Rattle.tlsf_heap.proofs.lemmas.words.Footprint.{reads_header}
-use Rattle.tlsf_heap.specs.Regions.{RegionState}
-use Rattle.tlsf_words.specs.Touched.{InGroups}
 use Rattle.tlsf_words.proofs.Touching.{one_touch}
 use Rattle.tlsf_heap.proofs.region.Region.length.Goals as goal
 

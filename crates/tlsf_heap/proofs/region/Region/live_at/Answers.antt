@@ -1,6 +1,5 @@
-use Rattle.std.proofs.Common.{sym, ◌∙◌, arith, ℕ, List, subst}
+use Rattle.tlsf_heap.proofs.Common.{sym, ◌∙◌, arith, ℕ, List, subst, InGroups}
 use Rattle.tlsf_heap.proofs.lemmas.calls.ByPlace.{serial_free, serial_nowhere}
-use Rattle.tlsf_words.specs.Touched.{InGroups}
 use Rattle.tlsf_heap.proofs.region.Region.live_at.Goals as goal
 
 pub returns-then-not-begins-clause-answer : goal.returns-then-not-begins-clause-answer

@@ -1,8 +1,6 @@
-use Rattle.std.proofs.Common.{ℕ, List, ◌∙◌, arith, ◌+◌, refl, ap, subst}
+use Rattle.tlsf_heap.proofs.Common.{ℕ, List, ◌∙◌, arith, ◌+◌, refl, ap, subst, times, InGroups, RegionState}
 use Rattle.tlsf_heap.proofs.lemmas.words.Says.{shows_state, holds_read, in_region, says_here}
-use Rattle.tlsf_words.specs.Touched.{times, InGroups}
 use Rattle.tlsf_heap.proofs.lemmas.words.Footprint.{reads_header}
-use Rattle.tlsf_heap.specs.Regions.{RegionState}
 use Rattle.tlsf_words.proofs.Touching.{one_touch, times_other}
 use Rattle.tlsf_heap.proofs.region.Region.mark.Goals as goal
 

@@ -1,14 +1,9 @@
 -- A merge of the words is one of the blocks, and leaves the lists.
-use Rattle.std.proofs.Common.{ℕ, length, sym, ap, ◌∙◌, subst, arith, ◌+◌, ◌-◌}
-use Rattle.tlsf_heap.specs.Calls.{coalesced}
-use Rattle.tlsf_heap.specs.Blocks.{StandsAt}
-use Rattle.tlsf_heap.specs.GoodFit.{site_at}
+use Rattle.tlsf_heap.proofs.Common.{ℕ, length, sym, ap, ◌∙◌, subst, arith, ◌+◌, ◌-◌, coalesced, StandsAt, site_at, RegionState, AreNeighbours, image_of, times, InGroups}
 use Rattle.tlsf_heap.proofs.lemmas.words.Says.{shows_state, at_index}
 use Rattle.tlsf_heap.proofs.lemmas.words.Free.{merged}
 use Rattle.tlsf_heap.proofs.lemmas.words.Merge.{merge_within, merge_last, merge_before, merge_after}
 use Rattle.tlsf_heap.proofs.lemmas.words.Links.{linked_lists, marked_lists, Reshapes, holds_state}
-use Rattle.tlsf_heap.specs.Regions.{RegionState, AreNeighbours, image_of}
-use Rattle.tlsf_words.specs.Touched.{times, InGroups}
 use Rattle.tlsf_heap.proofs.lemmas.words.Footprint.{front_apart, end_apart}
 use Rattle.tlsf_words.proofs.Touching.{three_words}
 use Rattle.tlsf_heap.proofs.region.Region.merge.Given.{Over}

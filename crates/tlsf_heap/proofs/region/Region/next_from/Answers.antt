@@ -1,9 +1,5 @@
-use Rattle.std.proofs.Common.{ℕ, List, not, eqb, length, sym, ap, ◌∙◌}
-use Rattle.std.proofs.lemmas.List.Elements.{filter_agree}
-use Rattle.tlsf_class.specs.Classes.{classes}
+use Rattle.tlsf_heap.proofs.Common.{ℕ, List, not, eqb, length, sym, ap, ◌∙◌, filter_agree, classes, list_of, list_in}
 use Rattle.tlsf_class.specs.Members.{next_member}
-use Rattle.tlsf_words.specs.Lists.{list_of}
-use Rattle.tlsf_heap.specs.Regions.{list_in}
 use Rattle.tlsf_heap.proofs.lemmas.words.Says.{lists_read}
 use Rattle.tlsf_heap.proofs.lemmas.words.Links.{holds_state}
 use Rattle.tlsf_heap.proofs.region.Region.next_from.Goals as goal

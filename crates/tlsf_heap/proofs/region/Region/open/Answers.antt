@@ -1,13 +1,5 @@
-use Rattle.std.proofs.Common.{◌≡◌, ℕ, ◌+◌, ◌≤◌, ◌^◌, ◌<◌, ◌≢◌, Bool, true, false, List, [], ◌∷◌, length, set, replicate, refl, sym, ap, ◌∙◌, subst, arith, get_or-set_same, get_or-set_other}
-use Rattle.std.specs.Prelude.{◌==◌}
-use Rattle.std.proofs.lemmas.Bool.Decides.{nat_tests}
-use Rattle.std.proofs.lemmas.List.{length-replicate, get_or-replicate, length-set}
+use Rattle.tlsf_heap.proofs.Common.{◌≡◌, ℕ, ◌+◌, ◌≤◌, ◌^◌, ◌<◌, ◌≢◌, Bool, true, false, List, [], ◌∷◌, length, set, replicate, refl, sym, ap, ◌∙◌, subst, arith, get_or-set_same, get_or-set_other, ◌==◌, nat_tests, length-replicate, get_or-replicate, length-set, Image, Shows, StartsOnce, tag_word, Free, nowhere, image_of}
 use Rattle.tlsf_class.proofs.TwoLevels.{words_any}
-use Rattle.tlsf_heap.specs.Image.{Image, Shows, StartsOnce}
-use Rattle.tlsf_words.specs.Fields.{tag_word}
-use Rattle.tlsf_heap.specs.Blocks.{Free}
-use Rattle.tlsf_words.specs.Lists.{nowhere}
-use Rattle.tlsf_heap.specs.Regions.{image_of}
 use Rattle.tlsf_heap.proofs.lemmas.words.Image.{word_at, blocks_of-shown}
 use Rattle.tlsf_heap.proofs.lemmas.words.Links.{list_in-lists_of}
 use Rattle.tlsf_heap.proofs.region.Region.open.Given.{Over}

@@ -1,11 +1,6 @@
-use Rattle.std.specs.List.{Contains}
+use Rattle.tlsf_heap.proofs.Common.{Contains, subst, refl, zero, ℕ, List, sym, ap, ◌∙◌, arith, slice_get, without_place, RegionState, image_of, times, InGroups}
 -- The free lists without the head of one: only links have changed.
-use Rattle.std.proofs.Common.{subst, refl, zero, ℕ, List, sym, ap, ◌∙◌, arith}
-use Rattle.std.specs.Prelude.{slice_get}
-use Rattle.tlsf_words.specs.Lists.{without_place}
 use Rattle.tlsf_heap.proofs.lemmas.words.Links.{linked_lists, marked_lists, Relinks, holds_state, list_in-lists_of, relinked, free_removed}
-use Rattle.tlsf_heap.specs.Regions.{RegionState, image_of}
-use Rattle.tlsf_words.specs.Touched.{times, InGroups}
 use Rattle.tlsf_words.proofs.Touching.{more_groups}
 use Rattle.tlsf_heap.proofs.lemmas.words.Footprint.{header_apart}
 use Rattle.tlsf_heap.proofs.region.Region.pop_first.Given.{Over}

@@ -1,10 +1,7 @@
 -- The free lists with one more place: only links have changed, and the place is that of a free block.
-use Rattle.std.proofs.Common.{ℕ, List, ◌∷◌, sym, ap, ◌∙◌, subst, arith}
-use Rattle.std.specs.Prelude.{Contains}
+use Rattle.tlsf_heap.proofs.Common.{ℕ, List, ◌∷◌, sym, ap, ◌∙◌, subst, arith, Contains, RegionState, image_of, times, InGroups}
 use Rattle.tlsf_heap.proofs.lemmas.words.Says.{shows_state, in_region}
 use Rattle.tlsf_heap.proofs.lemmas.words.Links.{linked_lists, marked_lists, Relinks, holds_state, list_in-lists_of, relinked, free_pushed}
-use Rattle.tlsf_heap.specs.Regions.{RegionState, image_of}
-use Rattle.tlsf_words.specs.Touched.{times, InGroups}
 use Rattle.tlsf_heap.proofs.lemmas.words.Footprint.{header_apart}
 use Rattle.tlsf_heap.proofs.region.Region.push.Given.{Over}
 use Rattle.tlsf_heap.proofs.region.Region.push.Goals as goal

@@ -1,9 +1,6 @@
-use Rattle.std.proofs.Common.{◌∙◌, arith, inl, inr, ap}
+use Rattle.tlsf_heap.proofs.Common.{◌∙◌, arith, inl, inr, ap, times, RegionState, block_at}
 use Rattle.tlsf_heap.proofs.lemmas.words.Says.{shows_state, holds_read}
 use Rattle.tlsf_heap.proofs.lemmas.words.Bytes.{payload_inside, bytes_read, held_within}
-use Rattle.tlsf_words.specs.Touched.{times}
-use Rattle.tlsf_heap.specs.Regions.{RegionState}
-use Rattle.tlsf_heap.specs.GoodFit.{block_at}
 use Rattle.tlsf_heap.proofs.lemmas.words.Image.{room_here}
 use Rattle.tlsf_heap.proofs.lemmas.words.Footprint.{others_apart}
 use Rattle.tlsf_heap.proofs.region.Region.read.Goals as goal

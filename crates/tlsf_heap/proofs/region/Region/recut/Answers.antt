@@ -1,13 +1,7 @@
-use Rattle.std.specs.Prelude.{◌⊎◌}
-use Rattle.std.proofs.Common.{◌≡◌, ℕ, suc, ◌+◌, ◌++◌, ◌≤◌, ◌<◌, ◌≢◌, take, drop, length, false, ap, ◌∙◌, subst, arith, inl, inr}
-use Rattle.tlsf_heap.specs.Blocks.{StandsAt, is_free, bytes_of, words_for}
-use Rattle.tlsf_heap.specs.Calls.{recut}
-use Rattle.tlsf_heap.specs.GoodFit.{block_at}
-use Rattle.tlsf_heap.specs.Regions.{RegionState, image_of}
+use Rattle.tlsf_heap.proofs.Common.{◌⊎◌, ◌≡◌, ℕ, suc, ◌+◌, ◌++◌, ◌≤◌, ◌<◌, ◌≢◌, take, drop, length, false, ap, ◌∙◌, subst, arith, inl, inr, StandsAt, is_free, bytes_of, words_for, recut, block_at, RegionState, image_of, times, InGroups}
 use Rattle.tlsf_heap.proofs.lemmas.words.Links.{linked_lists, marked_lists, Reshapes, holds_state}
 use Rattle.tlsf_heap.proofs.lemmas.words.Says.{shows_state, at_index}
 use Rattle.tlsf_heap.proofs.lemmas.words.Recut.{whole_is, whole_ends, whole_last, whole_least, left_wide, left_recut}
-use Rattle.tlsf_words.specs.Touched.{times, InGroups}
 use Rattle.tlsf_heap.proofs.lemmas.words.Footprint.{past_apart}
 use Rattle.tlsf_words.proofs.Touching.{more_groups, two_words}
 use Rattle.tlsf_heap.proofs.lemmas.words.Groups.{rows_and_word}

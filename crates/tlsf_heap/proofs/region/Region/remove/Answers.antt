@@ -1,11 +1,6 @@
 -- The free lists with one place less: only links have changed.
-use Rattle.std.proofs.Common.{ℕ, List, sym, ap, ◌∙◌, subst, arith}
-use Rattle.std.specs.Prelude.{Contains}
-use Rattle.tlsf_class.specs.Classes.{class_of}
-use Rattle.tlsf_words.specs.Lists.{without_place}
+use Rattle.tlsf_heap.proofs.Common.{ℕ, List, sym, ap, ◌∙◌, subst, arith, Contains, class_of, without_place, RegionState, image_of, times, InGroups}
 use Rattle.tlsf_heap.proofs.lemmas.words.Links.{linked_lists, marked_lists, Relinks, holds_state, list_in-lists_of, relinked, free_removed}
-use Rattle.tlsf_heap.specs.Regions.{RegionState, image_of}
-use Rattle.tlsf_words.specs.Touched.{times, InGroups}
 use Rattle.tlsf_heap.proofs.lemmas.words.Footprint.{header_apart}
 use Rattle.tlsf_heap.proofs.region.Region.remove.Given.{Over}
 use Rattle.tlsf_heap.proofs.region.Region.remove.Goals as goal

@@ -1,15 +1,9 @@
-use Rattle.std.proofs.Common.{◌≡◌, ◌≢◌, ◌+◌, ◌<◌, List, ℕ, length, get_or, ap, ◌∙◌, subst, arith, refl}
-use Rattle.std.proofs.lemmas.List.{length-set, get_or-set_other, get_or-set_same}
-use Rattle.tlsf_words.specs.Fields.{length_word}
-use Rattle.tlsf_heap.specs.Headers.{OnlyFrom}
-use Rattle.tlsf_heap.specs.Regions.{RegionState, image_of}
+use Rattle.tlsf_heap.proofs.Common.{◌≡◌, ◌≢◌, ◌+◌, ◌<◌, List, ℕ, length, get_or, ap, ◌∙◌, subst, arith, refl, length-set, get_or-set_other, get_or-set_same, length_word, OnlyFrom, RegionState, image_of, times, InGroups}
 use Rattle.tlsf_heap.proofs.lemmas.words.NewLength.{SetsLength, length_leaves, length_relists}
 use Rattle.tlsf_heap.proofs.lemmas.words.Links.{linked_lists, marked_lists, Relists, holds_state}
 use Rattle.tlsf_heap.proofs.lemmas.words.Says.{shows_state, says_here}
 use Rattle.tlsf_heap.proofs.lemmas.blocks.Stands.{behind_one}
-use Rattle.tlsf_words.specs.Touched.{times}
 use Rattle.tlsf_heap.proofs.lemmas.words.Footprint.{reads_header}
-use Rattle.tlsf_words.specs.Touched.{InGroups}
 use Rattle.tlsf_words.proofs.Touching.{one_touch}
 use Rattle.tlsf_heap.proofs.region.Region.set_length.Given.{Over}
 use Rattle.tlsf_heap.proofs.region.Region.set_length.Goals as goal

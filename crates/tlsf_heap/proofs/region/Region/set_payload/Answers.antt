@@ -1,14 +1,10 @@
-use Rattle.std.proofs.Common.{◌+◌, ◌-◌, ◌/◌, length, ap, ◌∙◌, subst, arith, inl, inr}
-use Rattle.tlsf_heap.specs.Blocks.{bytes_of}
-use Rattle.tlsf_heap.specs.GoodFit.{block_at}
-use Rattle.tlsf_heap.specs.Regions.{RegionState, image_of}
+use Rattle.tlsf_heap.proofs.Common.{◌+◌, ◌-◌, ◌/◌, length, ap, ◌∙◌, subst, arith, inl, inr, bytes_of, block_at, RegionState, image_of, times, InGroups}
 use Rattle.tlsf_heap.proofs.lemmas.words.Links.{linked_lists, marked_lists, Relists, holds_state}
 use Rattle.tlsf_heap.proofs.lemmas.words.Bytes.{held_within, length_read}
 use Rattle.tlsf_heap.proofs.lemmas.words.Says.{shows_state, says_here}
 use Rattle.tlsf_heap.proofs.lemmas.words.NewPayload.{Refills, refilled, relisted_refill}
 use Rattle.tlsf_heap.proofs.lemmas.words.Image.{room_here}
 use Rattle.tlsf_heap.proofs.lemmas.blocks.Stands.{behind_one}
-use Rattle.tlsf_words.specs.Touched.{times, InGroups}
 use Rattle.tlsf_heap.proofs.lemmas.words.Footprint.{others_apart}
 use Rattle.tlsf_words.proofs.Touching.{more_groups}
 use Rattle.tlsf_heap.proofs.region.Region.set_payload.Given.{Over}

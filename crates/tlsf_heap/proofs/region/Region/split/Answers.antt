@@ -1,13 +1,8 @@
 -- A block that is split into a live one and a free rest: the words show them, and leave the lists.
-use Rattle.std.specs.Prelude.{◌⊎◌}
-use Rattle.std.proofs.Common.{ℕ, ◌+◌, ◌-◌, eqb, [], ◌∷◌, ◌++◌, take, drop, length, suc, sym, ap, ◌∙◌, refl, arith, ◌≡◌, ◌≢◌, ◌<◌, ◌≤◌, true, subst, inl, inr}
-use Rattle.tlsf_heap.specs.Blocks.{Live, Free, size_of, StandsAt, is_free}
-use Rattle.tlsf_heap.specs.GoodFit.{block_at, site_at}
-use Rattle.tlsf_heap.specs.Regions.{RegionState, IsTagOf, image_of}
+use Rattle.tlsf_heap.proofs.Common.{◌⊎◌, ℕ, ◌+◌, ◌-◌, eqb, [], ◌∷◌, ◌++◌, take, drop, length, suc, sym, ap, ◌∙◌, refl, arith, ◌≡◌, ◌≢◌, ◌<◌, ◌≤◌, true, subst, inl, inr, Live, Free, size_of, StandsAt, is_free, block_at, site_at, RegionState, IsTagOf, image_of, times, InGroups}
 use Rattle.tlsf_heap.proofs.lemmas.words.Says.{shows_state, says_here, at_index}
 use Rattle.tlsf_heap.proofs.lemmas.words.Links.{linked_lists, marked_lists, Reshapes, holds_state}
 use Rattle.tlsf_heap.proofs.lemmas.words.Split.{stored_bytes, begins_zero, tag_here, left_split}
-use Rattle.tlsf_words.specs.Touched.{times, InGroups}
 use Rattle.tlsf_heap.proofs.lemmas.words.Footprint.{free_elsewhere, others_apart}
 use Rattle.tlsf_heap.proofs.lemmas.words.Groups.{rows_and_word}
 use Rattle.tlsf_heap.proofs.region.Region.split.Given.{Over}

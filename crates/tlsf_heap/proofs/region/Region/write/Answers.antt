@@ -1,14 +1,9 @@
-use Rattle.std.proofs.Common.{length, arith, ap, ◌∙◌, inl, inr}
-use Rattle.tlsf_heap.specs.Blocks.{bytes_of}
-use Rattle.tlsf_heap.specs.Calls.{overwritten}
-use Rattle.tlsf_heap.specs.GoodFit.{block_at}
+use Rattle.tlsf_heap.proofs.Common.{length, arith, ap, ◌∙◌, inl, inr, bytes_of, overwritten, block_at, RegionState, image_of, times}
 use Rattle.tlsf_heap.proofs.lemmas.words.Says.{shows_state}
 use Rattle.tlsf_heap.proofs.lemmas.words.Bytes.{payload_inside, rewritten, held_within}
 use Rattle.tlsf_heap.proofs.lemmas.words.Links.{linked_lists, marked_lists, Relists, holds_state}
 use Rattle.tlsf_heap.proofs.lemmas.words.KeptLinks.{relisted_bytes}
 use Rattle.tlsf_heap.proofs.lemmas.blocks.Stands.{behind_one}
-use Rattle.tlsf_heap.specs.Regions.{RegionState, image_of}
-use Rattle.tlsf_words.specs.Touched.{times}
 use Rattle.tlsf_heap.proofs.lemmas.words.Image.{room_here}
 use Rattle.tlsf_heap.proofs.lemmas.words.Footprint.{others_apart}
 use Rattle.tlsf_heap.proofs.region.Region.write.Given.{Over}

@@ -1,14 +1,10 @@
-use Rattle.std.proofs.Common.{◌+◌, [], ◌∷◌, ◌++◌, take, drop, ap, ◌∙◌, subst, arith, inl, inr}
-use Rattle.tlsf_heap.specs.GoodFit.{block_at}
-use Rattle.tlsf_heap.specs.Regions.{RegionState, image_of}
+use Rattle.tlsf_heap.proofs.Common.{◌+◌, [], ◌∷◌, ◌++◌, take, drop, ap, ◌∙◌, subst, arith, inl, inr, block_at, RegionState, image_of, times, InGroups, groups_of}
 use Rattle.tlsf_heap.proofs.lemmas.words.ClearPayload.{ClearsBehind, clears_length, zeroed_block, cleared_payload, relisted_payload}
 use Rattle.tlsf_heap.proofs.lemmas.words.Edit.{Leaves}
 use Rattle.tlsf_heap.proofs.lemmas.words.Links.{linked_lists, marked_lists, Relists, holds_state}
 use Rattle.tlsf_heap.proofs.lemmas.words.Says.{shows_state, says_here}
 use Rattle.tlsf_heap.proofs.lemmas.blocks.Stands.{behind_one}
-use Rattle.tlsf_words.specs.Touched.{times, InGroups}
 use Rattle.tlsf_heap.proofs.lemmas.words.Footprint.{others_apart}
-use Rattle.tlsf_heap.specs.Touched.{groups_of}
 use Rattle.tlsf_heap.proofs.lemmas.words.Groups.{one_row}
 use Rattle.tlsf_heap.proofs.region.Region.zero.Given.{Over}
 use Rattle.tlsf_heap.proofs.region.Region.zero.Goals as goal

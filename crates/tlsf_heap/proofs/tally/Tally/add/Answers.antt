@@ -1,5 +1,4 @@
-use Rattle.std.proofs.Common.{◌+◌, arith, sym, ap, ◌∙◌}
-use Rattle.tlsf_heap.specs.declared.tally.Tally.{Tally}
+use Rattle.tlsf_heap.proofs.Common.{◌+◌, arith, sym, ap, ◌∙◌, Tally}
 use Rattle.tlsf_heap.proofs.lemmas.words.Tallies.{stands, ends, small, next_live, next_free}
 use Rattle.tlsf_heap.proofs.tally.Tally.add.Goals as goal
 use Rattle.tlsf_heap.proofs.tally.Tally.add.Goals.{then-is_free, else-is_free}

@@ -1,6 +1,4 @@
-use Rattle.std.proofs.Common.{◌≡◌, ◌+◌, ap, arith}
-use Rattle.tlsf_heap.specs.Tallies.{tally_of}
-use Rattle.tlsf_heap.specs.declared.tally.Tally.{Tally}
+use Rattle.tlsf_heap.proofs.Common.{◌≡◌, ◌+◌, ap, arith, tally_of, Tally}
 use Rattle.tlsf_heap.proofs.lemmas.blocks.Sums.{counts_apart}
 use Rattle.tlsf_heap.proofs.lemmas.words.Tallies.{all_summed}
 use Rattle.tlsf_heap.proofs.tally.Tally.of.Given.{Over}

@@ -1,7 +1,4 @@
-use Rattle.std.proofs.Common.{◌≡◌, ◌+◌, ◌*◌, ◌-◌}
-use Rattle.tlsf_heap.specs.Footprint.{LeavesLive}
-use Rattle.tlsf_heap.specs.Regions.{OnlyReads}
-use Rattle.tlsf_heap.specs.Tallies.{IsTallyUpTo}
+use Rattle.tlsf_heap.proofs.Common.{◌≡◌, ◌+◌, ◌*◌, ◌-◌, LeavesLive, OnlyReads, IsTallyUpTo}
 use Rattle.tlsf_heap.proofs.tally.Tally.of.Given as goal
 
 -- the region is as it was but for its touches, none of a payload, and the sums are those over the blocks so far

@@ -1,6 +1,4 @@
-use Rattle.std.proofs.Common.{◌≡◌, drop, fold}
-use Rattle.tlsf_crew.specs.histories.History.{entries_of}
-use Rattle.tlsf_held.specs.Loans.{accounted, account_of}
+use Rattle.tlsf_held.proofs.Common.{◌≡◌, drop, fold, entries_of, accounted, account_of}
 use Rattle.tlsf_held.proofs.loans.Loans.of.Given as goal
 
 -- with what is left, the account so far is that of all

@@ -1,6 +1,4 @@
-use Rattle.std.proofs.Common.{◌≡◌, ◌≤◌, drop, fold}
-use Rattle.tlsf_crew.specs.histories.History.{entries_of}
-use Rattle.tlsf_held.specs.Tallies.{noted, tally_of}
+use Rattle.tlsf_held.proofs.Common.{◌≡◌, ◌≤◌, drop, fold, entries_of, noted, tally_of}
 use Rattle.tlsf_held.proofs.tally.Tally.of.Given as goal
 
 -- with what is left, the tally so far is that of all; and no more blocks are held than entries were noted

@@ -1,4 +1,4 @@
-use Rattle.tlsf_lines.specs.KeptEvents.{event_kept}
+use Rattle.tlsf_lines.proofs.Common.{event_kept}
 use Rattle.tlsf_lines.proofs.KeptSteps.{part_made}
 use Rattle.tlsf_lines.proofs.kept_events.KeptEvents.add_part.Goals as goal
 

@@ -1,5 +1,4 @@
-use Rattle.std.proofs.Common.{◌≡◌, ◌++◌, map, take}
-use Rattle.tlsf_lines.specs.KeptEvents.{event_kept}
+use Rattle.tlsf_lines.proofs.Common.{◌≡◌, ◌++◌, map, take, event_kept}
 use Rattle.tlsf_lines.proofs.kept_events.KeptEvents.add_part.Given as goal
 
 -- the events so far

@@ -1,4 +1,4 @@
-use Rattle.tlsf_lines.specs.Events.{events_in}
+use Rattle.tlsf_lines.proofs.Common.{events_in}
 use Rattle.tlsf_lines.proofs.KeptSteps.{one_more}
 use Rattle.tlsf_lines.proofs.kept_events.KeptEvents.push.Goals as goal
 

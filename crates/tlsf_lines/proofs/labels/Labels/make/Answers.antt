@@ -1,5 +1,4 @@
-use Rattle.std.proofs.Common.{refl}
-use Rattle.tlsf_lines.specs.LabelMemory.{Memory}
+use Rattle.tlsf_lines.proofs.Common.{refl, Memory}
 use Rattle.tlsf_lines.specs.declared.maker.Maker.{Maker}
 use Rattle.tlsf_lines.proofs.LabelSteps.{label_made, label_recalled}
 use Rattle.tlsf_lines.proofs.labels.Labels.make.Goals as goal

@@ -1,8 +1,4 @@
-use Rattle.std.proofs.Common.{◌≡◌, ◌<◌, ◌^◌, ℕ, List, [], Option, vec_len, ap, ◌∙◌, arith}
-use Rattle.std.proofs.lemmas.List.Elements.{All-push}
-use Rattle.tlsf_heap.specs.declared.name.Name.{Name}
-use Rattle.tlsf_lines.specs.ByLabel.{kept_of}
-use Rattle.tlsf_lines.specs.Phases.{calls_from, known_in, own_lines, script_in}
+use Rattle.tlsf_lines.proofs.Common.{◌≡◌, ◌<◌, ◌^◌, ℕ, List, [], Option, vec_len, ap, ◌∙◌, arith, All-push, Name, kept_of, calls_from, known_in, own_lines, script_in}
 use Rattle.tlsf_lines.proofs.WorkerByWorker.{one_more}
 use Rattle.tlsf_lines.proofs.phases.PhaseScripts.of.Goals as goal
 

@@ -1,6 +1,4 @@
-use Rattle.std.proofs.Common.{◌≡◌, ◌<◌, ◌^◌, All, map, vec_len}
-use Rattle.std.specs.List.{range_with_len}
-use Rattle.tlsf_lines.specs.Phases.{known_in, own_lines, scripts_in}
+use Rattle.tlsf_lines.proofs.Common.{◌≡◌, ◌<◌, ◌^◌, All, map, vec_len, range_with_len, known_in, own_lines, scripts_in}
 use Rattle.tlsf_lines.proofs.phases.PhaseScripts.of.Given as goal
 
 -- what the workers so far do

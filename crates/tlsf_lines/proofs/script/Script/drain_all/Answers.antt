@@ -1,7 +1,4 @@
-use Rattle.std.proofs.Common.{◌≡◌, ℕ, Option, None, ◌+◌, [], ◌∷◌, ◌++◌, refl, ap, ◌∙◌, arith, append_assoc}
-use Rattle.std.proofs.lemmas.List.{replicate_more}
-use Rattle.std.proofs.lemmas.List.FromFn.{map-range_with_len_more}
-use Rattle.tlsf_lines.specs.Events.{last_drain}
+use Rattle.tlsf_lines.proofs.Common.{◌≡◌, ℕ, Option, None, ◌+◌, [], ◌∷◌, ◌++◌, refl, ap, ◌∙◌, arith, append_assoc, replicate_more, map-range_with_len_more, last_drain}
 use Rattle.tlsf_lines.proofs.script.Script.drain_all.Goals as goal
 
 pub loop-worker-preserved : goal.loop-worker-preserved

@@ -1,5 +1,4 @@
-use Rattle.std.proofs.Common.{◌≡◌, ◌++◌, replicate, None}
-use Rattle.tlsf_lines.specs.Events.{last_drains}
+use Rattle.tlsf_lines.proofs.Common.{◌≡◌, ◌++◌, replicate, None, last_drains}
 use Rattle.tlsf_lines.proofs.script.Script.drain_all.Given as goal
 
 -- the drains so far, and a label for each

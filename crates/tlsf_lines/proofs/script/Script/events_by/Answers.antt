@@ -1,8 +1,4 @@
-use Rattle.std.proofs.Common.{◌≡◌, ℕ, ◌+◌, ◌-◌, ◌<◌, true, false, List, length, get_or, take, ap, ◌∙◌, arith}
-use Rattle.std.specs.Prelude.{nat_lt}
-use Rattle.std.proofs.lemmas.Bool.Decides.{nat_tests}
-use Rattle.tlsf_calls.specs.declared.event.Event.{Event}
-use Rattle.tlsf_lines.specs.Events.{width_in}
+use Rattle.tlsf_lines.proofs.Common.{◌≡◌, ℕ, ◌+◌, ◌-◌, ◌<◌, true, false, List, length, get_or, take, ap, ◌∙◌, arith, nat_lt, nat_tests, Event, width_in}
 use Rattle.tlsf_lines.proofs.ScriptSteps.{end_of, ends_count}
 use Rattle.tlsf_lines.proofs.script.Script.events_by.Goals as goal
 

@@ -1,5 +1,4 @@
-use Rattle.std.proofs.Common.{ap, arith, refl}
-use Rattle.tlsf_lines.specs.declared.header.Header.{Header}
+use Rattle.tlsf_lines.proofs.Common.{ap, arith, refl, Header}
 use Rattle.tlsf_lines.proofs.ScriptSteps.{add_holds, calls_few}
 use Rattle.tlsf_lines.proofs.script.ScriptFromLines.add.Goals as goal
 

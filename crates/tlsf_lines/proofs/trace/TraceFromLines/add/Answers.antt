@@ -1,5 +1,4 @@
-use Rattle.std.proofs.Common.{◌++◌, ◌∷◌, [], ap}
-use Rattle.tlsf_lines.specs.Trace.{Trace}
+use Rattle.tlsf_lines.proofs.Common.{◌++◌, ◌∷◌, [], ap, Trace}
 use Rattle.tlsf_lines.proofs.trace.TraceFromLines.add.Goals as goal
 
 pub returns : goal.returns

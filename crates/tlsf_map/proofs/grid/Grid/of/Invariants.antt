@@ -1,5 +1,4 @@
-use Rattle.std.proofs.Common.{◌-◌, ◌^◌}
-use Rattle.tlsf_map.specs.Layouts.{IsGrid}
+use Rattle.tlsf_map.proofs.Common.{◌-◌, ◌^◌, IsGrid}
 use Rattle.tlsf_map.proofs.grid.Grid.of.Given as goal
 
 abbrev pub invariant-loop-grid : goal.invariant-loop-grid

@@ -1,6 +1,4 @@
-use Rattle.std.proofs.Common.{rules, ◌≡◌, ℕ, suc, ◌-◌, drop, get_or, None, subst, refl, ◌∙◌, arith}
-use Rattle.std.specs.Prelude.{slice_index_or}
-use Rattle.tlsf_picture.specs.Labelled.{label_of, known_in}
+use Rattle.tlsf_picture.proofs.Common.{rules, ◌≡◌, ℕ, suc, ◌-◌, drop, get_or, None, subst, refl, ◌∙◌, arith, slice_index_or, label_of, known_in}
 use Rattle.tlsf_picture.proofs.Labels.{one_more}
 use Rattle.tlsf_picture.proofs.block_labels.BlockLabels.of.Goals as goal
 

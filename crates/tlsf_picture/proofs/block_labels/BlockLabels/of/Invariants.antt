@@ -1,5 +1,4 @@
-use Rattle.std.proofs.Common.{◌≡◌, ◌≤◌, length, drop}
-use Rattle.tlsf_picture.specs.Labelled.{label_of, known_in}
+use Rattle.tlsf_picture.proofs.Common.{◌≡◌, ◌≤◌, length, drop, label_of, known_in}
 use Rattle.tlsf_picture.proofs.block_labels.BlockLabels.of.Given as goal
 
 -- the labels of the events from here on are known

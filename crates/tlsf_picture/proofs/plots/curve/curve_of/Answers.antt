@@ -1,7 +1,4 @@
-use Rattle.std.proofs.Common.{◌≡◌, ℕ, take, ap, sym, ◌∙◌, arith}
-use Rattle.std.proofs.lemmas.List.{take_min}
-use Rattle.std.proofs.lemmas.List.FromFn.{map-range_with_len_more}
-use Rattle.tlsf_picture.specs.plots.Curves.{bucket, worst_of}
+use Rattle.tlsf_picture.proofs.Common.{◌≡◌, ℕ, take, ap, sym, ◌∙◌, arith, take_min, map-range_with_len_more, bucket, worst_of}
 use Rattle.tlsf_picture.proofs.plots.curve.curve_of.Goals as goal
 
 pub loop-number-preserved : goal.loop-number-preserved

@@ -1,6 +1,4 @@
-use Rattle.std.proofs.Common.{◌≡◌, map}
-use Rattle.std.specs.List.{range_with_len}
-use Rattle.tlsf_picture.specs.plots.Curves.{bucket, worst_of}
+use Rattle.tlsf_picture.proofs.Common.{◌≡◌, map, range_with_len, bucket, worst_of}
 use Rattle.tlsf_picture.proofs.plots.curve.curve_of.Given as goal
 
 -- those below this number are drawn

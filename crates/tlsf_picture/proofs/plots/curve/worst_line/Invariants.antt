@@ -1,4 +1,4 @@
-use Rattle.tlsf_picture.specs.plots.Standings.{IsLook}
+use Rattle.tlsf_picture.proofs.Common.{IsLook}
 use Rattle.tlsf_picture.proofs.plots.curve.worst_line.Given as goal
 
 -- the line to look at among the points so far

@@ -1,5 +1,4 @@
-use Rattle.std.proofs.Common.{◌≡◌, take}
-use Rattle.tlsf_picture.specs.plots.Curves.{worst_of}
+use Rattle.tlsf_picture.proofs.Common.{◌≡◌, take, worst_of}
 use Rattle.tlsf_picture.proofs.plots.curve.worst_of.Given as goal
 
 -- the worst of those so far

@@ -1,8 +1,4 @@
-use Rattle.std.proofs.Common.{◌≡◌, ◌+◌, List, length, refl, ap, ◌∙◌, arith}
-use Rattle.tlsf_lines.specs.declared.header.Header.{Header}
-use Rattle.tlsf_picture.specs.plots.Curves.{curve_of, span_for}
-use Rattle.tlsf_picture.specs.plots.Plots.{heap_points}
-use Rattle.tlsf_picture.specs.declared.plots.point.Point.{Point}
+use Rattle.tlsf_picture.proofs.Common.{◌≡◌, ◌+◌, List, length, refl, ap, ◌∙◌, arith, Header, curve_of, span_for, heap_points, Point}
 use Rattle.tlsf_picture.proofs.Charts.{look_is, many_points, points_are}
 use Rattle.tlsf_picture.proofs.Peaks.{peak_is}
 use Rattle.tlsf_picture.proofs.plots.plotting.chart_of.Goals as goal

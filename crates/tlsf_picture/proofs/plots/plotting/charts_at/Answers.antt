@@ -1,7 +1,5 @@
-use Rattle.std.proofs.Common.{◌+◌, List, sym, subst, arith}
-use Rattle.std.specs.List.{AllZip, range_with_len}
+use Rattle.tlsf_picture.proofs.Common.{◌+◌, List, sym, subst, arith, AllZip, range_with_len, IsChart}
 use Rattle.tlsf_picture.proofs.Charts.{one_more}
-use Rattle.tlsf_picture.specs.plots.Plots.{IsChart}
 use Rattle.tlsf_picture.specs.declared.plots.chart.Chart.{Chart}
 use Rattle.tlsf_picture.proofs.plots.plotting.charts_at.Goals as goal
 

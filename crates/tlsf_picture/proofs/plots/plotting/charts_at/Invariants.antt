@@ -1,10 +1,5 @@
-use Rattle.std.proofs.Common.{◌≡◌, vec_len}
-use Rattle.std.specs.List.{AllZip, range_with_len}
-use Rattle.tlsf_lines.specs.Trace.{Trace}
-use Rattle.tlsf_lines.specs.ScriptSoFar.{IsScript}
-use Rattle.tlsf_picture.specs.plots.Plots.{IsChart}
+use Rattle.tlsf_picture.proofs.Common.{◌≡◌, vec_len, AllZip, range_with_len, Trace, IsScript, IsChart, level_in}
 use Rattle.tlsf_picture.proofs.plots.plotting.charts_at.Given as goal
-use Rattle.tlsf_trace.specs.Output.{level_in}
 
 -- the heaps below this number have their charts
 abbrev pub invariant-loop-heap : goal.invariant-loop-heap

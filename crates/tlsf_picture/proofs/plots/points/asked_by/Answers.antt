@@ -1,6 +1,4 @@
-use Rattle.std.proofs.Common.{rules, ◌≡◌, suc, ◌-◌, None, ap, ◌∙◌, arith}
-use Rattle.std.specs.Prelude.{slice_index_or}
-use Rattle.tlsf_picture.specs.plots.Points.{words_asked}
+use Rattle.tlsf_picture.proofs.Common.{rules, ◌≡◌, suc, ◌-◌, None, ap, ◌∙◌, arith, slice_index_or, words_asked}
 use Rattle.tlsf_picture.proofs.Lines.{asked_is}
 use Rattle.tlsf_picture.proofs.plots.points.asked_by.Goals as goal
 

@@ -1,5 +1,4 @@
-use Rattle.std.proofs.Common.{◌≡◌, take}
-use Rattle.tlsf_picture.specs.plots.Points.{longest_among}
+use Rattle.tlsf_picture.proofs.Common.{◌≡◌, take, longest_among}
 use Rattle.tlsf_picture.proofs.plots.points.longest_among.Given as goal
 
 -- the longest of those so far

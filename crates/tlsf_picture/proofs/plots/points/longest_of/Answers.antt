@@ -1,7 +1,5 @@
-use Rattle.std.proofs.Common.{ℕ, List, Option, ap, ◌∙◌}
-use Rattle.std.specs.Prelude.{fold, max}
+use Rattle.tlsf_picture.proofs.Common.{ℕ, List, Option, ap, ◌∙◌, fold, max, bytes_asked, longest_among, request_of}
 use Rattle.tlsf_lines.specs.declared.request.Request.{Request}
-use Rattle.tlsf_picture.specs.plots.Points.{bytes_asked, longest_among, request_of}
 use Rattle.tlsf_picture.proofs.Lines.{of_lines}
 use Rattle.tlsf_picture.proofs.plots.points.longest_of.Goals as goal
 

@@ -1,8 +1,4 @@
-use Rattle.std.proofs.Common.{◌≡◌, length, drop, ap, ◌∙◌, arith}
-use Rattle.std.proofs.lemmas.List.{take_at}
-use Rattle.tlsf_crew.specs.lanes.Yard.{world_of}
-use Rattle.tlsf_crew.specs.model.World.{World, heap_in}
-use Rattle.tlsf_heap.specs.Reports.{report_of}
+use Rattle.tlsf_picture.proofs.Common.{◌≡◌, length, drop, ap, ◌∙◌, arith, take_at, world_of, World, heap_in, report_of}
 use Rattle.tlsf_picture.proofs.Lines.{point_is}
 use Rattle.tlsf_trace.proofs.Onward.{plays_on}
 use Rattle.tlsf_picture.proofs.plots.points.next_point.Goals as goal

@@ -1,9 +1,5 @@
-use Rattle.std.proofs.Common.{◌≡◌, ℕ, ◌+◌, ◌∷◌, ◌++◌, [], List, length, map, sym, ap, ◌∙◌, arith}
-use Rattle.std.specs.List.{range_with_len}
-use Rattle.std.proofs.lemmas.List.FromFn.{map-range_with_len_more}
+use Rattle.tlsf_picture.proofs.Common.{◌≡◌, ℕ, ◌+◌, ◌∷◌, ◌++◌, [], List, length, map, sym, ap, ◌∙◌, arith, range_with_len, map-range_with_len_more, point_at, Point}
 use Rattle.tlsf_lines.proofs.ScriptSteps.{ends_count}
-use Rattle.tlsf_picture.specs.plots.Points.{point_at}
-use Rattle.tlsf_picture.specs.declared.plots.point.Point.{Point}
 use Rattle.tlsf_picture.proofs.plots.points.points_of.Goals as goal
 
 pub loop-number-init : goal.loop-number-init

@@ -1,11 +1,5 @@
-use Rattle.std.proofs.Common.{◌≡◌, ◌<◌, map, vec_len}
-use Rattle.std.specs.List.{range_with_len}
-use Rattle.tlsf_crew.specs.lanes.Yard.{IsYard}
-use Rattle.tlsf_lines.specs.ScriptSoFar.{IsScript}
-use Rattle.tlsf_lines.specs.Trace.{Trace}
-use Rattle.tlsf_picture.specs.plots.Points.{point_at}
+use Rattle.tlsf_picture.proofs.Common.{◌≡◌, ◌<◌, map, vec_len, range_with_len, IsYard, IsScript, Trace, point_at, Stands}
 use Rattle.tlsf_picture.proofs.plots.points.points_of.Given as goal
-use Rattle.tlsf_trace.specs.Players.{Stands}
 
 -- the trace has run up to this line, and the points so far stand
 abbrev pub invariant-loop-number : goal.invariant-loop-number

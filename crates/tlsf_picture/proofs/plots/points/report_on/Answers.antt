@@ -1,7 +1,6 @@
-use Rattle.std.proofs.Common.{get_or, sym, ap, ◌∙◌}
+use Rattle.tlsf_picture.proofs.Common.{get_or, sym, ap, ◌∙◌, report_of}
 use Rattle.std.proofs.lemmas.Option.{slice_get-get_or}
 use Rattle.tlsf_crew.proofs.lemmas.lanes.LaneChanges.{heap_in_is}
-use Rattle.tlsf_heap.specs.Reports.{report_of}
 use Rattle.tlsf_picture.proofs.Yards.{same_yard}
 use Rattle.tlsf_picture.proofs.plots.points.report_on.Goals as goal
 

@@ -1,6 +1,4 @@
-use Rattle.std.proofs.Common.{take, string_bytes}
-use Rattle.tlsf_map.specs.Told.{Adds, all_told}
-use Rattle.tlsf_picture.specs.plots.Told.{chart_told}
+use Rattle.tlsf_picture.proofs.Common.{take, string_bytes, Adds, all_told, chart_told}
 use Rattle.tlsf_picture.proofs.plots.rows.write_charts.Given as goal
 
 -- the charts so far are told

@@ -1,6 +1,5 @@
-use Rattle.std.proofs.Common.{◌≡◌, get_or, rules}
+use Rattle.tlsf_picture.proofs.Common.{◌≡◌, get_or, rules, chart_told}
 use Rattle.tlsf_map.proofs.Telling.{adds_all, adds_next, adds_none}
-use Rattle.tlsf_picture.specs.plots.Told.{chart_told}
 use Rattle.tlsf_picture.proofs.plots.svg.write_charts.Goals as goal
 
 pub loop-number-init : goal.loop-number-init

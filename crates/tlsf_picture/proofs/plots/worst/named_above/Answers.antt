@@ -1,6 +1,4 @@
-use Rattle.std.proofs.Common.{ℕ, ◌+◌, length, subst}
-use Rattle.tlsf_picture.specs.plots.Plots.{heap_points}
-use Rattle.tlsf_picture.specs.plots.Standings.{IsLook}
+use Rattle.tlsf_picture.proofs.Common.{ℕ, ◌+◌, length, subst, heap_points, IsLook}
 use Rattle.tlsf_picture.proofs.Charts.{look_is, points_are}
 use Rattle.tlsf_picture.proofs.plots.worst.named_above.Goals as goal
 

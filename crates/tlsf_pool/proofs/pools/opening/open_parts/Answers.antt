@@ -1,5 +1,4 @@
-use Rattle.std.proofs.Common.{◌≡◌, ◌-◌, get_or, length, min, rules, ap, ◌∙◌}
-use Rattle.tlsf_pool.specs.sizes.Splits.{parts_of}
+use Rattle.tlsf_pool.proofs.Common.{◌≡◌, ◌-◌, get_or, length, min, rules, ap, ◌∙◌, parts_of}
 use Rattle.tlsf_pool.proofs.lemmas.pools.Opened.{behind_all, length_more, opened_step, part_rises, part_words}
 use Rattle.tlsf_pool.proofs.pools.opening.open_parts.Goals as goal
 

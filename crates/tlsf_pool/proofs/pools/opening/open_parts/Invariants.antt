@@ -1,5 +1,4 @@
-use Rattle.std.proofs.Common.{◌≡◌, ◌-◌, length}
-use Rattle.tlsf_pool.specs.sizes.Splits.{parts_of}
+use Rattle.tlsf_pool.proofs.Common.{◌≡◌, ◌-◌, length, parts_of}
 use Rattle.tlsf_pool.proofs.lemmas.pools.Opened.{OpenedSoFar}
 use Rattle.tlsf_pool.proofs.pools.opening.open_parts.Given as goal
 

@@ -1,6 +1,4 @@
-use Rattle.std.proofs.Common.{◌≡◌, ◌<◌, length, sym, ap, ◌∙◌, true, arith}
-use Rattle.std.specs.Prelude.{is_some}
-use Rattle.tlsf_pool.specs.pools.Tables.{TableRows, row_of}
+use Rattle.tlsf_pool.proofs.Common.{◌≡◌, ◌<◌, length, sym, ap, ◌∙◌, true, arith, is_some, TableRows, row_of}
 use Rattle.tlsf_pool.proofs.lemmas.pools.Heaps.{found_at, found_none, has_at}
 use Rattle.tlsf_pool.proofs.pools.pools.part_of.Goals as goal
 

@@ -1,7 +1,4 @@
-use Rattle.std.proofs.Common.{◌≡◌, ◌<◌, ◌≤◌, ℕ, false, get_or, length}
-use Rattle.std.specs.Prelude.{is_some}
-use Rattle.tlsf_pool.specs.pools.Parts.{no_part}
-use Rattle.tlsf_pool.specs.pools.Tables.{row_of}
+use Rattle.tlsf_pool.proofs.Common.{◌≡◌, ◌<◌, ◌≤◌, ℕ, false, get_or, length, is_some, no_part, row_of}
 use Rattle.tlsf_pool.proofs.pools.pools.part_of.Given as goal
 
 -- no part so far has a row that is long enough

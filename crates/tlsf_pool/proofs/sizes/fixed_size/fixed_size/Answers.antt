@@ -1,5 +1,4 @@
-use Rattle.std.proofs.Common.{arith}
-use Rattle.tlsf_pool.specs.laws.Kinds.{HasClass, used}
+use Rattle.tlsf_pool.proofs.Common.{arith, HasClass, used}
 use Rattle.tlsf_pool.proofs.lemmas.laws.Tables.{all_used}
 use Rattle.tlsf_pool.proofs.lemmas.sizes.Sizes.{longest_class}
 use Rattle.tlsf_pool.proofs.sizes.fixed_size.fixed_size.Goals as goal

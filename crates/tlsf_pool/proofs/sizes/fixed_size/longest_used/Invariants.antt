@@ -1,6 +1,4 @@
-use Rattle.std.proofs.Common.{◌≡◌, drop, fold, map, max}
-use Rattle.tlsf_pool.specs.laws.Kinds.{used}
-use Rattle.tlsf_pool.specs.laws.OneLarge.{longest_of}
+use Rattle.tlsf_pool.proofs.Common.{◌≡◌, drop, fold, map, max, used, longest_of}
 use Rattle.tlsf_pool.proofs.sizes.fixed_size.longest_used.Given as goal
 
 -- the longest so far, and those that are left

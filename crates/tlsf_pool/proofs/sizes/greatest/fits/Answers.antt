@@ -1,6 +1,4 @@
-use Rattle.std.proofs.Common.{◌≡◌, ◌∙◌, arith}
-use Rattle.std.proofs.lemmas.Bool.{le-leb, leb-true}
-use Rattle.tlsf_pool.specs.laws.MixedSizes.{mixed_words}
+use Rattle.tlsf_pool.proofs.Common.{◌≡◌, ◌∙◌, arith, le-leb, leb-true, mixed_words}
 use Rattle.tlsf_pool.proofs.lemmas.laws.PlannedCalls.{one_kind}
 use Rattle.tlsf_pool.proofs.lemmas.sizes.Sizes.{few_kinds}
 use Rattle.tlsf_pool.proofs.sizes.greatest.fits.Goals as goal

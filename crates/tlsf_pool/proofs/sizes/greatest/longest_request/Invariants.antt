@@ -1,6 +1,4 @@
-use Rattle.std.proofs.Common.{◌+◌, ◌*◌, ◌-◌, ◌<◌, ◌≤◌}
-use Rattle.tlsf_class.specs.Classes.{most_words}
-use Rattle.tlsf_pool.specs.laws.MixedSizes.{mixed_words}
+use Rattle.tlsf_pool.proofs.Common.{◌+◌, ◌*◌, ◌-◌, ◌<◌, ◌≤◌, most_words, mixed_words}
 use Rattle.tlsf_pool.proofs.sizes.greatest.longest_request.Given as goal
 
 abbrev pub invariant-loop-longest : goal.invariant-loop-longest

@@ -1,5 +1,4 @@
-use Rattle.std.proofs.Common.{◌≡◌, drop, fold, map, max}
-use Rattle.tlsf_pool.specs.laws.OneLarge.{longest_of}
+use Rattle.tlsf_pool.proofs.Common.{◌≡◌, drop, fold, map, max, longest_of}
 use Rattle.tlsf_pool.proofs.sizes.one_large.longest_of.Given as goal
 
 abbrev pub invariant-loop-kind : goal.invariant-loop-kind

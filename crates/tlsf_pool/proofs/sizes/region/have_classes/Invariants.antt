@@ -1,6 +1,4 @@
-use Rattle.std.proofs.Common.{◌↔◌, drop}
-use Rattle.std.specs.List.{AllByRecursion}
-use Rattle.tlsf_pool.specs.laws.Kinds.{HasClass}
+use Rattle.tlsf_pool.proofs.Common.{◌↔◌, drop, AllByRecursion, HasClass}
 use Rattle.tlsf_pool.proofs.sizes.region.have_classes.Given as goal
 
 -- all have one where those that are left have

@@ -1,8 +1,5 @@
-use Rattle.std.proofs.Common.{◌≡◌, ◌≤◌, arith, rules, ◌∙◌}
-use Rattle.tlsf_class.specs.Classes.{most_words}
+use Rattle.tlsf_pool.proofs.Common.{◌≡◌, ◌≤◌, arith, rules, ◌∙◌, most_words, want, mixed_words}
 use Rattle.tlsf_class.proofs.TwoLevels.{most_words_any}
-use Rattle.tlsf_heap.specs.Blocks.{want}
-use Rattle.tlsf_pool.specs.laws.MixedSizes.{mixed_words}
 use Rattle.tlsf_pool.proofs.lemmas.laws.PlannedCalls.{one_kind}
 use Rattle.tlsf_pool.proofs.lemmas.sizes.Sizes.{few_kinds, some_words}
 use Rattle.tlsf_pool.proofs.sizes.region.mixed_region.Goals as goal

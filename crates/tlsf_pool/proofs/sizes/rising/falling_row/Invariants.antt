@@ -1,5 +1,4 @@
-use Rattle.std.proofs.Common.{ℕ, ◌+◌, ◌<◌, ◌≤◌}
-use Rattle.tlsf_pool.specs.sizes.Rising.{len_at}
+use Rattle.tlsf_pool.proofs.Common.{ℕ, ◌+◌, ◌<◌, ◌≤◌, len_at}
 use Rattle.tlsf_pool.proofs.sizes.rising.falling_row.Given as goal
 
 -- the rows so far rise

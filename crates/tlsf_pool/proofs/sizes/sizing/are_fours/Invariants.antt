@@ -1,5 +1,4 @@
-use Rattle.std.proofs.Common.{◌≡◌, drop}
-use Rattle.tlsf_pool.specs.laws.Kinds.{are_fours}
+use Rattle.tlsf_pool.proofs.Common.{◌≡◌, drop, are_fours}
 use Rattle.tlsf_pool.proofs.sizes.sizing.are_fours.Given as goal
 
 -- all are short where those that are left are

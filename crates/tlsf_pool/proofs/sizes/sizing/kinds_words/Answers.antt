@@ -1,7 +1,4 @@
-use Rattle.std.proofs.Common.{arith, rules, fold, map, max, sym, ◌∙◌}
-use Rattle.std.proofs.lemmas.List.{at_drop_all}
-use Rattle.tlsf_pool.specs.laws.Kinds.{used, words_with}
-use Rattle.tlsf_pool.specs.declared.kind.Kind.{Kind}
+use Rattle.tlsf_pool.proofs.Common.{arith, rules, fold, map, max, sym, ◌∙◌, at_drop_all, used, words_with, Kind}
 use Rattle.tlsf_pool.proofs.lemmas.sizes.Sizes.{class_at, few_kinds, kinds_of_fours, kinds_of_more}
 use Rattle.tlsf_pool.proofs.sizes.sizing.kinds_words.Goals as goal
 

@@ -1,5 +1,4 @@
-use Rattle.std.proofs.Common.{◌≡◌, drop, fold, max, map}
-use Rattle.tlsf_pool.specs.laws.Kinds.{words_with, resized_words, used}
+use Rattle.tlsf_pool.proofs.Common.{◌≡◌, drop, fold, max, map, words_with, resized_words, used}
 use Rattle.tlsf_pool.proofs.sizes.sizing.kinds_words.Given as goal
 
 abbrev pub invariant-loop-kind : goal.invariant-loop-kind

@@ -1,7 +1,4 @@
-use Rattle.std.proofs.Common.{◌≡◌, arith, sym, ap, ◌∙◌}
-use Rattle.std.specs.Option.{option_map_or}
-use Rattle.tlsf_class.specs.Classes.{low}
-use Rattle.tlsf_pool.specs.laws.Room.{sure}
+use Rattle.tlsf_pool.proofs.Common.{◌≡◌, arith, sym, ap, ◌∙◌, option_map_or, low, sure}
 use Rattle.tlsf_pool.proofs.lemmas.laws.FreeRoom.{sure_enough}
 use Rattle.tlsf_pool.proofs.lemmas.sizes.Sizes.{sure_most}
 use Rattle.tlsf_pool.proofs.sizes.sizing.sure.Given.{Over}

@@ -1,8 +1,4 @@
-use Rattle.std.proofs.Common.{◌≡◌, ℕ, ◌+◌, ◌*◌, ◌≤◌, ◌<◌, ◌^◌, arith, get_or, ap, ap₂, ◌∙◌}
-use Rattle.std.proofs.lemmas.List.{at_drop_more}
-use Rattle.tlsf_heap.specs.Blocks.{want}
-use Rattle.tlsf_pool.specs.laws.Kinds.{count_in, table_words}
-use Rattle.tlsf_pool.specs.declared.kind.Kind.{Kind}
+use Rattle.tlsf_pool.proofs.Common.{◌≡◌, ℕ, ◌+◌, ◌*◌, ◌≤◌, ◌<◌, ◌^◌, arith, get_or, ap, ap₂, ◌∙◌, at_drop_more, want, count_in, table_words, Kind}
 use Rattle.tlsf_pool.proofs.lemmas.sizes.Sizes.{kind_limit, class_at, kind_small, few_kinds, more_words, words_small}
 use Rattle.tlsf_pool.proofs.sizes.sizing.totals_of.Given.{Over}
 use Rattle.tlsf_pool.proofs.sizes.sizing.totals_of.Goals as goal

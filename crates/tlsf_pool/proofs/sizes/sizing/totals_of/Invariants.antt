@@ -1,5 +1,4 @@
-use Rattle.std.proofs.Common.{◌≡◌, ◌+◌, ◌*◌, ◌≤◌, ◌^◌, drop}
-use Rattle.tlsf_pool.specs.laws.Kinds.{count_in, table_words}
+use Rattle.tlsf_pool.proofs.Common.{◌≡◌, ◌+◌, ◌*◌, ◌≤◌, ◌^◌, drop, count_in, table_words}
 use Rattle.tlsf_pool.proofs.lemmas.sizes.Sizes.{kind_limit}
 use Rattle.tlsf_pool.proofs.sizes.sizing.totals_of.Given as goal
 

@@ -1,5 +1,4 @@
-use Rattle.std.proofs.Common.{◌≡◌, ℕ, ◌+◌, ◌<◌, ◌≤◌, length, get_or, drop, None}
-use Rattle.tlsf_pool.specs.sizes.Cheapest.{AreSmall, IsBest}
+use Rattle.tlsf_pool.proofs.Common.{◌≡◌, ℕ, ◌+◌, ◌<◌, ◌≤◌, length, get_or, drop, None, AreSmall, IsBest}
 use Rattle.tlsf_pool.proofs.sizes.split.allow_one_more.Given as goal
 
 -- one heap more is allowed in front of a place, and not yet from there on

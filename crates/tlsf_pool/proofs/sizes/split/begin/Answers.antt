@@ -1,6 +1,5 @@
-use Rattle.std.proofs.Common.{◌≢◌, [], ◌∷◌, ◌∙◌, length, set, None, Some, refl, arith, get_or-set_other, get_or-set_same, length-set}
+use Rattle.tlsf_pool.proofs.Common.{◌≢◌, [], ◌∷◌, ◌∙◌, length, set, None, Some, refl, arith, get_or-set_other, get_or-set_same, length-set, Split}
 use Rattle.tlsf_pool.proofs.lemmas.sizes.Cuts.{row_begun}
-use Rattle.tlsf_pool.specs.declared.sizes.split.Split.{Split}
 use Rattle.tlsf_pool.proofs.sizes.split.begin.Goals as goal
 
 pub returns : goal.returns

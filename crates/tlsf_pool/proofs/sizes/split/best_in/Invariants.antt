@@ -1,5 +1,4 @@
-use Rattle.std.proofs.Common.{◌≡◌, ◌+◌, length}
-use Rattle.tlsf_pool.specs.sizes.Cheapest.{AreBest}
+use Rattle.tlsf_pool.proofs.Common.{◌≡◌, ◌+◌, length, AreBest}
 use Rattle.tlsf_pool.proofs.sizes.split.best_in.Given as goal
 
 -- so many heaps are allowed

@@ -1,5 +1,4 @@
-use Rattle.std.proofs.Common.{◌+◌}
-use Rattle.tlsf_pool.specs.sizes.Cheapest.{AreSmall, HasFirst, IsBestAmong}
+use Rattle.tlsf_pool.proofs.Common.{◌+◌, AreSmall, HasFirst, IsBestAmong}
 use Rattle.tlsf_pool.proofs.sizes.split.best_of.Given as goal
 
 -- the best of the splits whose first heap has at most so many kinds

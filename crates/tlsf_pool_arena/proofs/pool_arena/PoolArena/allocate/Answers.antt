@@ -1,7 +1,4 @@
-use Rattle.std.proofs.Common.{sym, ap, ◌∙◌, subst, arith}
-use Rattle.std.proofs.lemmas.Bool.{false≢true}
-use Rattle.tlsf_arena.specs.Arenas.{Holds}
-use Rattle.tlsf_pool_arena.specs.PoolArenas.{IsPoolArena, PoolArenaState, fixed_bytes}
+use Rattle.tlsf_pool_arena.proofs.Common.{sym, ap, ◌∙◌, subst, arith, false≢true, Holds, IsPoolArena, PoolArenaState, fixed_bytes}
 use Rattle.tlsf_pool_arena.proofs.Kept.{given, is_long, is_new, room, size_of_each, units_of_each, worn}
 use Rattle.tlsf_pool_arena.proofs.pool_arena.PoolArena.allocate.Goals as goal
 

@@ -1,8 +1,5 @@
-use Rattle.std.specs.Prelude.{◌↔◌, IfOk}
-use Rattle.std.proofs.Common.{◌≡◌, ℕ, ◌≤◌, Result, Ok, Err, IsOk, subst, arith}
-use Rattle.tlsf_heap.specs.Calls.{last_tick}
+use Rattle.tlsf_pool_arena.proofs.Common.{◌↔◌, IfOk, ◌≡◌, ℕ, ◌≤◌, Result, Ok, Err, IsOk, subst, arith, last_tick, PoolArenaState, fixed_bytes}
 use Rattle.tlsf_arena.specs.Loans.{units_of}
-use Rattle.tlsf_pool_arena.specs.PoolArenas.{PoolArenaState, fixed_bytes}
 use Rattle.tlsf_pool_arena.proofs.Kept.{is_long, refit, resize_ok, resize_worn, size_of_each}
 use Rattle.tlsf_pool_arena.proofs.pool_arena.PoolArena.resize.Goals as goal
 

@@ -1,5 +1,4 @@
-use Rattle.std.proofs.Common.{◌≡◌, length, ap, arith}
-use Rattle.tlsf_pool_arena.specs.Remotes.{RemoteState}
+use Rattle.tlsf_pool_arena.proofs.Common.{◌≡◌, length, ap, arith, RemoteState}
 use Rattle.tlsf_pool_arena.proofs.Idle.{none_lost}
 use Rattle.tlsf_pool_arena.proofs.Drained.{all_drained, none_drained, one_drained}
 use Rattle.tlsf_pool_arena.proofs.remote_arena.RemoteArena.drain.Goals as goal

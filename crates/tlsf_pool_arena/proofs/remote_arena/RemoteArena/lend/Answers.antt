@@ -1,8 +1,5 @@
-use Rattle.std.proofs.Common.{ℕ, ◌≡◌, ◌-◌, List, [], ◌∷◌, ◌++◌, take, Option, Some, length, length-set, refl, sym, ap, subst, ◌∙◌, arith}
+use Rattle.tlsf_pool_arena.proofs.Common.{ℕ, ◌≡◌, ◌-◌, List, [], ◌∷◌, ◌++◌, take, Option, Some, length, length-set, refl, sym, ap, subst, ◌∙◌, arith, Parcel, AreIdle, RemoteState, away_by}
 use Rattle.std.proofs.lemmas.Result.{err_from_is_err_and}
-use Rattle.tlsf_pool_arena.specs.declared.parcel.Parcel.{Parcel}
-use Rattle.tlsf_pool_arena.specs.Remotes.{AreIdle, RemoteState}
-use Rattle.tlsf_pool_arena.specs.returns.Ends.{away_by}
 use Rattle.tlsf_pool_arena.proofs.Idle.{as_many, full_err, full_is, is_there, kept_places, lent_from, lent_idle, lent_last, none_lost}
 use Rattle.tlsf_pool_arena.proofs.Lent.{lent}
 use Rattle.tlsf_pool_arena.proofs.remote_arena.RemoteArena.lend.Goals as goal

@@ -1,7 +1,4 @@
-use Rattle.std.proofs.Common.{◌-◌, List, Option, None, length, sym, ap, subst, ◌∙◌, arith}
-use Rattle.tlsf_pool_arena.specs.Remotes.{AreAway}
-use Rattle.tlsf_pool_arena.specs.declared.parcel.Parcel.{Parcel}
-use Rattle.tlsf_pool_arena.specs.returns.Ends.{away_by}
+use Rattle.tlsf_pool_arena.proofs.Common.{◌-◌, List, Option, None, length, sym, ap, subst, ◌∙◌, arith, AreAway, Parcel, away_by}
 use Rattle.tlsf_pool_arena.proofs.Idle.{all_idle, copies_long, kept_places, take_all}
 use Rattle.tlsf_pool_arena.proofs.Lent.{fresh}
 use Rattle.tlsf_pool_arena.proofs.remote_arena.RemoteArena.open.Goals as goal

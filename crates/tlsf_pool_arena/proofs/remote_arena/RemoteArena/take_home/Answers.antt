@@ -1,9 +1,4 @@
-use Rattle.std.proofs.Common.{◌≡◌, ◌+◌, ◌-◌, ℕ, List, [], ◌∷◌, ◌++◌, take, Option, Some, None, Err, ap, length, length-set, set, slice_get, subst, sym, ◌∙◌, arith}
-use Rattle.tlsf_heap.specs.Calls.{released}
-use Rattle.tlsf_arena.specs.declared.block.Block.{Block}
-use Rattle.tlsf_pool_arena.specs.returns.Ends.{away_by}
-use Rattle.tlsf_pool_arena.specs.Remotes.{RemoteState, idle_places}
-use Rattle.tlsf_pool_arena.specs.declared.parcel.Parcel.{Parcel}
+use Rattle.tlsf_pool_arena.proofs.Common.{◌≡◌, ◌+◌, ◌-◌, ℕ, List, [], ◌∷◌, ◌++◌, take, Option, Some, None, Err, ap, length, length-set, set, slice_get, subst, sym, ◌∙◌, arith, released, Block, away_by, RemoteState, idle_places, Parcel}
 use Rattle.tlsf_pool_arena.proofs.Idle.{as_many, home_idle, home_last, kept_places, none_lost}
 use Rattle.tlsf_arena.proofs.Worn.{worn_is_last}
 use Rattle.tlsf_pool_arena.proofs.Lent.{home}

@@ -1,5 +1,4 @@
-use Rattle.std.proofs.Common.{Some, refl, sym, ap, ◌∙◌}
-use Rattle.tlsf_arena.specs.declared.block.Block.{Block}
+use Rattle.tlsf_pool_arena.proofs.Common.{Some, refl, sym, ap, ◌∙◌, Block}
 use Rattle.tlsf_arena.proofs.SameBlock.{same_block}
 use Rattle.tlsf_pool_arena.proofs.Lent.{parcel_of}
 use Rattle.tlsf_pool_arena.proofs.remote_block.RemoteBlock.with_parts.Goals as goal

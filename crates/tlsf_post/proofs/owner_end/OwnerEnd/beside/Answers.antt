@@ -1,12 +1,6 @@
-use Rattle.std.proofs.Common.{◌≡◌, ℕ, List, [], ◌++◌, All, ap, sym, refl, ◌∙◌, subst, append-nil}
-use Rattle.std.proofs.lemmas.List.Elements.{All-weaker}
+use Rattle.tlsf_post.proofs.Common.{◌≡◌, ℕ, List, [], ◌++◌, All, ap, sym, refl, ◌∙◌, subst, append-nil, All-weaker, View, Post, number_of, gone_from, owner_of, most_of, below_but, IsMailbox, IsOfPass, posts_of, plan_for}
 use Rattle.crossbeam_queue.specs.Passes.{view}
-use Rattle.tlsf_post.specs.declared.view.View.{View}
-use Rattle.tlsf_post.specs.declared.post.Post.{Post}
-use Rattle.tlsf_post.specs.Mailboxes.{number_of, gone_from, owner_of, most_of, below_but, IsMailbox}
-use Rattle.tlsf_post.specs.Rounds.{IsOfPass}
 use Rattle.tlsf_post.proofs.RuleSteps.{of_plan}
-use Rattle.tlsf_post.specs.Rule.{posts_of, plan_for}
 use Rattle.tlsf_post.proofs.owner_end.OwnerEnd.beside.Goals as goal
 
 pub come_back-requires-clause-posters : goal.come_back-requires-clause-posters

@@ -1,7 +1,5 @@
-use Rattle.std.proofs.Common.{◌≤◌, sym, subst}
+use Rattle.tlsf_post.proofs.Common.{◌≤◌, sym, subst, View, Shows}
 use Rattle.crossbeam_queue.specs.Passes.{ruled_capacity}
-use Rattle.tlsf_post.specs.declared.view.View.{View}
-use Rattle.tlsf_post.specs.Rule.{Shows}
 use Rattle.tlsf_post.proofs.RuleSteps.{learns}
 use Rattle.tlsf_post.proofs.Waited.{laid_still, owner_saw}
 use Rattle.tlsf_post.proofs.owner_end.OwnerEnd.count.Goals as goal

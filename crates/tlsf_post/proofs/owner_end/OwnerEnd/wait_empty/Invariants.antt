@@ -1,5 +1,4 @@
-use Rattle.std.proofs.Common.{◌≡◌}
-use Rattle.tlsf_post.specs.Mailboxes.{KeepsOwner, got_by, owner_extent}
+use Rattle.tlsf_post.proofs.Common.{◌≡◌, KeepsOwner, got_by, owner_extent}
 use Rattle.tlsf_post.proofs.owner_end.OwnerEnd.wait_empty.Given as goal
 
 abbrev pub invariant-loop : goal.invariant-loop

@@ -1,6 +1,4 @@
-use Rattle.std.proofs.Common.{ℕ, ◌+◌, length, ap, sym, ◌∙◌, arith}
-use Rattle.tlsf_crew.specs.model.World.{Replayed}
-use Rattle.tlsf_trace.specs.Output.{output_at}
+use Rattle.tlsf_trace.proofs.Common.{ℕ, ◌+◌, length, ap, sym, ◌∙◌, arith, Replayed, output_at}
 use Rattle.tlsf_trace.proofs.Onward.{ends}
 use Rattle.tlsf_trace.proofs.WholeOutput.{heaps_in}
 use Rattle.tlsf_trace.proofs.output.ReplayPlays.output.Goals as goal

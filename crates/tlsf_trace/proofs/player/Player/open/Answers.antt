@@ -1,9 +1,5 @@
-use Rattle.std.proofs.Common.{◌≡◌, ℕ, length, sym, ap, ◌∙◌, arith}
-use Rattle.std.proofs.lemmas.List.FromFn.{length-map-range_with_len}
-use Rattle.tlsf_crew.specs.model.World.{Replayed, World}
+use Rattle.tlsf_trace.proofs.Common.{◌≡◌, ℕ, length, sym, ap, ◌∙◌, arith, length-map-range_with_len, Replayed, World, opened, yard_of}
 use Rattle.tlsf_crew.proofs.lemmas.lanes.LaneChanges.{heaps_count}
-use Rattle.tlsf_heap.specs.Calls.{opened}
-use Rattle.tlsf_trace.specs.Output.{yard_of}
 use Rattle.tlsf_trace.proofs.Onward.{begins, none_ran}
 use Rattle.tlsf_trace.proofs.player.Player.open.Goals as goal
 

@@ -1,11 +1,5 @@
-use Rattle.std.proofs.Common.{◌≡◌, ◌-◌, ◌++◌, List, length, take, drop, max, min, sym, ap, ◌∙◌, arith}
-use Rattle.std.proofs.lemmas.List.{take_at}
-use Rattle.tlsf_calls.specs.declared.entry.Entry.{Entry}
+use Rattle.tlsf_trace.proofs.Common.{◌≡◌, ◌-◌, ◌++◌, List, length, take, drop, max, min, sym, ap, ◌∙◌, arith, take_at, Entry, world_of, Replayed, events_by, events_of, moment_at}
 use Rattle.tlsf_calls.specs.declared.event.Event.{Event}
-use Rattle.tlsf_crew.specs.lanes.Yard.{world_of}
-use Rattle.tlsf_crew.specs.model.World.{Replayed}
-use Rattle.tlsf_lines.specs.Events.{events_by, events_of}
-use Rattle.tlsf_trace.specs.Moments.{moment_at}
 use Rattle.tlsf_trace.proofs.Onward.{ran_to, run_to}
 use Rattle.tlsf_trace.proofs.player.Player.step_to.Goals as goal
 

@@ -1,5 +1,4 @@
-use Rattle.std.proofs.Common.{arith, sym, ◌∙◌}
-use Rattle.std.proofs.lemmas.Grind.{common_steps}
+use Rattle.tlsf_words.proofs.Common.{arith, sym, ◌∙◌, common_steps}
 use Rattle.tlsf_words.proofs.Bytes.{byte_in-part}
 use Rattle.tlsf_words.proofs.cells.Cells.read_bytes.Goals as goal
 

@@ -1,5 +1,4 @@
-use Rattle.std.proofs.Common.{arith, ◌∙◌}
-use Rattle.std.proofs.lemmas.Grind.{common_steps}
+use Rattle.tlsf_words.proofs.Common.{arith, ◌∙◌, common_steps}
 use Rattle.tlsf_words.proofs.Bytes.{byte_in-part}
 use Rattle.tlsf_words.proofs.cells.Cells.write_bytes.Goals as goal
 

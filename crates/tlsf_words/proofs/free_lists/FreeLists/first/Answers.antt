@@ -1,6 +1,4 @@
-use Rattle.std.proofs.Common.{◌≡◌, ◌≢◌, ℕ, List, [], ◌∷◌, Some, sym, ap, ◌∙◌, get_or}
-use Rattle.std.specs.List.{slice_get}
-use Rattle.tlsf_words.specs.Lists.{ListHeads, nowhere, list_of, first_of}
+use Rattle.tlsf_words.proofs.Common.{◌≡◌, ◌≢◌, ℕ, List, [], ◌∷◌, Some, sym, ap, ◌∙◌, get_or, slice_get, ListHeads, nowhere, list_of, first_of}
 use Rattle.tlsf_words.proofs.Threads.{head-list_of, list_of-nowhere}
 use Rattle.tlsf_words.proofs.free_lists.FreeLists.first.Goals as goal
 use Rattle.tlsf_words.proofs.free_lists.FreeLists.first.Goals.{then-at, else-at}

@@ -1,10 +1,4 @@
-use Rattle.std.proofs.Common.{◌≡◌, ◌<◌, ◌+◌, ◌∷◌, ℕ, List, length, get_or, refl, ap, ◌∙◌, sym, subst, arith}
-use Rattle.std.specs.List.{Contains}
-use Rattle.tlsf_class.specs.Members.{without_member}
-use Rattle.tlsf_words.specs.Lists.{ListHeads, nowhere, list_of}
-use Rattle.tlsf_words.specs.Fields.{high_half}
-use Rattle.tlsf_words.specs.Ties.{AreTied}
-use Rattle.tlsf_words.specs.Touched.{times}
+use Rattle.tlsf_words.proofs.Common.{◌≡◌, ◌<◌, ◌+◌, ◌∷◌, ℕ, List, length, get_or, refl, ap, ◌∙◌, sym, subst, arith, Contains, without_member, ListHeads, nowhere, list_of, high_half, AreTied, times}
 use Rattle.tlsf_words.proofs.Touching.{times_other, one_touch, one_word, groups_then}
 use Rattle.tlsf_words.proofs.Threads.{listed_within}
 use Rattle.tlsf_words.proofs.Remove.{RemoveWrites, next_within, next_listed, head_member, head_previous, head_then_left, remove-threaded, remove-list, remove-others, remove-words}

@@ -1,11 +1,4 @@
-use Rattle.std.proofs.Common.{◌≡◌, ◌+◌, ◌∷◌, ℕ, List, length, get_or, set, refl, sym, ap, ◌∙◌, subst, arith}
-use Rattle.std.proofs.lemmas.List.{length-set}
-use Rattle.tlsf_class.specs.Members.{with_member}
-use Rattle.tlsf_words.specs.Fields.{links_word}
-use Rattle.tlsf_words.specs.Lists.{ListHeads, nowhere}
-use Rattle.tlsf_words.specs.Lists.{list_of}
-use Rattle.tlsf_words.specs.Touched.{times}
-use Rattle.std.specs.List.{Contains}
+use Rattle.tlsf_words.proofs.Common.{◌≡◌, ◌+◌, ◌∷◌, ℕ, List, length, get_or, set, refl, sym, ap, ◌∙◌, subst, arith, length-set, with_member, links_word, ListHeads, nowhere, list_of, times, Contains}
 use Rattle.tlsf_words.proofs.Threads.{head_listed}
 use Rattle.tlsf_words.proofs.Touching.{times_other, one_touch, two_words, more_groups}
 use Rattle.tlsf_words.proofs.Push.{IsAtHead, IsAtHead-alone, IsAtHead-more, class_in_use, next_within, next_apart, PushWrites, push-threaded, push-list, push-others, push-words}

@@ -1,5 +1,4 @@
-use Rattle.std.proofs.Common.{◌≡◌, ap, ◌∙◌, arith}
-use Rattle.tlsf_class.specs.Classes.{class_of}
+use Rattle.tlsf_words.proofs.Common.{◌≡◌, ap, ◌∙◌, arith, class_of}
 use Rattle.tlsf_class.proofs.Lows.{low-first, low-most, low-rises_or_same}
 use Rattle.tlsf_class.proofs.ClassOfSize.{class_of-low}
 use Rattle.tlsf_words.proofs.free_lists.FreeLists.remove.Goals as goal

@@ -1,10 +1,6 @@
-use Rattle.std.proofs.Common.{◌<◌, ◌+◌, ℕ, List, length, refl, sym, ap, ◌∙◌, subst, arith}
-use Rattle.tlsf_class.specs.Classes.{class_of}
-use Rattle.tlsf_words.specs.Lists.{nowhere}
-use Rattle.tlsf_words.specs.Ties.{AreTied}
+use Rattle.tlsf_words.proofs.Common.{◌<◌, ◌+◌, ℕ, List, length, refl, sym, ap, ◌∙◌, subst, arith, class_of, nowhere, AreTied, times}
 use Rattle.tlsf_words.proofs.Threads.{listed_within}
 use Rattle.tlsf_words.proofs.Touching.{times_other, one_touch, one_word, two_words, groups_then, more_groups}
-use Rattle.tlsf_words.specs.Touched.{times}
 use Rattle.tlsf_words.proofs.Remove.{RemoveWrites, next_within, previous_within, next_listed, previous_listed, neighbours_apart, remove-threaded, remove-list, remove-others, remove-words}
 use Rattle.tlsf_words.proofs.free_lists.FreeLists.unlink.Given.{Over}
 use Rattle.tlsf_words.proofs.free_lists.FreeLists.unlink.Goals as goal

@@ -1,5 +1,4 @@
-use Rattle.std.proofs.Common.{◌≡◌, ℕ, ◌+◌, ◌<◌, ◌≤◌}
-use Rattle.tlsf_words.specs.Touched.{times}
+use Rattle.tlsf_words.proofs.Common.{◌≡◌, ℕ, ◌+◌, ◌<◌, ◌≤◌, times}
 use Rattle.tlsf_words.proofs.places.Places.add_all.Given as goal
 
 abbrev pub invariant-loop-i : goal.invariant-loop-i

@@ -1,5 +1,4 @@
-use Rattle.std.proofs.Common.{◌-◌, false, ap, ◌∙◌}
-use Rattle.tlsf_words.specs.Fields.{size_in, last_in, back_in}
+use Rattle.tlsf_words.proofs.Common.{◌-◌, false, ap, ◌∙◌, size_in, last_in, back_in}
 use Rattle.tlsf_words.proofs.TagSums.{Says, says_granted, free_least}
 use Rattle.tlsf_words.proofs.tag.Tag.granted.Goals as goal
 

@@ -1,5 +1,4 @@
-use Rattle.std.proofs.Common.{◌≡◌, ◌∙◌, ap}
-use Rattle.tlsf_words.specs.Fields.{tag_word, size_in, free_in, last_in, back_in}
+use Rattle.tlsf_words.proofs.Common.{◌≡◌, ◌∙◌, ap, tag_word, size_in, free_in, last_in, back_in}
 use Rattle.tlsf_words.proofs.FieldLaws.{size_in-tag_word, last_in-tag_word, free_in-tag_word, back_in-tag_word}
 use Rattle.tlsf_words.proofs.tag.Tag.new.Goals as goal
 

@@ -1,5 +1,4 @@
-use Rattle.std.proofs.Common.{◌-◌, ap, ◌∙◌, arith}
-use Rattle.tlsf_words.specs.Fields.{size_in, free_in, last_in}
+use Rattle.tlsf_words.proofs.Common.{◌-◌, ap, ◌∙◌, arith, size_in, free_in, last_in}
 use Rattle.tlsf_words.proofs.TagSums.{Says, says_rest, rest_fits}
 use Rattle.tlsf_words.proofs.tag.Tag.rest.Goals as goal
 

@@ -1,5 +1,4 @@
-use Rattle.std.proofs.Common.{◌+◌, true, ap, ◌∙◌, arith}
-use Rattle.tlsf_words.specs.Fields.{size_in, last_in, back_in}
+use Rattle.tlsf_words.proofs.Common.{◌+◌, true, ap, ◌∙◌, arith, size_in, last_in, back_in}
 use Rattle.tlsf_words.proofs.TagSums.{Says, says_next, next_fits}
 use Rattle.tlsf_words.proofs.tag.Tag.with_next.Goals as goal
 

@@ -1,5 +1,4 @@
-use Rattle.std.proofs.Common.{◌-◌, false, ap, sym, ◌∙◌, arith}
-use Rattle.tlsf_words.specs.Fields.{size_in, back_in}
+use Rattle.tlsf_words.proofs.Common.{◌-◌, false, ap, sym, ◌∙◌, arith, size_in, back_in}
 use Rattle.tlsf_words.proofs.TagSums.{Says, says_without, without_fits}
 use Rattle.tlsf_words.proofs.tag.Tag.without.Goals as goal
 

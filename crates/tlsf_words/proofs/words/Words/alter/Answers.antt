@@ -1,5 +1,4 @@
-use Rattle.std.proofs.Common.{◌≡◌, ℕ, List, length, get_or, ap, ◌∙◌, arith}
-use Rattle.tlsf_words.specs.Memory.{Memory}
+use Rattle.tlsf_words.proofs.Common.{◌≡◌, ℕ, List, length, get_or, ap, ◌∙◌, arith, Memory}
 use Rattle.tlsf_words.proofs.Altered.{altered_before, altered_behind}
 use Rattle.tlsf_words.proofs.words.Words.alter.Goals as goal
 

@@ -1,8 +1,4 @@
-use Rattle.std.proofs.Common.{◌≡◌, ◌+◌, ◌-◌, ◌*◌, ◌/◌, ◌%◌, get_or, length, length-take, w64, ap, sym, ◌∙◌, inl, inr, arith}
-use Rattle.std.specs.Int.{to_le_bytes}
-use Rattle.std.proofs.lemmas.Bool.{cases_lt}
-use Rattle.std.proofs.lemmas.List.{get_or-take}
-use Rattle.tlsf_words.specs.Bytes.{byte_in}
+use Rattle.tlsf_words.proofs.Common.{◌≡◌, ◌+◌, ◌-◌, ◌*◌, ◌/◌, ◌%◌, get_or, length, length-take, w64, ap, sym, ◌∙◌, inl, inr, arith, to_le_bytes, cases_lt, get_or-take, byte_in}
 use Rattle.tlsf_words.proofs.Bytes.{byte_in-word, bytes_in-same}
 use Rattle.tlsf_words.proofs.words.Words.copy_payload.Goals as goal
 

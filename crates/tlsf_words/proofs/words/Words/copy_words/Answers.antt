@@ -1,5 +1,4 @@
-use Rattle.std.proofs.Common.{◌≡◌, ℕ, ◌+◌, ◌/◌, List, get_or, ap, ◌∙◌, arith}
-use Rattle.tlsf_words.specs.Memory.{Memory}
+use Rattle.tlsf_words.proofs.Common.{◌≡◌, ℕ, ◌+◌, ◌/◌, List, get_or, ap, ◌∙◌, arith, Memory}
 use Rattle.tlsf_words.proofs.Bytes.{byte_in-moved, byte_in-same}
 use Rattle.tlsf_words.proofs.words.Words.copy_words.Goals as goal
 

@@ -1,6 +1,4 @@
-use Rattle.std.proofs.Common.{◌≡◌, ◌+◌, ◌*◌, ◌/◌, ◌%◌, length, ap, ◌∙◌, arith, length-take-le}
-use Rattle.std.proofs.lemmas.Grind.{common_steps}
-use Rattle.tlsf_words.specs.Bytes.{byte_in}
+use Rattle.tlsf_words.proofs.Common.{◌≡◌, ◌+◌, ◌*◌, ◌/◌, ◌%◌, length, ap, ◌∙◌, arith, length-take-le, common_steps, byte_in}
 use Rattle.tlsf_words.proofs.Bytes.{bytes_in_parts}
 use Rattle.tlsf_words.proofs.words.Words.read_few.Goals as goal
 

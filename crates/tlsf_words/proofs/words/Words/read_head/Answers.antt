@@ -1,6 +1,4 @@
-use Rattle.std.proofs.Common.{◌+◌, ◌-◌, ◌*◌, get_or, w64, length, ap, sym, ◌∙◌, arith}
-use Rattle.std.specs.Int.{to_le_bytes}
-use Rattle.std.proofs.lemmas.List.{get_or-take, get_or-drop, get_or_append_left}
+use Rattle.tlsf_words.proofs.Common.{◌+◌, ◌-◌, ◌*◌, get_or, w64, length, ap, sym, ◌∙◌, arith, to_le_bytes, get_or-take, get_or-drop, get_or_append_left}
 use Rattle.tlsf_words.proofs.Bytes.{byte_in-word}
 use Rattle.tlsf_words.proofs.words.Words.read_head.Goals as goal
 

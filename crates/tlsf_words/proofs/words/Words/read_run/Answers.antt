@@ -1,7 +1,4 @@
-use Rattle.std.proofs.Common.{◌≡◌, ◌+◌, ◌-◌, ◌*◌, ◌/◌, ◌%◌, ◌++◌, get_or, take, drop, length, refl, ap, sym, ◌∙◌, inl, inr, arith}
-use Rattle.std.proofs.lemmas.Bool.{cases_lt}
-use Rattle.std.proofs.lemmas.List.Edits.{length-between}
-use Rattle.tlsf_words.specs.Bytes.{byte_in}
+use Rattle.tlsf_words.proofs.Common.{◌≡◌, ◌+◌, ◌-◌, ◌*◌, ◌/◌, ◌%◌, ◌++◌, get_or, take, drop, length, refl, ap, sym, ◌∙◌, inl, inr, arith, cases_lt, length-between, byte_in}
 use Rattle.tlsf_words.proofs.Bytes.{bytes_in_is, with_piece, with_piece_is, length-with_piece, get_or-with_piece_before, get_or-with_piece_in, get_or-with_piece_behind}
 use Rattle.tlsf_words.proofs.words.Words.read_run.Goals as goal
 

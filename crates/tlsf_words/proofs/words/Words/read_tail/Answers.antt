@@ -1,9 +1,4 @@
-use Rattle.std.proofs.Common.{◌≡◌, ℕ, ◌+◌, ◌-◌, ◌*◌, ◌<◌, ◌≤◌, List, ◌++◌, get_or, take, drop, w64, length, refl, ap, sym, ◌∙◌, inl, inr, arith, length-take-le}
-use Rattle.std.specs.Int.{to_le_bytes}
-use Rattle.std.specs.List.{between}
-use Rattle.std.proofs.lemmas.Bool.{cases_lt}
-use Rattle.std.proofs.lemmas.List.{get_or-take, get_or_append_left, get_or-append_right}
-use Rattle.std.proofs.lemmas.List.Edits.{get_or-between}
+use Rattle.tlsf_words.proofs.Common.{◌≡◌, ℕ, ◌+◌, ◌-◌, ◌*◌, ◌<◌, ◌≤◌, List, ◌++◌, get_or, take, drop, w64, length, refl, ap, sym, ◌∙◌, inl, inr, arith, length-take-le, to_le_bytes, between, cases_lt, get_or-take, get_or_append_left, get_or-append_right, get_or-between}
 use Rattle.tlsf_words.proofs.Bytes.{byte_in-word, with_piece, with_piece_is, get_or-with_piece_before, get_or-with_piece_in}
 use Rattle.tlsf_words.proofs.words.Words.read_tail.Goals as goal
 

@@ -1,8 +1,4 @@
-use Rattle.std.proofs.Common.{◌≡◌, ◌+◌, ◌-◌, ◌*◌, ◌/◌, ◌%◌, length, get_or, ap, sym, refl, ◌∙◌, inl, inr, arith, length-take-le}
-use Rattle.std.proofs.lemmas.Bool.{cases_lt}
-use Rattle.std.proofs.lemmas.List.{get_or-take}
-use Rattle.std.proofs.lemmas.List.Edits.{length-between, get_or-between}
-use Rattle.tlsf_words.specs.Bytes.{byte_in}
+use Rattle.tlsf_words.proofs.Common.{◌≡◌, ◌+◌, ◌-◌, ◌*◌, ◌/◌, ◌%◌, length, get_or, ap, sym, refl, ◌∙◌, inl, inr, arith, length-take-le, cases_lt, get_or-take, length-between, get_or-between, byte_in}
 use Rattle.tlsf_words.proofs.Bytes.{bytes_in_is}
 use Rattle.tlsf_words.proofs.words.Words.write_few.Goals as goal
 

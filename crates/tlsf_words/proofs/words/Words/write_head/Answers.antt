@@ -1,7 +1,4 @@
-use Rattle.std.proofs.Common.{◌≡◌, ℕ, ◌+◌, ◌-◌, ◌*◌, List, ◌++◌, take, w64, get_or, set, length, ap, ◌∙◌, arith, length-take-le}
-use Rattle.std.specs.Int.{to_le_bytes}
-use Rattle.std.proofs.lemmas.List.{get_or-take}
-use Rattle.tlsf_words.specs.Bytes.{byte_in}
+use Rattle.tlsf_words.proofs.Common.{◌≡◌, ℕ, ◌+◌, ◌-◌, ◌*◌, List, ◌++◌, take, w64, get_or, set, length, ap, ◌∙◌, arith, length-take-le, to_le_bytes, get_or-take, byte_in}
 use Rattle.tlsf_words.proofs.Bytes.{with_piece_at_end, HasPiece, byte_in-piece, byte_in-before_piece, byte_in-behind_piece}
 use Rattle.tlsf_words.proofs.words.Words.write_head.Goals as goal
 

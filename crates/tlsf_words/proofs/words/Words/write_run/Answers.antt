@@ -1,7 +1,4 @@
-use Rattle.std.proofs.Common.{◌≡◌, ◌+◌, ◌-◌, ◌*◌, ◌/◌, ◌%◌, length, get_or, ap, sym, refl, ◌∙◌, inl, inr, arith}
-use Rattle.std.proofs.lemmas.Bool.{cases_lt}
-use Rattle.std.proofs.lemmas.List.Edits.{get_or-between}
-use Rattle.tlsf_words.specs.Bytes.{byte_in}
+use Rattle.tlsf_words.proofs.Common.{◌≡◌, ◌+◌, ◌-◌, ◌*◌, ◌/◌, ◌%◌, length, get_or, ap, sym, refl, ◌∙◌, inl, inr, arith, cases_lt, get_or-between, byte_in}
 use Rattle.tlsf_words.proofs.Bytes.{bytes_in_is}
 use Rattle.tlsf_words.proofs.words.Words.write_run.Goals as goal
 

@@ -1,8 +1,4 @@
-use Rattle.std.proofs.Common.{◌≡◌, ℕ, ◌+◌, ◌-◌, ◌*◌, ◌<◌, List, ◌++◌, take, drop, w64, get_or, set, length, ap, sym, ◌∙◌, arith, length-take-le}
-use Rattle.std.specs.Int.{to_le_bytes}
-use Rattle.std.proofs.lemmas.List.{get_or-take, get_or-drop}
-use Rattle.std.proofs.lemmas.List.Edits.{get_or-between}
-use Rattle.tlsf_words.specs.Bytes.{byte_in}
+use Rattle.tlsf_words.proofs.Common.{◌≡◌, ℕ, ◌+◌, ◌-◌, ◌*◌, ◌<◌, List, ◌++◌, take, drop, w64, get_or, set, length, ap, sym, ◌∙◌, arith, length-take-le, to_le_bytes, get_or-take, get_or-drop, get_or-between, byte_in}
 use Rattle.tlsf_words.proofs.Bytes.{HasPiece, byte_in-piece, byte_in-before_piece, byte_in-behind_piece}
 use Rattle.tlsf_words.proofs.words.Words.write_tail.Goals as goal
 

@@ -1,6 +1,4 @@
-use Rattle.std.proofs.Common.{◌≡◌, ℕ, ◌+◌, ◌-◌, ◌*◌, ◌/◌, ◌%◌, ◌<◌, take, drop, replicate, length, get_or, ap, sym, ◌∙◌, arith, length-take, length-drop}
-use Rattle.std.proofs.lemmas.List.{get_or-take, get_or-drop, get_or-replicate, length-replicate}
-use Rattle.tlsf_words.specs.Bytes.{byte_in}
+use Rattle.tlsf_words.proofs.Common.{◌≡◌, ℕ, ◌+◌, ◌-◌, ◌*◌, ◌/◌, ◌%◌, ◌<◌, take, drop, replicate, length, get_or, ap, sym, ◌∙◌, arith, length-take, length-drop, get_or-take, get_or-drop, get_or-replicate, length-replicate, byte_in}
 use Rattle.tlsf_words.proofs.words.Words.zero_rest.Goals as goal
 
 -- the rest of eight zeros

@@ -1,6 +1,4 @@
-use Rattle.std.proofs.Common.{◌∙◌, arith, refl, subst, length-take}
-use Rattle.std.proofs.lemmas.List.{take_all}
-use Rattle.tlsf_crew.specs.scripts.Scripts.{ScriptRun, stage_of}
+use Rattle.tlsf_crew.proofs.Common.{◌∙◌, arith, refl, subst, length-take, take_all, ScriptRun, stage_of}
 use Rattle.tlsf_crew.proofs.lemmas.scripts.ScriptRuns.{script_knows, script_next, script_none, script_room}
 use Rattle.tlsf_crew.proofs.jobs.job.JobWork.run.Goals as goal
 

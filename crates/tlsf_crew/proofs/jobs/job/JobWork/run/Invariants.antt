@@ -1,5 +1,4 @@
-use Rattle.std.proofs.Common.{◌≡◌, ℕ, take, vec_capacity}
-use Rattle.tlsf_crew.specs.scripts.Scripts.{ScriptRun, stage_of}
+use Rattle.tlsf_crew.proofs.Common.{◌≡◌, ℕ, take, vec_capacity, ScriptRun, stage_of}
 use Rattle.tlsf_crew.proofs.jobs.job.JobWork.run.Given as goal
 
 abbrev pub invariant-loop-call : goal.invariant-loop-call

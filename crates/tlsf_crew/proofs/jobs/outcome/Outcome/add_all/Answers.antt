@@ -1,6 +1,4 @@
-use Rattle.std.proofs.Common.{◌≡◌, ◌∷◌, [], ◌++◌, List, map, ap, sym, ◌∙◌, append_assoc, append-nil, arith}
-use Rattle.std.proofs.lemmas.List.{nil_from_length}
-use Rattle.tlsf_crew.specs.declared.jobs.job.Job.{Job}
+use Rattle.tlsf_crew.proofs.Common.{◌≡◌, ◌∷◌, [], ◌++◌, List, map, ap, sym, ◌∙◌, append_assoc, append-nil, arith, nil_from_length, Job}
 use Rattle.tlsf_crew.proofs.jobs.outcome.Outcome.add_all.Goals as goal
 
 -- the first that is still to come was added

@@ -1,8 +1,4 @@
-use Rattle.std.proofs.Common.{◌≡◌, ◌∙◌, ◌∷◌, arith, refl, sym, ap, Some, None}
-use Rattle.std.specs.Option.{option_copied_mut}
-use Rattle.std.proofs.lemmas.Option.{slice_get_within}
-use Rattle.tlsf_post.specs.Mailboxes.{owner_extent, poster_extent}
-use Rattle.tlsf_crew.specs.worker.Workers.{extent_of}
+use Rattle.tlsf_crew.proofs.Common.{◌≡◌, ◌∙◌, ◌∷◌, arith, refl, sym, ap, Some, None, option_copied_mut, slice_get_within, owner_extent, poster_extent, extent_of}
 use Rattle.tlsf_crew.proofs.lemmas.worker.StandingEnd.{same_end, end_stands}
 use Rattle.tlsf_crew.proofs.lemmas.worker.Slots.{from_slot, slot_new, slot_other, same_extents}
 use Rattle.tlsf_crew.proofs.queues.queues.QueuesExchange.put.Goals as goal

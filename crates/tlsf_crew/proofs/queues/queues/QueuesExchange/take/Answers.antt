@@ -1,6 +1,4 @@
-use Rattle.std.proofs.Common.{refl, ap, ◌∷◌}
-use Rattle.tlsf_post.specs.Mailboxes.{poster_extent}
-use Rattle.tlsf_crew.specs.worker.Workers.{extent_of, end_extents}
+use Rattle.tlsf_crew.proofs.Common.{refl, ap, ◌∷◌, poster_extent, extent_of, end_extents}
 use Rattle.tlsf_crew.proofs.queues.queues.QueuesExchange.take.Goals as goal
 
 pub returns-clause-took : goal.returns-clause-took

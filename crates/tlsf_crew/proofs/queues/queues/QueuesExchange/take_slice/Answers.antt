@@ -1,10 +1,4 @@
-use Rattle.std.proofs.Common.{Some, arith, refl, ap, ◌∙◌, ◌∷◌, subst, sym, take, length-set}
-use Rattle.std.proofs.lemmas.List.{take_more_set}
-use Rattle.tlsf_post.specs.Mailboxes.{poster_extent}
-use Rattle.tlsf_crew.specs.worker.Workers.{extent_of, end_extents}
-use Rattle.tlsf_crew.specs.declared.queues.queues.Queues.{Queues}
-use Rattle.tlsf_crew.specs.queues.QueueWorkers.{AsksQueue}
-use Rattle.tlsf_crew.specs.worker.Slices.{PortsInTurn}
+use Rattle.tlsf_crew.proofs.Common.{Some, arith, refl, ap, ◌∙◌, ◌∷◌, subst, sym, take, length-set, take_more_set, poster_extent, extent_of, end_extents, Queues, AsksQueue, PortsInTurn}
 use Rattle.tlsf_crew.proofs.lemmas.worker.Slices.{ports_more}
 use Rattle.tlsf_crew.proofs.queues.queues.QueuesExchange.take_slice.Goals as goal
 

@@ -1,6 +1,4 @@
-use Rattle.std.proofs.Common.{◌≡◌, ◌-◌, ◌≤◌, length, take}
-use Rattle.tlsf_crew.specs.queues.QueueWorkers.{AsksQueue, queue_extents}
-use Rattle.tlsf_crew.specs.worker.Slices.{PortsInTurn}
+use Rattle.tlsf_crew.proofs.Common.{◌≡◌, ◌-◌, ◌≤◌, length, take, AsksQueue, queue_extents, PortsInTurn}
 use Rattle.tlsf_crew.proofs.queues.queues.QueuesExchange.take_slice.Given as goal
 
 abbrev pub invariant-loop-count : goal.invariant-loop-count

@@ -1,7 +1,4 @@
-use Rattle.std.proofs.Common.{◌<◌, ◌≤◌, ℕ, zero, suc, slice_index, arith}
-use Rattle.tlsf_crew.specs.declared.scripts.journal.Journal.{Journal}
-use Rattle.tlsf_crew.specs.scripts.Journals.{IsAdmitted, EntersTake}
-use Rattle.tlsf_crew.specs.worker.Slices.{MayTake}
+use Rattle.tlsf_crew.proofs.Common.{◌<◌, ◌≤◌, ℕ, zero, suc, slice_index, arith, Journal, IsAdmitted, EntersTake, MayTake}
 use Rattle.tlsf_crew.proofs.scripts.journal.JournalNotes.admits.Goals as goal
 
 -- as many as the limit says

@@ -1,5 +1,4 @@
-use Rattle.std.proofs.Common.{refl}
-use Rattle.tlsf_crew.specs.scripts.Scripts.{stage_of}
+use Rattle.tlsf_crew.proofs.Common.{refl, stage_of}
 use Rattle.tlsf_crew.proofs.lemmas.scripts.DrainWorlds.{drain_stepped}
 use Rattle.tlsf_crew.proofs.lemmas.scripts.LaneTakes.{noted_lanes_spent}
 use Rattle.tlsf_crew.proofs.lemmas.scripts.ScriptCalls.{has_port_or, lanes_moves, quiet_stepped, stranger_stepped, take_stepped, there_stepped}

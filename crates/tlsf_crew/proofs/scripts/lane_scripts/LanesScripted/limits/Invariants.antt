@@ -1,6 +1,4 @@
-use Rattle.std.proofs.Common.{◌≡◌, ◌+◌, ◌<◌, ◌≤◌, ℕ, length, slice_index}
-use Rattle.tlsf_crew.specs.lanes.Ready.{count_of}
-use Rattle.tlsf_crew.specs.lanes.LaneWorkers.{lane_from}
+use Rattle.tlsf_crew.proofs.Common.{◌≡◌, ◌+◌, ◌<◌, ◌≤◌, ℕ, length, slice_index, count_of, lane_from}
 use Rattle.tlsf_crew.proofs.scripts.lane_scripts.LanesScripted.limits.Given as goal
 
 abbrev pub invariant-loop-i : goal.invariant-loop-i

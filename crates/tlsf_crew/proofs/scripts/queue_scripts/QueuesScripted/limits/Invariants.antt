@@ -1,5 +1,4 @@
-use Rattle.std.proofs.Common.{◌≡◌, ◌+◌, ◌*◌, ◌≤◌, slice_index}
-use Rattle.tlsf_crew.specs.model.Sums.{sum_below}
+use Rattle.tlsf_crew.proofs.Common.{◌≡◌, ◌+◌, ◌*◌, ◌≤◌, slice_index, sum_below}
 use Rattle.tlsf_crew.proofs.scripts.queue_scripts.QueuesScripted.limits.Given as goal
 
 abbrev pub invariant-loop-i : goal.invariant-loop-i

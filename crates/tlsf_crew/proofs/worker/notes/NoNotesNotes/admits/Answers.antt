@@ -1,6 +1,4 @@
-use Rattle.std.proofs.Common.{ℕ, zero, suc, arith}
-use Rattle.std.specs.Prelude.{⊤}
-use Rattle.tlsf_crew.specs.worker.Slices.{MayTake}
+use Rattle.tlsf_crew.proofs.Common.{ℕ, zero, suc, arith, ⊤, MayTake}
 use Rattle.tlsf_crew.proofs.worker.notes.NoNotesNotes.admits.Goals as goal
 
 -- each of any number of posts is admitted

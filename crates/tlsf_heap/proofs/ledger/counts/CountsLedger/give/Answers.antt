@@ -1,6 +1,4 @@
-use Rattle.std.proofs.Common.{◌≡◌, ap, arith, sym}
-use Rattle.tlsf_heap.specs.Calls.{allocated}
-use Rattle.tlsf_heap.specs.ledger.Grants.{GrantCount, accepted}
+use Rattle.tlsf_heap.proofs.Common.{◌≡◌, ap, arith, sym, allocated, GrantCount, accepted}
 use Rattle.tlsf_heap.proofs.LiveBlocks.{allocated_grows}
 use Rattle.tlsf_heap.proofs.ledger.counts.CountsLedger.give.Goals as goal
 

@@ -1,6 +1,4 @@
-use Rattle.std.proofs.Common.{rules, ◌≡◌, ◌+◌, ◌≤◌, ap, arith, sym}
-use Rattle.tlsf_heap.specs.Calls.{released}
-use Rattle.tlsf_heap.specs.ledger.Grants.{GrantCount, accepted}
+use Rattle.tlsf_heap.proofs.Common.{rules, ◌≡◌, ◌+◌, ◌≤◌, ap, arith, sym, released, GrantCount, accepted}
 use Rattle.tlsf_heap.proofs.LiveBlocks.{released_shrinks}
 use Rattle.tlsf_heap.proofs.ledger.counts.CountsLedger.take_back.Goals as goal
 

@@ -1,9 +1,4 @@
-use Rattle.std.proofs.Common.{rules, subst}
-use Rattle.tlsf_heap.specs.Blocks.{want}
-use Rattle.tlsf_heap.specs.Touched.{resize_touches}
-use Rattle.tlsf_heap.specs.Effects.{Resizes, seen_by}
-use Rattle.tlsf_heap.specs.Shown.{seen}
-use Rattle.tlsf_heap.specs.ledger.Ledgers.{LedgerState}
+use Rattle.tlsf_heap.proofs.Common.{rules, subst, want, resize_touches, Resizes, seen_by, seen, LedgerState}
 use Rattle.tlsf_heap.proofs.LiveBlocks.{resized_counted}
 use Rattle.tlsf_heap.proofs.ledger.counts.Ledgered+SLI+Counts.resize.Goals as goal
 

@@ -1,13 +1,4 @@
-use Rattle.std.proofs.Common.{◌≡◌, ◌∙◌, ℕ, Result, Ok, Err, ap, sym, subst, rules}
-use Rattle.tlsf_heap.specs.Blocks.{HeapState}
-use Rattle.tlsf_heap.specs.Calls.{allocated_words}
-use Rattle.tlsf_heap.specs.Touched.{allocate_touches}
-use Rattle.tlsf_heap.specs.Effects.{Allocates, seen_by}
-use Rattle.tlsf_heap.specs.Shown.{Seen, seen}
-use Rattle.tlsf_heap.specs.declared.name.Name.{Name}
-use Rattle.tlsf_heap.specs.declared.refusal.Refusal.{Refusal}
-use Rattle.tlsf_heap.specs.Footprint.{LeavesLive}
-use Rattle.tlsf_heap.specs.ledger.Ledgers.{LedgerState}
+use Rattle.tlsf_heap.proofs.Common.{◌≡◌, ◌∙◌, ℕ, Result, Ok, Err, ap, sym, subst, rules, HeapState, allocated_words, allocate_touches, Allocates, seen_by, Seen, seen, Name, Refusal, LeavesLive, LedgerState}
 use Rattle.tlsf_heap.proofs.ledger.ledgered.Ledgered.allocate.Goals as goal
 
 pub invariant_of-self-2 : goal.invariant_of-self-2

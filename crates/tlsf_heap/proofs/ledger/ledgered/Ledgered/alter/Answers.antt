@@ -1,6 +1,4 @@
-use Rattle.std.proofs.Common.{subst}
-use Rattle.tlsf_heap.specs.Footprint.{LeavesLive}
-use Rattle.tlsf_heap.specs.ledger.Ledgers.{LedgerState}
+use Rattle.tlsf_heap.proofs.Common.{subst, LeavesLive, LedgerState}
 use Rattle.tlsf_heap.proofs.ledger.ledgered.Ledgered.alter.Goals as goal
 
 pub returns-clause-leaves : goal.returns-clause-leaves

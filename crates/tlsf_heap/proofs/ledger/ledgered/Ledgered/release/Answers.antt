@@ -1,9 +1,4 @@
-use Rattle.std.proofs.Common.{◌∙◌, Ok, Err, sym, ap, subst, rules}
-use Rattle.tlsf_heap.specs.Blocks.{HeapState}
-use Rattle.tlsf_heap.specs.Calls.{released}
-use Rattle.tlsf_heap.specs.Effects.{Releases, seen_by}
-use Rattle.tlsf_heap.specs.Shown.{seen}
-use Rattle.tlsf_heap.specs.ledger.Ledgers.{LedgerState}
+use Rattle.tlsf_heap.proofs.Common.{◌∙◌, Ok, Err, sym, ap, subst, rules, HeapState, released, Releases, seen_by, seen, LedgerState}
 use Rattle.tlsf_heap.proofs.lemmas.calls.Release.{releases_refused}
 use Rattle.tlsf_heap.proofs.ledger.ledgered.Ledgered.release.Goals as goal
 use Rattle.tlsf_heap.proofs.lemmas.calls.Looked.{looked_releases}

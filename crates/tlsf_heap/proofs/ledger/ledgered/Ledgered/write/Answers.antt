@@ -1,8 +1,4 @@
-use Rattle.std.proofs.Common.{length, subst}
-use Rattle.tlsf_heap.specs.Touched.{write_touches}
-use Rattle.tlsf_heap.specs.Effects.{Writes, seen_by}
-use Rattle.tlsf_heap.specs.Shown.{seen}
-use Rattle.tlsf_heap.specs.ledger.Ledgers.{LedgerState}
+use Rattle.tlsf_heap.proofs.Common.{length, subst, write_touches, Writes, seen_by, seen, LedgerState}
 use Rattle.tlsf_heap.proofs.ledger.ledgered.Ledgered.write.Goals as goal
 
 pub returns-clause-writes : goal.returns-clause-writes

@@ -1,6 +1,5 @@
-use Rattle.std.proofs.Common.{ℕ, subst}
+use Rattle.tlsf_picture.proofs.Common.{ℕ, subst, AreCharts}
 use Rattle.tlsf_map.proofs.Telling.{tells_whole}
-use Rattle.tlsf_picture.specs.plots.Plots.{AreCharts}
 use Rattle.tlsf_picture.proofs.plots.plotting.PlotPlays.output.Goals as goal
 
 pub returns : goal.returns

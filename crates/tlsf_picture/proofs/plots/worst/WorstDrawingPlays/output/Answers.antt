@@ -1,4 +1,4 @@
-use Rattle.std.proofs.lemmas.Result.{IfOk-weaker}
+use Rattle.tlsf_picture.proofs.Common.{IfOk-weaker}
 use Rattle.tlsf_picture.proofs.plots.worst.WorstDrawingPlays.output.Goals as goal
 
 pub returns : goal.returns

@@ -1,5 +1,4 @@
-use Rattle.std.proofs.Common.{rules, ◌<◌, ◌+◌, sym, subst}
-use Rattle.tlsf_pool.specs.pools.Bounds.{Bounds, IsPool, pool_allocated}
+use Rattle.tlsf_pool.proofs.Common.{rules, ◌<◌, ◌+◌, sym, subst, Bounds, IsPool, pool_allocated}
 use Rattle.tlsf_pool.proofs.lemmas.pools.PoolKept.{given_pool}
 use Rattle.tlsf_pool.proofs.pools.one.OneLedger.give.Goals as goal
 

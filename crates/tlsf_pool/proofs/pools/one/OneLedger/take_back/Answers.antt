@@ -1,5 +1,4 @@
-use Rattle.std.proofs.Common.{sym, subst}
-use Rattle.tlsf_pool.specs.pools.Bounds.{IsPool}
+use Rattle.tlsf_pool.proofs.Common.{sym, subst, IsPool}
 use Rattle.tlsf_pool.proofs.lemmas.pools.PoolKept.{taken_pool}
 use Rattle.tlsf_pool.proofs.pools.one.OneLedger.take_back.Goals as goal
 

@@ -1,6 +1,4 @@
-use Rattle.std.proofs.Common.{◌≤◌, sym, subst, arith}
-use Rattle.tlsf_heap.specs.Blocks.{want}
-use Rattle.tlsf_pool.specs.pools.Bounds.{Bounds, IsPool}
+use Rattle.tlsf_pool.proofs.Common.{◌≤◌, sym, subst, arith, want, Bounds, IsPool}
 use Rattle.tlsf_pool.proofs.lemmas.laws.FreeRoom.{sure_enough, wants}
 use Rattle.tlsf_pool.proofs.pools.one.OneLedger.words.Goals as goal
 

@@ -1,8 +1,4 @@
-use Rattle.std.proofs.Common.{◌≡◌, ℕ, ap, arith, ◌∙◌}
-use Rattle.tlsf_heap.specs.Calls.{opened}
-use Rattle.tlsf_heap.specs.ledger.Ledgers.{IsLedgered}
-use Rattle.tlsf_pool.specs.laws.FixedSize.{fixed_words}
-use Rattle.tlsf_pool.specs.pools.Bounds.{IsPool}
+use Rattle.tlsf_pool.proofs.Common.{◌≡◌, ℕ, ap, arith, ◌∙◌, opened, IsLedgered, fixed_words, IsPool}
 use Rattle.tlsf_pool.proofs.lemmas.pools.PoolKept.{new_pool}
 use Rattle.tlsf_pool.proofs.pools.one.PoolPoolCalls.open.Goals as goal
 

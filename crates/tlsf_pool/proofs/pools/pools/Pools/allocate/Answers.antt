@@ -1,10 +1,4 @@
-use Rattle.std.proofs.Common.{◌≡◌, ◌≢◌, ◌↔◌, List, Some, None, Err, set, refl, sym, ap, ◌∙◌, subst}
-use Rattle.std.specs.Prelude.{IfOk, IfSome, IsErrOf, IsOk, IsSomeAnd, OnOk}
-use Rattle.tlsf_heap.specs.Calls.{last_tick}
-use Rattle.tlsf_heap.specs.declared.refusal.Refusal.TheVariants.{NoFit}
-use Rattle.tlsf_pool.specs.declared.pools.pool_refusal.PoolRefusal.TheVariants.{Full, TooLong}
-use Rattle.tlsf_pool.specs.pools.Parts.{Allocates, HasRow, PoolsState, held_by, held_in, part_at, part_in, part_named, part_of, rows_in, table_of, Stay}
-use Rattle.tlsf_pool.specs.pools.Tables.{HasPlace, HoldsOneMore, IsFull, TableState, row_of, table_allocated}
+use Rattle.tlsf_pool.proofs.Common.{◌≡◌, ◌≢◌, ◌↔◌, List, Some, None, Err, set, refl, sym, ap, ◌∙◌, subst, IfOk, IfSome, IsErrOf, IsOk, IsSomeAnd, OnOk, last_tick, NoFit, Full, TooLong, Allocates, HasRow, PoolsState, held_by, held_in, part_at, part_in, part_named, part_of, rows_in, table_of, Stay, HasPlace, HoldsOneMore, IsFull, TableState, row_of, table_allocated}
 use Rattle.tlsf_pool.proofs.lemmas.pools.Heaps.{given_number, if_part, is_part, left_given, lift_both, lift_iff, lift_kept, not_none, on_ok, part_has}
 use Rattle.tlsf_pool.proofs.lemmas.pools.WholeTable.{all_stay, held_given, long_row, no_whole_row, row_given, rows_kept}
 use Rattle.tlsf_pool.proofs.pools.pools.Pools.allocate.Goals as goal

@@ -1,7 +1,4 @@
-use Rattle.std.proofs.Common.{◌≡◌, List, Some, sym, ap, ◌∙◌, set, subst}
-use Rattle.tlsf_heap.specs.Blocks.{HeapState}
-use Rattle.tlsf_pool.specs.pools.Parts.{PoolsState, named_in, rows_in, table_of, Stay}
-use Rattle.tlsf_pool.specs.pools.Tables.{TableRows, TableState}
+use Rattle.tlsf_pool.proofs.Common.{◌≡◌, List, Some, sym, ap, ◌∙◌, set, subst, HeapState, PoolsState, named_in, rows_in, table_of, Stay, TableRows, TableState}
 use Rattle.tlsf_pool.proofs.lemmas.pools.Heaps.{lift_kept, named_within}
 use Rattle.tlsf_pool.proofs.lemmas.pools.WholeTable.{all_stay, rows_kept}
 use Rattle.tlsf_pool.proofs.pools.pools.Pools.is_live.Goals as goal

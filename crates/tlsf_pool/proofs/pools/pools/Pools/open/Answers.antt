@@ -1,8 +1,4 @@
-use Rattle.std.proofs.Common.{◌≡◌, ◌≤◌, List, sym, ◌∙◌, subst, arith, rules}
-use Rattle.tlsf_heap.specs.Calls.{last_tick}
-use Rattle.tlsf_pool.specs.declared.kind.Kind.{Kind}
-use Rattle.tlsf_pool.specs.pools.Tables.{AreAllReached}
-use Rattle.tlsf_pool.specs.sizes.Splits.{parts_of}
+use Rattle.tlsf_pool.proofs.Common.{◌≡◌, ◌≤◌, List, sym, ◌∙◌, subst, arith, rules, last_tick, Kind, AreAllReached, parts_of}
 use Rattle.tlsf_pool.proofs.lemmas.pools.Opened.{cut_rises, many_parts, new_pools}
 use Rattle.tlsf_pool.proofs.lemmas.pools.WholeTable.{all_reached, new_rows}
 use Rattle.tlsf_pool.proofs.pools.pools.Pools.open.Goals as goal

@@ -1,7 +1,4 @@
-use Rattle.std.proofs.Common.{◌≡◌, List, Some, set, sym, ap, ◌∙◌, subst}
-use Rattle.std.specs.Prelude.{IfSome}
-use Rattle.tlsf_pool.specs.pools.Parts.{PoolsState, Releases, named_in, part_at, part_named, rows_in, table_of, Stay}
-use Rattle.tlsf_pool.specs.pools.Tables.{TableState}
+use Rattle.tlsf_pool.proofs.Common.{◌≡◌, List, Some, set, sym, ap, ◌∙◌, subst, IfSome, PoolsState, Releases, named_in, part_at, part_named, rows_in, table_of, Stay, TableState}
 use Rattle.tlsf_pool.proofs.lemmas.pools.Heaps.{lift_both, lift_kept, named_within, taken_number}
 use Rattle.tlsf_pool.proofs.lemmas.pools.WholeTable.{all_stay, rows_kept}
 use Rattle.tlsf_pool.proofs.pools.pools.Pools.release.Goals as goal

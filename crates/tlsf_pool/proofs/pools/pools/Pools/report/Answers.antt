@@ -1,7 +1,4 @@
-use Rattle.std.proofs.Common.{◌≡◌, ◌<◌, length, ap, set, subst, ◌∙◌, arith}
-use Rattle.tlsf_heap.specs.Blocks.{HeapState}
-use Rattle.tlsf_pool.specs.pools.Parts.{PoolsState, rows_in, table_of, Stay}
-use Rattle.tlsf_pool.specs.pools.Tables.{TableRows, TableState}
+use Rattle.tlsf_pool.proofs.Common.{◌≡◌, ◌<◌, length, ap, set, subst, ◌∙◌, arith, HeapState, PoolsState, rows_in, table_of, Stay, TableRows, TableState}
 use Rattle.tlsf_pool.proofs.lemmas.pools.Heaps.{is_part, kept}
 use Rattle.tlsf_pool.proofs.lemmas.pools.WholeTable.{all_stay, rows_kept}
 use Rattle.tlsf_pool.proofs.pools.pools.Pools.report.Goals as goal

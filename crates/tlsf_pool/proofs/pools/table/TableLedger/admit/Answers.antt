@@ -1,6 +1,4 @@
-use Rattle.std.proofs.Common.{◌≡◌, ◌<◌, ◌∙◌, ℕ, List, Some, length, sym, ap, subst}
-use Rattle.tlsf_pool.specs.declared.kind.Kind.{Kind}
-use Rattle.tlsf_pool.specs.pools.Tables.{IsTable, row_of}
+use Rattle.tlsf_pool.proofs.Common.{◌≡◌, ◌<◌, ◌∙◌, ℕ, List, Some, length, sym, ap, subst, Kind, IsTable, row_of}
 use Rattle.tlsf_pool.proofs.lemmas.pools.Answering.{row_held}
 use Rattle.tlsf_pool.proofs.pools.table.TableLedger.admit.Goals as goal
 

@@ -1,7 +1,4 @@
-use Rattle.std.proofs.Common.{◌≡◌, ◌<◌, ◌+◌, ◌∙◌, ℕ, List, Ok, length, set, slice_index, sym, ap, subst}
-use Rattle.std.proofs.lemmas.List.{length-set, with_items_is}
-use Rattle.tlsf_heap.specs.Blocks.{HeapState}
-use Rattle.tlsf_pool.specs.pools.Tables.{IsTable, TableRows, most_at, row_of, table_allocated}
+use Rattle.tlsf_pool.proofs.Common.{◌≡◌, ◌<◌, ◌+◌, ◌∙◌, ℕ, List, Ok, length, set, slice_index, sym, ap, subst, length-set, with_items_is, HeapState, IsTable, TableRows, most_at, row_of, table_allocated}
 use Rattle.tlsf_pool.proofs.lemmas.pools.Answering.{given_at, row_held}
 use Rattle.tlsf_pool.proofs.pools.table.TableLedger.give.Goals as goal
 

@@ -1,8 +1,4 @@
-use Rattle.std.proofs.Common.{◌≡◌, ◌<◌, ◌∙◌, ℕ, List, length, slice_index, sym, ap, subst}
-use Rattle.std.specs.Prelude.{IsSomeAnd}
-use Rattle.std.proofs.lemmas.List.{with_items_is}
-use Rattle.tlsf_pool.specs.declared.kind.Kind.{Kind}
-use Rattle.tlsf_pool.specs.pools.Tables.{HoldsOneMore, IsTable, row_of}
+use Rattle.tlsf_pool.proofs.Common.{◌≡◌, ◌<◌, ◌∙◌, ℕ, List, length, slice_index, sym, ap, subst, IsSomeAnd, with_items_is, Kind, HoldsOneMore, IsTable, row_of}
 use Rattle.tlsf_pool.proofs.lemmas.pools.Answering.{take_one, taken_at}
 use Rattle.tlsf_pool.proofs.pools.table.TableLedger.take_back.Goals as goal
 

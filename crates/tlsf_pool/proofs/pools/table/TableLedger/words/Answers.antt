@@ -1,5 +1,4 @@
-use Rattle.std.proofs.Common.{sym, subst, arith}
-use Rattle.tlsf_pool.specs.pools.Tables.{HasPlace, IsTable, TableRows}
+use Rattle.tlsf_pool.proofs.Common.{sym, subst, arith, HasPlace, IsTable, TableRows}
 use Rattle.tlsf_pool.proofs.lemmas.pools.Answering.{enough_words}
 use Rattle.tlsf_pool.proofs.pools.table.TableLedger.words.Goals as goal
 

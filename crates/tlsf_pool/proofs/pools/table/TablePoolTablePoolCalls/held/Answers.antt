@@ -1,5 +1,4 @@
-use Rattle.std.proofs.Common.{rules}
-use Rattle.tlsf_pool.specs.pools.Tables.{IsTabled}
+use Rattle.tlsf_pool.proofs.Common.{rules, IsTabled}
 use Rattle.tlsf_pool.proofs.lemmas.pools.Answering.{few_held}
 use Rattle.tlsf_pool.proofs.pools.table.TablePoolTablePoolCalls.held.Goals as goal
 

@@ -1,12 +1,4 @@
-use Rattle.std.proofs.Common.{◌≡◌, ℕ, List, length, replicate, sym, ap, ◌∙◌, subst, arith, rules}
-use Rattle.tlsf_heap.specs.Lawful.{IsRegion}
-use Rattle.tlsf_heap.specs.Calls.{opened}
-use Rattle.tlsf_pool.specs.laws.FixedSize.{fixed_kinds_words}
-use Rattle.tlsf_pool.specs.declared.kind.Kind.{Kind}
-use Rattle.tlsf_pool.specs.sizes.Rising.{Rises}
-use Rattle.tlsf_pool.specs.sizes.Splits.{HasWords}
-use Rattle.tlsf_heap.specs.ledger.Ledgers.{IsLedgered}
-use Rattle.tlsf_pool.specs.pools.Tables.{AreAllReached, IsTable}
+use Rattle.tlsf_pool.proofs.Common.{◌≡◌, ℕ, List, length, replicate, sym, ap, ◌∙◌, subst, arith, rules, IsRegion, opened, fixed_kinds_words, Kind, Rises, HasWords, IsLedgered, AreAllReached, IsTable}
 use Rattle.tlsf_pool.proofs.lemmas.pools.TableKept.{new_table}
 use Rattle.tlsf_pool.proofs.lemmas.pools.WholeTable.{all_reached}
 use Rattle.tlsf_pool.proofs.pools.table.TablePoolTablePoolCalls.open.Goals as goal

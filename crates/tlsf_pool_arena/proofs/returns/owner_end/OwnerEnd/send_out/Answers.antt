@@ -1,5 +1,4 @@
-use Rattle.std.proofs.Common.{◌≡◌, [], length, Some, None, refl, sym, ap, ◌∙◌, arith}
-use Rattle.tlsf_pool_arena.specs.returns.Steps.{Seated, is_away, looks_by, out_by, place_of, ticket_of, value_of}
+use Rattle.tlsf_pool_arena.proofs.Common.{◌≡◌, [], length, Some, None, refl, sym, ap, ◌∙◌, arith, Seated, is_away, looks_by, out_by, place_of, ticket_of, value_of}
 use Rattle.tlsf_pool_arena.proofs.PlaceSteps.{announces_at, is_place, owner_sent, rests_as, sends_at, sized_as}
 use Rattle.tlsf_pool_arena.proofs.returns.owner_end.OwnerEnd.send_out.Goals as goal
 

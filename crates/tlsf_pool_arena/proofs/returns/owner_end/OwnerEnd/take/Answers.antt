@@ -1,6 +1,5 @@
-use Rattle.std.proofs.Common.{◌≡◌, ◌∷◌, length, Some, sym, ap, ◌∙◌, arith}
+use Rattle.tlsf_pool_arena.proofs.Common.{◌≡◌, ◌∷◌, length, Some, sym, ap, ◌∙◌, arith, Seated, out_by}
 use Rattle.atomic_table.specs.Table.{rest}
-use Rattle.tlsf_pool_arena.specs.returns.Steps.{Seated, out_by}
 use Rattle.tlsf_pool_arena.proofs.PlaceSteps.{clears_at, emptied, looks_at}
 use Rattle.tlsf_pool_arena.proofs.returns.owner_end.OwnerEnd.take.Goals as goal
 
