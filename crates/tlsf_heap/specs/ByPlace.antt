@@ -1,5 +1,5 @@
 -- Calls on the live block that begins at a place, whatever its serial.
-use Rattle.std.specs.Prelude.{◌≡◌, ℕ, List, Option, Some, None, false, MatchOption}
+use Rattle.std.specs.Prelude.{◌≡◌, ℕ, List, Option, Some, None, Result, false, MatchOption, MatchResult}
 use Rattle.tlsf_heap.specs.Blocks.{Block, HeapState, is_free, StandsAt}
 use Rattle.tlsf_heap.specs.Calls.{Outcome, refused, released, resized}
 use Rattle.tlsf_heap.specs.GoodFit.{block_at, site_at}
@@ -10,6 +10,7 @@ use Rattle.tlsf_heap.specs.declared.name.Name.{Name}
 use Rattle.tlsf_heap.specs.declared.placed_block.PlacedBlock.{PlacedBlock}
 use Rattle.tlsf_heap.specs.declared.placed_block.Content.{Content}
 use Rattle.tlsf_heap.specs.declared.placed_block.Content.TheVariants as content
+use Rattle.tlsf_heap.specs.declared.refusal.Refusal.{Refusal}
 use Rattle.tlsf_heap.specs.declared.refusal.Refusal.TheVariants.{Stale}
 
 -- the serial of what a block holds, none where it is free
@@ -55,3 +56,8 @@ pub record IsLiveAt (blocks : List Block) (at i : ℕ) : Type 0 where
 abbrev pub IsPlaceTest : ℕ → ℕ → List Block → Option Tag → Type 0
 IsPlaceTest at words blocks found =
     MatchOption found (serial_at blocks at ≡ None) (λ tag. (i : ℕ) × IsLiveAt blocks at i × IsTagOf words (site_at blocks i) tag)
+
+-- what the check of a place answers: the tag of the live block that begins there
+abbrev pub IsPlaceCheck : HeapState → ℕ → Result Tag Refusal → Type 0
+IsPlaceCheck h at answer =
+    MatchResult answer (λ tag. (i : ℕ) × IsLiveAt h.blocks at i × IsTagOf h.words (site_at h.blocks i) tag) (λ why. (why ≡ Stale) × (serial_at h.blocks at ≡ None))

@@ -2,6 +2,7 @@ ghost use Rattle.std.specs.Fn.{FnOnceTakesAt, FnOnceTakesAtMut};
 ghost use Rattle.std.specs.Prelude.{◌≡◌, ◌≢◌, ℕ, List, ◌+◌, ◌*◌, ◌/◌, ◌-◌, ◌<◌, ◌≤◌, ◌^◌, ◌↔◌, true, length, min, take, IfOk, OnOk, OnErr, IsErrOf, MatchResult, Ok, Err};
 ghost use Rattle.tlsf_class.specs.Classes.{IsLevel, most_words};
 ghost use Rattle.tlsf_heap.specs.Blocks;
+ghost use Rattle.tlsf_heap.specs.ByPlace.{released_by_place, IsPlaceCheck};
 ghost use Rattle.tlsf_heap.specs.Effects.{Allocates, Looks, Reads, Releases, Reports, Resizes, Writes};
 ghost use Rattle.tlsf_heap.specs.Footprint.{LeavesBoth, LeavesLive, LeavesPayloads};
 ghost use Rattle.tlsf_heap.specs.FreePlaces.{ShowsLists};
@@ -15,7 +16,8 @@ ghost use Rattle.tlsf_heap.specs.Named.{IsFirst, IsNameCheck};
 ghost use Rattle.tlsf_heap.specs.Regions.{image_of};
 ghost use Rattle.tlsf_heap.specs.Given.{payload_words_at, payload_words_left};
 ghost use Rattle.tlsf_heap.specs.Unset.{lying, with_payload};
-ghost use Rattle.tlsf_heap.specs.Touched.{FollowsNoForgery, allocate_groups, allocate_touches, move_groups, release_groups, release_touches, resize_groups, resize_touches, read_touches, write_touches};
+ghost use Rattle.tlsf_heap.specs.WordsInUse.{CameOff};
+ghost use Rattle.tlsf_heap.specs.Touched.{FollowsNoForgery, FollowsNoPlace, allocate_groups, allocate_touches, move_groups, release_groups, release_touches, resize_groups, resize_touches, read_touches, write_touches};
 ghost use Rattle.tlsf_heap.specs.Calls.{opened, released, resized, named, written, read_of, read_answer, has_bytes, last_tick};
 ghost use Rattle.tlsf_heap.specs.Kept.{IsAsBefore, Keeps};
 ghost use Rattle.tlsf_words.specs.Touched.{InGroups};
@@ -28,7 +30,7 @@ mod live;
 mod unset;
 mod words_in_use;
 
-use crate::fitting::{carve, choose};
+use crate::fitting::{carve, choose, coalesce};
 use crate::name::Name;
 use crate::open_fault::OpenFault;
 use crate::placed_block::PlacedBlock;
@@ -227,10 +229,8 @@ impl<const SLI: u32> Heap<SLI> {
         // All lies in so many groups of eight words, but start bits and the lists.
         ensures groups { InGroups release_groups self.old.touched self.new.touched }
     {
-        // The tick is read for what is known of a heap, and nobody reads the count: it is more than any region has.
-        let _tick = self.tick;
-        let mut in_use = u32::MAX;
-        self.release_counted(name, &mut in_use)
+        let own = self.check(name)?;
+        self.give_back(name.at, own, &mut own.size())
     }
 
     /// Makes the payload of the block of that name `len` bytes long, where the block stands: its place and serial stay, so the name
@@ -574,6 +574,46 @@ impl<const SLI: u32> Heap<SLI> {
             return Err(Refusal::of_name(name.heap, self.id));
         };
         Ok(tag)
+    }
+
+    /// The tag of the live block that begins at a place, of all numbers. Where none does, `Stale`.
+    #[inline(always)]
+    fn check_place(&mut self, at: u32) -> Result<Tag, Refusal>
+        ensures answer { IsPlaceCheck self.old.heap at result }
+        ensures same { IsAsBefore self.old self.new }
+        ensures keeps { Keeps SLI self.old self.new }
+        ensures touches { self.new.touches ≤ self.old.touches + 2 }
+        ensures leaves { LeavesLive self.old.heap.blocks self.old.touched self.new.touched }
+        ensures groups { InGroups 1 self.old.touched self.new.touched }
+        ensures wild { FollowsNoPlace self.old.heap at self.old.touches self.new.touches }
+    {
+        self.region.live_at(at).ok_or(Refusal::Stale)
+    }
+
+    /// Takes back the live block at a place, of this tag, and its words off a count. Where the tick is at its last value, `Worn`: the count
+    /// then stays.
+    // The words are taken off in front of the merge, so that nothing of the count lives in a register over that.
+    #[inline(always)]
+    fn give_back(&mut self, at: u32, own: Tag, in_use: &mut u32) -> Result<(), Refusal>
+        requires live { IsPlaceCheck self.old.heap at (Ok own) }
+        requires counted { own.size ≤ in_use.old }
+        ensures answer { result ≡ (released_by_place self.old.heap at).answer }
+        ensures heap { self.new.heap ≡ (released_by_place self.old.heap at).heap }
+        ensures off { OnOk result (CameOff self.old.heap self.new.heap at in_use.old in_use.new) }
+        ensures err { OnErr result (IsAsBefore self.old self.new) }
+        ensures count { OnErr result (in_use.new ≡ in_use.old) }
+        ensures keeps { Keeps SLI self.old self.new }
+        ensures touches { self.new.touches ≤ self.old.touches + 27 }
+        ensures leaves { LeavesPayloads self.old.heap.blocks at self.old.touched self.new.touched }
+        ensures groups { InGroups 13 self.old.touched self.new.touched }
+        ensures refused { OnErr result (self.new.touched ≡ self.old.touched) }
+    {
+        if self.tick == u64::MAX {
+            return Err(Refusal::Worn);
+        }
+        *in_use -= own.size();
+        coalesce(&mut self.region, &mut self.tick, at, own);
+        Ok(())
     }
 
     /// The payload length in bytes of the live block of that name. Where none has it, `Foreign` or else `Stale`.

@@ -11,6 +11,7 @@ pub mod GivenBlock
 pub mod LeftBlock
 pub mod AllocateFrom
 pub mod ByPlace
+pub mod GivenBack
 pub mod ResizeOrMove
 pub mod Unset
 pub mod OtherBytes

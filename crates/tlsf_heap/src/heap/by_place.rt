@@ -71,10 +71,8 @@ impl<const SLI: u32> Heap<SLI> {
         ensures refused { OnErr result (LeavesLive self.old.heap.blocks self.old.touched self.new.touched) }
         ensures wild { FollowsNoPlace self.old.heap at self.old.touches self.new.touches }
     {
-        // As in `release`.
-        let _tick = self.tick;
-        let mut in_use = u32::MAX;
-        self.release_counted_at(at, &mut in_use)
+        let own = self.check_place(at)?;
+        self.give_back(at, own, &mut own.size())
     }
 
     /// Makes the payload of the live block that begins at a place `len` bytes long, where the block stands: a `resize` of the name that

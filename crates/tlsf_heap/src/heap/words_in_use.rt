@@ -12,7 +12,6 @@ ghost use Rattle.tlsf_words.specs.Touched.{InGroups};
 ghost use Rattle.tlsf_heap.specs.Shown.{seen};
 
 use super::Heap;
-use crate::fitting::coalesce;
 use crate::name::Name;
 use crate::refusal::Refusal;
 
@@ -78,7 +77,6 @@ impl<const SLI: u32> Heap<SLI> {
     /// heap.release_counted(name, &mut in_use)?;                   // 0
     /// heap.release_counted(name, &mut in_use) == Err(Refusal::Stale)
     /// ```
-    // The words are taken off in front of the merge, so that nothing of the count lives in a register over that.
     #[inline(always)]
     pub fn release_counted(&mut self, name: Name, in_use: &mut u32) -> Result<(), Refusal>
         requires counted { words_in_use self.old.heap ≤ in_use.old }
@@ -96,12 +94,7 @@ impl<const SLI: u32> Heap<SLI> {
         ensures groups { InGroups release_groups self.old.touched self.new.touched }
     {
         let own = self.check(name)?;
-        if self.tick == u64::MAX {
-            return Err(Refusal::Worn);
-        }
-        *in_use -= own.size();
-        coalesce(&mut self.region, &mut self.tick, name.at, own);
-        Ok(())
+        self.give_back(name.at, own, in_use)
     }
 
     /// A `release_at`, refused as that is, that takes the words which come back off a count of those in use, as `release_counted` does. Where
@@ -137,14 +130,7 @@ impl<const SLI: u32> Heap<SLI> {
         ensures refused { OnErr result (LeavesLive self.old.heap.blocks self.old.touched self.new.touched) }
         ensures wild { FollowsNoPlace self.old.heap at self.old.touches self.new.touches }
     {
-        let Some(own) = self.region.live_at(at) else {
-            return Err(Refusal::Stale);
-        };
-        if self.tick == u64::MAX {
-            return Err(Refusal::Worn);
-        }
-        *in_use -= own.size();
-        coalesce(&mut self.region, &mut self.tick, at, own);
-        Ok(())
+        let own = self.check_place(at)?;
+        self.give_back(at, own, in_use)
     }
 }

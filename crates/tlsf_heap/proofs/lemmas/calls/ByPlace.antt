@@ -1,5 +1,5 @@
 -- The name of the live block that begins at a place.
-use Rattle.tlsf_heap.proofs.Common.{◌≡◌, ℕ, ◌+◌, ◌<◌, true, List, take, Some, None, Result, Err, refl, sym, ap, ◌∙◌, subst, arith, eq-eqb, inl, inr, is_some, AllByRecursion, cases_lt, eqb-true, Block, HeapState, is_free, words_in, StandsAt, IsPlace, serial_of, serial_in, serial_at, name_with, name_at, call_by, released_by_place, IsLiveAt, Outcome, has_serial, released, block_at, mark_of, IsLawful, HasRoom, IsLive, IsFirst, IsNamed, FollowsNoPlace, Name, Refusal, Stale}
+use Rattle.tlsf_heap.proofs.Common.{◌≡◌, ℕ, ◌+◌, ◌<◌, true, List, take, Some, None, refl, sym, ap, ◌∙◌, subst, arith, eq-eqb, inl, inr, is_some, AllByRecursion, cases_lt, eqb-true, Block, HeapState, is_free, words_in, StandsAt, IsPlace, serial_of, serial_in, serial_at, name_with, name_at, call_by, released_by_place, IsLiveAt, Outcome, has_serial, released, block_at, mark_of, IsLawful, HasRoom, IsLive, IsFirst, IsNamed, FollowsNoPlace, Name, Worn, Ok, RegionState, coalesced, site_at, last_tick, refused}
 use Rattle.tlsf_heap.proofs.lemmas.blocks.ByPlace.{placed_found, placed_none, content-free, content-live}
 use Rattle.tlsf_heap.proofs.lemmas.words.Says.{has_serial-live, named_here}
 use Rattle.tlsf_heap.proofs.lemmas.blocks.Find.{and_left}
@@ -7,7 +7,8 @@ use Rattle.tlsf_heap.proofs.lemmas.calls.Alter.{named_of}
 use Rattle.tlsf_heap.proofs.lemmas.laws.Live.{same_name}
 use Rattle.tlsf_heap.proofs.lemmas.calls.Named.{named_is, named_inside, named_stands, named_live, not_wild}
 use Rattle.tlsf_heap.proofs.lemmas.blocks.Order.{ends_before}
-use Rattle.tlsf_heap.proofs.lemmas.calls.Release.{Releases}
+use Rattle.tlsf_heap.proofs.lemmas.calls.Release.{released_worn, released_is, released_lawful}
+use Rattle.tlsf_heap.proofs.lemmas.blocks.Lawful.{with_region, region_is}
 use Rattle.tlsf_heap.proofs.lemmas.blocks.Grant.{four_words}
 
 module _ {bs : List Block} {at : ℕ} (rooms : AllByRecursion HasRoom bs) where
@@ -52,32 +53,18 @@ live_here h {at = at} {i = i} lawful l =
     let named = is_named_here h lawful.rooms l in
     ((refl, ap is_some (named_is (name_here h at i) h.blocks i named.1.1)), refl, named_inside h (name_here h at i) lawful i named.1.1)
 
--- what a call of `release_at` on the heap h ensures, whose answer and whose heap are these
-pub record ReleasesPlace (h : HeapState) (at : ℕ) (answer : Result (Unit {0}) Refusal) (left : HeapState) : Type 0 where
-  pub is_answer : answer ≡ (released_by_place h at).answer
-  pub is_heap : left ≡ (released_by_place h at).heap
-  pub lawful : IsLawful left
+-- a release of the live block there, by the region that is left
+pub released_here : (h : HeapState) (at i tick : ℕ) (region : RegionState) → IsLawful h → IsLiveAt h.blocks at i → region.words ≡ h.words → region.blocks ≡ coalesced h.tick (site_at h.blocks i)
+    → (h.tick ≡ last_tick → ⊥) → tick ≡ h.tick + 1 → (released_by_place h at ≡ record { answer = Ok tt; heap = with_region h tick region }) × IsLawful (with_region h tick region)
+released_here h at i tick region lawful l words blocks fresh next =
+    let name = name_here h at i in
+    let first = first_live lawful.rooms l in
+    rw (next, region_is h (h.tick + 1) region _ words blocks) (call_found h (released h) lawful.rooms l ∙ released_is h name refl i first fresh, released_lawful h name refl i first lawful)
 
--- no live block begins there
-pub place_free : (h k : HeapState) (at : ℕ) → k ≡ h → IsLawful h → serial_at h.blocks at ≡ None → ReleasesPlace h at (Err Stale) k
-place_free h k at same lawful none =
-    let done = call_none h at (released h) none in
-    record {
-      is_answer = sym (ap (λ (o : Outcome (Unit {0})). o.answer) done);
-      is_heap = same ∙ sym (ap (λ (o : Outcome (Unit {0})). o.heap) done);
-      lawful = subst IsLawful (sym same) lawful;
-    }
-
--- one does: it is a release of its name
-pub place_live : (h : HeapState) (at i : ℕ) (answer : Result (Unit {0}) Refusal) (left : HeapState) → AllByRecursion HasRoom h.blocks → IsLiveAt h.blocks at i
-    → Releases h (name_here h at i) answer left → ReleasesPlace h at answer left
-place_live h at i answer left rooms l done =
-    let same = call_found h (released h) rooms l in
-    record {
-      is_answer = done.is_answer ∙ sym (ap (λ (o : Outcome (Unit {0})). o.answer) same);
-      is_heap = done.is_heap ∙ sym (ap (λ (o : Outcome (Unit {0})). o.heap) same);
-      lawful = done.lawful;
-    }
+-- which is refused at the last tick
+pub worn_here : (h : HeapState) (at i : ℕ) → IsLawful h → IsLiveAt h.blocks at i → h.tick ≡ last_tick → released_by_place h at ≡ refused h Worn
+worn_here h at i lawful l last =
+    call_found h (released h) lawful.rooms l ∙ released_worn h (name_here h at i) refl i (first_live lawful.rooms l) last
 
 -- ---- the next three places
 

@@ -1,5 +1,5 @@
 -- A word of another block's payload is one behind the calls too.
-use Rattle.tlsf_heap.proofs.Common.{◌≡◌, ◌≢◌, ℕ, suc, ◌+◌, ◌<◌, List, [], ◌∷◌, ◌++◌, true, length, inl, inr, refl, sym, ap, ◌∙◌, subst, arith, append_assoc, Ok, AllByRecursion, eqb-true, false≢true, Block, Live, Free, HeapState, size_of, bytes_of, is_free, words_in, carved, allocated_words, resized_words, refitted, with_bytes, overwritten, written, has_serial, IsOthersWord, IsLiveWord, LeavesLive, LeavesPayloads, LeavesBoth, Site, place_of, IsLawful, HasRoom, Shown, Inside, Name}
+use Rattle.tlsf_heap.proofs.Common.{◌≡◌, ◌≢◌, ℕ, suc, ◌+◌, ◌<◌, List, [], ◌∷◌, ◌++◌, true, length, inl, inr, refl, sym, ap, ◌∙◌, subst, arith, append_assoc, Ok, AllByRecursion, eqb-true, false≢true, Block, Live, Free, HeapState, size_of, bytes_of, is_free, words_in, carved, allocated_words, resized_words, refitted, with_bytes, overwritten, written, has_serial, IsOthersWord, IsLiveWord, LeavesLive, LeavesBoth, Site, place_of, IsLawful, HasRoom, Shown, Inside, Name}
 use Rattle.tlsf_heap.proofs.lemmas.calls.Kept.{shown_of}
 use Rattle.tlsf_heap.proofs.lemmas.blocks.Around.{Around, stands_around, block_around}
 use Rattle.tlsf_heap.proofs.lemmas.blocks.Find.{and_left, and_right}
@@ -72,9 +72,6 @@ given_live h k live sli n len lawful =
 module _ (sli : ℕ) (h : Inside sli) {old : Shown} (same : shown_of sli h ≡ old) where
   pub seen_live : (touched : List ℕ) → LeavesLive h.region.blocks h.region.touched touched → LeavesLive old.heap.blocks old.touched touched
   seen_live touched leaves = subst (λ (s : Shown). LeavesLive s.heap.blocks s.touched touched) same leaves
-
-  pub seen_others : (touched : List ℕ) (at : ℕ) → LeavesPayloads h.region.blocks at h.region.touched touched → LeavesPayloads old.heap.blocks at old.touched touched
-  seen_others touched at leaves = subst (λ (s : Shown). LeavesPayloads s.heap.blocks at s.touched touched) same leaves
 
   pub seen_both : (touched : List ℕ) (at other : ℕ) → LeavesBoth h.region.blocks at other h.region.touched touched → LeavesBoth old.heap.blocks at other old.touched touched
   seen_both touched at other leaves = subst (λ (s : Shown). LeavesBoth s.heap.blocks at other s.touched touched) same leaves

@@ -1,10 +1,14 @@
-use Rattle.tlsf_heap.proofs.Common.{◌≤◌, subst, arith, Shown, state_of, words_in_use}
-use Rattle.tlsf_heap.proofs.lemmas.laws.WordsInUse.{words_within}
+use Rattle.tlsf_heap.proofs.Common.{refl, arith}
+use Rattle.tlsf_heap.proofs.lemmas.calls.ByPlace.{live_not_wild}
+use Rattle.tlsf_heap.proofs.lemmas.calls.GivenBack.{others_then}
+use Rattle.tlsf_words.proofs.Touching.{more_groups, groups_then}
 use Rattle.tlsf_heap.proofs.heap.Heap.release_at.Goals as goal
 
--- no region has so many words
-pub release_counted_at-requires : goal.release_counted_at-requires
-release_counted_at-requires g c = (
-  omega arith,
-  subst (λ (s : Shown). words_in_use s.heap ≤ 4294967295) c.self.view_is (omega (arith, words_within (state_of g.row.SLI c.self.inside) c.self.invariant.lawful, c.self.invariant.small)),
-)
+pub returns-clause-leaves : goal.returns-clause-leaves
+returns-clause-leaves g c = others_then _ _ c.args.at _ _ _ c.in_ok-own.ensures.same.heap c.in_ok-own.ensures.leaves c.give_back.ensures.leaves
+
+pub returns-clause-groups : goal.returns-clause-groups
+returns-clause-groups g c = more_groups (omega arith) (groups_then c.in_ok-own.ensures.groups c.give_back.ensures.groups)
+
+pub returns-clause-wild : goal.returns-clause-wild
+returns-clause-wild g c = live_not_wild refl c.in_ok-own.ensures.keeps.was_lawful c.in_ok-own.ensures.answer.1 _ _

@@ -1,5 +1,5 @@
-use Rattle.tlsf_heap.proofs.Common.{◌∙◌, Ok, Err, sym, ap, subst, rules, HeapState, released, Releases, seen_by, seen, LedgerState}
-use Rattle.tlsf_heap.proofs.lemmas.calls.Release.{releases_refused}
+use Rattle.tlsf_heap.proofs.Common.{◌∙◌, Outcome, Ok, Err, sym, ap, subst, rules, HeapState, released, Releases, seen_by, seen, LedgerState}
+use Rattle.tlsf_heap.proofs.lemmas.calls.Release.{released_refused}
 use Rattle.tlsf_heap.proofs.ledger.ledgered.Ledgered.release.Goals as goal
 use Rattle.tlsf_heap.proofs.lemmas.calls.Looked.{looked_releases}
 
@@ -12,10 +12,10 @@ take_back-requires g c =
 
 pub returns-in-Err-clause-releases : goal.returns-in-Err-clause-releases
 returns-in-Err-clause-releases g c =
-    let refuses = releases_refused c.self.inside.heap.heap c.look.new.heap.heap c.args.name c.self.invariant.lawful c.in-Err.ensures.heap _ c.in-Err.ensures.answer in
+    let none = released_refused c.self.inside.heap.heap c.args.name _ c.in-Err.ensures.answer in
     record {
-      answer_is = refuses.is_answer ∙ ap (λ s. (released s.heap c.args.name).answer) c.self.view_is;
-      heap = refuses.is_heap ∙ ap (λ s. (released s.heap c.args.name).heap) c.self.view_is;
+      answer_is = sym (ap (λ (o : Outcome (Unit {0})). o.answer) none) ∙ ap (λ s. (released s.heap c.args.name).answer) c.self.view_is;
+      heap = c.in-Err.ensures.heap ∙ sym (ap (λ (o : Outcome (Unit {0})). o.heap) none) ∙ ap (λ s. (released s.heap c.args.name).heap) c.self.view_is;
       touches = search rules;
       rise = search rules;
       leaves = search rules;
