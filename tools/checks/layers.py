@@ -1,7 +1,7 @@
 """No folder of a crate names one that names it back, be it through others. A
 folder is what has one name in src/, in specs/, in proofs/lemmas/ and in proofs/
 (proofs of its functions), and names what its files bring in by `use`. Each
-crate with folders in src/ is looked at, but for its tests."""
+crate with folders in src/ is looked at."""
 import graphlib
 import re
 
@@ -13,7 +13,7 @@ PARTS = ("src", "specs", "proofs/lemmas", "proofs")
 
 def folders_of(crate):
     def inside(part):
-        return [it.name for it in sorted((crate / part).glob("*")) if it.is_dir() and (part, it.name) != ("src", "tests")]
+        return [it.name for it in sorted((crate / part).glob("*")) if it.is_dir()]
 
     # A folder of definitions alone has no code.
     return list(dict.fromkeys([*inside("src"), *inside("specs")])) if inside("src") else []

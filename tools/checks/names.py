@@ -11,7 +11,7 @@
 - each name in parentheses, as (`no_fit`), is a clause: of a public function
   that its sentence, its point or its row names, where that names one, else of
   any of the crate; as (`heap` of `Pool::open`), of that function or type. Under
-  "What isn't proved" it may be a test of tlsf_checks*."""
+  "What isn't proved" it may be a test of tests/rattle."""
 import functools
 import re
 
@@ -30,10 +30,9 @@ NAME = re.compile(r"[A-Za-z_]\w*(?:(?:::|\.)\w+)*")
 # Clauses in parentheses, each or several with the function or type that has them, where that is named.
 CLAUSES = re.compile(r"\((?:clauses? )?((?:`[a-z_]+`(?: of `[\w:]+`)?(?:, | and |(?=\))))+)\)")
 GROUP = re.compile(r"((?:`[a-z_]+`(?:, | and )?)+)(?: ?of `([\w:]+)`)?")
-TEST = re.compile(r"#\[test\]\n(?:\s*#.*\n)*\s*fn (\w+)")
 FENCED = re.compile(r"^```.*?^```$", re.M | re.S)
 CODE_BLOCK = re.compile(r"^```(rust|c|cpp)\n(.*?)^```$", re.M | re.S)
-SOURCE = re.compile(r"\]\(((?:\.\./|[\w./-])+\.(?:rt|c|h|cpp|hpp))\)")
+SOURCE = re.compile(r"\]\(((?:\.\./|[\w./-])+\.(?:rt|source|c|h|cpp|hpp))\)")
 # What clauses stand with: a point of a list, a row of a table, or a sentence.
 POINT = re.compile(r"^(?:- |\d+\. )(.*(?:\n   ?.*)*)", re.M)
 ROW = re.compile(r"^\|.*", re.M)
@@ -109,8 +108,7 @@ def units(text):
 @functools.cache
 def tests():
     """The tests of public calls, by their names."""
-    files = (tree.TOP / "crates").glob("tlsf_checks*/src/**/*.rt")
-    return {name for it in files for name in TEST.findall(tree.read(it))}
+    return {name for it in tree.RATTLE_TESTS.rglob("*.source") for name in tree.TEST.findall(tree.read(it))}
 
 
 class Clauses:

@@ -10,7 +10,7 @@ MOST_EXAMPLE_LINES = 99
 
 def files():
     found = [it for it in (tree.TOP / "crates").rglob("*") if it.suffix in (".rt", ".antt") and it.is_file()]
-    return [it for it in found if "out" not in it.relative_to(tree.TOP).parts]
+    return [it for it in found if "out" not in it.relative_to(tree.TOP).parts] + sorted(tree.RATTLE_TESTS.rglob("*.source"))
 
 
 def faults():
@@ -20,7 +20,7 @@ def faults():
         if (count := text.count("\n")) > most:
             yield f"{name}: {count} lines, more than {most}"
         lines = text.split("\n")
-        for body in tree.bodies_in(name, text) if file.suffix == ".rt" else ():
+        for body in tree.bodies_in(name, text) if file.suffix != ".antt" else ():
             is_test = "#[test]" in lines[body.first : body.opens]
             if (count := body.last - body.opens - 1) > MOST_BODY_LINES and not is_test:
                 yield f"{name}:{body.opens + 1}: {body.name} has {count} lines, more than {MOST_BODY_LINES}"

@@ -8,7 +8,7 @@ from tree import lines_of_crates, needed
 from .sources import IMPL, Definition, Item, Reader, Specs
 
 # Crates that nobody stands on.
-NO_LIBRARY = re.compile(r"tlsf_checks\w*|example_\w+|uses")
+NO_LIBRARY = re.compile(r"example_\w+|uses")
 WORD = re.compile(r"[^\W\d][\w']*")
 # Words of the logic and of Rust, which no line brings in.
 BUILT_IN = set(

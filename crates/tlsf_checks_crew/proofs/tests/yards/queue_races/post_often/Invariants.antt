@@ -1,5 +1,0 @@
-use Rattle.tlsf_crew.specs.queues.QueueYard.{IsQueueYard}
-use Rattle.tlsf_checks_crew.proofs.tests.yards.queue_races.post_often.Given as goal
-
-abbrev pub invariant-loop : goal.invariant-loop
-invariant-loop g l = IsQueueYard l.workers.items

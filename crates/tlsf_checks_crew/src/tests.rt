@@ -1,4 +1,0 @@
-//! Tests of public calls: what no contract says, and no stored case or table of tests/program shows.
-
-mod traces;
-mod yards;
