@@ -2,11 +2,13 @@
 import collections
 import functools
 import itertools
+import math
 
 from model.answers import Asked, Yard
 from model.heap import MOST_WORDS, low, search_of, want
 
 NO_REGION = 1 << 32     # more than eight regions have
+MOST_WAYS = 1 << 17     # that are tried
 
 
 class Steps(Asked):
@@ -63,12 +65,27 @@ def ways(count, heaps):
         yield from ((*ends, count - 1) for ends in itertools.combinations(range(count - 1), cuts))
 
 
+def cheapest(count, heaps, row, level):
+    """Of all ways of cutting so many kinds into pools those with the fewest words, or none of too many ways. Each pool is its
+    first kind, its last, and their row."""
+    if sum(math.comb(count - 1, cuts) for cuts in range(heaps)) > MOST_WAYS:
+        return []
+    row = functools.cache(row)
+    cuts = [list(zip((0, *(it + 1 for it in ends)), ends)) for ends in ways(count, heaps)]
+    words = [sum(pool_words(row(*ends), level) for ends in cut) for cut in cuts]
+    fewest = min(words)
+    return [[(*ends, row(*ends)) for ends in cut] for cut, it in zip(cuts, words) if it == fewest]
+
+
+def merged(lengths, steps, heaps, level):
+    """Of all ways of merging the kinds of these lengths those whose pools have the fewest words: the rows of each."""
+
+    def row(first, last):
+        return row_between(steps, lengths[first - 1] if first else -1, lengths[last])
+
+    return [[row for _, _, row in table] for table in cheapest(len(lengths), heaps, row, level)]
+
+
 def fewest_words(lengths, steps, heaps, level):
     """Of all ways of merging the kinds of these lengths, the fewest words of their pools."""
-
-    @functools.cache
-    def words(above, upto):
-        return pool_words(row_between(steps, above, upto), level)
-
-    return min(sum(words(lengths[first - 1] if first else -1, lengths[last]) for first, last in zip((0, *(it + 1 for it in ends)), ends))
-               for ends in ways(len(lengths), heaps))
+    return sum(pool_words(row, level) for row in merged(lengths, steps, heaps, level)[0])
