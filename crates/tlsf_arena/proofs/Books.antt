@@ -1,12 +1,13 @@
 -- The book of an arena, under the calls of its heap.
 use Rattle.tlsf_arena.proofs.Common.{◌≡◌, ◌≢◌, ℕ, ◌+◌, ◌<◌, ◌≤◌, Bool, true, false, cond, eqb, nat_le, nat_lt, ◌||◌, List, [], ◌∷◌, ◌++◌, length, Option, Some, Ok, refl, sym, ap, subst, ◌∙◌, arith, inl, inr, IsSome, eq-eqb, eqb-true, false≢true, cases_lt, nat_tests, Block, Live, Free, HeapState, size_of, bytes_of, words_in, Site, place_of, IsLawful, IsLive, allocated_words, fitted, first_free, has_serial, is_sized, past_free, recut, refitted, released, resized_words, room_of, Name, Holds, Loan, loan_of, name_of, units_of, is_out, same_loan, without, IsBook, held_units, lacking, IsLevel}
+use Rattle.tlsf_heap.specs.Steps.{Give}
 use Rattle.tlsf_heap.proofs.lemmas.blocks.Find.{and_left, and_right}
 use Rattle.tlsf_heap.proofs.lemmas.words.NewBytes.{length-fitted}
 use Rattle.tlsf_heap.proofs.lemmas.laws.Lasting.{HasFrom, in_right}
 use Rattle.tlsf_heap.proofs.lemmas.laws.Live.{new_words}
 use Rattle.tlsf_heap.proofs.lemmas.calls.Outcomes.{by_resized_words, resizes}
 use Rattle.tlsf_heap.proofs.lemmas.words.Recut.{cut_small, cut_large}
-use Rattle.tlsf_arena.proofs.Holding.{IsBlockOf, Keeps, allocated_keeps, by_place, kept, stays_released, stays_resized}
+use Rattle.tlsf_arena.proofs.Holding.{IsBlockOf, by_place, kept, stays_released, stays_resized}
 use Rattle.tlsf_arena.proofs.Mapped.{lacks}
 use Rattle.tlsf_arena.proofs.Maps.{Tells, holds_given}
 use Rattle.tlsf_arena.proofs.Rights.{is_same, was_out, out_no_more}
@@ -124,7 +125,7 @@ pub after_allocate : (sli : ℕ) → IsLevel sli → (old new : HeapState) (k le
 after_allocate sli level old new k len name out after book lack answer heap lawful is =
     let holds = holds_given sli level old k len name (subst (Tells k) (sym lack) (lacks k)) answer (subst IsLawful heap lawful) in
     subst (λ (l : List Loan). IsBook l new) (sym is) (lends_one out old new name k book (subst (λ (h : HeapState). Holds h name k) (sym heap) holds)
-    (λ other units its. kept other old new units (subst (Keeps other old) (sym heap) (allocated_keeps sli k len old other)) lawful its))
+    (λ other units its. kept sli old new other units (Give k len) tt heap lawful its))
 
 -- a release that was done
 pub after_release : (old new : HeapState) (name : Name) (t : Loan) (out after : List Loan) → IsBook out old → is_out out t ≡ true → name_of t ≡ name → new ≡ (released old name).heap → IsLawful new → after ≡ without t out → IsBook after new

@@ -1,27 +1,10 @@
 -- A block for several values: its type and its parts, a piece as room for it, and what `moved` gave. Assumes `Logic`.
-use Rattle.tlsf_arena.proofs.Common.{◌≡◌, ℕ, ◌+◌, ◌-◌, ◌*◌, ◌/◌, ◌%◌, ◌≤◌, List, [], ◌∷◌, ◌++◌, MatchResult, Ok, Err, refl, sym, ap, ◌∙◌, arith, array_of, block_with_items, El, room_split, glued, add_times, Home, ints, ways, behind, whole_token}
-use seplogic.Ra.Ura.{Ura}
-use mir.Syntax.{Ty, Width, ty_array}
+use Rattle.tlsf_arena.proofs.Walking.{◌≡◌, ℕ, ◌+◌, ◌-◌, ◌*◌, ◌/◌, ◌%◌, ◌≤◌, List, [], ◌∷◌, ◌++◌, MatchResult, Ok, Err, refl, sym, ap, ◌∙◌, arith, array_of, block_with_items, El, room_split, glued, add_times, Home, ints, ways, behind, whole_token, Ura, Ty, Width, ty_array, Val, vstruct, vcons, vnil, of_list, bytes, size, SProp, ent, sep, emp, never, fst∗, Fml, ffalse, fsep, froom, Logic, sem, Item, Goal, Seq, ‵, raw, ◌⊛◌, ◌$◌, ◌∵◌, !, qed, by, move, drop, use1, use2, split, frame, rewrite, fsplit, fjoin, fpick, feq_l, done, live, RattleType, Ptr, RawPtr, block_ptr, null_ptr, ptr_val, in_a_block, layout, shadow, makes_shadow, pure_l, only, bytes_at, units_of, plainly, align_w}
 use mir.Raw.{raw as bare}
-use mir.Val.{Val, vstruct, vcons, vnil, of_list, bytes}
-use prog.Memory.{size}
 use prog.RawLaws.{size-raw}
-use base.Logic.{SProp, ent, sep, emp, never, fst∗}
-use base.Fml.{Fml, ffalse, fsep, froom}
-use types.Logic.{Logic, sem}
-use types.Kit.{Item, Goal, Seq, ‵, raw, ◌⊛◌, ◌$◌, ◌∵◌, !, qed, by, move, drop, use1, use2, split, frame, rewrite, fsplit, fjoin, fpick, feq_l, done}
-use types.Match.{live}
-use denote.RattleType.{RattleType}
-use denote.RawPtr.{Ptr, RawPtr, block_ptr, null_ptr, ptr_val, in_a_block}
-use denote.Param.{layout}
-use denote.Shadow.{shadow, makes_shadow, pure_l}
-use denote.Steps.{only}
 use Rattle.core.specs.contracts.result.Result as result
-use Rattle.linked_list_allocator.specs.Ownership.{bytes_at, units_of}
-use Rattle.linked_list_allocator.proofs.Values.{plainly}
 use Rattle.tlsf_arena.proofs.Taken.{even, as_ints, from_ints}
 use Rattle.tlsf_arena.proofs.Ways.{ints_cut, ints_glue, left_even, opens, closes, ways_cut, ways_glue}
-use prog.Align.{align_w}
 use Rattle.tlsf_arena.specs.contracts.buffer.Buffer as buffer
 use Rattle.tlsf_arena.specs.contracts.buffer_grant.BufferGrant as grant
 

@@ -1,27 +1,10 @@
 -- What a `Slot` holds is one machine value, and is reached through a `&` with the thread's token. Assumes `Logic`.
-use Rattle.tlsf_arena.proofs.Common.{◌≡◌, ℕ, List, [], ◌∷◌, IfSome, None, Some, T, refl, Good, round, wraps, unwraps, Home}
-use seplogic.Ra.Ura.{Ura}
-use mir.Syntax.{Ty}
-use mir.Val.{Val}
-use base.Fraction.{full_share}
-use base.Logic.{sep, wand, apply∗}
-use base.Fml.{Lft, Share, Fml, Incl-refl, ftrue, fsep, fex, fat, flft, ftok}
-use base.Mask.{every, less}
-use types.Logic.{Logic, sem}
-use types.Kit.{Item, Goal, Seq, Step, Soaks, step, ‵, raw, ◌⊛◌, later, ◌$◌, move, drop, use1, use2, use3, split, join, fsplit, fjoin, fpick, fpack, rewrite, await}
-use types.Na.{na_acc_in}
-use denote.RattleType.{RattleType}
-use denote.Exit.{Last, left, yes}
+use Rattle.tlsf_arena.proofs.Walking.{◌≡◌, ℕ, List, [], ◌∷◌, IfSome, None, Some, T, refl, Good, round, wraps, unwraps, Home, Ura, Ty, Val, full_share, sep, wand, apply∗, Lft, Share, Fml, Incl-refl, ftrue, fsep, fex, fat, flft, ftok, every, less, Logic, sem, Item, Goal, Seq, Step, Soaks, step, ‵, raw, ◌⊛◌, later, ◌$◌, move, drop, use1, use2, use3, split, join, fsplit, fjoin, fpick, fpack, rewrite, await, na_acc_in, RattleType, Last, left, yes, Lawful, cell_at, hidden_shr, lone, number, param, layout, nothing, fields_with}
 use denote.Param.Mute.{blank}
-use denote.Laws.{Lawful}
-use denote.Memory.{cell_at, hidden_shr, lone}
 use denote.Opens.{unhide}
-use denote.Param.{number, param, layout}
-use denote.Steps.{nothing}
 use denote.Struct.Members.{Member}
 use Rattle.core.specs.contracts.option.Option as option
 use Rattle.core.proofs.option.Option.TheLaws.{the_row_laws as option_laws}
-use Rattle.linked_list_allocator.specs.Ownership.{fields_with}
 use Rattle.tlsf_arena.specs.contracts.boxed.BoxedArena as arena
 use Rattle.tlsf_arena.specs.contracts.slot.Slot as slot
 use Rattle.tlsf_arena.specs.contracts.slot.Slot.TheInside as inside

@@ -1,4 +1,5 @@
 mod Common
+mod Walking
 pub mod Books
 pub mod Buffers
 pub mod Cell

@@ -1,34 +1,12 @@
 -- A piece as room that a vector of bytes has, and `lodge` and `dislodge` at a call. Assumes `Logic`.
-use Rattle.tlsf_arena.proofs.Common.{◌≡◌, ℕ, ◌+◌, ◌-◌, ◌*◌, ◌/◌, ◌%◌, ◌^◌, ◌<◌, ◌≤◌, List, [], ◌∷◌, length, true, refl, sym, ap, ◌∙◌, arith, Vec, ne_eqb, not_from_false, handle_tells, block_with_items, lodged, owns_if, has_block, ints, ways}
-use seplogic.Ra.Ura.{Ura}
+use Rattle.tlsf_arena.proofs.Walking.{◌≡◌, ℕ, ◌+◌, ◌-◌, ◌*◌, ◌/◌, ◌%◌, ◌^◌, ◌<◌, ◌≤◌, List, [], ◌∷◌, length, true, refl, sym, ap, ◌∙◌, arith, Vec, ne_eqb, not_from_false, handle_tells, block_with_items, lodged, owns_if, has_block, ints, ways, Ura, w8, w64, ty_int, ty_array, dict_at, Val, vint, vptr, has_ty, WT, full_share, SProp, ent, sep, ex, guard, emp, id⊢, ftrue, fsep, feq, flft, froom, Memory, Fun, fact, fact_i, ◌⊑◌, ⊑_refl, Logic, sem, Goal, Seq, Item, ‵, raw, ◌⊛◌, some, later, ◌$◌, ◌∵◌, !, qed, move, use0, use1, use2, drop, split, split3, join, pick, fsplit, fsplit3, fjoin, fjoin3, feq_l, feq_i, flt_l, flt_i, rewrite, check, show, await, updating, now, done, no, left, RattleType, u8, usize, Array, part_at, param, layout, Laws, of_field, block_ptr, only, nothing, heard, triple_of, Lodged, units_of}
 use lib.Dec.{T}
-use mir.Syntax.{w8, w64, ty_int, ty_array, given as dict_at}
-use mir.Val.{Val, vint, vptr, has_ty, WT}
-use base.Fraction.{full_share}
-use base.Logic.{SProp, ent, sep, ex, guard, emp, id⊢}
-use base.Fml.{ftrue, fsep, feq, flft, froom}
-use prog.Memory.{Memory}
 use prog.Routine.{Routine}
-use contract.Monad.{Fun, fact, fact_i}
-use contract.BorrowLft.{◌⊑◌, ⊑_refl}
-use types.Logic.{Logic, sem}
-use types.Kit.{Goal, Seq, Item, ‵, raw, ◌⊛◌, some, later, ◌$◌, ◌∵◌, !, qed, move, use0, use1, use2, drop, split, split3, join, pick, fsplit, fsplit3, fjoin, fjoin3, feq_l, feq_i, flt_l, flt_i, rewrite, check, show, await, updating, now, done}
-use denote.Exit.{no, left}
-use denote.RattleType.{RattleType}
-use denote.Builtin.{u8, usize}
-use denote.Array.{Array}
-use denote.Memory.{part_at}
-use denote.Param.{param, layout}
-use denote.Param.Laws.{Laws, of_field}
 use denote.Param.Shared.{copy_shared}
-use denote.RawPtr.{block_ptr}
 use denote.RawPtr.Bytes.{bytes, bytes_apart, bytes_whole, bytes-room}
-use denote.Steps.{only, nothing, heard}
 use denote.Struct.Field.{u8-field}
 use denote.Struct.Laws.{u8-laws, u8-copy}
-use denote.Triple.Spec.{triple_of}
 use denote.Triple.Statement.{Contract}
-use Rattle.std_alloc.specs.declared.vec.lodged.Lodged.{Lodged}
 use Rattle.std_alloc.specs.contracts.vec.Vec as V
 use Rattle.std_alloc.specs.contracts.vec.lodged.Lodged as L
 use Rattle.std_alloc.specs.contracts.vec.lodged.LodgedAllocator.TheImpl.{ghosts}
@@ -36,7 +14,6 @@ use Rattle.std_alloc.specs.contracts.vec.lodge as LG
 use Rattle.std_alloc.specs.contracts.vec.lodged.Vec+T+Lodged.dislodge as DL
 use Rattle.std_alloc.proofs.vec.Vec.TheLaws as vec_laws
 use Rattle.std_alloc.proofs.vec.lodged.Lodged.TheLaws as lodged-laws
-use Rattle.linked_list_allocator.specs.Ownership.{units_of}
 use Rattle.tlsf_arena.proofs.Ways.{opens, closes, ints_glue}
 
 abbrev pub byte_laws : Laws u8

@@ -1,15 +1,11 @@
 -- A right goes out of the book and comes back, and whoever has one knows that its block is out. Assumes `Logic`.
-use Rattle.tlsf_arena.proofs.Common.{◌≡◌, Bool, true, false, cond, not, eqb, ◌&&◌, ◌||◌, List, [], ◌∷◌, refl, sym, ap, subst, ◌∙◌, eq-eqb, eqb-true, and_from, or_from, false_from_ne_true, true≢false, Loan, same_loan, is_out, without, rights, row, right, rest_of}
+use Rattle.tlsf_arena.proofs.Walking.{◌≡◌, Bool, true, false, cond, not, eqb, ◌&&◌, ◌||◌, List, [], ◌∷◌, refl, sym, ap, subst, ◌∙◌, eq-eqb, eqb-true, and_from, or_from, false_from_ne_true, true≢false, Loan, same_loan, is_out, without, rights, row, right, rest_of, Ura, SProp, ent, sep, emp, ex, guard, via, guard_i, guard_e, GName, Logic, sem}
 use mathlib.Core.Option.{Option, none, some}
 use mathlib.Mathlib.Data.Part.{Part, ◌∈◌}
 use seplogic.Ra.Pcs.{OpDef}
-use seplogic.Ra.Ura.{Ura}
 use seplogic.Ra.Constructions.Opt
 use seplogic.Ra.Instances.Excl
 use seplogic.Ra.IProd.{mem-op_iff}
-use base.Logic.{SProp, ent, sep, emp, ex, guard, via, guard_i, guard_e}
-use base.Fml.{GName}
-use types.Logic.{Logic, sem}
 use types.Owned.{basic, own_new, own_join, own_sum}
 use Rattle.tlsf_heap.proofs.lemmas.blocks.Find.{and_left, and_right}
 

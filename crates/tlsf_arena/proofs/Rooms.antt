@@ -1,13 +1,6 @@
 -- The bytes of free units, cut out of the rest and put back. Assumes `Logic`.
-use Rattle.tlsf_arena.proofs.Common.{◌≡◌, ℕ, zero, suc, ◌+◌, ◌*◌, Bool, true, false, List, [], ◌∷◌, ◌++◌, length, take, drop, replicate, refl, sym, ap, ◌∙◌, arith, length-append, length-replicate, free_rooms, IsRun, marked}
-use seplogic.Ra.Ura.{Ura}
-use base.Logic.{SProp, ent, sep, via}
-use base.Fml.{froom, ftrue}
-use types.Logic.{Logic, sem}
-use types.Kit.{‵, ◌⊛◌, ◌$◌, ◌∵◌, !, qed, by, move, drop as lose, use1, use2, split, fsplit, fjoin, rewrite, done}
-use denote.Steps.{nothing}
-use Rattle.linked_list_allocator.specs.Ownership.{units_of}
-use Rattle.linked_list_allocator.proofs.Nodes.{cuts, glues, resized}
+use Rattle.tlsf_arena.proofs.Walking.{◌≡◌, ℕ, zero, suc, ◌+◌, ◌*◌, Bool, true, false, List, [], ◌∷◌, ◌++◌, length, take, replicate, refl, sym, ap, ◌∙◌, arith, length-append, length-replicate, free_rooms, IsRun, marked, Ura, SProp, ent, sep, via, froom, ftrue, Logic, sem, ‵, ◌⊛◌, ◌$◌, ◌∵◌, !, qed, by, move, lose, use1, use2, split, fsplit, fjoin, rewrite, done, nothing, units_of, cuts, glues, resized}
+use Rattle.tlsf_arena.proofs.Common.{drop}
 
 -- ---- maps
 

@@ -1,26 +1,8 @@
 -- The two cases of what `take` gave, and a piece as room for a type. Assumes `Logic`.
-use Rattle.tlsf_arena.proofs.Common.{◌+◌, ◌-◌, ◌*◌, ◌/◌, ◌%◌, ◌≡◌, ℕ, ◌^◌, ◌<◌, ◌≤◌, List, [], ◌∷◌, ◌++◌, IfSome, None, Some, refl, sym, ap, subst, ◌∙◌, arith, IsUnit, piece_size, units_for, IsPiece, Loan, name_of, right, Home, IsLoanAt, ints, ways, behind, block_token, whole_token}
-use seplogic.Ra.Ura.{Ura}
-use mir.Syntax.{Ty}
-use mir.Val.{Val, vcons, vnil, of_list, bytes}
-use base.Logic.{ent, sep}
-use base.Fml.{GName, fex, fwand, froom}
-use prog.Memory.{size, capped}
-use prog.Align.{Dv, dv→, dv_self, align_w, align-bytes, align_size}
-use prog.Capped.{capped_is, capped_small}
-use types.Logic.{Logic, sem}
-use types.Kit.{Item, Goal, Seq, ‵, ◌⊛◌, ◌$◌, ◌∵◌, !, qed, move, drop, use1, use2, split, frame, rewrite, fsplit, fjoin, fpick, fpack, feq_l, done}
-use types.Match.{live}
-use denote.RattleType.{RattleType}
-use denote.RawPtr.{Ptr, block_ptr}
-use denote.Shadow.{pure_l}
-use denote.Steps.{only}
+use Rattle.tlsf_arena.proofs.Walking.{◌+◌, ◌-◌, ◌*◌, ◌/◌, ◌%◌, ◌≡◌, ℕ, ◌^◌, ◌<◌, ◌≤◌, List, [], ◌∷◌, ◌++◌, IfSome, None, Some, refl, sym, ap, subst, ◌∙◌, arith, IsUnit, piece_size, units_for, IsPiece, Loan, name_of, right, Home, IsLoanAt, ints, ways, behind, block_token, whole_token, Ura, Ty, Val, vcons, vnil, of_list, bytes, ent, sep, GName, fex, fwand, froom, size, capped, Dv, dv→, dv_self, align_w, align-bytes, align_size, capped_is, capped_small, Logic, sem, Item, Goal, Seq, ‵, ◌⊛◌, ◌$◌, ◌∵◌, !, qed, move, drop, use1, use2, split, frame, rewrite, fsplit, fjoin, fpick, fpack, feq_l, done, live, RattleType, Ptr, block_ptr, pure_l, only, Region, bytes_at, units_of, sized_val, sized_own, sized_told}
 use Rattle.core.specs.contracts.option.Option as option
-use Rattle.linked_list_allocator.specs.Region.{Region}
 use Rattle.tlsf_arena.specs.Loans.{units_of as units_in}
-use Rattle.linked_list_allocator.specs.Ownership.{bytes_at, units_of}
 use Rattle.tlsf_arena.specs.contracts.grant.Grant as grant
-use Rattle.linked_list_allocator.proofs.Values.{sized_val, sized_own, sized_told}
 use Rattle.tlsf_arena.proofs.UnitCases.{piece_holds}
 use Rattle.tlsf_arena.proofs.Ways.{exact, opens, closes, ints_cut, ints_glue}
 

@@ -1,17 +1,6 @@
 -- Grains as integers of a width, and the ways back. Assumes `Logic`.
-use Rattle.tlsf_arena.proofs.Common.{◌≡◌, ℕ, zero, suc, ◌+◌, ◌-◌, ◌*◌, ◌/◌, ◌%◌, ◌≤◌, [], ◌∷◌, refl, sym, ap, ◌∙◌, arith, suc-mul, ints, ways}
-use seplogic.Ra.Ura.{Ura}
-use mir.Syntax.{Width, w8, w16, w32, w64, w128, ty_int, ty_array}
-use mir.Val.{bytes}
-use base.Logic.{SProp, ent, sep, wand, apply∗}
-use base.Fml.{fwand, froom}
-use prog.Align.{Dv}
-use types.Logic.{Logic, sem}
-use types.Kit.{‵, raw, ◌⊛◌, ◌$◌, ◌∵◌, !, qed, by, move, drop, use0, use1, use2, split, fsplit, fjoin, rewrite, done}
+use Rattle.tlsf_arena.proofs.Walking.{◌≡◌, ℕ, zero, suc, ◌+◌, ◌-◌, ◌*◌, ◌/◌, ◌%◌, ◌≤◌, [], ◌∷◌, refl, sym, ap, ◌∙◌, arith, suc-mul, ints, ways, Ura, Width, w8, w16, w32, w64, w128, ty_int, ty_array, bytes, SProp, ent, sep, wand, apply∗, fwand, froom, Dv, Logic, sem, ‵, raw, ◌⊛◌, ◌$◌, ◌∵◌, !, qed, by, move, drop, use0, use1, use2, split, fsplit, fjoin, rewrite, done, nothing, units_of, cuts, glues, resized}
 use denote.RawPtr.Room.{room_cut, room_glue, past}
-use denote.Steps.{nothing}
-use Rattle.linked_list_allocator.specs.Ownership.{units_of}
-use Rattle.linked_list_allocator.proofs.Nodes.{cuts, glues, resized}
 
 by_width : (P : ℕ → Type 0) → P 1 → P 2 → P 4 → P 8 → P 16 → (w : Width) → P (bytes w)
 by_width P a b c d e w8 = a

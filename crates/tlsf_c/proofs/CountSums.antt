@@ -1,5 +1,5 @@
 -- What a heap counts over its calls.
-use Rattle.tlsf_c.proofs.Common.{◌≡◌, drop, ℕ, ◌+◌, ◌-◌, ◌≤◌, max, List, Result, Ok, Err, refl, sym, ap, ◌∙◌, subst, arith, IfOk, OnErr, HeapState, want, Release, Write, refused, allocated, allocated_words, resized_words, written, FollowsNoForgery, Seen, Shown, words_in_use, words_at, Name, Refusal, counted, AreCounts, Counts}
+use Rattle.tlsf_c.proofs.Common.{◌≡◌, drop, ℕ, ◌+◌, ◌-◌, ◌≤◌, max, List, Result, Ok, Err, refl, sym, ap, ◌∙◌, subst, arith, IfOk, OnErr, HeapState, want, refused, allocated, allocated_words, resized_words, written, FollowsNoForgery, Seen, Shown, words_in_use, words_at, Name, Refusal, counted, AreCounts, Counts}
 use Rattle.tlsf_class.specs.Classes.{IsLevel}
 use Rattle.tlsf_heap.specs.Aligned.{words_aligned}
 use Rattle.tlsf_heap.specs.Lawful.{IsLawful}
@@ -9,15 +9,16 @@ use Rattle.tlsf_heap.specs.Named.{RefusesName}
 use Rattle.tlsf_heap.specs.Image.{Image}
 use Rattle.tlsf_heap.specs.Kept.{IsAsBefore}
 use Rattle.tlsf_heap.specs.Unset.{GivesUnset, lying, unset_from}
-use Rattle.tlsf_heap.proofs.lemmas.laws.AlignedWords.{in_use_aligned, in_use_payload, words_payload}
+use Rattle.tlsf_heap.specs.Steps.{Put, Fill}
+use Rattle.tlsf_heap.proofs.lemmas.laws.AlignedWords.{in_use_aligned}
 use Rattle.tlsf_heap.proofs.lemmas.calls.Alter.{named_of}
-use Rattle.tlsf_heap.proofs.lemmas.laws.Live.{given_words, kept}
-use Rattle.tlsf_heap.proofs.lemmas.laws.MovedWords.{by_moved, moved_live, in_use_moved}
-use Rattle.tlsf_heap.proofs.lemmas.calls.ResizeOrMove.{refuses}
+use Rattle.tlsf_heap.proofs.lemmas.laws.Live.{given_words, kept_others}
+use Rattle.tlsf_heap.proofs.lemmas.laws.MovedWords.{moved_live, in_use_moved}
+use Rattle.tlsf_heap.proofs.lemmas.calls.ResizeOrMove.{by_moved, refuses}
 use Rattle.tlsf_heap.proofs.lemmas.calls.Named.{named_stands, named_live, not_forged}
 use Rattle.tlsf_heap.proofs.lemmas.calls.Outcomes.{by_allocated, by_allocated_words, by_released, by_resized, by_written}
 use Rattle.tlsf_heap.proofs.lemmas.calls.Resize.{resized_refused}
-use Rattle.tlsf_heap.proofs.lemmas.laws.WordsInUse.{words_named, words_part, words_within, in_use_allocated, in_use_resized, in_use_written, words_written}
+use Rattle.tlsf_heap.proofs.lemmas.laws.WordsInUse.{words_named, words_part, words_within, in_use_allocated, in_use_resized, words_set}
 
 -- a live block has no more words than are in use
 pub part : (h : HeapState) (name : Name) → IsLawful h → IsLive h name → words_at h name.at ≤ words_in_use h
@@ -34,10 +35,6 @@ pub moved_refused : (sli : ℕ) (h : HeapState) (name : Name) (len : ℕ) (why :
 moved_refused sli h name len why r =
     refuses sli h name len why (λ same. subst (RefusesName h name) same r) (sym (ap (λ o. o.answer) (resized_refused h name (want len) len why r)))
 
--- a write leaves it live
-written_live : (h : HeapState) (name : Name) (at : ℕ) (bytes : List ℕ) → IsLive h name → IsLive (written h name at bytes).heap name
-written_live h name at bytes = kept 0 h name (Write name at bytes) (λ taken. let bad : Write name at bytes ≡ Release name = taken.0 in cc)
-
 -- what a request is counted by: a block was given, or nothing changed
 pub given : (sli : ℕ) → IsLevel sli → (h : HeapState) (c : Counts) → AreCounts h c → (n len : ℕ) → want len ≤ n → IsLawful h → (answer : Result Name Refusal) → answer ≡ (allocated_words sli h n len).answer
     → (k : HeapState) → k ≡ (allocated_words sli h n len).heap
@@ -52,7 +49,7 @@ given sli level h c are n len wanted lawful (Err why) e k is =
 
 -- a write changes none of it
 pub counts_written : (h : HeapState) (name : Name) (at : ℕ) (bytes : List ℕ) (c : Counts) → AreCounts h c → AreCounts (written h name at bytes).heap c
-counts_written h name at bytes c are = record { words = omega (arith, are.words, in_use_written h name at bytes); most = are.most }
+counts_written h name at bytes c are = record { words = omega (arith, are.words, (words_set 0 h (Put name at bytes) tt).0); most = are.most }
 
 -- the same where nothing is filled
 pub given_unset : (sli : ℕ) → IsLevel sli → (h : HeapState) (c : Counts) → AreCounts h c → (len : ℕ) → IsLawful h → (m : Image) (answer : Result Name Refusal) → answer ≡ (allocated sli h len).answer
@@ -62,8 +59,8 @@ given_unset sli level h c are len lawful m (Ok name) e k is same =
     let full = (allocated sli h len).heap in
     let bytes = drop 0 (lying m name.at len) in
     let filled = given sli level h c are (want len) len (omega arith) lawful (Ok name) e full refl in (
-      subst (λ (s : HeapState). IsLive s name) (sym is) (written_live full name 0 bytes filled.0),
-      subst (λ (s : HeapState). words_in_use s ≡ c.words + words_at s name.at) (sym is) (omega (arith, filled.1, in_use_written full name 0 bytes, words_written name.at full name 0 bytes)),
+      subst (λ (s : HeapState). IsLive s name) (sym is) (kept_others sli full name (Put name 0 bytes) tt filled.0),
+      subst (λ (s : HeapState). words_in_use s ≡ c.words + words_at s name.at) (sym is) (omega (arith, filled.1, (words_set sli full (Put name 0 bytes) tt).0, (words_set sli full (Put name 0 bytes) tt).1 name.at)),
       tt,
     )
 given_unset sli level h c are len lawful m (Err why) e k is same = (tt, tt, ap words_in_use same ∙ sym are.words)
@@ -76,7 +73,7 @@ given_aligned sli level old new c are len step skew lawful (Ok name) e gives sam
     let full = (words_aligned sli old.heap (want len) (max step 1) skew).heap in
     let bytes = lying new.stored name.at len in
     let sum = in_use_aligned sli level old.heap (want len) (max step 1) skew lawful (omega arith) (omega arith) name (sym e) in
-    (gives.given.0, subst (λ (s : HeapState). words_in_use s ≡ c.words + words_at s name.at) (sym gives.heap) (omega (arith, are.words, sum, in_use_payload full name bytes, words_payload name.at full name bytes)), tt)
+    (gives.given.0, subst (λ (s : HeapState). words_in_use s ≡ c.words + words_at s name.at) (sym gives.heap) (omega (arith, are.words, sum, (words_set sli full (Fill name bytes) tt).0, (words_set sli full (Fill name bytes) tt).1 name.at)), tt)
 given_aligned sli level old new c are len step skew lawful (Err why) e gives same = (tt, tt, ap words_in_use same.heap ∙ sym are.words)
 
 -- ---- a resize: j is the heap behind a look at the block, k that behind the resize, and l that behind a look at the block that is left
@@ -141,8 +138,8 @@ module _ (sli : ℕ) (level : IsLevel sli) (h : HeapState) (c : Counts) (are : A
       let bytes = drop from (lying m new.at len) in
       let written_words : (written full new from bytes).heap.words ≡ full.words = by_written (λ o. o.heap.words ≡ full.words) full new from bytes (λ why. refl) (λ s site fits. refl) in
       record {
-        live = subst (λ (s : HeapState). IsLive s new) (sym is) (written_live full new from bytes (moved_live sli h name new len lawful live (sym e)));
-        sum = by_sum k new (sym e) (ap words_in_use is ∙ in_use_written full new from bytes) (ap (λ (s : HeapState). words_at s new.at) is ∙ words_written new.at full new from bytes);
+        live = subst (λ (s : HeapState). IsLive s new) (sym is) (kept_others sli full new (Put new from bytes) tt (moved_live sli h name new len lawful live (sym e)));
+        sum = by_sum k new (sym e) (ap words_in_use is ∙ (words_set sli full (Put new from bytes) tt).0) (ap (λ (s : HeapState). words_at s new.at) is ∙ (words_set sli full (Put new from bytes) tt).1 new.at);
         refused = tt;
         small = omega (arith, held, are.words);
         room = omega (arith, held, words_within h lawful, ap (λ (s : HeapState). s.words) is, written_words, moved_words sli h name len);

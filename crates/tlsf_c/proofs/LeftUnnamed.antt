@@ -1,24 +1,18 @@
 -- Which payloads a drain leaves: it goes on by some posts.
-use Rattle.tlsf_c.proofs.Common.{◌≡◌, ℕ, suc, ◌+◌, ◌<◌, ◌++◌, [], ◌∷◌, List, length, take, ap, sym, ◌∙◌, subst, arith, eqb-true, false≢true, Block, HeapState, words_in, has_serial, released, IsOthersWord, LeavesPayloads, Name, Post, drained, LeavesUnnamed}
+use Rattle.tlsf_c.proofs.Common.{◌≡◌, ℕ, suc, ◌+◌, ◌<◌, ◌++◌, [], ◌∷◌, List, length, take, ap, sym, ◌∙◌, subst, arith, Block, HeapState, released, IsOthersWord, LeavesPayloads, Name, Post, drained, LeavesUnnamed}
 use Rattle.std.proofs.Math.Seq.{take-suc}
 use lib.ListN.{get_or}
 use Rattle.std.specs.List.{AllByRecursion}
-use Rattle.tlsf_heap.proofs.lemmas.blocks.Find.{and_right}
+use Rattle.tlsf_heap.specs.Steps.{Take}
 use Rattle.tlsf_heap.proofs.lemmas.blocks.Lawful.{all_left, all_right}
-use Rattle.tlsf_heap.proofs.lemmas.calls.Leaves.{has_site}
-use Rattle.tlsf_heap.proofs.lemmas.calls.Outcomes.{by_released, takes}
-use Rattle.tlsf_heap.proofs.lemmas.laws.Lasting.{released_lasts}
-use Rattle.tlsf_heap.proofs.lemmas.words.Footprint.{HoldsWord, held_word, one_place}
+use Rattle.tlsf_heap.proofs.lemmas.calls.Leaves.{word_step}
+use Rattle.tlsf_heap.proofs.lemmas.words.Footprint.{one_place}
 use Rattle.tlsf_c.proofs.Draining.{released_more}
 
 -- a word of another block than two is one of another than the first once the second is released
 released_others : (h : HeapState) (to k : ℕ) → IsOthersWord h.blocks to k → (name : Name) → IsOthersWord h.blocks name.at k → IsOthersWord (released h name).heap.blocks to k
-released_others h to k o name p = by_released (λ r. IsOthersWord r.heap.blocks to k) h name (λ why. o) (λ s own site is.
-    let P = HoldsWord o.1 k in
-    let same : o.1 ≡ p.1 = one_place h.blocks o.0 p.0 o.1 p.1 3 3 k o.2 p.2 in
-    let placed : words_in s.before ≡ name.at = eqb-true _ _ (and_right (has_serial name.serial s.block) _ is) in
-    held_word (takes h s).heap.blocks h.blocks to k o
-    (released_lasts P o.1 (λ m t f. false≢true (sym f.0)) h.tick s.before s.after s.block (λ e there. p.4 (sym same ∙ sym there ∙ placed)) (has_site h to k o s site)))
+released_others h to k o name p =
+    let same : o.1 ≡ p.1 = one_place h.blocks o.0 p.0 o.1 p.1 3 3 k o.2 p.2 in word_step h to k o 0 (Take name) (λ at. p.4 (sym same ∙ at))
 
 -- and of others than those of several posts
 abbrev Unnamed : HeapState → ℕ → List Post → Type 0

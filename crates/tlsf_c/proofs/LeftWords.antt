@@ -1,55 +1,24 @@
 -- A word of a live block's payload is one behind the calls that count.
-use Rattle.tlsf_c.proofs.Common.{◌≡◌, ℕ, suc, ◌+◌, [], ◌∷◌, List, Option, Some, None, Result, Ok, Err, inl, inr, refl, sym, ◌∙◌, subst, arith, drop, length, take, min, IfOk, OnErr, nat_le, Block, HeapState, want, Outcome, refused, last_tick, named, with_bytes, allocated, allocated_words, written, IsLiveWord, IsOthersWord, LeavesLive, payload_of, Shown, Name, Refusal}
+use Rattle.tlsf_c.proofs.Common.{◌≡◌, ℕ, suc, ◌+◌, List, Result, Ok, Err, refl, sym, ◌∙◌, subst, arith, drop, length, take, min, IfOk, OnErr, nat_le, HeapState, want, Outcome, refused, last_tick, allocated, allocated_words, written, IsLiveWord, IsOthersWord, LeavesLive, payload_of, Shown, Name, Refusal}
 use Rattle.tlsf_heap.specs.Aligned.{words_aligned, aligned_words, aligned_by, gap_of}
-use Rattle.tlsf_heap.specs.GoodFit.{Site}
 use Rattle.tlsf_heap.specs.Image.{Image}
 use Rattle.tlsf_heap.specs.Kept.{IsAsBefore}
 use Rattle.tlsf_heap.specs.Lawful.{IsLawful}
 use Rattle.tlsf_heap.specs.Moved.{resized_or_moved}
-use Rattle.tlsf_heap.specs.Unset.{GivesUnset, lying, unset_from, with_payload, with_payload_at}
+use Rattle.tlsf_heap.specs.Steps.{Give, Take, Fit, Put, Fill}
+use Rattle.tlsf_heap.specs.Unset.{GivesUnset, lying, unset_from}
 use Rattle.tlsf_heap.specs.declared.refusal.Refusal.TheVariants.{Worn}
-use Rattle.tlsf_heap.proofs.lemmas.calls.Leaves.{given_word, given_live, has_site, resized_word, written_word}
-use Rattle.tlsf_heap.proofs.lemmas.calls.LeavesAligned.{released_word, moved_word}
-use Rattle.tlsf_heap.proofs.lemmas.calls.Outcomes.{by_test, named_site}
-use Rattle.tlsf_heap.proofs.lemmas.laws.Lasting.{edited}
-use Rattle.tlsf_heap.proofs.lemmas.laws.MovedWords.{by_moved}
-use Rattle.tlsf_heap.proofs.lemmas.words.Bytes.{size_of-with_bytes, is_free-with_bytes}
-use Rattle.tlsf_heap.proofs.lemmas.words.Footprint.{HoldsWord, held_word, any_word}
-
--- it is another block's than that of any place but its own
-pub of_another : (bs : List Block) (k : ℕ) (live : IsLiveWord bs k) → IsOthersWord bs (suc live.1) k
-of_another bs k live = (live.0, live.1, live.2, live.3, λ e. omega (arith, e))
-
--- bytes that a payload gets leave it so
-pub payload_live : (h : HeapState) (k : ℕ) → IsLiveWord h.blocks k → (name : Name) (bytes : List ℕ) → IsLiveWord (with_payload h name bytes).blocks k
-payload_live h k live name bytes = at (named name h.blocks) refl
-  where
-    to : ℕ
-    to = suc live.1
-
-    o : IsOthersWord h.blocks to k
-    o = of_another h.blocks k live
-
-    at : (s : Option Site) → named name h.blocks ≡ s → IsLiveWord (with_payload_at h bytes s).blocks k
-    at None e = live
-    at (Some s) e =
-        let P = HoldsWord o.1 k in
-        let site = named_site name h.blocks s e in
-        let b = s.block in
-        let size = size_of-with_bytes b bytes in
-        any_word (with_payload_at h bytes (Some s)).blocks to k (held_word (with_payload_at h bytes (Some s)).blocks h.blocks to k o
-        (edited P o.1 0 s.before (b ∷ []) (with_bytes b bytes ∷ []) s.after (omega (arith, size))
-        (λ j l. elim l [ inl e ↦ inl ((is_free-with_bytes b bytes ∙ e.0.0, omega (arith, size, e.0.1)), e.1) | inr none ↦ absurd none ]) (has_site h to k o s site.0)))
-
-pub written_live : (h : HeapState) (k : ℕ) → IsLiveWord h.blocks k → (name : Name) (at : ℕ) (bytes : List ℕ) → IsLiveWord (written h name at bytes).heap.blocks k
-written_live h k live name at bytes = any_word (written h name at bytes).heap.blocks (suc live.1) k (written_word h (suc live.1) k (of_another h.blocks k live) name at bytes)
+use Rattle.tlsf_heap.proofs.lemmas.calls.ResizeOrMove.{by_moved}
+use Rattle.tlsf_heap.proofs.lemmas.calls.Leaves.{moved_word, given_word, word_step, live_step}
+use Rattle.tlsf_heap.proofs.lemmas.calls.Outcomes.{by_test}
+use Rattle.tlsf_heap.proofs.lemmas.words.Footprint.{any_word}
 
 -- a request leaves it so, whose bytes are those that lie there
 pub unset_live : (sli : ℕ) (h : HeapState) (k len : ℕ) (m : Image) (answer : Result Name Refusal) (left : HeapState) → IsLawful h
     → IfOk answer (λ name. left ≡ unset_from (allocated sli h len).heap name m 0 len) → OnErr answer (left ≡ h) → IsLiveWord h.blocks k → IsLiveWord left.blocks k
 unset_live sli h k len m (Ok name) left lawful is same live =
     subst (λ (s : HeapState). IsLiveWord s.blocks k) (sym is)
-    (written_live (allocated sli h len).heap k (given_live h k live sli (want len) len lawful) name 0 (drop 0 (lying m name.at len)))
+    (live_step (allocated sli h len).heap k (live_step h k live sli (Give (want len) len) tt) sli (Put name 0 (drop 0 (lying m name.at len))) tt)
 unset_live sli h k len m (Err why) left lawful is same live = subst (λ (s : HeapState). IsLiveWord s.blocks k) (sym same) live
 
 -- and one at a multiple of some words
@@ -62,33 +31,33 @@ aligned_live sli h k n step skew lawful live =
 
     on : (r : Result Name Refusal) → first.answer ≡ r → IsLiveWord (aligned_by h n step skew r first.heap).heap.blocks k
     on (Err why) e = live
-    on (Ok name) e = moved_word first.heap name (gap_of name.at step skew) n k ((given_word h (suc live.1) k (of_another h.blocks k live) sli (aligned_words n step) 0 lawful).1 name e)
+    on (Ok name) e = moved_word first.heap name (gap_of name.at step skew) n k (given_word h (suc live.1) k (live.0, live.1, live.2, live.3, λ e. omega (arith, e)) sli (aligned_words n step) 0 lawful name e)
 
 pub aligned_left : (sli : ℕ) (old new : Shown) (k len n step skew : ℕ) (answer : Result Name Refusal) → IsLawful old.heap
     → IfOk answer (GivesUnset old new (words_aligned sli old.heap n step skew).heap len) → OnErr answer (IsAsBefore old new) → IsLiveWord old.heap.blocks k → IsLiveWord new.heap.blocks k
 aligned_left sli old new k len n step skew (Ok name) lawful gives same live =
     subst (λ (s : HeapState). IsLiveWord s.blocks k) (sym gives.heap)
-    (payload_live (words_aligned sli old.heap n step skew).heap k (aligned_live sli old.heap k n step skew lawful live) name (lying new.stored name.at len))
+    (live_step (words_aligned sli old.heap n step skew).heap k (aligned_live sli old.heap k n step skew lawful live) sli (Fill name (lying new.stored name.at len)) tt)
 aligned_left sli old new k len n step skew (Err why) lawful gives same live = subst (λ (s : HeapState). IsLiveWord s.blocks k) (sym same.heap) live
 
 -- ---- a resize that may move the block
 
 -- a word of another block's payload
-pub moved_left : (sli : ℕ) (h : HeapState) (name : Name) (k len : ℕ) → IsLawful h → IsOthersWord h.blocks name.at k → IsLiveWord (resized_or_moved sli h name len).heap.blocks k
-moved_left sli h name k len lawful o =
+pub moved_left : (sli : ℕ) (h : HeapState) (name : Name) (k len : ℕ) → IsOthersWord h.blocks name.at k → IsLiveWord (resized_or_moved sli h name len).heap.blocks k
+moved_left sli h name k len o =
     by_moved sli (λ r. IsLiveWord r.heap.blocks k) h name len (λ why. any_word h.blocks name.at k o)
-    (any_word _ name.at k (resized_word h name.at k o name (want len) len o.4))
+    (any_word _ name.at k (word_step h name.at k o sli (Fit name (want len) len) o.4))
     (λ new e live fresh.
     let full = (allocated sli h len).heap in
-    let there : IsOthersWord full.blocks name.at k = (given_word h name.at k o sli (want len) len lawful).0 in
+    let there = word_step h name.at k o sli (Give (want len) len) tt in
     let bytes = take (min (length (payload_of full name)) (length (payload_of full new))) (payload_of full name) in
-    let wrote : IsOthersWord (written full new 0 bytes).heap.blocks name.at k = written_word full name.at k there new 0 bytes in
-    released_word (written full new 0 bytes).heap name.at k wrote name wrote.4)
+    let wrote = word_step full name.at k there sli (Put new 0 bytes) tt in
+    any_word _ name.at k (word_step (written full new 0 bytes).heap name.at k wrote sli (Take name) wrote.4))
 
 pub moved_unset_left : (sli : ℕ) (h : HeapState) (name : Name) (k from len : ℕ) (m : Image) (answer : Result Name Refusal) (left : HeapState) → IsLawful h
     → IfOk answer (λ new. left ≡ unset_from (resized_or_moved sli h name len).heap new m from len) → OnErr answer (left ≡ h) → IsOthersWord h.blocks name.at k → IsLiveWord left.blocks k
 moved_unset_left sli h name k from len m (Ok new) left lawful is same o =
-    subst (λ (s : HeapState). IsLiveWord s.blocks k) (sym is) (written_live (resized_or_moved sli h name len).heap k (moved_left sli h name k len lawful o) new from (drop from (lying m new.at len)))
+    subst (λ (s : HeapState). IsLiveWord s.blocks k) (sym is) (live_step (resized_or_moved sli h name len).heap k (moved_left sli h name k len o) sli (Put new from (drop from (lying m new.at len))) tt)
 moved_unset_left sli h name k from len m (Err why) left lawful is same o = subst (λ (s : HeapState). IsLiveWord s.blocks k) (sym same) (any_word h.blocks name.at k o)
 
 -- ---- what a refused call leaves whole, after a look that changes nothing

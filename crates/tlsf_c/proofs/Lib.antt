@@ -1,4 +1,5 @@
 mod Common
+mod Walking
 pub mod HeapBox
 pub mod PostBox
 pub mod TakeBox

@@ -1,8 +1,5 @@
 -- A full handle and its parts own what a box at the same types owns.
-use mir.Syntax.{impl, tnil, dnil}
-use mathlib.Core.List.{[]}
-use denote.Signature.{Slot, plain}
-use Rattle.tlsf_c.proofs.Common.{Bx, ghosts, dict}
+use Rattle.tlsf_c.proofs.Walking.{Bx, ghosts, dict, impl, tnil, dnil, [], Slot, plain}
 use Rattle.std_heap.specs.contracts.Global as Heap
 use Rattle.std_heap.proofs.Global.TheLaws as heap
 use Rattle.tlsf_post.specs.contracts.poster_end.PosterEnd as Home

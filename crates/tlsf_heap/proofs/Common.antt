@@ -28,7 +28,7 @@ unfoldable pub use Rattle.tlsf_heap.specs.Headers.{with_back, without_start}
 pub use Rattle.tlsf_heap.specs.Image.{Image, Shows, back_behind, mark_of, HoldsPayload, BlockAt, StartsOnce, ShowsFrom}
 pub use Rattle.tlsf_heap.specs.InPlace.{payload_of, bytes_at, payload_at, Alters, ArePayload, IsRefusedAsRead}
 pub use Rattle.tlsf_heap.specs.Lawful.{IsLawful, HasRoom, FreeBlocksAreApart, IsRegion}
-pub use Rattle.tlsf_heap.specs.Laws.{IsLive, IsTaken, IsGiven, IsGone, LieApart, LieInRegion, TakesBack}
+pub use Rattle.tlsf_heap.specs.Laws.{IsLive, IsTaken, IsGiven, IsGone, LieApart, LieInRegion}
 pub use Rattle.tlsf_heap.specs.Moved.{resized_or_moved, copied, moved, is_nearly_worn, moved_for, moved_to, resized_else}
 pub use Rattle.tlsf_heap.specs.Named.{IsNamed, IsFirst, RefusesName, IsNameCheck, NoneNamed}
 unfoldable pub use Rattle.tlsf_heap.specs.Read.{blocks_of, block_in, blocks_from}
@@ -36,7 +36,8 @@ pub use Rattle.tlsf_heap.specs.Regions.{RegionState, image_of, list_in, IsTagOf,
 pub use Rattle.tlsf_heap.specs.Reports.{free_among, live_among, IsGrant, largest_of, payload_in, report_of, is_served}
 unfoldable pub use Rattle.tlsf_heap.specs.Reports.{grant_of}
 pub use Rattle.tlsf_heap.specs.Shown.{Shown, seen, Seen}
-pub use Rattle.tlsf_heap.specs.Steady.{HasPayload, Holds, IsOfOthers, AreEvenFrom, IsEven, IsEvenCall, IsEvenFrom, IsPayloadWord}
+pub use Rattle.tlsf_heap.specs.Steady.{HasPayload, Holds, AreEvenFrom, IsEven, IsEvenFrom, IsPayloadWord}
+pub use Rattle.tlsf_heap.specs.Steps.{Step, Give, GiveFrom, Take, Fit, Put, Fill, Look, stepped, after, step_of, IsRoomy, TakesBack, IsOfOtherBlocks, IsOfOthers, IsWrite, IsEvenStep}
 pub use Rattle.tlsf_heap.specs.Stored.{state_of, IsStored}
 pub use Rattle.tlsf_heap.specs.Tallies.{tally_of, IsTallyUpTo, granted, told}
 pub use Rattle.tlsf_heap.specs.Touched.{FollowsNoPlace, FollowsNoForgery, groups_of, allocate_groups, allocate_touches, resize_touches, write_touches}

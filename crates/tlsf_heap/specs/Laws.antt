@@ -3,7 +3,7 @@ use Rattle.std.specs.Prelude.{◌≡◌, ◌≢◌, ℕ, ◌+◌, ◌<◌, ◌�
 use Rattle.std.specs.List.{AllByRecursion}
 use Rattle.tlsf_heap.specs.Blocks.{HeapState, size_of, serials}
 use Rattle.tlsf_heap.specs.GoodFit.{place_of, site_at}
-use Rattle.tlsf_heap.specs.Calls.{Call, Release, allocated, named, released}
+use Rattle.tlsf_heap.specs.Calls.{allocated, named, released}
 use Rattle.tlsf_heap.specs.declared.name.Name.{Name}
 
 -- the place behind the last word of block i
@@ -34,7 +34,3 @@ IsTaken h name = (released h name).answer ≡ Ok tt
 pub record IsGone (h : HeapState) (serial : ℕ) : Type 0 where
   pub past : serial < h.tick
   pub absent : AllByRecursion (λ y. y ≢ serial) (serials h.blocks)
-
--- the call is the release of this name, and is accepted
-abbrev pub TakesBack : HeapState → Name → Call → Type 0
-TakesBack h name call = (call ≡ Release name) × IsTaken h name

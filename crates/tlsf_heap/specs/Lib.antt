@@ -32,4 +32,5 @@ pub mod Effects
 pub mod WordsInUse
 pub mod Checks
 pub mod Aligned
+pub mod Steps
 pub mod ledger

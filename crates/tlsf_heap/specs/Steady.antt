@@ -1,7 +1,7 @@
 -- What stays of the blocks that a call is not about.
-use Rattle.std.specs.Prelude.{◌≡◌, ◌≢◌, ◌⊎◌, ℕ, ◌-◌, ◌%◌, ◌<◌, ◌≤◌, List, ⊤, false, true}
-use Rattle.tlsf_heap.specs.Blocks.{Block, Live, Free, HeapState, is_free, want, StandsAt}
-use Rattle.tlsf_heap.specs.Calls.{has_serial, Call, Allocate, Release, Resize, Write, Read}
+use Rattle.std.specs.Prelude.{◌≡◌, ◌⊎◌, ℕ, ◌-◌, ◌%◌, ◌<◌, ◌≤◌, List, false, true}
+use Rattle.tlsf_heap.specs.Blocks.{Block, Live, Free, HeapState, is_free, StandsAt}
+use Rattle.tlsf_heap.specs.Calls.{has_serial}
 use Rattle.tlsf_heap.specs.Footprint.{IsWordOf}
 use Rattle.tlsf_heap.specs.GoodFit.{block_at}
 use Rattle.tlsf_heap.specs.declared.name.Name.{Name}
@@ -21,14 +21,6 @@ HasPayload h name bytes = (name.heap ≡ h.id) × ((i : ℕ) × StandsAt h.block
 abbrev pub IsPayloadWord : HeapState → Name → ℕ → Type 0
 IsPayloadWord h name k = (name.heap ≡ h.id) × ((i : ℕ) × IsWordOf h.blocks i name.at 3 k × (has_serial name.serial (block_at h.blocks i) ≡ true))
 
--- the call is no release, resize or write of this name
-abbrev pub IsOfOthers : Name → Call → Type 0
-IsOfOthers name (Allocate len) = ⊤
-IsOfOthers name (Release other) = other ≢ name
-IsOfOthers name (Resize other len) = other ≢ name
-IsOfOthers name (Write other at bytes) = other ≢ name
-IsOfOthers name (Read other at n) = ⊤
-
 -- ---- even places
 
 -- an even number of words
@@ -42,11 +34,3 @@ IsEvenFrom from at = (from ≤ at) × IsEven (at - from)
 -- each block begins an even number of words behind a place, or else in front of it, and is live there
 abbrev pub AreEvenFrom : ℕ → List Block → Type 0
 AreEvenFrom from blocks = (at i : ℕ) → StandsAt blocks at i → IsEvenFrom from at ⊎ ((at < from) × (is_free (block_at blocks i) ≡ false))
-
--- the call wants an even number of words, and is of no block in front of a place, unless it reads or writes its payload
-abbrev pub IsEvenCall : ℕ → Call → Type 0
-IsEvenCall from (Allocate len) = IsEven (want len)
-IsEvenCall from (Release name) = from ≤ name.at
-IsEvenCall from (Resize name len) = (from ≤ name.at) × IsEven (want len)
-IsEvenCall from (Write name at bytes) = ⊤
-IsEvenCall from (Read name at n) = ⊤

@@ -230,6 +230,7 @@ impl<const SLI: u32> Heap<SLI> {
         ensures groups { InGroups release_groups self.old.touched self.new.touched }
     {
         let own = self.check(name)?;
+        // The count is the block's own words: nobody keeps one here.
         self.give_back(name.at, own, &mut own.size())
     }
 
@@ -577,6 +578,7 @@ impl<const SLI: u32> Heap<SLI> {
     }
 
     /// The tag of the live block that begins at a place, of all numbers. Where none does, `Stale`.
+    // Not by `ok_or`: a counted release by place then takes two instructions more.
     #[inline(always)]
     fn check_place(&mut self, at: u32) -> Result<Tag, Refusal>
         ensures answer { IsPlaceCheck self.old.heap at result }
@@ -587,7 +589,10 @@ impl<const SLI: u32> Heap<SLI> {
         ensures groups { InGroups 1 self.old.touched self.new.touched }
         ensures wild { FollowsNoPlace self.old.heap at self.old.touches self.new.touches }
     {
-        self.region.live_at(at).ok_or(Refusal::Stale)
+        let Some(tag) = self.region.live_at(at) else {
+            return Err(Refusal::Stale);
+        };
+        Ok(tag)
     }
 
     /// Takes back the live block at a place, of this tag, and its words off a count. Where the tick is at its last value, `Worn`: the count

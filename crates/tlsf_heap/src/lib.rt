@@ -56,9 +56,9 @@ pub use check::check_words;
 pub use checked::Checked;
 pub use heap::{Heap, want};
 pub use laws::{
-    blocks_never_overlap, even_blocks_stay_even, grant_is_greatest, names_live_until_released,
-    payload_words_stay, payloads_stay, places_name_blocks, refused_only_where_nothing_fits,
-    words_in_use_add_up, words_keep_laws,
+    blocks_never_overlap, calls_are_steps, even_blocks_stay_even, grant_is_greatest,
+    names_live_until_released, payload_words_stay, payloads_stay, places_name_blocks,
+    refused_only_where_nothing_fits, words_in_use_add_up,
 };
 pub use ledger::Ledger;
 pub use ledger::counts::Counts;

@@ -7,11 +7,12 @@ use Rattle.std.proofs.lemmas.Bool.Decides.{nat_tests}
 use Rattle.tlsf_class.specs.Classes.{IsLevel, most_words}
 use Rattle.tlsf_class.proofs.TwoLevels.{by_level}
 use Rattle.tlsf_heap.specs.Blocks.{Block, Live, Free, HeapState, StandsAt, size_of, words_in}
-use Rattle.tlsf_heap.specs.Calls.{Outcome, allocated_at, allocated_words, carved, first_free, fitted, has_serial, is_named, is_worn, named, past_free, recut, refitted, refused, released, resized_at, resized_words, room_of}
+use Rattle.tlsf_heap.specs.Calls.{Outcome, allocated_at, allocated_words, carved, first_free, fitted, has_serial, is_worn, named, past_free, recut, refitted, refused, released, resized_at, resized_words, room_of}
 use Rattle.tlsf_heap.specs.GoodFit.{Site, block_at, place_of}
 use Rattle.tlsf_heap.specs.Lawful.{HasRoom, IsLawful}
 use Rattle.tlsf_heap.specs.Laws.{IsLive}
 use Rattle.tlsf_heap.specs.Placed.{placed, placed_at}
+use Rattle.tlsf_heap.specs.Steps.{Step, Give, Take, Fit, stepped, IsOfOthers}
 use Rattle.tlsf_heap.specs.Touched.{allocate_touches, resize_touches}
 use Rattle.tlsf_heap.specs.declared.name.Name.{Name}
 use Rattle.tlsf_heap.specs.declared.refusal.Refusal.{Refusal}
@@ -22,12 +23,12 @@ use Rattle.tlsf_heap.proofs.lemmas.lists.Chosen.{none_above}
 use Rattle.tlsf_heap.proofs.lemmas.blocks.Replace.{carved_small, carved_large}
 use Rattle.tlsf_heap.proofs.lemmas.blocks.Find.{and_left, and_right}
 use Rattle.tlsf_heap.proofs.lemmas.laws.Gone.{gone_dead, gone_taken}
-use Rattle.tlsf_heap.proofs.lemmas.laws.Lasting.{HasFrom, in_left, in_right, in_either, edited, released_lasts, refitted_lasts}
+use Rattle.tlsf_heap.proofs.lemmas.laws.Lasting.{HasFrom, in_left, in_right, of_index, to_index}
 use Rattle.tlsf_heap.proofs.lemmas.blocks.Lawful.{words_in-append}
-use Rattle.tlsf_heap.proofs.lemmas.laws.Live.{lives, new_words, shown, one_serial, same_name, words_carved, no_serial}
+use Rattle.tlsf_heap.proofs.lemmas.laws.Live.{lives, new_words, shown, one_serial, same_name, lasts_named}
 use Rattle.tlsf_heap.proofs.lemmas.blocks.Order.{ends_before, inside}
 use Rattle.tlsf_heap.proofs.lemmas.calls.Alter.{named_of}
-use Rattle.tlsf_heap.proofs.lemmas.calls.Outcomes.{by_allocated_words, by_released, by_resized_found, by_resized_words, gives_words, named_site, resizes}
+use Rattle.tlsf_heap.proofs.lemmas.calls.Outcomes.{by_allocated_words, by_released, by_resized_found, by_resized_words, gives_words, ids_step, named_site, resizes}
 use Rattle.tlsf_heap.proofs.lemmas.blocks.ByPlace.{placed_found}
 use Rattle.tlsf_heap.proofs.lemmas.words.Recut.{cut_small, cut_large}
 use Rattle.tlsf_heap.proofs.lemmas.lists.Refit.{refitted_grown, refitted_cut, refitted_kept}
@@ -38,25 +39,6 @@ use Rattle.tlsf_offsets.specs.declared.span.Span.{Span}
 use Rattle.tlsf_heap.specs.Effects.{Allocates, Resizes}
 use Rattle.tlsf_heap.specs.Named.{IsNamed}
 use Rattle.tlsf_heap.proofs.lemmas.calls.Looked.{allocates_same, resizes_same}
-
--- ---- a block that has some property, by its index and by its place
-
-module _ (P : Block → Type 0) (at : ℕ) where
-  pub by_place : (from : ℕ) (bs : List Block) (i : ℕ) → i < length bs → from + words_in (take i bs) ≡ at → P (block_at bs i) → HasFrom P at from bs
-  by_place from [] i within e p = absurd (omega (arith, within))
-  by_place from (b ∷ bs) zero within e p = inl (p, omega (arith, e))
-  by_place from (b ∷ bs) (suc i) within e p = inr (by_place (from + size_of b) bs i (omega (arith, within)) (omega (arith, e)) p)
-
-  -- where it stands
-  abbrev pub At : ℕ → List Block → Type 0
-  At from bs = (i : ℕ) × (i < length bs) × (from + words_in (take i bs) ≡ at) × P (block_at bs i)
-
-  pub by_index : (from : ℕ) (bs : List Block) → HasFrom P at from bs → At from bs
-  by_index from [] h = absurd h
-  by_index from (b ∷ bs) h = elim h [
-    | inl e ↦ (0, omega arith, omega (arith, e.1), e.0)
-    | inr t ↦ let there = by_index (from + size_of b) bs t in (suc there.0, omega (arith, there.1), omega (arith, there.2), there.3)
-  ]
 
 -- ---- held
 
@@ -70,7 +52,7 @@ pub held : (o p : Offsets) (span : Span) → p.heap.id ≡ o.heap.id → p.unit 
 held o p span ids units goes h =
     let size : ℕ = size_of (block_at o.heap.blocks h.index) in
     let P : Block → Type 0 = IsBlock span.name.serial size in
-    let there = by_index P span.name.at 0 p.heap.blocks (goes size (by_place P span.name.at 0 o.heap.blocks h.index h.stands.within (omega (arith, h.stands.place)) (h.live, refl))) in
+    let there = to_index P span.name.at 0 p.heap.blocks (goes size (of_index P span.name.at 0 o.heap.blocks h.index h.stands.within (omega (arith, h.stands.place)) (h.live, refl))) in
     record {
       own = h.own ∙ sym ids;
       index = there.0;
@@ -148,84 +130,36 @@ one sli o a b is x y e =
 
 -- ---- what calls leave of a span
 
--- the blocks of a heap k have that of the span as the arena's had it, and it has the arena's number
-record Keeps (o : Offsets) (span : Span) (k : HeapState) : Type 0 where
-  ids : k.id ≡ o.heap.id
-  goes : (size : ℕ) → HasFrom (IsBlock span.name.serial size) span.name.at 0 o.heap.blocks → HasFrom (IsBlock span.name.serial size) span.name.at 0 k.blocks
-
-same : (o : Offsets) (span : Span) → Keeps o span o.heap
-same o span = record { ids = refl; goes = λ size h. h }
-
-allocated_keeps : (sli n : ℕ) (o : Offsets) (span : Span) → Keeps o span (allocated_words sli o.heap n 0).heap
-allocated_keeps sli n o span = by_allocated_words sli (λ out. Keeps o span out.heap) o.heap n 0 (λ why. same o span) (λ s site fit.
-    let new : List Block = carved (size_of s.block) n o.heap.tick 0 in
-    record {
-      ids = refl;
-      goes = λ size h.
-          let P : Block → Type 0 = IsBlock span.name.serial size in
-          subst (HasFrom P span.name.at 0) (sym (append_assoc s.before new s.after))
-          (edited P span.name.at 0 s.before (s.block ∷ []) new s.after (words_carved (size_of s.block) n o.heap.tick 0)
-          (λ k l. elim l [ inl e ↦ absurd (no_serial sli span.name.serial n s.block fit e.0.0) | inr none ↦ absurd none ])
-          (subst (HasFrom P span.name.at 0) (sym site) h));
-    })
-
--- a live block of another name is another block
-other_block : (o : Offsets) (span : Span) (name : Name) (s : Site) → span.name.heap ≡ o.heap.id → span.name ≢ name → name.heap ≡ o.heap.id → is_named name.at name.serial s ≡ true
-    → has_serial span.name.serial s.block ≡ true → place_of s ≡ span.name.at → ⊥
-other_block o span name s own other mine is e at =
-    other (same_name span.name name (own ∙ sym mine) (sym at ∙ eqb-true _ _ (and_right (has_serial name.serial s.block) _ is))
-    (one_serial span.name.serial name.serial s.block e (and_left _ _ is)))
-
 no_free : (serial size m s : ℕ) → IsBlock serial size (Free m s) → ⊥
 no_free serial size m s e = false≢true e.0
 
-released_keeps : (o : Offsets) (name : Name) (span : Span) → span.name.heap ≡ o.heap.id → span.name ≢ name → Keeps o span (released o.heap name).heap
-released_keeps o name span own other = by_released (λ out. Keeps o span out.heap) o.heap name (λ why. same o span) (λ s mine site is. record {
-  ids = refl;
-  goes = λ size h.
-      let P : Block → Type 0 = IsBlock span.name.serial size in
-      released_lasts P span.name.at (no_free span.name.serial size) o.heap.tick s.before s.after s.block
-      (λ e at. other_block o span name s own other mine is e.0 at) (subst (HasFrom P span.name.at 0) (sym site) h);
-})
-
-resized_keeps : (o : Offsets) (name : Name) (n : ℕ) (span : Span) → span.name.heap ≡ o.heap.id → span.name ≢ name → Keeps o span (resized_words o.heap name n 0).heap
-resized_keeps o name n span own other = by_resized_words (λ out. Keeps o span out.heap) o.heap name n 0 (λ why. same o span) (λ s mine site is room. record {
-  ids = refl;
-  goes = λ size h.
-      let P : Block → Type 0 = IsBlock span.name.serial size in
-      let new : List Block = refitted o.heap.tick n 0 s.block s.after in
-      elim (in_either P span.name.at 0 s.before (s.block ∷ s.after) (subst (HasFrom P span.name.at 0) (sym site) h)) [
-        | inl ahead ↦ in_left P span.name.at 0 s.before new ahead
-        | inr here ↦ in_right P span.name.at 0 s.before new (refitted_lasts P span.name.at (no_free span.name.serial size) o.heap.tick n 0 (0 + words_in s.before) s.block s.after room
-            (λ m t k xs ys e has at. absurd (other_block o span name s own other mine is has.0 (omega (arith, at)))) here)
-      ];
-})
-
 module _ (o p : Offsets) (units : p.unit ≡ o.unit) where
-  kept : (span : Span) (k : HeapState) → Keeps o span k → p.heap ≡ k → IsHeld o span → IsHeld p span
-  kept span k keeps is h =
-      let now : Keeps o span p.heap = subst (Keeps o span) (sym is) keeps in held o p span now.ids units now.goes h
+  kept : (sli : ℕ) (step : Step) (span : Span) → IsOfOthers span.name step → p.heap ≡ stepped sli o.heap step → IsHeld o span → IsHeld p span
+  kept sli step span others is h = held o p span (ap (λ (k : HeapState). k.id) is ∙ ids_step sli o.heap step) units (λ size there.
+      let P : Block → Type 0 = IsBlock span.name.serial size in
+      subst (λ (k : HeapState). HasFrom P span.name.at 0 k.blocks) (sym is)
+      (lasts_named P span.name (no_free span.name.serial size) (λ a b e f. one_serial a span.name.serial b e f.0) sli o.heap step (inl others) (h.own, there)).1) h
 
   pub kept_allocated : (sli n : ℕ) → p.heap ≡ (allocated_words sli o.heap n 0).heap → (span : Span) → IsHeld o span → IsHeld p span
-  kept_allocated sli n is span h = kept span _ (allocated_keeps sli n o span) is h
+  kept_allocated sli n is span = kept sli (Give n 0) span tt is
 
   pub kept_released : (name : Name) → p.heap ≡ (released o.heap name).heap → KeepsOthers o p name
-  kept_released name is span other h = kept span _ (released_keeps o name span h.own other) is h
+  kept_released name is span other = kept 0 (Take name) span (λ same. other (sym same)) is
 
   pub kept_resized : (name : Name) (n : ℕ) → p.heap ≡ (resized_words o.heap name n 0).heap → KeepsOthers o p name
-  kept_resized name n is span other h = kept span _ (resized_keeps o name n span h.own other) is h
+  kept_resized name n is span other = kept 0 (Fit name n 0) span (λ same. other (sym same)) is
 
 -- ---- the span of a live name
 
 -- a span that is held has a live name
 pub live : (o : Offsets) (span : Span) → IsHeld o span → IsLive o.heap span.name
-live o span h = shown o.heap span.name h.own (by_place (λ b. has_serial span.name.serial b ≡ true) span.name.at 0 o.heap.blocks h.index h.stands.within (omega (arith, h.stands.place)) h.live)
+live o span h = shown o.heap span.name h.own (of_index (λ b. has_serial span.name.serial b ≡ true) span.name.at 0 o.heap.blocks h.index h.stands.within (omega (arith, h.stands.place)) h.live)
 
 -- the block that stands at the place of a live name is its block
 pub held_at : (sli : ℕ) (o : Offsets) (name : Name) (span : Span) (block : Option PlacedBlock) → IsOffsets sli o → IsLive o.heap name → block ≡ placed_at o.heap.blocks name.at
     → span.name ≡ name → span.offset ≡ o.unit * name.at → ((b : PlacedBlock) → block ≡ Some b → span.size ≡ o.unit * b.size) → IsHeld o span
 held_at sli o name span block is alive found e offset size =
-    let there = by_index (λ b. has_serial name.serial b ≡ true) name.at 0 o.heap.blocks (lives o.heap name alive) in
+    let there = to_index (λ b. has_serial name.serial b ≡ true) name.at 0 o.heap.blocks (lives o.heap name alive) in
     let stands : StandsAt o.heap.blocks name.at there.0 = record { within = there.1; place = omega (arith, there.2) } in
     let b = placed name.at (block_at o.heap.blocks there.0) in
     record {
@@ -319,13 +253,13 @@ pub record Made (name : Name) (n : ℕ) (k : HeapState) : Type 0 where
 
 pub made_live : (name : Name) (n : ℕ) (k : HeapState) → Made name n k → IsLive k name
 made_live name n k made =
-    let at = by_index (IsBlock name.serial made.size) name.at 0 k.blocks made.there in
-    shown k name made.own (by_place (λ b. has_serial name.serial b ≡ true) name.at 0 k.blocks at.0 at.1 at.2 at.3.0)
+    let at = to_index (IsBlock name.serial made.size) name.at 0 k.blocks made.there in
+    shown k name made.own (of_index (λ b. has_serial name.serial b ≡ true) name.at 0 k.blocks at.0 at.1 at.2 at.3.0)
 
 -- a span of that name has as many bytes
 made_size : (sli : ℕ) (p : Offsets) (span : Span) (n : ℕ) (made : Made span.name n p.heap) → IsOffsets sli p → IsHeld p span → span.size ≡ p.unit * made.size
 made_size sli p span n made is h =
-    let at = by_index (IsBlock span.name.serial made.size) span.name.at 0 p.heap.blocks made.there in
+    let at = to_index (IsBlock span.name.serial made.size) span.name.at 0 p.heap.blocks made.there in
     let other : Span = record { name = span.name; offset = p.unit * span.name.at; size = p.unit * made.size } in
     let held : IsHeld p other = record {
       own = made.own;

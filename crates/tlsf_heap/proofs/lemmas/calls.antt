@@ -16,6 +16,5 @@ pub mod ResizeOrMove
 pub mod Unset
 pub mod OtherBytes
 pub mod AllocateAligned
-pub mod LeavesAligned
 pub mod Reports
 pub mod Looked

@@ -1,21 +1,5 @@
 -- Assumes `Logic`.
-use Rattle.tlsf_arena.proofs.Common.{◌≡◌, ℕ, ◌+◌, ◌*◌, ◌^◌, ◌<◌, true, false, List, [], ◌∷◌, ◌++◌, refl, sym, ap, subst, ◌∙◌, arith, eqb, eqb→eq, eq-eqb, T, T_not, w64, Decides, false≢true, after, proved_at, leaves}
-use mir.Syntax.{Fn}
-use mir.Val.{Val, vbool, vint, vptr}
-use base.Logic.{SProp, emp}
-use prog.Wp.{Env, WpFn}
-use contract.Monad.{fact, fact_i}
-use contract.Running.{tables}
-use types.Kit.{‵, raw, ◌⊛◌, prop, at_ret, ◌$◌, ◌∵◌, !, qed, by, move, drop, use0, split, regoal, fjoin, feq_i}
-use types.Run.{lit, true_lit, false_lit, bin, of_opd, first, blocks, skips, branches, exec, returns, returns_within, enter}
-use types.ByLocal.{alloc_all, pass_all, free_all, look_at, get, sets, sets_last, is, env}
-use denote.RattleType.{owns}
-use denote.RawPtr.{Ptr, block_ptr, ptr_val, count_of, block_of, InBlock, at_block, tests_same}
-use denote.Signature.{types_at}
-use denote.Steps.{nothing, heard}
-use denote.Triple.Entry.{alive}
-use denote.Triple.Walked.{Stays, stay_dropped, walk_of, Goes-dropped}
-use Rattle.linked_list_allocator.proofs.Walks.{slot_at}
+use Rattle.tlsf_arena.proofs.Walking.{◌≡◌, ℕ, ◌+◌, ◌*◌, ◌^◌, ◌<◌, true, false, List, [], ◌∷◌, ◌++◌, refl, sym, ap, subst, ◌∙◌, arith, eqb, eqb→eq, eq-eqb, T, T_not, w64, Decides, false≢true, after, proved_at, leaves, Fn, Val, vbool, vint, vptr, SProp, emp, Env, WpFn, fact, fact_i, tables, ‵, raw, ◌⊛◌, prop, at_ret, ◌$◌, ◌∵◌, !, qed, by, move, drop, use0, split, regoal, fjoin, feq_i, lit, true_lit, false_lit, bin, of_opd, first, blocks, skips, branches, exec, returns, returns_within, enter, alloc_all, pass_all, free_all, look_at, get, sets, sets_last, is, env, owns, Ptr, block_ptr, ptr_val, count_of, block_of, InBlock, at_block, tests_same, types_at, nothing, heard, alive, Stays, stay_dropped, walk_of, Goes-dropped, slot_at}
 use Rattle.tlsf_arena.specs.contracts.space.equals_grain.{ended, clauses}
 use Rattle.tlsf_arena.specs.contracts.space.equals_grain.Key.{name as #self}
 use Rattle.tlsf_arena.proofs.space.equals_grain.Statement.{statement}
@@ -25,12 +9,10 @@ pub equals_grain_spec : {M : Type 1} → statement M
 equals_grain_spec 𝓤 𝓛 𝓜 𝓡 wired =
     let H = 𝓛.H in
     let En₀ = ended in
-    let c₀ = clauses 𝓛 𝓜.mem 𝓡.returns in
+    let c = clauses 𝓛 𝓜.mem 𝓡.returns in
     let fn : Fn = compiled.function in
     let stays : Stays En₀.signature.params En₀.kept = (stay_dropped (slot_at 0 En₀.signature.params) En₀.kept.0, (stay_dropped (slot_at 1 En₀.signature.params) En₀.kept.1.0, (stay_dropped (slot_at 2 En₀.signature.params) En₀.kept.1.1.0, tt))) in
-    let c = c₀ in
-    let C = (tables 𝓤 H 𝓜 𝓡 𝓡.env).C in
-    let Λ = (tables 𝓤 H 𝓜 𝓡 𝓡.env).Λ in
+    let 𝓣 = tables 𝓤 H 𝓜 𝓡 𝓡.env in
     proved_at 𝓛 En₀ stays c 𝓜 𝓡 (Goes-dropped 𝓛 0 (slot_at 0 En₀.signature.params) En₀.kept.0 (λ κs x f. refl), (Goes-dropped 𝓛 0 (slot_at 1 En₀.signature.params) En₀.kept.1.0 (λ κs x f. refl), (Goes-dropped 𝓛 0 (slot_at 2 En₀.signature.params) En₀.kept.1.1.0 (λ κs x f. refl), tt))) #self fn (compiled.unfolded 𝓤 H 𝓜 𝓡 wired) (λ z are.
     let Post : Val → SProp 𝓤 = (walk_of 𝓛 En₀ stays c).post z in
     let a = z.0.3 in
@@ -45,13 +27,13 @@ equals_grain_spec 𝓤 𝓛 𝓜 𝓡 wired =
     let here : p ≡ block_ptr b o = at_block p asked.1 ∙ ap (λ (j : ℕ). block_ptr j o) asked.2 in
     let base : q ≡ block_ptr b (count_of q) = at_block q asked.0 in
     let short : k * 16 < 2 ^ 64 = omega (arith, asked.3) in
-    regoal ! (λ (us : List Val). prop (WpFn 𝓤 H C Λ fn us Post)) (λ i. (are.0 ∙ ap (λ (w : Ptr). ptr_val w ∷ []) here) i ++ ((are.1.0 ∙ ap (λ (w : Ptr). ptr_val w ∷ []) base) i ++ (are.1.1.0.0 i ++ []))) refl $
-    enter ! C Λ fn (vptr b o ∷ vptr b (count_of q) ∷ vint w64 k ∷ []) Post $
+    regoal ! (λ (us : List Val). prop (WpFn 𝓤 H 𝓣.C 𝓣.Λ fn us Post)) (λ i. (are.0 ∙ ap (λ (w : Ptr). ptr_val w ∷ []) here) i ++ ((are.1.0 ∙ ap (λ (w : Ptr). ptr_val w ∷ []) base) i ++ (are.1.1.0.0 i ++ []))) refl $
+    enter ! 𝓣.C 𝓣.Λ fn (vptr b o ∷ vptr b (count_of q) ∷ vint w64 k ∷ []) Post $
     alloc_all ! (λ l. pass_all ! refl ((tt, tt), ((tt, tt), ((tt, record { fits = are.1.1.0.1 }), tt))) $ let En : Env 𝓤 𝓛.H = env fn.locals l in
     first ! $ blocks ! $
     sets ! (bin ! (get ! refl) (lit ! tt) (record { fits = short })) refl (tt, record { fits = short }) $
     sets_last ! (is ! (bin ! (get ! refl) (get ! refl) tt) (ap (vptr b) (let e : k * 16 + count_of q ≡ u = omega arith in e))) refl (tt, tt) $
-    exec ! C Λ En (after 1 fn.body) (at_ret En Post) $
+    exec ! 𝓣.C 𝓣.Λ En (after 1 fn.body) (at_ret En Post) $
     sets ! (of_opd ! (get ! refl)) refl (tt, tt) $
     sets ! (bin ! (get ! refl) (get ! refl) (tests_same b o u (omega (arith, asked.3, asked.4)) (omega (arith, asked.3, asked.4)))) refl (tt, tt) $
     first ! $ branches ! (get ! refl)
@@ -60,7 +42,7 @@ equals_grain_spec 𝓤 𝓛 𝓜 𝓡 wired =
     use0 𝓛 (raw (fact 𝓤 (Decides true (o ≡ u)))) (fact_i 𝓤 (Decides true (o ≡ u)) (emp 𝓤) ((λ _. eqb→eq o u y), (λ _. refl))) $
     feq_i ! (List Val) (vbool true ∷ []) (vbool true ∷ []) refl $ nothing ! $ nothing ! $ fjoin ! $ nothing ! $ fjoin ! $ nothing ! $ fjoin ! $ move ! (3 ∷ 0 ∷ 1 ∷ 2 ∷ []) $
     by ! (leaves 𝓛 En₀ stays c z (vbool true) true (tt, (tt, (tt, tt))) (tt, (tt, (tt, tt)))))
-    (λ n. skips ! $ exec ! C Λ En (after 4 fn.body) (at_ret En Post) $
+    (λ n. skips ! $ exec ! 𝓣.C 𝓣.Λ En (after 4 fn.body) (at_ret En Post) $
     sets ! (of_opd ! (false_lit !)) refl (tt, tt) $
     returns ! (look_at ! 0 refl) $ free_all ! refl $
     use0 𝓛 (raw (fact 𝓤 (Decides false (o ≡ u)))) (fact_i 𝓤 (Decides false (o ≡ u)) (emp 𝓤) ((λ e. absurd (false≢true e)), (λ e. absurd (T_not (eqb o u) n (subst T (sym (eq-eqb o u e)) tt))))) $

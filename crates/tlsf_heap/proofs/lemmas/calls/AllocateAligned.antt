@@ -1,20 +1,20 @@
 -- What the calls come to of which a block with an aligned payload is made.
-use Rattle.tlsf_heap.proofs.Common.{◌≡◌, ◌≢◌, ℕ, suc, ◌+◌, ◌-◌, ◌*◌, ◌/◌, ◌%◌, ◌<◌, ◌≤◌, Bool, true, false, cond, nat_le, nat_lt, eqb, List, [], ◌∷◌, ◌++◌, length, take, drop, find, Option, Some, None, Result, Ok, Err, refl, sym, ap, ◌∙◌, subst, inl, inr, arith, append_assoc, eq-eqb, IsSome, eqb-true, false≢true, ne_eqb, nat_tests, add-mod-mod, add-mul-mod_self_right, mod-add-div', mod-lt, mod_self, IsLevel, HasRoomAt, is_free_at, given_from, words_from, gap_of, moved_by, moved_on, aligned_by, aligned_words, words_aligned, Block, Live, Free, HeapState, size_of, is_free, words_in, payload_words, StandsAt, Outcome, refused, is_worn, last_tick, ticked, carved, first_free, past_free, fitted, has_serial, is_named, named, with_blocks, allocated_at, allocated_words, released, resized_words, resized_at, refitted, room_of, with_bytes, NoneFits, payload_words_at, Site, sites, is_fit, block_at, site_at, place_of, IsLawful, IsLive, IsFirst, Holds, HasPayload, with_payload, with_payload_at, Name, Refusal, NoFit, Stale, Worn, NoRoom}
+use Rattle.tlsf_heap.proofs.Common.{◌≡◌, ◌≢◌, ℕ, suc, ◌+◌, ◌-◌, ◌*◌, ◌/◌, ◌%◌, ◌<◌, ◌≤◌, Bool, true, false, cond, nat_le, nat_lt, eqb, List, [], ◌∷◌, ◌++◌, length, take, drop, Option, Some, None, Result, Ok, Err, refl, sym, ap, ◌∙◌, subst, inl, inr, arith, append_assoc, eq-eqb, IsSome, eqb-true, false≢true, ne_eqb, nat_tests, add-mod-mod, add-mul-mod_self_right, mod-add-div', mod-lt, mod_self, IsLevel, HasRoomAt, words_from, gap_of, moved_by, moved_on, aligned_by, aligned_words, words_aligned, Block, Live, Free, HeapState, size_of, is_free, words_in, payload_words, StandsAt, Outcome, refused, is_worn, last_tick, carved, first_free, past_free, fitted, has_serial, is_named, named, with_blocks, allocated_at, allocated_words, released, resized_words, resized_at, refitted, room_of, with_bytes, NoneFits, payload_words_at, Site, is_fit, block_at, site_at, place_of, IsLawful, IsLive, IsFirst, Holds, HasPayload, with_payload, with_payload_at, Name, Refusal, NoFit, Worn, NoRoom, Fit, Give, GiveFrom, Take}
 use Rattle.tlsf_heap.proofs.lemmas.calls.Alter.{named_of}
 use Rattle.tlsf_heap.proofs.lemmas.calls.Allocate.{fits_size}
 use Rattle.tlsf_heap.proofs.lemmas.blocks.Find.{and_left, and_right, not_true}
-use Rattle.tlsf_heap.proofs.lemmas.laws.Lasting.{HasFrom, of_index, to_index, in_left, in_right, edited, released_lasts}
-use Rattle.tlsf_heap.proofs.lemmas.laws.Live.{shown, lives, serial_of, words_carved}
+use Rattle.tlsf_heap.proofs.lemmas.laws.Lasting.{HasFrom, of_index, to_index, in_left, in_right, edited}
+use Rattle.tlsf_heap.proofs.lemmas.laws.Live.{shown, lasts_named, lives, serial_of}
 use Rattle.tlsf_heap.proofs.lemmas.calls.ResizeOrMove.{released_live}
 use Rattle.tlsf_heap.proofs.lemmas.calls.Named.{named_is, named_stands, at_name}
-use Rattle.tlsf_heap.proofs.lemmas.calls.Outcomes.{by_test, unless, found_has, sites_whole, IsSiteOf, named_site, gives_words, by_allocated_words, by_released, resizes}
+use Rattle.tlsf_heap.proofs.lemmas.calls.Outcomes.{by_test, IsSiteOf, named_site, gives_words, by_allocated_words, by_words_from, resizes}
 use Rattle.tlsf_heap.proofs.lemmas.words.Says.{named_here}
 use Rattle.tlsf_heap.proofs.lemmas.words.Recut.{cut_large}
 use Rattle.tlsf_heap.proofs.lemmas.lists.Refit.{refitted_cut}
 use Rattle.tlsf_heap.proofs.lemmas.calls.Resize.{by_refitted}
 use Rattle.tlsf_heap.proofs.lemmas.blocks.Sites.{choice_none}
 use Rattle.tlsf_heap.proofs.lemmas.blocks.Around.{Around, around, around_next, stands_around, block_around, words_around}
-use Rattle.tlsf_heap.proofs.lemmas.laws.Payloads.{holds, not_free, one_holds, stays_allocated, stays_resized, stays_released}
+use Rattle.tlsf_heap.proofs.lemmas.laws.Payloads.{holds, not_free, one_holds, stays, stays_run}
 use Rattle.tlsf_heap.proofs.lemmas.laws.Payloads as steady
 
 -- ---- a live block of n words or more
@@ -100,43 +100,12 @@ given_has sli level h n name = by_allocated_words sli (λ o. o.answer ≡ Ok nam
 
 -- ---- out of the free block at a place
 
-abbrev pub gives_from : HeapState → ℕ → Site → Outcome Name
-gives_from h n s = record {
-  answer = Ok (record { heap = h.id; at = place_of s; serial = h.tick });
-  heap = ticked h (s.before ++ carved (size_of s.block) n h.tick 0 ++ s.after);
-}
-
-pub by_words_from : (P : Outcome Name → Type 0) (h : HeapState) (at n : ℕ) → ((why : Refusal) → P (refused h why))
-    → ((s : Site) → IsSiteOf h.blocks s → is_free_at at s ≡ true → n ≤ size_of s.block → P (gives_from h n s)) → P (words_from h at n)
-by_words_from P h at n if_refused if_done = on (find (is_free_at at) (sites h.blocks)) refl
-  where
-    on : (o : Option Site) → find (is_free_at at) (sites h.blocks) ≡ o → P (given_from h n o)
-    on None e = if_refused Stale
-    on (Some s) e =
-        let site = found_has (IsSiteOf h.blocks) (is_free_at at) (sites h.blocks) s (sites_whole [] h.blocks) e in
-        unless P (nat_lt (size_of s.block) n) (refused h NoRoom) _ (if_refused NoRoom) (λ t. by_test P (is_worn h) (refused h Worn) (gives_from h n s) (λ _. if_refused Worn) (if_done s site.0 site.1 (grind (arith, nat_tests))))
-
 pub from_has : (h : HeapState) (at n : ℕ) (name : Name) → (words_from h at n).answer ≡ Ok name → HasWords (words_from h at n).heap name n × (name.at ≡ at) × (name.serial ≡ h.tick) × ((words_from h at n).heap.tick ≡ h.tick + 1)
 from_has h at n name = by_words_from (λ o. o.answer ≡ Ok name → HasWords o.heap name n × (name.at ≡ at) × (name.serial ≡ h.tick) × (o.heap.tick ≡ h.tick + 1)) h at n (λ why e. absurd cc) (λ s site is room e.
     let same : record { heap = h.id; at = place_of s; serial = h.tick } ≡ name = cc in
     let place : place_of s ≡ at = eqb-true _ _ (and_right (is_free s.block) _ is) in
-    subst (λ (given : Name). HasWords (gives_from h n s).heap given n × (given.at ≡ at) × (given.serial ≡ h.tick) × (h.tick + 1 ≡ h.tick + 1)) same
+    subst (λ (given : Name). HasWords (gives_words h n 0 s).heap given n × (given.at ≡ at) × (given.serial ≡ h.tick) × (h.tick + 1 ≡ h.tick + 1)) same
     ((refl, carved_there s.before s.after (size_of s.block) n h.tick 0 room), place, refl, refl))
-
--- what holds of a block that isn't free, and of its place, still does
-pub from_lasts : (P : Block → Type 0) (place : ℕ) → ((m s : ℕ) → P (Free m s) → ⊥) → (h : HeapState) (at n : ℕ) → HasFrom P place 0 h.blocks → HasFrom P place 0 (words_from h at n).heap.blocks
-from_lasts P place live h at n has = by_words_from (λ o. HasFrom P place 0 o.heap.blocks) h at n (λ why. has) (λ s site is room.
-    let new : List Block = carved (size_of s.block) n h.tick 0 in
-    subst (HasFrom P place 0) (sym (append_assoc s.before new s.after))
-    (edited P place 0 s.before (s.block ∷ []) new s.after (words_carved (size_of s.block) n h.tick 0)
-    (λ k l. elim l [ inl e ↦ absurd (none s.block (and_left _ _ is) e.0) | inr nothing ↦ absurd nothing ]) (subst (HasFrom P place 0) (sym site) has)))
-  where
-    none : (b : Block) → is_free b ≡ true → P b → ⊥
-    none (Live m s xs) e p = false≢true e
-    none (Free m s) e p = live m s p
-
-pub from_id : (h : HeapState) (at n : ℕ) → (words_from h at n).heap.id ≡ h.id
-from_id h at n = by_words_from (λ o. o.heap.id ≡ h.id) h at n (λ why. refl) (λ s site is room. refl)
 
 -- ---- a block that shrinks
 
@@ -195,13 +164,12 @@ module _ (h : HeapState) (name : Name) (n m : ℕ) (lawful : IsLawful h) (has : 
 
 -- ---- a release of another
 
+one : (name : Name) (n a : ℕ) (b : Block) → has_serial a b ≡ true → Has name.serial n b → a ≡ name.serial
+one name n a (Live m t xs) e own = sym (eqb-true t a e) ∙ own.0
+one name n a (Free m t) e own = absurd own
+
 pub released_has : (h : HeapState) (other name : Name) (n : ℕ) → other.serial ≢ name.serial → HasWords h name n → HasWords (released h other).heap name n
-released_has h other name n differ has = by_released (λ o. HasWords o.heap name n) h other (λ why. has) (λ s own site is.
-    (has.0, released_lasts (Has name.serial n) name.at (has_none name.serial n) h.tick s.before s.after s.block (λ e at. differ (one s.block (and_left _ _ is) e)) (subst (HasFrom (Has name.serial n) name.at 0) (sym site) has.1)))
-  where
-    one : (b : Block) → has_serial other.serial b ≡ true → Has name.serial n b → other.serial ≡ name.serial
-    one (Live m t xs) e own = sym (eqb-true t other.serial e) ∙ own.0
-    one (Free m t) e own = absurd own
+released_has h other name n differ = lasts_named (Has name.serial n) name (has_none name.serial n) (one name n) 0 h (Take other) (inl (λ same. differ (ap (λ (m : Name). m.serial) same)))
 
 -- ---- a block that is moved on, step by step
 
@@ -232,7 +200,7 @@ module _ (h : HeapState) (name : Name) (gap n : ℕ) (lawful : IsLawful h) (has 
       let k = (resized_words h name gap 0).heap in
       let there = words_from k (name.at + gap) n in
       let kept = shrinks_has h name gap (gap + n) lawful has (omega arith) fresh in
-      let still : HasWords there.heap name gap = (kept.0 ∙ sym (from_id k (name.at + gap) n), from_lasts (Has name.serial gap) name.at (has_none name.serial gap) k (name.at + gap) n kept.1) in
+      let still : HasWords there.heap name gap = lasts_named (Has name.serial gap) name (has_none name.serial gap) (one name gap) 0 k (GiveFrom (name.at + gap) n) (inl tt) kept in
       let ticks = (from_has k (name.at + gap) n new (sym given)).3 in
       let done = released_live there.heap name (has_live there.heap name gap still) (λ worn. omega (arith, worn, left, ticks, shrinks_tick h name gap (gap + n) lawful has (omega arith) fresh)) in
       let bad : ◌≡◌ {A = Result (Unit {0}) Refusal} (Err why) (Ok tt) = e ∙ ap (λ (s : HeapState). (released s name).answer) same ∙ done in cc
@@ -250,11 +218,6 @@ held_live h name bytes held =
     own : (b : Block) → Holds name.serial bytes b → has_serial name.serial b ≡ true
     own (Live m s xs) h = eq-eqb s name.serial h.0
     own (Free m s) h = absurd h
-
-stays_from : (h : HeapState) (at n : ℕ) (name : Name) (bytes : List ℕ) → HasPayload h name bytes → HasPayload (words_from h at n).heap name bytes
-stays_from h at n name bytes held =
-    holds name bytes (words_from h at n).heap (held.0 ∙ sym (from_id h at n))
-    (from_lasts (Holds name.serial bytes) name.at (not_free name bytes) h at n (steady.has name bytes h held))
 
 -- heap k has the block of a name that h hasn't, and the payloads of h
 pub record Gives (h k : HeapState) (name : Name) (n : ℕ) : Type 0 where
@@ -300,7 +263,7 @@ module _ (h k : HeapState) (name : Name) (n : ℕ) (gives : Gives h k name n) (l
 pub from_gives : (h : HeapState) (at n : ℕ) (name : Name) → Ok name ≡ (words_from h at n).answer → Gives h (words_from h at n).heap name n
 from_gives h at n name e =
     let given = from_has h at n name (sym e) in
-    record { has = given.0; later = omega (arith, given.2); others = λ other bytes held. stays_from h at n other bytes held }
+    record { has = given.0; later = omega (arith, given.2); others = λ other bytes held. stays 0 h other bytes (GiveFrom at n) tt held }
 
 -- ---- the gap in front of it
 
@@ -396,7 +359,7 @@ module _ (sli : ℕ) (level : IsLevel sli) (h : HeapState) (n step skew : ℕ) (
             record {
               has = shrinks_has k first n (gap + n) asked_lawful first_has (omega arith) fresh;
               later = omega (arith, made.0);
-              others = λ other bytes held. stays_resized k first other n 0 bytes (other_than_first other bytes held) (stays_allocated sli h (aligned_words n step) 0 other bytes held);
+              others = λ other bytes held. stays_run sli h other bytes (Give (aligned_words n step) 0 ∷ Fit first n 0 ∷ []) (tt, (other_than_first other bytes held, tt)) held;
             },
             omega (arith, none),
           ))
@@ -410,7 +373,7 @@ module _ (sli : ℕ) (level : IsLevel sli) (h : HeapState) (n step skew : ℕ) (
               later = omega (arith, came.2, ticks, made.1);
               others = λ other bytes held.
                   let differ = other_than_first other bytes held in
-                  stays_released there.heap first other bytes differ (stays_from r (first.at + gap) n other bytes (stays_resized k first other gap 0 bytes differ (stays_allocated sli h (aligned_words n step) 0 other bytes held)));
+                  stays_run sli h other bytes (Give (aligned_words n step) 0 ∷ Fit first gap 0 ∷ GiveFrom (first.at + gap) n ∷ Take first ∷ []) (tt, (differ, (tt, (differ, tt)))) held;
             },
             came.1,
           ))

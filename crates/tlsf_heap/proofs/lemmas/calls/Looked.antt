@@ -1,6 +1,6 @@
 -- A call of a heap with a look before it or behind it: one that leaves the heap, and touches no word of a live payload.
-use Rattle.tlsf_heap.proofs.Common.{◌≡◌, ◌+◌, ◌≤◌, ◌∙◌, ℕ, List, Result, Ok, Err, inl, inr, sym, ap, subst, arith, refl, ◌⊎◌, OnErr, ◌↔◌, [], IsErrOf, IsOk, HeapState, Allocates, Releases, Resizes, IsLiveWord, IsOthersWord, LeavesLive, payload_words_given, payload_words_left, IsLawful, IsNamed, Seen, FollowsNoForgery, Name, Refusal, Outcome, allocated_words, resized_words, last_tick, fits, NoFit}
-use Rattle.tlsf_heap.proofs.lemmas.calls.Leaves.{given_live, resized_word}
+use Rattle.tlsf_heap.proofs.Common.{Give, Fit, ◌≡◌, ◌+◌, ◌≤◌, ◌∙◌, ℕ, List, Result, Ok, Err, inl, inr, sym, ap, subst, arith, refl, ◌⊎◌, OnErr, ◌↔◌, [], IsErrOf, IsOk, HeapState, Allocates, Releases, Resizes, IsLiveWord, IsOthersWord, LeavesLive, payload_words_given, payload_words_left, IsLawful, IsNamed, Seen, FollowsNoForgery, Name, Refusal, Outcome, allocated_words, resized_words, last_tick, fits, NoFit, named}
+use Rattle.tlsf_heap.proofs.lemmas.calls.Leaves.{live_step, word_step}
 use Rattle.tlsf_heap.proofs.lemmas.calls.Named.{not_forged}
 use Rattle.tlsf_heap.proofs.lemmas.words.Footprint.{any_word}
 use Rattle.tlsf_heap.proofs.lemmas.laws.NoFit.{no_fit_words, ok_words}
@@ -98,7 +98,7 @@ allocates_looked most few sli n len old mid new answer lawful r look = record {
   touches = omega (arith, look.touches, r.touches, ap (payload_words_given answer) look.heap);
   few = omega (arith, look.touches, r.few);
   rise = omega (arith, look.rise, r.rise);
-  leaves = λ k live. look.leaves k (subst (λ (h : HeapState). IsLiveWord h.blocks k) (sym r.heap) (given_live old.heap k live sli n len lawful)) ∙ r.leaves k live;
+  leaves = λ k live. look.leaves k (subst (λ (h : HeapState). IsLiveWord h.blocks k) (sym r.heap) (live_step old.heap k live sli (Give n len) tt)) ∙ r.leaves k live;
 }
 
 pub resizes_looked : (most few n len : ℕ) (old mid new : Seen) (name : Name) → IsLawful old.heap → IsNamed old.heap name → Resizes most n len old mid name (Ok tt) → Looked few mid new → Resizes (most + few) n len old new name (Ok tt)
@@ -108,7 +108,7 @@ resizes_looked most few n len old mid new name lawful named r look = record {
   touches = omega (arith, look.touches, r.touches, ap (λ (h : HeapState). payload_words_left (Ok tt) h name) look.heap);
   grown = omega (arith, look.touches, r.grown);
   rise = omega (arith, look.rise, r.rise);
-  leaves = λ k other. look.leaves k (any_word mid.heap.blocks name.at k (subst (λ (h : HeapState). IsOthersWord h.blocks name.at k) (sym r.heap) (resized_word old.heap name.at k other name n len other.4))) ∙ r.leaves k other;
+  leaves = λ k other. look.leaves k (any_word mid.heap.blocks name.at k (subst (λ (h : HeapState). IsOthersWord h.blocks name.at k) (sym r.heap) (word_step old.heap name.at k other 0 (Fit name n len) other.4))) ∙ r.leaves k other;
   refused = tt;
   forged = not_forged old name lawful named new;
 }

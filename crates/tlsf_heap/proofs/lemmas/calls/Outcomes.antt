@@ -1,7 +1,7 @@
 -- What a call comes to: a refusal, or an edit at the site of one block.
-use Rattle.tlsf_heap.proofs.Common.{◌≡◌, ℕ, Bool, true, false, cond, nat_lt, eqb, ◌≤◌, arith, List, [], ◌∷◌, ◌++◌, length, filter, find, Option, Some, None, Ok, refl, sym, subst, inl, inr, append_assoc, IsSome, ◌⊎◌, AllByRecursion, eqb-true, false≢true, nat_tests, IsLevel, Block, HeapState, size_of, bytes_of, want, Site, sites, sites_behind, place_of, is_fit, fits, choice, IsLawful, Outcome, refused, is_worn, ticked, with_blocks, carved, allocated, allocated_words, allocated_at, is_named, named, coalesced, released, released_at, overwritten, with_bytes, has_bytes, written, written_at, refitted, room_of, resized, resized_words, resized_at, Call, Allocate, Release, Resize, Write, Read, answered, run, Name, Refusal, NoFit, Worn, Foreign, Stale, Range, NoRoom}
+use Rattle.tlsf_heap.proofs.Common.{◌≡◌, ℕ, Bool, true, false, cond, nat_lt, eqb, ◌≤◌, arith, List, [], ◌∷◌, ◌++◌, length, filter, find, Option, Some, None, Ok, refl, sym, subst, inl, inr, append_assoc, IsSome, ◌⊎◌, AllByRecursion, eqb-true, false≢true, nat_tests, IsLevel, Block, HeapState, size_of, bytes_of, want, Site, sites, sites_behind, place_of, is_fit, fits, choice, IsLawful, Outcome, refused, is_worn, ticked, with_blocks, carved, allocated, allocated_words, allocated_at, is_named, named, coalesced, released, released_at, overwritten, with_bytes, has_bytes, written, written_at, refitted, room_of, resized, resized_words, resized_at, Call, Allocate, Release, Resize, Write, Read, answered, run, Name, Refusal, NoFit, Worn, Foreign, Stale, Range, NoRoom, Fill, Fit, Give, GiveFrom, IsRoomy, Look, Put, Step, Take, after, ap, given_from, is_free_at, map, step_of, stepped, with_payload, with_payload_at, words_from, ◌∙◌}
 use Rattle.tlsf_heap.proofs.lemmas.blocks.Find.{and_left}
-use Rattle.tlsf_heap.proofs.lemmas.calls.Allocate.{lawful_carved}
+use Rattle.tlsf_heap.proofs.lemmas.calls.Allocate.{lawful_carved, lawful_given}
 use Rattle.tlsf_heap.proofs.lemmas.calls.Release.{lawful_at}
 use Rattle.tlsf_heap.proofs.lemmas.calls.Resize.{lawful_refitted}
 use Rattle.tlsf_heap.proofs.lemmas.calls.Write.{lawful_bytes, length-overwritten, range_fits}
@@ -76,6 +76,16 @@ pub by_allocated : (sli : ℕ) (P : Outcome Name → Type 0) (h : HeapState) (le
     → ((s : Site) → IsSiteOf h.blocks s → is_fit sli (want len) s.block ≡ true → P (gives h len s)) → P (allocated sli h len)
 by_allocated sli P h len = by_allocated_words sli P h (want len) len
 
+pub by_words_from : (P : Outcome Name → Type 0) (h : HeapState) (at n : ℕ) → ((why : Refusal) → P (refused h why))
+    → ((s : Site) → IsSiteOf h.blocks s → is_free_at at s ≡ true → n ≤ size_of s.block → P (gives_words h n 0 s)) → P (words_from h at n)
+by_words_from P h at n if_refused if_done = on (find (is_free_at at) (sites h.blocks)) refl
+  where
+    on : (o : Option Site) → find (is_free_at at) (sites h.blocks) ≡ o → P (given_from h n o)
+    on None e = if_refused Stale
+    on (Some s) e =
+        let site = found_has (IsSiteOf h.blocks) (is_free_at at) (sites h.blocks) s (sites_whole [] h.blocks) e in
+        unless P (nat_lt (size_of s.block) n) (refused h NoRoom) _ (if_refused NoRoom) (λ t. by_test P (is_worn h) (refused h Worn) (gives_words h n 0 s) (λ _. if_refused Worn) (if_done s site.0 site.1 (grind (arith, nat_tests))))
+
 abbrev pub takes : HeapState → Site → Outcome (Unit {0})
 takes h s = record { answer = Ok tt; heap = ticked h (coalesced h.tick s) }
 
@@ -129,36 +139,85 @@ pub by_written : (P : Outcome (Unit {0}) → Type 0) (h : HeapState) (name : Nam
     → ((s : Site) → IsSiteOf h.blocks s → has_bytes s.block at (length bytes) ≡ true → P (writes h at bytes s)) → P (written h name at bytes)
 by_written P h name at bytes if_refused if_done = by_written_named P h name at bytes if_refused (λ s own site is. if_done s site)
 
+-- a block gets other bytes, if it is there
+pub by_filled : (P : HeapState → Type 0) (h : HeapState) (name : Name) (bytes : List ℕ) → P h
+    → ((s : Site) → IsSiteOf h.blocks s → is_named name.at name.serial s ≡ true → P (with_blocks h (s.before ++ with_bytes s.block bytes ∷ s.after))) → P (with_payload h name bytes)
+by_filled P h name bytes if_none if_there = on (named name h.blocks) refl
+  where
+    on : (o : Option Site) → named name h.blocks ≡ o → P (with_payload_at h bytes o)
+    on None e = if_none
+    on (Some s) e = let site = named_site name h.blocks s e in if_there s site.0 site.1
+
 -- ---- a heap keeps its number and its laws
 
+pub ids_step : (sli : ℕ) (h : HeapState) (step : Step) → (stepped sli h step).id ≡ h.id
+ids_step sli h (Give n len) = by_allocated_words sli (λ o. o.heap.id ≡ h.id) h n len (λ why. refl) (λ s site fit. refl)
+ids_step sli h (GiveFrom at n) = by_words_from (λ o. o.heap.id ≡ h.id) h at n (λ why. refl) (λ s site is room. refl)
+ids_step sli h (Take name) = by_released (λ o. o.heap.id ≡ h.id) h name (λ why. refl) (λ s own site is. refl)
+ids_step sli h (Fit name n len) = by_resized_words (λ o. o.heap.id ≡ h.id) h name n len (λ why. refl) (λ s own site is room. refl)
+ids_step sli h (Put name at bytes) = by_written (λ o. o.heap.id ≡ h.id) h name at bytes (λ why. refl) (λ s site has. refl)
+ids_step sli h (Fill name bytes) = by_filled (λ k. k.id ≡ h.id) h name bytes refl (λ s site is. refl)
+ids_step sli h Look = refl
+
+-- a call is its step
+pub called : (sli : ℕ) (h : HeapState) (call : Call) → stepped sli h (step_of call) ≡ (answered sli h call).1
+called sli h (Allocate len) = refl
+called sli h (Release name) = refl
+called sli h (Resize name len) = refl
+called sli h (Write name at bytes) = refl
+called sli h (Read name at n) = refl
+
 pub ids : (sli : ℕ) (h : HeapState) (call : Call) → (answered sli h call).1.id ≡ h.id
-ids sli h (Allocate len) = by_allocated sli (λ o. o.heap.id ≡ h.id) h len (λ why. refl) (λ s site fit. refl)
-ids sli h (Release name) = by_released (λ o. o.heap.id ≡ h.id) h name (λ why. refl) (λ s own site is. refl)
-ids sli h (Resize name len) = by_resized (λ o. o.heap.id ≡ h.id) h name len (λ why. refl) (λ s own site is room. refl)
-ids sli h (Write name at bytes) = by_written (λ o. o.heap.id ≡ h.id) h name at bytes (λ why. refl) (λ s site has. refl)
-ids sli h (Read name at n) = refl
+ids sli h call = ap (λ (k : HeapState). k.id) (sym (called sli h call)) ∙ ids_step sli h (step_of call)
+
+pub runs : (sli : ℕ) (h : HeapState) (calls : List Call) → (run sli h calls).1 ≡ after sli h (map step_of calls)
+runs sli h [] = refl
+runs sli h (call ∷ calls) = runs sli (answered sli h call).1 calls ∙ ap (λ (k : HeapState). after sli k (map step_of calls)) (sym (called sli h call))
+
+pub roomy : (calls : List Call) → AllByRecursion IsRoomy (map step_of calls)
+roomy [] = tt
+roomy (Allocate len ∷ calls) = (omega arith, roomy calls)
+roomy (Release name ∷ calls) = (tt, roomy calls)
+roomy (Resize name len ∷ calls) = (omega arith, roomy calls)
+roomy (Write name at bytes ∷ calls) = (tt, roomy calls)
+roomy (Read name at n ∷ calls) = (tt, roomy calls)
+
+-- what each step keeps, steps in turn keep
+pub by_steps : (sli : ℕ) (C : Step → Type 0) (L : HeapState → Type 0) → ((h : HeapState) (step : Step) → C step → L h → L (stepped sli h step))
+    → (h : HeapState) (steps : List Step) → AllByRecursion C steps → L h → L (after sli h steps)
+by_steps sli C L each h [] all l = l
+by_steps sli C L each h (step ∷ steps) all l = by_steps sli C L each (stepped sli h step) steps all.1 (each h step all.0 l)
 
 pub lawful_site : (h : HeapState) (s : Site) → IsSiteOf h.blocks s → IsLawful h → IsLawful (with_blocks h (s.before ++ s.block ∷ s.after))
 lawful_site h s site lawful = subst (λ (l : List Block). IsLawful (with_blocks h l)) (sym site) lawful
-
-pub lawful_allocated_words : (sli : ℕ) (level : IsLevel sli) (h : HeapState) (n len : ℕ) → want len ≤ n → IsLawful h → IsLawful (allocated_words sli h n len).heap
-lawful_allocated_words sli level h n len wanted lawful =
-    by_allocated_words sli (λ o. IsLawful o.heap) h n len (λ why. lawful) (λ s site fit. lawful_carved sli level h s.before s.after s.block n len wanted fit (lawful_site h s site lawful))
 
 pub lawful_resized_words : (h : HeapState) (name : Name) (n len : ℕ) → want len ≤ n → IsLawful h → IsLawful (resized_words h name n len).heap
 lawful_resized_words h name n len wanted lawful =
     by_resized_words (λ o. IsLawful o.heap) h name n len (λ why. lawful) (λ s own site is room. lawful_refitted h s.before s.after s.block name.serial n len wanted (and_left _ _ is) room (lawful_site h s site lawful))
 
-lawful_call : (sli : ℕ) (level : IsLevel sli) (h : HeapState) (call : Call) → IsLawful h → IsLawful (answered sli h call).1
-lawful_call sli level h (Allocate len) lawful = lawful_allocated_words sli level h (want len) len (omega arith) lawful
-lawful_call sli level h (Release name) lawful =
+pub lawful_released : (h : HeapState) (name : Name) → IsLawful h → IsLawful (released h name).heap
+lawful_released h name lawful =
     by_released (λ o. IsLawful o.heap) h name (λ why. lawful) (λ s own site is. lawful_at h s.before s.after s.block name.serial (and_left _ _ is) (lawful_site h s site lawful))
-lawful_call sli level h (Resize name len) lawful = lawful_resized_words h name (want len) len (omega arith) lawful
-lawful_call sli level h (Write name at bytes) lawful =
-    by_written (λ o. IsLawful o.heap) h name at bytes (λ why. lawful) (λ s site has.
-    lawful_bytes h s.before s.after s.block _ (length-overwritten (bytes_of s.block) bytes at (range_fits s.block at (length bytes) has)) (lawful_site h s site lawful))
-lawful_call sli level h (Read name at n) lawful = lawful
 
-pub lawful_run : (sli : ℕ) (level : IsLevel sli) (h : HeapState) (calls : List Call) → IsLawful h → IsLawful (run sli h calls).1
-lawful_run sli level h [] lawful = lawful
-lawful_run sli level h (call ∷ calls) lawful = lawful_run sli level (answered sli h call).1 calls (lawful_call sli level h call lawful)
+module _ (sli : ℕ) (level : IsLevel sli) where
+  pub lawful_step : (h : HeapState) (step : Step) → IsRoomy step → IsLawful h → IsLawful (stepped sli h step)
+  lawful_step h (Give n len) wanted lawful =
+      by_allocated_words sli (λ o. IsLawful o.heap) h n len (λ why. lawful) (λ s site fit. lawful_carved sli level h s.before s.after s.block n len wanted fit (lawful_site h s site lawful))
+  lawful_step h (GiveFrom at n) wanted lawful =
+      by_words_from (λ o. IsLawful o.heap) h at n (λ why. lawful) (λ s site is room. lawful_given h s.before s.after s.block n 0 wanted (and_left _ _ is) room (lawful_site h s site lawful))
+  lawful_step h (Take name) roomy lawful = lawful_released h name lawful
+  lawful_step h (Fit name n len) wanted lawful = lawful_resized_words h name n len wanted lawful
+  lawful_step h (Put name at bytes) roomy lawful =
+      by_written (λ o. IsLawful o.heap) h name at bytes (λ why. lawful) (λ s site has.
+      lawful_bytes h s.before s.after s.block _ (length-overwritten (bytes_of s.block) bytes at (range_fits s.block at (length bytes) has)) (lawful_site h s site lawful))
+  lawful_step h (Fill name bytes) roomy lawful = absurd roomy
+  lawful_step h Look roomy lawful = lawful
+
+  pub lawful_allocated_words : (h : HeapState) (n len : ℕ) → want len ≤ n → IsLawful h → IsLawful (allocated_words sli h n len).heap
+  lawful_allocated_words h n len = lawful_step h (Give n len)
+
+  pub lawful_steps : (h : HeapState) (steps : List Step) → AllByRecursion IsRoomy steps → IsLawful h → IsLawful (after sli h steps)
+  lawful_steps = by_steps sli IsRoomy IsLawful lawful_step
+
+  pub lawful_run : (h : HeapState) (calls : List Call) → IsLawful h → IsLawful (run sli h calls).1
+  lawful_run h calls lawful = subst IsLawful (sym (runs sli h calls)) (lawful_steps h (map step_of calls) (roomy calls) lawful)

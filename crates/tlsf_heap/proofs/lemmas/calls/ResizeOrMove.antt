@@ -1,12 +1,12 @@
 -- What a resize that may move the block comes to, call by call.
-use Rattle.tlsf_heap.proofs.Common.{◌≡◌, ◌≢◌, ℕ, ◌+◌, ◌*◌, ◌<◌, ◌≤◌, Bool, true, false, cond, eqb, nat_le, List, ◌∷◌, suc, take, drop, length, Option, Some, None, Result, Ok, Err, refl, sym, ap, ◌∙◌, subst, arith, eq-eqb, IsSome, AllByRecursion, false≢true, eqb-true, ne_eqb, nat_tests, HeapState, payload_words, want, Outcome, Allocate, Release, Write, refused, last_tick, is_worn, allocated, named, released, released_at, resized, resized_at, written, payload_words_at, Site, block_at, payload_of, IsLawful, HasRoom, IsLive, is_nearly_worn, copied, moved_to, moved, moved_for, resized_else, resized_or_moved, Name, Refusal, NoFit, Worn, Foreign, Stale, Range, NoRoom}
+use Rattle.tlsf_heap.proofs.Common.{◌≡◌, ◌≢◌, ℕ, ◌+◌, ◌*◌, ◌<◌, ◌≤◌, Bool, true, false, cond, eqb, nat_le, List, ◌∷◌, suc, take, drop, length, Option, Some, None, Result, Ok, Err, refl, sym, ap, ◌∙◌, subst, arith, eq-eqb, IsSome, AllByRecursion, false≢true, eqb-true, ne_eqb, nat_tests, HeapState, payload_words, want, Outcome, refused, last_tick, is_worn, allocated, named, released, released_at, resized, resized_at, written, payload_words_at, Site, block_at, payload_of, IsLawful, HasRoom, IsLive, copied, moved_to, moved, moved_for, resized_else, resized_or_moved, Name, Refusal, NoFit, Worn, Foreign, Stale, Range, NoRoom, Give, Put, cases_lt, inl, inr}
 use Rattle.tlsf_heap.proofs.lemmas.calls.Alter.{named_of, payload_is}
 use Rattle.tlsf_heap.proofs.lemmas.calls.Allocate.{split_at}
 use Rattle.tlsf_heap.proofs.lemmas.blocks.Lawful.{all_right}
-use Rattle.tlsf_heap.proofs.lemmas.laws.Live.{given, kept}
+use Rattle.tlsf_heap.proofs.lemmas.laws.Live.{given, kept_others}
 use Rattle.tlsf_heap.proofs.lemmas.calls.Named.{named_is}
 use Rattle.tlsf_heap.proofs.lemmas.words.Bytes.{held_within}
-use Rattle.tlsf_heap.proofs.lemmas.calls.Outcomes.{by_test, by_allocated, by_written, takes}
+use Rattle.tlsf_heap.proofs.lemmas.calls.Outcomes.{by_allocated, by_written, takes}
 
 -- ---- the release behind a copy is accepted
 
@@ -24,7 +24,7 @@ released_live k name live fresh =
 pub release_done : (sli : ℕ) (k : HeapState) (name new : Name) (bytes : List ℕ) → IsLive k name → k.tick ≢ last_tick → (released (written k new 0 bytes).heap name).answer ≡ Ok tt
 release_done sli k name new bytes live fresh =
     let stays : (written k new 0 bytes).heap.tick ≡ k.tick = by_written (λ o. o.heap.tick ≡ k.tick) k new 0 bytes (λ why. refl) (λ s site has. refl) in
-    let still : IsLive (written k new 0 bytes).heap name = kept sli k name (Write new 0 bytes) (λ taken. let bad : Write new 0 bytes ≡ Release name = taken.0 in cc) live in
+    let still : IsLive (written k new 0 bytes).heap name = kept_others sli k name (Put new 0 bytes) tt live in
     released_live (written k new 0 bytes).heap name still (λ worn. fresh (sym stays ∙ worn))
 
 module _ (sli : ℕ) (h : HeapState) (name : Name) (len : ℕ) where
@@ -50,7 +50,7 @@ module _ (sli : ℕ) (h : HeapState) (name : Name) (len : ℕ) where
 
     -- both names are live then
     pub old_lives : IsLive (allocated sli h len).heap name
-    old_lives = kept sli h name (Allocate len) (λ taken. let bad : Allocate len ≡ Release name = taken.0 in cc) live
+    old_lives = kept_others sli h name (Give (want len) len) tt live
 
     pub new_lives : IsLive (allocated sli h len).heap new
     new_lives = given sli h len new (sym e)
@@ -98,26 +98,25 @@ payload_fits h name lawful live =
     let is : payload_words_at (named name h.blocks) ≡ payload_words (block_at h.blocks i) = ap payload_words_at (named_is name h.blocks i is_named.1.1) in
     omega (arith, held_within (block_at h.blocks i) room, ap length (payload_is h name is_named), is)
 
--- what a resize or move comes to: a refusal, a resize, or an allocate, a write and a release
-pub by_resized_or_moved : (P : Outcome Name → Type 0) (sli : ℕ) (h : HeapState) (name : Name) (len : ℕ) → ((why : Refusal) → P (refused h why)) → P (record { answer = Ok name; heap = (resized h name len).heap })
-    → ((new : Name) → (allocated sli h len).answer ≡ Ok new → P (record { answer = Ok new; heap = (released (copied (allocated sli h len).heap name new).heap name).heap })) → P (resized_or_moved sli h name len)
-by_resized_or_moved P sli h name len if_refused if_stays if_moved = at (resized h name len).answer
+-- what a resize or move comes to: a refusal, a resize where the block stands, or an allocate, a copy and a release
+pub by_moved : (sli : ℕ) (P : Outcome Name → Type 0) (h : HeapState) (name : Name) (len : ℕ) → ((why : Refusal) → P (refused h why))
+    → P (record { answer = Ok name; heap = (resized h name len).heap })
+    → ((new : Name) → Ok new ≡ (allocated sli h len).answer → IsLive h name → h.tick + 1 < last_tick → P (record { answer = Ok new; heap = (released (copied (allocated sli h len).heap name new).heap name).heap }))
+    → P (resized_or_moved sli h name len)
+by_moved sli P h name len if_refused if_resized if_moved = on (resized h name len).answer refl
   where
-    to : (r : Result Name Refusal) → (allocated sli h len).answer ≡ r → P (moved_to h name r (allocated sli h len).heap)
-    to (Ok new) e = if_moved new e
-    to (Err why) e = if_refused why
+    given : IsLive h name → h.tick + 1 < last_tick → (a : Result Name Refusal) → a ≡ (allocated sli h len).answer → P (moved sli h name len)
+    given live fresh (Err why) e = subst P (sym (moved_refused sli h name len fresh why e)) (if_refused why)
+    given live fresh (Ok new) e = subst P (sym (moved_done sli h name len new e live fresh)) (if_moved new e live fresh)
 
-    move : P (moved sli h name len)
-    move = by_test P (is_nearly_worn h) (refused h Worn) (moved_to h name (allocated sli h len).answer (allocated sli h len).heap) (λ _. if_refused Worn) (to (allocated sli h len).answer refl)
-
-    for : (why : Refusal) → P (moved_for why h (moved sli h name len))
-    for NoRoom = move
-    for NoFit = if_refused NoFit
-    for Worn = if_refused Worn
-    for Foreign = if_refused Foreign
-    for Stale = if_refused Stale
-    for Range = if_refused Range
-
-    at : (r : Result (Unit {0}) Refusal) → P (resized_else h name r (resized h name len).heap (moved sli h name len))
-    at (Ok done) = if_stays
-    at (Err why) = for why
+    on : (r : Result (Unit {0}) Refusal) → r ≡ (resized h name len).answer → P (resized_or_moved sli h name len)
+    on (Ok done) e = subst P (sym (stays sli h name len e)) if_resized
+    on (Err NoRoom) e = subst P (sym (moves sli h name len e)) (elim (cases_lt (h.tick + 1) last_tick) [
+      | inl fresh ↦ given (no_room_live h name len e) fresh (allocated sli h len).answer refl
+      | inr worn ↦ subst P (sym (moved_worn sli h name len worn)) (if_refused Worn)
+    ])
+    on (Err NoFit) e = subst P (sym (refuses sli h name len NoFit (λ x. cc) e)) (if_refused NoFit)
+    on (Err Worn) e = subst P (sym (refuses sli h name len Worn (λ x. cc) e)) (if_refused Worn)
+    on (Err Foreign) e = subst P (sym (refuses sli h name len Foreign (λ x. cc) e)) (if_refused Foreign)
+    on (Err Stale) e = subst P (sym (refuses sli h name len Stale (λ x. cc) e)) (if_refused Stale)
+    on (Err Range) e = subst P (sym (refuses sli h name len Range (λ x. cc) e)) (if_refused Range)

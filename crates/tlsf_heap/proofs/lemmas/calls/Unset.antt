@@ -1,5 +1,5 @@
 -- What the calls that fill nothing come to.
-use Rattle.tlsf_heap.proofs.Common.{◌≡◌, ◌≢◌, ℕ, suc, ◌+◌, ◌-◌, ◌<◌, ◌≤◌, true, List, [], ◌∷◌, ◌++◌, length, take, drop, min, replicate, Option, Some, None, Ok, refl, sym, ap, ◌∙◌, subst, inl, inr, arith, length-append, length-drop, length-take-le, IsSome, AllByRecursion, false≢true, eqb-true, cases_lt, append-nil, take-append-le, take-append-drop, drop_all, length-replicate, IsLevel, bytes_in, payload_byte, AreDistinct, Block, Live, Free, HeapState, size_of, bytes_of, payload_words, serials, want, words_for, Release, Write, carved, allocated, overwritten, released, written, allocated_words, has_serial, named, first_free, past_free, fitted, refitted, resized, resized_words, room_of, with_blocks, payload_words_at, Site, block_at, is_fit, Image, Shows, bytes_at, payload_of, IsLawful, IsLive, copied, lying, unset_from, with_payload, Name}
+use Rattle.tlsf_heap.proofs.Common.{◌≡◌, ◌≢◌, ℕ, suc, ◌+◌, ◌-◌, ◌<◌, ◌≤◌, true, List, [], ◌∷◌, ◌++◌, length, take, drop, min, replicate, Option, Some, None, Ok, refl, sym, ap, ◌∙◌, subst, inl, inr, arith, length-append, length-drop, length-take-le, IsSome, AllByRecursion, false≢true, eqb-true, cases_lt, append-nil, take-append-le, take-append-drop, drop_all, length-replicate, IsLevel, bytes_in, payload_byte, AreDistinct, Block, Live, Free, HeapState, size_of, bytes_of, payload_words, serials, want, words_for, Release, Write, carved, allocated, overwritten, released, written, allocated_words, has_serial, named, first_free, past_free, fitted, refitted, resized, resized_words, room_of, with_blocks, payload_words_at, Site, block_at, is_fit, Image, Shows, bytes_at, payload_of, IsLawful, IsLive, copied, lying, unset_from, with_payload, Name, Give, Take, cut}
 use Rattle.std.proofs.Math.Seq.{take-length, drop-append_seam}
 use Rattle.tlsf_heap.proofs.lemmas.calls.Allocate.{split_at}
 use Rattle.tlsf_heap.proofs.lemmas.calls.Alter.{first_bytes, named_of, payload_is}
@@ -8,7 +8,7 @@ use Rattle.tlsf_heap.proofs.lemmas.blocks.Find.{and_left}
 use Rattle.tlsf_heap.proofs.lemmas.words.NewBytes.{length-fitted, fitted_less}
 use Rattle.tlsf_heap.proofs.lemmas.laws.Gone.{distinct_from}
 use Rattle.tlsf_heap.proofs.lemmas.blocks.Lawful.{all_append, all_left, all_right, serials-append}
-use Rattle.tlsf_heap.proofs.lemmas.laws.Live.{given_words, kept, kept_allocated, kept_resized, lives, serial_of}
+use Rattle.tlsf_heap.proofs.lemmas.laws.Live.{given_words, kept_others, kept_resized, lives, serial_of}
 use Rattle.tlsf_heap.proofs.lemmas.calls.ResizeOrMove.{ticks}
 use Rattle.tlsf_heap.proofs.lemmas.calls.Outcomes.{lawful_run, lawful_allocated_words, lawful_resized_words, lawful_site, named_site, by_allocated_words, by_resized_found}
 use Rattle.tlsf_heap.proofs.lemmas.words.Bytes.{length-bytes_in, bytes_among}
@@ -177,7 +177,7 @@ payload_given sli h n len name lawful live =
     let here : All h.blocks = subst All (sym whole)
     (all_append (OfSerial P name.serial) (take i h.blocks) (block_at h.blocks i ∷ drop (suc i) h.blocks) (others P name.serial (take i h.blocks) apart.0) (λ is. sym (payload_is h name is_named), others P name.serial (drop (suc i) h.blocks) apart.1)) in
     let past = serial_of name.at name.serial (λ x. x < h.tick) 0 h.blocks lawful.serials_past (lives h name live) in
-    let found = of_name P name.serial (allocated_words sli h n len).heap name refl (kept_allocated sli h name n len live)
+    let found = of_name P name.serial (allocated_words sli h n len).heap name refl (kept_others sli h name (Give n len) tt live)
     (by_allocated_words sli (λ o. All o.heap.blocks) h n len (λ why. here) (λ s site fit.
     let old : All (s.before ++ s.block ∷ s.after) = subst All (sym site) here in
     let no : (k : ℕ) → OfSerial P name.serial (Live k h.tick (replicate len 0)) = λ k is. let same = eqb-true h.tick name.serial is in absurd (omega (arith, same, past)) in
@@ -205,7 +205,7 @@ module _ (sli : ℕ) (h : HeapState) (name new : Name) (len : ℕ) (level : IsLe
   given_lawful = lawful_allocated_words sli level h (want len) len (omega arith) lawful
 
   old_given : IsLive given name
-  old_given = kept_allocated sli h name (want len) len live
+  old_given = kept_others sli h name (Give (want len) len) tt live
 
   new_given : IsLive given new
   new_given = given_words sli h (want len) len new answer
@@ -238,10 +238,7 @@ module _ (sli : ℕ) (h : HeapState) (name new : Name) (len : ℕ) (level : IsLe
       ∙ released_rebyted new.serial (piece ++ drop some bytes) given name
 
   new_left : IsLive rest new
-  new_left = kept sli given new (Release name) (λ taken. let same : name ≡ new = released_same name new taken.0 in differ (ap (λ (n : Name). n.serial) same)) new_given
-    where
-      released_same : (x y : Name) → Release x ≡ Release y → x ≡ y
-      released_same x y e = cc
+  new_left = kept_others sli given new (Take name) (λ same. differ (ap (λ (n : Name). n.serial) same)) new_given
 
   -- the heap behind a request that fills nothing
   first_is : (before : Image) (first : HeapState) → first ≡ unset_from given new before 0 len → first ≡ rebyted new.serial (lying before new.at len) given

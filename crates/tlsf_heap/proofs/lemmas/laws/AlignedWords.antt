@@ -1,32 +1,20 @@
 -- The words in use over a request for a block whose payload is aligned.
-use Rattle.tlsf_heap.proofs.Common.{◌≡◌, ◌≢◌, ℕ, ◌+◌, ◌<◌, ◌≤◌, List, Option, Some, None, Result, Ok, Err, refl, sym, ap, ◌∙◌, subst, inl, inr, arith, cases_lt, IsLevel, words_from, gap_of, moved_by, moved_on, aligned_words, words_aligned, HeapState, words_in, want, Outcome, last_tick, named, allocated_words, released, resized_words, Site, IsLawful, IsLive, IsTaken, with_payload, with_payload_at, words_in_use, words_at, Name, Refusal}
-use Rattle.tlsf_heap.proofs.lemmas.calls.AllocateAligned.{has_live, gives_from, by_words_from, from_has, from_lasts, moved_done, gap_fits, first_given, by_gap, aligned_worn, aligned_refused, aligned_is, first_has}
-use Rattle.tlsf_heap.proofs.lemmas.calls.Allocate.{lawful_given}
+use Rattle.tlsf_heap.proofs.Common.{◌≡◌, ◌≢◌, ℕ, ◌+◌, ◌<◌, ◌≤◌, Result, Ok, Err, refl, sym, ap, ◌∙◌, subst, inl, inr, arith, cases_lt, IsLevel, words_from, gap_of, moved_by, moved_on, aligned_words, words_aligned, HeapState, words_in, want, GiveFrom, Take, Outcome, last_tick, allocated_words, released, resized_words, IsLawful, IsLive, IsTaken, words_in_use, words_at, Name, Refusal}
+use Rattle.tlsf_heap.proofs.lemmas.calls.AllocateAligned.{has_live, from_has, moved_done, gap_fits, first_given, by_gap, aligned_worn, aligned_refused, aligned_is, first_has}
 use Rattle.tlsf_heap.proofs.lemmas.blocks.Find.{and_left}
 use Rattle.tlsf_heap.proofs.lemmas.laws.Live.{kept_resized}
-use Rattle.tlsf_heap.proofs.lemmas.calls.Outcomes.{named_site, lawful_site, lawful_allocated_words, lawful_resized_words}
-use Rattle.tlsf_heap.proofs.lemmas.laws.WordsInUse.{in_use_given, in_use_allocated, in_use_resized, in_use_released, in_use_set, from, with_words, Sized, not_free, sized, words_sized, words_released}
+use Rattle.tlsf_heap.proofs.lemmas.calls.Outcomes.{gives_words, by_words_from, lawful_step, lawful_allocated_words, lawful_resized_words}
+use Rattle.tlsf_heap.proofs.lemmas.laws.WordsInUse.{in_use_given, in_use_allocated, in_use_resized, in_use_released, words_kept}
 
 -- ---- out of the free block at a place
 
-lawful_from : (h : HeapState) (at n : ℕ) → want 0 ≤ n → IsLawful h → IsLawful (words_from h at n).heap
-lawful_from h at n least lawful =
-    by_words_from (λ o. IsLawful o.heap) h at n (λ why. lawful) (λ s site is room. lawful_given h s.before s.after s.block n 0 least (and_left _ _ is) room (lawful_site h s site lawful))
-
-in_use_from : (h : HeapState) (at n : ℕ) (name : Name) → want 0 ≤ n → IsLawful h → (words_from h at n).answer ≡ Ok name
+in_use_from : (h : HeapState) (at n : ℕ) (name : Name) → IsLawful (words_from h at n).heap → (words_from h at n).answer ≡ Ok name
     → words_in_use (words_from h at n).heap ≡ words_in_use h + words_at (words_from h at n).heap name.at
-in_use_from h at n name least lawful =
+in_use_from h at n name =
     by_words_from (λ o. IsLawful o.heap → o.answer ≡ Ok name → words_in_use o.heap ≡ words_in_use h + words_at o.heap name.at) h at n (λ why left e. absurd cc)
     (λ s site is room left e.
     let place : words_in s.before ≡ name.at = cc in
-    in_use_given h n 0 s site (and_left _ _ is) left ∙ ap (λ (p : ℕ). words_in_use h + words_at (gives_from h n s).heap p) place)
-    (lawful_from h at n least lawful)
-
-words_kept : (h : HeapState) (at n : ℕ) (name : Name) → want 0 ≤ n → IsLawful h → IsLive h name → words_at (words_from h at n).heap name.at ≡ words_at h name.at
-words_kept h at n name least lawful live =
-    let size = words_at h name.at in
-    words_sized name size (words_from h at n).heap (lawful_from h at n least lawful)
-    (from_lasts (Sized name.serial size) name.at (not_free name size) h at n (sized name size h lawful live refl))
+    in_use_given h n 0 s site (and_left _ _ is) left ∙ ap (λ (p : ℕ). words_in_use h + words_at (gives_words h n 0 s).heap p) place)
 
 -- ---- the whole call
 
@@ -55,7 +43,7 @@ module _ (sli : ℕ) (level : IsLevel sli) (h : HeapState) (n step skew : ℕ) (
         let r = (resized_words a first gap 0).heap in
         let there = words_from r (first.at + gap) n in
         let lawful_r = lawful_resized_words a first gap 0 wide was_lawful in
-        let lawful_t = lawful_from r (first.at + gap) n (omega (arith, least)) lawful_r in
+        let lawful_t = lawful_step sli level r (GiveFrom (first.at + gap) n) (omega (arith, least)) lawful_r in
         let live : IsLive r first = kept_resized a first first gap 0 (has_live a first (gap + n) has) in
         let came = from_has r (first.at + gap) n name e in
         let differ : first ≢ name = λ same. omega (arith, came.1, ap (λ (m : Name). m.at) same, behind) in
@@ -66,10 +54,10 @@ module _ (sli : ℕ) (level : IsLevel sli) (h : HeapState) (n step skew : ℕ) (
           arith,
           more,
           in_use_resized a first gap 0 wide was_lawful,
-          in_use_from r (first.at + gap) n name (omega (arith, least)) lawful_r e,
+          in_use_from r (first.at + gap) n name lawful_t e,
           in_use_released there.heap first lawful_t taken,
-          words_kept r (first.at + gap) n first (omega (arith, least)) lawful_r live,
-          words_released there.heap first name differ lawful_t (has_live there.heap name n came.0),
+          words_kept sli level first r (GiveFrom (first.at + gap) n) (omega (arith, least)) tt lawful_r live,
+          words_kept sli level name there.heap (Take first) tt differ lawful_t (has_live there.heap name n came.0),
         )
       where
         accepted : (answer : Result (Unit {0}) Refusal) → {x : Result (Unit {0}) Refusal} → x ≡ answer → ((why : Refusal) → Err why ≡ x → ⊥) → x ≡ Ok tt
@@ -91,19 +79,3 @@ module _ (sli : ℕ) (level : IsLevel sli) (h : HeapState) (n step skew : ℕ) (
       on : h.tick + 3 < last_tick → (r : Result Name Refusal) → r ≡ asked.answer → Sums (words_aligned sli h n step skew)
       on left (Err why) e = subst Sums (sym (aligned_refused sli level h n step skew lawful left why e)) (λ bad. absurd cc)
       on left (Ok first) e = subst Sums (sym (aligned_is sli level h n step skew lawful left some least first e (was_lawful left first e))) (moves_on left first e)
-
--- ---- other bytes of a payload
-
-pub in_use_payload : (h : HeapState) (name : Name) (bytes : List ℕ) → words_in_use (with_payload h name bytes) ≡ words_in_use h
-in_use_payload h name bytes = on (named name h.blocks) refl
-  where
-    on : (o : Option Site) → named name h.blocks ≡ o → words_in_use (with_payload_at h bytes o) ≡ words_in_use h
-    on None e = refl
-    on (Some s) e = in_use_set h s bytes (named_site name h.blocks s e).0
-
-pub words_payload : (place : ℕ) (h : HeapState) (name : Name) (bytes : List ℕ) → words_at (with_payload h name bytes) place ≡ words_at h place
-words_payload place h name bytes = on (named name h.blocks) refl
-  where
-    on : (o : Option Site) → named name h.blocks ≡ o → words_at (with_payload_at h bytes o) place ≡ words_at h place
-    on None e = refl
-    on (Some s) e = with_words place 0 s.before s.after s.block bytes ∙ ap (from place 0) (named_site name h.blocks s e).0

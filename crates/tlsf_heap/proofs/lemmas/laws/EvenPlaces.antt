@@ -1,13 +1,13 @@
 -- Blocks that begin an even number of words behind a place go on doing so.
-use Rattle.tlsf_heap.proofs.Common.{◌≡◌, ℕ, zero, suc, ◌+◌, ◌*◌, ◌/◌, ◌%◌, nat_le, Option, Some, None, Result, Ok, Err, ◌<◌, ◌≤◌, List, [], ◌∷◌, ◌++◌, length, take, false, true, refl, sym, ap, ◌∙◌, subst, inl, inr, arith, ◌⊎◌, ⊤, AllByRecursion, add-zero, mod-add-div', mul-add-mod_self_right, mul_assoc, false≢true, eqb-true, cases_lt, Block, Live, Free, HeapState, size_of, bytes_of, words_in, is_free, want, Site, block_at, place_of, Outcome, refused, last_tick, named, Call, Allocate, Release, Resize, Write, Read, carved, coalesced, first_free, past_free, before_free, has_serial, with_bytes, overwritten, opened, allocated_words, released, resized_words, written, refitted, room_of, answered, run, words_from, gap_of, aligned_by, aligned_words, words_aligned, resized_or_moved, IsEven, IsEvenFrom, AreEvenFrom, IsEvenCall, with_payload, with_payload_at, Name, Refusal, Worn}
-use Rattle.tlsf_heap.proofs.lemmas.calls.AllocateAligned.{by_words_from, by_gap, gap_fits}
+use Rattle.tlsf_heap.proofs.Common.{◌≡◌, ℕ, zero, suc, ◌+◌, ◌*◌, ◌/◌, ◌%◌, nat_le, Result, Ok, Err, ◌<◌, ◌≤◌, List, [], ◌∷◌, ◌++◌, length, take, false, true, refl, sym, ap, ◌∙◌, subst, inl, inr, arith, ◌⊎◌, ⊤, AllByRecursion, add-zero, mod-add-div', mul-add-mod_self_right, mul_assoc, false≢true, eqb-true, cases_lt, Block, Live, Free, HeapState, size_of, bytes_of, words_in, is_free, want, Site, block_at, place_of, Outcome, refused, last_tick, carved, coalesced, first_free, past_free, before_free, has_serial, with_bytes, overwritten, opened, allocated_words, refitted, room_of, Step, Give, GiveFrom, Take, Fit, Put, Fill, Look, stepped, after, gap_of, aligned_by, aligned_words, words_aligned, resized_or_moved, IsEven, IsEvenFrom, AreEvenFrom, IsEvenStep, Name, Refusal, Worn}
+use Rattle.tlsf_heap.proofs.lemmas.calls.AllocateAligned.{by_gap, gap_fits}
 use Rattle.tlsf_heap.proofs.lemmas.blocks.Coalesce.{by_last}
 use Rattle.tlsf_heap.proofs.lemmas.blocks.Replace.{carved_small, carved_large}
 use Rattle.tlsf_heap.proofs.lemmas.blocks.Find.{and_left, and_right}
 use Rattle.tlsf_heap.proofs.lemmas.blocks.Lawful.{words_in-append}
 use Rattle.tlsf_heap.proofs.lemmas.laws.Live.{words_carved}
-use Rattle.tlsf_heap.proofs.lemmas.calls.ResizeOrMove.{by_resized_or_moved}
-use Rattle.tlsf_heap.proofs.lemmas.calls.Outcomes.{IsSiteOf, by_test, named_site, by_allocated_words, by_released, by_resized_words, by_written}
+use Rattle.tlsf_heap.proofs.lemmas.calls.ResizeOrMove.{by_moved}
+use Rattle.tlsf_heap.proofs.lemmas.calls.Outcomes.{IsSiteOf, by_test, by_allocated_words, by_words_from, by_released, by_resized_words, by_written, by_filled, by_steps}
 use Rattle.tlsf_heap.proofs.lemmas.words.Bytes.{size_of-with_bytes, is_free-with_bytes}
 use Rattle.tlsf_heap.proofs.lemmas.calls.Resize.{by_refitted}
 
@@ -105,12 +105,6 @@ module _ (from : ℕ) where
       those _ (both 0 (s.before ++ new) s.after (both 0 s.before new (front 0 s.before (s.block ∷ s.after) old) (carved_even _ (size_of s.block) n h.tick len place wants))
       (moved _ _ s.after (omega (arith, words, words_in-append s.before new)) here.1))
 
-  pub even_allocated : (sli : ℕ) (h : HeapState) (n len : ℕ) → IsEven n → AreEvenFrom from h.blocks → AreEvenFrom from (allocated_words sli h n len).heap.blocks
-  even_allocated sli h n len wants even = by_allocated_words sli (λ o. AreEvenFrom from o.heap.blocks) h n len (λ why. even) (λ s site fit. given_even h s n len site (and_left _ _ fit) wants even)
-
-  pub even_from : (h : HeapState) (at n : ℕ) → IsEven n → AreEvenFrom from h.blocks → AreEvenFrom from (words_from h at n).heap.blocks
-  even_from h at n wants even = by_words_from (λ o. AreEvenFrom from o.heap.blocks) h at n (λ why. even) (λ s site is room. given_even h s n 0 site (and_left _ _ is) wants even)
-
   coalesced_even : (tick : ℕ) (s : Site) → from ≤ words_in s.before → Evens 0 (s.before ++ s.block ∷ s.after) → Evens 0 (coalesced tick s)
   coalesced_even tick s inside all =
       let here = back 0 s.before (s.block ∷ s.after) all in
@@ -126,11 +120,6 @@ module _ (from : ℕ) where
       let words = ahead.2 in
       both 0 (before_free s.before) _ ahead.0 (inl (subst (IsEvenFrom from) (omega arith) ahead.1), moved _ _ (past_free s.after) (omega (arith, words)) rest)
 
-  pub even_released : (h : HeapState) (name : Name) → from ≤ name.at → AreEvenFrom from h.blocks → AreEvenFrom from (released h name).heap.blocks
-  even_released h name inside even = by_released (λ o. AreEvenFrom from o.heap.blocks) h name (λ why. even) (λ s own site is.
-      let place : words_in s.before ≡ name.at = eqb-true _ _ (and_right (has_serial name.serial s.block) _ is) in
-      those _ (coalesced_even h.tick s (omega (arith, place, inside)) (subst (Evens 0) (sym site) (these h.blocks even))))
-
   refitted_even : (at tick n len : ℕ) (b : Block) (more : List Block) (serial : ℕ) → has_serial serial b ≡ true → n ≤ room_of b more → IsEven n → from ≤ at → Evens at (b ∷ more) → Evens at (refitted tick n len b more)
   refitted_even at tick n len (Free m s) more serial is room wants inside all = absurd (false≢true is)
   refitted_even at tick n len (Live m s xs) more serial is room wants inside all =
@@ -141,13 +130,6 @@ module _ (from : ℕ) where
       (inl place, moved _ _ (past_free more) (omega arith) rest)
       (λ large. (inl place, (inl (later at n place wants), moved _ _ (past_free more) (omega (arith, large)) rest)))
 
-  pub even_resized : (h : HeapState) (name : Name) (n len : ℕ) → IsEven n → from ≤ name.at → AreEvenFrom from h.blocks → AreEvenFrom from (resized_words h name n len).heap.blocks
-  even_resized h name n len wants inside even = by_resized_words (λ o. AreEvenFrom from o.heap.blocks) h name n len (λ why. even) (λ s own site is room.
-      let place : words_in s.before ≡ name.at = eqb-true _ _ (and_right (has_serial name.serial s.block) _ is) in
-      let all : Evens 0 (s.before ++ s.block ∷ s.after) = subst (Evens 0) (sym site) (these h.blocks even) in
-      those _ (both 0 s.before _ (front 0 s.before (s.block ∷ s.after) all)
-      (refitted_even (0 + words_in s.before) h.tick n len s.block s.after name.serial (and_left _ _ is) room wants (omega (arith, place, inside)) (back 0 s.before (s.block ∷ s.after) all))))
-
   -- a block gets other bytes
   rebyted_even : (h : HeapState) (s : Site) (bytes : List ℕ) → IsSiteOf h.blocks s → AreEvenFrom from h.blocks → AreEvenFrom from (s.before ++ with_bytes s.block bytes ∷ s.after)
   rebyted_even h s bytes site even =
@@ -156,19 +138,27 @@ module _ (from : ℕ) where
       let own : EvenAt (0 + words_in s.before) (with_bytes s.block bytes) = elim here.0 [ inl e ↦ inl e | inr before ↦ inr (before.0, is_free-with_bytes s.block bytes ∙ before.1) ] in
       those _ (both 0 s.before (with_bytes s.block bytes ∷ s.after) (front 0 s.before (s.block ∷ s.after) all) (own, moved _ _ s.after (ap (λ (k : ℕ). 0 + words_in s.before + k) (sym (size_of-with_bytes s.block bytes))) here.1))
 
-  pub even_written : (h : HeapState) (name : Name) (at : ℕ) (bytes : List ℕ) → AreEvenFrom from h.blocks → AreEvenFrom from (written h name at bytes).heap.blocks
-  even_written h name at bytes even = by_written (λ o. AreEvenFrom from o.heap.blocks) h name at bytes (λ why. even) (λ s site fits. rebyted_even h s (overwritten (bytes_of s.block) at bytes) site even)
+  pub even_step : (sli : ℕ) (h : HeapState) (step : Step) → IsEvenStep from step → AreEvenFrom from h.blocks → AreEvenFrom from (stepped sli h step).blocks
+  even_step sli h (Give n len) wants even = by_allocated_words sli (λ o. AreEvenFrom from o.heap.blocks) h n len (λ why. even) (λ s site fit. given_even h s n len site (and_left _ _ fit) wants even)
+  even_step sli h (GiveFrom at n) wants even = by_words_from (λ o. AreEvenFrom from o.heap.blocks) h at n (λ why. even) (λ s site is room. given_even h s n 0 site (and_left _ _ is) wants even)
+  even_step sli h (Take name) inside even = by_released (λ o. AreEvenFrom from o.heap.blocks) h name (λ why. even) (λ s own site is.
+      let place : words_in s.before ≡ name.at = eqb-true _ _ (and_right (has_serial name.serial s.block) _ is) in
+      those _ (coalesced_even h.tick s (omega (arith, place, inside)) (subst (Evens 0) (sym site) (these h.blocks even))))
+  even_step sli h (Fit name n len) wants even = by_resized_words (λ o. AreEvenFrom from o.heap.blocks) h name n len (λ why. even) (λ s own site is room.
+      let place : words_in s.before ≡ name.at = eqb-true _ _ (and_right (has_serial name.serial s.block) _ is) in
+      let all : Evens 0 (s.before ++ s.block ∷ s.after) = subst (Evens 0) (sym site) (these h.blocks even) in
+      those _ (both 0 s.before _ (front 0 s.before (s.block ∷ s.after) all)
+      (refitted_even (0 + words_in s.before) h.tick n len s.block s.after name.serial (and_left _ _ is) room wants.1 (omega (arith, place, wants.0)) (back 0 s.before (s.block ∷ s.after) all))))
+  even_step sli h (Put name at bytes) wants even = by_written (λ o. AreEvenFrom from o.heap.blocks) h name at bytes (λ why. even) (λ s site fits. rebyted_even h s (overwritten (bytes_of s.block) at bytes) site even)
+  even_step sli h (Fill name bytes) wants even = by_filled (λ k. AreEvenFrom from k.blocks) h name bytes even (λ s site is. rebyted_even h s bytes site even)
+  even_step sli h Look wants even = even
 
-  pub even_payload : (h : HeapState) (name : Name) (bytes : List ℕ) → AreEvenFrom from h.blocks → AreEvenFrom from (with_payload h name bytes).blocks
-  even_payload h name bytes even = on (named name h.blocks) refl
-    where
-      on : (o : Option Site) → named name h.blocks ≡ o → AreEvenFrom from (with_payload_at h bytes o).blocks
-      on None e = even
-      on (Some s) e = rebyted_even h s bytes (named_site name h.blocks s e).0 even
+  pub even_run : (sli : ℕ) (h : HeapState) (steps : List Step) → AllByRecursion (IsEvenStep from) steps → AreEvenFrom from h.blocks → AreEvenFrom from (after sli h steps).blocks
+  even_run sli = by_steps sli (IsEvenStep from) (λ h. AreEvenFrom from h.blocks) (even_step sli)
 
   pub even_moved : (sli : ℕ) (h : HeapState) (name : Name) (len : ℕ) → IsEven (want len) → from ≤ name.at → AreEvenFrom from h.blocks → AreEvenFrom from (resized_or_moved sli h name len).heap.blocks
-  even_moved sli h name len wants inside even = by_resized_or_moved (λ o. AreEvenFrom from o.heap.blocks) sli h name len (λ why. even) (even_resized h name (want len) len wants inside even)
-      (λ new e. even_released _ name inside (even_written _ new 0 _ (even_allocated sli h (want len) len wants even)))
+  even_moved sli h name len wants inside even = by_moved sli (λ o. AreEvenFrom from o.heap.blocks) h name len (λ why. even) (even_step sli h (Fit name (want len) len) (inside, wants) even)
+      (λ new e live fresh. even_run sli h (Give (want len) len ∷ Put new 0 _ ∷ Take name ∷ []) (wants, (tt, (inside, tt))) even)
 
   -- a payload that is aligned to a multiple of `step` words, where the gap in front of it is even
   pub even_aligned : (sli : ℕ) (h : HeapState) (n step skew : ℕ) → IsEven n → 0 < step → IsEven step → IsEven (from + 3 + skew) → AreEvenFrom from h.blocks → AreEvenFrom from (words_aligned sli h n step skew).heap.blocks
@@ -185,28 +175,15 @@ module _ (from : ℕ) where
           let same : record { heap = h.id; at = place_of s; serial = h.tick } ≡ name = cc in
           let old : Evens 0 (s.before ++ s.block ∷ s.after) = subst (Evens 0) (sym site) (these h.blocks even) in
           subst (λ (m : Name). IsEvenFrom from m.at) same (subst (IsEvenFrom from) (omega arith) (free_even (0 + words_in s.before) s.block (and_left _ _ fit) (back 0 s.before (s.block ∷ s.after) old).0))) e in
-          let given = even_allocated sli h (aligned_words n step) 0 (omega (arith, wants, by_two)) even in
+          let given = even_step sli h (Give (aligned_words n step) 0) (omega (arith, wants, by_two)) even in
           let gap = gap_of name.at step skew in
           let multiple = multiple_even (name.at + gap + 3 + skew) step by_two (gap_fits name.at step skew steps).2 in
           let start = place.0 in
           let rest = place.1 in
           let even_gap : IsEven gap = omega (arith, multiple, start, rest, parity) in
           by_gap (λ o. AreEvenFrom from o.heap.blocks) asked.heap name gap n
-          (λ none. even_resized asked.heap name n 0 wants start given)
-          (λ more.
-          let cut = (resized_words asked.heap name gap 0).heap in
-          even_released (words_from cut (name.at + gap) n).heap name start (even_from cut (name.at + gap) n wants (even_resized asked.heap name gap 0 even_gap start given)))
-
-  even_call : (sli : ℕ) (h : HeapState) (call : Call) → IsEvenCall from call → AreEvenFrom from h.blocks → AreEvenFrom from (answered sli h call).1.blocks
-  even_call sli h (Allocate len) wants even = even_allocated sli h (want len) len wants even
-  even_call sli h (Release name) wants even = even_released h name wants even
-  even_call sli h (Resize name len) wants even = even_resized h name (want len) len wants.1 wants.0 even
-  even_call sli h (Write name at bytes) wants even = even_written h name at bytes even
-  even_call sli h (Read name at n) wants even = even
-
-  pub even_run : (sli : ℕ) (h : HeapState) (calls : List Call) → AllByRecursion (IsEvenCall from) calls → AreEvenFrom from h.blocks → AreEvenFrom from (run sli h calls).1.blocks
-  even_run sli h [] wants even = even
-  even_run sli h (call ∷ calls) wants even = even_run sli (answered sli h call).1 calls wants.1 (even_call sli h call wants.0 even)
+          (λ none. even_step sli asked.heap (Fit name n 0) (start, wants) given)
+          (λ more. even_run sli asked.heap (Fit name gap 0 ∷ GiveFrom (name.at + gap) n ∷ Take name ∷ []) ((start, even_gap), (wants, (start, tt))) given)
 
 -- a new heap has one block, at place 0
 pub even_opened : (id words first : ℕ) → AreEvenFrom 0 (opened id words first).blocks

@@ -1,9 +1,9 @@
 -- A released name is never live again.
-use Rattle.tlsf_heap.proofs.Common.{◌≡◌, ◌≢◌, ℕ, ◌+◌, ◌<◌, ◌≤◌, true, nat_le, List, [], ◌∷◌, ◌++◌, Ok, refl, sym, subst, arith, AllByRecursion, eqb-true, false≢true, Block, Live, Free, HeapState, size_of, serials, want, IsLawful, AreDistinct, ticked, with_blocks, carved, allocated_words, has_serial, past_free, before_free, coalesced, released, with_bytes, is_sized, refitted, resized_words, room_of, Call, Allocate, Release, Resize, Write, Read, answered, run, IsLive, IsTaken, IsGone, Name}
+use Rattle.tlsf_heap.proofs.Common.{◌≡◌, ◌≢◌, ℕ, ◌+◌, ◌<◌, ◌≤◌, true, nat_le, List, [], ◌∷◌, ◌++◌, Ok, refl, sym, subst, arith, AllByRecursion, eqb-true, false≢true, Block, Live, Free, HeapState, size_of, serials, IsLawful, AreDistinct, ticked, with_blocks, carved, has_serial, past_free, before_free, coalesced, released, with_bytes, is_sized, refitted, room_of, IsLive, IsTaken, IsGone, Name, Fill, Fit, Give, GiveFrom, Look, Put, Site, Step, Take, after, bytes_of, overwritten, stepped}
 use Rattle.tlsf_heap.proofs.lemmas.blocks.Find.{and_left}
 use Rattle.tlsf_heap.proofs.lemmas.blocks.Lawful.{all_append, all_left, all_right, all_weaker, serials-append}
 use Rattle.tlsf_heap.proofs.lemmas.blocks.Coalesce.{by_last}
-use Rattle.tlsf_heap.proofs.lemmas.calls.Outcomes.{by_test, by_allocated_words, by_released, by_resized_words, by_written, lawful_site}
+use Rattle.tlsf_heap.proofs.lemmas.calls.Outcomes.{IsSiteOf, gives_words, by_test, by_allocated_words, by_words_from, by_released, by_resized_words, by_written, by_filled, lawful_site}
 use Rattle.tlsf_heap.proofs.lemmas.calls.Resize.{by_refitted}
 use Rattle.tlsf_heap.proofs.lemmas.laws.Live.{serial_of, lives}
 
@@ -41,39 +41,39 @@ module _ (P : ℕ → Type 0) where
   all_refitted tick n len (Live m s xs) back room all = by_refitted AllSerials tick n len m s xs back room (λ _. all) (all.0, all_past back all.1) (λ _. (all.0, all_past back all.1))
   all_refitted tick n len (Free m s) back room all = by_test AllSerials (is_sized n (Free m s)) (Free m s ∷ back) (Free m s ∷ back) (λ _. all) all
 
-pub gone_allocated : (sli : ℕ) (h : HeapState) (serial n len : ℕ) → IsGone h serial → IsGone (allocated_words sli h n len).heap serial
-gone_allocated sli h serial n len g = by_allocated_words sli (λ o. IsGone o.heap serial) h n len (λ why. g) (λ s site fit.
-    let P : ℕ → Type 0 = λ y. y ≢ serial in
-    let new : List Block = carved (size_of s.block) n h.tick len in
-    let other : h.tick ≢ serial = λ e. omega (arith, g.past, e) in
-    let all = all_of P s.before (s.block ∷ s.after) (subst (AllSerials P) (sym site) g.absent) in
-    record {
-      past = omega (arith, g.past);
-      absent = of_both P (s.before ++ new) s.after (of_both P s.before new all.0 (by_test (AllSerials P) (nat_le (n + 4) (size_of s.block)) _ _ (λ _. (other, tt)) (other, tt))) (of_rest P s.block s.after all.1);
-    })
+module _ (h : HeapState) (serial : ℕ) (g : IsGone h serial) (s : Site) (site : IsSiteOf h.blocks s) where
+  abbrev P : ℕ → Type 0
+  P y = y ≢ serial
 
-pub gone_resized : (h : HeapState) (serial : ℕ) (name : Name) (n len : ℕ) → IsGone h serial → IsGone (resized_words h name n len).heap serial
-gone_resized h serial name n len g = by_resized_words (λ o. IsGone o.heap serial) h name n len (λ why. g) (λ s own site is room.
-    let P : ℕ → Type 0 = λ y. y ≢ serial in
-    let all = all_of P s.before (s.block ∷ s.after) (subst (AllSerials P) (sym site) g.absent) in
-    record { past = omega (arith, g.past); absent = of_both P s.before _ all.0 (all_refitted P h.tick n len s.block s.after room all.1) })
+  all : AllSerials P s.before × AllSerials P (s.block ∷ s.after)
+  all = all_of P s.before (s.block ∷ s.after) (subst (AllSerials P) (sym site) g.absent)
 
-pub gone_call : (sli : ℕ) (h : HeapState) (serial : ℕ) (call : Call) → IsGone h serial → IsGone (answered sli h call).1 serial
-gone_call sli h serial (Allocate len) g = gone_allocated sli h serial (want len) len g
-gone_call sli h serial (Release name) g = by_released (λ o. IsGone o.heap serial) h name (λ why. g) (λ s own site is.
-    let P : ℕ → Type 0 = λ y. y ≢ serial in
-    let all = all_of P s.before (s.block ∷ s.after) (subst (AllSerials P) (sym site) g.absent) in
-    record { past = omega (arith, g.past); absent = all_coalesced P h.tick s.before s.after s.block all.0 (of_rest P s.block s.after all.1) })
-gone_call sli h serial (Resize name len) g = gone_resized h serial name (want len) len g
-gone_call sli h serial (Write name at bytes) g = by_written (λ o. IsGone o.heap serial) h name at bytes (λ why. g) (λ s site has.
-    let P : ℕ → Type 0 = λ y. y ≢ serial in
-    let all = all_of P s.before (s.block ∷ s.after) (subst (AllSerials P) (sym site) g.absent) in
-    record { past = g.past; absent = of_both P s.before _ all.0 (all_with P s.block _ s.after all.1) })
-gone_call sli h serial (Read name at n) g = g
+  gone_given : (n len : ℕ) → IsGone (gives_words h n len s).heap serial
+  gone_given n len =
+      let new : List Block = carved (size_of s.block) n h.tick len in
+      let other : h.tick ≢ serial = λ e. omega (arith, g.past, e) in
+      record {
+        past = omega (arith, g.past);
+        absent = of_both P (s.before ++ new) s.after (of_both P s.before new all.0 (by_test (AllSerials P) (nat_le (n + 4) (size_of s.block)) _ _ (λ _. (other, tt)) (other, tt))) (of_rest P s.block s.after all.1);
+      }
 
-gone_run : (sli : ℕ) (h : HeapState) (serial : ℕ) (calls : List Call) → IsGone h serial → IsGone (run sli h calls).1 serial
+  gone_set : (bytes : List ℕ) → IsGone (with_blocks h (s.before ++ with_bytes s.block bytes ∷ s.after)) serial
+  gone_set bytes = record { past = g.past; absent = of_both P s.before _ all.0 (all_with P s.block bytes s.after all.1) }
+
+pub gone_step : (sli : ℕ) (h : HeapState) (serial : ℕ) (step : Step) → IsGone h serial → IsGone (stepped sli h step) serial
+gone_step sli h serial (Give n len) g = by_allocated_words sli (λ o. IsGone o.heap serial) h n len (λ why. g) (λ s site fit. gone_given h serial g s site n len)
+gone_step sli h serial (GiveFrom at n) g = by_words_from (λ o. IsGone o.heap serial) h at n (λ why. g) (λ s site is room. gone_given h serial g s site n 0)
+gone_step sli h serial (Take name) g = by_released (λ o. IsGone o.heap serial) h name (λ why. g) (λ s own site is.
+    let a = all h serial g s site in record { past = omega (arith, g.past); absent = all_coalesced (λ y. y ≢ serial) h.tick s.before s.after s.block a.0 (of_rest (λ y. y ≢ serial) s.block s.after a.1) })
+gone_step sli h serial (Fit name n len) g = by_resized_words (λ o. IsGone o.heap serial) h name n len (λ why. g) (λ s own site is room.
+    let a = all h serial g s site in record { past = omega (arith, g.past); absent = of_both (λ y. y ≢ serial) s.before _ a.0 (all_refitted (λ y. y ≢ serial) h.tick n len s.block s.after room a.1) })
+gone_step sli h serial (Put name at bytes) g = by_written (λ o. IsGone o.heap serial) h name at bytes (λ why. g) (λ s site has. gone_set h serial g s site (overwritten (bytes_of s.block) at bytes))
+gone_step sli h serial (Fill name bytes) g = by_filled (λ k. IsGone k serial) h name bytes g (λ s site is. gone_set h serial g s site bytes)
+gone_step sli h serial Look g = g
+
+pub gone_run : (sli : ℕ) (h : HeapState) (serial : ℕ) (steps : List Step) → IsGone h serial → IsGone (after sli h steps) serial
 gone_run sli h serial [] g = g
-gone_run sli h serial (call ∷ calls) g = gone_run sli (answered sli h call).1 serial calls (gone_call sli h serial call g)
+gone_run sli h serial (step ∷ steps) g = gone_run sli (stepped sli h step) serial steps (gone_step sli h serial step g)
 
 pub distinct_from : (s : ℕ) (xs ys : List ℕ) → AreDistinct (xs ++ s ∷ ys) → AllByRecursion (λ y. y ≢ s) xs × AllByRecursion (λ y. y ≢ s) ys
 distinct_from s [] ys d = (tt, all_weaker (λ y. s ≢ y) (λ y. y ≢ s) (λ y f e. f (sym e)) ys d.0)
@@ -97,5 +97,5 @@ gone_taken h name lawful taken =
 pub gone_dead : (h : HeapState) (name : Name) → IsGone h name.serial → ¬ (IsLive h name)
 gone_dead h name g live = serial_of name.at name.serial (λ y. y ≢ name.serial) 0 _ g.absent (lives h name live) refl
 
-pub gone : (sli : ℕ) (h : HeapState) (name : Name) (calls : List Call) → IsLawful h → IsTaken h name → ¬ (IsLive (run sli (released h name).heap calls).1 name)
-gone sli h name calls lawful taken = gone_dead _ name (gone_run sli (released h name).heap name.serial calls (gone_taken h name lawful taken))
+pub gone : (sli : ℕ) (h : HeapState) (name : Name) (steps : List Step) → IsLawful h → IsTaken h name → ¬ (IsLive (after sli (released h name).heap steps) name)
+gone sli h name steps lawful taken = gone_dead _ name (gone_run sli (released h name).heap name.serial steps (gone_taken h name lawful taken))

@@ -1,10 +1,11 @@
 -- Which names are live.
-use Rattle.tlsf_heap.proofs.Common.{◌≡◌, ◌≢◌, ℕ, ◌+◌, ◌<◌, Bool, true, cond, nat_le, List, [], ◌∷◌, ◌++◌, ◌&&◌, find, Option, Some, None, Ok, Err, refl, sym, ap, ◌∙◌, subst, inl, inr, arith, append_assoc, eq-eqb, IsSome, AllByRecursion, eqb-true, false≢true, cases_lt, Block, Live, Free, HeapState, size_of, bytes_of, words_in, serials, want, Site, sites_behind, place_of, is_fit, IsLawful, Outcome, refused, is_worn, carved, allocated, allocated_words, has_serial, is_named, named, released, released_at, overwritten, with_bytes, refitted, resized_words, Call, Allocate, Release, Resize, Write, Read, answered, IsLive, IsGiven, IsTaken, TakesBack, Name, Worn, Foreign, Stale}
+use Rattle.tlsf_heap.proofs.Common.{◌≡◌, ◌≢◌, ℕ, ◌+◌, ◌<◌, Bool, true, cond, nat_le, List, [], ◌∷◌, ◌++◌, ◌&&◌, find, Option, Some, None, Ok, Err, refl, sym, ap, ◌∙◌, subst, inl, inr, arith, append_assoc, eq-eqb, IsSome, AllByRecursion, eqb-true, false≢true, cases_lt, Block, Live, Free, HeapState, size_of, bytes_of, words_in, serials, want, Site, sites_behind, place_of, IsLawful, Outcome, refused, is_worn, carved, allocated, allocated_words, has_serial, is_named, named, released, released_at, overwritten, with_bytes, refitted, resized_words, Call, Allocate, Release, Resize, Write, Read, answered, IsLive, IsGiven, IsTaken, TakesBack, Name, Worn, Foreign, Stale, Fill, Fit, Give, GiveFrom, IsOfOtherBlocks, Look, Put, Step, Take, is_free, stepped, ⊤, ◌⊎◌, IsOfOthers}
+use Rattle.tlsf_heap.proofs.lemmas.words.Bytes.{size_of-with_bytes}
 use Rattle.tlsf_heap.proofs.lemmas.blocks.Find.{and_left, and_right}
 use Rattle.tlsf_heap.proofs.lemmas.laws.Lasting.{HasFrom, moved, in_left, in_right, in_either, edited, released_lasts, refitted_lasts}
 use Rattle.tlsf_heap.proofs.lemmas.blocks.Lawful.{words_in-append}
 use Rattle.tlsf_heap.proofs.lemmas.blocks.Replace.{carved_small, carved_large}
-use Rattle.tlsf_heap.proofs.lemmas.calls.Outcomes.{by_test, first_or, or_first, IsSiteOf, gives_words, by_allocated_words, takes, by_released, resizes, by_resized_words, writes, by_written}
+use Rattle.tlsf_heap.proofs.lemmas.calls.Outcomes.{by_test, first_or, or_first, IsSiteOf, gives_words, by_allocated_words, by_words_from, takes, by_released, by_resized_words, by_written_named, by_filled, ids_step}
 
 -- ---- live blocks by their places
 
@@ -46,19 +47,6 @@ module _ (at serial : ℕ) where
   serial_of P place (Live m s xs ∷ bs) all h = elim h [ inl e ↦ subst P (eqb-true s serial e.0) all.0 | inr t ↦ serial_of P (place + m) bs all.1 t ]
   serial_of P place (Free m s ∷ bs) all h = elim h [ inl e ↦ absurd (false≢true e.0) | inr t ↦ serial_of P (place + m) bs all t ]
 
-  with_serial : (b : Block) (new : List ℕ) → has_serial serial b ≡ true → has_serial serial (with_bytes b new) ≡ true
-  with_serial (Live m s xs) new e = e
-  with_serial (Free m s) new e = e
-
-  words_with : (b : Block) (new : List ℕ) → size_of b ≡ size_of (with_bytes b new)
-  words_with (Live m s xs) new = refl
-  words_with (Free m s) new = refl
-
--- a block that serves a request has no serial
-pub no_serial : (sli serial n : ℕ) (b : Block) → is_fit sli n b ≡ true → has_serial serial b ≡ true → ⊥
-no_serial sli serial n (Live m s xs) fit e = false≢true fit
-no_serial sli serial n (Free m s) fit e = false≢true e
-
 pub words_carved : (size n tick len : ℕ) → size + 0 ≡ words_in (carved size n tick len)
 words_carved size n tick len =
     elim (cases_lt size (n + 4)) [
@@ -91,9 +79,6 @@ new_words sli h n len name lawful = by_allocated_words sli (λ o. o.answer ≡ O
     let same : h.tick ≡ name.serial = cc in
     let past = serial_of name.at name.serial (λ x. x < h.tick) 0 h.blocks lawful.serials_past (lives h name live) in omega (arith, past))
 
-pub new : (sli : ℕ) (h : HeapState) (len : ℕ) (name : Name) → IsLawful h → IsGiven sli h len name → ¬ (IsLive h name)
-new sli h len = new_words sli h (want len) len
-
 pub one_serial : (a c : ℕ) (b : Block) → has_serial a b ≡ true → has_serial c b ≡ true → a ≡ c
 one_serial a c (Live m s xs) e f = sym (eqb-true s a e) ∙ eqb-true s c f
 one_serial a c (Free m s) e f = absurd (false≢true e)
@@ -102,39 +87,121 @@ pub same_name : (x y : Name) → x.heap ≡ y.heap → x.at ≡ y.at → x.seria
 same_name x y a b c =
     let e : ◌≡◌ {A = Name} (record { heap = x.heap; at = x.at; serial = x.serial }) (record { heap = y.heap; at = y.at; serial = y.serial }) = cc in e
 
-kept_blocks : (h : HeapState) (name : Name) (s : Site) → IsSiteOf h.blocks s → IsLive h name → LivesFrom name.at name.serial 0 (s.before ++ s.block ∷ s.after)
-kept_blocks h name s site live = subst (LivesFrom name.at name.serial 0) (sym site) (lives h name live)
+-- ---- what holds of the live block at a place lasts through each step that spares it
 
-pub kept_allocated : (sli : ℕ) (h : HeapState) (name : Name) (n len : ℕ) → IsLive h name → IsLive (allocated_words sli h n len).heap name
-kept_allocated sli h name n len live = by_allocated_words sli (λ o. IsLive o.heap name) h n len (λ why. live) (λ s site fit.
-    let new : List Block = carved (size_of s.block) n h.tick len in
-    shown (gives_words h n len s).heap name live.0 (subst (LivesFrom name.at name.serial 0) (sym (append_assoc s.before new s.after))
-    (edited (Has name.serial) name.at 0 s.before (s.block ∷ []) new s.after (words_carved (size_of s.block) n h.tick len)
-    (λ k l. elim l [ inl e ↦ absurd (no_serial sli name.serial n s.block fit e.0) | inr none ↦ absurd none ]) (kept_blocks h name s site live))))
+module _ (P : Block → Type 0) (at : ℕ) where
+  -- the block of a name is another
+  abbrev pub IsApart : Name → Type 0
+  IsApart other = (b : Block) → has_serial other.serial b ≡ true → P b → other.at ≢ at
+
+  -- it holds with any bytes
+  abbrev pub Stays : Type 0
+  Stays = (m s : ℕ) (xs ys : List ℕ) → P (Live m s xs) → P (Live m s ys)
+
+  abbrev pub Spares : HeapState → Step → Type 0
+  Spares h (Take other) = IsTaken h other → other.heap ≡ h.id → IsApart other
+  Spares h (Fit other n len) = (other.heap ≡ h.id → IsApart other) ⊎ ((m s k : ℕ) (xs ys : List ℕ) → P (Live m s xs) → P (Live k s ys))
+  Spares h (Put other from bytes) = (other.heap ≡ h.id → IsApart other) ⊎ Stays
+  Spares h (Fill other bytes) = IsApart other ⊎ Stays
+  Spares h step = ⊤
+
+  module _ (not_free : (m s : ℕ) → P (Free m s) → ⊥) where
+    at_site : (h : HeapState) (s : Site) → IsSiteOf h.blocks s → HasFrom P at 0 h.blocks → HasFrom P at 0 (s.before ++ s.block ∷ s.after)
+    at_site h s site held = subst (HasFrom P at 0) (sym site) held
+
+    is_live : (b : Block) → is_free b ≡ true → P b → ⊥
+    is_live (Live m s xs) free p = false≢true free
+    is_live (Free m s) free p = not_free m s p
+
+    given_lasts : (h : HeapState) (s : Site) (n len : ℕ) → IsSiteOf h.blocks s → is_free s.block ≡ true → HasFrom P at 0 h.blocks → HasFrom P at 0 (gives_words h n len s).heap.blocks
+    given_lasts h s n len site free held =
+        let new : List Block = carved (size_of s.block) n h.tick len in
+        subst (HasFrom P at 0) (sym (append_assoc s.before new s.after))
+        (edited P at 0 s.before (s.block ∷ []) new s.after (words_carved (size_of s.block) n h.tick len)
+        (λ k l. elim l [ inl e ↦ absurd (is_live s.block free e.0) | inr none ↦ absurd none ]) (at_site h s site held))
+
+    elsewhere : (other : Name) (s : Site) → IsApart other → is_named other.at other.serial s ≡ true → P s.block → words_in s.before ≡ at → ⊥
+    elsewhere other s apart is p there = apart s.block (and_left _ _ is) p (sym (eqb-true _ _ (and_right (has_serial other.serial s.block) _ is)) ∙ there)
+
+    with_stays : (b : Block) (new : List ℕ) → Stays → P b → P (with_bytes b new)
+    with_stays (Live m s xs) new stays p = stays m s xs new p
+    with_stays (Free m s) new stays p = p
+
+    set_lasts : (h : HeapState) (other : Name) (s : Site) (new : List ℕ) → IsSiteOf h.blocks s → is_named other.at other.serial s ≡ true → IsApart other ⊎ Stays → HasFrom P at 0 h.blocks
+        → HasFrom P at 0 (s.before ++ with_bytes s.block new ∷ s.after)
+    set_lasts h other s new site is spares held = elim (in_either P at 0 s.before (s.block ∷ s.after) (at_site h s site held)) [
+      | inl ahead ↦ in_left P at 0 s.before (with_bytes s.block new ∷ s.after) ahead
+      | inr here ↦ in_right P at 0 s.before (with_bytes s.block new ∷ s.after) (elim here [
+        | inl e ↦ inl (elim spares [ inl apart ↦ absurd (elsewhere other s apart is e.0 (omega (arith, e.1))) | inr stays ↦ with_stays s.block new stays e.0 ], e.1)
+        | inr there ↦ inr (moved P at _ _ s.after (ap (λ (k : ℕ). 0 + words_in s.before + k) (sym (size_of-with_bytes s.block new))) there)
+      ])
+    ]
+
+    pub lasts : (sli : ℕ) (h : HeapState) (step : Step) → Spares h step → HasFrom P at 0 h.blocks → HasFrom P at 0 (stepped sli h step).blocks
+    lasts sli h (Give n len) spares held = by_allocated_words sli (λ o. HasFrom P at 0 o.heap.blocks) h n len (λ why. held) (λ s site fit. given_lasts h s n len site (and_left _ _ fit) held)
+    lasts sli h (GiveFrom from n) spares held = by_words_from (λ o. HasFrom P at 0 o.heap.blocks) h from n (λ why. held) (λ s site is room. given_lasts h s n 0 site (and_left _ _ is) held)
+    lasts sli h (Take other) spares held = by_released (λ o. (o.answer ≡ Ok tt → other.heap ≡ h.id → IsApart other) → HasFrom P at 0 o.heap.blocks) h other (λ why _. held)
+        (λ s own site is apart. released_lasts P at not_free h.tick s.before s.after s.block (elsewhere other s (apart refl own) is) (at_site h s site held)) spares
+    lasts sli h (Fit other n len) spares held = by_resized_words (λ o. HasFrom P at 0 o.heap.blocks) h other n len (λ why. held) (λ s own site is room.
+        let new : List Block = refitted h.tick n len s.block s.after in
+        elim (in_either P at 0 s.before (s.block ∷ s.after) (at_site h s site held)) [
+          | inl ahead ↦ in_left P at 0 s.before new ahead
+          | inr here ↦ in_right P at 0 s.before new (refitted_lasts P at not_free h.tick n len (0 + words_in s.before) s.block s.after room
+              (λ m t k xs ys e holds there. elim spares [ inl apart ↦ absurd (elsewhere other s (apart own) is holds (omega (arith, there))) | inr stays ↦ stays m t k xs ys (subst P e holds) ]) here)
+        ])
+    lasts sli h (Put other from bytes) spares held = by_written_named (λ o. HasFrom P at 0 o.heap.blocks) h other from bytes (λ why. held) (λ s own site is fits.
+        set_lasts h other s (overwritten (bytes_of s.block) from bytes) site is (elim spares [ inl apart ↦ inl (apart own) | inr stays ↦ inr stays ]) held)
+    lasts sli h (Fill other bytes) spares held = by_filled (λ k. HasFrom P at 0 k.blocks) h other bytes held (λ s site is. set_lasts h other s bytes site is spares held)
+    lasts sli h Look spares held = held
+
+-- and of the block of a name through each step about other names, or about others' blocks where it holds with any bytes
+module _ (P : Block → Type 0) (name : Name) (not_free : (m s : ℕ) → P (Free m s) → ⊥) (one : (a : ℕ) (b : Block) → has_serial a b ≡ true → P b → a ≡ name.serial) where
+  abbrev pub Lasts : HeapState → Type 0
+  Lasts h = (name.heap ≡ h.id) × HasFrom P name.at 0 h.blocks
+
+  pub lasts_named : (sli : ℕ) (h : HeapState) (step : Step) → IsOfOthers name step ⊎ (Stays P name.at × IsOfOtherBlocks name step) → Lasts h → Lasts (stepped sli h step)
+  lasts_named sli h step others held = (held.0 ∙ sym (ids_step sli h step), lasts P name.at not_free sli h step (spares step others) held.1)
+    where
+      apart : (other : Name) → other.heap ≡ name.heap → other ≢ name → IsApart P name.at other
+      apart other own differ b e p at = differ (same_name other name own at (one other.serial b e p))
+
+      spares : (step : Step) → IsOfOthers name step ⊎ (Stays P name.at × IsOfOtherBlocks name step) → Spares P name.at h step
+      spares (Give n len) o = tt
+      spares (GiveFrom from n) o = tt
+      spares (Take other) o = λ done own. apart other (own ∙ sym held.0) (elim o [ inl differ ↦ differ | inr stays ↦ stays.1 ])
+      spares (Fit other n len) o = inl (λ own. apart other (own ∙ sym held.0) (elim o [ inl differ ↦ differ | inr stays ↦ stays.1 ]))
+      spares (Put other from bytes) o = elim o [ inl differ ↦ inl (λ own. apart other (own ∙ sym held.0) differ) | inr stays ↦ inr stays.0 ]
+      spares (Fill other bytes) o = elim o [ inl differ ↦ inl (apart other differ.0 differ.1) | inr stays ↦ inr stays.0 ]
+      spares Look o = tt
+
+-- ---- so a name stays live
+
+pub kept_step : (sli : ℕ) (h : HeapState) (name : Name) (step : Step) → ¬ (TakesBack h name step) → IsLive h name → IsLive (stepped sli h step) name
+kept_step sli h name step other live =
+    shown (stepped sli h step) name (live.0 ∙ sym (ids_step sli h step)) (lasts (Has name.serial) name.at (not_free name.serial) sli h step (spares step other) (lives h name live))
+  where
+    spares : (step : Step) → ¬ (TakesBack h name step) → Spares (Has name.serial) name.at h step
+    spares (Give n len) other = tt
+    spares (GiveFrom from n) other = tt
+    spares (Take taken) other = λ done own b e has at.
+        let same = same_name taken name (own ∙ sym live.0) at (one_serial taken.serial name.serial b e has) in other (ap Take same, subst (λ (n : Name). IsTaken h n) same done)
+    spares (Fit at_name n len) other = inr (λ m s k xs ys e. e)
+    spares (Put at_name from bytes) other = inr (λ m s xs ys e. e)
+    spares (Fill at_name bytes) other = inr (λ m s xs ys e. e)
+    spares Look other = tt
+
+pub kept_others : (sli : ℕ) (h : HeapState) (name : Name) (step : Step) → IsOfOtherBlocks name step → IsLive h name → IsLive (stepped sli h step) name
+kept_others sli h name step other = kept_step sli h name step (λ back. (subst (IsOfOtherBlocks name) back.0 other) refl)
 
 pub kept_resized : (h : HeapState) (name at_name : Name) (n len : ℕ) → IsLive h name → IsLive (resized_words h at_name n len).heap name
-kept_resized h name at_name n len live = by_resized_words (λ o. IsLive o.heap name) h at_name n len (λ why. live) (λ s own site is room.
-    let new : List Block = refitted h.tick n len s.block s.after in
-    shown (resizes h n len s).heap name live.0 (elim (in_either (Has name.serial) name.at 0 s.before (s.block ∷ s.after) (kept_blocks h name s site live)) [
-      | inl ahead ↦ in_left (Has name.serial) name.at 0 s.before new ahead
-      | inr here ↦ in_right (Has name.serial) name.at 0 s.before new (refitted_lasts (Has name.serial) name.at (not_free name.serial) h.tick n len (0 + words_in s.before) s.block s.after room (λ m k j xs ys e has there. subst (Has name.serial) e has) here)
-    ]))
+kept_resized h name at_name n len = kept_step 0 h name (Fit at_name n len) (λ taken. let bad : Fit at_name n len ≡ Take name = taken.0 in cc)
 
-pub kept : (sli : ℕ) (h : HeapState) (name : Name) (call : Call) → ¬ (TakesBack h name call) → IsLive h name → IsLive (answered sli h call).1 name
-kept sli h name (Allocate len) other live = kept_allocated sli h name (want len) len live
-kept sli h name (Release taken) other live =
-    by_released (λ o. (o.answer ≡ Ok tt → taken ≡ name → ⊥) → IsLive o.heap name) h taken (λ why _. live) (λ s own site is differ.
-    shown (takes h s).heap name live.0 (released_lasts (Has name.serial) name.at (not_free name.serial) h.tick s.before s.after s.block (λ e at.
-    differ refl (same_name taken name (own ∙ sym live.0) (sym (eqb-true _ _ (and_right (has_serial taken.serial s.block) _ is)) ∙ at) (one_serial taken.serial name.serial s.block (and_left _ _ is) e)))
-    (kept_blocks h name s site live)))
-    (λ e same. other (ap Release same, subst (λ (n : Name). IsTaken h n) same e))
-kept sli h name (Resize at_name len) other live = kept_resized h name at_name (want len) len live
-kept sli h name (Write at_name at bytes) other live = by_written (λ o. IsLive o.heap name) h at_name at bytes (λ why. live) (λ s site has.
-    let new : Block = with_bytes s.block (overwritten (bytes_of s.block) at bytes) in
-    shown (writes h at bytes s).heap name live.0
-    (edited (Has name.serial) name.at 0 s.before (s.block ∷ []) (new ∷ []) s.after (omega (arith, words_with name.at name.serial s.block (overwritten (bytes_of s.block) at bytes)))
-    (λ k l. elim l [ inl e ↦ inl (with_serial name.at name.serial s.block _ e.0, e.1) | inr none ↦ absurd none ]) (kept_blocks h name s site live)))
-kept sli h name (Read at_name at n) other live = live
+pub kept : (sli : ℕ) (h : HeapState) (name : Name) (call : Call) → ¬ ((call ≡ Release name) × IsTaken h name) → IsLive h name → IsLive (answered sli h call).1 name
+kept sli h name (Allocate len) other = kept_others sli h name (Give (want len) len) tt
+kept sli h name (Release taken) other = kept_step sli h name (Take taken) (λ back. let same : taken ≡ name = cc in other (ap Release same, back.1))
+kept sli h name (Resize at_name len) other = kept_resized h name at_name (want len) len
+kept sli h name (Write at_name at bytes) other = kept_others sli h name (Put at_name at bytes) tt
+kept sli h name (Read at_name at n) other = λ live. live
 
 -- ---- what a release answers
 

@@ -117,6 +117,3 @@ ok_words sli h n len = (answers sli h n len (fits sli n h.blocks) refl).ok
 
 pub no_fit : (sli : ℕ) (h : HeapState) (len : ℕ) → ((allocated sli h len).answer ≡ Err NoFit) ↔ (fits sli (want len) h.blocks ≡ [])
 no_fit sli h len = no_fit_words sli h (want len) len
-
-pub ok : (sli : ℕ) (h : HeapState) (len : ℕ) → IsOk (allocated sli h len).answer ↔ (¬ (fits sli (want len) h.blocks ≡ []) × ¬ (h.tick ≡ last_tick))
-ok sli h len = ok_words sli h (want len) len

@@ -1,8 +1,8 @@
 -- The words in use add up over the calls.
-use Rattle.tlsf_heap.proofs.Common.{◌≡◌, ◌≢◌, Bool, cond, eqb, find, ℕ, suc, false, take, drop, ◌+◌, ◌≤◌, List, [], ◌∷◌, ◌++◌, ◌-◌, length, replicate, true, Option, Some, Ok, refl, sym, ap, ◌∙◌, subst, inl, inr, arith, append_assoc, ◌==◌, AllByRecursion, filter-append, eqb-true, false≢true, cases_lt, IsLevel, Block, Live, Free, HeapState, size_of, words_in, is_free, bytes_of, want, Outcome, carved, ticked, with_blocks, past_free, before_free, has_serial, allocated_words, overwritten, with_bytes, released, resized_words, refitted, room_of, written, Site, block_at, IsLawful, HasRoom, IsLive, IsTaken, IsNamed, live_among, words_in_use, words_held, live_words, words_at, released_by_place, IsLiveAt, Name}
+use Rattle.tlsf_heap.proofs.Common.{◌≡◌, Bool, cond, eqb, find, ℕ, suc, false, take, drop, ◌+◌, ◌≤◌, List, [], ◌∷◌, ◌++◌, ◌-◌, length, replicate, true, Option, Some, Ok, refl, sym, ap, ◌∙◌, subst, inl, inr, arith, append_assoc, ◌==◌, AllByRecursion, filter-append, eqb-true, false≢true, cases_lt, IsLevel, Block, Live, Free, HeapState, size_of, words_in, is_free, bytes_of, want, Outcome, carved, ticked, with_blocks, past_free, before_free, has_serial, allocated_words, overwritten, with_bytes, released, resized_words, refitted, room_of, Site, block_at, IsLawful, HasRoom, IsLive, IsTaken, IsNamed, live_among, words_in_use, words_held, live_words, words_at, released_by_place, IsLiveAt, Name, Fill, Fit, Give, GiveFrom, IsOfOtherBlocks, IsRoomy, IsWrite, Look, Put, Step, Take, after, named, stepped}
 use Rattle.tlsf_heap.specs.Placed.{placed, placed_from}
 use Rattle.tlsf_heap.specs.declared.placed_block.PlacedBlock.{PlacedBlock}
-use Rattle.tlsf_heap.proofs.lemmas.laws.Payloads.{lasts_allocated, lasts_released}
+use Rattle.tlsf_heap.proofs.lemmas.laws.Live.{lasts_named, kept_others}
 use Rattle.tlsf_heap.proofs.lemmas.blocks.Sums.{words_apart}
 use Rattle.tlsf_heap.proofs.lemmas.calls.Alter.{named_of}
 use Rattle.tlsf_heap.proofs.lemmas.calls.ByPlace.{name_here, call_found}
@@ -12,9 +12,8 @@ use Rattle.tlsf_heap.proofs.lemmas.blocks.Find.{and_left, and_right}
 use Rattle.tlsf_heap.proofs.lemmas.laws.Lasting.{HasFrom, of_index, to_index}
 use Rattle.tlsf_heap.proofs.lemmas.blocks.Lawful.{words_in-append}
 use Rattle.tlsf_heap.proofs.lemmas.calls.Named.{named_stands, named_live}
-use Rattle.tlsf_heap.proofs.lemmas.calls.Outcomes.{IsSiteOf, gives_words, by_allocated_words, takes, by_released, by_resized_words, by_written, lawful_site, lawful_allocated_words, lawful_resized_words}
+use Rattle.tlsf_heap.proofs.lemmas.calls.Outcomes.{IsSiteOf, gives_words, by_allocated_words, takes, by_released, by_resized_words, by_written, by_filled, lawful_step, lawful_allocated_words, lawful_resized_words}
 use Rattle.tlsf_heap.proofs.lemmas.blocks.ByPlace.{placed_found, content-live}
-use Rattle.tlsf_heap.proofs.lemmas.calls.Release.{lawful_at}
 use Rattle.tlsf_heap.proofs.lemmas.calls.Resize.{by_refitted}
 use Rattle.tlsf_heap.proofs.lemmas.blocks.Around.{Around, around, stands_around, block_around}
 
@@ -154,10 +153,6 @@ in_use_set h s bytes site =
     let k = with_blocks h (s.before ++ with_bytes s.block bytes ∷ s.after) in
     omega (arith, around_in_use h s.before s.after s.block (sym site), around_in_use k s.before s.after (with_bytes s.block bytes) refl, same_use s.block bytes)
 
-pub in_use_written : (h : HeapState) (name : Name) (at : ℕ) (bytes : List ℕ) → words_in_use (written h name at bytes).heap ≡ words_in_use h
-in_use_written h name at bytes = by_written (λ o. words_in_use o.heap ≡ words_in_use h) h name at bytes (λ why. refl) (λ s site has.
-    in_use_set h s (overwritten (bytes_of s.block) at bytes) site)
-
 -- a write changes no block's words
 module _ (place : ℕ) where
   abbrev pub from : ℕ → List Block → ℕ
@@ -172,9 +167,19 @@ module _ (place : ℕ) where
   with_words at [] back (Free m s) new = refl
   with_words at (x ∷ front) back b new = either (eqb at place) (placed at x) (placed at x) _ _ refl (with_words (at + size_of x) front back b new)
 
-  pub words_written : (h : HeapState) (name : Name) (at : ℕ) (bytes : List ℕ) → words_at (written h name at bytes).heap place ≡ words_at h place
-  words_written h name at bytes = by_written (λ o. words_at o.heap place ≡ words_at h place) h name at bytes (λ why. refl) (λ s site has.
-      with_words 0 s.before s.after s.block (overwritten (bytes_of s.block) at bytes) ∙ ap (from 0) site)
+-- so other bytes change neither sum
+both_set : (h : HeapState) (s : Site) (bytes : List ℕ) → IsSiteOf h.blocks s → let k = with_blocks h (s.before ++ with_bytes s.block bytes ∷ s.after) in (words_in_use k ≡ words_in_use h) × ((place : ℕ) → words_at k place ≡ words_at h place)
+both_set h s bytes site = (in_use_set h s bytes site, λ place. with_words place 0 s.before s.after s.block bytes ∙ ap (from place 0) site)
+
+pub words_set : (sli : ℕ) (h : HeapState) (step : Step) → IsWrite step → (words_in_use (stepped sli h step) ≡ words_in_use h) × ((place : ℕ) → words_at (stepped sli h step) place ≡ words_at h place)
+words_set sli h (Put name at bytes) write = by_written (λ o. (words_in_use o.heap ≡ words_in_use h) × ((place : ℕ) → words_at o.heap place ≡ words_at h place)) h name at bytes (λ why. (refl, λ place. refl))
+    (λ s site has. both_set h s (overwritten (bytes_of s.block) at bytes) site)
+words_set sli h (Fill name bytes) write = by_filled (λ k. (words_in_use k ≡ words_in_use h) × ((place : ℕ) → words_at k place ≡ words_at h place)) h name bytes (refl, λ place. refl) (λ s site is. both_set h s bytes site)
+words_set sli h Look write = (refl, λ place. refl)
+words_set sli h (Give n len) write = absurd write
+words_set sli h (GiveFrom at n) write = absurd write
+words_set sli h (Take name) write = absurd write
+words_set sli h (Fit name n len) write = absurd write
 
 -- ---- the words of a live block stay through each call that is not about it
 
@@ -215,19 +220,14 @@ module _ (name : Name) (size : ℕ) where
       let is = sized_live (block_at h.blocks r.0) r.3 in
       words_live h lawful.rooms (record { stands = record { within = r.1; place = omega (arith, r.2) }; live = is.0 }) ∙ is.1
 
-pub words_allocated : (sli : ℕ) → IsLevel sli → (h : HeapState) (n len : ℕ) (name : Name) → want len ≤ n → IsLawful h → IsLive h name
-    → words_at (allocated_words sli h n len).heap name.at ≡ words_at h name.at
-words_allocated sli level h n len name wanted lawful live =
-    let size = words_at h name.at in
-    words_sized name size (allocated_words sli h n len).heap (lawful_allocated_words sli level h n len wanted lawful)
-    (lasts_allocated (Sized name.serial size) name (not_free name size) (one_sized name size) sli h n len (sized name size h lawful live refl))
+module _ (sli : ℕ) (level : IsLevel sli) (name : Name) where
+  pub words_kept : (h : HeapState) (step : Step) → IsRoomy step → IsOfOtherBlocks name step → IsLawful h → IsLive h name → words_at (stepped sli h step) name.at ≡ words_at h name.at
+  words_kept h step roomy other lawful live =
+      let size = words_at h name.at in
+      words_sized name size (stepped sli h step) (lawful_step sli level h step roomy lawful)
+      (lasts_named (Sized name.serial size) name (not_free name size) (one_sized name size) sli h step (inr (λ m s xs ys is. is, other)) (live.0, sized name size h lawful live refl)).1
 
-pub lawful_released : (h : HeapState) (name : Name) → IsLawful h → IsLawful (released h name).heap
-lawful_released h name lawful =
-    by_released (λ o. IsLawful o.heap) h name (λ why. lawful) (λ s own site is. lawful_at h s.before s.after s.block name.serial (and_left _ _ is) (lawful_site h s site lawful))
-
-pub words_released : (h : HeapState) (other name : Name) → other ≢ name → IsLawful h → IsLive h name → words_at (released h other).heap name.at ≡ words_at h name.at
-words_released h other name differ lawful live =
-    let size = words_at h name.at in
-    words_sized name size (released h other).heap (lawful_released h other lawful)
-    (lasts_released (Sized name.serial size) name (not_free name size) (one_sized name size) h other live.0 differ (sized name size h lawful live refl))
+  pub words_kept_run : (h : HeapState) (steps : List Step) → AllByRecursion (λ step. IsRoomy step × IsOfOtherBlocks name step) steps → IsLawful h → IsLive h name → words_at (after sli h steps) name.at ≡ words_at h name.at
+  words_kept_run h [] all lawful live = refl
+  words_kept_run h (step ∷ steps) all lawful live =
+      words_kept_run (stepped sli h step) steps all.1 (lawful_step sli level h step all.0.0 lawful) (kept_others sli h name step all.0.1 live) ∙ words_kept h step all.0.0 all.0.1 lawful live

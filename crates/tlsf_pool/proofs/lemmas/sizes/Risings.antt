@@ -1,5 +1,5 @@
 -- Tables whose rows rise, and their parts.
-use Rattle.tlsf_pool.proofs.Common.{◌≡◌, ℕ, zero, suc, ◌+◌, ◌-◌, ◌<◌, ◌≤◌, List, [], ◌∷◌, ◌++◌, length, Option, Some, None, refl, sym, ap, ◌∙◌, subst, inl, inr, arith, length-append, AllByRecursion, IfSome, cases_lt, get_or_append_left, get_or-append-add, Kind, IsFirstFall, Rises, len_at, joined}
+use Rattle.tlsf_pool.proofs.Common.{◌≡◌, ℕ, zero, suc, ◌+◌, ◌-◌, ◌<◌, List, [], ◌∷◌, ◌++◌, length, ap, subst, inl, inr, arith, length-append, AllByRecursion, cases_lt, get_or_append_left, get_or-append-add, Kind, IsFirstFall, Rises, len_at, joined}
 
 -- a table with a row that falls doesn't rise
 pub falls_so : (kinds : List Kind) (row : ℕ) → IsFirstFall kinds row → ¬ (Rises kinds)

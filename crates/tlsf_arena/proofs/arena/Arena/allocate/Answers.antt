@@ -1,6 +1,8 @@
 use Rattle.tlsf_arena.proofs.Common.{◌≡◌, ℕ, ◌≤◌, sym, ap, subst, ◌∙◌, arith, allocated_words, HeapState, IsLawful, Holds, IsMapped, IsBook, lacking}
 use Rattle.tlsf_arena.proofs.Books.{after_allocate, fresh_loan}
-use Rattle.tlsf_arena.proofs.Holding.{Keeps, allocated_id, allocated_keeps, kept}
+use Rattle.tlsf_arena.proofs.Holding.{kept}
+use Rattle.tlsf_heap.specs.Steps.{Give}
+use Rattle.tlsf_heap.proofs.lemmas.calls.Outcomes.{ids_step}
 use Rattle.tlsf_arena.proofs.Mapped.{carves, lacks}
 use Rattle.tlsf_arena.proofs.Maps.{holds_given}
 use Rattle.tlsf_arena.proofs.arena.Arena.allocate.Goals as goal
@@ -31,7 +33,7 @@ invariant_of-self-2 g c =
     let book = subst (λ s. IsBook a.book.out s.heap) (sym c.deref_mut.ensures.value) c.self.invariant.3 in (
       got.1 c.replace_with-piece.new.dest.free lent.2,
       (lent.0 ∙ c.self.invariant.1.0, c.self.invariant.1.1),
-      c.self.invariant.2 ∙ ap (λ s. s.heap.id) (sym c.deref_mut.ensures.value) ∙ sym (ap (λ (h : HeapState). h.id) e.allocates.heap ∙ allocated_id g.row.SLI k c.lacking.result c.deref_mut.result.now.heap),
+      c.self.invariant.2 ∙ ap (λ s. s.heap.id) (sym c.deref_mut.ensures.value) ∙ sym (ap (λ (h : HeapState). h.id) e.allocates.heap ∙ ids_step g.row.SLI c.deref_mut.result.now.heap (Give k c.lacking.result)),
       after_allocate g.row.SLI mapped.level c.deref_mut.result.now.heap c.allocate_words.new.self.heap k c.lacking.result c.in_ok-name.name a.book.out c.replace_with-right.new.dest.out book c.lacking.ensures (sym e.allocates.answer_is ∙ c.in_ok-name.was) e.allocates.heap e.keeps.lawful c.replace_with-right.ensures.1,
     )
 
@@ -59,5 +61,5 @@ returns-clause-others g c = λ other units holds.
     let heap = c.deref_mut.result.now.heap in
     let same : heap ≡ c.args.self.now.heap = ap (λ s. s.heap) c.deref_mut.ensures.value ∙ ap (λ s. s.heap) c.self.view_is in
     let e = c.allocate_words.ensures in
-    kept other heap c.allocate_words.new.self.heap units (subst (Keeps other heap) (sym e.allocates.heap) (allocated_keeps g.row.SLI c.units_of-units.result c.lacking.result heap other)) e.keeps.lawful
+    kept g.row.SLI heap c.allocate_words.new.self.heap other units (Give c.units_of-units.result c.lacking.result) tt e.allocates.heap e.keeps.lawful
     (subst (λ (h : HeapState). Holds h other units) (sym same) holds)

@@ -1,6 +1,8 @@
 use Rattle.tlsf_arena.proofs.Common.{◌≡◌, ℕ, ◌*◌, ◌<◌, ◌∷◌, sym, ap, subst, ◌∙◌, HeapState, resized_words, Name, Holds, IsMapped, is_out, loan_of, units_of, without, IsBook}
 use Rattle.tlsf_arena.proofs.Books.{after_resize, no_second}
-use Rattle.tlsf_arena.proofs.Holding.{resized_id, stays_resized}
+use Rattle.tlsf_arena.proofs.Holding.{stays_resized}
+use Rattle.tlsf_heap.specs.Steps.{Fit}
+use Rattle.tlsf_heap.proofs.lemmas.calls.Outcomes.{ids_step}
 use Rattle.tlsf_arena.proofs.Mapped.{extends}
 use Rattle.tlsf_arena.proofs.Maps.{held_of}
 use Rattle.tlsf_arena.proofs.arena.Arena.extend.Goals as goal
@@ -61,7 +63,7 @@ invariant_of-self-2 g c =
     let left = c.replace_with-right-2.ensures.0.1 ∙ (λ i. loan_of name n ∷ without (known.1 i).loan (known.0 i).out) in (
       got.1 c.replace_with-rest.new.dest.free lent.2,
       (lent.0 ∙ c.self.invariant.1.0, c.self.invariant.1.1),
-      c.self.invariant.2 ∙ ap (λ s. s.heap.id) (sym value) ∙ sym (ap (λ (h : HeapState). h.id) e.resizes.heap ∙ resized_id heap name n c.lacking.result),
+      c.self.invariant.2 ∙ ap (λ s. s.heap.id) (sym value) ∙ sym (ap (λ (h : HeapState). h.id) e.resizes.heap ∙ ids_step 0 heap (Fit name n c.lacking.result)),
       after_resize heap c.resize_words.new.self.heap name t n c.lacking.result a.book.out c.replace_with-right-2.new.dest.out book known.2 c.requires.loan.0 c.lacking.ensures (sym (sym c.in_default.is ∙ e.resizes.answer_is)) e.resizes.heap e.keeps.lawful left,
     )
 

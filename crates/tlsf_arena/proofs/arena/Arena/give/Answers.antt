@@ -1,6 +1,7 @@
 use Rattle.tlsf_arena.proofs.Common.{◌≡◌, ◌+◌, ◌*◌, ◌/◌, sym, ap, subst, ◌∙◌, arith, HeapState, Name, Holds, IsMapped, units_of, without, IsBook, grain_of}
 use Rattle.tlsf_arena.proofs.Books.{after_release}
-use Rattle.tlsf_arena.proofs.Holding.{released_id}
+use Rattle.tlsf_heap.specs.Steps.{Take}
+use Rattle.tlsf_heap.proofs.lemmas.calls.Outcomes.{ids_step}
 use Rattle.tlsf_arena.proofs.Mapped.{frees}
 use Rattle.tlsf_arena.proofs.Maps.{held_of}
 use Rattle.tlsf_arena.proofs.UnitCases.{first_grain, grains_of}
@@ -50,6 +51,6 @@ invariant_of-self g c =
     let left = c.replace_with-in-Ok.ensures.1 ∙ (λ i. without (known.1 i).loan (known.0 i).out) in (
       got.1 c.replace_with.new.dest.free back.2,
       (back.0 ∙ c.self.invariant.1.0, c.self.invariant.1.1),
-      c.self.invariant.2 ∙ ap (λ s. s.heap.id) (sym value) ∙ sym (ap (λ (h : HeapState). h.id) e.releases.heap ∙ released_id heap name),
+      c.self.invariant.2 ∙ ap (λ s. s.heap.id) (sym value) ∙ sym (ap (λ (h : HeapState). h.id) e.releases.heap ∙ ids_step 0 heap (Take name)),
       after_release heap c.release.new.self.heap name t a.book.out c.replace_with-in-Ok.new.dest.out book known.2 c.requires.loan.0 e.releases.heap e.keeps.lawful left,
     )

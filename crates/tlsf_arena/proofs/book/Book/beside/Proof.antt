@@ -1,24 +1,5 @@
 -- `beside` sees two owners: the loan is not among those that the book keeps. Assumes `Logic`.
-use Rattle.tlsf_arena.proofs.Common.{◌≡◌, true, List, [], ◌∷◌, ◌++◌, refl, sym, Goes-blank, pair_of, pair_val, proved_at, leaves, Loan, is_out, right, rest_of}
-use mir.Syntax.{Fn}
-use mir.Val.{Val}
-use base.Logic.{SProp, emp}
-use base.Fml.{GName}
-use prog.Wp.{Env, WpFn}
-use contract.Monad.{fact, fact_i}
-use contract.Running.{tables}
-use types.Kit.{‵, raw, ◌⊛◌, given, prop, ◌$◌, ◌∵◌, !, qed, by, move, drop, use0, use2, split, learn, rewrite, regoal, fsplit, fsplit3, fjoin}
-use types.Part.{whole, sub, agg}
-use types.Run.{stop, fld, of_opd, no_more, and_then, returns, enter}
-use types.ByLocal.{alloc_all, pass_all, free_all, look_at, get, get_in, sets, env}
-use denote.RattleType.{owns}
-use denote.Signature.{types_at}
-use denote.Steps.{nothing, heard}
-use denote.Struct.Tuple.{Tuple}
-use denote.Triple.Entry.{alive}
-use denote.Triple.Walked.{Stays, stay_dropped, walk_of}
-use Rattle.linked_list_allocator.proofs.Walks.{slot_at}
-use Rattle.linked_list_allocator.proofs.Values.{lease_val, lease_own, lease_told, lease_made}
+use Rattle.tlsf_arena.proofs.Walking.{◌≡◌, true, List, [], ◌∷◌, ◌++◌, refl, sym, Goes-blank, pair_of, pair_val, proved_at, leaves, Loan, is_out, right, rest_of, Fn, Val, SProp, emp, GName, Env, WpFn, fact, fact_i, tables, ‵, raw, ◌⊛◌, given, prop, ◌$◌, ◌∵◌, !, qed, by, move, drop, use0, use2, split, learn, rewrite, regoal, fsplit, fsplit3, fjoin, whole, sub, agg, stop, fld, of_opd, no_more, and_then, returns, enter, alloc_all, pass_all, free_all, look_at, get, get_in, sets, env, owns, types_at, nothing, heard, Tuple, alive, Stays, stay_dropped, walk_of, slot_at, lease_val, lease_own, lease_told, lease_made}
 use Rattle.tlsf_arena.proofs.Rights.{is_among}
 use Rattle.tlsf_arena.specs.contracts.right.Right as right_type
 use Rattle.tlsf_arena.specs.contracts.book.Book as book
@@ -31,12 +12,10 @@ pub beside_spec : {M : Type 1} → statement M
 beside_spec 𝓤 𝓛 𝓜 𝓡 wired =
     let H = 𝓛.H in
     let En₀ = ended in
-    let c₀ = clauses 𝓛 𝓜.mem 𝓡.returns in
+    let c = clauses 𝓛 𝓜.mem 𝓡.returns in
     let fn : Fn = compiled.function in
     let stays : Stays En₀.signature.params En₀.kept = (stay_dropped (slot_at 0 En₀.signature.params) En₀.kept.0, (stay_dropped (slot_at 1 En₀.signature.params) En₀.kept.1.0, tt)) in
-    let c = c₀ in
-    let C = (tables 𝓤 H 𝓜 𝓡 𝓡.env).C in
-    let Λ = (tables 𝓤 H 𝓜 𝓡 𝓡.env).Λ in
+    let 𝓣 = tables 𝓤 H 𝓜 𝓡 𝓡.env in
     proved_at 𝓛 En₀ stays c 𝓜 𝓡 (Goes-blank 𝓛 0 (slot_at 0 En₀.signature.params) En₀.kept.0 (λ κs x f. tt), (Goes-blank 𝓛 0 (slot_at 1 En₀.signature.params) En₀.kept.1.0 (λ κs x f. tt), tt)) #self fn (compiled.unfolded 𝓤 H 𝓜 𝓡 wired) (λ z are.
     let Post : Val → SProp 𝓤 = (walk_of 𝓛 En₀ stays c).post z in
     let a = z.0.3 in
@@ -53,8 +32,8 @@ beside_spec 𝓤 𝓛 𝓜 𝓡 wired =
     rewrite ! 0 (λ (g : GName). ‵ (right g t)) asked refl $
     use2 𝓛 (given Lent (‵ (right γ t) ⊛ ‵ (rest_of γ x.out))) (is_among 𝓛 γ x.out t) $ learn ! (λ lent. split ! $
     rewrite ! 0 (λ (g : GName). ‵ (right g t)) (sym asked) refl $
-    regoal ! (λ (us : List Val). prop (WpFn 𝓤 H C Λ fn us Post)) (λ i. (lease_told vss.0 are.0.0).0 i ++ ((lease_told vss.1.0 are.1.0.0).0 i ++ [])) refl $
-    enter ! C Λ fn (lease_val ∷ lease_val ∷ []) Post $
+    regoal ! (λ (us : List Val). prop (WpFn 𝓤 H 𝓣.C 𝓣.Λ fn us Post)) (λ i. (lease_told vss.0 are.0.0).0 i ++ ((lease_told vss.1.0 are.1.0.0).0 i ++ [])) refl $
+    enter ! 𝓣.C 𝓣.Λ fn (lease_val ∷ lease_val ∷ []) Post $
     alloc_all ! (λ l. pass_all ! refl ((tt, (tt, tt)), ((tt, (tt, tt)), tt)) $ let En : Env 𝓤 𝓛.H = env fn.locals l in
     sets ! (of_opd ! (get_in ! (fld ! refl (stop !)) (sub ! 0 refl (whole !)))) refl (tt, tt) $
     sets ! (of_opd ! (get_in ! (fld ! refl (stop !)) (sub ! 0 refl (whole !)))) refl (tt, tt) $

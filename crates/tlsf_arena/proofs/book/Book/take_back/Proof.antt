@@ -1,25 +1,5 @@
 -- `take_back` puts the right to those that the book keeps. Assumes `Logic`.
-use Rattle.tlsf_arena.proofs.Common.{◌≡◌, List, [], ◌∷◌, ◌++◌, refl, Goes-blank, pair_of, pair_val, proved_at, leaves, Loan, without, right, rest_of}
-use mir.Syntax.{Fn}
-use mir.Val.{Val, vunit}
-use base.Logic.{SProp, emp}
-use base.Fml.{GName}
-use prog.Wp.{Env, WpFn}
-use contract.Monad.{fact, fact_i}
-use contract.Running.{tables}
-use types.Kit.{‵, raw, ◌⊛◌, prop, ◌$◌, ◌∵◌, !, qed, by, move, drop, use0, use2, split, rewrite, regoal, fsplit, fsplit3, fjoin, feq_i}
-use types.Part.{whole, sub, agg}
-use types.Run.{stop, fld, unit_lit, of_opd, no_more, and_then, returns, enter}
-use types.ByLocal.{alloc_all, pass_all, free_all, look_at, get, get_in, sets, env}
-use denote.RattleType.{owns}
-use denote.Builtin.{unit}
-use denote.Signature.{types_at}
-use denote.Steps.{nothing, heard}
-use denote.Struct.Tuple.{Tuple}
-use denote.Triple.Entry.{alive}
-use denote.Triple.Walked.{Stays, stay_dropped, walk_of}
-use Rattle.linked_list_allocator.proofs.Walks.{slot_at}
-use Rattle.linked_list_allocator.proofs.Values.{lease_val, lease_own, lease_told, lease_made}
+use Rattle.tlsf_arena.proofs.Walking.{◌≡◌, List, [], ◌∷◌, ◌++◌, refl, Goes-blank, pair_of, pair_val, proved_at, leaves, Loan, without, right, rest_of, Fn, Val, vunit, SProp, emp, GName, Env, WpFn, fact, fact_i, tables, ‵, raw, ◌⊛◌, prop, ◌$◌, ◌∵◌, !, qed, by, move, drop, use0, use2, split, rewrite, regoal, fsplit, fsplit3, fjoin, feq_i, whole, sub, agg, stop, fld, unit_lit, of_opd, no_more, and_then, returns, enter, alloc_all, pass_all, free_all, look_at, get, get_in, sets, env, owns, unit, types_at, nothing, heard, Tuple, alive, Stays, stay_dropped, walk_of, slot_at, lease_val, lease_own, lease_told, lease_made}
 use Rattle.tlsf_arena.proofs.Rights.{comes_back}
 use Rattle.tlsf_arena.specs.contracts.book.Book as book
 use Rattle.tlsf_arena.specs.contracts.book.Book.take_back.{ended, clauses}
@@ -31,12 +11,10 @@ pub take_back_spec : {M : Type 1} → statement M
 take_back_spec 𝓤 𝓛 𝓜 𝓡 wired =
     let H = 𝓛.H in
     let En₀ = ended in
-    let c₀ = clauses 𝓛 𝓜.mem 𝓡.returns in
+    let c = clauses 𝓛 𝓜.mem 𝓡.returns in
     let fn : Fn = compiled.function in
     let stays : Stays En₀.signature.params En₀.kept = (stay_dropped (slot_at 0 En₀.signature.params) En₀.kept.0, (stay_dropped (slot_at 1 En₀.signature.params) En₀.kept.1.0, tt)) in
-    let c = c₀ in
-    let C = (tables 𝓤 H 𝓜 𝓡 𝓡.env).C in
-    let Λ = (tables 𝓤 H 𝓜 𝓡 𝓡.env).Λ in
+    let 𝓣 = tables 𝓤 H 𝓜 𝓡 𝓡.env in
     proved_at 𝓛 En₀ stays c 𝓜 𝓡 (Goes-blank 𝓛 0 (slot_at 0 En₀.signature.params) En₀.kept.0 (λ κs x f. tt), (Goes-blank 𝓛 0 (slot_at 1 En₀.signature.params) En₀.kept.1.0 (λ κs x f. tt), tt)) #self fn (compiled.unfolded 𝓤 H 𝓜 𝓡 wired) (λ z are.
     let Post : Val → SProp 𝓤 = (walk_of 𝓛 En₀ stays c).post z in
     let a = z.0.3 in
@@ -52,8 +30,8 @@ take_back_spec 𝓤 𝓛 𝓜 𝓡 wired =
     fsplit3 ! $ fsplit ! $ drop ! $ move ! (2 ∷ []) $ drop ! $ move ! (1 ∷ []) $ fsplit ! $ drop ! $
     rewrite ! 0 (λ (g : GName). ‵ (right g t)) asked refl $
     use2 𝓛 (‵ (rest_of γ left)) (comes_back 𝓛 γ x.out t) $
-    regoal ! (λ (us : List Val). prop (WpFn 𝓤 H C Λ fn us Post)) (λ i. (lease_told vss.0 are.0.0).0 i ++ ((lease_told vss.1.0 are.1.0.0).0 i ++ [])) refl $
-    enter ! C Λ fn (lease_val ∷ lease_val ∷ []) Post $
+    regoal ! (λ (us : List Val). prop (WpFn 𝓤 H 𝓣.C 𝓣.Λ fn us Post)) (λ i. (lease_told vss.0 are.0.0).0 i ++ ((lease_told vss.1.0 are.1.0.0).0 i ++ [])) refl $
+    enter ! 𝓣.C 𝓣.Λ fn (lease_val ∷ lease_val ∷ []) Post $
     alloc_all ! (λ l. pass_all ! refl ((tt, (tt, tt)), ((tt, (tt, tt)), tt)) $ let En : Env 𝓤 𝓛.H = env fn.locals l in
     sets ! (of_opd ! (get_in ! (fld ! refl (stop !)) (sub ! 0 refl (whole !)))) refl (tt, tt) $
     sets ! (agg ! (and_then ! (get ! refl) (no_more !))) refl (tt, (tt, tt)) $

@@ -1,35 +1,6 @@
 -- `move_to` makes room of the new piece, moves the values there, and makes a piece of the old room. Assumes `Logic`.
-use Rattle.tlsf_arena.proofs.Common.{◌≡◌, ℕ, ◌+◌, ◌-◌, ◌*◌, ◌^◌, ◌<◌, ◌≤◌, List, [], ◌∷◌, ◌++◌, refl, sym, ap, subst, ◌∙◌, arith, w64, Goes-blank, after, fm, proved_at, leaves, pair_of, pair_val, block_with_items, El, times_below, IsUnit, piece_size, IsPiece, behind, block_token}
-use mir.Syntax.{Ty, Fn, Args, a_type, place, ty_array}
-use mir.Val.{Val, vint, vunit}
-use mir.MapTy.{inst_fn}
-use base.Fraction.{full_share}
-use base.Logic.{SProp, emp}
-use base.Fml.{Lft, Share, ftrue, froom, flft}
-use prog.Memory.{size}
-use prog.Wp.{Env, WpFn}
-use contract.BorrowLft.{◌⊑◌}
-use contract.Monad.{fact, fact_i}
-use contract.Running.{tables}
-use types.Kit.{‵, raw, ◌⊛◌, given, later, prop, settles, at_ret, ◌$◌, ◌∵◌, !, qed, by, move, drop, use0, use1, use2, use3, split, split3, join, learn, rewrite, regoal, fsplit, fsplit3, fjoin, fjoin3, fpick, await}
-use types.Part.{whole, sub, agg}
-use types.Run.{stop, fld, of_opd, no_more, and_then, first, blocks, exec, returns, enter}
-use types.ByLocal.{alloc_all, pass_all, free_all, look_at, get, get_in, sets, lands_last, env}
-use denote.RattleType.{RattleType, owns}
-use denote.RawPtr.{Ptr, block_ptr, count_of}
-use denote.Memory.{part_at}
-use denote.Param.{param, layout, layouts}
-use denote.Signature.{types_at}
-use denote.Steps.{nothing, heard}
-use denote.Struct.Tuple.{Tuple}
-use denote.Triple.Call.{calls_at_last}
-use denote.Triple.Walked.{Stays, stay_dropped, walk_of, Goes-dropped}
-use Rattle.linked_list_allocator.proofs.Walks.{slot_at, then_runs, out_of_block}
-use Rattle.linked_list_allocator.proofs.Values.{sized_val, sized_own, sized_told, sized_made}
-use Rattle.linked_list_allocator.specs.Region.{Region}
-use Rattle.linked_list_allocator.specs.Ownership.{bytes_at}
+use Rattle.tlsf_arena.proofs.Walking.{◌≡◌, ℕ, ◌+◌, ◌-◌, ◌*◌, ◌^◌, ◌<◌, ◌≤◌, List, [], ◌∷◌, ◌++◌, refl, sym, ap, subst, ◌∙◌, arith, w64, Goes-blank, after, fm, proved_at, leaves, pair_of, pair_val, block_with_items, El, times_below, IsUnit, piece_size, IsPiece, behind, block_token, Ty, Fn, Args, a_type, place, ty_array, Val, vint, vunit, inst_fn, full_share, SProp, emp, Lft, Share, ftrue, froom, flft, size, Env, WpFn, ◌⊑◌, fact, fact_i, tables, ‵, raw, ◌⊛◌, given, later, prop, settles, at_ret, ◌$◌, ◌∵◌, !, qed, by, move, drop, use0, use1, use2, use3, split, split3, join, learn, rewrite, regoal, fsplit, fsplit3, fjoin, fjoin3, fpick, await, whole, sub, agg, stop, fld, of_opd, no_more, and_then, first, blocks, exec, returns, enter, alloc_all, pass_all, free_all, look_at, get, get_in, sets, lands_last, env, RattleType, owns, Ptr, block_ptr, count_of, part_at, param, layout, layouts, types_at, nothing, heard, Tuple, calls_at_last, Stays, stay_dropped, walk_of, Goes-dropped, slot_at, then_runs, out_of_block, sized_val, sized_own, sized_told, sized_made, Region, bytes_at, Array}
 use Rattle.core.proofs.alloc.Moves.{Copies, at_copies, Copies-goes, Copies-gives}
-use denote.Array.{Array}
 use Rattle.core.proofs.ptr.copy_nonoverlapping.Met as callee
 use Rattle.tlsf_arena.proofs.Taken.{fits_out, takes_in}
 use Rattle.tlsf_arena.proofs.UnitCases.{piece_holds}
@@ -45,13 +16,11 @@ pub move_to_spec : {M : Type 1} → statement M
 move_to_spec 𝓤 𝓛 𝓜 𝓡 wired T L =
     let H = 𝓛.H in
     let En₀ = ended T in
-    let c₀ = clauses T 𝓛 𝓜.mem 𝓡.returns in
+    let c = clauses T 𝓛 𝓜.mem 𝓡.returns in
     let args : Args = layouts (a_type ∷ []) (T, tt) in
     let fn : Fn = inst_fn args compiled.function in
     let stays : Stays En₀.signature.params En₀.kept = (stay_dropped (slot_at 0 En₀.signature.params) En₀.kept.0, (stay_dropped (slot_at 1 En₀.signature.params) En₀.kept.1.0, (stay_dropped (slot_at 2 En₀.signature.params) En₀.kept.1.1.0, (stay_dropped (slot_at 3 En₀.signature.params) En₀.kept.1.1.1.0, (stay_dropped (slot_at 4 En₀.signature.params) En₀.kept.1.1.1.1.0, tt))))) in
-    let c = c₀ in
-    let C = (tables 𝓤 H 𝓜 𝓡 𝓡.env).C in
-    let Λ = (tables 𝓤 H 𝓜 𝓡 𝓡.env).Λ in
+    let 𝓣 = tables 𝓤 H 𝓜 𝓡 𝓡.env in
     proved_at 𝓛 En₀ stays c 𝓜 𝓡 (Goes-blank 𝓛 1 (slot_at 0 En₀.signature.params) En₀.kept.0 (λ κs x f. tt), (Goes-blank 𝓛 1 (slot_at 1 En₀.signature.params) En₀.kept.1.0 (λ κs x f. tt), (Goes-dropped 𝓛 1 (slot_at 2 En₀.signature.params) En₀.kept.1.1.0 (λ κs x f. refl), (Goes-dropped 𝓛 1 (slot_at 3 En₀.signature.params) En₀.kept.1.1.1.0 (λ κs x f. refl), (Goes-dropped 𝓛 1 (slot_at 4 En₀.signature.params) En₀.kept.1.1.1.1.0 (λ κs x f. refl), tt))))) (#self args) fn (compiled.unfolded 𝓤 H 𝓜 𝓡 wired (T, tt)) (λ z are.
     let Post : Val → SProp 𝓤 = (walk_of 𝓛 En₀ stays c).post z in
     let a = z.0.3 in
@@ -93,8 +62,8 @@ move_to_spec 𝓤 𝓛 𝓜 𝓡 wired T L =
     let room' : cap * s ≤ piece_size u (cap * s) = piece_holds u (cap * s) unit in
     let short : cap * s < 2 ^ 63 = omega (arith, lies.2, lies.3, room', owed, owed') in
     rewrite ! 0 (λ (g : Ptr × ℕ). ‵ (bytes_at g.0 g.1)) (λ i. (lies' i, long i)) refl $ move ! (1 ∷ []) $ drop ! $
-    regoal ! (λ (us : List Val). prop (WpFn 𝓤 H C Λ fn us Post)) (λ i. told i ++ ((sized.0 ∙ ap (λ (g : Ptr). sized_val g w.size ∷ []) lies') i ++ (are.1.1.0.0 i ++ (are.1.1.1.0.0 i ++ (are.1.1.1.1.0.0 i ++ []))))) refl $
-    enter ! C Λ fn (buffer_val old ∷ sized_val new w.size ∷ vint w64 len ∷ vint w64 cap' ∷ vint w64 m ∷ []) Post $
+    regoal ! (λ (us : List Val). prop (WpFn 𝓤 H 𝓣.C 𝓣.Λ fn us Post)) (λ i. told i ++ ((sized.0 ∙ ap (λ (g : Ptr). sized_val g w.size ∷ []) lies') i ++ (are.1.1.0.0 i ++ (are.1.1.1.0.0 i ++ (are.1.1.1.1.0.0 i ++ []))))) refl $
+    enter ! 𝓣.C 𝓣.Λ fn (buffer_val old ∷ sized_val new w.size ∷ vint w64 len ∷ vint w64 cap' ∷ vint w64 m ∷ []) Post $
     alloc_all ! (λ l. pass_all ! refl ((tt, (tt, (tt, tt))), ((tt, (tt, (record { fits = sized.1 }, tt))), ((tt, record { fits = are.1.1.0.1 }), ((tt, record { fits = are.1.1.1.0.1 }), ((tt, record { fits = are.1.1.1.1.0.1 }), tt))))) $ let En : Env 𝓤 𝓛.H = env fn.locals l in
     use1 𝓛 (‵ (froom τ' b' o') ⊛ ‵ (block_token u r τ' new)) (fits_out 𝓛 u unit r τ' o' is') $ split ! $
     use1 𝓛 (‵ (froom (ty_array τ len) b' o') ⊛ ‵ (froom (block_type E (cap' - len)) b' (o' + len * s))) (parted E 𝓛 len cap' b' o' counts.1) $ split ! $ move ! (3 ∷ 0 ∷ 6 ∷ []) $
@@ -107,8 +76,8 @@ move_to_spec 𝓤 𝓛 𝓜 𝓡 wired T L =
     use3 𝓛 (raw ((Copies T 𝓛 𝓜.mem 𝓡.returns).pre y)) (Copies-goes T 𝓛 𝓜.mem 𝓡.returns κ q b o b' o' len xs le are.1.1.0.1 (times_below len cap s (2 ^ 63) counts.2 short)) $
     calls_at_last ! (fm 𝓛 𝓜 𝓡) (Copies T 𝓛 𝓜.mem 𝓡.returns) (callee.met 𝓤 𝓛 𝓜 𝓡 (compiled.calls-core::ptr::copy_nonoverlapping 𝓡.env wired) T L) y (and_then ! (get ! refl) (and_then ! (get ! refl) (and_then ! (get ! refl) (no_more !)))) (λ v.
     use1 𝓛 (later (given (v ≡ vunit) (‵ (part_at (Array R len) full_share xs b' o') ⊛ ‵ (froom (ty_array τ len) b o) ⊛ ‵ (flft κ q)))) (Copies-gives T 𝓛 𝓜.mem 𝓡.returns κ q b o b' o' len xs v) $
-    await ! tt $ learn ! (λ eu. split3 ! $ regoal ! (λ (g : Val). settles En (place 11 []) g (out_of_block 𝓛 (then_runs 𝓛 C Λ En (after 5 fn.body) (at_ret En Post)))) (eu) refl $ lands_last ! refl (tt, tt) $
-    exec ! C Λ En (after 5 fn.body) (at_ret En Post) $
+    await ! tt $ learn ! (λ eu. split3 ! $ regoal ! (λ (g : Val). settles En (place 11 []) g (out_of_block 𝓛 (then_runs 𝓛 𝓣.C 𝓣.Λ En (after 5 fn.body) (at_ret En Post)))) (eu) refl $ lands_last ! refl (tt, tt) $
+    exec ! 𝓣.C 𝓣.Λ En (after 5 fn.body) (at_ret En Post) $
     let fits : m < 2 ^ 64 = are.1.1.1.1.0.1 in
     sets ! (of_opd ! (get ! refl)) refl (tt, tt) $
     sets ! (agg ! (and_then ! (get ! refl) (and_then ! (get ! refl) (no_more !)))) refl (tt, (tt, (record { fits = fits }, tt))) $

@@ -1,30 +1,5 @@
 -- `trimmed` makes a piece of the bytes at the end of a buffer's. Assumes `Logic`.
-use Rattle.tlsf_arena.proofs.Common.{◌≡◌, ℕ, ◌+◌, ◌-◌, ◌*◌, ◌%◌, ◌^◌, ◌<◌, ◌≤◌, List, [], ◌∷◌, ◌++◌, refl, sym, ap, ◌∙◌, arith, w64, Goes-blank, after, pair_of, pair_val, proved_at, leaves, block_with_items, El, IsUnit, piece_size, IsPiece, behind}
-use mir.Syntax.{Ty, Fn, Args, a_type}
-use mir.Val.{Val, vint, vptr}
-use mir.MapTy.{inst_fn}
-use base.Logic.{SProp, emp}
-use base.Fml.{Lft, Share, ftrue, fex, froom, flft}
-use prog.Memory.{size}
-use prog.Wp.{Env, WpFn}
-use contract.BorrowLft.{◌⊑◌}
-use contract.Monad.{fact, fact_i}
-use contract.Running.{tables}
-use types.Kit.{‵, raw, ◌⊛◌, prop, at_ret, ◌$◌, ◌∵◌, !, qed, by, move, drop, use0, use2, split, split3, join, rewrite, regoal, fsplit, fsplit3, fjoin, fjoin3, fpick, fpack}
-use types.Part.{whole, sub, agg}
-use types.Run.{stop, fld, bin, of_opd, no_more, and_then, first, blocks, exec, returns, enter}
-use types.ByLocal.{alloc_all, pass_all, free_all, look_at, get, get_in, sets, sets_last, is, env}
-use denote.RattleType.{RattleType, owns}
-use denote.RawPtr.{Ptr, block_ptr, count_of}
-use denote.Param.{param, layout, layouts}
-use denote.Signature.{types_at}
-use denote.Steps.{nothing, heard}
-use denote.Struct.Tuple.{Tuple}
-use denote.Triple.Walked.{Stays, stay_dropped, walk_of, Goes-dropped}
-use Rattle.linked_list_allocator.proofs.Walks.{slot_at}
-use Rattle.linked_list_allocator.proofs.Values.{sized_val, sized_own, sized_made}
-use Rattle.linked_list_allocator.specs.Region.{Region}
-use Rattle.linked_list_allocator.specs.Ownership.{bytes_at}
+use Rattle.tlsf_arena.proofs.Walking.{◌≡◌, ℕ, ◌+◌, ◌-◌, ◌*◌, ◌%◌, ◌^◌, ◌<◌, ◌≤◌, List, [], ◌∷◌, ◌++◌, refl, sym, ap, ◌∙◌, arith, w64, Goes-blank, after, pair_of, pair_val, proved_at, leaves, block_with_items, El, IsUnit, piece_size, IsPiece, behind, Ty, Fn, Args, a_type, Val, vint, vptr, inst_fn, SProp, emp, Lft, Share, ftrue, fex, froom, flft, size, Env, WpFn, ◌⊑◌, fact, fact_i, tables, ‵, raw, ◌⊛◌, prop, at_ret, ◌$◌, ◌∵◌, !, qed, by, move, drop, use0, use2, split, split3, join, rewrite, regoal, fsplit, fsplit3, fjoin, fjoin3, fpick, fpack, whole, sub, agg, stop, fld, bin, of_opd, no_more, and_then, first, blocks, exec, returns, enter, alloc_all, pass_all, free_all, look_at, get, get_in, sets, sets_last, is, env, RattleType, owns, Ptr, block_ptr, count_of, param, layout, layouts, types_at, nothing, heard, Tuple, Stays, stay_dropped, walk_of, Goes-dropped, slot_at, sized_val, sized_own, sized_made, Region, bytes_at}
 use Rattle.tlsf_arena.proofs.UnitCases.{least_piece, piece_grains, piece_holds}
 use Rattle.tlsf_arena.proofs.Buffers.{buffer_val, buffer_own, buffer_told, buffer_made, shortens, block_type, block_size}
 use Rattle.tlsf_arena.specs.contracts.piece.Piece as piece
@@ -38,13 +13,11 @@ pub trimmed_spec : {M : Type 1} → statement M
 trimmed_spec 𝓤 𝓛 𝓜 𝓡 wired T L =
     let H = 𝓛.H in
     let En₀ = ended T in
-    let c₀ = clauses T 𝓛 𝓜.mem 𝓡.returns in
+    let c = clauses T 𝓛 𝓜.mem 𝓡.returns in
     let args : Args = layouts (a_type ∷ []) (T, tt) in
     let fn : Fn = inst_fn args compiled.function in
     let stays : Stays En₀.signature.params En₀.kept = (stay_dropped (slot_at 0 En₀.signature.params) En₀.kept.0, (stay_dropped (slot_at 1 En₀.signature.params) En₀.kept.1.0, (stay_dropped (slot_at 2 En₀.signature.params) En₀.kept.1.1.0, (stay_dropped (slot_at 3 En₀.signature.params) En₀.kept.1.1.1.0, tt)))) in
-    let c = c₀ in
-    let C = (tables 𝓤 H 𝓜 𝓡 𝓡.env).C in
-    let Λ = (tables 𝓤 H 𝓜 𝓡 𝓡.env).Λ in
+    let 𝓣 = tables 𝓤 H 𝓜 𝓡 𝓡.env in
     proved_at 𝓛 En₀ stays c 𝓜 𝓡 (Goes-blank 𝓛 1 (slot_at 0 En₀.signature.params) En₀.kept.0 (λ κs x f. tt), (Goes-dropped 𝓛 1 (slot_at 1 En₀.signature.params) En₀.kept.1.0 (λ κs x f. refl), (Goes-dropped 𝓛 1 (slot_at 2 En₀.signature.params) En₀.kept.1.1.0 (λ κs x f. refl), (Goes-dropped 𝓛 1 (slot_at 3 En₀.signature.params) En₀.kept.1.1.1.0 (λ κs x f. refl), tt)))) (#self args) fn (compiled.unfolded 𝓤 H 𝓜 𝓡 wired (T, tt)) (λ z are.
     let Post : Val → SProp 𝓤 = (walk_of 𝓛 En₀ stays c).post z in
     let a = z.0.3 in
@@ -88,15 +61,15 @@ trimmed_spec 𝓤 𝓛 𝓜 𝓡 wired T L =
     fpack ! (IsPiece r p at n') (λ _. behind (block_type E cap') b at n') is' $ fpack ! ℕ (λ j. fex (IsPiece r p j n') (λ _. behind (block_type E cap') b j n')) at $ move ! (3 ∷ 1 ∷ 0 ∷ []) $ fjoin3 ! $
     let tail = at + m in let end : Ptr = block_ptr b tail in
     rewrite ! 1 (λ (j : ℕ). ‵ (bytes_at (block_ptr b (at + j)) d)) shorter refl $
-    regoal ! (λ (us : List Val). prop (WpFn 𝓤 H C Λ fn us Post)) (λ i. told i ++ (are.1.0.0 i ++ (are.1.1.0.0 i ++ (are.1.1.1.0.0 i ++ [])))) refl $
-    enter ! C Λ fn (buffer_val p ∷ vint w64 cap' ∷ vint w64 m ∷ vint w64 d ∷ []) Post $
+    regoal ! (λ (us : List Val). prop (WpFn 𝓤 H 𝓣.C 𝓣.Λ fn us Post)) (λ i. told i ++ (are.1.0.0 i ++ (are.1.1.0.0 i ++ (are.1.1.1.0.0 i ++ [])))) refl $
+    enter ! 𝓣.C 𝓣.Λ fn (buffer_val p ∷ vint w64 cap' ∷ vint w64 m ∷ vint w64 d ∷ []) Post $
     alloc_all ! (λ l. pass_all ! refl ((tt, (tt, (tt, tt))), ((tt, record { fits = are.1.0.1 }), ((tt, record { fits = are.1.1.0.1 }), ((tt, record { fits = are.1.1.1.0.1 }), tt)))) $ let En : Env 𝓤 𝓛.H = env fn.locals l in
     sets ! (of_opd ! (get_in ! (fld ! refl (stop !)) (sub ! 0 refl (whole !)))) refl (tt, tt) $
     sets ! (of_opd ! (get_in ! (fld ! refl (stop !)) (sub ! 1 refl (whole !)))) refl (tt, tt) $
     first ! $ blocks ! $
     sets ! (of_opd ! (get ! refl)) refl (tt, tt) $
     sets_last ! (is ! (bin ! (get ! refl) (get ! refl) tt) (ap (vptr b) (omega arith))) refl (tt, tt) $
-    exec ! C Λ En (after 3 fn.body) (at_ret En Post) $
+    exec ! 𝓣.C 𝓣.Λ En (after 3 fn.body) (at_ret En Post) $
     let fits : d < 2 ^ 64 = are.1.1.1.0.1 in
     sets ! (of_opd ! (get ! refl)) refl (tt, tt) $
     sets ! (agg ! (and_then ! (get ! refl) (and_then ! (get ! refl) (no_more !)))) refl (tt, (tt, (record { fits = fits }, tt))) $

@@ -1,11 +1,5 @@
 -- A husk owns the ways back to room alone, which name no thread.
-use Rattle.tlsf_arena.proofs.Common.{ℕ, zero, suc, ◌+◌, ◌/◌, ways}
-use base.Shift.{Keyless}
-use mir.Syntax.{w8}
-use denote.Struct.Struct.{exits_of}
-use denote.Struct.Owning.{shape, fields, to}
-use denote.Param.Send.{IsSend, AllSend, owning_send, struct_send, sendable}
-use Rattle.std_alloc.proofs.SendSync.{quiet}
+use Rattle.tlsf_arena.proofs.Walking.{ℕ, zero, suc, ◌+◌, ◌/◌, ways, Keyless, w8, exits_of, shape, fields, to, IsSend, AllSend, owning_send, struct_send, sendable, quiet}
 use Rattle.tlsf_arena.specs.contracts.husk.Husk.{the_row, the_type}
 
 room : (b x k : ℕ) → Keyless (ways w8 b x k)

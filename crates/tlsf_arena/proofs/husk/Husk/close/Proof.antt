@@ -1,27 +1,6 @@
 -- `close` takes the bytes from `dislodge`. Assumes `Logic`.
-use Rattle.tlsf_arena.proofs.Common.{◌≡◌, ℕ, ◌<◌, ◌^◌, List, [], ◌∷◌, ◌++◌, refl, sym, ap, ◌∙◌, arith, w64, fm, Goes-blank, proved_at, leaves, lodged}
-use mir.Syntax.{Fn}
-use mir.Val.{Val, vint}
-use base.Logic.{SProp, emp}
-use prog.Wp.{Env, WpFn}
-use contract.Monad.{fact, fact_i}
-use contract.Running.{tables}
-use types.Kit.{‵, raw, ◌⊛◌, given, later, prop, ◌$◌, ◌∵◌, !, qed, by, move, drop, use0, use1, use2, split, learn, await, rewrite, regoal, fsplit, fjoin}
-use types.Part.{whole, sub, agg}
-use types.Run.{stop, fld, of_opd, no_more, and_then, returns, enter}
-use types.ByLocal.{alloc_all, pass_all, free_all, look_at, get, get_in, sets, lands_as, env}
-use denote.Builtin.{u8}
-use denote.RattleType.{owns}
-use denote.RawPtr.{Ptr, block_ptr}
-use denote.Signature.{types_at}
-use denote.Steps.{nothing, heard}
-use denote.Triple.Call.{calls_at}
-use denote.Triple.Entry.{alive}
-use denote.Triple.Walked.{Stays, stay_dropped, walk_of}
+use Rattle.tlsf_arena.proofs.Walking.{◌≡◌, ℕ, ◌<◌, ◌^◌, List, [], ◌∷◌, ◌++◌, refl, sym, ap, ◌∙◌, arith, w64, fm, Goes-blank, proved_at, leaves, lodged, Fn, Val, vint, SProp, emp, Env, WpFn, fact, fact_i, tables, ‵, raw, ◌⊛◌, given, later, prop, ◌$◌, ◌∵◌, !, qed, by, move, drop, use0, use1, use2, split, learn, await, rewrite, regoal, fsplit, fjoin, whole, sub, agg, stop, fld, of_opd, no_more, and_then, returns, enter, alloc_all, pass_all, free_all, look_at, get, get_in, sets, lands_as, env, u8, owns, Ptr, block_ptr, types_at, nothing, heard, calls_at, alive, Stays, stay_dropped, walk_of, bytes_at, slot_at, sized_val, sized_own, sized_told, sized_made}
 use Rattle.std_alloc.proofs.vec.lodged.Vec+T+Lodged.dislodge.Met as callee
-use Rattle.linked_list_allocator.specs.Ownership.{bytes_at}
-use Rattle.linked_list_allocator.proofs.Walks.{slot_at}
-use Rattle.linked_list_allocator.proofs.Values.{sized_val, sized_own, sized_told, sized_made}
 use Rattle.tlsf_arena.specs.FilledPieces.{piece_within}
 use Rattle.tlsf_arena.proofs.Lodging.{byte_laws, vec_tells, piece_in, Dislodges, at_dislodge, dislodge_goes, dislodge_gives}
 use Rattle.tlsf_arena.specs.contracts.piece.Piece as piece
@@ -37,8 +16,7 @@ close_spec 𝓤 𝓛 𝓜 𝓡 wired =
     let c = clauses 𝓛 𝓜.mem 𝓡.returns in
     let fn : Fn = compiled.function in
     let stays : Stays En₀.signature.params En₀.kept = (stay_dropped (slot_at 0 En₀.signature.params) En₀.kept.0, (stay_dropped (slot_at 1 En₀.signature.params) En₀.kept.1.0, tt)) in
-    let C = (tables 𝓤 H 𝓜 𝓡 𝓡.env).C in
-    let Λ = (tables 𝓤 H 𝓜 𝓡 𝓡.env).Λ in
+    let 𝓣 = tables 𝓤 H 𝓜 𝓡 𝓡.env in
     let met = callee.met 𝓤 𝓛 𝓜 𝓡 (compiled.calls-std_alloc::vec::lodged::Vec+T+Lodged::dislodge 𝓡.env wired) u8 byte_laws in
     proved_at 𝓛 En₀ stays c 𝓜 𝓡 (Goes-blank 𝓛 0 (slot_at 0 En₀.signature.params) En₀.kept.0 (λ κs x f. tt), (Goes-blank 𝓛 0 (slot_at 1 En₀.signature.params) En₀.kept.1.0 (λ κs x f. tt), tt)) #self fn (compiled.unfolded 𝓤 H 𝓜 𝓡 wired) (λ z are.
     let Post : Val → SProp 𝓤 = (walk_of 𝓛 En₀ stays c).post z in
@@ -56,8 +34,8 @@ close_spec 𝓤 𝓛 𝓜 𝓡 wired =
     let Asked : Type 0 = (d.ptr ≡ x.ptr) × (d.cap ≡ n) in
     qed 𝓛 ((raw (alive 𝓛 En₀.signature z.0.0 z.0.1) ⊛ ‵ (owns (types_at En₀.signature.params z.0.0) a vss)) ∷ raw (fact 𝓤 Asked) ∷ []) ∵ move ! (1 ∷ []) $ heard ! Asked (λ asked. split ! $ move ! (1 ∷ []) $
     fsplit ! $ fsplit ! $ drop ! $ move ! (1 ∷ []) $ fsplit ! $ vec_tells ! d vss.1.0 (λ u is good. move ! (1 ∷ []) $ drop ! $
-    regoal ! (λ (us : List Val). prop (WpFn 𝓤 H C Λ fn us Post)) (λ i. (told.0 ∙ ap (λ (q : Ptr). sized_val q n ∷ []) x.placed.0) i ++ (is i ++ [])) refl $
-    enter ! C Λ fn (sized_val p n ∷ u ∷ []) Post $
+    regoal ! (λ (us : List Val). prop (WpFn 𝓤 H 𝓣.C 𝓣.Λ fn us Post)) (λ i. (told.0 ∙ ap (λ (q : Ptr). sized_val q n ∷ []) x.placed.0) i ++ (is i ++ [])) refl $
+    enter ! 𝓣.C 𝓣.Λ fn (sized_val p n ∷ u ∷ []) Post $
     alloc_all ! (λ l. pass_all ! refl ((tt, (tt, (record { fits = fits }, tt))), (good, tt)) $ let En : Env 𝓤 𝓛.H = env fn.locals l in
     let y = at_dislodge 𝓛 𝓜.mem 𝓡.returns d u in
     sets ! (of_opd ! (get_in ! (fld ! refl (stop !)) (sub ! 0 refl (whole !)))) refl (tt, tt) $

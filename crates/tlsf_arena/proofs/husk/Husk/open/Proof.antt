@@ -1,31 +1,6 @@
 -- `open` hands the bytes of a piece to `lodge`. Assumes `Logic`.
-use Rattle.tlsf_arena.proofs.Common.{◌≡◌, ℕ, ◌/◌, ◌<◌, ◌^◌, List, [], ◌∷◌, ◌++◌, refl, sym, ap, ◌∙◌, subst, arith, w8, Vec, fm, Goes-blank, after, pair_of, pair_val, pair_Typed, proved_at, leaves, lodged, ways}
-use mir.Syntax.{Fn}
-use mir.Val.{Val}
-use base.Logic.{SProp, emp}
-use base.Fml.{ftrue}
-use prog.Wp.{Env, WpFn}
-use contract.Monad.{fact, fact_i}
-use contract.Running.{tables}
-use types.Kit.{‵, raw, ◌⊛◌, some, given, later, prop, at_ret, ◌$◌, ◌∵◌, !, qed, by, move, drop, use0, use1, use2, split, join, pick, learn, await, rewrite, regoal, fsplit, fjoin}
-use types.Part.{whole, sub, agg}
-use types.Run.{stop, fld, lit, of_opd, no_more, and_then, first, blocks, exec, returns, enter}
-use types.ByLocal.{alloc_all, pass_all, free_all, look_at, get, get_in, sets, lands_last, env}
-use denote.Builtin.{u8}
-use denote.Param.{layout}
-use denote.RattleType.{owns}
-use denote.RawPtr.{Ptr, block_ptr}
-use denote.Signature.{types_at}
-use denote.Steps.{nothing, only}
-use denote.Struct.Tuple.{Tuple}
-use denote.Triple.Call.{calls_at_last}
-use denote.Triple.Entry.{alive}
-use denote.Triple.Walked.{Stays, stay_dropped, walk_of}
-use Rattle.std_alloc.specs.declared.vec.lodged.Lodged.{Lodged}
+use Rattle.tlsf_arena.proofs.Walking.{◌≡◌, ℕ, ◌/◌, ◌<◌, ◌^◌, List, [], ◌∷◌, ◌++◌, refl, sym, ap, ◌∙◌, subst, arith, w8, Vec, fm, Goes-blank, after, pair_of, pair_val, pair_Typed, proved_at, leaves, lodged, ways, Fn, Val, SProp, emp, ftrue, Env, WpFn, fact, fact_i, tables, ‵, raw, ◌⊛◌, some, given, later, prop, at_ret, ◌$◌, ◌∵◌, !, qed, by, move, drop, use0, use1, use2, split, join, pick, learn, await, rewrite, regoal, fsplit, fjoin, whole, sub, agg, stop, fld, lit, of_opd, no_more, and_then, first, blocks, exec, returns, enter, alloc_all, pass_all, free_all, look_at, get, get_in, sets, lands_last, env, u8, layout, owns, Ptr, block_ptr, types_at, nothing, only, Tuple, calls_at_last, alive, Stays, stay_dropped, walk_of, Lodged, bytes_at, slot_at, sized_val, sized_own, sized_told, sized_made}
 use Rattle.std_alloc.proofs.vec.lodge.Met as callee
-use Rattle.linked_list_allocator.specs.Ownership.{bytes_at}
-use Rattle.linked_list_allocator.proofs.Walks.{slot_at}
-use Rattle.linked_list_allocator.proofs.Values.{sized_val, sized_own, sized_told, sized_made}
 use Rattle.tlsf_arena.specs.FilledPieces.{piece_within}
 use Rattle.tlsf_arena.proofs.Lodging.{byte_laws, Housed, Good, vec_tells, piece_out, Lodges, at_lodge, IsLodged, lodge_goes, lodge_gives}
 use Rattle.tlsf_arena.specs.contracts.husk.Husk as husk
@@ -41,8 +16,7 @@ open_spec 𝓤 𝓛 𝓜 𝓡 wired =
     let c = clauses 𝓛 𝓜.mem 𝓡.returns in
     let fn : Fn = compiled.function in
     let stays : Stays En₀.signature.params En₀.kept = (stay_dropped (slot_at 0 En₀.signature.params) En₀.kept.0, tt) in
-    let C = (tables 𝓤 H 𝓜 𝓡 𝓡.env).C in
-    let Λ = (tables 𝓤 H 𝓜 𝓡 𝓡.env).Λ in
+    let 𝓣 = tables 𝓤 H 𝓜 𝓡 𝓡.env in
     let met = callee.met 𝓤 𝓛 𝓜 𝓡 (compiled.calls-std_alloc::vec::lodge 𝓡.env wired) u8 byte_laws in
     proved_at 𝓛 En₀ stays c 𝓜 𝓡 (Goes-blank 𝓛 0 (slot_at 0 En₀.signature.params) En₀.kept.0 (λ κs x f. tt), tt) #self fn (compiled.unfolded 𝓤 H 𝓜 𝓡 wired) (λ z are.
     let Post : Val → SProp 𝓤 = (walk_of 𝓛 En₀ stays c).post z in
@@ -61,8 +35,8 @@ open_spec 𝓤 𝓛 𝓜 𝓡 wired =
     fsplit ! $ fsplit ! $ drop ! $ move ! (1 ∷ []) $ drop ! $
     rewrite ! 0 (λ (q : Ptr). ‵ (bytes_at q n)) x.placed.0 refl $
     use1 𝓛 (‵ (lodged u8 p 0 n []) ⊛ ‵ (ways w8 b o (n / 16))) (piece_out 𝓛 b o n (omega (arith, x.placed.4.0)) x.placed.4.1 small) $ split ! $
-    regoal ! (λ (us : List Val). prop (WpFn 𝓤 H C Λ fn us Post)) (λ i. (told.0 ∙ ap (λ (q : Ptr). sized_val q n ∷ []) x.placed.0) i ++ []) refl $
-    enter ! C Λ fn (sized_val p n ∷ []) Post $
+    regoal ! (λ (us : List Val). prop (WpFn 𝓤 H 𝓣.C 𝓣.Λ fn us Post)) (λ i. (told.0 ∙ ap (λ (q : Ptr). sized_val q n ∷ []) x.placed.0) i ++ []) refl $
+    enter ! 𝓣.C 𝓣.Λ fn (sized_val p n ∷ []) Post $
     alloc_all ! (λ l. pass_all ! refl (words, tt) $ let En : Env 𝓤 𝓛.H = env fn.locals l in
     let y = at_lodge 𝓛 𝓜.mem 𝓡.returns b o n in
     sets ! (of_opd ! (get_in ! (fld ! refl (stop !)) (sub ! 0 refl (whole !)))) refl (tt, tt) $
@@ -73,7 +47,7 @@ open_spec 𝓤 𝓛 𝓜 𝓡 wired =
     await ! tt $ pick ! (λ r. learn ! (λ is. vec_tells ! r (v ∷ []) (λ u same good.
     let fine : Good Housed v = subst (Good Housed) (sym (ap only same)) good in
     rewrite ! 0 (λ w. ‵ (Housed.own_val r (w ∷ []))) (sym (ap only same)) refl $ lands_last ! refl fine $
-    exec ! C Λ En (after 3 fn.body) (at_ret En Post) $
+    exec ! 𝓣.C 𝓣.Λ En (after 3 fn.body) (at_ret En Post) $
     sets ! (of_opd ! (get ! refl)) refl fine $
     sets ! (of_opd ! (get ! refl)) refl fine $
     sets ! (agg ! (and_then ! (get ! refl) (and_then ! (get ! refl) (no_more !)))) refl words $

@@ -1,39 +1,9 @@
 -- `deallocate` turns the room into the piece again, takes the right out of the token, and gives both to the arena. Assumes `Logic`.
-use Rattle.tlsf_arena.proofs.Common.{◌≡◌, ℕ, ◌+◌, ◌*◌, ◌^◌, ◌<◌, List, [], ◌∷◌, ◌++◌, refl, sym, ap, ◌∙◌, arith, w64, fm, proved_at, leaves, IsUnit, piece_size, name_of, Home, whole_token}
-use mir.Syntax.{Ty, Fn, Args, a_number}
-use mir.MapTy.{inst_fn}
-use mir.Val.{Val, vint, vptr, vunit}
-use base.Logic.{SProp, emp, id⊢}
-use base.Fml.{ftrue}
-use prog.Memory.{size, align, capped}
-use prog.Capped.{capped_is}
-use prog.Wp.{Env, WpFn}
-use contract.Monad.{fact, fact_i}
-use contract.BorrowLft.{◌⊑◌}
-use contract.Running.{tables}
-use types.Kit.{‵, raw, ◌⊛◌, some, later, prop, ◌$◌, ◌∵◌, !, qed, by, move, keep, drop, use0, use1, use2, split, split3, join, pick, rewrite, regoal, fsplit, fjoin, fpick, feq_l, feq_i, flt_i, await}
-use types.Part.{agg}
-use types.Run.{unit_lit, num_lit, of_opd, no_more, and_then, returns, enter}
-use types.ByLocal.{alloc_all, pass_all, free_all, look_at, get, sets, lands_as, env}
-use denote.RattleType.{owns}
-use denote.Builtin.{usize, unit}
-use denote.RawPtr.{Ptr, block_ptr, count_of, ptr_val, room_for}
-use denote.Param.{number, param, layout, layouts}
-use denote.Signature.{types_at}
-use denote.Steps.{nothing, only, heard}
-use denote.Triple.Entry.{alive}
-use denote.Triple.Spec.{triple_of}
-use denote.Triple.Call.{calls_at}
-use denote.Triple.Clauses.{Lasts, lasts}
-use denote.Triple.Walked.{Stays, stay_dropped, walk_of, Goes-dropped}
-use Rattle.linked_list_allocator.proofs.Values.{sized_val, sized_own, sized_made, lease_val, lease_own, lease_made}
-use Rattle.linked_list_allocator.specs.Region.{Region}
+use Rattle.tlsf_arena.proofs.Walking.{◌≡◌, ℕ, ◌+◌, ◌*◌, ◌^◌, ◌<◌, List, [], ◌∷◌, ◌++◌, refl, sym, ap, ◌∙◌, arith, w64, fm, proved_at, leaves, IsUnit, piece_size, name_of, Home, whole_token, Ty, Fn, Args, a_number, inst_fn, Val, vint, vptr, vunit, SProp, emp, id⊢, ftrue, size, align, capped, capped_is, Env, WpFn, fact, fact_i, ◌⊑◌, tables, ‵, raw, ◌⊛◌, some, later, prop, ◌$◌, ◌∵◌, !, qed, by, move, keep, drop, use0, use1, use2, split, split3, join, pick, rewrite, regoal, fsplit, fjoin, fpick, feq_l, feq_i, flt_i, await, agg, unit_lit, num_lit, of_opd, no_more, and_then, returns, enter, alloc_all, pass_all, free_all, look_at, get, sets, lands_as, env, owns, usize, unit, Ptr, block_ptr, count_of, ptr_val, room_for, number, param, layout, layouts, types_at, nothing, only, heard, alive, triple_of, calls_at, Lasts, lasts, Stays, stay_dropped, walk_of, Goes-dropped, sized_val, sized_own, sized_made, lease_val, lease_own, lease_made, Region, bytes_at, slot_at}
 use Rattle.tlsf_arena.specs.Loans.{units_of as units_in}
 use Rattle.tlsf_arena.proofs.Taken.{takes_in}
 use Rattle.tlsf_arena.proofs.UnitCases.{piece_holds}
 use Rattle.tlsf_arena.specs.contracts.local.LocalArena as local
-use Rattle.linked_list_allocator.specs.Ownership.{bytes_at}
-use Rattle.linked_list_allocator.proofs.Walks.{slot_at}
 use Rattle.tlsf_arena.specs.contracts.local.piece_bytes as sizer
 use Rattle.tlsf_arena.proofs.local.piece_bytes.Met.{met as aligns}
 use Rattle.tlsf_arena.specs.contracts.local.LocalArena.give as callee
@@ -49,13 +19,11 @@ pub deallocate_spec : {M : Type 1} → statement M
 deallocate_spec 𝓤 𝓛 𝓜 𝓡 wired S U fS fU =
     let H = 𝓛.H in
     let En₀ = ended (number S) (number U) in
-    let c₀ = clauses (number S) (number U) 𝓛 𝓜.mem 𝓡.returns in
+    let c = clauses (number S) (number U) 𝓛 𝓜.mem 𝓡.returns in
     let args : Args = layouts (a_number ∷ a_number ∷ []) (number S, (number U, tt)) in
     let fn : Fn = inst_fn args compiled.function in
     let stays : Stays En₀.signature.params En₀.kept = (stay_dropped (slot_at 0 En₀.signature.params) En₀.kept.0, (stay_dropped (slot_at 1 En₀.signature.params) En₀.kept.1.0, (stay_dropped (slot_at 2 En₀.signature.params) En₀.kept.1.1.0, (stay_dropped (slot_at 3 En₀.signature.params) En₀.kept.1.1.1.0, tt)))) in
-    let c = c₀ in
-    let C = (tables 𝓤 H 𝓜 𝓡 𝓡.env).C in
-    let Λ = (tables 𝓤 H 𝓜 𝓡 𝓡.env).Λ in
+    let 𝓣 = tables 𝓤 H 𝓜 𝓡 𝓡.env in
     proved_at 𝓛 En₀ stays c 𝓜 𝓡 (Goes-dropped 𝓛 3 (slot_at 0 En₀.signature.params) En₀.kept.0 (λ κs x f. refl), (Goes-dropped 𝓛 3 (slot_at 1 En₀.signature.params) En₀.kept.1.0 (λ κs x f. refl), (Goes-dropped 𝓛 3 (slot_at 2 En₀.signature.params) En₀.kept.1.1.0 (λ κs x f. refl), (Goes-dropped 𝓛 3 (slot_at 3 En₀.signature.params) En₀.kept.1.1.1.0 (λ κs x f. refl), tt)))) (#self args) fn (compiled.unfolded 𝓤 H 𝓜 𝓡 wired (number S, (number U, tt))) (λ z are.
     let Post : Val → SProp 𝓤 = (walk_of 𝓛 En₀ stays c).post z in
     let a = z.0.3 in
@@ -82,8 +50,8 @@ deallocate_spec 𝓤 𝓛 𝓜 𝓡 wired S U fS fU =
     let p : Ptr = block_ptr r.block at in let inside' = placed.2 in let top = placed.3 in let holds = piece_holds U (size τ) served in let short : size τ < 2 ^ 63 = omega arith in let same : size τ ≡ n = sym (capped_is (size τ) (omega arith)) ∙ asked.0 in
     -- [the bytes; the right; the tokens with the arguments]
     move ! (2 ∷ []) $ split ! $ move ! (1 ∷ []) $ fsplit ! $ fsplit ! $ keep ! (4 ∷ 5 ∷ 1 ∷ 3 ∷ []) $
-    regoal ! (λ (us : List Val). prop (WpFn 𝓤 H C Λ fn us Post)) (λ i. are.0.0 i ++ ((are.1.0 ∙ ap (λ (u : Ptr). ptr_val u ∷ []) placed.0) i ++ (are.1.1.0.0 i ++ (are.1.1.1.0.0 i ++ [])))) refl $
-    enter ! C Λ fn (me ∷ vptr r.block at ∷ vint w64 n ∷ vint w64 al ∷ []) Post $
+    regoal ! (λ (us : List Val). prop (WpFn 𝓤 H 𝓣.C 𝓣.Λ fn us Post)) (λ i. are.0.0 i ++ ((are.1.0 ∙ ap (λ (u : Ptr). ptr_val u ∷ []) placed.0) i ++ (are.1.1.0.0 i ++ (are.1.1.1.0.0 i ++ [])))) refl $
+    enter ! 𝓣.C 𝓣.Λ fn (me ∷ vptr r.block at ∷ vint w64 n ∷ vint w64 al ∷ []) Post $
     alloc_all ! (λ l. pass_all ! refl ((tt, tt), ((tt, tt), ((tt, record { fits = are.1.1.0.1 }), ((tt, record { fits = are.1.1.1.0.1 }), tt)))) $ let En : Env 𝓤 𝓛.H = env fn.locals l in
     use0 𝓛 (raw (fact 𝓤 (IsUnit U × (n < 2 ^ 63)))) (fact_i 𝓤 (IsUnit U × (n < 2 ^ 63)) (emp 𝓤) (served, omega arith)) $ nothing ! $ flt_i ! U (2 ^ 64) fU.fits $ feq_i ! (List Val) (vint w64 U ∷ []) (vint w64 U ∷ []) refl $ fjoin ! $ fjoin ! $ flt_i ! n (2 ^ 64) are.1.1.0.1 $ feq_i ! (List Val) (vint w64 n ∷ []) (vint w64 n ∷ []) refl $ fjoin ! $ fjoin ! $ nothing ! $ join ! $ join ! $ use1 𝓛 (raw (k₀.pre y₀)) (id⊢ 𝓤 _) $
     calls_at ! (fm 𝓛 𝓜 𝓡) k₀ (aligns 𝓤 𝓛 𝓜 𝓡 (compiled.calls-tlsf_arena::local::piece_bytes 𝓡.env wired)) y₀ (and_then ! (get ! refl) (and_then ! (num_lit ! fU) (no_more !))) (λ v.

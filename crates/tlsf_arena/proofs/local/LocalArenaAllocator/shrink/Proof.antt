@@ -1,32 +1,5 @@
 -- `shrink` hands the block to `moved` as a value, and takes apart what comes back. Assumes `Logic`.
-use Rattle.tlsf_arena.proofs.Common.{◌≡◌, ◌*◌, ◌^◌, ◌<◌, ◌≤◌, true, false, List, [], ◌∷◌, ◌++◌, refl, sym, ap, ◌∙◌, arith, lit<, w64, Ok, Err, Answer, answer_val, Answer-Ok, Answer-err, after, head, arm_body, fm, times_below, proved_at, leaves, array_of, block_with_items, FitsBlock, Home, whole_token}
-use mir.Syntax.{Fn, Args, a_type, a_number}
-use mir.Val.{Val, vint, vptr}
-use mir.MapTy.{inst_fn}
-use base.Logic.{SProp, emp, id⊢, never, fst∗}
-use base.Fml.{ffalse, fsep}
-use prog.Memory.{size}
-use prog.Wp.{Env, WpFn}
-use contract.BorrowLft.{◌⊑◌}
-use contract.Monad.{fact, fact_i}
-use contract.Running.{tables}
-use types.Logic.{sem}
-use types.Kit.{‵, raw, ◌⊛◌, some, later, prop, at_ret, ◌$◌, ◌∵◌, !, qed, by, move, keep, drop, use0, use1, split, split3, join, pick, rewrite, regoal, fsplit, fjoin, feq_i, flt_i, await}
-use types.Part.{whole, sub, agg}
-use types.Match.{vrt, in_variant}
-use types.Run.{stop, fld, lit, of_opd, no_more, and_then, first, switches_on, exec, returns, enter}
-use types.ByLocal.{alloc_all, pass_all, free_all, look_at, get, get_in, get_tag, sets, sets_last, lands_as, env}
-use denote.RattleType.{RattleType, owns}
-use denote.RawPtr.{Ptr, block_ptr, null_ptr, ptr_val, in_a_block}
-use denote.Param.{number, param, layout, layouts}
-use denote.Signature.{types_at}
-use denote.Steps.{nothing, heard}
-use denote.Triple.Entry.{alive}
-use denote.Triple.Spec.{triple_of}
-use denote.Triple.Call.{calls_at}
-use denote.Triple.Clauses.{Lasts, lasts}
-use denote.Triple.Walked.{Stays, stay_dropped, walk_of, Goes-dropped}
-use Rattle.linked_list_allocator.proofs.Walks.{slot_at, then_runs}
+use Rattle.tlsf_arena.proofs.Walking.{◌≡◌, ◌*◌, ◌^◌, ◌<◌, ◌≤◌, true, false, List, [], ◌∷◌, ◌++◌, refl, sym, ap, ◌∙◌, arith, lit<, w64, Ok, Err, Answer, answer_val, Answer-Ok, Answer-err, after, head, arm_body, fm, times_below, proved_at, leaves, array_of, block_with_items, FitsBlock, Home, whole_token, Fn, Args, a_type, a_number, Val, vint, vptr, inst_fn, SProp, emp, id⊢, never, fst∗, ffalse, fsep, size, Env, WpFn, ◌⊑◌, fact, fact_i, tables, sem, ‵, raw, ◌⊛◌, some, later, prop, at_ret, ◌$◌, ◌∵◌, !, qed, by, move, keep, drop, use0, use1, split, split3, join, pick, rewrite, regoal, fsplit, fjoin, feq_i, flt_i, await, whole, sub, agg, vrt, in_variant, stop, fld, lit, of_opd, no_more, and_then, first, switches_on, exec, returns, enter, alloc_all, pass_all, free_all, look_at, get, get_in, get_tag, sets, sets_last, lands_as, env, RattleType, owns, Ptr, block_ptr, null_ptr, ptr_val, in_a_block, number, param, layout, layouts, types_at, nothing, heard, alive, triple_of, calls_at, Lasts, lasts, Stays, stay_dropped, walk_of, Goes-dropped, slot_at, then_runs}
 use Rattle.tlsf_arena.specs.contracts.local.LocalArena as local
 use Rattle.tlsf_arena.specs.contracts.local.LocalArena.moved as callee
 use Rattle.tlsf_arena.proofs.local.LocalArena.moved.Met.{met as moves}
@@ -41,13 +14,11 @@ pub shrink_spec : {M : Type 1} → statement M
 shrink_spec 𝓤 𝓛 𝓜 𝓡 wired S U T fS fU LT =
     let H = 𝓛.H in
     let En₀ = ended (number S) (number U) T in
-    let c₀ = clauses (number S) (number U) T 𝓛 𝓜.mem 𝓡.returns in
+    let c = clauses (number S) (number U) T 𝓛 𝓜.mem 𝓡.returns in
     let args : Args = layouts (a_number ∷ a_number ∷ a_type ∷ []) (number S, (number U, (T, tt))) in
     let fn : Fn = inst_fn args compiled.function in
     let stays : Stays En₀.signature.params En₀.kept = (stay_dropped (slot_at 0 En₀.signature.params) En₀.kept.0, (stay_dropped (slot_at 1 En₀.signature.params) En₀.kept.1.0, (stay_dropped (slot_at 2 En₀.signature.params) En₀.kept.1.1.0, (stay_dropped (slot_at 3 En₀.signature.params) En₀.kept.1.1.1.0, (stay_dropped (slot_at 4 En₀.signature.params) En₀.kept.1.1.1.1.0, tt))))) in
-    let c = c₀ in
-    let C = (tables 𝓤 H 𝓜 𝓡 𝓡.env).C in
-    let Λ = (tables 𝓤 H 𝓜 𝓡 𝓡.env).Λ in
+    let 𝓣 = tables 𝓤 H 𝓜 𝓡 𝓡.env in
     proved_at 𝓛 En₀ stays c 𝓜 𝓡 (Goes-dropped 𝓛 4 (slot_at 0 En₀.signature.params) En₀.kept.0 (λ κs x f. refl), (Goes-dropped 𝓛 4 (slot_at 1 En₀.signature.params) En₀.kept.1.0 (λ κs x f. refl), (Goes-dropped 𝓛 4 (slot_at 2 En₀.signature.params) En₀.kept.1.1.0 (λ κs x f. refl), (Goes-dropped 𝓛 4 (slot_at 3 En₀.signature.params) En₀.kept.1.1.1.0 (λ κs x f. refl), (Goes-dropped 𝓛 4 (slot_at 4 En₀.signature.params) En₀.kept.1.1.1.1.0 (λ κs x f. refl), tt))))) (#self args) fn (compiled.unfolded 𝓤 H 𝓜 𝓡 wired (number S, (number U, (T, tt)))) (λ z are.
     let Post : Val → SProp 𝓤 = (walk_of 𝓛 En₀ stays c).post z in
     let a = z.0.3 in
@@ -80,8 +51,8 @@ shrink_spec 𝓤 𝓛 𝓜 𝓡 wired S U T fS fU LT =
     use0 𝓛 (raw (fact 𝓤 Second)) (fact_i 𝓤 Second (emp 𝓤) (omega (arith, asked.0, asked.1), asked.0, asked.2, times_below new old s (2 ^ 63) asked.1 asked.2)) $ use0 𝓛 (raw (fact 𝓤 First)) (fact_i 𝓤 First (emp 𝓤) (refl, refl, refl, refl)) $ join ! $
     use0 𝓛 (raw (fact 𝓤 Fits)) (fact_i 𝓤 Fits (emp 𝓤) small) $ join ! $ use0 𝓛 (raw (fact 𝓤 InT)) (fact_i 𝓤 InT (emp 𝓤) inT) $ join ! $ use0 𝓛 (raw (fact 𝓤 InU)) (fact_i 𝓤 InU (emp 𝓤) inU) $ join ! $ use0 𝓛 (raw (fact 𝓤 InS)) (fact_i 𝓤 InS (emp 𝓤) inS) $ join ! $
     move ! (1 ∷ 0 ∷ []) $ join ! $ use1 𝓛 (raw (k.pre y)) (id⊢ 𝓤 _) $
-    regoal ! (λ (us : List Val). prop (WpFn 𝓤 H C Λ fn us Post)) (λ i. are.0.0 i ++ ((are.1.0 ∙ ap (λ (g : Ptr). ptr_val g ∷ []) lies) i ++ (are.1.1.0.0 i ++ (are.1.1.1.0.0 i ++ (are.1.1.1.1.0.0 i ++ []))))) refl $
-    enter ! C Λ fn (me ∷ vptr b o ∷ vint w64 len ∷ vint w64 old ∷ vint w64 new ∷ []) Post $
+    regoal ! (λ (us : List Val). prop (WpFn 𝓤 H 𝓣.C 𝓣.Λ fn us Post)) (λ i. are.0.0 i ++ ((are.1.0 ∙ ap (λ (g : Ptr). ptr_val g ∷ []) lies) i ++ (are.1.1.0.0 i ++ (are.1.1.1.0.0 i ++ (are.1.1.1.1.0.0 i ++ []))))) refl $
+    enter ! 𝓣.C 𝓣.Λ fn (me ∷ vptr b o ∷ vint w64 len ∷ vint w64 old ∷ vint w64 new ∷ []) Post $
     alloc_all ! (λ l. pass_all ! refl ((tt, tt), ((tt, tt), ((tt, record { fits = are.1.1.0.1 }), ((tt, record { fits = are.1.1.1.0.1 }), ((tt, record { fits = are.1.1.1.1.0.1 }), tt))))) $ let En : Env 𝓤 𝓛.H = env fn.locals l in
     sets ! (agg ! (no_more !)) refl (tt, tt) $
     sets ! (agg ! (and_then ! (get ! refl) (and_then ! (get ! refl) (no_more !)))) refl (tt, (tt, (tt, tt))) $
@@ -90,19 +61,19 @@ shrink_spec 𝓤 𝓛 𝓜 𝓡 wired S U T fS fU LT =
     await ! tt $ pick ! (λ g. split ! $ move ! (1 ∷ []) $ pick ! (λ _. split ! $ drop ! $ heard ! (MovedTold R x len new g) (λ said. split ! $ move ! (1 ∷ []) $
     moved R ! x len new g v said
     (λ b' o' is'. let p' : Ptr = block_ptr b' o' in lands_as ! (is') refl (tt, (record { fits = lit< tt }, ((tt, (tt, tt)), tt))) $
-    first ! $ switches_on ! (get_tag ! (vrt ! refl (fld ! refl (stop !))) (whole !)) $ exec ! C Λ En (arm_body 0 (head (after 3 fn.body))) (then_runs 𝓛 C Λ En (after 4 fn.body) (at_ret En Post)) $
+    first ! $ switches_on ! (get_tag ! (vrt ! refl (fld ! refl (stop !))) (whole !)) $ exec ! 𝓣.C 𝓣.Λ En (arm_body 0 (head (after 3 fn.body))) (then_runs 𝓛 𝓣.C 𝓣.Λ En (after 4 fn.body) (at_ret En Post)) $
     sets ! (of_opd ! (get_in ! (vrt ! refl (fld ! refl (fld ! refl (stop !)))) (sub ! 0 refl (in_variant ! 0 0 refl refl (whole !))))) refl (tt, tt) $
     sets_last ! (agg ! (and_then ! (lit ! tt) (and_then ! (get ! refl) (no_more !)))) refl (tt, (record { fits = lit< tt }, (tt, tt))) $
-    exec ! C Λ En (after 4 fn.body) (at_ret En Post) $
+    exec ! 𝓣.C 𝓣.Λ En (after 4 fn.body) (at_ret En Post) $
     sets ! (of_opd ! (get ! refl)) refl (tt, (record { fits = lit< tt }, (tt, tt))) $
     returns ! (look_at ! 0 refl) $ free_all ! refl $
     use0 𝓛 (‵ (Answer.own_val (Ok p') (answer_val true b' o' ∷ []))) (Answer-Ok 𝓛 b' o') $ nothing ! $ nothing ! $ fjoin ! $ nothing ! $ fjoin ! $ nothing ! $ fjoin ! $ nothing ! $ fjoin ! $ nothing ! $ fjoin ! $ move ! (3 ∷ 0 ∷ 1 ∷ 2 ∷ []) $
     by ! (leaves 𝓛 En₀ stays c z (answer_val true b' o') (Ok p') (tt, (tt, (tt, (tt, (tt, tt))))) (tt, (tt, (tt, (tt, (tt, tt)))))))
     (λ is'. rewrite ! 0 (λ (u : Ptr). ‵ (block_with_items (whole_token U h) R u len old xs)) (sym lies) refl $ lands_as ! (is') refl (tt, (record { fits = lit< tt }, ((tt, (tt, tt)), tt))) $
-    first ! $ switches_on ! (get_tag ! (vrt ! refl (fld ! refl (stop !))) (whole !)) $ exec ! C Λ En (arm_body 1 (head (after 3 fn.body))) (then_runs 𝓛 C Λ En (after 4 fn.body) (at_ret En Post)) $
+    first ! $ switches_on ! (get_tag ! (vrt ! refl (fld ! refl (stop !))) (whole !)) $ exec ! 𝓣.C 𝓣.Λ En (arm_body 1 (head (after 3 fn.body))) (then_runs 𝓛 𝓣.C 𝓣.Λ En (after 4 fn.body) (at_ret En Post)) $
     sets ! (agg ! (no_more !)) refl (tt, tt) $
     sets_last ! (agg ! (and_then ! (lit ! tt) (and_then ! (get ! refl) (no_more !)))) refl (tt, (record { fits = lit< tt }, (tt, tt))) $
-    exec ! C Λ En (after 4 fn.body) (at_ret En Post) $
+    exec ! 𝓣.C 𝓣.Λ En (after 4 fn.body) (at_ret En Post) $
     sets ! (of_opd ! (get ! refl)) refl (tt, (record { fits = lit< tt }, (tt, tt))) $
     returns ! (look_at ! 0 refl) $ free_all ! refl $
     use0 𝓛 (‵ (Answer.own_val (Err (record {})) (answer_val false 0 0 ∷ []))) (Answer-err 𝓛) $ nothing ! $ nothing ! $ fjoin ! $ nothing ! $ fjoin ! $ nothing ! $ fjoin ! $ nothing ! $ fjoin ! $ nothing ! $ fjoin ! $ move ! (3 ∷ 0 ∷ 1 ∷ 2 ∷ []) $

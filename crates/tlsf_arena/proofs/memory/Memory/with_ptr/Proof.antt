@@ -1,26 +1,5 @@
 -- `with_ptr` reads a field. Assumes `Logic`.
-use Rattle.tlsf_arena.proofs.Common.{◌≡◌, List, [], ◌∷◌, ◌++◌, refl, sym, ap, ◌∙◌, Goes-blank, pair_of, pair_val, proved_at, leaves}
-use mir.Syntax.{Fn}
-use mir.Val.{Val}
-use base.Logic.{SProp, emp, never, id⊢}
-use base.Fml.{ftrue}
-use prog.Wp.{Env, WpFn}
-use contract.Monad.{fact, fact_i}
-use contract.Running.{tables}
-use types.Kit.{‵, raw, ◌⊛◌, prop, ◌$◌, ◌∵◌, !, qed, by, move, drop, use0, use2, split, rewrite, regoal, fsplit, fjoin, feq_i}
-use types.Part.{whole, sub, agg}
-use types.Run.{stop, fld, of_opd, no_more, and_then, returns, enter}
-use types.ByLocal.{alloc_all, pass_all, free_all, look_at, get, get_in, sets, env}
-use denote.RattleType.{owns}
-use denote.RawPtr.{Ptr, RawPtr, block_ptr, ptr_val, in_a_block}
-use denote.Signature.{types_at}
-use denote.Steps.{nothing}
-use denote.Struct.Tuple.{Tuple}
-use denote.Triple.Entry.{alive}
-use denote.Triple.Walked.{Stays, stay_dropped, walk_of}
-use Rattle.linked_list_allocator.proofs.Walks.{slot_at}
-use Rattle.linked_list_allocator.proofs.Values.{sized_val, sized_own, sized_told, sized_made}
-use Rattle.linked_list_allocator.specs.Ownership.{bytes_at}
+use Rattle.tlsf_arena.proofs.Walking.{◌≡◌, List, [], ◌∷◌, ◌++◌, refl, sym, ap, ◌∙◌, Goes-blank, pair_of, pair_val, proved_at, leaves, Fn, Val, SProp, emp, never, id⊢, ftrue, Env, WpFn, fact, fact_i, tables, ‵, raw, ◌⊛◌, prop, ◌$◌, ◌∵◌, !, qed, by, move, drop, use0, use2, split, rewrite, regoal, fsplit, fjoin, feq_i, whole, sub, agg, stop, fld, of_opd, no_more, and_then, returns, enter, alloc_all, pass_all, free_all, look_at, get, get_in, sets, env, owns, Ptr, RawPtr, block_ptr, ptr_val, in_a_block, types_at, nothing, Tuple, alive, Stays, stay_dropped, walk_of, slot_at, sized_val, sized_own, sized_told, sized_made, bytes_at}
 use Rattle.tlsf_arena.specs.contracts.memory.Memory as memory
 use Rattle.tlsf_arena.specs.contracts.memory.Memory.with_ptr.{ended, clauses}
 use Rattle.tlsf_arena.specs.contracts.memory.Memory.with_ptr.Key.{name as #self}
@@ -31,12 +10,10 @@ pub with_ptr_spec : {M : Type 1} → statement M
 with_ptr_spec 𝓤 𝓛 𝓜 𝓡 wired =
     let H = 𝓛.H in
     let En₀ = ended in
-    let c₀ = clauses 𝓛 𝓜.mem 𝓡.returns in
+    let c = clauses 𝓛 𝓜.mem 𝓡.returns in
     let fn : Fn = compiled.function in
     let stays : Stays En₀.signature.params En₀.kept = (stay_dropped (slot_at 0 En₀.signature.params) En₀.kept.0, tt) in
-    let c = c₀ in
-    let C = (tables 𝓤 H 𝓜 𝓡 𝓡.env).C in
-    let Λ = (tables 𝓤 H 𝓜 𝓡 𝓡.env).Λ in
+    let 𝓣 = tables 𝓤 H 𝓜 𝓡 𝓡.env in
     proved_at 𝓛 En₀ stays c 𝓜 𝓡 (Goes-blank 𝓛 0 (slot_at 0 En₀.signature.params) En₀.kept.0 (λ κs x f. tt), tt) #self fn (compiled.unfolded 𝓤 H 𝓜 𝓡 wired) (λ z are.
     let Post : Val → SProp 𝓤 = (walk_of 𝓛 En₀ stays c).post z in
     let a = z.0.3 in
@@ -48,8 +25,8 @@ with_ptr_spec 𝓤 𝓛 𝓜 𝓡 wired =
     let fits = told.1 in
     qed 𝓛 (Owned ∷ ‵ ftrue ∷ []) ∵ move ! (1 ∷ []) $ drop ! $ split ! $ move ! (1 ∷ []) $
     fsplit ! $ fsplit ! $ drop ! $ move ! (1 ∷ []) $ drop ! $ in_a_block ! x.ptr (λ q. bytes_at q n) (id⊢ 𝓤 (never 𝓤)) (λ b o at. let p : Ptr = block_ptr b o in
-    regoal ! (λ (us : List Val). prop (WpFn 𝓤 H C Λ fn us Post)) (λ i. (told.0 ∙ ap (λ (q : Ptr). sized_val q n ∷ []) at) i ++ []) refl $
-    enter ! C Λ fn (sized_val p n ∷ []) Post $
+    regoal ! (λ (us : List Val). prop (WpFn 𝓤 H 𝓣.C 𝓣.Λ fn us Post)) (λ i. (told.0 ∙ ap (λ (q : Ptr). sized_val q n ∷ []) at) i ++ []) refl $
+    enter ! 𝓣.C 𝓣.Λ fn (sized_val p n ∷ []) Post $
     alloc_all ! (λ l. pass_all ! refl ((tt, (tt, (record { fits = fits }, tt))), tt) $ let En : Env 𝓤 𝓛.H = env fn.locals l in
     sets ! (of_opd ! (get_in ! (fld ! refl (stop !)) (sub ! 0 refl (whole !)))) refl (tt, tt) $
     sets ! (of_opd ! (get_in ! (fld ! refl (stop !)) (sub ! 1 refl (whole !)))) refl (tt, record { fits = fits }) $

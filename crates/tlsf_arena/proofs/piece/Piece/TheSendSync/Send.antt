@@ -1,12 +1,5 @@
 -- A piece owns room alone, which names no thread.
-use Rattle.tlsf_arena.proofs.Common.{ℕ}
-use base.Shift.{Keyless}
-use denote.RawPtr.{Ptr, block_ptr, null_ptr}
-use denote.Struct.Struct.{exits_of}
-use denote.Struct.Owning.{shape, fields, to}
-use denote.Param.Send.{IsSend, AllSend, owning_send, struct_send, sendable}
-use Rattle.std_alloc.proofs.SendSync.{quiet}
-use Rattle.linked_list_allocator.specs.Ownership.{bytes_at}
+use Rattle.tlsf_arena.proofs.Walking.{ℕ, Keyless, Ptr, block_ptr, null_ptr, exits_of, shape, fields, to, IsSend, AllSend, owning_send, struct_send, sendable, quiet, bytes_at}
 use Rattle.tlsf_arena.specs.contracts.piece.Piece.{the_row, the_type}
 
 room : (p : Ptr) (n : ℕ) → Keyless (bytes_at p n)

@@ -1,28 +1,7 @@
 -- `into_inner` unwraps the arena. Assumes `Logic`.
-use Rattle.tlsf_arena.proofs.Common.{◌^◌, ◌<◌, List, [], ◌∷◌, ◌++◌, refl, Goes-blank, round, and_tt, proved_at, leaves}
-use mir.Syntax.{Fn, Args, a_number}
-use mir.MapTy.{inst_fn}
-use mir.Val.{Val}
-use base.Logic.{SProp}
-use base.Fml.{ftrue}
-use prog.Memory.{size}
-use prog.Wp.{Env, WpFn}
-use contract.BorrowLft.{◌⊑◌}
-use contract.Monad.{fact}
-use contract.Running.{tables}
-use types.Kit.{‵, raw, ◌⊛◌, prop, ◌$◌, ◌∵◌, !, qed, by, move, drop, split, regoal, fsplit, fjoin}
-use types.Part.{whole, sub}
-use types.Run.{stop, fld, of_opd, returns, enter}
-use types.ByLocal.{alloc_all, pass_all, free_all, look_at, get, get_in, sets, env}
-use denote.RattleType.{owns}
-use denote.Param.{number, layout, layouts}
-use denote.Signature.{types_at}
-use denote.Steps.{nothing}
-use denote.Triple.Entry.{alive}
-use denote.Triple.Walked.{Stays, stay_dropped, walk_of}
+use Rattle.tlsf_arena.proofs.Walking.{◌^◌, ◌<◌, List, [], ◌∷◌, ◌++◌, refl, Goes-blank, round, and_tt, proved_at, leaves, Fn, Args, a_number, inst_fn, Val, SProp, ftrue, size, Env, WpFn, ◌⊑◌, fact, tables, ‵, raw, ◌⊛◌, prop, ◌$◌, ◌∵◌, !, qed, by, move, drop, split, regoal, fsplit, fjoin, whole, sub, stop, fld, of_opd, returns, enter, alloc_all, pass_all, free_all, look_at, get, get_in, sets, env, owns, number, layout, layouts, types_at, nothing, alive, Stays, stay_dropped, walk_of, slot_at}
 use Rattle.tlsf_arena.specs.contracts.slot.Slot as slot
 use Rattle.tlsf_arena.proofs.Cell.{Level, Unit_bytes, Held_arena, contents_out}
-use Rattle.linked_list_allocator.proofs.Walks.{slot_at}
 use Rattle.tlsf_arena.specs.contracts.slot.Slot.into_inner.{ended, clauses}
 use Rattle.tlsf_arena.specs.contracts.slot.Slot.into_inner.Key.{name as #self}
 use Rattle.tlsf_arena.proofs.slot.Slot.into_inner.Statement.{statement}
@@ -32,13 +11,11 @@ pub into_inner_spec : {M : Type 1} → statement M
 into_inner_spec 𝓤 𝓛 𝓜 𝓡 wired S U fS fU =
     let H = 𝓛.H in
     let En₀ = ended (number S) (number U) in
-    let c₀ = clauses (number S) (number U) 𝓛 𝓜.mem 𝓡.returns in
+    let c = clauses (number S) (number U) 𝓛 𝓜.mem 𝓡.returns in
     let args : Args = layouts (a_number ∷ a_number ∷ []) (number S, (number U, tt)) in
     let fn : Fn = inst_fn args compiled.function in
     let stays : Stays En₀.signature.params En₀.kept = (stay_dropped (slot_at 0 En₀.signature.params) En₀.kept.0, tt) in
-    let c = c₀ in
-    let C = (tables 𝓤 H 𝓜 𝓡 𝓡.env).C in
-    let Λ = (tables 𝓤 H 𝓜 𝓡 𝓡.env).Λ in
+    let 𝓣 = tables 𝓤 H 𝓜 𝓡 𝓡.env in
     proved_at 𝓛 En₀ stays c 𝓜 𝓡 (Goes-blank 𝓛 2 (slot_at 0 En₀.signature.params) En₀.kept.0 (λ κs x f. tt), tt) (#self args) fn (compiled.unfolded 𝓤 H 𝓜 𝓡 wired (number S, (number U, tt))) (λ z are.
     let Post : Val → SProp 𝓤 = (walk_of 𝓛 En₀ stays c).post z in
     let a = z.0.3 in
@@ -49,8 +26,8 @@ into_inner_spec 𝓤 𝓛 𝓜 𝓡 wired S U fS fU =
     let ArenaFits : Type 0 = size (layout (Held_arena S U)) < 2 ^ 63 in
     qed 𝓛 ((raw (alive 𝓛 En₀.signature z.0.0 z.0.1) ⊛ ‵ (owns (types_at En₀.signature.params z.0.0) a vss)) ∷ (raw (fact 𝓤 InS) ⊛ raw (fact 𝓤 InU) ⊛ raw (fact 𝓤 SlotFits) ⊛ raw (fact 𝓤 ArenaFits) ⊛ ‵ ftrue) ∷ []) ∵ move ! (1 ∷ []) $ drop ! $ split ! $ move ! (1 ∷ []) $
     fsplit ! $ move ! (1 ∷ []) $ drop ! $ fsplit ! $ drop ! $ contents_out S U a.0 ! vss.0 (λ x v over typed told.
-    regoal ! (λ (us : List Val). prop (WpFn 𝓤 H C Λ fn us Post)) (λ i. told i ++ []) refl $
-    enter ! C Λ fn (round v ∷ []) Post $
+    regoal ! (λ (us : List Val). prop (WpFn 𝓤 H 𝓣.C 𝓣.Λ fn us Post)) (λ i. told i ++ []) refl $
+    enter ! 𝓣.C 𝓣.Λ fn (round v ∷ []) Post $
     alloc_all ! (λ l. pass_all ! refl ((and_tt _ ((typed).0), ((typed).1, tt)), tt) $ let En : Env 𝓤 𝓛.H = env fn.locals l in
     sets ! (of_opd ! (get_in ! (fld ! refl (stop !)) (sub ! 0 refl (whole !)))) refl typed $
     sets ! (of_opd ! (get ! refl)) refl typed $

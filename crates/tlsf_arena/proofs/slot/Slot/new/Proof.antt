@@ -1,32 +1,7 @@
 -- `new` wraps the arena. Assumes `Logic`.
-use Rattle.tlsf_arena.proofs.Common.{◌^◌, ◌<◌, ◌≡◌, List, [], ◌∷◌, ◌++◌, refl, lit<, Some, Goes-blank, one, round, and_tt, proved_at, leaves, Home}
-use mir.Syntax.{Fn, Args, a_number}
-use mir.MapTy.{inst_fn}
-use mir.Val.{Val, vcons, vnil}
-use base.Logic.{SProp, emp}
-use base.Fml.{ftrue}
-use prog.Memory.{size}
-use prog.Wp.{Env, WpFn}
-use contract.Monad.{fact, fact_i}
-use contract.BorrowLft.{◌⊑◌}
-use contract.Running.{tables}
-use types.Kit.{‵, raw, ◌⊛◌, prop, ◌$◌, ◌∵◌, !, qed, by, move, drop, use0, use1, split, rewrite, regoal, fsplit, fjoin, fpack}
-use types.Part.{agg}
-use types.Match.{live}
-use types.Run.{lit, of_opd, no_more, and_then, returns, enter}
-use types.ByLocal.{alloc_all, pass_all, free_all, look_at, get, sets, env}
-use denote.Exit.{rest, yes}
-use denote.RattleType.{owns}
-use denote.Param.{number, layout, layouts}
-use denote.Signature.{types_at}
-use denote.Steps.{nothing}
-use denote.Triple.Entry.{alive}
-use denote.Triple.Walked.{Stays, stay_dropped, walk_of}
-use Rattle.core.proofs.option.Made.{Some-of}
+use Rattle.tlsf_arena.proofs.Walking.{◌^◌, ◌<◌, ◌≡◌, List, [], ◌∷◌, ◌++◌, refl, lit<, Some, Goes-blank, one, round, and_tt, proved_at, leaves, Home, Fn, Args, a_number, inst_fn, Val, vcons, vnil, SProp, emp, ftrue, size, Env, WpFn, fact, fact_i, ◌⊑◌, tables, ‵, raw, ◌⊛◌, prop, ◌$◌, ◌∵◌, !, qed, by, move, drop, use0, use1, split, rewrite, regoal, fsplit, fjoin, fpack, agg, live, lit, of_opd, no_more, and_then, returns, enter, alloc_all, pass_all, free_all, look_at, get, sets, env, rest, yes, owns, number, layout, layouts, types_at, nothing, alive, Stays, stay_dropped, walk_of, Some-of, Typed, slot_at}
 use Rattle.tlsf_arena.specs.contracts.slot.Slot as slot
 use Rattle.tlsf_arena.proofs.Cell.{Level, Unit_bytes, Held_arena, Held, Fields, contents_in}
-use denote.Laws.{Typed}
-use Rattle.linked_list_allocator.proofs.Walks.{slot_at}
 use Rattle.tlsf_arena.proofs.boxed.BoxedArena.TheLaws as arena_laws
 use Rattle.tlsf_arena.specs.contracts.slot.Slot.new.{ended, clauses}
 use Rattle.tlsf_arena.specs.contracts.slot.Slot.new.Key.{name as #self}
@@ -37,13 +12,11 @@ pub new_spec : {M : Type 1} → statement M
 new_spec 𝓤 𝓛 𝓜 𝓡 wired S U fS fU =
     let H = 𝓛.H in
     let En₀ = ended (number S) (number U) in
-    let c₀ = clauses (number S) (number U) 𝓛 𝓜.mem 𝓡.returns in
+    let c = clauses (number S) (number U) 𝓛 𝓜.mem 𝓡.returns in
     let args : Args = layouts (a_number ∷ a_number ∷ []) (number S, (number U, tt)) in
     let fn : Fn = inst_fn args compiled.function in
     let stays : Stays En₀.signature.params En₀.kept = (stay_dropped (slot_at 0 En₀.signature.params) En₀.kept.0, tt) in
-    let c = c₀ in
-    let C = (tables 𝓤 H 𝓜 𝓡 𝓡.env).C in
-    let Λ = (tables 𝓤 H 𝓜 𝓡 𝓡.env).Λ in
+    let 𝓣 = tables 𝓤 H 𝓜 𝓡 𝓡.env in
     proved_at 𝓛 En₀ stays c 𝓜 𝓡 (Goes-blank 𝓛 2 (slot_at 0 En₀.signature.params) En₀.kept.0 (λ κs x f. tt), tt) (#self args) fn (compiled.unfolded 𝓤 H 𝓜 𝓡 wired (number S, (number U, tt))) (λ z are.
     let Post : Val → SProp 𝓤 = (walk_of 𝓛 En₀ stays c).post z in
     let a = z.0.3 in
@@ -60,8 +33,8 @@ new_spec 𝓤 𝓛 𝓜 𝓡 wired S U fS fU =
     let v : Val = live 1 (vcons w vnil) in
     qed 𝓛 ((raw (alive 𝓛 En₀.signature z.0.0 z.0.1) ⊛ ‵ (owns (types_at En₀.signature.params z.0.0) a vss)) ∷ (raw (fact 𝓤 InS) ⊛ raw (fact 𝓤 InU) ⊛ raw (fact 𝓤 ArenaFits) ⊛ raw (fact 𝓤 SlotFits) ⊛ ‵ ftrue) ∷ []) ∵ move ! (1 ∷ []) $ drop ! $ split ! $ move ! (1 ∷ []) $
     fsplit ! $ move ! (1 ∷ []) $ drop ! $ rewrite ! 0 (λ (us : List Val). ‵ ((Held_arena S U).own_val x us)) got.1 refl $
-    regoal ! (λ (us : List Val). prop (WpFn 𝓤 H C Λ fn us Post)) (λ i. got.1 i ++ []) refl $
-    enter ! C Λ fn (w ∷ []) Post $
+    regoal ! (λ (us : List Val). prop (WpFn 𝓤 H 𝓣.C 𝓣.Λ fn us Post)) (λ i. got.1 i ++ []) refl $
+    enter ! 𝓣.C 𝓣.Λ fn (w ∷ []) Post $
     alloc_all ! (λ l. pass_all ! refl (good, tt) $ let En : Env 𝓤 𝓛.H = env fn.locals l in
     sets ! (of_opd ! (get ! refl)) refl good $
     sets ! (agg ! (and_then ! (lit ! tt) (and_then ! (get ! refl) (no_more !)))) refl (and_tt _ ((good).0), (record { fits = lit< tt }, ((good).1, tt))) $

@@ -1,26 +1,5 @@
 -- `lend` cuts the bytes of some units out of the free ones. Assumes `Logic`.
-use Rattle.tlsf_arena.proofs.Common.{◌≡◌, ℕ, suc, ◌+◌, ◌-◌, ◌*◌, ◌/◌, ◌%◌, ◌^◌, ◌<◌, ◌≤◌, Bool, true, false, length, replicate, List, [], ◌∷◌, ◌++◌, refl, sym, ap, ◌∙◌, arith, w64, length-append, length-replicate, Goes-blank, after, pair_of, pair_val, proved_at, leaves, IsRun, marked, free_rooms}
-use mir.Syntax.{Fn}
-use mir.Val.{Val, vint, vptr}
-use base.Logic.{SProp, emp}
-use prog.Wp.{Env, WpFn}
-use contract.Monad.{fact, fact_i}
-use contract.Running.{tables}
-use types.Kit.{‵, raw, ◌⊛◌, prop, at_ret, ◌$◌, ◌∵◌, !, qed, by, move, drop, use0, use1, use2, split, rewrite, regoal, fsplit, fjoin}
-use types.Part.{whole, sub, agg}
-use types.Run.{stop, fld, lit, bin, of_opd, no_more, and_then, first, blocks, exec, returns, enter}
-use types.ByLocal.{alloc_all, pass_all, free_all, look_at, get, get_in, sets, sets_last, is, env}
-use denote.RattleType.{owns}
-use denote.RawPtr.{Ptr, block_ptr}
-use denote.Signature.{types_at}
-use denote.Steps.{nothing, heard}
-use denote.Struct.Tuple.{Tuple}
-use denote.Triple.Entry.{alive}
-use denote.Triple.Walked.{Stays, stay_dropped, walk_of, Goes-dropped}
-use Rattle.linked_list_allocator.proofs.Walks.{slot_at}
-use Rattle.linked_list_allocator.proofs.Values.{list_val, list_own, list_told, list_made, sized_val, sized_own, sized_made}
-use Rattle.linked_list_allocator.specs.Region.{Region}
-use Rattle.linked_list_allocator.specs.Ownership.{bytes_at}
+use Rattle.tlsf_arena.proofs.Walking.{◌≡◌, ℕ, suc, ◌+◌, ◌-◌, ◌*◌, ◌/◌, ◌%◌, ◌^◌, ◌<◌, ◌≤◌, Bool, true, false, length, replicate, List, [], ◌∷◌, ◌++◌, refl, sym, ap, ◌∙◌, arith, w64, length-append, length-replicate, Goes-blank, after, pair_of, pair_val, proved_at, leaves, IsRun, marked, free_rooms, Fn, Val, vint, vptr, SProp, emp, Env, WpFn, fact, fact_i, tables, ‵, raw, ◌⊛◌, prop, at_ret, ◌$◌, ◌∵◌, !, qed, by, move, drop, use0, use1, use2, split, rewrite, regoal, fsplit, fjoin, whole, sub, agg, stop, fld, lit, bin, of_opd, no_more, and_then, first, blocks, exec, returns, enter, alloc_all, pass_all, free_all, look_at, get, get_in, sets, sets_last, is, env, owns, Ptr, block_ptr, types_at, nothing, heard, Tuple, alive, Stays, stay_dropped, walk_of, Goes-dropped, slot_at, list_val, list_own, list_told, list_made, sized_val, sized_own, sized_made, Region, bytes_at}
 use Rattle.tlsf_arena.proofs.Rooms.{marked_run, same_length, lends}
 use Rattle.tlsf_arena.specs.contracts.piece.Piece as piece
 use Rattle.tlsf_arena.specs.contracts.space.Space as space
@@ -33,12 +12,10 @@ pub lend_spec : {M : Type 1} → statement M
 lend_spec 𝓤 𝓛 𝓜 𝓡 wired =
     let H = 𝓛.H in
     let En₀ = ended in
-    let c₀ = clauses 𝓛 𝓜.mem 𝓡.returns in
+    let c = clauses 𝓛 𝓜.mem 𝓡.returns in
     let fn : Fn = compiled.function in
     let stays : Stays En₀.signature.params En₀.kept = (stay_dropped (slot_at 0 En₀.signature.params) En₀.kept.0, (stay_dropped (slot_at 1 En₀.signature.params) En₀.kept.1.0, (stay_dropped (slot_at 2 En₀.signature.params) En₀.kept.1.1.0, tt))) in
-    let c = c₀ in
-    let C = (tables 𝓤 H 𝓜 𝓡 𝓡.env).C in
-    let Λ = (tables 𝓤 H 𝓜 𝓡 𝓡.env).Λ in
+    let 𝓣 = tables 𝓤 H 𝓜 𝓡 𝓡.env in
     proved_at 𝓛 En₀ stays c 𝓜 𝓡 (Goes-blank 𝓛 0 (slot_at 0 En₀.signature.params) En₀.kept.0 (λ κs x f. tt), (Goes-dropped 𝓛 0 (slot_at 1 En₀.signature.params) En₀.kept.1.0 (λ κs x f. refl), (Goes-dropped 𝓛 0 (slot_at 2 En₀.signature.params) En₀.kept.1.1.0 (λ κs x f. refl), tt))) #self fn (compiled.unfolded 𝓤 H 𝓜 𝓡 wired) (λ z are.
     let Post : Val → SProp 𝓤 = (walk_of 𝓛 En₀ stays c).post z in
     let a = z.0.3 in
@@ -69,15 +46,15 @@ lend_spec 𝓤 𝓛 𝓜 𝓡 wired =
     use1 𝓛 (‵ (free_rooms b r.start left) ⊛ ‵ (bytes_at (block_ptr b (r.start + 16 * length pre)) (16 * suc k))) (lends 𝓛 b r.start pre post k) $ split ! $
     rewrite ! 1 (λ (u : ℕ × ℕ). ‵ (bytes_at (block_ptr b u.0) u.1)) (λ i. (here i, bytes i)) refl $
     let ptr : Ptr = block_ptr b at in
-    regoal ! (λ (us : List Val). prop (WpFn 𝓤 H C Λ fn us Post)) (λ i. told i ++ (are.1.0.0 i ++ (are.1.1.0.0 i ++ []))) refl $
-    enter ! C Λ fn (list_val start ∷ vint w64 i₀ ∷ vint w64 n ∷ []) Post $
+    regoal ! (λ (us : List Val). prop (WpFn 𝓤 H 𝓣.C 𝓣.Λ fn us Post)) (λ i. told i ++ (are.1.0.0 i ++ (are.1.1.0.0 i ++ []))) refl $
+    enter ! 𝓣.C 𝓣.Λ fn (list_val start ∷ vint w64 i₀ ∷ vint w64 n ∷ []) Post $
     alloc_all ! (λ l. pass_all ! refl ((tt, (tt, tt)), ((tt, record { fits = are.1.0.1 }), ((tt, record { fits = are.1.1.0.1 }), tt))) $ let En : Env 𝓤 𝓛.H = env fn.locals l in
     sets ! (of_opd ! (get_in ! (fld ! refl (stop !)) (sub ! 0 refl (whole !)))) refl (tt, tt) $
     first ! $ blocks ! $
     let short : i₀ * 16 < 2 ^ 64 = omega (arith, ends, x.placed.1) in
     sets ! (bin ! (get ! refl) (lit ! tt) (record { fits = short })) refl (tt, record { fits = short }) $
     sets_last ! (is ! (bin ! (get ! refl) (get ! refl) tt) (ap (vptr b) (omega arith))) refl (tt, tt) $
-    exec ! C Λ En (after 2 fn.body) (at_ret En Post) $
+    exec ! 𝓣.C 𝓣.Λ En (after 2 fn.body) (at_ret En Post) $
     sets ! (of_opd ! (get ! refl)) refl (tt, tt) $
     sets ! (agg ! (and_then ! (get ! refl) (no_more !))) refl (tt, (tt, tt)) $
     sets ! (agg ! (and_then ! (get ! refl) (and_then ! (get ! refl) (no_more !)))) refl (tt, (tt, (record { fits = are.1.1.0.1 }, tt))) $

@@ -1,40 +1,11 @@
 -- `lend` lends the heap that a full handle owns, and the handle follows it.
-use mathlib.Core.Path.{◌≡◌, refl, sym, subst}
-use mathlib.Core.Bool.{Bool, true}
+use Rattle.tlsf_c.proofs.Walking.{token, D, B, R, τ, word, handle, box_out, box_in, LevelHeap, ◌≡◌, refl, sym, subst, Bool, true, List, [], ◌∷◌, ◌++◌, Ura, Fn, named, bare, Val, vptr, SProp, ent, sep, id⊢, Lft, GName, Share, Fml, ftrue, fsep, flft, fobs, fbor, Memory, Routine, Env, Calls, Loops, WpFn, Tables, Logic, sem, Fun, tables, tables_of, WpFn-mono, Item, ⋆, ‵, raw, ◌⊛◌, some, later, await, pick, at_ret, ◌$◌, ◌∵◌, !, qed, by, move, keep, use1, split, join, group, rewrite, fsplit, fsplit3, fjoin, fjoin3, fpack, feq_l, suffices, frame, done, whole, sub, look_in, stop, fld, load, of_opd, addr, first, blocks, exec, returns, enter, alloc_all, pass_all, free_all, look_at, get, through, sets, sets_last, env, no, RattleType, owns, cell_at, part_at, part_of, mem, block_ptr, plain, mut_ref_to, nothing, opens, triple_of, entered, says, needs, Stays, stay_dropped, walk_of, ends_at, Goes-spent_ref, walk_Meets}
 use Prim.Native.Nat.{ℕ}
-use mathlib.Core.List.{List, [], ◌∷◌, ◌++◌}
-use seplogic.Ra.Ura.{Ura}
 use base.Fraction.{full_share}
-use mir.Syntax.{Fn, named}
-use mir.Raw.{raw as bare}
-use mir.Val.{Val, vptr}
-use base.Logic.{SProp, ent, sep, id⊢}
-use base.Fml.{Lft, GName, Share, Fml, ftrue, fsep, flft, fobs, fbor}
-use prog.Memory.{Memory}
-use prog.Routine.{Routine}
-use prog.Wp.{Env, Calls, Loops, WpFn, Tables}
-use types.Logic.{Logic, sem}
-use contract.Monad.{Fun}
-use contract.Running.{tables, tables_of}
-use sound.WpLaws.{WpFn-mono}
-use types.Kit.{Item, ⋆, ‵, raw, ◌⊛◌, some, later, await, pick, at_ret, ◌$◌, ◌∵◌, !, qed, by, move, keep, use1, split, join, group, rewrite, fsplit, fsplit3, fjoin, fjoin3, fpack, feq_l, suffices, frame, done}
-use types.Part.{whole, sub, look_in}
-use types.Run.{stop, fld, load, of_opd, addr, first, blocks, exec, returns, enter}
-use types.ByLocal.{alloc_all, pass_all, free_all, look_at, get, through, sets, sets_last, env}
 use types.SemTy.{Body as Borrowed}
-use denote.Exit.{no}
-use denote.RattleType.{RattleType, owns}
-use denote.Memory.{cell_at, part_at, part_of, mem}
-use denote.RawPtr.{block_ptr}
 use denote.Ref.{MutBor, MutRef}
-use denote.Signature.{plain, mut_ref_to}
-use denote.Steps.{nothing, opens}
 use denote.Follow.{follows, Part, lends_Part}
 use denote.Triple.Entry.{on_entry}
-use denote.Triple.Spec.{triple_of}
-use denote.Triple.Table.{entered}
-use denote.Triple.Walked.{says, needs, Stays, stay_dropped, walk_of, ends_at, Goes-spent_ref, walk_Meets}
-use Rattle.tlsf_c.proofs.Common.{token, D, B, R, τ, word, handle, box_out, box_in, LevelHeap}
 use Rattle.std_alloc.proofs.VecSteps.Shapes.{after}
 use Rattle.tlsf_c.specs.Lending.{holding}
 use Rattle.tlsf_c.specs.declared.boxed_heap.BoxedHeap.{BoxedHeap}

@@ -1,14 +1,7 @@
 -- An arena may go to another thread: what it owns names no thread.
-use mathlib.Core.Bool.{Bool, true, false}
+use Rattle.tlsf_c.proofs.Walking.{Global, quiet, lies, LevelOffsets, Bool, true, false, Keyless, lone, Ptr, exits_of, shape, fields, to, IsSend, AllSend, owning_send, struct_send, sendable}
 use mir.Raw.{raw}
-use base.Shift.{Keyless}
-use denote.Memory.{lone}
-use denote.RawPtr.{Ptr}
-use denote.Struct.Struct.{exits_of}
-use denote.Struct.Owning.{shape, fields, to}
-use denote.Param.Send.{IsSend, AllSend, owning_send, struct_send, sendable}
 use Rattle.std.proofs.Crossing as heap
-use Rattle.tlsf_c.proofs.Common.{Global, quiet, lies, LevelOffsets}
 use Rattle.std_heap.proofs.Global.TheSendSync as handle
 use Rattle.tlsf_c.specs.contracts.any_offsets.AnyOffsets as Home
 use Rattle.tlsf_c.proofs.any_offsets.AnyOffsets.TheSendSync.{the_send as home}

@@ -1,14 +1,7 @@
 -- Pools may go to another thread: what it owns names no thread.
-use mathlib.Core.Bool.{Bool, true, false}
+use Rattle.tlsf_c.proofs.Walking.{Global, quiet, lies, LevelPools, Bool, true, false, Keyless, lone, Ptr, exits_of, shape, fields, to, IsSend, AllSend, owning_send, struct_send, sendable}
 use mir.Raw.{raw}
-use base.Shift.{Keyless}
-use denote.Memory.{lone}
-use denote.RawPtr.{Ptr}
-use denote.Struct.Struct.{exits_of}
-use denote.Struct.Owning.{shape, fields, to}
-use denote.Param.Send.{IsSend, AllSend, owning_send, struct_send, sendable}
 use Rattle.std.proofs.Crossing as heap
-use Rattle.tlsf_c.proofs.Common.{Global, quiet, lies, LevelPools}
 use Rattle.std_heap.proofs.Global.TheSendSync as handle
 use Rattle.tlsf_c.specs.contracts.any_pools.AnyPools as Home
 use Rattle.tlsf_c.proofs.any_pools.AnyPools.TheSendSync.{the_send as home}

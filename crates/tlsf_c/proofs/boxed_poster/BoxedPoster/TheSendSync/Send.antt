@@ -1,15 +1,8 @@
 -- A poster's end may go to another thread: what it owns names no thread.
 use mir.Raw.{raw}
-use base.Shift.{Keyless}
-use denote.Memory.{lone}
-use denote.RawPtr.{Ptr}
-use denote.Struct.Struct.{exits_of}
-use denote.Struct.Owning.{shape, fields, to}
-use denote.Param.Send.{IsSend, AllSend, owning_send, struct_send, sendable}
+use Rattle.tlsf_c.proofs.Walking.{Global, Option, Some, None, quiet, lies, Keyless, lone, Ptr, exits_of, shape, fields, to, IsSend, AllSend, owning_send, struct_send, sendable, PosterEnd}
 use Rattle.std.proofs.Crossing as heap
-use Rattle.tlsf_c.proofs.Common.{Global, Option, Some, None, quiet, lies}
 use Rattle.std_heap.proofs.Global.TheSendSync as handle
-use Rattle.tlsf_post.specs.declared.poster_end.PosterEnd.{PosterEnd}
 use Rattle.tlsf_post.specs.contracts.poster_end.PosterEnd as Home
 use Rattle.tlsf_post.proofs.poster_end.PosterEnd.TheSendSync.{the_send as home}
 use Rattle.tlsf_c.specs.PosterOwned.{poster_owned}

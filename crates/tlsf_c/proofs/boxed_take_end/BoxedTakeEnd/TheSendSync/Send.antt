@@ -1,13 +1,7 @@
 -- A take end may go to another thread: what it owns names no thread.
 use mir.Raw.{raw}
-use base.Shift.{Keyless}
-use denote.Memory.{lone}
-use denote.RawPtr.{Ptr}
-use denote.Struct.Struct.{exits_of}
-use denote.Struct.Owning.{shape, fields, to}
-use denote.Param.Send.{IsSend, AllSend, owning_send, struct_send, sendable}
+use Rattle.tlsf_c.proofs.Walking.{Global, Option, Some, None, quiet, lies, TakeEnd, Keyless, lone, Ptr, exits_of, shape, fields, to, IsSend, AllSend, owning_send, struct_send, sendable}
 use Rattle.std.proofs.Crossing as heap
-use Rattle.tlsf_c.proofs.Common.{Global, Option, Some, None, quiet, lies, TakeEnd}
 use Rattle.std_heap.proofs.Global.TheSendSync as handle
 use Rattle.tlsf_post.specs.contracts.take_end.TakeEnd as Home
 use Rattle.tlsf_post.proofs.take_end.TakeEnd.TheSendSync.{the_send as home}

@@ -34,5 +34,5 @@ returns-clause-leaves g c k o =
     let seen = c.in-Ok.ensures in
     let e = c.resize_or_move-answer.ensures in
     let was = subst (λ (s : HeapState). IsOthersWord s.blocks name.at k) (sym seen.same.heap) o in
-    let left = subst (λ (s : HeapState). IsLiveWord s.blocks k) (sym e.heap) (moved_left g.row.SLI c.words_of.new.self.heap name k c.args.len e.keeps.was_lawful was) in
+    let left = subst (λ (s : HeapState). IsLiveWord s.blocks k) (sym e.heap) (moved_left g.row.SLI c.words_of.new.self.heap name k c.args.len was) in
     c.moved.ensures.leaves k left ∙ e.leaves k was ∙ seen.leaves k (any_word c.args.heap.now.heap.blocks name.at k o)

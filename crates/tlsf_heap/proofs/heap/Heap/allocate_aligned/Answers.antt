@@ -3,8 +3,7 @@ use Rattle.tlsf_class.proofs.TwoLevels.{most_words_any}
 use Rattle.tlsf_heap.proofs.lemmas.calls.AllocateAligned.{IsAligned, has_live, has_room, none_fits, aligned_past, first_moves, first_moved, gives_name, gives_payload, gives_others}
 use Rattle.tlsf_heap.proofs.lemmas.blocks.Sites.{fits_nothing}
 use Rattle.tlsf_heap.proofs.lemmas.calls.Kept.{keeps_same}
-use Rattle.tlsf_heap.proofs.lemmas.calls.Leaves.{given_word}
-use Rattle.tlsf_heap.proofs.lemmas.calls.LeavesAligned.{moved_word}
+use Rattle.tlsf_heap.proofs.lemmas.calls.Leaves.{moved_word, given_word}
 use Rattle.tlsf_words.proofs.Touching.{no_groups, more_groups, groups_then}
 use Rattle.tlsf_heap.proofs.heap.Heap.allocate_aligned.Given.{Over}
 use Rattle.tlsf_heap.proofs.heap.Heap.allocate_aligned.Goals as goal
@@ -122,8 +121,8 @@ returns-in_err-name-clause-leaves g c k live =
     let h = c.args.self.now.heap in
     let first = c.in-Ok.first in
     let e = c.allocate_words.ensures in
-    let given = given_word h (suc live.1) k (live.0, live.1, live.2, live.3, λ e. omega (arith, e)) g.row.SLI _ 0 e.keeps.was_lawful in
-    let left = subst (λ (s : HeapState). IsOthersWord s.blocks first.at k) (sym e.allocates.heap) (given.1 first (sym e.allocates.answer_is ∙ c.in-Ok.is)) in
+    let given = given_word h (suc live.1) k (live.0, live.1, live.2, live.3, λ e. omega (arith, e)) g.row.SLI _ 0 e.keeps.was_lawful first (sym e.allocates.answer_is ∙ c.in-Ok.is) in
+    let left = subst (λ (s : HeapState). IsOthersWord s.blocks first.at k) (sym e.allocates.heap) given in
     c.move_on.ensures.leaves k left ∙ e.allocates.leaves k live
 
 pub returns-clause-leaves : goal.returns-clause-leaves
@@ -131,8 +130,8 @@ returns-clause-leaves g c k live =
     let h = c.args.self.now.heap in
     let first = c.in-Ok.first in
     let e = c.allocate_words.ensures in
-    let given = given_word h (suc live.1) k (live.0, live.1, live.2, live.3, λ e. omega (arith, e)) g.row.SLI _ 0 e.keeps.was_lawful in
-    let left = subst (λ (s : HeapState). IsOthersWord s.blocks first.at k) (sym e.allocates.heap) (given.1 first (sym e.allocates.answer_is ∙ c.in-Ok.is)) in
+    let given = given_word h (suc live.1) k (live.0, live.1, live.2, live.3, λ e. omega (arith, e)) g.row.SLI _ 0 e.keeps.was_lawful first (sym e.allocates.answer_is ∙ c.in-Ok.is) in
+    let left = subst (λ (s : HeapState). IsOthersWord s.blocks first.at k) (sym e.allocates.heap) given in
     let after = subst (λ (s : HeapState). IsLiveWord s.blocks k) (sym c.move_on.ensures.heap) (moved_word c.allocate_words.new.self.heap first c.gap-gap.result c.want-words.result k left) in
     c.set_length.ensures.leaves k after ∙ c.move_on.ensures.leaves k left ∙ e.allocates.leaves k live
 

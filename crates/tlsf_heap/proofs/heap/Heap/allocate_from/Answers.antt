@@ -1,7 +1,7 @@
-use Rattle.tlsf_heap.proofs.Common.{refl, arith, ap, sym, subst, ◌∙◌, HeapState, lying, with_payload, IsLiveWord}
+use Rattle.tlsf_heap.proofs.Common.{refl, arith, ap, sym, subst, ◌∙◌, HeapState, lying, with_payload, IsLiveWord, GiveFrom}
 use Rattle.tlsf_heap.proofs.lemmas.calls.AllocateAligned.{Gives, has_live, has_room, from_has, from_gives, gives_name, gives_payload, gives_others}
 use Rattle.tlsf_heap.proofs.lemmas.calls.AllocateFrom.{free_not_wild}
-use Rattle.tlsf_heap.proofs.lemmas.calls.LeavesAligned.{given_from_live}
+use Rattle.tlsf_heap.proofs.lemmas.calls.Leaves.{live_step}
 use Rattle.tlsf_words.proofs.Touching.{more_groups, groups_then}
 use Rattle.tlsf_heap.proofs.heap.Heap.allocate_from.Given.{Over}
 use Rattle.tlsf_heap.proofs.heap.Heap.allocate_from.Goals as goal
@@ -58,7 +58,7 @@ returns-in-Err-clause-leaves g c k live = c.words_from.ensures.leaves k live
 
 pub returns-clause-leaves : goal.returns-clause-leaves
 returns-clause-leaves g c k live =
-    c.set_length.ensures.leaves k (subst (λ (s : HeapState). IsLiveWord s.blocks k) (sym c.words_from.ensures.heap) (given_from_live c.args.self.now.heap k live c.args.at c.want.result))
+    c.set_length.ensures.leaves k (subst (λ (s : HeapState). IsLiveWord s.blocks k) (sym c.words_from.ensures.heap) (live_step c.args.self.now.heap k live 0 (GiveFrom c.args.at c.want.result) tt))
     ∙ c.words_from.ensures.leaves k live
 
 -- ---- groups of eight words

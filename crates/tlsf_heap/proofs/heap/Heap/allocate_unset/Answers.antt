@@ -1,8 +1,8 @@
-use Rattle.tlsf_heap.proofs.Common.{◌≡◌, ℕ, sym, ap, ◌∙◌, subst, Result, Ok, arith, HeapState, want, allocated_words, IsLive, IsLawful, lying, with_payload, Name, Refusal, IsLiveWord}
+use Rattle.tlsf_heap.proofs.Common.{◌≡◌, ℕ, sym, ap, ◌∙◌, subst, Result, Ok, arith, HeapState, want, allocated_words, IsLive, IsLawful, lying, with_payload, Name, Refusal, IsLiveWord, Give}
 use Rattle.tlsf_heap.proofs.lemmas.laws.Live.{given_words}
 use Rattle.tlsf_heap.proofs.lemmas.calls.OtherBytes.{allocated_answers}
 use Rattle.tlsf_heap.proofs.lemmas.calls.Unset.{given_answer, allocated_unset}
-use Rattle.tlsf_heap.proofs.lemmas.calls.Leaves.{given_live}
+use Rattle.tlsf_heap.proofs.lemmas.calls.Leaves.{live_step}
 use Rattle.tlsf_words.proofs.Touching.{more_groups, groups_then}
 use Rattle.tlsf_heap.proofs.heap.Heap.allocate_unset.Goals as goal
 
@@ -54,7 +54,7 @@ returns-in-Err-clause-leaves g c k live = c.allocate_words.ensures.allocates.lea
 pub returns-clause-leaves : goal.returns-clause-leaves
 returns-clause-leaves g c k live =
     let h = c.args.self.now.heap in
-    c.set_length.ensures.leaves k (subst (λ (s : HeapState). IsLiveWord s.blocks k) (sym c.allocate_words.ensures.allocates.heap) (given_live h k live g.row.SLI c.want.result 0 c.in-Ok.ensures.keeps.was_lawful))
+    c.set_length.ensures.leaves k (subst (λ (s : HeapState). IsLiveWord s.blocks k) (sym c.allocate_words.ensures.allocates.heap) (live_step h k live g.row.SLI (Give c.want.result 0) tt))
     ∙ c.allocate_words.ensures.allocates.leaves k live
 
 -- ---- groups of eight words

@@ -1,7 +1,7 @@
-use Rattle.tlsf_heap.proofs.Common.{◌≡◌, Result, Ok, Err, take, length, ap, ◌∙◌, sym, subst, arith, HeapState, released, written, payload_of, Refusal, IsOthersWord, IsLiveWord}
+use Rattle.tlsf_heap.proofs.Common.{◌≡◌, Result, Ok, Err, take, length, ap, ◌∙◌, sym, subst, arith, HeapState, released, written, payload_of, Refusal, IsOthersWord, IsLiveWord, Put}
 use Rattle.tlsf_heap.proofs.lemmas.calls.ResizeOrMove.{release_done}
 use Rattle.tlsf_heap.proofs.lemmas.words.Footprint.{any_word}
-use Rattle.tlsf_heap.proofs.lemmas.calls.Leaves.{written_word}
+use Rattle.tlsf_heap.proofs.lemmas.calls.Leaves.{word_step}
 use Rattle.tlsf_words.proofs.Touching.{more_groups, groups_then}
 use Rattle.tlsf_heap.proofs.heap.Heap.hand_over.Goals as goal
 
@@ -25,7 +25,7 @@ returns-in_err-release-clause-leaves g c k o p =
     let once = c.length.ensures.same.heap in
     let same = c.length-2.ensures.same.heap ∙ once in
     let was = subst (λ (s : HeapState). IsOthersWord s.blocks name.at k) (sym same) o in
-    let left = subst (λ (s : HeapState). IsOthersWord s.blocks name.at k) (sym c.copy.ensures.heap) (written_word c.length-2.new.self.heap name.at k was new 0 _) in
+    let left = subst (λ (s : HeapState). IsOthersWord s.blocks name.at k) (sym c.copy.ensures.heap) (word_step c.length-2.new.self.heap name.at k was 0 (Put new 0 _) tt) in
     c.in_err-release.ensures.releases.leaves k left
     ∙ c.copy.ensures.leaves k was (subst (λ (s : HeapState). IsOthersWord s.blocks new.at k) (sym same) p)
     ∙ c.length-2.ensures.leaves k (subst (λ (s : HeapState). IsLiveWord s.blocks k) (sym once) (any_word h.blocks name.at k o))
@@ -39,7 +39,7 @@ returns-clause-leaves g c k o p =
     let once = c.length.ensures.same.heap in
     let same = c.length-2.ensures.same.heap ∙ once in
     let was = subst (λ (s : HeapState). IsOthersWord s.blocks name.at k) (sym same) o in
-    let left = subst (λ (s : HeapState). IsOthersWord s.blocks name.at k) (sym c.copy.ensures.heap) (written_word c.length-2.new.self.heap name.at k was new 0 _) in
+    let left = subst (λ (s : HeapState). IsOthersWord s.blocks name.at k) (sym c.copy.ensures.heap) (word_step c.length-2.new.self.heap name.at k was 0 (Put new 0 _) tt) in
     c.in_ok-release.ensures.releases.leaves k left
     ∙ c.copy.ensures.leaves k was (subst (λ (s : HeapState). IsOthersWord s.blocks new.at k) (sym same) p)
     ∙ c.length-2.ensures.leaves k (subst (λ (s : HeapState). IsLiveWord s.blocks k) (sym once) (any_word h.blocks name.at k o))

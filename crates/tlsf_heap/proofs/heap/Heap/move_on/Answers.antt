@@ -1,8 +1,7 @@
-use Rattle.tlsf_heap.proofs.Common.{◌+◌, arith, sym, ◌∙◌, subst, false≢true, HeapState, IsOthersWord}
+use Rattle.tlsf_heap.proofs.Common.{◌+◌, arith, sym, ◌∙◌, subst, false≢true, HeapState, IsOthersWord, GiveFrom, Fit}
 use Rattle.tlsf_heap.proofs.lemmas.calls.AllocateAligned.{room_has, has_within, shrink_done, from_done_there, moved_done}
 use Rattle.tlsf_heap.proofs.lemmas.words.Footprint.{any_word}
-use Rattle.tlsf_heap.proofs.lemmas.calls.Leaves.{resized_word}
-use Rattle.tlsf_heap.proofs.lemmas.calls.LeavesAligned.{from_word}
+use Rattle.tlsf_heap.proofs.lemmas.calls.Leaves.{word_step}
 use Rattle.tlsf_words.proofs.Touching.{more_groups, groups_then}
 use Rattle.tlsf_heap.proofs.heap.Heap.move_on.Given.{Over}
 use Rattle.tlsf_heap.proofs.heap.Heap.move_on.Goals as goal
@@ -72,7 +71,7 @@ returns-in_err-moved-clause-leaves g c k o =
     let name = c.args.name in
     let cut = c.resize_words-2.ensures in
     let small = c.resize_words-2.new.self.heap in
-    let left = subst (λ (s : HeapState). IsOthersWord s.blocks name.at k) (sym cut.resizes.heap) (resized_word h name.at k o name c.args.gap 0 o.4) in
+    let left = subst (λ (s : HeapState). IsOthersWord s.blocks name.at k) (sym cut.resizes.heap) (word_step h name.at k o 0 (Fit name c.args.gap 0) o.4) in
     c.words_from.ensures.leaves k (any_word small.blocks name.at k left) ∙ cut.resizes.leaves k o
 
 pub returns-in_err-release-clause-leaves : goal.returns-in_err-release-clause-leaves
@@ -81,8 +80,8 @@ returns-in_err-release-clause-leaves g c k o =
     let name = c.args.name in
     let cut = c.resize_words-2.ensures in
     let small = c.resize_words-2.new.self.heap in
-    let left = subst (λ (s : HeapState). IsOthersWord s.blocks name.at k) (sym cut.resizes.heap) (resized_word h name.at k o name c.args.gap 0 o.4) in
-    let given = subst (λ (s : HeapState). IsOthersWord s.blocks name.at k) (sym c.words_from.ensures.heap) (from_word small name.at k left (name.at + c.args.gap) c.args.words) in
+    let left = subst (λ (s : HeapState). IsOthersWord s.blocks name.at k) (sym cut.resizes.heap) (word_step h name.at k o 0 (Fit name c.args.gap 0) o.4) in
+    let given = subst (λ (s : HeapState). IsOthersWord s.blocks name.at k) (sym c.words_from.ensures.heap) (word_step small name.at k left 0 (GiveFrom (name.at + c.args.gap) c.args.words) tt) in
     c.release.ensures.releases.leaves k given ∙ c.words_from.ensures.leaves k (any_word small.blocks name.at k left) ∙ cut.resizes.leaves k o
 
 pub returns-clause-leaves : goal.returns-clause-leaves
@@ -91,8 +90,8 @@ returns-clause-leaves g c k o =
     let name = c.args.name in
     let cut = c.resize_words-2.ensures in
     let small = c.resize_words-2.new.self.heap in
-    let left = subst (λ (s : HeapState). IsOthersWord s.blocks name.at k) (sym cut.resizes.heap) (resized_word h name.at k o name c.args.gap 0 o.4) in
-    let given = subst (λ (s : HeapState). IsOthersWord s.blocks name.at k) (sym c.words_from.ensures.heap) (from_word small name.at k left (name.at + c.args.gap) c.args.words) in
+    let left = subst (λ (s : HeapState). IsOthersWord s.blocks name.at k) (sym cut.resizes.heap) (word_step h name.at k o 0 (Fit name c.args.gap 0) o.4) in
+    let given = subst (λ (s : HeapState). IsOthersWord s.blocks name.at k) (sym c.words_from.ensures.heap) (word_step small name.at k left 0 (GiveFrom (name.at + c.args.gap) c.args.words) tt) in
     c.release.ensures.releases.leaves k given ∙ c.words_from.ensures.leaves k (any_word small.blocks name.at k left) ∙ cut.resizes.leaves k o
 
 -- ---- groups of eight words

@@ -1,8 +1,8 @@
-use Rattle.tlsf_heap.proofs.Common.{◌≡◌, ◌+◌, ◌<◌, Result, length, refl, sym, ap, ◌∙◌, subst, arith, HeapState, want, allocated, last_tick, named, payload_words_at, payload_words_given, IsLive, Shown, Name, Refusal, IsOthersWord, payload_of}
+use Rattle.tlsf_heap.proofs.Common.{◌≡◌, ◌+◌, ◌<◌, Result, length, refl, sym, ap, ◌∙◌, subst, arith, HeapState, want, allocated, last_tick, named, payload_words_at, payload_words_given, IsLive, Shown, Name, Refusal, IsOthersWord, payload_of, Give}
 use Rattle.tlsf_heap.proofs.lemmas.calls.ResizeOrMove.{new_lives, old_lives, payload_fits, ticks}
 use Rattle.tlsf_heap.proofs.lemmas.calls.Kept.{keeps_same}
 use Rattle.tlsf_heap.proofs.lemmas.words.Footprint.{any_word}
-use Rattle.tlsf_heap.proofs.lemmas.calls.Leaves.{given_word}
+use Rattle.tlsf_heap.proofs.lemmas.calls.Leaves.{given_word, word_step}
 use Rattle.tlsf_heap.proofs.lemmas.calls.Unset.{given_length}
 use Rattle.tlsf_words.proofs.Touching.{no_groups, more_groups, groups_then}
 use Rattle.tlsf_heap.proofs.heap.Heap.relocate.Goals as goal
@@ -55,8 +55,7 @@ returns-clause-leaves g c k o =
     let name = c.args.name in
     let new = c.in_ok-new.new in
     let e = c.in_ok-new.ensures in
-    let left = given_word h name.at k o g.row.SLI (want c.args.len) c.args.len e.keeps.was_lawful in
-    c.hand_over.ensures.leaves k (subst (λ (s : HeapState). IsOthersWord s.blocks name.at k) (sym e.allocates.heap) left.0) (subst (λ (s : HeapState). IsOthersWord s.blocks new.at k) (sym e.allocates.heap) (left.1 new (sym e.allocates.answer_is)))
+    c.hand_over.ensures.leaves k (subst (λ (s : HeapState). IsOthersWord s.blocks name.at k) (sym e.allocates.heap) (word_step h name.at k o g.row.SLI (Give (want c.args.len) c.args.len) tt)) (subst (λ (s : HeapState). IsOthersWord s.blocks new.at k) (sym e.allocates.heap) (given_word h name.at k o g.row.SLI (want c.args.len) c.args.len e.keeps.was_lawful new (sym e.allocates.answer_is)))
     ∙ e.allocates.leaves k (any_word h.blocks name.at k o)
 
 -- ---- groups of eight words

@@ -1,9 +1,9 @@
-use Rattle.tlsf_heap.proofs.Common.{◌≡◌, ℕ, ◌+◌, ◌<◌, Result, length, min, refl, sym, ap, ◌∙◌, subst, arith, IfOk, HeapState, want, allocated, Outcome, last_tick, payload_of, moved, Shown, unset_from, Name, Refusal, IsOthersWord}
+use Rattle.tlsf_heap.proofs.Common.{◌≡◌, ℕ, ◌+◌, ◌<◌, Result, length, min, refl, sym, ap, ◌∙◌, subst, arith, IfOk, HeapState, want, allocated, Outcome, last_tick, payload_of, moved, Shown, unset_from, Name, Refusal, IsOthersWord, Give, Put}
 use Rattle.tlsf_heap.proofs.lemmas.calls.ResizeOrMove.{moved_done}
 use Rattle.tlsf_heap.proofs.lemmas.calls.Unset.{first_lives, first_holds, moved_unset}
 use Rattle.tlsf_heap.proofs.lemmas.calls.Kept.{keeps_same}
 use Rattle.tlsf_heap.proofs.lemmas.words.Footprint.{any_word}
-use Rattle.tlsf_heap.proofs.lemmas.calls.Leaves.{given_word, written_word}
+use Rattle.tlsf_heap.proofs.lemmas.calls.Leaves.{given_word, word_step}
 use Rattle.tlsf_words.proofs.Touching.{no_groups, more_groups, groups_then}
 use Rattle.tlsf_heap.proofs.heap.Heap.relocate_unset.Goals as goal
 
@@ -58,11 +58,10 @@ returns-clause-leaves g c k o =
     let name = c.args.name in
     let new = c.in_ok-new.new in
     let e = c.in_ok-new.ensures in
-    let left = given_word h name.at k o g.row.SLI (want c.args.len) c.args.len e.keeps.was_lawful in
     let given = (allocated g.row.SLI h c.args.len).heap in
     let wrote : (at : ℕ) → IsOthersWord given.blocks at k → IsOthersWord c.allocate_unset.new.self.heap.blocks at k = λ at w.
-    subst (λ (s : HeapState). IsOthersWord s.blocks at k) (sym e.heap) (written_word given at k w new 0 _) in
-    c.hand_over.ensures.leaves k (wrote name.at left.0) (wrote new.at (left.1 new (sym e.answer)))
+    subst (λ (s : HeapState). IsOthersWord s.blocks at k) (sym e.heap) (word_step given at k w 0 (Put new 0 _) tt) in
+    c.hand_over.ensures.leaves k (wrote name.at (word_step h name.at k o g.row.SLI (Give (want c.args.len) c.args.len) tt)) (wrote new.at (given_word h name.at k o g.row.SLI (want c.args.len) c.args.len e.keeps.was_lawful new (sym e.answer)))
     ∙ e.leaves k (any_word h.blocks name.at k o)
 
 -- ---- groups of eight words

@@ -1,11 +1,11 @@
-use Rattle.tlsf_heap.proofs.Common.{◌≡◌, ℕ, ◌+◌, ◌≤◌, length, min, sym, ap, ◌∙◌, subst, Ok, arith, err_from_is_err_and, HeapState, bytes_of, want, words_for, Outcome, named, resized, resized_words, payload_words_at, block_at, Shows, payload_of, IsLawful, IsLive, IsNamed, lying, unset_from, with_payload, seen, Name, IsOthersWord, IsLiveWord}
+use Rattle.tlsf_heap.proofs.Common.{◌≡◌, ℕ, ◌+◌, ◌≤◌, length, min, sym, ap, ◌∙◌, subst, Ok, arith, err_from_is_err_and, HeapState, bytes_of, want, words_for, Outcome, named, resized, resized_words, payload_words_at, block_at, Shows, payload_of, IsLawful, IsLive, IsNamed, lying, unset_from, with_payload, seen, Name, IsOthersWord, IsLiveWord, Fit}
 use Rattle.tlsf_heap.proofs.lemmas.calls.Alter.{payload_is}
 use Rattle.tlsf_heap.proofs.lemmas.calls.Named.{live_is, not_forged}
 use Rattle.tlsf_heap.proofs.lemmas.calls.OtherBytes.{resized_answers}
 use Rattle.tlsf_heap.proofs.lemmas.calls.Resize.{resized_refused}
 use Rattle.tlsf_heap.proofs.lemmas.calls.Unset.{shorter_lives, left_answer, left_room, resized_unset}
 use Rattle.tlsf_heap.proofs.lemmas.words.Footprint.{any_word}
-use Rattle.tlsf_heap.proofs.lemmas.calls.Leaves.{resized_word}
+use Rattle.tlsf_heap.proofs.lemmas.calls.Leaves.{word_step}
 use Rattle.tlsf_words.proofs.Touching.{more_groups, groups_then}
 use Rattle.tlsf_heap.proofs.heap.Heap.resize_unset.Goals as goal
 
@@ -117,7 +117,7 @@ returns-clause-leaves g c k o =
     let seen = c.in_ok-check_payload.ensures in
     let cut = c.in_ok-resize_words.ensures in
     let was = subst (λ (s : HeapState). IsOthersWord s.blocks name.at k) (sym seen.same.heap) o in
-    let left = resized_word c.check_payload.new.self.heap name.at k was name c.want.result c.min-kept.result was.4 in
+    let left = word_step c.check_payload.new.self.heap name.at k was 0 (Fit name c.want.result c.min-kept.result) was.4 in
     c.set_length.ensures.leaves k (subst (λ (s : HeapState). IsLiveWord s.blocks k) (sym cut.resizes.heap) (any_word _ name.at k left))
     ∙ cut.resizes.leaves k was
     ∙ seen.leaves k (any_word h.blocks name.at k o)
