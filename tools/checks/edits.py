@@ -1,38 +1,56 @@
-"""Each wrong body in gate/, attack/ and drawn/ still applies: each text that it
-changes stands once in its file, it changes something, and no other edit of its
-crate has its name. Where it turns a law, of a folder laws/ or of
-tlsf_yard_laws, its line `shown:` says what shows that the law is false then.
+"""Each wrong body of a crate's wrong_bodies.toml still applies: each text that it
+changes stands once in its file, and it changes something. They stand in the
+order of their names, and each says what tries it; no file of its own has one.
+Where one turns a law, of a folder laws/ or of tlsf_yard_laws, its line `shown`
+says what shows that the law is false then.
 
 Each known wrong body of the table in docs/WRONG_BODIES.md is refused by what is
-there: by an edit in gate/ of a crate, by a test of public calls, or by a file."""
+there: by a wrong body that ./test tries, by a test of public calls, or by a
+file."""
 import pathlib
 import re
 
 import tree
+from bodies import GATE, TRIED_BY, WrongBody, tables_of, wrong_bodies
 from checks.names import tests
 
 KNOWN = tree.TOP / "docs" / "WRONG_BODIES.md"
 HEADING = "## Known wrong allocators"
 ROW = re.compile(r"^\| (.+) \| (.+) \|$", re.M)
-# Beside those for the prover, the wrong pictures, which a test refuses.
-FOLDERS = (*tree.FOLDERS, "drawn")
+# The line that a wrong body begins with, and that of each further change.
+HEAD = re.compile(r"^\[{1,2}(\w+)(?:\.and\])?\]$", re.M)
+PART, WHOLE = {"file", "old", "new"}, {"tried_by", "shown", "and", "file", "old", "new"}
 
 
 def is_of_law(crate, changes):
     return crate.name == "tlsf_yard_laws" or any(pathlib.PurePath(file).parts[1] == "laws" for file, _, _ in changes)
 
 
-def faults_of(crate, edit):
-    """Why the edit does not apply to the crate; nothing where it does."""
-    lines = tree.read(edit).split("\n")
-    for line in lines:
-        if line and not line.startswith(("shown: ", "file: ", "old: ", "new:")):
-            yield f"has a line that is read as nothing: {line[:60]}"
+def form_faults(wrong):
+    """Why a wrong body's table can't be read."""
+    if wrong.tried_by not in TRIED_BY:
+        yield f"says by 'tried_by' none of {', '.join(TRIED_BY)}"
+    if not isinstance(wrong.table.get("and", []), list) or not all(isinstance(it, dict) for it in wrong.parts):
+        yield "has an 'and' that is no table as [[NAME.and]]"
+        return
+    for part in wrong.parts:
+        for key in sorted(set(part) - (WHOLE if part is wrong.table else PART)):
+            yield f"has a key that is read as nothing: {key}"
+        if not {"old", "new"} <= set(part) or not part["old"]:
+            yield "has a change with no 'old', or with no 'new'"
+        if any(not isinstance(it, str) or key != "shown" and "\n" in it for key, it in part.items() if key != "and"):
+            yield "has a text that is no string of one line"
+
+
+def faults_of(crate, wrong):
+    """Why the wrong body does not apply to the crate; nothing where it does."""
+    if told := list(form_faults(wrong)):
+        yield from told
+        return
     texts = {}
-    changes = list(tree.changes_in("\n".join(lines)))
-    for file, old, new in changes:
-        if not file or not old or pathlib.PurePath(file).parts[0] not in tree.PARTS:
-            yield "has a 'new:' with no 'old:', or with no 'file:' below src/, specs/ or proofs/"
+    for file, old, new in wrong.changes:
+        if not file or pathlib.PurePath(file).parts[0] not in tree.PARTS:
+            yield "has a change with no 'file' below src/, specs/ or proofs/"
             return
         if not (crate / file).is_file():
             yield f"names {file}, which isn't there"
@@ -42,10 +60,20 @@ def faults_of(crate, edit):
             yield f"changes a text that stands {text.count(old)} times in {file}, and not once: {old}"
             return
         texts[file] = text.replace(old, new)
-    if all(old == new for _, old, new in changes):
+    if all(old == new for _, old, new in wrong.changes):
         yield "changes nothing"
-    if is_of_law(crate, changes) and not lines[0].startswith("shown: "):
-        yield "doesn't begin with what shows that the law is false"
+    if is_of_law(crate, wrong.changes) and not wrong.shown:
+        yield "doesn't say by 'shown' what shows that the law is false"
+
+
+def order_faults(crate):
+    """Names that stand behind a greater one, and a change that stands in another wrong body."""
+    names = HEAD.findall(tree.read(crate / "wrong_bodies.toml"))
+    for before, name in zip(names, names[1:]):
+        if before > name:
+            yield f"{name} stands behind {before}, and not in the order of names"
+    for name in sorted(set(tables_of(crate)) - set(names)):
+        yield f"{name} has no line [{name}]"
 
 
 def known():
@@ -55,9 +83,10 @@ def known():
 
 
 def is_there(name):
-    """Whether an edit in gate/, as CRATE/NAME, a test or a file is there."""
-    crate, _, edit = name.rpartition("/")
-    return name in tests() or (tree.TOP / "crates" / crate / "gate" / f"{edit}.edit").is_file() or (tree.TOP / name).is_file()
+    """Whether a wrong body that ./test tries, as CRATE/NAME, a test or a file is there."""
+    crate, _, wrong = name.rpartition("/")
+    tried = {it.name for it in wrong_bodies(tree.TOP / "crates" / crate, [GATE])}
+    return wrong in tried or name in tests() or (tree.TOP / name).is_file()
 
 
 def known_faults():
@@ -68,24 +97,24 @@ def known_faults():
             yield f"{KNOWN.name}: names nothing that refuses: {body}"
         for name in names:
             if not is_there(name):
-                yield f"{KNOWN.name}: {name} is no edit in gate/, no test and no file, and is to refuse: {body}"
+                yield f"{KNOWN.name}: {name} isn't tried by ./test, is no test and no file, and is to refuse: {body}"
+
+
+def all_of(crate):
+    """The wrong bodies of a crate, by whatever they are tried."""
+    return [WrongBody(*it) for it in tables_of(crate).items()]
 
 
 def faults():
     yield from known_faults()
-    for crate in tree.crates():
-        names = {}
-        for edit in tree.edits_of(crate, FOLDERS):
-            told = edit.relative_to(tree.TOP)
-            if other := names.get(edit.name):
-                yield f"{told}: has the name of {other}"
-            names[edit.name] = told
-            yield from (f"{told}: {fault}" for fault in faults_of(crate, edit))
-        for folder in FOLDERS:
-            for file in sorted((crate / folder).glob("*")):
-                if file.suffix not in (".edit", ".md"):
-                    yield f"{file.relative_to(tree.TOP)}: no edit: its name ends in neither .edit nor .md"
+    for crate in filter(tables_of, tree.crates()):
+        told = (crate / "wrong_bodies.toml").relative_to(tree.TOP)
+        yield from (f"{told}: {fault}" for fault in order_faults(crate))
+        for wrong in all_of(crate):
+            yield from (f"{told}: {wrong.name} {fault}" for fault in faults_of(crate, wrong))
+    for file in sorted(tree.TOP.glob("crates/*/*/*.edit")):
+        yield f"{file.relative_to(tree.TOP)}: is tried by nothing: a wrong body stands in wrong_bodies.toml"
 
 
 def looked_at():
-    return f"{sum(len(tree.edits_of(it, FOLDERS)) for it in tree.crates())} wrong bodies, {len(known())} known ones"
+    return f"{sum(len(all_of(it)) for it in tree.crates())} wrong bodies, {len(known())} known ones"

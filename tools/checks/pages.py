@@ -22,6 +22,7 @@ import functools
 import re
 
 import tree
+from bodies import tables_of
 
 MOST_LINE = 120
 MOST_SENTENCE_WORDS = 25
@@ -46,7 +47,7 @@ NEWEST = re.compile(r"^## (\d+\.\d+\.\d+)$", re.M)
 VERSION = re.compile(r'const VERSION: &str = "(.*)"')
 MACRO = re.compile(r"^#define TLSF_VERSION_(?:MAJOR|MINOR|PATCH) (\d+)$", re.M)
 PATH = re.compile(r"\.?[\w.*-]+(?:/[\w.*+-]+)*/?")
-ENDINGS = (".rt", ".antt", ".md", ".sh", ".py", ".edit", ".txt", ".tsv", ".svg", ".source", ".c", ".h", ".cpp", ".hpp")
+ENDINGS = (".rt", ".antt", ".md", ".sh", ".py", ".toml", ".txt", ".tsv", ".svg", ".source", ".c", ".h", ".cpp", ".hpp")
 ANY_NAME = re.compile(r"[A-Z][A-Z_]+")
 WRONG_BODY = re.compile(r"[a-z]\w*?__[a-z0-9]\w*")
 QUOTED_BOUND = re.compile(r"`([^`\s]+)` (?:\| |takes at most )?(\d+)\b(?: \| (\d+)\b)?")
@@ -123,7 +124,7 @@ class Repository:
         self.files = [it for it in files if it.is_file()]
         self.names = {it.name for it in files}
         self.pages = {it: Page(it) for it in self.files if it.suffix == ".md"}
-        self.edits = {it.stem for it in self.files if it.suffix == ".edit"}
+        self.wrong_bodies = {it for crate in tree.crates() for it in tables_of(crate)}
         self.tops = {it.name for it in tree.TOP.iterdir()}
         self.crates = set(tree.lines_of_crates().values())
 
@@ -145,7 +146,7 @@ class Repository:
     def code_fault(self, page, code):
         code = code.removeprefix("./")
         if WRONG_BODY.fullmatch(code):
-            return None if code in self.edits else f"names the wrong body {code}, which isn't there"
+            return None if code in self.wrong_bodies else f"names the wrong body {code}, which isn't there"
         if not PATH.fullmatch(code) or MADE.search(code):
             return None
         is_path = code.split("/")[0] in self.tops if "/" in code else False
