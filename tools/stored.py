@@ -1,10 +1,12 @@
 """The answers of the program that are stored, and what a second reading tells of each (bench/model)."""
 import collections
+import functools
 import json
 import re
 import sys
 import tomllib
 
+from case_files import RECORDED, cases, cases_of, store
 from tree import TOP
 
 sys.path.append(str(TOP / "bench"))
@@ -21,30 +23,23 @@ FAULT = re.compile(r'(?<=^\[\[fault\]\]\n)line = ".*"\n(traces = \[\n(?:  .*\n)*
 # Pictures of pages, by the cases whose answers they are.
 SHOWN = {"heap.svg": "map_labels", "plot.svg": "plot_fragmented"}
 
-# A file with an answer, by the name of its case or its own, and the function that tells its text or raises Untold.
-Stored = collections.namedtuple("Stored", "name file tell")
+# An answer by its name and its place: the text that is stored, what tells it or raises Untold, and what stores another.
+Stored = collections.namedtuple("Stored", "name place text tell store")
 
 
-class Case(collections.namedtuple("Case", "name input")):
-    """By its standard input. Beside it stand its words, one on each line, and its answer."""
+def stored_case(case):
+    """The answer of a case."""
 
-    @property
-    def words(self):
-        lines = self.input.with_name(f"{self.name}.args").read_text(encoding="utf-8").removesuffix("\n").split("\n")
-        return [it.strip() for it in lines]
+    def tell():
+        return answer_to(case.words, case.input.decode("latin-1"))
 
-    @property
-    def answer(self):
-        return self.input.with_name(f"{self.name}.stdout")
-
-    def tell(self):
-        if not self.input.exists():
-            raise Untold("no file of its standard input")
-        return answer_to(self.words, self.input.read_bytes().decode("latin-1"))
+    return Stored(case.name, case.place, case.stdout, tell, functools.partial(store, case))
 
 
-def cases_in(folder, suffix=""):
-    return [Case(it.stem, it.with_suffix(suffix)) for it in sorted((TOP / folder).glob("*.args"))]
+def stored_file(name, file, tell):
+    """An answer that is a file."""
+    place, write = file.relative_to(TOP).as_posix(), functools.partial(file.write_text, encoding="utf-8")
+    return Stored(name, place, kept(file), tell, write)
 
 
 def words():
@@ -73,7 +68,7 @@ def kept(file):
 
 
 def all_stored():
-    cases = [*cases_in("cases"), *cases_in("examples/recorded", ".trace")]
-    shown = [Stored(it, TOP / "docs" / it, Case(name, TOP / "cases" / name).tell) for it, name in SHOWN.items()]
-    tables = [Stored(tell.__name__, TABLES / f"{tell.__name__}.toml", tell) for tell in (words, faults)]
-    return [*(Stored(it.name, it.answer, it.tell) for it in cases), *shown, *tables]
+    answers = [stored_case(it) for it in (*cases().values(), *cases_of(RECORDED))]
+    shown = [stored_file(it, TOP / "docs" / it, stored_case(cases()[name]).tell) for it, name in SHOWN.items()]
+    tables = [stored_file(tell.__name__, TABLES / f"{tell.__name__}.toml", tell) for tell in (words, faults)]
+    return [*answers, *shown, *tables]

@@ -5,10 +5,12 @@ import collections
 import functools
 import itertools
 import pathlib
+import sys
 
 from model.answers import Yard, curve_of, curves_of, look_at, peak_at, plot_text
 
-CASES = pathlib.Path(__file__).resolve().parents[2] / "cases"
+sys.path.append(str(pathlib.Path(__file__).resolve().parents[2] / "tools"))
+from case_files import cases
 
 # A row of the table of a heap: a free block has the tick since which it is free, a live one its bytes, its serial, and its label or none.
 Block = collections.namedtuple("Block", "place size free_since length serial label")
@@ -16,9 +18,8 @@ Table = collections.namedtuple("Table", "number words tick blocks report")
 Table.__hash__, Table.__eq__ = object.__hash__, object.__eq__
 
 
-@functools.cache
 def stored(name):
-    return (CASES / f"{name}.stdout").read_text(encoding="utf-8")
+    return cases()[name].stdout
 
 
 def between(name, begin, end):

@@ -1,5 +1,5 @@
 /* A program that writes its own calls as a trace, and what each was answered as the lines of `tlsf replay`. So the trace has to be
- * cases/calls_of_c, and what is printed cases/calls_of_c.stdout: the program is held to these two when cases are tried.
+ * traced.trace, and what is printed the answer of the case calls_of_c: the program is held to these two when cases are tried.
  * With a second word it does what a trace has no room for, and prints how many lines it has. TRACED FILE [LEAVES_OUT] */
 #include <stdio.h>
 static FILE *trace;

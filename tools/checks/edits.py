@@ -5,13 +5,14 @@ Where one turns a law, of a folder laws/ or of tlsf_yard_laws, its line `shown`
 says what shows that the law is false then.
 
 Each known wrong body of the table in docs/WRONG_BODIES.md is refused by what is
-there: by a wrong body that ./test tries, by a test of public calls, or by a
-file."""
+there: by a wrong body that ./test tries, by a test of public calls, by a stored
+case, or by a file."""
 import pathlib
 import re
 
 import tree
 from bodies import GATE, TRIED_BY, WrongBody, tables_of, wrong_bodies
+from case_files import cases
 from checks.names import tests
 
 KNOWN = tree.TOP / "docs" / "WRONG_BODIES.md"
@@ -83,10 +84,10 @@ def known():
 
 
 def is_there(name):
-    """Whether a wrong body that ./test tries, as CRATE/NAME, a test or a file is there."""
+    """Whether a wrong body that ./test tries, as CRATE/NAME, a test, a case or a file is there."""
     crate, _, wrong = name.rpartition("/")
     tried = {it.name for it in wrong_bodies(tree.TOP / "crates" / crate, [GATE])}
-    return wrong in tried or name in tests() or (tree.TOP / name).is_file()
+    return wrong in tried or name in tests() or name in cases() or (tree.TOP / name).is_file()
 
 
 def known_faults():
@@ -97,7 +98,7 @@ def known_faults():
             yield f"{KNOWN.name}: names nothing that refuses: {body}"
         for name in names:
             if not is_there(name):
-                yield f"{KNOWN.name}: {name} isn't tried by ./test, is no test and no file, and is to refuse: {body}"
+                yield f"{KNOWN.name}: {name} isn't tried by ./test, is no test, no case and no file, and is to refuse: {body}"
 
 
 def all_of(crate):

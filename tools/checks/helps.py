@@ -1,12 +1,13 @@
 """Each script that can be run answers --help and -h at once, with its use on
 standard output from the first line on, no line of more than 80 characters,
 nothing on standard error and status 0, and starts neither `rt` nor a compiler.
-No line of a stored help of the program, cases/help*.stdout, is longer."""
+No line of a stored help of the program, of cases/help.toml, is longer."""
 import os
 import pathlib
 import subprocess
 import tempfile
 
+import case_files
 import tree
 
 MOST_WIDTH = 80
@@ -47,10 +48,10 @@ def faults():
             for word in ("--help", "-h"):
                 if fault := fault_of(script, word, folder):
                     yield f"{script} {word} {fault}"
-    for help in sorted((tree.TOP / "cases").glob("help*.stdout")):
-        for number, line in enumerate(help.read_bytes().split(b"\n"), 1):
+    for help in case_files.helps():
+        for number, line in enumerate(help.stdout.encode().split(b"\n"), 1):
             if len(line) > MOST_WIDTH:
-                yield f"{help.relative_to(tree.TOP)}:{number}: {len(line)} characters, more than {MOST_WIDTH}"
+                yield f"{help.place}, line {number}: {len(line)} characters, more than {MOST_WIDTH}"
 
 
 def looked_at():

@@ -1,7 +1,7 @@
 """What pages claim of code by its name is so:
 
 - each name in backticks, as `Heap::open`, stands in the sources, in a script or
-  as a file (the check of pages looks for paths and wrong bodies);
+  as a case or a file (the check of pages looks for paths and wrong bodies);
 - each library of crates.txt has a README.md with the same sections, which says
   the lines of crates.txt that it needs and how to print its calls;
 - each block of Rust, C or C++ under "Example" has at most 20 lines, which stand
@@ -16,6 +16,7 @@ import functools
 import re
 
 import tree
+from case_files import cases
 from checks.pages import CODE, repository
 from checks.reference import libraries
 from reference_page.names import NO_LIBRARY
@@ -40,7 +41,7 @@ SENTENCE = re.compile(r"(?<=[.:?])\s+(?=[A-Z`])")
 
 
 def words_of_tree():
-    found = set()
+    found = {*cases()}
     for file in repository().files:
         parts = file.relative_to(tree.TOP).parts
         if file.suffix in (".md", ".svg"):

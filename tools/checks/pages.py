@@ -17,12 +17,13 @@
 - who uses a payload in place is said in the words of rule 4 of tlsf.h wherever
   the rule stands, and nowhere otherwise;
 - a trace that a page shows beside its replies is examples/two_workers.trace,
-  with the reply lines of cases/two_workers.stdout."""
+  with the reply lines of the case two_workers."""
 import functools
 import re
 
 import tree
 from bodies import tables_of
+from case_files import cases
 
 MOST_LINE = 120
 MOST_SENTENCE_WORDS = 25
@@ -204,7 +205,7 @@ class Repository:
 
     def trace_faults(self):
         trace = tree.read(tree.TOP / "examples" / "two_workers.trace").split("\n")
-        told = tree.read(tree.TOP / "cases" / "two_workers.stdout").split("\n")
+        told = cases()["two_workers"].stdout.split("\n")
         showing = set()
         for page in self.pages.values():
             for shown in TRACE_BLOCK.finditer(page.text):
@@ -214,7 +215,7 @@ class Repository:
                 if [it for it in lines if it] != trace[:-1]:
                     yield f"{page.name}: the trace is another than examples/two_workers.trace"
                 if header or [it for it in replies if it] != [it for it in told[:-1] if not it.startswith("heap ")]:
-                    yield f"{page.name}: the replies are others than those of cases/two_workers.stdout"
+                    yield f"{page.name}: the replies are others than those of the case two_workers"
         if not showing:
             yield "no page shows a trace beside its replies"
 

@@ -2,14 +2,17 @@
 """usage: tools/package/man.py VERSION DATE FOLDER
 
 Writes the man pages of the program into FOLDER, one for it and one for each of
-its commands. They are made of the helps that are stored in cases/, which the
-gate holds to the program, so there is no other text to keep in step.
+its commands. They are made of the helps that are stored in cases/help.toml,
+which the gate holds to the program, so there is no other text to keep in step.
 """
 import pathlib
 import re
 import sys
 
-CASES = pathlib.Path(__file__).resolve().parent.parent.parent / "cases"
+sys.dont_write_bytecode = True
+sys.path.insert(0, str(pathlib.Path(__file__).resolve().parent.parent))
+import case_files
+
 LISTED = ("Commands:", "Arguments:", "Options:")
 
 
@@ -50,11 +53,11 @@ def page(name, help_text, version, date, others):
 
 
 def main(version, date, folder):
-    helps = {it.stem: it.read_text(encoding="utf-8") for it in sorted(CASES.glob("help*.stdout"))}
+    helps = {it.name: it.stdout for it in case_files.helps()}
     commands = re.findall(r"^  ([a-z]+)  ", helps["help"].partition("Commands:\n")[2].partition("\n\n")[0], re.M)
     names = {"help": "tlsf"} | {f"help_{it}": f"tlsf-{it}" for it in commands if it != "help"}
     if lacks := names.keys() ^ helps.keys():
-        raise ValueError(f"cases/ has no help of its own, or one too many: {', '.join(sorted(lacks))}")
+        raise ValueError(f"cases/help.toml has no help of its own, or one too many: {', '.join(sorted(lacks))}")
     for stem, name in names.items():
         (pathlib.Path(folder) / f"{name}.1").write_text(page(name, helps[stem], version, date, names.values()), encoding="utf-8")
 

@@ -1,2 +1,0 @@
-/* -O1: f: no bound: a recursion */
-#include "../mutual_recursion.c"
