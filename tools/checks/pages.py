@@ -8,11 +8,12 @@
 - a sentence has at most 25 words, and at most two numbers, beside which a table
   is easier to read. Code, tables, headings and quotations aren't counted, and
   no number that only names a thing, as in `level 4` or `Python 3.11`;
-- a sentence that begins with What or That asks, and no phrase is used that the
-  list UNCLEAR has;
+- a sentence that begins with What or That asks;
+- no phrase is used that the list UNCLEAR of tools/prose.py has, 'as many' is
+  compared with something, and behind is for places, after for time;
 - the newest version of CHANGELOG.md is the one that `tlsf --version` names, and
   so is the one that the macros TLSF_VERSION_ of include/tlsf.h make;
-- a function in backticks with a number behind it, as `tlsf_put` 56, has the
+- a function in backticks with a number after it, as `tlsf_put` 56, has the
   bound of tools/longest_path.bounds, and in the next column that on aarch64;
 - who uses a payload in place is said in the words of rule 4 of tlsf.h wherever
   the rule stands, and nowhere otherwise;
@@ -21,29 +22,15 @@
 import functools
 import re
 
+import prose
 import tree
 from bodies import tables_of
 from case_files import cases
+from prose import CODE
 
 MOST_LINE = 120
-MOST_SENTENCE_WORDS = 25
-MOST_SENTENCE_NUMBERS = 2
 
 LINK = re.compile(r"(?<!!)\[[^\]]*\]\(([^)\s]+)\)|!\[[^\]]*\]\(([^)\s]+)\)")
-CODE = re.compile(r"`([^`\n]+)`")
-FENCE = re.compile(r" *(```|~~~)")
-# What has no sentences: headings, tables, quotations, pictures.
-NO_SENTENCE = re.compile(r"\s*(#|\||>|!\[|<)")
-POINT = re.compile(r"\s*(?:[-*]|\d+\.) ")
-SHOWN_LINK = re.compile(r"!?\[([^\]]*)\]\([^)]*\)")
-# No end of a sentence: initials and what is short for other words.
-SHORT = re.compile(r"(?:^|[\s(])(?:[A-Z]|e\.g|i\.e|etc|vs|cf|pp|no)\.$")
-ENDS = re.compile(r"(?<=[.?!])[)\"”]*\s+(?=[\"“(]*[A-Z0-9`])")
-NUMBER = re.compile(r"[(\"~-]*\d[\d,.^/]*%?(?:\*\*)?[)\",;:.?!]*")
-# The number behind one of these is a part of a name.
-NAMES = {"level", "levels", "line", "lines", "heap", "heaps", "worker", "workers", "block", "status", "python", "version", "ecrts", "tlsf", "field",
-    "fault", "tick", "place", "serial", "step", "section", "rule", "rules", "case", "point", "points", "phase", "label", "moment", "bit", "bits"}
-UNCLEAR = re.compile(r"\b(so many|theirs|behind that|(?<=, )of which|as it were|else as|is had|are had)\b", re.I)
 NEWEST = re.compile(r"^## (\d+\.\d+\.\d+)$", re.M)
 VERSION = re.compile(r'const VERSION: &str = "(.*)"')
 MACRO = re.compile(r"^#define TLSF_VERSION_(?:MAJOR|MINOR|PATCH) (\d+)$", re.M)
@@ -69,45 +56,10 @@ def slug(heading):
     return re.sub(r"[^\w\- ]", "", re.sub(r"[`*]|\[([^\]]*)\]\([^)]*\)", r"\1", heading).strip().lower()).replace(" ", "-")
 
 
-class Page:
+class Page(prose.Text):
     def __init__(self, file):
-        self.file = file
-        self.name = file.relative_to(tree.TOP).as_posix()
-        self.text = tree.read(file)
-        self.lines = self.text.split("\n")
-        if not self.lines[-1]:
-            self.lines.pop()
-
-    def prose(self):
-        """The lines that stand in no block of code, with their numbers from 1."""
-        fence = None
-        for number, line in enumerate(self.lines, 1):
-            found = FENCE.match(line)
-            if found and fence in (None, found[1]):
-                fence = None if fence else found[1]
-            elif not fence:
-                yield number, line
-
-    def blocks(self):
-        """The paragraphs and points of a list, each in one line without its links, with the number of its first line."""
-        block, first, last = [], 0, 0
-        for number, line in [*self.prose(), (0, "")]:
-            ends = not line.strip() or NO_SENTENCE.match(line) or POINT.match(line) or number != last + 1
-            if ends and block:
-                yield first, SHOWN_LINK.sub(r"\1", CODE.sub("`code`", " ".join(block)))
-                block = []
-            if line.strip() and not NO_SENTENCE.match(line):
-                block, first = (block, first) if block else ([], number)
-                block.append(POINT.sub("", line, count=1).strip() if POINT.match(line) else line.strip())
-            last = number
-
-    def sentences(self):
-        for number, block in self.blocks():
-            start = 0
-            for end in [*(it.start() for it in ENDS.finditer(block)), len(block)]:
-                if end == len(block) or not SHORT.search(block[start:end]):
-                    yield number, block[start:end].strip()
-                    start = end
+        self.file, self.text = file, tree.read(file)
+        super().__init__(file.relative_to(tree.TOP).as_posix(), self.text.removesuffix("\n").split("\n"))
 
     def anchors(self):
         """The anchors of its headings; one that comes again has a number."""
@@ -170,21 +122,6 @@ class Repository:
                 if fault := self.code_fault(page, code[1]):
                     yield f"{page.name}:{number}: {fault}"
 
-    def sentence_faults(self, page):
-        for number, sentence in page.sentences():
-            words = [it for it in sentence.split() if re.search(r"\w", it)]
-            begin = " ".join(words[:5])
-            if len(words) > MOST_SENTENCE_WORDS:
-                yield f"{page.name}:{number}: a sentence of {len(words)} words, more than {MOST_SENTENCE_WORDS}: {begin} .."
-            pairs = zip(["", *words], words)
-            numbers = [it for before, it in pairs if NUMBER.fullmatch(it) and before.strip("(\"").lower() not in NAMES]
-            if len(numbers) > MOST_SENTENCE_NUMBERS:
-                yield f"{page.name}:{number}: a sentence of {len(numbers)} numbers, more than {MOST_SENTENCE_NUMBERS}: {begin} .."
-            if re.match(r"(What|That)\b", sentence) and not sentence.endswith("?"):
-                yield f"{page.name}:{number}: begins with {words[0]} and asks nothing: {begin} .."
-            for found in UNCLEAR.finditer(sentence):
-                yield f"{page.name}:{number}: says '{found[0]}': {begin} .."
-
     def bound_faults(self):
         """Bounds of machine code that are quoted otherwise than they are stored; and stored ones that MEASURED lacks."""
         lines = [line.split() for line in tree.read(tree.TOP / "tools" / "longest_path.bounds").split("\n")]
@@ -241,7 +178,7 @@ class Repository:
     def faults(self):
         for _, page in sorted(self.pages.items()):
             yield from self.page_faults(page)
-            yield from self.sentence_faults(page)
+            yield from page.faults(prose.MOST_NUMBERS)
         yield from self.bound_faults()
         yield from self.trace_faults()
         yield from self.rule_faults()

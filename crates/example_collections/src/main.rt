@@ -10,7 +10,7 @@ use tlsf_arena::DefaultArena;
 /// 8 KiB, in units of 16 bytes.
 const UNITS: u32 = 512;
 
-/// An echo of so many samples: each one that comes out is added to the one that goes in.
+/// An echo of a number of samples: each one that comes out is added to the one that goes in.
 #[derive(Drop)]
 struct Echo<'a> {
     name: String<&'a DefaultArena>,

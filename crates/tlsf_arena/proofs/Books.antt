@@ -14,7 +14,7 @@ use Rattle.tlsf_arena.proofs.Rights.{is_same, was_out, out_no_more}
 
 -- ---- a block that is held
 
--- as many units under one name
+-- equally many units under one name
 pub one_count : (h : HeapState) (name : Name) (j k : ℕ) → Holds h name j → Holds h name k → j ≡ k
 one_count h name j k a b =
     let both : ◌≡◌ {A = Option Site} (Some a.0) (Some b.0) = sym a.2 ∙ b.2 in
@@ -108,7 +108,7 @@ no_second out h t k book there = by_bool (is_out (without t out) (loan_of (name_
     by_bool true e = absurd (apart out h t (loan_of (name_of t) k) book there e refl)
     by_bool false e = refl
 
--- a block has so many units from now on, and the others stay
+-- a block has this many units from now on, and the others stay
 pub refits_one : (out : List Loan) (old new : HeapState) (t : Loan) (k : ℕ) → IsBook out old → is_out out t ≡ true → Holds new (name_of t) k → ((other : Name) (units : ℕ) → other ≢ name_of t → Holds old other units → Holds new other units)
     → IsBook (loan_of (name_of t) k ∷ without t out) new
 refits_one out old new t k book there holds others s = by_bool (same_loan (loan_of (name_of t) k) s) refl

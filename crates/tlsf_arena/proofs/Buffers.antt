@@ -108,7 +108,7 @@ module _ (E : El) where
       loose_even grains = left_even w (len * s) n (ap (λ (k : ℕ). k % bytes w) (sym (block_size len)) ∙ even (block_type len)) grains (omega (arith, spread, holds))
 
     module _ (len old new b at : ℕ) (le : len ≤ old) (le' : len ≤ new) where
-      -- for another number of values in a piece of as many bytes
+      -- for another number of values in a piece of equally many bytes
       pub refits : (n n' : ℕ) → size (block_type old) ≤ n → size (block_type new) ≤ n' → n ≡ n' → spare len old b at n ⊢ spare len new b at n'
       refits n n' holds holds' same =
           let x = at + len * s in

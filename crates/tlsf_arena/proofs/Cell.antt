@@ -1,4 +1,4 @@
--- What a `Slot` holds is one machine value, and is reached through a `&` with the thread's token. Assumes `Logic`.
+-- A `Slot` holds one machine value, which is reached through a `&` with the thread's token. Assumes `Logic`.
 use Rattle.tlsf_arena.proofs.Walking.{◌≡◌, ℕ, List, [], ◌∷◌, IfSome, None, Some, T, refl, Good, round, wraps, unwraps, Home, Ura, Ty, Val, full_share, sep, wand, apply∗, Lft, Share, Fml, Incl-refl, ftrue, fsep, fex, fat, flft, ftok, every, less, Logic, sem, Item, Goal, Seq, Step, Soaks, step, ‵, raw, ◌⊛◌, later, ◌$◌, move, drop, use1, use2, use3, split, join, fsplit, fjoin, fpick, fpack, rewrite, await, na_acc_in, RattleType, Last, left, yes, Lawful, cell_at, hidden_shr, lone, number, param, layout, nothing, fields_with}
 use denote.Param.Mute.{blank}
 use denote.Opens.{unhide}

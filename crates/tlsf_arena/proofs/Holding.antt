@@ -7,7 +7,7 @@ use Rattle.tlsf_heap.proofs.lemmas.laws.Live.{shown, one_serial, lasts_named}
 use Rattle.tlsf_heap.proofs.lemmas.calls.Outcomes.{named_site}
 use Rattle.tlsf_arena.proofs.Maps.{holds_live, stands_held}
 
--- the live block of that serial, of which n units are held
+-- the live block of that serial; n units of it are held
 abbrev pub IsBlockOf : ℕ → ℕ → Block → Type 0
 IsBlockOf serial n b = (has_serial serial b ≡ true) × (held_units (size_of b) (length (bytes_of b)) ≡ n)
 

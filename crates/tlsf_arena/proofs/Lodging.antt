@@ -42,7 +42,7 @@ module _ {M : Type 1} {𝓤 : Ura M} (𝓛 : Logic 𝓤) (b o n : ℕ) (some_byt
   abbrev k : ℕ
   k = n / 16
 
-  -- the piece's bytes as room for as many, and the way back
+  -- the piece's bytes as room for equally many, and the way back
   pub piece_out : ent 𝓤 (sem 𝓛 (froom (units_of n) b o)) (sep 𝓤 (sem 𝓛 (lodged u8 (block_ptr b o) 0 n [])) (sem 𝓛 (ways w8 b o k)))
   piece_out =
       let p = block_ptr b o in

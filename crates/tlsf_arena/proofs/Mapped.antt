@@ -57,7 +57,7 @@ module _ (sli u units : ℕ) (old new : HeapState) (free : Bits) (name : Name) (
   resized : IsRun free place (g * k) false × (IsRun (marked free place (g * k) true) place (g * n) true × (spread g (free_map new.blocks) ≡ marked (marked free place (g * k) true) place (g * n) false))
   resized = arena_refits g old new free n (lacking n) k name mapped.map lawful (lacks n) held answer heap
 
-  -- those behind it are lent
+  -- those after it are lent
   pub extends : (at bytes size : ℕ) → at ≡ place → bytes ≡ u * n → size ≡ u * k → size < bytes
       → (IsRun free (at + size / 16) ((bytes - size) / 16) true × (16 ≤ bytes - size) × ((bytes - size) % 16 ≡ 0))
       × ((after : Bits) → after ≡ marked free (at + size / 16) ((bytes - size) / 16) false → IsMapped sli u units new after)

@@ -39,7 +39,7 @@ joined a b v l = sym (append_assoc (replicate a v) (replicate b v) l) ∙ ap (λ
 
 -- ---- allocate
 
--- a payload of so many bytes tells that k units were wanted for its block
+-- a payload of this many bytes tells that k units were wanted for its block
 abbrev pub Tells : ℕ → ℕ → Type 0
 Tells k len = (size : ℕ) → k ≤ size → size < k + 4 → held_units size len ≡ k
 

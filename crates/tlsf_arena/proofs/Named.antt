@@ -1,4 +1,4 @@
--- What stands at the place of a name that is held.
+-- The block at the place of a name that is held.
 use Rattle.tlsf_arena.proofs.Common.{◌≡◌, ℕ, ◌+◌, ◌*◌, ◌/◌, ◌<◌, ◌≤◌, ◌≢◌, true, eqb, Bool, List, ◌∷◌, length, Option, Some, None, sym, ap, subst, ◌∙◌, arith, AllByRecursion, eqb-true, false≢true, Block, Live, Free, HeapState, size_of, words_in, Site, place_of, block_at, has_serial, named, IsLawful, HasRoom, placed_at, placed, Name, Holds, IsMapped, free_map, held_at}
 use Rattle.tlsf_heap.proofs.lemmas.blocks.Find.{and_left, and_right}
 use Rattle.tlsf_heap.proofs.lemmas.blocks.Lawful.{all_right, words_in-append}

@@ -12,7 +12,7 @@ use Rattle.tlsf_arena.proofs.Spread.{spread_run, spread_marked}
 abbrev Bits : Type 0
 Bits = List Bool
 
--- a live block in m units, of which n are wanted, is held n units long
+-- a live block in m units, where n are wanted, is held n units long
 cut_map : (m n tick serial : ℕ) (bytes : List ℕ) → Tells n (length bytes) → n ≤ m → free_map (cut m n tick serial bytes) ≡ replicate n false ++ replicate (m - n) true
 cut_map m n tick serial bytes tells fits = elim (cases_lt m (n + 4)) [
   | inl small ↦ ap free_map (cut_small m n tick serial bytes small) ∙ live_map m n serial bytes (tells m fits small)
@@ -25,7 +25,7 @@ cut_map m n tick serial bytes tells fits = elim (cases_lt m (n + 4)) [
     live_map : (m n serial : ℕ) (bytes : List ℕ) → held_units m (length bytes) ≡ n → free_map (Live m serial bytes ∷ []) ≡ replicate n false ++ replicate (m - n) true
     live_map m n serial bytes holds = ap (λ (j : ℕ). replicate j false ++ (replicate (m - j) true ++ [])) holds ∙ ap (λ (l : Bits). replicate n false ++ l) (append-nil (replicate (m - n) true))
 
--- what stands at a block and behind it, once n units of it are held: of so many free ones
+-- what stands at a block and behind it, once n units of it are held: of this many free ones
 refitted_map : (tick n len m serial : ℕ) (bytes : List ℕ) (after : List Block) → Tells n len → n ≤ m + first_free after
     → free_map (refitted tick n len (Live m serial bytes) after) ≡ replicate n false ++ (replicate (m + first_free after - n) true ++ free_map (past_free after))
 refitted_map tick n len m serial bytes after tells fits = by_bool (is_sized n (Live m serial bytes)) refl

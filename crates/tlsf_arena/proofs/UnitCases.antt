@@ -1,4 +1,4 @@
--- What holds of a unit of 16, 32 and 64 bytes holds of each.
+-- A fact of a unit of 16, of 32 and of 64 bytes is one of each unit.
 use Rattle.tlsf_arena.proofs.Common.{◌≡◌, ℕ, ◌+◌, ◌-◌, ◌*◌, ◌/◌, ◌%◌, ◌≤◌, eqb, ◌||◌, inl, inr, sym, subst, arith, eqb-true, or_cases, IsUnit, piece_size}
 
 pub by_unit : (P : ℕ → Type 0) → P 16 → P 32 → P 64 → (u : ℕ) → IsUnit u → P u
@@ -7,7 +7,7 @@ by_unit P a b c u is = elim (or_cases (eqb u 16) (eqb u 32 || eqb u 64) is) [
   | inr es ↦ elim (or_cases (eqb u 32) (eqb u 64) es) [ inl e ↦ subst P (sym (eqb-true u 32 e)) b | inr e ↦ subst P (sym (eqb-true u 64 e)) c ]
 ]
 
--- so many units are so many grains
+-- this many units are this many grains
 pub grains_of : (u k : ℕ) → IsUnit u → u * k ≡ 16 * (u / 16 * k)
 grains_of u k is = by_unit (λ u. u * k ≡ 16 * (u / 16 * k)) (omega arith) (omega arith) (omega arith) u is
 

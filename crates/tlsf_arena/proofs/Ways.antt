@@ -18,7 +18,7 @@ exact w m = by_width (λ a. m % a ≡ 0 → m / a * a ≡ m) (λ e. omega (arith
 pub grains_even : (w : Width) (k : ℕ) → (16 * k) % bytes w ≡ 0
 grains_even w k = by_width (λ a. (16 * k) % a ≡ 0) (omega arith) (omega arith) (omega arith) (omega arith) (omega arith) w
 
--- what is left of grains behind some integers are integers
+-- what is left of grains after some integers are integers
 pub left_even : (w : Width) (m n : ℕ) → m % bytes w ≡ 0 → n % 16 ≡ 0 → m ≤ n → (n - m) % bytes w ≡ 0
 left_even w m n = by_width (λ a. m % a ≡ 0 → n % 16 ≡ 0 → m ≤ n → (n - m) % a ≡ 0) (λ e f g. omega (arith, e, f, g)) (λ e f g. omega (arith, e, f, g)) (λ e f g. omega (arith, e, f, g)) (λ e f g. omega (arith, e, f, g)) (λ e f g. omega (arith, e, f, g)) w
 
@@ -80,7 +80,7 @@ module _ {M : Type 1} {𝓤 : Ura M} (𝓛 : Logic 𝓤) (w : Width) (b : ℕ) w
   pub ints_same : (x m n : ℕ) → m ≡ n → part x m ⊢ part x n
   ints_same x m n same = qed 𝓛 (raw (part x m) ∷ []) ∵ rewrite ! 0 (λ (k : ℕ). raw (part x k)) same refl $ done !
 
-  -- so many grains as integers, each with its way back
+  -- this many grains as integers, each with its way back
   pub opens : (x k : ℕ) → all x (16 * k) ⊢ part x (16 * k) ∗ back x k
   opens x zero = qed 𝓛 (raw (all x (16 * zero)) ∷ []) ∵ drop ! $ use0 𝓛 (raw (H.room (ty_array (ty_int w) zero) b x)) (𝓛.laws.room_nil (ty_int w) b x) $
       rewrite ! 0 (λ (n : ℕ). raw (H.room (ty_array (ty_int w) n) b x)) (none w) refl $ nothing ! $ move ! (1 ∷ 0 ∷ []) $ done !

@@ -1,4 +1,4 @@
--- What contracts see of an arena, and what its calls ask of its heap.
+-- An arena as contracts see it, and the calls on its heap.
 use Rattle.std.specs.Prelude.{◌≡◌, ℕ, ◌*◌, ◌/◌, ◌^◌, ◌≤◌, List, Bool, Some, length}
 use base.Fml.{GName}
 use Rattle.linked_list_allocator.specs.Region.{Region}
@@ -10,8 +10,8 @@ use Rattle.tlsf_heap.specs.Calls.{Outcome, named, allocated_words, resized_words
 use Rattle.tlsf_heap.specs.declared.name.Name.{Name}
 use Rattle.tlsf_arena.specs.Places.{IsUnit, units_for, lacking, held_units, free_map, spread}
 
--- the heap that decides, the memory that is cut, the book of the blocks that are out, the heap's own memory, its touches, and how often an
--- address was compared with that of a unit
+-- the heap that decides, the memory that is cut, the book of the blocks that are out, and the heap's own memory. Also its touches,
+-- and how often an address was compared with that of a unit
 pub record ArenaState : Type 0 where
   pub heap : HeapState
   pub region : Region
@@ -40,7 +40,7 @@ SameHome old new = (new.region ≡ old.region) × (new.book ≡ old.book) × (ne
 abbrev pub SameArena : ArenaState → ArenaState → Type 0
 SameArena old new = (new.heap ≡ old.heap) × SameHome old new
 
--- the map of free grains, sixteen bytes each, is that of the heap's units: so many, of u bytes each
+-- the map of free grains, sixteen bytes each, is that of the heap's units: this many, of u bytes each
 pub record IsMapped (sli u units : ℕ) (h : HeapState) (free : List Bool) : Type 0 where
   pub level : IsLevel sli
   pub unit : IsUnit u

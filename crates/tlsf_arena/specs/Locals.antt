@@ -1,4 +1,4 @@
--- What contracts see of an arena that serves the collections of one thread.
+-- An arena that serves the collections of one thread, as contracts see it.
 use Rattle.std.specs.Prelude.{ℕ}
 use Rattle.linked_list_allocator.specs.Region.{Region}
 use Rattle.tlsf_arena.specs.declared.local.LocalArena.{LocalArena}

@@ -1,4 +1,4 @@
--- What the free grains and a piece own. b is the object that holds the region.
+-- Ownership of the free grains and of a piece. b is the object that holds the region.
 use Rattle.std.specs.Prelude.{◌≡◌, ℕ, zero, suc, ◌+◌, ◌-◌, ◌*◌, ◌/◌, Bool, true, false, List, [], ◌∷◌}
 use mir.Syntax.{Ty, Width, ty_int, ty_array}
 use mir.Val.{bytes}
@@ -42,7 +42,7 @@ Home = Region × GName
 abbrev pub IsLoanAt : ℕ → Region → Ptr → ℕ → Loan → Type 0
 IsLoanAt u r p n t = (p ≡ block_ptr r.block (r.start + u * (name_of t).at)) × (units_in t ≡ units_for u n)
 
--- the right to give the block at p, of which n bytes were asked, back to an arena
+-- the right to give the block at p, for which n bytes were asked, back to an arena
 abbrev pub right_at : ℕ → Home → Ptr → ℕ → Fml
 right_at u h p n = fex Loan (λ t. fex (IsLoanAt u h.0 p n t) (λ _. right h.1 t))
 

@@ -55,8 +55,8 @@ abbrev pub spread : ℕ → List Bool → List Bool
 spread n [] = []
 spread n (b ∷ free) = replicate n b ++ spread n free
 
--- the units that a live block of the heap holds: of its size those that were asked for, which its payload length makes a multiple of four.
--- Up to three more words that the heap gave it stay behind them
+-- the units that a live block of the heap holds. They are those of its size that were asked for, a multiple of four by its payload
+-- length. Up to three more words that the heap gave it stay behind them
 abbrev pub held_units : ℕ → ℕ → ℕ
 held_units size len = size - (size + len) % 4
 

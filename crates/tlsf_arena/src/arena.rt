@@ -36,9 +36,9 @@ use tlsf_heap::{Content, Heap, Name, OpenFault, PlacedBlock, Refusal, Report};
 /// The level is the heap's, 4 or 5, and a unit has 16, 32 or 64 bytes. The heap's words hold its headers and no payload, and the memory
 /// holds payload and no headers.
 ///
-/// Contracts see it as its heap, the region of its memory, the book in which its blocks stand, the heap's own memory (`extents`) and
-/// touches, and how often an address was compared with that of a unit.
-/// The bytes of the units that no live block holds are the arena's; those of a block are its holder's alone.
+/// Contracts see it as its heap, the region of its memory and the book in which its blocks stand. They also see the heap's own
+/// memory (`extents`), its touches, and how often an address was compared with that of a unit. The bytes of the units that no live
+/// block holds are the arena's; those of a block are its holder's alone.
 pub struct Arena<const SLI: u32, const UNIT: usize> {
     heap: Box<Heap<SLI>, Global>,
     space: Space,
@@ -68,8 +68,8 @@ impl<const SLI: u32, const UNIT: usize> Arena<SLI, UNIT> {
     /// Opens an arena of `units` units: `UNIT * units` bytes, which are taken from `alloc` beside those for the heap. The heap has the
     /// number `id`.
     ///
-    /// Refused as `BadSize` where `units` is below 4, or above 2^20 at level 4 and 2^24 at level 5, else as `NoMemory` where the memory
-    /// was not granted. No later call takes memory.
+    /// Refused as `BadSize` where `units` is below 4, or above 2^20 at level 4 and 2^24 at level 5. Otherwise as `NoMemory` where
+    /// the memory was not granted. No later call takes memory.
     ///
     /// ```text
     /// let arena = Arena::<4, 16>::open(alloc, 0, 1 << 16)?;            // 1 MiB in units of 16 bytes
@@ -107,12 +107,12 @@ impl<const SLI: u32, const UNIT: usize> Arena<SLI, UNIT> {
         })
     }
 
-    /// Opens an arena of `units` units over memory that the caller hands over, `UNIT * units` bytes: those of a static, of a shared mapping,
-    /// of a device. The heap has the number `id`, and memory for it alone is taken from `alloc`. [`Arena::into_memory`] hands the memory
-    /// back; an arena that is dropped keeps it for good, and gives none of it to `alloc`.
+    /// Opens an arena of `units` units over memory that the caller hands over, `UNIT * units` bytes. It may be that of a static, of
+    /// a shared mapping or of a device. The heap has the number `id`, and memory for it alone is taken from `alloc`.
+    /// [`Arena::into_memory`] hands the memory back. An arena that is dropped keeps it for good, and gives none of it to `alloc`.
     ///
-    /// Refused, with the memory, as `BadSize` where `units` is below 4, or above 2^20 at level 4 and 2^24 at level 5, else as `NoMemory` where
-    /// the memory for the heap was not granted.
+    /// Refused, with the memory, as `BadSize` where `units` is below 4, or above 2^20 at level 4 and 2^24 at level 5. Otherwise as
+    /// `NoMemory` where the memory for the heap was not granted.
     pub fn open_in(
         alloc: Global,
         id: u32,
@@ -152,8 +152,8 @@ impl<const SLI: u32, const UNIT: usize> Arena<SLI, UNIT> {
         })
     }
 
-    /// Hands the arena's memory over, where no block is out; else the arena is as it was. What was taken from `Global` doesn't go back
-    /// there: it is the caller's for good.
+    /// Hands the arena's memory over, where no block is out; else the arena is as it was. Memory that was taken from `Global`
+    /// doesn't go back there: it is the caller's for good.
     pub fn into_memory(self) -> Result<Memory, Arena<SLI, UNIT>>
         ensures memory { IfOk result (λ m. region_of m.ptr m.size ≡ self.entry.region) }
         ensures place { IfOk result (λ m. count_of m.ptr + m.size < 2 ^ 63) }
@@ -197,21 +197,21 @@ impl<const SLI: u32, const UNIT: usize> Arena<SLI, UNIT> {
 
     /// Gives a block of `len` bytes or more, aligned to 16: as many whole units as hold `len` bytes, and no fewer than four.
     ///
-    /// Refused as `NoFit` where the heap has no free block in a class at or above the search class of these units, else as `Worn` where the
-    /// tick is at its last value. Takes no memory.
+    /// Refused as `NoFit` where the heap has no free block in a class at or above the search class of these units. Otherwise as
+    /// `Worn` where the tick is at its last value. Takes no memory.
     ///
     /// ```text
     /// let mut arena = Arena::<4, 16>::open(alloc, 0, 64)?;             // 1,024 bytes
     /// let block = arena.allocate(100)?;        // 7 units: 112 bytes
     /// arena.allocate(1000) == Err(Refusal::NoFit)
     /// ```
-    // Always inline: behind a call the answer goes through memory.
+    // Always inline: in a call of its own the answer goes through memory.
     #[inline(always)]
     pub fn allocate(&mut self, len: u32) -> Result<Block<UNIT>, Refusal>
         ensures answer { MatchResult result (λ b. (requested SLI UNIT self.old.heap len).answer ≡ Ok b.name) (λ why. (requested SLI UNIT self.old.heap len).answer ≡ Err why) }
         ensures heap { self.new.heap ≡ (requested SLI UNIT self.old.heap len).heap }
 
-        // What that comes to: when it is NoFit, when it is a block, and that a refusal changes nothing.
+        // This comes to: when it is NoFit, when it is a block, and that a refusal changes nothing.
         ensures no_fit { IsErrOf result Refusal.NoFit ↔ (fits SLI (units_for UNIT len) self.old.heap.blocks ≡ []) }
         ensures accepted { IsOk result ↔ (¬ (fits SLI (units_for UNIT len) self.old.heap.blocks ≡ []) × ¬ (self.old.heap.tick ≡ last_tick)) }
         ensures err { OnErr result (self.new.heap ≡ self.old.heap) }
@@ -239,8 +239,8 @@ impl<const SLI: u32, const UNIT: usize> Arena<SLI, UNIT> {
 
     /// Takes a block back, and merges its units with the free ones beside them.
     ///
-    /// A block that is out is live, as its right shows (`live`): so it is refused, and comes back, for nothing but `Worn`, where the tick is at
-    /// its last value. Takes no memory.
+    /// A block that is out is live, as its right shows (`live`). So it is refused, and comes back, for nothing but `Worn`, where
+    /// the tick is at its last value. Takes no memory.
     ///
     /// ```text
     /// let block = arena.allocate(100)?;
@@ -252,7 +252,8 @@ impl<const SLI: u32, const UNIT: usize> Arena<SLI, UNIT> {
         ensures answer { MatchResult result (λ _. (released self.old.heap block.entry.name).answer ≡ Ok tt) (λ e. (released self.old.heap block.entry.name).answer ≡ Err e.0) }
         ensures heap { self.new.heap ≡ (released self.old.heap block.entry.name).heap }
 
-        // What that comes to: a block that is out is live, and a refusal, which comes at the last tick alone, changes nothing and gives it back.
+        // This comes to: a block that is out is live. A refusal, which comes at the last tick alone, changes nothing and gives it
+        // back.
         ensures live { Holds self.old.heap block.entry.name (units_of block.entry.right.loan) }
         ensures worn { IfErr result (λ e. e.0 ≡ Refusal.Worn) }
         ensures err { IfErr result (λ e. (self.new.heap ≡ self.old.heap) × (e.1 ≡ block.entry)) }
@@ -324,7 +325,8 @@ impl<const SLI: u32, const UNIT: usize> Arena<SLI, UNIT> {
         ensures answer { MatchResult result (λ _. (released self.old.heap (name_of right.loan)).answer ≡ Ok tt) (λ e. (released self.old.heap (name_of right.loan)).answer ≡ Err e.0) }
         ensures heap { self.new.heap ≡ (released self.old.heap (name_of right.loan)).heap }
 
-        // What that comes to: a block that is out is live, and a refusal, which comes at the last tick alone, changes nothing and gives it back.
+        // This comes to: a block that is out is live. A refusal, which comes at the last tick alone, changes nothing and gives it
+        // back.
         ensures live { Holds self.old.heap (name_of right.loan) (units_of right.loan) }
         ensures worn { IfErr result (λ e. e.0 ≡ Refusal.Worn) }
         ensures err { IfErr result (λ e. (self.new.heap ≡ self.old.heap) × (e.1 ≡ piece) × (e.2 ≡ right)) }
@@ -376,8 +378,8 @@ impl<const SLI: u32, const UNIT: usize> Arena<SLI, UNIT> {
     /// Makes a block `len` bytes long or more where it stands: its name and its address stay, and no byte is moved. It then has as many whole
     /// units as hold `len` bytes, and no fewer than four.
     ///
-    /// A block that is out is live (`live`). Refused, with the block, as `NoRoom` where it and the free units behind it are fewer than
-    /// wanted, else as `Worn` where the tick is at its last value. Takes no memory.
+    /// A block that is out is live (`live`). Refused, with the block, as `NoRoom` where it and the free units behind it are fewer
+    /// than wanted. Otherwise as `Worn` where the tick is at its last value. Takes no memory.
     ///
     /// ```text
     /// let block = arena.allocate(100)?;        // of a new arena of 64 units of 16 bytes: 7 of them
@@ -393,7 +395,7 @@ impl<const SLI: u32, const UNIT: usize> Arena<SLI, UNIT> {
         ensures answer { MatchResult result (λ _. (refitted UNIT self.old.heap block.entry.name len).answer ≡ Ok tt) (λ e. (refitted UNIT self.old.heap block.entry.name len).answer ≡ Err e.0) }
         ensures heap { self.new.heap ≡ (refitted UNIT self.old.heap block.entry.name len).heap }
 
-        // What that comes to.
+        // This comes to the following.
         ensures block { IfOk result (λ b. (b.name ≡ block.entry.name) × (b.piece.region ≡ self.old.region) × (b.right.book ≡ self.old.book) × (b.piece.at ≡ block.entry.piece.at) × (b.piece.size ≡ piece_size UNIT len)) }
         ensures live { Holds self.old.heap block.entry.name (units_of block.entry.right.loan) }
         ensures named { IfErr result (λ e. (e.0 ≢ Refusal.Stale) × (e.0 ≢ Refusal.Foreign)) }
@@ -452,9 +454,9 @@ impl<const SLI: u32, const UNIT: usize> Arena<SLI, UNIT> {
         }
     }
 
-    /// Makes a block `len` bytes long or more where it stands, and lends the units that it is to have besides: the `size` bytes before them stay
-    /// their owner's, with all that lies in them. It then has as many whole units as hold `len` bytes, more than before. Its right comes
-    /// back with them.
+    /// Makes a block `len` bytes long or more where it stands, and lends the units that it is to have besides. The `size` bytes
+    /// before them stay their owner's, with all that lies in them. It then has as many whole units as hold `len` bytes, more than
+    /// before. Its right comes back with them.
     ///
     /// Refused, with the right, as [`Arena::resize`] refuses a block of that name. Takes no memory.
     ///
@@ -476,7 +478,7 @@ impl<const SLI: u32, const UNIT: usize> Arena<SLI, UNIT> {
         ensures answer { MatchResult result (λ _. (refitted UNIT self.old.heap name len).answer ≡ Ok tt) (λ e. (refitted UNIT self.old.heap name len).answer ≡ Err e.0) }
         ensures heap { self.new.heap ≡ (refitted UNIT self.old.heap name len).heap }
 
-        // What that comes to.
+        // This comes to the following.
         ensures rest { IfOk result (λ r. (r.0.region ≡ self.old.region) × (r.0.at ≡ self.old.region.start + UNIT * name.at + size) × (size + r.0.size ≡ piece_size UNIT len)) }
         ensures right { IfOk result (λ r. (r.1.book ≡ self.old.book) × (r.1.loan ≡ loan_of name (units_for UNIT len))) }
         ensures live { Holds self.old.heap name (units_of right.loan) }
@@ -550,7 +552,7 @@ impl<const SLI: u32, const UNIT: usize> Arena<SLI, UNIT> {
         ensures answer { MatchResult result (λ _. (refitted UNIT self.old.heap name len).answer ≡ Ok tt) (λ e. (refitted UNIT self.old.heap name len).answer ≡ Err e.0) }
         ensures heap { self.new.heap ≡ (refitted UNIT self.old.heap name len).heap }
 
-        // What that comes to.
+        // This comes to the following.
         ensures right { IfOk result (λ r. (r.book ≡ self.old.book) × (r.loan ≡ loan_of name (units_for UNIT len))) }
         ensures live { Holds self.old.heap name (units_of right.loan) }
         ensures named { IfErr result (λ e. (e.0 ≢ Refusal.Stale) × (e.0 ≢ Refusal.Foreign)) }
@@ -613,7 +615,8 @@ impl<const SLI: u32, const UNIT: usize> Arena<SLI, UNIT> {
         self.heap.tick()
     }
 
-    /// What the arena's heap holds, and how well it serves, in units: a walk over all its blocks. It is never refused, and takes no memory.
+    /// The report on the arena's heap, in units: its blocks, and how well it serves. It walks over all blocks. It is never refused,
+    /// and takes no memory.
     ///
     /// ```text
     /// arena.report().free_words                // of a new arena of 64 units: 64

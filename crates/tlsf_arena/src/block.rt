@@ -7,8 +7,8 @@ use crate::right::Right;
 use std::fmt;
 use tlsf_heap::Name;
 
-/// Memory that an [`Arena`](crate::Arena) gave out, under the name that its heap gave it: whoever has the block is the only one who can
-/// reach its bytes. It goes back by [`Arena::release`](crate::Arena::release).
+/// Memory that an [`Arena`](crate::Arena) gave out, under the name that its heap gave it. Whoever has the block is the only one who
+/// can reach its bytes. It goes back by [`Arena::release`](crate::Arena::release).
 ///
 /// Unit `name.at` of the arena is the first of it: its address is that of the arena's memory and `UNIT * name.at` bytes (`matched`).
 pub struct Block<const UNIT: usize> {

@@ -11,7 +11,7 @@ use crate::piece::Piece;
 use std::marker::{Model, PhantomData};
 use std::ptr::copy_nonoverlapping;
 
-// Room for `cap` values, of which the first `len` are there.
+// Room for `cap` values, and the first `len` are there.
 pub(crate) struct Buffer<T> {
     pub(crate) ptr: *mut T,
     pub(crate) marker: PhantomData<T>,
@@ -47,7 +47,7 @@ impl<T> Buffer<T> {
         (ptr as *mut u8, Buffer { ptr, marker })
     }
 
-    // The values stay, and the piece behind theirs is room for more of them.
+    // The values stay, and the piece after their room is room for more of them.
     pub(crate) fn extended(self, rest: Piece, _cap: usize) -> Buffer<T>
         requires unit { IsUnit self.unit }
         requires region { rest.region ≡ self.region }

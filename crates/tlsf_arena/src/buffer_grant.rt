@@ -1,4 +1,4 @@
-// What std's token stands for: room for values, and the right of its block.
+// The meaning of std's token: room for values, and the right of its block.
 ghost use Rattle.std.specs.Prelude.{◌≡◌, ℕ, ◌*◌, List};
 ghost use Rattle.std.specs.Allocator.{block_with_items};
 ghost use Rattle.std.specs.Mem.{type_size};
@@ -8,7 +8,7 @@ use crate::buffer::Buffer;
 use crate::right::Right;
 use std::marker::{Model, PhantomData};
 
-// Room for `cap` values, of which the first `len` are there, with the right of its block.
+// Room for `cap` values, and the first `len` are there, with the right of its block.
 pub(crate) struct BufferGrant<T> {
     pub(crate) ptr: *mut T,
     pub(crate) marker: PhantomData<T>,

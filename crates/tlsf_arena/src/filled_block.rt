@@ -42,7 +42,7 @@ impl<const UNIT: usize> FilledBlock<UNIT> {
         self.piece.as_slice()
     }
 
-    /// The bytes, to be written. What is written there is what is read later (`writes_back`), and nothing else changes.
+    /// The bytes, to be written. Later reads see the bytes that are written there (`writes_back`), and nothing else changes.
     ///
     /// ```text
     /// block.as_mut_slice()[0] = 9;
@@ -56,7 +56,7 @@ impl<const UNIT: usize> FilledBlock<UNIT> {
         self.piece.as_mut_slice()
     }
 
-    /// The block again, to be given back. What its bytes hold is in no clause from here on.
+    /// The block again, to be given back. No clause speaks of the bytes from here on.
     ///
     /// ```text
     /// arena.release(block.into_block())

@@ -33,7 +33,7 @@ impl FilledPiece {
         self.vec.as_slice()
     }
 
-    /// The bytes, to be written. What is written there is what is read later (`writes_back`), and nothing else changes.
+    /// The bytes, to be written. Later reads see the bytes that are written there (`writes_back`), and nothing else changes.
     ///
     /// ```text
     /// filled.as_mut_slice()[0] = 9;
@@ -47,7 +47,7 @@ impl FilledPiece {
         self.vec.as_mut_slice()
     }
 
-    /// The piece again. What its bytes hold is in no clause from here on.
+    /// The piece again. No clause speaks of the bytes from here on.
     ///
     /// ```text
     /// let piece = filled.into_piece();

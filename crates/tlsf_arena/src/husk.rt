@@ -9,7 +9,7 @@ use crate::piece::Piece;
 use std::marker::Model;
 use std_alloc::vec::{Lodged, lodge};
 
-// What is left of a piece while a vector has its bytes.
+// The rest of a piece while a vector has its bytes.
 pub(crate) struct Husk {
     pub(crate) ptr: *mut u8,
     pub(crate) size: usize,
@@ -35,7 +35,7 @@ impl Husk {
         (vec, Husk { ptr, size })
     }
 
-    // The piece again. What the bytes hold is forgotten.
+    // The piece again. The content of the bytes is forgotten.
     pub(crate) fn close(self, vec: Vec<u8, Lodged>) -> Piece
         requires { (vec.ptr ≡ self.ptr) × (vec.cap ≡ self.size) }
         ensures { result ≡ piece_within self }
@@ -52,7 +52,7 @@ unsafe impl Send for Husk {}
 // A `&` to it shows nothing.
 unsafe impl Sync for Husk {}
 
-// Sets all bytes of a vector that has room for so many. None moves, as no memory is asked for.
+// Sets all bytes of a vector that has room for them. None moves, as no memory is asked for.
 pub(crate) fn set_all(vec: Vec<u8, Lodged>, size: usize, value: u8) -> Vec<u8, Lodged>
     requires { (vec.items ≡ []) × (vec.len ≡ 0) × (vec.cap ≡ size) }
     ensures { (result.items ≡ replicate size value) × (result.len ≡ size) × (result.cap ≡ size) × (result.ptr ≡ vec.ptr) }

@@ -120,8 +120,8 @@ impl<const SLI: u32, const UNIT: usize> LocalArena<SLI, UNIT> {
         (self.last.get(), self.before_last.get())
     }
 
-    // The values stay where a piece of as many units is wanted, and where the arena has the others behind it or takes them back. Else they move to
-    // a new block, which is aligned enough for every type.
+    // The values stay where a piece of equally many units is wanted, and where the arena has the others after it or takes them
+    // back. Else they move to a new block, which is aligned enough for every type.
     fn moved<T>(
         &self,
         grant: BufferGrant<T>,

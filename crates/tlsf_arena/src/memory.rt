@@ -30,7 +30,7 @@ pub(crate) struct Lease<A: Allocator> {
     ghost size: { ℕ },
 }
 
-// What shows that memory of so many bytes went back to its parent.
+// A proof that memory of this many bytes went back to its parent.
 #[derive(Drop)]
 pub(crate) struct Freed {
     size: usize,
@@ -41,8 +41,9 @@ impl<A: Allocator> Model for Lease<A> {
 }
 
 impl Memory {
-    /// The memory of `size` bytes from an address on, which the caller owns and hands over: those of a static, of a shared mapping, of a
-    /// device. The address is a multiple of 16, and `size` one of 16 from 32 on. [`Memory::into_raw_parts`] is the way back.
+    /// The memory of `size` bytes from an address on, which the caller owns and hands over. It may be that of a static, of a shared
+    /// mapping or of a device. The address is a multiple of 16, and `size` one of 16 from 32 on. [`Memory::into_raw_parts`] is the
+    /// way back.
     ///
     /// ```text
     /// let memory = unsafe { Memory::from_raw_parts(ptr, 1 << 20) };

@@ -8,10 +8,10 @@ use crate::filled_piece::FilledPiece;
 use crate::husk::{Husk, set_all};
 use std::marker::Model;
 
-/// Bytes of an arena's memory that it gave out: whoever has the piece owns them. What they hold is in no clause.
+/// Bytes of an arena's memory that it gave out: whoever has the piece owns them. No clause speaks of the bytes that they hold.
 ///
-/// Contracts see the region of the arena's memory, and the place `at` at which the piece begins, in bytes of the object that the region lies
-/// in (`placed`).
+/// Contracts see the region of the arena's memory, and the place `at` at which the piece begins. It counts in bytes of the object
+/// that the region lies in (`placed`).
 pub struct Piece {
     pub(crate) ptr: *mut u8,
     pub(crate) size: usize,

@@ -39,7 +39,7 @@ pub(crate) fn unit_at(
     None
 }
 
-/// Whether a unit begins at an address, and is one of so many: one comparison at most.
+/// Whether a unit begins at an address, and is one of this number of units: one comparison at most.
 fn is_unit_at(
     ptr: *mut u8,
     base: *mut u8,

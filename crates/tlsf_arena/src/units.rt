@@ -13,7 +13,7 @@ pub(crate) fn units_of(len: usize, unit: usize) -> usize
     ((len + (unit - 1)) / unit).max(4)
 }
 
-// What so many units lack of a multiple of four.
+// How many units these lack of a multiple of four.
 pub(crate) fn lacking(units: u32) -> u32
     ensures { result ≡ lacking units }
 {
@@ -27,7 +27,7 @@ pub(crate) fn held_units(size: u32, length: u32) -> u32
     size.saturating_sub((size % 4 + length % 4) % 4)
 }
 
-// The bytes of so many units.
+// The bytes of this many units.
 pub(crate) fn bytes_of(units: u32, unit: usize) -> usize
     requires { IsUnit unit }
     ensures bytes { result ≡ unit * units }

@@ -1,4 +1,4 @@
--- What holds of one level holds where the level is told.
+-- A fact of one level is one of the heap whose level is told.
 use Rattle.std.proofs.Common.{◌≡◌, sym, subst}
 
 -- what holds of an answer, of what is left and of what was before, holds of those that they are

@@ -1,4 +1,4 @@
--- What a heap counts over its calls.
+-- The counts of a heap over its calls.
 use Rattle.tlsf_c.proofs.Common.{◌≡◌, drop, ℕ, ◌+◌, ◌-◌, ◌≤◌, max, List, Result, Ok, Err, refl, sym, ap, ◌∙◌, subst, arith, IfOk, OnErr, HeapState, want, refused, allocated, allocated_words, resized_words, written, FollowsNoForgery, Seen, Shown, words_in_use, words_at, Name, Refusal, counted, AreCounts, Counts}
 use Rattle.tlsf_class.specs.Classes.{IsLevel}
 use Rattle.tlsf_heap.specs.Aligned.{words_aligned}

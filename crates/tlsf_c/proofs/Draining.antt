@@ -17,7 +17,7 @@ pub drained_none : (h : HeapState) (posts : List Post) → length posts ≡ 0 �
 drained_none h [] none = refl
 drained_none h (x ∷ xs) none = absurd (omega (arith, none))
 
--- what is counted once `came` posts and then `more` were released, where a heap has so many words in use
+-- what is counted once `came` posts and then `more` were released, where a heap has this many words in use
 pub counts_more : (first last now : Counts) (last_words now_words came more : ℕ)
     → (came ≡ 0 → last ≡ first) → (0 < came → last ≡ record first { words = last_words })
     → (more ≡ 0 → now ≡ last) → (more ≡ 0 → now_words ≡ last_words) → (0 < more → now ≡ record last { words = now_words })

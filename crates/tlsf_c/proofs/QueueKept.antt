@@ -1,4 +1,4 @@
--- What stays of a queue over several calls, and how a drain of one goes on.
+-- The facts of a queue that stay over several calls, and how a drain of one goes on.
 use Rattle.tlsf_c.proofs.Common.{refl, ◌∙◌, Option, Some, None, KeepsQueue}
 use Rattle.tlsf_post.specs.declared.owner_end.OwnerEnd.{OwnerEnd}
 

@@ -1,4 +1,4 @@
--- What C is told of a look at blocks.
+-- The answer to C on a look at blocks.
 use Rattle.std.specs.Prelude.{ℕ, Option, Some, None}
 use Rattle.tlsf_heap.specs.Numbers.{number_of}
 use Rattle.tlsf_heap.specs.declared.checked.Checked.{Checked}

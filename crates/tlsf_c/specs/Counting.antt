@@ -1,4 +1,4 @@
--- What a heap counts.
+-- The counts of a heap.
 use Rattle.std.specs.Prelude.{◌≡◌, ℕ, ◌+◌, ◌≤◌, ◌-◌, ◌^◌, ◌==◌, Result, Ok, Err, max, min, if◌then◌else◌}
 use Rattle.tlsf_heap.specs.Blocks.{HeapState}
 use Rattle.tlsf_heap.specs.WordsInUse.{words_in_use, words_at}
@@ -33,8 +33,8 @@ abbrev pub counted_request : {A : Type 0} → Counts → Result A Refusal → �
 counted_request c (Ok given) len h = counted c h
 counted_request c (Err why) len h = counted_if c len why
 
--- the counts where a resize of the block at this place to `len` bytes was answered so and left this heap: while a block moves, its old words are in use and
--- the new ones too
+-- the counts where a resize of the block at this place to `len` bytes was answered in this way and left this heap. While a block
+-- moves, its old words are in use and the new ones too
 abbrev pub counted_move : Counts → ℕ → Result Name Refusal → ℕ → HeapState → Counts
 counted_move c at (Ok new) len h =
     if new.at == at then counted c h else counted (record c { most_words = max c.most_words (c.words + words_at h new.at) }) h

@@ -1,4 +1,4 @@
--- What a heap becomes as posts are drained, and which payloads that touches.
+-- The heap as posts are drained, and which payloads that touches.
 use Rattle.std.specs.Prelude.{◌≡◌, ℕ, List, fold}
 use Rattle.std.specs.List.{AllByRecursion}
 use Rattle.tlsf_words.specs.Touched.{times}

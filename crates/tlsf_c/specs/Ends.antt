@@ -1,4 +1,4 @@
--- What the ends of a queue show, that C's handles hold.
+-- The ends of a queue, as C's handles hold them.
 use Rattle.std.specs.Prelude.{◌≡◌, List, [], ◌∷◌, ◌++◌, map, length}
 use Rattle.tlsf_heap.specs.declared.name.Name.{Name}
 use Rattle.tlsf_post.specs.Mailboxes.{put_by, number_of, plan_of, PosterSaw}
@@ -14,7 +14,7 @@ ends_in q = map (λ b. b.value) q.left.items
 abbrev pub post_by : PosterEnd → Name → Post
 post_by p name = record { from = number_of p; name = name }
 
--- a post with that name stands behind those put before, and waited as the last of no more than the queue holds
+-- a post with that name stands after those put before, and waited as the last of no more than the queue holds
 abbrev pub HasPut : PosterEnd → PosterEnd → Name → Type 0
 HasPut old new name = (put_by new ≡ put_by old ++ post_by old name ∷ []) × (others : List Post) × PosterSaw new (others ++ post_by old name ∷ [])
 

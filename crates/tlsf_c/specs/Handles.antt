@@ -1,4 +1,4 @@
--- What lies behind C's handles.
+-- The objects behind C's handles.
 use Rattle.std.specs.Prelude.{◌≡◌, ℕ, true, List, [], Option, Some, None, map}
 use denote.RawPtr.{Ptr}
 use Rattle.tlsf_heap.specs.Blocks.{HeapState}

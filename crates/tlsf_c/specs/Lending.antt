@@ -1,4 +1,4 @@
--- What a handle is once what it lent is given back.
+-- A handle once all that it lent is given back.
 use Rattle.std.specs.Borrow.{Lends, MutBor, Fml}
 use Rattle.tlsf_c.specs.Levels.{LevelHeap}
 use Rattle.tlsf_c.specs.declared.boxed_heap.BoxedHeap.{BoxedHeap}
@@ -9,6 +9,6 @@ use Rattle.tlsf_c.specs.contracts.boxed_heap.BoxedHeap as held
 abbrev pub holding : BoxedHeap → LevelHeap → BoxedHeap
 holding h value = record h { value = value }
 
--- it holds the last heap behind r
+-- it holds the last heap after r
 abbrev pub LendsHeap : MutBor BoxedHeap → MutBor LevelHeap → Fml
 LendsHeap h r = Lends held.the_row heap.the_row h r (holding h.now)

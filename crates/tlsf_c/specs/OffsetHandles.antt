@@ -1,4 +1,4 @@
--- What lies behind C's handles of an arena of offsets, and what crosses to C beside them.
+-- The objects behind C's handles of an arena of offsets, and the values that cross to C beside them.
 use Rattle.std.specs.Prelude.{◌≡◌, ℕ, true}
 use Rattle.tlsf_offsets.specs.Offsets.{Offsets}
 use Rattle.tlsf_offsets.specs.declared.span.Span.{Span}

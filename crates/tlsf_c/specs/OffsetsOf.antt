@@ -1,4 +1,4 @@
--- What an arena of one of the two levels shows.
+-- The view of an arena of one of the two levels.
 use Rattle.tlsf_c.specs.OffsetLevels.{LevelOffsets}
 use Rattle.tlsf_c.specs.declared.any_offsets.OffsetsOfLevel.{OffsetsOfLevel}
 use Rattle.tlsf_c.specs.declared.any_offsets.OffsetsOfLevel.TheVariants.{Four, Five}

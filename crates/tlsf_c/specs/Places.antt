@@ -1,4 +1,4 @@
--- What C's calls by place say of a heap.
+-- C's calls by place, and a heap.
 use Rattle.std.specs.Prelude.{ℕ, List, Option, Some, None, length, min}
 use Rattle.tlsf_heap.specs.Blocks.{Block, HeapState}
 use Rattle.tlsf_heap.specs.ByPlace.{call_by, name_at}
@@ -24,7 +24,8 @@ length_in (Some b) = length_of b.content
 abbrev pub length_at : List Block → ℕ → Option ℕ
 length_at blocks at = length_in (placed_at blocks at)
 
--- the block that begins at a place gets `len` bytes where it stands, and where there is no room it is moved; refused as Stale where none lives there
+-- the block that begins at a place gets `len` bytes where it stands, and where there is no room it is moved. Refused as Stale where
+-- none lives there
 abbrev pub resized_or_moved_by_place : ℕ → HeapState → ℕ → ℕ → Outcome Name
 resized_or_moved_by_place sli h at len = call_by h (λ name. resized_or_moved sli h name len) (name_at h at)
 

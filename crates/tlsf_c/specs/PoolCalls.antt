@@ -1,4 +1,4 @@
--- What the calls of several heaps for one table of kinds come to, as tlsf_pool's contracts say it.
+-- The results of the calls of several heaps for one table of kinds, as tlsf_pool's contracts say them.
 use Rattle.std.specs.Prelude.{◌≡◌, ◌≢◌, ℕ, ◌<◌, ◌≤◌, ◌↔◌, List, Option, Some, None, Result, Err, IfOk, IfSome, IsOk, IsSomeAnd, IsErrOf, OnOk, length}
 use Rattle.tlsf_heap.specs.Calls.{last_tick}
 use Rattle.tlsf_heap.specs.Footprint.{LeavesLive, LeavesPayloads}
@@ -29,7 +29,7 @@ pub record AreNewPools (sli number : ℕ) (kinds : List Kind) (p : PoolsState) :
   pub id : p.id ≡ number
   pub table : table_of p ≡ kinds
 
--- an allocate: when it is a name, and why not; the heap of the first part that has a row long enough serves it, and the others stay
+-- an allocate: when it is a name, and why not. The heap of the first part that has a row long enough serves it, and the others stay
 pub record AllocatesInPools (sli : ℕ) (old new : PoolsState) (len : ℕ) (answer : Result Name PoolRefusal) : Type 0 where
   pub ok : IsOk answer ↔ IsSomeAnd (part_of old len) (λ i. HasPlace (part_at old i).ledger len × ¬ ((part_at old i).heap.tick ≡ last_tick))
   pub too_long : IsErrOf answer TooLong ↔ (part_of old len ≡ None)

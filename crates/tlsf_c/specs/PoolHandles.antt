@@ -1,4 +1,4 @@
--- What lies behind C's handles of pools, and what crosses to C beside them.
+-- The objects behind C's handles of pools, and the values that cross to C beside them.
 use Rattle.std.specs.Prelude.{◌≡◌, ℕ, true, List, map, Option, Some, None, Result, Ok, Err}
 use Rattle.tlsf_heap.specs.Numbers.{number_of}
 use Rattle.tlsf_heap.specs.declared.name.Name.{Name}
@@ -31,7 +31,8 @@ kind_of row = record { most = row.most; len = row.len }
 abbrev pub kinds_of : List KindRow → List Kind
 kinds_of rows = map kind_of rows
 
--- 0, or why pools refuse an allocate: no row is long enough, or as many blocks of the row are held as may be, or the ticks are used up
+-- 0, or why pools refuse an allocate. Then no row is long enough, as many blocks of the row are held as may be, or the ticks are
+-- used up
 abbrev pub pool_status_of : Result Name PoolRefusal → ℕ
 pool_status_of (Ok name) = 0
 pool_status_of (Err pool.TooLong) = bad_size

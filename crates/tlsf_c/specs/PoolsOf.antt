@@ -1,4 +1,4 @@
--- What pools of one of the two levels show.
+-- The view of pools of one of the two levels.
 use Rattle.tlsf_c.specs.PoolLevels.{LevelPools}
 use Rattle.tlsf_c.specs.declared.any_pools.PoolsOfLevel.{PoolsOfLevel}
 use Rattle.tlsf_c.specs.declared.any_pools.PoolsOfLevel.TheVariants.{Four, Five}

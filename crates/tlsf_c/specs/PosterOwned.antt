@@ -1,4 +1,4 @@
--- What a handle owns.
+-- Ownership of a handle.
 use base.Fml.{Fml, ftrue}
 use denote.RawPtr.{Ptr}
 use Rattle.std.specs.Prelude.{Option, Some, None}

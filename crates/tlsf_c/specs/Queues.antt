@@ -1,4 +1,4 @@
--- What lies behind C's handles of a queue.
+-- The objects behind C's handles of a queue.
 use Rattle.std.specs.Prelude.{◌≡◌, ℕ, ◌+◌, List, [], ◌∷◌, ◌++◌, Option, Some, None, All, ⊤}
 use Rattle.tlsf_heap.specs.declared.name.Name.{Name}
 use Rattle.tlsf_post.specs.Mailboxes.{put_by, out_of, most_of, got_by, IsAllTaken, IsWhole, KeepsOwner, KeepsPoster}
@@ -48,7 +48,7 @@ KeepsQueue (Some old) None = ⊥
 KeepsQueue None (Some new) = ⊥
 KeepsQueue None None = ⊤
 
--- all ends of one new queue: for so many posters, with room for so many names, and nothing was put or taken
+-- all ends of one new queue: for this many posters, with room for that many names, and nothing was put or taken
 abbrev pub IsNew : Option OwnerEnd → List PosterEnd → ℕ → ℕ → Type 0
 IsNew None ends posters capacity = ⊥
 IsNew (Some o) ends posters capacity = IsWhole o ends × (out_of o ≡ posters + 1) × (most_of o ≡ capacity) × (got_by o ≡ []) × All (λ p. put_by p ≡ []) ends
@@ -74,7 +74,7 @@ KeepsEnd (Some old) None = ⊥
 KeepsEnd None (Some new) = ⊥
 KeepsEnd None None = ⊤
 
--- a post with that name stands behind those put before, and waited as the last of no more than the queue holds
+-- a post with that name stands after those put before, and waited as the last of no more than the queue holds
 abbrev pub Puts : Option PosterEnd → Option PosterEnd → Name → Type 0
 Puts (Some old) (Some new) name = HasPut old new name
 Puts (Some old) None name = ⊥

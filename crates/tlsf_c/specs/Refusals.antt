@@ -1,4 +1,5 @@
--- The numbers that C's calls answer. What a trace refuses too has its number there, up to 18; what C alone refuses has one from 32 on.
+-- The numbers that C's calls answer. A refusal that a trace has too has its number there, up to 18. One that C alone has a number
+-- from 32 on.
 use Rattle.std.specs.Prelude.{ℕ, Result, Ok, Err}
 use Rattle.tlsf_heap.specs.Numbers.{number_of}
 use Rattle.tlsf_heap.specs.declared.refusal.Refusal.{Refusal}

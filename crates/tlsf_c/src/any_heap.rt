@@ -164,7 +164,7 @@ impl AnyHeap {
         }
     }
 
-    /// What it counted.
+    /// The counts of its calls.
     pub fn counts(&self) -> Counts
         ensures counts { result ≡ self.now.counts }
 

@@ -38,7 +38,7 @@ impl BoxedHeap {
         BoxedHeap::of_parts(Parts::of(held))
     }
 
-    /// What is held.
+    /// The heap that is held.
     pub fn into_box(self) -> Box<AnyHeap, Global>
         requires { self.full ≡ true }
         ensures { result.value ≡ self.value }

@@ -35,7 +35,7 @@ impl BoxedOffsets {
         BoxedOffsets::of_parts(Parts::of(held))
     }
 
-    /// What is held.
+    /// The arena that is held.
     pub fn into_box(self) -> Box<AnyOffsets, Global>
         requires { self.full ≡ true }
         ensures { result.value ≡ self.value }

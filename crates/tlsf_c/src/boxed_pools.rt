@@ -35,7 +35,7 @@ impl BoxedPools {
         BoxedPools::of_parts(Parts::of(held))
     }
 
-    /// What is held.
+    /// The pools that are held.
     pub fn into_box(self) -> Box<AnyPools, Global>
         requires { self.full ≡ true }
         ensures { result.value ≡ self.value }

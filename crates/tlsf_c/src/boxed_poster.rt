@@ -33,7 +33,7 @@ impl BoxedPoster {
         BoxedPoster::of_parts(Parts::of(held))
     }
 
-    /// What is held.
+    /// The end that is held.
     pub fn into_box(self) -> Box<PosterEnd, Global>
         requires { is_some self.value ≡ true }
         ensures { self.value ≡ Some result.value }

@@ -8,7 +8,7 @@ use tlsf_heap::{Checked, Refusal};
 /// Why a call is refused, beside what a heap refuses. The handles are then as before.
 #[derive(Clone, Copy)]
 pub enum CallFault {
-    /// What was given doesn't fit: a region's words, a lane's capacity.
+    /// A number doesn't fit: a region's words, a lane's capacity.
     BadSize,
     /// The memory was not granted.
     NoMemory,
@@ -33,7 +33,8 @@ pub enum CallFault {
 impl CallFault {
     ghost use Rattle.tlsf_c.specs.Refusals.{call_number_of};
 
-    /// The number that stands for the fault: the one of a trace where it means the same, as 5, 6 and 8, and else one from 32 on.
+    /// The number that stands for the fault. It is that of a trace where it means the same, as 5, 6 and 8; otherwise it is one from
+    /// 32 on.
     pub fn number(self) -> u32
         ensures { result ≡ call_number_of self }
     {

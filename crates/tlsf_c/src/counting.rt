@@ -51,7 +51,7 @@ impl Counts {
         }
     }
 
-    /// Counts a resize of the block of this name, which had so many words, by what a heap answered it; the block may have moved.
+    /// Counts a resize of the block of this name, which had this many words, by the heap's answer to it. The block may have moved.
     #[inline(always)]
     fn moved<const SLI: u32>(
         &mut self,

@@ -1,10 +1,10 @@
-//! What a heap counts, so that a caller learns it at once: a report walks all blocks.
+//! The counts of a heap, so that a caller learns them at once: a report walks all blocks.
 ghost use Rattle.std.specs.Prelude.{◌≡◌, ◌+◌, ◌-◌, ◌<◌, ◌≤◌, ◌^◌, max};
 ghost use Rattle.tlsf_c.specs.Counting.{no_counts, counted_if};
 
 use tlsf_heap::Refusal;
 
-/// What a heap counts of its calls since it was opened.
+/// Counts of a heap's calls since it was opened.
 #[repr(C)]
 #[derive(Clone, Copy)]
 pub struct Counts {
@@ -31,7 +31,7 @@ impl Counts {
         }
     }
 
-    /// So many words more are in use.
+    /// This many words more are in use.
     #[inline(always)]
     pub fn give(&mut self, words: u32)
         requires { self.old.words + words < 2 ^ 32 }
@@ -39,13 +39,13 @@ impl Counts {
     {
         self.words += words;
 
-        // A branch: where as many were in use before, nothing is stored.
+        // A branch: where equally many were in use before, nothing is stored.
         if self.most_words < self.words {
             self.most_words = self.words;
         }
     }
 
-    /// So many words came back.
+    /// This many words came back.
     #[inline(always)]
     pub fn take_back(&mut self, words: u32)
         requires { words ≤ self.old.words }

@@ -27,8 +27,9 @@ use std::alloc::Global;
 
 /// Opens a heap of a level, 4 or 5, and number `id` over `words` words of 8 bytes, at tick 0, in a closed handle.
 ///
-/// Refused as InUse where the handle is open, else as BadLevel where there is no such level, else as BadSize where `words` is below 4, or
-/// above 2^20 at level 4 and 2^24 at level 5, else as NoMemory where the memory was not granted. No later call on the heap takes memory.
+/// Refused as InUse where the handle is open. Otherwise as BadLevel where there is no such level. Otherwise as BadSize where
+/// `words` is below 4, or above 2^20 at level 4 and 2^24 at level 5. Otherwise as NoMemory where the memory was not granted. No
+/// later call on the heap takes memory.
 ///
 /// ```text
 /// struct tlsf_heap heap = TLSF_CLOSED;
@@ -73,10 +74,10 @@ pub extern "C" fn tlsf_open(
     }
 }
 
-/// The words of a region in which a program of at most `most` blocks at once, of at most `len` bytes each, is never refused for want
-/// of room. They go to `words`. No blocks need the least region, 4 words, whatever `len` is.
+/// The words of a region that never refuses a program for want of room. The program has at most `most` blocks at once, of at most
+/// `len` bytes each. They go to `words`. No blocks need the least region, 4 words, whatever `len` is.
 ///
-/// Refused as BadLevel where `level` is neither 4 nor 5, else as BadSize where no region of that level is so large.
+/// Refused as BadLevel where `level` is neither 4 nor 5; otherwise as BadSize where no region of that level is so large.
 ///
 /// ```text
 /// tlsf_words(4, 100, 256, &words) == TLSF_OK   // then tlsf_open(&heap, 4, 0, words)
@@ -129,7 +130,7 @@ pub extern "C" fn tlsf_close(alloc: Global, heap: &mut HeapSlot) -> u32
 
 /// Gives a block that holds `len` bytes of payload, all zero. Its name goes to `name`.
 ///
-/// Refused as Closed where the handle isn't open, else as `Heap::allocate` refuses: NoFit, Worn.
+/// Refused as Closed where the handle isn't open; otherwise as `Heap::allocate` refuses: NoFit, Worn.
 ///
 /// ```text
 /// tlsf_allocate(&heap, 100, &name) == TLSF_OK  // 16 words of the region
@@ -162,7 +163,7 @@ pub extern "C" fn tlsf_allocate(heap: &mut HeapSlot, len: u32, name: &mut BlockN
 
 /// Takes back the block of that name.
 ///
-/// Refused as Closed where the handle isn't open, else as `Heap::release` refuses: Foreign, Stale, Worn.
+/// Refused as Closed where the handle isn't open; otherwise as `Heap::release` refuses: Foreign, Stale, Worn.
 ///
 /// ```text
 /// tlsf_release(&heap, &name) == TLSF_OK
@@ -188,7 +189,7 @@ pub extern "C" fn tlsf_release(heap: &mut HeapSlot, name: &BlockName) -> u32
 
 /// Makes the payload of the block of that name `len` bytes long, where the block stands. The name stays.
 ///
-/// Refused as Closed where the handle isn't open, else as `Heap::resize` refuses: Foreign, Stale, NoRoom, Worn.
+/// Refused as Closed where the handle isn't open; otherwise as `Heap::resize` refuses: Foreign, Stale, NoRoom, Worn.
 ///
 /// ```text
 /// tlsf_resize(&heap, &name, 200) == TLSF_OK    // bytes 100 to 199 are zero
@@ -211,10 +212,11 @@ pub extern "C" fn tlsf_resize(heap: &mut HeapSlot, name: &BlockName, len: u32) -
     status(answer)
 }
 
-/// Makes the payload of the block of that name `len` bytes long: where the block stands, or in another block where there is no room, with
-/// the payload's bytes and zeros behind them. The name that the payload has from then on goes to `name`. Where it moved, the old one is stale.
+/// Makes the payload of the block of that name `len` bytes long: where the block stands, or in another block where there is no
+/// room. The payload's bytes come along, and zeros follow them. The name that the payload has from then on goes to `name`. Where it
+/// moved, the old one is stale.
 ///
-/// Refused as Closed where the handle isn't open, else as `Heap::resize_or_move` refuses: Foreign, Stale, NoFit, Worn.
+/// Refused as Closed where the handle isn't open; otherwise as `Heap::resize_or_move` refuses: Foreign, Stale, NoFit, Worn.
 ///
 /// ```text
 /// tlsf_reallocate(&heap, &name, 500) == TLSF_OK
@@ -253,7 +255,7 @@ pub extern "C" fn tlsf_reallocate(heap: &mut HeapSlot, name: &mut BlockName, len
 
 /// Writes bytes into the payload of the block of that name, from byte `at` of it on.
 ///
-/// Refused as Closed where the handle isn't open, else as `Heap::write` refuses: Foreign, Stale, Range.
+/// Refused as Closed where the handle isn't open; otherwise as `Heap::write` refuses: Foreign, Stale, Range.
 ///
 /// ```text
 /// tlsf_write(&heap, &name, 98, bytes, 2) == TLSF_OK
@@ -279,7 +281,8 @@ pub extern "C" fn tlsf_write(heap: &mut HeapSlot, name: &BlockName, at: u32, byt
 
 /// Reads bytes of the payload of the block of that name, from byte `at` of it on, and fills `out` with them.
 ///
-/// Refused as Closed where the handle isn't open, else as `Heap::read` refuses: Foreign, Stale, Range. `out` is then as before.
+/// Refused as Closed where the handle isn't open; otherwise as `Heap::read` refuses: Foreign, Stale, Range. `out` is then as
+/// before.
 ///
 /// ```text
 /// tlsf_read(&heap, &name, 98, out, 2) == TLSF_OK
@@ -302,11 +305,11 @@ pub extern "C" fn tlsf_read(heap: &mut HeapSlot, name: &BlockName, at: u32, out:
     status(answer)
 }
 
-/// Where the payload of the block of that name lies: the address of the region's first word goes to `base`, and the payload's length in bytes
-/// to `len`. The payload begins at byte `8 * (at + 3)` from there.
+/// Tells where the payload of the block of that name lies. The address of the region's first word goes to `base`, and the payload's
+/// length in bytes to `len`. The payload begins at byte `8 * (at + 3)` from there.
 ///
-/// Refused as Closed where the handle isn't open, else as Foreign where the name is of another heap, else as Stale where no live block has
-/// that place and serial.
+/// Refused as Closed where the handle isn't open. Otherwise as Foreign where the name is of another heap. Otherwise as Stale where
+/// no live block has that place and serial.
 ///
 /// ```text
 /// tlsf_locate(&heap, &name, &base, &len) == TLSF_OK
@@ -348,7 +351,7 @@ pub extern "C" fn tlsf_locate(
     }
 }
 
-/// What the heap holds, and how well it serves, goes to `report`: words, bytes and blocks. It walks over all blocks.
+/// The report on the heap goes to `report`: words, bytes and blocks, and how well the heap serves. It walks over all blocks.
 ///
 /// Refused as Closed where the handle isn't open.
 ///
@@ -372,7 +375,7 @@ pub extern "C" fn tlsf_report(heap: &mut HeapSlot, report: &mut HeapReport) -> u
     0
 }
 
-/// What the heap counted since it was opened goes to `counts`, at once: no block is looked at. See `Counts`.
+/// The counts of the heap since it was opened go to `counts`, at once: no block is looked at. See `Counts`.
 ///
 /// Refused as Closed where the handle isn't open.
 ///

@@ -22,11 +22,12 @@ use std::alloc::Global;
 use tlsf_heap::Name;
 use tlsf_post::{Post, PostEnd, lane};
 
-/// How many names a drain takes out of a lane at once. Each time writes a line that a poster reads who finds the lane full, so a drain of a
-/// full lane beside such a poster is quicker by slices than by single names. An empty drain fills so many places in vain.
+/// How many names a drain takes out of a lane at once. Each time writes a line that a poster reads who finds the lane full. So
+/// beside such a poster a full lane is drained faster by slices than by single names. An empty drain fills this many places in
+/// vain.
 const AT_ONCE: usize = 32;
 
-/// What stands in a place that no post came into.
+/// The value in a place that no post came into.
 const NO_POST: Post = Post {
     from: 0,
     name: Name {
@@ -36,10 +37,10 @@ const NO_POST: Post = Post {
     },
 };
 
-/// Opens a lane for up to `capacity` names, 1 to 1,024, in two closed handles: the end that puts names in, and the one that takes them out.
+/// Opens a lane for up to `capacity` names, 1 to 1,024, in two closed handles. One end puts names in, and the other takes them out.
 ///
-/// Refused as InUse where a handle is open, else as BadSize where the capacity is out of range, else as NoMemory where the memory was not
-/// granted. No later call on the lane takes memory.
+/// Refused as InUse where a handle is open. Otherwise as BadSize where the capacity is out of range. Otherwise as NoMemory where
+/// the memory was not granted. No later call on the lane takes memory.
 ///
 /// ```text
 /// tlsf_lane_open(&post, &take, 64) == TLSF_OK
@@ -126,7 +127,7 @@ pub extern "C" fn tlsf_take_close(alloc: Global, take: &mut TakeSlot) -> u32
 
 /// Puts a name into a lane. The other end may take it at once. Never waits.
 ///
-/// Refused as Closed where the handle isn't open, else as Full where the lane is full, as far as this end knows.
+/// Refused as Closed where the handle isn't open; otherwise as Full where the lane is full, as far as this end knows.
 ///
 /// ```text
 /// tlsf_put(&post, &name) == TLSF_OK
@@ -156,8 +157,9 @@ pub extern "C" fn tlsf_put(alloc: Global, post: &mut PostSlot, name: &BlockName)
     }
 }
 
-/// Puts names into a lane, from the first on, as many as this end sees slots for. The other end sees up to 32 of them after one store, so many
-/// names cost it less than each by itself. How many went goes to `went`: the others may be put again later. Never waits.
+/// Puts names into a lane, from the first on, as many as this end sees slots for. The other end sees up to 32 of them after one
+/// store, which costs it less than each name by itself. How many went goes to `went`: the others may be put again later. Never
+/// waits.
 ///
 /// Refused as Closed where the handle isn't open.
 ///
@@ -230,7 +232,7 @@ fn put_slice(end: &mut PostEnd, names: &[BlockName]) -> usize
 
 /// Takes the next name out of a lane. It goes to `name`. Never waits.
 ///
-/// Refused as Closed where the handle isn't open, else as Empty where this end sees none.
+/// Refused as Closed where the handle isn't open; otherwise as Empty where this end sees none.
 ///
 /// ```text
 /// while (tlsf_take(&take, &name) == TLSF_OK) { tlsf_release(&heap, &name); }
@@ -261,8 +263,8 @@ pub extern "C" fn tlsf_take(alloc: Global, take: &mut TakeSlot, name: &mut Block
     }
 }
 
-/// Takes names out of a lane, at most `most` and all that are known to be ready, and releases the block that each names, whatever the heap
-/// answers. How many came goes to `came`. Never waits.
+/// Takes names out of a lane, at most `most` and all that are known to be ready. It releases the block that each names, whatever
+/// the heap answers. How many came goes to `came`. Never waits.
 ///
 /// Refused as Closed where the heap's handle or the lane's isn't open.
 ///

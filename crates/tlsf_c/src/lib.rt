@@ -1,7 +1,7 @@
 //! The heap for C and C++: one export for each call.
 //!
-//! What a call works on lies behind a handle in the caller's memory, which is open or closed. No call requires anything of a
-//! handle beyond what its type says: a closed one is refused, and so is opening one twice.
+//! The object of a call lies behind a handle in the caller's memory, which is open or closed. No call requires anything of a handle
+//! beyond what its type says: a closed one is refused, and so is opening one twice.
 #![tactic(auto)]
 
 mod any_heap;

@@ -20,9 +20,9 @@ use std::alloc::Global;
 /// Opens an arena of a level, 4 or 5, and number `id` over memory of `units` units of `unit` bytes, in a closed handle. It never touches
 /// that memory.
 ///
-/// Refused as InUse where the handle is open, else as BadLevel where there is no such level, else as BadSize where `unit` is 0, or `units` is
-/// below 4, or above 2^20 at level 4 and 2^24 at level 5, else as NoMemory where the memory for its heap was not granted, 8 bytes a unit and
-/// some. No later call takes memory.
+/// Refused as InUse where the handle is open. Otherwise as BadLevel where there is no such level. Otherwise as BadSize where `unit`
+/// is 0, or `units` is below 4, or above 2^20 at level 4 and 2^24 at level 5. Otherwise as NoMemory where the memory for its heap
+/// was not granted, 8 bytes a unit and some. No later call takes memory.
 ///
 /// ```text
 /// tlsf_offsets_open(&offsets, 4, 1, 65536, 4096) == TLSF_OK     // 256 MiB in units of 64 KiB
@@ -87,7 +87,7 @@ pub extern "C" fn tlsf_offsets_close(alloc: Global, offsets: &mut OffsetsSlot) -
 
 /// Gives a span of at least `bytes` bytes, by good fit. It goes to `span`.
 ///
-/// Refused as Closed where the handle isn't open, else as `OffsetArena::allocate` refuses: NoFit, Worn.
+/// Refused as Closed where the handle isn't open; otherwise as `OffsetArena::allocate` refuses: NoFit, Worn.
 ///
 /// ```text
 /// tlsf_offsets_allocate(&offsets, 1000000, &span) == TLSF_OK    // units of 64 KiB: span.size == 1048576
@@ -126,7 +126,7 @@ pub extern "C" fn tlsf_offsets_allocate(
 
 /// Takes the span of that name back.
 ///
-/// Refused as Closed where the handle isn't open, else as `OffsetArena::release` refuses: Foreign, Stale, Worn.
+/// Refused as Closed where the handle isn't open; otherwise as `OffsetArena::release` refuses: Foreign, Stale, Worn.
 ///
 /// ```text
 /// tlsf_offsets_release(&offsets, &span.name) == TLSF_OK
@@ -156,9 +156,9 @@ pub extern "C" fn tlsf_offsets_release(
     }
 }
 
-/// Makes a span hold `bytes` bytes where it lies, by its name. What it is then goes to `span`: its offset and its name stay.
+/// Makes a span hold `bytes` bytes where it lies, by its name. The new span goes to `span`: its offset and its name stay.
 ///
-/// Refused as Closed where the handle isn't open, else as `OffsetArena::resize` refuses: Foreign, Stale, NoRoom, Worn.
+/// Refused as Closed where the handle isn't open; otherwise as `OffsetArena::resize` refuses: Foreign, Stale, NoRoom, Worn.
 ///
 /// ```text
 /// tlsf_offsets_resize(&offsets, &span, 3000000) == TLSF_OK
@@ -193,7 +193,7 @@ pub extern "C" fn tlsf_offsets_resize(
     }
 }
 
-/// What is held and what is free, by a walk over all blocks. It goes to `usage`.
+/// The units that are held and those that are free, by a walk over all blocks. It goes to `usage`.
 ///
 /// Refused as Closed where the handle isn't open.
 ///

@@ -1,4 +1,5 @@
-//! C's calls of a heap by place: by the number of the word at which a block begins, for a caller who has its address and keeps no name.
+//! C's calls of a heap by place, the number of the word at which a block begins. They are for a caller who has its address and
+//! keeps no name.
 ghost use Rattle.std.specs.Prelude.{◌≡◌, true, false, ◌≤◌, ◌+◌, ◌*◌, ◌/◌, ◌%◌, max, Ok, Option, Some, None};
 ghost use Rattle.tlsf_heap.specs.ByPlace.{name_at, released_by_place};
 ghost use Rattle.tlsf_heap.specs.Aligned.{words_aligned};
@@ -32,7 +33,7 @@ use tlsf_heap::{Content, PlacedBlock, Refusal};
 /// Gives a block that holds `len` bytes of payload, and fills nothing: its bytes are those that lie there. Its place goes to `at`. It takes no
 /// longer for more bytes.
 ///
-/// Refused as Closed where the handle isn't open, else as `Heap::allocate_unset` refuses: NoFit, Worn.
+/// Refused as Closed where the handle isn't open; otherwise as `Heap::allocate_unset` refuses: NoFit, Worn.
 ///
 /// ```text
 /// tlsf_allocate_place(&heap, 100, &at) == TLSF_OK  // the payload is words at + 3 to at + 15 of the region
@@ -66,12 +67,12 @@ pub extern "C" fn tlsf_allocate_place(heap: &mut HeapSlot, len: u32, at: &mut u3
     }
 }
 
-/// Gives a block that holds `len` bytes of payload, and fills nothing: its bytes are those that lie there. Its place goes to `at`, and the
-/// payload's first word is aligned: `at + 3 + skew` is a multiple of `step` words, where `skew` is how many words behind such a multiple the region
-/// begins. A `step` of 0 counts as 1. It takes no longer for more bytes.
+/// Gives a block that holds `len` bytes of payload, and fills nothing: its bytes are those that lie there. Its place goes to `at`,
+/// and the payload's first word is aligned: `at + 3 + skew` is a multiple of `step` words. Here `skew` is how many words after such
+/// a multiple the region begins. A `step` of 0 counts as 1. It takes no longer for more bytes.
 ///
-/// Refused as Closed where the handle isn't open, else as `Heap::allocate_aligned` refuses: Worn where fewer than four ticks are left, else NoFit
-/// where no free block has the words wanted with those that a step may take.
+/// Refused as Closed where the handle isn't open. Otherwise as `Heap::allocate_aligned` refuses. It is Worn where fewer than four
+/// ticks are left. Otherwise it is NoFit where no free block has the words wanted with those that a step may take.
 ///
 /// ```text
 /// tlsf_allocate_aligned(&heap, 100, 8, 0, &at) == TLSF_OK  // (at + 3) % 8 == 0
@@ -115,7 +116,8 @@ pub extern "C" fn tlsf_allocate_aligned(
 
 /// Takes back the live block that begins at a place.
 ///
-/// Refused as Closed where the handle isn't open, else as `Heap::release_at` refuses: Stale where no live block begins there, Worn.
+/// Refused as Closed where the handle isn't open; otherwise as `Heap::release_at` refuses: Stale where no live block begins there,
+/// Worn.
 ///
 /// ```text
 /// tlsf_release_place(&heap, name.at) == TLSF_OK
@@ -143,12 +145,12 @@ pub extern "C" fn tlsf_release_place(heap: &mut HeapSlot, at: u32) -> u32
     status(answer)
 }
 
-/// Makes the payload of the live block that begins at a place `len` bytes long: where the block stands, or in another block where there is no
-/// room. The bytes up to the smaller length stay, and nothing is filled: new ones are those that lie there. The place at which the block begins from
-/// then on goes to `new_at`. Where it moved, the old block is free.
+/// Makes the payload of the live block that begins at a place `len` bytes long. The block stays where it stands, or becomes another
+/// block where there is no room there. The bytes up to the smaller length stay, and nothing is filled: new ones are those that lie
+/// there. The place at which the block begins from then on goes to `new_at`. Where it moved, the old block is free.
 ///
-/// Refused as Closed where the handle isn't open, else as Stale where no live block begins there, else as `Heap::resize_or_move_unset` refuses:
-/// NoFit, Worn.
+/// Refused as Closed where the handle isn't open; otherwise as Stale where no live block begins there; otherwise as
+/// `Heap::resize_or_move_unset` refuses: NoFit, Worn.
 ///
 /// ```text
 /// tlsf_resize_place(&heap, at, 500, &at) == TLSF_OK
@@ -187,7 +189,7 @@ pub extern "C" fn tlsf_resize_place(heap: &mut HeapSlot, at: u32, len: u32, new_
 
 /// The live block that begins at a place: its name goes to `name`, and the bytes of its payload to `len`.
 ///
-/// Refused as Closed where the handle isn't open, else as Stale where no live block begins there.
+/// Refused as Closed where the handle isn't open; otherwise as Stale where no live block begins there.
 ///
 /// ```text
 /// tlsf_place(&heap, 0, &name, &len) == TLSF_OK  // name.at == 0
@@ -238,7 +240,7 @@ pub extern "C" fn tlsf_place(
 
 /// The block that begins at a place, live or free, goes to `block`. The next one begins at `at + size`, so that a walk from place 0 meets all.
 ///
-/// Refused as Closed where the handle isn't open, else as Stale where no block begins there, as at the region's end.
+/// Refused as Closed where the handle isn't open; otherwise as Stale where no block begins there, as at the region's end.
 ///
 /// ```text
 /// tlsf_block_at(&heap, 0, &block) == TLSF_OK   // of a new heap of 64 words: block.size == 64, block.is_live == 0
@@ -270,12 +272,13 @@ pub extern "C" fn tlsf_block_at(heap: &mut HeapSlot, at: u32, block: &mut BlockI
     }
 }
 
-/// Looks at `most` blocks at most, one behind the other, of which the first begins at the place `from`. Where all are sound, the place behind
-/// them goes to `next`, 0 behind the last block of the region: a caller who checks in slices calls on with it. A heap that only these calls have
-/// changed is always sound. Where other code has written past the end of a payload, a block may be damaged, and its place goes to `damaged`: it
-/// follows no place that it has not looked at.
+/// Looks at `most` blocks at most, one after the other. The first of them begins at the place `from`. Where all are sound, the
+/// place after them goes to `next`, which is 0 after the last block of the region. A caller who checks in slices calls on with it.
+/// A heap that only these calls have changed is always sound. Where other code has written past the end of a payload, a block may
+/// be damaged, and its place goes to `damaged`. The call follows no place that it has not looked at.
 ///
-/// Refused as Closed where the handle isn't open, else as Stale where no block begins at `from`, else as Damaged where a block is damaged.
+/// Refused as Closed where the handle isn't open; otherwise as Stale where no block begins at `from`; otherwise as Damaged where a
+/// block is damaged.
 ///
 /// ```text
 /// tlsf_check(&heap, 0, 100, &next, &damaged) == TLSF_OK

@@ -19,7 +19,7 @@ use std::alloc::Global;
 use tlsf_heap::{OpenFault, Refusal};
 use tlsf_pool::{Kind, PoolRefusal};
 
-/// What stands in a place that has no row.
+/// The value in a place that has no row.
 const NO_KIND: Kind = Kind { most: 0, len: 0 };
 
 /// Opens pools of a level, 4 or 5, for a table of at most 64 rows.
@@ -41,12 +41,13 @@ fn open_for(alloc: Global, level: u32, id: u32, rows: &[KindRow]) -> Result<AnyP
     AnyPools::open(alloc, level, id, table)
 }
 
-/// Opens heaps of a level, 4 or 5, for a table of kinds, in a closed handle: as many, at most eight, as have the fewest words together. Their
-/// numbers are `id` and those behind it. The rows rise in `len`.
+/// Opens heaps of a level, 4 or 5, for a table of kinds, in a closed handle. There are at most eight, and that number of them which
+/// has the fewest words together. Their numbers are `id` and those after it. The rows rise in `len`.
 ///
-/// Refused as InUse where the handle is open, else as BadLevel where there is no such level, else as BadSize where there are more than 64 rows,
-/// a row is no longer than the one before it, the numbers would go past 2^32, or no way to cut the table gives each heap a region, else as
-/// NoMemory where the memory was not granted. No later call on the pools takes memory.
+/// Refused as InUse where the handle is open. Otherwise as BadLevel where there is no such level. Otherwise as BadSize where there
+/// are more than 64 rows, or a row is no longer than the one before it. The same where the numbers would go past 2^32, or no way to
+/// cut the table gives each heap a region. Otherwise as NoMemory where the memory was not granted. No later call on the pools takes
+/// memory.
 ///
 /// ```text
 /// tlsf_pools_open(&pools, 4, 1, rows, 2) == TLSF_OK     // rows: {2000, 64}, {1, 65536}
@@ -114,11 +115,12 @@ pub extern "C" fn tlsf_pools_close(alloc: Global, pools: &mut PoolsSlot) -> u32
     }
 }
 
-/// Gives a block that holds `len` bytes of payload, all zero, in the heap of the first part of the table that has a row long enough. Its name
-/// goes to `name`.
+/// Gives a block that holds `len` bytes of payload, all zero. It comes from the heap of the first part of the table with a long
+/// enough row. Its name goes to `name`.
 ///
-/// Refused as Closed where the handle isn't open, else as BadSize where no row is long enough, else as RowFull where as many blocks of that row
-/// are held as may be, else as Worn where the ticks of that heap are used up. It is never refused for want of room.
+/// Refused as Closed where the handle isn't open. Otherwise as BadSize where no row is long enough. Otherwise as RowFull where as
+/// many blocks of that row are held as may be. Otherwise as Worn where the ticks of that heap are used up. It is never refused for
+/// want of room.
 ///
 /// ```text
 /// tlsf_pools_allocate(&pools, 64, &name) == TLSF_OK
@@ -155,7 +157,7 @@ pub extern "C" fn tlsf_pools_allocate(
 
 /// Takes back the block of that name, into the heap that it names.
 ///
-/// Refused as Closed where the handle isn't open, else as `Pools::release` refuses: Foreign, Stale, Worn.
+/// Refused as Closed where the handle isn't open; otherwise as `Pools::release` refuses: Foreign, Stale, Worn.
 ///
 /// ```text
 /// tlsf_pools_release(&pools, &name) == TLSF_OK
@@ -179,7 +181,7 @@ pub extern "C" fn tlsf_pools_release(alloc: Global, pools: &mut PoolsSlot, name:
 
 /// Writes bytes into the payload of the block of that name, from byte `at` of it on.
 ///
-/// Refused as Closed where the handle isn't open, else as `Pools::write` refuses: Foreign, Stale, Range.
+/// Refused as Closed where the handle isn't open; otherwise as `Pools::write` refuses: Foreign, Stale, Range.
 ///
 /// ```text
 /// tlsf_pools_write(&pools, &name, 0, bytes, 2) == TLSF_OK
@@ -209,7 +211,8 @@ pub extern "C" fn tlsf_pools_write(
 
 /// Reads bytes of the payload of the block of that name, from byte `at` of it on, and fills `out` with them.
 ///
-/// Refused as Closed where the handle isn't open, else as `Pools::read` refuses: Foreign, Stale, Range. `out` is then as before.
+/// Refused as Closed where the handle isn't open; otherwise as `Pools::read` refuses: Foreign, Stale, Range. `out` is then as
+/// before.
 ///
 /// ```text
 /// tlsf_pools_read(&pools, &name, 0, out, 2) == TLSF_OK
@@ -237,10 +240,11 @@ pub extern "C" fn tlsf_pools_read(
     status(answer)
 }
 
-/// What the heap of a part of the table holds goes to `report`. The parts have numbers from 0 on, in the order of the table. It walks over all
-/// blocks of that heap.
+/// The report on the heap of a part of the table goes to `report`. The parts have numbers from 0 on, in the order of the table. It
+/// walks over all blocks of that heap.
 ///
-/// Refused as Closed where the handle isn't open, else as Stale where there is no such part, so that a walk from 0 on meets all.
+/// Refused as Closed where the handle isn't open. Otherwise as Stale where there is no such part, so that a walk from 0 on meets
+/// all.
 ///
 /// ```text
 /// tlsf_pools_report(&pools, 0, &report) == TLSF_OK

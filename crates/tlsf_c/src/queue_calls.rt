@@ -21,8 +21,8 @@ use tlsf_post::Post;
 
 /// Opens a queue for `posters` posters, 1 to 1,024, and up to `capacity` names, 1 to 1,024, in a closed handle, its owner's end.
 ///
-/// Refused as InUse where the handle is open, else as BadSize where a number is out of range, else as NoMemory where the memory was not
-/// granted. No later call on the queue takes memory.
+/// Refused as InUse where the handle is open. Otherwise as BadSize where a number is out of range. Otherwise as NoMemory where the
+/// memory was not granted. No later call on the queue takes memory.
 ///
 /// ```text
 /// tlsf_queue_open(&queue, 3, 64) == TLSF_OK
@@ -59,7 +59,8 @@ pub extern "C" fn tlsf_queue_open(
 
 /// Gives one of the queue's posters' ends to a closed handle. It may go to another thread, and stays open when the owner's end closes.
 ///
-/// Refused as Closed where the queue's handle isn't open, else as InUse where the poster's is, else as Empty where all were given.
+/// Refused as Closed where the queue's handle isn't open; otherwise as InUse where the poster's is; otherwise as Empty where all
+/// were given.
 ///
 /// ```text
 /// tlsf_poster_open(&queue, &poster) == TLSF_OK
@@ -142,8 +143,8 @@ pub extern "C" fn tlsf_queue_close(alloc: Global, queue: &mut QueueSlot) -> u32
 
 /// Puts a name into a queue by one attempt. The owner may take it at once. Never waits.
 ///
-/// Refused as Closed where the handle isn't open, else as Full where the queue was full at one moment of the call, else as Busy where another
-/// thread was half through a step.
+/// Refused as Closed where the handle isn't open. Otherwise as Full where the queue was full at one moment of the call. Otherwise
+/// as Busy where another thread was half through a step.
 ///
 /// ```text
 /// tlsf_queue_post(&poster, &name) == TLSF_OK
@@ -170,8 +171,8 @@ pub extern "C" fn tlsf_queue_post(alloc: Global, poster: &mut PosterSlot, name: 
 
 /// Takes the name that has waited longest out of a queue, by one attempt. It goes to `name`. Never waits.
 ///
-/// Refused as Closed where the handle isn't open, else as Empty where the queue was empty at one moment of the call, else as Busy where
-/// another thread was half through putting that name.
+/// Refused as Closed where the handle isn't open. Otherwise as Empty where the queue was empty at one moment of the call. Otherwise
+/// as Busy where another thread was half through putting that name.
 ///
 /// ```text
 /// while (tlsf_queue_take(&queue, &name) == TLSF_OK) { tlsf_release(&heap, &name); }
@@ -200,8 +201,8 @@ pub extern "C" fn tlsf_queue_take(alloc: Global, queue: &mut QueueSlot, name: &m
     }
 }
 
-/// Takes names out of a queue, at most `most`, up to the first that it doesn't get, and releases the block that each names, whatever the
-/// heap answers. How many came goes to `came`. Never waits.
+/// Takes names out of a queue, at most `most`, up to the first that it doesn't get. It releases the block that each names, whatever
+/// the heap answers. How many came goes to `came`. Never waits.
 ///
 /// Refused as Closed where the heap's handle or the queue's isn't open.
 ///

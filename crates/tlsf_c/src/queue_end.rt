@@ -18,7 +18,7 @@ pub struct QueueEnd {
 }
 
 impl QueueEnd {
-    /// Opens a queue for so many posters, 1 to 1,024, which holds up to `capacity` names, 1 to 1,024.
+    /// Opens a queue for a number of posters, 1 to 1,024, which holds up to `capacity` names, 1 to 1,024.
     pub fn open(alloc: Global, posters: u32, capacity: u32) -> Result<QueueEnd, NoMemory>
         requires posters { (0 < posters) × (posters ≤ 1024) }
         requires capacity { (0 < capacity) × (capacity ≤ 1024) }

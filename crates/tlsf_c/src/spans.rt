@@ -1,4 +1,4 @@
-//! What crosses to C beside an arena of offsets.
+//! The values that cross to C beside an arena of offsets.
 ghost use Rattle.std.specs.Prelude.{◌≡◌};
 
 use crate::names::BlockName;
@@ -27,7 +27,7 @@ impl OffsetSpan {
     }
 }
 
-/// What an arena holds and what it has left, in bytes.
+/// How much of an arena is held and how much is left, in bytes.
 #[repr(C)]
 #[derive(Clone, Copy)]
 pub struct OffsetUsage {

@@ -1,4 +1,4 @@
--- What entries tell by themselves.
+-- Facts that entries tell by themselves.
 use Rattle.std.specs.Prelude.{ℕ, List, [], get_or, Option, Some, None}
 use Rattle.tlsf_heap.specs.declared.name.Name.{Name}
 use Rattle.tlsf_calls.specs.declared.entry.Entry.{Entry}

@@ -1,7 +1,7 @@
 use crate::chunk::Chunk;
 use crate::target::Target;
 
-/// What a worker is asked to do.
+/// A call that a worker is asked to make.
 #[derive(Clone, Copy, Debug, PartialEq, Eq)]
 pub enum Call {
     /// Gives a block of the own heap that holds `len` bytes.

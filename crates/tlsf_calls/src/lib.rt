@@ -1,4 +1,4 @@
-//! What a worker is asked and what it answers, as plain values: no worker, no lane and no heap stands in them.
+//! The calls of a worker and its answers, as plain values: no worker, no lane and no heap stands in them.
 //!
 //! An [`Event`] is a [`Call`] and the number of the worker that makes it; an [`Entry`] has the [`Reply`] besides. A call
 //! means a block by a [`Target`]: its name, or the number of the event that is to make it. Payload bytes go in a [`Chunk`],

@@ -1,4 +1,4 @@
-/// What became of the block of a name.
+/// The end of a released block: freed here, or posted.
 #[derive(Clone, Copy, Debug, PartialEq, Eq)]
 pub enum Released {
     /// It was released.

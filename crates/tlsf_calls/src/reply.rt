@@ -3,7 +3,7 @@ use crate::crew_refusal::CrewRefusal;
 use crate::took::Took;
 use tlsf_heap::Name;
 
-/// What a call is answered.
+/// The answer to a call.
 #[derive(Clone, Copy, Debug, PartialEq, Eq)]
 pub enum Reply {
     /// The name of the block that was given.
@@ -12,7 +12,7 @@ pub enum Reply {
     Freed,
     /// The name was posted to the owner of its heap.
     Posted,
-    /// So many bytes were written.
+    /// This many bytes were written.
     Wrote(u32),
     /// The bytes that were read.
     Got(Chunk),
@@ -22,7 +22,7 @@ pub enum Reply {
     Took(Took),
     /// No post waited.
     Empty,
-    /// A drain took so many posts.
+    /// A drain took this many posts.
     Drained(u32),
     /// Nothing was done, and why.
     Refused(CrewRefusal),

@@ -1,7 +1,7 @@
 -- The field by which fields go astray.
 use Rattle.tlsf_check.proofs.Common.{◌≡◌, ◌⊎◌, inl, inr, ℕ, suc, ◌+◌, ◌-◌, Bool, false, List, ◌++◌, length, take, subst, arith, CanBegin, GoAstrayAt}
 
--- behind m fields that can begin a whole line
+-- after m fields that can begin a whole line
 pub astray_at : (is_whole : List (List ℕ) → Bool) (fields : List (List ℕ)) (m n : ℕ) → n ≡ m + 1 → CanBegin is_whole (take m fields)
     → ¬ (CanBegin is_whole (take (suc m) fields)) ⊎ (m ≡ length fields) → GoAstrayAt is_whole fields n
 astray_at is_whole fields m n next begins here =

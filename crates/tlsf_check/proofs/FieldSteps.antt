@@ -39,7 +39,7 @@ last_is rest field e = sym (fields_joined rest) ∙ ap (join_with_byte 32) e
 pub last_none : (rest field : List ℕ) → fields_of rest ≡ field ∷ [] → spaces_in rest ≡ 0
 last_none rest field e = omega (arith, ap length e, fields_count rest)
 
--- behind one field more
+-- after one field more
 pub one_more : (line rest behind field : List ℕ) (count : ℕ) → HasBefore line rest count → fields_of rest ≡ field ∷ fields_of behind → HasBefore line behind (count + 1)
 one_more line rest behind field count has e = record {
   front = has.front ++ (field ++ 32 ∷ []);
@@ -47,7 +47,7 @@ one_more line rest behind field count has e = record {
   spaces = omega (arith, spaces_both has.front (field ++ 32 ∷ []), spaces_both field (32 ∷ []), space_more [], cut_none rest behind field e, has.spaces);
 }
 
--- no field is left behind the last
+-- no field is left after the last
 pub no_more : (line rest field : List ℕ) (count most : ℕ) → HasBefore line rest count → fields_of rest ≡ field ∷ [] → count < most → length (fields_of line) ≤ most
 no_more line rest field count most has e lt =
     let parts : spaces_in line ≡ spaces_in has.front + spaces_in rest = ap spaces_in has.line_is ∙ spaces_both has.front rest in

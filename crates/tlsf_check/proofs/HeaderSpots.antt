@@ -123,7 +123,7 @@ bad_version name second fields named none = (
 )
 
 module _ (name second : List ℕ) (version : Version) (fields : List (List ℕ)) (named : bytes_eq name (codes "tlsf") ≡ true) (is : version_in second ≡ Some version) where
-  -- a number behind the version
+  -- a number after the version
   pub bad_number : (m : ℕ) → IsFirstFailing good (header_kinds version) fields (Some m) → FindsWrong is_header (GoAstrayAt is_header) (name ∷ second ∷ fields) (Some (m + 3))
   bad_number m found =
       let kinds = header_kinds version in

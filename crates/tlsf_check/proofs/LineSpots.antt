@@ -225,7 +225,7 @@ step kind kinds value values i true (inr is) rest = let no = is.0 in cc
 step kind kinds value values i false (inl is) rest = let no = is.0 in cc
 step kind kinds value values i false (inr is) rest = inl (record { here = ap (λ (v : Value). Some v) is.1; before = λ k lt. absurd (omega (arith, lt)) })
 
--- the values of the first field and of those behind it
+-- the values of the first field and of those after it
 parted : {P : Type 0} (first : Option Value) (rest : Option (List Value)) (values : List Value) → (first >>= λ v. (rest >>= λ vs. Some (v ∷ vs))) ≡ Some values
     → ((v : Value) (vs : List Value) → first ≡ Some v → rest ≡ Some vs → v ∷ vs ≡ values → P) → P
 parted None rest values is then = cc

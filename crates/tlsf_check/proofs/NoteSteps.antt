@@ -1,4 +1,4 @@
--- What is noted of a fault.
+-- The notes on a fault.
 use Rattle.tlsf_check.proofs.Common.{◌≡◌, ◌⊎◌, inl, inr, ℕ, List, Some, ap, arith, IsLineFault, fault_of, no_memory_fault, TraceFault}
 use Rattle.tlsf_check.specs.Checks.{Notes, NotesField}
 use Rattle.tlsf_check.proofs.UnreadRuns.{in_no_line, other_number}

@@ -59,7 +59,7 @@ module _ {A : Type 0} (pass : A → List ℕ → Bool) where
   left_over [] some = absurd (omega (arith, some))
   left_over (field ∷ fields) some = refl
 
--- no kind is left behind all
+-- no kind is left after all
 pub drop_all : {A : Type 0} (kinds : List A) (n : ℕ) → length kinds ≤ n → drop n kinds ≡ []
 drop_all [] zero all = refl
 drop_all [] (suc n) all = refl

@@ -1,4 +1,4 @@
--- What a fault tells of the fields of a line.
+-- The fields of a line, as a fault tells of them.
 use Rattle.tlsf_check.proofs.Common.{◌≡◌, ℕ, Bool, true, false, is_some, List, drop, Option, Some, None, option_and_then, Ok, Err, refl, sym, subst, field, fields_in, values_in, kinds_of, line_from, word_of, words, judged_line, some_or, unless, Line, LineFault, is_line, is_shaped}
 use Rattle.tlsf_lines.specs.Labels.{is_in_order}
 use Rattle.tlsf_lines.specs.Trace.{◌>>=◌}

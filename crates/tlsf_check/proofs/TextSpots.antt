@@ -29,7 +29,7 @@ module _ (text : List ℕ) (fault : TraceFault) (n : ℕ) where
         (subst (λ (k : ℕ). IsFieldOf (workers_in text) BadHeader (field (pieces_of text) k) n) first (found (workers_in text)));
   }
 
-  -- a line behind it is at fault
+  -- a line after it is at fault
   at_line : (why : LineFault) (at : ℕ) → fault ≡ fault_in why at → trace_of text ≡ Err (why, at) → (failed : FailsAtLine text why at)
       → ((before : List Line) (w : LineFault) → judged_line failed.header.workers before (field (pieces_of text) (fault.line - 1)) ≡ Err w
       → IsFieldOf failed.header.workers w (field (pieces_of text) (fault.line - 1)) n)

@@ -20,7 +20,7 @@ is_phase _ = false
 abbrev pub phases_of : Trace → ℕ
 phases_of trace = count_by is_phase trace.lines + 1
 
--- so many of them, as `1 call` and `2 calls`
+-- a count of them, as `1 call` and `2 calls`
 abbrev pub counted : ℕ → List ℕ → List ℕ
 counted n thing = decimal n ++ codes " " ++ thing ++ (if n == 1 then [] else codes "s")
 

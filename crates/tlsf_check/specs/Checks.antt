@@ -1,4 +1,4 @@
--- What a check of a trace writes and notes.
+-- The output and the notes of a check of a trace.
 use Rattle.std.specs.Prelude.{◌≡◌, ℕ, List, ◌++◌, codes}
 use Rattle.std.specs.Fmt.{decimal}
 use Rattle.tlsf_lines.specs.TraceFaults.{IsLineFault, too_long_fault}

@@ -62,7 +62,7 @@ IsWrongOrLast is_whole IsWrong fields n = MatchBool (is_whole fields) (n ≡ len
 
 -- ---- the field of a fault
 
--- the field of a line's fault, where there are so many workers; that of a label is the third in each line that has one
+-- the field of a line's fault, where there are this many workers; that of a label is the third in each line that has one
 abbrev pub IsFieldOf : ℕ → LineFault → List ℕ → ℕ → Type 0
 IsFieldOf workers line.BadHeader piece n =
     MatchOption (fields_in piece) (IsWrongOrLast is_header (GoAstrayAt is_header) (fields_of piece) n) (λ fields. GoAstrayAt is_header fields n)

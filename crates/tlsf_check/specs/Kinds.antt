@@ -22,7 +22,7 @@ workers_by None = 0
 abbrev pub workers_in : List ℕ → ℕ
 workers_in text = workers_by (header_in (field (pieces_of text) 0))
 
--- the least and the greatest number of a kind, where there are so many workers
+-- the least and the greatest number of a kind, where there are this many workers
 abbrev pub range_of : ℕ → Kind → ℕ × ℕ
 range_of workers Worker = (0, workers - 1)
 range_of workers Label = (0, 65535)
@@ -45,7 +45,7 @@ kinds_behind word.Resize = Worker ∷ Label ∷ Length ∷ []
 kinds_behind word.Drain = Worker ∷ Most ∷ []
 kinds_behind word.Phase = []
 
--- the kinds of the fields behind the version
+-- the kinds of the fields after the version
 abbrev pub header_kinds : Version → List Kind
 header_kinds version = Workers ∷ Words version ∷ Capacity ∷ []
 

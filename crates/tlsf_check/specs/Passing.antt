@@ -6,13 +6,13 @@ abbrev pub passing_count : {A : Type 0} → (A → List ℕ → Bool) → List A
 passing_count pass (kind ∷ kinds) (field ∷ fields) = if pass kind field then suc (passing_count pass kinds fields) else 0
 passing_count pass _ _ = 0
 
--- each field passes as one of its kind, and there are as many
+-- each field passes as one of its kind, and there are equally many
 abbrev pub all_pass : {A : Type 0} → (A → List ℕ → Bool) → List A → List (List ℕ) → Bool
 all_pass pass [] [] = true
 all_pass pass (kind ∷ kinds) (field ∷ fields) = if pass kind field then all_pass pass kinds fields else false
 all_pass pass _ _ = false
 
--- not all pass, and so many do before the first that doesn't; or all do
+-- not all pass, and this many do before the first that doesn't; or all do
 abbrev pub IsFirstFailing : {A : Type 0} → (A → List ℕ → Bool) → List A → List (List ℕ) → Option ℕ → Type 0
 IsFirstFailing pass kinds fields (Some n) = (all_pass pass kinds fields ≡ false) × (n ≡ passing_count pass kinds fields)
 IsFirstFailing pass kinds fields None = all_pass pass kinds fields ≡ true

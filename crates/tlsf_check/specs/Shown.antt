@@ -39,7 +39,7 @@ without_feed piece = if slice_index piece (length piece - 1) == 10 then take (le
 abbrev pub spaces_in : List ℕ → ℕ
 spaces_in bytes = count_by (λ byte. byte == 32) bytes
 
--- so many spaces stand before the rest of a line
+-- this many spaces stand before the rest of a line
 pub record HasBefore (line rest : List ℕ) (count : ℕ) : Type 0 where
   pub front : List ℕ
   pub line_is : line ≡ front ++ rest
@@ -54,7 +54,8 @@ pub record IsFieldAt (line : List ℕ) (n start : ℕ) (field : List ℕ) : Type
   pub spaces : spaces_in front ≡ n - 1
   pub none : spaces_in field ≡ 0
 
--- the byte at this place is one of field n, or the one right behind it; the end of the line, where that field or the line feed is missing
+-- the byte at this place is one of field n, or the one right after it. It is the end of the line, where that field or the line feed
+-- is missing
 abbrev pub MarksField : (piece : List ℕ) (n at : ℕ) → Type 0
 MarksField piece n at =
     (spaces_in (take at (without_feed piece)) ≡ n - 1)

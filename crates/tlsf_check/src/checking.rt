@@ -64,11 +64,11 @@ fn note_line(
 
 /// Reads a whole trace and checks it. Of a good trace it writes one line, of a faulty one it adds a note that explains the fault.
 ///
-/// The line tells the version, the workers with their words, the calls and the phases; the end of a trace ends a phase too. A note has
-/// three lines: the faulty line as it stands, cut where it is long, with what isn't printable escaped; a mark under a byte of it; and
-/// the number of the field, what it is, what was expected there and what was found; a tip on numbers may follow. Of a trace that is too
-/// long the note is one line, which says the limit that it passes. The other faults have no note. The limits are those of
-/// [`replay`](tlsf_trace::replay).
+/// The line tells the version, the workers with their words, the calls and the phases; the end of a trace ends a phase too. A note
+/// has three lines: the faulty line as it stands, a mark under a byte of it, and a line on the field. The faulty line is cut where
+/// it is long, and a byte that isn't printable is escaped. The third line has the number of the field, what it is, what was
+/// expected there and what was found. A tip on numbers may follow. Of a trace that is too long the note is one line, which says the
+/// limit that it passes. The other faults have no note. The limits are those of [`replay`](tlsf_trace::replay).
 ///
 /// ```
 /// // reader gives "tlsf 1 1 64 1\na 0 1 x\n"

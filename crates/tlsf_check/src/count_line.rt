@@ -36,7 +36,7 @@ fn count_phase_lines(trace: &Trace) -> usize
     trace.lines.iter().filter(|line| is_phase(line)).count()
 }
 
-/// Adds so many things, as `1 call` or `2 calls`.
+/// Adds a number of things, as `1 call` or `2 calls`.
 pub fn push_count(text: &mut String, count: usize, thing: &str) -> Result<(), AllocError>
     ensures { OnOk result (string_bytes text.new ≡ string_bytes text.old ++ told.counted count thing.now) }
 {

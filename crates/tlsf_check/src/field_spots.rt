@@ -51,7 +51,7 @@ fn count_spaces(line: &[u8]) -> usize
     line.iter().filter(|byte| **byte == b' ').count()
 }
 
-/// The first wrong field of a line, where there are so many workers: by its shape, and then by its numbers.
+/// The first wrong field of a line, where there are this many workers: by its shape, and then by its numbers.
 fn wrong_in_line(workers: u32, line: &[u8]) -> Option<usize>
     ensures { FindsWrong (is_line workers) (IsFirstWrong workers) (fields_of line.now) result }
 {
@@ -69,8 +69,8 @@ fn wrong_in_line(workers: u32, line: &[u8]) -> Option<usize>
     }
 }
 
-/// The field by which a line is faulty, where there are so many workers: the first wrong one. Where none is wrong it is the label, and of
-/// a line without its line feed the last one.
+/// The field by which a line is faulty, where there are this many workers: the first wrong one. Where none is wrong it is the
+/// label, and of a line without its line feed the last one.
 fn line_spot(workers: u32, piece: &[u8]) -> usize
     ensures { (before : List Line) (fault : LineFault) → judged_line workers before piece.now ≡ Err fault
         → IsFieldOf workers fault piece.now result }
@@ -81,7 +81,7 @@ fn line_spot(workers: u32, piece: &[u8]) -> usize
     }
 }
 
-/// How many fields behind the version pass before the first that is wrong; `None` where they are those of a header.
+/// How many fields after the version pass before the first that is wrong; `None` where they are those of a header.
 fn version_failing(version: Version, fields: Option<&[u8]>) -> Option<usize>
     ensures first { IsFirstFailing (λ k f. Kinds.passes (Judge.Number 0) k f) (Kinds.header_kinds version) (fields_left fields.entry) result }
     ensures few { IfSome result (λ n. n ≤ 3) }
@@ -118,8 +118,8 @@ fn wrong_in_header(line: &[u8]) -> Option<usize>
     }
 }
 
-/// The field by which a first line is no header: the first wrong one. Where none is wrong it is the last one, which has no line feed
-/// behind it.
+/// The field by which a first line is no header: the first wrong one. Where none is wrong it is the last one, which no line feed
+/// follows.
 fn header_spot(piece: &[u8]) -> usize
     ensures { spelled.header_in piece.now ≡ None → (workers : ℕ) → IsFieldOf workers BadHeader piece.now result }
 {
@@ -150,10 +150,10 @@ pub fn piece_at(text: &[u8], line: u32) -> &[u8]
 
 /// The field in which the fault of a text is found, counted from 1.
 ///
-/// It is the first field by which the line can't be a line: none that begins so has its shape, or in the first line none is a header. Where a
-/// field is missing it is the field that had to stand behind the last one. Of a bad number it is the first field with one, and of a label
-/// out of order the label. Where the last line has no line feed it is the first field that is wrong besides, by the shape of a line and then
-/// by its numbers; the last one where no other is.
+/// It is the first field by which the line can't be a line. So no line that begins in this way has its shape, or in the first line
+/// no header has. Where a field is missing it is the field that had to follow the last one. Of a bad number it is the first field
+/// with one, and of a label out of order the label. Where the last line has no line feed it is the first field that is wrong
+/// besides. It is found by the shape of a line and then by its numbers. It is the last one where no other is wrong.
 ///
 /// ```
 /// // "tlsf 1 2 64 4\na 0 1 x\n" has fault 12 in line 2

@@ -1,4 +1,4 @@
-//! What was wanted in a field, and what stands there.
+//! The wanted content of a field, and the content that stands there.
 ghost use Rattle.std.specs.Prelude.{◌≡◌, ◌≤◌, length, IfSome, false, true};
 
 use crate::judge::{Judge, is_all_digits, passes};
@@ -12,7 +12,7 @@ use tlsf_lines::{Version, word_of};
 /// How many bytes of a field are quoted.
 const MOST_QUOTED: usize = 24;
 
-/// What should stand in a field.
+/// The content that a field should have.
 #[derive(Clone, Copy)]
 pub enum Wanted {
     /// `tlsf`, the first field of a header.
@@ -23,7 +23,7 @@ pub enum Wanted {
     Word,
     /// A number, or payload bytes.
     Value(Kind),
-    /// No field: the line has so many.
+    /// No field: the line has only this many.
     Nothing(usize),
 }
 
@@ -35,7 +35,7 @@ fn value_at(kinds: &[Kind], place: usize, fields: usize) -> Wanted {
     }
 }
 
-/// What field `n` of the header should be.
+/// The content that field `n` of the header should have.
 pub fn wanted_in_header(piece: &[u8], n: usize) -> Wanted {
     match n {
         0 | 1 => Wanted::Name,
@@ -48,7 +48,7 @@ pub fn wanted_in_header(piece: &[u8], n: usize) -> Wanted {
     }
 }
 
-/// What field `n` of a line behind the header should be.
+/// The content that field `n` of a line after the header should have.
 pub fn wanted_in_line(piece: &[u8], n: usize) -> Wanted {
     if n < 2 {
         return Wanted::Word;
@@ -110,7 +110,7 @@ fn unwanted_in(field: &[u8], wanted: Wanted) -> usize
     }
 }
 
-// Whether the field says what it should, where there are so many workers.
+// Whether the field says what it should, where there are this many workers.
 fn is_as_wanted(field: &[u8], wanted: Wanted, workers: u32) -> bool {
     match wanted {
         Wanted::Value(kind) => passes(Judge::Number { workers }, kind, field),
@@ -120,7 +120,7 @@ fn is_as_wanted(field: &[u8], wanted: Wanted, workers: u32) -> bool {
     }
 }
 
-/// Whether nothing is wrong but that the line feed is missing behind the field.
+/// Whether nothing is wrong but that no line feed follows the field.
 pub fn lacks_feed_alone(spot: Spot, wanted: Wanted, workers: u32) -> bool
     ensures { result ≡ true → spot.entry.is_ended ≡ false }
 {
@@ -193,7 +193,7 @@ fn push_quoted(text: &mut String, field: &[u8]) -> Result<(), AllocError> {
     text.push_str("`")
 }
 
-// What more is to say of a field in the place of a number.
+// More words on a field in the place of a number.
 fn number_note(field: &[u8], has_range: bool) -> &'static str {
     match field {
         [b'-', ..] | [b'+', ..] => ": numbers have no sign",
@@ -204,7 +204,7 @@ fn number_note(field: &[u8], has_range: bool) -> &'static str {
     }
 }
 
-// What more is to say of a field in the place of the words of a heap: version 2 may take a number that version 1 doesn't.
+// More words on a field in the place of the words of a heap: version 2 may take a number that version 1 doesn't.
 fn words_note(field: &[u8], version: Version, workers: u32) -> &'static str {
     let is_for_two = is_as_wanted(field, Wanted::Value(Kind::Words(Version::Two)), workers);
     match version {
@@ -213,7 +213,7 @@ fn words_note(field: &[u8], version: Version, workers: u32) -> &'static str {
     }
 }
 
-// What more is to say of a field in the place of payload bytes.
+// More words on a field in the place of payload bytes.
 fn payload_note(field: &[u8]) -> &'static str {
     if !field.iter().all(|byte| byte.is_ascii_hexdigit()) {
         ""
@@ -304,7 +304,7 @@ fn push_contents(
     push_field_note(text, field, wanted, workers)
 }
 
-/// Adds what was found in the place of the field. Where the line feed is missing too it says so, behind that.
+/// Adds what was found in the place of the field. Where the line feed is missing too it says so at the end.
 pub fn push_found(
     text: &mut String,
     spot: Spot,

@@ -12,7 +12,7 @@ use tlsf_lines::{chunk_in, digits_in};
 pub enum Judge {
     /// By its shape: all digits, or payload bytes.
     Shape,
-    /// By its number too, where there are so many workers.
+    /// By its number too, where there are this many workers.
     Number { workers: u32 },
 }
 

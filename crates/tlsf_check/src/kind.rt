@@ -3,7 +3,7 @@ ghost use Rattle.tlsf_check.specs.Kinds;
 
 use tlsf_lines::{Version, Word};
 
-/// What a field behind the first says, in a line or in the header.
+/// The meaning of a field after the first, in a line or in the header.
 #[derive(Clone, Copy)]
 pub enum Kind {
     /// The number of a worker, from 0.
@@ -29,7 +29,7 @@ pub enum Kind {
 }
 
 impl Kind {
-    /// The least and the greatest number of this kind, where there are so many workers. Payload bytes are no number.
+    /// The least and the greatest number of this kind, where there are this many workers. Payload bytes are no number.
     pub fn range(self, workers: u32) -> (u32, u32)
         ensures { result ≡ Kinds.range_of workers self }
     {

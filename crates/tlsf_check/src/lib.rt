@@ -1,8 +1,8 @@
-//! What is wrong with a trace, told so that it can be mended.
+//! The faults of a trace, told so that they can be mended.
 //!
-//! [`check_trace`] reads a trace and checks it. Of a good one it writes a line that counts its workers, calls and phases; of a faulty
-//! one it answers the fault of a replay, and notes the line as it stands with a mark under the byte, which field it is, and what was
-//! expected there. Of a trace that is too long it notes the limit that it passes.
+//! [`check_trace`] reads a trace and checks it. Of a good one it writes a line that counts its workers, calls and phases. Of a
+//! faulty one it answers the fault of a replay. It notes the line as it stands with a mark under the byte, which field it is, and
+//! what was expected there. Of a trace that is too long it notes the limit that it passes.
 //!
 //! [`field_of_fault`] finds the field of a text's fault, and [`explain`] makes the note. Both read a line by the steps of `tlsf_lines`: what a
 //! word, a number and payload bytes are is told there alone. [`have_marked_number`] says whether the words of a command line want the tip

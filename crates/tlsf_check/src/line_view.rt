@@ -42,7 +42,7 @@ pub fn push_bytes(text: &mut String, bytes: &[u8]) -> Result<(), AllocError>
     Ok(())
 }
 
-// Adds so many spaces.
+// Adds `count` spaces.
 fn push_spaces(text: &mut String, count: usize) -> Result<(), AllocError>
     ensures { OnOk result (string_bytes text.new ≡ string_bytes text.old ++ replicate count 32) }
 {
@@ -52,7 +52,7 @@ fn push_spaces(text: &mut String, count: usize) -> Result<(), AllocError>
     Ok(())
 }
 
-// How many of the first bytes are shown in so many columns.
+// How many of the first bytes are shown in this many columns.
 fn first_shown(bytes: &[u8], columns: usize) -> usize
     ensures { result ≤ length bytes.now }
 {
@@ -67,7 +67,7 @@ fn first_shown(bytes: &[u8], columns: usize) -> usize
     bytes.len()
 }
 
-// Where the last bytes begin that are shown in so many columns.
+// Where the last bytes begin that are shown in this many columns.
 fn last_shown(bytes: &[u8], columns: usize) -> usize
     ensures { result ≤ length bytes.now }
 {

@@ -51,7 +51,7 @@ fn push_label(words: &mut String, text: &[u8], line: u32) -> Result<(), AllocErr
     }
 }
 
-// What is wrong with a field of a line, in words.
+// The fault of a field of a line, in words.
 fn words_on(
     alloc: Global,
     text: &[u8],
@@ -99,12 +99,12 @@ fn push_field(note: &mut String, field: usize, words: &str) -> Result<(), AllocE
     writeln!(note, "  field {field}{words}")
 }
 
-/// Explains the fault of a text in a field of its line, in three lines: the line as it stands, a mark under the byte, and in words which
-/// field it is, what was expected there and what was found. Where the line feed is missing too it says so. Behind a number with more in it
-/// than digits, as `8KiB`, a fourth line has the tip on numbers.
+/// Explains the fault of a text in a field of its line, in three lines. These are the line as it stands, a mark under the byte, and
+/// words. The words say which field it is, what was expected there and what was found. Where the line feed is missing too it says
+/// so. After a number with more in it than digits, as `8KiB`, a fourth line has the tip on numbers.
 ///
-/// A long line is cut on both sides of the mark. A tab is shown as `\t`, a carriage return as `\r`, and another byte that isn't printable
-/// as `\x07`, so nothing reaches a terminal but printable ASCII and line feeds.
+/// A long line is cut on both sides of the mark. A tab is shown as `\t`, a carriage return as `\r`, and another byte that isn't
+/// printable as `\x07`. So nothing reaches a terminal but printable ASCII and line feeds.
 ///
 /// ```
 /// // text is "tlsf 1 1 64 1\na 0 1 x\n"

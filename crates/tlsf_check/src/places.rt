@@ -15,7 +15,7 @@ pub struct Spot<'a> {
     pub is_ended: bool,
     /// The byte of the line where the field begins; its length where the field is missing.
     pub start: usize,
-    /// What the field says; none where it is missing.
+    /// The bytes of the field; none where it is missing.
     pub field: Option<&'a [u8]>,
 }
 
@@ -30,7 +30,7 @@ fn line_in(piece: &[u8]) -> (&[u8], bool)
     }
 }
 
-// What stands after so many fields of a line.
+// The rest of a line after this many fields.
 fn behind_fields(line: &[u8], count: usize) -> Option<&[u8]>
     ensures { MatchOption result (length (fields_of line.now) ≤ count) (λ rest. HasBefore line.now rest.now count) }
 {
@@ -71,7 +71,7 @@ impl<'a> Spot<'a> {
     }
 }
 
-/// What field number `n` of a line as it stands says; no bytes where it is missing.
+/// The bytes of field number `n` of a line as it stands; none where it is missing.
 pub fn field_in(piece: &[u8], n: usize) -> &[u8] {
     let nothing: &[u8] = b"";
     Spot::of(piece, n).field.unwrap_or(nothing)

@@ -1,4 +1,4 @@
--- What the operations on the words of the bitmaps make of the members.
+-- The members after the operations on the words of the bitmaps.
 use Rattle.tlsf_class.proofs.Common.{◌≡◌, ◌≢◌, ℕ, ◌+◌, ◌*◌, ◌/◌, ◌%◌, ◌<◌, ◌≤◌, Bool, true, false, not, ◌&&◌, ◌||◌, eqb, List, get_or, set, length, min, Some, None, refl, sym, ap, ◌∙◌, inl, inr, arith, get_or-set_same, get_or-set_other, replicate, [], ◌↔◌, Contains, bit_at, cases_eq, cases_lt, eq-eqb, eqb-true, ne_eqb, cases_order, bit_at-zero, IsLevel, level_classes, last_class, classes}
 use Rattle.std.proofs.lemmas.List.{length-set}
 use Rattle.std.proofs.lemmas.List.Elements.{filter_agree}
@@ -162,7 +162,7 @@ module _ (sli : ℕ) (level : IsLevel sli) where
       filter-classes_same sli level (is_set sli (set second first_level word)) (λ d. is_set sli second d && not (eqb c d)) (λ d _ _. is_set-clear second c first_level second_level word d clears)
       ∙ sym (without_member-filter sli (is_set sli second) c)
 
-  -- the two levels stay in step where the bit of c is cleared, and the bit of its first level says whether its word is zero
+  -- the two levels stay in step where the bit of c is cleared. The bit of its first level says whether its word is zero
   pub AreLevels-clear : (first next : ℕ) (second : List ℕ) (c first_level second_level word : ℕ) → AreLevels sli first second → ClearsBit second c first_level second_level word → bit_at next first_level ≡ min 1 word → ((k : ℕ) → k ≢ first_level → bit_at next k ≡ bit_at first k) → AreLevels sli next (set second first_level word)
   AreLevels-clear first next second c first_level second_level word levels clears here others =
       record {

@@ -5,7 +5,7 @@ use Rattle.tlsf_class.specs.Steps.{IsStep, last_step}
 use Rattle.tlsf_class.proofs.TwoLevels.{by_level, bounds_of, first_at, second_at, first_inside, second_below}
 use Rattle.tlsf_class.proofs.ClassOfSize.{class_of-between, search_of-same, search_of-next}
 
--- the largest region has as many words as a first level has classes, in the greatest steps, and its class is the first of a level
+-- the largest region has as many words as a first level has classes, in the greatest steps. Its class is the first of a level
 pub record HasTop (sli : ℕ) : Type 0 where
   pub words : most_words sli ≡ 2 ^ (4 * sli + 4)
   pub stepped : most_words sli ≡ level_classes sli * 2 ^ last_step sli

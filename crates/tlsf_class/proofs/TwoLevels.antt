@@ -1,4 +1,4 @@
--- What holds at level 4 and at level 5, and how the number of a class splits into its first level and its second level.
+-- The facts of level 4 and of level 5, and how the number of a class splits into its first level and its second level.
 use Rattle.tlsf_class.proofs.Common.{cond, eqb, true, false, ◌≡◌, ℕ, ◌+◌, ◌*◌, ◌/◌, ◌%◌, ◌^◌, ◌<◌, ◌≤◌, sym, ◌∙◌, inl, inr, arith, cases_lt, mod_below, div-mul-add, mod-mul-add, div-add-mod, mul_comm, IsLevel, level_classes, last_class, most_words}
 
 -- what holds at 4 and at 5 holds at each level
@@ -75,7 +75,7 @@ first_above = by_level (λ sli. (c : ℕ) → 0 < c / level_classes sli → leve
 pub same_class : (sli c d : ℕ) → c / level_classes sli ≡ d / level_classes sli → c % level_classes sli ≡ d % level_classes sli → c ≡ d
 same_class sli c d e f = sym (split sli c) ∙ rw (e, f) (split sli d)
 
--- a class below one that is given by its two levels is on no greater first level, and on that one at a second level below
+-- a class below one that is given by its two levels is on no greater first level. On the same one it is at a second level below
 pub first_below : (sli : ℕ) → IsLevel sli → (d first_level second_level : ℕ) → second_level < level_classes sli → d < level_classes sli * first_level + second_level → d / level_classes sli ≤ first_level
 first_below sli level d first_level second_level inside h = let e = first_at sli first_level second_level inside in let rises = first_rises sli level d (level_classes sli * first_level + second_level) (omega arith) in rw e at rises
 

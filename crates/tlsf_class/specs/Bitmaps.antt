@@ -1,5 +1,5 @@
--- The words of two levels of bitmaps: one word with a bit for each first level, and for each first level a word with a bit for
--- each of its classes, at the class's second level.
+-- The words of two levels of bitmaps. One word has a bit for each first level. For each first level a word has a bit for each of
+-- its classes, at the class's second level.
 use Rattle.std.specs.Prelude.{◌≡◌, ℕ, ◌+◌, ◌*◌, ◌/◌, ◌%◌, ◌<◌, ◌≤◌, List, Bool, ◌==◌, ◌&&◌, length, slice_index, min, filter}
 use Rattle.std.specs.Int.{bit_at}
 use Rattle.tlsf_class.specs.Classes.{IsLevel, level_classes, last_class, classes}

@@ -22,8 +22,8 @@ last_class sli = if sli == 4 then 272 else 640
 abbrev pub most_words : ℕ → ℕ
 most_words sli = if sli == 4 then 2 ^ 20 else 2 ^ 24
 
--- the least size of a class: first level 0 has one class for each size, first level f has its classes over the sizes from
--- 2^(f + sli - 1) on
+-- the least size of a class. First level 0 has one class for each size, and first level f has its classes over the sizes from 2^(f
+-- + sli - 1) on
 unfoldable pub low : ℕ → ℕ → ℕ
 low sli class = if nat_lt class (level_classes sli) then class else 2 ^ (class / level_classes sli + sli - 1) + class % level_classes sli * 2 ^ (class / level_classes sli - 1)
 

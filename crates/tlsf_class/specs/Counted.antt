@@ -1,4 +1,4 @@
--- What the private types show: stored words, and how often one of them was read or written. No public clause cites this file.
+-- The views of the private types: stored words, and how often one of them was read or written. No public clause cites this file.
 use Rattle.std.specs.Prelude.{ℕ, List}
 
 -- some words, and the number of touches: reads and writes of one of them

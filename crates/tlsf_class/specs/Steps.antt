@@ -6,7 +6,8 @@ use Rattle.tlsf_class.specs.Classes.{level_classes}
 abbrev pub last_step : ℕ → ℕ
 last_step sli = 3 * sli + 4
 
--- a size has as many steps of 2^step words as a first level has classes, to twice as many; or fewer where a step is one word
+-- a size has as many steps of 2^step words as a first level has classes, up to twice that number. It has fewer where a step is one
+-- word
 pub record IsStep (sli n step : ℕ) : Type 0 where
   pub most : step ≤ last_step sli
   pub reached : 0 < step → level_classes sli * 2 ^ step ≤ n

@@ -125,8 +125,8 @@ impl<const SLI: u32> Class<SLI> {
     }
 }
 
-/// The most words that a region may have: 2^20 at level 4, 8 MiB in words of 64 bits, and 2^24 at level 5, 128 MiB. The last class
-/// begins here, so that each size of a block has a class and a search class.
+/// The most words that a region may have. They are 2^20 at level 4, 8 MiB in words of 64 bits, and 2^24 at level 5, 128 MiB. The
+/// last class begins here, so that each size of a block has a class and a search class.
 ///
 /// ```
 /// let class = class_of(most_words::<5>());     // class 640, the last
@@ -139,9 +139,9 @@ pub fn most_words<const SLI: u32>() -> u32
     1 << (4 * SLI + 4)
 }
 
-/// The class of a size of `words`, from 4 to as many as a region may have: the greatest one that begins at or below it. A free
-/// block of this size is kept there (the mapping of ECRTS 2004, section 3). The size's highest bit gives the first level, and the
-/// four bits below it, or five at level 5, the second level.
+/// The class of a size of `words`, at least 4 and no more than a region may have. It is the greatest one that begins at or below
+/// it. A free block of this size is kept there (the mapping of ECRTS 2004, section 3). The size's highest bit gives the first
+/// level, and the four bits below it, or five at level 5, the second level.
 ///
 /// ```
 /// let class = class_of::<4>(460);         // class 92
@@ -160,8 +160,8 @@ pub fn class_of<const SLI: u32>(words: u32) -> Class<SLI>
     }
 }
 
-/// The search class of a size of `words`, from 4 to as many as a region may have: the least class of whose sizes none is below
-/// `words`. Each block of this class or a greater one is large enough, so that no block has to be measured (good fit: ECRTS 2004,
+/// The search class of a size of `words`, at least 4 and no more than a region may have. It is the least class that has no size
+/// below `words`. Each block of this class or a greater one is large enough. So no block has to be measured (good fit: ECRTS 2004,
 /// section 3).
 ///
 /// ```
@@ -181,10 +181,10 @@ pub fn search_of<const SLI: u32>(words: u32) -> Class<SLI>
     }
 }
 
-/// The step from class to class at a size, 2^0 to 2^16 words, or to 2^19 at level 5, by its exponent: the number of bits below the
-/// five highest, or six. At level 4 a size has 16 to 31 steps, and below 16 words as many as words, for which bit 4 stands in as
-/// the highest. 32 steps would be 16 of twice the step, so a class is the number of steps and 16 for each doubling, and no size is
-/// a case of its own. At level 5 each of these numbers is twice as great.
+/// The step from class to class at a size, by its exponent: the number of bits below the five highest, or six. It is 2^0 to 2^16
+/// words, or to 2^19 at level 5. At level 4 a size has 16 to 31 steps. Below 16 words it has one for each word, and bit 4 stands in
+/// as the highest. 32 steps would be 16 of twice the step. So a class is the number of steps and 16 for each doubling, and no size
+/// is a case of its own. At level 5 each of these numbers is twice as great.
 fn step_of<const SLI: u32>(words: u32) -> u32
     requires level { IsLevel SLI }
     requires most { words ≤ most_words SLI }

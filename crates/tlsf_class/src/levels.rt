@@ -3,8 +3,8 @@ ghost use Rattle.std.specs.Prelude.{◌≡◌, ◌+◌, ◌<◌, slice_index, sl
 use crate::cells::Cells;
 use std::marker::Model;
 
-/// The words of the two levels: one of the first, with a bit for each first level, and behind it 21 of the second, one
-/// for each first level with a bit for each of its classes.
+/// The words of the two levels. One is of the first, with a bit for each first level. The 21 after it are of the second, one for
+/// each first level with a bit for each of its classes.
 #[derive(Drop)]
 pub(crate) struct Levels {
     cells: Cells,

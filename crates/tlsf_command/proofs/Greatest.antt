@@ -1,4 +1,4 @@
--- The most bytes for so many blocks.
+-- The most bytes for this many blocks.
 use Rattle.tlsf_command.proofs.Common.{◌≡◌, ◌≤◌, ℕ, zero, suc, Option, Some, None, inl, inr, refl, arith, le_trans, IfSome, unwrap_or, IsLevel, most_words, want, IsGreatest, IsReached}
 use Rattle.tlsf_pool.specs.laws.MixedSizes.{mixed_words}
 use Rattle.tlsf_pool.proofs.lemmas.sizes.Bounds.{words_rise}

@@ -4,7 +4,7 @@ use Rattle.tlsf_command.proofs.Common.{◌≡◌, ◌∙◌, ◌==◌, ◌+◌, 
 abbrev pub is_quote : ℕ → Bool
 is_quote = λ byte. byte == 39
 
--- between quotes the text is that up to its first quote, the quote closed and opened again, and what stands behind
+-- between quotes the text is that up to its first quote, the quote closed and opened again, and what stands after
 abbrev IsSplit : List ℕ → Type 0
 IsSplit s = flat_map within_quotes s ≡ before_first is_quote s ++ (codes "'\\''" ++ flat_map within_quotes (after_first is_quote s))
 

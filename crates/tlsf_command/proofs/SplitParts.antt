@@ -23,7 +23,7 @@ behind_servable : (sli : ℕ) (part rest : List Kind) → AllByRecursion (IsServ
 behind_servable sli [] rest all = all
 behind_servable sli (k ∷ part) rest all = behind_servable sli part rest all.1
 
--- a table asks for no more bytes than as many blocks of the longest
+-- a table asks for no more bytes than the same number of blocks of the longest
 asked_most : (longest : ℕ) (kinds : List Kind) → AllByRecursion (λ kind. kind.len ≤ longest) kinds → asked_bytes kinds ≤ count_in kinds * longest
 asked_most longest [] all = omega arith
 asked_most longest (k ∷ kinds) all = let own = products k.most k.most k.len longest (same k.most) all.0 in omega (arith, own, asked_most longest kinds all.1)
@@ -132,7 +132,7 @@ module _ (sli : ℕ) (split : Split) (heap : ℕ) (left : List Kind) (n : ℕ) (
   next_servable : AllByRecursion (IsServable sli) (take n left)
   next_servable = front_servable sli (take n left) (drop n left) (subst (AllByRecursion (IsServable sli)) (sym whole) are.servable)
 
-  -- the others have what is left behind it
+  -- the others have what is left after it
   next_left : AreLeft sli split (heap + 1) (drop n left)
   next_left =
       let rest = joined (cut_by (split.heaps - (heap + 1)) split.lens (drop n left)) in
@@ -140,7 +140,7 @@ module _ (sli : ℕ) (split : Split) (heap : ℕ) (left : List Kind) (n : ℕ) (
       let behind : rest ≡ drop n left = sym (ap₂ (λ (k : ℕ) (ks : List Kind). drop k ks) (sym count) (sym cut_of.0) ∙ dropped (take n left) rest) in
       record { cut = (behind, cut_of.1.1); servable = behind_servable sli (take n left) (drop n left) (subst (AllByRecursion (IsServable sli)) (sym whole) are.servable) }
 
-  -- and its line stands before theirs
+  -- and its line stands before their lines
   next_lines : (before : ℕ) → heap_lines sli heap before (cut_by (split.heaps - heap) split.lens left)
       ≡ heap_line sli heap before (take n left) ++ heap_lines sli (heap + 1) (before + n) (cut_by (split.heaps - (heap + 1)) split.lens (drop n left))
   next_lines before =

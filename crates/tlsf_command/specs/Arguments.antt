@@ -1,4 +1,4 @@
--- What is given to a command, by the ids of its arguments.
+-- The words that are given to a command, by the ids of its arguments.
 use Rattle.std.specs.Prelude.{ℕ, Bool, false, List, [], ◌∷◌, codes, option_map, unwrap_or, if◌then◌else◌}
 use Rattle.std.specs.Str.{bytes_eq}
 use Rattle.std.specs.Str.Parse.{digits_value, without_leading_plus}

@@ -1,15 +1,15 @@
--- What `tlsf classes` is asked for, by the texts that give the size and that stand behind `--level`.
+-- The question that `tlsf classes` is asked, by the texts that give the size and that follow `--level`.
 use Rattle.std.specs.Prelude.{◌≡◌, ◌≤◌, ⊤, ℕ, codes}
 use Rattle.tlsf_class.specs.Classes.{IsLevel, most_words}
 use Rattle.tlsf_command.specs.Arguments.{Arguments, first_number}
 use Rattle.tlsf_command.specs.declared.class_question.ClassQuestion.{ClassQuestion}
 use Rattle.tlsf_command.specs.declared.class_question.ClassQuestion.TheVariants.{Coarse, Fine, NoClass}
 
--- so many words have a class at this level
+-- this many words have a class at this level
 abbrev pub HasClassAt : (level words : ℕ) → Type 0
 HasClassAt level words = IsLevel level × (4 ≤ words) × (words ≤ most_words level)
 
--- the question about so many words at a level
+-- the question about this many words at a level
 abbrev pub IsOfNumbers : (words level : ℕ) → ClassQuestion → Type 0
 IsOfNumbers words level (Coarse n) = (level ≡ 4) × (n ≡ words) × HasClassAt 4 n
 IsOfNumbers words level (Fine n) = (level ≡ 5) × (n ≡ words) × HasClassAt 5 n

@@ -82,8 +82,8 @@ heaps_rule = record (new_rule (codes "H")) {
   parser = Some (Signed (pos 1) (pos 8));
 }
 
--- the command `replay`, with the flags by which it writes what the workers ask of their heaps, and of which kinds, and how small these may be;
--- and the option by which these kinds are merged
+-- the command `replay`, with the flags by which it writes how much the workers ask of their heaps. Others ask of which kinds, and
+-- how small these may be. One more option merges these kinds
 abbrev pub replay_app : App
 replay_app = with_rule (with_rule (with_rule (trace_app (codes "replay") (codes "held")) (flag_rule (codes "kinds"))) (flag_rule (codes "least"))) heaps_rule
 
@@ -91,7 +91,7 @@ replay_app = with_rule (with_rule (with_rule (trace_app (codes "replay") (codes 
 abbrev pub race_app : App
 race_app = trace_app (codes "race") (codes "queues")
 
--- the line behind which the heaps are drawn, which needn't be given
+-- the line after which the heaps are drawn, which needn't be given
 abbrev pub line_rule : Rule
 line_rule = record (new_rule (codes "K")) {
   long = Some (codes "at");
@@ -111,7 +111,7 @@ plot_app = trace_app (codes "plot") (codes "text")
 abbrev pub check_app : App
 check_app = with_rule (new_app (codes "check")) file_rule
 
--- the program with its version and no command yet, of which a command must be named
+-- the program with its version and no command yet. A command must be named
 abbrev pub bare_app : App
 bare_app =
     let bare = new_app (codes "tlsf") in
@@ -156,8 +156,8 @@ map_by true worst form = MapHtml
 map_by false true form = MapWorst form
 map_by false false form = Map form
 
--- the run that the command of this name asks for, by which flags are given, and whether kinds are merged: `replay` is the one that is none
--- of the others
+-- the run that the command of this name asks for, by which flags are given, and whether kinds are merged. `replay` is the one that
+-- is none of the others
 abbrev pub run_by : (name : Text) → (is_given : Text → Bool) → (merges : Bool) → TraceRun
 run_by name is_given merges =
     if bytes_eq name (codes "race") then race_by (is_given (codes "queues"))
@@ -225,8 +225,8 @@ number_for (Map form) given = first_number 0 (given (codes "K"))
 number_for HeldKinds given = first_number 0 (given (codes "H"))
 number_for run given = 0
 
--- the choice of a run with this number, 0 for none, where these words stand behind its command: it is asked for where no file is named, and
--- else its tip is due
+-- the choice of a run with this number, 0 for none, where these words follow its command. It is asked for where no file is named,
+-- and otherwise its tip is due
 abbrev pub IsRunOn : TraceRun → (number : ℕ) → (files : List Text) → Choice → Type 0
 IsRunOn run number files (Trace other) = (other ≡ run) × (files ≡ []) × (number ≡ 0)
 IsRunOn run number files (File other tip) = (other ≡ run) × IsTip run number files (string_bytes tip)
@@ -246,7 +246,7 @@ IsCommand name = ReadsTrace name ⊎ ((name ≡ codes "classes") ⊎ (name ≡ c
 abbrev pub run_asked : Text → Arguments → TraceRun
 run_asked name given = run_by name (λ flag. is_set (given flag)) (nat_lt 0 (first_number 0 (given (codes "H"))))
 
--- the choice is what the command of this name asks for by what is given to it: two options of which it takes one are refused
+-- the choice is the one that the command of this name asks for by its words. Two options are refused, where it takes one of them
 abbrev pub IsAskedBy : Choice → Text → Arguments → Type 0
 IsAskedBy (Classes question) name given = (name ≡ codes "classes") × IsClassQuestion given question
 IsAskedBy (Size question) name given = (name ≡ codes "size") × IsQuestion given question

@@ -1,4 +1,4 @@
--- What a run of the program does.
+-- The work of a run of the program.
 use Rattle.std.specs.Prelude.{◌≡◌, ◌⊎◌, ◌++◌, ◌-◌, ⊤, ℕ, Bool, List, [], ◌∷◌, Option, Result, Ok, Err, IfSome, string_bytes, if◌then◌else◌}
 use Rattle.std.specs.Io.KnownBytes.{Appends, Keeps}
 use Rattle.clap.specs.Words.{IsAmong, Text}
@@ -70,8 +70,10 @@ abbrev pub IsNote : (tips : Bool) → TraceRun → (text : Option (List ℕ)) �
 IsNote tips Check text answer note = ChecksNote Check text answer note
 IsNote tips run text answer note = note ≡ tip_on tips answer
 
--- what a run may put out: what a replay does, or what its workers asked of their heaps, or the kinds of blocks that these held, or the least words of their heaps; what a race does, each phase in threads, over lanes or over
--- queues; the heaps that the trace leaves, those after the line to look at, or these over its lines, as an SVG file or in the characters of a terminal, and on a page; or what a check says of it
+-- all that a run may put out. A replay puts out its answers, or how much its workers asked of their heaps. Or it puts out the kinds
+-- of blocks that these held, or the least words of their heaps. A race puts out its answers, each phase in threads, over lanes or
+-- over queues. A picture has the heaps that the trace leaves, those after the line to look at, or these over its lines. It is an
+-- SVG file, in the characters of a terminal, or on a page. A check puts out its verdict
 abbrev pub puts_of : TraceRun → Outputs
 puts_of Replay = Replays
 puts_of Held = Measures
@@ -140,9 +142,9 @@ pub record ShowsWords (sli : ℕ) (kinds : List Kind) (status : ℕ) (old new : 
   pub reached : AreReached sli kinds
   pub lines : ShowsLines (size_line sli kinds) status old new
 
--- the line that says how far a region does reach was reported: of one kind, the most blocks and the most bytes; of several, how
--- many of the table a region has room for, and the next one; and of both the hint at pools exactly where these are large enough, and the
--- hint at level 5 exactly where a region of it has the words
+-- the line that says how far a region does reach was reported. Of one kind it has the most blocks and the most bytes. Of several it
+-- has how many of the table a region has room for, and the next one. Of both it has the hint at pools exactly where these are large
+-- enough. It has the hint at level 5 exactly where a region of it has the words
 abbrev pub ReportsUnreached : ℕ → List Kind → Option (List ℕ) → Option (List ℕ) → Type 0
 ReportsUnreached sli (kind ∷ []) old new = (blocks : ℕ) × IsGreatest (λ most. IsReached sli most kind.len) blocks
     × ((bytes : ℕ) × IsGreatest (λ len. IsReached sli kind.most len) bytes
@@ -214,8 +216,8 @@ ShowsAnswer DisplayVersion status old new = ShowsText status old new
 ShowsAnswer OutOfMemory status old new = LacksMemory status old new
 ShowsAnswer _ status old new = ShowsUsage status old new
 
--- what was chosen is done: a run of a trace, or its tip where a file is named, the classes of a size, the words of a region, a picture
--- after a line, or kinds merged for so many heaps; options that exclude each other are refused
+-- the choice is done: a run of a trace, or its tip where a file is named, or the classes of a size. It may be the words of a
+-- region, a picture after a line, or kinds merged for a number of heaps. Options that exclude each other are refused
 abbrev pub Does : (tips : Bool) → Choice → ℕ → Streams → Streams → Type 0
 Does tips (Trace run) = RunsAs tips run
 Does tips (File run tip) = Refuses (string_bytes tip)

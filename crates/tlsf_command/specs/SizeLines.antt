@@ -12,7 +12,7 @@ use Rattle.tlsf_pool.specs.sizes.Rising.{HasNoHeaps, Rises}
 use Rattle.tlsf_pool.specs.sizes.Splits.{words_together, IsLeast}
 use Rattle.tlsf_pool.specs.declared.sizes.split.Split.{Split}
 
--- some region of the level has the words that the law asks for, for so many blocks of so many bytes
+-- some region of the level has the words that the law asks for, for this many blocks of that many bytes
 abbrev pub IsReached : ℕ → ℕ → ℕ → Type 0
 IsReached sli most len = (1 ≤ most) × (1 ≤ len) × (want len ≤ most_words sli) × (mixed_words sli most len ≤ most_words sli)
 
@@ -44,7 +44,7 @@ abbrev pub longest_of : List Kind → ℕ
 longest_of [] = 0
 longest_of (kind ∷ kinds) = max kind.len (longest_of kinds)
 
--- so many of them, as `1 block` and `2 blocks`
+-- a count of them, as `1 block` and `2 blocks`
 abbrev pub counted : ℕ → List ℕ → List ℕ
 counted n name = decimal n ++ (codes " " ++ (name ++ (if n == 1 then [] else codes "s")))
 
@@ -52,13 +52,14 @@ counted n name = decimal n ++ (codes " " ++ (name ++ (if n == 1 then [] else cod
 abbrev pub hundredths : ℕ → ℕ → ℕ
 hundredths a b = (100 * a + b / 2) / b
 
--- so many words, their bytes, and so many hundredths with two digits behind the point, as `words 13631 bytes 109048 ratio 2.13`
+-- a number of words, their bytes, and a number of hundredths with two digits after the point, as
+-- `words 13631 bytes 109048 ratio 2.13`
 abbrev pub words_text : (words ratio : ℕ) → List ℕ
 words_text words ratio =
     codes "words " ++ (decimal words ++ (codes " bytes " ++ (decimal (8 * words)
     ++ (codes " ratio " ++ (decimal (ratio / 100) ++ (codes "." ++ (decimal (ratio / 10 % 10) ++ decimal (ratio % 10))))))))
 
--- so many words, and the ratio of their bytes to those that are asked for
+-- a number of words, and the ratio of their bytes to those that are asked for
 abbrev pub words_line : (words asked : ℕ) → List ℕ
 words_line words asked = words_text words (hundredths (8 * words) asked) ++ codes "\n"
 
@@ -66,8 +67,8 @@ words_line words asked = words_text words (hundredths (8 * words) asked) ++ code
 abbrev pub size_line : ℕ → List Kind → List ℕ
 size_line sli kinds = words_line (kinds_words sli kinds) (asked_bytes kinds)
 
--- the line on a heap of a split, a pool: its number, its kinds by their places in the table, from 1 on, the bytes of the longest, and its
--- region, as `heap 0 kinds 1 to 2 up to 512 bytes words 6800 bytes 54400 ratio 1.06`
+-- the line on a heap of a split, a pool, as `heap 0 kinds 1 to 2 up to 512 bytes words 6800 bytes 54400 ratio 1.06`. It has its
+-- number, its kinds by their places in the table, from 1 on, the bytes of the longest, and its region
 abbrev pub heap_line : ℕ → (heap before : ℕ) → List Kind → List ℕ
 heap_line sli heap before part =
     codes "heap " ++ (decimal heap ++ (codes " kinds " ++ (decimal (before + 1) ++ (codes " to " ++ (decimal (before + length part)
@@ -116,7 +117,7 @@ split_hint_text (Some split) =
     codes "; with --split " ++ (counted split.heaps (codes "heap") ++ (codes " of " ++ (decimal split.words ++ (codes " words "
     ++ ((if split.heaps == 1 then codes "is" else codes "together are") ++ codes " enough")))))
 
--- the words of a region of level 5 for such a table, if one has so many
+-- the words of a region of level 5 for such a table, if one has that many
 abbrev pub IsFiner : List Kind → Option ℕ → Type 0
 IsFiner kinds None = ¬ (AreReached 5 kinds)
 IsFiner kinds (Some words) = AreReached 5 kinds × (words ≡ kinds_words 5 kinds)

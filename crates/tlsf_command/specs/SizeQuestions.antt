@@ -1,5 +1,5 @@
--- What `tlsf size` is asked for: a table of kinds of request, of the texts behind `--blocks` and `--bytes`, at the level behind `--level`, for
--- one heap or, by `--split`, for several.
+-- The question that `tlsf size` is asked. It is a table of kinds of request, of the texts after `--blocks` and `--bytes`, at the
+-- level after `--level`. It is for one heap or, by `--split`, for several.
 use Rattle.std.specs.Prelude.{◌≡◌, ◌≢◌, ◌≤◌, ◌<◌, ⊤, ℕ, Bool, false, true, List, [], ◌∷◌, codes, length}
 use Rattle.clap.specs.Words.{Text}
 use Rattle.tlsf_pool.specs.declared.kind.Kind.{Kind}
@@ -13,16 +13,16 @@ kinds_in [] bytes = []
 kinds_in (most ∷ blocks) [] = []
 kinds_in (most ∷ blocks) (len ∷ bytes) = record { most = number_of most; len = number_of len } ∷ kinds_in blocks bytes
 
--- so many numbers of blocks and of bytes make a table: as many of each, 1 to 64
+-- these numbers of blocks and of bytes make a table: equally many of each, 1 to 64
 abbrev pub MakesTable : (blocks bytes : ℕ) → Type 0
 MakesTable blocks bytes = (blocks ≡ bytes) × (1 ≤ blocks) × (blocks ≤ 64)
 
--- the kinds of so many pairs of texts as there are
+-- the kinds of these pairs of texts
 abbrev pub AreOfTexts : (blocks bytes : List Text) → List Kind → Type 0
 AreOfTexts blocks bytes kinds = MakesTable (length blocks) (length bytes) × (kinds ≡ kinds_in blocks bytes)
 
--- the question about the pairs of these texts at a level, for one heap or for several: about their table at level 5 or at another, which is 4
--- since `clap` refuses the rest, or about none
+-- the question about the pairs of these texts at a level, for one heap or for several. It is about their table at level 5 or at
+-- another, which is 4 since `clap` refuses the rest, or about none
 abbrev pub IsOfTexts : (blocks bytes : List Text) → ℕ → Bool → SizeQuestion → Type 0
 IsOfTexts blocks bytes level split (Table kinds) = AreOfTexts blocks bytes kinds.items × (level ≢ 5) × (split ≡ false)
 IsOfTexts blocks bytes level split (FineTable kinds) = AreOfTexts blocks bytes kinds.items × (level ≡ 5) × (split ≡ false)
@@ -38,7 +38,7 @@ IsQuestion given = IsOfTexts (given (codes "B")) (given (codes "N")) (first_numb
 abbrev pub HasKinds : List Kind → Type 0
 HasKinds kinds = (0 < length kinds) × (length kinds ≤ 64)
 
--- its table, if it has one, has so many
+-- its table, if it has one, has that many
 abbrev pub HasTable : SizeQuestion → Type 0
 HasTable (Table kinds) = HasKinds kinds.items
 HasTable (FineTable kinds) = HasKinds kinds.items

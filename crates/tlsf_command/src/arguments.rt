@@ -1,4 +1,4 @@
-//! What is given to a command, by the ids of its arguments.
+//! The words that are given to a command, by the ids of its arguments.
 ghost use Rattle.std.specs.Prelude.{◌≡◌, map};
 ghost use Rattle.tlsf_command.specs.Arguments as told;
 ghost use Rattle.tlsf_command.specs.Arguments.{texts_of};

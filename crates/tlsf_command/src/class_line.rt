@@ -34,9 +34,8 @@ fn line_of<const SLI: u32>(words: u32) -> Result<ArrayString<64>, fmt::Error>
     Ok(line)
 }
 
-/// Writes the line on a size of `words`, 4 to 2^20 or at level 5 to 2^24, and flushes: the class of
-/// the size and its search class, each with its least size in words. After an `Err` a prefix of the
-/// line was written.
+/// Writes the line on a size of `words`, 4 to 2^20 or at level 5 to 2^24, and flushes. It has the class of the size and its search
+/// class, each with its least size in words. After an `Err` a prefix of the line was written.
 ///
 /// ```
 /// write_class_line::<4, _>(460, &mut writer)?;

@@ -5,19 +5,19 @@ use crate::arguments::number_given;
 use clap::ArgMatches;
 use tlsf_class::most_words;
 
-/// What `tlsf classes` is asked for.
+/// The question that `tlsf classes` is asked.
 #[derive(Clone, Copy)]
 pub enum ClassQuestion {
-    /// The class and the search class of so many words at level 4, 4 to 2^20.
+    /// The class and the search class of this many words at level 4, 4 to 2^20.
     Coarse(u32),
     /// Those at level 5, of 4 to 2^24 words.
     Fine(u32),
-    /// None: no class of the level has so many words.
+    /// None: no class of the level has this many words.
     NoClass,
 }
 
 impl ClassQuestion {
-    // The question about so many words at a level.
+    // The question about this many words at a level.
     fn of_numbers(words: u32, level: u32) -> ClassQuestion
         ensures { IsOfNumbers words level result }
     {

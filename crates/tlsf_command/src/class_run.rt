@@ -28,8 +28,8 @@ fn show_classes<const SLI: u32, W: Write, E: Write>(
     }
 }
 
-/// Answers the question, and gives the exit status: 0 where the line is written, 1 where a write failed, and 2 where no class
-/// of the level has so many words.
+/// Answers the question, and gives the exit status: 0 where the line is written, 1 where a write failed. It is 2 where no class of
+/// the level has that many words.
 ///
 /// ```
 /// let status = run_classes(ClassQuestion::Fine(460), &mut writer, &mut errors);

@@ -17,7 +17,7 @@ use std::alloc::{AllocError, Global};
 use std::convert::AsStr;
 use tlsf_picture::Form;
 
-/// What a command line asks for.
+/// The request of a command line.
 #[derive(Drop)]
 pub enum Choice {
     /// A command that reads a trace from standard input, with no word behind it: do so.
@@ -27,9 +27,8 @@ pub enum Choice {
     /// `tlsf classes N`: write the class and the search class of a size of N words, 4 to 2^20, to
     /// standard output. With `--level 5` those at level 5, of 4 to 2^24 words.
     Classes(ClassQuestion),
-    /// `tlsf size --blocks B --bytes N ..`: write the words of a region that never refuses a
-    /// program of at most B blocks of at most N bytes each at once, for each pair, to standard output. With `--split` those of
-    /// several heaps.
+    /// `tlsf size --blocks B --bytes N ..`: write the words of a region to standard output. It never refuses a program of at most B
+    /// blocks of at most N bytes each at once, for each pair. With `--split` those of several heaps.
     Size(SizeQuestion),
     /// `tlsf map --at K`: write a picture of the heaps of a trace as they stand after its line K, 1 to 2^32 - 1, in this form.
     At(Form, u32),
@@ -174,7 +173,7 @@ fn race_command<'a>(alloc: Global) -> Result<Command<'a>, AllocError>
     trace_command(alloc, "race", usage, about, RACE_HELP, "queues", flag_help)
 }
 
-// The line behind which `map` draws the heaps.
+// The line after which `map` draws the heaps.
 fn line_argument<'a>(alloc: Global) -> Arg<'a>
     ensures { IsArg line_rule result }
 {
@@ -274,7 +273,7 @@ fn tlsf_command<'a>(alloc: Global) -> Result<Command<'a>, AllocError>
     with_command(plotting, check_command(alloc))?.bin_name("tlsf")
 }
 
-// What `clap` makes of the words.
+// The matches that `clap` makes of the words.
 fn parse<'a, S: AsStr>(alloc: Global, words: &'a [S]) -> Result<ArgMatches<'a>, Error>
     ensures named { IfOk result (λ matches. subcommand_rows_of matches
         ≡ subcommand_of tlsf_app (map S.text words.entry.now)) }
@@ -393,7 +392,7 @@ fn run_given(alloc: Global, run: TraceRun, given: &ArgMatches<'_>) -> Result<Cho
     }
 }
 
-// What the command of this name asks for by its matches.
+// The request of the command of this name, by its matches.
 fn chosen(alloc: Global, name: &str, given: &ArgMatches<'_>) -> Result<Choice, AllocError>
     requires { IsCommand name.now }
     ensures { IfOk result (λ choice. IsAskedBy choice name.now (texts_of given.now)) }
@@ -410,8 +409,7 @@ fn chosen(alloc: Global, name: &str, given: &ArgMatches<'_>) -> Result<Choice, A
 
 /// Reads the words of a command line, the program's name first.
 ///
-/// An `Err` is what `clap` has to say: a usage error, the help or version text that the words ask
-/// for, or that memory ran out.
+/// An `Err` is the words of `clap`: a usage error, the help or version text that was asked for, or that memory ran out.
 ///
 /// ```
 /// let choice = choose(alloc, &["tlsf", "classes", "460"])?;

@@ -44,7 +44,7 @@ pub(crate) fn report<E: Write>(fault: TraceFault, errors: &mut E) -> u8
     report.status()
 }
 
-// Writes the line that reports the fault, and what is noted of it behind that.
+// Writes the line that reports the fault, and the notes on it after that.
 fn write_noted<E: Write>(report: FaultReport, note: &str, errors: &mut E) -> Result<(), WriteError>
     ensures { AppendsFront (E.contents errors.old) (E.contents errors.new) (fault_line report.fault ++ note.now) }
 {
@@ -73,7 +73,8 @@ fn ended<E: Write>(answer: Result<Summary, TraceFault>, note: &str, errors: &mut
     }
 }
 
-// What is noted of an answer by a run that doesn't check the trace: where that has a fault and tips are wanted, the tip to check it.
+// The notes on an answer of a run that doesn't check the trace. Where that has a fault and tips are wanted, they are the tip to
+// check it.
 fn tip_on(tips: bool, answer: &Result<Summary, TraceFault>) -> &'static str
     ensures { result.now ≡ told.tip_on tips answer.now }
 {
@@ -83,7 +84,7 @@ fn tip_on(tips: bool, answer: &Result<Summary, TraceFault>) -> &'static str
     }
 }
 
-// What is noted of an answer by a run, where a check noted this.
+// The notes on an answer of a run, where a check noted this.
 fn note_on<'a>(
     ran: TraceRun,
     tips: bool,
@@ -169,7 +170,7 @@ fn run_at<R: Read, W: Write, E: Write>(
     ended(answer, tip, errors)
 }
 
-// Writes the kinds of blocks of the trace, merged for so many heaps, and reports the fault that ended it.
+// Writes the kinds of blocks of the trace, merged for this many heaps, and reports the fault that ended it.
 fn run_merged<R: Read, W: Write, E: Write>(
     alloc: Global,
     heaps: u32,
@@ -215,8 +216,8 @@ fn show_usage<E: Write>(
     }
 }
 
-// Says why `clap` refuses the words. A tip says how numbers are written, where that is one with a suffix or separators, and how the
-// lines of several workers are given to `size`, where these are given at once.
+// Says why `clap` refuses the words. A tip says how numbers are written, where that is one with a suffix or separators. Another
+// says how the lines of several workers are given to `size`, where these are given at once.
 fn refuse<S: AsStr, E: Write>(
     alloc: Global,
     error: &clap::Error,
@@ -292,14 +293,14 @@ fn act<T: Threads + Wait + Sync, R: Read, W: Write, E: Write, G: Gate>(
 /// last one of a phase. `tlsf replay --least` passes it before each replay of its search. There a
 /// [`Notice`](tlsf_trace::Notice) shows that the race or the search is alive.
 ///
-/// The status is 0 where the run is done, 1 where a fault ended it, 2 where the words are refused,
-/// and 3 where memory ran out. A fault's line and the text on refused words go to `errors`, where
-/// a write that fails changes nothing. Help and version texts go to `writer`.
+/// The status is 0 where the run is done, and 1 where a fault ended it. It is 2 where the words are refused, and 3 where memory ran
+/// out. A fault's line and the text on refused words go to `errors`, where a write that fails changes nothing. Help and version
+/// texts go to `writer`.
 ///
-/// `check` explains a fault after its line. By any other command a fault is that line alone, unless `tips` is true, as for a reader at
-/// a terminal: then a tip names `tlsf check`, where the trace itself is faulty. After a refused number with a suffix or separators, as
-/// `64KiB` or `1,000`, a line says that numbers are plain digits. After the lines of several workers, given to `size` at once, one
-/// says how they are given one at a time.
+/// `check` explains a fault after its line. By any other command a fault is that line alone, unless `tips` is true, as for a reader
+/// at a terminal. Then a tip names `tlsf check`, where the trace itself is faulty. After a refused number with a suffix or
+/// separators, as `64KiB` or `1,000`, a line says that numbers are plain digits. After the lines of several workers, given to
+/// `size` at once, one says how they are given one at a time.
 ///
 /// ```
 /// // words are "tlsf" and "replay", and reader gives "tlsf 1 1 64 1\nx\n"

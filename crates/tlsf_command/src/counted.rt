@@ -10,7 +10,7 @@ pub struct Counted {
 impl Counted {
     ghost use Rattle.std.specs.Prelude.{◌≡◌};
 
-    /// So many of what this names.
+    /// This many of the things that `name` says.
     pub fn new(count: usize, name: &'static str) -> Counted
         ensures count { result.count ≡ count }
         ensures name { result.name ≡ name.entry }

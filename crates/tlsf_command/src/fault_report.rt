@@ -75,7 +75,7 @@ impl FaultReport {
         }
     }
 
-    // What the fault's number stands for.
+    // The meaning of the fault's number.
     fn reason(&self) -> &'static str
         ensures { result.now ≡ reason_of self.now.fault.no }
     {

@@ -1,6 +1,6 @@
 use std::fmt;
 
-/// What a refusal says of level 5: how many words a region of it has that is large enough, where there is one.
+/// The hint of a refusal to level 5: how many words a region of it has that is large enough, where there is one.
 #[derive(Clone, Copy)]
 pub struct FinerHint {
     /// The words of that region.

@@ -1,6 +1,6 @@
-//! The texts of the help, behind what `clap` writes of options. Lines have at most 80 characters; no contract says so.
+//! The texts of the help that follow the options, which `clap` writes. Lines have at most 80 characters; no contract says so.
 
-/// What `tlsf --help` says behind its options.
+/// The text of `tlsf --help` after its options.
 pub const PROGRAM_HELP: &str = "\
 'tlsf replay' reads a trace from standard input and writes to standard output
 what each of its lines was answered, and a report on each heap. This is a trace
@@ -30,7 +30,7 @@ The exit status is 0 where the run is done, 1 where a fault of the trace, of a
 read or of a write ends it, 2 where the command line is refused, and 3 where
 memory runs out. Faults go to standard error.";
 
-/// What `tlsf replay --help` says behind its options.
+/// The text of `tlsf replay --help` after its options.
 pub const REPLAY_HELP: &str = "\
 Standard input is a trace. Its first line is 'tlsf 1 N W C': N workers, 1 to 8,
 each with a heap of W words, 4 to 1048576, and lanes between them for C posts
@@ -122,7 +122,7 @@ trace, of a read or of a write ends the run, and 3 where memory runs out. A
 fault is a line on standard error, as 'tlsf: line 2: bad number (13)'. Where the
 trace is refused, 'tlsf check < TRACE' says more; a terminal gets a tip on it.";
 
-/// What `tlsf race --help` says behind its options.
+/// The text of `tlsf race --help` after its options.
 pub const RACE_HELP: &str = "\
 Standard input is a trace, as 'tlsf replay --help' tells. Each phase is run by
 threads, one for each worker, which run its lines in their order. Once all have
@@ -157,7 +157,7 @@ The exit status is 0 where the replies are written, 1 where a fault of the
 trace, of a read or of a write ends the run, and 3 where memory runs out, or no
 thread can be started. Faults are those of 'tlsf replay'.";
 
-/// What `tlsf map --help` says behind its options.
+/// The text of `tlsf map --help` after its options.
 pub const MAP_HELP: &str = "\
 Standard input is a trace, as 'tlsf replay --help' tells. It is run to its end,
 with the drains there, and no reply is written.
@@ -205,7 +205,7 @@ The exit status is 0 where the picture is written, 1 where a fault of the
 trace, of a read or of a write ends the run, and 3 where memory runs out. Faults
 are those of 'tlsf replay'.";
 
-/// What `tlsf plot --help` says behind its options.
+/// The text of `tlsf plot --help` after its options.
 pub const PLOT_HELP: &str = "\
 Standard input is a trace, as 'tlsf replay --help' tells. It is run to its end,
 with the drains there, and no reply is written.
@@ -235,7 +235,7 @@ The exit status is 0 where the plot is written, 1 where a fault of the trace, of
 a read or of a write ends the run, and 3 where memory runs out. Faults are those
 of 'tlsf replay'.";
 
-/// What `tlsf check --help` says behind its options.
+/// The text of `tlsf check --help` after its options.
 pub const CHECK_HELP: &str = "\
 Standard input is a trace, as 'tlsf replay --help' tells. It is read and not
 run. Where it is a good one, standard output is one line, as
@@ -255,7 +255,7 @@ The exit status is that of 'tlsf replay': 0 where the trace is a good one, 1
 where a fault of it, of a read or of a write ends the check, and 3 where memory
 runs out.";
 
-/// What `tlsf classes --help` says behind its options.
+/// The text of `tlsf classes --help` after its options.
 pub const CLASSES_HELP: &str = "\
 Nothing is read. Standard output is one line. For 460 words it is
 
@@ -273,7 +273,7 @@ words it is
 
 The exit status is 2 where the level has no class of so many words.";
 
-/// What `tlsf size --help` says behind its options.
+/// The text of `tlsf size --help` after its options.
 pub const SIZE_HELP: &str = "\
 Nothing is read. Standard output is one line. For '--blocks 100 --bytes 512'
 it is

@@ -1,15 +1,16 @@
 //! The commands of the program over values: words of the command line, a reader, a writer, an error stream; and the exit
 //! status.
 //!
-//! [`run`] does what the words ask for. `replay` reads a trace, runs it, and writes the reply lines and a report on each
-//! heap; `replay --held` writes what each worker asks of its heap, and how large that must be for it, `replay --kinds` the kinds of
-//! blocks that it holds, as options of `size`, with `--heaps N` merged for N pools, and `replay --least` how small its heap may be for these calls alone. `race` replays with each
-//! phase run in threads, one for each worker. `map` writes a picture of the heaps that a trace leaves. `check` says what a
-//! trace is, or where its first fault is and what was expected there. A file that is named behind one of these isn't read: a
-//! line tells how it is given as standard input. `classes N` writes the size class and the search class of N words, and
-//! `size --blocks B --bytes N ..` the words of a region that never refuses B blocks of N bytes, for each of several kinds, with `--split` those of the
-//! heaps to which the kinds are given for the fewest words; all at level 4 or, with `--level 5`, at level 5. Help and version texts are written, and words that are refused are answered on the error
-//! stream.
+//! [`run`] does what the words ask for. `replay` reads a trace, runs it, and writes the reply lines and a report on each heap.
+//! `replay --held` writes what each worker asks of its heap, and how large that must be for it. `replay --kinds` writes the kinds
+//! of blocks that it holds, as options of `size`, with `--heaps N` merged for N pools. `replay --least` writes how small its heap
+//! may be for these calls alone. `race` replays with each phase run in threads, one for each worker. `map` writes a picture of the
+//! heaps that a trace leaves. `check` says what a trace is, or where its first fault is and what was expected there. A file that is
+//! named after one of these isn't read: a line tells how it is given as standard input. `classes N` writes the size class and the
+//! search class of N words. `size --blocks B --bytes N ..` writes the words of a region that never refuses B blocks of N bytes, for
+//! each of several kinds. With `--split` it writes those of the heaps to which the kinds are given for the fewest words. All are at
+//! level 4 or, with `--level 5`, at level 5. Help and version texts are written, and words that are refused are answered on the
+//! error stream.
 //!
 //! | Exit status | When |
 //! |---|---|

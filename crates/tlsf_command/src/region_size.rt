@@ -11,7 +11,8 @@ impl RegionSize {
     ghost use Rattle.std.specs.Prelude.{◌≡◌, ◌≤◌, ◌*◌, ◌^◌};
     ghost use Rattle.tlsf_command.specs.SizeLines.{hundredths};
 
-    /// So many words, 2^27 at most, where so many bytes are asked for, 1 to 2^35. The ratio is to the nearest hundredth.
+    /// A region of `words` words, 2^27 at most, where `asked` bytes are asked for, 1 to 2^35. The ratio is to the nearest
+    /// hundredth.
     pub fn new(words: u32, asked: u64) -> RegionSize
         requires some { 1 ≤ asked }
         requires few { asked ≤ 2 ^ 35 }

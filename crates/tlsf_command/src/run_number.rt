@@ -1,8 +1,8 @@
 use crate::trace_run::TraceRun;
 use std::fmt;
 
-/// The option that gives a run its number, with a space before it: ` --at 2` the line of a picture, ` --heaps 8` the heaps for which
-/// kinds are merged. Nothing for 0, which is none.
+/// The option that gives a run its number, with a space before it. It is ` --at 2` for the line of a picture, and ` --heaps 8` for
+/// the heaps for which kinds are merged. Nothing for 0, which is none.
 #[derive(Clone, Copy)]
 pub struct RunNumber {
     /// The run that has the option.

@@ -43,8 +43,8 @@ pub fn are_servable<const SLI: u32>(kinds: &[Kind]) -> bool
     true
 }
 
-/// The words that the law of the level asks for a table of kinds, 1,024 at most or 64 at level 5; None
-/// where no region has so many, or where a kind has no block or no byte.
+/// The words that the law of the level asks for a table of kinds, 1,024 at most or 64 at level 5. None where no region has that
+/// many, or where a kind has no block or no byte.
 ///
 /// ```
 /// let words = words_for::<4>(&[Kind { most: 100, len: 512 }]);   // Some(13631)
@@ -91,7 +91,7 @@ fn line_of<const SLI: u32>(kinds: &[Kind], words: u32) -> Result<ArrayString<96>
     Ok(line)
 }
 
-/// Writes the line on a region of `words` for a table of one kind or more, and flushes: its words, its bytes, and how many
+/// Writes the line on a region of `words` for a table of one kind or more, and flushes. It has the words, the bytes, and how many
 /// times the bytes asked for these are. After an `Err` a prefix of the line was written.
 ///
 /// ```
@@ -119,7 +119,7 @@ pub fn write_size_line<const SLI: u32, W: Write>(
     }
 }
 
-// The most blocks of so many bytes for which some region has room, 0 where there are none.
+// The most blocks of this many bytes for which some region has room, 0 where there are none.
 fn blocks_of<const SLI: u32>(len: u32) -> u32
     requires { IsLevel SLI }
     ensures { IsGreatest (λ most. IsReached SLI most len) result }
@@ -130,7 +130,7 @@ fn blocks_of<const SLI: u32>(len: u32) -> u32
     most_blocks::<SLI>(len)
 }
 
-// The most bytes that each of so many blocks may have, 0 where no region has room for so many.
+// The most bytes that each of `most` blocks may have, 0 where no region has room for that many.
 fn bytes_for<const SLI: u32>(most: u32) -> u32
     requires { IsLevel SLI }
     ensures { IsGreatest (λ len. IsReached SLI most len) result }
@@ -165,9 +165,9 @@ fn unreached_line_of(
     Ok(line)
 }
 
-/// Writes the line that refuses blocks of this kind, and flushes: the most blocks of this length, and the most bytes for
-/// so many blocks, each 0 where there is none; the words of a pool of this kind, where a region has so many; and the words of a region
-/// of level 5 that is large enough, where there is one. After an `Err` a prefix of the line was written.
+/// Writes the line that refuses blocks of this kind, and flushes. It has the most blocks of this length, and the most bytes for
+/// this number of blocks, each 0 where there is none. It has the words of a pool of this kind where a region has them. It has the
+/// words of a region of level 5 that is large enough, where there is one. After an `Err` a prefix of the line was written.
 ///
 /// ```
 /// let _ = write_unreached_line::<4, _>(Kind { most: 7655, len: 512 }, &mut errors);

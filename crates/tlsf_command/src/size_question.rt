@@ -11,7 +11,7 @@ use tlsf_pool::Kind;
 /// The most kinds of request that a command line may give.
 pub const MOST_KINDS: usize = 64;
 
-/// What `tlsf size` is asked for.
+/// The question that `tlsf size` is asked.
 #[derive(Drop)]
 pub enum SizeQuestion {
     /// The words at level 4 for these kinds of request, 1 to [`MOST_KINDS`]: one for each pair of `--blocks` and `--bytes`, in
@@ -23,7 +23,7 @@ pub enum SizeQuestion {
     Split(Vec<Kind>),
     /// Those at level 5.
     FineSplit(Vec<Kind>),
-    /// No table: so many times `--blocks`, and so many times `--bytes`.
+    /// No table: `--blocks` is given this many times, and `--bytes` that many times.
     Unpaired(usize, usize),
 }
 
@@ -53,7 +53,7 @@ fn count_of(texts: Option<&[&str]>) -> usize
 }
 
 impl SizeQuestion {
-    // The question of so many texts behind `--blocks` and behind `--bytes` at a level, for several heaps or for one.
+    // The question of this many texts after `--blocks` and after `--bytes` at a level, for several heaps or for one.
     fn of_texts(
         alloc: Global,
         blocks: &[&str],

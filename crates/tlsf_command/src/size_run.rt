@@ -55,7 +55,7 @@ fn show_kinds<const SLI: u32, W: Write, E: Write>(
     }
 }
 
-// Writes the lines on the cheapest split of these kinds, and reports a write that fails, a kind no longer than the one before it, or
+// Writes the lines on the cheapest split of these kinds. Reports a write that fails, a kind no longer than the one before it, or
 // that there is none.
 fn show_split<const SLI: u32, W: Write, E: Write>(
     kinds: &[Kind],
@@ -84,7 +84,7 @@ fn show_split<const SLI: u32, W: Write, E: Write>(
     }
 }
 
-/// Answers the question, and gives the exit status: 0 where the line is written, 1 where a write failed, and 2 where no
+/// Answers the question, and gives the exit status: 0 where the line is written, and 1 where a write failed. It is 2 where no
 /// region is large enough, where kinds for several heaps don't rise in length, or where the options are no pairs.
 ///
 /// ```

@@ -2,7 +2,7 @@ use crate::counted::Counted;
 use std::fmt;
 use tlsf_pool::Split;
 
-/// What a refusal says of several heaps: how many, and of how many words together, where there are some that are large enough.
+/// The hint of a refusal to several heaps: how many, and of how many words together, where some are large enough.
 #[derive(Clone, Copy)]
 pub struct SplitHint {
     /// The cheapest way to give the kinds to them.

@@ -55,7 +55,7 @@ fn longest_of(kinds: &[Kind]) -> u32
     longest
 }
 
-// Adds the line on a heap, which has these kinds behind so many others of the table.
+// Adds the line on a heap, which has these kinds after this many others of the table.
 fn add_heap_line<const SLI: u32>(
     lines: &mut Lines,
     heap: usize,
@@ -119,9 +119,9 @@ fn lines_of<const SLI: u32>(kinds: &[Kind], split: &Split) -> Result<Lines, fmt:
     Ok(lines)
 }
 
-/// Writes the lines on the cheapest split of a table, 1 to 64 kinds, and flushes: for each heap its number, its kinds by their places
-/// in the table, the bytes of the longest, its words, its bytes, and how many times the bytes asked for these are; and these three numbers of all heaps. After an `Err` a
-/// prefix of the lines was written.
+/// Writes the lines on the cheapest split of a table, 1 to 64 kinds, and flushes. Each heap's line has its number, its kinds by
+/// their places in the table, the bytes of the longest, its words and its bytes. It also has how many times the bytes asked for
+/// these are. The last line has these three numbers of all heaps. After an `Err` a prefix of the lines was written.
 ///
 /// ```
 /// write_split_lines::<4, _>(&kinds, &split, &mut writer)?;
@@ -175,8 +175,8 @@ fn falling_line_of(row: usize, before: u32, len: u32) -> Result<ArrayString<192>
     Ok(line)
 }
 
-/// Writes the line that refuses a table of kinds, 64 at most, whose row `row` is the first that is no longer than the one before it,
-/// and flushes. The line names kinds by their places, from 1 on. After an `Err` a prefix of the line was written.
+/// Writes the line that refuses a table of kinds, 64 at most, and flushes. Its row `row` is the first that is no longer than the
+/// one before it. The line names kinds by their places, from 1 on. After an `Err` a prefix of the line was written.
 ///
 /// ```
 /// let kinds = [Kind { most: 10, len: 100 }, Kind { most: 10, len: 50 }];

@@ -3,7 +3,7 @@ use crate::run_number::RunNumber;
 use std::alloc::{AllocError, Global};
 use tlsf_picture::Form;
 
-/// What a command does with the trace that it reads from standard input.
+/// The work of a command on the trace that it reads from standard input.
 #[derive(Clone, Copy)]
 pub enum TraceRun {
     /// `tlsf replay`: write its replies and a report on each heap.

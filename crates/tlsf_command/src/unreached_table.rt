@@ -63,9 +63,9 @@ fn table_line_of(
     Ok(line)
 }
 
-/// Writes the line that refuses a table of kinds, 64 at most, and flushes: how many kinds at its front a region has room for,
-/// and the next one; the heaps that are large enough, and their words together, where there are some; and the words of a region of
-/// level 5 that is large enough for all, where there is one. After an `Err` a prefix of the line was written.
+/// Writes the line that refuses a table of kinds, 64 at most, and flushes. It has how many kinds at its front a region has room
+/// for, and the next one. Then come the heaps that are large enough, and their words together, where there are some. The words of a
+/// region of level 5 that is large enough for all come last, where there is one. After an `Err` a prefix of the line was written.
 ///
 /// ```
 /// let _ = write_unreached_table_line::<4, _>(&[Kind { most: 1, len: 8 }, Kind { most: 7655, len: 512 }], &mut errors);
@@ -107,8 +107,8 @@ fn unpaired_line_of(blocks: usize, bytes: usize) -> Result<ArrayString<160>, fmt
     Ok(line)
 }
 
-/// Writes the line that refuses so many times `--blocks` and so many times `--bytes`, and flushes. After an `Err` a prefix of
-/// the line was written.
+/// Writes the line that refuses these numbers of `--blocks` and of `--bytes`, and flushes. After an `Err` a prefix of the line was
+/// written.
 ///
 /// ```
 /// let _ = write_unpaired_line(2, 1, &mut errors);

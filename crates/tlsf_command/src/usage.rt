@@ -1,8 +1,8 @@
-//! What `clap` says of words that it refuses, where a tip of it misleads or one of ours serves.
+//! The words of `clap` on a refusal, where a tip of it misleads or one of ours serves.
 use std::alloc::{AllocError, Global};
 use std::convert::AsStr;
 
-/// The line behind what `clap` says of the lines of several workers, given to `tlsf size` at once.
+/// The line after the words of `clap` on the lines of several workers that were given to `tlsf size` at once.
 pub const TABLES_TIP: &str =
     "tip: a line at a time: tlsf replay --kinds < TRACE | xargs -L 1 tlsf size\n";
 

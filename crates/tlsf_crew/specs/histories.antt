@@ -1,6 +1,6 @@
--- What lists of entries tell: the events that made them, the calls on each heap, and the posts of each lane.
+-- Lists of entries: the events that made them, the calls on each heap, and the posts of each lane.
 
--- What a list of entries tells: the events that made it, the calls on each heap, and the posts of each lane.
+-- A list of entries: the events that made it, the calls on each heap, and the posts of each lane.
 pub mod History
--- What the record of a worker over queues tells: its calls, and what its drains took.
+-- A worker's record over queues: its calls, and the takes of its drains.
 pub mod QueueHistory

@@ -1,4 +1,4 @@
--- What the steps of a replay answer and leave.
+-- The answers and effects of the steps of a replay.
 
--- What the steps of a replay answer and leave. For private functions alone.
+-- The answers and effects of the steps of a replay. For private functions alone.
 pub mod ReplaySteps

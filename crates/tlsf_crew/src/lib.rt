@@ -4,30 +4,30 @@
 //! allocates, writes and reads on its own heap alone. A name of another's heap it posts into the lane to that owner, who
 //! takes it and releases the block.
 //!
-//! A yard is of level 4 or 5, as its heaps are: [`open_yard`] is asked for a level, and all else has that of the workers which it
+//! A yard is of level 4 or 5, as its heaps are. [`open_yard`] is asked for a level, and all else has that of the workers which it
 //! is given. Definitions have the level of the world or the workers that they are about, a `World sli` or a `Worker sli Lanes`.
 //!
 //! Contracts see a whole yard (`IsYard`) as a `World`: the heaps, what waits in each lane, and the lanes' capacity.
-//! [`replay_events`] runs a list of events on it, one after another, and answers what the definition `replies` says. It
-//! tells both ends of a lane all before and after each call that concerns it, so a lane is full exactly where its
-//! capacity of posts waits. [`settle`] does so for all lanes at once and leaves the world as it is. [`one_history`] says
-//! what holds of every list of replies: each heap has one history.
+//! [`replay_events`] runs a list of events on it, one after another, and answers what the definition `replies` says. It tells both
+//! ends of a lane all before and after each call that concerns it. So a lane is full exactly where its capacity of posts waits.
+//! [`settle`] does so for all lanes at once and leaves the world as it is. [`one_history`] says what holds of every list of
+//! replies: each heap has one history.
 //!
-//! [`race`] runs a script for each worker, in a thread of its own, and then drains each worker. What each was answered is
-//! its record, in the [`Outcome`]. Whatever the schedule of the threads, each record is legal (what the worker's own heap
-//! answers to its calls, one after another), each two agree on what was posted and taken, and nothing waits in the end
-//! (`IsRace`). A [`Gate`] is passed before each call, where a test can have the threads meet. Where no script takes posts,
+//! [`race`] runs a script for each worker, in a thread of its own, and then drains each worker. The answers to each are its record,
+//! in the [`Outcome`]. This holds whatever the schedule of the threads (`IsRace`). Each record is legal: it has the answers of the
+//! worker's own heap to its calls, one after another. Each two records agree on what was posted and taken, and nothing waits in the
+//! end. A [`Gate`] is passed before each call, where a test can have the threads meet. Where no script takes posts,
 //! [`race_without_takes`] says which records and which world each schedule leads to.
 //!
 //! Each call of a `Worker` over lanes doesn't wait, and keeps its yard whole. A worker of either kind is `Send`,
 //! at each level: a `move` closure takes it into a thread, and its caller proves nothing of that.
 //!
 //! [`open_queue_yard`] opens a yard of another kind, with one queue for each owner, into which all others post. A worker is a heap
-//! with ports, [`Lanes`] where nothing else is said; a [`QueueWorker`] has [`Queues`] in their place, and takes from its own one. Its
-//! calls on the own heap are those of every worker. Such a yard (`IsQueueYard`) shows a `World` too; `post`, `release`, `take` and `drain` may
-//! wait for another thread's half of a step, and so are passed a runtime. [`race_queues`] races such workers (`IsQueueRace`): each
-//! two records agree on what was posted and taken, poster by poster. [`queue_race_without_takes`] says when every schedule
-//! leads to the same.
+//! with ports, which are [`Lanes`] where nothing else is said. A [`QueueWorker`] has [`Queues`] in their place, and takes from its
+//! own one. Its calls on the own heap are those of every worker. Such a yard (`IsQueueYard`) shows a `World` too. There `post`,
+//! `release`, `take` and `drain` may wait for another thread's half of a step, and so are passed a runtime. [`race_queues`] races
+//! such workers (`IsQueueRace`): each two records agree on what was posted and taken, poster by poster.
+//! [`queue_race_without_takes`] says when every schedule leads to the same.
 //!
 //! A [`LockedHeap`] is a heap without an owner, outside any yard; it is `tlsf_lock`'s.
 #![tactic(auto)]

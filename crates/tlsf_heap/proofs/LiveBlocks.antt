@@ -37,11 +37,11 @@ live_carved size n tick len = by_test (λ bs. live_in bs ≡ 1) (nat_le (n + 4) 
 live_site : (bs : List Block) (s : Site) → IsSiteOf bs s → live_in bs ≡ live_in s.before + live_in (s.block ∷ s.after)
 live_site bs s site = ap live_in (sym site) ∙ live_append s.before (s.block ∷ s.after)
 
--- so many live blocks more, and so many ticks later
+-- this many live blocks more, and this many ticks later
 abbrev pub Grows : {A : Type 0} → HeapState → Outcome A → Type 0
 Grows h o = (live_count o.heap ≡ live_count h + accepted o.answer) × (o.heap.tick ≡ h.tick + accepted o.answer)
 
--- so many live blocks less, and so many ticks later
+-- this many live blocks less, and this many ticks later
 abbrev pub Shrinks : {A : Type 0} → HeapState → Outcome A → Type 0
 Shrinks h o = (live_count o.heap + accepted o.answer ≡ live_count h) × (o.heap.tick ≡ h.tick + accepted o.answer)
 
@@ -67,7 +67,7 @@ live_refitted tick n len (Live m s xs) bs =
     (by_test (λ l. live_in (l ++ past_free bs) ≡ live_in (Live m s xs ∷ bs)) (nat_le (n + 4) room) (Live n s new ∷ Free (room - n) tick ∷ []) (Live room s new ∷ []) (λ _. omega (arith, past)) (omega (arith, past)))
 live_refitted tick n len (Free m s) bs = by_test (λ l. live_in l ≡ live_in bs) (nat_le n m && nat_lt m (n + 4)) (Free m s ∷ bs) (Free m s ∷ bs) (λ _. refl) refl
 
--- as many live blocks, at no earlier tick
+-- equally many live blocks, at no earlier tick
 abbrev Lasts : HeapState → Outcome (Unit {0}) → Type 0
 Lasts h o = (live_count o.heap ≡ live_count h) × (h.tick ≤ o.heap.tick)
 

@@ -4,7 +4,7 @@ pub mod blocks
 pub mod lists
 -- The words of a region, and the blocks that they show.
 pub mod words
--- What the calls answer and leave.
+-- The answers and effects of the calls.
 pub mod calls
 -- Names, payloads and words in use over all calls.
 pub mod laws

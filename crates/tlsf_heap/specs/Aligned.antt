@@ -22,7 +22,7 @@ HasFreeAt blocks at = (i : ℕ) × IsFreeAt blocks at i
 abbrev pub HasRoomAt : List Block → ℕ → ℕ → Type 0
 HasRoomAt blocks at n = (i : ℕ) × IsFreeAt blocks at i × (n ≤ size_of (block_at blocks i))
 
--- what a search for the free block that begins at a place answers, in a region of so many words: its tag
+-- the answer to a search for the free block that begins at a place, in a region of this many words: its tag
 abbrev pub IsFreeTest : ℕ → ℕ → List Block → Option Tag → Type 0
 IsFreeTest at words blocks found = MatchOption found (¬ (HasFreeAt blocks at)) (λ tag. (i : ℕ) × IsFreeAt blocks at i × IsTagOf words (site_at blocks i) tag)
 
@@ -49,12 +49,13 @@ pub record AnswersFrom (h : HeapState) (at n : ℕ) (answer : Result Name Refusa
 
 -- ---- a payload at a multiple of some words
 
--- the words by which the payload of a block at a place has to move on, so that it begins `skew` words before a multiple of `step`: none, or
--- at least four, since no block is smaller
+-- the words by which the payload of a block at a place has to move on. It then begins `skew` words before a multiple of `step`.
+-- They are none, or at least four, since no block is smaller
 abbrev pub gap_of : ℕ → ℕ → ℕ → ℕ
 gap_of at step skew = if (at + 3 + skew) % step == 0 then 0 else 4 + (step - (at + 7 + skew) % step) % step
 
--- the block of a name, of which n words lie behind the first `gap`, becomes one of n words that begins there, and the words before it are released
+-- the block of a name has n words after the first `gap`. It becomes one of n words that begins there, and the words before it are
+-- released
 abbrev pub moved_by : HeapState → Name → ℕ → ℕ → Outcome Name
 moved_by h name gap n = let given = words_from (resized_words h name gap 0).heap (name.at + gap) n in record { answer = given.answer; heap = (released given.heap name).heap }
 

@@ -52,7 +52,7 @@ pub record IsLiveAt (blocks : List Block) (at i : ℕ) : Type 0 where
   pub stands : StandsAt blocks at i
   pub live : is_free (block_at blocks i) ≡ false
 
--- what a search for the live block that begins at a place answers, in a region of so many words: its tag
+-- the answer to a search for the live block that begins at a place, in a region of this many words: its tag
 abbrev pub IsPlaceTest : ℕ → ℕ → List Block → Option Tag → Type 0
 IsPlaceTest at words blocks found =
     MatchOption found (serial_at blocks at ≡ None) (λ tag. (i : ℕ) × IsLiveAt blocks at i × IsTagOf words (site_at blocks i) tag)

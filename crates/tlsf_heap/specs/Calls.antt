@@ -1,4 +1,4 @@
--- What the calls of a heap answer and leave.
+-- The calls of a heap: their answers, and the heap that they leave.
 use Rattle.std.specs.Prelude.{ℕ, ◌+◌, ◌-◌, ◌^◌, List, [], ◌∷◌, ◌++◌, Option, Some, None, Result, Ok, Err, Bool, false, ◌&&◌, ◌==◌, nat_le, nat_lt, if◌then◌else◌, find, replicate, reverse, length, take, drop}
 use Rattle.tlsf_heap.specs.Blocks.{Block, Live, Free, HeapState, size_of, bytes_of, want}
 use Rattle.tlsf_heap.specs.GoodFit.{Site, sites, place_of, choice}
@@ -34,7 +34,8 @@ opened id words first = record { id = id; words = words; tick = first + 1; block
 
 -- ---- allocate
 
--- what a free block of `size` words becomes, of which n are wanted: a live block, and a free rest of four words or more
+-- the blocks that a free block of `size` words becomes where n are wanted. They are a live block, and a free rest of four words or
+-- more
 abbrev pub carved : ℕ → ℕ → ℕ → ℕ → List Block
 carved size n tick len =
     if nat_le (n + 4) size then Live n tick (replicate len 0) ∷ Free (size - n) tick ∷ [] else Live size tick (replicate len 0) ∷ []
@@ -137,7 +138,7 @@ written h name at bytes = if name.heap == h.id then written_at h at bytes (named
 abbrev pub fitted : List ℕ → ℕ → List ℕ
 fitted bytes len = take len bytes ++ replicate (len - length bytes) 0
 
--- a live block in `room` words, of which it keeps n where four or more are left: those are then a free block
+-- a live block in `room` words that keeps n of them where four or more are left: those are then a free block
 abbrev pub cut : ℕ → ℕ → ℕ → ℕ → List ℕ → List Block
 cut room n tick serial bytes =
     if nat_le (n + 4) room then Live n serial bytes ∷ Free (room - n) tick ∷ [] else Live room serial bytes ∷ []
@@ -181,7 +182,7 @@ abbrev pub read_at : ℕ → ℕ → Option Site → Result (List ℕ) Refusal
 read_at at n None = Err Stale
 read_at at n (Some s) = if has_bytes s.block at n then Ok (take n (drop at (bytes_of s.block))) else Err Range
 
--- n bytes of the payload of the block that a name names, from byte `at` of it on; a read leaves the heap as it is
+-- n bytes of the payload of the block of a name, from byte `at` of it on; a read leaves the heap as it is
 abbrev pub read_of : HeapState → Name → ℕ → ℕ → Result (List ℕ) Refusal
 read_of h name at n = if name.heap == h.id then read_at at n (named name h.blocks) else Err Foreign
 

@@ -1,4 +1,4 @@
--- What a check of blocks finds in words that may hold anything.
+-- The findings of a check of blocks in words that may hold anything.
 use Rattle.std.specs.Prelude.{◌≡◌, ◌≢◌, ℕ, zero, suc, ◌+◌, ◌<◌, ◌≤◌, ◌==◌, nat_lt, if◌then◌else◌, Bool, true, false, List, length, take, slice_index, slice_index_or, Option, MatchOption}
 use Rattle.tlsf_words.specs.Fields.{size_in, last_in, free_in, back_in, low_half, high_half}
 use Rattle.tlsf_words.specs.Lists.{nowhere}
@@ -49,8 +49,8 @@ pub record LeadsBack (m : Image) (at : ℕ) : Type 0 where
   pub next : NextLeadsBack m at (low_half (slice_index m.words (at + 2)))
   pub previous : PreviousLeadsBack m at (high_half (slice_index m.words (at + 2)))
 
--- a block begins at this place, its size is one that it may have, and it agrees with its neighbours; a live one has room for its payload,
--- and the links of a free one lead back
+-- a block begins at this place, its size is one that it may have, and it agrees with its neighbours. A live one has room for its
+-- payload, and the links of a free one lead back
 pub record IsSound (m : Image) (at : ℕ) : Type 0 where
   pub begins : Begins m at
   pub least : 4 ≤ size_in (slice_index m.words at)
@@ -61,19 +61,20 @@ pub record IsSound (m : Image) (at : ℕ) : Type 0 where
   pub live : free_in (slice_index m.words at) ≡ false → words_for (slice_index m.words (at + 2)) ≤ size_in (slice_index m.words at)
   pub free : free_in (slice_index m.words at) ≡ true → LeadsBack m at
 
--- the most touches of a look at one block: 2 for its start bit and its tag, 4 for those of both neighbours, and for a free one 7 for its
--- links and for both blocks that they name
+-- the most touches of a look at one block. They are 2 for its start bit and its tag, and 4 for those of both neighbours. A free one
+-- has 7 more for its links and for both blocks that they name
 abbrev pub block_touches : ℕ
 block_touches = 13
 
 -- ---- some blocks
 
--- so many blocks, of which the first begins at a place, are sound, one behind the other, and end at another place
+-- this many blocks are sound, one after the other; the first begins at a place, and the last ends at another place
 abbrev pub AreSound : Image → ℕ → ℕ → ℕ → Type 0
 AreSound m zero from end = from ≡ end
 AreSound m (suc count) from end = IsSound m from × AreSound m count (end_at m from) end
 
--- `most` blocks are sound from a place on, or fewer up to the region's end; `next` is the place behind them, and 0 at the region's end
+-- `most` blocks are sound from a place on, or fewer up to the region's end. `next` is the place after them, and 0 at the region's
+-- end
 pub record GoSound (m : Image) (from most next : ℕ) : Type 0 where
   pub count : ℕ
   pub end : ℕ

@@ -1,4 +1,4 @@
--- What a search for the block that serves a request answers.
+-- The answer to a search for the block that serves a request.
 use Rattle.std.specs.Prelude.{◌≡◌, ℕ, ◌<◌, List, Option, Some, true, false, length, slice_get, MatchOption}
 use Rattle.tlsf_class.specs.Classes.{class_of}
 use Rattle.tlsf_heap.specs.Blocks.{Block, size_of, StandsAt}

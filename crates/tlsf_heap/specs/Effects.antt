@@ -1,4 +1,4 @@
--- What one call of a heap does, told once: each layer above says it of its own view.
+-- The effect of one call of a heap, told once: each layer above says it of its own view.
 use Rattle.std.specs.Prelude.{◌≡◌, ℕ, ◌+◌, ◌-◌, ◌*◌, ◌≤◌, ◌↔◌, List, [], Bool, Option, Result, length, OnErr, IsOk, IsErrOf, IsTrue}
 use Rattle.std.specs.Result.{result_unwrap_or}
 use Rattle.tlsf_heap.specs.Blocks.{want, words_for}
@@ -23,9 +23,10 @@ use Rattle.tlsf_heap.specs.ledger.Ledgers.{LedgerState}
 abbrev pub seen_by : {L : Type 0} → LedgerState L → Seen
 seen_by s = record { heap = s.heap; touches = s.touches; touched = s.touched }
 
--- a request of n words for `len` bytes: it answers and leaves what the sequential heap does, which is NoFit exactly where no block fits, and
--- a name where one does and the tick isn't at its last value. It takes so many touches at most, and one for each payload word of the block
--- given, but no more for these than the words wanted for the bytes; none is of a live block's payload
+-- a request of n words for `len` bytes: it answers and leaves what the sequential heap does. This is NoFit exactly where no block
+-- fits, and a name where one does and the tick isn't at its last value. It takes at most this many touches, and one for each
+-- payload word of the block given. For these it takes no more than the words wanted for the bytes. None is of a live block's
+-- payload
 pub record Allocates (most sli n len : ℕ) (old new : Seen) (answer : Result Name Refusal) : Type 0 where
   pub answer_is : answer ≡ (allocated_words sli old.heap n len).answer
   pub heap : new.heap ≡ (allocated_words sli old.heap n len).heap
@@ -36,8 +37,8 @@ pub record Allocates (most sli n len : ℕ) (old new : Seen) (answer : Result Na
   pub rise : old.touches ≤ new.touches
   pub leaves : LeavesLive old.heap.blocks old.touched new.touched
 
--- a release of a name, of so many touches at most: it answers and leaves what the sequential heap does, and touches no other live block's
--- payload, where it is refused none, and follows no forged name
+-- a release of a name, of at most this many touches: it answers and leaves what the sequential heap does. It touches no other live
+-- block's payload, where it is refused none, and follows no forged name
 pub record Releases (most : ℕ) (old new : Seen) (name : Name) (answer : Result (Unit {0}) Refusal) : Type 0 where
   pub answer_is : answer ≡ (released old.heap name).answer
   pub heap : new.heap ≡ (released old.heap name).heap
@@ -47,8 +48,8 @@ pub record Releases (most : ℕ) (old new : Seen) (name : Name) (answer : Result
   pub refused : OnErr answer (LeavesLive old.heap.blocks old.touched new.touched)
   pub forged : FollowsNoForgery old new name
 
--- a resize of the block of a name to n words for `len` bytes. It takes so many touches at most, and one for each payload word of the block
--- left, but no more for these than one, and one for each word by which the payload grows
+-- a resize of the block of a name to n words for `len` bytes. It takes at most this many touches, and one for each payload word of
+-- the block left. For these it takes no more than one, and one for each word by which the payload grows
 pub record Resizes (most n len : ℕ) (old new : Seen) (name : Name) (answer : Result (Unit {0}) Refusal) : Type 0 where
   pub answer_is : answer ≡ (resized_words old.heap name n len).answer
   pub heap : new.heap ≡ (resized_words old.heap name n len).heap

@@ -5,7 +5,7 @@ use Rattle.tlsf_words.specs.Touched.{times}
 use Rattle.tlsf_heap.specs.Blocks.{Block, size_of, is_free, StandsAt}
 use Rattle.tlsf_heap.specs.GoodFit.{block_at}
 
--- word k is one of the block at index i, which begins at a place: so many words from its begin on, or more
+-- word k is one of the block at index i, which begins at a place: this many words from its begin on, or more
 pub record IsWordOf (blocks : List Block) (i at skip k : ℕ) : Type 0 where
   pub stands : StandsAt blocks at i
   pub behind : at + skip ≤ k
@@ -15,7 +15,7 @@ pub record IsWordOf (blocks : List Block) (i at skip k : ℕ) : Type 0 where
 abbrev pub IsLiveWord : List Block → ℕ → Type 0
 IsLiveWord blocks k = (i at : ℕ) × IsWordOf blocks i at 3 k × (is_free (block_at blocks i) ≡ false)
 
--- no word was read or written but the first two of the header of a block that begins at a place: its tag and its serial
+-- no word was read or written but the first two of the header of a block that begins at a place. They are its tag and its serial
 abbrev pub OnlyTagAndSerial : ℕ → List ℕ → List ℕ → Type 0
 OnlyTagAndSerial at old new = (k : ℕ) → k ≢ at → k ≢ at + 1 → times new k ≡ times old k
 

@@ -42,8 +42,8 @@ AreFreeLists sli blocks lists = (class : ℕ) → IsFreeList class (free_places 
 abbrev pub AreMarked : List ℕ → (ℕ → List ℕ) → Type 0
 AreMarked marked lists = (class : ℕ) → Contains marked class ↔ ¬ (lists class ≡ [])
 
--- the third word of each free block names the next and the previous one of its class, in the order in which they became free, the last
--- first; where there is none, it names nowhere. The bit of a class is set exactly where it has a free block
+-- the third word of each free block names the next and the previous one of its class. They stand in the order in which they became
+-- free, the last first. Where there is none, it names nowhere. The bit of a class is set exactly where it has a free block
 pub record ShowsLists (sli : ℕ) (m : Image) (marked : List ℕ) (blocks : List Block) : Type 0 where
   pub places : ℕ → List ℕ
   pub are : AreFreeLists sli blocks places

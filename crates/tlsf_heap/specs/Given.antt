@@ -1,4 +1,4 @@
--- What an allocate gave, and what a resize left.
+-- The block that an allocate gave, and the one that a resize left.
 use Rattle.std.specs.Prelude.{ℕ, Option, Some, None, Result, Ok, Err}
 use Rattle.tlsf_heap.specs.Blocks.{HeapState, payload_words}
 use Rattle.tlsf_heap.specs.GoodFit.{Site}

@@ -8,7 +8,7 @@ use Rattle.tlsf_heap.specs.Image.{Image}
 unfoldable pub with_back : ℕ → ℕ → ℕ
 with_back word back = tag_word (size_in word) (last_in word) (free_in word) back
 
--- the start map once a block of so many words and the one that begins at this place are one; where there is none, as it was
+-- the start map once a block of this many words and the one that begins at this place are one. Where there is none, it is as it was
 unfoldable pub without_start : List Bool → ℕ → ℕ → List Bool
 without_start starts at size = if size == 0 then starts else slice_set starts at false
 
@@ -26,7 +26,7 @@ pub record HasFree (words : List ℕ) (at size : ℕ) (last : Bool) (back stamp 
   pub tag : slice_index words at ≡ tag_word size last true back
   pub mark : slice_index words (at + 1) ≡ stamp
 
--- that of a live block with `len` bytes of payload, of which the first word is zero
+-- that of a live block with `len` bytes of payload, whose first word is zero
 pub record HasLive (words : List ℕ) (at size : ℕ) (last : Bool) (back serial len : ℕ) : Type 0 where
   pub tag : slice_index words at ≡ tag_word size last false back
   pub mark : slice_index words (at + 1) ≡ serial

@@ -22,7 +22,7 @@ abbrev pub HoldsPayload : List ℕ → ℕ → Block → Type 0
 HoldsPayload words at (Live size serial bytes) = (slice_index words (at + 2) ≡ length_word (length bytes)) × (bytes_in words (8 * (at + 3)) (length bytes) ≡ bytes)
 HoldsPayload words at (Free size stamp) = ⊤
 
--- of so many places, a block starts at the first and at no other
+-- in this many places a block starts at the first and at no other
 pub record StartsOnce (starts : List Bool) (at size : ℕ) : Type 0 where
   pub first : slice_index_or starts at false ≡ true
   pub others : (k : ℕ) → at < k → k < at + size → slice_index_or starts k false ≡ false
@@ -39,7 +39,7 @@ abbrev pub ShowsFrom : Image → ℕ → ℕ → List Block → Type 0
 ShowsFrom m at back [] = ⊤
 ShowsFrom m at back (block ∷ blocks) = BlockAt m at back block × ShowsFrom m (at + size_of block) at blocks
 
--- where the last of some blocks begins, of which the first begins at `at`; `back` where there are none
+-- where the last of some blocks begins, if the first begins at `at`; `back` where there are none
 abbrev pub back_behind : ℕ → ℕ → List Block → ℕ
 back_behind at back [] = back
 back_behind at back (block ∷ blocks) = back_behind (at + size_of block) at blocks

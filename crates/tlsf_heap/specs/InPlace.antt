@@ -41,7 +41,8 @@ pub record Inspects {F R : Type 0} (g : Once F (Bor (List ℕ) × Unit {0}) R) (
   pub payload : ArePayload h name shown
   pub called : FnOnceReturnsAt g f shown r
 
--- f was handed the payload of the block of a name, and answered r; the heap that is left is as a write of what it left there makes it
+-- f was handed the payload of the block of a name, and answered r. The heap that is left is as a write makes it of the payload that
+-- f left there
 pub record Alters {F R : Type 0} (g : Once F (MutBor (List ℕ) × Unit {0}) (R × (MutBor (List ℕ) × Unit {0}))) (f : F) (h : HeapState) (name : Name) (r : R) (left : HeapState) : Type 0 where
   pub shown : List ℕ
   pub payload : ArePayload h name shown

@@ -1,11 +1,11 @@
--- What each call keeps, and what a refused one leaves.
+-- The facts that each call keeps, and those that a refused one leaves.
 use Rattle.std.specs.Prelude.{◌≡◌, ℕ, ◌≤◌}
 use Rattle.tlsf_heap.specs.FreePlaces.{ShowsLists}
 use Rattle.tlsf_heap.specs.Image.{Shows}
 use Rattle.tlsf_heap.specs.Lawful.{IsLawful}
 use Rattle.tlsf_heap.specs.Shown.{Shown}
 
--- the heap is lawful before and after, what is stored shows its blocks, and the links and the bits its free ones; it takes no memory and
+-- the heap is lawful before and after, and its words, links and bits show its blocks and its free ones. It takes no memory and
 -- gives none back, so no word moves, and the touches never fall
 pub record Keeps (sli : ℕ) (old new : Shown) : Type 0 where
   pub was_lawful : IsLawful old.heap

@@ -1,4 +1,4 @@
--- What holds of a heap before and after each call.
+-- The facts of a heap before and after each call.
 use Rattle.std.specs.Prelude.{◌≡◌, ℕ, ◌≤◌, ◌<◌, List, [], ◌∷◌, length, ⊤}
 use Rattle.std.specs.List.{AllByRecursion}
 use Rattle.tlsf_class.specs.Classes.{most_words}

@@ -16,7 +16,7 @@ is_nearly_worn h = nat_le last_tick (h.tick + 1)
 abbrev pub copied : HeapState → Name → Name → Outcome (Unit {0})
 copied h from to = written h to 0 (take (min (length (payload_of h from)) (length (payload_of h to))) (payload_of h from))
 
--- the payload of a name goes to the block that a request gave, and its own block is released; h is the heap before the request
+-- the payload of a name goes to the block that a request gave, and its own block is released. Here h is the heap before the request
 abbrev pub moved_to : HeapState → Name → Result Name Refusal → HeapState → Outcome Name
 moved_to h name (Err why) given = refused h why
 moved_to h name (Ok new) given = record { answer = Ok new; heap = (released (copied given name new).heap name).heap }

@@ -19,7 +19,7 @@ pub record IsFirst (at serial : ℕ) (blocks : List Block) (i : ℕ) : Type 0 wh
   pub here : is_named at serial (site_at blocks i) ≡ true
   pub before : (j : ℕ) → j < i → is_named at serial (site_at blocks j) ≡ false
 
--- what a search in a region of so many words answers: the tag of the live block that begins at this place with this serial
+-- the answer to a search in a region of this many words. It is the tag of the live block that begins at this place with this serial
 abbrev pub IsNameTest : ℕ → ℕ → ℕ → List Block → Option Tag → Type 0
 IsNameTest at serial words blocks found =
     MatchOption found (NoneNamed at serial blocks) (λ tag. (first : (i : ℕ) × IsFirst at serial blocks i) × IsTagOf words (site_at blocks first.0) tag)

@@ -13,8 +13,8 @@ use Rattle.tlsf_heap.specs.Image.{Image, back_behind, Shows}
 use Rattle.tlsf_heap.specs.Lawful.{IsRegion}
 use Rattle.tlsf_heap.specs.Footprint.{LeavesLive}
 
--- what a region shows: how many words it has, its blocks, for each class the places in its free list, from the head, the classes whose bits
--- are set, what is stored in it, the memory that it has, and its touches
+-- the view of a region: how many words it has, its blocks, and for each class the places in its free list, from the head. Also the
+-- classes whose bits are set, the words that are stored in it, the memory that it has, and its touches
 pub record RegionState : Type 0 where
   pub words : ℕ
   pub blocks : List Block
@@ -37,18 +37,18 @@ EachAt blocks at P = (i : ℕ) → StandsAt blocks at i → P (site_at blocks i)
 abbrev pub HasAt : List Block → ℕ → (Site → Type 0) → Type 0
 HasAt blocks at P = (i : ℕ) × StandsAt blocks at i × P (site_at blocks i)
 
--- what is split off a free block of so many words where `n` are wanted: four words or more, or none
+-- the rest that is split off a free block of this many words where `n` are wanted: four words or more, or none
 abbrev pub rest_of : ℕ → ℕ → ℕ
 rest_of size n = if nat_le (n + 4) size then size - n else 0
 
--- the tag of a block in a region of so many words
+-- the tag of a block in a region of this many words
 pub record IsTagOf (words : ℕ) (s : Site) (tag : Tag) : Type 0 where
   pub size : tag.size ≡ size_of s.block
   pub free : tag.free ≡ is_free s.block
   pub last : tag.last ≡ (place_of s + size_of s.block == words)
   pub back : tag.back ≡ back_behind 0 nowhere s.before
 
--- the tag of the block behind a block in a region of so many words, if that is free; else a live one
+-- the tag of the block after a block in a region of this many words, if that is free; otherwise a live one
 pub record IsNextTag (words : ℕ) (s : Site) (tag : Tag) : Type 0 where
   pub live : tag.free ≡ false → first_free s.after ≡ 0
   pub some : tag.free ≡ true → 0 < first_free s.after
@@ -69,7 +69,8 @@ pub record AreTagsAround (words : ℕ) (s : Site) (own next previous : Tag) : Ty
   pub is_next : IsNextTag words s next
   pub is_previous : IsPreviousTag s previous
 
--- a block and its free neighbours in a region of so many words: how many words are ahead and behind, and the tag of them all as one block
+-- a block and its free neighbours in a region of this many words. They are how many words are ahead and after, and the tag of them
+-- all as one block
 pub record AreNeighbours (words : ℕ) (s : Site) (ahead behind : ℕ) (tag : Tag) : Type 0 where
   pub before : ahead ≡ last_free s.before
   pub after : behind ≡ first_free s.after
@@ -78,7 +79,7 @@ pub record AreNeighbours (words : ℕ) (s : Site) (ahead behind : ℕ) (tag : Ta
   pub last : tag.last ≡ (place_of s + size_of s.block + first_free s.after == words)
   pub back : tag.back ≡ back_behind 0 nowhere (before_free s.before)
 
--- the blocks of a region, were a block and its free neighbours a live one: while these are in no list, the lists are of the others
+-- the blocks of a region, were a block and its free neighbours a live one. While these are in no list, the lists are of the others
 abbrev pub withheld : Site → List Block
 withheld s = before_free s.before ++ Live (last_free s.before + size_of s.block + first_free s.after) 0 [] ∷ past_free s.after
 
@@ -86,7 +87,7 @@ withheld s = before_free s.before ++ Live (last_free s.before + size_of s.block 
 abbrev pub withheld_alone : Site → List Block
 withheld_alone s = s.before ++ Live (size_of s.block) 0 [] ∷ s.after
 
--- the tag of the free block behind a block in a region of so many words; of size 0 where there is none
+-- the tag of the free block after a block in a region of this many words; of size 0 where there is none
 pub record IsTagBehind (words : ℕ) (s : Site) (tag : Tag) : Type 0 where
   pub size : tag.size ≡ first_free s.after
   pub last : tag.last ≡ (place_of s + size_of s.block + first_free s.after == words)
@@ -95,7 +96,7 @@ pub record IsTagBehind (words : ℕ) (s : Site) (tag : Tag) : Type 0 where
 abbrev pub BeginsZero : List ℕ → Type 0
 BeginsZero bytes = (k : ℕ) → k < 8 → slice_index bytes k ≡ 0
 
--- a live block whose payload begins with a zero word, and ends within `n` words behind that, which are its own
+-- a live block whose payload begins with a zero word, and ends within the `n` words after that, which are its own
 pub record AwaitsZeros (block : Block) (n : ℕ) : Type 0 where
   pub live : is_free block ≡ false
   pub first : BeginsZero (bytes_of block)
@@ -122,7 +123,7 @@ AreLinked lists words = (class : ℕ) → LinkedFrom words nowhere (lists class)
 abbrev pub image_of : Memory → Image
 image_of m = record { words = m.words; starts = m.starts }
 
--- one free block of so many words fills the region, and is in no list yet
+-- one free block of this many words fills the region, and is in no list yet
 pub record IsOpened (size stamp : ℕ) (r : RegionState) : Type 0 where
   pub words : r.words ≡ size
   pub blocks : r.blocks ≡ Free size stamp ∷ []
@@ -140,7 +141,8 @@ pub record OnlyReads (old new : RegionState) (most : ℕ) : Type 0 where
   pub touches : new.touches ≤ old.touches + most
   pub rise : old.touches ≤ new.touches
 
--- the words show the blocks and thread the lists, the bits mark these, the memory is what it was, and the touches rise by `most` at most
+-- the words show the blocks and thread the lists, and the bits mark these. The memory is as it was, and the touches rise by `most`
+-- at most
 pub record Edits (old new : RegionState) (most : ℕ) : Type 0 where
   pub words : new.words ≡ old.words
   pub shows : Shows new.stored new.blocks

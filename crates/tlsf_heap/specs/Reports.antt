@@ -1,4 +1,4 @@
--- What a report tells of a heap, by sums and filters over its blocks.
+-- A report on a heap, by sums and filters over its blocks.
 use Rattle.std.specs.Prelude.{◌≡◌, ℕ, ◌+◌, ◌*◌, ◌-◌, ◌/◌, ◌≤◌, List, [], ◌∷◌, Bool, ◌==◌, nat_lt, not, if◌then◌else◌, length, map, filter, fold, max, min}
 use Rattle.std.specs.List.{range_with_len}
 use Rattle.tlsf_heap.specs.Blocks.{Block, HeapState, size_of, words_in, is_free, bytes_of, stamps, want}
@@ -30,7 +30,7 @@ is_served sli blocks len = nat_lt 0 (length (fits sli (want len) blocks))
 unfoldable pub grant_of : ℕ → List Block → ℕ
 grant_of sli blocks = fold max 0 (filter (is_served sli blocks) (range_with_len 0 (8 * words_in blocks)))
 
--- of so many free words, the thousandths that lie outside the greatest free block; 0 where nothing is free
+-- the thousandths of these free words that lie outside the greatest free block; 0 where nothing is free
 abbrev pub fragmentation_of : ℕ → ℕ → ℕ
 fragmentation_of largest words = if words == 0 then 0 else 1000 - 1000 * largest / words
 

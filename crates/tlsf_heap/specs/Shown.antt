@@ -1,10 +1,11 @@
--- What a heap shows.
+-- The view of a heap.
 use Rattle.std.specs.Prelude.{ℕ, List}
 use Rattle.tlsf_words.specs.Memory.{Extents}
 use Rattle.tlsf_heap.specs.Blocks.{HeapState}
 use Rattle.tlsf_heap.specs.Image.{Image}
 
--- the sequential heap, what is stored in its region, the classes whose bits are set, the memory that it has, and its touches: reads and writes of a stored word, a start bit, a head of a list or a word of the bitmaps
+-- the sequential heap, the words that are stored in its region, the classes whose bits are set, and the memory that it has. Also
+-- its touches: reads and writes of a stored word, a start bit, a head of a list or a word of the bitmaps
 pub record Shown : Type 0 where
   pub heap : HeapState
   pub stored : Image

@@ -1,4 +1,4 @@
--- What stays of the blocks that a call is not about.
+-- The blocks that a call is not about, which stay.
 use Rattle.std.specs.Prelude.{◌≡◌, ◌⊎◌, ℕ, ◌-◌, ◌%◌, ◌<◌, ◌≤◌, List, false, true}
 use Rattle.tlsf_heap.specs.Blocks.{Block, Live, Free, HeapState, is_free, StandsAt}
 use Rattle.tlsf_heap.specs.Calls.{has_serial}

@@ -12,8 +12,8 @@ use Rattle.tlsf_heap.specs.declared.heap.Heap.TheInside.{Inside}
 abbrev pub state_of : (sli : ℕ) → Inside sli → HeapState
 state_of sli h = record { id = h.id; words = h.region.words; tick = h.tick; blocks = h.region.blocks }
 
--- the heap has a level and is lawful, its words show its blocks, each class has the list of its free blocks, the words
--- thread it, and its bit marks it
+-- the heap has a level and is lawful, and its words show its blocks. Each class has the list of its free blocks, the words thread
+-- it, and its bit marks it
 pub record IsStored (sli : ℕ) (h : Inside sli) : Type 0 where
   pub level : IsLevel sli
   pub lawful : IsLawful (state_of sli h)

@@ -25,7 +25,8 @@ pub record IsTallyUpTo (tick : ℕ) (blocks : List Block) (at : ℕ) (tally : Ta
   pub place : words_in (take index blocks) ≡ at
   pub sums : tally ≡ tally_of tick (take index blocks)
 
--- the greatest length in bytes that is served where the greatest free block has so many words: the payload of the least block of its class
+-- the greatest length in bytes that is served where the greatest free block has this many words. It is the payload of the least
+-- block of its class
 abbrev pub granted : ℕ → ℕ → ℕ
 granted sli largest = if largest == 0 then 0 else 8 * (low sli (class_of sli largest) - 3)
 

@@ -1,4 +1,4 @@
--- What the calls of a heap may touch.
+-- The touches that the calls of a heap may make.
 use Rattle.std.specs.Prelude.{◌≡◌, ◌≢◌, ℕ, ◌+◌, ◌*◌, ◌/◌, ◌<◌, ◌≤◌}
 use Rattle.tlsf_heap.specs.Blocks.{HeapState, IsPlace}
 use Rattle.tlsf_heap.specs.Footprint.{OnlyTagAndSerial}
@@ -6,62 +6,67 @@ use Rattle.tlsf_heap.specs.Laws.{IsLive}
 use Rattle.tlsf_heap.specs.Shown.{Seen}
 use Rattle.tlsf_heap.specs.declared.name.Name.{Name}
 
--- a forged name is not followed: not even a start bit is read unless its place lies in the region, no word unless a block begins there, and
--- where no live block has the name, no word but the tag and the serial at its place
+-- a forged name is not followed. Not even a start bit is read unless its place lies in the region, and no word unless a block
+-- begins there. Where no live block has the name, no word is read but the tag and the serial at its place
 pub record FollowsNoForgery (old new : Seen) (name : Name) : Type 0 where
   pub foreign : name.heap ≢ old.heap.id → new.touches ≡ old.touches
   pub outside : old.heap.words ≤ name.at → new.touches ≡ old.touches
   pub nowhere : name.heap ≡ old.heap.id → name.at < old.heap.words → ¬ (IsPlace old.heap.blocks name.at) → new.touches ≡ old.touches + 1
   pub stale : ¬ (IsLive old.heap name) → OnlyTagAndSerial name.at old.touched new.touched
 
--- nor is a place from outside: not even a start bit is read unless it lies in the region, and no word unless a block begins there
+-- nor is a place from outside followed. Not even a start bit is read unless it lies in the region, and no word unless a block
+-- begins there
 pub record FollowsNoPlace (h : HeapState) (at before behind : ℕ) : Type 0 where
   pub outside : h.words ≤ at → behind ≡ before
   pub nowhere : ¬ (IsPlace h.blocks at) → behind ≤ before + 1
 
--- the most touches of an allocate: 3 to find the class, 7 to take its head out, 9 for the headers, and 7 to list the rest. Each payload word
--- that is made zero takes one more
+-- the most touches of an allocate. They are 3 to find the class, 7 to take its head out, 9 for the headers, and 7 to list the rest.
+-- Each payload word that is made zero takes one more
 abbrev pub allocate_touches : ℕ
 allocate_touches = 26
 
--- the most touches of a release: 3 to check the name, 2 for the tags of the neighbours, 12 to take these out of their lists, 6 for the
--- headers, and 7 to list what is left
+-- the most touches of a release. They are 3 to check the name, 2 for the tags of the neighbours, and 12 to take these out of their
+-- lists. Then come 6 for the headers, and 7 to list the merged block
 abbrev pub release_touches : ℕ
 release_touches = 30
 
--- the most touches of a resize: 3 to check the name, 1 for the tag behind, 6 to take that block out of its list, 7 for the headers, 7 to
--- list the rest, and 3 for the payload. Each payload word of the block left takes one more
+-- the most touches of a resize. They are 3 to check the name, 1 for the tag after it, and 6 to take that block out of its list.
+-- Then come 7 for the headers, 7 to list the rest, and 3 for the payload. Each payload word of the block left takes one more
 abbrev pub resize_touches : ℕ
 resize_touches = 27
 
--- the most touches of a write of so many bytes: 3 to check the name, 1 for the length, and two for each word that they lie in
+-- the most touches of a write of this many bytes. They are 3 to check the name, 1 for the length, and two for each word that they
+-- lie in
 abbrev pub write_touches : ℕ → ℕ
 write_touches len = 4 + 2 * (len / 8 + 2)
 
--- the most touches of a read of so many bytes: those of the check, and one for each word that they lie in
+-- the most touches of a read of this many bytes: those of the check, and one for each word that they lie in
 abbrev pub read_touches : ℕ → ℕ
 read_touches len = 4 + (len / 8 + 2)
 
--- in how many groups of eight words so many words lie at most that stand in a row, wherever the first is
+-- in how many groups of eight words this many words in a row lie at most, wherever the first is
 abbrev pub groups_of : ℕ → ℕ
 groups_of n = (n + 14) / 8
 
--- the groups of eight words in which all lies that an allocate of a few bytes touches: 3 for the list of the block given and 1 for its tag,
--- 2 for its header, 3 for the header of the rest and the tag behind, 2 for the list of the rest, and 2 for the payload words made zero
+-- the groups of eight words in which all lies that an allocate of a few bytes touches. They are 3 for the list of the block given
+-- and 1 for its tag, and 2 for its header. There are 3 for the header of the rest and the tag after it. Then come 2 for the list of
+-- the rest, and 2 for the payload words made zero
 abbrev pub allocate_groups : ℕ
 allocate_groups = 13
 
--- those of a resize whose payload doesn't grow: 2 to check the name, 1 for the tag behind, 3 for the list of that block, 4 for the headers
--- and the tag behind, 2 for the list of the rest, and 3 for the length and the payload words made zero
+-- those of a resize whose payload doesn't grow. They are 2 to check the name, 1 for the tag after it, and 3 for the list of that
+-- block. Then come 4 for the headers and the tag after them, and 2 for the list of the rest. The length and the payload words made
+-- zero have 3
 abbrev pub resize_groups : ℕ
 resize_groups = 15
 
--- those of a resize or move of a few bytes: 3 for the resize that is refused, those of an allocate, 2 for both lengths, 4 for the bytes copied
--- from and to, and those of a release
+-- those of a resize or move of a few bytes. They are 3 for the resize that is refused, those of an allocate, and 2 for both
+-- lengths. Then come 4 for the bytes copied from and to, and those of a release
 abbrev pub move_groups : ℕ
 move_groups = 37
 
--- the groups of eight words in which all lies that a release touches: 2 of its own header, 1 of each neighbour's tag, 3 of the list of each of
--- both that are free, 3 for the header of all and the tag behind, and 2 for the list that gets it
+-- the groups of eight words in which all lies that a release touches. They are 2 of its own header, 1 of each neighbour's tag, and
+-- 3 of the list of each of both that are free. Then come 3 for the header of all and the tag after it, and 2 for the list that gets
+-- it
 abbrev pub release_groups : ℕ
 release_groups = 15

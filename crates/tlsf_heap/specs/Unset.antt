@@ -14,7 +14,8 @@ use Rattle.tlsf_heap.specs.declared.name.Name.{Name}
 abbrev pub lying : Image → ℕ → ℕ → List ℕ
 lying m at len = bytes_in m.words (payload_byte at 0) len
 
--- a heap whose payload of this name, of `len` bytes, has those that lie there, from byte `from` on: as a write of them makes it
+-- a heap whose payload of this name, of `len` bytes, has those that lie there, from byte `from` on. It is as a write of them makes
+-- it
 abbrev pub unset_from : HeapState → Name → Image → ℕ → ℕ → HeapState
 unset_from h name m from len = (written h name from (drop from (lying m name.at len))).heap
 
@@ -26,7 +27,8 @@ with_payload_at h bytes (Some s) = with_blocks h (s.before ++ with_bytes s.block
 abbrev pub with_payload : HeapState → Name → List ℕ → HeapState
 with_payload h name bytes = with_payload_at h bytes (named name h.blocks)
 
--- a call that is to leave a heap of these blocks gave a name: it is live and was not before, its payload has the bytes that lie there, and every other payload stays
+-- a call that is to leave a heap of these blocks gave a name. It is live and was not before, its payload has the bytes that lie
+-- there, and every other payload stays
 pub record GivesUnset (old new : Shown) (given_heap : HeapState) (len : ℕ) (name : Name) : Type 0 where
   pub heap : new.heap ≡ with_payload given_heap name (lying new.stored name.at len)
   pub given : IsLive new.heap name × ¬ (IsLive old.heap name)

@@ -10,7 +10,7 @@ use Rattle.tlsf_heap.specs.declared.placed_block.Content.TheVariants as content
 abbrev pub words_in_use : HeapState → ℕ
 words_in_use h = words_in (live_among h.blocks)
 
--- of so many words those in use, by what the block holds
+-- those in use of this many words, by what the block holds
 abbrev pub words_held : ℕ → Content → ℕ
 words_held size (content.Live serial length) = size
 words_held size (content.Free stamp) = 0

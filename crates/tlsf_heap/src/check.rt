@@ -8,12 +8,13 @@ ghost use Rattle.tlsf_heap.specs.Regions.{image_of};
 use crate::checked::Checked;
 use tlsf_words::{NO_PLACE, Tag, Words};
 
-/// Looks at `most` blocks at most, one behind the other, of which the first begins at `from`; `None` where none begins there. The words
-/// may hold anything: of a damaged block nothing is followed, and each place that a sound one names is looked at before it is used.
+/// Looks at `most` blocks at most, one after the other. The first of them begins at `from`; `None` where none begins there. The
+/// words may hold anything. Nothing of a damaged block is followed, and each place that a sound one names is looked at before it is
+/// used.
 ///
-/// A block is sound where these agree: its start bit, its size, whether it is the last, its neighbours' tags, its payload length or its
-/// links. Start bits between its first word and its last are not looked at, nor is its serial or its stamp. Nothing is written. Where
-/// `most` is 0, no block is looked at, and `next` is `from`.
+/// A block is sound where these agree: its start bit, its size, its neighbours' tags, and whether it is the last. Its payload
+/// length or its links must agree too. Start bits between its first word and its last are not looked at, nor is its serial or its
+/// stamp. Nothing is written. Where `most` is 0, no block is looked at, and `next` is `from`.
 ///
 /// ```text
 /// let mut words = Heap::<4>::open(alloc, 0, 64, 0)?.into_words();
@@ -86,7 +87,7 @@ fn examine(words: &mut Words, at: u32) -> Option<u32>
     if is_sound { Some(end) } else { None }
 }
 
-/// Whether a block begins at a place, of all numbers. No start bit is read unless the place lies in the region.
+/// Whether a block begins at a place, which may be any number. No start bit is read unless the place lies in the region.
 fn begins(words: &mut Words, at: u32) -> bool
     ensures yes { result ≡ true → Begins (image_of words.old) at }
     ensures no { result ≡ false → ¬ (Begins (image_of words.old) at) }
@@ -98,7 +99,7 @@ fn begins(words: &mut Words, at: u32) -> bool
     at <= words.len() - 4 && words.starts(at)
 }
 
-/// Whether a free block begins at a place, of all numbers.
+/// Whether a free block begins at a place, which may be any number.
 fn begins_free(words: &mut Words, at: u32) -> bool
     ensures yes { result ≡ true → BeginsFree (image_of words.old) at }
     ensures no { result ≡ false → ¬ (BeginsFree (image_of words.old) at) }
@@ -108,7 +109,7 @@ fn begins_free(words: &mut Words, at: u32) -> bool
     begins(words, at) && words.tag(at).is_free()
 }
 
-/// Whether the block before one, of which the tag says that it begins at `back`, ends where that one begins.
+/// Whether the block before one ends where that one begins, if it begins at `back`, as the tag says.
 fn joins_before(words: &mut Words, at: u32, back: u32) -> bool
     ensures yes { result ≡ true → JoinsBefore (image_of words.old) at back }
     ensures no { result ≡ false → ¬ (JoinsBefore (image_of words.old) at back) }

@@ -1,4 +1,4 @@
-/// What a check of some blocks found. A place is the number of the word at which a block begins.
+/// The findings of a check of some blocks. A place is the number of the word at which a block begins.
 #[derive(Clone, Copy, Debug, PartialEq, Eq)]
 pub enum Checked {
     /// Each block that was looked at is sound. The next check goes on at `next`: the place behind the last of them, or 0 where the region

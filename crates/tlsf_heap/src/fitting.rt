@@ -34,10 +34,11 @@ pub fn choose<const SLI: u32>(region: &mut Region<SLI>, words: u32) -> Option<Cl
     region.next_from(search_of(words))
 }
 
-/// Takes the head of the list of a class, a free block, and makes it a live one of `words` words with `len` bytes of payload and a
-/// free rest, or all of it where the rest would have fewer than four words. Answers its place. The last `spare` of the `words` aren't of
-/// its payload. Neither they nor the words that the block has above `words` are made zero.
-// Always inline: behind a call, as it is where several calls of a heap end in it, each of them takes fourteen to thirty instructions more.
+/// Takes the head of the list of a class, a free block. Makes it a live one of `words` words with `len` bytes of payload. The rest
+/// stays a free block, unless it would have fewer than four words: then the whole block is given. Answers its place. The last
+/// `spare` of the `words` aren't of its payload. Neither they nor the words that the block has above `words` are made zero.
+// Always inline. In a call of its own, as where several calls of a heap end in it, each of them takes fourteen to thirty
+// instructions more.
 #[inline(always)]
 pub fn carve<const SLI: u32>(
     region: &mut Region<SLI>,
@@ -69,9 +70,9 @@ pub fn carve<const SLI: u32>(
     at
 }
 
-/// Makes the free block at a place, of this tag, which is in no list, a live one of `words` words with `len` bytes of payload and a
-/// free rest, or all of it where the rest would have fewer than four words. The last `spare` of the `words` aren't of its payload.
-/// Neither they nor the words that the block has above `words` are made zero.
+/// Makes the free block at a place a live one of `words` words with `len` bytes of payload. The free block has this tag and is in
+/// no list. The rest stays a free block, unless it would have fewer than four words: then the whole block is given. The last
+/// `spare` of the `words` aren't of its payload. Neither they nor the words that the block has above `words` are made zero.
 // Always inline: `carve` is then as it was with this in its body, and an allocate takes no instruction more.
 #[inline(always)]
 pub fn give<const SLI: u32>(
@@ -108,9 +109,9 @@ pub fn give<const SLI: u32>(
     region.zero(at, words - 4 - spare);
 }
 
-/// The tag of what is left behind the first `words` words of the block of this tag at a place, and how many words that is.
-// A function of its own, so that it is compiled before it is inlined: the size is then 32 bits wide wherever the words come from, and
-// an allocate takes seven instructions fewer.
+/// The tag of the rest after the first `words` words of the block of this tag at a place, and how many words it has.
+// A function of its own, so that it is compiled before it is inlined. The size is then 32 bits wide wherever the words come from,
+// and an allocate takes seven instructions fewer.
 #[inline]
 fn rest_of(own: Tag, words: u32, at: u32) -> (Tag, u32)
     requires { words ≤ own.size }
@@ -121,10 +122,11 @@ fn rest_of(own: Tag, words: u32, at: u32) -> (Tag, u32)
     (rest, rest.size())
 }
 
-/// Makes the live block at a place, of this tag, and its free neighbours one free block, stamped with the tick, which then rises by one.
-// Where neither neighbour is free, most often, a release is this alone. Always inline: behind a call the tag is taken apart for all
-// releases, and not where a merge needs a part of it. The tick rises before a merge, so that no register is kept for it over the call,
-// and else behind the stores of the header, where one instruction does it.
+/// Makes the live block at a place, of this tag, and its free neighbours one free block, stamped with the tick. The tick then rises
+/// by one.
+// Where neither neighbour is free, most often, a release is this alone. Always inline: otherwise the tag is taken apart for all
+// releases, and not just where a merge needs a part of it. The tick rises before a merge, so that no register is kept for it over
+// the call. Otherwise it rises after the stores of the header, where one instruction does it.
 #[inline(always)]
 pub fn coalesce<const SLI: u32>(region: &mut Region<SLI>, tick: &mut u64, at: u32, own: Tag)
     requires level { IsLevel SLI }
@@ -193,10 +195,10 @@ fn previous_tag<const SLI: u32>(region: &mut Region<SLI>, at: u32, own: Tag) -> 
     region.tag(own.back())
 }
 
-/// Makes the live block at a place and its free neighbours, of which there is one at least, one free block. The tags are theirs.
-// Never inline: so a release that merges nothing saves no registers. What a caller knows last comes first, since the register of the
-// second argument holds the name until its serial is read; and the stamp is the fourth, since that one's register is wanted for
-// shifts, and the stamp is needed last.
+/// Makes the live block at a place and its free neighbours, at least one, one free block. The tags are those of these blocks.
+// Never inline: so a release that merges nothing saves no registers. The argument that a caller knows last comes first, since the
+// register of the second one holds the name until its serial is read. The stamp is the fourth: its register is wanted for shifts,
+// and the stamp is needed last.
 #[inline(never)]
 fn merge<const SLI: u32>(
     region: &mut Region<SLI>,
@@ -225,8 +227,8 @@ fn merge<const SLI: u32>(
     region.push(class_of(size), place);
 }
 
-/// Takes the free neighbours of the live block at a place, of which there is one at least, out of their lists, and makes it and them
-/// one free block, which is in no list. The tags are theirs. Answers its place and its size.
+/// Takes the free neighbours of the live block at a place, at least one, out of their lists. Makes it and them one free block,
+/// which is in no list. The tags are those of these blocks. Answers its place and its size.
 // Each case stands for itself, so that no flag and no size is tested again where the header and the start bits are written.
 #[inline(always)]
 fn join<const SLI: u32>(

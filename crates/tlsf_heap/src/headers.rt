@@ -8,7 +8,8 @@ ghost use Rattle.tlsf_words.specs.Touched.{times};
 
 use tlsf_words::{NO_PLACE, Tag, Words};
 
-/// Writes the place of the block before into the header at a place, where a block of tag `own` ends, unless that is the last one.
+/// Writes the place of the block before into the header at a place, where a block of tag `own` ends. Writes nothing where that is
+/// the last block.
 #[tactic(auto, using(crate::proofs::lemmas::words::Headers::size_in_below, crate::proofs::lemmas::words::Headers::inner_below, tlsf_words::proofs::Touching::times_other), unfolding(crate::specs::Headers::with_back))]
 fn set_back(words: &mut Words, own: Tag, at: u32, back: u32)
     requires last { own.last ≡ (at == length words.old.words) }
@@ -67,8 +68,8 @@ pub fn live_header(words: &mut Words, at: u32, tag: Tag, serial: u64, len: u32)
     words.set_header(at, tag, serial, len);
 }
 
-/// Makes the free block at a place, of this tag, a live one of `size` words with `len` bytes of payload, of which the first word is zero,
-/// and a free rest of its tag. The serial of the first is the stamp of the rest.
+/// Makes the free block at a place, of this tag, a live one of `size` words with `len` bytes of payload. A free rest of its tag
+/// stays. The first word of the payload is zero. The serial of the first is the stamp of the rest.
 #[tactic(auto, using(tlsf_words::proofs::Touching::times_other))]
 pub fn split_header(
     words: &mut Words,
@@ -97,9 +98,9 @@ pub fn split_header(
     set_back(words, rest, place + rest.size(), place);
 }
 
-/// Writes the header of the free block of this tag that a block at a place becomes with the free one of `before` words before it and
-/// the one of `after` words behind it. Where there is none, that is 0. `previous` and `next` say whether there is one: callers know, so
-/// that no size is tested.
+/// Writes the header of a free block of this tag. The block at a place becomes it, with the free one of `before` words before it
+/// and the one of `after` words after it. Where there is none, that is 0. `previous` and `next` say whether there is one: callers
+/// know, so that no size is tested.
 #[inline(always)]
 #[tactic(auto, using(tlsf_words::proofs::Touching::times_other))]
 pub fn merge_headers(
@@ -135,8 +136,8 @@ pub fn merge_headers(
     set_back(words, tag, end, place);
 }
 
-/// Writes the header of the live block of this tag that a live block at a place and the `after` free words behind it, `both`
-/// words together, become. Its mark, its length and its payload stay.
+/// Writes the header of a live block of this tag. The live block at a place becomes it, with the `after` free words after it,
+/// `both` words together. Its mark, its length and its payload stay.
 #[tactic(auto, using(tlsf_words::proofs::Touching::times_other))]
 pub fn widen_header(words: &mut Words, at: u32, both: u32, tag: Tag, after: u32)
     requires both { both ≡ tag.size }
@@ -156,8 +157,8 @@ pub fn widen_header(words: &mut Words, at: u32, both: u32, tag: Tag, after: u32)
     words.set_tag(at, live);
 }
 
-/// Makes the live block at a place and the `after` free words behind it, `both` words of this free tag together, a live block of
-/// `size` words and a free rest. The mark, the length and the payload of the first stay.
+/// Makes the live block at a place and the `after` free words after it a live block of `size` words and a free rest. Together they
+/// are `both` words of this free tag. The mark, the length and the payload of the first stay.
 #[tactic(auto, using(tlsf_words::proofs::Touching::times_other))]
 pub fn recut_header(
     words: &mut Words,

@@ -49,17 +49,17 @@ use tlsf_words::{Tag, Words};
 /// Its level, 4 or 5, says how fine its size classes are: 16 or 32 for each power of two. A region of level 4 has 4 to 2^20 words, and
 /// one of level 5 has 4 to 2^24. No heap has another level.
 ///
-/// Contracts see it as its number, its words, its tick and its blocks in the order of their places. The tick begins
-/// one above the first, rises by one with each accepted allocate, release or resize, and stamps what they change. Beside them
-/// they see what is stored in its region, each word and start bit; the classes whose bits are set (`marked`); where its memory lies
-/// and how large it is (`extents`); and its touches: how many times a stored word, a start bit, the head of a list or a word of the
-/// bitmaps was read or written.
+/// Contracts see it as its number, its words, its tick and its blocks in the order of their places. The tick begins one above the
+/// first, rises by one with each accepted allocate, release or resize, and stamps what they change. Beside them they see the words
+/// and start bits that are stored in its region, and the classes whose bits are set (`marked`). They see where its memory lies and
+/// how large it is (`extents`), and its touches. These tell how often a stored word, a start bit, the head of a list or a word of
+/// the bitmaps was read or written.
 ///
 /// Places and sizes are in words of 8 bytes, lengths in bytes.
 #[derive(Drop)]
 pub struct Heap<const SLI: u32> {
-    // Fields lie as they stand here. What each call reads comes first, in few cache lines: these two, where the words and the map
-    // of starts lie, and the bitmaps. The heads of the lists are long, and last.
+    // Fields lie as they stand here. The fields that each call reads come first, in few cache lines. They are these two, where the
+    // words and the map of starts lie, and the bitmaps. The heads of the lists are long, and last.
     id: u32,
     tick: u64,
     region: Region<SLI>,
@@ -77,8 +77,8 @@ impl<const SLI: u32> Model for Heap<SLI> {
     ghost invariant = { IsStored SLI };
 }
 
-/// The words wanted for a request of `len` bytes: three for the header and one for each eight bytes or part of them, and no
-/// fewer than four. A block that is given for it has so many words, or up to three more.
+/// The words wanted for a request of `len` bytes. Three are for the header and one for each eight bytes or part of them, and there
+/// are no fewer than four. A block that is given for it has this many words, or up to three more.
 ///
 /// ```
 /// let words = want(100);          // 16
@@ -94,8 +94,8 @@ pub fn want(len: u32) -> u32
 impl<const SLI: u32> Heap<SLI> {
     /// Opens a heap of number `id` over `words` words. It is one free block, stamped with the tick `first`.
     ///
-    /// Refused as `BadSize` where `words` is below 4, or above 2^20 at level 4 and 2^24 at level 5, else as `Worn` where `first` is the last tick,
-    /// 2^64 - 1, else as `NoMemory` where the memory was not granted. No later call takes memory.
+    /// Refused as `BadSize` where `words` is below 4, or above 2^20 at level 4 and 2^24 at level 5. Otherwise as `Worn` where
+    /// `first` is the last tick, 2^64 - 1. Otherwise as `NoMemory` where the memory was not granted. No later call takes memory.
     ///
     /// ```text
     /// let heap = Heap::<4>::open(alloc, 0, 64, 0)?;                  // heap 0: 512 bytes, at tick 1
@@ -135,8 +135,8 @@ impl<const SLI: u32> Heap<SLI> {
     /// Gives a block that holds `len` bytes of payload, all zero: good fit, of the last that became free (ECRTS 2004,
     /// sections 3 and 4). Three words of it are its header.
     ///
-    /// Refused as `NoFit` where no free block lies in a class at or above the search class of the words wanted, else
-    /// as `Worn` where the tick is at its last value. Takes no memory.
+    /// Refused as `NoFit` where no free block lies in a class at or above the search class of the words wanted. Otherwise as `Worn`
+    /// where the tick is at its last value. Takes no memory.
     ///
     /// ```text
     /// let mut heap = Heap::<4>::open(alloc, 0, 64, 0)?;
@@ -151,7 +151,7 @@ impl<const SLI: u32> Heap<SLI> {
         ensures err { OnErr result (IsAsBefore self.old self.new) }
         ensures keeps { Keeps SLI self.old self.new }
 
-        // All lies in so many groups of eight words, and one more for each 64 bytes, but start bits and the lists.
+        // All lies in this many groups of eight words, and one more for each 64 bytes, but start bits and the lists.
         ensures groups { InGroups (allocate_groups + len / 64) self.old.touched self.new.touched }
     {
         // Taken apart, so that each answer is written where it is made: handed on whole, it takes four instructions more.
@@ -162,19 +162,20 @@ impl<const SLI: u32> Heap<SLI> {
         Ok(name)
     }
 
-    /// Gives a block of `words` words with `len` bytes of payload, all zero: an `allocate` where the caller says how many words the block
-    /// has, its three of the header with them, as where each word stands for memory elsewhere. Only the payload is made zero, so it takes
-    /// no longer for more words.
+    /// Gives a block of `words` words with `len` bytes of payload, all zero. It is an `allocate` where the caller says how many
+    /// words the block has, its three of the header with them. It serves where each word stands for memory elsewhere. Only the
+    /// payload is made zero, so it takes no longer for more words.
     ///
-    /// `words` is at least `want(len)`, so at least 4. Refused as `NoFit` where no free block lies in a class at or above the search class
-    /// of so many words, as where they are more than a region may have, else as `Worn` where the tick is at its last value. Takes no memory.
+    /// `words` is at least `want(len)`, so at least 4. Refused as `NoFit` where no free block lies in a class at or above the
+    /// search class of these words. So it is where they are more than a region may have. Otherwise as `Worn` where the tick is at
+    /// its last value. Takes no memory.
     ///
     /// ```text
     /// let mut heap = Heap::<4>::open(alloc, 0, 64, 0)?;
     /// let name = heap.allocate_words(40, 0)?;         // 40 of the 64 words, and no payload
     /// heap.allocate_words(40, 0) == Err(Refusal::NoFit)
     /// ```
-    // Always inline: behind a call, `allocate` would count the words that need no zeros, of which it has none.
+    // Always inline: in a call of its own, `allocate` would count the words that need no zeros, and it has none.
     #[inline(always)]
     pub fn allocate_words(&mut self, words: u32, len: u32) -> Result<Name, Refusal>
         requires { Blocks.want len ≤ words }
@@ -210,8 +211,8 @@ impl<const SLI: u32> Heap<SLI> {
     /// Takes back the block of that name, and merges it with its free neighbours (ECRTS 2004, section 4). The free block
     /// that it becomes is stamped with the tick.
     ///
-    /// Refused as `Foreign` where the name is of another heap, else as `Stale` where no live block has that place and
-    /// serial, else as `Worn` where the tick is at its last value. Takes no memory.
+    /// Refused as `Foreign` where the name is of another heap. Otherwise as `Stale` where no live block has that place and serial.
+    /// Otherwise as `Worn` where the tick is at its last value. Takes no memory.
     ///
     /// ```text
     /// let name = heap.allocate(8)?;
@@ -226,7 +227,7 @@ impl<const SLI: u32> Heap<SLI> {
         ensures err { OnErr result (IsAsBefore self.old self.new) }
         ensures keeps { Keeps SLI self.old self.new }
 
-        // All lies in so many groups of eight words, but start bits and the lists.
+        // All lies in this many groups of eight words, but start bits and the lists.
         ensures groups { InGroups release_groups self.old.touched self.new.touched }
     {
         let own = self.check(name)?;
@@ -234,16 +235,16 @@ impl<const SLI: u32> Heap<SLI> {
         self.give_back(name.at, own, &mut own.size())
     }
 
-    /// Makes the payload of the block of that name `len` bytes long, where the block stands: its place and serial stay, so the name
+    /// Makes the payload of the block of that name `len` bytes long, where the block stands. Its place and serial stay, so the name
     /// stays live. The bytes up to the smaller length stay, and new ones are zero.
     ///
-    /// A block that has the words wanted, and fewer than four more, keeps its size. Every other one takes in the free block behind it;
-    /// where four words or more are left of both, they are a free block, stamped with the tick. No block moves: where there is no room,
-    /// the caller may allocate, copy and release.
+    /// A block that has the words wanted, and fewer than four more, keeps its size. Every other one takes in the free block after
+    /// it. Where four words or more are left of both, they are a free block, stamped with the tick. No block moves: where there is
+    /// no room, the caller may allocate, copy and release.
     ///
-    /// Refused as `Foreign` where the name is of another heap, else as `Stale` where no live block has that place and serial, else as
-    /// `NoRoom` where the block and a free one behind it have fewer words than wanted, else as `Worn` where the tick is at its last
-    /// value. Takes no memory.
+    /// Refused as `Foreign` where the name is of another heap. Otherwise as `Stale` where no live block has that place and serial.
+    /// Otherwise as `NoRoom` where the block and a free one behind it have fewer words than wanted. Otherwise as `Worn` where the
+    /// tick is at its last value. Takes no memory.
     ///
     /// ```text
     /// let name = heap.allocate(8)?;            // of a new heap of 64 words: 4 of them
@@ -258,16 +259,16 @@ impl<const SLI: u32> Heap<SLI> {
         ensures err { OnErr result (IsAsBefore self.old self.new) }
         ensures keeps { Keeps SLI self.old self.new }
 
-        // All lies in so many groups of eight words, and one more for each 64 bytes that are new, but start bits and the lists.
+        // All lies in this many groups of eight words, and one more for each 64 bytes that are new, but start bits and the lists.
         ensures groups { InGroups (resize_groups + (len - length (payload_of self.old.heap name)) / 64) self.old.touched self.new.touched }
         ensures refused_groups { OnErr result (InGroups 3 self.old.touched self.new.touched) }
     {
         self.resize_words(name, want(len), len)
     }
 
-    /// Makes the block of that name one of `words` words with `len` bytes of payload, where it stands: a `resize` where the caller says how
-    /// many words the block has, its three of the header with them. Only new bytes of the payload are made zero: so it takes no longer for
-    /// more words.
+    /// Makes the block of that name one of `words` words with `len` bytes of payload, where it stands. It is a `resize` where the
+    /// caller says how many words the block has, its three of the header with them. Only new bytes of the payload are made zero: so
+    /// it takes no longer for more words.
     ///
     /// `words` is at least `want(len)`, so at least 4. Refused as `resize`, where these are the words wanted. Takes no memory.
     ///
@@ -286,7 +287,7 @@ impl<const SLI: u32> Heap<SLI> {
         ensures err { OnErr result (IsAsBefore self.old self.new) }
         ensures keeps { Keeps SLI self.old self.new }
 
-        // All lies in so many groups of eight words, and one more for each 64 bytes that are new, but start bits and the lists.
+        // All lies in this many groups of eight words, and one more for each 64 bytes that are new, but start bits and the lists.
         ensures groups { InGroups (resize_groups + (len - length (payload_of self.old.heap name)) / 64) self.old.touched self.new.touched }
         ensures refused_groups { OnErr result (InGroups 3 self.old.touched self.new.touched) }
     {
@@ -304,14 +305,14 @@ impl<const SLI: u32> Heap<SLI> {
         Ok(())
     }
 
-    /// Makes the payload of the block of that name `len` bytes long: where the block stands, as `resize`, and where there is no room in
-    /// another block, which gets the payload's bytes and zeros behind them, and the old one is released. The answer is the name
-    /// that the payload has from then on; where it isn't the old one, the old one is stale.
+    /// Makes the payload of the block of that name `len` bytes long where the block stands, as `resize`. Where there is no room it
+    /// does so in another block. This one gets the payload's bytes and zeros after them, and the old one is released. The answer is
+    /// the name that the payload has from then on; where it isn't the old one, the old one is stale.
     ///
-    /// Refused as `Foreign` where the name is of another heap, else as `Stale` where no live block has that place and serial. Where there
-    /// is room at its place it is refused as `Worn` where the tick is at its last value. Where there is none, as `Worn` where fewer
-    /// than two ticks are left, since a move takes two, else as `NoFit` where `allocate` finds no block. Never as `NoRoom`. A refusal
-    /// changes nothing. Takes no memory.
+    /// Refused as `Foreign` where the name is of another heap; otherwise as `Stale` where no live block has that place and serial.
+    /// Where there is room at its place it is refused as `Worn` where the tick is at its last value. Where there is none, as `Worn`
+    /// where fewer than two ticks are left, since a move takes two. Otherwise as `NoFit` where `allocate` finds no block. Never as
+    /// `NoRoom`. A refusal changes nothing. Takes no memory.
     ///
     /// ```text
     /// let name = heap.allocate(8)?;            // of a new heap of 64 words: 4 of them
@@ -327,13 +328,13 @@ impl<const SLI: u32> Heap<SLI> {
         ensures err { OnErr result (IsAsBefore self.old self.new) }
         ensures keeps { Keeps SLI self.old self.new }
 
-        // Accepted or refused, and whatever the region holds: at most 128 touches, one for each payload word of the block resized where
-        // it stands, and three for each of that which it moves to.
+        // Accepted or refused, and whatever the region holds: at most 128 touches. It makes one more for each payload word of a
+        // block resized where it stands, and three more for each of a new block.
         ensures touches { self.new.touches ≤ self.old.touches + 128 + payload_words_left (resized self.old.heap name len).answer (resized self.old.heap name len).heap name
             + 3 * payload_words_moved SLI self.old.heap len }
         ensures leaves { LeavesPayloads self.old.heap.blocks name.at self.old.touched self.new.touched }
 
-        // All lies in so many groups of eight words, and three more for each 64 bytes, but start bits and the lists.
+        // All lies in this many groups of eight words, and three more for each 64 bytes, but start bits and the lists.
         ensures groups { InGroups (move_groups + 3 * (len / 64)) self.old.touched self.new.touched }
         ensures refused { OnErr result (LeavesLive self.old.heap.blocks self.old.touched self.new.touched) }
         ensures forged { FollowsNoForgery (seen self.old) (seen self.new) name }
@@ -347,8 +348,8 @@ impl<const SLI: u32> Heap<SLI> {
 
     /// Writes bytes into the payload of the block of that name, from byte `at` of it on.
     ///
-    /// Refused as `Foreign` where the name is of another heap, else as `Stale` where no live block has that place and
-    /// serial, else as `Range` where the bytes would go past the end of the payload. Takes no memory.
+    /// Refused as `Foreign` where the name is of another heap. Otherwise as `Stale` where no live block has that place and serial.
+    /// Otherwise as `Range` where the bytes would go past the end of the payload. Takes no memory.
     ///
     /// ```text
     /// let name = heap.allocate(8)?;
@@ -371,9 +372,8 @@ impl<const SLI: u32> Heap<SLI> {
 
     /// Reads bytes of the payload of the block of that name, from byte `at` of it on, and fills `out` with them.
     ///
-    /// Refused as `Foreign` where the name is of another heap, else as `Stale` where no live block has that place and
-    /// serial, else as `Range` where the bytes would go past the end of the payload. `out` is then as before. Takes no
-    /// memory.
+    /// Refused as `Foreign` where the name is of another heap. Otherwise as `Stale` where no live block has that place and serial.
+    /// Otherwise as `Range` where the bytes would go past the end of the payload. `out` is then as before. Takes no memory.
     ///
     /// ```text
     /// let mut out = [0; 2];
@@ -392,11 +392,12 @@ impl<const SLI: u32> Heap<SLI> {
 
     /// Hands the payload of the block of that name to `f`, which reads and writes it where it stands, and gives back what `f` answers.
     ///
-    /// `f` gets the words that hold the payload: as many as its bytes need, eight in each, the lowest bits first. What it leaves in the
-    /// last word past the payload's end means nothing. What it reads and writes is not counted in the touches, and takes the time that it takes.
+    /// `f` gets the words that hold the payload: as many as its bytes need, eight in each, the lowest bits first. Bits that it
+    /// leaves in the last word past the payload's end mean nothing. Its reads and writes are not counted in the touches, and take
+    /// the time that they take.
     ///
-    /// Refused as `Foreign` where the name is of another heap, else as `Stale` where no live block has that place and
-    /// serial; `f` is then not called. Takes no memory.
+    /// Refused as `Foreign` where the name is of another heap. Otherwise as `Stale` where no live block has that place and serial;
+    /// `f` is then not called. Takes no memory.
     ///
     /// ```text
     /// let name = heap.allocate(16)?;
@@ -406,7 +407,8 @@ impl<const SLI: u32> Heap<SLI> {
         requires { IsLive self.old.heap name → (words : List ℕ) → ArePayload self.old.heap name words → FnOnceTakesAtMut F.FnOnce f words }
         ensures answer { IsRefusedAsRead self.old.heap name result }
 
-        // What `f` was handed and what it left: the heap is as a write of those bytes makes it, so it has the same blocks, and other names their bytes.
+        // The payload that `f` was handed and that it left. The heap is as a write of those bytes makes it, so it has the same
+        // blocks, and other names their bytes.
         ensures altered { IfOk result (λ r. Alters F.FnOnce f self.old.heap name r self.new.heap) }
 
         // A refusal changes nothing.
@@ -422,11 +424,11 @@ impl<const SLI: u32> Heap<SLI> {
 
     /// Shows the payload of the block of that name to `f`, where it stands, and gives back what `f` answers.
     ///
-    /// `f` gets the words that hold the payload: as many as its bytes need, eight in each, the lowest bits first. Bits of the last word past
-    /// the payload's end mean nothing. What `f` reads is not counted in the touches, and takes the time that it takes.
+    /// `f` gets the words that hold the payload: as many as its bytes need, eight in each, the lowest bits first. Bits of the last
+    /// word past the payload's end mean nothing. The reads of `f` are not counted in the touches, and take the time that they take.
     ///
-    /// Refused as `Foreign` where the name is of another heap, else as `Stale` where no live block has that place and
-    /// serial; `f` is then not called. Takes no memory.
+    /// Refused as `Foreign` where the name is of another heap. Otherwise as `Stale` where no live block has that place and serial;
+    /// `f` is then not called. Takes no memory.
     ///
     /// ```text
     /// heap.inspect(name, |words| words[1]) == Ok(0x6948)              // after the alter above
@@ -462,8 +464,8 @@ impl<const SLI: u32> Heap<SLI> {
     /// The address of the region's first word, and how many bytes of payload the block of that name has. Its payload begins
     /// at byte `8 * (name.at + 3)` from that address, until the block is released.
     ///
-    /// Refused as `Foreign` where the name is of another heap, else as `Stale` where no live block has that place and
-    /// serial. Takes no memory.
+    /// Refused as `Foreign` where the name is of another heap; otherwise as `Stale` where no live block has that place and serial.
+    /// Takes no memory.
     ///
     /// ```text
     /// let (base, len) = heap.payload(name)?;          // 16 bytes, from `base + 8 * (name.at + 3)` on
@@ -482,7 +484,7 @@ impl<const SLI: u32> Heap<SLI> {
         Ok((base, len))
     }
 
-    /// What the heap holds, and how well it serves: a walk over all its blocks. Takes no memory.
+    /// The report on the heap: its blocks, and how well it serves. It walks over all blocks. Takes no memory.
     ///
     /// ```text
     /// let report = Heap::<4>::open(alloc, 0, 64, 0)?.report();
@@ -538,8 +540,8 @@ impl<const SLI: u32> Heap<SLI> {
         self.tick
     }
 
-    /// Ends the heap, and gives the words of its region and the map of the places where its blocks begin, as they stand: for whoever prints,
-    /// keeps or compares them. Takes no memory.
+    /// Ends the heap, and gives the words of its region and the map of the places where its blocks begin, as they stand. It is for
+    /// whoever prints, keeps or compares them. Takes no memory.
     ///
     /// ```text
     /// let mut words = Heap::<4>::open(alloc, 0, 64, 0)?.into_words();
@@ -577,7 +579,7 @@ impl<const SLI: u32> Heap<SLI> {
         Ok(tag)
     }
 
-    /// The tag of the live block that begins at a place, of all numbers. Where none does, `Stale`.
+    /// The tag of the live block that begins at a place, which may be any number. Where none does, `Stale`.
     // Not by `ok_or`: a counted release by place then takes two instructions more.
     #[inline(always)]
     fn check_place(&mut self, at: u32) -> Result<Tag, Refusal>
@@ -636,8 +638,8 @@ impl<const SLI: u32> Heap<SLI> {
     }
 
     /// Whether `n` bytes from number `at` on are payload bytes of the block of that name.
-    // The sum of both can't wrap: no slice is so long. One compare, where the rest of the payload would take two. Always inline: behind a
-    // call, and where the compiler inlines it late, the answer is made in registers before it is known to be one.
+    // The sum of both can't wrap: no slice is so long. One compare, where the rest of the payload would take two. Always inline. In
+    // a call of its own, or inlined late, the answer is made in registers before it is known to be one.
     #[inline(always)]
     fn check_range(&mut self, name: Name, at: u32, n: usize) -> Result<(), Refusal>
         requires { n < 2 ^ 63 }

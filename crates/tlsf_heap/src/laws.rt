@@ -62,13 +62,14 @@ pub fn names_live_until_released()
     ensures gone { (sli : ℕ) (h : HeapState) (serial : ℕ) (steps : List Step) → IsGone h serial → IsGone (after sli h steps) serial }
     ensures dead { (h : HeapState) (name : Name) → IsGone h name.serial → ¬ (IsLive h name) }
 
-    // The release of a name of the heap that is not live is refused as Stale, that of a live one neither so nor as Foreign.
+    // The release of a name of the heap that is not live is refused as Stale. The release of a live one is refused neither as Stale
+    // nor as Foreign.
     ensures stale { (h : HeapState) (name : Name) → name.heap ≡ h.id → ¬ (IsLive h name) → (released h name).answer ≡ Err Stale }
     ensures known { (h : HeapState) (name : Name) → IsLive h name → ((released h name).answer ≢ Err Stale) × ((released h name).answer ≢ Err Foreign) }
 {}
 
-/// The grant of a report is the greatest length of which a request is not refused as `NoFit`: the payload of the least
-/// block of the class that the greatest free block lies in.
+/// The grant of a report is the greatest length of which a request is not refused as `NoFit`. It is the payload of the least block
+/// of the class that the greatest free block lies in.
 ///
 /// ```text
 /// 63 words free at level 4: class 47 begins at 62 words, so 8 * (62 - 3) = 472 bytes are served, and 473 are not
@@ -81,8 +82,8 @@ pub fn grant_is_greatest()
 
 /// A request is refused as `NoFit` where no free block fits, and nowhere else: there is no other way to run out.
 ///
-/// So of every heap that a history reaches: whatever calls came before, a request that some free block may serve gets a block, unless
-/// the tick is at its last value.
+/// This holds of every heap that a history reaches. Whatever calls came before, a request that some free block may serve gets a
+/// block, unless the tick is at its last value.
 ///
 /// ```text
 /// free blocks of 8 and 12 words: 72 bytes want 12 words and get them, 73 bytes want 13 and are refused
@@ -102,8 +103,8 @@ pub fn places_name_blocks()
     ensures apart { (h : HeapState) → IsLawful h → (at k : ℕ) → IsPlace h.blocks at → 0 < k → k < 4 → ¬ (IsPlace h.blocks (at + k)) }
 {}
 
-/// What a program left in a payload stays until the block is released: through each allocate, and each release, resize, move or write
-/// of another name.
+/// The bytes that a program left in a payload stay until the block is released. They stay through each allocate, and each release,
+/// resize, move or write of another name.
 ///
 /// ```text
 /// let name = heap.allocate_unset(8)?;
@@ -124,9 +125,9 @@ pub fn payloads_stay()
         HasPayload (resized_or_moved sli h other len).heap name bytes × ((new : Name) → (resized_or_moved sli h other len).answer ≡ Ok new → new ≢ name) }
 {}
 
-/// The words of a payload are those of no other live name, and stay its own until the block is released or resized. So what clauses
-/// `leaves` and `refused` of the calls say of other blocks' words is said of these, through every list of calls: none of them is read or
-/// written but by a call on this name.
+/// The words of a payload are those of no other live name, and stay its own until the block is released or resized. Clauses
+/// `leaves` and `refused` of the calls speak of other blocks' words. So they say of these, through every list of calls, that none
+/// is read or written but by a call on this name.
 ///
 /// ```text
 /// let name = heap.allocate_unset(8)?;     // word 3 of the region
@@ -141,11 +142,11 @@ pub fn payload_words_stay()
     ensures run { (sli : ℕ) (h : HeapState) (name : Name) (k : ℕ) (steps : List Step) → AllByRecursion (IsOfOtherBlocks name) steps → IsPayloadWord h name k → IsPayloadWord (after sli h steps) name k }
 {}
 
-/// Where each call wants an even number of words, each block begins at an even place, whatever the calls: so each payload, three words
-/// behind, begins at an odd word.
+/// Where each call wants an even number of words, each block begins at an even place, whatever the calls. So each payload begins
+/// three words later, at an odd word.
 ///
-/// The same holds behind a place of which all blocks in front are live, and stay: with live blocks of 5 words in front for good, each
-/// block behind them begins at an odd place, and its payload at an even word.
+/// The same holds after a place of which all blocks in front are live, and stay. Let live blocks of 5 words stand in front for
+/// good. Then each block after them begins at an odd place, and its payload at an even word.
 ///
 /// ```text
 /// blocks of 4, 6, 8 .. words begin at places 0, 4, 10 ..: payloads at words 3, 7, 13 ..
@@ -161,9 +162,9 @@ pub fn even_blocks_stay_even()
         → AreEvenFrom from (words_aligned sli h n step skew).heap.blocks }
 {}
 
-/// The words in use, those of the live blocks with their headers, add up: an allocate adds the words of the block that it gives, a release
-/// takes off those of the block that it takes back, and a resize those that the block had, for those that it has. A refused call and a
-/// write change nothing of it.
+/// The words in use, those of the live blocks with their headers, add up. An allocate adds the words of the block that it gives,
+/// and a release takes off those of the block that it takes back. A resize takes off those that the block had, and adds those that
+/// it has. A refused call and a write change nothing of it.
 ///
 /// ```text
 /// let name = heap.allocate(100)?;         // of a heap without a live block: 16 words in use

@@ -18,23 +18,23 @@ use crate::heap::Heap;
 use crate::name::Name;
 use crate::refusal::Refusal;
 
-/// What is noted beside a heap: its grants and its returns, and which requests are refused by these.
+/// The notes beside a heap: its grants and its returns, and which requests are refused by these.
 ///
 /// A [`Ledgered`](crate::Ledgered) asks it before each allocate, and tells it of each block that was given or taken back.
 pub trait Ledger<const SLI: u32>: Sized {
     /// Why an allocate is refused.
     type Why;
 
-    /// What `admit` finds out for `give`.
+    /// The place that `admit` finds for `give`.
     type Place: Drop;
 
-    /// What a return has to have seen of its block.
+    /// The part of its block that a return has to have seen.
     type Seen: Drop;
 
     // It is a ledger of that heap, of that level.
     ghost holds: { ℕ → HeapState → Self → Type 0 };
 
-    // How a request for so many bytes is answered, by the heap's answer.
+    // How a request for this many bytes is answered, by the heap's answer.
     ghost answered: { Self → ℕ → Result Name Refusal → Result Name Self.Why };
 
     // Such a request is passed on to the heap.
@@ -46,13 +46,13 @@ pub trait Ledger<const SLI: u32>: Sized {
     // This was found out for it.
     ghost places: { Self → ℕ → Self.Place → Type 0 };
 
-    // What the answer to it tells: when it is given, and when each refusal comes.
+    // The facts that the answer tells: when it is given, and when each refusal comes.
     ghost tells: { ℕ → HeapState → Self → ℕ → Result Name Self.Why → Type 0 };
 
-    // What a report of the heap tells.
+    // The facts that a report of the heap tells.
     ghost reports: { Self → Report → Type 0 };
 
-    // The ledger before and after a grant of so many bytes, and a return of so many.
+    // The ledger before and after a grant of this many bytes, and a return of that many.
     ghost given: { Self → ℕ → Self → Type 0 };
 
     ghost returned: { Self → ℕ → Self → Type 0 };
@@ -60,7 +60,7 @@ pub trait Ledger<const SLI: u32>: Sized {
     // Its limits, which no call changes, are the same.
     ghost same_limits: { Self → Self → Type 0 };
 
-    // What may be seen of the block of a name, and how many touches that takes at most.
+    // The facts that may be seen of the block of a name, and how many touches that takes at most.
     ghost sees: { HeapState → Name → Self.Seen → Type 0 };
 
     ghost look_touches: { ℕ };
@@ -79,7 +79,7 @@ pub trait Ledger<const SLI: u32>: Sized {
         ensures takes { result ≡ takes SLI self.now len }
         ensures enough { want len ≤ result };
 
-    /// What a refusal of the heap becomes.
+    /// The ledger's reason for a refusal of the heap.
     fn refused(&self, len: u32, why: Refusal) -> Self::Why
         requires admits { admits self.now len }
         requires heap { (sli : ℕ) × (h : HeapState) × holds sli h self.now × ((allocated_words sli h (takes sli self.now len) len).answer ≡ Err why) }
@@ -116,7 +116,7 @@ pub trait Ledger<const SLI: u32>: Sized {
 
     /// Says what these definitions come to. It does nothing.
     fn laws()
-        // What the answers to requests tell, and what a report tells.
+        // The facts that the answers to requests tell, and those that a report tells.
         ensures tells { (sli : ℕ) (h : HeapState) (ledger : Self) (len : ℕ) → holds sli h ledger → tells sli h ledger len (answered ledger len (allocated_words sli h (takes sli ledger len) len).answer) }
         ensures reports { (sli : ℕ) (h : HeapState) (ledger : Self) → holds sli h ledger → IsGrant sli h.blocks (report_of sli h).grant → reports ledger (report_of sli h) }
 

@@ -1,10 +1,9 @@
 //! A real-time heap over a region of 64-bit words: two-level segregated fit for one owner.
 //!
-//! A heap gives blocks of its region to those who ask, by good fit: of the free blocks in a size class at or above
-//! the request's search class it takes one of the least class, and of these the one that became free last. A block
-//! of four words or more above the wanted ones is split, and a block that is released is merged at once with its free
-//! neighbours (Masmano, Ripoll, Crespo and Real, "TLSF: A New Dynamic Memory Allocator for Real-Time Systems",
-//! ECRTS 2004, sections 3 and 4).
+//! A heap gives blocks of its region to those who ask, by good fit. Of the free blocks in a size class at or above the request's
+//! search class it takes one of the least class. Of these it takes the one that became free last. A block of four words or more
+//! above the wanted ones is split. A block that is released is merged at once with its free neighbours. So it is in "TLSF: A New
+//! Dynamic Memory Allocator for Real-Time Systems" (Masmano, Ripoll, Crespo and Real, ECRTS 2004, sections 3 and 4).
 //!
 //! A block is known by its [`Name`]: the heap, the place where it begins, and the serial that it got when it became
 //! live. A name that was forged, or that outlived its block, is refused.
@@ -19,9 +18,10 @@
 //! A const parameter is the level of a heap, 4 or 5: how many bits of a size tell the second level of its class. A heap of level 5 has
 //! finer classes and may have a greater region. All that contracts say, they say of both.
 //!
-//! They also count its touches, each read or write of a stored word, a start bit, the head of a list or a word of the
-//! bitmaps. A release makes at most 64, an allocate at most 64 and one for each payload word of the block that it gives, a
-//! resize at most 64 and one for each payload word of the block that it leaves, however many blocks the region has. The count has no bytes at run time.
+//! They also count its touches. A touch is a read or write of a stored word, a start bit, the head of a list or a word of the
+//! bitmaps. A release makes at most 64, however many blocks the region has. An allocate makes at most 64 and one for each payload
+//! word of the block that it gives. A resize makes at most 64 and one for each payload word of the block that it leaves. The count
+//! has no bytes at run time.
 //!
 //! A caller to whom each word stands for memory elsewhere says by [`Heap::allocate_words`] and [`Heap::resize_words`] how many a block has. These
 //! make no word zero but the payload's, so that no request takes longer for more words.

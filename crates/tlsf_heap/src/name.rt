@@ -1,5 +1,4 @@
-/// The name of a block: it is live where the heap of that number has a live block that begins at that place and
-/// has that serial.
+/// The name of a block. It is live where the heap of that number has a live block that begins at that place and has that serial.
 #[derive(Clone, Copy, Debug, PartialEq, Eq, Hash)]
 pub struct Name {
     /// The number of the heap.

@@ -57,8 +57,8 @@ fn forget<const SLI: u32>(region: &mut Region<SLI>, at: u32, size: u32)
     }
 }
 
-/// Makes the live block at a place and the free block behind it, of these tags, a live block of `words` words and a free rest, or a
-/// live block of them all where the rest would have fewer than four words. The payload stays.
+/// Makes the live block at a place and the free block after it one live block of `words` words and a free rest. The tags are those
+/// of these blocks. Where the rest would have fewer than four words, it makes a live block of them all. The payload stays.
 fn recut<const SLI: u32>(
     region: &mut Region<SLI>,
     at: u32,
@@ -90,8 +90,8 @@ fn recut<const SLI: u32>(
     }
 }
 
-/// Gives the live block at a place, which has this tag and the free block of tag `next` behind it, `len` bytes of payload, for which
-/// `words` words are wanted. A block that has those and fewer than four more keeps its size.
+/// Gives the live block at a place, of this tag, `len` bytes of payload, for which `words` words are wanted. The free block of tag
+/// `next` follows it. A block that has those and fewer than four more keeps its size.
 pub fn refit<const SLI: u32>(
     region: &mut Region<SLI>,
     at: u32,

@@ -36,9 +36,9 @@ use std::marker::Model;
 use tlsf_class::Class;
 use tlsf_words::{FreeLists, NoMemory, Tag, Words};
 
-/// The words of a region, seen as the blocks that they show, one behind the other, and the lists of free blocks, one for each
-/// class, that their links thread. A block is known by its place. Sizes and places are in words. Nothing but `open` allocates.
-/// Its touches are those of the words and of the lists together.
+/// The words of a region, seen as the blocks that they show, one after the other. Their links thread the lists of free blocks, one
+/// for each class. A block is known by its place. Sizes and places are in words. Nothing but `open` allocates. Its touches are
+/// those of the words and of the lists together.
 #[derive(Drop)]
 pub struct Region<const SLI: u32> {
     words: Words,
@@ -59,7 +59,7 @@ impl<const SLI: u32> Model for Region<SLI> {
 }
 
 impl<const SLI: u32> Region<SLI> {
-    /// A region of so many words, from 4 to as many as one of the level may have, that is one free block.
+    /// A region of `words` words, from 4 to as many as one of the level may have, that is one free block.
     pub fn open(alloc: Global, words: u32, stamp: u64) -> Result<Region<SLI>, NoMemory>
         requires level { IsLevel SLI }
         requires least { 4 ≤ words }
@@ -102,8 +102,9 @@ impl<const SLI: u32> Region<SLI> {
         self.words.mark(at)
     }
 
-    /// The tag of the live block that begins at a place, of all numbers, and has this serial; `None` where there is none. No word is
-    /// read unless a block begins there, and no start bit unless the place lies in the region: a place from outside is not followed.
+    /// The tag of the live block that begins at a place, which may be any number, and has this serial; `None` where there is none.
+    /// No word is read unless a block begins there, and no start bit unless the place lies in the region. So a place from outside
+    /// is not followed.
     pub fn find_live(&mut self, at: u32, serial: u64) -> Option<Tag>
         ensures answer { IsNameTest at serial self.old.words self.old.blocks result }
         ensures reads { OnlyReads self.old self.new 3 }
@@ -123,8 +124,8 @@ impl<const SLI: u32> Region<SLI> {
         Some(tag)
     }
 
-    /// The tag of the live block that begins at a place, of all numbers; `None` where there is none. No word is read unless a block
-    /// begins there, and no start bit unless the place lies in the region: a place from outside is not followed.
+    /// The tag of the live block that begins at a place, which may be any number; `None` where there is none. No word is read unless a block
+    /// begins there, and no start bit unless the place lies in the region. So a place from outside is not followed.
     pub fn live_at(&mut self, at: u32) -> Option<Tag>
         ensures answer { IsPlaceTest at self.old.words self.old.blocks result }
         ensures reads { OnlyReads self.old self.new 2 }
@@ -143,8 +144,8 @@ impl<const SLI: u32> Region<SLI> {
         Some(tag)
     }
 
-    /// The tag of the free block that begins at a place, of all numbers; `None` where there is none. No word is read unless a block
-    /// begins there, and no start bit unless the place lies in the region: a place from outside is not followed.
+    /// The tag of the free block that begins at a place, which may be any number; `None` where there is none. No word is read unless a block
+    /// begins there, and no start bit unless the place lies in the region. So a place from outside is not followed.
     pub fn free_at(&mut self, at: u32) -> Option<Tag>
         ensures answer { IsFreeTest at self.old.words self.old.blocks result }
         ensures reads { OnlyReads self.old self.new 2 }
@@ -163,7 +164,7 @@ impl<const SLI: u32> Region<SLI> {
         Some(tag)
     }
 
-    /// Whether a block begins at a place, of all numbers. No start bit is read unless the place lies in the region.
+    /// Whether a block begins at a place, which may be any number. No start bit is read unless the place lies in the region.
     fn begins(&mut self, at: u32) -> bool
         ensures yes { result ≡ true → IsPlace self.old.blocks at }
         ensures no { result ≡ false → ¬ (IsPlace self.old.blocks at) }
@@ -178,7 +179,7 @@ impl<const SLI: u32> Region<SLI> {
         at < self.words.len() && self.words.starts(at)
     }
 
-    /// The block that begins at a place, of all numbers. No word is read unless a block begins there, and no start bit unless the
+    /// The block that begins at a place, which may be any number. No word is read unless a block begins there, and no start bit unless the
     /// place lies in the region.
     pub fn block_at(&mut self, at: u32) -> Option<PlacedBlock>
         ensures answer { result ≡ placed_at self.old.blocks at }
@@ -259,8 +260,8 @@ impl<const SLI: u32> Region<SLI> {
         self.words.copy_in(at, offset, bytes);
     }
 
-    /// Hands the words that hold the payload of the live block at a place, of `len` bytes, to `f`, which may change them, and answers
-    /// what it answers.
+    /// Hands the words that hold the payload of the live block at a place, of `len` bytes, to `f`, which may change them. Answers
+    /// what `f` answers.
     pub fn alter<R, F: FnOnce(&mut [u64]) -> R>(&mut self, at: u32, len: u32, f: F) -> R
         requires live { (i : ℕ) × StandsAt self.old.blocks at i × (len ≡ length (bytes_of (block_at self.old.blocks i))) }
         requires calls { FnOnceTakesAtMut F.FnOnce f (payload_at self.old.stored at len) }
@@ -326,8 +327,9 @@ impl<const SLI: u32> Region<SLI> {
         self.words.set_length(at, len);
     }
 
-    /// Makes the live block at a place and the free block behind it, of these tags, a live block of `size` words and a free rest; a
-    /// live block of them all where the rest would have fewer than four words. The payload stays. Answers the size of the rest, or 0.
+    /// Makes the live block at a place and the free block after it one live block of `size` words and a free rest. The tags are
+    /// those of these blocks. Where the rest would have fewer than four words, it makes a live block of them all. The payload
+    /// stays. Answers the size of the rest, or 0.
     pub fn recut(&mut self, at: u32, own: Tag, next: Tag, size: u32, stamp: u64) -> u32
         requires least { 4 ≤ size }
         requires live { HasAt self.old.blocks at (λ s. (is_free s.block ≡ false) × (words_for (length (bytes_of s.block)) ≤ size)) }
@@ -352,8 +354,9 @@ impl<const SLI: u32> Region<SLI> {
         both - size
     }
 
-    /// Makes the free block at a place, of this tag, which is in no list, a live one of all its words with `len` bytes of payload, and
-    /// answers how many words it has. Its payload begins with a zero word, and is else as it stood: `zero` comes last.
+    /// Makes the free block at a place a live one of all its words with `len` bytes of payload. The free block has this tag and is
+    /// in no list. Answers how many words it has. Its payload begins with a zero word, and otherwise stays as it stood: `zero`
+    /// comes last.
     pub fn grant(&mut self, at: u32, own: Tag, serial: u64, len: u32) -> u32
         requires own { HasAt self.old.blocks at (λ s. IsTagOf self.old.words s own) }
         requires free { own.free ≡ true }
@@ -371,8 +374,9 @@ impl<const SLI: u32> Region<SLI> {
         live.size()
     }
 
-    /// Makes the free block at a place, of this tag, which is in no list, a live one of `size` words with `len` bytes of payload, and a free
-    /// rest of its tag. The payload begins with a zero word, and is else as it stood: `zero` comes last.
+    /// Makes the free block at a place a live one of `size` words with `len` bytes of payload. The free block has this tag and is
+    /// in no list. The rest stays a free block of its tag. The payload begins with a zero word, and otherwise stays as it stood:
+    /// `zero` comes last.
     pub fn split(&mut self, at: u32, own: Tag, rest: Tag, size: u32, serial: u64, len: u32)
         requires own { HasAt self.old.blocks at (λ s. IsTagOf self.old.words s own) }
         requires free { own.free ≡ true }
@@ -389,7 +393,7 @@ impl<const SLI: u32> Region<SLI> {
         split_header(&mut self.words, at, own, rest, size, serial, len);
     }
 
-    /// Makes the payload of the live block at a place zero, whose first word is: `n` words behind that one.
+    /// Makes the payload of the live block at a place zero after its first word, which is: the `n` words after that one.
     pub fn zero(&mut self, at: u32, n: u32)
         requires { HasAt self.old.blocks at (λ s. AwaitsZeros s.block n) }
         ensures change { EachAt self.old.blocks at (λ s. Rewrites self.old self.new
@@ -412,8 +416,9 @@ impl<const SLI: u32> Region<SLI> {
         free_header(&mut self.words, at, own.as_free(), stamp);
     }
 
-    /// Makes the block at a place, the free one of `before` words before it and the one of `after` words behind it, none of which is in
-    /// a list, one free block of this tag. Where there is none, that is 0. `previous` and `next` say whether there is one.
+    /// Makes the block at a place one free block of this tag. It takes in the free one of `before` words before it and the one of
+    /// `after` words after it. None of them is in a list. Where there is none, that is 0. `previous` and `next` say whether there
+    /// is one.
     #[inline(always)]
     pub fn merge(
         &mut self,

@@ -1,4 +1,4 @@
-/// What a heap holds, and how well it serves. Words are of 64 bits.
+/// A report on a heap: its blocks, and how well it serves. Words are of 64 bits.
 ///
 /// Where nothing is free, `largest`, `grant`, `fragmentation` and `age` are 0.
 #[derive(Clone, Copy, Debug, PartialEq, Eq)]

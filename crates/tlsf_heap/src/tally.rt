@@ -142,7 +142,7 @@ impl Tally {
     }
 }
 
-/// The greatest length in bytes that is served where the greatest free block has so many words, or 0.
+/// The greatest length in bytes that is served where the greatest free block has `largest` words, or 0.
 fn grant<const SLI: u32>(largest: u32) -> u32
     requires level { IsLevel SLI }
     requires region { 0 < largest → IsRegion SLI largest }

@@ -17,7 +17,7 @@ pub how_many : (heaps : ℕ) (lens : List ℕ) → length (lens_in heaps lens) �
 how_many zero lens = refl
 how_many (suc h) lens = ap suc (how_many h lens)
 
--- the first part has just so many places
+-- the first part has just this many places
 abbrev HasJust : ℕ → ℕ → List ℕ → Type 0
 HasJust heaps n [] = ⊥
 HasJust heaps n (m ∷ lens) = (m ≡ n) × (length lens ≤ heaps)

@@ -88,7 +88,7 @@ module _ (row : ℕ → ℕ) (rises : (a b : ℕ) → a ≤ b → row a ≤ row 
         rw (a, b) (omega (arith, counted at to most lens is between.1))
   ]
 
-  -- and those above its longest are of the rows behind
+  -- and those above its longest are of the rows after
   above_row : (at to most : ℕ) (lens : List ℕ) → AreBetween at to lens → AllByRecursion (λ len. row len ≡ at → len ≤ most) lens → AreBetween (at + 1) to (filter (λ n. nat_lt most n) lens)
   above_row at to most [] between short = tt
   above_row at to most (len ∷ lens) between short = elim (cases_lt most len) [
@@ -106,7 +106,7 @@ module _ (row : ℕ → ℕ) (rises : (a b : ℕ) → a ≤ b → row a ≤ row 
         | inr ne ↦ omega (arith, ne, between.0.0)
       ]
 
-  -- where none is of the first row, all are of those behind
+  -- where none is of the first row, all are of those after
   behind_row : (at to : ℕ) (lens : List ℕ) → AreBetween at to lens → AllByRecursion (λ len. row len ≢ at) lens → AreBetween (at + 1) to lens
   behind_row at to [] between none = tt
   behind_row at to (len ∷ lens) between none = let ne = none.0 in ((omega (arith, ne, between.0.0), between.0.1), behind_row at to lens between.1 none.1)

@@ -1,4 +1,4 @@
--- What is tallied is the least bounds of the calls that the entries tell.
+-- The tallies are the least bounds of the calls that the entries tell.
 use Rattle.tlsf_held.proofs.Common.{◌≡◌, ◌==◌, ℕ, ◌+◌, ◌<◌, ◌≤◌, true, false, true≢false, List, [], ◌∷◌, length, All, fold, max, Option, Some, None, Result, Ok, Err, option_map, inl, inr, refl, sym, ap, ◌∙◌, subst, arith, is_ok, is_some, cons_option, cases_eq, nat_tests, All-head, All-tail, Name, Refusal, AreModest, IsModest, Allocate, Release, Write, Read, Resize, Take, Drain, Heap, Entry, Event, Reply, Made, Freed, Resized, Took, Refused, answer_told, answers_on, call_on_own, calls_on, entries_of, meant, name_on_heap, World, replies, AreLeastBounds, no_calls, noted, tally_of, with_release}
 use Rattle.tlsf_heap.specs.Calls as heap
 use Rattle.tlsf_pool.specs.laws.Held.{held_after}

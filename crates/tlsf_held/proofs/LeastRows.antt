@@ -280,7 +280,7 @@ module _ (row : ℕ → ℕ) (at : ℕ) where
       let rest = calls_kept bound new behind calls answers (omega (arith, one.whole, inside)) one.left old in
       ((within_trans _ _ _ one.asked rest.1, rest.0), within_trans _ _ _ one.rises rest.1)
 
-  -- from no row, of which nothing is held
+  -- from no row, and nothing of it is held
   pub least_row : (count : ℕ) (calls : List Call) (answers : List Answer) → at < count
       → IsLeastRow row at calls answers (get_or (rows_after_all row (replicate count no_row) [] calls answers) at no_row)
   least_row count calls answers inside bound =

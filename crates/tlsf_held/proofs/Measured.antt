@@ -1,4 +1,4 @@
--- What is told of a run's entries is what the trace asks for.
+-- The tales of a run's entries are the requests of the trace.
 use Rattle.tlsf_held.proofs.Common.{◌≡◌, ℕ, ◌+◌, ◌<◌, ◌++◌, List, [], Option, length, vec_len, ap, ap₂, sym, ◌∙◌, subst, arith, length-map-range_with_len, Name, Entry, Replayed, events_of, Trace, level_of, Header, IsLevel, level_in, run_at, run_of, yard_of, held_text, kinds_text, account_of, Measures, TellsKinds, TellsMerged, AddsMerged, table_of, tally_of}
 use Rattle.tlsf_heap.specs.Calls as heap
 use Rattle.tlsf_lines.specs.ScriptSoFar.{IsScript}
@@ -21,7 +21,7 @@ pub is_level : (version : Version) → IsLevel (level_of version)
 is_level One = level_4
 is_level Two = level_5
 
--- what a player tells and has made behind its last line is the trace's run
+-- what a player tells and has made after its last line is the trace's run
 pub run_told : {sli : ℕ} (trace : Trace) (script : Script) (player : Player sli) (entries : List Entry) (line : ℕ) → level_in trace.header ≡ sli → IsScript script trace
     → vec_len script.ends + 1 < line → PlaysOn 0 line trace player entries → IsRunOf trace player.made.items entries
 run_told {sli} trace script player entries line level_is is past plays =

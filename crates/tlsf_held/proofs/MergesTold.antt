@@ -1,4 +1,5 @@
--- A table that is merged by the steps of its worker is the one that the calls on the heap keep to, merged for the fewest words.
+-- A table that is merged by the steps of its worker is the one that the calls on the heap keep to. It is merged for the fewest
+-- words.
 use Rattle.tlsf_held.proofs.Common.{◌≡◌, ℕ, suc, ◌+◌, ◌<◌, List, [], ◌∷◌, length, get_or, Option, refl, sym, ap, ap₂, ◌∙◌, subst, arith, IsLevel, Call, Answer, Name, Entry, Event, answers_on, calls_on, entries_of, World, replies, part_row, part_words, rows_by, words_by, Divide, IsCheapest, IsLeastRow, heaps_of, rows_words, span_of, starts_at, AreMerged, IsLeastMerge, IsMergedTable, IsSpanRow, no_rows, table_of, no_row, row_between, steps_told, Row, Step}
 use Rattle.tlsf_crew.proofs.lemmas.histories.AllEntries.{replies_tell}
 use Rattle.tlsf_held.proofs.LeastRows.{least_row, same_within}
@@ -12,7 +13,7 @@ how_many : (steps : List Step) (table : List Row) (at : ℕ) (lens : List ℕ) �
 how_many steps table at [] = refl
 how_many steps table at (n ∷ lens) = ap suc (how_many steps table (at + n) lens)
 
--- and as many words
+-- and equally many words
 words_same : (sli : ℕ) (steps : List Step) (table : List Row) (at : ℕ) (lens : List ℕ)
     → rows_words sli (rows_by steps table at lens) ≡ words_by (part_words sli steps table) at lens
 words_same sli steps table at [] = refl

@@ -1,4 +1,4 @@
--- What the entries of a run account for is the most words that the calls want at once.
+-- The entries of a run account for the most words that the calls want at once.
 use Rattle.tlsf_held.proofs.Common.{◌≡◌, ◌==◌, ℕ, ◌+◌, ◌<◌, ◌≤◌, Bool, true, false, true≢false, cond, List, [], ◌∷◌, length, All, fold, max, Option, Some, None, Result, Ok, Err, inl, inr, refl, sym, ap, ◌∙◌, subst, arith, filter, is_ok, is_some, not, option_map, cons_option, cases_eq, nat_tests, All-head, All-tail, want, Name, Refusal, is_same, Ledger, ledger_after, Allocate, Release, Write, Read, Resize, Take, Drain, Heap, Entry, Event, Reply, Made, Freed, Resized, Took, Refused, answer_told, answers_on, call_on_own, calls_on, entries_of, meant, name_on_heap, World, name_of, replies, accounted, account_of, no_loans, wanted_in, wanted_with, with_resized, with_taken, Account, IsMostWanted, WantAtMost}
 use Rattle.tlsf_heap.specs.Calls as heap
 use Rattle.tlsf_calls.specs.Bytes.{bytes_of}

@@ -1,4 +1,4 @@
--- What the entries of a run tell of rows, by the calls on the heap and its answers.
+-- The rows that the entries of a run tell, by the calls on the heap and its answers.
 use Rattle.tlsf_held.proofs.Common.{◌≡◌, ◌==◌, ℕ, ◌<◌, true, false, true≢false, List, [], ◌∷◌, All, fold, Option, Some, None, Ok, Err, inl, inr, refl, sym, ap, ◌∙◌, arith, is_some, option_map, cons_option, cases_eq, nat_tests, All-head, All-tail, Name, Refusal, Ledger, ledger_after, lengths, Allocate, Release, Write, Read, Resize, Take, Drain, Heap, Entry, Reply, Made, Resized, Refused, answer_told, answers_on, call_on_own, calls_on, entries_of, name_of, accounted, Account, row_accounted, rows_asked, rows_left, with_lengths, RowAccount, Row}
 use Rattle.tlsf_heap.specs.Calls as heap
 use Rattle.tlsf_calls.specs.declared.call.Call.{Call}
@@ -13,7 +13,7 @@ abbrev pub rows_behind : (ℕ → ℕ) → List Row → ℕ → heap.Answer → 
 rows_behind row rows len (heap.Resized (Ok done)) ledger = with_lengths row rows len (lengths ledger)
 rows_behind row rows len answer ledger = rows
 
--- a call more, by what is held before it and behind it
+-- a call more, by what is held before it and after it
 abbrev pub rows_after : (ℕ → ℕ) → List Row → heap.Call → heap.Answer → (before behind : Ledger) → List Row
 rows_after row rows (heap.Allocate len) answer before behind = with_lengths row rows len (len ∷ lengths before)
 rows_after row rows (heap.Release name) answer before behind = rows

@@ -1,4 +1,4 @@
--- What steps tell of a span of lengths is the row that the calls come to.
+-- The row that steps tell of a span of lengths is the one that the calls come to.
 use Rattle.tlsf_held.proofs.Common.{◌≡◌, ◌≢◌, ◌==◌, ℕ, ◌+◌, ◌-◌, ◌<◌, ◌≤◌, Bool, true, false, cond, List, [], ◌∷◌, ◌++◌, fold, length, get_or, max, Option, Some, None, inl, inr, refl, sym, ap, ap₂, ◌∙◌, subst, arith, filter, not, cases_eq, Name, is_same, Ledger, lengths, with_length, Allocate, Release, Resize, Take, Entry, Reply, Made, Resized, name_of, accounted, freed_by, with_resized, with_taken, Account, is_between, span_of, no_rows, row_accounted, with_lengths, RowAccount, no_row, row_in, with_one, IsWithin, entry_steps, freed_steps, moved_steps, no_span, no_steps, resized_steps, span_after, span_step, stepped, stepped_all, taken_steps, with_freed, with_held, StepAccount, Row, Step}
 use Rattle.tlsf_calls.specs.declared.call.Call.{Call}
 use Rattle.tlsf_held.specs.declared.spans.Span.{Span}
@@ -128,7 +128,7 @@ module _ (from to : ℕ) where
     is : Is span (count (lengths told.account.ledger)) (get_or told.rows 1 no_row).most (get_or told.rows 1 no_row).longest
     within : IsWithin (in_span (lengths told.account.ledger)) (get_or told.rows 1 no_row)
 
-  -- a row that may have risen to these lengths, of which one is the newest
+  -- a row that may have risen to these lengths; one of them is the newest
   record Rises (rows : List Row) (len : ℕ) (lens : List ℕ) (most longest : ℕ) : Type 0 where
     inside : 1 < length (with_lengths (span_of from to) rows len lens)
     most_is : (get_or (with_lengths (span_of from to) rows len lens) 1 no_row).most ≡ most

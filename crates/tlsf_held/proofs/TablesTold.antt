@@ -1,4 +1,4 @@
--- What the entries of a run tell of rows is the table that the calls on the heap keep to.
+-- The rows that the entries of a run tell are the table that the calls on the heap keep to.
 use Rattle.tlsf_held.proofs.Common.{◌≡◌, ◌⊎◌, ℕ, zero, suc, ◌+◌, ◌<◌, ◌≤◌, Bool, true, false, cond, nat_le, List, [], length, get_or, map, replicate, Option, inl, inr, refl, sym, ap, ap₂, ◌∙◌, subst, arith, nat_lt, range_with_len, leb-true, cases_eq, nat_tests, get_or-map-range_with_len, length-map-range_with_len, IsLevel, Call, Answer, Name, Entry, Event, answers_on, calls_on, World, replies, AreRows, IsLeastRow, IsOfRow, IsTable, first_few, no_rows, rows_told, table_of, used_rows, no_row, row_count, row_of, used, IsWithin, Row}
 use Rattle.std.proofs.lemmas.List.{ext_get_or, length-replicate}
 use Rattle.std.proofs.lemmas.List.Sums.{length-filter, count_by-le-length}

@@ -13,7 +13,7 @@ abbrev pub Divide : (count at : ℕ) → List ℕ → Type 0
 Divide count at [] = at ≡ count
 Divide count at (n ∷ lens) = (0 < n) × (at + n ≤ count) × Divide count (at + n) lens
 
--- the words of these parts, of which each has some by its two ends
+-- the words of these parts, each of which has some by its two ends
 abbrev pub words_by : (ℕ → ℕ → ℕ) → (at : ℕ) → List ℕ → ℕ
 words_by cost at [] = 0
 words_by cost at (n ∷ lens) = cost at (at + n) + words_by cost (at + n) lens
@@ -24,7 +24,7 @@ words_by cost at (n ∷ lens) = cost at (at + n) + words_by cost (at + n) lens
 abbrev pub cost_in : List (List ℕ) → ℕ → ℕ → ℕ
 cost_in costs at end = get_or (get_or costs at []) (end - 1) 0
 
--- the lengths that a split has, the last of so many first
+-- the lengths that a split has, the last of this many first
 abbrev pub lens_in : ℕ → List ℕ → List ℕ
 lens_in zero lens = []
 lens_in (suc heaps) lens = get_or lens heaps 0 ∷ lens_in heaps lens
@@ -36,7 +36,7 @@ lens_of split = lens_in split.heaps split.lens
 abbrev pub cheaper : Split → Split → Split
 cheaper split other = if nat_lt other.words split.words then other else split
 
--- a split with a first part more, of such a length, and of so many words
+-- a split with a first part more, of such a length, and of this many words
 abbrev pub with_first : Split → ℕ → ℕ → Split
 with_first rest len words = record { heaps = rest.heaps + 1; lens = set rest.lens rest.heaps len; words = rest.words + words }
 
@@ -49,14 +49,14 @@ pub record IsBestAmong (cost : ℕ → ℕ → ℕ) (count heaps at : ℕ) (IsSo
   pub room : length split.lens ≡ 8
   pub small : split.words ≤ 2 ^ 32 * split.heaps
 
--- of those into at most so many parts
+-- of those into at most this many parts
 abbrev pub HasAtMost : ℕ → List ℕ → Type 0
 HasAtMost heaps lens = length lens ≤ heaps
 
 abbrev pub IsBest : (ℕ → ℕ → ℕ) → (count heaps at : ℕ) → Split → Type 0
 IsBest cost count heaps at = IsBestAmong cost count heaps at (HasAtMost heaps)
 
--- at most so many parts, or one more behind a first one that ends at most here
+-- at most this many parts, or one more after a first one that ends at most here
 abbrev pub HasFirst : (heaps at last : ℕ) → List ℕ → Type 0
 HasFirst heaps at last [] = ⊤
 HasFirst heaps at last (n ∷ lens) = (length lens + 1 ≤ heaps) ⊎ ((at + n ≤ last) × (length lens ≤ heaps))

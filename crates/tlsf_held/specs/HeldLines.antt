@@ -3,7 +3,7 @@ use Rattle.std.specs.Prelude.{ℕ, zero, suc, List, [], ◌++◌, ◌==◌, Opti
 use Rattle.std.specs.Fmt.{decimal}
 use Rattle.tlsf_pool.specs.laws.MixedSizes.{mixed_region}
 
--- so many words, or that no region has so many
+-- this many words, or that no region has that many
 abbrev pub words_text : Option ℕ → List ℕ
 words_text (Some words) = decimal words
 words_text None = codes "none"
@@ -19,7 +19,7 @@ held_line sli worker most len words wanted =
     ++ codes " words " ++ words_text (held_region sli most len) ++ codes " region " ++ decimal words
     ++ codes " wanted " ++ decimal wanted ++ codes "\n"
 
--- the lines of the workers below a number, whose heaps have so many words each
+-- the lines of the workers below a number, whose heaps have this many words each
 abbrev pub held_text : ℕ → ℕ → (most len wanted : ℕ → ℕ) → ℕ → List ℕ
 held_text sli words most len wanted zero = []
 held_text sli words most len wanted (suc j) = held_text sli words most len wanted j ++ held_line sli j (most j) (len j) words (wanted j)

@@ -15,15 +15,15 @@ lengths_with ledger (Write name at bytes) = lengths ledger
 lengths_with ledger (Resize name len) = lengths ledger
 lengths_with ledger (Read name at n) = lengths ledger
 
--- of one row these calls, which get these answers, hold no more blocks at once, and none longer: with each block that is asked for, and
--- in the end
+-- of one row these calls, which get these answers, hold no more blocks at once, and none longer. So it is with each block that is
+-- asked for, and in the end
 abbrev pub KeepWithin : (ℕ → ℕ) → ℕ → Row → Ledger → List Call → List Answer → Type 0
 KeepWithin row at bound ledger [] answers = IsWithin (row_in row at (lengths ledger)) bound
 KeepWithin row at bound ledger (call ∷ calls) [] = IsWithin (row_in row at (lengths ledger)) bound
 KeepWithin row at bound ledger (call ∷ calls) (answer ∷ answers) =
     IsWithin (row_in row at (lengths_with ledger call)) bound × KeepWithin row at bound (ledger_after ledger call answer) calls answers
 
--- so many blocks and bytes, and no fewer
+-- this many blocks and bytes, and no fewer
 abbrev pub IsLeastRow : (ℕ → ℕ) → ℕ → List Call → List Answer → Row → Type 0
 IsLeastRow row at calls answers least = (bound : Row) → KeepWithin row at bound [] calls answers ↔ IsWithin least bound
 

@@ -32,11 +32,11 @@ lacks_room _ = false
 abbrev pub unserved : ℕ → List Entry → ℕ
 unserved j entries = count_by (λ e. (e.worker == j) && lacks_room e.reply) entries
 
--- the same trace with heaps of so many words
+-- the same trace with heaps of this many words
 abbrev pub with_words : ℕ → Trace → Trace
 with_words words trace = record trace { header = record trace.header { words = words } }
 
--- how many requests of worker j find no room in heaps of so many words
+-- how many requests of worker j find no room in heaps of this many words
 abbrev pub unserved_in : ℕ → Trace → ℕ → ℕ
 unserved_in words trace j = unserved j (run_of (with_words words trace)).entries
 
@@ -53,7 +53,7 @@ AreLeastWords trace j None = 0 < unserved_in (most_words_of trace.header.version
 abbrev pub with_least : Option ℕ → Trace → Trace
 with_least words trace = with_words (unwrap_or words (most_words_of trace.header.version)) trace
 
--- the least words for worker j; and what it asks of its heap there, the words of the law and those that its blocks want at once
+-- the least words for worker j. Also its needs of its heap there: the words of the law and those that its blocks want at once
 pub record IsLeastRow (trace : Trace) (j : ℕ) (row : LeastRow) : Type 0 where
   pub least : AreLeastWords trace j row.words
   pub most : ℕ
@@ -106,7 +106,8 @@ pub record IsReady (sli : ℕ) (script : Script) : Type 0 where
 abbrev pub IsScriptBut : Script → Trace → Type 0
 IsScriptBut script trace = IsScript script (with_words script.header.words trace)
 
--- what replays have told: so many words serve worker j, unless no heap has so many, and so few don't, unless no heap has so few
+-- the findings of replays: `served` words serve worker j, unless no heap has that many, and `refused` words don't, unless no heap
+-- has so few
 abbrev pub IsSpan : Trace → ℕ → (refused served : ℕ) → Type 0
 IsSpan trace j refused served = (served ≤ most_words_of trace.header.version → unserved_in served trace j ≡ 0)
     × (4 ≤ refused → 0 < unserved_in refused trace j)

@@ -1,4 +1,4 @@
--- What the clauses of public functions cite: the lines, and what they tell.
+-- Definitions that clauses of public functions cite: the lines, and their meaning.
 pub mod HeldLines
 pub mod KindLines
 pub mod KindTables
@@ -7,7 +7,7 @@ pub mod Loans
 pub mod Measures
 pub mod Merges
 pub mod Rows
--- What the clauses of private functions cite besides.
+-- Definitions that only clauses of private functions cite.
 pub mod Divisions
 pub mod Lent
 pub mod MergedLines

@@ -1,4 +1,4 @@
--- What a worker holds of its heap, and the most words that it wants at once.
+-- The blocks that a worker holds of its heap, and the most words that it wants at once.
 use Rattle.std.specs.Prelude.{◌↔◌, ℕ, ◌+◌, ◌≤◌, List, [], ◌∷◌, Option, Some, None, fold, max, filter, not, is_ok, if◌then◌else◌}
 use Rattle.tlsf_heap.specs.Blocks.{want}
 use Rattle.tlsf_heap.specs.Calls.{Call as HeapCall, Allocate as AllocateAt, Release as ReleaseAt, Write as WriteAt, Resize as ResizeAt, Read as ReadAt, Answer}
@@ -27,13 +27,13 @@ wanted_with ledger (WriteAt name at bytes) = wanted_in ledger
 wanted_with ledger (ResizeAt name len) = wanted_in ledger
 wanted_with ledger (ReadAt name at n) = wanted_in ledger
 
--- these calls, which get these answers, want at most so many words at once: with each block that is asked for, and in the end
+-- these calls, which get these answers, want at most this many words at once: with each block that is asked for, and in the end
 abbrev pub WantAtMost : ℕ → Ledger → List HeapCall → List Answer → Type 0
 WantAtMost words ledger [] answers = wanted_in ledger ≤ words
 WantAtMost words ledger (call ∷ calls) [] = wanted_in ledger ≤ words
 WantAtMost words ledger (call ∷ calls) (answer ∷ answers) = (wanted_with ledger call ≤ words) × WantAtMost words (ledger_after ledger call answer) calls answers
 
--- these calls want at most so many words at once, and no fewer
+-- these calls want at most this many words at once, and no fewer
 abbrev pub IsMostWanted : List HeapCall → List Answer → ℕ → Type 0
 IsMostWanted calls answers most = (words : ℕ) → WantAtMost words [] calls answers ↔ (most ≤ words)
 
@@ -47,7 +47,7 @@ pub record Account : Type 0 where
 abbrev pub no_loans : Account
 no_loans = record { ledger = []; most = 0 }
 
--- a block of so many bytes is asked for
+-- a block of this many bytes is asked for
 abbrev pub with_asked : Account → ℕ → Account
 with_asked account len = record account { most = max account.most (want len + wanted_in account.ledger) }
 

@@ -1,4 +1,4 @@
--- What a trace tells that its workers asked of their heaps.
+-- The needs of a trace's workers from their heaps.
 use Rattle.std.specs.Prelude.{◌≡◌, ◌↔◌, ℕ, ◌<◌, ◌≤◌, IsTrue, List, Option, Some, Result}
 use Rattle.std.specs.List.{AllByRecursion}
 use Rattle.tlsf_heap.specs.Calls.{Call, Answer}
@@ -18,8 +18,8 @@ use Rattle.tlsf_trace.specs.Output.{level_in, run_of}
 use Rattle.tlsf_trace.specs.Replay.{IsRun}
 use Rattle.tlsf_trace.specs.declared.summary.Summary.{Summary}
 
--- the least bounds of these calls, which got these answers: no fewer blocks held at once, the one that is asked for included, and no
--- fewer bytes
+-- the least bounds of these calls, which got these answers. No fewer blocks are held at once, the one that is asked for included,
+-- and no fewer bytes
 abbrev pub AreLeastBounds : List Call → List Answer → (most len : ℕ) → Type 0
 AreLeastBounds calls answers most len = (m n : ℕ) → AreModest m n 0 calls answers ↔ ((most ≤ m) × (len ≤ n))
 
@@ -33,7 +33,8 @@ abbrev pub IsMostWantedOf : Trace → ℕ → ℕ → Type 0
 IsMostWantedOf trace j wanted =
     let run = run_of trace in IsMostWanted (calls_on j run.made run.entries) (answers_on j run.entries) wanted
 
--- the text has a line for each worker, in rising number, with the least bounds of the calls on its heap, and the most words that they want at once
+-- the text has a line for each worker, in rising number. It has the least bounds of the calls on its heap, and the most words that
+-- they want at once
 pub record Measures (trace : Trace) (text : List ℕ) : Type 0 where
   pub most : ℕ → ℕ
   pub len : ℕ → ℕ
@@ -70,7 +71,7 @@ IsKindMeasurement = IsRun TellsKinds
 
 -- ---- tables merged for a few heaps
 
--- the table that the calls on heap j keep to, merged for so many heaps
+-- the table that the calls on heap j keep to, merged for this many heaps
 abbrev pub IsMergedTableOf : Trace → ℕ → ℕ → List Row → Type 0
 IsMergedTableOf trace heaps j rows =
     let run = run_of trace in IsMergedTable (level_in trace.header) heaps (calls_on j run.made run.entries) (answers_on j run.entries) rows

@@ -28,7 +28,7 @@ IsSpanRow calls answers from to = IsLeastRow (span_of from to) 1 calls answers
 abbrev pub starts_at : List Row → ℕ → ℕ
 starts_at table at = if at == 0 then 0 else (get_or table (at - 1) no_row).longest + 1
 
--- from a number on, so many rows of the table in turn are merged into each of these, and none is left over
+-- from a number on, this many rows of the table in turn are merged into each of these, and none is left over
 abbrev pub AreMerged : List Call → List Answer → List Row → (at : ℕ) → (lens : List ℕ) → List Row → Type 0
 AreMerged calls answers table at [] [] = at ≡ length table
 AreMerged calls answers table at [] (row ∷ rows) = ⊥
@@ -58,17 +58,17 @@ abbrev pub rows_words : ℕ → List Row → ℕ
 rows_words sli [] = 0
 rows_words sli (row ∷ rows) = row_words sli row + rows_words sli rows
 
--- of all ways of merging the rows of a table into at most so many, this one has the fewest words
+-- of all ways of merging the rows of a table into at most this many, this one has the fewest words
 pub record IsLeastMerge (sli heaps : ℕ) (calls : List Call) (answers : List Answer) (table rows : List Row) : Type 0 where
   pub merge : IsMerge calls answers table rows
   pub few : length rows ≤ heaps
   pub least : (others : List Row) → IsMerge calls answers table others → length others ≤ heaps → rows_words sli rows ≤ rows_words sli others
 
--- so many heaps are meant: none counts as one, and more than eight as eight
+-- this many heaps are meant: none counts as one, and more than eight as eight
 abbrev pub heaps_of : ℕ → ℕ
 heaps_of heaps = max (min heaps 8) 1
 
--- the table that these calls keep to, merged for so many heaps
+-- the table that these calls keep to, merged for this many heaps
 pub record IsMergedTable (sli heaps : ℕ) (calls : List Call) (answers : List Answer) (rows : List Row) : Type 0 where
   pub table : List Row
   pub is_table : IsTable sli calls answers table

@@ -1,4 +1,4 @@
--- What a reply tells of the heap.
+-- Replies, as they tell of the heap.
 use Rattle.std.specs.Prelude.{Bool, true, false, is_ok}
 use Rattle.tlsf_calls.specs.declared.crew_refusal.CrewRefusal.{CrewRefusal}
 use Rattle.tlsf_calls.specs.declared.crew_refusal.CrewRefusal.TheVariants.{Heap}

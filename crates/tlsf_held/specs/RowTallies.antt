@@ -1,4 +1,4 @@
--- What the entries of a worker tell of the rows of a table.
+-- The rows of a table, as the entries of a worker tell of them.
 use Rattle.std.specs.Prelude.{ℕ, zero, suc, ◌+◌, List, ◌∷◌, Option, fold, length, nat_le, replicate, if◌then◌else◌}
 use Rattle.tlsf_heap.specs.declared.name.Name.{Name}
 use Rattle.tlsf_pool.specs.laws.Kinds.{Ledger, lengths}
@@ -34,7 +34,7 @@ abbrev pub rows_resized : (ℕ → ℕ) → List Row → ℕ → Reply → Ledge
 rows_resized row rows len Resized ledger = with_lengths row rows len (lengths ledger)
 rows_resized row rows len reply ledger = rows
 
--- and by what is held behind it
+-- and by what is held after it
 abbrev pub rows_left : (ℕ → ℕ) → List Row → Call → Reply → Ledger → List Row
 rows_left row rows (Resize target len) reply ledger = rows_resized row rows len reply ledger
 rows_left row rows call reply ledger = rows
@@ -53,7 +53,7 @@ rows_told sli grain worker made entries =
 abbrev pub used_rows : (sli worker : ℕ) → List (Option Name) → List Entry → (grain : ℕ) → List Row
 used_rows sli worker made entries grain = used (rows_told sli grain worker made entries).rows
 
--- the first of so many lists, from one on, that has at most 64 rows, else the last
+-- the first of this many lists, from one on, that has at most 64 rows, otherwise the last
 abbrev pub first_few : (ℕ → List Row) → (at more : ℕ) → List Row
 first_few lists at zero = lists at
 first_few lists at (suc more) = if nat_le (length (lists at)) 64 then lists at else first_few lists (at + 1) more

@@ -1,4 +1,4 @@
--- What a replay of a trace leaves to be measured.
+-- The results of a replay of a trace that are measured.
 use Rattle.std.specs.Prelude.{◌≡◌, List, Option}
 use Rattle.tlsf_heap.specs.declared.name.Name.{Name}
 use Rattle.tlsf_calls.specs.declared.entry.Entry.{Entry}

@@ -1,4 +1,4 @@
--- What the entries of a worker tell of the lengths that it holds, step by step.
+-- The lengths that a worker holds, step by step, as its entries tell of them.
 use Rattle.std.specs.Prelude.{ℕ, ◌+◌, ◌-◌, List, [], ◌∷◌, ◌++◌, Option, Some, None, fold, max, if◌then◌else◌}
 use Rattle.tlsf_heap.specs.declared.name.Name.{Name}
 use Rattle.tlsf_pool.specs.laws.Contents.{is_same}
@@ -77,7 +77,7 @@ steps_told worker made entries = (stepped_all made no_steps (entries_of worker e
 abbrev pub no_span : Span
 no_span = record { held = 0; row = no_row }
 
--- a block more of so many bytes, a block fewer, and all of these at once
+-- a block more of this many bytes, a block fewer, and all of these at once
 abbrev pub with_held : Span → ℕ → Span
 with_held span len = record { held = span.held + 1; row = record { most = span.row.most; longest = max span.row.longest len } }
 

@@ -1,4 +1,4 @@
--- What the entries of a worker tell that its calls asked of its heap.
+-- The needs of a worker's calls from its heap, as its entries tell them.
 use Rattle.std.specs.Prelude.{ℕ, ◌+◌, ◌-◌, Bool, List, fold, max, if◌then◌else◌}
 use Rattle.tlsf_calls.specs.declared.call.Call.{Call}
 use Rattle.tlsf_calls.specs.declared.call.Call.TheVariants.{Allocate, Release, Resize, Take}
@@ -11,11 +11,11 @@ use Rattle.tlsf_held.specs.declared.tally.Tally.{Tally}
 abbrev pub no_calls : Tally
 no_calls = record { held = 0; most = 0; longest = 0 }
 
--- so many bytes are asked for
+-- this many bytes are asked for
 abbrev pub with_length : Tally → ℕ → Tally
 with_length tally len = record tally { longest = max tally.longest len }
 
--- a block of so many bytes is asked for, and given or not
+-- a block of this many bytes is asked for, and given or not
 abbrev pub with_request : Tally → ℕ → Bool → Tally
 with_request tally len given = record {
   held = if given then tally.held + 1 else tally.held;

@@ -29,7 +29,7 @@ fn cheaper(split: Split, other: Split) -> Split
     }
 }
 
-// A split with a first part more, of so many places and words.
+// A split with a first part more, of this many places and words.
 fn with_first(rest: Split, len: usize, words: u64) -> Split
     requires few { rest.heaps ≤ 7 }
     requires room { length rest.lens ≡ 8 }
@@ -44,8 +44,8 @@ fn with_first(rest: Split, len: usize, words: u64) -> Split
     split
 }
 
-// The best split of the places from one on into at most one part more than `heaps`, by the best ones from each later place into at
-// most `heaps`.
+// The best split of the places from one on into at most one part more than `heaps`. It comes of the best ones from each later place
+// into at most `heaps`.
 fn best_of(costs: &[Costs], row: &[Split], at: usize, heaps: usize) -> Split
     requires few { length costs.now ≤ 64 }
     requires heaps { heaps ≤ 7 }
@@ -91,7 +91,7 @@ fn begin(costs: &[Costs], row: &mut [Split])
     row[count] = NOTHING;
 }
 
-// The best split of all places into at most so many parts, found in a row of one cell more.
+// The best split of all places into at most this many parts, found in a row of one cell more.
 fn best_in(costs: &[Costs], row: &mut [Split], most: usize) -> Split
     requires few { length costs.now ≤ 64 }
     requires most { (1 ≤ most) × (most ≤ 8) }
@@ -106,8 +106,8 @@ fn best_in(costs: &[Costs], row: &mut [Split], most: usize) -> Split
     row[0]
 }
 
-/// The division of all places into at most so many parts that has the fewest words, 1 to 8 parts. Places are as many as there are rows
-/// of costs, at most [`MOST_PLACES`].
+/// The division of all places into at most `most` parts that has the fewest words, 1 to 8 parts. There is one place for each row of
+/// costs, at most [`MOST_PLACES`].
 pub fn cheapest(costs: &[Costs], most: usize) -> Split
     requires few { length costs.now ≤ 64 }
     requires most { (1 ≤ most) × (most ≤ 8) }

@@ -56,7 +56,7 @@ fn write_kinds_line<const SLI: u32>(text: &mut String, rows: &[Row]) -> Result<(
     text.push_str("\n")
 }
 
-/// Adds the line of each of so many workers, by the names that the events of a run made, and its entries.
+/// Adds the line of each of `workers` workers, by the names that the events of a run made, and its entries.
 pub fn write_kinds_lines<const SLI: u32>(
     alloc: Global,
     text: &mut String,
@@ -75,7 +75,7 @@ pub fn write_kinds_lines<const SLI: u32>(
     Ok(())
 }
 
-/// Adds those lines with each worker's table merged for so many heaps.
+/// Adds those lines with each worker's table merged for `heaps` heaps.
 pub fn write_merged_lines<const SLI: u32>(
     alloc: Global,
     text: &mut String,

@@ -17,7 +17,7 @@ use tlsf_heap::Refusal;
 use tlsf_lines::Script;
 use tlsf_trace::Player;
 
-// The line behind which each trace has ended.
+// The line after which each trace has ended.
 const END: u32 = u32::MAX;
 
 // Whether the heap had no room, for a block or for a longer one in its place.
@@ -42,7 +42,7 @@ fn unserved(worker: u32, entries: &[Entry]) -> usize
         .count()
 }
 
-// Replays a script with heaps of so many words.
+// Replays a script with heaps of this many words.
 fn replayed<const SLI: u32>(
     alloc: Global,
     script: &mut Script,
@@ -63,7 +63,7 @@ fn replayed<const SLI: u32>(
     Ok((player, entries))
 }
 
-// How many requests of a worker find no room in heaps of so many words, behind a pass of the gate.
+// How many requests of a worker find no room in heaps of this many words, after a pass of the gate.
 fn unserved_with<const SLI: u32, G: Gate>(
     alloc: Global,
     script: &mut Script,
@@ -84,8 +84,8 @@ fn unserved_with<const SLI: u32, G: Gate>(
     Ok(unserved(worker, &entries))
 }
 
-// The words of the next replay, where so few are refused and so many served: first these, then twice as many until some serve, and then the
-// middle.
+// The words of the next replay, where `refused` are refused and `served` served. They are first these, then twice the last ones
+// until some serve, and then the middle.
 fn next_words(first: u32, refused: u32, served: u32, most: u32) -> u32
     requires least { 3 ≤ refused }
     requires apart { refused + 1 < served }
@@ -101,7 +101,7 @@ fn next_words(first: u32, refused: u32, served: u32, most: u32) -> u32
     }
 }
 
-// The least words of heaps that serve all requests of a worker, found from so many on.
+// The least words of heaps that serve all requests of a worker, found from this number on.
 fn least_words<const SLI: u32, G: Gate>(
     alloc: Global,
     script: &mut Script,

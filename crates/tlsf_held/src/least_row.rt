@@ -6,6 +6,6 @@ pub struct LeastRow {
     pub words: Option<u32>,
     /// The most words that the held blocks wanted at once, the one that was asked for included.
     pub wanted: u128,
-    /// The words of a region in which such calls are never refused for want of room. None where no region has so many.
+    /// The words of a region in which such calls are never refused for want of room. None where no region has that many.
     pub law: Option<u32>,
 }

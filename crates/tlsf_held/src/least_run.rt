@@ -29,15 +29,15 @@ fn least_output<G: Gate>(alloc: Global, script: &mut Script, gate: &G) -> Result
 
 /// Reads a whole trace, and finds by replays how small its heaps may be.
 ///
-/// A worker's line has the least words that were found of heaps in which none of its requests lacks room: with one word less one does.
-/// Fewer words may serve besides, since a larger heap may refuse what a smaller one serves. For worker 0 a replay of the trace as it stands is
-/// the first, for each other one in heaps of the words that were found before; then the words double until they serve, and then those
-/// between are halved. Where the largest heaps of the level don't serve, the line
-/// has `none`. Behind these stand the most words that the held blocks wanted at once, and the words of a region in which such calls are
-/// never refused for want of room, both by a replay with the words that were found, or with the most. The trace is read to its end and
-/// checked before a line runs, and the whole text is made before a byte is written. The limits are those of [`replay`](tlsf_trace::replay).
-/// `gate` is passed before each replay of the search, with the worker's number and the words, where a [`Notice`](tlsf_trace::Notice)
-/// shows that a long search is alive.
+/// A worker's line has the least words that were found of heaps in which none of its requests lacks room. With one word less one
+/// does. Fewer words may serve besides, since a larger heap may refuse what a smaller one serves. For worker 0 a replay of the
+/// trace as it stands is the first. For each other one it is one in heaps of the words that were found before. Then the words
+/// double until they serve, and then those between are halved. Where the largest heaps of the level don't serve, the line has
+/// `none`. After these stand the most words that the held blocks wanted at once. Then come the words of a region in which such
+/// calls are never refused for want of room. Both come of a replay with the words that were found, or with the most. The trace is
+/// read to its end and checked before a line runs, and the whole text is made before a byte is written. The limits are those of
+/// [`replay`](tlsf_trace::replay). `gate` is passed before each replay of the search, with the worker's number and the words. There
+/// a [`Notice`](tlsf_trace::Notice) shows that a long search is alive.
 ///
 /// ```
 /// // reader gives "tlsf 1 1 64 1\na 0 1 100\na 0 2 8\nf 0 1\n"

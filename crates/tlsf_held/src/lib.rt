@@ -1,8 +1,9 @@
-//! What a recorded trace asks of its heaps, so that it leads to a heap that never lacks room.
+//! The demands of a recorded trace on its heaps, so that it leads to a heap that never lacks room.
 //!
-//! [`measure_trace`] reads a trace, runs it to its end as a replay does, and writes one line for each worker: the most blocks of its heap
-//! that were held at once, the longest request, and the words of the region in which such calls are never refused for want of
-//! room, beside the words that the trace gives each heap and the most words that the held blocks wanted at once. No reply line is written.
+//! [`measure_trace`] reads a trace, runs it to its end as a replay does, and writes one line for each worker. It has the most
+//! blocks of its heap that were held at once, and the longest request. It has the words of the region in which such calls are never
+//! refused for want of room. Beside these it has the words that the trace gives each heap and the most words that the held blocks
+//! wanted at once. No reply line is written.
 //!
 //! [`measure_kinds`] writes for each worker the table of the kinds of blocks that it held, as options of `tlsf size`.
 //!
@@ -10,11 +11,13 @@
 //!
 //! [`measure_least`] finds by replays for each worker the least words of heaps in which none of its requests lacks room.
 //!
-//! Held is what the law for a heap of a yard counts (`tlsf_yard_laws::yard_never_refuses`): the accepted allocates of the heap's own worker less the
-//! releases that its heap accepted, at once or in a drain. So a block that another worker has released is held until its owner drains.
+//! Blocks are held as the law for a heap of a yard counts them (`tlsf_yard_laws::yard_never_refuses`). They are the accepted
+//! allocates of the heap's own worker less the releases that its heap accepted, at once or in a drain. So a block that another
+//! worker has released is held until its owner drains.
 //!
-//! Contracts see the trace that a text spells and what its run was answered by the definitions of `tlsf_trace` and `tlsf_crew`;
-//! `Measures` of `specs/Measures.antt` joins them with the laws: the numbers of a line are the least bounds within which the worker's calls keep.
+//! Contracts see the trace that a text spells and the answers of its run by the definitions of `tlsf_trace` and `tlsf_crew`.
+//! `Measures` of `specs/Measures.antt` joins them with the laws: the numbers of a line are the least bounds within which the
+//! worker's calls keep.
 #![tactic(auto)]
 
 mod divisions;

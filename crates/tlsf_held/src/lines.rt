@@ -39,8 +39,8 @@ fn write_held_line<const SLI: u32>(
     writeln!(text, " region {words} wanted {wanted}")
 }
 
-/// Adds the line of each of so many workers, whose heaps have so many words each, by the names that the events of a run made, and its
-/// entries.
+/// Adds the line of each of `workers` workers, whose heaps have `words` words each. The lines come from the names that the events
+/// of a run made, and its entries.
 pub fn write_held_lines<const SLI: u32>(
     alloc: Global,
     text: &mut String,

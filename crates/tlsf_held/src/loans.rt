@@ -21,7 +21,7 @@ pub struct Loan {
     pub len: u32,
 }
 
-/// What a worker holds of its heap, told by the entries so far, and the most words that it wanted at once.
+/// The blocks that a worker holds of its heap, told by the entries so far, and the most words that it wanted at once.
 ///
 /// Contracts see the loans as a ledger, the newest first.
 #[derive(Drop)]
@@ -62,7 +62,7 @@ fn words_of(loans: &[Loan]) -> u128
     words
 }
 
-// What the loans come to in a row, where 2^grain classes make one.
+// The loans that are held, summed up by rows, where 2^grain classes make one.
 fn row_in<const SLI: u32>(loans: &[Loan], grain: u32, at: usize) -> Row
     requires level { IsLevel SLI }
     requires grain { grain ≤ 4 }
@@ -139,7 +139,7 @@ pub fn freed_by(made: &[Option<Name>], call: Call, reply: Reply) -> Option<Name>
     }
 }
 
-/// That of the block which it resized.
+/// The name of the block that it resized.
 pub fn resized_by(made: &[Option<Name>], target: Target, reply: Reply) -> Option<Name>
     ensures { result ≡ told.resized_by made.now target reply }
 {
@@ -165,7 +165,7 @@ impl Loans {
         }
     }
 
-    /// What the entries of a run tell of a worker's calls, where the events of the run made these names.
+    /// The tally of a worker's calls that the entries of a run tell, where the events of the run made these names.
     pub fn of(
         alloc: Global,
         worker: u32,
@@ -238,7 +238,7 @@ impl Loans {
         }
     }
 
-    /// What the held blocks come to in a row, where 2^grain classes make one.
+    /// The blocks that are held, summed up by rows, where 2^grain classes make one.
     pub fn row_in<const SLI: u32>(&self, grain: u32, at: usize) -> Row
         requires level { IsLevel SLI }
         requires grain { grain ≤ 4 }

@@ -14,7 +14,7 @@ use std::io::{Read, Write};
 use tlsf_lines::Script;
 use tlsf_trace::{Player, Plays, Puts, Summary, TraceFault, play};
 
-// The line behind which each trace has ended.
+// The line after which each trace has ended.
 const END: u32 = u32::MAX;
 
 // The lines on what the workers of a trace ask of their heaps.
@@ -78,7 +78,7 @@ impl<const SLI: u32> Plays<SLI> for KindMeasurement {
     }
 }
 
-// The lines on these kinds, merged for so many heaps.
+// The lines on these kinds, merged for this many heaps.
 #[derive(Drop)]
 struct MergedMeasurement {
     heaps: u32,
@@ -110,12 +110,12 @@ impl<const SLI: u32> Plays<SLI> for MergedMeasurement {
 
 /// Reads a whole trace, runs it on a new yard of workers, and writes for each worker what its calls asked of its heap.
 ///
-/// A worker's line has the most blocks of its heap that were held at once, the one that was asked for included; the most bytes of an
-/// allocate or a resize; the words of a region in which such calls are never refused for want of room, or `none` where no
-/// region has so many; the words that the trace gives each heap; and the most words that the held blocks wanted at once, the one
-/// that was asked for included. A block is held until its heap has taken it back: where another worker releases it, until its owner
-/// drains. The trace is read to its end and checked before a line runs, and the whole text is made before a byte is written. The
-/// limits are those of [`replay`](tlsf_trace::replay).
+/// A worker's line has the most blocks of its heap that were held at once, and the most bytes of an allocate or a resize. It has
+/// the words of a region in which such calls are never refused for want of room. It says `none` where no region has that many. Then
+/// come the words that the trace gives each heap, and the most words that the held blocks wanted at once. The block that was asked
+/// for counts as held. A block is held until its heap has taken it back: where another worker releases it, until its owner drains.
+/// The trace is read to its end and checked before a line runs, and the whole text is made before a byte is written. The limits are
+/// those of [`replay`](tlsf_trace::replay).
 ///
 /// ```
 /// // reader gives "tlsf 1 1 64 1\na 0 1 100\na 0 2 8\nf 0 1\n"
@@ -137,13 +137,14 @@ pub fn measure_trace<R: Read, W: Write>(
     play(alloc, &Measurement, reader, writer)
 }
 
-/// Reads a whole trace, runs it on a new yard of workers, and writes for each worker a table of the kinds of blocks that it holds, as
-/// options of `tlsf size`.
+/// Reads a whole trace and runs it on a new yard of workers. Writes for each worker a table of the kinds of blocks that it holds,
+/// as options of `tlsf size`.
 ///
-/// A worker's line has `--level` with the level of the heaps, and for each row of its table, in rising length, `--blocks` with the most
-/// blocks of the row that were held at once, the one that was asked for included, and `--bytes` with the most bytes of one, at least
-/// 1. The blocks of a size class make a row; where there would be more than 64 rows, those of 2, 4, 8 or 16 classes do. What is held
-/// is told as by [`measure_trace`], and what is read and refused as there.
+/// A worker's line has `--level` with the level of the heaps, and options for each row of its table, in rising length. `--blocks`
+/// has the most blocks of the row that were held at once, and `--bytes` the most bytes of one, at least 1. The block that was asked
+/// for counts as held.
+/// 1. The blocks of a size class make a row. Where there would be more than 64 rows, those of 2, 4, 8 or 16 classes do. Held
+///    blocks, reads and refusals are as at [`measure_trace`].
 ///
 /// ```
 /// // reader gives "tlsf 1 1 64 1\na 0 1 100\na 0 2 8\nf 0 1\n"
@@ -167,10 +168,10 @@ pub fn measure_kinds<R: Read, W: Write>(
 
 /// Writes such lines with at most `heaps` kinds each, 1 to 8: neighbouring rows of the table of [`measure_kinds`] are merged.
 ///
-/// A merged kind has the most of its blocks that were held at once, which may be far fewer than its rows have together, and the most
-/// bytes of one. The rows are merged so that pools of these kinds, each of a fixed size, have the fewest words in all of all ways of
-/// merging neighbours. A kind that no region serves counts as more words than 8 regions have. No heap counts as 1, and more than 8 count
-/// as 8. Takes a few milliseconds for each 1,000 lines of a trace whose blocks are of 64 kinds.
+/// A merged kind has the most of its blocks that were held at once, which may be far fewer than its rows have together. It has the
+/// most bytes of one. The rows are merged so that pools of these kinds, each of a fixed size, have the fewest words of all ways of
+/// merging neighbours. A kind that no region serves counts as more words than 8 regions have. No heap counts as 1, and more than 8
+/// count as 8. Takes a few milliseconds for each 1,000 lines of a trace whose blocks are of 64 kinds.
 ///
 /// ```
 /// // reader gives "tlsf 1 1 256 1\na 0 1 100\nf 0 1\na 0 2 120\na 0 3 8\n"

@@ -17,7 +17,7 @@ use tlsf_crew::Entry;
 use tlsf_heap::Name;
 use tlsf_pool::{Split, fixed_region};
 
-// What counts for a row that no region serves: more than eight regions ever have.
+// The count for a row that no region serves: more than eight regions ever have.
 const NO_REGION: u64 = 1 << 32;
 
 // The words of a pool for a row.
@@ -111,7 +111,7 @@ fn rows_of(
     Ok(rows)
 }
 
-// A table merged into at most so many rows, by the steps of its worker.
+// A table merged into at most this many rows, by the steps of its worker.
 fn merged<const SLI: u32>(
     alloc: Global,
     steps: &[Step],
@@ -127,9 +127,9 @@ fn merged<const SLI: u32>(
     rows_of(alloc, steps, table, cheapest(&costs, most))
 }
 
-/// The table that the entries of a run tell of a worker's calls, where the events of the run made these names, merged for so many heaps:
-/// of all ways of merging neighbouring rows into at most so many the one whose pools have the fewest words in all. None counts as one
-/// heap, and more than 8 as 8.
+/// The table that the entries of a run tell of a worker's calls, merged for `heaps` heaps. The events of the run made these names.
+/// Of all ways of merging neighbouring rows into at most that number, it is the one whose pools have the fewest words. None counts
+/// as one heap, and more than 8 as 8.
 pub fn merged_table_of<const SLI: u32>(
     alloc: Global,
     heaps: u32,

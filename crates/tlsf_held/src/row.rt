@@ -22,7 +22,7 @@ impl Row {
         }
     }
 
-    /// With one block more, of so many bytes.
+    /// With one block more, of `len` bytes.
     pub fn with_one(self, len: u32) -> Row
         requires { self.most + 1 < 2 ^ 64 }
         ensures { result ≡ with_one self len }

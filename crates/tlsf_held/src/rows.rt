@@ -76,7 +76,7 @@ fn note_asked<const SLI: u32>(rows: &mut [Row], grain: u32, call: Call, loans: &
     }
 }
 
-// Notes a block that was resized, by what is held behind that.
+// Notes a block that was resized, by what is held afterwards.
 fn note_left<const SLI: u32>(rows: &mut [Row], grain: u32, entry: &Entry, loans: &Loans)
     requires level { IsLevel SLI }
     requires grain { grain ≤ 4 }
@@ -110,7 +110,7 @@ fn note<const SLI: u32>(
     Ok(())
 }
 
-// What the entries of a run tell of a worker's rows, where the events of the run made these names.
+// The rows of a worker that the entries of a run tell, where the events of the run made these names.
 fn rows_told<const SLI: u32>(
     alloc: Global,
     grain: u32,
@@ -159,8 +159,8 @@ fn used_rows<const SLI: u32>(
     Ok(rows)
 }
 
-/// The table that the entries of a run tell of a worker's calls, where the events of the run made these names: of the finest rows of
-/// which there are at most 64, in rising length. At most 16 classes make a row, so there are never more.
+/// The table that the entries of a run tell of a worker's calls, where the events of the run made these names. It has the finest
+/// rows that are at most 64, in rising length. At most 16 classes make a row, so there are never more.
 #[tactic(auto, using(crate::proofs::FirstFew::first_step, crate::proofs::FirstFew::first_here, crate::proofs::FirstFew::first_last))]
 pub fn table_of<const SLI: u32>(
     alloc: Global,

@@ -1,4 +1,4 @@
-//! What steps tell of the blocks of some lengths.
+//! The blocks of some lengths, as steps tell of them.
 ghost use Rattle.std.specs.Prelude.{◌≡◌};
 ghost use Rattle.tlsf_held.specs.Merges as merges;
 ghost use Rattle.tlsf_held.specs.Steps as told;
@@ -37,7 +37,7 @@ impl Span {
         }
     }
 
-    // Notes a block of so many bytes.
+    // Notes a block of this many bytes.
     fn hold(&mut self, len: u32)
         requires { self.old.held + 1 < 2 ^ 64 }
         ensures { self.new ≡ with_held self.old len }

@@ -1,4 +1,4 @@
-//! What the entries of a run tell of the lengths that a worker holds, step by step.
+//! The lengths that a worker holds, step by step, as the entries of a run tell them.
 ghost use Rattle.std.specs.Prelude.{◌≡◌, ◌++◌, ◌∷◌, [], IfOk, OnOk};
 ghost use Rattle.tlsf_held.specs.Lent.{ledger_of};
 ghost use Rattle.tlsf_held.specs.Steps as told;
@@ -12,11 +12,11 @@ use tlsf_heap::Name;
 /// A step of what a worker holds.
 #[derive(Clone, Copy, Debug, PartialEq, Eq)]
 pub enum Step {
-    /// A block of so many bytes is held, or asked for.
+    /// A block of this many bytes is held, or asked for.
     Held(u32),
     /// It is held no more, or wasn't given.
     Freed(u32),
-    /// What is held now is held at once.
+    /// The blocks held now are held at once.
     Reached,
 }
 

@@ -5,7 +5,7 @@ ghost use Rattle.tlsf_held.specs.Replies as told;
 use tlsf_crew::{Call, CrewRefusal, Entry, Reply};
 use tlsf_pool::mixed_region;
 
-/// What the calls of one worker have asked of its heap so far.
+/// The requests of one worker's calls to its heap so far.
 #[derive(Clone, Copy, Debug, PartialEq, Eq)]
 pub struct Tally {
     /// The blocks that are held: accepted allocates less accepted releases.
@@ -74,7 +74,7 @@ impl Tally {
         }
     }
 
-    /// What the entries of a run tell of a worker's calls.
+    /// The tally that the entries of a run tell of a worker's calls.
     pub fn of(worker: u32, entries: &[Entry]) -> Tally
         ensures { result ≡ tally_of worker entries.now }
     {
@@ -87,7 +87,7 @@ impl Tally {
         tally
     }
 
-    // Notes a request for so many bytes.
+    // Notes a request for this many bytes.
     fn note_length(&mut self, len: u32)
         ensures { self.new ≡ with_length self.old len }
     {
@@ -135,8 +135,8 @@ impl Tally {
         }
     }
 
-    /// The words of a region in which such calls are never refused for want of room, 4 to 2^20, at level 5 to 2^24. None where no region has so
-    /// many. Calls that ask for no block are served by a region of 4 words, however long a resize among them is.
+    /// The words of a region in which such calls are never refused for want of room, 4 to 2^20, at level 5 to 2^24. None where no
+    /// region has that many. Calls that ask for no block are served by a region of 4 words, however long a resize among them is.
     #[tactic(auto, unfolding(crate::specs::HeldLines::held_region))]
     pub fn region<const SLI: u32>(&self) -> Option<u32>
         requires { IsLevel SLI }

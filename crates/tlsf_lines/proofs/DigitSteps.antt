@@ -113,7 +113,7 @@ module _ (range : ℕ × ℕ) where
       let told : digits_in range line ≡ Some value = some_by line (omega (arith, some, same)) (rw all_of at all) ∙ ap (λ v. Some v) (sym (rw all_of at is)) in
       first_said (λ f. digits_in range f) (fields_of line) [] line value (not_cut line free) told
 
-  -- a space stands behind them
+  -- a space stands after them
   pub up_to_space : (line : List ℕ) (n : ℕ) (value : Value) → all_ascii_digits (take n line) ≡ true → 0 < n → n < length line → get_or line n 0 ≡ 32 → value ≡ number_within range (take n line)
       → first_by (λ f. digits_in range f) (fields_of line) ≡ Some (value, fields_of (take (length line - (n + 1)) (drop (n + 1) line)))
   up_to_space line n value all some lt at is =

@@ -1,4 +1,4 @@
--- What the first fields of a line say, whatever the kinds of those behind them.
+-- The values of the first fields of a line, whatever the kinds of those after them.
 use Rattle.tlsf_lines.proofs.Common.{◌≡◌, ℕ, List, [], ◌∷◌, ◌++◌, Option, Some, None, option_map, refl, SayFirst, SayNothing, first_by, only_by, value_in, values_in, Kind, Value}
 use Rattle.tlsf_lines.proofs.CutSteps.{last, no_more, one_more}
 

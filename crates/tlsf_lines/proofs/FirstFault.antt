@@ -47,7 +47,7 @@ refused e = Err e
 same_fault : (d e : LineFault × ℕ) → refused d ≡ refused e → d ≡ e
 same_fault d e h = cc
 
--- behind a good header a fault is one of the lines
+-- after a good header a fault is one of the lines
 behind : (header : Header) (rest : Result (List Line) (LineFault × ℕ)) (e : LineFault × ℕ) → (rest >>= λ lines. Ok (record { header = header; lines = lines })) ≡ refused e
     → rest ≡ Err e
 behind header (Ok lines) e h = absurd cc

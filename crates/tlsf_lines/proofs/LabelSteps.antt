@@ -1,4 +1,4 @@
--- What labels remember, one line later.
+-- The memory of labels, one line later.
 use Rattle.tlsf_lines.proofs.Common.{◌≡◌, ℕ, ◌+◌, ◌≤◌, Bool, true, false, cond, eqb, List, [], ◌∷◌, Option, Some, None, IfSome, nat_eq, refl, ap, ◌∙◌, arith, ne_eqb, IsSet, kept_of, RecallsCall, width_in, Memory, Recalls, Remembers, event_by, when_made, Line, Allocate, Phase}
 use Rattle.tlsf_lines.specs.Labels.{Earlier, Made, Now, at_phase, made_of}
 use Rattle.tlsf_lines.specs.declared.maker.Maker.{Maker}

@@ -1,4 +1,4 @@
--- The last field of a line. What refuses a space may read all that is left: where another field stands behind, it refuses both.
+-- The last field of a line. A kind that refuses a space may read all that is left: where another field follows, it refuses both.
 use Rattle.tlsf_lines.proofs.Common.{◌≡◌, ℕ, true, false, Bool, ◌==◌, List, [], ◌∷◌, Option, None, option_map, Result, Ok, Err, refl, arith, is_ascii_digit, All, AllByRecursion, join_with_byte, all_ascii_digits, and_parts, eqb-true, false_from_ne_true, nat_tests, All-cons, All-nil, recursion_from_All, join_with_byte-slice_split, slice_split_none, fields_of, only_by, digits_in, Value, Bytes}
 use Rattle.hex.specs.Hex.{decode_of, is_hex_digit}
 use Rattle.hex.specs.declared.error.FromHexError.{FromHexError}

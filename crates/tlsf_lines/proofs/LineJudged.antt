@@ -1,4 +1,4 @@
--- A line is judged by its parts: its first field, and what stands behind it.
+-- A line is judged by its parts: its first field, and what stands after it.
 use Rattle.tlsf_lines.proofs.Common.{◌≡◌, ℕ, List, ◌∷◌, Option, Some, None, option_map, Result, Ok, Err, refl, ◌∙◌, ap, line_behind, fields_in, values_in, kinds_of, line_from, word_of, words, ◌>>=◌, judged_line, some_or, unless, Value, Line, LineFault, BadLine, BadNumber, LabelOrder}
 use Rattle.tlsf_lines.specs.Labels.{is_in_order}
 use Rattle.tlsf_lines.specs.declared.word.Word.{Word}

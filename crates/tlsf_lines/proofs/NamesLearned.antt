@@ -1,4 +1,4 @@
--- What labels stand for behind one line more.
+-- The blocks that labels stand for after one line more.
 use Rattle.tlsf_lines.proofs.Common.{◌≡◌, ◌∷◌, ◌++◌, [], ℕ, ◌+◌, ◌<◌, Bool, true, false, List, Option, None, Some, length, get_or, take, reverse, refl, ap, ◌∙◌, arith, cond, ◌==◌, reverse-append, length-reverse, length-take-le, take_more, Name, with_line, known_behind, call_that_makes, name_by, Line, Allocate}
 use mathlib.Core.Path.{fun_ext}
 

@@ -17,7 +17,7 @@ pub next_called : (entries : List Entry) (labels : List (Option ℕ)) (i : ℕ) 
 next_called entries labels i d lt called =
     (at_drop_more (λ es. reply_text es labels) entries i d lt ∙ rw called refl, at_drop_more (λ es. labels_left es labels) entries i d lt ∙ rw called refl)
 
--- an entry before those of two parts, and those behind it in two parts
+-- an entry before those of two parts, and those after it in two parts
 one_more : (x : Entry) (xs ys : List Entry) (labels : List (Option ℕ)) (taken : Bool)
     → reply_text (xs ++ ys) labels ≡ reply_text xs labels ++ reply_text ys (labels_left xs labels)
     → reply_text (xs ++ ys) (drop 1 labels) ≡ reply_text xs (drop 1 labels) ++ reply_text ys (labels_left xs (drop 1 labels))

@@ -52,7 +52,7 @@ module _ (workers : ℕ) (before lines : List Line) (line : Line) (old new : Scr
   count_more : length new.events ≡ width_in workers lines + width_of workers line
   count_more = rw (adds.events, length-append old.events (events_in workers before line), held.count, width_is workers before line) refl
 
-  -- what a script has behind one line more, where its end is noted
+  -- what a script has after one line more, where its end is noted
   pub holds_more : (noted : Script) → noted.events ≡ new.events → noted.labels.items ≡ new.labels.items → noted.calls ≡ new.calls
       → noted.ends.items ≡ new.ends.items ++ length new.events ∷ [] → noted.requests.items ≡ new.requests.items ++ request_in line ∷ []
       → Holds workers (line ∷ before) (lines ++ line ∷ []) noted

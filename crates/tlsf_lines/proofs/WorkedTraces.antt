@@ -1,4 +1,4 @@
--- Worked traces, judged by the definitions. What else is well or faulty is in tests/program/faults.toml.
+-- Worked traces, judged by the definitions. Other good and faulty traces are in tests/program/faults.toml.
 use Rattle.tlsf_lines.proofs.Common.{◌≡◌, ℕ, List, [], ◌∷◌, ◌++◌, Result, Some, None, Ok, Err, refl, codes, Header, events_of, labels_of, Allocate, Drain, Phase, Read, Release, Resize, Write, LineFault, BadLine, LabelOrder, line_from, header_from, header_in, Trace, trace_of, lines_in, judged_line}
 use Rattle.hex.proofs.OnLiterals.{hex_on_literals}
 use Rattle.tlsf_calls.specs.Bytes.{chunk_of}

@@ -1,4 +1,4 @@
--- What is made for one worker after another.
+-- The results for one worker after another.
 use Rattle.tlsf_lines.proofs.Common.{◌≡◌, ◌+◌, ◌<◌, ◌++◌, ◌∷◌, [], ℕ, List, length, get_or, map, sym, ap, ◌∙◌, arith, range_with_len, get_or-map, map-append, get_or-map-range_with_len, map-range_with_len_more}
 use Rattle.std.specs.declared.vec.Vec.{Vec}
 use Rattle.std.specs.declared.alloc.Global.{Global}

@@ -1,4 +1,4 @@
--- What is remembered of the labels that a worker's lines in a phase make. This serves the contracts of private functions alone.
+-- The labels that a worker's lines in a phase make, as they are remembered. This serves the contracts of private functions alone.
 use Rattle.std.specs.Prelude.{ℕ, ◌≡◌, List, Option, IfSome}
 use Rattle.tlsf_heap.specs.declared.name.Name.{Name}
 use Rattle.tlsf_lines.specs.ByLabel.{kept_of}
@@ -15,7 +15,7 @@ RecallsCall calls before label = kept_of calls label ≡ call_that_makes label b
 abbrev pub RecallsCallOf : List (Option ℕ) → List Line → Line → Type 0
 RecallsCallOf calls before line = IfSome (label_in line) (RecallsCall calls before)
 
--- what labels stand for behind one line more, whose call made this name
+-- the blocks that labels stand for after one line more, whose call made this name
 abbrev pub with_line : (ℕ → Option Name) → Line → Option Name → ℕ → Option Name
 with_line known (Allocate worker label len) name = with_name known label name
 with_line known line name = known

@@ -17,7 +17,7 @@ value_of (Some number) = Number number
 abbrev pub fields_of : List ℕ → List (List ℕ)
 fields_of line = slice_split (λ byte. byte == 32) line
 
--- the fields that are left: those behind a space, or none where there was none
+-- the fields that are left: those after a space, or none where there was none
 abbrev pub fields_left : Option (Bor (List ℕ)) → List (List ℕ)
 fields_left None = []
 fields_left (Some rest) = fields_of rest.now
@@ -25,7 +25,7 @@ fields_left (Some rest) = fields_of rest.now
 abbrev pub with_rest : Value → List (List ℕ) → Value × List (List ℕ)
 with_rest value fields = (value, fields)
 
--- what the first field says, and the fields behind it
+-- the value of the first field, and the fields after it
 abbrev pub first_by : (List ℕ → Option Value) → List (List ℕ) → Option (Value × List (List ℕ))
 first_by say [] = None
 first_by say (field ∷ fields) = option_map (λ value. with_rest value fields) (say field)
@@ -36,7 +36,7 @@ only_by say [] = None
 only_by say (field ∷ []) = say field
 only_by say (field ∷ next ∷ fields) = None
 
--- the first fields, of these kinds, say these values, and those that are left say what stands behind them
+-- the first fields, of these kinds, say these values, and those that are left say what follows them
 abbrev pub SayFirst : ℕ → List Kind → List (List ℕ) → List Value → List (List ℕ) → Type 0
 SayFirst workers kinds fields values left = (behind : List Kind) → values_in workers (kinds ++ behind) fields ≡ option_map (λ more. values ++ more) (values_in workers behind left)
 

@@ -34,7 +34,7 @@ abbrev pub width_in : ℕ → List Line → ℕ
 width_in workers [] = 0
 width_in workers (line ∷ lines) = width_of workers line + width_in workers lines
 
--- how many events there are up to each of some lines, where so many come before
+-- how many events there are up to each of some lines, where this many come before
 abbrev pub ends_from : ℕ → ℕ → List Line → List ℕ
 ends_from workers before [] = []
 ends_from workers before (line ∷ lines) = let end = before + width_of workers line in end ∷ ends_from workers end lines
@@ -43,7 +43,7 @@ ends_from workers before (line ∷ lines) = let end = before + width_of workers 
 abbrev pub ends_of : Trace → List ℕ
 ends_of trace = ends_from trace.header.workers 0 trace.lines
 
--- the number of the event that makes a label, by the lines before, the newest first: so many events come before it
+-- the number of the event that makes a label, by the lines before, the newest first: this many events come before it
 abbrev pub maker_of : ℕ → ℕ → List Line → Option ℕ
 maker_of workers label before = counted_at (width_in workers) label before
 
@@ -55,7 +55,7 @@ made_by (Some k) = Made k
 abbrev pub target_of : ℕ → ℕ → List Line → Target
 target_of workers label before = made_by (maker_of workers label before)
 
--- the event that makes the label that a line uses, behind the lines before; a line that uses none has no such event
+-- the event that makes the label that a line uses, after the lines before; a line that uses none has no such event
 abbrev pub maker_used : ℕ → List Line → Line → Option ℕ
 maker_used workers before (Release worker label) = maker_of workers label before
 maker_used workers before (Write worker label at bytes) = maker_of workers label before
@@ -103,7 +103,8 @@ labels_of trace = labels_from trace.header.workers trace.lines
 
 -- ---- up to a line
 
--- how many events there are up to a line of the text, whose header is line 1; behind the last line these are all, with the drains at the end
+-- how many events there are up to a line of the text, whose header is line 1. After the last line these are all, with the drains at
+-- the end
 abbrev pub events_by : ℕ → Trace → ℕ
 events_by line trace =
     if nat_lt (length trace.lines + 1) line then length (events_of trace) else width_in trace.header.workers (take (line - 1) trace.lines)

@@ -36,7 +36,7 @@ number_within range digits =
 abbrev pub digits_in : ℕ × ℕ → List ℕ → Option Value
 digits_in range field = if is_digits field then Some (number_within range field) else None
 
--- the least and the greatest number of a kind, where there are so many workers
+-- the least and the greatest number of a kind, where there are this many workers
 abbrev pub range_of : ℕ → Kind → ℕ × ℕ
 range_of workers Worker = (0, workers - 1)
 range_of workers Label = (0, 65535)

@@ -10,7 +10,7 @@ use Rattle.tlsf_lines.specs.declared.kept_event.KeptCall.TheVariants.{Allocate, 
 use Rattle.tlsf_lines.specs.declared.kept_event.KeptEvent.{KeptEvent}
 use Rattle.tlsf_lines.specs.Events.{made_by}
 
--- the call that is kept so, where the bytes of writes are these
+-- the call that is kept in this way, where the writes have these bytes
 abbrev pub call_kept : List Chunk → KeptCall → Call
 call_kept chunks (Allocate len) = call.Allocate len
 call_kept chunks (Release made) = call.Release (made_by made)
@@ -22,7 +22,7 @@ call_kept chunks (Drain most) = call.Drain most
 abbrev pub event_kept : List Chunk → KeptEvent → Event
 event_kept chunks kept = record { worker = kept.worker; call = call_kept chunks kept.call }
 
--- the bytes of a write are among so many
+-- the bytes of a write are among this many
 abbrev pub IsCallWithin : ℕ → KeptCall → Type 0
 IsCallWithin count (Write made at place) = place < count
 IsCallWithin count _ = Unit {0}

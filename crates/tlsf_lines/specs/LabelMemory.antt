@@ -1,4 +1,4 @@
--- What the parser remembers of labels.
+-- The parser's memory of labels.
 use Rattle.std.specs.Prelude.{ℕ, ◌≡◌, ◌≤◌, ◌==◌, if◌then◌else◌, List, Option, Some, None, IfSome}
 use Rattle.tlsf_lines.specs.declared.line.Line.{Line}
 use Rattle.tlsf_lines.specs.declared.maker.Maker.{Maker}

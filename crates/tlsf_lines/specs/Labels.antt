@@ -38,8 +38,8 @@ can_use worker Never = false
 can_use worker (Now maker) = maker == worker
 can_use worker Earlier = true
 
--- whether a line may follow the lines before: it makes a new label, or uses one that its worker made or that was made
--- in an earlier phase
+-- whether a line may follow the lines before. It makes a new label, or uses one that its worker made or that was made in an earlier
+-- phase
 abbrev pub is_in_order : List Line → Line → Bool
 is_in_order before (Allocate worker label length) = can_make (made_of label before)
 is_in_order before (Release worker label) = can_use worker (made_of label before)

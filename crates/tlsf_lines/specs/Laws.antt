@@ -1,4 +1,4 @@
--- What holds of every text, above the definitions.
+-- Laws of every text, above the definitions.
 use Rattle.std.specs.Prelude.{◌⊎◌, ℕ, ◌≡◌, ◌+◌, List, [], ◌∷◌, drop, take, Ok, Err, Some, None}
 use Rattle.tlsf_lines.specs.declared.line_fault.LineFault.{LineFault}
 use Rattle.tlsf_lines.specs.declared.line_fault.LineFault.TheVariants.{BadHeader}

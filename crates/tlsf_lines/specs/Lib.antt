@@ -1,4 +1,4 @@
--- What the clauses of public functions cite: a text, its lines, its trace, its events, and reply lines.
+-- Definitions that clauses of public functions cite: a text, its lines, its trace, its events, and reply lines.
 pub mod Payloads
 pub mod Values
 pub mod Fields
@@ -26,7 +26,7 @@ pub use Rattle.tlsf_calls.specs.Bytes
 pub use Rattle.tlsf_calls.specs.Entries
 pub use Rattle.tlsf_calls.specs.Numbers
 pub mod CutFields
--- What the clauses of private functions cite besides.
+-- Definitions that only clauses of private functions cite.
 pub mod LabelMemory
 pub mod CallMemory
 pub mod OpenLines

@@ -9,12 +9,11 @@ pub record IsWithinLimits (text : List ℕ) : Type 0 where
   pub bytes : length text ≤ 2 ^ 20
   pub lines : length (pieces_of text) ≤ 32768
 
--- an input that may be refused for its length: it has too many lines, or so many bytes that its end need not show
--- in 65,536 reads
+-- an input that may be refused for its length. It has too many lines, or so much text that its end need not show in 65,536 reads
 abbrev pub IsTooLong : List ℕ → Type 0
 IsTooLong text = (32768 < length (pieces_of text)) ⊎ (2 ^ 16 ≤ length text)
 
--- an input passes a limit: it has more bytes or lines than that, or bytes for as many reads
+-- an input passes a limit: it has more bytes or lines than that, or a byte for each of that number of reads
 abbrev pub Passes : Limit → List ℕ → Type 0
 Passes Bytes text = 2 ^ 20 < length text
 Passes Lines text = 32768 < length (pieces_of text)

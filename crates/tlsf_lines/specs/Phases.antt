@@ -1,4 +1,5 @@
--- A trace that is raced: its phases, the script of each worker in a phase, and what labels stand for from one phase to the next.
+-- A trace that is raced: its phases, and the script of each worker in a phase. Also the blocks that labels stand for from one phase
+-- to the next.
 use Rattle.std.specs.Prelude.{zero, suc, ℕ, ◌==◌, Bool, false, if◌then◌else◌, List, [], ◌∷◌, length, get_or, map, reverse, Option, Some, None}
 use Rattle.std.specs.List.{filter, filter_map, range_with_len}
 use Rattle.tlsf_heap.specs.declared.name.Name.{Name}
@@ -67,7 +68,7 @@ target_in known before label = target_by (call_that_makes label before) (known l
 abbrev pub none_known : ℕ → Option Name
 none_known label = None
 
--- the call that a worker's line stands for, behind the worker's lines before
+-- the call that a worker's line stands for, after the worker's lines before
 abbrev pub call_in : (ℕ → Option Name) → List Line → Line → Call
 call_in known before (Allocate worker label len) = call.Allocate len
 call_in known before (Release worker label) = call.Release (target_in known before label)
@@ -110,11 +111,11 @@ abbrev pub name_by : Option ℕ → List (Option Name) → Option Name → Optio
 name_by None names earlier = earlier
 name_by (Some k) names earlier = get_or names k None
 
--- what labels stand for behind the lines of a worker, whose calls made these names
+-- the blocks that labels stand for after the lines of a worker, whose calls made these names
 abbrev pub known_behind : (ℕ → Option Name) → List Line → List (Option Name) → ℕ → Option Name
 known_behind known lines names label = name_by (call_that_makes label (reverse lines)) names (known label)
 
--- the same behind the lines of the workers below a number
+-- the same after the lines of the workers below a number
 abbrev pub known_below : (ℕ → Option Name) → List Line → List (List Entry) → ℕ → ℕ → Option Name
 known_below known phase records zero = known
 known_below known phase records (suc w) = known_behind (known_below known phase records w) (own_lines w phase) (names_in (record_of records w))

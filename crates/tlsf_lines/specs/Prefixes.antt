@@ -1,4 +1,4 @@
--- What a writer that may stop early holds.
+-- The text that a writer holds which may stop early.
 use Rattle.std.specs.Prelude.{ℕ, List, Option, take}
 use Rattle.std.specs.Io.KnownBytes.{Appends}
 

@@ -1,4 +1,4 @@
--- What is in its range in the header of a trace that was read: for the functions that open its yard.
+-- The ranges of the header of a trace that was read: for the functions that open its yard.
 use Rattle.std.specs.Prelude.{◌≤◌}
 use Rattle.tlsf_lines.specs.declared.header.Header.{Header}
 use Rattle.tlsf_lines.specs.Versions.{most_words_of}

@@ -17,7 +17,7 @@ pub record ReadsSoFar : Type 0 where
 abbrev pub no_reads : ReadsSoFar
 no_reads = record { left = 65536; last = Open }
 
--- what a read shows that gave so many bytes
+-- the count that a read shows which gave this many bytes
 abbrev pub shown_by : ℕ → LastRead
 shown_by zero = Ended
 shown_by (suc n) = Open
@@ -35,7 +35,7 @@ IsNextRead (Err Read) old new = IsRead Failed old new
 IsNextRead (Err (TooLong limit)) old new = (limit ≡ Reads) × (old.left ≡ 0) × (new ≡ old)
 IsNextRead (Err NoMemory) old new = ⊥
 
--- what reads gave is over a limit: it has too many bytes or lines, or its end did not show in all reads that there are
+-- the text that reads gave is over a limit. It has too many bytes or lines, or its end did not show in all reads that there are
 abbrev pub IsOver : Limit → ReadsSoFar → List ℕ → Type 0
 IsOver Bytes reads given = 2 ^ 20 < length given
 IsOver Lines reads given = 32768 < length (pieces_of given)

@@ -67,7 +67,7 @@ reply_text (entry ∷ entries) labels =
     then reply_line entry None ++ reply_text entries labels
     else reply_line entry (slice_index_or labels 0 None) ++ reply_text entries (drop 1 labels)
 
--- the labels that entries leave to those behind them
+-- the labels that entries leave to those after them
 abbrev pub labels_left : List Entry → List (Option ℕ) → List (Option ℕ)
 labels_left [] labels = labels
 labels_left (entry ∷ entries) labels =

@@ -1,4 +1,4 @@
--- What a script holds while it is made, and at last. This serves the contracts of private functions alone.
+-- A script while it is made, and at last. This serves the contracts of private functions alone.
 use Rattle.std.specs.Prelude.{ℕ, ◌≡◌, ◌+◌, ◌++◌, List, [], if◌then◌else◌, count_by, length, map, Ok}
 use Rattle.tlsf_lines.specs.declared.line.Line.{Line}
 use Rattle.tlsf_lines.specs.declared.script.Script.{Script}

@@ -1,4 +1,4 @@
--- What a field may say: its kinds, and the values of each.
+-- The values of a field: its kinds, and the values of each.
 use Rattle.std.specs.Prelude.{ℕ}
 use Rattle.tlsf_calls.specs.declared.chunk.Chunk.{Chunk}
 

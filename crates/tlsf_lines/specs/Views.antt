@@ -23,14 +23,14 @@ abbrev pub line_found : Result (Line × Option ℕ) LineFault → Result Line Li
 line_found (Ok found) = Ok found.0
 line_found (Err fault) = Err fault
 
--- a text begins with this header, and this is what stands behind that line
+-- a text begins with this header, and this is the rest after that line
 pub record Heads (text : List ℕ) (header : Header) (rest : List ℕ) : Type 0 where
   pub trace : trace_of text ≡ (lines_in header.workers [] 2 (pieces_of rest) >>= λ lines. Ok (record { header = header; lines = lines }))
   pub range : IsHeaderInRange header
   pub count : length (pieces_of text) ≡ length (pieces_of rest) + 1
   pub shorter : length rest < length text
 
--- what stands behind a header is lines, and this was made of them
+-- the rest after a header is lines, and this was made of them
 pub record HasLines {M : Type 0} (has : M → Header → List Line → List Line → Type 0) (header : Header) (text : List ℕ) (made : M) : Type 0 where
   pub before : List Line
   pub lines : List Line

@@ -4,8 +4,7 @@ ghost use Rattle.tlsf_lines.specs.ByLabel.{IsSet, kept_of};
 use std::alloc::{AllocError, Global};
 use std::marker::Model;
 
-/// What is kept of labels, one thing of each. A contract sees a list that has it at the place of each label, as far as the
-/// list reaches.
+/// One thing for each label. A contract sees a list that has it at the place of each label, as far as the list reaches.
 #[derive(Drop)]
 pub struct ByLabel<T> {
     // A label is at most 65535, so a table that reaches as far as the greatest one that was set is small.
@@ -30,7 +29,7 @@ impl<T: Copy> ByLabel<T> {
         }
     }
 
-    /// What is kept of a label.
+    /// The thing that is kept of a label.
     pub fn get(&self, label: u32) -> Option<T>
         ensures { result ≡ kept_of self.now label }
     {

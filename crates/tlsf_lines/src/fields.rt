@@ -23,8 +23,8 @@ pub fn cut_feed(piece: &[u8]) -> Option<&[u8]>
     }
 }
 
-/// The first field, and what stands behind its space, if there is one. Most fields have a few bytes, where a plain loop is
-/// sooner done than a search.
+/// The first field, and the rest after its space, if there is one. Most fields have a few bytes, where a plain loop is sooner done
+/// than a search.
 ///
 /// ```
 /// // of "a 0 1" they are "a" and "0 1", of "phase" they are "phase" and none
@@ -41,8 +41,8 @@ pub fn cut_field(line: &[u8]) -> (&[u8], Option<&[u8]>)
     (line, None)
 }
 
-/// The number from `least` to `most` that the first field spells, and the fields behind it; `None` where there is no
-/// field, or it isn't all digits. A number that has a leading zero or is out of its range is `None` inside.
+/// The number from `least` to `most` that the first field spells, and the fields after it. `None` where there is no field, or it
+/// isn't all digits. A number that has a leading zero or is out of its range is `None` inside.
 pub fn next_number(
     fields: Option<&[u8]>,
     least: u32,
@@ -58,7 +58,7 @@ pub fn next_number(
 pub fn last_number(fields: Option<&[u8]>, least: u32, most: u32) -> Option<Option<u32>>
     ensures { option_map value_of result ≡ only_by (λ f. spelled.digits_in (least, most) f) (fields_left fields.entry) }
 {
-    // Another field would stand behind a space, which is no digit, so nothing looks for one.
+    // Another field would stand after a space, which is no digit, so nothing looks for one.
     digits_in(fields?, least, most)
 }
 

@@ -16,7 +16,7 @@ const LEAST_WORDS: u32 = 4;
 /// The most posts that a lane may hold.
 const MOST_CAPACITY: u32 = 1024;
 
-/// What the first line of a trace says.
+/// The first line of a trace.
 ///
 /// ```
 /// // "tlsf 1 2 64 4\n" is Header { version: Version::One, workers: 2, words: 64, capacity: 4 }

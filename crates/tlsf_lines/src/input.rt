@@ -16,7 +16,7 @@ use std::io::Read;
 /// How many bytes an input may have.
 pub const MOST_BYTES: usize = 1_048_576;
 
-/// How many lines an input may have. What stands behind the last line feed counts as a line.
+/// How many lines an input may have. The bytes after the last line feed count as a line.
 pub const MOST_LINES: usize = 32_768;
 
 /// How many bytes a sum of 8 bits counts at a time: the most that are whole vectors of sixteen.
@@ -75,8 +75,8 @@ fn count_open_lines(bytes: &[u8]) -> usize
 ///
 /// # Errors
 ///
-/// [`ReadError::TooLong`] with the limit, exactly where what was read has more than 2^20 bytes or 32,768 lines, or where 65,536
-/// reads all gave bytes; [`ReadError::Read`] only where a read answered an error; and [`ReadError::NoMemory`].
+/// [`ReadError::TooLong`] with the limit, exactly where the text that was read has more than 2^20 bytes or 32,768 lines, or 65,536
+/// reads all gave bytes. Next comes [`ReadError::Read`], only where a read answered an error. The last is [`ReadError::NoMemory`].
 pub fn read_counted<R: Read>(
     alloc: Global,
     reader: &mut R,

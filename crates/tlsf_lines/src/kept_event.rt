@@ -8,7 +8,7 @@ use crate::line::Line;
 use std::alloc::AllocError;
 use tlsf_calls::{Call, Chunk, Event, Target};
 
-/// An event of a trace as it is kept, in 24 bytes where an [`Event`] has 120: the bytes of all writes stand in one list.
+/// An event of a trace as it is kept, in 24 bytes where an [`Event`] has 120. The bytes of all writes stand in one list.
 #[derive(Clone, Copy)]
 pub struct KeptEvent {
     pub worker: u32,
@@ -59,7 +59,8 @@ fn keep_bytes(chunks: &mut Vec<Chunk>, bytes: Chunk) -> Result<u32, AllocError>
     Ok(place)
 }
 
-/// What is kept of the event of a line, where the bytes of the writes so far are these, and this event made the label that the line uses.
+/// The event of a line as it is kept. `chunks` has the bytes of the writes so far, and event `made` made the label that the line
+/// uses.
 #[inline(always)]
 pub fn keep(
     chunks: &mut Vec<Chunk>,
@@ -112,7 +113,8 @@ fn add_event(events: &mut Vec<Event>, worker: u32, call: Call) -> Result<(), All
     Ok(())
 }
 
-/// Adds the event that is kept so, where the bytes of writes are these. Each case adds its own, so that no event is copied twice.
+/// Adds the event that is kept in this way. `chunks` has the bytes of the writes. Each case adds its own, so that no event is
+/// copied twice.
 #[inline(always)]
 pub fn add_kept(
     events: &mut Vec<Event>,

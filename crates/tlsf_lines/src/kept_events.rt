@@ -38,7 +38,7 @@ impl Model for KeptEvents {
 }
 
 impl KeptEvents {
-    /// No event, with room for so many.
+    /// No event, with room for `room` of them.
     pub(crate) fn with_capacity(alloc: Global, room: usize) -> Result<KeptEvents, AllocError>
         ensures { IfOk result (λ events. events ≡ []) }
     {

@@ -40,7 +40,8 @@ impl Labels {
         }
     }
 
-    // The event that made a label of an earlier line, where the worker may use it: it made the label, or anybody did in an earlier phase.
+    // The event that made a label of an earlier line, where the worker may use it. It may if it made the label, or anybody did in
+    // an earlier phase.
     fn judge_use(&self, label: u32, worker: u32) -> Option<Option<u32>>
         ensures order { (before : List ALine) → Remembers self.now before
             → is_some result ≡ can_use worker (made_of label before) }
@@ -66,9 +67,8 @@ impl Labels {
         }
     }
 
-    /// The event that made the label that a line uses, `Some(None)` for a line that uses none; `None` where the line may not
-    /// stand here: it makes a label that a line before it made, or uses one that no line made, or another worker in this
-    /// phase.
+    /// The event that made the label that a line uses, `Some(None)` for a line that uses none. `None` where the line may not stand
+    /// here: it makes a label that a line before it made. Or it uses one that no line made, or another worker in this phase.
     pub fn judge(&self, line: &Line) -> Option<Option<u32>>
         ensures order { (before : List ALine) → Remembers self.now before
             → is_some result ≡ is_in_order before line.now }
@@ -113,7 +113,7 @@ impl Labels {
         self.phase += 1;
     }
 
-    /// Takes a line as one of those before, where so many events are before it.
+    /// Takes a line as one of those before, where this many events are before it.
     pub fn remember(&mut self, line: &Line, events: u32) -> Result<(), AllocError>
         requires { self.old.phase + 1 < 2 ^ 32 }
         ensures ok { OnOk result ((before : List ALine) → Remembers self.old before

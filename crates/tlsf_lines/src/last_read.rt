@@ -1,4 +1,4 @@
-/// What the last read of an input showed.
+/// The result of the last read of an input.
 #[derive(Clone, Copy, Debug, PartialEq, Eq)]
 pub enum LastRead {
     /// It gave bytes, or there was none yet: more may come.

@@ -6,8 +6,8 @@ ghost use Rattle.tlsf_lines.specs.declared.line_fault.LineFault.{LineFault};
 /// The fault that a text is refused with is its first: the header and the lines before it are
 /// good, and that line alone fails.
 ///
-/// Fault 13 in line 4 says, for one: the header is good, lines 2 and 3 are good behind it, and line 4 behind those has a
-/// bad number.
+/// Fault 13 in line 4 says, for one, that the header is good, and so are lines 2 and 3 after it. The next one, line 4, has a bad
+/// number.
 pub fn first_fault()
     ensures { (text : List ℕ) (fault : LineFault) (line : ℕ) → IsFirstFault text fault line }
 {}

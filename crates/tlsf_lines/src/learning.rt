@@ -1,4 +1,4 @@
-//! What labels stand for behind a phase, by what the records show.
+//! The blocks that labels stand for after a phase, by what the records show.
 ghost use Rattle.std.specs.Prelude.{◌≡◌, IfOk, OnOk};
 ghost use Rattle.tlsf_calls.specs.Entries.{made_by as made};
 ghost use Rattle.tlsf_lines.specs.CallMemory.{with_line};
@@ -25,7 +25,7 @@ fn name_made(entry: &Entry) -> Option<Option<Name>>
     }
 }
 
-/// The names that the calls of a record made, call by call. What a drain took is no call of the script.
+/// The names that the calls of a record made, call by call. The takes of a drain are no calls of the script.
 pub fn names_in(alloc: Global, entries: &[Entry]) -> Result<Vec<Option<Name>>, AllocError>
     ensures { IfOk result (λ names. names.items ≡ spelled.names_in entries.now) }
 {

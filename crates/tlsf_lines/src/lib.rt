@@ -12,12 +12,13 @@
 //! | `d w n` | worker w drains at most n posts |
 //! | `phase` | a phase ends |
 //!
-//! [`read_all`] reads a text, and [`read_counted`] shows besides how its reads went. [`script_in`] turns it into the events of a replay, [`trace_in`] into the lines of a race, each
-//! with the first fault of a text that spells no trace. [`write_replies`] writes what the events were answered, and
-//! [`write_out`] hands a text on. No worker stands here: who runs the events is `tlsf_trace`.
+//! [`read_all`] reads a text, and [`read_counted`] shows besides how its reads went. [`script_in`] turns it into the events of a
+//! replay, and [`trace_in`] into the lines of a race. Each answers the first fault of a text that spells no trace.
+//! [`write_replies`] writes what the events were answered, and [`write_out`] hands a text on. No worker stands here: who runs the
+//! events is `tlsf_trace`.
 //!
-//! Who tells more of a faulty line reads it by the same steps: [`cut_piece`] and [`cut_feed`] cut a line off a text, [`cut_field`]
-//! its fields, and [`header_in`], [`word_of`], [`digits_in`] and [`chunk_in`] say what a line or a field spells.
+//! Who tells more of a faulty line reads it by the same steps. [`cut_piece`] and [`cut_feed`] cut a line off a text, and
+//! [`cut_field`] its fields. [`header_in`], [`word_of`], [`digits_in`] and [`chunk_in`] say what a line or a field spells.
 //!
 //! Contracts see the trace that a text spells, or its first fault, as `trace_of`, its events as `events_of`, and reply lines
 //! as `reply_text`.

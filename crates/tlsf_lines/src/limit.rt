@@ -3,7 +3,7 @@
 pub enum Limit {
     /// 1,048,576 bytes.
     Bytes,
-    /// 32,768 lines. What stands behind the last line feed counts as a line.
+    /// 32,768 lines. The bytes after the last line feed count as a line.
     Lines,
     /// 65,536 reads, the one that shows the end among them.
     Reads,

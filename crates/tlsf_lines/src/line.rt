@@ -13,8 +13,8 @@ use crate::request::Request;
 use crate::word::word_of;
 use tlsf_calls::Chunk;
 
-/// A line of a trace behind its header: one call that a worker makes, or the end of a phase. A worker is less than the
-/// header's number of workers, a label at most 65535, and `len` and `at` are bytes of a payload, at most 4294967295.
+/// A line of a trace after its header: one call that a worker makes, or the end of a phase. A worker is less than the header's
+/// number of workers, and a label at most 65535. Fields `len` and `at` are bytes of a payload, at most 4294967295.
 ///
 /// ```
 /// // "a 0 1 8\n" is Line::Allocate { worker: 0, label: 1, len: 8 }
@@ -52,7 +52,7 @@ pub enum Line {
         label: u32,
         len: u32,
     },
-    /// `d w n`: the worker drains at most so many posts, 1 to 8192.
+    /// `d w n`: the worker drains at most `n` posts, 1 to 8192.
     Drain {
         worker: u32,
         most: u32,

@@ -1,6 +1,6 @@
 ghost use Rattle.std.specs.Prelude.{◌≡◌};
 
-/// What is wrong with a line of a trace.
+/// A fault of a line of a trace.
 #[derive(Clone, Copy)]
 pub enum LineFault {
     /// The first line is no header.

@@ -35,7 +35,8 @@ impl Names {
         }
     }
 
-    /// What a label stands for: what a call of this script makes, or the name that it has from an earlier phase.
+    /// The block that a label stands for. It is the one that a call of this script makes, or the name that it has from an earlier
+    /// phase.
     pub(crate) fn target(&self, label: u32) -> Target
         ensures { result ≡ target_by (kept_of self.now.calls label) (known_in self.now label) }
     {

@@ -41,8 +41,8 @@ fn judge(digits: &[u8], number: u64, least: u32, most: u32) -> Option<u32>
     Some(number as u32)
 }
 
-/// The number from `least` to `most` that a field of digits spells, or `None` inside where it has a leading zero or is out
-/// of that range; `None` where the field is empty or has another byte than a digit.
+/// The number from `least` to `most` that a field of digits spells. It is `None` inside where it has a leading zero or is out of
+/// that range. `None` where the field is empty or has another byte than a digit.
 ///
 /// ```
 /// // from 0 to 64, "8" is Some(Some(8)), "08" and "65" are Some(None), and "8x" is None
@@ -61,7 +61,7 @@ pub fn digits_in(field: &[u8], least: u32, most: u32) -> Option<Option<u32>>
     Some(judge(field, number, least, most))
 }
 
-/// The same of the first field, which a space ends, and what stands behind that space, if there is one.
+/// The same of the first field, which a space ends, and the rest after that space, if there is one.
 ///
 /// ```
 /// // from 0 to 64, of "8 x" it is Some((Some(8), Some("x"))), of "8" Some((Some(8), None)), and of "8x" None

@@ -9,7 +9,7 @@ use std::alloc::{AllocError, AllocFailed};
 pub enum ParseError {
     /// There was no memory for the trace.
     NoMemory,
-    /// What is wrong with the first faulty line, and that line's number, counted from 1.
+    /// The fault of the first faulty line, and that line's number, counted from 1.
     At(LineFault, u32),
 }
 

@@ -16,7 +16,7 @@ use crate::parse_error::ParseError;
 use crate::pieces::cut_piece;
 use std::alloc::{AllocError, Global};
 
-/// What is made of a trace, one line after another: its list of lines, or its events.
+/// The form that a trace becomes, one line after another: its list of lines, or its events.
 pub trait FromLines {
     ghost use Rattle.std.specs.Prelude.{◌≡◌, ◌+◌, ◌<◌, ◌^◌, ◌∷◌, ◌++◌, List, [], length, IfOk, OnOk};
     ghost use Rattle.tlsf_lines.specs.Events.{maker_used};
@@ -30,7 +30,7 @@ pub trait FromLines {
     // It was made of this trace, to its end.
     ghost is_of: { Self → spelled.Trace → Type 0 };
 
-    /// Of the header alone, with room for so many lines.
+    /// Of the header alone, with room for `room` lines.
     fn begin(alloc: Global, header: Header, room: usize) -> Result<Self, AllocError>
         ensures { IfOk result (λ made. has made header [] []) };
 
@@ -57,7 +57,7 @@ fn room_for_lines(text: &[u8]) -> usize
     (text.len() / LEAST_LINE).min(MOST_LINES)
 }
 
-// The header that a text begins with, and the text behind its line.
+// The header that a text begins with, and the text after its line.
 #[tactic(auto, unfolding(crate::specs::Trace::trace_of))]
 fn cut_header(text: &[u8]) -> Result<(Header, &[u8]), ParseError>
     ensures ok { IfOk result (λ cut. Heads text.now cut.0 cut.1.now) }
@@ -73,7 +73,7 @@ fn cut_header(text: &[u8]) -> Result<(Header, &[u8]), ParseError>
     }
 }
 
-// Adds the lines behind a header, or answers the first that is none.
+// Adds the lines after a header, or answers the first that is none.
 fn add_lines<M: FromLines>(
     alloc: Global,
     header: Header,
@@ -106,7 +106,7 @@ fn add_lines<M: FromLines>(
     Ok(())
 }
 
-/// What is made of the trace that a text spells, or the text's first fault with the number of its line.
+/// The form that a text becomes which spells a trace, or the text's first fault with the number of its line.
 pub fn parse<M: FromLines + Drop>(alloc: Global, text: &[u8]) -> Result<M, ParseError>
     requires { length text.now ≤ 2 ^ 20 }
     ensures ok { IfOk result (λ made. (trace : spelled.Trace) × Spells text.now trace × M.is_of made trace) }

@@ -12,7 +12,7 @@ use crate::names::Names;
 use std::alloc::{AllocError, Global};
 use tlsf_calls::Call;
 
-/// The lines of the first phase, and those behind the `phase` line that ends it, where there is one.
+/// The lines of the first phase, and those after the `phase` line that ends it, where there is one.
 ///
 /// ```
 /// // lines has "a 0 1 8", "phase", "f 0 1"
@@ -117,7 +117,7 @@ pub fn labels_of(alloc: Global, lines: &[Line]) -> Result<Vec<Option<u32>>, Allo
     lines.iter().map(|line| line.label()).collect(alloc)
 }
 
-/// What each worker does in a phase.
+/// The calls of each worker in a phase.
 ///
 /// ```
 /// let (phase, _) = cut_phase(&trace.lines);
@@ -133,7 +133,8 @@ pub struct PhaseScripts {
 }
 
 impl PhaseScripts {
-    /// The scripts of so many workers in a phase of at most 32,768 lines, where earlier phases gave labels these names. They stay as they are.
+    /// The scripts of `workers` workers in a phase of at most 32,768 lines, where earlier phases gave labels these names. They stay
+    /// as they are.
     ///
     /// # Errors
     ///

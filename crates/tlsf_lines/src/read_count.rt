@@ -59,7 +59,7 @@ impl ReadCount {
         self.left
     }
 
-    /// What the last read showed.
+    /// The result of the last read.
     ///
     /// ```
     /// let is_whole = count.last() == LastRead::Ended;

@@ -1,5 +1,5 @@
-//! What the fields of a line say, word by word. Each function reads its fields from left to right, once. It answers
-//! `None` where a field has not its shape, is missing or is left over, and `None` inside where a number is bad.
+//! The fields of a line, word by word. Each function reads its fields from left to right, once. It answers `None` where a field has
+//! not its shape, is missing or is left over, and `None` inside where a number is bad.
 ghost use Rattle.std.specs.Prelude.{◌≡◌, ◌<◌, ℕ, ◌∷◌, [], MatchOption, option_map};
 ghost use Rattle.tlsf_lines.specs.CutFields.{SayFirst, SayNothing, fields_left, line_behind, value_of};
 ghost use Rattle.tlsf_lines.specs.Fields.{values_in};
@@ -94,7 +94,7 @@ fn make_drain(worker: Option<u32>, most: Option<u32>) -> Option<Line>
     })
 }
 
-// The worker and the label that the first two fields say, and the fields behind them.
+// The worker and the label that the first two fields say, and the fields after them.
 #[inline(always)]
 fn next_block(
     workers: u32,
@@ -197,7 +197,7 @@ fn parse_drain(workers: u32, fields: Option<&[u8]>) -> Option<Option<Line>>
     Some(make_drain(worker, most))
 }
 
-// `phase` has no field behind it.
+// `phase` has no field after it.
 #[tactic(auto, unfolding(crate::specs::Lines::line_from))]
 fn parse_phase(fields: Option<&[u8]>) -> Option<Option<Line>>
     ensures { (workers : ℕ) → result ≡ line_behind workers word.Phase (fields_left fields.entry) }
@@ -208,7 +208,7 @@ fn parse_phase(fields: Option<&[u8]>) -> Option<Option<Line>>
     }
 }
 
-/// The line that the fields behind a word say, where there are so many workers.
+/// The line that the fields after a word say, where there are `workers` workers.
 pub fn parse_fields(workers: u32, word: Word, fields: Option<&[u8]>) -> Option<Option<Line>>
     requires { 0 < workers }
     ensures { result ≡ line_behind workers word (fields_left fields.entry) }

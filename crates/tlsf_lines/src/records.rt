@@ -34,8 +34,8 @@ fn write_record(
 
 /// Adds the lines of a phase's records, worker after worker, and gives the phase's labels their names.
 ///
-/// `lines` has the lines of each worker, as [`PhaseScripts`](crate::PhaseScripts) gives them, and `records` as many
-/// records: what each worker was answered.
+/// `lines` has the lines of each worker, as [`PhaseScripts`](crate::PhaseScripts) gives them. `records` has one record for each:
+/// the answers that the worker got.
 ///
 /// ```
 /// // lines has [[a 0 1 8]], and records has what worker 0 was answered: that block, and a last drain

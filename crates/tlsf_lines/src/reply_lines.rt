@@ -152,7 +152,7 @@ pub fn is_taken(call: Call) -> bool
     matches!(call, Call::Take { .. })
 }
 
-// The first label, and those behind it. Where none is left, it is `None`.
+// The first label, and those after it. Where none is left, it is `None`.
 fn first_label(labels: &[Option<u32>]) -> (Option<u32>, &[Option<u32>])
     ensures first { result.0 ≡ slice_index_or labels.now 0 None }
     ensures rest { result.1.now ≡ drop 1 labels.now }
@@ -163,8 +163,8 @@ fn first_label(labels: &[Option<u32>]) -> (Option<u32>, &[Option<u32>])
     }
 }
 
-/// Adds the lines of entries, where each but those of posts that a drain took has the label of the next event. A drain's
-/// label is `None`, as is that of an event behind the last label. Answers the labels that are left.
+/// Adds the lines of entries, where each but those of posts that a drain took has the label of the next event. A drain's label is
+/// `None`, and so is that of an event after the last label. Answers the labels that are left.
 ///
 /// ```
 /// // entries: worker 0 was given the block at place 0 with serial 1; and it drained nothing

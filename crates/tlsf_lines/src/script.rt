@@ -14,7 +14,7 @@ use crate::request::Request;
 use std::alloc::{AllocError, Global};
 use tlsf_calls::MOST_DRAINED;
 
-/// What a trace asks for: its header, the events that its lines stand for, and the label of each, where it has one.
+/// The request of a trace: its header, the events that its lines stand for, and the label of each, where it has one.
 ///
 /// [`script_in`](crate::script_in) makes it, and [`write_replies`](crate::write_replies) takes its labels.
 ///
@@ -24,7 +24,7 @@ use tlsf_calls::MOST_DRAINED;
 /// ```
 #[derive(Drop)]
 pub struct Script {
-    /// What the first line says.
+    /// The first line.
     pub header: Header,
     /// The calls of the lines, in their order; where a phase ends, and at the end, a drain of each worker.
     pub events: KeptEvents,
@@ -39,7 +39,7 @@ pub struct Script {
 }
 
 impl Script {
-    /// How many events there are up to a line of the text, whose header is line 1; after the last line these are all, with the
+    /// How many events there are up to a line of the text, whose header is line 1. After the last line these are all, with the
     /// drains at the end.
     ///
     /// ```

@@ -24,8 +24,8 @@ use std::alloc::Global;
 ///
 /// # Errors
 ///
-/// The first fault of the text, by its number and its line: a first line that is no header (11), a line that has not its
-/// shape (12), a bad number (13), or a label out of order (14); and memory (6).
+/// The first fault of the text, by its number and its line. It is a first line that is no header (11), or a line that has not its
+/// shape (12). Or it is a bad number (13), or a label out of order (14). Memory may run out too (6).
 pub fn trace_in(alloc: Global, text: &[u8]) -> Result<Trace, TraceFault>
     requires { IsWithinLimits text.now }
     ensures ok { IfOk result (λ trace. trace_of text.now ≡ Ok (view_trace trace)) }

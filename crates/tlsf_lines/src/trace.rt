@@ -13,9 +13,9 @@ use std::alloc::{AllocError, Global};
 /// ```
 #[derive(Drop)]
 pub struct Trace {
-    /// What the first line says.
+    /// The first line.
     pub header: Header,
-    /// What the other lines say, in their order.
+    /// The other lines, in their order.
     pub lines: Vec<Line>,
 }
 

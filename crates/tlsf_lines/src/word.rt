@@ -1,7 +1,7 @@
 ghost use Rattle.std.specs.Prelude.{◌≡◌};
 ghost use Rattle.tlsf_lines.specs.Lines;
 
-/// What a line does, as its first field says.
+/// The kind of a line, by its first field.
 #[derive(Clone, Copy)]
 pub enum Word {
     /// `a`: a worker allocates a block and makes a label for it.

@@ -21,8 +21,9 @@ pub struct LockedHeap<const SLI: u32> {
 impl<const SLI: u32> LockedHeap<SLI> {
     /// Opens a heap of number `id` over `words` words of 8 bytes, stamped with the tick `first`. Nothing of it was granted.
     ///
-    /// Refused as `Heap::open` refuses: `BadSize` where `words` is below 4, or above 2^20 at level 4 and 2^24 at level 5, else `Worn` where `first` is
-    /// the last tick, 2^64 - 1, else `NoMemory` where the memory was not granted. No later call takes memory.
+    /// Refused as `Heap::open` refuses: `BadSize` where `words` is below 4, or above 2^20 at level 4 and 2^24 at level 5. Otherwise
+    /// `Worn` where `first` is the last tick, 2^64 - 1, and otherwise `NoMemory` where the memory was not granted. No later call
+    /// takes memory.
     ///
     /// ```
     /// let heap = LockedHeap::<4>::new(alloc, 0, 1024, 0)?; // heap 0, 1024 words, first tick 0
@@ -41,8 +42,8 @@ impl<const SLI: u32> LockedHeap<SLI> {
 
     /// Waits until no other guard has the heap, and gives a guard that has it until it is dropped. It is never refused.
     ///
-    /// The caller then knows that the heap is lawful and that its live blocks are the grants less the returns, and no
-    /// more: other threads may have called it since this one last had it. The guard lends a [`Counted`].
+    /// The caller then knows that the heap is lawful and that its live blocks are the grants less the returns. It knows no more,
+    /// since other threads may have called the heap since this one last had it. The guard lends a [`Counted`].
     ///
     /// ```
     /// let name = heap.lock(&rt).allocate(100)?; // has the lock for this one call

@@ -1,4 +1,4 @@
--- What a text tells, with more behind it.
+-- The meaning of a text, with more after it.
 use Rattle.tlsf_map.proofs.Common.{◌≡◌, ℕ, ◌+◌, ◌<◌, ◌≤◌, List, [], ◌∷◌, ◌++◌, length, get_or, take, take_all, refl, sym, ap, ◌∙◌, subst, append_assoc, append-nil, Adds, Tells, all_told}
 use Rattle.std.proofs.lemmas.List.{take_more}
 
@@ -21,7 +21,7 @@ tells_then (one ∷ others) more text behind first tells = (
   tells_then others more first.1 behind first.3 tells,
 )
 
--- more may stand before and behind it
+-- more may stand before and after it
 tells_on : (told : List (List ℕ)) (text behind : List ℕ) → Tells told text → Tells told (text ++ behind)
 tells_on [] text behind tells = tt
 tells_on (one ∷ others) text behind tells = (
@@ -50,7 +50,7 @@ adds_then told more old mid new first next = record {
   tells = tells_then told more first.added next.added first.tells next.tells;
 }
 
--- before it something else, and behind it
+-- before it something else, and after it
 pub adds_before : (told : List (List ℕ)) (old front new : List ℕ) → Adds told (old ++ front) new → Adds told old new
 adds_before told old front new adds = record {
   added = front ++ adds.added;
@@ -96,6 +96,6 @@ pub adds_next : {A : Type 0} (f : A → List (List ℕ)) (xs : List A) (i : ℕ)
 adds_next f xs i x old mid new lt found so_far next =
     subst (λ l. Adds (all_told f l) old new) (sym (take_more xs i x lt ∙ ap (λ y. take i xs ++ y ∷ []) found)) (adds_more f (take i xs) x old mid new so_far next)
 
--- the first so many of no more are all
+-- the first n of no more than n are all
 pub adds_all : {A : Type 0} (f : A → List (List ℕ)) (xs : List A) (i : ℕ) (old new : List ℕ) → length xs ≤ i → Adds (all_told f (take i xs)) old new → Adds (all_told f xs) old new
 adds_all f xs i old new all adds = subst (λ l. Adds (all_told f l) old new) (take_all i xs all) adds

@@ -1,4 +1,4 @@
--- What a picture tells of the heaps that it draws: which they are, and after how many ticks. How it draws them is in no clause.
+-- The meaning of a picture of heaps: which they are, and after how many ticks. How it draws them is in no clause.
 use Rattle.std.specs.Prelude.{◌≡◌, ⊤, ℕ, List, [], ◌∷◌, ◌++◌, Option, Some, None, codes}
 use Rattle.std.specs.Fmt.{decimal}
 use Rattle.tlsf_heap.specs.declared.placed_block.Content.{Content}
@@ -15,7 +15,7 @@ abbrev pub Tells : List (List ℕ) → List ℕ → Type 0
 Tells [] text = ⊤
 Tells (one ∷ others) text = (before : List ℕ) × (after : List ℕ) × (text ≡ before ++ (one ++ after)) × Tells others after
 
--- a text has more behind it, which tells these
+-- a text has more at its end, which tells these
 pub record Adds (told : List (List ℕ)) (old new : List ℕ) : Type 0 where
   pub added : List ℕ
   pub is : new ≡ old ++ added
@@ -49,7 +49,8 @@ pub record Moment : Type 0 where
   pub line : ℕ
   pub heaps : List MappedHeap
 
--- a free block: its words, and the tick since which it is free; a live one: its words, its bytes, its serial, and its label where it has one
+-- a free block: its words, and the tick since which it is free. A live one: its words, its bytes, its serial, and its label where
+-- it has one
 abbrev pub content_item : ℕ → Option ℕ → Content → List ℕ
 content_item size label (Free stamp) = codes "f" ++ (decimal size ++ (codes "," ++ (decimal stamp ++ codes ";")))
 content_item size None (Live serial length) = codes "l" ++ (decimal size ++ (codes "," ++ (decimal length ++ (codes "," ++ (decimal serial ++ codes ";")))))

@@ -10,8 +10,8 @@ const MOST_WORDS_A_CHARACTER: u64 = 16_384;
 
 const MOST_LINES: u64 = 16;
 
-/// The words of a character in a picture of a heap with so many words and these blocks: as few as may be, from 1 up to 16,384 by
-/// powers of two, where at most 16 rows are written with them.
+/// The words of a character in a picture of a heap with `words` words and these blocks. They are as few as may be, from 1 up to
+/// 16,384 by powers of two, where at most 16 rows are written with them.
 pub fn span(words: u32, blocks: &[LabelledBlock]) -> u64
     ensures { IsSpan result }
 {
@@ -31,13 +31,13 @@ pub fn columns(span: u64, place: u64) -> u64
     (place + span - 1) / span
 }
 
-/// Whether so many words are too many for a character that shows the first of them.
+/// Whether this number of words is too large for a character that shows the first of them.
 pub fn is_dense(span: u64) -> bool {
     64 < span
 }
 
-// The rows of a block that show its payload alone, or free words behind the first; or those that lie in it, where a character shows
-// how many of its words are live.
+// The rows of a block that show its payload alone, or free words after the first. Where a character shows how many of its words are
+// live, they are those that lie in it.
 fn lines(span: u64, block: PlacedBlock) -> Fold
     requires { IsSpan span }
 {
@@ -57,7 +57,7 @@ fn lines(span: u64, block: PlacedBlock) -> Fold
     }
 }
 
-// Those of the rows of so many words that are written where these blocks lie in them.
+// Those of the rows of this many words that are written where these blocks lie in them.
 fn written_lines(span: u64, words: u32, blocks: &[LabelledBlock]) -> u64
     requires { IsSpan span }
 {

@@ -36,7 +36,7 @@ fn live_among(from: u64, end: u64, blocks: &[LabelledBlock]) -> u64
     live
 }
 
-// The character of so many words of which so many are live.
+// The character of `words` words where `live` of them are live.
 fn mark_of(live: u64, words: u64) -> &'static str
     requires { live ≤ 2 ^ 14 }
 {
@@ -57,7 +57,7 @@ fn mark_of(live: u64, words: u64) -> &'static str
     }
 }
 
-// The character of a number in a heap with so many words and these blocks.
+// The character of a number in a heap with this many words and these blocks.
 fn mark_at(span: u64, words: u32, number: u64, blocks: &[LabelledBlock]) -> &'static str
     requires span { IsSpan span }
     requires number { number ≤ 2 ^ 35 }
@@ -92,7 +92,7 @@ fn write_dense_block(
     write_up_to(text, span, last, end, mark_at(span, words, last, blocks))
 }
 
-/// Adds the blocks of a heap with so many words, in characters that tell how many of their words are live.
+/// Adds the blocks of a heap with `words` words, in characters that tell how many of their words are live.
 pub fn write_dense_blocks(
     text: &mut String,
     span: u64,

@@ -22,7 +22,7 @@ pub fn used_words(length: u32) -> u64
 }
 
 impl Fold {
-    /// The rows of so many cells that lie wholly between two cells.
+    /// The rows of this many cells that lie wholly between two cells.
     #[tactic(auto, using(crate::proofs::Folding::div_mul_most))]
     pub fn between(row: u64, from: u64, end: u64) -> Fold
         requires some { 1 ≤ row }
@@ -42,7 +42,7 @@ impl Fold {
         }
     }
 
-    /// The rows of a block, of so many words each, that show its payload alone, or free words behind the first.
+    /// The rows of a block, of this many words each, that show its payload alone, or free words after the first.
     pub fn of(row: u64, block: PlacedBlock) -> Fold
         requires some { 1 ≤ row }
         requires most { row ≤ 2 ^ 18 }

@@ -1,7 +1,7 @@
 use crate::mapped_heap::MappedHeap;
 use tlsf_heap::Content;
 
-/// What tells the free blocks of a heap apart.
+/// The numbers by which the free blocks of a heap are told apart.
 #[derive(Clone, Copy)]
 pub struct FreeBlocks {
     /// The words of the largest.

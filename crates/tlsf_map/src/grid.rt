@@ -21,8 +21,8 @@ const MOST_DRAWN_ROWS: u64 = 64;
 const MOST_HIDDEN_ROWS: u64 = 4_294_967_296;
 
 impl Grid {
-    /// The grid of a heap with so many words and these blocks: rows of as few words as may be, from 64 up to 262,144 by powers of
-    /// two, where at most 64 rows are drawn with them.
+    /// The grid of a heap with `words` words and these blocks. Its rows are of as few words as may be, from 64 up to 262,144 by
+    /// powers of two. At most 64 rows are drawn with them.
     pub fn of(words: u32, blocks: &[LabelledBlock]) -> Grid
         ensures { IsGrid result }
     {
@@ -33,7 +33,7 @@ impl Grid {
         grid
     }
 
-    /// The rows that so many words fill.
+    /// The rows that this many words fill.
     pub fn rows(self, words: u64) -> u64
         requires grid { IsGrid self }
         requires few { words ≤ 2 ^ 34 }
@@ -42,7 +42,7 @@ impl Grid {
         (words + self.row - 1) / self.row
     }
 
-    // Those of the rows of so many words that are drawn where these blocks lie in them.
+    // Those of the rows of this many words that are drawn where these blocks lie in them.
     fn drawn_rows(self, words: u32, blocks: &[LabelledBlock]) -> u64
         requires { IsGrid self }
         ensures { result ≤ 2 ^ 35 }
@@ -54,7 +54,7 @@ impl Grid {
         rows
     }
 
-    /// The height of a heap with so many words and these blocks, its numbers above them.
+    /// The height of a heap with `words` words and these blocks, its numbers above them.
     pub fn height(self, words: u32, blocks: &[LabelledBlock]) -> u64
         requires { IsGrid self }
         ensures { result ≤ 2 ^ 46 }
@@ -62,7 +62,7 @@ impl Grid {
         1280 + 640 * self.drawn_rows(words, blocks)
     }
 
-    /// The grid below so many rows that are not drawn.
+    /// The grid below this many rows that are not drawn.
     pub fn below(self, rows: u64) -> Grid
         requires grid { IsGrid self }
         requires few { rows ≤ 2 ^ 36 }
@@ -99,7 +99,7 @@ impl Grid {
         800 + 640 * (at / self.row).saturating_sub(self.hidden)
     }
 
-    /// How wide so many words of one row from a place on are.
+    /// How wide this many words of one row from a place on are.
     pub fn width(self, at: u64, words: u64) -> u64
         requires grid { IsGrid self }
         requires few { words ≤ 2 ^ 34 }

@@ -8,7 +8,7 @@ pub struct LabelledBlock {
     pub label: Option<u32>,
 }
 
-/// What a picture of a heap is made of.
+/// The parts of a picture of a heap.
 #[derive(Drop)]
 pub struct MappedHeap {
     /// The number of the heap.

@@ -8,7 +8,7 @@ pub fn plural(count: u64, one: &'static str, many: &'static str) -> &'static str
     if count == 1 { one } else { many }
 }
 
-// Adds so many of something.
+// Adds a number of something.
 fn write_amount(
     text: &mut String,
     count: u64,

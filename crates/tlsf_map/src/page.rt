@@ -12,12 +12,12 @@ use crate::numbers::write_numbers;
 use crate::title::write_title;
 use std::alloc::{AllocError, Global};
 
-// Colours by the reader's scheme: dark blue, blue and orange for header, payload and what it leaves empty, green for free words,
-// violet for neighbours that are drawn as one.
+// Colours by the reader's scheme. They are dark blue, blue and orange for header, payload and the part that it leaves empty. They
+// are green for free words, and violet for neighbours that are drawn as one.
 const STYLE: &str =
     "<style>text{font:176px ui-monospace,Menlo,Consolas,monospace;fill:#1f2328}.name{font-size:208px;font-weight:600}.numbers,.place{font-size:144px}.place{text-anchor:end;fill-opacity:1}svg{background:#fff}.page{fill:#fff}.live{fill:#4f83cc}.head{fill:#2b4f86}.slack{fill:#e3a04f}.free{fill:#2e9e6b}.joined{fill:#8257c9}.caption text{fill:#fff;fill-opacity:1}.free .caption text{fill:#1f2328}text.fold{text-anchor:middle}rect{stroke:#fff;stroke-width:8}.free rect,rect.free{stroke:#2e9e6b}.joined rect,rect.joined{stroke:#8257c9}rect.fold{stroke-width:40;stroke-dasharray:96 96}.largest rect{stroke:#b4232a;stroke-width:32}@media(prefers-color-scheme:dark){text,.free .caption text{fill:#e6edf3}svg{background:#0d1117}.page{fill:#0d1117}rect{stroke:#0d1117}.live{fill:#3f6fb5}.head{fill:#1d3c6b}.slack{fill:#b97a2e}.joined{fill:#9d7be0}.joined rect,rect.joined{stroke:#9d7be0}.largest rect{stroke:#ff7b72}}</style><rect class='page' width='100%' height='100%'/>\n";
 
-// What each colour is.
+// The meaning of each colour.
 const COLOURS: &str =
     "<g transform='translate(1024 128)'><rect class='head' width='256' height='256'/><text x='352' y='200'>header</text><rect class='live' x='2048' width='256' height='256'/><text x='2400' y='200'>payload</text><rect class='slack' x='4096' width='256' height='256'/><text x='4448' y='200'>left empty</text><g class='largest'><rect class='free' x='6656' width='256' height='256' fill-opacity='.50'/></g><text x='7008' y='200'>largest free</text><rect class='live fold' x='9728' width='1024' height='256'/><text x='10848' y='200'>one row for many alike</text><rect class='free' y='384' width='256' height='256' fill-opacity='.15'/><rect class='free' x='256' y='384' width='256' height='256' fill-opacity='.33'/><rect class='free' x='512' y='384' width='256' height='256' fill-opacity='.50'/><rect class='free' x='768' y='384' width='256' height='256' fill-opacity='.67'/><rect class='free' x='1024' y='384' width='256' height='256' fill-opacity='.85'/><text x='1376' y='584'>free: newest to oldest</text><rect class='joined' x='6656' y='384' width='256' height='256' fill-opacity='.15'/><rect class='joined' x='6912' y='384' width='256' height='256' fill-opacity='.33'/><rect class='joined' x='7168' y='384' width='256' height='256' fill-opacity='.50'/><rect class='joined' x='7424' y='384' width='256' height='256' fill-opacity='.67'/><rect class='joined' x='7680' y='384' width='256' height='256' fill-opacity='.85'/><text x='8032' y='584'>drawn as one: all free to all live</text></g>\n";
 
@@ -54,7 +54,7 @@ fn write_groups(
     Ok(joined.saturating_add(group.joined()))
 }
 
-// What stands behind the title of a heap: the words of a row, its numbers, and its blocks.
+// The text after the title of a heap: the words of a row, its numbers, and its blocks.
 fn rows_of(alloc: Global, grid: Grid, heap: &MappedHeap) -> Result<String, AllocError>
     requires { IsGrid grid }
 {
@@ -97,7 +97,7 @@ fn write_heap(
     Ok(())
 }
 
-// The height of a heap with so many words.
+// The height of a heap with this many words.
 fn height(words: u32, heap: &MappedHeap) -> u64
     ensures { result ≤ 2 ^ 46 }
 {
@@ -147,7 +147,7 @@ fn write_head(text: &mut String, height: u64) -> Result<(), AllocError>
     Ok(())
 }
 
-/// Adds the picture of heaps with so many words each, at most eight.
+/// Adds the picture of heaps with `words` words each, at most eight.
 ///
 /// ```text
 /// let mut text = String::new(alloc);

@@ -36,8 +36,8 @@ fn write_piece(
     write!(text, "<rect x='{x}' y='{y}' width='{width}' height='560'/>")
 }
 
-/// Adds a rectangle for each row that so many words from a place on touch, and the places of the rows that begin among them where
-/// these are wanted.
+/// Adds a rectangle for each row that a number of words from a place on touch. Adds the places of the rows that begin among them,
+/// where these are wanted.
 pub fn write_spread(
     text: &mut String,
     grid: Grid,
@@ -76,7 +76,7 @@ fn write_fold(text: &mut String, grid: Grid, fold: Fold) -> Result<(), AllocErro
     )
 }
 
-/// Adds the words of a block with these rows among them, of which one is drawn for all where there are three or more.
+/// Adds the words of a block with these rows among them. Where there are three rows or more, one is drawn for all.
 pub fn write_rows(
     text: &mut String,
     grid: Grid,
@@ -114,7 +114,7 @@ pub fn write_label(text: &mut String, label: Option<u32>, name: &str) -> Result<
     }
 }
 
-/// What a block shows of itself, in two lines: its label or a name, and an amount.
+/// The text on a block, in two lines: its label or a name, and an amount.
 #[derive(Clone, Copy)]
 pub struct Caption<'a> {
     pub label: Option<u32>,

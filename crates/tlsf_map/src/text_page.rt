@@ -12,11 +12,11 @@ use crate::numbers::{plural, write_numbers};
 use crate::title::write_title;
 use std::alloc::{AllocError, Global};
 
-// What each character is.
+// The meaning of each character.
 const CHARACTERS: &str =
     "[ live block  # header  = payload  - empty  ( free  * largest  . young  : old\n";
 
-// What they are where each tells how many of its words are live.
+// Their meaning where each tells how many of its words are live.
 const DENSE_KEY: &str = "\nlive words of a character: . none  : - = + * # % sevenths  @ all";
 
 // Adds the blocks of a heap, and says in how many no character begins.
@@ -41,7 +41,7 @@ fn write_seen_rows(text: &mut String, span: u64, heap: &MappedHeap) -> Result<()
     write!(text, "\n{count}{are}")
 }
 
-// What stands behind the title of a heap: the words of a character, its numbers, and its blocks.
+// The text after the title of a heap: the words of a character, its numbers, and its blocks.
 fn rows_of(alloc: Global, span: u64, words: u32, heap: &MappedHeap) -> Result<String, AllocError>
     requires { IsSpan span }
 {
@@ -88,7 +88,7 @@ fn write_heaps(
     Ok(())
 }
 
-/// Adds the picture of heaps with so many words each, in the characters of a terminal of 80 columns.
+/// Adds the picture of heaps with `words` words each, in the characters of a terminal of 80 columns.
 ///
 /// ```text
 /// let mut text = String::new(alloc);

@@ -46,7 +46,7 @@ use Rattle.tlsf_heap.proofs.lemmas.calls.Looked.{allocates_same, resizes_same}
 abbrev pub IsBlock : ℕ → ℕ → Block → Type 0
 IsBlock serial size b = (has_serial serial b ≡ true) × (size_of b ≡ size)
 
--- a block of as many words under the same name stands there: the span is held
+-- a block of equally many words under the same name stands there: the span is held
 pub held : (o p : Offsets) (span : Span) → p.heap.id ≡ o.heap.id → p.unit ≡ o.unit
     → ((size : ℕ) → HasFrom (IsBlock span.name.serial size) span.name.at 0 o.heap.blocks → HasFrom (IsBlock span.name.serial size) span.name.at 0 p.heap.blocks) → IsHeld o span → IsHeld p span
 held o p span ids units goes h =
@@ -173,7 +173,7 @@ held_at sli o name span block is alive found e offset size =
 
 -- ---- what a call leaves of the arena
 
--- its heap is lawful, of as many words, over units of as many bytes
+-- its heap is lawful, of equally many words, over units of equally many bytes
 pub stays : (sli : ℕ) (o p : Offsets) → IsOffsets sli o → p.unit ≡ o.unit → p.heap.words ≡ o.heap.words → IsLawful p.heap → IsOffsets sli p
 stays sli o p is unit words lawful = record { level = is.level; lawful = lawful; words = omega (arith, is.words, words); some = omega (arith, is.some, unit) }
 
@@ -256,7 +256,7 @@ made_live name n k made =
     let at = to_index (IsBlock name.serial made.size) name.at 0 k.blocks made.there in
     shown k name made.own (of_index (λ b. has_serial name.serial b ≡ true) name.at 0 k.blocks at.0 at.1 at.2 at.3.0)
 
--- a span of that name has as many bytes
+-- a span of that name has equally many bytes
 made_size : (sli : ℕ) (p : Offsets) (span : Span) (n : ℕ) (made : Made span.name n p.heap) → IsOffsets sli p → IsHeld p span → span.size ≡ p.unit * made.size
 made_size sli p span n made is h =
     let at = to_index (IsBlock span.name.serial made.size) span.name.at 0 p.heap.blocks made.there in

@@ -1,4 +1,4 @@
--- Memory that this program never touches, cut into units of so many bytes: word p of a heap stands for unit p.
+-- Memory that this program never touches, cut into units of this many bytes: word p of a heap stands for unit p.
 use Rattle.std.specs.Prelude.{◌≡◌, ◌≢◌, ℕ, ◌+◌, ◌*◌, ◌/◌, ◌%◌, ◌<◌, ◌≤◌, ◌⊎◌, max, min, true, List}
 use Rattle.tlsf_class.specs.Classes.{IsLevel, most_words}
 use Rattle.tlsf_heap.specs.Blocks.{HeapState, StandsAt, size_of}

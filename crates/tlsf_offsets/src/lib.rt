@@ -1,8 +1,8 @@
 //! Offsets into memory that the program itself never touches: the buffers of a graphics card, a device's memory, a file.
 //!
-//! An [`OffsetArena`] cuts such memory into units of so many bytes and says where blocks of it lie. A heap of as many words decides, by
-//! good fit (ECRTS 2004), and each word stands for one unit: nothing is stored in the memory itself, and each call but `usage`
-//! makes at most 68 touches of the heap, however large the block is. Two spans that are held have no byte in common ([`spans_never_overlap`]).
+//! An [`OffsetArena`] cuts such memory into units of a given number of bytes and says where blocks of it lie. A heap of one word
+//! for each unit decides, by good fit (ECRTS 2004). Nothing is stored in the memory itself, and each call but `usage` makes at most
+//! 68 touches of the heap, however large the block is. Two spans that are held have no byte in common ([`spans_never_overlap`]).
 //!
 //! ```text
 //! let mut arena = OffsetArena::<4>::open(alloc, 0, 65_536, 4_096)?;    // 256 MiB in units of 64 KiB

@@ -17,8 +17,8 @@ use tlsf_heap::{Heap, Name, OpenFault, Refusal};
 
 /// Says where blocks lie in memory that is cut into units and that it never touches.
 ///
-/// Its level is that of its heap: at level 4 the memory has 4 to 2^20 units, at level 5 to 2^24. Sizes and offsets are in bytes; each
-/// offset is a multiple of the unit, so blocks are aligned as the unit is, where the memory itself begins so.
+/// Its level is that of its heap: at level 4 the memory has 4 to 2^20 units, at level 5 to 2^24. Sizes and offsets are in bytes.
+/// Each offset is a multiple of the unit, so blocks are aligned as the unit is, where the memory itself begins so.
 #[derive(Drop)]
 pub struct OffsetArena<const SLI: u32> {
     heap: Heap<SLI>,
@@ -46,8 +46,8 @@ fn units_of(unit: u32, len: u64) -> u32
 impl<const SLI: u32> OffsetArena<SLI> {
     /// Opens an arena of number `id` over memory of `units` units of `unit` bytes each. All of it is free.
     ///
-    /// Refused as `BadSize` where `unit` is 0, or `units` below 4, or above 2^20 at level 4 and 2^24 at level 5, else as `NoMemory` where the
-    /// memory for its heap was not granted, 8 bytes a unit and some. No later call takes memory.
+    /// Refused as `BadSize` where `unit` is 0, or `units` below 4, or above 2^20 at level 4 and 2^24 at level 5. Otherwise as
+    /// `NoMemory` where the memory for its heap was not granted, 8 bytes a unit and some. No later call takes memory.
     ///
     /// ```text
     /// let arena = OffsetArena::<4>::open(alloc, 0, 65_536, 4_096)?;        // 256 MiB in units of 64 KiB
@@ -76,8 +76,8 @@ impl<const SLI: u32> OffsetArena<SLI> {
 
     /// Gives a span of at least `len` bytes, by good fit (ECRTS 2004, sections 3 and 4).
     ///
-    /// Refused as `NoFit` where no free block lies in a class at or above the search class of the units wanted, else as `Worn` where the
-    /// tick is at its last value. Takes no memory.
+    /// Refused as `NoFit` where no free block lies in a class at or above the search class of the units wanted. Otherwise as `Worn`
+    /// where the tick is at its last value. Takes no memory.
     ///
     /// ```text
     /// let span = arena.allocate(1_000_000)?;       // units of 64 KiB: 16 of them, 1,048,576 bytes
@@ -110,8 +110,8 @@ impl<const SLI: u32> OffsetArena<SLI> {
 
     /// Takes the span of that name back, and merges its block with the free neighbours (ECRTS 2004, section 4).
     ///
-    /// Refused as `Foreign` where the name is of another arena, else as `Stale` where no span of that name is held, else as `Worn` where the
-    /// tick is at its last value. Takes no memory.
+    /// Refused as `Foreign` where the name is of another arena. Otherwise as `Stale` where no span of that name is held. Otherwise
+    /// as `Worn` where the tick is at its last value. Takes no memory.
     ///
     /// ```text
     /// arena.release(span.name) == Ok(())
@@ -132,11 +132,12 @@ impl<const SLI: u32> OffsetArena<SLI> {
         self.heap.release(name)
     }
 
-    /// Makes the span of that name hold `len` bytes where it lies: its offset and its name stay. It takes in the free units behind it
-    /// where it grows, and gives back those that it needs no more, where there are four or more of them.
+    /// Makes the span of that name hold `len` bytes where it lies: its offset and its name stay. It takes in the free units after
+    /// it where it grows. It gives back those that it needs no more, where there are four or more of them.
     ///
-    /// Refused as `Foreign` where the name is of another arena, else as `Stale` where no span of that name is held, else as `NoRoom` where
-    /// it and the free units behind it are fewer than wanted, else as `Worn` where the tick is at its last value. Takes no memory.
+    /// Refused as `Foreign` where the name is of another arena. Otherwise as `Stale` where no span of that name is held. Otherwise
+    /// as `NoRoom` where it and the free units behind it are fewer than wanted. Otherwise as `Worn` where the tick is at its last
+    /// value. Takes no memory.
     ///
     /// ```text
     /// let longer = arena.resize(span.name, 3_000_000)?;    // the same offset, 3,014,656 bytes
@@ -162,7 +163,8 @@ impl<const SLI: u32> OffsetArena<SLI> {
         }
     }
 
-    /// What is held and what is free, by a walk over all blocks: for whoever looks on, not for a call with a deadline.
+    /// The units that are held and those that are free, by a walk over all blocks. It is for whoever looks on, not for a call with
+    /// a deadline.
     ///
     /// ```text
     /// arena.usage()        // Usage { spans: 1, held: 1_048_576, free: 267_386_880, largest: 267_386_880 }
@@ -184,7 +186,7 @@ impl<const SLI: u32> OffsetArena<SLI> {
         }
     }
 
-    /// The bytes of so many units.
+    /// The bytes of `units` units.
     fn bytes(&self, units: u32) -> u64
         ensures { result ≡ self.now.unit * units }
     {

@@ -7,7 +7,7 @@ pub struct Span {
     pub name: Name,
     /// How many bytes of the memory lie before it.
     pub offset: u64,
-    /// Its bytes: those that were asked for, rounded up to whole units, four at least, and the up to three units more that were too few
-    /// to be a block.
+    /// Its bytes. They are those that were asked for, rounded up to whole units, four at least. The up to three units more that
+    /// were too few to be a block are among them.
     pub size: u64,
 }

@@ -1,4 +1,4 @@
-/// What an [`OffsetArena`](crate::OffsetArena) holds and what it has left, in bytes.
+/// How much of an [`OffsetArena`](crate::OffsetArena) is held and how much is left, in bytes.
 #[derive(Clone, Copy, Debug, PartialEq, Eq)]
 pub struct Usage {
     /// How many spans are held.

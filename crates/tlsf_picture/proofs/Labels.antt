@@ -16,7 +16,7 @@ event_more heap (m ∷ made) [] (suc i) serial lt =
     event_more heap made [] i serial (omega (arith, lt)) ∙ ap (λ (l : List (Option ℕ)). label_of heap (drop i made) l serial) (none_left i)
 event_more heap (m ∷ made) (l ∷ labels) (suc i) serial lt = event_more heap made labels i serial (omega (arith, lt))
 
--- the labels by the events from a number on, by those behind it
+-- the labels by the events from a number on, by those after it
 pub one_more : (heap : ℕ) (made : List (Option Name)) (labels : List (Option ℕ)) (k i : ℕ) (known : ℕ → Option ℕ) (label : Option ℕ) (name : Option Name) → i < length made → k ≡ suc i
     → known ≡ label_of heap (drop k made) (drop k labels) → name ≡ get_or made i None → label ≡ slice_index_or labels i None
     → with_label heap known name label ≡ label_of heap (drop i made) (drop i labels)

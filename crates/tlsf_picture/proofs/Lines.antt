@@ -19,7 +19,7 @@ pub asked_is : (worker : ℕ) (requests : List (Option Request)) (i number : ℕ
     → words_asked (request_of worker request) ≡ asked_in worker requests number
 asked_is worker requests i number request is found = rw (is, found) (sym (get_or-map (λ r. words_asked (request_of worker r)) requests i None))
 
--- what was answered by a line, where these entries came behind those before
+-- what was answered by a line, where these entries came after those before
 told_is : (sli number : ℕ) (trace : Trace) (entries : List Entry) → (moment_at sli (number + 1) trace).entries ≡ (moment_at sli number trace).entries ++ entries
     → entries ≡ told_at sli (number + 1) trace
 told_is sli number trace entries told =

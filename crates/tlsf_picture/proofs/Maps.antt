@@ -22,7 +22,7 @@ as_many R [] (b ∷ ys) all = absurd all
 as_many R (a ∷ xs) [] all = absurd all
 as_many R (a ∷ xs) (b ∷ ys) all = let e = as_many R xs ys all.1 in omega (arith, e)
 
--- the map of this heap behind those of the heaps before
+-- the map of this heap after those of the heaps before
 pub map_more : (sli : ℕ) (made : List (Option Name)) (labels : List (Option ℕ)) (heaps : List HeapState) (i : ℕ) (d heap : HeapState) (maps : List MappedHeap) (known : ℕ → Option ℕ) (mapped : MappedHeap)
     → i < length heaps → get_or heaps i d ≡ heap → heap.id ≡ i → known ≡ label_of i made labels → IsMapBy sli known heap mapped
     → AreMaps sli made labels (take i heaps) maps → AreMaps sli made labels (take (i + 1) heaps) (maps ++ mapped ∷ [])

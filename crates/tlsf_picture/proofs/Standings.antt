@@ -15,7 +15,7 @@ not_more_over a c b ac cb = grind (arith, nat_tests)
 not_more : (a b : ℕ) → nat_lt b a ≡ true → nat_lt a b ≡ false
 not_more a b more = grind (arith, nat_tests)
 
--- one that is not fuller has no more live words, and where as many no more fragmentation
+-- one that is not fuller has no more live words, and where equally many no more fragmentation
 no_fuller : (live share other less : ℕ) → is_fuller live share other less ≡ false → (live ≤ other) × (live ≡ other → share ≤ less)
 no_fuller live share other less is = grind (arith, nat_tests)
 

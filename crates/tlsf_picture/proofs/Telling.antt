@@ -1,4 +1,4 @@
--- What a plot tells of a heap.
+-- The meaning of a plot of a heap.
 use Rattle.tlsf_picture.proofs.Common.{◌≡◌, ℕ, List, [], ◌∷◌, ◌++◌, subst, Adds}
 use Rattle.tlsf_map.proofs.Telling.{adds_before, adds_on, adds_one, adds_then}
 
@@ -10,7 +10,7 @@ adds_after told old front mid new is adds = adds_before told old front new (subs
 adds_behind : (old front one : List ℕ) → Adds (one ∷ []) old ((old ++ front) ++ one)
 adds_behind old front one = adds_before (one ∷ []) old front ((old ++ front) ++ one) (adds_one (old ++ front) one)
 
--- four, with something else before, between and behind them
+-- four, with something else before, between and after them
 pub adds_four : (old front one a two b three c four behind : List ℕ)
     → Adds (one ∷ two ∷ three ∷ four ∷ []) old (((((((((old ++ front) ++ one) ++ a) ++ two) ++ b) ++ three) ++ c) ++ four) ++ behind)
 adds_four old front one a two b three c four behind =

@@ -12,7 +12,7 @@ use Rattle.tlsf_heap.proofs.lemmas.words.Image.{least, parted}
 use Rattle.tlsf_heap.proofs.lemmas.blocks.Stands.{words_up_to}
 use Rattle.tlsf_map.specs.declared.mapped_heap.LabelledBlock.{LabelledBlock}
 
--- so many blocks are behind the place, and those that are met and those that are left are all
+-- this many blocks are behind the place, and those that are met and those that are left are all
 pub record HasWalked (label : PlacedBlock → LabelledBlock) (bs : List Block) (at : ℕ) (met : List LabelledBlock) : Type 0 where
   pub count : ℕ
   pub within : count ≤ length bs

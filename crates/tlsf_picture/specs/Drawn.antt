@@ -33,7 +33,7 @@ IsMap sli made labels heap = IsMapBy sli (label_of heap.id made labels) heap
 abbrev pub AreMaps : ℕ → List (Option Name) → List (Option ℕ) → List HeapState → List MappedHeap → Type 0
 AreMaps sli made labels heaps maps = AllZip (IsMap sli made labels) heaps maps
 
--- what a picture tells of heaps with so many words each
+-- the meaning of a picture of heaps with this many words each
 abbrev pub picture_told : Form → ℕ → List MappedHeap → List (List ℕ)
 picture_told Svg = svg_told
 picture_told Text = text_told

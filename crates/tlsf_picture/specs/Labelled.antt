@@ -16,7 +16,7 @@ is_maker heap (Some name) serial = name.heap == heap && name.serial == serial
 abbrev pub with_label : ℕ → (ℕ → Option ℕ) → Option Name → Option ℕ → ℕ → Option ℕ
 with_label heap known made label serial = if is_maker heap made serial then label else known serial
 
--- the label of the event that made the block of this heap that has this serial, by what each event made and the label of each
+-- the label of the event that made the block of this heap with this serial, by what each event made and the label of each
 abbrev pub label_of : ℕ → List (Option Name) → List (Option ℕ) → ℕ → Option ℕ
 label_of heap [] labels serial = None
 label_of heap (made ∷ others) labels serial = with_label heap (label_of heap others (drop 1 labels)) made (slice_index_or labels 0 None) serial

@@ -33,15 +33,16 @@ AreNoted trace named = AllZip (IsNoted trace) (range_with_len 0 trace.header.wor
 
 -- ---- the lines that have a moment
 
--- how many are spread over a trace with so many lines behind its header: each line of the text and the end, at most 200
+-- how many are spread over a trace with this many lines after its header: each line of the text and the end, at most 200
 abbrev pub moments_in : ℕ → ℕ
 moments_in lines = min 200 (lines + 2)
 
--- the line of the text behind which the moment of a number stands: spread evenly from the header, line 1, to the end, which counts as one line more
+-- the line of the text after which the moment of a number stands. The moments are spread evenly from the header, line 1, to the
+-- end, which counts as one line more
 abbrev pub line_of : ℕ → ℕ → ℕ
 line_of lines number = number * (lines + 1) / (moments_in lines - 1) + 1
 
--- whether a line is that of one of the first so many
+-- whether a line is that of one of the first `count` moments
 abbrev pub is_among : (lines line count : ℕ) → Bool
 is_among lines line zero = false
 is_among lines line (suc number) = is_among lines line number || line_of lines number == line
@@ -60,7 +61,7 @@ is_named line named = nat_lt 0 (count_by (is_named_by line) named)
 abbrev pub is_shown : (lines : ℕ) → List NamedLines → (line : ℕ) → Bool
 is_shown lines named line = is_spread lines line || is_named line named
 
--- those of the first so many lines of the text
+-- those of the first `count` lines of the text
 abbrev pub shown_until : (lines : ℕ) → List NamedLines → (count : ℕ) → List ℕ
 shown_until lines named zero = []
 shown_until lines named (suc line) = if is_shown lines named (line + 1) then shown_until lines named line ++ (line + 1) ∷ [] else shown_until lines named line

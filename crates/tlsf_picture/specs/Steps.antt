@@ -11,7 +11,7 @@ pub record AddsMoment (line : ℕ) (trace : Trace) (before after : List ℕ) : T
   pub is : IsMoment trace line moment
   pub added : Adds (moment_told trace.header.words moment) before after
 
--- the page so far, with the moments behind these lines
+-- the page so far, with the moments after these lines
 pub record HasShown (lines : List ℕ) (trace : Trace) (text : List ℕ) : Type 0 where
   pub moments : List Moment
   pub shown : AllZip (IsMoment trace) lines moments

@@ -72,7 +72,7 @@ impl<const SLI: u32> Plays<SLI> for Drawing {
     }
 }
 
-/// Reads a whole trace, runs it on a new yard of workers, and writes a picture of each heap that it leaves, as an SVG file.
+/// Reads a whole trace and runs it on a new yard of workers. Writes a picture of each heap that it leaves, as an SVG file.
 ///
 /// Each block is drawn once, in the order of the places, and a live one with its label. No reply line is written. The trace is read
 /// to its end and checked before a line runs, and the whole text is made before a byte is written. The limits are those of
@@ -102,7 +102,7 @@ pub fn draw_trace<R: Read, W: Write>(
     play(alloc, &drawing, reader, writer)
 }
 
-/// Reads a whole trace, runs it on a new yard of workers, and writes a picture of each heap that it leaves in the characters of a
+/// Reads a whole trace and runs it on a new yard of workers. Writes a picture of each heap that it leaves in the characters of a
 /// terminal of 80 columns, ASCII alone.
 ///
 /// A character stands for as many words as the picture says, and shows the first of them. The heaps, labels and reports, what is
@@ -132,11 +132,11 @@ pub fn draw_trace_as_text<R: Read, W: Write>(
     play(alloc, &drawing, reader, writer)
 }
 
-/// Reads a whole trace, runs it on a new yard of workers up to a line, and writes a picture of each heap as it stands then.
+/// Reads a whole trace and runs it on a new yard of workers up to a line. Writes a picture of each heap as it stands then.
 ///
-/// Lines are counted as faults count them: the header is line 1, and behind it the heaps are new. Posts that wait after the line
-/// wait in the picture too. Behind the last line the trace is run to its end, with the drains there, so that the picture is that of
-/// [`draw_trace`]. The whole trace is checked, and what it is told and read is as there.
+/// Lines are counted as faults count them: the header is line 1, and after it the heaps are new. Posts that wait after the line
+/// wait in the picture too. After the last line the trace is run to its end, with the drains there, so that the picture is that of
+/// [`draw_trace`]. The whole trace is checked. It is read, and faults are told, as by [`draw_trace`].
 ///
 /// ```
 /// // reader gives "tlsf 1 1 64 1\na 0 7 8\nf 0 7\n"

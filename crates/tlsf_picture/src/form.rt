@@ -16,7 +16,7 @@ pub enum Form {
 impl Form {
     ghost use Rattle.std.specs.Prelude.{◌≤◌, length, OnOk, string_bytes};
 
-    /// Adds the picture of heaps with so many words each, at most eight.
+    /// Adds the picture of heaps with `words` words each, at most eight.
     pub fn write(
         self,
         alloc: Global,

@@ -1,4 +1,4 @@
-//! What pictures of the heaps of workers are made of.
+//! The parts of pictures of the heaps of workers.
 ghost use Rattle.std.specs.Prelude.{◌≡◌, ◌<◌, ◌≤◌, ℕ, List, Option, length, map, IfOk};
 ghost use Rattle.tlsf_crew.specs.worker.Workers.{heap_of, SameButHeap};
 ghost use Rattle.tlsf_crew.specs.lanes.Yard.{IsYard, world_of};
@@ -32,7 +32,7 @@ fn blocks_of<const SLI: u32>(
     Ok(blocks)
 }
 
-// What a picture of a worker's heap of this number is made of.
+// The parts of a picture of a worker's heap of this number.
 fn map_heap<const SLI: u32>(
     alloc: Global,
     id: u32,
@@ -54,7 +54,7 @@ fn map_heap<const SLI: u32>(
     })
 }
 
-/// What a picture of the workers' heaps is made of, by the name that each event made and the label of each. The yard stays as it is.
+/// The parts of a picture of the workers' heaps, by the name that each event made and the label of each. The yard stays as it is.
 pub fn map_heaps<const SLI: u32>(
     alloc: Global,
     workers: &mut [Worker<SLI>],

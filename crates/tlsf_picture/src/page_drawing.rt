@@ -20,7 +20,7 @@ use tlsf_lines::Script;
 use tlsf_map::{NamedLines, write_moment, write_page_foot, write_page_head};
 use tlsf_trace::{Player, Plays, Puts, Summary, TraceFault, play};
 
-// How many moments are spread over a trace with so many lines behind its header.
+// How many moments are spread over a trace with this many lines after its header.
 fn moments_in(lines: usize) -> usize
     requires { lines ≤ 32768 }
     ensures count { result ≡ pages.moments_in lines }
@@ -30,7 +30,7 @@ fn moments_in(lines: usize) -> usize
     (lines + 2).min(200)
 }
 
-// The line behind which the moment of a number stands.
+// The line after which the moment of a number stands.
 fn line_of(lines: usize, number: usize) -> u32
     requires lines { lines ≤ 32768 }
     requires number { number < 200 }
@@ -170,16 +170,16 @@ impl<const SLI: u32> Plays<SLI> for Page {
     }
 }
 
-/// Reads a whole trace, runs it on a new yard of workers, and writes an HTML page that shows its heaps at one moment at a time.
+/// Reads a whole trace and runs it on a new yard of workers. Writes an HTML page that shows its heaps at one moment at a time.
 ///
 /// A browser opens the page without a network. It has all blocks of each heap as they stand after each line and at the end, in the
-/// order of the places, a live one with its label, its bytes and its serial. Of a trace with more than 198 lines behind its header the
-/// page has 200 moments, spread evenly from line 1 to the end, and besides these the peak of each heap and the line that
-/// [`plot_trace`](crate::plot_trace) names above it. A slider, keys and buttons choose the moment that is drawn.
+/// order of the places. A live one comes with its label, its bytes and its serial. Of a trace with more than 198 lines after its
+/// header the page has 200 moments, spread evenly from line 1 to the end. Besides these it has the peak of each heap and the line
+/// that [`plot_trace`](crate::plot_trace) names above it. A slider, keys and buttons choose the moment that is drawn.
 ///
-/// The trace is read to its end and checked before a line runs, it is run once and once more for each heap, and the whole page is made
-/// before a byte is written.
-/// What it is told and read is as at [`draw_trace`](crate::draw_trace). A moment has some 20 bytes for each block.
+/// The trace is read to its end and checked before a line runs. It is run once and once more for each heap, and the whole page is
+/// made before a byte is written. It is read, and faults are told, as by [`draw_trace`](crate::draw_trace). A moment has some 20
+/// bytes for each block.
 ///
 /// ```
 /// // reader gives "tlsf 1 1 64 1\na 0 7 8\n"

@@ -2,5 +2,5 @@
 pub mod laws
 -- Ways to cut a table of kinds, and how the least one is found.
 pub mod sizes
--- What the heaps that never refuse show and keep.
+-- The view of the heaps that never refuse, and the facts that they keep.
 pub mod pools

@@ -4,5 +4,5 @@ pub mod Limits
 pub mod Splits
 -- Tables whose rows go from short to long.
 pub mod Rising
--- What the clauses of private functions cite besides.
+-- Definitions that only clauses of private functions cite.
 pub mod Cheapest

@@ -2,8 +2,8 @@
 //!
 //! # Heaps
 //!
-//! Who opens a [`Pool`] writes two numbers: how many blocks are held at once, at most, and how many bytes a request has, at
-//! most. Each block takes the words of the longest request, and the region has just so many as [`fixed_size_suffices`] asks for. An
+//! Who opens a [`Pool`] writes two numbers: how many blocks are held at once, at most, and how many bytes a request has, at most.
+//! Each block takes the words of the longest request, and the region has just the words that [`fixed_size_suffices`] asks for. An
 //! allocate then gives a block whenever fewer are held, the request is no longer, and the tick isn't at its last value. No other
 //! refusal is left: `NoFit` is no answer that it has.
 //!
@@ -12,10 +12,10 @@
 //! let name = pool.allocate(512)?;
 //! ```
 //!
-//! A [`TablePool`] has a table of kinds: of each kind of request how many blocks are held at once, at most, and how many bytes
-//! such a request has, at most. Each block takes the words of the longest kind of which one may be held, and its heap has just so many
-//! as [`fixed_size_suffices`] asks for. A block counts for the first row of the table that is long enough for it. So the rows rise in
-//! `len`: [`falling_row`] finds one that doesn't.
+//! A [`TablePool`] has a table of kinds. For each kind of request it has how many blocks are held at once, and how many bytes such
+//! a request has, both at most. Each block takes the words of the longest kind of which one may be held. Its heap has just the
+//! words that [`fixed_size_suffices`] asks for. A block counts for the first row of the table that is long enough for it. So the
+//! rows rise in `len`: [`falling_row`] finds one that doesn't.
 //!
 //! ```text
 //! let kinds = [Kind { most: 100, len: 64 }, Kind { most: 4, len: 4096 }];
@@ -27,15 +27,15 @@
 //!
 //! # Sizes
 //!
-//! Of a pool, [`fixed_region`] tells the words for one kind, [`fixed_kinds_words`] those for several, and [`cheapest_split`] how these
-//! are given to several heaps by the fewest words. Of a heap whose blocks have the words of their own requests, [`mixed_region`] tells
-//! the words for one kind, [`kinds_words`] those for several, [`one_large_words`] how many are enough for one large block beside small
-//! ones, [`most_blocks`] and [`longest_request`] how far the greatest region goes.
+//! Of a pool, [`fixed_region`] tells the words for one kind, and [`fixed_kinds_words`] those for several. [`cheapest_split`] tells
+//! how these are given to several heaps by the fewest words. Of a heap whose blocks have the words of their own requests,
+//! [`mixed_region`] tells the words for one kind, and [`kinds_words`] those for several. [`one_large_words`] tells how many are
+//! enough for one large block beside small ones. [`most_blocks`] and [`longest_request`] tell how far the greatest region goes.
 //!
 //! # Laws
 //!
 //! Each law is the contract of a function that does nothing. It speaks of the model of a heap that the contracts of
-//! `tlsf_heap::Heap` name, so it holds of every heap, whatever calls were made on it.
+//! `tlsf_heap::Heap` name. So it holds of every heap, whatever calls were made on it.
 //!
 //! | A user knows | So | Law |
 //! |---|---|---|

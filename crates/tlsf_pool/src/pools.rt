@@ -1,4 +1,4 @@
-//! Heaps of so many words, that never refuse for want of room.
+//! Heaps of a given number of words, that never refuse for want of room.
 
 pub(crate) mod one;
 pub(crate) mod opening;

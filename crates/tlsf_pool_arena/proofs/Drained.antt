@@ -1,4 +1,4 @@
--- What a look at each place in turn leaves.
+-- The places after a look at each in turn.
 use Rattle.tlsf_pool_arena.proofs.Common.{◌≡◌, ℕ, suc, ◌+◌, ◌*◌, ◌≤◌, Bool, true, false, List, [], ◌∷◌, ◌++◌, length, length-append, length-set, set, slice_get, Option, Some, None, refl, sym, ap, ◌∙◌, inl, inr, append_assoc, append-nil, arith, cases_eq, false≢true, HeapState, last_tick, released, SamePlan, RemoteState, TakesHome, home_from, home_released, looks_from, still_away, Parcel}
 
 -- ---- what one look more comes to

@@ -103,7 +103,7 @@ module _ {u : ℕ} where
         omega (arith, first, second);
   }
 
-  -- as many of them by another count
+  -- equally many of them by another count
   pub as_many : (count n m : ℕ) (idle : List ℕ) (away : List (Option (Parcel u))) → n ≡ m → AreIdle u count n idle away → AreIdle u count m idle away
   as_many count n m idle away e is = subst (λ (k : ℕ). AreIdle u count k idle away) e is
 
@@ -194,7 +194,7 @@ module _ {u : ℕ} where
   none_lost r now count idle view is long same few =
       subst (λ (r : RemoteState u). NoneLost r) view (let k = kept_places count r.arena.most r.arena.held idle r.away is long same few in record { all = k.0; idle = k.1 })
 
-  -- while fewer are held than may be, one is idle, and while as many are, none is
+  -- while fewer are held than may be, one is idle, and otherwise none is
   pub none_idle : (r : RemoteState u) → NoneLost r → (idle_places r.away ≡ 0) ↔ (r.arena.held ≡ r.arena.most)
   none_idle r kept = let all = kept.idle in (λ none. omega (arith, all, none), λ full. omega (arith, all, full))
 

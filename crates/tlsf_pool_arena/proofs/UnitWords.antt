@@ -3,7 +3,7 @@ use Rattle.tlsf_pool_arena.proofs.Common.{◌≡◌, ℕ, ◌-◌, ◌*◌, ◌�
 use Rattle.tlsf_arena.proofs.UnitCases.{by_unit}
 use Rattle.tlsf_pool_arena.specs.MixedUnits.{length_for}
 
--- a payload of so many bytes wants k words
+-- a payload of this many bytes wants k words
 wants : (k : ℕ) → 4 ≤ k → want (8 * (k - 3)) ≡ k
 wants k least = omega (arith, least)
 
@@ -22,6 +22,6 @@ lengths_rise u a b unit h = omega (arith, units_rise u a b unit h)
 pub lacks_few : (k : ℕ) → 4 ≤ k → want (lacking k) ≤ k
 lacks_few k least = omega (arith, least)
 
--- the bytes of k units get just so many
+-- the bytes of k units get just k
 pub units_again : (u k : ℕ) → IsUnit u → 4 ≤ k → units_for u (u * k) ≡ k
 units_again u k unit least = by_unit (λ u. units_for u (u * k) ≡ k) (omega (arith, least)) (omega (arith, least)) (omega (arith, least)) u unit

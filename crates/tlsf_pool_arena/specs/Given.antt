@@ -1,4 +1,4 @@
--- What a receipt for a block shows.
+-- The view of a receipt for a block.
 use Rattle.std.specs.Prelude.{ℕ}
 use Rattle.tlsf_pool_arena.specs.declared.parcel.Parcel.{Parcel}
 use Rattle.tlsf_pool_arena.specs.returns.Ends.{IsReceiptFor}

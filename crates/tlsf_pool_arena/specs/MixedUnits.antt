@@ -17,12 +17,12 @@ use Rattle.tlsf_arena.specs.Places.{units_for}
 abbrev pub length_for : ℕ → ℕ → ℕ
 length_for u n = 8 * (units_for u n - 3)
 
--- the units of such an arena, where some heap has so many words
+-- the units of such an arena, where some heap has that many words
 abbrev pub units_of_mixed : ℕ → ℕ → ℕ → ℕ → Option ℕ
 units_of_mixed sli u most longest = mixed_region sli most (length_for u longest)
 
--- the heap is lawful and has words enough; no more blocks are live than may be, and none has more units than the longest request gets and
--- three more. Where it gets four, all have a fixed size of four
+-- the heap is lawful and has words enough. No more blocks are live than may be, and none has more units than the longest request
+-- gets and three more. Where it gets four, all have a fixed size of four
 pub record IsMixedArena (sli u most longest : ℕ) (h : HeapState) : Type 0 where
   pub lawful : IsLawful h
   pub words : mixed_words sli most (length_for u longest) ≤ h.words

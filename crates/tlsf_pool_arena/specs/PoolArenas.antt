@@ -1,4 +1,4 @@
--- An arena of which a program holds at most so many blocks, of at most so many bytes each. All have the same units.
+-- An arena with bounds on the blocks which a program holds, on their number and on the bytes of each. All have the same units.
 use Rattle.std.specs.Prelude.{◌≡◌, ℕ, ◌*◌, ◌≤◌, ◌&&◌, max, Option, Some, None, if◌then◌else◌, nat_le, nat_lt}
 use base.Fml.{GName}
 use Rattle.linked_list_allocator.specs.Region.{Region}
@@ -14,8 +14,8 @@ use Rattle.tlsf_pool.specs.laws.Room.{live_count, sure}
 use Rattle.tlsf_arena.specs.Arenas.{refitted, requested}
 use Rattle.tlsf_arena.specs.Places.{IsUnit, units_for}
 
--- what the arena shows: its heap, the region of its memory, the book of its blocks, how many may be held at once and the bytes of the longest
--- request, how many are held, and the heap's own memory and touches
+-- the view of the arena: its heap, the region of its memory, the book of its blocks, and how many are held. Also how many may be
+-- held at once and the bytes of the longest request, and the heap's own memory and touches
 pub record PoolArenaState : Type 0 where
   pub heap : HeapState
   pub region : Region
@@ -38,7 +38,7 @@ fixed_bytes sli u longest = u * fixed_size sli u longest
 abbrev pub room_units : ℕ → ℕ → ℕ → ℕ → ℕ
 room_units sli u most longest = max 4 (most * fixed_size sli u longest)
 
--- the units of such an arena; None where no class has so long blocks, or no heap so many words
+-- the units of such an arena; None where no class has blocks of that length, or no heap has that many words
 abbrev pub units_of_pool : ℕ → ℕ → ℕ → ℕ → Option ℕ
 units_of_pool sli u most longest =
     if nat_le (units_for u longest) (most_words sli) && nat_le (room_units sli u most longest) (most_words sli) then Some (room_units sli u most longest) else None
@@ -51,8 +51,8 @@ pool_requested sli u p = requested sli u p.heap (fixed_bytes sli u p.longest)
 abbrev pub resized_in_pool : ℕ → ℕ → PoolArenaState → Name → ℕ → Outcome (Unit {0})
 resized_in_pool sli u p name n = if nat_lt p.longest n then refused p.heap NoRoom else refitted u p.heap name (fixed_bytes sli u p.longest)
 
--- the heap has a level, is lawful and has words enough; as many blocks are live as are held, no more than may be, and all have the units from
--- which every free block serves the longest request
+-- the heap has a level, is lawful and has words enough. As many blocks are live as are held, and no more than may be. All have the
+-- units from which every free block serves the longest request
 pub record IsPoolArena (sli u : ℕ) (p : PoolArenaState) : Type 0 where
   pub level : IsLevel sli
   pub unit : IsUnit u
@@ -72,7 +72,7 @@ pub record SamePlan (old new : PoolArenaState) : Type 0 where
   pub longest : new.longest ≡ old.longest
   pub stays : new.extents ≡ old.extents
 
--- the same heap besides, and as many blocks held. Only the touches may differ
+-- the same heap besides, and the same number of blocks held. Only the touches may differ
 pub record SamePoolArena (old new : PoolArenaState) : Type 0 where
   pub plan : SamePlan old new
   pub heap : new.heap ≡ old.heap

@@ -13,9 +13,9 @@ pub record CountedPlaces : Type 0 where
   pub places : List ℕ
   pub steps : ℕ
 
--- what the arena shows: the pool's arena, the block that is away by each place, and the looks that it had at places, each with whether the
--- block was home then. Also the places by which none is away, of which the next block goes out by the last, how often an entry of that list
--- was read or written, and which places they are
+-- the view of the arena: the pool's arena, the block that is away by each place, and the looks that it had at places. Each look
+-- tells whether the block was home then. Also the places by which none is away; the next block goes out by the last of these. Also
+-- how often an entry of that list was read or written, and which places they are
 pub record RemoteState (u : ℕ) : Type 0 where
   pub arena : PoolArenaState
   pub away : List (Option (Parcel u))
@@ -45,7 +45,7 @@ pub record NoneLost {u : ℕ} (r : RemoteState u) : Type 0 where
   pub all : length r.away ≡ r.arena.most
   pub idle : idle_places r.away + r.arena.held ≡ r.arena.most
 
--- the first n entries of a list of so many are the places by which none is away, each another one
+-- the first n entries of a list of this many are the places by which none is away, each another one
 pub record AreIdle (u count n : ℕ) (idle : List ℕ) (away : List (Option (Parcel u))) : Type 0 where
   pub long : length idle ≡ count
   pub all : idle_places away ≡ n

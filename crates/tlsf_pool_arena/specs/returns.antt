@@ -1,8 +1,8 @@
 -- Places by which values come home from other threads.
 
--- What contracts see of the ends of the places.
+-- The ends of the places, as contracts see them.
 pub mod Ends
--- What stands at each place, and what each seat knows of it.
+-- The content of each place, and the knowledge of each seat of it.
 pub mod Places
--- What each step tells of the seat that makes it.
+-- The knowledge that each step gives the seat that makes it.
 pub mod Steps

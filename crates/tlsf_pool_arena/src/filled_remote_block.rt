@@ -17,7 +17,7 @@ use tlsf_arena::FilledBlock;
 /// queue.push(message)                                 // to another thread, with no byte copied
 /// ```
 pub struct FilledRemoteBlock<'a, const UNIT: usize> {
-    /// What was lent, whose slices are its bytes.
+    /// The block that was lent, whose slices are its bytes.
     pub block: FilledBlock<UNIT>,
     pub(crate) ticket: Ticket<Parcel<UNIT>>,
     pub(crate) places: &'a Places<Parcel<UNIT>>,
@@ -27,7 +27,7 @@ pub struct FilledRemoteBlock<'a, const UNIT: usize> {
 }
 
 impl<'a, const UNIT: usize> FilledRemoteBlock<'a, UNIT> {
-    /// The block as it was lent. What its bytes hold is in no clause from here on.
+    /// The block as it was lent. No clause speaks of the bytes from here on.
     ///
     /// ```text
     /// let receipt = message.into_remote().give_back();

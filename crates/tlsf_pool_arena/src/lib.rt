@@ -10,9 +10,9 @@
 //! voices.release(block)
 //! ```
 //!
-//! A [`RemoteArena`] is such an arena whose blocks any thread may give back. It lends each block by a place that is free. A [`RemoteBlock`]
-//! goes to any thread, which is then the only one that can reach its bytes, and comes home when it is dropped: never refused, with no wait.
-//! The arena's own thread releases what came home, by [`RemoteArena::drain`].
+//! A [`RemoteArena`] is such an arena whose blocks any thread may give back. It lends each block by a place that is free. A
+//! [`RemoteBlock`] goes to any thread, which is then the only one that can reach its bytes. It comes home when it is dropped: never
+//! refused, with no wait. The arena's own thread releases what came home, by [`RemoteArena::drain`].
 //!
 //! ```text
 //! let (places, owner) = open_places(alloc, 100)?;
@@ -22,10 +22,10 @@
 //! arena.drain(&places) == 1
 //! ```
 //!
-//! The places serve values of any type. [`open_places`] opens so many, and answers them with the one [`OwnerEnd`]. The owner sends a value out
-//! by a free place and gets a [`Ticket`] for it, which goes with the value. Whoever has both puts the value back, in one call that ends
-//! and never waits, whatever the other threads do: the place is the value's own for as long as it is away, so it is never full. The owner looks
-//! at the places, and takes what came home.
+//! The places serve values of any type. [`open_places`] opens a number of them, and answers them with the one [`OwnerEnd`]. The
+//! owner sends a value out by a free place and gets a [`Ticket`] for it, which goes with the value. Whoever has both puts the value
+//! back, in one call that ends and never waits, whatever the other threads do. The place is the value's own for as long as it is
+//! away, so it is never full. The owner looks at the places, and takes what came home.
 //!
 //! ```text
 //! let (places, mut owner) = open_places(alloc, 4)?;

@@ -21,7 +21,7 @@ impl Model for PlaceList {
 }
 
 impl PlaceList {
-    /// So many places, from 0 on.
+    /// `count` places, from 0 on.
     pub(crate) fn all(alloc: Global, count: u32) -> Result<PlaceList, AllocError>
         ensures { IfOk result (λ l. l.places ≡ range_with_len 0 count) }
     {

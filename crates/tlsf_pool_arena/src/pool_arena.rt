@@ -23,8 +23,8 @@ use tlsf_pool::PoolRefusal;
 /// An arena that never refuses for want of room: it is opened by the most blocks that are held at once and the longest request. Its level
 /// is that of its heap, 4 or 5, and a unit has 16, 32 or 64 bytes. Each block has the units of the longest request, whatever its own length.
 ///
-/// Contracts see it as its heap, the region of its memory, the book in which its blocks stand, the two bounds, how many blocks are held, and
-/// the heap's own memory (`extents`) and touches. Lengths are in bytes.
+/// Contracts see it as its heap, the region of its memory, and the book in which its blocks stand. They see the two bounds, how
+/// many blocks are held, and the heap's own memory (`extents`) and touches. Lengths are in bytes.
 #[derive(Drop)]
 pub struct PoolArena<const SLI: u32, const UNIT: usize> {
     arena: Arena<SLI, UNIT>,
@@ -61,8 +61,8 @@ impl<const SLI: u32, const UNIT: usize> PoolArena<SLI, UNIT> {
     /// Opens an arena for at most `most` blocks at once, of at most `longest` bytes each. Its heap has the number `id`, and its memory is
     /// taken from `alloc` beside that for the heap.
     ///
-    /// Refused as `BadSize` where no heap has so many words as [`fixed_units`] (4 to 2^20, or to 2^24 at level 5), else as `NoMemory` where
-    /// the memory was not granted. No later call takes memory.
+    /// Refused as `BadSize` where no heap has as many words as [`fixed_units`] says (4 to 2^20, or to 2^24 at level 5). Otherwise
+    /// as `NoMemory` where the memory was not granted. No later call takes memory.
     ///
     /// ```text
     /// let arena = PoolArena::<4, 16>::open(alloc, 0, 100, 512)?;
@@ -99,8 +99,8 @@ impl<const SLI: u32, const UNIT: usize> PoolArena<SLI, UNIT> {
 
     /// Gives a block with room for the longest request, as [`Arena::allocate`] does, whatever `len` is: `len` bytes or more.
     ///
-    /// It is given whenever `len` is at most the longest request, fewer blocks are held than may be, and the tick isn't at its last value.
-    /// Else it is refused as `TooLong`, `Full` or `Worn`, in this order. Takes no memory.
+    /// It is given whenever `len` is at most the longest request, and fewer blocks are held than may be. Only the tick must not be
+    /// at its last value. Else it is refused as `TooLong`, `Full` or `Worn`, in this order. Takes no memory.
     ///
     /// ```text
     /// let mut arena = PoolArena::<4, 16>::open(alloc, 0, 1, 100)?;         // one block of up to 100 bytes
@@ -150,8 +150,8 @@ impl<const SLI: u32, const UNIT: usize> PoolArena<SLI, UNIT> {
 
     /// Takes a block back, and merges its units with the free ones beside them. One block fewer is held.
     ///
-    /// A block that is out is live (`live`): so it is refused, and comes back, for nothing but `Worn`, where the tick is at its last value.
-    /// Takes no memory.
+    /// A block that is out is live (`live`). So it is refused, and comes back, for nothing but `Worn`, where the tick is at its
+    /// last value. Takes no memory.
     ///
     /// ```text
     /// let block = arena.allocate(100)?;
@@ -182,11 +182,11 @@ impl<const SLI: u32, const UNIT: usize> PoolArena<SLI, UNIT> {
         }
     }
 
-    /// Makes a block `len` bytes long or more where it stands, as [`Arena::resize`] does: its name and its address stay, and as many blocks are
-    /// held as before. It had room for the longest request from the beginning, so it stays as long as it is.
+    /// Makes a block `len` bytes long or more where it stands, as [`Arena::resize`] does. Its name and its address stay, and as
+    /// many blocks are held as before. It had room for the longest request from the beginning, so it stays as long as it is.
     ///
-    /// Refused, with the block, as `NoRoom` exactly where `len` is above the longest request, else as `Worn` where the tick is at its last
-    /// value. Takes no memory.
+    /// Refused, with the block, as `NoRoom` exactly where `len` is above the longest request; otherwise as `Worn` where the tick is
+    /// at its last value. Takes no memory.
     ///
     /// ```text
     /// let mut arena = PoolArena::<4, 16>::open(alloc, 0, 2, 200)?;
@@ -223,7 +223,8 @@ impl<const SLI: u32, const UNIT: usize> PoolArena<SLI, UNIT> {
         Err((Refusal::NoRoom, block))
     }
 
-    /// What the arena's heap holds, and how well it serves, in units: a walk over all its blocks. It is never refused, and takes no memory.
+    /// The report on the arena's heap, in units: its blocks, and how well it serves. It walks over all blocks. It is never refused,
+    /// and takes no memory.
     ///
     /// As many blocks are live as are held.
     ///

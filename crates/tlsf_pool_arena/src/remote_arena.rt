@@ -22,8 +22,9 @@ use tlsf_pool::PoolRefusal;
 
 /// A pool's arena that lends its blocks by places: it never refuses for want of room, and any thread may give a block back.
 ///
-/// Contracts see it as its arena, the block that is away by each place, and the looks that it had at places, each with whether the block was
-/// home then. They also see the places by which none is away, and how often an entry of that list was read or written.
+/// Contracts see it as its arena, the block that is away by each place, and the looks that it had at places. Each look tells
+/// whether the block was home then. They also see the places by which none is away, and how often an entry of that list was read or
+/// written.
 #[derive(Drop)]
 pub struct RemoteArena<const SLI: u32, const UNIT: usize> {
     arena: PoolArena<SLI, UNIT>,
@@ -46,8 +47,8 @@ impl<const SLI: u32, const UNIT: usize> Model for RemoteArena<SLI, UNIT> {
 }
 
 impl<const SLI: u32, const UNIT: usize> RemoteArena<SLI, UNIT> {
-    /// Opens an arena for at most `most` blocks at once, of at most `longest` bytes each, as [`PoolArena::open`] does, and is refused as it
-    /// is. It lends them by the places of `owner`, of which there are as many.
+    /// Opens an arena for at most `most` blocks at once, of at most `longest` bytes each, as [`PoolArena::open`] does, and is
+    /// refused as it is. It lends them by the places of `owner`, one for each block.
     pub fn open(
         alloc: Global,
         owner: OwnerEnd<Parcel<UNIT>>,
@@ -77,12 +78,13 @@ impl<const SLI: u32, const UNIT: usize> RemoteArena<SLI, UNIT> {
         })
     }
 
-    /// Lends a block with room for the longest request, `len` bytes or more, by a place by which none is away: the one that came home last, or one that was never used (`last`).
-    /// It is found in one step on the list of these, whatever the number of places (`steps`).
+    /// Lends a block with room for the longest request, `len` bytes or more, by a place by which none is away. It is the one that
+    /// came home last, or one that was never used (`last`). It is found in one step on the list of these, whatever the number of
+    /// places (`steps`).
     ///
-    /// It is lent whenever `len` is at most the longest request, a place is idle, as one is while fewer blocks are held than may be, and the
-    /// tick isn't at its last value. Else it is refused as `TooLong`, `Full` or `Worn`, in this order, and nothing changes: never for want of
-    /// room. Takes no memory.
+    /// It is lent whenever `len` is at most the longest request, and a place is idle. One is while fewer blocks are held than may
+    /// be. Only the tick must not be at its last value. Else it is refused as `TooLong`, `Full` or `Worn`, in this order, and
+    /// nothing changes: never for want of room. Takes no memory.
     ///
     /// ```text
     /// let block = arena.lend(&places, 512)?;                       // of an arena of one block of up to 512 bytes

@@ -9,8 +9,8 @@ use crate::returns::receipt::Receipt;
 use crate::returns::ticket::Ticket;
 use tlsf_arena::Block;
 
-/// A block that any thread may give back: whoever has it is the only one who can reach its bytes. Once it is dropped, or given back, it is
-/// home: the arena's next `drain` releases it. That is never refused, takes no memory and doesn't wait.
+/// A block that any thread may give back: whoever has it is the only one who can reach its bytes. Once it is dropped, or given
+/// back, it is home: the arena's next `drain` releases it. Its return is never refused, takes no memory and doesn't wait.
 ///
 /// ```text
 /// let block = arena.lend(&places, 512)?;

@@ -6,7 +6,7 @@ ghost use Rattle.tlsf_pool_arena.specs.PoolArenas.{units_of_pool};
 
 use tlsf_pool::{fixed_region, mixed_region};
 
-/// The payload of a heap's block that has as many words as a block of so many bytes has units.
+/// The payload of a heap's block that has as many words as a block of `len` bytes has units.
 fn length_in_heap<const UNIT: usize>(len: u32) -> u32
     requires { IsUnit UNIT }
     ensures { result ≡ length_for UNIT len }
@@ -15,10 +15,10 @@ fn length_in_heap<const UNIT: usize>(len: u32) -> u32
     8 * (units - 3)
 }
 
-/// The units of an arena for a program of at most `most` blocks at once, of at most `longest` bytes each, that takes the same units for
-/// each, whatever its length: those from which every free block serves the longest. It is never refused for want of room, by
-/// [`fixed_size_suffices`](tlsf_pool::fixed_size_suffices). None where no arena has so many. A [`PoolArena`](crate::PoolArena) of these
-/// bounds has so many units, and takes the same for each block by itself.
+/// The units of an arena for a program of at most `most` blocks at once, of at most `longest` bytes each. The program takes the
+/// same units for each, whatever its length: those from which every free block serves the longest. It is never refused for want of
+/// room, by [`fixed_size_suffices`](tlsf_pool::fixed_size_suffices). None where no arena has that many. A
+/// [`PoolArena`](crate::PoolArena) of these bounds has this number of units, and takes the same for each block by itself.
 ///
 /// ```
 /// let units = fixed_units::<4, 16>(100, 512);       // Some(3200), each block of 32
@@ -32,9 +32,9 @@ pub fn fixed_units<const SLI: u32, const UNIT: usize>(most: u32, longest: u32) -
     fixed_region::<SLI>(most, length_in_heap::<UNIT>(longest))
 }
 
-/// The units of an arena in which a program of at most `most` blocks at once, of at most `longest` bytes each, is never refused for want
-/// of room, by [`mixed_units_suffice`]; None where no arena has so many. It is for an [`Arena`](tlsf_arena::Arena) or a
-/// [`LocalArena`](tlsf_arena::LocalArena), of which each block has the units of its own length.
+/// The units of an arena for a program of at most `most` blocks at once, of at most `longest` bytes each. It is never refused for
+/// want of room, by [`mixed_units_suffice`]. None where no arena has that many. It is for an [`Arena`](tlsf_arena::Arena) or a
+/// [`LocalArena`](tlsf_arena::LocalArena), whose blocks each have the units of their own length.
 ///
 /// ```
 /// let units = mixed_units::<4, 16>(100, 512);       // Some(6566)

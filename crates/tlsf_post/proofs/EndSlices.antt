@@ -13,7 +13,7 @@ pub record EndSlice (t u : TakeEnd) (posts : List Post) : Type 0 where
   pub came : taken u ≡ taken t ++ posts
   pub order : IsPrefix (ready t) (posts ++ ready u)
 
--- the end once one post came out, of which it knows no more to be ready than before
+-- the end once one post came out; it knows no more to be ready than before
 abbrev after_one : TakeEnd → Post → TakeEnd
 after_one t post =
     let past = t.ring.end.past ++ post ∷ [] in

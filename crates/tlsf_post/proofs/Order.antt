@@ -1,4 +1,4 @@
--- What was taken from a lane and then waits is what had waited and was sent.
+-- The posts that were taken from a lane, and then those that wait, are those that had waited and then those that were sent.
 use Rattle.tlsf_post.proofs.Common.{◌≡◌, ◌≤◌, List, ◌++◌, length, take, drop, append_assoc, drop-append-le, take-append-drop}
 use Rattle.std.proofs.Math.Seq.{drop-append_seam}
 

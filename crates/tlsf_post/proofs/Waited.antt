@@ -1,4 +1,4 @@
--- What the ends of a mailbox say of the posts that waited.
+-- The words of the ends of a mailbox on the posts that waited.
 use Rattle.tlsf_post.proofs.Common.{◌≡◌, ◌≢◌, ℕ, ◌+◌, ◌<◌, ◌≤◌, List, [], ◌∷◌, ◌++◌, length, refl, sym, ap, ◌∙◌, subst, arith, length-append, All-tail, Option, Some, None, MatchOption, IfSome, Post, Plan, View, posts_of, plan_for, MayPut, AreOfPosters, Shows, HasTaken, owner_of, out_of, plan_at, OwnerSaw}
 use mathlib.Core.List.{IsPrefix}
 use Rattle.crossbeam_queue.specs.Passes.{view}

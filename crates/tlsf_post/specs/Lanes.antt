@@ -1,4 +1,4 @@
--- What a contract sees of the two ends of a lane.
+-- The two ends of a lane, as a contract sees them.
 use Rattle.std.specs.Prelude.{◌≡◌, ℕ, ◌-◌, List, ◌++◌, length, drop}
 use Rattle.rtrb.specs.Ring.{sent, received, known_free, known_items, producer_capacity, consumer_capacity, IsPair}
 use Rattle.tlsf_words.specs.Memory.{Extent}
@@ -37,8 +37,8 @@ post_extent p = record { address = p.ring.end.slots; capacity = producer_capacit
 abbrev pub take_extent : TakeEnd → Extent
 take_extent t = record { address = t.ring.end.slots; capacity = consumer_capacity t.ring }
 
--- the two fit each other as the ends of one lane do: they are the ends of one ring, and at the last `beside` all that was
--- sent was taken or waited
+-- the two fit each other as the ends of one lane do. They are the ends of one ring, and at the last `beside` all that was sent was
+-- taken or waited
 unfoldable pub IsLane : PostEnd → TakeEnd → Type 0
 IsLane p t = IsPair p.ring t.ring × (received t.mark.value ++ waited t ≡ sent p.mark.value)
 

@@ -1,4 +1,4 @@
--- What a contract sees of the ends of a mailbox.
+-- The ends of a mailbox, as a contract sees them.
 use Rattle.std.specs.Prelude.{◌≡◌, ℕ, zero, suc, ◌+◌, ◌≤◌, List, [], ◌∷◌, ◌++◌, ◌==◌, if◌then◌else◌, map, length, All}
 use Rattle.std.specs.Arc.{arc_value}
 use mathlib.Core.List.{IsPrefix}
@@ -65,8 +65,8 @@ IsAllTaken o = (p : ℕ) → IsPrefix (posts_of p (known_to o)) (posts_of p (got
 
 -- ---- what waited
 
--- what the end can say of the posts that waited at one moment: no more than the mailbox holds, each of a poster of it. Those of
--- the end are the last that it has put; all that it has put before them was taken, and that begins with what it knew to be
+-- what the end can say of the posts that waited at one moment: no more than the mailbox holds, each of a poster of it. Those of the
+-- end are the last that it has put. All that it has put before them was taken, and that begins with the posts that it knew to be
 pub record PosterSaw (p : PosterEnd) (waiting : List Post) : Type 0 where
   pub few : length waiting ≤ (plan_of p).capacity
   pub from : AreOfPosters (plan_of p) waiting

@@ -1,4 +1,4 @@
--- What the steps of `mailbox` and `OwnerEnd::beside` leave. This serves the contracts and proofs of private functions alone.
+-- The ends after the steps of `mailbox` and `OwnerEnd::beside`. This serves the contracts and proofs of private functions alone.
 use Rattle.std.specs.Prelude.{◌≡◌, ℕ, zero, suc, ◌+◌, ◌≤◌, List, [], ◌∷◌, ◌++◌, ◌==◌, if◌then◌else◌, map, length, All}
 use Rattle.crossbeam_queue.specs.Passes.{Pass, view}
 use Rattle.tlsf_post.specs.Rule.{posts_of, owner_view, AreOfPosters, IsIn}
@@ -7,12 +7,12 @@ use Rattle.tlsf_post.specs.declared.post.Post.{Post}
 use Rattle.tlsf_post.specs.declared.view.View.{View}
 use Rattle.tlsf_post.specs.declared.poster_end.PosterEnd.{PosterEnd}
 
--- so many numbers, rising by one
+-- this many numbers, rising by one
 abbrev pub run : ℕ → ℕ → List ℕ
 run from zero = []
 run from (suc count) = from ∷ run (suc from) count
 
--- the number behind one, but that one
+-- the number after one, but that one
 abbrev pub next_but : ℕ → ℕ → ℕ
 next_but own from = if own == from + 1 then from + 2 else from + 1
 

@@ -1,4 +1,4 @@
--- What the queue of a mailbox holds, and what each of its passes knows.
+-- The queue of a mailbox, and the knowledge of each of its passes.
 use Rattle.std.specs.Prelude.{◌≡◌, ◌≢◌, ◌⊎◌, ℕ, ◌<◌, ◌≤◌, true, false, List, [], ◌∷◌, ◌++◌, ◌==◌, not, length, All}
 use Rattle.std.specs.List.{filter}
 use mathlib.Core.List.{IsPrefix}
@@ -29,7 +29,8 @@ AreOfPosters plan posts = All (λ post. MayPut plan post.from) posts
 abbrev pub poster_view : Plan → ℕ → List Post → List Post → View
 poster_view plan number put gone = record { posts = true; takes = false; plan = plan; number = number; put = put; got = gone }
 
--- what the owner knows: the posters of which numbers are out, but its own number, what they had put when they went out, and what was taken
+-- the knowledge of the owner: the posters of which numbers are out, but its own number. Also the posts that they had put when they
+-- went out, and the posts taken
 abbrev pub owner_view : Plan → ℕ → List Post → List Post → View
 owner_view plan number known got = record { posts = false; takes = true; plan = plan; number = number; put = known; got = got }
 
@@ -46,7 +47,8 @@ FitsPoster plan pass_of taken all pass v =
     v.posts ≡ true
     → (pass_of v.number ≡ some pass) × (v.put ≡ posts_of v.number all) × (v.plan ≡ plan) × IsPrefix v.got (posts_of v.number taken)
 
--- one pass alone takes. What each poster has put begins with what the owner knows, and is that where the poster isn't out
+-- one pass alone takes. The posts that each poster has put begin with those that the owner knows, and are these where the poster
+-- isn't out
 abbrev pub FitsOwner : Plan → ℕ → (ℕ → Option ℕ) → List Post → List Post → ℕ → View → Type 0
 FitsOwner plan owner pass_of taken all pass v =
     v.takes ≡ true
@@ -69,8 +71,8 @@ pub record Kept (items : List Post) (views : List View) : Type 0 where
   pub from : AreOfPosters plan items
   pub fits : (pass : ℕ) (v : View) → get_elem? views pass ≡ some v → Fits plan owner pass_of taken (taken ++ items) pass v
 
--- what the owner's pass shows of what the queue holds: of each poster, what was taken and what waits begins with what is
--- known to have been put, and is that where the poster isn't out
+-- the meaning of the owner's pass for the queue. Of each poster, the posts taken and those that wait begin with those that are
+-- known to have been put. They are these where the poster isn't out
 pub record Shows (v : View) (items : List Post) : Type 0 where
   pub few : length items ≤ v.plan.capacity
   pub from : AreOfPosters v.plan items
@@ -84,7 +86,7 @@ pub record ShowsOwn (v : View) (items : List Post) : Type 0 where
   pub own : v.put ≡ taken ++ posts_of v.number items
   pub known : IsPrefix v.got taken
 
--- a post went in behind the others
+-- a post went in after the others
 abbrev pub HasPut : View → Post → View → Type 0
 HasPut v x w = (w ≡ poster_view v.plan v.number (v.put ++ x ∷ []) v.got) × (others : List Post) × ShowsOwn w (others ++ x ∷ [])
 

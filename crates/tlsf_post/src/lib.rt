@@ -1,24 +1,24 @@
 //! Lanes and mailboxes: two ways of a name to the owner of its heap.
 //!
-//! A lane goes from one worker to another. A [`PostEnd`] sends posts into it, a [`TakeEnd`] takes them out in the order
-//! in which they were sent. The two ends come from one call of [`lane`], and each may then go into a thread of its own:
-//! `put` and `take` know their own end alone, and posts pass between them through a ring. Where both are at hand,
-//! [`beside`] tells each end what the other did.
+//! A lane goes from one worker to another. A [`PostEnd`] sends posts into it, a [`TakeEnd`] takes them out in the order in which
+//! they were sent. The two ends come from one call of [`lane`], and each may then go into a thread of its own. The calls `put` and
+//! `take` know their own end alone, and posts pass between them through a ring. Where both are at hand, [`beside`] tells each end
+//! what the other did.
 //!
-//! Contracts see a `PostEnd` as the posts that it sent since the last `beside` (`posts_sent`), the free slots that it
-//! knows of (`free_slots`) and the capacity of its lane (`capacity_of`). They see a `TakeEnd` as the posts that waited
-//! at the last `beside` (`waited`), those taken since (`taken`) and those that it knows to be ready (`ready`). That two
-//! ends fit each other as those of one lane do, so that `beside` may join them, is `IsLane`.
+//! Contracts see a `PostEnd` as the posts that it sent since the last `beside` (`posts_sent`) and the free slots that it knows of
+//! (`free_slots`). They see the capacity of its lane too (`capacity_of`). They see a `TakeEnd` as the posts that waited at the last
+//! `beside` (`waited`) and those taken since (`taken`). They see those that it knows to be ready (`ready`). Two ends fit each other
+//! as those of one lane do, so that `beside` may join them: this is `IsLane`.
 //!
 //! A mailbox is one queue for each owner, into which all others post. [`mailbox`] answers the [`OwnerEnd`] that takes, and
 //! a [`PosterEnd`] for each other worker. Where all ends are at hand, [`OwnerEnd::beside`] tells
 //! the owner what was put.
 //!
-//! Contracts see a `PosterEnd` as its number (`number_of`), all that was put through it (`put_by`), what it knows to have
-//! been taken of that (`gone_from`), and the mailbox's owner, workers and capacity (`plan_of`). They see an `OwnerEnd` as its
-//! number (`owner_of`), all that was taken through it (`got_by`), and what it knows to have been put (`known_to`), of which
-//! `posts_of` are the posts of one worker. What an end can say of the posts that waited at one moment of its call is
-//! `PosterSaw` and `OwnerSaw`. That ends are all those of one mailbox is `IsWhole`.
+//! Contracts see a `PosterEnd` as its number (`number_of`) and all that was put through it (`put_by`). They see which of these it
+//! knows to have been taken (`gone_from`). They see the mailbox's owner, workers and capacity too (`plan_of`). They see an
+//! `OwnerEnd` as its number (`owner_of`), all that was taken through it (`got_by`), and what it knows to have been put
+//! (`known_to`). The posts of one worker among these are `posts_of`. An end can speak of the posts that waited at one moment of its
+//! call: by `PosterSaw` and `OwnerSaw`. Ends are all those of one mailbox: this is `IsWhole`.
 //!
 //! Nothing but `lane` and `mailbox` takes memory. A lane's ends never wait; those of a mailbox may wait for one another's
 //! half of a step.

@@ -5,9 +5,9 @@ use std::marker::{Model, PhantomData, Send};
 
 /// A value as contracts saw it. It has no bytes and owns nothing, so it may go to any thread.
 ///
-/// It says what std's `Snapshot` says. But the search for `Send` gives up at its limit at a struct that has a `Snapshot` beside an end of
-/// a ring; of a `Mark` the proof stands with the type, where the search finds it at once. So whatever holds the end of a lane, as a
-/// worker, moves into a thread with no proof of its own.
+/// It says what std's `Snapshot` says. But the search for `Send` gives up at its limit at a struct that has a `Snapshot` beside an
+/// end of a ring. For a `Mark` the proof stands with the type, where the search finds it at once. So whatever holds the end of a
+/// lane, as a worker, moves into a thread with no proof of its own.
 pub(crate) struct Mark<T> {
     marker: PhantomData<T>,
     pub ghost value: { T },

@@ -21,7 +21,7 @@ use std::thread::yield_now;
 #[derive(Drop)]
 pub struct OwnerEnd {
     pub(crate) queue: Arc<Queue, Global>,
-    // What was taken, and what is known to have been put. It has no bytes.
+    // The posts that were taken, and those that are known to have been put. It has no bytes.
     pub(crate) pass: Pass<Post, View>,
     pub(crate) number: u32,
     ghost place: { pass.table_id ≡ (arc_value queue).table.shared.table_id },
@@ -42,7 +42,7 @@ impl OwnerEnd {
     ///
     /// - `mailbox`: it stays the owner's end of its mailbox.
     /// - `stays`: it takes no memory, so the mailbox's posts stay where they lie.
-    /// - `some`: the post stands behind those taken before.
+    /// - `some`: the post stands after those taken before.
     /// - `waited`: no more posts waited than the mailbox holds, and it before the others.
     /// - `from`: it is of another worker, for which the mailbox has an end.
     /// - `none`: nothing was taken, and of each poster all was taken that was known to have been put.
@@ -67,7 +67,7 @@ impl OwnerEnd {
     /// thread is half through putting that post: [`OwnerEnd::is_empty`] tells these apart. It never waits.
     ///
     /// - `mailbox`, `stays`: as for `take`.
-    /// - `some`: the post stands behind those taken before.
+    /// - `some`: the post stands after those taken before.
     /// - `waited`: no more posts waited than the mailbox holds, and it before the others.
     /// - `from`: it is of another worker, for which the mailbox has an end.
     /// - `none`: nothing was taken.
@@ -133,7 +133,7 @@ impl OwnerEnd {
     ///
     /// - `mailbox`, `stays`, `same`: it stays the owner's end of its mailbox, takes no memory, and no post is taken.
     /// - `most`: no more than the mailbox holds.
-    /// - `count`: so many that, of each poster, what was taken and they begin with what was known to have been put, and each is
+    /// - `count`: the posts taken of each poster, and after them these, begin with those that were known to have been put. Each is
     ///   of a poster.
     ///
     /// ```
@@ -153,9 +153,9 @@ impl OwnerEnd {
     ///
     /// - It requires that the ends are all those of one mailbox, in the order in which [`crate::mailbox`] answered them. `put`,
     ///   `take` and `beside` keep it.
-    /// - `beside`: nothing is put or taken. Of each poster, what was taken and then what waits is what it has put, and from now
-    ///   on the owner's end knows that, and the poster's what was taken. So no post is lost, doubled, or overtaken by another of
-    ///   its poster. No more posts wait in all than the mailbox holds.
+    /// - `beside`: nothing is put or taken. The posts of each poster that were taken, and then those that wait, are all that it has
+    ///   put. From now on the owner's end knows that, and the poster's end knows which were taken. So no post is lost, doubled, or
+    ///   overtaken by another of its poster. No more posts wait in all than the mailbox holds.
     /// - `stays`, `capacity`: the mailbox's posts stay where they lie, and the list of the ends keeps its room.
     ///
     /// ```

@@ -1,4 +1,4 @@
-/// What a mailbox is laid out for. It stands in contracts alone: no value of it is made.
+/// The bounds that a mailbox is laid out for. It stands in contracts alone: no value of it is made.
 pub struct Plan {
     /// The number of its owner.
     pub owner: u32,

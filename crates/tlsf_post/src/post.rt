@@ -1,7 +1,6 @@
 use tlsf_heap::Name;
 
-/// What goes through a lane: the name of a block of the heap that the lane leads to, which its owner is asked to
-/// release.
+/// The message of a lane: the name of a block of the heap that the lane leads to, which its owner is asked to release.
 ///
 /// ```
 /// let post = Post { from: 1, name };     // worker 1 asks the owner of heap `name.heap` to release the block

@@ -61,7 +61,7 @@ impl PostEnd {
     ///
     /// - `lane`, `stays`: as for `put`.
     /// - `most`: no more go than there are.
-    /// - `sent`: those that went, in their order, stand behind those sent before.
+    /// - `sent`: those that went, in their order, stand after those sent before.
     /// - `slots`: for each that went one free slot less is known.
     /// - `succeeds`: where some did not go, at least as many went as free slots were known.
     ///

@@ -19,7 +19,7 @@ use tlsf_heap::Name;
 #[derive(Drop)]
 pub struct PosterEnd {
     pub(crate) queue: Arc<Queue, Global>,
-    // What was put. It has no bytes.
+    // The posts that were put. It has no bytes.
     pub(crate) pass: Pass<Post, View>,
     pub(crate) from: u32,
     ghost place: { pass.table_id ≡ (arc_value queue).table.shared.table_id },
@@ -44,12 +44,12 @@ impl PosterEnd {
     ///
     /// - `mailbox`: it stays an end of its mailbox, with its number.
     /// - `stays`: it takes no memory, so the mailbox's posts stay where they lie.
-    /// - `ok`: on Ok a post of this end's number, with the name, stands behind those put before.
-    /// - `waits`: no more posts waited with it than the mailbox holds, each of a poster of it, and it behind the others.
+    /// - `ok`: on Ok a post of this end's number, with the name, stands after those put before.
+    /// - `waits`: no more posts waited with it than the mailbox holds, each of a poster of it, and it after the others.
     /// - `full`: on Err the name is given back, and what was put doesn't change.
-    /// - `was_full`: so many posts waited as the mailbox holds, each of a poster of it; this end's were the last that it had put.
-    /// - `alone`: where nobody else puts into the mailbox they were all this end's. So it had put as many, besides those that it
-    ///   knows to have been taken.
+    /// - `was_full`: as many posts waited as the mailbox holds, each of a poster of it. This end's were the last that it had put.
+    /// - `alone`: where nobody else puts into the mailbox they were all this end's. So it had put the mailbox's capacity, besides
+    ///   those that it knows to have been taken.
     ///
     /// ```
     /// match poster_end.put(rt, name) {
@@ -81,8 +81,8 @@ impl PosterEnd {
     ///
     /// - `mailbox`: it stays an end of its mailbox, with its number.
     /// - `stays`: it takes no memory, so the mailbox's posts stay where they lie.
-    /// - `went`: at `true` a post of this end's number, with the name, stands behind those put before.
-    /// - `waits`: no more posts waited with it than the mailbox holds, each of a poster of it, and it behind the others.
+    /// - `went`: at `true` a post of this end's number, with the name, stands after those put before.
+    /// - `waits`: no more posts waited with it than the mailbox holds, each of a poster of it, and it after the others.
     /// - `missed`: at `false` what was put doesn't change.
     ///
     /// ```
@@ -108,9 +108,10 @@ impl PosterEnd {
     /// Whether the mailbox was full at one moment of the call. It never waits, and a post may have been taken since.
     ///
     /// - `mailbox`, `stays`, `same`: it stays an end of its mailbox, takes no memory, and nothing is put.
-    /// - `full`: at `true` so many posts waited as the mailbox holds, each of a poster of it; this end's were the last that it had
+    /// - `full`: at `true` as many posts waited as the mailbox holds, each of a poster of it. This end's were the last that it had
     ///   put.
-    /// - `alone`: where nobody else puts into the mailbox, it had put as many besides those that it knows to have been taken.
+    /// - `alone`: where nobody else puts into the mailbox, it had put the mailbox's capacity besides those that it knows to have
+    ///   been taken.
     ///
     /// ```
     /// let full = poster_end.is_full();         // false right after `mailbox`

@@ -48,7 +48,7 @@ pub(crate) fn come_back(
     });
 }
 
-/// A poster goes out again, and the owner's own number behind it is passed over.
+/// A poster goes out again, and the owner's own number after it is passed over.
 fn send_back(queue: &Queue, pass: &mut Pass<Post, View>, own: u32, from: u32) -> Pass<Post, View>
     requires pass { IsPassOf queue.now pass.old × ((view pass.old).takes ≡ true) × ((view pass.old).posts ≡ false) }
     requires number { ((view pass.old).plan.owner ≡ own) × ((view pass.old).number ≡ from) × (from ≢ own) }

@@ -30,8 +30,8 @@ impl TakeEnd {
     /// - `lane`: it stays an end of its lane.
     /// - `stays`: it takes no memory, so the lane's posts stay where they lie.
     /// - `waited`: what counts as having waited at the last `beside` stays the same.
-    /// - `some`: a post stands behind those taken before. It was the first of the ready ones where one was known to be
-    ///   ready, the others stay ready in their order, and more may have come behind them.
+    /// - `some`: a post stands after those taken before. It was the first of the ready ones where one was known to be ready. The
+    ///   others stay ready in their order, and more may have come after them.
     /// - `none`: with `None` nothing was taken.
     /// - `succeeds`: a post comes wherever one is known to be ready.
     ///
@@ -61,8 +61,8 @@ impl TakeEnd {
     ///
     /// - `lane`, `stays`, `waited`: as for `take`.
     /// - `most`: no more come than `posts` has places.
-    /// - `came`: the posts in the first places, in their order, stand behind those taken before. They were the first of
-    ///   the ready ones, the others stay ready in their order, and more may have come behind them.
+    /// - `came`: the posts in the first places, in their order, stand behind those taken before. They were the first of the ready
+    ///   ones. The others stay ready in their order, and more may have come after them.
     /// - `rest`: the other places stay as they were.
     /// - `left`: where a place is left, none is ready afterwards, and all that were known to be ready came. So 0 for some
     ///   places says that none was ready at this look.
@@ -86,7 +86,7 @@ impl TakeEnd {
         self.ring.pop_partial_slice(posts)
     }
 
-    /// How many posts are known to be ready, 0 to 1,024. So many takes in a row each answer one.
+    /// How many posts are known to be ready, 0 to 1,024. The next takes, this many, each answer one.
     ///
     /// ```
     /// let posts = take_end.count_ready();     // 0 right after `lane`

@@ -1,13 +1,13 @@
 //! The program `tlsf`: it runs a trace on a yard of workers and writes the reply lines, and shows size classes.
 //!
-//! `tlsf replay` reads a trace from standard input, runs it, and writes the reply lines and a report on each heap to
-//! standard output. The whole trace is read and checked before a line runs, and the whole text is made before a byte is
-//! written. `tlsf race` does so with each phase run in threads, one for each worker. `tlsf map` writes a picture of the heaps that a trace leaves,
-//! with `--text` in the characters of a terminal, and `tlsf plot` a plot of them over its lines. `tlsf check` says what a trace is, or where its first fault is and what was
-//! expected there. A file that is named behind one of these isn't read: a line says how it is given as standard input.
-//! `tlsf classes N` writes the size class and the search class of N words, and `tlsf size` the words of a region that never
-//! refuses. `tlsf --help` and `tlsf --version` say the rest. What it does with words and streams is [`tlsf_command::run`];
-//! `main` gives it those of the process.
+//! `tlsf replay` reads a trace from standard input, runs it, and writes the reply lines and a report on each heap to standard
+//! output. The whole trace is read and checked before a line runs, and the whole text is made before a byte is written. `tlsf race`
+//! does so with each phase run in threads, one for each worker. `tlsf map` writes a picture of the heaps that a trace leaves, with
+//! `--text` in the characters of a terminal. `tlsf plot` writes a plot of them over its lines. `tlsf check` says what a trace is,
+//! or where its first fault is and what was expected there. A file that is named after one of these isn't read: a line says how it
+//! is given as standard input. `tlsf classes N` writes the size class and the search class of N words, and `tlsf size` the words of
+//! a region that never refuses. `tlsf --help` and `tlsf --version` say the rest. [`tlsf_command::run`] does its work on words and
+//! streams; `main` gives it those of the process.
 //!
 //! | Exit status | When |
 //! |---|---|
@@ -16,8 +16,8 @@
 //! | 2 | the words of the command line are refused; the usage, or one line that says why, is on standard error |
 //! | 3 | memory ran out; the line `tlsf: out of memory (6)` is on standard error |
 //!
-//! A fault is its line alone on standard error, and what `tlsf check` explains. Where that is a terminal, a tip may follow, and
-//! a long race or search of `tlsf replay --least` says about every ten seconds that it still runs. A write to standard error that
+//! A fault is its line alone on standard error, and what `tlsf check` explains. Where that is a terminal, a tip may follow. Then a
+//! long race or search of `tlsf replay --least` says about every ten seconds that it still runs. A write to standard error that
 //! fails changes nothing.
 #![tactic(auto)]
 
@@ -41,7 +41,7 @@ fn refuse(rt: &impl Eprint, error: &io::Error) -> u8 {
     }
 }
 
-// What a notice says of a long run: `replay --least` searches, and else it is a race.
+// The words of a notice on a long run: `replay --least` searches, and otherwise it is a race.
 fn doing(words: &[String]) -> &'static str {
     if words.iter().any(|word| word.as_str() == "--least") {
         "searching"

@@ -43,12 +43,12 @@ part_is ran end first j xs end_is first_is le =
 nothing_cut : (m n i j : ℕ) (xs : List Event) → m ≡ n → n ≡ 0 → take m (drop i xs) ≡ take n (drop j xs)
 nothing_cut m n i j xs same none = rw (same, none) refl
 
--- so many have run at a line
+-- this many have run at a line
 pub ran_by : (b end : ℕ) (trace : Trace) → end ≡ min (events_by b trace) (length (events_of trace)) → end ≡ length (take (events_by b trace) (events_of trace))
 ran_by b end trace end_is = end_is ∙ sym (length-take (events_by b trace) (events_of trace))
 
 module _ {sli : ℕ} (a b : ℕ) (trace : Trace) (le : a ≤ b) where
-  -- the events up to a later line are answered as those behind the ones before
+  -- the events up to a later line are answered as those after the ones before
   pub run_on : (w : World sli) (made : List (Option Name)) (ran end first : ℕ) (part : List Event) → w ≡ (moment_at sli a trace).world → made ≡ (moment_at sli a trace).made
       → ran ≡ length (take (events_by a trace) (events_of trace)) → end ≡ min (events_by b trace) (length (events_of trace)) → first ≡ min ran end
       → part ≡ take (end - first) (drop first (events_of trace))
@@ -73,7 +73,7 @@ events_back trace a b ran end le ran_is end_is =
     let onward = events_onward trace b a le in
     omega (arith, ran_is, many, end_is, onward)
 
--- up to the later of two lines as many have run
+-- up to the later of two lines equally many have run
 pub ran_to : (a b : ℕ) (trace : Trace) (ran end : ℕ) → ran ≡ length (take (events_by a trace) (events_of trace)) → end ≡ min (events_by b trace) (length (events_of trace))
     → max ran end ≡ length (take (events_by (max a b) trace) (events_of trace))
 ran_to a b trace ran end ran_is end_is = elim (cases_lt b a) [
@@ -91,7 +91,8 @@ ran_to a b trace ran end ran_is end_is = elim (cases_lt b a) [
 ]
 
 module _ {sli : ℕ} (a b : ℕ) (trace : Trace) where
-  -- so the events up to the later of two lines are those up to the first one, and what is cut out behind them; nothing is cut out for an earlier line
+  -- so the events up to the later of two lines are those up to the first one, and those that are cut out after them. Nothing is cut
+  -- out for an earlier line
   pub run_to : (w : World sli) (made : List (Option Name)) (ran end first : ℕ) (part : List Event) → w ≡ (moment_at sli a trace).world → made ≡ (moment_at sli a trace).made
       → ran ≡ length (take (events_by a trace) (events_of trace)) → end ≡ min (events_by b trace) (length (events_of trace)) → first ≡ min ran end
       → part ≡ take (end - first) (drop first (events_of trace))
@@ -129,7 +130,7 @@ none_ran trace = let no : nat_lt (length trace.lines + 1) 0 ≡ false = grind (a
 pub nothing_told : (sli : ℕ) (trace : Trace) → (moment_at sli 0 trace).entries ≡ []
 nothing_told sli trace = ap (λ (r : Replayed sli). r.entries) (begins {sli = sli} trace)
 
--- behind the last line stands what the whole run leaves
+-- after the last line stands what the whole run leaves
 pub ends : (sli line : ℕ) (trace : Trace) → length trace.lines + 1 < line → moment_at sli line trace ≡ run_at sli trace
 ends sli line trace past =
     let yes : nat_lt (length trace.lines + 1) line ≡ true = grind (arith, nat_tests) in

@@ -1,4 +1,4 @@
--- Entries in two parts, whose lines are written one part behind the other.
+-- Entries in two parts, whose lines are written one part after the other.
 use Rattle.tlsf_trace.proofs.Common.{◌≡◌, ℕ, Bool, true, false, cond, List, [], ◌∷◌, ◌++◌, Option, drop, refl, Entry, is_taken, labels_left}
 
 one_more : (xs ys : List Entry) (labels : List (Option ℕ)) (taken : Bool)

@@ -1,4 +1,4 @@
--- What the text of a raced trace tells.
+-- The meaning of the text of a raced trace.
 use Rattle.tlsf_trace.proofs.Common.{◌≡◌, ◌≢◌, ◌∷◌, ◌++◌, ◌<◌, [], ℕ, List, Option, length, map, refl, sym, ap, ◌∙◌, arith, subst, append_assoc, length-append, get_or-map-range_with_len, length-map-range_with_len, All, HeapState, opened, Name, Call, Entry, World, heap_in, no_heap, known_below, none_known, phases_of, script_in, scripts_in, records_text, Trace, Line, level_in, yard_of, IsOutputBy, IsQueueRaceOutput, IsRaceOutput, IsRaceText, RaceRelation, report_text}
 use Rattle.std.proofs.Math.Seq.{take-append_seam}
 use Rattle.std.proofs.lemmas.Grind.{flat_map-append}
@@ -66,7 +66,7 @@ queues_tell w v scripts records race = record {
 script_at : (n : ℕ) (known : ℕ → Option Name) (lines : List Line) (j : ℕ) → j < n → script_of (scripts_in n known lines) j ≡ script_in known lines j
 script_at n known lines j j_in = get_or-map-range_with_len (script_in known lines) 0 n j j [] j_in (omega arith)
 
--- a world between two phases: so many heaps, and nothing waits
+-- a world between two phases: this many heaps, and nothing waits
 record IsBetween {sli : ℕ} (n : ℕ) (w : World sli) : Type 0 where
   count : length w.heaps ≡ n
   none : (i j : ℕ) → w.waiting i j ≡ []
@@ -83,7 +83,7 @@ phase_told {TellsCalls = TellsCalls} {records = records} n known lines between o
 
 -- ---- a history
 
--- so many calls on heap j are told as answers of it
+-- this many calls on heap j are told as answers of it
 abbrev HasAnswers : ℕ → ToldEntry → Type 0
 HasAnswers j x = length (calls_on j x.made (x.entry ∷ [])) ≡ length (answers_on j (x.entry ∷ []))
 
@@ -120,7 +120,7 @@ leads_then j h g k xs ys a b =
     let answers = flat_map-append (λ (x : ToldEntry). answers_on j (x.entry ∷ [])) xs ys in
     rw (calls, answers) (runs_then h g k (calls_in_history j xs) (calls_in_history j ys) (answers_in_history j xs) (answers_in_history j ys) a b)
 
--- behind some of a history that starts in a lawful heap
+-- after some of a history that starts in a lawful heap
 leads_through : {sli : ℕ} (j : ℕ) (h last : HeapState) (before later : List ToldEntry) → IsLevel sli → IsLawful h → All (HasAnswers j) (before ++ later) → LeadsTo sli j h (before ++ later) last
     → LeadsThrough sli j h before later last
 leads_through {sli} j h last before later level lawful each leads =

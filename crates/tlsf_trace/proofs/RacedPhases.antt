@@ -31,7 +31,7 @@ pub heap_count : {sli : ℕ} → (yard : RacedYard sli) → length (world_in yar
 heap_count (OverLanes ws) = ap length (sym (heaps_are (OverLanes ws))) ∙ (length-map ws.items heap_of ∙ sym ws.ok.0)
 heap_count (OverQueues ws) = ap length (sym (heaps_are (OverQueues ws))) ∙ (length-map ws.items heap_of ∙ sym ws.ok.0)
 
--- a race leaves so many heaps, and tells as many records
+-- a race leaves this many heaps, and tells equally many records
 module _ {sli : ℕ} (w v : World sli) (scripts : List (List Call)) (records : List (List Entry)) where
   pub heaps_stay : (kind : PortKind) → races_over kind w scripts records v → length v.heaps ≡ length w.heaps
   heaps_stay Lanes race = race.heaps
@@ -74,7 +74,7 @@ one_raced {n = n} {Races = Races} {phases = phases} {left = left} {phase = phase
           (before.rest (lines ++ tail) (one.records, to.world, tail, one.raced, refl, after));
     }
 
--- the phases that are left behind the first, and their lines
+-- the phases that are left after the first, and their lines
 pub left_behind : (behind : Option (Bor (List Line))) (phases : List (List Line)) (phase : List Line)
     → MatchOption behind (phases ≡ phase ∷ []) (λ rest. phases ≡ phase ∷ phases_of rest.now) → phases ≡ phase ∷ phases_left behind
 left_behind None phases phase is = is
@@ -90,7 +90,7 @@ pub more_raced : {sli n : ℕ} {Races : RaceRelation sli} {phases : List (List L
 more_raced {n = n} {Races = Races} {phases = phases} {from = from} {between = between} rest behind lines is first before one =
     one_raced (subst (λ left. IsRaceSoFar Races n phases left from between) (ap phases_left is ∙ first) before) one
 
--- the lines of the heaps behind those of all phases
+-- the lines of the heaps after those of all phases
 pub all_raced : {sli n : ℕ} {Races : RaceRelation sli} {from to : RacePoint sli} (header : Header) (lines : List Line) (out : List ℕ) → n ≡ header.workers → from ≡ race_start header
     → IsRaceSoFar Races n (phases_of lines) [] from to → out ≡ to.text ++ report_text sli to.world.heaps → IsOutputBy Races (record { header = header; lines = lines }) out
 all_raced {sli} {n = n} {Races = Races} {from = from} {to = to} header lines out count start raced out_is =

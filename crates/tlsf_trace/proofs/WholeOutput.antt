@@ -1,4 +1,4 @@
--- What is put out, from its parts.
+-- The output, from its parts.
 use Rattle.tlsf_trace.proofs.Common.{◌≡◌, ℕ, List, map, ap, World, world_of, heap_of}
 use Rattle.tlsf_crew.specs.declared.worker.worker.Worker.{Worker}
 use Rattle.tlsf_crew.specs.declared.worker.lanes.Lanes.{Lanes}

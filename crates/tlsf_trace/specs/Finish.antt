@@ -6,7 +6,7 @@ use Rattle.tlsf_lines.specs.TraceFaults.{write_fault}
 use Rattle.tlsf_trace.specs.declared.summary.Summary.{Summary}
 use Rattle.tlsf_lines.specs.declared.trace_fault.TraceFault.{TraceFault}
 
--- all was written and counted, and so many calls are told
+-- all was written and counted, and this many calls are told
 pub record IsFinished (summary : Summary) (calls : ℕ) (output : List ℕ) (old new : Option (List ℕ)) : Type 0 where
   pub all : Appends old new output
   pub calls_are : summary.calls ≡ calls

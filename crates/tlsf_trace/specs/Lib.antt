@@ -1,4 +1,4 @@
--- What the clauses of public functions cite: what a trace asks for, and what is written.
+-- Definitions that clauses of public functions cite: the request of a trace, and its output.
 pub mod ReportLines
 pub mod Output
 pub mod RaceOutput
@@ -17,6 +17,6 @@ pub use Rattle.tlsf_lines.specs.Records
 pub use Rattle.tlsf_lines.specs.TraceFaults
 pub use Rattle.tlsf_lines.specs.Limits
 pub use Rattle.tlsf_lines.specs.Prefixes
--- What the clauses of private functions cite besides.
+-- Definitions that only clauses of private functions cite.
 pub mod RaceSoFar
 pub mod RacedYards

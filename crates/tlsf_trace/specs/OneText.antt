@@ -21,7 +21,7 @@ HasNoDrain trace = AllByRecursion IsNoDrain trace.lines
 abbrev pub RaceGivesOneText : Type 0
 RaceGivesOneText = (trace : Trace) (text other : List ℕ) → HasNoDrain trace → IsRaceOutput trace text → IsRaceOutput trace other → text ≡ other
 
--- a text that the trace may put out when it is raced over queues, where in each phase each queue had one poster, and of more than two
+-- a text that the trace may put out when it is raced over queues. In each phase each queue had one poster, and of more than two
 -- workers none met a full queue
 abbrev pub IsUncontendedOutput : Trace → List ℕ → Type 0
 IsUncontendedOutput trace text = IsOutputBy {sli = level_in trace.header} IsUncontendedRace trace text

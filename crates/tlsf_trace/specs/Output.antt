@@ -1,4 +1,4 @@
--- What a trace puts out.
+-- The output of a trace.
 use Rattle.std.specs.Prelude.{ℕ, List, ◌++◌, Option}
 use Rattle.tlsf_crew.specs.model.Opening.{opened_world}
 use Rattle.tlsf_crew.specs.model.World.{World, Replayed, replies}

@@ -13,7 +13,7 @@ pub record Stands {sli : ℕ} (line : ℕ) (trace : Trace) (player : Player sli)
   pub made : player.made.items ≡ (moment_at sli line trace).made
   pub ran : player.ran ≡ length (take (events_by line trace) (events_of trace))
 
--- it has run on from a line to another, and these entries are what was answered behind those before
+-- it has run on from a line to another, and these entries are the answers after those before
 pub record PlaysOn {sli : ℕ} (from line : ℕ) (trace : Trace) (player : Player sli) (entries : List Entry) : Type 0 where
   pub stands : Stands line trace player
   pub told : (moment_at sli line trace).entries ≡ (moment_at sli from trace).entries ++ entries

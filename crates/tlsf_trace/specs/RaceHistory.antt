@@ -1,4 +1,4 @@
--- What the text of a raced trace tells, above its definition: what each line was answered, and one history of each heap.
+-- The text of a raced trace, above its definition: the answer to each line, and one history of each heap.
 use Rattle.std.specs.Prelude.{◌≡◌, ◌≢◌, ℕ, ◌<◌, List, [], ◌∷◌, ◌++◌, length, map, Option, ⊤}
 use Rattle.std.specs.List.{flat_map}
 use Rattle.tlsf_heap.specs.Blocks.{HeapState}
@@ -24,7 +24,7 @@ use Rattle.tlsf_trace.specs.ReportLines.{report_text}
 
 -- ---- one phase
 
--- a record gives an account of the calls of one of so many workers: each once and in order, with the name that it made
+-- a record gives an account of the calls of one of this many workers: each once and in order, with the name that it made
 abbrev pub RecordRelation : Type 1
 RecordRelation = ℕ → ℕ → List Call → List (Option Name) → List Entry → Type 0
 
@@ -43,12 +43,12 @@ pub record PhaseTold : Type 0 where
 pub record IsPhaseTold (TellsCalls : RecordRelation) (n : ℕ) (known : ℕ → Option Name) (lines : List Line) (p : PhaseTold) : Type 0 where
   -- record j tells the lines of worker j, each once and in their order, and then the last drain
   pub told : (j : ℕ) → j < n → TellsCalls n j (script_in known lines j ++ last_call ∷ []) (p.made j) (record_of p.records j)
-  -- what i was answered to have posted to j is what j took from i, in order and each once: nothing waits for the next phase
+  -- j took from i the posts that i was answered to have posted to j, in order and each once. Nothing waits for the next phase
   pub posts : (i j : ℕ) → i < n → j < n → i ≢ j → posts_made i j (p.made i) (record_of p.records i) ≡ posts_taken i j (record_of p.records j)
 
 -- ---- one phase after another
 
--- each phase was told, where labels stood for these names before the first; each phase gives names to those behind it
+-- each phase was told, where labels stood for these names before the first; each phase gives names to those after it
 abbrev pub ArePhasesTold : RecordRelation → ℕ → (ℕ → Option Name) → List (List Line) → List PhaseTold → Type 0
 ArePhasesTold TellsCalls n known [] [] = ⊤
 ArePhasesTold TellsCalls n known (lines ∷ phases) (p ∷ told) =
@@ -92,8 +92,8 @@ pub record LeadsThrough (sli j : ℕ) (h : HeapState) (before later : List ToldE
 
 -- ---- a trace
 
--- the text is that of the records of the trace's phases and of the report of its heaps behind the last, and each heap has one
--- history from the first line to that report
+-- the text is that of the records of the trace's phases and of the report of its heaps after the last. Each heap has one history
+-- from the first line to that report
 pub record HasHistory (TellsCalls : RecordRelation) (trace : Trace) (text : List ℕ) : Type 0 where
   pub told : List PhaseTold
   pub world : World (level_in trace.header)
@@ -101,6 +101,6 @@ pub record HasHistory (TellsCalls : RecordRelation) (trace : Trace) (text : List
   pub text_is : text ≡ phases_text trace.header.workers (phases_of trace.lines) told ++ report_text (level_in trace.header) world.heaps
   pub phases : ArePhasesTold TellsCalls trace.header.workers none_known (phases_of trace.lines) told
   pub heaps : (j : ℕ) → j < trace.header.workers → LeadsTo (level_in trace.header) j (opened j trace.header.words 0) (history_of j told) (heap_in world j)
-  -- a header that was read is in its ranges: then the heap is lawful at first, and behind each entry
+  -- a header that was read is in its ranges: then the heap is lawful at first, and after each entry
   pub lawful : IsHeaderInRange trace.header → (j : ℕ) → j < trace.header.workers → (before later : List ToldEntry) → history_of j told ≡ before ++ later
       → LeadsThrough (level_in trace.header) j (opened j trace.header.words 0) before later (heap_in world j)

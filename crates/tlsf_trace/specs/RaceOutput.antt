@@ -1,4 +1,4 @@
--- What a trace puts out that is raced: no function of it, since a schedule decides what a drain takes.
+-- The output of a trace that is raced: no function of it, since a schedule decides which posts a drain takes.
 use Rattle.std.specs.Prelude.{◌≡◌, ℕ, List, [], ◌∷◌, ◌++◌, Option}
 use Rattle.tlsf_heap.specs.declared.name.Name.{Name}
 use Rattle.tlsf_calls.specs.declared.entry.Entry.{Entry}
@@ -21,8 +21,8 @@ RaceRelation sli = World sli → List (List Call) → List (List Entry) → Worl
 abbrev pub IsPhase : {sli : ℕ} → RaceRelation sli → ℕ → World sli → (ℕ → Option Name) → List Line → List (List Entry) → World sli → Type 0
 IsPhase Races workers w known phase records v = Races w (scripts_in workers known phase) records v
 
--- from this world on, the phases are raced one after another, and the text is the lines of their records, and then those
--- of the heaps that they leave
+-- from this world on, the phases are raced one after another. The text is the lines of their records, and then those of the heaps
+-- that they leave
 abbrev pub IsRaceText : {sli : ℕ} → RaceRelation sli → ℕ → World sli → (ℕ → Option Name) → List (List Line) → List ℕ → Type 0
 IsRaceText {sli} Races workers w known [] text = text ≡ report_text sli w.heaps
 IsRaceText {sli} Races workers w known (phase ∷ phases) text =

@@ -1,4 +1,4 @@
--- What the phases of a race give one another, over lanes or over queues. This serves the contracts and proofs of private
+-- Facts that the phases of a race give one another, over lanes or over queues. This serves the contracts and proofs of private
 -- functions alone.
 use Rattle.std.specs.Prelude.{◌≡◌, ℕ, List, [], ◌++◌, Option}
 use Rattle.tlsf_heap.specs.declared.name.Name.{Name}

@@ -1,4 +1,4 @@
--- What a run of a trace answers and writes, by the text that it reads: a replay, and a race.
+-- The answer and the output of a run of a trace, by the text that it reads: a replay, and a race.
 use Rattle.std.specs.Prelude.{◌≡◌, ◌⊎◌, ℕ, List, Option, Some, Result, Ok, IfOk, IfErr, IfSome, OnOk, length}
 use Rattle.std.specs.Io.KnownBytes.{Appends, IsAtEnd, Keeps}
 use Rattle.tlsf_trace.specs.Output.{output_of}
@@ -25,7 +25,7 @@ Races trace output = IsRaceOutput trace output
 abbrev pub RacesQueues : Outputs
 RacesQueues trace output = IsQueueRaceOutput trace output
 
--- the text spells a trace that may put out this, and makes so many calls
+-- the text spells a trace that may put out this, and makes this many calls
 pub record AsksFor (Puts : Outputs) (text output : List ℕ) (calls : ℕ) : Type 0 where
   pub trace : Trace
   pub spelled : trace_of text ≡ Ok trace
@@ -67,7 +67,7 @@ pub record IsRun (Puts : Outputs) (answer : Result Summary TraceFault) (left lef
   pub fault : IfErr answer IsFault
   -- a fault of a line is the first one of the text that was read
   pub line : IfErr answer (λ fault. IsLineFault fault → IfSome left (λ text. (fault_of text ≡ Some fault) × IsWithinLimits text))
-  -- a text is too long only where it has too many lines, or so many bytes that its end need not show
+  -- a text is too long only where it has too many lines, or so much text that its end need not show
   pub too_long : IfErr answer (λ fault. fault ≡ too_long_fault → IfSome left IsTooLong)
   -- after a fault in writing a prefix was written, after any other nothing
   pub front : IfErr answer (λ fault. fault ≡ write_fault → IfSome left (λ text. WritesPrefix Puts text written written' × IsWithinLimits text))

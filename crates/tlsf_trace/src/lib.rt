@@ -1,8 +1,9 @@
 //! Traces: the text of a run on a yard of workers, checked whole before a line runs.
 //!
-//! [`replay`] reads a trace, runs it line by line and writes what it was answered; [`race_trace`] runs each phase in threads,
-//! one for each worker, and [`race_trace_over_queues`] does so over queues. A [`Player`] runs a trace line by line, and [`play`] writes what is made of that. The lines of a trace, and those of its replies, are `tlsf_lines`'; here they are run, and the heaps
-//! that they leave are told in report lines.
+//! [`replay`] reads a trace, runs it line by line and writes its answers. [`race_trace`] runs each phase in threads, one for each
+//! worker, and [`race_trace_over_queues`] does so over queues. A [`Player`] runs a trace line by line, and [`play`] writes what is
+//! made of that. The lines of a trace, and those of its replies, are `tlsf_lines`'. Here they are run, and the heaps that they
+//! leave are told in report lines.
 //!
 //! Contracts see the trace that a text spells, or its first fault, as `trace_of`, and what it asks for as `AsksFor`.
 //! [`write_out`] writes a text by its known bytes. A [`Notice`] shows that a long run is alive.

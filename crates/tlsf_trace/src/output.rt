@@ -15,7 +15,7 @@ use crate::report_lines::write_reports;
 use std::alloc::{AllocError, Global};
 use tlsf_lines::{Script, write_replies};
 
-/// How many lines are run before theirs are written. An event has 120 bytes and an entry 200, so few are held at a time.
+/// How many lines are run before their reply lines are written. An event has 120 bytes and an entry 200, so few are held at a time.
 const PART: usize = 1024;
 
 /// How many bytes of text are made ready for each event: most reply lines have fewer.

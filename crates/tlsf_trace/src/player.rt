@@ -24,8 +24,8 @@ use tlsf_lines::Script;
 pub struct Player<const SLI: u32> {
     /// The workers, 1 to 8, in rising number, with their heaps as they stand, and the posts that wait.
     pub workers: Vec<Worker<SLI>>,
-    /// The name that each event made so far, None where it made none. A line is one event, a phase and the end of the trace as many as
-    /// there are workers.
+    /// The name that each event made so far, None where it made none. A line is one event. A phase and the end of the trace are one
+    /// event for each worker.
     pub made: Vec<Option<Name>>,
     // How many events have run.
     ran: usize,

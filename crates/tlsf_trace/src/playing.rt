@@ -1,4 +1,4 @@
-//! What is made of a trace that is played.
+//! The output of a trace that is played, and the player that makes it.
 ghost use Rattle.std.specs.Prelude.{◌≤◌, vec_len, IfOk, string_bytes};
 ghost use Rattle.tlsf_lines.specs.Ranges.{IsHeaderInRange};
 ghost use Rattle.tlsf_lines.specs.ScriptSoFar.{IsScript};
@@ -11,7 +11,7 @@ use std::alloc::{AllocError, Global};
 use std::io::{Read, Write};
 use tlsf_lines::{Script, TraceFault, Version, read_all, script_in};
 
-/// What a run of a trace puts out.
+/// The output of a run of a trace.
 pub trait Puts {
     ghost use Rattle.std.specs.Prelude.{ℕ, List};
     ghost use Rattle.tlsf_lines.specs.Trace.{Trace};
@@ -20,7 +20,7 @@ pub trait Puts {
     ghost puts: { Self → Trace → List ℕ → Type 0 };
 }
 
-/// What makes that text, at a level.
+/// The player that makes that text, at a level.
 pub trait Plays<const SLI: u32>: Puts {
     ghost use Rattle.std.specs.Prelude.{◌≡◌, ◌≤◌, vec_len, IfOk, string_bytes};
     ghost use Rattle.tlsf_class.specs.Classes.{IsLevel};

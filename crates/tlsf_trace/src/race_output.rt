@@ -70,7 +70,8 @@ fn race_lines<const SLI: u32, R: Threads + Wait + Sync, G: Gate>(
     Ok(yard)
 }
 
-// The reply lines of a trace, raced phase by phase on a new yard of this level, and a report line for each heap that the last leaves.
+// The reply lines of a trace, raced phase by phase on a new yard of this level. After them comes a report line for each heap that
+// the last leaves.
 fn race_output_by<const SLI: u32, R: Threads + Wait + Sync, G: Gate>(
     rt: &R,
     alloc: Global,

@@ -23,7 +23,8 @@ pub(crate) enum PortKind {
     Queues,
 }
 
-/// The workers of a yard, all with ports of one kind. What tells the kinds apart in a race of a trace stands in this file.
+/// The workers of a yard, all with ports of one kind. This file has the differences between the kinds of yards in a race of a
+/// trace.
 #[derive(Drop)]
 pub(crate) enum RacedYard<const SLI: u32> {
     OverLanes(Vec<Worker<SLI>>),

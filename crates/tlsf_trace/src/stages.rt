@@ -15,7 +15,7 @@ use std::thread::Threads;
 use tlsf_crew::Gate;
 use tlsf_lines::{TraceFault, read_all, trace_in, write_out};
 
-/// Writes the whole text that a trace of so many calls comes to, flushes, and tells of both.
+/// Writes the whole text of a trace of `calls` calls, flushes, and tells of both.
 ///
 /// ```
 /// let summary = finish(&mut writer, 2, "0 f 1 freed\n")?;
@@ -48,9 +48,8 @@ pub fn finish<W: Write>(writer: &mut W, calls: u32, output: &str) -> Result<Summ
 ///
 /// # Errors
 ///
-/// [`TraceFault`] has the table of faults: a line that is no good (11 to 14, with its number), a trace that is too long
-/// (15), memory (6), a read (16) or a write (17). After fault 17 a prefix of the text was written, after each other
-/// nothing.
+/// [`TraceFault`] has the table of faults. A line may be no good (11 to 14, with its number), or a trace too long (15). Memory (6),
+/// a read (16) or a write (17) may fail. After fault 17 a prefix of the text was written, after each other nothing.
 pub fn replay<R: Read, W: Write>(
     alloc: Global,
     reader: &mut R,
@@ -83,10 +82,10 @@ fn race_trace_over<T: Threads + Wait + Sync, R: Read, W: Write, G: Gate>(
 
 /// Reads a whole trace, races it on a new yard of workers, and writes the reply lines and the report lines.
 ///
-/// Each phase is one [`race`](tlsf_crew::race): a worker's lines are its script, run in a thread of its own, and a last
-/// drain of each worker ends the phase. The reply lines of a phase stand worker by worker. A trace without `d` lines gives
-/// the same text on every run ([`trace_without_drains_gives_one_text`](crate::trace_without_drains_gives_one_text)); else it
-/// depends on the schedule how many posts a drain takes. `gate` is passed as `race` passes it, once more for each phase.
+/// Each phase is one [`race`](tlsf_crew::race). A worker's lines are its script, run in a thread of its own, and a last drain of
+/// each worker ends the phase. The reply lines of a phase stand worker by worker. A trace without `d` lines gives the same text on
+/// every run ([`trace_without_drains_gives_one_text`](crate::trace_without_drains_gives_one_text)); else it depends on the schedule
+/// how many posts a drain takes. `gate` is passed as `race` passes it, once more for each phase.
 ///
 /// The trace is read to its end and checked before a line runs, and the whole text is made before a byte is written. The
 /// limits are those of [`replay`].
@@ -115,10 +114,9 @@ pub fn race_trace<T: Threads + Wait + Sync, R: Read, W: Write, G: Gate>(
 
 /// Reads a whole trace, races it on a new yard over queues, and writes the reply lines and the report lines.
 ///
-/// As [`race_trace`], but each worker has one queue for the posts of all others
-/// ([`race_queues`](tlsf_crew::race_queues)), of as many posts as the header says of a lane. So a post is refused as full by
-/// what all others have posted, and a drain takes posts in the queue's order: the reply lines of its takes may come in
-/// another order of posters on each run.
+/// As [`race_trace`], but each worker has one queue for the posts of all others ([`race_queues`](tlsf_crew::race_queues)). It has
+/// the capacity that the header gives a lane. So a post is refused as full by what all others have posted, and a drain takes posts
+/// in the queue's order. The reply lines of its takes may come in another order of posters on each run.
 ///
 /// ```
 /// // reader gives "tlsf 1 2 64 1\na 0 1 8\nphase\nf 1 1\n"

@@ -10,7 +10,7 @@ altered_before old new part at n is k low inside =
     ∙ get_or_append_left (take at old) part 0 k (omega arith)
     ∙ get_or-take at old k 0 low
 
--- and those behind
+-- and those after
 pub altered_behind : (old new part : List ℕ) (at n : ℕ) → new ≡ take at old ++ part ++ drop (at + n) old → (k : ℕ) → at + n ≤ k → at + n ≤ length old → length new ≡ length old → get_or new k 0 ≡ get_or old k 0
 altered_behind old new part at n is k past inside same =
     let front = length-take-le at old (omega arith) in

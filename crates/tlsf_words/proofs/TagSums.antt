@@ -1,4 +1,4 @@
--- What sums and differences of tags as words say.
+-- The meaning of sums and differences of tags as words.
 use Rattle.tlsf_words.proofs.Common.{◌≡◌, ℕ, ◌+◌, ◌-◌, ◌*◌, ◌/◌, ◌%◌, ◌^◌, ◌<◌, ◌≤◌, inl, inr, Bool, true, false, eqb, ap, ◌∙◌, sym, arith, eq-eqb, false≢true, cases_eq, eqb-true, ne_eqb, low_half, high_half, size_in, last_in, free_in, back_in}
 
 -- what a word says as a tag

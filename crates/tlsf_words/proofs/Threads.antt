@@ -81,7 +81,7 @@ list_of-linked heads w class places small head linked distinct =
     below : AllByRecursion (λ p. p < length w) places
     below = all_weaker (λ p. p + 2 < length w) (λ p. p < length w) (λ p h. omega arith) places (linked_within w nowhere places linked)
 
--- what makes lists threaded, where they are these
+-- the conditions by which these lists are threaded
 pub record AreLists (sli : ℕ) (heads members w : List ℕ) (lists : ℕ → List ℕ) : Type 0 where
   pub is : (class : ℕ) → list_of heads w class ≡ lists class
   pub linked : (class : ℕ) → LinkedFrom w nowhere (lists class)

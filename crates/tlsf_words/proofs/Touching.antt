@@ -81,7 +81,7 @@ within_then total from past a b low high low_too high_too both = record {
   behind = λ k above. b.behind k (omega (arith, above, high_too)) ∙ a.behind k (omega (arith, above, high));
 }
 
--- so many as these
+-- as many as these
 pub within_same : (n from past : ℕ) {m f p : ℕ} {old new : Tallied} → Within m f p old new → from ≤ f → p ≤ past → n ≡ m → Within n from past old new
 within_same n from past a low high same = record {
   touches = omega (arith, a.touches, same);

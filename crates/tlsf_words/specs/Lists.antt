@@ -4,7 +4,7 @@ use Rattle.std.specs.List.{AllByRecursion}
 use Rattle.tlsf_class.specs.Classes.{classes}
 use Rattle.tlsf_words.specs.Fields.{links_word, low_half}
 
--- what free lists show: for each class the place where its list begins, the classes whose bits are set, and the number of
+-- the view of free lists: for each class the place where its list begins, and the classes whose bits are set. Also the number of
 -- touches: reads and writes of one such place or of one word of the bits
 pub record ListHeads : Type 0 where
   pub heads : List ℕ

@@ -1,4 +1,4 @@
--- What the first word of a header says of its block.
+-- The first word of a header, and its meaning for its block.
 use Rattle.std.specs.Prelude.{ℕ, Bool}
 use Rattle.tlsf_words.specs.Fields.{size_in, last_in, free_in, back_in}
 

@@ -1,4 +1,4 @@
--- What the private functions of free lists write. No public clause cites this file.
+-- The writes of the private functions of free lists. No public clause cites this file.
 use Rattle.std.specs.Prelude.{◌≡◌, ◌≢◌, ℕ, ◌+◌, List, slice_index}
 use Rattle.tlsf_words.specs.Fields.{links_word, low_half, high_half}
 use Rattle.tlsf_words.specs.Lists.{nowhere}

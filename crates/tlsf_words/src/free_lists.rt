@@ -12,10 +12,10 @@ use crate::words::Words;
 use std::marker::Model;
 use tlsf_class::{Bitmaps, Class, class_of, low};
 
-/// Lists of places, one for each class, threaded through the third words of their headers, and bitmaps of the classes whose
-/// lists aren't empty: the segregated lists of two-level segregated fit (ECRTS 2004, section 3). A list is last in, first out.
-/// Nothing allocates, and no list is walked: to put a place in makes seven touches at most, to take one out six, and to take
-/// out the first, which isn't known yet, seven, however long the lists are.
+/// Lists of places, one for each class, threaded through the third words of their headers, and bitmaps of the classes whose lists
+/// aren't empty. They are the segregated lists of two-level segregated fit (ECRTS 2004, section 3). A list is last in, first out.
+/// Nothing allocates, and no list is walked, however long the lists are. To put a place in makes seven touches at most, and to take
+/// one out six. To take out the first, which isn't known yet, makes seven.
 ///
 /// ```
 /// let mut lists = FreeLists::<4>::new();
@@ -166,7 +166,7 @@ impl<const SLI: u32> FreeLists<SLI> {
         }
     }
 
-    /// Takes out the place at the head of the list of a class, the one that was put in last, and answers it, in seven touches at
+    /// Takes out the place at the head of the list of a class, the one that was put in last, and answers it. Makes seven touches at
     /// most. The list isn't empty: that of a class which [`FreeLists::next_from`] answered never is. No place stands before the
     /// head, so one neighbour is written at most.
     ///

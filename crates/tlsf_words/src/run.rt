@@ -14,7 +14,7 @@ pub(crate) struct Run {
 }
 
 impl Run {
-    /// That of `len` bytes, the first of which is byte `start` of the words.
+    /// The run of `len` bytes, the first of which is byte `start` of the words.
     #[inline]
     pub(crate) fn of(start: usize, len: usize) -> Run
         requires least { 8 ≤ len }

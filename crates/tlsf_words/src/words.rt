@@ -186,7 +186,7 @@ impl Words {
         self.words.write_two(at as usize, tag.to_word(), mark);
     }
 
-    /// Writes the header of a live block at a place, its tag, its mark and its payload length in bytes, and makes its first payload
+    /// Writes the header of a live block at a place: its tag, its mark and its payload length in bytes. Makes its first payload
     /// word zero, which each block has. Four touches.
     ///
     /// ```
@@ -206,8 +206,9 @@ impl Words {
             .write_four(at as usize, tag.to_word(), mark, u64::from(bytes));
     }
 
-    /// Writes the header of a live block at a place and makes its first payload word zero, as [`Words::set_header`] does, and the tag and
-    /// the mark, the same one, of a free block at another place. Six touches. The address of the words is read once.
+    /// Writes the header of a live block at a place and makes its first payload word zero, as [`Words::set_header`] does. Writes
+    /// the tag and the mark, the same one, of a free block at another place too. Six touches. The address of the words is read
+    /// once.
     ///
     /// ```
     /// words.set_headers(at, tag.without(rest), serial, 8, at + 4, rest);     // a block of 4 words, cut off its front
@@ -307,8 +308,8 @@ impl Words {
         self.write(at as usize + 2, links.to_word());
     }
 
-    /// Writes the links of the free block at a place, and the place as the previous one into the links of the next, which is a place.
-    /// Three touches. The address of the words is read once, where two calls read it twice.
+    /// Writes the links of the free block at a place. Writes the place as the previous one into the links of the next, which is a
+    /// place. Three touches. The address of the words is read once, where two calls read it twice.
     #[inline]
     pub(crate) fn link(&mut self, at: u32, links: Links)
         requires at { at + 2 < length self.old.words }
@@ -381,8 +382,8 @@ impl Words {
         self.words.zero(at as usize, n as usize);
     }
 
-    /// Hands `n` words behind the header at a place to `f`, as one slice that it may change, and answers what it answers. What it
-    /// reads and writes there makes no touch.
+    /// Hands `n` words behind the header at a place to `f`, as one slice that it may change, and answers what it answers. Its reads
+    /// and writes there make no touch.
     ///
     /// ```
     /// let first = words.alter(at, 2, |payload| {

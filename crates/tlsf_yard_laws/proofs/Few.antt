@@ -1,4 +1,5 @@
--- A ledger in which no name stands twice is no longer than a list that has all its names; what the lanes to a worker have is no more than they hold.
+-- A ledger in which no name stands twice is no longer than a list that has all its names. The lanes to a worker have no more than
+-- they hold.
 use Rattle.tlsf_yard_laws.proofs.Common.{◌≡◌, ◌≢◌, ℕ, zero, suc, ◌+◌, ◌*◌, ◌<◌, ◌≤◌, ◌⊎◌, Bool, true, false, not, cond, eqb, List, [], ◌∷◌, ◌++◌, length, map, filter, Option, Some, None, refl, sym, ap, ◌∙◌, subst, inl, inr, arith, length-append, eq-eqb, cases_eq, false≢true, ne_eqb, length-map, Name, Post, is_same, Ledger}
 use Rattle.tlsf_heap.proofs.lemmas.blocks.Find.{not_true}
 use Rattle.tlsf_pool.proofs.lemmas.laws.Names.{same_self, same_is}

@@ -15,7 +15,7 @@ use Rattle.tlsf_yard_laws.specs.Posts.{GiveBackOnce, GivesBack, NoPostIsStale}
 
 -- ---- the entry that tells what stands in a list
 
--- the entry of worker i that tells p, behind those that tell `first`
+-- the entry of worker i that tells p, after those that tell `first`
 record Found {B : Type 0} (f : Entry → Option B) (i : ℕ) (es : List Entry) (first : List B) (p : B) : Type 0 where
   before : List Entry
   e : Entry

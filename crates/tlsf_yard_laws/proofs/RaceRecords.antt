@@ -1,4 +1,4 @@
--- What the records of a race tell, whatever carries its posts.
+-- The facts that the records of a race tell, whatever carries its posts.
 use Rattle.tlsf_yard_laws.proofs.Common.{◌==◌, false, [], ◌∷◌, ◌++◌, ◌≡◌, ◌≢◌, ℕ, ◌<◌, ◌≤◌, List, Option, None, All, length, refl, sym, ap, ◌∙◌, subst, inl, inr, arith, append-nil, cases_eq, IsLevel, IsLawful, Name, Post, Call, Allocate, Release, Write, Read, Resize, Take, Drain, Stranger, Entry, Reply, Drained, Refused, record_of, RunsThrough, RunsTo, answers_on, calls_on, post_of_take, posts_made, posts_taken, World, Replayed, called, draining, heap_in, taking, Carrier, IsRaceOver, OverLanes, OverQueues}
 use Rattle.std.proofs.lemmas.Bool.Decides.{nat_tests}
 use Rattle.tlsf_post.specs.Rule.{posts_of}
@@ -144,7 +144,7 @@ takes_none_of {sli} OverQueues w v scripts made records race j k j_in far =
     let end : Progress = record { made = own; entries = record_of records j; heap = heap_in v j } in
     queue_all_away sli (length w.heaps) j k (untold (heap_in w j)) end (script_of scripts j ++ last_call ∷ []) j_in far ((race.0).legal j j_in) refl
 
--- what some entries of a record leave, behind which the others come
+-- what some entries of a record leave, after which the others come
 pub heap_between : {sli : ℕ} (carrier : Carrier) (w v : World sli) (scripts : List (List Call)) (made : ℕ → List (Option Name)) (records : List (List Entry)) → IsRaceOver carrier w scripts made records v
     → (before later : List Entry) (j : ℕ) → IsLevel sli → IsLawful (heap_in w j) → j < length w.heaps → record_of records j ≡ before ++ later → RunsThrough sli (heap_in w j) j (made j) before later (heap_in v j)
 heap_between {sli} carrier w v scripts made records race before later j level lawful j_in whole =

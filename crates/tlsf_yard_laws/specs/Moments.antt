@@ -1,4 +1,5 @@
--- How large the heap of a worker must be in a race, by what the programs hold at its requests and by how much its lanes, or its queue, hold.
+-- How large the heap of a worker must be in a race. It goes by the blocks that the programs hold at its requests and by how much
+-- its lanes, or its queue, hold.
 use Rattle.std.specs.Prelude.{◌≡◌, ◌≢◌, ℕ, zero, suc, ◌+◌, ◌<◌, ◌≤◌, ◌==◌, List, [], ◌++◌, Option, Some, fold, length, if◌then◌else◌}
 use Rattle.std.specs.List.{AllByRecursion}
 use mathlib.Core.List.{IsPrefix}
@@ -31,8 +32,8 @@ abbrev pub IsShort : {sli : ℕ} → Carrier → World sli → ℕ → (ℕ → 
 IsShort OverLanes w j under_way = (i : ℕ) → i < length w.heaps → i ≢ j → length (under_way i) ≤ w.capacity
 IsShort OverQueues w j under_way = length (all_under_way j under_way (length w.heaps)) ≤ w.capacity
 
--- how far the others had come when worker j had been told the entries `before`: any part of their records that fits, and no more
--- is under way than its lanes or its queue hold
+-- how far the others had come when worker j had been told the entries `before`. It is any part of their records that fits, and no
+-- more is under way than its lanes or its queue hold
 pub record Moment {sli : ℕ} (carrier : Carrier) (w : World sli) (made : ℕ → List (Option Name)) (records : List (List Entry)) (j : ℕ) (before : List Entry) : Type 0 where
   pub told : ℕ → List Entry
   -- the posts that are under way to j, from each worker
@@ -42,11 +43,11 @@ pub record Moment {sli : ℕ} (carrier : Carrier) (w : World sli) (made : ℕ �
   pub posts : (i : ℕ) → i < length w.heaps → i ≢ j → w.waiting i j ++ posts_made i j (made i) (told i) ≡ posts_taken i j before ++ under_way i
   pub short : IsShort carrier w j under_way
 
--- one order of the entries of all records, in which each post is taken after it was made and no lane or queue ever holds more than its
+-- one order of the entries of all records. In it each post is taken after it was made and no lane or queue ever holds more than its
 -- capacity
 pub record IsOrder {sli : ℕ} (carrier : Carrier) (w : World sli) (made : ℕ → List (Option Name)) (records : List (List Entry)) (order : List Entry) : Type 0 where
   pub each : (i : ℕ) → i < length w.heaps → entries_of i order ≡ record_of records i
-  -- what waits of worker i for worker j behind some of them
+  -- the posts of worker i that wait for worker j after some of them
   pub waits : List Entry → ℕ → ℕ → List Post
   pub posts : (before : List Entry) (i j : ℕ) → IsPrefix before order → i < length w.heaps → j < length w.heaps → i ≢ j
       → w.waiting i j ++ posts_made i j (made i) before ≡ posts_taken i j before ++ waits before i j
@@ -62,20 +63,22 @@ OrdersHaveMoments sli carrier = (w : World sli) (made : ℕ → List (Option Nam
 abbrev pub unreleased : Ledger → List Post → Ledger
 unreleased live posts = fold (λ ledger post. without_post ledger (Some post)) live posts
 
--- where worker j had been told the entries `before` and these blocks of its heap are live, the programs hold fewer than `most` of them at
--- some moment that the records admit
+-- let worker j have been told the entries `before` and let these blocks of its heap be live. Then the programs hold fewer than
+-- `most` of them at some moment that the records admit
 pub record IsSparingNow {sli : ℕ} (carrier : Carrier) (w : World sli) (made : ℕ → List (Option Name)) (records : List (List Entry)) (j most : ℕ) (before : List Entry) (live : Ledger) : Type 0 where
   pub moment : Moment carrier w made records j before
   pub few : length (unreleased live (all_under_way j moment.under_way (length w.heaps))) < most
 
--- so it is at each request in its record, behind earlier calls on its heap; and it asks for blocks of at most `len` bytes and resizes them to no more
+-- this holds at each request in its record, after earlier calls on its heap. It asks for blocks of at most `len` bytes and resizes
+-- them to no more
 abbrev pub AreSparingInRace : {sli : ℕ} (carrier : Carrier) (w : World sli) → (ℕ → List (Option Name)) → List (List Entry) → (j most len : ℕ) → List heap.Call → List heap.Answer → Type 0
 AreSparingInRace carrier w made records j most len calls answers = (before : List Entry) (e : Entry) → StandsBehind (record_of records j) before e
     → ((n : ℕ) → e.call ≡ Allocate n
     → (n ≤ len) × IsSparingNow carrier w made records j most before (ledger_after_all [] (calls ++ calls_on j (made j) before) (answers ++ answers_on j before)))
     × ((target : Target) (n : ℕ) → e.call ≡ Resize target n → n ≤ len)
 
--- a heap with room for what the programs hold and for what may be under way serves each request of its worker, while the ticks last
+-- a heap with room for the blocks that the programs hold and for those under way serves each request of its worker. It does so
+-- while the ticks last
 abbrev pub RaceSharedMixedSizesServe : ℕ → Carrier → Type 0
 RaceSharedMixedSizesServe sli carrier = (w v : World sli) (scripts : List (List Call)) (made : ℕ → List (Option Name)) (records : List (List Entry)) → IsRaceOver carrier w scripts made records v
     → (j words first most len : ℕ) (calls : List heap.Call) (answers : List heap.Answer) → HasPast w j words first calls answers

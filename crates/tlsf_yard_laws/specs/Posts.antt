@@ -1,4 +1,4 @@
--- What the programs of a race owe, so that each post releases a live block.
+-- The duty of the programs of a race, so that each post releases a live block.
 use Rattle.std.specs.Prelude.{◌≡◌, ◌≢◌, ◌⊎◌, ℕ, ◌<◌, List, [], length, Option, Some, Err}
 use Rattle.tlsf_heap.specs.declared.name.Name.{Name}
 use Rattle.tlsf_heap.specs.declared.refusal.Refusal.TheVariants.{Stale}

@@ -1,4 +1,5 @@
--- What the worker of a heap may rely on in a race, whatever the schedule of the threads, and after earlier races and replays.
+-- The laws that the worker of a heap may rely on in a race. They hold whatever the schedule of the threads, and after earlier races
+-- and replays.
 use Rattle.std.specs.Prelude.{◌≡◌, ℕ, ◌+◌, ◌<◌, ◌≤◌, List, [], ◌++◌, Option, None, length}
 use Rattle.std.specs.List.{AllByRecursion}
 use Rattle.tlsf_class.specs.Classes.{most_words}

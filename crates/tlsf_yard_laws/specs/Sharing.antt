@@ -30,16 +30,17 @@ abbrev pub without_post : Ledger → Option Post → Ledger
 without_post ledger None = ledger
 without_post ledger (Some post) = filter (λ entry. not (is_same post.name entry.0)) ledger
 
--- what the programs hold of heap j, after an entry: a block is held from the allocate that gave it until a release of its name is
--- accepted by anybody. The heap's own worker releases at once; where another does, it is the post that counts, not the drain
+-- the blocks that the programs hold of heap j, after an entry. A block is held from the allocate that gave it until a release of
+-- its name is accepted by anybody. The heap's own worker releases at once; where another does, it is the post that counts, not the
+-- drain
 abbrev pub unreleased_after : ℕ → List (Option Name) → Ledger → Entry → Ledger
 unreleased_after j made ledger e =
     if e.worker == j
     then with_call ledger (call_on_own made e.worker e.call e.reply) (answer_told e.call e.reply)
     else without_post ledger (post_of_release j made e.worker e.call e.reply)
 
--- each request of worker j is for at most `len` bytes, and is made while the programs hold fewer than `most` blocks of its heap;
--- and it resizes blocks to at most `len` bytes
+-- each request of worker j is for at most `len` bytes, and is made while the programs hold fewer than `most` blocks of its heap. It
+-- resizes blocks to at most `len` bytes
 abbrev pub IsSparing : ℕ → ℕ → ℕ → Ledger → Entry → Type 0
 IsSparing j most len ledger e = e.worker ≡ j →
     ((n : ℕ) → e.call ≡ Allocate n → (n ≤ len) × (length ledger < most)) × ((target : Target) (n : ℕ) → e.call ≡ Resize target n → n ≤ len)
@@ -53,7 +54,8 @@ abbrev pub most_under_way : {sli : ℕ} → Carrier → World sli → ℕ
 most_under_way OverLanes w = (length w.heaps - 1) * w.capacity
 most_under_way OverQueues w = w.capacity
 
--- a heap with room for what the programs hold and for what may be under way serves each request of its worker, while the ticks last
+-- a heap with room for the blocks that the programs hold and for those under way serves each request of its worker. It does so
+-- while the ticks last
 abbrev pub SharedMixedSizesServe : ℕ → Type 0
 SharedMixedSizesServe sli = (w : World sli) (es : List Event) (j words first most len : ℕ) → IsNew w j words first → ((i : ℕ) → length (w.waiting i j) ≤ w.capacity)
     → IsRegion sli words → want len ≤ most_words sli → mixed_words sli (most + most_under_way OverLanes w) len ≤ words

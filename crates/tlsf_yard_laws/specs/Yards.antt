@@ -1,4 +1,4 @@
--- What the worker of a heap may rely on, whatever the other workers do.
+-- The laws that the worker of a heap may rely on, whatever the other workers do.
 use Rattle.std.specs.Prelude.{◌≡◌, ℕ, ◌+◌, ◌<◌, ◌≤◌, List, None, length}
 use Rattle.std.specs.List.{AllByRecursion}
 use Rattle.tlsf_class.specs.Classes.{most_words}
@@ -20,7 +20,7 @@ pub record IsNew {sli : ℕ} (w : World sli) (j words first : ℕ) : Type 0 wher
   pub new : heap_in w j ≡ opened j words first
 
 -- a heap of mixed_words whose calls stay within the bounds is never answered NoFit. Its calls are those that its own worker's
--- entries tell; a block whose name waits in a lane counts as held until a drain releases it
+-- entries tell. A block whose name waits in a lane counts as held until a drain releases it
 abbrev pub YardMixedSizesSuffice : ℕ → Type 0
 YardMixedSizesSuffice sli = (w : World sli) (es : List Event) (j words first most len : ℕ) → IsNew w j words first → IsRegion sli words → want len ≤ most_words sli → mixed_words sli most len ≤ words
     → let r = replies w es in AreModest most len 0 (calls_on j r.made r.entries) (answers_on j r.entries) → AllByRecursion HasRoomFor (answers_on j r.entries)

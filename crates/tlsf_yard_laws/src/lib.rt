@@ -1,8 +1,8 @@
-//! What the worker of a heap may rely on, whatever the other workers do: the laws of `tlsf_pool` for each heap of a yard.
+//! The laws that the worker of a heap may rely on, whatever the other workers do: those of `tlsf_pool` for each heap of a yard.
 //!
-//! Each is the contract of a function that does nothing, over every list of events on every yard, or over every race, whatever
-//! its schedule. They follow from `tlsf_crew::one_history`, `tlsf_crew::one_history_of_a_race` and
-//! `tlsf_crew::one_history_of_a_queue_race`: a heap is called by its own worker alone, and a block that another worker gives back
+//! Each is the contract of a function that does nothing, over every list of events on every yard, or over every race, whatever its
+//! schedule. They follow from `tlsf_crew::one_history`, `tlsf_crew::one_history_of_a_race` and
+//! `tlsf_crew::one_history_of_a_queue_race`. For a heap is called by its own worker alone. A block that another worker gives back
 //! stays live until its owner takes that post. A law on races holds over lanes and over queues.
 //!
 //! | A user knows | So | Law |

@@ -18,12 +18,13 @@ pub fn past_goes_on()
     ensures race { (sli : ℕ) (carrier : Carrier) → RaceAddsToPast sli carrier }
 {}
 
-/// How large the heap of a worker must be, so that none of its requests in a race is ever refused for want of room, whatever
-/// the schedule of the threads, over lanes and over queues.
+/// How large the heap of a worker must be, so that none of its requests in a race is ever refused for want of room. It holds
+/// whatever the schedule of the threads, over lanes and over queues.
 ///
-/// A worker counts for itself: one more for each allocate that was accepted, one fewer for each release of its own and each
-/// post that it took that its heap accepted. While it has fewer than `most` blocks before each request, and asks for at most
-/// `len` bytes, a heap of `tlsf_pool::mixed_sizes_suffice`' words for these two has room. Where it has `most`, it drains first.
+/// A worker counts for itself. It counts one more for each allocate that was accepted. It counts one fewer for each release of its
+/// own, and for each post that it took that its heap accepted. Let it have fewer than `most` blocks before each request, and ask
+/// for at most `len` bytes. Then a heap of `tlsf_pool::mixed_sizes_suffice`' words for these two has room. Where it has `most`, it
+/// drains first.
 ///
 /// ```text
 /// worker 0: Allocate(8), Allocate(8), Drain(8), and again where the drain left it fewer than two, in a heap for two blocks

@@ -4,10 +4,10 @@ ghost use Rattle.tlsf_yard_laws.specs.Yards.{YardHoldsWhatIsLive, YardKeepsBytes
 
 /// How large the heap of a worker must be, so that none of its requests is ever refused for want of room.
 ///
-/// The heap needs the words of `tlsf_pool::mixed_sizes_suffice`, for the most blocks of it that are held at any moment. They
-/// are told by the entries of its own worker: its accepted allocates, less the releases that its heap accepted, at once or
-/// in a drain. So a block whose name waits in a lane counts as held: with lanes of C posts from each of n - 1 other workers,
-/// up to C * (n - 1) such blocks beside those in use.
+/// The heap needs the words of `tlsf_pool::mixed_sizes_suffice`, for the most blocks of it that are held at any moment. The entries
+/// of its own worker tell them: its accepted allocates, less the releases that its heap accepted, at once or in a drain. So a block
+/// whose name waits in a lane counts as held. With lanes of C posts from each of n - 1 other workers, up to C * (n - 1) such blocks
+/// are held beside those in use.
 ///
 /// ```text
 /// worker 0 allocates, worker 1 releases: 1 held, a post under way
@@ -21,8 +21,8 @@ pub fn yard_never_refuses()
 
 /// A worker's blocks keep their bytes, whatever the other workers do.
 ///
-/// The bytes under each name of a heap are told by the calls that its own worker's entries tell, and by their answers: nothing
-/// that another worker does changes a byte, and none of its posts does before a drain.
+/// The calls that its own worker's entries tell of a heap, with their answers, tell the bytes under each name of it. Nothing that
+/// another worker does changes a byte, and none of its posts does before a drain.
 ///
 /// ```text
 /// worker 0 allocates x and writes 07 to it, worker 1 releases x: x still has 07

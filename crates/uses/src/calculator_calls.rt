@@ -1,5 +1,5 @@
-//! What `bc` asks of `malloc` to compute 2^30, as `examples/calculator.trace` has it, and the table of its kinds, merged for
-//! eight pools.
+//! The calls of `bc` to `malloc` that compute 2^30, as `examples/calculator.trace` has them, and the table of their kinds, merged
+//! for eight pools.
 use tlsf_pool::Kind;
 
 /// How many blocks of each length the program holds at once, at most.
@@ -20,11 +20,11 @@ pub const TABLE: [Kind; 8] = [
     },
 ];
 
-/// What the program asks for.
+/// The requests of the program.
 pub enum Call {
-    /// So many blocks, one after another, of so many bytes each.
+    /// A number of blocks, one after another, of a number of bytes each.
     Ask(u32, u32),
-    /// That the block of this number is taken back. They are numbered from 0 on, as they were asked for.
+    /// Take back the block of this number. They are numbered from 0 on, as they were asked for.
     Free(usize),
 }
 

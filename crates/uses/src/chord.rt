@@ -1,5 +1,5 @@
-//! The chords of an organ, under a contract of the organ's own: where enough pipes are free a chord sounds whole, memory is never the reason
-//! why a note stays silent, and each note has a bounded cost.
+//! The chords of an organ, under a contract of the organ's own. Where enough pipes are free a chord sounds whole, and memory is
+//! never the reason why a note stays silent. Each note has a bounded cost.
 ghost use Rattle.std.specs.Prelude.{◌≡◌, ◌+◌, ◌*◌, ◌≤◌, length, OnOk, IsErrOf};
 ghost use Rattle.tlsf_pool.specs.pools.Bounds.{SameBounds};
 

@@ -1,5 +1,5 @@
-//! A heap behind a lock. Any thread that has a reference to it may call it, and may read or release what another
-//! thread allocated: whoever has the guard has the heap. `lock` waits; no call on the guard does, or takes memory.
+//! A heap behind a lock. Any thread that has a reference to it may call it, and may read or release what another thread allocated.
+//! Whoever has the guard has the heap. `lock` waits; no call on the guard does, or takes memory.
 use anyhow::Error;
 use std::alloc::Global;
 use std::marker::Sync;

@@ -1,6 +1,6 @@
-//! A queue of messages between two threads. The first writes each message straight into a block of a bounded arena, with no lock held, and
-//! sends it over a ring. The second reads the bytes where they lie, so none is copied, and drops the message: its block is home then, and
-//! serves for a later one.
+//! A queue of messages between two threads. The first writes each message straight into a block of a bounded arena, with no lock
+//! held, and sends it over a ring. The second reads the bytes where they lie, so none is copied, and drops the message. Its block
+//! is home then, and serves for a later one.
 ghost use Rattle.std.specs.Prelude.{◌≡◌};
 ghost use Rattle.tlsf_pool_arena.specs.returns.Ends.{id_of};
 

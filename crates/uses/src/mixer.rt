@@ -1,12 +1,13 @@
-//! The collections of a mixer in memory that was counted beforehand: at most so many blocks are held at once, of at most so many bytes each,
-//! and an arena of `mixed_units` units has room for them, in whatever order they come and go. No voice, sample or note lacks room.
+//! The collections of a mixer in memory that was counted beforehand. At most a number of blocks are held at once, of at most a
+//! number of bytes each. An arena of `mixed_units` units has room for them, in whatever order they come and go. No voice, sample or
+//! note lacks room.
 use anyhow::{Error, bail};
 use std::alloc::{AllocError, Global};
 use std::collections::BTreeMap;
 use tlsf_arena::DefaultArena;
 use tlsf_pool_arena::mixed_units;
 
-/// What a piece has at most: voices in boxes, samples in a line that grows by pushes, and notes in a map.
+/// The most that a piece has: voices in boxes, samples in a line that grows by pushes, and notes in a map.
 const VOICES: u32 = 4;
 
 const SAMPLES: u32 = 1_024;

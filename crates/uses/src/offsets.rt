@@ -1,5 +1,5 @@
-//! The buffers of a scene in the memory of a graphics card, which this program never touches: it knows offsets and sizes,
-//! and the card has the bytes.
+//! The buffers of a scene in the memory of a graphics card, which this program never touches. It knows offsets and sizes, and the
+//! card has the bytes.
 use anyhow::Error;
 use std::alloc::Global;
 use tlsf_offsets::OffsetArena;

@@ -1,5 +1,5 @@
 //! The messages of a gateway in a heap for a table of kinds: many short ones, and a few long ones. Each kind has its own count, so
-//! short messages never take the room of long ones, and only a message too many of its kind is refused.
+//! short messages never take the room of long ones. Only a message too many of its kind is refused.
 use anyhow::Error;
 use std::alloc::Global;
 use tlsf_heap::Name;
@@ -8,7 +8,7 @@ use tlsf_pool::{Kind, TablePool, TablePoolCalls};
 /// Four readings of up to 16 bytes at once, and one picture of up to 400.
 const TABLE: [Kind; 2] = [Kind { most: 4, len: 16 }, Kind { most: 1, len: 400 }];
 
-/// What comes in: a message of so many bytes, or that the oldest was sent on.
+/// The input: a message of a number of bytes, or that the oldest was sent on.
 enum Event {
     In(u32),
     Out,

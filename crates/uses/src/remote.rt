@@ -1,5 +1,6 @@
-//! Packets in the memory of a bounded arena. The owner lends each packet room as it comes in; other threads send the packets and drop them,
-//! with no wait and no refusal; and the owner's drain has the room again. While fewer packets are under way than may be, none lacks room.
+//! Packets in the memory of a bounded arena. The owner lends each packet room as it comes in. Other threads send the packets and
+//! drop them, with no wait and no refusal. The owner's drain then has the room again. While fewer packets are under way than may
+//! be, none lacks room.
 ghost use Rattle.std.specs.Prelude.{◌≡◌};
 ghost use Rattle.tlsf_pool_arena.specs.returns.Ends.{id_of};
 
@@ -38,7 +39,7 @@ impl<'a> Inlet<'a> {
         Inlet { packets, places }
     }
 
-    /// A block for a packet of so many bytes, which any thread may drop.
+    /// A block for a packet of `len` bytes, which any thread may drop.
     pub fn take_in(&mut self, len: u32) -> Result<Packet<'a>, PoolRefusal> {
         self.packets.lend(self.places, len)
     }

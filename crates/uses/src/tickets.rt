@@ -1,5 +1,5 @@
-//! Tables that an owner lends to workers, with a ticket for each. A worker reads its table in its own thread and puts it back by the ticket,
-//! which is never refused and never waits; the owner takes what came home. It is the very table that went out.
+//! Tables that an owner lends to workers, with a ticket for each. A worker reads its table in its own thread and puts it back by
+//! the ticket, which is never refused and never waits. The owner takes what came home. It is the very table that went out.
 ghost use Rattle.std.specs.Prelude.{◌≡◌, ◌<◌, length};
 ghost use Rattle.tlsf_pool_arena.specs.returns.Ends.{IsOwnerOf, IsTicketFor, away_by};
 
@@ -10,7 +10,7 @@ use tlsf_pool_arena::{OwnerEnd, Places, Ticket, open_places};
 
 type Table = Vec<u32>;
 
-/// A worker's part: the sum of its table, which is home behind that.
+/// A worker's part: the sum of its table, which is home afterwards.
 pub fn sum_up(places: &Places<Table>, table: Table, ticket: Ticket<Table>) -> u64
     requires { IsTicketFor places.now table ticket }
 {

@@ -1,5 +1,5 @@
-//! The voices of a synthesizer in a pool. A pool is opened by the most blocks that are held at once and the longest
-//! request, and never refuses one for want of room: whatever keys are struck, only a voice too many is refused.
+//! The voices of a synthesizer in a pool. A pool is opened by the most blocks that are held at once and the longest request, and
+//! never refuses one for want of room. Whatever keys are struck, only a voice too many is refused.
 use anyhow::Error;
 use std::alloc::Global;
 use tlsf_heap::Name;
@@ -10,7 +10,7 @@ const VOICES: u32 = 3;
 
 const VOICE_BYTES: u32 = 48;
 
-/// What a keyboard sends: a note and how hard it is struck. With no force the note is let go, as in MIDI.
+/// The signal of a keyboard: a note and how hard it is struck. With no force the note is let go, as in MIDI.
 const SCORE: [[u8; 2]; 7] = [
     [60, 90],
     [64, 80],

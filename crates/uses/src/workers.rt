@@ -1,9 +1,9 @@
 //! Two workers in threads of their own. The first makes frames in blocks of its heap and hands their names over a
 //! ring. The second shows each and then releases it: its name is posted to its owner, who drains the posts.
 //!
-//! What is a block in another worker's hands good for? Its bytes are its owner's to read and write, but who has the
-//! name says when it is given back, and nobody gets its place before. So a name lends space: its place may number a
-//! part of something that both threads reach in other ways, as a device's memory, a file or a shared buffer.
+//! What is a block in another worker's hands good for? Its bytes are its owner's to read and write. But who has the name says when
+//! it is given back, and nobody gets its place before. So a name lends space. Its place may number a part of something that both
+//! threads reach in other ways, as a device's memory, a file or a shared buffer.
 use anyhow::{Error, bail};
 use rtrb::{Consumer, Producer, RingBuffer};
 use std::alloc::Global;

@@ -1,4 +1,4 @@
-//! What C's calls by place need of a heap whose level is told when it is opened.
+//! The heap of C's calls by place, whose level is told when it is opened.
 ghost use Rattle.std.specs.Prelude.{◌≡◌, ◌+◌, ◌*◌, ◌/◌, ◌%◌, ◌<◌, ◌≤◌, length, max, min, IfOk, IfSome, MatchOption, OnErr};
 ghost use Rattle.tlsf_heap.specs.Aligned.{words_aligned};
 ghost use Rattle.tlsf_heap.specs.Blocks.{want, IsPlace};

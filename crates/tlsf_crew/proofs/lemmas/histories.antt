@@ -4,11 +4,11 @@
 pub mod AllEntries
 -- The entries of a drain tell the posts that it took and the releases of their names.
 pub mod DrainEntries
--- What some of the entries of a replay leave, behind which the others come.
+-- The world after some of the entries of a replay, after which the others come.
 pub mod Fronts
 -- Entries that follow others tell of each heap and each lane what these tell, and then what they tell themselves.
 pub mod JoinedEntries
--- The entry of a release tells the call on its own heap or the post that it made, and that of a take what it took.
+-- The entry of a release tells the call on its own heap or the post that it made. The entry of a take tells the post that it took.
 pub mod LaneCalls
 -- A call is refused as Unmade exactly where its target means no name.
 pub mod NamesMeant

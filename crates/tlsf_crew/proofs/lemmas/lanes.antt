@@ -6,9 +6,9 @@ pub mod Across
 pub mod LaneByLane
 -- Where one lane of a yard changes, its world changes by what waits in that lane, and by nothing else.
 pub mod LaneChanges
--- What a yard shows whose lanes were settled: what waits, the capacity, and no post for a worker that isn't there.
+-- The view of a yard whose lanes were settled: the posts that wait, the capacity, and no post for a worker that isn't there.
 pub mod LaneSettled
--- A slice that came out of a lane is as many takes one after another.
+-- A slice that came out of a lane is a number of takes one after another.
 pub mod LaneSlices
 -- A worker whose ends, or whose heap, are another's: what its yard has in each slot.
 pub mod LaneSlots

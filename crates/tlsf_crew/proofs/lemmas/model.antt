@@ -8,11 +8,11 @@ pub mod Edits
 pub mod Emptied
 -- Each event is answered as the model answers it, and there is room for its entries.
 pub mod EventSteps
--- What a list of events is answered doesn't depend on the entries before it: they stay in front. So a list can be run in parts.
+-- The answers to a list of events don't depend on the entries before it: they stay in front. So a list can be run in parts.
 pub mod InParts
 -- A call that a worker makes on its yard is the model's step of the world.
 pub mod OneEvent
--- What a heap answers is what its worker replies: where the call's target means a name, and where it means none.
+-- The answer of a heap is the reply of its worker: where the call's target means a name, and where it means none.
 pub mod HeapReply
 -- The sum of two sums, the bound of a sum by its greatest part, the sum over more numbers, and that of changed parts.
 pub mod Sums

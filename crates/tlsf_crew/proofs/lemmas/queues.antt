@@ -10,5 +10,6 @@ pub mod QueueOpened
 pub mod QueueSettled
 -- Settling the queues of a yard leaves the world that it shows.
 pub mod QueueWorlds
--- Each worker of a whole yard over queues has an end to each other queue, and the yard stays whole where one takes the place of the one that it was.
+-- Each worker of a whole yard over queues has an end to each other queue. The yard stays whole where one takes the place of the one
+-- that it was.
 pub mod QueueYards

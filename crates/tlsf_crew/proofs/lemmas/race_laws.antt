@@ -8,7 +8,8 @@ pub mod AloneRuns
 pub mod CallsTold
 -- Two races of the same scripts, which take no post, are the same.
 pub mod OneRace
--- Two races over queues of the same scripts, which take no post, are the same where no worker met a full queue and each queue has one poster.
+-- Two races over queues of the same scripts, which take no post, are the same in one case. No worker met a full queue and each
+-- queue has one poster.
 pub mod QueueAlone
 -- A record over queues tells the calls of its script and the history of its worker's heap.
 pub mod QueueRecords

@@ -10,7 +10,7 @@ pub mod QueueAgree
 pub mod QueueGathering
 -- The last drains of a race over queues, worker after worker, take all that was known to have been put, and are told.
 pub mod QueueLast
--- A race over queues leads from the yard that was handed in to the one that comes back: each record is legal, and each two agree.
+-- A race over queues leads from the yard that was handed in to the one that comes back. Each record is legal, and each two agree.
 pub mod QueueRaces
 -- The takes of a drain over queues: what they add to a record, and when two drains took the same posts.
 pub mod QueueTakes

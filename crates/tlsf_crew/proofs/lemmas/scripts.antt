@@ -12,7 +12,7 @@ pub mod ManyEntries
 pub mod OneEntry
 -- A call that takes nothing is answered as the model answers it, whatever the ports of its worker.
 pub mod OwnTold
--- What calls over queues leave, one after another.
+-- The yard that calls over queues leave, one after another.
 pub mod QueueRuns
 -- One call of a worker over queues, and the entries that tell of it.
 pub mod QueueSteps

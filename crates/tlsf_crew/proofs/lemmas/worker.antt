@@ -8,7 +8,7 @@ pub mod OwnHeaps
 pub mod PortsKept
 -- A worker with other ports has the same heap.
 pub mod SameParts
--- A slice of posts that was taken at once, and whose blocks were then released, is as many takes one after another.
+-- A slice of posts that was taken at once, and whose blocks were then released, is a number of takes one after another.
 pub mod Slices
 -- A slot that was written has what was written, and each other slot what it had.
 pub mod Slots

@@ -1,4 +1,4 @@
--- What a list of entries tells: the events that made it, the calls on each heap, and the posts of each lane.
+-- A list of entries: the events that made it, the calls on each heap, and the posts of each lane.
 use Rattle.std.specs.Prelude.{◌≡◌, ◌≢◌, ◌↔◌, ◌⊎◌, ℕ, ◌<◌, ◌≤◌, List, [], ◌∷◌, ◌++◌, length, map, Option, Some, None, Ok, Err, ⊤, All, ◌==◌, nat_le, if◌then◌else◌}
 use Rattle.std.specs.List.{filter, filter_map}
 use Rattle.std.specs.Option.{option_map}
@@ -53,7 +53,7 @@ abbrev pub AreTakes : ℕ → ℕ → List Entry → Type 0
 AreTakes at low [] = ⊤
 AreTakes at low (e ∷ es) = (from : ℕ) × (t : Took) × (e ≡ record { worker = at; call = Take from; reply = Taken t }) × (low ≤ from) × AreTakes at from es
 
--- at most so many takes, and then the drain's own entry with their number
+-- at most this many takes, and then the drain's own entry with their number
 pub record IsDrain (at most : ℕ) (entries : List Entry) : Type 0 where
   pub takes : List Entry
   pub are_takes : AreTakes at 0 takes
@@ -65,17 +65,17 @@ abbrev pub TellsCall : ℕ → List (Option Name) → Call → Option Name → L
 TellsCall at made (Drain most) name entries = (name ≡ None) × IsDrain at most entries
 TellsCall at made call name entries = IsOne at made call name entries
 
--- a post that was taken came from another of so many workers
+-- a post that was taken came from another of this many workers
 abbrev pub TookFromOther : ℕ → Entry → Type 0
 TookFromOther workers e = (from : ℕ) (t : Took) → e.call ≡ Take from → e.reply ≡ Taken t → (from < workers) × (from ≢ e.worker)
 
--- the entries of an event, where so many workers are; that of no worker is refused
+-- the entries of an event, where this many workers are; that of no worker is refused
 pub record TellsEvent (workers : ℕ) (made : List (Option Name)) (e : Event) (name : Option Name) (entries : List Entry) : Type 0 where
   pub near : e.worker < workers → TellsCall e.worker made e.call name entries
   pub others : All (TookFromOther workers) entries
   pub far : workers ≤ e.worker → (name ≡ None) × (entries ≡ record { worker = e.worker; call = e.call; reply = Refused Stranger } ∷ [])
 
--- the entries tell the events, each once and in order, and the name that each made, behind what earlier ones made
+-- the entries tell the events, each once and in order, and the name that each made, after those that earlier ones made
 abbrev pub Tells : ℕ → List (Option Name) → List Event → List (Option Name) → List Entry → Type 0
 Tells workers made [] [] entries = entries ≡ []
 Tells workers made (e ∷ es) (name ∷ later) entries =
@@ -144,8 +144,8 @@ pub record RunsTo (sli : ℕ) (h : HeapState) (calls : List heap.Call) (answers 
   pub told : map handed_on (heap.run sli h calls).0 ≡ answers
   pub left : (heap.run sli h calls).1 ≡ g
 
--- the calls that some entries tell of heap j, run on it, give the answers that they tell and leave a lawful heap; those of
--- the later entries lead from there to the last heap
+-- the calls that some entries tell of heap j, run on it, give the answers that they tell and leave a lawful heap. Those of the
+-- later entries lead from there to the last heap
 pub record RunsThrough (sli : ℕ) (h : HeapState) (j : ℕ) (made : List (Option Name)) (before later : List Entry) (last : HeapState) : Type 0 where
   pub between : HeapState
   pub first : RunsTo sli h (calls_on j made before) (answers_on j before) between

@@ -1,4 +1,4 @@
--- What the record of a worker over queues tells: its calls, and what its drains took.
+-- A worker's record over queues: its calls, and the takes of its drains.
 use Rattle.std.specs.Prelude.{◌≡◌, ◌≢◌, ℕ, ◌<◌, ◌≤◌, List, [], ◌∷◌, ◌++◌, length, Option, None, ⊤}
 use Rattle.tlsf_heap.specs.declared.name.Name.{Name}
 use Rattle.tlsf_calls.specs.declared.entry.Entry.{Entry}
@@ -15,7 +15,7 @@ AreQueueTakes n at [] = ⊤
 AreQueueTakes n at (e ∷ es) =
     (t : Took) × (e ≡ record { worker = at; call = Take t.from; reply = Taken t }) × (t.from < n) × (t.from ≢ at) × AreQueueTakes n at es
 
--- at most so many takes, and then the drain's own entry with their number
+-- at most this many takes, and then the drain's own entry with their number
 pub record IsQueueDrain (n at most : ℕ) (entries : List Entry) : Type 0 where
   pub takes : List Entry
   pub are_takes : AreQueueTakes n at takes
@@ -29,7 +29,8 @@ TellsQueueCall n at made (Take from) name entries =
 TellsQueueCall n at made (Drain most) name entries = (name ≡ None) × IsQueueDrain n at most entries
 TellsQueueCall n at made call name entries = IsOne at made call name entries
 
--- the entries tell the calls of one of n workers, each once and in order, and the name that each made, behind what earlier ones made
+-- the entries tell the calls of one of n workers, each once and in order. They tell the name that each made, after those that
+-- earlier ones made
 abbrev pub TellsQueue : ℕ → ℕ → List (Option Name) → List Call → List (Option Name) → List Entry → Type 0
 TellsQueue n at made [] [] entries = entries ≡ []
 TellsQueue n at made (call ∷ calls) (name ∷ later) entries =

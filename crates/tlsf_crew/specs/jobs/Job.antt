@@ -1,4 +1,4 @@
--- What the thread of one worker is given, and what it promises of what it hands back.
+-- All that the thread of one worker is given, and its promise of what it hands back.
 use Rattle.std.specs.Prelude.{◌≡◌, ℕ, ◌+◌, ◌^◌, ◌<◌, ◌≤◌, List, [], vec_len, vec_capacity}
 use Rattle.tlsf_crew.specs.declared.worker.worker.Worker.{Worker}
 use Rattle.tlsf_crew.specs.model.Sums.{sum_of}
@@ -9,8 +9,8 @@ use Rattle.tlsf_crew.specs.declared.jobs.job.Job.{Job}
 abbrev pub KnowsSome : {sli : ℕ} {P : Type 0} → (ℕ → Worker sli P → Type 0) → Worker sli P → Type 0
 KnowsSome knows a = (n : ℕ) × knows n a
 
--- a job is ready to run: its worker is one of some yard, nothing is recorded, and there is room for an entry of each call and for one of each
--- post that may be taken
+-- a job is ready to run: its worker is one of some yard, nothing is recorded, and there is room for its entries. They are one for
+-- each call and one for each post that may be taken
 pub record IsReady {sli : ℕ} {P : Type 0} (by : ScriptPromise sli P) (job : Job sli P) : Type 0 where
   pub yard : KnowsSome by.knows job.worker
   pub fresh : (job.made.items ≡ []) × (job.entries.items ≡ [])

@@ -1,4 +1,4 @@
--- What the parts of a race give one another. This serves the contracts and proofs of private functions alone.
+-- Facts that the parts of a race give one another. This serves the contracts and proofs of private functions alone.
 use Rattle.std.specs.Prelude.{◌≡◌, ℕ, ◌+◌, ◌<◌, List, [], ◌∷◌, length, slice_index, slice_get, Option, Some, vec_len, vec_capacity}
 use Rattle.std.specs.declared.vec.Vec.{Vec}
 use Rattle.std.specs.declared.alloc.Global.{Global}
@@ -12,8 +12,8 @@ use Rattle.tlsf_crew.specs.scripts.Counts.{releases_of}
 use Rattle.tlsf_crew.specs.scripts.Scripts.{script_of, ScriptRun, ScriptPromise, at_stage}
 use Rattle.tlsf_crew.specs.jobs.Job.{IsReady}
 
--- a job that is ready to run, with the room for all entries of its record: one for each call, one for each post that may be taken,
--- where so many releases stand in each script, and one for the last drain
+-- a job that is ready to run, with the room for all entries of its record. They are one for each call, and one for each post that
+-- may be taken, where each script has this many releases. One more is for the last drain
 pub record IsPrepared {sli : ℕ} {P : Type 0} (by : ScriptPromise sli P) (releases : List ℕ) (job : Job sli P) : Type 0 where
   pub ready : IsReady by job
   pub limits : by.limited job.worker.ports releases job.limits

@@ -1,4 +1,4 @@
--- What the calls of a worker over lanes put and take.
+-- The puts and takes of the calls of a worker over lanes.
 use Rattle.std.specs.Prelude.{◌≡◌, ℕ, List, Option, Some, Result, slice_get, slice_set}
 use Rattle.tlsf_heap.specs.declared.name.Name.{Name}
 use Rattle.tlsf_post.specs.declared.post.Post.{Post}

@@ -1,4 +1,4 @@
--- What a drain of lanes notes of the posts that it takes. This serves the contracts and proofs of private functions alone.
+-- The notes of a drain of lanes on the posts that it takes. This serves the contracts and proofs of private functions alone.
 use Rattle.std.specs.Prelude.{◌≡◌, ℕ, Option, None}
 use Rattle.tlsf_calls.specs.declared.took.Took.{Took}
 use Rattle.tlsf_crew.specs.declared.worker.lanes.Lanes.{Lanes}

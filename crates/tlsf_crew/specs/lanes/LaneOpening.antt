@@ -1,4 +1,4 @@
--- What is known of the ends of a new yard of lanes.
+-- Facts about the ends of a new yard of lanes.
 use Rattle.std.specs.Prelude.{◌≡◌, ℕ, List, [], Some}
 use Rattle.tlsf_post.specs.declared.post_end.PostEnd.{PostEnd}
 use Rattle.tlsf_post.specs.declared.take_end.TakeEnd.{TakeEnd}
@@ -7,7 +7,7 @@ use Rattle.tlsf_crew.specs.declared.worker.worker.Worker.{Worker}
 use Rattle.tlsf_crew.specs.declared.worker.lanes.Lanes.{Lanes}
 use Rattle.tlsf_crew.specs.lanes.Yard.{post_at, take_at}
 
--- each end that posts knows so many free slots
+-- each end that posts knows this many free slots
 abbrev pub KnowFree : {sli : ℕ} → List (Worker sli Lanes) → ℕ → Type 0
 KnowFree ws capacity = (i j : ℕ) (p : PostEnd) → post_at ws i j ≡ Some p → free_slots p ≡ capacity
 

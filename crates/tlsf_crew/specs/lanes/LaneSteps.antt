@@ -1,4 +1,5 @@
--- What settling a lane, or a step on one end of it, changes in a yard. This serves the contracts and proofs of private functions alone.
+-- The change in a yard when a lane is settled, or a step is made on one end of it. This serves the contracts and proofs of private
+-- functions alone.
 use Rattle.std.specs.Prelude.{◌≡◌, ◌≢◌, ℕ, ◌<◌, ◌≤◌, List, length, map, Some, slice_get, slice_set}
 use Rattle.tlsf_post.specs.declared.post_end.PostEnd.{PostEnd}
 use Rattle.tlsf_post.specs.declared.take_end.TakeEnd.{TakeEnd}

@@ -1,4 +1,4 @@
--- What a drain of lanes takes and leaves.
+-- The takes of a drain of lanes, and the posts that it leaves.
 use Rattle.std.specs.Prelude.{◌≡◌, ℕ, zero, suc, ◌-◌, ◌<◌, List, [], ◌++◌, length, None, ◌⊎◌}
 use Rattle.tlsf_calls.specs.declared.drained.Drained.{Drained}
 use Rattle.tlsf_calls.specs.declared.took.Took.{Took}

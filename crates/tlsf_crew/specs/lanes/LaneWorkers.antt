@@ -1,4 +1,4 @@
--- What a worker over lanes shows: its capacity, and its end of each lane.
+-- The view of a worker over lanes: its capacity, and its end of each lane.
 use Rattle.std.specs.Prelude.{◌≡◌, ◌≢◌, ℕ, ◌-◌, ◌<◌, List, [], ◌∷◌, ◌++◌, length, Option, Some, Result, slice_get, OnOk, IfErr, IsOk, IfSome, IfNone, IsSome, ◌↔◌, ◌≤◌}
 use mathlib.Core.List.{IsPrefix}
 use Rattle.tlsf_words.specs.Memory.{Extent, Extents}

@@ -1,4 +1,4 @@
--- What `settle` tells of the lanes of a yard.
+-- Facts that `settle` tells of the lanes of a yard.
 use Rattle.std.specs.Prelude.{◌≡◌, ◌≢◌, ℕ, ◌<◌, List, length, Some}
 use Rattle.tlsf_post.specs.declared.post_end.PostEnd.{PostEnd}
 use Rattle.tlsf_post.specs.declared.take_end.TakeEnd.{TakeEnd}

@@ -64,9 +64,9 @@ HasPair ws i j capacity = (p : PostEnd) × (t : TakeEnd) × (post_at ws i j ≡ 
 abbrev pub HasYardLane : {sli : ℕ} → List (Worker sli Lanes) → ℕ → ℕ → Type 0
 HasYardLane ws i j = HasPair ws i j (capacity_in ws)
 
--- a whole yard of a level that there is: at most eight workers, numbered from 0 in their order, each with a lawful heap of its number. From each to
--- each other goes a lane that has both ends, of the yard's capacity, at most 1,024 posts; none has an end to or from itself, or
--- to or from a worker that isn't there. Each post that waits was posted by the worker at its lane's other end
+-- a whole yard of a level that there is. It has at most eight workers, numbered from 0 in their order, each with a lawful heap of
+-- its number. From each to each other goes a lane that has both ends, of the yard's capacity, at most 1,024 posts. None has an end
+-- to or from itself, or to or from a worker that isn't there. Each post that waits was posted by the worker at its lane's other end
 pub record IsYard {sli : ℕ} (ws : List (Worker sli Lanes)) : Type 0 where
   pub level : IsLevel sli
   pub few : length ws ≤ 8

@@ -1,5 +1,5 @@
--- The calls of one heap: the heap's own definitions, behind names that don't unfold by themselves.
--- The heap's are `abbrev`: each proof on worlds would carry their bodies in its goals, and its searches would stop at a limit.
+-- The calls of one heap: the heap's own definitions, under names that don't unfold by themselves. The heap's are `abbrev`: each
+-- proof on worlds would carry their bodies in its goals, and its searches would stop at a limit.
 use Rattle.std.specs.Prelude.{ℕ, List, Result, Ok, Err, nat_le, if◌then◌else◌}
 use Rattle.tlsf_heap.specs.Blocks.{HeapState}
 use Rattle.tlsf_heap.specs.Calls as heap

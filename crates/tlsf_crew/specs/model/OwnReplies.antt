@@ -1,4 +1,4 @@
--- What a worker's own heap replies to a call of a script, and what it leaves.
+-- The replies of a worker's own heap to a call of a script, and the heap that is left.
 use Rattle.std.specs.Prelude.{◌≡◌, ℕ, List, length, Option, Some, None, Result, Ok, Err}
 use Rattle.tlsf_heap.specs.Blocks.{HeapState}
 use Rattle.tlsf_heap.specs.declared.name.Name.{Name}

@@ -1,4 +1,4 @@
--- What a worker is told by its calls, one after another.
+-- The answers to a worker's calls, one after another.
 use Rattle.std.specs.Prelude.{◌≡◌, ◌≢◌, ℕ, ◌<◌, List, [], ◌∷◌, ◌++◌, length, Option, Some}
 use Rattle.tlsf_heap.specs.declared.name.Name.{Name}
 use Rattle.tlsf_heap.specs.Blocks.{HeapState}
@@ -31,8 +31,8 @@ told_by at r = record { made = r.made; entries = r.entries; heap = heap_in r.wor
 abbrev pub HasHeap : {sli : ℕ} → World sli → ℕ → ℕ → HeapState → Type 0
 HasHeap w n at h = (length w.heaps ≡ n) × (heap_in w at ≡ h)
 
--- the worlds in which a worker's call may be answered so. A lane has room for the post that was made, and none where it was full; the
--- post that was taken waits first, and none where there was none
+-- the worlds in which a worker's call may be answered so. A lane has room for the post that was made, and none where it was full.
+-- The post that was taken waits first, and none where there was none
 pub record Suits {sli : ℕ} (w : World sli) (at : ℕ) (made : List (Option Name)) (call : Call) (answer : Reply) : Type 0 where
   pub room : (target : Target) (name : Name) → call ≡ Release target → name_of made target ≡ Some name → name.heap ≢ at → name.heap < length w.heaps → answer ≡ Posted
       → length (w.waiting at name.heap) ≢ w.capacity

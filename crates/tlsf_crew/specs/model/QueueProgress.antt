@@ -1,4 +1,4 @@
--- What a worker over queues is told by its calls, one after another.
+-- The answers to the calls of a worker over queues, one after another.
 use Rattle.std.specs.Prelude.{◌≡◌, ◌≢◌, ℕ, ◌<◌, ◌≤◌, List, [], ◌∷◌, ◌++◌, length, All}
 use Rattle.std.specs.List.{fold}
 use Rattle.tlsf_heap.specs.Blocks.{HeapState}
@@ -36,8 +36,8 @@ with_takes at s posts = fold (with_take at) s posts
 abbrev pub with_reply : ℕ → Progress → Call → Reply → Progress
 with_reply at s call reply = told_more at s call reply s.heap
 
--- one call more over queues of n workers. A take is refused, since a queue has no single poster; a drain takes some posts of
--- others, in whatever order they come; all else is answered as over lanes
+-- one call more over queues of n workers. A take is refused, since a queue has no single poster. A drain takes some posts of
+-- others, in whatever order they come. All others are answered as over lanes
 abbrev pub MayTellQueue : ℕ → ℕ → ℕ → Progress → Call → Progress → Type 0
 MayTellQueue sli n at s (Take from) t = t ≡ with_reply at s (Take from) (Refused Stranger)
 MayTellQueue sli n at s (Drain most) t =

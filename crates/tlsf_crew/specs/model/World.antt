@@ -184,6 +184,6 @@ replies w es = fold after (begun w) es
 abbrev pub resumed : {sli : ℕ} → World sli → List (Option Name) → Replayed sli
 resumed w made = record { made = made; entries = []; world = w }
 
--- every event in order, behind events that made these names
+-- every event in order, after events that made these names
 unfoldable pub replies_behind : {sli : ℕ} → World sli → List (Option Name) → List Event → Replayed sli
 replies_behind w made es = fold after (resumed w made) es

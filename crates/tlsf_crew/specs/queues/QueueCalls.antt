@@ -1,4 +1,4 @@
--- What the calls of a worker over queues answer and leave.
+-- The answers and effects of the calls of a worker over queues.
 use Rattle.std.specs.Prelude.{◌≡◌, ℕ, ◌<◌, ◌⊎◌, List, length, Option, None}
 use Rattle.tlsf_calls.specs.declared.drained.Drained.{Drained}
 use Rattle.tlsf_calls.specs.declared.took.Took.{Took}

@@ -1,4 +1,4 @@
--- What a drain of a queue notes of the posts that it takes. This serves the contracts and proofs of private functions alone.
+-- The notes of a drain of a queue on the posts that it takes. This serves the contracts and proofs of private functions alone.
 use Rattle.std.specs.Prelude.{ℕ, ⊤, Option, Some, None}
 use Rattle.tlsf_calls.specs.declared.took.Took.{Took}
 use Rattle.tlsf_crew.specs.declared.queues.queues.Queues.{Queues}

@@ -1,4 +1,4 @@
--- What is known of the queues of a yard once all ends of each were side by side.
+-- Facts about the queues of a yard once all ends of each were side by side.
 use Rattle.std.specs.Prelude.{◌≡◌, ◌≢◌, ◌⊎◌, ℕ, zero, suc, ◌<◌, ◌≤◌, List, [], ◌++◌, length, Option, Some, None, slice_get, slice_set}
 use Rattle.std.specs.Option.{option_to_list}
 use Rattle.tlsf_post.specs.Rule.{posts_of}

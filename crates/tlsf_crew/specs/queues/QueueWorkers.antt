@@ -1,4 +1,4 @@
--- What a worker over queues shows besides: the end of its own queue, and its end of each other queue.
+-- The view of a worker over queues besides: the end of its own queue, and its end of each other queue.
 use Rattle.std.specs.Prelude.{◌≡◌, ◌≢◌, ℕ, ◌<◌, ◌≤◌, List, [], ◌∷◌, ◌++◌, length, Option, Some, None, Result, slice_get, OnOk, IfErr, IfSome, IfNone, ⊤}
 use Rattle.tlsf_heap.specs.declared.name.Name.{Name}
 use Rattle.tlsf_words.specs.Memory.{Extent}
@@ -62,10 +62,10 @@ pub record PutInto (p q : Queues) (j : ℕ) (name : Name) (answer : Result (Unit
   pub same : q.own ≡ p.own
   pub mailbox : KeepsPoster end new_end
   pub ok : OnOk answer (put_by new_end ≡ put_by end ++ record { from = number_of end; name = name } ∷ [])
-  -- no more posts waited with it than the queue holds, and it behind the others
+  -- no more posts waited with it than the queue holds, and it after the others
   pub waits : OnOk answer ((others : List Post) × PosterSaw new_end (others ++ record { from = number_of end; name = name } ∷ []))
   pub full : IfErr answer (λ back. (back ≡ name) × (put_by new_end ≡ put_by end))
-  -- so many posts waited as the queue holds, and where nobody else puts into it they were all this end's
+  -- as many posts waited as the queue holds, and where nobody else puts into it they were all this end's
   pub was_full : IfErr answer (λ back. (waiting : List Post) × (length waiting ≡ (plan_of end).capacity) × PosterSaw end waiting)
   pub alone : IfErr answer (λ back. IsOnlyPoster end → HasFilled end)
 

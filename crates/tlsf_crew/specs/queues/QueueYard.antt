@@ -26,8 +26,8 @@ first_capacity (Some a) = most_of a.ports.own
 abbrev pub queue_capacity_in : {sli : ℕ} → List (Worker sli Queues) → ℕ
 queue_capacity_in ws = first_capacity (slice_get ws 0)
 
--- a whole yard over queues, of a level that there is: at most eight workers, numbered from 0 in their order, each with a lawful heap of its number and a
--- queue of the yard's capacity, at most 1,024 posts, into which each other worker has an end
+-- a whole yard over queues, of a level that there is. It has at most eight workers, numbered from 0 in their order. Each has a
+-- lawful heap of its number and a queue of the yard's capacity, at most 1,024 posts. Each other worker has an end into it
 pub record IsQueueYard {sli : ℕ} (ws : List (Worker sli Queues)) : Type 0 where
   pub level : IsLevel sli
   pub few : length ws ≤ 8

@@ -1,4 +1,4 @@
--- What a race comes to where no script takes posts: the schedule of the threads decides nothing.
+-- The result of a race where no script takes posts: the schedule of the threads decides nothing.
 use Rattle.std.specs.Prelude.{◌≡◌, ℕ, ◌<◌, List, length, ⊤}
 use Rattle.std.specs.List.{AllByRecursion}
 use Rattle.tlsf_calls.specs.declared.call.Call.{Call}

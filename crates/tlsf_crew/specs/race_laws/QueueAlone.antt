@@ -1,5 +1,5 @@
--- What a race over queues comes to where no script takes posts, each queue has one poster, and none was full but where no other worker
--- could fill it: the schedule of the threads decides nothing.
+-- The result of a race over queues where no script takes posts: the schedule of the threads decides nothing. Each queue has one
+-- poster, and none was full but where no other worker could fill it.
 use Rattle.std.specs.Prelude.{◌≡◌, ◌≢◌, ℕ, ◌<◌, List, [], length}
 use Rattle.tlsf_heap.specs.declared.name.Name.{Name}
 use Rattle.tlsf_calls.specs.declared.call.Call.{Call}

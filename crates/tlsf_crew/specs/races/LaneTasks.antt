@@ -1,4 +1,4 @@
--- What the parts of a race over lanes give one another. This serves the contracts and proofs of private functions alone.
+-- Facts that the parts of a race over lanes give one another. This serves the contracts and proofs of private functions alone.
 use Rattle.std.specs.Prelude.{◌≡◌, ℕ, ◌+◌, ◌<◌, ◌≤◌, List, [], ◌∷◌, ◌++◌, length, slice_get, Option, Some, None, vec_len, vec_capacity}
 use Rattle.std.specs.declared.vec.Vec.{Vec}
 use Rattle.std.specs.declared.alloc.Global.{Global}
@@ -87,7 +87,7 @@ EachHasLastRoom ws records = (j : ℕ) (r : Vec Entry Global) → slice_get reco
 abbrev pub HasFew : {sli : ℕ} → List (Worker sli Lanes) → ℕ → Type 0
 HasFew ws j = (i : ℕ) → length (waits_in ws i j) ≤ 1024
 
--- worker j took all that waited for it, and was told so behind the earlier entries
+-- worker j took all that waited for it, and was told so after the earlier entries
 pub record LastTold {sli : ℕ} (ws vs : List (Worker sli Lanes)) (j : ℕ) (before after : List Entry) : Type 0 where
   pub own : List Entry
   pub entries : after ≡ before ++ own

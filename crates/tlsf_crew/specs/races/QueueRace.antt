@@ -1,4 +1,4 @@
--- What the workers of a race over queues are answered: each record by itself, and how the records fit together.
+-- The answers to the workers of a race over queues: each record by itself, and how the records fit together.
 use Rattle.std.specs.Prelude.{◌≡◌, ◌≢◌, ℕ, ◌+◌, ◌<◌, ◌≤◌, List, [], ◌∷◌, ◌++◌, length, Option, All}
 use mathlib.Core.List.{IsPrefix}
 use Rattle.tlsf_post.specs.declared.post.Post.{Post}
@@ -25,7 +25,7 @@ pub record AgreeQueue (n capacity i j : ℕ) (waited : List Post) (made : List (
   -- what waited, and then what i was answered to have posted, is what j took of i, in order and each once
   pub posts : waited ++ posts_made i j made sender ≡ posts_taken i j taker
   pub signed : All (λ post. post.from ≡ i) (posts_taken i j taker)
-  -- where i alone posts to j, the queue was full only where as many posts had waited or were made before
+  -- where i alone posts to j, the queue was full only where its capacity of posts had waited or were made before
   pub full : n ≡ 2 → (before : List Entry) (e : Entry) (name : Name) → StandsBehind sender before e → e.reply ≡ Refused (Full name) → name.heap ≡ j
       → capacity ≤ length waited + length (posts_made i j made before)
   -- a drain ended early only where all that had waited was taken before

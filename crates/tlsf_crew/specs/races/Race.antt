@@ -1,4 +1,4 @@
--- What the workers of a race are answered: each record by itself, and how the records fit together.
+-- The answers to the workers of a race: each record by itself, and how the records fit together.
 use Rattle.std.specs.Prelude.{◌≡◌, ◌≢◌, ℕ, ◌+◌, ◌<◌, ◌≤◌, List, [], ◌∷◌, ◌++◌, length, map, drop, Option, All}
 use mathlib.Core.List.{IsPrefix}
 use Rattle.tlsf_post.specs.declared.post.Post.{Post}
@@ -34,7 +34,7 @@ pub record Agree (capacity i j : ℕ) (waited : List Post) (made : List (Option 
   pub signed : All (λ post. post.from ≡ i) (posts_taken i j taker)
   -- after the script no more is left than the lane holds
   pub last : length (posts_taken i j (drop (length scripted) taker)) ≤ capacity
-  -- the lane was full only where as many posts had waited or were made before
+  -- the lane was full only where its capacity of posts had waited or were made before
   pub full : (before : List Entry) (e : Entry) (name : Name) → StandsBehind sender before e → e.reply ≡ Refused (Full name) → name.heap ≡ j
       → capacity ≤ length waited + length (posts_made i j made before)
   -- it was empty, and a drain ended early, only where all that had waited was taken before

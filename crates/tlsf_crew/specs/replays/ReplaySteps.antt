@@ -1,4 +1,4 @@
--- What the steps of a replay answer and leave. This serves the contracts and proofs of private functions alone.
+-- The answers and effects of the steps of a replay. This serves the contracts and proofs of private functions alone.
 use Rattle.std.specs.Prelude.{◌≡◌, ℕ, ◌<◌, ◌≤◌, List, [], ◌∷◌, ◌++◌, length, slice_index, Option, Some, ⊤}
 use Rattle.tlsf_post.specs.declared.take_end.TakeEnd.{TakeEnd}
 use Rattle.tlsf_post.specs.Lanes.{ready}
@@ -40,7 +40,7 @@ MayTake (Take from) = ⊤
 MayTake (Drain most) = ⊤
 MayTake _ = ⊥
 
--- so many posts an event may take from each worker: no more than wait, and all that are ready, where it takes any
+-- how many posts an event may take from each worker: no more than wait, and all that are ready, where it takes any
 pub record AreLimits {sli : ℕ} (ws : List (Worker sli Lanes)) (e : Event) (limits : List ℕ) : Type 0 where
   pub few : (i : ℕ) → i < 8 → slice_index limits i ≤ length (waits_in ws i e.worker)
   pub all : MayTake e.call → (i : ℕ) (t : TakeEnd) → i < 8 → take_at ws i e.worker ≡ Some t → length (ready t) ≤ slice_index limits i

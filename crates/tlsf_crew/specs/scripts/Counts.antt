@@ -23,12 +23,12 @@ is_release (Drain most) = false
 abbrev pub releases_in : List Event → ℕ
 releases_in es = count_by (λ e. is_release e.call) es
 
--- the room for the entries of events: one for each event, one for each release among them, whose post a drain may take, and one for
--- each post that waits
+-- the room for the entries of events. It is one for each event, one for each release among them, whose post a drain may take, and
+-- one for each post that waits
 abbrev pub entry_room : {sli : ℕ} → World sli → List Event → ℕ
 entry_room w es = length es + releases_in es + waiting_count w
 
--- so many posts may be taken of each lane: those that are ready, and one for each release of its poster's script
+-- how many posts may be taken of each lane: those that are ready, and one for each release of its poster's script
 abbrev pub AreLaneLimits : Lanes → List ℕ → List ℕ → Type 0
 AreLaneLimits lanes releases limits = (i : ℕ) → i < 8 → slice_index limits i ≡ count_of (lane_from lanes i) + slice_index releases i
 

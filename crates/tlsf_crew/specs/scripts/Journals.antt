@@ -1,4 +1,5 @@
--- What a journal admits and enters of the posts that a drain takes. This serves the contracts and proofs of private functions alone.
+-- A journal: the posts of a drain that it admits, and the entries for them. This serves the contracts and proofs of private
+-- functions alone.
 use Rattle.std.specs.Prelude.{◌≡◌, ◌≢◌, ℕ, ◌+◌, ◌<◌, ◌≤◌, List, [], ◌∷◌, ◌++◌, slice_index, Option, Some, None, vec_len, vec_capacity}
 use Rattle.tlsf_crew.specs.declared.scripts.journal.Journal.{Journal}
 use Rattle.tlsf_calls.specs.declared.took.Took.{Took}
@@ -23,7 +24,7 @@ abbrev pub named_by : Option ℕ → ℕ → ℕ
 named_by None source = source
 named_by (Some from) source = from
 
--- the entry of the take, of a post of that worker, stands behind the others
+-- the entry of the take, of a post of that worker, stands after the others
 pub record IsEntered (old : Journal) (at source from : ℕ) (took : Took) (new : Journal) : Type 0 where
   pub near : source < 8
   pub fewer : OneFewer old.limits source new.limits

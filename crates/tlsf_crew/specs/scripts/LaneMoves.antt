@@ -1,4 +1,4 @@
--- What the calls of one worker over lanes answer and leave. This serves the contracts and proofs of private functions alone.
+-- The answers and effects of the calls of one worker over lanes. This serves the contracts and proofs of private functions alone.
 use Rattle.std.specs.Prelude.{◌≡◌, ◌≢◌, ◌⊎◌, ℕ, zero, suc, ◌+◌, ◌<◌, ◌≤◌, List, [], ◌∷◌, ◌++◌, length, take, slice_index, Option, Some, None, ◌==◌, if◌then◌else◌}
 use Rattle.std.specs.List.{fold}
 use mathlib.Core.List.{IsPrefix}
@@ -52,8 +52,8 @@ pub record TakeEndMoved {sli : ℕ} (at : ℕ) (v : Worker sli Lanes) (i : ℕ) 
 abbrev pub Spent : {sli : ℕ} → Worker sli Lanes → List ℕ → ℕ → ℕ → List Entry → Type 0
 Spent a limits at i entries = (t : TakeEnd) → end_from a i ≡ Some t → IsPrefix (take (slice_index limits i) (ready t)) (posts_taken i at entries)
 
--- worker a, of number `at`, has become v by these calls, as the entries tell. It might take so many posts from each other
--- worker, and may take what is left
+-- worker a, of number `at`, has become v by these calls, as the entries tell. It might take this many posts from each other worker,
+-- and may take the rest of them
 pub record LaneMoved {sli : ℕ} (at : ℕ) (made : List (Option Name)) (a : Worker sli Lanes) (limits : List ℕ) (calls : List Call) (entries : List Entry) (v : Worker sli Lanes) (left : List ℕ) : Type 0 where
   pub yard : KeepsYards a v
   pub numbers : id_and_capacity v ≡ id_and_capacity a
@@ -149,7 +149,8 @@ pub record EachLaneSpent {sli : ℕ} (s : Stage sli Lanes) (below most : ℕ) (t
 
 -- ---- any call
 
--- the worlds in which a drain may take what these entries tell: so much waits in each lane, and no more where the drain went on to the next
+-- the worlds in which a drain may take the posts that these entries tell. This much waits in each lane, and no more where the drain
+-- went on to the next
 abbrev pub SuitsDrain : {sli : ℕ} → World sli → ℕ → ℕ → ℕ → List Entry → Type 0
 SuitsDrain w n at most own = (k : ℕ) → k < n → k ≢ at
     → (rest : List Post) × (w.waiting k at ≡ posts_taken k at own ++ rest) × ((sum_below (suc k) (λ i. length (posts_taken i at own)) ≡ most) ⊎ (rest ≡ []))

@@ -1,4 +1,4 @@
--- What the calls of one worker over queues answer and leave. This serves the contracts and proofs of private functions alone.
+-- The answers and effects of the calls of one worker over queues. This serves the contracts and proofs of private functions alone.
 use Rattle.std.specs.Prelude.{◌≡◌, ℕ, ◌+◌, ◌<◌, ◌≤◌, List, ◌++◌, length, Option, Some, slice_index}
 use mathlib.Core.List.{IsPrefix}
 use Rattle.tlsf_post.specs.Rule.{posts_of}
@@ -20,11 +20,12 @@ use Rattle.tlsf_crew.specs.declared.queues.queues.Queues.{Queues}
 use Rattle.tlsf_crew.specs.queues.QueueWorkers.{queue_end_to, KeepsQueueYards, KnowsQueueYard}
 use Rattle.tlsf_crew.specs.model.QueueProgress.{MayTellQueue}
 
--- so many posts may be taken: as many as a queue may hold, and one for each release of any script
+-- how many posts may be taken: the capacity of a queue, and one for each release of any script
 abbrev pub IsQueueLimit : List ℕ → List ℕ → Type 0
 IsQueueLimit releases limits = (slice_index limits 0 ≡ 1024 + sum_of releases) × (sum_of limits ≡ slice_index limits 0)
 
--- worker a, of number `at`, has become v by these calls, as the entries tell. It might take so many posts, and may take what is left
+-- worker a, of number `at`, has become v by these calls, as the entries tell. It might take this many posts, and may take the rest
+-- of them
 pub record QueueMoved {sli : ℕ} (at : ℕ) (made : List (Option Name)) (a : Worker sli Queues) (limits : List ℕ) (calls : List Call) (entries : List Entry) (v : Worker sli Queues) (left : List ℕ) : Type 0 where
   pub yard : KeepsQueueYards a v
   -- each end put the posts that the entries tell
@@ -34,7 +35,7 @@ pub record QueueMoved {sli : ℕ} (at : ℕ) (made : List (Option Name)) (a : Wo
   -- a drain ended early only where all was taken that was known to have been put
   pub drained : (before : List Entry) (e : Entry) (most k : ℕ) → StandsBehind entries before e → e.call ≡ Drain most → e.reply ≡ Drained k → k < most
       → (i : ℕ) → IsPrefix (posts_of i (known_to a.ports.own)) (posts_of i (got_by a.ports.own) ++ posts_taken i at before)
-  -- a queue into which nobody else posts was full only where as many posts had been put as it holds, besides those known to be taken
+  -- a queue into which nobody else posts was full only where its capacity of posts had been put, besides those known to be taken
   pub full : (before : List Entry) (e : Entry) (name : Name) (p : PosterEnd) → StandsBehind entries before e → e.reply ≡ Refused (Full name) → queue_end_to a name.heap ≡ Some p → IsOnlyPoster p
       → length (gone_from p) + (plan_of p).capacity ≤ length (put_by p) + length (posts_made at name.heap made before)
   pub room : length entries + sum_of left ≤ length calls + sum_of limits

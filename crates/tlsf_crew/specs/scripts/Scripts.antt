@@ -1,4 +1,5 @@
--- What the calls of a script tell of their worker, whatever its ports. This serves the contracts and proofs of private functions alone.
+-- Facts about a script's calls on their worker, whatever its ports. This serves the contracts and proofs of private functions
+-- alone.
 use Rattle.std.specs.Prelude.{◌≡◌, ◌≢◌, ◌⊎◌, ℕ, ◌+◌, ◌<◌, ◌≤◌, List, [], ◌∷◌, ◌++◌, length, slice_index, Option, Some, None, Result, Ok, Err, ⊤, get_or}
 use Rattle.tlsf_heap.specs.Blocks.{HeapState}
 use Rattle.tlsf_heap.specs.declared.name.Name.{Name}
@@ -78,7 +79,7 @@ pub record IsQuiet (e : Entry) : Type 0 where
   pub posts : (made : List (Option Name)) → IsNoPost made e
   pub unfilled : (name : Name) → e.reply ≢ Refused (Full name)
 
--- such a call of a worker of n, answered as the model answers it, behind calls that made these names and these entries
+-- such a call of a worker of n, answered as the model answers it, after calls that made these names and these entries
 pub record QuietCall {sli : ℕ} {P : Type 0} (n : ℕ) (a v : Worker sli P) (call : Call) (made : List (Option Name)) (entries : List Entry) (reply : Reply) : Type 0 where
   pub same : SameButHeap a v
   pub quiet : IsQuiet (entry_by (id_of a) call reply)
@@ -93,14 +94,14 @@ TakenWithin takes a limits source v left (Some took) = (source < 8) × OneFewer 
 
 -- what the calls of a script may tell over ports of some kind, and what they leave
 pub record ScriptPromise (sli : ℕ) (P : Type 0) : Type 1 where
-  -- they may take so many posts of each source, where so many releases stand in each script
+  -- they may take this many posts of each source, where each script has that many releases
   pub limited : P → List ℕ → List ℕ → Type 0
-  -- the worker is one of so many
+  -- the worker is one of this many
   pub knows : ℕ → Worker sli P → Type 0
-  -- a worker, one of so many and of that number, may be told one call more so
+  -- a worker, one of this many and of that number, may be told one call more in this way
   pub tells : ℕ → ℕ → Progress → Call → Progress → Type 0
-  -- the worker of that number, whose calls made these names, has become the other by these calls, as the entries tell. It might take so
-  -- many posts of each source, and may take what is left
+  -- the worker of that number, whose calls made these names, has become the other by these calls, as the entries tell. It might
+  -- take this many posts of each source, and may take the rest of them
   pub moves : ℕ → List (Option Name) → Worker sli P → List ℕ → List Call → List Entry → Worker sli P → List ℕ → Type 0
 
 -- what was told at a stage
@@ -129,7 +130,7 @@ pub record ScriptRun {sli : ℕ} {P : Type 0} (by : ScriptPromise sli P) (n : �
   pub names : length made ≡ length calls
   pub moved : (rest : List (Option Name)) → by.moves (id_of a) (made ++ rest) a limits calls t.entries t.worker t.limits
 
--- moves join: none, and some behind others. They keep the worker's number and place, and leave room for what may still be taken
+-- moves join: none, and some after others. They keep the worker's number and place, and leave room for what may still be taken
 pub record AreMoves {sli : ℕ} {P : Type 0} (by : ScriptPromise sli P) : Type 0 where
   pub none : (made : List (Option Name)) (a : Worker sli P) (limits : List ℕ) → by.moves (id_of a) made a limits [] [] a limits
   pub then : (at : ℕ) (made : List (Option Name)) (a b v : Worker sli P) (limits mid left : List ℕ) (calls ds : List Call) (xs ys : List Entry) → by.moves at made a limits calls xs b mid → by.moves at made b mid ds ys v left

@@ -1,4 +1,4 @@
--- What a worker's own calls answer and leave.
+-- The answers and effects of a worker's own calls.
 use Rattle.std.specs.Prelude.{◌≡◌, ℕ, List, [], ◌∷◌, Option, Some, None, Result, Ok, Err}
 use Rattle.tlsf_heap.specs.Blocks.{HeapState}
 use Rattle.tlsf_heap.specs.Calls.{released}

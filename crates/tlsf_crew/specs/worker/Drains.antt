@@ -1,4 +1,4 @@
--- What a drain leaves of the heap, and its counts.
+-- The heap that a drain leaves, and its counts.
 use Rattle.std.specs.Prelude.{◌≡◌, List, length, Bool, is_ok}
 use Rattle.std.specs.List.{fold, count_by}
 use Rattle.tlsf_heap.specs.Blocks.{HeapState}

@@ -1,4 +1,4 @@
--- What a drain notes of the posts that it takes. This serves the contracts and proofs of private functions alone.
+-- The notes of a drain on the posts that it takes. This serves the contracts and proofs of private functions alone.
 use Rattle.std.specs.Prelude.{◌≡◌, ℕ, zero, suc, ◌-◌, ◌<◌, ◌⊎◌, List, [], ◌∷◌, ◌++◌, length, Option, Some, None}
 use Rattle.tlsf_calls.specs.declared.drained.Drained.{Drained}
 use Rattle.tlsf_calls.specs.declared.took.Took.{Took}
@@ -12,7 +12,7 @@ use Rattle.tlsf_crew.specs.worker.Drains.{IsCountOf}
 pub record TakeRules (P N : Type 0) : Type 1 where
   -- there is a source of that number
   pub hears : P → ℕ → Type 0
-  -- what a take of a source may leave and answer, and what the end of a drain leaves that is to take no more of a source
+  -- the answer of a take of a source and the ports that it leaves. Also the ports after a drain that is to take no more of a source
   pub takes : P → P → ℕ → Option Post → Type 0
   pub stops : P → P → ℕ → Type 0
   -- the sender that the note of a take names, by the number that its post has: none where a source is one worker's
@@ -27,7 +27,8 @@ EachTakeNoted {sli} {P} {N} by a v x y source [] = (v ≡ a) × (y ≡ x)
 EachTakeNoted {sli} {P} {N} by a v x y source (took ∷ tooks) =
     (b : Worker sli P) × (z : N) × TakenFrom by.takes a b source (Some took) × by.noted x (id_of b) source (by.sent_by took.from) took z × EachTakeNoted by b v z y source tooks
 
--- a drain of one source ends where `most` posts were taken, where it stopped since the notes admit no more, or with a take that shows no post
+-- a drain of one source ends where `most` posts were taken, or where it stopped since the notes admit no more. Or it ends with a
+-- take that found no post
 abbrev pub SourceEnds : {sli : ℕ} {P N : Type 0} → TakeRules P N → Worker sli P → Worker sli P → N → ℕ → ℕ → ℕ → Type 0
 SourceEnds by last v y source most count =
     ((count ≡ most) × (v ≡ last))

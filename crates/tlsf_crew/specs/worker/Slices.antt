@@ -1,4 +1,4 @@
--- What a slice of posts leaves that a drain takes at once. This serves the contracts and proofs of private functions alone.
+-- The ports after a slice of posts that a drain takes at once. This serves the contracts and proofs of private functions alone.
 use Rattle.std.specs.Prelude.{◌≡◌, ℕ, zero, suc, ◌<◌, List, [], ◌∷◌, Option, Some, None, ⊤}
 use Rattle.tlsf_calls.specs.declared.took.Took.{Took}
 use Rattle.tlsf_post.specs.declared.post.Post.{Post}
@@ -15,7 +15,7 @@ abbrev pub PortsInTurn : {P : Type 0} → (P → P → ℕ → Option Post → T
 PortsInTurn {P} takes p q source [] = q ≡ p
 PortsInTurn {P} takes p q source (post ∷ posts) = (r : P) × takes p r source (Some post) × PortsInTurn takes r q source posts
 
--- a slice of one source, of so many places: the posts came as by takes one after another, and where fewer came than there are places,
+-- a slice of one source, of this many places: the posts came as by takes one after another. Where fewer came than there are places,
 -- one take more shows no post
 pub record SliceTaken {P : Type 0} (takes : P → P → ℕ → Option Post → Type 0) (p q : P) (source places count : ℕ) (posts : List Post) : Type 0 where
   pub last : P
@@ -29,7 +29,7 @@ EachReleased {sli} {P} {N} sent_by noted a v x y source [] = (v ≡ a) × (y ≡
 EachReleased {sli} {P} {N} sent_by noted a v x y source (took ∷ tooks) =
     (b : Worker sli P) × (z : N) × AfterTake a b (Some (post_of took)) (Some took) × noted x (id_of b) source (sent_by took.from) took z × EachReleased sent_by noted b v z y source tooks
 
--- so many more posts of a source may be taken, one after another
+-- this many more posts of a source may be taken, one after another
 abbrev pub MayTake : {N : Type 0} → (N → ℕ → Type 0) → (N → ℕ → ℕ → Option ℕ → Took → N → Type 0) → N → ℕ → ℕ → Type 0
 MayTake {N} admitted noted x source zero = ⊤
 MayTake {N} admitted noted x source (suc n) =

@@ -1,4 +1,4 @@
--- What a worker shows: its heap and its number.
+-- The view of a worker: its heap and its number.
 use Rattle.std.specs.Prelude.{◌≡◌, ℕ, List, [], ◌∷◌, Option, Some, None, ◌<◌, ◌≢◌, vec_capacity}
 use Rattle.std.specs.Vec.{vec_ptr}
 use Rattle.std.specs.declared.vec.Vec.{Vec}
@@ -35,7 +35,7 @@ SameButHeap a v = (id_of v ≡ id_of a) × (v.ports ≡ a.ports)
 abbrev pub SameButPorts : {sli : ℕ} {P : Type 0} → Worker sli P → Worker sli P → Type 0
 SameButPorts a v = (id_of v ≡ id_of a) × (v.heap ≡ a.heap)
 
--- its calls take no memory and give none back: that of its heap and that of its ports lie where they lay, and are as large
+-- its calls take no memory and give none back. The memory of its heap and that of its ports lie where they lay, and are as large
 abbrev pub Stays : {sli : ℕ} {P : Type 0} → (P → List Extent) → Worker sli P → Worker sli P → Type 0
 Stays extents a v = (v.heap.extents ≡ a.heap.extents) × (extents v.ports ≡ extents a.ports)
 

@@ -16,6 +16,6 @@ pub fn some_run_is_fair()
     // Each name is used only from the event that makes it to its release.
     ensures fair { IsFairRun (opened_world {sli = 4} 2 64 4) fair_events }
 
-    // What it is told.
+    // Its answers.
     ensures told { (replies (opened_world {sli = 4} 2 64 4) fair_events).entries ≡ fair_entries }
 {}

@@ -4,8 +4,8 @@ ghost use Rattle.tlsf_crew.specs.model.World.{World, heap_in, replies};
 ghost use Rattle.tlsf_calls.specs.declared.event.Event.{Event};
 ghost use Rattle.tlsf_calls.specs.declared.entry.Entry.{Entry};
 
-/// Each heap has one history, in which each call made on it and each post taken for it stands once, in its caller's
-/// order, and each answer is that of the sequential heap at that point.
+/// Each heap has one history, in which each call made on it and each post taken for it stands once, in its caller's order. Each
+/// answer is that of the sequential heap at that point.
 ///
 /// ```text
 /// event                     entries                       what they tell
@@ -18,13 +18,14 @@ pub fn one_history()
     // The entries tell the events, each once and in order, and the name that each made.
     ensures told { (sli : ℕ) (w : World sli) (es : List Event) → let r = replies w es in Tells (length w.heaps) [] es r.made r.entries }
 
-    // The calls that they tell of a heap, run on it in turn, give the answers that they tell, and the heap of the last world.
+    // Run on the heap in turn, the calls that they tell of it give the answers that they tell. They leave the heap of the last
+    // world.
     ensures heaps { (sli : ℕ) (w : World sli) (es : List Event) (j : ℕ) → j < length w.heaps →
         let r = replies w es in
         RunsTo sli (heap_in w j) (calls_on j r.made r.entries) (answers_on j r.entries) (heap_in r.world j) }
 
-    // What waited in a lane, and then what was posted, is what was taken, and then what waits. So no post is lost,
-    // doubled or overtaken.
+    // The posts that waited in a lane, and then those that were posted, are those that were taken, and then those that wait. So no
+    // post is lost, doubled or overtaken.
     ensures posts { (sli : ℕ) (w : World sli) (es : List Event) (i j : ℕ) →
         let r = replies w es in
         w.waiting i j ++ posts_made i j r.made r.entries ≡ posts_taken i j r.entries ++ r.world.waiting i j }

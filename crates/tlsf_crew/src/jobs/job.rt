@@ -10,7 +10,7 @@ use crate::worker::worker::Worker;
 use tlsf_calls::{Call, Entry};
 use tlsf_heap::Name;
 
-/// What the thread of one worker of a race is given, and hands back.
+/// All that the thread of one worker of a race is given, and hands back.
 #[derive(Drop)]
 pub(crate) struct Job<const SLI: u32, P = Lanes> {
     pub(crate) worker: Worker<SLI, P>,

@@ -6,7 +6,7 @@ use crate::worker::lanes::Lanes;
 use crate::worker::worker::Worker;
 use tlsf_calls::Entry;
 
-/// What comes back of a race of workers of this level, over lanes where nothing else is said.
+/// The result of a race of workers of this level, over lanes where nothing else is said.
 #[derive(Drop)]
 pub struct Outcome<const SLI: u32, P = Lanes> {
     /// The whole yard, in order. No post waits for any of its workers.
@@ -15,7 +15,7 @@ pub struct Outcome<const SLI: u32, P = Lanes> {
     pub records: Vec<Vec<Entry>>,
 }
 
-/// What comes back of a race over queues.
+/// The result of a race over queues.
 pub type QueueOutcome<const SLI: u32> = Outcome<SLI, Queues>;
 
 impl<const SLI: u32, P: Drop> Outcome<SLI, P> {

@@ -3,7 +3,7 @@ use std::marker::PhantomData;
 use std::snapshot::Snapshot;
 use std::thread::Promise;
 
-/// What a thread promises of what it hands back. It has no bytes.
+/// The promise of a thread on all that it hands back. It has no bytes.
 #[derive(Drop)]
 pub(crate) struct WorkPromise<R, W> {
     pub(crate) work: Snapshot<W>,

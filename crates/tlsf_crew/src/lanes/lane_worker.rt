@@ -1,4 +1,4 @@
-//! What a worker does over lanes.
+//! The calls of a worker over lanes.
 ghost use Rattle.std.specs.Prelude.{◌≡◌, ◌≢◌, ◌+◌, ◌*◌, ◌≤◌, length, Option, None, Some, Ok, Err};
 ghost use Rattle.tlsf_calls.specs.declared.took.Took.{Took};
 ghost use Rattle.tlsf_heap.specs.declared.refusal.Refusal.TheVariants.{Foreign};
@@ -87,8 +87,8 @@ impl<const SLI: u32> Worker<SLI> {
     /// Posts the name of another worker's block to its owner, unread.
     ///
     /// - `own`: a name of the own heap is refused as `Foreign`, and nothing changes: see [`Worker::free`].
-    /// - `there`: a name of another worker's heap is put into the lane to it, or given back as `Full`, which comes only
-    ///   where that lane knows no free slot.
+    /// - `there`: a name of another worker's heap is put into the lane to it, or given back as `Full`. It comes only where that
+    ///   lane knows no free slot.
     /// - `nowhere`: a name of no other worker is a `Stranger`, and nothing changes.
     ///
     /// ```
@@ -109,8 +109,8 @@ impl<const SLI: u32> Worker<SLI> {
     /// Releases a block of the own heap, or posts the name of another worker's block to its owner, unread.
     ///
     /// - `here`: a name of the own heap is answered as the heap answers it.
-    /// - `there`: a name of another worker's heap is put into the lane to it, or given back as `Full`, which comes only
-    ///   where that lane knows no free slot.
+    /// - `there`: a name of another worker's heap is put into the lane to it, or given back as `Full`. It comes only where that
+    ///   lane knows no free slot.
     /// - `nowhere`: a name of no other worker is a `Stranger`, and nothing changes.
     /// - `touches`: at most 64 touches of the own heap's memory.
     ///
@@ -130,8 +130,8 @@ impl<const SLI: u32> Worker<SLI> {
         release(self, &NoRuntime, name)
     }
 
-    /// Takes the next post from another worker, where the end of that lane has one, and releases the block that it
-    /// names on the own heap. The post is gone then, whatever the heap's answer.
+    /// Takes the next post from another worker, where the end of that lane has one. It releases the block that the post names on
+    /// the own heap. The post is gone then, whatever the heap's answer.
     ///
     /// - `lane`: where there is a lane from that worker, its end is asked for one post.
     /// - `nowhere`: where there is none, that worker is a `Stranger`, and nothing changes.

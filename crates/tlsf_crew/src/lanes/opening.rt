@@ -14,14 +14,14 @@ use std::alloc::Global;
 use tlsf_heap::OpenFault;
 use tlsf_post::{NoMemory, PostEnd, TakeEnd, lane};
 
-/// Opens a yard of level 4 or 5, of `n` workers, 1 to 8, numbered from 0: each owns a heap of its number over `words` words,
-/// 4 to 2^20 at level 4 and to 2^24 at level 5, and from each to each other goes a lane that holds up to `capacity` posts, 1
-/// to 1,024. Each end that posts knows all its slots to be free, so the first `capacity` posts into a lane are never refused
-/// as `Full`. No end has sent or taken a post, so what it has sent or taken later is all since the yard was opened.
+/// Opens a yard of level 4 or 5, of `n` workers, 1 to 8, numbered from 0. Each owns a heap of its number over `words` words, 4 to
+/// 2^20 at level 4 and to 2^24 at level 5. From each to each other goes a lane that holds up to `capacity` posts, 1 to 1,024. Each
+/// end that posts knows all its slots to be free, so the first `capacity` posts into a lane are never refused as `Full`. No end has
+/// sent or taken a post, so what it has sent or taken later is all since the yard was opened.
 ///
 /// - `count`: there are `n` workers, so a number below `n` is the index of one.
 ///
-/// Refused as `BadSize` where a number is out of range, else as `NoMemory` where memory was not granted.
+/// Refused as `BadSize` where a number is out of range; otherwise as `NoMemory` where memory was not granted.
 ///
 /// ```
 /// let mut workers = open_yard::<4>(alloc, 2, 1024, 8)?; // two heaps of 8 KiB, and two lanes of up to 8 posts

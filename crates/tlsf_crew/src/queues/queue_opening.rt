@@ -13,11 +13,11 @@ use std::alloc::Global;
 use tlsf_heap::OpenFault;
 use tlsf_post::{NoMemory, PosterEnd, mailbox};
 
-/// Opens a yard over queues of level 4 or 5, of `n` workers, 1 to 8, numbered from 0: each owns a heap of its number over
-/// `words` words, 4 to 2^20 at level 4 and to 2^24 at level 5, and a queue into which all others post, of up to `capacity`
+/// Opens a yard over queues of level 4 or 5, of `n` workers, 1 to 8, numbered from 0. Each owns a heap of its number over `words`
+/// words, 4 to 2^20 at level 4 and to 2^24 at level 5. Each owns a queue too, into which all others post, of up to `capacity`
 /// posts, 1 to 1,024.
 ///
-/// Refused as `BadSize` where a number is out of range, else as `NoMemory` where memory was not granted.
+/// Refused as `BadSize` where a number is out of range; otherwise as `NoMemory` where memory was not granted.
 ///
 /// - `fresh`: nothing was put into a queue or taken out of one.
 /// - `count`: there are `n` workers, so a number below `n` is the index of one.

@@ -99,11 +99,12 @@ pub(crate) fn settle_each_queue<const SLI: u32>(
     }
 }
 
-/// Settles each queue of a whole yard: its owner learns all that was put into it. So the `None` of a later take, and a later drain
-/// that takes fewer than it may, say that all that was put before the settling was taken.
+/// Settles each queue of a whole yard: its owner learns all that was put into it. So the `None` of a later take says that all that
+/// was put before the settling was taken. A later drain that takes fewer than it may says it too.
 ///
 /// - `known`: each owner knows, of each other worker, all that this has ever put into its queue.
-/// - `stays`: what each worker has put into each queue and taken out of its own stays the same, and so do its heap and its number.
+/// - `stays`: what each worker has put into each queue and taken out of its own stays the same. Its heap and its number stay the
+///   same too.
 /// - `world`: what the yard shows stays the same. No heap changes, and in each queue the same posts wait.
 ///
 /// Refused as `NoMemory` where room for the ends to one queue was refused. Nothing has changed then.

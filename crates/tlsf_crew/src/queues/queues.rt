@@ -15,7 +15,8 @@ use tlsf_calls::{CrewRefusal, Drained, Released, Took};
 use tlsf_heap::Name;
 use tlsf_post::{OwnerEnd, Post, PosterEnd};
 
-/// The queues of a worker: its own one, into which all others of its yard post, and an end to the queue of each of them.
+/// The queues of a worker. One is its own, into which all others of its yard post; besides, it has an end to the queue of each of
+/// them.
 #[derive(Drop)]
 pub struct Queues {
     pub(crate) own: OwnerEnd,
@@ -102,8 +103,8 @@ impl<const SLI: u32> QueueWorker<SLI> {
     /// or taken by another thread, and so needs `Wait`.
     ///
     /// - `own`: a name of the own heap is refused as `Foreign`, and nothing changes: see [`QueueWorker::free`].
-    /// - `there`: a name of another worker's heap is put into its queue, where no more posts wait then than it holds; or given
-    ///   back as `Full` where at one moment of the call so many waited as it holds.
+    /// - `there`: a name of another worker's heap is put into its queue, where no more posts wait then than it holds. Or it is
+    ///   given back as `Full`, where at one moment of the call the queue held its capacity.
     /// - `nowhere`: a name of no worker is a `Stranger`, and nothing changes.
     ///
     /// ```

@@ -1,11 +1,11 @@
 ghost use Rattle.std.specs.Prelude.{ℕ};
 ghost use Rattle.tlsf_crew.specs.race_laws.Alone.{RaceIsOne, RaceRunsAlone};
 
-/// Where no script has a take or a drain, a race comes to one thing, whatever the schedule of its threads: its records and the
+/// Where no script has a take or a drain, a race comes to one thing, whatever the schedule of its threads. Its records and the
 /// world that it leaves are the same each time.
 ///
-/// A worker's own calls are answered by its own heap. A post is refused as full exactly where its lane held its capacity, since
-/// all that is posted stays in the lane until the last drain; and that drain takes lane after lane what the others posted.
+/// A worker's own calls are answered by its own heap. A post is refused as full exactly where its lane held its capacity. For all
+/// that is posted stays in the lane until the last drain. This last drain takes lane after lane what the others posted.
 ///
 /// ```text
 /// worker 0: Allocate(8), worker 1: Release(x) of worker 0's block x
@@ -14,6 +14,6 @@ ghost use Rattle.tlsf_crew.specs.race_laws.Alone.{RaceIsOne, RaceRunsAlone};
 pub fn race_without_takes()
     ensures one { (sli : ℕ) → RaceIsOne sli }
 
-    // What it comes to: each script is answered as if it ran alone, and then each worker drains what the others left for it.
+    // It comes to this: each script is answered as if it ran alone. Then each worker drains the posts that the others left for it.
     ensures alone { (sli : ℕ) → RaceRunsAlone sli }
 {}

@@ -6,9 +6,9 @@ ghost use Rattle.tlsf_calls.specs.Entries.{record_of};
 ghost use Rattle.tlsf_calls.specs.declared.call.Call.{Call};
 ghost use Rattle.tlsf_calls.specs.declared.entry.Entry.{Entry};
 
-/// In a race each heap has one history too, in the words of [`crate::one_history`]: each call made on it and each post
-/// taken for it stands once, in its caller's order, and each answer is that of the sequential heap at that point. The
-/// history of heap j is the record of worker j.
+/// In a race each heap has one history too, in the words of [`crate::one_history`]. Each call made on it and each post taken for it
+/// stands once, in its caller's order. Each answer is that of the sequential heap at that point. The history of heap j is the
+/// record of worker j.
 ///
 /// ```text
 /// scripts                  records                       what they tell
@@ -24,12 +24,13 @@ pub fn one_history_of_a_race()
     ensures told { (sli : ℕ) (w v : World sli) (scripts : List (List Call)) (records : List (List Entry)) (race : IsRace w scripts records v) (j : ℕ) → j < length w.heaps →
         Tells (length w.heaps) [] (events_of_race scripts j) (race.made j) (record_of records j) }
 
-    // The calls that it tells of its worker's heap, run on it in turn, give the answers that it tells, and the heap that
+    // Run on its worker's heap in turn, the calls that it tells of that give the answers that it tells. They leave the heap that
     // comes back.
     ensures heaps { (sli : ℕ) (w v : World sli) (scripts : List (List Call)) (records : List (List Entry)) (race : IsRace w scripts records v) (j : ℕ) → j < length w.heaps →
         RunsTo sli (heap_in w j) (calls_on j (race.made j) (record_of records j)) (answers_on j (record_of records j)) (heap_in v j) }
 
-    // What waited in a lane, and then what was posted, is what was taken. So no post is lost, doubled or overtaken.
+    // The posts that waited in a lane, and then those that were posted, are those that were taken. So no post is lost, doubled or
+    // overtaken.
     ensures posts { (sli : ℕ) (w v : World sli) (scripts : List (List Call)) (records : List (List Entry)) (race : IsRace w scripts records v) (i j : ℕ) → i < length w.heaps → j < length w.heaps → i ≢ j →
         w.waiting i j ++ posts_made i j (race.made i) (record_of records i) ≡ posts_taken i j (record_of records j) }
 

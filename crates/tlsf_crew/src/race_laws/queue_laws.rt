@@ -9,9 +9,9 @@ ghost use Rattle.tlsf_crew.specs.races.QueueRace.{IsQueueRace};
 ghost use Rattle.tlsf_calls.specs.declared.call.Call.{Call};
 ghost use Rattle.tlsf_calls.specs.declared.entry.Entry.{Entry};
 
-/// In a race over queues each heap has one history too, in the words of [`crate::one_history`]: each call made on it and
-/// each post taken for it stands once, in its caller's order, and each answer is that of the sequential heap at that
-/// point. The history of heap j is the record of worker j.
+/// In a race over queues each heap has one history too, in the words of [`crate::one_history`]. Each call made on it and each post
+/// taken for it stands once, in its caller's order. Each answer is that of the sequential heap at that point. The history of heap j
+/// is the record of worker j.
 ///
 /// ```text
 /// scripts                  records                       what they tell
@@ -28,13 +28,13 @@ pub fn one_history_of_a_queue_race()
     ensures told { (sli : ℕ) (w v : World sli) (scripts : List (List Call)) (records : List (List Entry)) (race : IsQueueRace w scripts records v) (j : ℕ) → j < length w.heaps →
         TellsQueue (length w.heaps) j [] (script_of scripts j ++ last_call ∷ []) (race.made j) (record_of records j) }
 
-    // The calls that it tells of its worker's heap, run on it in turn, give the answers that it tells, and the heap that
+    // Run on its worker's heap in turn, the calls that it tells of that give the answers that it tells. They leave the heap that
     // comes back.
     ensures heaps { (sli : ℕ) (w v : World sli) (scripts : List (List Call)) (records : List (List Entry)) (race : IsQueueRace w scripts records v) (j : ℕ) → j < length w.heaps →
         RunsTo sli (heap_in w j) (calls_on j (race.made j) (record_of records j)) (answers_on j (record_of records j)) (heap_in v j) }
 
-    // What waited of a worker in a queue, and then what it posted, is what was taken. So no post is lost, doubled or
-    // overtaken by another of its poster.
+    // The posts of a worker that waited in a queue, and then those that it posted, are those that were taken. So no post is lost,
+    // doubled or overtaken by another of its poster.
     ensures posts { (sli : ℕ) (w v : World sli) (scripts : List (List Call)) (records : List (List Entry)) (race : IsQueueRace w scripts records v) (i j : ℕ) → i < length w.heaps → j < length w.heaps → i ≢ j →
         w.waiting i j ++ posts_made i j (race.made i) (record_of records i) ≡ posts_taken i j (record_of records j) }
 
@@ -46,9 +46,9 @@ pub fn one_history_of_a_queue_race()
         record_of records j ≡ before ++ later → RunsThrough sli (heap_in w j) j (race.made j) before later (heap_in v j) }
 {}
 
-/// Where no script has a take or a drain, what each worker takes one other had posted, and of more than two workers none meets a full
-/// queue, a race over queues comes to one thing, whatever the schedule of its threads: its records and the world that it leaves are
-/// the same each time.
+/// A race over queues comes to one thing, whatever the schedule of its threads. Its records and the world that it leaves are the
+/// same each time. This holds where no script has a take or a drain, and what each worker takes one other had posted. Of more than
+/// two workers none may meet a full queue.
 ///
 /// Of two workers no more is wanted than scripts without takes, as over lanes ([`crate::race_without_takes`]). A queue hands on the
 /// posts of several posters in the order in which they came, and is full whoever filled it.

@@ -27,12 +27,12 @@ use tlsf_post::{NoMemory, PosterEnd};
 ///
 /// `gate` is passed in the thread of worker j before its call of number i, by (j, i), and once after its last call.
 ///
-/// - `race`: whatever the schedule of the threads, each record is what its worker's own heap answers to the calls of
-///   its script, one after another, and to the last drain. What worker j took of worker i is what had waited of it,
-///   and then what i was answered to have posted to j, in order and each once. Nothing waits in the end.
+/// - `race`: whatever the schedule of the threads, each record tells the answers of its worker's own heap. They are those to the
+///   calls of its script, one after another, and to the last drain. Worker j took of worker i all that had waited of it, and then
+///   all that i was answered to have posted to j. It took them in order and each once. Nothing waits in the end.
 ///
 /// - `room`: all room is made before a thread starts. Each record has room for the calls of its script, for each post that its
-///   queue may hold, for each release of any script, and for the last drain.
+///   queue may hold, and for each release of any script. It has room for the last drain too.
 ///
 /// `NoMemory`, where a growth or the start of a thread was refused, gives no
 /// outcome, and the workers are spent.
@@ -111,8 +111,8 @@ fn drain_all<const SLI: u32, R: Wait>(
     }
 }
 
-/// Takes all that waits for a worker. Nobody posts any more, and there is room for an entry of each post: so the queue is
-/// empty at the end, and the drain doesn't wait for long.
+/// Takes all that waits for a worker. Nobody posts any more, and there is room for an entry of each post. So the queue is empty at
+/// the end, and the drain doesn't wait for long.
 fn drain_one<const SLI: u32, R: Wait>(
     rt: &R,
     alloc: Global,

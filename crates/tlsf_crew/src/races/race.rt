@@ -29,12 +29,12 @@ use tlsf_post::NoMemory;
 ///
 /// `gate` is passed in the thread of worker j before its call of number i, by (j, i), and once after its last call.
 ///
-/// - `race`: whatever the schedule of the threads, each record is what its worker's own heap answers to the calls of
-///   its script, one after another, and to the last drain. What worker j took from worker i is what had waited for it,
-///   and then what i was answered to have posted to it, in order and each once. Nothing waits in the end.
+/// - `race`: whatever the schedule of the threads, each record tells the answers of its worker's own heap. They are those to the
+///   calls of its script, one after another, and to the last drain. Worker j took from worker i all that had waited for it, and
+///   then all that i was answered to have posted to it. It took them in order and each once. Nothing waits in the end.
 ///
-/// - `room`: all room is made before a thread starts. Each record has room for the calls of its script, for each post that waited for its
-///   worker, for each release of any script, and for the last drain.
+/// - `room`: all room is made before a thread starts. Each record has room for the calls of its script, for each post that waited
+///   for its worker, and for each release of any script. It has room for the last drain too.
 ///
 /// `NoMemory`, where a growth or the start of a thread was refused, gives no
 /// outcome, and the workers are spent.

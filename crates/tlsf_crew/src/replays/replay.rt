@@ -128,12 +128,11 @@ fn run_event<const SLI: u32>(
 /// Before and after each release of another's name and each take the lane concerned is settled. So a lane is full
 /// exactly where its capacity of posts waits, and empty exactly where none does.
 ///
-/// Where nothing waits at the start, and each target was made by an earlier event and not yet released or posted, no
-/// answer is `Stale` and each post that waits in the end names a live block. So no block is given again while a post
-/// of it waits.
+/// Let nothing wait at the start, and each target be made by an earlier event and not yet released or posted. Then no answer is
+/// `Stale`, and each post that waits in the end names a live block. So no block is given again while a post of it waits.
 ///
-/// - `room`: the room for all entries is made first, one for each event, for each release among them and for each post that waits at the
-///   start. Where it answers `NoMemory`, no event has run.
+/// - `room`: the room for all entries is made first. There is one for each event, for each release among them and for each post
+///   that waits at the start. Where it answers `NoMemory`, no event has run.
 pub fn replay_events<const SLI: u32>(
     alloc: Global,
     workers: &mut [Worker<SLI>],
@@ -146,15 +145,15 @@ pub fn replay_events<const SLI: u32>(
     ensures no_memory { OnErr result (world_of workers.new ≡ world_of workers.old) }
     ensures no_stale { IsFairRun (world_of workers.old) events.now → IfOk result (λ entries. NoneStale entries.items × WaitLive (world_of workers.new)) }
 
-    // So much memory is asked for, and no more.
+    // This much memory is asked for, and no more.
     ensures room { IfOk result (λ entries. vec_capacity entries ≡ entry_room (world_of workers.old) events.now) }
 {
     let mut made = Vec::new(alloc);
     replay_behind(alloc, workers, &mut made, events)
 }
 
-/// Runs events in order behind others, whose names stand in `made`, by their numbers. Answers the entries of these events
-/// alone, and adds the names that they made. So a long list of events can be run part by part, with few entries held.
+/// Runs events in order after others, whose names stand in `made`, by their numbers. Answers the entries of these events alone, and
+/// adds the names that they made. So a long list of events can be run part by part, with few entries held.
 ///
 /// Lanes are settled as [`replay_events`] settles them. After `NoMemory` no event has run, and `made` has the names that it had.
 ///

@@ -7,8 +7,8 @@ use std::alloc::Global;
 use std::mem;
 use tlsf_calls::{Call, Entry, Reply, Took};
 
-/// The entries of a worker's calls, and how many posts these may still take from each source: so many that the entries
-/// have room for.
+/// The entries of a worker's calls, and how many posts these may still take from each source, so that the entries have room for
+/// them.
 #[derive(Drop)]
 pub(crate) struct Journal {
     pub(crate) limits: [u64; 8],

@@ -1,4 +1,4 @@
-//! What the calls of a script tell over lanes.
+//! Facts about the calls of a script over lanes.
 ghost use Rattle.std.specs.Prelude.{◌+◌};
 ghost use Rattle.tlsf_crew.specs.scripts.LaneMoves.{LaneStepped, lane_promise};
 

@@ -1,4 +1,4 @@
-//! What the calls of a script tell over queues.
+//! Facts about the calls of a script over queues.
 ghost use Rattle.std.specs.Prelude.{◌+◌};
 ghost use Rattle.tlsf_crew.specs.scripts.QueueMoves.{QueueStepped, queue_promise};
 

@@ -9,8 +9,8 @@ use crate::worker::lanes::Lanes;
 use crate::worker::worker::Worker;
 use tlsf_calls::{Call, Event};
 
-/// Room for all entries that events can make: one for each event, one for each post that a release makes, and one for
-/// each post that is ready.
+/// Room for all entries that events can make: one for each event, and one for each post that a release makes. There is one for each
+/// post that is ready, too.
 pub(crate) fn room_for<const SLI: u32>(workers: &[Worker<SLI>], events: &[Event]) -> usize
     requires { length workers.now ≤ 8 }
     ensures { result ≡ length events.now + releases_in events.now + ready_in workers.now }

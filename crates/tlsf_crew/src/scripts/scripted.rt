@@ -1,4 +1,4 @@
-//! What the calls of a script tell of their worker, over ports of each kind.
+//! Facts about a script's calls on their worker, over ports of each kind.
 ghost use Rattle.std.specs.Prelude.{◌≡◌, ◌≢◌, ◌⊎◌, ◌^◌, ◌<◌, ◌≤◌, ℕ, List, Option, Some, None, Result, slice_index};
 ghost use Rattle.tlsf_heap.specs.declared.name.Name.{Name};
 ghost use Rattle.tlsf_calls.specs.declared.call.Call.{Call};
@@ -25,14 +25,15 @@ use crate::worker::ports::Exchange;
 
 /// Ports over which the calls of a script are made.
 pub(crate) trait Scripted<R>: Exchange<R> {
-    // What the calls of a script may tell of such workers, and what they leave.
+    // The promise of a script's calls on such workers, and of the worlds that they leave.
     ghost promise: { (sli : ℕ) → ScriptPromise sli Self };
 
-    // A call of a worker, one of so many, was answered so. The entries got longer by those of a drain's takes, and have not its own yet.
+    // A call of a worker, one of this many, was answered in this way. The entries got longer by those of a drain's takes, and have
+    // not its own yet.
     ghost steps: { (sli : ℕ) → ℕ → Stage sli Self → Call → List (Option Name) → Stage sli Self → Reply → Type 0 };
 
-    /// How many posts of each source the calls of a script may take: all that may wait at its start, and one for each release
-    /// of a script that may post one.
+    /// How many posts of each source the calls of a script may take. They are all that may wait at its start, and one for each
+    /// release of a script that may post one.
     fn limits(&self, releases: &[u32; 8]) -> [u64; 8]
         ensures limited { (sli : ℕ) → (promise sli).limited self.now releases.now result }
         ensures few { (i : ℕ) → i < 8 → slice_index result i ≤ 2 ^ 36 };
@@ -46,19 +47,19 @@ pub(crate) trait Scripted<R>: Exchange<R> {
         ensures quiet { (sli n : ℕ) (a v : Worker sli Self) (limits : List ℕ) (call : Call) (made : List (Option Name)) (entries : List Entry) (reply : Reply) → (promise sli).knows n a → Self.keeps_yards sli a v
             → QuietCall n a v call made entries reply → steps sli n (at_stage a limits entries) call made (at_stage v limits entries) reply }
 
-        // What a post answers. There is a port to each other worker, and to none else.
+        // The answer to a post. There is a port to each other worker, and to none else.
         ensures posted { (sli n : ℕ) (a v : Worker sli Self) (limits : List ℕ) (target : Target) (name : Name) (made : List (Option Name)) (entries : List Entry) (answer : Result Released CrewRefusal) → (promise sli).knows n a
             → name_of made target ≡ Some name → name.heap ≢ id_of a → Self.reaches a.ports name.heap → ReleasedThere Self.puts a v name answer
             → steps sli n (at_stage a limits entries) (Release target) made (at_stage v limits entries) (reply_released answer) }
         ensures reached { (sli n : ℕ) (a : Worker sli Self) (j : ℕ) → (promise sli).knows n a → Self.reaches a.ports j ⊎ ((j ≢ id_of a → n ≤ j) × ¬ (Self.reaches a.ports j)) }
 
-        // What a take answers: it is refused where no source is that worker's.
+        // The answer to a take: it is refused where no source is that worker's.
         ensures stranger { (sli n : ℕ) (a : Worker sli Self) (limits : List ℕ) (from : ℕ) (made : List (Option Name)) (entries : List Entry) → (promise sli).knows n a → ((Self.sent_by from ≡ None) → ¬ (Self.hears a.ports from))
             → steps sli n (at_stage a limits entries) (Take from) made (at_stage a limits entries) (Refused Stranger) }
         ensures taken { (sli n : ℕ) (a v : Worker sli Self) (limits left : List ℕ) (from : ℕ) (made : List (Option Name)) (entries : List Entry) (answer : Option Took) → (promise sli).knows n a → Self.sent_by from ≡ None → Self.hears a.ports from
             → TakenWithin Self.takes a limits from v left answer → steps sli n (at_stage a limits entries) (Take from) made (at_stage v left entries) (reply_took answer) }
 
-        // What a drain answers.
+        // The answer to a drain.
         ensures drained { (sli n : ℕ) (a v : Worker sli Self) (x y : Journal) (most : ℕ) (made : List (Option Name)) (answer : WasDrained) → (promise sli).knows n a
             → AllNoted (record { hears = Self.hears; takes = Self.takes; stops = Self.stops; sent_by = Self.sent_by; admitted = IsAdmitted; noted = EntersTake }) a v x y (Self.sources a.ports) most answer
             → steps sli n (stage_of a x) (Drain most) made (stage_of v y) (Drained answer.taken) };

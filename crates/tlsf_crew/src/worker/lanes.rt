@@ -6,7 +6,7 @@ use tlsf_post::{PostEnd, TakeEnd};
 /// The lanes of a worker: one to each other worker of its yard, and one from each.
 #[derive(Drop)]
 pub struct Lanes {
-    // That of each lane of the yard.
+    // The capacity of each lane of the yard.
     pub(crate) capacity: u32,
     // The lane to each other worker; none to itself.
     pub(crate) posts: Vec<Option<PostEnd>>,

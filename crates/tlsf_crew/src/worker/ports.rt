@@ -1,4 +1,4 @@
-//! What a worker asks of its ports, of whatever kind.
+//! The ports of a worker, of whatever kind: all that it asks of them.
 ghost use Rattle.std.specs.Prelude.{Some, slice_get, length, take, ◌≡◌, ◌<◌, ◌≤◌, ℕ, List, Option, Result, true, false};
 ghost use Rattle.tlsf_words.specs.Memory.{Extent};
 ghost use Rattle.tlsf_heap.specs.declared.name.Name.{Name};
@@ -13,7 +13,7 @@ use tlsf_calls::CrewRefusal;
 use tlsf_heap::Name;
 use tlsf_post::Post;
 
-/// The ports of a worker: its ways to the other workers of its yard, and theirs to it. They are [`crate::Lanes`] or
+/// The ports of a worker: its ways to the other workers of its yard, and their ways to it. They are [`crate::Lanes`] or
 /// [`crate::Queues`].
 pub trait Ports: Sized {
     // There is a port to that worker.
@@ -48,7 +48,7 @@ pub trait Ports: Sized {
         ensures yes { result ≡ true → hears self.now source }
         ensures no { result ≡ false → ¬ (hears self.now source) };
 
-    /// The worker that the entry of a take names, by the number that its post has: none where each source is one worker's, by
+    /// The worker that the entry of a take names, by the number that its post has. It is none where each source is one worker's, by
     /// whose number it goes.
     fn sender(from: u32) -> Option<u32>
         ensures { result ≡ Self.sent_by from };
@@ -63,13 +63,13 @@ pub(crate) struct NoRuntime;
 
 /// Ports whose calls are passed a runtime, since they may wait over queues. Over lanes they make nothing of it.
 pub(crate) trait Exchange<R>: Ports {
-    // What a put of a name, by the worker of a number, may leave and answer.
+    // The answer and the effect of a put of a name, by the worker of a number.
     ghost puts: { ℕ → Self → Self → Name → Result (Unit {0}) CrewRefusal → Type 0 };
 
-    // What a take from the source of a number may leave and answer.
+    // The answer and the effect of a take from the source of a number.
     ghost takes: { Self → Self → ℕ → Option Post → Type 0 };
 
-    // What it may leave where a drain is to take no more posts of a source, though fewer were taken than were asked for.
+    // The effect where a drain is to take no more posts of a source, though fewer were taken than were asked for.
     ghost stops: { Self → Self → ℕ → Type 0 };
 
     /// Puts a name through the port to the worker of its heap. It is `Full` where that takes no post.

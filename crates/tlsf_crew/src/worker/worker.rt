@@ -168,8 +168,8 @@ fn release_posts<const SLI: u32, P: Ports, N: Notes>(
     freed
 }
 
-/// Takes from one source by slices of as many posts as there are places, and releases, until `most` posts were taken, the notes admit
-/// no more, or it shows no post.
+/// Takes from one source by slices of as many posts as there are places, and releases. It ends when `most` posts were taken, the
+/// notes admit no more, or the source shows no post.
 pub(crate) fn drain_source<const SLI: u32, R, P: Exchange<R>, N: Notes>(
     worker: &mut Worker<SLI, P>,
     rt: &R,
@@ -307,8 +307,9 @@ impl<const SLI: u32, P: Ports> Worker<SLI, P> {
         as_crew::<P, _>(self.heap.read(name, at, out))
     }
 
-    /// Hands the payload of a block of the own heap to `f`, which reads and writes it where it stands, and gives back what `f` answers.
-    /// `f` gets the words that hold it, as `Heap::alter` hands them out. No call of a list of events and no line of a trace says it.
+    /// Hands the payload of a block of the own heap to `f`, which reads and writes it where it stands. Gives back what `f` answers.
+    /// `f` gets the words that hold it, as `Heap::alter` hands them out. No call of a list of events and no line of a trace says
+    /// it.
     ///
     /// Refused as the own heap refuses it: `Foreign` where the name is of another worker's heap, else `Stale`; `f` is then not called.
     ///
@@ -385,7 +386,7 @@ impl<const SLI: u32, P: Ports> Worker<SLI, P> {
         as_crew::<P, _>(self.heap.resize(name, len))
     }
 
-    /// What the own heap holds, and how well it serves.
+    /// The report on the own heap: its blocks, and how well it serves.
     ///
     /// - `reports`: at most two touches of the heap's memory for each of its blocks.
     ///

@@ -18,8 +18,8 @@ use crate::name::Name;
 use crate::refusal::Refusal;
 use tlsf_class::most_words;
 
-/// The words by which the payload of a block at a place has to move on, so that it begins `skew` words before a multiple of `step`
-/// words: none, or at least four, since no block is smaller.
+/// The words by which the payload of a block at a place has to move on. It then begins `skew` words before a multiple of `step`
+/// words. They are none, or at least four, since no block is smaller.
 fn gap(at: u32, step: u32, skew: u32) -> u32
     requires some { 0 < step }
     requires most { step ≤ 2 ^ 24 }
@@ -35,11 +35,12 @@ fn gap(at: u32, step: u32, skew: u32) -> u32
 
 // Calls for a block that begins at a place, or for a payload that does.
 impl<const SLI: u32> Heap<SLI> {
-    /// Gives a block that holds `len` bytes of payload out of the free block that begins at a place, of all numbers, and fills nothing:
-    /// the bytes are those that lie there. Where the free block has four words or more above those wanted, they stay free behind it.
+    /// Gives a block that holds `len` bytes of payload out of the free block that begins at a place, which may be any number. It
+    /// fills nothing: the bytes are those that lie there. Where the free block has four words or more above those wanted, they stay
+    /// free behind it.
     ///
-    /// Refused as `Stale` where no free block begins there, else as `NoRoom` where it has fewer words than are wanted, else as `Worn`
-    /// where the tick is at its last value. A number from outside is not followed. Takes no memory.
+    /// Refused as `Stale` where no free block begins there. Otherwise as `NoRoom` where it has fewer words than are wanted.
+    /// Otherwise as `Worn` where the tick is at its last value. A number from outside is not followed. Takes no memory.
     ///
     /// ```text
     /// let name = heap.allocate(8)?;                    // of a new heap of 64 words: those at place 4 are free
@@ -49,8 +50,8 @@ impl<const SLI: u32> Heap<SLI> {
     pub fn allocate_from(&mut self, at: u32, len: u32) -> Result<Name, Refusal>
         ensures answer { result ≡ (words_from self.old.heap at (Blocks.want len)).answer }
 
-        // Accepted, the heap is as one of those words is given, with the bytes that lie there as its payload: the name is of that place, live,
-        // and was not before, its payload is so long, and every other payload stays.
+        // Accepted, the heap is as one of those words is given, with the bytes that lie there as its payload. The name is of that
+        // place, live, and was not before. Its payload has this length, and every other payload stays.
         ensures gives { IfOk result (GivesUnset self.old self.new (words_from self.old.heap at (Blocks.want len)).heap len) }
         ensures place { IfOk result (λ name. name.at ≡ at) }
 
@@ -73,13 +74,13 @@ impl<const SLI: u32> Heap<SLI> {
         Ok(name)
     }
 
-    /// Gives a block that holds `len` bytes of payload, whose payload begins `skew` words before a multiple of `step` words of the
-    /// region, and fills nothing: the bytes are those that lie there. A step of 0 counts as 1.
+    /// Gives a block that holds `len` bytes of payload, and fills nothing: the bytes are those that lie there. Its payload begins
+    /// `skew` words before a multiple of `step` words of the region. A step of 0 counts as 1.
     ///
-    /// It asks for a block of `step + 4` words more than are wanted. What isn't wanted of it stays free.
+    /// It asks for a block of `step + 4` words more than are wanted. All else of it stays free.
     ///
-    /// Refused as `Worn` where fewer than four ticks are left, since it takes up to four, else as `NoFit` where no free block lies in a
-    /// class at or above the search class of the words that it asks for. Takes no memory.
+    /// Refused as `Worn` where fewer than four ticks are left, since it takes up to four. Otherwise as `NoFit` where no free block
+    /// lies in a class at or above the search class of the words that it asks for. Takes no memory.
     ///
     /// ```text
     /// let name = heap.allocate_aligned(100, 8, 0)?;    // its payload begins at word 8, 16, 24 ..
@@ -88,8 +89,8 @@ impl<const SLI: u32> Heap<SLI> {
     pub fn allocate_aligned(&mut self, len: u32, step: u32, skew: u32) -> Result<Name, Refusal>
         ensures answer { result ≡ (words_aligned SLI self.old.heap (Blocks.want len) (max step 1) skew).answer }
 
-        // Accepted, the heap is as one of those words is given, with the bytes that lie there as its payload: it begins at such a word, the
-        // name is live and was not before, its payload is so long, and every other payload stays.
+        // Accepted, the heap is as one of those words is given, with the bytes that lie there as its payload. It begins at such a
+        // word, and the name is live and was not before. Its payload has this length, and every other payload stays.
         ensures gives { IfOk result (GivesUnset self.old self.new (words_aligned SLI self.old.heap (Blocks.want len) (max step 1) skew).heap len) }
         ensures aligned { IfOk result (λ name. (name.at + 3 + skew) % max step 1 ≡ 0) }
 
@@ -121,8 +122,8 @@ impl<const SLI: u32> Heap<SLI> {
         Ok(name)
     }
 
-    /// Makes the block of that name, which has `words` words behind the first `gap`, one of `words` words without payload that begins
-    /// `gap` words further on. Those before it are released. Three ticks at most pass.
+    /// Takes the block of that name, which has `words` words after the first `gap`. Makes it one of `words` words without payload
+    /// that begins `gap` words further on. Those before it are released. Three ticks at most pass.
     fn move_on(&mut self, name: Name, gap: u32, words: u32) -> Result<Name, Refusal>
         requires live { IsLive self.old.heap name }
         requires room { gap + words ≤ 3 + payload_words_at (named name self.old.heap.blocks) }
@@ -148,7 +149,7 @@ impl<const SLI: u32> Heap<SLI> {
         Ok(moved)
     }
 
-    /// Gives a block of `words` words without payload out of the free block that begins at a place, of all numbers.
+    /// Gives a block of `words` words without payload out of the free block that begins at a place, which may be any number.
     fn words_from(&mut self, at: u32, words: u32) -> Result<Name, Refusal>
         requires { 4 ≤ words }
         ensures answer { result ≡ (words_from self.old.heap at words).answer }

@@ -13,8 +13,8 @@ use crate::refusal::Refusal;
 
 // Calls by place: of a caller who keeps no names, as one who is handed an address.
 impl<const SLI: u32> Heap<SLI> {
-    /// The name of the live block that begins at a place, of all numbers; `None` where none does: for a caller who keeps no names, as one
-    /// who is handed an address. A number from outside is not followed. Takes no memory.
+    /// The name of the live block that begins at a place, which may be any number; `None` where none does. It is for a caller who
+    /// keeps no names, as one who is handed an address. A number from outside is not followed. Takes no memory.
     ///
     /// ```text
     /// let name = heap.allocate(8)?;                    // of a new heap of 64 words, at place 0
@@ -24,7 +24,7 @@ impl<const SLI: u32> Heap<SLI> {
     pub fn name_at(&mut self, at: u32) -> Option<Name>
         ensures name { result ≡ name_at self.old.heap at }
 
-        // What that comes to: the name is live, and its block begins there.
+        // This comes to: the name is live, and its block begins there.
         ensures live { IfSome result (λ name. IsLive self.old.heap name × (name.at ≡ at) × (at < self.old.heap.words)) }
         ensures same { IsAsBefore self.old self.new }
         ensures keeps { Keeps SLI self.old self.new }
@@ -44,8 +44,8 @@ impl<const SLI: u32> Heap<SLI> {
         })
     }
 
-    /// Takes back the live block that begins at a place, of all numbers: a `release` of the name that `name_at` answers, refused as
-    /// `Stale` where there is none, else as `Worn` where the tick is at its last value. Takes no memory.
+    /// Takes back the live block that begins at a place, which may be any number. It is a `release` of the name that `name_at`
+    /// answers, refused as `Stale` where there is none. Otherwise as `Worn` where the tick is at its last value. Takes no memory.
     ///
     /// A place doesn't tell a block from a later one that begins there: who keeps a place past the release releases that one.
     ///
@@ -66,7 +66,7 @@ impl<const SLI: u32> Heap<SLI> {
         ensures touches { self.new.touches ≤ self.old.touches + 29 }
         ensures leaves { LeavesPayloads self.old.heap.blocks at self.old.touched self.new.touched }
 
-        // All lies in so many groups of eight words, but start bits and the lists.
+        // All lies in this many groups of eight words, but start bits and the lists.
         ensures groups { InGroups release_groups self.old.touched self.new.touched }
         ensures refused { OnErr result (LeavesLive self.old.heap.blocks self.old.touched self.new.touched) }
         ensures wild { FollowsNoPlace self.old.heap at self.old.touches self.new.touches }
@@ -75,8 +75,8 @@ impl<const SLI: u32> Heap<SLI> {
         self.give_back(at, own, &mut own.size())
     }
 
-    /// Makes the payload of the live block that begins at a place `len` bytes long, where the block stands: a `resize` of the name that
-    /// `name_at` answers, refused as `Stale` where there is none. Takes no memory.
+    /// Makes the payload of the live block that begins at a place `len` bytes long, where the block stands. It is a `resize` of the
+    /// name that `name_at` answers, refused as `Stale` where there is none. Takes no memory.
     ///
     /// ```text
     /// let name = heap.allocate(8)?;

@@ -9,9 +9,10 @@ use super::Heap;
 use crate::checked::Checked;
 
 impl<const SLI: u32> Heap<SLI> {
-    /// Looks at `most` blocks at most, one behind the other, of which the first begins at `from`; `None` where none begins there. A heap
-    /// that only these calls have changed is never called damaged. Where other code has written past the end of a payload, the answer is
-    /// what [`crate::check_words`] says of words that may hold anything: it follows no place that it has not looked at. Takes no memory.
+    /// Looks at `most` blocks at most, one after the other. The first of them begins at `from`; `None` where none begins there. A
+    /// heap that only these calls have changed is never called damaged. Where other code has written past the end of a payload, the
+    /// answer is that of [`crate::check_words`] on words that may hold anything. It follows no place that it has not looked at.
+    /// Takes no memory.
     ///
     /// A caller who checks in slices calls it again with the `next` of the answer, which is 0 behind the last block.
     ///
@@ -24,7 +25,7 @@ impl<const SLI: u32> Heap<SLI> {
     pub fn check_blocks(&mut self, from: u32, most: u32) -> Option<Checked>
         ensures answer { MatchOption result (¬ (IsPlace self.old.heap.blocks from)) (FindsSound self.old.heap.blocks from most) }
 
-        // What is said of words that hold anything, of these.
+        // The law on words that hold anything, of these.
         ensures looks { IsCheck self.old.stored from most result }
         ensures same { IsAsBefore self.old self.new }
         ensures keeps { Keeps SLI self.old self.new }

@@ -21,13 +21,13 @@ impl<const SLI: u32> Heap<SLI> {
     /// Gives a block that holds `len` bytes of payload, as `allocate`, and fills nothing: its bytes are those that lie there, whatever
     /// they are. So it takes no longer for more bytes. Only the first payload word is made zero.
     ///
-    /// Refused as `NoFit` where no free block lies in a class at or above the search class of the words wanted, else
-    /// as `Worn` where the tick is at its last value. Takes no memory.
+    /// Refused as `NoFit` where no free block lies in a class at or above the search class of the words wanted. Otherwise as `Worn`
+    /// where the tick is at its last value. Takes no memory.
     ///
     /// ```text
     /// let name = heap.allocate_unset(65536)?;          // 64 KiB, in the touches of 8 bytes
     /// ```
-    // Always inline, as `allocate_words` is: behind a call of its own it saves its registers twice.
+    // Always inline, as `allocate_words` is: in a call of its own it saves its registers twice.
     #[inline(always)]
     pub fn allocate_unset(&mut self, len: u32) -> Result<Name, Refusal>
         ensures answer { result ≡ (allocated SLI self.old.heap len).answer }
@@ -54,12 +54,12 @@ impl<const SLI: u32> Heap<SLI> {
         Ok(name)
     }
 
-    /// Makes the payload of the block of that name `len` bytes long, where the block stands, as `resize`, and fills nothing: the bytes up
-    /// to the smaller length stay, and new ones are those that lie there. So it takes no longer for more bytes.
+    /// Makes the payload of the block of that name `len` bytes long, where the block stands, as `resize`, and fills nothing. The
+    /// bytes up to the smaller length stay, and new ones are those that lie there. So it takes no longer for more bytes.
     ///
-    /// Refused as `resize`: as `Foreign` where the name is of another heap, else as `Stale` where no live block has that place and serial,
-    /// else as `NoRoom` where the block and a free one behind it have fewer words than wanted, else as `Worn` where the tick is at its last
-    /// value. Takes no memory.
+    /// Refused as `resize`: as `Foreign` where the name is of another heap. Otherwise as `Stale` where no live block has that place
+    /// and serial. Otherwise as `NoRoom` where the block and a free one behind it have fewer words than wanted. Otherwise as `Worn`
+    /// where the tick is at its last value. Takes no memory.
     ///
     /// ```text
     /// let name = heap.allocate_unset(8)?;              // of a new heap of 64 words
@@ -87,14 +87,15 @@ impl<const SLI: u32> Heap<SLI> {
         Ok(())
     }
 
-    /// Makes the payload of the block of that name `len` bytes long, where the block stands or else in another block, as `resize_or_move`,
-    /// and fills nothing: the bytes up to the smaller length stay, and new ones are those that lie there. So a move takes as long as it is
-    /// to copy the bytes that stay. The answer is the name that the payload has from then on; where it isn't the old one, the old one is
-    /// stale.
+    /// Makes the payload of the block of that name `len` bytes long, where the block stands or else in another block, as
+    /// `resize_or_move`. It fills nothing: the bytes up to the smaller length stay, and new ones are those that lie there. So a
+    /// move takes as long as it is to copy the bytes that stay. The answer is the name that the payload has from then on; where it
+    /// isn't the old one, the old one is stale.
     ///
-    /// Refused as `resize_or_move`: as `Foreign` where the name is of another heap, else as `Stale` where no live block has that place and
-    /// serial. Where there is room at its place it is refused as `Worn` where the tick is at its last value. Where there is none, as `Worn`
-    /// where fewer than two ticks are left, else as `NoFit` where `allocate` finds no block. A refusal changes nothing. Takes no memory.
+    /// Refused as `resize_or_move`: as `Foreign` where the name is of another heap; otherwise as `Stale` where no live block has
+    /// that place and serial. Where there is room at its place it is refused as `Worn` where the tick is at its last value. Where
+    /// there is none, as `Worn` where fewer than two ticks are left; otherwise as `NoFit` where `allocate` finds no block. A
+    /// refusal changes nothing. Takes no memory.
     ///
     /// ```text
     /// let name = heap.allocate_unset(8)?;              // of a new heap of 64 words: 4 of them
@@ -104,7 +105,8 @@ impl<const SLI: u32> Heap<SLI> {
     pub fn resize_or_move_unset(&mut self, name: Name, len: u32) -> Result<Name, Refusal>
         ensures answer { result ≡ (resized_or_moved SLI self.old.heap name len).answer }
 
-        // Accepted, the heap is as a resize or move and a write of the bytes that lie behind the old ones make it; a refusal changes nothing.
+        // Accepted, the heap is as a resize or move makes it and a write of the bytes that lie after the old ones. A refusal
+        // changes nothing.
         ensures heap { IfOk result (λ new. self.new.heap ≡ unset_from (resized_or_moved SLI self.old.heap name len).heap new self.new.stored (min (length (payload_of self.old.heap name)) len) len) }
         ensures err { OnErr result (IsAsBefore self.old self.new) }
         ensures keeps { Keeps SLI self.old self.new }

@@ -15,7 +15,7 @@ use super::Heap;
 use crate::name::Name;
 use crate::refusal::Refusal;
 
-// What a caller needs who counts the words in use, the live blocks' with their headers: how many came back, and how many a block has.
+// For a caller who counts the words in use, the live blocks' with their headers: how many came back, and how many a block has.
 impl<const SLI: u32> Heap<SLI> {
     /// The words of a live block, its three of the header with them. Takes no memory.
     ///
@@ -43,8 +43,8 @@ impl<const SLI: u32> Heap<SLI> {
 
     /// The words of the block of that name, its three of the header with them.
     ///
-    /// Refused as `Foreign` where the name is of another heap, else as `Stale` where no live block has that place and
-    /// serial. Takes no memory.
+    /// Refused as `Foreign` where the name is of another heap; otherwise as `Stale` where no live block has that place and serial.
+    /// Takes no memory.
     ///
     /// ```text
     /// let name = heap.allocate(100)?;
@@ -65,8 +65,8 @@ impl<const SLI: u32> Heap<SLI> {
         Ok(held)
     }
 
-    /// A `release`, refused as that is, that takes the words which come back off a count of those in use: the words of the block, its three
-    /// of the header with them. Where it is refused, the count stays. Takes no memory.
+    /// A `release`, refused as that is, that takes the words which come back off a count of those in use. They are the words of the
+    /// block, its three of the header with them. Where it is refused, the count stays. Takes no memory.
     ///
     /// `in_use` is at least the words in use.
     ///
@@ -90,7 +90,7 @@ impl<const SLI: u32> Heap<SLI> {
         ensures count { OnErr result (in_use.new ≡ in_use.old) }
         ensures keeps { Keeps SLI self.old self.new }
 
-        // All lies in so many groups of eight words, but start bits and the lists.
+        // All lies in this many groups of eight words, but start bits and the lists.
         ensures groups { InGroups release_groups self.old.touched self.new.touched }
     {
         let own = self.check(name)?;
@@ -125,7 +125,7 @@ impl<const SLI: u32> Heap<SLI> {
         ensures touches { self.new.touches ≤ self.old.touches + 29 }
         ensures leaves { LeavesPayloads self.old.heap.blocks at self.old.touched self.new.touched }
 
-        // All lies in so many groups of eight words, but start bits and the lists.
+        // All lies in this many groups of eight words, but start bits and the lists.
         ensures groups { InGroups release_groups self.old.touched self.new.touched }
         ensures refused { OnErr result (LeavesLive self.old.heap.blocks self.old.touched self.new.touched) }
         ensures wild { FollowsNoPlace self.old.heap at self.old.touches self.new.touches }

@@ -97,8 +97,8 @@ impl<const SLI: u32> Ledger<SLI> for Counts {
 impl<const SLI: u32> Ledgered<SLI, Counts> {
     /// Opens a heap of number `id` over `words` words of 8 bytes, stamped with the tick `first`. Nothing of it was granted.
     ///
-    /// Refused as `Heap::open` refuses: `BadSize` where `words` is below 4, or above 2^20 at level 4 and 2^24 at level 5, else `Worn` where `first` is
-    /// the last tick, 2^64 - 1, else `NoMemory` where the memory was not granted.
+    /// Refused as `Heap::open` refuses: `BadSize` where `words` is below 4, or above 2^20 at level 4 and 2^24 at level 5. Otherwise
+    /// `Worn` where `first` is the last tick, 2^64 - 1, and otherwise `NoMemory` where the memory was not granted.
     ///
     /// ```text
     /// let mut heap = Ledgered::<4, Counts>::open(alloc, 0, 1024, 0)?;     // heap 0: 8 KiB, of which nothing was granted
@@ -126,12 +126,12 @@ impl<const SLI: u32> Ledgered<SLI, Counts> {
         ))
     }
 
-    /// Makes the payload of the block of that name `len` bytes long, where the block stands: the name stays live, the bytes up to the
-    /// smaller length stay, and new ones are zero. It is counted neither as a grant nor as a return.
+    /// Makes the payload of the block of that name `len` bytes long, where the block stands. The name stays live, the bytes up to
+    /// the smaller length stay, and new ones are zero. It is counted neither as a grant nor as a return.
     ///
-    /// Refused as `Heap::resize` refuses: `Foreign` where the name is of another heap, else `Stale` where no live block has that
-    /// place and serial, else `NoRoom` where the block and a free one behind it have fewer words than wanted, else `Worn` where the
-    /// tick is at its last value. Nothing changes then. Takes no memory.
+    /// Refused as `Heap::resize` refuses: `Foreign` where the name is of another heap, otherwise `Stale` where no live block has
+    /// that place and serial. Otherwise it is `NoRoom` where the block and a free one after it have fewer words than wanted.
+    /// Otherwise it is `Worn` where the tick is at its last value. Nothing changes then. Takes no memory.
     ///
     /// ```
     /// let name = heap.allocate(8)?;

@@ -56,7 +56,7 @@ impl<const SLI: u32, L: Ledger<SLI>> Ledgered<SLI, L> {
         Ledgered { heap, ledger }
     }
 
-    /// What is noted of the heap.
+    /// The notes on the heap.
     ///
     /// ```text
     /// counted.ledger()                        // of one with `Counts`: how many allocates and releases were accepted
@@ -70,9 +70,9 @@ impl<const SLI: u32, L: Ledger<SLI>> Ledgered<SLI, L> {
 
     /// Gives a block that holds `len` bytes of payload, all zero, by good fit (ECRTS 2004, sections 3 and 4), and notes it.
     ///
-    /// Refused by the ledger, if that admits no such request; then as `Heap::allocate_words` refuses: `NoFit` where no free block lies in
-    /// a class at or above the search class of the words that the ledger has it take, else `Worn` where the tick is at its last value.
-    /// Nothing is noted then. Takes no memory.
+    /// Refused by the ledger, if that admits no such request; then as `Heap::allocate_words` refuses. It is `NoFit` where no free
+    /// block lies in a class at or above the search class of the words that the ledger names. Otherwise it is `Worn` where the tick
+    /// is at its last value. Nothing is noted then. Takes no memory.
     ///
     /// ```
     /// let mut heap = Ledgered::<4, Counts>::open(alloc, 0, 4, 0)?; // a heap of 4 words, the least
@@ -83,7 +83,7 @@ impl<const SLI: u32, L: Ledger<SLI>> Ledgered<SLI, L> {
         ensures answer { result ≡ L.answered self.old.ledger len (allocated_words SLI self.old.heap (L.takes SLI self.old.ledger len) len).answer }
         ensures allocates { L.admits self.old.ledger len → Allocates allocate_touches SLI (L.takes SLI self.old.ledger len) len (seen_by self.old) (seen_by self.new) (allocated_words SLI self.old.heap (L.takes SLI self.old.ledger len) len).answer }
 
-        // What that comes to: when each refusal comes, and when it is a name.
+        // This comes to: when each refusal comes, and when it is a name.
         ensures tells { L.tells SLI self.old.heap self.old.ledger len result }
         ensures given { OnOk result (L.given self.old.ledger len self.new.ledger) }
         ensures limits { L.same_limits self.old.ledger self.new.ledger }
@@ -91,8 +91,8 @@ impl<const SLI: u32, L: Ledger<SLI>> Ledgered<SLI, L> {
         ensures keeps { KeepsLedger (L.holds SLI) self.old self.new }
         ensures leaves { LeavesLive self.old.heap.blocks self.old.touched self.new.touched }
 
-        // Admitted or not: so many touches at most, and one for each payload word of the block given. However many words the ledger has it take,
-        // no more for these than the words wanted for the bytes.
+        // Admitted or not: at most this many touches, and one for each payload word of the block given. However many words the
+        // ledger has it take, no more for these than the words wanted for the bytes.
         ensures touches { self.new.touches ≤ self.old.touches + allocate_touches + payload_words_given result self.new.heap }
         ensures few { self.new.touches ≤ self.old.touches + allocate_touches + want len }
     {
@@ -112,8 +112,8 @@ impl<const SLI: u32, L: Ledger<SLI>> Ledgered<SLI, L> {
 
     /// Takes back the block of that name, merges it with its free neighbours (at once: ECRTS 2004, section 4), and notes that.
     ///
-    /// Refused as `Heap::release` refuses: `Foreign` where the name is of another heap, else `Stale` where no live block
-    /// has that place and serial, else `Worn` where the tick is at its last value. Nothing is noted then. Takes no memory.
+    /// Refused as `Heap::release` refuses: `Foreign` where the name is of another heap. Otherwise `Stale` where no live block has
+    /// that place and serial, and otherwise `Worn` where the tick is at its last value. Nothing is noted then. Takes no memory.
     ///
     /// ```
     /// heap.release(name)?;
@@ -144,8 +144,8 @@ impl<const SLI: u32, L: Ledger<SLI>> Ledgered<SLI, L> {
 
     /// Writes bytes into the payload of the block of that name, from byte `at` of it on.
     ///
-    /// Refused as `Heap::write` refuses: `Foreign` where the name is of another heap, else `Stale` where no live block has
-    /// that place and serial, else `Range` where the bytes would go past the end of the payload. No byte changes then.
+    /// Refused as `Heap::write` refuses: `Foreign` where the name is of another heap. Otherwise `Stale` where no live block has
+    /// that place and serial, and otherwise `Range` where the bytes would go past the end of the payload. No byte changes then.
     /// Takes no memory.
     ///
     /// ```
@@ -165,9 +165,9 @@ impl<const SLI: u32, L: Ledger<SLI>> Ledgered<SLI, L> {
 
     /// Reads bytes of the payload of the block of that name, from byte `at` of it on, and fills `out` with them.
     ///
-    /// Refused as `Heap::read` refuses: `Foreign` where the name is of another heap, else `Stale` where no live block has
-    /// that place and serial, else `Range` where the bytes would go past the end of the payload. `out` is then as before.
-    /// Takes no memory.
+    /// Refused as `Heap::read` refuses: `Foreign` where the name is of another heap. Otherwise `Stale` where no live block has that
+    /// place and serial, and otherwise `Range` where the bytes would go past the end of the payload. `out` is then as before. Takes
+    /// no memory.
     ///
     /// ```
     /// let name = heap.allocate(4)?;
@@ -183,12 +183,12 @@ impl<const SLI: u32, L: Ledger<SLI>> Ledgered<SLI, L> {
         self.heap.read(name, at, out)
     }
 
-    /// Hands the payload of the block of that name to `f`, which reads and writes it where it stands, and gives back what `f` answers.
-    /// `f` gets the words that hold it, as [`Heap::alter`] hands them out. Behind a lock others wait for it; what it does there is
+    /// Hands the payload of the block of that name to `f`, which reads and writes it where it stands, and gives back what `f`
+    /// answers. `f` gets the words that hold it, as [`Heap::alter`] hands them out. Behind a lock others wait for it. Its work is
     /// counted in no touch, and noted neither as a grant nor as a return.
     ///
-    /// Refused as `Heap::alter` refuses: `Foreign` where the name is of another heap, else `Stale` where no live block has that
-    /// place and serial; `f` is then not called. Takes no memory.
+    /// Refused as `Heap::alter` refuses: `Foreign` where the name is of another heap, otherwise `Stale` where no live block has
+    /// that place and serial. Then `f` is not called. Takes no memory.
     ///
     /// ```
     /// let name = heap.allocate(8)?;
@@ -212,8 +212,8 @@ impl<const SLI: u32, L: Ledger<SLI>> Ledgered<SLI, L> {
     /// Shows the payload of the block of that name to `f`, where it stands, and gives back what `f` answers. `f` gets the words that
     /// hold it, as [`Heap::inspect`] shows them. Behind a lock others wait for it; what it reads is counted in no touch.
     ///
-    /// Refused as `Heap::inspect` refuses: `Foreign` where the name is of another heap, else `Stale` where no live block has that
-    /// place and serial; `f` is then not called. Takes no memory.
+    /// Refused as `Heap::inspect` refuses: `Foreign` where the name is of another heap, otherwise `Stale` where no live block has
+    /// that place and serial. Then `f` is not called. Takes no memory.
     ///
     /// ```
     /// let first = heap.inspect(name, |words| words[0])?; // after the alter above
@@ -232,8 +232,8 @@ impl<const SLI: u32, L: Ledger<SLI>> Ledgered<SLI, L> {
         self.heap.inspect(name, f)
     }
 
-    /// What the heap holds, and how well it serves: blocks, words of 8 bytes, payload bytes. It goes over all blocks, is
-    /// never refused, and takes no memory.
+    /// The report on the heap, and how well it serves: blocks, words of 8 bytes, payload bytes. It goes over all blocks, is never
+    /// refused, and takes no memory.
     ///
     /// ```
     /// let report = heap.report(); // of a new heap of 1024 words
@@ -242,7 +242,7 @@ impl<const SLI: u32, L: Ledger<SLI>> Ledgered<SLI, L> {
     pub fn report(&mut self) -> Report
         ensures reports { Reports SLI (seen_by self.old) (seen_by self.new) result }
 
-        // What it comes to by the ledger.
+        // The answer by the ledger.
         ensures tells { L.reports self.old.ledger result }
         ensures same { SameLedger self.old self.new }
         ensures keeps { KeepsLedger (L.holds SLI) self.old self.new }

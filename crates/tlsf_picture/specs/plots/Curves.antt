@@ -4,11 +4,11 @@ use Rattle.std.specs.List.{range_with_len}
 use Rattle.tlsf_picture.specs.plots.Points.{untouched, worse}
 use Rattle.tlsf_picture.specs.declared.plots.point.Point.{Point}
 
--- the worst of some points of a heap of so many words, number by number
+-- the worst of some points of a heap of this many words, number by number
 abbrev pub worst_of : ℕ → List Point → Point
 worst_of words points = fold worse (untouched words) points
 
--- how many points are drawn as one, so that at most so many are drawn
+-- how many points are drawn as one, so that no more than the most are drawn
 abbrev pub span_for : ℕ → ℕ → ℕ
 span_for most points = (points + (most - 1)) / most
 

@@ -8,7 +8,7 @@ use Rattle.tlsf_picture.specs.declared.plots.point.Point.{Point}
 abbrev pub live_in : List Point → ℕ → ℕ
 live_in points number = (point_in points number).live
 
--- of the first n points none has more live words than this one, and it is the first of those; the first point stands after line 1
+-- of the first n points none has more live words than this one, and it is the first of those. The first point stands after line 1
 pub record IsPeak (points : List Point) (n : ℕ) (peak : Peak) : Type 0 where
   pub number : ℕ
   pub within : number < n

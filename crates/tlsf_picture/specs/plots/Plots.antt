@@ -18,7 +18,7 @@ use Rattle.tlsf_trace.specs.Output.{level_in}
 abbrev pub heap_points : Trace → ℕ → List Point
 heap_points trace j = points_of (level_in trace.header) trace j
 
--- the chart of heap j of a trace, of at most so many points
+-- the chart of heap j of a trace, of at most this many points
 pub record IsChart (most : ℕ) (trace : Trace) (j : ℕ) (chart : Chart) : Type 0 where
   pub heap : chart.heap ≡ j
   pub words : chart.words ≡ trace.header.words

@@ -56,7 +56,8 @@ words_asked (Some len) = want len
 abbrev pub words_by : ℕ → Line → ℕ
 words_by worker line = words_asked (request_by worker line)
 
--- the words that this worker asks for by the line of a number, by the request of each line behind the header, whose number is 0
+-- the words that this worker asks for by the line of a number. It goes by the request of each line after the header, whose number
+-- is 0
 abbrev pub asked_in : ℕ → List (Option Request) → ℕ → ℕ
 asked_in worker requests number = slice_index (0 ∷ map (λ request. words_asked (request_of worker request)) requests) number
 
@@ -70,7 +71,7 @@ longest_among worker requests = fold max 0 (map (λ request. bytes_asked (reques
 
 -- ---- a point
 
--- what a report tells, after a line that asks for so many words
+-- the numbers of a report, after a line that asks for this many words
 abbrev pub point_of : Report → ℕ → Bool → Point
 point_of report asked refused = record {
   live = report.live_words;
@@ -82,7 +83,7 @@ point_of report asked refused = record {
   refused = refused;
 }
 
--- what the events of a line of the text were answered, whose header is line 1; behind the last line come the drains at the end
+-- the answers to the events of a line of the text, whose header is line 1. After the last line come the drains at the end
 abbrev pub told_at : ℕ → ℕ → Trace → List Entry
 told_at sli line trace = drop (length (moment_at sli (line - 1) trace).entries) (moment_at sli line trace).entries
 
@@ -101,12 +102,12 @@ points_of sli trace j = map (point_at sli trace j) (range_with_len 1 (length tra
 
 -- ---- the worst of some
 
--- a heap of so many words in which all is free: no point is better
+-- a heap of this many words in which all is free: no point is better
 abbrev pub untouched : ℕ → Point
 untouched words = record { live = 0; free = words; largest = words; grant = 2 ^ 32 - 1; fragmentation = 0; asked = 0; refused = false }
 
--- the worse of two in each number: most live words, fewest free, the smallest of the greatest free blocks, most fragmentation, most words
--- asked for, and whether a call was refused
+-- the worse of two in each number: most live words, fewest free, the smallest of the greatest free blocks, and most fragmentation.
+-- Also most words asked for, and whether a call was refused
 abbrev pub worse : Point → Point → Point
 worse a b = record {
   live = max a.live b.live;
@@ -118,6 +119,6 @@ worse a b = record {
   refused = a.refused || b.refused;
 }
 
--- whether a request of so many bytes finds no room here
+-- whether a request of this many bytes finds no room here
 abbrev pub lacks : ℕ → Point → Bool
 lacks len point = point.free == 0 || nat_lt point.grant len

@@ -1,4 +1,4 @@
--- Which line of a trace to look at: how a heap stands behind each, and where it stands worst.
+-- Which line of a trace to look at: how a heap stands after each, and where it stands worst.
 use Rattle.std.specs.Prelude.{◌≡◌, ℕ, ◌+◌, ◌<◌, Bool, true, false, ◌==◌, ◌&&◌, ◌||◌, nat_lt, if◌then◌else◌, List}
 use Rattle.tlsf_picture.specs.plots.Curves.{point_in}
 use Rattle.tlsf_picture.specs.plots.Points.{lacks}
@@ -7,16 +7,18 @@ use Rattle.tlsf_picture.specs.declared.plots.point.Point.{Point}
 use Rattle.tlsf_picture.specs.declared.plots.standing.Standing.{Standing}
 use Rattle.tlsf_picture.specs.declared.plots.standing.Standing.TheVariants.{NoRoom, Room}
 
--- how a heap stands at a point: without room for a request of so many bytes, with so many words free; or with room for it, so many words live
--- and so much fragmentation
+-- how a heap stands at a point. It is without room for a request of this many bytes, with a number of words free. Or it is with
+-- room for it, with a number of words live and some fragmentation
 abbrev pub standing_of : ℕ → Point → Standing
 standing_of len point = if lacks len point then NoRoom point.free else Room point.live point.fragmentation
 
--- whether a heap with so many words live and so much fragmentation is fuller than another: it has more live words, or as many and more fragmentation
+-- whether a heap with a number of words live and some fragmentation is fuller than another. It has more live words, or equally many
+-- and more fragmentation
 abbrev pub is_fuller : (live fragmentation other less : ℕ) → Bool
 is_fuller live fragmentation other less = nat_lt other live || (live == other && nat_lt less fragmentation)
 
--- whether a heap stands worse than another: without room worse than with it, without room worse the more words are free, and with room worse the fuller
+-- whether a heap stands worse than another. Without room is worse than with it. Without room it is worse the more words are free,
+-- and with room worse the fuller
 abbrev pub is_worse : Standing → Standing → Bool
 is_worse (NoRoom free) (NoRoom other) = nat_lt other free
 is_worse (NoRoom free) (Room live fragmentation) = true

@@ -1,4 +1,4 @@
--- What a plot tells of its heaps. How it draws their points is in no clause.
+-- The meaning of a plot of heaps. How it draws their points is in no clause.
 use Rattle.std.specs.Prelude.{ℕ, List, [], ◌∷◌, ◌++◌, codes}
 use Rattle.std.specs.Fmt.{decimal}
 use Rattle.tlsf_map.specs.Told.{all_told}

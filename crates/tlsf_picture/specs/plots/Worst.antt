@@ -1,4 +1,4 @@
--- The line of a trace to look at, and the picture of its heaps behind that.
+-- The line of a trace to look at, and the picture of its heaps after it.
 use Rattle.std.specs.Prelude.{◌≡◌, ℕ, ◌+◌, ◌<◌, true, false, List, length}
 use Rattle.tlsf_lines.specs.Trace.{Trace}
 use Rattle.tlsf_picture.specs.Drawn.{DrawsAt}
@@ -17,7 +17,8 @@ IsNamed trace j look = IsLook (longest_of j trace.lines) (heap_points trace j) (
 abbrev pub standing_at : Trace → ℕ → ℕ → Standing
 standing_at trace j number = standing_in (longest_of j trace.lines) (heap_points trace j) number
 
--- of the first n heaps none stands worse at any point than this one after the line that the plot names above it, and it is the first of those
+-- of the first n heaps none stands worse at any point than this one after the line that the plot names above it. It is the first of
+-- those
 pub record IsWorstHeap (trace : Trace) (n j : ℕ) (look : Look) : Type 0 where
   pub within : j < n
   pub named : IsNamed trace j look

@@ -4,14 +4,14 @@ ghost use Rattle.std.specs.Prelude.{◌<◌, ◌≤◌, ◌^◌};
 use crate::plots::chart::Chart;
 use std::alloc::AllocError;
 
-// The middle of what a line has of the axis of so many lines, which is 960 long and begins at 80.
+// The middle of the part that a line has of the axis of this many lines, which is 960 long and begins at 80.
 fn x_at(lines: u32, line: u64) -> u64
     requires { line < 2 ^ 48 }
 {
     80 + 480 * (2 * line).saturating_sub(1) / u64::from(lines.max(1))
 }
 
-// The least of 1, 2, 5, 10, 20, 50 and so on of which at most ten are in so many lines.
+// The least of 1, 2, 5, 10, 20, 50 and so on that fits at most ten times into this many lines.
 fn round_step(lines: u32) -> u64
     ensures some { 0 < result }
     ensures few { result ≤ 5000 }
@@ -43,7 +43,7 @@ fn round_step(lines: u32) -> u64
     }
 }
 
-/// Adds the axis of so many lines: a tick at each round number.
+/// Adds the axis of `lines` lines: a tick at each round number.
 pub fn write_axis(text: &mut String, lines: u32) -> Result<(), AllocError> {
     let step = round_step(lines);
     text.push_str("<text class='scale' x='72' y='600'>line</text>")?;

@@ -2,7 +2,7 @@ use crate::plots::look::Look;
 use crate::plots::peak::Peak;
 use crate::plots::point::Point;
 
-/// What the plot of a heap is made of.
+/// The parts of the plot of a heap.
 #[derive(Drop)]
 pub struct Chart {
     /// The number of the heap.

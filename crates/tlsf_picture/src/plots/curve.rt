@@ -10,7 +10,7 @@ use crate::plots::point::Point;
 use crate::plots::standing::Standing;
 use std::alloc::{AllocError, Global};
 
-/// How many points are drawn as one, so that at most so many are drawn.
+/// How many points are drawn as one, so that at most `most` are drawn.
 pub fn span_for(most: usize, points: usize) -> usize
     requires most { 0 < most }
     requires few { most ≤ 2 ^ 16 }
@@ -23,7 +23,7 @@ pub fn span_for(most: usize, points: usize) -> usize
     (points + (most - 1)) / most
 }
 
-// The worst of some points of a heap of so many words, number by number.
+// The worst of some points of a heap of this many words, number by number.
 fn worst_of(words: u32, points: &[Point]) -> Point
     ensures { result ≡ drawn.worst_of words points.now }
 {
@@ -34,7 +34,7 @@ fn worst_of(words: u32, points: &[Point]) -> Point
     worst
 }
 
-/// The points of a heap of so many words, so many as one.
+/// The points of a heap of `words` words, `span` of them as one.
 pub fn curve_of(
     alloc: Global,
     words: u32,
@@ -80,7 +80,8 @@ fn worse_line(len: u32, points: &[Point], number: usize, worst: Look) -> Look
     }
 }
 
-/// The line to look at of a heap whose worker's longest request is of so many bytes: the first of those behind which it stands worst.
+/// The line to look at of a heap whose worker's longest request is of this many bytes. It is the first of those after which the
+/// heap stands worst.
 pub fn worst_line(len: u32, points: &[Point]) -> Look
     requires some { 0 < length points.now }
     requires few { length points.now ≤ 2 ^ 16 }

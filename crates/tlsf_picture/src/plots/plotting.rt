@@ -18,7 +18,7 @@ use std::io::{Read, Write};
 use tlsf_lines::Script;
 use tlsf_trace::{Plays, Puts, Summary, TraceFault, play};
 
-// The chart of a heap of a trace, at its level, of at most so many points.
+// The chart of a heap of a trace, at its level, of at most this many points.
 fn chart_of<const SLI: u32>(
     alloc: Global,
     script: &Script,
@@ -103,16 +103,17 @@ impl<const SLI: u32> Plays<SLI> for Plot {
 
 /// Reads a whole trace, runs it on a new yard of workers, and writes a plot of each heap over its lines.
 ///
-/// A point is the report on the heap after a line, which [`draw_trace_at`](crate::draw_trace_at) draws: words live and free, the
-/// greatest free block, fragmentation, the words that the line asks for, and whether a call was refused. Of a long trace several lines are
-/// one point, which shows the worst of each number, so that no line has more than 2,000 in an SVG file, and 56 in characters.
+/// A point is the report on the heap after a line, which [`draw_trace_at`](crate::draw_trace_at) draws. It has the words live and
+/// free, the greatest free block, fragmentation, the words that the line asks for, and whether a call was refused. Of a long trace
+/// several lines are one point, which shows the worst of each number. So no line has more than 2,000 in an SVG file, and 56 in
+/// characters.
 ///
-/// Above a heap stands the line to look at: of those after which the longest request of its worker would find no room, the first with
-/// the most words free. Where it finds room after each line, it is the first of those with the most live words that has the most
-/// fragmentation among them. There also stands its peak, the first line after which most of its words are live.
+/// Above a heap stands the line to look at. Of those after which the longest request of its worker would find no room, it is the
+/// first with the most words free. Where it finds room after each line, it is the first of those with the most live words that has
+/// the most fragmentation among them. There also stands its peak, the first line after which most of its words are live.
 ///
-/// The trace is read to its end and checked before a line runs, it is run once for each heap, and the whole text is made before a byte is
-/// written. The limits are those of [`replay`](tlsf_trace::replay).
+/// The trace is read to its end and checked before a line runs. It is run once for each heap, and the whole text is made before a
+/// byte is written. The limits are those of [`replay`](tlsf_trace::replay).
 ///
 /// ```
 /// // reader gives "tlsf 1 1 64 1\na 0 7 8\n"

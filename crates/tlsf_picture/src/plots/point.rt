@@ -23,7 +23,7 @@ pub struct Point {
 }
 
 impl Point {
-    /// A report, after a line that asks for so many words.
+    /// A report, after a line that asks for this many words.
     pub(crate) fn of(report: Report, asked: u32, refused: bool) -> Point
         ensures { result ≡ told.point_of report asked refused }
     {
@@ -38,7 +38,7 @@ impl Point {
         }
     }
 
-    /// A heap of so many words in which all is free.
+    /// A heap of `words` words in which all is free.
     pub(crate) fn untouched(words: u32) -> Point
         ensures { result ≡ told.untouched words }
     {
@@ -68,7 +68,7 @@ impl Point {
         }
     }
 
-    /// Whether a request of so many bytes finds no room here.
+    /// Whether a request of this many bytes finds no room here.
     pub(crate) fn lacks(&self, len: u32) -> bool
         ensures { result ≡ told.lacks len self.now }
     {

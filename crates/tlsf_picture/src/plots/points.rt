@@ -116,7 +116,7 @@ fn report_on<const SLI: u32>(workers: &mut [Worker<SLI>], heap: u32) -> Report
     workers[heap as usize].report()
 }
 
-// Runs a player on to the line of a number, where the header's is 0, and answers the point of a heap behind it.
+// Runs a player on to the line of a number, where the header's is 0. Answers the point of a heap after it.
 fn next_point<const SLI: u32>(
     alloc: Global,
     player: &mut Player<SLI>,

@@ -12,7 +12,7 @@ use crate::plots::standing::Standing;
 use crate::plots::told::{Parts, always_fit, bytes, kind_of, no_fit, write_told};
 use std::alloc::{AllocError, Global};
 
-// What the rows are.
+// The meaning of the rows.
 const BARS: &str =
     "a bar stands for some lines at their worst, a full one for the number behind it\n";
 
@@ -69,7 +69,7 @@ fn write_rows(text: &mut String, words: u32, curve: &[Point]) -> Result<(), Allo
     text.push_str("|\n")
 }
 
-// What stands behind the line to look at: how the heap stands there.
+// The text after the line to look at: how the heap stands there.
 fn look_of(alloc: Global, longest: u32, look: Look) -> Result<String, AllocError> {
     let mut text = String::new(alloc);
     let line = look.line;
@@ -89,7 +89,7 @@ fn look_of(alloc: Global, longest: u32, look: Look) -> Result<String, AllocError
     Ok(text)
 }
 
-// What stands around the numbers of a heap.
+// The texts around the numbers of a heap.
 fn parts_of(alloc: Global, chart: &Chart) -> Result<Parts, AllocError> {
     let mut begin = String::new(alloc);
     begin.push_str("\n")?;

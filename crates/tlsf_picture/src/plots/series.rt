@@ -16,7 +16,7 @@ pub enum Series {
 }
 
 impl Series {
-    /// That number of a point.
+    /// The number of this series at a point.
     pub fn of(self, point: &Point) -> u32 {
         match self {
             Series::Live => point.live,
@@ -38,7 +38,7 @@ impl Series {
         }
     }
 
-    /// What its row begins with, in characters.
+    /// The first characters of its row.
     pub fn title(self) -> &'static str {
         match self {
             Series::Live => "live words    |",

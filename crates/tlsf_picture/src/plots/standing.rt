@@ -21,7 +21,7 @@ pub enum Standing {
     },
 }
 
-// Whether a heap with so many words live and so much fragmentation is fuller than another.
+// Whether a heap with this many words live and this fragmentation is fuller than another.
 fn is_fuller(live: u32, fragmentation: u32, other: u32, less: u32) -> bool
     ensures { result ≡ told.is_fuller live fragmentation other less }
 {
@@ -39,7 +39,7 @@ impl Standing {
         }
     }
 
-    /// At a point, where the longest request is of so many bytes.
+    /// At a point, where the longest request is of this many bytes.
     pub(crate) fn of(len: u32, point: &Point) -> Standing
         ensures { result ≡ told.standing_of len point.now }
     {
@@ -53,8 +53,8 @@ impl Standing {
         }
     }
 
-    /// Whether it is worse than another: without room than with it, then by more free words, or with room by more live words and,
-    /// of equally many, by more fragmentation.
+    /// Whether it is worse than another. Without room is worse than with it. Without room, more free words are worse; with room,
+    /// more live words and, of equally many, more fragmentation.
     pub(crate) fn is_worse(self, than: Standing) -> bool
         ensures { result ≡ told.is_worse self than }
     {

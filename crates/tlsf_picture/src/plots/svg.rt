@@ -16,7 +16,7 @@ use std::alloc::{AllocError, Global};
 const STYLE: &str =
     "<style>text{font:13px ui-monospace,Menlo,Consolas,monospace;fill:#1f2328}.name{font-weight:600}.scale,.bytes,.at{font-size:11px}.scale{text-anchor:end}.at{text-anchor:middle;paint-order:stroke;stroke:#fff;stroke-width:4px}svg{background:#fff}.page{fill:#fff}.frame{fill:#f3f5f8}path{fill:none;stroke-width:1.5;vector-effect:non-scaling-stroke}.live{fill:#4f83cc;stroke:#2b4f86}.asked{stroke:#c2701c}.free{fill:#8fd0b1;stroke:#2e9e6b}.largest{stroke:#7a2fb0}.fragmentation{fill:#c9b3ea;stroke:#8257c9}.refused{fill:#b4232a;stroke:#b4232a}.asked,.largest{fill:none}.capacity,.tick,.peak{stroke:#1f2328}.capacity,.tick{stroke-width:1}.peak{stroke-dasharray:2 3}.mark{stroke:#b4232a;stroke-dasharray:6 3}@media(prefers-color-scheme:dark){text{fill:#e6edf3}.at{stroke:#0d1117}svg{background:#0d1117}.page{fill:#0d1117}.frame{fill:#1b222c}.live{fill:#2f5a99;stroke:#7fb0f5}.asked{stroke:#f0a050}.free{fill:#1c5c40;stroke:#45c48a}.largest{stroke:#d2a8ff}.fragmentation{fill:#4a3575;stroke:#a98bea}.refused{fill:#ff7b72;stroke:#ff7b72}.capacity,.tick,.peak{stroke:#e6edf3}.mark{stroke:#ff7b72}}</style><rect class='page' width='100%' height='100%'/>\n";
 
-// What each colour is.
+// The meaning of each colour.
 const COLOURS: &str =
     "<g transform='translate(0 28)'><rect class='live' x='80' width='12' height='12'/><text x='98' y='11'>live words</text><rect class='asked' x='200' width='12' height='12'/><text x='218' y='11'>words asked for</text><rect class='free' x='352' width='12' height='12'/><text x='370' y='11'>free words</text><rect class='largest' x='472' width='12' height='12'/><text x='490' y='11'>largest free block</text><rect class='fragmentation' x='648' width='12' height='12'/><text x='666' y='11'>fragmentation, thousandths</text><rect class='refused' x='888' width='12' height='12'/><text x='906' y='11'>call refused</text><path class='capacity' d='M80 27h12'/><text x='98' y='31'>the words of the heap</text><path class='mark' d='M278 21v12'/><text x='290' y='31'>worst or fullest moment</text><path class='peak' d='M486 21v12'/><text x='498' y='31'>peak: most words live</text><text x='690' y='31'>tlsf map --at LINE draws the heaps then</text><text x='80' y='51'>a point that stands for several lines shows the worst of each number: most live words, fewest free ones</text></g>\n";
 
@@ -40,7 +40,7 @@ fn write_lines(text: &mut String, lines: &[Series], curve: &[Point]) -> Result<(
     text.push_str("</g></svg>\n")
 }
 
-// Begins a frame for so many points and numbers up to `top`, of which one is so many units high.
+// Begins a frame for `count` points and for numbers up to `top`; one of these is `unit` units high.
 fn write_frame(
     text: &mut String,
     y: u32,
@@ -55,8 +55,8 @@ fn write_frame(
     )
 }
 
-// Adds a frame with some lines of a heap of so many words. An eighth of a word is one high, so that all words are eight ninths of the
-// height.
+// Adds a frame with some lines of a heap of this many words. An eighth of a word is one high, so that all words are eight ninths of
+// the height.
 fn write_words_frame(
     text: &mut String,
     y: u32,
@@ -104,7 +104,7 @@ fn write_frames(text: &mut String, words: u32, curve: &[Point]) -> Result<(), Al
     write_strip(text, curve)
 }
 
-// What stands behind the line to look at: how the heap stands there.
+// The text after the line to look at: how the heap stands there.
 fn look_of(alloc: Global, longest: u32, standing: Standing) -> Result<String, AllocError> {
     let mut text = String::new(alloc);
     let bytes = 8 * u64::from(standing.words());
@@ -125,7 +125,7 @@ fn look_of(alloc: Global, longest: u32, standing: Standing) -> Result<String, Al
     Ok(text)
 }
 
-// What stands around the numbers of a heap, whose plot begins at this height.
+// The texts around the numbers of a heap, whose plot begins at this height.
 fn parts_of(alloc: Global, y: usize, chart: &Chart) -> Result<Parts, AllocError> {
     let mut begin = String::new(alloc);
     write!(

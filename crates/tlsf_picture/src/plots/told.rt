@@ -1,4 +1,4 @@
-//! What a plot tells of a heap in numbers, in either form.
+//! The numbers that a plot tells of a heap, in either form.
 ghost use Rattle.std.specs.Prelude.{OnOk, string_bytes};
 ghost use Rattle.tlsf_map.specs.Told.{Adds};
 ghost use Rattle.tlsf_picture.specs.plots.Told.{chart_told};
@@ -7,8 +7,8 @@ use crate::plots::chart::Chart;
 use crate::plots::standing::Standing;
 use std::alloc::AllocError;
 
-/// What a form has around these numbers: before the name of the heap, and behind its name, its longest request, the line to look at,
-/// and its peak.
+/// The texts of a form around these numbers. They stand before the name of the heap, and after its name, its longest request, the
+/// line to look at, and its peak.
 #[derive(Drop)]
 pub struct Parts {
     pub begin: String,
@@ -23,22 +23,22 @@ pub fn plural(count: usize, one: &'static str, many: &'static str) -> &'static s
     if count == 1 { one } else { many }
 }
 
-/// The unit of so many bytes.
+/// The unit of a number of bytes.
 pub fn bytes(count: u32) -> &'static str {
     plural(count as usize, "byte", "bytes")
 }
 
-/// That so many bytes find no room.
+/// The words for a number of bytes that find no room.
 pub fn no_fit(count: u32) -> &'static str {
     plural(count as usize, "byte doesn't fit", "bytes don't fit")
 }
 
-/// That so many bytes always find room.
+/// The words for a number of bytes that always find room.
 pub fn always_fit(count: u32) -> &'static str {
     plural(count as usize, "byte always fits", "bytes always fit")
 }
 
-/// What kind of moment a heap stands at.
+/// The name of the kind of moment that a heap stands at.
 pub fn kind_of(standing: Standing) -> &'static str {
     match standing {
         Standing::NoRoom { .. } => "worst",

@@ -1,4 +1,4 @@
-//! The line to look at, and the picture of the heaps behind it.
+//! The line to look at, and the picture of the heaps after it.
 ghost use Rattle.std.specs.Prelude.{◌≡◌, ℕ, ◌+◌, ◌<◌, ◌≤◌, vec_len, IfOk, string_bytes};
 ghost use Rattle.tlsf_class.specs.Classes.{IsLevel};
 ghost use Rattle.tlsf_lines.specs.Ranges.{IsHeaderInRange};
@@ -18,7 +18,7 @@ use std::io::{Read, Write};
 use tlsf_lines::Script;
 use tlsf_trace::{Plays, Puts, Summary, TraceFault, play};
 
-// What the plot names above a heap.
+// The line that the plot names above a heap.
 fn named_above<const SLI: u32>(
     alloc: Global,
     script: &Script,
@@ -87,10 +87,10 @@ impl<const SLI: u32> Plays<SLI> for WorstDrawing {
 
 /// Reads a whole trace, and writes a picture of each heap as it stands after the line to look at.
 ///
-/// [`plot_trace`](crate::plot_trace) names a line above each heap. Of these it is the one after which a heap stands worst: without room
-/// for the longest request of its worker, with the most free words; or, where each finds room after each line, with the most live words
-/// and of equally many with the most fragmentation. Of equal ones it is that of the first heap. All else is as at
-/// [`draw_trace_at`](crate::draw_trace_at); to find the line, the trace is run once for each heap.
+/// [`plot_trace`](crate::plot_trace) names a line above each heap. Of these it is the one after which a heap stands worst. It has
+/// no room for the longest request of its worker, with the most free words. Where each finds room after each line, it is the one
+/// with the most live words and of equally many with the most fragmentation. Of equal ones it is that of the first heap. All else
+/// is as at [`draw_trace_at`](crate::draw_trace_at); to find the line, the trace is run once for each heap.
 ///
 /// ```
 /// // reader gives "tlsf 1 1 64 1\na 0 7 400\nf 0 7\n", whose longest request finds no room after line 2

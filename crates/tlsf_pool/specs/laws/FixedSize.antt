@@ -32,7 +32,7 @@ pub record HasFixedSize (s : ℕ) (h : HeapState) : Type 0 where
   pub sizes : AllByRecursion (IsFixedSize s) h.blocks
   pub places : BeginAtMultiples s 0 h.blocks
 
--- the least size of a search class is in that class itself, so a free block of just so many words serves a request of so many
+-- the least size of a search class is in that class itself. So a free block of just these words serves a request of that many
 abbrev pub SureIsSure : ℕ → Type 0
 SureIsSure sli = (n : ℕ) → n ≤ most_words sli → sure sli (sure sli n) ≡ sure sli n
 
@@ -104,7 +104,7 @@ FixedSizeServes sli = (id words first most len : ℕ) (calls : List Call) → Is
     → let answers = (run_fixed sli (sure sli (want len)) (opened id words first) calls).0 in AreModest most len 0 calls answers → first + length calls < last_tick
     → AllByRecursion IsServed answers
 
--- in fewer words than `most` blocks have, not all of so many requests are served
+-- in fewer words than `most` blocks have, not all of that many requests are served
 abbrev pub FixedSizeIsExact : ℕ → Type 0
 FixedSizeIsExact sli = (id words first most len : ℕ) → IsRegion sli words → want len ≤ most_words sli → words < most * sure sli (want len)
     → ¬ (AllByRecursion IsServed (run_fixed sli (sure sli (want len)) (opened id words first) (replicate most (Allocate len))).0)
@@ -117,14 +117,14 @@ WantsWords s (Write name at bytes) = ⊤
 WantsWords s (Resize name n) = want n ≡ s
 WantsWords s (Read name at n) = ⊤
 
--- the same for the calls of every heap, where each length wants just so many words as are the least size of a class
+-- the same for the calls of every heap, where each length wants just the words that are the least size of a class
 abbrev pub OneLengthSuffices : ℕ → Type 0
 OneLengthSuffices sli = (id words first most len : ℕ) (calls : List Call) → IsRegion sli words → sure sli (want len) ≡ want len → fixed_words sli most len ≤ words
     → AllByRecursion (WantsWords (want len)) calls → let answers = (run sli (opened id words first) calls).0 in AreModest most len 0 calls answers → AllByRecursion HasRoomFor answers
 
 -- ---- sizes
 
--- some class has blocks for a request of so many bytes, and a region may have these words
+-- some class has blocks for a request of this many bytes, and a region may have these words
 abbrev pub HasFixedRegion : ℕ → ℕ → ℕ → Type 0
 HasFixedRegion sli most len = (want len ≤ most_words sli) × IsRegion sli (fixed_words sli most len)
 

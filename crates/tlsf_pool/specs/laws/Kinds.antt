@@ -97,8 +97,8 @@ StaysFour (Read name at n) = ⊤
 abbrev pub HasClass : ℕ → Kind → Type 0
 HasClass sli kind = want kind.len ≤ most_words sli
 
--- a program whose requests fit the table is never answered NoFit in a region of kinds_words, where a table of blocks of four words has no
--- block resized to more
+-- a program whose requests fit the table is never answered NoFit in a region of kinds_words. Where a table has blocks of four
+-- words, no block is resized to more
 abbrev pub KindsSuffice : ℕ → Type 0
 KindsSuffice sli = (id words first : ℕ) (kinds : List Kind) (calls : List Call) → IsRegion sli words → AllByRecursion (HasClass sli) kinds → kinds_words sli kinds ≤ words
     → (IsTrue (are_fours kinds) → AllByRecursion StaysFour calls) → let answers = (run sli (opened id words first) calls).0 in ArePlanned kinds [] calls answers → AllByRecursion HasRoomFor answers

@@ -14,7 +14,7 @@ use Rattle.tlsf_pool.specs.laws.Held.{held_after}
 abbrev pub mixed_words : ℕ → ℕ → ℕ → ℕ
 mixed_words sli most len = max 4 (if nat_le len 8 then most * 4 else (most - 1) * (want len + 3) + most * (sure sli (want len) - 1) + 1)
 
--- some class has blocks for a request of so many bytes, and a region may have the words for mixed sizes
+-- some class has blocks for a request of this many bytes, and a region may have the words for mixed sizes
 abbrev pub HasMixedRegion : ℕ → ℕ → ℕ → Type 0
 HasMixedRegion sli most len = (want len ≤ most_words sli) × IsRegion sli (mixed_words sli most len)
 
@@ -23,7 +23,7 @@ abbrev pub mixed_region : ℕ → ℕ → ℕ → Option ℕ
 mixed_region sli most len =
     if nat_le (want len) (most_words sli) && nat_le (mixed_words sli most len) (most_words sli) then Some (mixed_words sli most len) else None
 
--- a request is for at most `len` bytes, by a program that holds fewer than `most` blocks; and no block is resized to more than `len`
+-- a request is for at most `len` bytes, by a program that holds fewer than `most` blocks. No block is resized to more than `len`
 abbrev pub IsModest : ℕ → ℕ → ℕ → Call → Type 0
 IsModest most len held (Allocate n) = (n ≤ len) × (held < most)
 IsModest most len held (Release name) = ⊤
@@ -65,7 +65,7 @@ MixedSizesServe sli = (id words first most len : ℕ) (calls : List Call) → Is
     → let answers = (run sli (opened id words first) calls).0 in AreModest most len 0 calls answers → first + length calls < last_tick
     → AllByRecursion IsServed answers
 
--- the region has these words, and there is none just where no region may have so many
+-- the region has these words, and there is none just where no region may have that many
 abbrev pub RegionHasMixedWords : ℕ → Type 0
 RegionHasMixedWords sli = (most len words : ℕ) → (mixed_region sli most len ≡ Some words) ↔ (HasMixedRegion sli most len × (words ≡ mixed_words sli most len))
 

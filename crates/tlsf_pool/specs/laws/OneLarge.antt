@@ -13,12 +13,13 @@ use Rattle.tlsf_pool.specs.declared.kind.Kind.{Kind}
 abbrev pub longest_of : List Kind → ℕ
 longest_of kinds = fold max 0 (map (λ kind. kind.len) kinds)
 
--- the words outside of the greatest hole, at most: those of the small blocks, a hole for each that is too small for one, and the large block
+-- the words outside of the greatest hole, at most. They are those of the small blocks, a hole for each that is too small for one,
+-- and the large block
 abbrev pub scattered_words : ℕ → List Kind → Kind → ℕ
 scattered_words sli smalls large = table_words smalls + count_in smalls * (sure sli (want (longest_of smalls)) - 1) + (want large.len + 3)
 
--- the words of a region in which a hole is left that is longer than all these together, so no small block goes there while another hole has
--- room for it, also where the large block lies at the front of that hole
+-- the words of a region in which a hole is left that is longer than all these together. So no small block goes there while another
+-- hole has room for it. This holds also where the large block lies at the front of that hole
 abbrev pub one_large_words : ℕ → List Kind → Kind → ℕ
 one_large_words sli smalls large = scattered_words sli smalls large + (want large.len + 3) + sure sli (scattered_words sli smalls large + 1)
 
@@ -30,8 +31,8 @@ ResizesNone (Write name at bytes) = ⊤
 ResizesNone (Resize name n) = ⊥
 ResizesNone (Read name at n) = ⊤
 
--- a program whose requests fit a table of small kinds, and at most one block of a longer kind, and which resizes no block, is never answered
--- NoFit in a region of one_large_words
+-- a program whose requests fit a table of small kinds, and at most one block of a longer kind, resizes no block. It is never
+-- answered NoFit in a region of one_large_words
 abbrev pub OneLargeSuffices : ℕ → Type 0
 OneLargeSuffices sli = (id words first : ℕ) (smalls : List Kind) (large : Kind) (calls : List Call) → IsRegion sli words → HasClass sli large → large.most ≤ 1 → longest_of smalls < large.len
     → one_large_words sli smalls large ≤ words → AllByRecursion ResizesNone calls

@@ -8,7 +8,7 @@ use Rattle.tlsf_heap.specs.Reports.{live_among}
 use Rattle.tlsf_pool.specs.laws.Held.{held_after_all}
 use Rattle.tlsf_heap.specs.declared.name.Name.{Name}
 
--- a live block of the heap has this name, and so many words
+-- a live block of the heap has this name, and this many words
 pub record Spans (h : HeapState) (name : Name) (words : ℕ) : Type 0 where
   pub own : name.heap ≡ h.id
   pub site : Site

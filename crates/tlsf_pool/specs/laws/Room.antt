@@ -18,17 +18,18 @@ live_count h = length (live_among h.blocks)
 abbrev pub free_words : HeapState → ℕ
 free_words h = words_in (free_among h.blocks)
 
--- each free block of at least so many words serves a request of n words: the least size of its search class
+-- each free block of at least this many words serves a request of n words: the least size of its search class
 abbrev pub sure : ℕ → ℕ → ℕ
 sure sli n = option_map_or (low sli) (search_of sli n) 0
 
--- a request finds room where more words are free than fit into blocks too small for it, one before each live block and one behind the last
+-- a request finds room where more words are free than fit into blocks too small for it. One such block stands before each live
+-- block and one after the last
 abbrev pub FindsRoom : ℕ → Type 0
 FindsRoom sli = (h : HeapState) (len : ℕ) → IsLawful h → want len ≤ most_words sli → (live_count h + 1) * (sure sli (want len) - 1) < free_words h
     → ¬ (fits sli (want len) h.blocks ≡ [])
 
--- no fewer free words would do, however many blocks are live: where a region may have so many words, calls on it leave just so many free, and
--- no room for such a request
+-- no fewer free words would do, however many blocks are live. Where a region may have the words, some calls on it leave just this
+-- number free, and no room for such a request
 abbrev pub RoomIsTight : ℕ → Type 0
 RoomIsTight sli = (live len : ℕ) → want len ≤ most_words sli → 4 < sure sli (want len) → (live + 1) * (sure sli (want len) - 1) + live * 4 ≤ most_words sli
     → (calls : List Call) × (let h = (run sli (opened 0 ((live + 1) * (sure sli (want len) - 1) + live * 4) 0) calls).1 in

@@ -1,4 +1,5 @@
--- A pool: a heap of which a program holds at most so many blocks, of at most so many bytes each. All have the same words.
+-- A pool: a heap that has bounds on the blocks which a program holds, on their number and on the bytes of each. All have the same
+-- words.
 use Rattle.std.specs.Prelude.{◌≡◌, ◌≢◌, ℕ, ◌-◌, ◌<◌, ◌≤◌, ◌↔◌, Result, Ok, Err, IfOk, IsOk, IsErrOf, if◌then◌else◌, nat_lt, nat_le}
 use Rattle.tlsf_class.specs.Classes.{IsLevel, most_words}
 use Rattle.tlsf_heap.specs.Blocks.{HeapState, want}
@@ -14,14 +15,15 @@ use Rattle.tlsf_pool.specs.declared.pools.pool_refusal.PoolRefusal.TheVariants.{
 use Rattle.tlsf_pool.specs.laws.FixedSize.{HasFixedSize, fixed_words}
 use Rattle.tlsf_pool.specs.laws.Room.{live_count, sure}
 
--- what the ledger of a pool shows: how many blocks may be held at once, the bytes of the longest request, and how many are held
+-- the view of the ledger of a pool. It has how many blocks may be held at once, the bytes of the longest request, and how many are
+-- held
 pub record Bounds : Type 0 where
   pub most : ℕ
   pub longest : ℕ
   pub held : ℕ
 
--- the heap has a level, is lawful and has the words of the pool; as many blocks are live as are held, no more than may be, and all have the
--- words from which every free block serves the longest request
+-- the heap has a level, is lawful and has the words of the pool. As many blocks are live as are held, and no more than may be. All
+-- have the words from which every free block serves the longest request
 pub record IsPool (sli : ℕ) (h : HeapState) (p : Bounds) : Type 0 where
   pub level : IsLevel sli
   pub lawful : IsLawful h
@@ -45,12 +47,12 @@ or_worn (Err why) = Err Worn
 abbrev pub answered_within : Bounds → ℕ → Result Name Refusal → Result Name PoolRefusal
 answered_within p len answer = if nat_lt p.longest len then Err TooLong else if nat_le p.most p.held then Err Full else or_worn answer
 
--- a request of so many bytes: it takes the words of each block, whatever its length
+-- a request of this many bytes: it takes the words of each block, whatever its length
 abbrev pub pool_allocated : ℕ → HeapState → Bounds → ℕ → Outcome Name
 pool_allocated sli h p len = allocated_words sli h (sure sli (want p.longest)) len
 
--- a request is given within the bounds, while the tick isn't at its last value; the refusals in their order: there is none for want of room.
--- The block has no more words than each is to have, three of them the header's
+-- a request is given within the bounds, while the tick isn't at its last value. The refusals come in their order: there is none for
+-- want of room. The block has no more words than each is to have, three of them the header's
 pub record TellsBounds (sli : ℕ) (h : HeapState) (p : Bounds) (len : ℕ) (answer : Result Name PoolRefusal) : Type 0 where
   pub ok : IsOk answer ↔ ((len ≤ p.longest) × (p.held < p.most) × ¬ (h.tick ≡ last_tick))
   pub too_long : IsErrOf answer TooLong ↔ (p.longest < len)

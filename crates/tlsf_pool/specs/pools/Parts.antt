@@ -45,14 +45,14 @@ part_in parts len = position (λ t. is_some (row_of t.ledger.kinds len)) parts
 abbrev pub part_of : PoolsState → ℕ → Option ℕ
 part_of p len = part_in p.parts len
 
--- the part whose heap a name names: the heaps have numbers one behind the other
+-- the part whose heap a name names: the heaps have numbers one after the other
 abbrev pub named_in : ℕ → List TableState → Name → Option ℕ
 named_in id parts name = if nat_le id name.heap && nat_lt (name.heap - id) (length parts) then Some (name.heap - id) else None
 
 abbrev pub part_named : PoolsState → Name → Option ℕ
 part_named p name = named_in p.id p.parts name
 
--- the rows of these parts, one part behind the other
+-- the rows of these parts, one part after the other
 abbrev pub rows_in : List TableState → List Kind
 rows_in [] = []
 rows_in (t ∷ parts) = t.ledger.kinds ++ rows_in parts
@@ -89,7 +89,7 @@ pub record IsNew (sli id first : ℕ) (table : List Kind) (t : TableState) : Typ
   pub kinds : t.ledger.kinds ≡ table
   pub held : t.ledger.held ≡ replicate (length table) 0
 
--- new heaps for these tables, in their order, with numbers one behind the other
+-- new heaps for these tables, in their order, with numbers one after the other
 abbrev pub AreNew : ℕ → ℕ → ℕ → List (List Kind) → List TableState → Type 0
 AreNew sli id first [] [] = ⊤
 AreNew sli id first [] (t ∷ parts) = ⊥
@@ -100,7 +100,8 @@ AreNew sli id first (kinds ∷ tables) (t ∷ parts) = IsNew sli id first kinds 
 abbrev pub memory_of : TableState → Extents × TableExtents
 memory_of t = (t.extents, t.ledger.extents)
 
--- no memory is taken or given back: that of each heap and each table stays where it is and as large, and that of the vector of them
+-- no memory is taken or given back. The memory of each heap and each table stays where it is and as large, and so does that of the
+-- vector of them
 pub record Stay (old new : PoolsState) : Type 0 where
   pub parts : map memory_of new.parts ≡ map memory_of old.parts
   pub extent : new.extent ≡ old.extent
@@ -110,8 +111,8 @@ pub record OnlyPart (old new : PoolsState) (i : ℕ) : Type 0 where
   pub id : new.id ≡ old.id
   pub parts : new.parts ≡ set old.parts i (part_at new i)
 
--- an allocate in a heap for a table: an accepted one is the heap's, with one block more held of its row, and a refused one changes nothing;
--- with the most touches by the request's length, and a block of no more words than each is to have
+-- an allocate in a heap for a table. An accepted one is the heap's, with one block more held of its row, and a refused one changes
+-- nothing. It has the most touches by the request's length, and a block of no more words than each is to have
 pub record Allocates (sli : ℕ) (old new : TableState) (len : ℕ) (answer : Result Name PoolRefusal) : Type 0 where
   pub answer_is : IfOk answer (λ name. (table_allocated sli old.heap old.ledger len).answer ≡ Ok name)
   pub allocates : OnOk answer (heap.Allocates allocate_touches sli (fixed_size sli old.ledger.kinds) len (seen_by old) (seen_by new) (table_allocated sli old.heap old.ledger len).answer)

@@ -62,8 +62,8 @@ pub record SameTable (old new : TableRows) : Type 0 where
 abbrev pub TableState : Type 0
 TableState = LedgerState TableRows
 
--- the heap has a level, is lawful and has the words of the table. Its live blocks fit the table, and so many count for each row as are held.
--- All have the words from which every free block serves the longest kind of which one is held
+-- the heap has a level, is lawful and has the words of the table. Its live blocks fit the table, and for each row the number that
+-- is held counts. All have the words from which every free block serves the longest kind of which one is held
 pub record IsTable (sli : ℕ) (h : HeapState) (t : TableRows) : Type 0 where
   pub level : IsLevel sli
   pub lawful : IsLawful h
@@ -98,12 +98,12 @@ answered_in t answer (Some row) = if nat_lt (slice_index t.held row) (most_at t.
 abbrev pub answered_by_table : TableRows → ℕ → Result Name Refusal → Result Name PoolRefusal
 answered_by_table t len answer = answered_in t answer (row_of t.kinds len)
 
--- a request of so many bytes: it takes the words of each block, whatever its length
+-- a request of this many bytes: it takes the words of each block, whatever its length
 abbrev pub table_allocated : ℕ → HeapState → TableRows → ℕ → Outcome Name
 table_allocated sli h t len = allocated_words sli h (fixed_size sli t.kinds) len
 
--- a request is given whenever its row has a place, while the tick isn't at its last value: the blocks held then fit the table with it.
--- The refusals in their order: there is none for want of room. The block has no more words than each is to have
+-- a request is given whenever its row has a place, while the tick isn't at its last value. The blocks held then fit the table with
+-- it. The refusals in their order: there is none for want of room. The block has no more words than each is to have
 pub record TellsTable (sli : ℕ) (h : HeapState) (t : TableRows) (len : ℕ) (answer : Result Name PoolRefusal) : Type 0 where
   pub ok : IsOk answer ↔ (HasPlace t len × ¬ (h.tick ≡ last_tick))
   pub planned : HasPlace t len ↔ AreOfKinds t.kinds (len ∷ lengths_in h.blocks)

@@ -18,6 +18,6 @@ pub record IsFirstFall (kinds : List Kind) (row : ℕ) : Type 0 where
   pub falls : len_at kinds row ≤ len_at kinds (row - 1)
   pub first : (k : ℕ) → k + 1 < row → len_at kinds k < len_at kinds (k + 1)
 
--- no so many heaps serve the table: its rows don't rise, or there is no way of cutting them
+-- this number of heaps doesn't serve the table: its rows don't rise, or there is no way of cutting them
 abbrev pub HasNoHeaps : ℕ → ℕ → List Kind → Type 0
 HasNoHeaps sli heaps kinds = Rises kinds → HasNoCut sli heaps kinds

@@ -15,7 +15,7 @@ HasWords sli kinds = AllByRecursion (HasClass sli) kinds × (fixed_kinds_words s
 abbrev pub IsPart : ℕ → List Kind → Type 0
 IsPart sli part = (0 < length part) × HasWords sli part
 
--- the kinds of all parts, one part behind the other
+-- the kinds of all parts, one part after the other
 abbrev pub joined : List (List Kind) → List Kind
 joined [] = []
 joined (part ∷ parts) = part ++ joined parts
@@ -29,7 +29,7 @@ abbrev pub words_together : ℕ → List (List Kind) → ℕ
 words_together sli [] = 0
 words_together sli (part ∷ parts) = fixed_kinds_words sli part + words_together sli parts
 
--- the parts that these numbers cut off, the last of so many first
+-- the parts that these numbers cut off, the last of this many first
 abbrev pub cut_by : ℕ → List ℕ → List Kind → List (List Kind)
 cut_by zero lens kinds = []
 cut_by (suc heaps) lens kinds = take (get_or lens heaps 0) kinds ∷ cut_by heaps lens (drop (get_or lens heaps 0) kinds)
@@ -45,11 +45,11 @@ pub record IsLeastAmong (sli : ℕ) (IsSought : List (List Kind) → Type 0) (ki
   pub words : split.words ≡ words_together sli (parts_of split kinds)
   pub least : (parts : List (List Kind)) → IsCut sli kinds parts → IsSought parts → split.words ≤ words_together sli parts
 
--- it is one into at most so many heaps
+-- it is one into at most this many heaps
 abbrev pub HasAtMost : ℕ → List (List Kind) → Type 0
 HasAtMost heaps parts = length parts ≤ heaps
 
--- of all ways of cutting the kinds into at most so many heaps, none has fewer words than this one
+-- of all ways of cutting the kinds into at most this many heaps, none has fewer words than this one
 abbrev pub IsLeast : ℕ → ℕ → List Kind → Split → Type 0
 IsLeast sli heaps = IsLeastAmong sli (HasAtMost heaps)
 

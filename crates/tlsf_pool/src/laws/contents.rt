@@ -4,10 +4,9 @@ ghost use Rattle.tlsf_pool.specs.laws.Contents.{ChangesOneName, HasWhatIsLive, R
 
 /// To its user a heap is a map from live names to bytes.
 ///
-/// One equation tells what each call makes of the map: an accepted allocate puts zeros under its new name, an accepted resize
-/// cuts the bytes under its own or puts zeros behind them, an accepted write replaces some, an accepted release takes its own
-/// name away. Every other name keeps its bytes, and a refused call
-/// changes none.
+/// One equation tells what each call makes of the map. An accepted allocate puts zeros under its new name, and an accepted resize
+/// cuts the bytes under its own or puts zeros after them. An accepted write replaces some, and an accepted release takes its own
+/// name away. Every other name keeps its bytes, and a refused call changes none.
 ///
 /// ```text
 /// let a = heap.allocate(2)?;              // a: 00 00
@@ -20,7 +19,8 @@ pub fn heap_is_a_map()
     ensures live { HasWhatIsLive }
     ensures change { (sli : ℕ) → ChangesOneName sli }
 
-    // A read gets what the map has, a write is done exactly where the map has room for it, and what was written is read back.
+    // A read gets the bytes that the map has, and a write is done exactly where the map has room for it. The bytes that were
+    // written are read back.
     ensures read { ReadsContents }
     ensures write { WritesIntoContents }
     ensures back { ReadsBack }

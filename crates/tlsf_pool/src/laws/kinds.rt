@@ -4,12 +4,13 @@ ghost use Rattle.tlsf_pool.specs.laws.Kinds.{EmptyKindsAreNothing, KindsSuffice,
 
 /// How large a region must be for several kinds of request, by a table of sizes with how many blocks of each may be held.
 ///
-/// A block counts for the first kind of the table that is long enough for it. A program that keeps a ledger of the names that
-/// it was given, with the bytes that it asked for last, and makes no request that would put more blocks on a kind than the table
-/// has, is never answered `NoFit` in a region of `kinds_words` of the table, 2^20 words at most at level 4 and 2^24 at level 5.
+/// A block counts for the first kind of the table that is long enough for it. A program keeps a ledger of the names that it was
+/// given, with the bytes that it asked for last. It makes no request that would put more blocks on a kind than the table has. Then
+/// it is never answered `NoFit` in a region of `kinds_words` of the table. These are 2^20 words at most at level 4 and 2^24 at
+/// level 5.
 ///
-/// Where each request is for at most 8 bytes, these are four words for each block: no free block is too small, so none is lost. There
-/// no block may be resized to more; `resized_words` are enough for a table whatever is resized.
+/// Where each request is for at most 8 bytes, these are four words for each block. No free block is too small, so none is lost.
+/// There no block may be resized to more; `resized_words` are enough for a table whatever is resized.
 ///
 /// For a table of one kind these are the words of [`mixed_sizes_suffice`](crate::mixed_sizes_suffice).
 ///

@@ -4,9 +4,10 @@ ghost use Rattle.tlsf_pool.specs.laws.Room.{BlocksAreSnug, FindsRoom, RoomIsTigh
 
 /// Enough free words serve a request, however they are cut up.
 ///
-/// A request that wants n words is served by each free block of at least `sure n` words, the least size of its search class.
-/// Free blocks don't touch, so at most one more is free than live: more than (live + 1) * (sure n - 1) free words are enough.
-/// For each number of live blocks for which a region has the words, calls on it leave just so many free, and the request is refused.
+/// A request that wants n words is served by each free block of at least `sure n` words, the least size of its search class. Free
+/// blocks don't touch, so at most one more is free than live: more than (live + 1) * (sure n - 1) free words are enough. Take any
+/// number of live blocks for which a region has the words. Some calls on it leave just (live + 1) * (sure n - 1) words free, and the
+/// request is refused.
 ///
 /// ```text
 /// 512 bytes want 67 words, and blocks of 68 words or more serve them. With 2 live blocks and 202 free words
@@ -17,8 +18,8 @@ pub fn enough_free_words_serve()
     ensures tight { (sli : ℕ) → IsLevel sli → RoomIsTight sli }
 {}
 
-/// A block has at most three words more than its request wants, so what the live blocks were asked for tells how many words
-/// they take, and whether there is room for one more.
+/// A block has at most three words more than its request wants. So the requests of the live blocks tell how many words they take,
+/// and whether there is room for one more.
 ///
 /// ```text
 /// 100 bytes want 16 words: their block has 16 to 19

@@ -14,8 +14,8 @@ use std::alloc::Global;
 use std::marker::Model;
 use tlsf_heap::{Heap, Ledger, Ledgered, Name, OpenFault, Refusal, want};
 
-/// The ledger of a [`Pool`]: how many blocks may be held at once, how many bytes a request may have, how many words each block takes, and
-/// how many are held.
+/// The ledger of a [`Pool`]: how many blocks may be held at once, and how many are held. It also has how many bytes a request may
+/// have, and how many words each block takes.
 #[derive(Drop)]
 pub struct One<const SLI: u32> {
     most: u32,
@@ -105,24 +105,24 @@ impl<const SLI: u32> Ledger<SLI> for One<SLI> {
     fn laws() {}
 }
 
-/// A heap that never refuses for want of room: it is opened by the most blocks that are held at once and the longest request
+/// A heap that never refuses for want of room. It is opened by the most blocks that are held at once and the longest request
 /// ([`PoolCalls::open`]). Its level is that of its heap, 4 or 5.
 ///
-/// An allocate is given whenever its request is at most the longest, fewer blocks are held than may be, and the tick isn't at its
-/// last value. Else it is refused as `TooLong`, `Full` or `Worn`, in this order. Each block takes the words of the longest request,
-/// whatever its own length.
+/// An allocate is given whenever its request is at most the longest and fewer blocks are held than may be. Only the tick must not
+/// be at its last value. Else it is refused as `TooLong`, `Full` or `Worn`, in this order. Each block takes the words of the
+/// longest request, whatever its own length.
 pub type Pool<const SLI: u32> = Ledgered<SLI, One<SLI>>;
 
 /// The calls that a [`Pool`] has beside those of each [`Ledgered`].
 pub trait PoolCalls<const SLI: u32>: Sized {
-    // What contracts see of it.
+    // The view of it by contracts.
     ghost shown: { Self → LedgerState Bounds };
 
     /// Opens a pool of number `id` for at most `most` blocks at once, of at most `longest` bytes each. Its region has
     /// `fixed_words most longest` words, and it is one free block, stamped with the tick `first`.
     ///
-    /// Refused as `BadSize` where no region has so many words (4 to 2^20, or to 2^24 at level 5), else as `Worn` where `first` is the
-    /// last tick, 2^64 - 1, else as `NoMemory` where the memory was not granted. No later call takes memory.
+    /// Refused as `BadSize` where no region has that many words (4 to 2^20, or to 2^24 at level 5). Otherwise as `Worn` where
+    /// `first` is the last tick, 2^64 - 1. Otherwise as `NoMemory` where the memory was not granted. No later call takes memory.
     ///
     /// ```text
     /// let pool = Pool::<4>::open(alloc, 0, 100, 512, 0)?;                 // 6,800 words

@@ -19,10 +19,10 @@ use std::alloc::Global;
 use std::marker::Model;
 use tlsf_heap::{Name, OpenFault, PlacedBlock, Refusal, Report};
 
-/// Several heaps for one table, that never refuse for want of room: each has a part of the table, as the cheapest way to cut it gives
-/// them out. A request goes to the heap of the first part that has a row long enough for it.
+/// Several heaps for one table, that never refuse for want of room. Each has a part of the table, as the cheapest way to cut it
+/// gives them out. A request goes to the heap of the first part that has a row long enough for it.
 ///
-/// Contracts see it as the number of its first heap, the heaps with their parts of the table, and the memory of the vector of these.
+/// Contracts see it as the number of its first heap, the heaps with their parts of the table, and the memory of their vector.
 #[derive(Drop)]
 pub struct Pools<const SLI: u32> {
     id: u32,
@@ -60,13 +60,14 @@ fn part_named<const SLI: u32>(parts: &[TablePool<SLI>], id: u32, name: Name) -> 
 }
 
 impl<const SLI: u32> Pools<SLI> {
-    /// Opens a heap for each part of the cheapest way to cut a table of at most 64 kinds, in its order, into at most eight. Its rows
-    /// rise in `len`. The first heap has the number `id`, and the others those behind it; each is one free block, stamped with the
-    /// tick `first`.
+    /// Opens a heap for each part of the cheapest way to cut a table of at most 64 kinds. The parts are in the table's order, and
+    /// at most eight. Its rows rise in `len`. The first heap has the number `id`, and the others those behind it; each is one free
+    /// block, stamped with the tick `first`.
     ///
-    /// Refused as `BadSize` where a row is no longer than the one before it or no way to cut the table gives each heap a region, else
-    /// as `Worn` where `first` is the last tick, 2^64 - 1, even for an empty table, which has no heap, else as `NoMemory` where the
-    /// memory was not granted. [`falling_row`](crate::falling_row) names the row. No later call takes memory.
+    /// Refused as `BadSize` where a row is no longer than the one before it. The same where no way to cut the table gives each heap
+    /// a region. Otherwise as `Worn` where `first` is the last tick, 2^64 - 1, even for an empty table, which has no heap.
+    /// Otherwise as `NoMemory` where the memory was not granted. [`falling_row`](crate::falling_row) names the row. No later call
+    /// takes memory.
     ///
     /// ```text
     /// let kinds = [Kind { most: 2000, len: 64 }, Kind { most: 1, len: 65_536 }];
@@ -99,11 +100,11 @@ impl<const SLI: u32> Pools<SLI> {
         Ok(Pools { id, parts })
     }
 
-    /// Gives a block that holds `len` bytes of payload, all zero, in the heap of the first part of the table that has a row long enough
-    /// for it, as [`Ledgered::allocate`](tlsf_heap::Ledgered::allocate) does.
+    /// Gives a block that holds `len` bytes of payload, all zero, as [`Ledgered::allocate`](tlsf_heap::Ledgered::allocate) does. It
+    /// comes from the heap of the first part of the table that has a row long enough for it.
     ///
-    /// It is given whenever there is such a row, fewer blocks of it are held than may be, and the tick of that heap isn't at its last
-    /// value. Else it is refused as `TooLong`, `Full` or `Worn`, in this order. Takes no memory.
+    /// It is given whenever there is such a row, and fewer blocks of it are held than may be. Only the tick of that heap must not
+    /// be at its last value. Else it is refused as `TooLong`, `Full` or `Worn`, in this order. Takes no memory.
     ///
     /// ```text
     /// let name = pools.allocate(64)?;
@@ -121,8 +122,8 @@ impl<const SLI: u32> Pools<SLI> {
         ensures others { IfSome (cut.part_of self.old len) (OnlyPart self.old self.new) }
         ensures none { cut.part_of self.old len ≡ None → self.new ≡ self.old }
 
-        // In the rows of the whole table: a request counts for the first that is long enough, and its block is of the heap that has this
-        // row. One more is held of it, of all others as many as before.
+        // In the rows of the whole table. A request counts for the first that is long enough, and its block is of the heap that has
+        // this row. One more is held of it, of all others as many as before.
         ensures no_row { IsErrOf result PoolRefusal.TooLong ↔ (row_of (table_of self.old) len ≡ None) }
         ensures row { IfOk result (λ name. IsSomeAnd (row_of (table_of self.old) len) (λ row. IsSomeAnd (cut.part_named self.old name) (HasRow self.old row))) }
         ensures held { OnOk result (HoldsOneMore (table_of self.old) len (held_by self.old) (held_by self.new)) }
@@ -139,8 +140,8 @@ impl<const SLI: u32> Pools<SLI> {
 
     /// Takes back the block of that name into the heap that it names, as [`Ledgered::release`](tlsf_heap::Ledgered::release) does.
     ///
-    /// Refused as `Foreign` where the name is of no heap of these, else `Stale` where no live block has that place and serial, else
-    /// `Worn` where the tick of the heap is at its last value. Takes no memory.
+    /// Refused as `Foreign` where the name is of no heap of these, otherwise `Stale` where no live block has that place and serial.
+    /// Otherwise `Worn` where the tick of the heap is at its last value. Takes no memory.
     ///
     /// ```text
     /// let name = pools.allocate(64)?;
@@ -163,8 +164,8 @@ impl<const SLI: u32> Pools<SLI> {
 
     /// Writes bytes into the payload of the block of that name, from byte `at` of it on, as [`Ledgered::write`](tlsf_heap::Ledgered::write) does.
     ///
-    /// Refused as `Foreign` where the name is of no heap of these, else `Stale`, else `Range` where the bytes would go past the end of
-    /// the payload. No byte changes then. Takes no memory.
+    /// Refused as `Foreign` where the name is of no heap of these, otherwise `Stale`. Otherwise `Range` where the bytes would go
+    /// past the end of the payload. No byte changes then. Takes no memory.
     ///
     /// ```text
     /// pools.write(name, 6, &[0x48, 0x69]) == Ok(())
@@ -187,8 +188,8 @@ impl<const SLI: u32> Pools<SLI> {
     /// Reads bytes of the payload of the block of that name, from byte `at` of it on, and fills `out` with them, as
     /// [`Ledgered::read`](tlsf_heap::Ledgered::read) does.
     ///
-    /// Refused as `Foreign` where the name is of no heap of these, else `Stale`, else `Range` where the bytes would go past the end of
-    /// the payload. `out` is then as before. Takes no memory.
+    /// Refused as `Foreign` where the name is of no heap of these, otherwise `Stale`. Otherwise `Range` where the bytes would go
+    /// past the end of the payload. `out` is then as before. Takes no memory.
     ///
     /// ```text
     /// let mut out = [0; 2];
@@ -209,8 +210,8 @@ impl<const SLI: u32> Pools<SLI> {
         self.parts[part].read(name, at, out)
     }
 
-    /// What the heap of a part holds, and how well it serves, as [`Ledgered::report`](tlsf_heap::Ledgered::report) tells. The parts have numbers from 0 on, in the
-    /// order of the table. None where there is no such part, so that a walk from 0 on meets all. Takes no memory.
+    /// The report on the heap of a part, as [`Ledgered::report`](tlsf_heap::Ledgered::report) makes it. The parts have numbers from
+    /// 0 on, in the order of the table. None where there is no such part, so that a walk from 0 on meets all. Takes no memory.
     ///
     /// ```text
     /// let report = pools.report(1);           // of new pools as above: Some, with 8,704 free words
@@ -232,8 +233,8 @@ impl<const SLI: u32> Pools<SLI> {
         Some(self.parts[part].report())
     }
 
-    /// The block that begins at a place in the heap of a part, None where none does or there is no such part, as
-    /// [`Ledgered::block_at`](tlsf_heap::Ledgered::block_at) looks. Takes no memory.
+    /// The block that begins at a place in the heap of a part, as [`Ledgered::block_at`](tlsf_heap::Ledgered::block_at) looks. None
+    /// where none does or there is no such part. Takes no memory.
     ///
     /// ```text
     /// pools.block_at(1, 0)                    // of new pools as above: Some, with a free block of 8,704 words

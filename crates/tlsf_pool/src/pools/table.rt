@@ -117,26 +117,27 @@ impl<const SLI: u32> Ledger<SLI> for Table<SLI> {
     fn laws() {}
 }
 
-/// A heap for a table of kinds, that never refuses for want of room: for each kind it is opened by the most blocks that are held at
-/// once and the longest request ([`TablePoolCalls::open`]). A block counts for the first row of the table that is long enough for it, and
-/// the rows rise in `len`. Its level is that of its heap, 4 or 5. What is read of the table, 64 rows at most, counts no touch.
+/// A heap for a table of kinds, that never refuses for want of room. For each kind it is opened by the most blocks that are held at
+/// once and the longest request ([`TablePoolCalls::open`]). A block counts for the first row of the table that is long enough for
+/// it, and the rows rise in `len`. Its level is that of its heap, 4 or 5. Reads of the table, 64 rows at most, count no touch.
 ///
-/// An allocate is given whenever there is such a row, fewer blocks of it are held than may be, and the tick isn't at its last value. Else
-/// it is refused as `TooLong`, `Full` or `Worn`, in this order. Each block takes the words of the longest kind of which one may be held,
-/// whatever its own length.
+/// An allocate is given whenever there is such a row, and fewer blocks of it are held than may be. Only the tick must not be at its
+/// last value. Else it is refused as `TooLong`, `Full` or `Worn`, in this order. Each block takes the words of the longest kind of
+/// which one may be held, whatever its own length.
 pub type TablePool<const SLI: u32> = Ledgered<SLI, Table<SLI>>;
 
 /// The calls that a [`TablePool`] has beside those of each [`Ledgered`].
 pub trait TablePoolCalls<const SLI: u32>: Sized {
-    // What contracts see of it.
+    // The view of it by contracts.
     ghost shown: { Self → TableState };
 
     /// Opens a heap of number `id` for a table of at most 64 kinds, whose rows rise in `len`. Its region has `fixed_kinds_words` of the
     /// table, and is one free block, stamped with the tick `first`.
     ///
-    /// Refused as `BadSize` where a row is no longer than the one before it, where no class has blocks for one of the kinds or no region
-    /// has so many words (4 to 2^20, or to 2^24 at level 5), else as `Worn` where `first` is the last tick, 2^64 - 1, else as `NoMemory`
-    /// where the memory was not granted. [`falling_row`] names the row. No later call takes memory.
+    /// Refused as `BadSize` where a row is no longer than the one before it, or no class has blocks for one of the kinds. The same
+    /// where no region has that many words (4 to 2^20, or to 2^24 at level 5). Otherwise as `Worn` where `first` is the last tick,
+    /// 2^64 - 1. Otherwise as `NoMemory` where the memory was not granted. [`falling_row`] names the row. No later call takes
+    /// memory.
     ///
     /// ```text
     /// let kinds = [Kind { most: 100, len: 64 }, Kind { most: 4, len: 4096 }];

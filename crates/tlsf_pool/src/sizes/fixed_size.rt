@@ -13,11 +13,12 @@ use crate::sizes::sizing::{most_bytes, sure, totals_of};
 use tlsf_class::most_words;
 use tlsf_heap::want;
 
-/// The words of a region for a program of at most `most` blocks at once, of at most `len` bytes each, that takes the same words for
-/// each, whatever its length. These are `sure(want(len))`, the least size of the search class of `len` bytes. By
-/// [`fixed_size_suffices`](crate::fixed_size_suffices) it is never refused for want of room, and in fewer words it would be. None where
-/// no region has so many: more than 2^20 at level 4, or 2^24 at level 5. It is the region that a [`Pool`](crate::Pool) of these bounds
-/// takes, never more than that of [`mixed_region`](crate::mixed_region), where a block has the words that its own length wants.
+/// The words of a region for a program of at most `most` blocks at once, of at most `len` bytes each. The program takes the same
+/// words for each, whatever its length. These are `sure(want(len))`, the least size of the search class of `len` bytes. By
+/// [`fixed_size_suffices`](crate::fixed_size_suffices) it is never refused for want of room, and in fewer words it would be. None
+/// where no region has that many: more than 2^20 at level 4, or 2^24 at level 5. It is the region that a [`Pool`](crate::Pool) of
+/// these bounds takes. It is never more than that of [`mixed_region`](crate::mixed_region), where a block has the words that its
+/// own length wants.
 ///
 /// ```
 /// let words = fixed_region::<4>(100, 512);      // Some(6800), each block of 68
@@ -52,7 +53,7 @@ fn longest_used(kinds: &[Kind]) -> u32
     longest
 }
 
-/// The words that each block of a table takes, whatever its length: those from which every free block serves the longest kind of which
+/// The words that each block of a table takes, whatever its length. From these every free block serves the longest kind of which
 /// one may be held.
 pub(crate) fn fixed_size<const SLI: u32>(kinds: &[Kind]) -> u32
     requires level { IsLevel SLI }
@@ -63,10 +64,11 @@ pub(crate) fn fixed_size<const SLI: u32>(kinds: &[Kind]) -> u32
     sure::<SLI>(want(longest_used(kinds)))
 }
 
-/// The words of a region for a table of kinds where each block takes the same words, whatever its length: those of the longest kind of
-/// which one is held, for as many blocks as the table has. By [`fixed_size_suffices`](crate::fixed_size_suffices) no request of these
-/// kinds is ever refused there for want of room, and they are never more than [`kinds_words`](crate::kinds_words). The table has at
-/// most 1,024 kinds, 64 at level 5, none longer than [`most_bytes`]. No region has more than 2^20 words, or 2^24 at level 5.
+/// The words of a region for a table of kinds where each block takes the same words, whatever its length. These are the words of
+/// the longest kind of which one is held, for each block of the table. By [`fixed_size_suffices`](crate::fixed_size_suffices) no
+/// request of these kinds is ever refused there for want of room, and they are never more than [`kinds_words`](crate::kinds_words).
+/// The table has at most 1,024 kinds, 64 at level 5, none longer than [`most_bytes`]. No region has more than 2^20 words, or 2^24
+/// at level 5.
 ///
 /// ```
 /// let words = fixed_kinds_words::<4>(&[Kind { most: 100, len: 512 }]);   // 6,800

@@ -35,8 +35,8 @@ pub fn most_blocks<const SLI: u32>(len: u32) -> u32
     (most_words::<SLI>() + wanted + 2) / (wanted + 2 + sure::<SLI>(wanted))
 }
 
-/// The most bytes that each of `most` blocks may have so that some region has room for all; None where no region has room
-/// for so many blocks of no bytes.
+/// The most bytes that each of `most` blocks may have so that some region has room for all. None where no region has room for that
+/// many blocks of no bytes.
 ///
 /// ```
 /// let longest = longest_request::<4>(100);     // Some(41248): 100 blocks of up to 41,248 bytes

@@ -21,9 +21,9 @@ fn longest_of(kinds: &[Kind]) -> u32
     longest
 }
 
-/// The words of a region in which no request of these small kinds, nor one of the large kind, is ever refused for want of room, by
-/// [`one_large_suffices`](crate::one_large_suffices): at most one large block is held, it is longer than each small one, and no
-/// block is resized. None where no region has so many. The table has at most 1,024 small kinds, 64 at level 5, and no kind is
+/// The words of a region for these small kinds and one large kind. No request of them is ever refused for want of room. This is so
+/// by [`one_large_suffices`](crate::one_large_suffices): at most one large block is held, it is longer than each small one, and no
+/// block is resized. None where no region has that many. The table has at most 1,024 small kinds, 64 at level 5, and no kind is
 /// longer than [`most_bytes`](crate::most_bytes).
 ///
 /// ```

@@ -11,9 +11,9 @@ use crate::sizes::fixed_size::fixed_kinds_words;
 use crate::sizes::sizing::{kinds_words, most_bytes};
 use tlsf_class::most_words;
 
-/// The words of a region in which a program of at most `most` blocks at once, of at most `len` bytes each, is never refused for want of
-/// room, by [`mixed_sizes_suffice`](crate::mixed_sizes_suffice); None where no region has so many. It is for a heap of which each block
-/// has the words of its own request; a [`Pool`](crate::Pool) takes those of [`fixed_region`](crate::fixed_region).
+/// The words of a region for a program of at most `most` blocks at once, of at most `len` bytes each. It is never refused for want
+/// of room, by [`mixed_sizes_suffice`](crate::mixed_sizes_suffice). None where no region has that many. It is for a heap of which
+/// each block has the words of its own request; a [`Pool`](crate::Pool) takes those of [`fixed_region`](crate::fixed_region).
 ///
 /// ```
 /// let words = mixed_region::<4>(100, 512);      // Some(13631)
@@ -46,7 +46,7 @@ fn have_classes<const SLI: u32>(kinds: &[Kind]) -> bool
     true
 }
 
-/// The words of the region of a pool for a table; None where no region has so many.
+/// The words of the region of a pool for a table; None where no region has that many.
 pub(crate) fn region_words<const SLI: u32>(kinds: &[Kind]) -> Option<u32>
     requires level { IsLevel SLI }
     requires few { length kinds.now ≤ 64 }

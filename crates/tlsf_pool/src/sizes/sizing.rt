@@ -11,7 +11,7 @@ use crate::kind::Kind;
 use tlsf_class::{low, most_words, search_of};
 use tlsf_heap::want;
 
-/// The most bytes that a request may have so that some region serves it: 8,388,584 at level 4, which want 2^20 words, and
+/// The most bytes that a request may have so that some region serves it. They are 8,388,584 at level 4, which want 2^20 words, and
 /// 134,217,704 at level 5, which want 2^24.
 ///
 /// ```
@@ -24,7 +24,7 @@ pub fn most_bytes<const SLI: u32>() -> u32
     8 * (most_words::<SLI>() - 3)
 }
 
-/// The least size from which each free block serves a request of so many words.
+/// The least size from which each free block serves a request of `n` words.
 pub(crate) fn sure<const SLI: u32>(words: u32) -> u32
     requires level { IsLevel SLI }
     requires least { 4 ≤ words }
@@ -89,10 +89,10 @@ fn are_fours(kinds: &[Kind]) -> bool
 }
 
 /// The words of a region in which no request of these kinds is ever refused for want of room, by
-/// [`kinds_suffice`](crate::kinds_suffice): at most so many blocks of each kind held at once, 1,024 kinds at most or
-/// 64 at level 5, none longer than [`most_bytes`]. No region has more than 2^20 words, or 2^24 at level 5, so there is one where
-/// the answer is at most that. A kind of which no block is held asks for nothing. Where no request is longer than 8 bytes these are four
-/// words for each block, and no block may be resized to more.
+/// [`kinds_suffice`](crate::kinds_suffice). At most the table's number of blocks of each kind are held at once. There are 1,024
+/// kinds at most or 64 at level 5, none longer than [`most_bytes`]. No region has more than 2^20 words, or 2^24 at level 5, so
+/// there is one where the answer is at most that. A kind of which no block is held asks for nothing. Where no request is longer
+/// than 8 bytes these are four words for each block, and no block may be resized to more.
 ///
 /// ```
 /// let words = kinds_words::<4>(&[Kind { most: 100, len: 512 }]);   // 13,631

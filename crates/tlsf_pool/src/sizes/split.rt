@@ -20,7 +20,7 @@ pub const MOST_SPLIT: usize = 64;
 pub struct Split {
     /// How many heaps, 0 to 8: none where there are no kinds.
     pub heaps: usize,
-    /// How many kinds each of them has, the last heap first. What stands behind so many numbers means nothing.
+    /// How many kinds each of them has, the last heap first. Numbers after these mean nothing.
     pub lens: [usize; 8],
     /// The words of all heaps.
     pub words: u64,
@@ -48,7 +48,7 @@ fn cheaper(split: Option<Split>, other: Option<Split>) -> Option<Split>
     }
 }
 
-// A split with a first heap more, for so many kinds, of so many words.
+// A split with a first heap more, for this many kinds, of that many words.
 fn with_first(len: usize, words: Option<u32>, rest: Option<Split>) -> Option<Split>
     requires words { IfSome words (λ n. n ≤ 2 ^ 24) }
     requires small { AreSmall 7 rest }
@@ -62,8 +62,8 @@ fn with_first(len: usize, words: Option<u32>, rest: Option<Split>) -> Option<Spl
     Some(split)
 }
 
-// The best split of these kinds into at most one heap more than `heaps`, by the best ones of what is left behind one of them, two
-// of them and so on into at most `heaps`.
+// The best split of these kinds into at most one heap more than `heaps`. It comes of the best ones into at most `heaps` of the
+// kinds that are left after one of them, after two and so on.
 fn best_of<const SLI: u32>(kinds: &[Kind], rests: &[Option<Split>], heaps: usize) -> Option<Split>
     requires level { IsLevel SLI }
     requires some { 0 < length kinds.now }
@@ -83,7 +83,7 @@ fn best_of<const SLI: u32>(kinds: &[Kind], rests: &[Option<Split>], heaps: usize
     best
 }
 
-// Allows one heap more to the best split of what is left behind each number of kinds.
+// Allows one heap more to the best split of the kinds that are left after each number of them.
 fn allow_one_more<const SLI: u32>(kinds: &[Kind], row: &mut [Option<Split>], heaps: usize)
     requires level { IsLevel SLI }
     requires few { length kinds.now ≤ 64 }
@@ -108,7 +108,7 @@ fn begin<const SLI: u32>(kinds: &[Kind], row: &mut [Option<Split>])
     row[kinds.len()] = Some(NOTHING);
 }
 
-// The best split of the kinds into at most so many heaps, found in a row of one cell more than there are kinds.
+// The best split of the kinds into at most this many heaps, found in a row of one cell more than there are kinds.
 fn best_in<const SLI: u32>(kinds: &[Kind], row: &mut [Option<Split>], most: usize) -> Option<Split>
     requires level { IsLevel SLI }
     requires few { length kinds.now ≤ 64 }
@@ -123,11 +123,11 @@ fn best_in<const SLI: u32>(kinds: &[Kind], row: &mut [Option<Split>], most: usiz
     row[0]
 }
 
-/// The cheapest way to give the kinds of a table to at most `most` heaps, each a pool: it has the words that
-/// [`fixed_kinds_words`](crate::fixed_kinds_words) tells for its own kinds. The kinds stay in their order, so those of one heap stand
-/// together; a table that begins with short kinds gives short ones to the first heap. The table has at most [`MOST_SPLIT`] kinds,
-/// and there are at most [`MOST_HEAPS`] heaps. None where no way gives each heap a region. Rows may be in any order here; [`rising_split`]
-/// splits a table whose heaps are all within the reach of requests.
+/// The cheapest way to give the kinds of a table to at most `most` heaps, each a pool. A heap has the words that
+/// [`fixed_kinds_words`](crate::fixed_kinds_words) tells for its own kinds. The kinds stay in their order, so those of one heap
+/// stand together. A table that begins with short kinds gives short ones to the first heap. The table has at most [`MOST_SPLIT`]
+/// kinds, and there are at most [`MOST_HEAPS`] heaps. None where no way gives each heap a region. Rows may be in any order here;
+/// [`rising_split`] splits a table whose heaps are all within the reach of requests.
 ///
 /// ```
 /// let kinds = [Kind { most: 2000, len: 64 }, Kind { most: 1, len: 65_536 }];
@@ -146,8 +146,9 @@ pub fn cheapest_split<const SLI: u32>(kinds: &[Kind], most: usize) -> Option<Spl
     best_in::<SLI>(kinds, &mut cells[..kinds.len() + 1], most)
 }
 
-/// The split that [`cheapest_split`] finds for a table whose rows rise in `len`; None also where they don't, as [`falling_row`] tells. A
-/// request goes to the first heap that has a row long enough for it, so each heap of this split serves requests that none before it does.
+/// The split that [`cheapest_split`] finds for a table whose rows rise in `len`; None also where they don't, as [`falling_row`]
+/// tells. A request goes to the first heap that has a row long enough for it. So each heap of this split serves requests that none
+/// before it does.
 ///
 /// ```
 /// let kinds = [Kind { most: 10, len: 100 }, Kind { most: 10, len: 50 }];

@@ -1,4 +1,4 @@
--- What contracts see of the ends of the places.
+-- The ends of the places, as contracts see them.
 use Rattle.std.specs.Prelude.{◌≡◌, ℕ, Bool, List, [], Option, Some}
 use Rattle.atomic_table.specs.Seated.{TableId}
 use Rattle.tlsf_pool_arena.specs.declared.returns.owner_end.OwnerEnd.{OwnerEnd}

@@ -1,4 +1,4 @@
--- What stands at each place, and what each seat knows of it.
+-- The content of each place, and the knowledge of each seat of it.
 use Rattle.std.specs.Prelude.{◌≡◌, ℕ, List, [], map, Option, Some, None, replicate}
 use mathlib.Core.Option.{some, none}
 use mathlib.Core.Option as maybe
@@ -7,8 +7,8 @@ use Rattle.atomic_table.specs.Table.{State}
 use Rattle.tlsf_pool_arena.specs.declared.returns.role.Role.{Role}
 use Rattle.tlsf_pool_arena.specs.declared.returns.role.Role.TheVariants.{Owns, Sends, Takes, Away, Puts, Gave}
 
--- a place is free; its value is away with the seat of that number; that seat is putting the value back; the value is home; the owner has it
--- in hand
+-- a place is free, or its value is away with the seat of that number. Or that seat is putting the value back, or the value is home,
+-- or the owner has it in hand
 pub data Spot (T : Type 0) : Type 0 where
   idle : Spot T
   away : ℕ → T → Spot T

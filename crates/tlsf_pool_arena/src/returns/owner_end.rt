@@ -9,7 +9,7 @@ use crate::returns::ticket::Ticket;
 /// The owner's end of the places: it sends values out, and takes what came home. It may go into a thread of its own.
 #[derive(Drop)]
 pub struct OwnerEnd<T> {
-    // What is away by each place. It has no bytes.
+    // The value that is away by each place. It has no bytes.
     pub(super) seat: PlaceSeat<T>,
     ghost rests: { seat.me ≡ (Owns (out_by seat.me.0) (looks_by seat.me.0), []) },
     ghost sized: { (length (out_by seat.me.0) ≡ seat.table_id.words) × (length (out_by seat.me.0) ≡ seat.table_id.slots) },

@@ -11,7 +11,7 @@ pub struct Places<T> {
     pub(super) table: PlaceTable<T>,
 }
 
-/// Opens so many places, and answers them with the owner's end. It fails only for want of memory, which no later call takes.
+/// Opens `count` places, and answers them with the owner's end. It fails only for want of memory, which no later call takes.
 ///
 /// - `own`: the end is that of these places.
 /// - `fresh`: nothing is away by any of the `count` places, and none was looked at.

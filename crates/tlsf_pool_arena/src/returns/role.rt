@@ -1,6 +1,6 @@
 use std::collections::LinkedList;
 
-/// What a seat at the places knows. It stands in contracts alone: no value of it is made.
+/// The knowledge of a seat at the places. It stands in contracts alone: no value of it is made.
 pub enum Role<T> {
     /// The owner's: what is away by each place, and the looks at places, in order: the place, and whether the value was home.
     Owns {

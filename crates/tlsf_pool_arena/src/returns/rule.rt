@@ -6,7 +6,7 @@ use std::alloc::Global;
 
 pub(super) type PlaceTable<T> = Table<Option<T>, Role<T>, usize, AtHome, Global>;
 
-/// What one end knows of the places. It has no bytes.
+/// The knowledge of one end of the places. It has no bytes.
 pub(super) type PlaceSeat<T> = Seat<Option<T>, Role<T>>;
 
 /// At each place stands nothing, what is away, or what came home.

@@ -376,7 +376,8 @@ impl Words {
         self.write(place, join_bytes(last, rest, n));
     }
 
-    /// Reads bytes of one word, from byte `first` of it on, into the first of eight bytes or more, where it isn't to be read whole.
+    /// Reads bytes of one word, from byte `first` of it on, into the first of eight bytes or more. It is for a word that isn't read
+    /// whole.
     #[inline]
     #[tactic(auto, using(crate::proofs::Touching::times_other))]
     fn read_head(&mut self, place: usize, first: usize, out: &mut [u8])

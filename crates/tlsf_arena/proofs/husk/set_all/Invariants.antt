@@ -1,4 +1,4 @@
--- So many bytes are set, and lie where they lay.
+-- This many bytes are set, and lie where they lay.
 use Rattle.std.proofs.Common.{◌≡◌, replicate}
 use Rattle.tlsf_arena.proofs.husk.set_all.Given as goal
 

@@ -3,7 +3,7 @@ use Rattle.tlsf_crew.proofs.Common.{[], ◌∷◌, ◌++◌, ◌≡◌, ◌≢�
 use Rattle.tlsf_crew.proofs.lemmas.worker.Slots.{at_push}
 use Rattle.tlsf_crew.proofs.lemmas.model.Edits.{edited_same, edited_other}
 
--- of the names made so far all are live but those that are gone; a name that waits is gone, but live still, and waits once
+-- of the names made so far all are live but those that are gone. A name that waits is gone, but live still, and waits once
 pub record IsKept {sli : ℕ} (made gone : Name → Type 0) (w : World sli) : Type 0 where
   pub ids : HasIds w
   pub live : (n : Name) → made n → ¬ (gone n) → IsLiveIn w n
@@ -49,7 +49,7 @@ ids_after w at h at_in same ids j j_in =
       | inr e ↦ ap (λ z. z.id) (heap_other w at j h e) ∙ ids j j_was
     ]
 
--- the heap keeps these names live, of which is each that waits or isn't gone
+-- the heap keeps these names live; each that waits or isn't gone is one of them
 pub heap_kept : {sli : ℕ} (made gone keeps : Name → Type 0) (w : World sli) (at : ℕ) (h : HeapState) → at < length w.heaps → h.id ≡ (heap_in w at).id
     → ((m : Name) → keeps m → IsLive (heap_in w at) m → IsLive h m) → ((m : Name) → made m → ¬ (gone m) → keeps m)
     → ((i j k : ℕ) (p : Post) → slice_get (w.waiting i j) k ≡ Some p → keeps p.name) → IsKept made gone w → IsKept made gone (with_heap w at h)

@@ -1,11 +1,11 @@
--- What some of the entries of a replay leave, behind which the others come.
+-- The world after some of the entries of a replay, after which the others come.
 use Rattle.tlsf_crew.proofs.Common.{[], ◌∷◌, ◌++◌, ◌≡◌, ℕ, ◌+◌, ◌<◌, List, Option, All, length, map, take, drop, sym, ◌∙◌, ap, arith, refl, inl, inr, subst, length-append, take-append_seam, drop-append_seam, cases_eq, length-map, map-append, All-head, All-tail, All-take, IsLevel, HeapState, IsLawful, Name, Entry, Event, AreLawful, RunsThrough, RunsTo, answer_told, answers_on, call_on_own, calls_on, handed_on, World, heap_in, replies}
 use Rattle.tlsf_heap.specs.Calls as heap
 use Rattle.tlsf_heap.proofs.lemmas.calls.Outcomes.{lawful_run}
 use Rattle.tlsf_crew.proofs.lemmas.histories.AllEntries.{replies_tell}
 use Rattle.tlsf_crew.proofs.lemmas.histories.JoinedEntries.{HasItsAnswer, length_run, run_more, told_other, told_own, told_then}
 
--- so many calls on a heap are told as answers of it
+-- this many calls on a heap are told as answers of it
 pub as_many : (made : List (Option Name)) (workers j : ℕ) (es : List Entry) → j < workers → All (HasItsAnswer made workers) es → length (calls_on j made es) ≡ length (answers_on j es)
 as_many made workers j [] j_in each = refl
 as_many made workers j (e ∷ es) j_in each =
@@ -40,7 +40,7 @@ run_split {sli} h last cs ds xs ys even run =
       },
     )
 
--- where all entries are told by a run, some of them leave a lawful heap, behind which the others are told
+-- where all entries are told by a run, some of them leave a lawful heap, after which the others are told
 pub runs_through : {sli : ℕ} (made : List (Option Name)) (workers j : ℕ) (h last : HeapState) (before later : List Entry) → j < workers → IsLevel sli → IsLawful h → All (HasItsAnswer made workers) (before ++ later)
     → RunsTo sli h (calls_on j made (before ++ later)) (answers_on j (before ++ later)) last → RunsThrough sli h j made before later last
 runs_through {sli} made workers j h last before later j_in level lawful each run =

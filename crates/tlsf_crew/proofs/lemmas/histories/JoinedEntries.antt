@@ -22,7 +22,7 @@ pub length_run : (sli : ℕ) (h : HeapState) (cs : List heap.Call) → length (h
 length_run sli h [] = refl
 length_run sli h (c ∷ cs) = ap suc (length_run sli (heap.answered sli h c).1 cs)
 
--- so many answers as calls
+-- as many answers as calls
 pub length_told : {sli : ℕ} (h g : HeapState) (cs : List heap.Call) (xs : List heap.Answer) → RunsTo sli h cs xs g → length cs ≡ length xs
 length_told {sli} h g cs xs r = sym (length_run sli h cs) ∙ (sym (length-map (heap.run sli h cs).0 handed_on) ∙ ap length r.told)
 
@@ -49,7 +49,7 @@ told_nothing f j e is = elim (cases_eq e.worker j) [
   | inr ne ↦ told_other f j e ne
 ]
 
--- an entry of one of so many workers tells an answer where it tells a call on its worker's own heap
+-- an entry of one of this many workers tells an answer where it tells a call on its worker's own heap
 abbrev pub HasItsAnswer : List (Option Name) → ℕ → Entry → Type 0
 HasItsAnswer made workers e = e.worker < workers → length (cons_option (call_on_own made e.worker e.call e.reply) []) ≡ length (cons_option (answer_told e.call e.reply) [])
 

@@ -1,4 +1,4 @@
--- The entry of a release tells the call on its own heap or the post that it made, and that of a take what it took.
+-- The entry of a release tells the call on its own heap or the post that it made. The entry of a take tells the post that it took.
 use Rattle.tlsf_crew.proofs.Common.{◌==◌, true, false, [], ◌∷◌, ◌++◌, ◌≡◌, ◌≢◌, ℕ, ◌<◌, List, Option, Some, None, Result, Ok, Err, length, sym, ◌∙◌, ap, arith, refl, inl, inr, append-nil, cons_option, cases_eq, cases_lt, nat_tests, length-set, Name, Refusal, Post, Entry, Release, Take, Target, Reply, Freed, Posted, Empty, Refused, Full, Stranger, Unmade, released, answer_told, call_on_own, meant, name_on_heap, post_of_release, post_of_take, posts_made, posts_taken, World, heap_in, with_heap, with_waiting, freeing, posting, releasing_named, taking, taking_next, took, took_first, reply_freed, name_of}
 use Rattle.tlsf_heap.specs.Calls as heap
 use Rattle.tlsf_crew.proofs.lemmas.model.OneEvent.{releasing_post, releasing_far, taking_lane, taking_own, taking_far}

@@ -1,4 +1,4 @@
--- A call is refused as Unmade exactly where its target means no name, and a release of a block of another's heap is answered as a post.
+-- A call is refused as Unmade exactly where its target means no name. A release of a block of another's heap is answered as a post.
 use Rattle.tlsf_crew.proofs.Common.{[], ◌∷◌, ◌≡◌, ◌≢◌, ◌==◌, ◌<◌, true, false, ℕ, List, Option, Some, None, Result, Ok, Err, length, arith, refl, inl, inr, subst, ◌↔◌, cases_eq, cases_lt, nat_tests, HeapState, Name, Refusal, Post, Take, Reply, Freed, Made, Wrote, Got, Resized, Refused, Unmade, HeapReply, own_named, reply_by, AnswersPost, TookFromOther, allocated, chunk_read, released, resized, written, World, allocating, heap_in, posting, reading_named, releasing, releasing_named, resizing_named, taking, taking_next, took_first, writing_named}
 use Rattle.tlsf_crew.proofs.lemmas.model.OneEvent.{releasing_post, releasing_far, taking_lane, taking_own, taking_far}
 

@@ -2,7 +2,7 @@
 use Rattle.tlsf_crew.proofs.Common.{suc, zero, [], ◌∷◌, ◌++◌, ◌≡◌, ℕ, ◌<◌, List, Option, Some, None, length, map, get_or, slice_index, sym, ◌∙◌, ap, subst, arith, refl, length-map, option_map, slice_get, All, Vec, Global, slice_get_within, slice_get-map, get_or_from_slice_get, Name, Worker, Entry, Call, Job, releases_of, ScriptPromise, script_of, record_of, IsDone, AllDone, IsPrepared, JobRan, EachJobRan}
 use Rattle.tlsf_crew.proofs.lemmas.worker.Slots.{some_same}
 
--- one job more, behind the others
+-- one job more, after the others
 pub done_last : {J D : Type 0} (P : J → D → Type 0) (js : List J) (ds : List D) (j : J) (d : D) → AllDone P js ds → P j d → AllDone P (js ++ j ∷ []) (ds ++ d ∷ [])
 done_last P [] [] j d a b = (b, tt)
 done_last P [] (y ∷ ds) j d a b = absurd a

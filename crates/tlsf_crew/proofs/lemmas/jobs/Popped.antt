@@ -6,7 +6,7 @@ map_reverse f [] = refl
 map_reverse f (j ∷ js) =
     ap (map f) (reverse-append (j ∷ []) js) ∙ (map-append f (reverse js) (j ∷ []) ∙ (ap (λ l. l ++ f j ∷ []) (map_reverse f js) ∙ sym (reverse-append (f j ∷ []) (map f js))))
 
--- one more was taken, and stands behind the others
+-- one more was taken, and stands after the others
 pub popped_more : {X Y : Type 0} (f : Y → X) (xs ys all : List X) (x : X) (js ks : List Y) (j : Y) → ys ≡ xs ++ x ∷ [] → ks ≡ js ++ j ∷ [] → f j ≡ x → ys ++ reverse (map f js) ≡ all → xs ++ reverse (map f ks) ≡ all
 popped_more f xs ys all x js ks j popped pushed same old =
     rw (pushed, map-append f js (j ∷ []), reverse-append (map f js) (f j ∷ []), same) (sym (append_assoc xs (x ∷ []) (reverse (map f js))) ∙ (ap (λ l. l ++ reverse (map f js)) (sym popped) ∙ old))

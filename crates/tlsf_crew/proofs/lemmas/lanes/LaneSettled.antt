@@ -1,4 +1,4 @@
--- What a yard shows whose lanes were settled: what waits, the capacity, and no post for a worker that isn't there.
+-- The view of a yard whose lanes were settled: the posts that wait, the capacity, and no post for a worker that isn't there.
 use Rattle.tlsf_crew.proofs.Common.{[], ◌≡◌, ◌≢◌, ℕ, ◌≤◌, List, Option, Some, None, length, refl, inl, inr, ◌+◌, ◌<◌, get_or, sym, ◌∙◌, ap, arith, cases_eq, PostEnd, TakeEnd, Worker, Lanes, IsYard, post_at, take_at, lane_waits, waits_in, heap_of_worker, capacity_in, world_of, free_slots, capacity_of, waited, World, LaneSettled}
 use Rattle.tlsf_crew.proofs.lemmas.worker.Slots.{some_same}
 use Rattle.tlsf_crew.proofs.lemmas.lanes.Across.{waits_after}

@@ -1,4 +1,4 @@
--- A slice that came out of a lane is as many takes one after another.
+-- A slice that came out of a lane is a number of takes one after another.
 use Rattle.tlsf_crew.proofs.Common.{[], ◌∷◌, ◌≡◌, ◌≢◌, ◌<◌, ◌≤◌, ℕ, List, Some, length, set, refl, sym, ◌∙◌, ap, arith, append-nil, length-set, slice_get_within, Post, TakeEnd, ready, taken, Lanes, lane_from, lane_to, TookThrough, PortsInTurn, SliceTaken}
 use Rattle.tlsf_post.proofs.EndSlices.{EndSlice, cut_first}
 use Rattle.tlsf_crew.proofs.lemmas.worker.Slots.{from_slot, slot_new, slot_other}

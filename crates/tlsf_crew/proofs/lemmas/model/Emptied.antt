@@ -19,7 +19,7 @@ away_then at d b c p q = record {
 same_away : {sli : ℕ} (at : ℕ) (d : DrainState sli) → SameAway at d d
 same_away at d = record { waiting = λ x y ne. refl; heaps = λ y ne. refl; capacity = refl }
 
--- so many posts were taken out of one lane, and these are left in it
+-- this many posts were taken out of one lane, and these are left in it
 record TookOut {sli : ℕ} (at from : ℕ) (rest : List Post) (n : ℕ) (d b : DrainState sli) : Type 0 where
   here : b.world.waiting from at ≡ rest
   others : (x : ℕ) → x ≢ from → b.world.waiting x at ≡ d.world.waiting x at

@@ -1,4 +1,4 @@
--- What a heap answers is what its worker replies: where the call's target means a name, and where it means none.
+-- The answer of a heap is the reply of its worker: where the call's target means a name, and where it means none.
 use Rattle.tlsf_crew.proofs.Common.{◌≡◌, ℕ, List, Option, Some, None, Result, Ok, Err, length, ap, refl, subst, HeapState, Name, Refusal, Reply, Refused, CrewRefusal, Heap, Unmade, KeepsHeap, by_heap, written, resized, chunk_read, IsHeapReply, HeapReply, own_named, own_writing, own_reading, own_resizing, reply_by}
 use Rattle.tlsf_heap.specs.Calls as heap
 use Rattle.tlsf_crew.specs.model.OwnReplies.{reply_wrote, reply_got, reply_resized}

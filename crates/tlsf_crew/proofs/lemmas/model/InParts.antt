@@ -1,4 +1,4 @@
--- What a list of events is answered doesn't depend on the entries before it: they stay in front. So a list can be run in parts.
+-- The answers to a list of events don't depend on the entries before it: they stay in front. So a list can be run in parts.
 use Rattle.tlsf_crew.proofs.Common.{zero, suc, [], ◌∷◌, ◌++◌, ◌≡◌, ℕ, ◌-◌, ◌+◌, List, Option, None, length, take, drop, sym, ◌∙◌, ap, refl, inl, inr, append_assoc, append-nil, fold, cases_eq, cases_lt, fold-append, Name, Post, Entry, Event, Call, Allocate, Release, Write, Read, Resize, Take, Drain, Drained, World, WorldReply, Replayed, DrainState, made_by, took, took_more, drained_waiting, drained_below, after_drain, draining, answered, called, after, replies, resumed, replies_behind}
 use Rattle.tlsf_crew.proofs.lemmas.model.EventSteps.{after_far, after_near}
 use Rattle.tlsf_crew.proofs.lemmas.model.OneEvent.{from_other, from_own}
@@ -81,7 +81,7 @@ events_behind : {sli : ℕ} (es : List Entry) (events : List Event) (r : Replaye
 events_behind {sli} es [] r = refl
 events_behind {sli} es (e ∷ events) r = ap (λ (x : Replayed sli). fold after x events) (after_behind es r e) ∙ events_behind es events (after r e)
 
--- a list of events in two parts: the second behind the names that the first made
+-- a list of events in two parts: the second after the names that the first made
 pub replies_in_parts : {sli : ℕ} (w : World sli) (made : List (Option Name)) (xs ys : List Event)
     → let d = replies_behind w made xs in replies_behind w made (xs ++ ys) ≡ behind d.entries (replies_behind d.world d.made ys)
 unfolding replies_behind
@@ -90,7 +90,7 @@ replies_in_parts w made xs ys =
     fold-append after (resumed w made) xs ys
     ∙ (ap (λ (l : List Entry). fold after (run_so_far d.made l d.world) ys) (sym (append-nil d.entries)) ∙ events_behind d.entries ys (resumed d.world d.made))
 
--- behind no names a list of events is answered as it is alone
+-- after no names a list of events is answered as it is alone
 pub replies_alone : {sli : ℕ} (w : World sli) (es : List Event) → replies_behind w [] es ≡ replies w es
 unfolding replies replies_behind
 replies_alone w es = refl

@@ -236,7 +236,7 @@ ends_kept ws vs ends rest ps m fit whole gave j b qs is_b is_qs =
     let at : slice_get ends j ≡ Some qs = ap (λ l. slice_get l j) whole ∙ get_front rest ps qs j is_qs in
     subst (λ (o : OwnerEnd). IsWhole o qs.items × All (λ p. put_by p ≡ []) qs.items) (sym (earlier_own ws m j b ps.items x)) (fit j x.a qs x.is at)
 
--- slots stay as many when one is filled
+-- the number of slots stays when one is filled
 pub slots_set : {sli : ℕ} (ws : List (Worker sli Queues)) (i j : ℕ) (a v : Worker sli Queues) → slice_get ws i ≡ Some a → length v.ports.posts.items ≡ length a.ports.posts.items → ((x : ℕ) (b : Worker sli Queues) → x ≢ j → slice_get ws x ≡ Some b → j < length b.ports.posts.items)
     → (x : ℕ) (b : Worker sli Queues) → x ≢ j → slice_get (set ws i v) x ≡ Some b → j < length b.ports.posts.items
 slots_set {sli} ws i j a v at len slots x b apart is =

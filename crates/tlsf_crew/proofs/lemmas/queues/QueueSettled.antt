@@ -476,7 +476,7 @@ end_still n j u v q known_u known_v same is =
       | inr ge ↦ absurd (gone (λ other. let lt = other.0 in omega arith))
     ]
 
--- what one settling leaves of a worker, behind others
+-- what one settling leaves of a worker, after others
 stays_then : {sli : ℕ} (j i : ℕ) (a u v : Worker sli Queues) → StaysPut a u → StaysSettled j i u v → (n : ℕ) → KnowsQueueYard n u → KnowsQueueYard n v → StaysPut a v
 stays_then j i a u v x y n known_u known_v = record {
   heap = y.heap ∙ x.heap;

@@ -1,4 +1,5 @@
--- Each worker of a whole yard over queues has an end to each other queue, and the yard stays whole where one takes the place of the one that it was.
+-- Each worker of a whole yard over queues has an end to each other queue. The yard stays whole where one takes the place of the one
+-- that it was.
 use Rattle.tlsf_crew.proofs.Common.{◌≡◌, ℕ, List, Option, Some, None, length, set, sym, ◌∙◌, ap, arith, refl, inl, inr, subst, slice_get, slice_get_past, slice_get_within, ◌↔◌, cases_eq, cases_lt, length-set, KeepsPoster, plan_for, PosterEnd, Worker, Queues, IsOther, IsHeapOf, heap_of, id_of, queue_end_to, HasQueueEnd, KnowsQueueYard, KeepsQueueYards, KeepsSlot, IsQueueYard, first_capacity, queue_capacity_in}
 use Rattle.tlsf_crew.proofs.lemmas.worker.Slots.{get_set_same, get_set_other, none_or_some, some_same, some_at}
 use Rattle.tlsf_crew.proofs.lemmas.queues.QueueKept.{keeps_all, knows_kept}

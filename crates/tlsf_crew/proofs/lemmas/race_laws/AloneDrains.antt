@@ -40,7 +40,7 @@ lane_left : {sli : ℕ} (at from : ℕ) (rest ps : List Post) (d : DrainState sl
 lane_left at from rest [] d e = e
 lane_left at from rest (p ∷ ps) d e = lane_left at from rest ps (took_more at from d p) (edited_same d.world.waiting from at (drop 1 (d.world.waiting from at)) ∙ ap (drop 1) e)
 
--- the lane from one worker is empty, and so many posts were taken
+-- the lane from one worker is empty, and this many posts were taken
 record LaneOut {sli : ℕ} (at from : ℕ) (d b : DrainState sli) : Type 0 where
   empty : b.world.waiting from at ≡ []
   taken : b.taken ≡ d.taken + length (d.world.waiting from at)
@@ -89,7 +89,7 @@ drain_out r at x bound few le lt ne = (others_out at 8192 bound (record { entrie
 
 -- ---- a race
 
--- what worker j is told alone, behind what its script was told in the race
+-- what worker j is told alone, after what its script was told in the race
 may_tell_alone : {sli : ℕ} (w v : World sli) (scripts : List (List Call)) (records : List (List Entry)) (race : IsRace w scripts records v) → OnlyLastDrains scripts → (j : ℕ) (j_in : j < length w.heaps)
     → MayTell sli (length w.heaps) j (turn_of w v scripts records race j j_in).between last_call (told_by j (drained_alone w scripts j))
 may_tell_alone w v scripts records race free j j_in =

@@ -26,7 +26,7 @@ called_is r at (Take from) none = absurd none
 called_is r at (Drain most) none = absurd none
 called_is r at call none = refl
 
--- the same reply, and the same heap behind it
+-- the same reply, and the same heap after it
 abbrev SameReply : {sli : ℕ} → ℕ → WorldReply sli → WorldReply sli → Type 0
 SameReply at a b = (a.reply ≡ b.reply) × (heap_in a.world at ≡ heap_in b.world at)
 
@@ -134,7 +134,7 @@ takes_none i j at made call name own none t = ap (posts_taken i j) t.whole ∙ t
 abbrev at_call : {sli : ℕ} → Progress → World sli → Replayed sli
 at_call s x = record { made = s.made; entries = s.entries; world = x }
 
--- later calls add entries behind
+-- later calls add entries after
 grown : (sli : ℕ) (n at : ℕ) (s t : Progress) (calls : List Call) → at < n → MayTellAll sli n at s calls t → (rest : List Entry) × (t.entries ≡ s.entries ++ rest)
 grown sli n at s t [] at_in m = ([], ap (λ (t : Progress). t.entries) m ∙ sym (append-nil s.entries))
 grown sli n at s t (call ∷ calls) at_in m =

@@ -99,7 +99,7 @@ record_told {n} {at} by sli one h calls end m =
       each = subst (All (HasItsAnswer end.made n)) entries t.each;
     }
 
--- behind each entry the heap is lawful
+-- after each entry the heap is lawful
 pub record_always : {n at : ℕ} (by : Account n at) (sli : ℕ) (h : HeapState) (calls : List Call) (end : Progress) (before later : List Entry) → at < n → IsLevel sli → IsLawful h → RecordTold by sli h calls end → end.entries ≡ before ++ later
     → RunsThrough sli h at end.made before later end.heap
 record_always {n} {at} by sli h calls end before later at_in level lawful t whole =

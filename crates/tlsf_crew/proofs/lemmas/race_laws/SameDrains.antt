@@ -194,7 +194,7 @@ last_posts sli n at z end at_in m x =
     let waits = (m.0).waiting x at in
     sym (append-nil waits) ∙ (sym (ap (λ l. waits ++ l) (drain_makes x at at 8192 z.made c.own c.tells.1)) ∙ c.history.posts x at)
 
--- the same behind what is the same
+-- the same after what is the same
 abbrev pub drain_along : {sli : ℕ} (n at : ℕ) (z y end : Progress) → z ≡ y → LastDrain sli n at z end → LastDrain sli n at y end
 drain_along {sli} n at z y end e a = record {
   own = a.own;
@@ -217,7 +217,7 @@ drain_ran sli at made h g own d run =
     = ap (answers_on at) d.whole ∙ (told_then k at d.takes (last ∷ []) ∙ (ap (λ l. answers_on at d.takes ++ l) (told_nothing k at last refl) ∙ append-nil (answers_on at d.takes))) in
     subst (λ a. RunsTo sli h (calls_on at made d.takes) a g) answers (subst (λ c. RunsTo sli h c (answers_on at own) g) calls run)
 
--- two last drains behind the same, which took the same from each other worker
+-- two last drains after the same, which took the same from each other worker
 pub same_last : {sli : ℕ} (n at : ℕ) (z end other : Progress) (a : LastDrain sli n at z end) (b : LastDrain sli n at z other) → ((x : ℕ) → x < n → x ≢ at → posts_taken x at a.own ≡ posts_taken x at b.own) → end ≡ other
 same_last {sli} n at z end other a b same =
     let all : (x : ℕ) → posts_taken x at a.own ≡ posts_taken x at b.own = λ x. elim (cases_lt x n) [

@@ -109,7 +109,7 @@ drain_takes i j at most own d =
 
 -- ---- two records
 
--- the entries of the scripts of worker i and of worker j, where these posts had waited, and these wait behind them
+-- the entries of the scripts of worker i and of worker j, where these posts had waited, and these wait after them
 pub record ScriptsAgree (capacity i j : ℕ) (waited waits : List Post) (made : List (Option Name)) (sender taker : List Entry) : Type 0 where
   pub posts : posts_taken i j taker ++ waits ≡ waited ++ posts_made i j made sender
   pub signed : AreFrom i waited

@@ -44,7 +44,7 @@ record WorldBelow {sli : ℕ} (at : ℕ) (posts : ℕ → List Post) (k : ℕ) (
   count : length c.world.heaps ≡ length d.world.heaps
   waits : (x : ℕ) → k ≤ x → c.world.waiting x at ≡ d.world.waiting x at
 
--- one lane more, of which these posts are taken
+-- one lane more, from which these posts are taken
 next_lane : {sli : ℕ} (at most k : ℕ) (posts : ℕ → List Post) (d c : DrainState sli) → at < length d.world.heaps → WorldBelow at posts k d c → take (most - c.taken) (c.world.waiting k at) ≡ posts k → k ≢ at
     → WorldBelow at posts (k + 1) d (drained_waiting at most k c)
 unfolding drained_waiting

@@ -81,7 +81,7 @@ pub the_one : (x : Entry) (before : List Entry) (e : Entry) → StandsBehind (x 
 the_one x [] e s = let h = s.1 in (refl, cc)
 the_one x (b ∷ before) e s = let h = s.1 in let q : [] ≡ before ++ e ∷ s.0 = cc in absurd (no_entry before e (s.0, q))
 
--- an entry behind others: one of them, or the last
+-- an entry after others: one of them, or the last
 pub stands_last : (xs : List Entry) (x : Entry) (before : List Entry) (e : Entry) → StandsBehind (xs ++ x ∷ []) before e → StandsBehind xs before e ⊎ ((before ≡ xs) × (e ≡ x))
 stands_last xs x before e s = elim (stands_split xs (x ∷ []) before e s) [
   | inl u ↦ inl u

@@ -1,4 +1,4 @@
--- What calls over queues leave, one after another.
+-- The yard that calls over queues leave, one after another.
 use Rattle.tlsf_crew.proofs.Common.{[], ◌++◌, ◌≡◌, ℕ, List, Option, length, sym, ◌∙◌, ap, arith, inl, inr, subst, append_assoc, append-nil, length-append, Name, posts_of, put_by, got_by, known_to, Call, Entry, Worker, Queues, posts_made, posts_taken, id_of, queue_end_to, QueueMoved, queue_promise, AreMoves}
 use mathlib.Core.List.{IsPrefix}
 use Rattle.tlsf_post.specs.declared.plan.Plan.{Plan}

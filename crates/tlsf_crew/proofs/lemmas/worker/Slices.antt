@@ -1,4 +1,4 @@
--- A slice of posts that was taken at once, and whose blocks were then released, is as many takes one after another.
+-- A slice of posts that was taken at once, and whose blocks were then released, is a number of takes one after another.
 use Rattle.tlsf_crew.proofs.Common.{[], ◌∷◌, ◌++◌, ◌≡◌, ◌≢◌, ◌+◌, ◌<◌, ◌≤◌, ℕ, zero, suc, List, Option, Some, None, map, length, take, get_or, refl, sym, ◌∙◌, ap, arith, subst, map_push, take_more, Post, Took, Worker, id_of, AfterTake, TakenFrom, TakeRules, EachTakeNoted, post_of, PortsInTurn, SliceTaken, EachReleased, MayTake}
 
 -- one take more

@@ -64,7 +64,7 @@ some_at [] k lt = absurd (omega arith)
 some_at (x ∷ xs) zero lt = (x, refl)
 some_at (x ∷ xs) (suc k) lt = some_at xs k (omega arith)
 
--- one was pushed behind others
+-- one was pushed after others
 pub at_push : {X : Type 0} (xs : List X) (x : X) (i : ℕ) (a : X) → slice_get (xs ++ x ∷ []) i ≡ Some a → (slice_get xs i ≡ Some a) ⊎ ((i ≡ length xs) × (x ≡ a))
 at_push [] x zero a e = inr (refl, some_same x a e)
 at_push [] x (suc i) a e = cc

@@ -1,7 +1,7 @@
 use Rattle.tlsf_heap.proofs.Common.{◌+◌, ◌*◌, ◌≤◌, Begins, AreSound, OnlyLooks, OnlyHeaders, block_touches, image_of}
 use Rattle.tlsf_heap.proofs.check.check_words.Given as goal
 
--- so many blocks, each of four words or more, are sound up to the place, where one more begins, and nothing was written
+-- this many blocks, each of four words or more, are sound up to the place, where one more begins, and nothing was written
 abbrev pub invariant-loop-count : goal.invariant-loop-count
 invariant-loop-count l = record {
   sound : AreSound (image_of l.fn.words) l._count l.fn.from l.at;

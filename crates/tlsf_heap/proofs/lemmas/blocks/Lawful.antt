@@ -1,4 +1,4 @@
--- What allocating leaves is lawful.
+-- The heap after an allocate is lawful.
 use Rattle.tlsf_heap.proofs.Common.{◌≡◌, ◌≢◌, ℕ, ◌+◌, ◌-◌, ◌<◌, ◌≤◌, List, [], ◌∷◌, ◌++◌, replicate, refl, sym, ap, ◌∙◌, subst, arith, append_assoc, AllByRecursion, length-replicate, Block, Live, Free, HeapState, words_in, serials, stamps, want, IsLawful, HasRoom, FreeBlocksAreApart, AreDistinct, RegionState, opened, with_blocks, ticked}
 use Rattle.tlsf_words.proofs.PlaceLists.{distinct_without}
 

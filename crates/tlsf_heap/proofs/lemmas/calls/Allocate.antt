@@ -1,4 +1,4 @@
--- What allocating answers and leaves, by the place of the block that is chosen.
+-- The answer and the effect of an allocate, by the place of the block that is chosen.
 use Rattle.tlsf_heap.proofs.Common.{find, None, ◌≡◌, ℕ, suc, ◌+◌, ◌-◌, ◌^◌, ◌<◌, ◌≤◌, Bool, true, false, cond, eqb, List, [], ◌∷◌, ◌++◌, length, take, drop, Some, Result, Ok, Err, IsOk, refl, sym, ap, ◌∙◌, subst, inl, inr, arith, add-one, eq-eqb, ◌↔◌, AllByRecursion, list_all, drop_more, take-append-drop, false≢true, cases_lt, nat_tests, IsLevel, most_words, Block, Live, Free, HeapState, size_of, words_in, is_free, want, IsLawful, HasRoom, AreRegions, RegionState, Site, is_fit, fits, is_as_good, choice, block_at, site_at, NoneFits, IsChoice, with_blocks, carved, ticked, allocated_words, allocated_at, refused, Outcome, last_tick, Name, Refusal, NoFit, Worn}
 use Rattle.tlsf_heap.proofs.lemmas.blocks.Find.{and_left, not_true}
 use Rattle.tlsf_class.proofs.ClassOfSize.{le_from_serves}
@@ -65,7 +65,7 @@ fits_some sli h n i lawful c e =
     let none : choice sli n h.blocks ≡ None = ap (λ (l : List Site). find (λ s. list_all (λ t. is_as_good sli s.block t.block) l) l) e in
     let bad : Some (site_at h.blocks i) ≡ None = sym some ∙ none in cc
 
--- what a call of `allocate_words` on the heap h ensures, whose answer and whose heap are these
+-- the ensures of a call of `allocate_words` on the heap h, with this answer and this heap
 pub record Allocates (sli : ℕ) (h : HeapState) (n len : ℕ) (answer : Result Name Refusal) (left : HeapState) : Type 0 where
   pub is_answer : answer ≡ (allocated_words sli h n len).answer
   pub is_heap : left ≡ (allocated_words sli h n len).heap

@@ -1,4 +1,4 @@
--- What the calls come to of which a block with an aligned payload is made.
+-- The results of the calls by which a block with an aligned payload is made.
 use Rattle.tlsf_heap.proofs.Common.{◌≡◌, ◌≢◌, ℕ, suc, ◌+◌, ◌-◌, ◌*◌, ◌/◌, ◌%◌, ◌<◌, ◌≤◌, Bool, true, false, cond, nat_le, nat_lt, eqb, List, [], ◌∷◌, ◌++◌, length, take, drop, Option, Some, None, Result, Ok, Err, refl, sym, ap, ◌∙◌, subst, inl, inr, arith, append_assoc, eq-eqb, IsSome, eqb-true, false≢true, ne_eqb, nat_tests, add-mod-mod, add-mul-mod_self_right, mod-add-div', mod-lt, mod_self, IsLevel, HasRoomAt, words_from, gap_of, moved_by, moved_on, aligned_by, aligned_words, words_aligned, Block, Live, Free, HeapState, size_of, is_free, words_in, payload_words, StandsAt, Outcome, refused, is_worn, last_tick, carved, first_free, past_free, fitted, has_serial, is_named, named, with_blocks, allocated_at, allocated_words, released, resized_words, resized_at, refitted, room_of, with_bytes, NoneFits, payload_words_at, Site, is_fit, block_at, site_at, place_of, IsLawful, IsLive, IsFirst, Holds, HasPayload, with_payload, with_payload_at, Name, Refusal, NoFit, Worn, NoRoom, Fit, Give, GiveFrom, Take}
 use Rattle.tlsf_heap.proofs.lemmas.calls.Alter.{named_of}
 use Rattle.tlsf_heap.proofs.lemmas.calls.Allocate.{fits_size}
@@ -138,13 +138,13 @@ module _ (h : HeapState) (name : Name) (n m : ℕ) (lawful : IsLawful h) (has : 
   refitted_has (Live k t xs) back at own =
       by_refitted (HasFrom (Has name.serial n) at at) h.tick n 0 k t xs back (omega (arith, own.1, shorter)) (λ enough. inl ((own.0, enough), refl)) (inl ((own.0, omega (arith, own.1, shorter)), refl)) (λ large. inl ((own.0, omega arith), refl))
 
-  -- it has so many words then
+  -- it has this many words then
   pub shrinks_has : HasWords (resized_words h name n 0).heap name n
   shrinks_has =
       subst (λ (o : Outcome (Unit {0})). HasWords o.heap name n) (sym shrinks)
       (has.0, in_right (Has name.serial n) name.at 0 (take i h.blocks) (refitted h.tick n 0 b (drop (suc i) h.blocks)) (subst (λ (k : ℕ). HasFrom (Has name.serial n) name.at k (refitted h.tick n 0 b (drop (suc i) h.blocks))) (omega (arith, s.1.stands.place)) (refitted_has b (drop (suc i) h.blocks) name.at s.1.has)))
 
-  -- and the others are free behind it
+  -- and the others are free after it
   module _ (r : ℕ) (rest : n + r ≤ m) (least : 4 ≤ r) where
     cut_off : (front : List Block) (c : Block) (back : List Block) (at j : ℕ) → length front ≡ j → words_in front ≡ at → Has name.serial m c → HasRoomAt (front ++ refitted h.tick n 0 c back) (at + n) r
     cut_off front (Free k t) back at j long place own = absurd own
@@ -188,7 +188,7 @@ module _ (h : HeapState) (name : Name) (gap n : ℕ) (lawful : IsLawful h) (has 
   pub shrink_done : (why : Refusal) (k : ℕ) → k ≤ gap + n → Err why ≡ (resized_words h name k 0).answer → ⊥
   shrink_done why k shorter e = let bad : ◌≡◌ {A = Result (Unit {0}) Refusal} (Err why) (Ok tt) = e ∙ shrinks_ok h name k (gap + n) lawful has shorter fresh in cc
 
-  -- nor is what lies behind the gap
+  -- nor is what lies after the gap
   pub from_done_there : (k : HeapState) → k ≡ (resized_words h name gap 0).heap → HasRoomAt k.blocks (name.at + gap) n × ¬ (k.tick ≡ last_tick)
   from_done_there k same = subst (λ (s : HeapState). HasRoomAt s.blocks (name.at + gap) n × ¬ (s.tick ≡ last_tick)) (sym same) (
     rest_there h name gap (gap + n) lawful has (omega arith) fresh n (omega arith) least,

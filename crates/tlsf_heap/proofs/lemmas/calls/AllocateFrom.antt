@@ -1,4 +1,4 @@
--- What giving the free block that begins at a place comes to.
+-- The result of giving the free block that begins at a place.
 use Rattle.tlsf_heap.proofs.Common.{◌≡◌, ℕ, suc, ◌+◌, ◌<◌, ◌≤◌, Bool, true, false, cond, ◌&&◌, nat_lt, eqb, List, ◌++◌, length, take, drop, find, Some, None, Result, Ok, Err, refl, sym, ap, ◌∙◌, subst, arith, eq-eqb, AllByRecursion, eqb-true, false≢true, nat_tests, AnswersFrom, IsFreeAt, HasFreeAt, HasRoomAt, is_free_at, given_from, words_from, Block, HeapState, size_of, is_free, words_in, want, Outcome, refused, is_worn, last_tick, ticked, carved, with_blocks, sites, block_at, site_at, IsLawful, HasRoom, RegionState, FollowsNoPlace, Name, Refusal, Stale, NoRoom, Worn}
 use Rattle.tlsf_heap.proofs.lemmas.calls.Allocate.{lawful_given, split_at}
 use Rattle.tlsf_heap.proofs.lemmas.blocks.Replace.{words_in-take}
@@ -45,7 +45,7 @@ free_not_wild {h} {at = at} same lawful f before behind =
 
 -- ---- what the call answers and leaves
 
--- what a call of `words_from` on the heap h ensures, whose answer and whose heap are these
+-- the ensures of a call of `words_from` on the heap h, with this answer and this heap
 pub record GivesFrom (h : HeapState) (at n : ℕ) (answer : Result Name Refusal) (left : HeapState) : Type 0 where
   pub is_answer : answer ≡ (words_from h at n).answer
   pub is_heap : left ≡ (words_from h at n).heap

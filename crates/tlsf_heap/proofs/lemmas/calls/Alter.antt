@@ -94,7 +94,7 @@ room_in h k name len same live fits =
     subst (λ (s : HeapState). (i : ℕ) × StandsAt s.blocks name.at i × (len ≤ length (bytes_of (block_at s.blocks i)))) (sym same)
     (is_named.1.0, named_stands _ _ _ _ is_named.1.1, omega (arith, fits, ap length (payload_is k name is_named)))
 
--- and are those
+-- and are its first bytes
 pub first_bytes : {m : Image} (h k : HeapState) (name : Name) (len : ℕ) → h ≡ k → Shows m h.blocks → IsLive k name → len ≤ length (payload_of k name) → bytes_in m.words (payload_byte name.at 0) len ≡ take len (payload_of k name)
 first_bytes {m = m} h k name len same shows live fits =
     let is_named = named_of k name live in
@@ -108,7 +108,7 @@ first_bytes {m = m} h k name len same shows live fits =
 pub overwritten_all : (old new : List ℕ) → length new ≡ length old → overwritten old 0 new ≡ new
 overwritten_all old new same = ap (λ (l : List ℕ). take 0 old ++ new ++ l) (drop_all (0 + length new) old (omega arith)) ∙ append-nil new
 
--- the block of a name stands in the same heap, and has so many bytes
+-- the block of a name stands in the same heap, and has this many bytes
 pub stood_in : (h k : HeapState) (name : Name) (len : ℕ) → h ≡ k → (is_named : IsNamed k name) → len ≡ length (bytes_of (block_at k.blocks is_named.1.0))
     → (i : ℕ) × StandsAt h.blocks name.at i × (len ≡ length (bytes_of (block_at h.blocks i)))
 stood_in h k name len same is_named e =

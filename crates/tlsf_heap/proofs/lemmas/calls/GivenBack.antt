@@ -1,4 +1,4 @@
--- What a release comes to that gives back the block that a check found.
+-- The result of a release that gives back the block that a check found.
 use Rattle.tlsf_heap.proofs.Common.{◌≡◌, ℕ, ◌+◌, ◌≤◌, List, Result, Ok, Err, OnErr, sym, ap, ◌∙◌, subst, arith, HeapState, Outcome, released, released_by_place, call_by, IsNamed, IsNameCheck, RefusesName, IsOthersWord, LeavesLive, LeavesPayloads, FollowsNoForgery, Releases, Shown, seen, Name, Refusal, Tag}
 use Rattle.tlsf_heap.specs.ByPlace.{IsPlaceCheck}
 use Rattle.tlsf_heap.specs.Kept.{IsAsBefore, Keeps}

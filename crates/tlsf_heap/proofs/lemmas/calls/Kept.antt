@@ -1,4 +1,4 @@
--- What a call keeps, by what is stored of a heap before it and after.
+-- The facts that a call keeps, by the words that are stored of a heap before it and after.
 use Rattle.tlsf_heap.proofs.Common.{◌≡◌, ℕ, ◌+◌, ◌≤◌, Result, Ok, Err, refl, ◌∙◌, subst, arith, OnErr, RegionState, OnlyReads, Edits, Shown, IsStored, state_of, Inside}
 use Rattle.tlsf_heap.specs.Kept.{IsAsBefore, Keeps}
 use Rattle.tlsf_heap.proofs.lemmas.blocks.Lawful.{with_region}

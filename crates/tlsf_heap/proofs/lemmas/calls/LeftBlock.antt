@@ -1,4 +1,4 @@
--- What a resize goes by: the block that is named and the free one behind it; and the block that it leaves.
+-- The blocks by which a resize goes: the block that is named and the free one after it. Also the block that it leaves.
 use Rattle.tlsf_heap.proofs.Common.{◌≡◌, ℕ, suc, ◌+◌, ◌<◌, ◌≤◌, false, List, ◌∷◌, ◌++◌, take, drop, Ok, Err, refl, sym, ap, ◌∙◌, subst, arith, IsSome, false≢true, most_words, Tag, Block, Live, Free, HeapState, size_of, is_free, words_for, want, refused, last_tick, room_of, refitted, resized_words, named, payload_words_at, block_at, site_at, IsLawful, IsLive, IsNamed, IsNameCheck, RegionState, EachAt, IsTagOf, IsTagBehind, Name, Refusal, Worn, NoRoom}
 use Rattle.tlsf_heap.proofs.lemmas.calls.Allocate.{lawful_regions}
 use Rattle.tlsf_heap.proofs.lemmas.blocks.Replace.{first_free-words}

@@ -1,11 +1,11 @@
--- A call of a heap with a look before it or behind it: one that leaves the heap, and touches no word of a live payload.
+-- A call of a heap with a look before it or after it. The look leaves the heap, and touches no word of a live payload.
 use Rattle.tlsf_heap.proofs.Common.{Give, Fit, ◌≡◌, ◌+◌, ◌≤◌, ◌∙◌, ℕ, List, Result, Ok, Err, inl, inr, sym, ap, subst, arith, refl, ◌⊎◌, OnErr, ◌↔◌, [], IsErrOf, IsOk, HeapState, Allocates, Releases, Resizes, IsLiveWord, IsOthersWord, LeavesLive, payload_words_given, payload_words_left, IsLawful, IsNamed, Seen, FollowsNoForgery, Name, Refusal, Outcome, allocated_words, resized_words, last_tick, fits, NoFit, named}
 use Rattle.tlsf_heap.proofs.lemmas.calls.Leaves.{live_step, word_step}
 use Rattle.tlsf_heap.proofs.lemmas.calls.Named.{not_forged}
 use Rattle.tlsf_heap.proofs.lemmas.words.Footprint.{any_word}
 use Rattle.tlsf_heap.proofs.lemmas.laws.NoFit.{no_fit_words, ok_words}
 
--- from one state to the next, by so many touches at most
+-- from one state to the next, by this many touches at most
 pub record Looked (most : ℕ) (old new : Seen) : Type 0 where
   pub heap : new.heap ≡ old.heap
   pub touches : new.touches ≤ old.touches + most

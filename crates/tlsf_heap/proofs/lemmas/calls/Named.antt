@@ -1,4 +1,4 @@
--- What a call on a name comes to, by the index of the block that it names.
+-- The result of a call on a name, by the index of the block that it names.
 use Rattle.tlsf_heap.proofs.Common.{◌≡◌, ℕ, ◌+◌, ◌<◌, Bool, true, false, cond, eqb, List, length, Option, Some, None, refl, sym, ap, ◌∙◌, subst, arith, eq-eqb, IsSome, eqb-true, false≢true, Block, Live, Free, HeapState, is_free, StandsAt, IsPlace, IsLawful, IsLive, Seen, Site, sites, block_at, site_at, is_named, has_serial, named, NoneNamed, IsFirst, IsNamed, RefusesName, FollowsNoForgery, FollowsNoPlace, Name, Refusal, NoFit, Worn, Foreign, Stale, Range, NoRoom}
 use Rattle.tlsf_heap.proofs.lemmas.blocks.Find.{and_left, and_right, not_true, find_at, find_none}
 use Rattle.tlsf_heap.proofs.lemmas.blocks.Replace.{words_in-take}

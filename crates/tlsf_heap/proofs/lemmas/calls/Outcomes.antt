@@ -1,4 +1,4 @@
--- What a call comes to: a refusal, or an edit at the site of one block.
+-- The result of a call: a refusal, or an edit at the site of one block.
 use Rattle.tlsf_heap.proofs.Common.{◌≡◌, ℕ, Bool, true, false, cond, nat_lt, eqb, ◌≤◌, arith, List, [], ◌∷◌, ◌++◌, length, filter, find, Option, Some, None, Ok, refl, sym, subst, inl, inr, append_assoc, IsSome, ◌⊎◌, AllByRecursion, eqb-true, false≢true, nat_tests, IsLevel, Block, HeapState, size_of, bytes_of, want, Site, sites, sites_behind, place_of, is_fit, fits, choice, IsLawful, Outcome, refused, is_worn, ticked, with_blocks, carved, allocated, allocated_words, allocated_at, is_named, named, coalesced, released, released_at, overwritten, with_bytes, has_bytes, written, written_at, refitted, room_of, resized, resized_words, resized_at, Call, Allocate, Release, Resize, Write, Read, answered, run, Name, Refusal, NoFit, Worn, Foreign, Stale, Range, NoRoom, Fill, Fit, Give, GiveFrom, IsRoomy, Look, Put, Step, Take, after, ap, given_from, is_free_at, map, step_of, stepped, with_payload, with_payload_at, words_from, ◌∙◌}
 use Rattle.tlsf_heap.proofs.lemmas.blocks.Find.{and_left}
 use Rattle.tlsf_heap.proofs.lemmas.calls.Allocate.{lawful_carved, lawful_given}

@@ -1,4 +1,4 @@
--- What releasing answers and leaves, by the index of the named block.
+-- The answer and the effect of a release, by the index of the named block.
 use Rattle.tlsf_heap.proofs.Common.{◌≡◌, ℕ, suc, Bool, true, false, cond, eqb, List, ◌∷◌, ◌++◌, take, drop, Ok, refl, ap, ◌∙◌, subst, arith, eq-eqb, false≢true, nat_tests, Block, Live, Free, HeapState, IsLawful, block_at, site_at, with_blocks, Outcome, has_serial, coalesced, ticked, released, released_at, refused, last_tick, IsFirst, RefusesName, Name, Refusal, Worn}
 use Rattle.tlsf_heap.proofs.lemmas.blocks.Find.{and_left, not_true}
 use Rattle.tlsf_heap.proofs.lemmas.calls.Named.{refused_name, at_name}

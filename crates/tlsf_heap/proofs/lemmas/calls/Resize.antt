@@ -157,7 +157,7 @@ module _ (h : HeapState) (name : Name) (n len : ℕ) where
           lawful_refitted h (take i h.blocks) (drop (suc i) h.blocks) (block_at h.blocks i) name.serial n len wanted (and_left _ _ first.here) room
           (subst (λ (l : List Block). IsLawful (with_blocks h l)) (split_at h.blocks i first.within) lawful)
 
--- what a call of `resize_words` on the heap h ensures, whose answer and whose heap are these
+-- the ensures of a call of `resize_words` on the heap h, with this answer and this heap
 pub record Resizes (h : HeapState) (name : Name) (n len : ℕ) (answer : Result (Unit {0}) Refusal) (left : HeapState) : Type 0 where
   pub is_answer : answer ≡ (resized_words h name n len).answer
   pub is_heap : left ≡ (resized_words h name n len).heap

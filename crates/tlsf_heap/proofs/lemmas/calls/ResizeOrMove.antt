@@ -1,4 +1,4 @@
--- What a resize that may move the block comes to, call by call.
+-- The result of a resize that may move the block, call by call.
 use Rattle.tlsf_heap.proofs.Common.{◌≡◌, ◌≢◌, ℕ, ◌+◌, ◌*◌, ◌<◌, ◌≤◌, Bool, true, false, cond, eqb, nat_le, List, ◌∷◌, suc, take, drop, length, Option, Some, None, Result, Ok, Err, refl, sym, ap, ◌∙◌, subst, arith, eq-eqb, IsSome, AllByRecursion, false≢true, eqb-true, ne_eqb, nat_tests, HeapState, payload_words, want, Outcome, refused, last_tick, is_worn, allocated, named, released, released_at, resized, resized_at, written, payload_words_at, Site, block_at, payload_of, IsLawful, HasRoom, IsLive, copied, moved_to, moved, moved_for, resized_else, resized_or_moved, Name, Refusal, NoFit, Worn, Foreign, Stale, Range, NoRoom, Give, Put, cases_lt, inl, inr}
 use Rattle.tlsf_heap.proofs.lemmas.calls.Alter.{named_of, payload_is}
 use Rattle.tlsf_heap.proofs.lemmas.calls.Allocate.{split_at}
@@ -20,7 +20,7 @@ released_live k name live fresh =
     ap (λ (b : Bool). (cond b (released_at k (named name k.blocks)) (refused k Foreign)).answer) (eq-eqb name.heap k.id live.0)
     ∙ released_there k (named name k.blocks) live.1 (ne_eqb k.tick last_tick fresh)
 
--- also behind a write
+-- also after a write
 pub release_done : (sli : ℕ) (k : HeapState) (name new : Name) (bytes : List ℕ) → IsLive k name → k.tick ≢ last_tick → (released (written k new 0 bytes).heap name).answer ≡ Ok tt
 release_done sli k name new bytes live fresh =
     let stays : (written k new 0 bytes).heap.tick ≡ k.tick = by_written (λ o. o.heap.tick ≡ k.tick) k new 0 bytes (λ why. refl) (λ s site has. refl) in

@@ -1,4 +1,4 @@
--- What the calls that fill nothing come to.
+-- The results of the calls that fill nothing.
 use Rattle.tlsf_heap.proofs.Common.{◌≡◌, ◌≢◌, ℕ, suc, ◌+◌, ◌-◌, ◌<◌, ◌≤◌, true, List, [], ◌∷◌, ◌++◌, length, take, drop, min, replicate, Option, Some, None, Ok, refl, sym, ap, ◌∙◌, subst, inl, inr, arith, length-append, length-drop, length-take-le, IsSome, AllByRecursion, false≢true, eqb-true, cases_lt, append-nil, take-append-le, take-append-drop, drop_all, length-replicate, IsLevel, bytes_in, payload_byte, AreDistinct, Block, Live, Free, HeapState, size_of, bytes_of, payload_words, serials, want, words_for, Release, Write, carved, allocated, overwritten, released, written, allocated_words, has_serial, named, first_free, past_free, fitted, refitted, resized, resized_words, room_of, with_blocks, payload_words_at, Site, block_at, is_fit, Image, Shows, bytes_at, payload_of, IsLawful, IsLive, copied, lying, unset_from, with_payload, Name, Give, Take, cut}
 use Rattle.std.proofs.Math.Seq.{take-length, drop-append_seam}
 use Rattle.tlsf_heap.proofs.lemmas.calls.Allocate.{split_at}
@@ -66,7 +66,7 @@ given_block P sli h n len name lawful answer cut whole =
     ] in
     all_append (OfSerial P h.tick) (s.before ++ carved size n h.tick len) s.after (all_append (OfSerial P h.tick) s.before (carved size n h.tick len) front new) these.1) answer)
 
--- the block that a resize left has what a block of its serial and of as many words or more has
+-- the block that a resize left has what a block of its serial and of no fewer words has
 pub left_block : (P : Block → Type 0) (h : HeapState) (name : Name) (n len : ℕ) → IsLawful h → (resized_words h name n len).answer ≡ Ok tt → IsLive (resized_words h name n len).heap name
     → ((k : ℕ) → n ≤ k → P (Live k name.serial (fitted (payload_of h name) len)))
     → (s : Site) × (named name (resized_words h name n len).heap.blocks ≡ Some s) × P s.block
@@ -92,7 +92,7 @@ left_block P h name n len lawful answer live has =
 
 -- ---- bytes that lie there
 
--- where a payload has so many bytes, a write of those that lie there leaves the first, and no other
+-- where a payload has this many bytes, a write of those that lie there leaves the first, and no other
 pub unset_is : (h : HeapState) (name : Name) (m : Image) (from len : ℕ) → IsLawful h → IsLive h name → from ≤ len → len ≡ length (payload_of h name)
     → unset_from h name m from len ≡ rebyted name.serial (take from (payload_of h name) ++ drop from (lying m name.at len)) h
 unset_is h name m from len lawful live within many =
@@ -102,7 +102,7 @@ unset_is h name m from len lawful live within many =
     ∙ ap (λ (l : List ℕ). rebyted name.serial (take from (payload_of h name) ++ bytes ++ l) h) (drop_all (from + length bytes) (payload_of h name) (omega (arith, long, many)))
     ∙ ap (λ (l : List ℕ). rebyted name.serial l h) (append-nil (take from (payload_of h name) ++ bytes))
 
--- the payload that an allocate gives has so many bytes
+-- the payload that an allocate gives has this many bytes
 pub given_length : (sli : ℕ) (h : HeapState) (len : ℕ) (name : Name) → IsLawful h → (allocated sli h len).answer ≡ Ok name → length (payload_of (allocated sli h len).heap name) ≡ len
 given_length sli h len name lawful answer =
     let found = given_block (λ b. length (bytes_of b) ≡ len) sli h (want len) len name lawful answer (length-replicate {A = ℕ} len 0) (λ b fit. length-replicate {A = ℕ} len 0) in
@@ -240,7 +240,7 @@ module _ (sli : ℕ) (h : HeapState) (name new : Name) (len : ℕ) (level : IsLe
   new_left : IsLive rest new
   new_left = kept_others sli given new (Take name) (λ same. differ (ap (λ (n : Name). n.serial) same)) new_given
 
-  -- the heap behind a request that fills nothing
+  -- the heap after a request that fills nothing
   first_is : (before : Image) (first : HeapState) → first ≡ unset_from given new before 0 len → first ≡ rebyted new.serial (lying before new.at len) given
   first_is before first is = is ∙ unset_is given new before 0 len given_lawful new_given (omega arith) (sym (given_length sli h len new lawful answer))
 

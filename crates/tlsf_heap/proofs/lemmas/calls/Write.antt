@@ -1,4 +1,4 @@
--- What reading and writing payload bytes answer and leave, by the index of the named block.
+-- The answers and effects of reading and writing payload bytes, by the index of the named block.
 use Rattle.tlsf_heap.proofs.Common.{◌≡◌, ℕ, suc, ◌+◌, ◌<◌, ◌≤◌, Bool, true, false, cond, eqb, List, [], ◌∷◌, ◌++◌, length, take, drop, Option, Some, None, Result, Ok, Err, refl, sym, ap, ◌∙◌, subst, arith, add-one, append_assoc, length-append, length-drop, length-take-le, eqb-true, nat_tests, Block, Live, Free, HeapState, bytes_of, words_in, serials, stamps, StandsAt, IsLawful, HasRoom, FreeBlocksAreApart, AreDistinct, AllByRecursion, Site, block_at, Outcome, refused, named, has_bytes, overwritten, with_bytes, with_blocks, written, written_at, read_of, read_at, read_answer, free_places, RegionState, IsFirst, IsNamed, RefusesName, Name, Refusal, Foreign, Stale, Range}
 use Rattle.std.specs.Result.{result_unwrap_or}
 use Rattle.tlsf_heap.proofs.lemmas.calls.Named.{refused_name, at_name, named_stands}
@@ -21,7 +21,7 @@ apart_bytes m s old new (Free a c ∷ []) back h = h
 apart_bytes m s old new (Free a c ∷ Live d e f ∷ front) back h = apart_bytes m s old new front back h
 apart_bytes m s old new (Free a c ∷ Free d e ∷ front) back h = absurd h
 
--- a lawful heap stays lawful where a block gets as many other bytes
+-- a lawful heap stays lawful where a block gets equally many other bytes
 pub lawful_bytes : (h : HeapState) (front back : List Block) (b : Block) (new : List ℕ) → length new ≡ length (bytes_of b) → IsLawful (with_blocks h (front ++ b ∷ back)) → IsLawful (with_blocks h (front ++ with_bytes b new ∷ back))
 lawful_bytes h front back (Free m s) new e lawful = lawful
 lawful_bytes h front back (Live m s old) new e lawful =
@@ -89,7 +89,7 @@ module _ (h k : HeapState) (name : Name) (at n len : ℕ) (same : h ≡ k) (is_n
       let has : has_bytes (block_at k.blocks is_named.1.0) at n ≡ true = grind (arith, nat_tests) in
       record { is_answer = sym (ap read_answer (read_if k name at n is_named true has)); range = (is_named.1.0, is_named.1.1, has) }
 
--- so many bytes are there, of a block that has them
+-- this many bytes are there, of a block that has them
 pub range_is : (k : HeapState) (name : Name) (at n : ℕ) (is_named : IsNamed k name) → at + n ≤ length (bytes_of (block_at k.blocks is_named.1.0)) → Ranged k name at n
 range_is k name at n is_named le =
     let has : has_bytes (block_at k.blocks is_named.1.0) at n ≡ true = grind (arith, nat_tests) in

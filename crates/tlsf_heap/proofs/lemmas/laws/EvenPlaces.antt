@@ -26,7 +26,7 @@ module _ (from : ℕ) where
   abbrev EvenAt : ℕ → Block → Type 0
   EvenAt at b = IsEvenFrom from at ⊎ ((at < from) × (is_free b ≡ false))
 
-  -- of these blocks, of which the first begins at `place`, each does
+  -- of these blocks, the first of which begins at `place`, each does
   abbrev Evens : ℕ → List Block → Type 0
   Evens place [] = ⊤
   Evens place (b ∷ bs) = EvenAt place b × Evens (place + size_of b) bs

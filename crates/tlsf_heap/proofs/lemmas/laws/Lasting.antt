@@ -1,4 +1,4 @@
--- Which live blocks last: a block at a place, of which something holds that holds of no free block, through the changes that calls make.
+-- Which live blocks last: a block at a place with a fact that no free block has, through the changes that calls make.
 use Rattle.tlsf_heap.proofs.Common.{◌≡◌, ℕ, zero, suc, ◌+◌, ◌<◌, ◌≤◌, List, [], ◌∷◌, ◌++◌, length, take, subst, inl, inr, arith, refl, ◌⊎◌, Block, Live, Free, size_of, words_in, first_free, past_free, last_free, before_free, coalesced, room_of, is_sized, refitted, block_at}
 use Rattle.tlsf_heap.proofs.lemmas.blocks.Lawful.{words_in-append}
 use Rattle.tlsf_heap.proofs.lemmas.blocks.Coalesce.{by_last}
@@ -6,7 +6,7 @@ use Rattle.tlsf_heap.proofs.lemmas.calls.Outcomes.{by_test}
 use Rattle.tlsf_heap.proofs.lemmas.calls.Resize.{by_refitted}
 
 module _ (P : Block → Type 0) (at : ℕ) where
-  -- of these blocks, of which the first begins at `place`, one that begins at `at` has it
+  -- of these blocks, the first of which begins at `place`, one that begins at `at` has it
   abbrev pub HasFrom : ℕ → List Block → Type 0
   HasFrom place [] = ⊥
   HasFrom place (b ∷ bs) = (P b × (place ≡ at)) ⊎ HasFrom (place + size_of b) bs
@@ -42,7 +42,7 @@ module _ (P : Block → Type 0) (at : ℕ) where
     | inr t ↦ elim (in_either (place + size_of b) xs ys t) [ inl l ↦ inl (inr l) | inr r ↦ inr (moved _ _ ys (omega arith) r) ]
   ]
 
-  -- some blocks become others, of as many words
+  -- some blocks become others, of equally many words
   pub edited : (place : ℕ) (front old new back : List Block) → words_in old ≡ words_in new → ((k : ℕ) → HasFrom k old → HasFrom k new) → HasFrom place (front ++ (old ++ back)) → HasFrom place (front ++ (new ++ back))
   edited place front old new back e f h = elim (in_either place front (old ++ back) h) [
     | inl l ↦ in_left place front (new ++ back) l

@@ -17,7 +17,7 @@ not_free : (serial m s : ℕ) → Has serial (Free m s) → ⊥
 not_free serial m s e = false≢true e
 
 module _ (at serial : ℕ) where
-  -- of these blocks, of which the first begins at `place`, a live one has the place `at` and this serial
+  -- of these blocks, the first of which begins at `place`, a live one has the place `at` and this serial
   abbrev LivesFrom : ℕ → List Block → Type 0
   LivesFrom = HasFrom (Has serial) at
 

@@ -34,7 +34,7 @@ others_word h name other k lawful w live differ =
     )
 
 module _ (name : Name) (k : ℕ) where
-  -- a live block of that serial, of which k is a word
+  -- a live block of that serial that has word k
   abbrev Has : Block → Type 0
   Has b = (has_serial name.serial b ≡ true) × (k < name.at + size_of b)
 

@@ -183,7 +183,7 @@ words_set sli h (Fit name n len) write = absurd write
 
 -- ---- the words of a live block stay through each call that is not about it
 
--- a live block of this serial and so many words
+-- a live block of this serial and this many words
 abbrev pub Sized : ℕ → ℕ → Block → Type 0
 Sized serial size (Live own held bytes) = (held ≡ serial) × (own ≡ size)
 Sized serial size (Free m s) = ⊥

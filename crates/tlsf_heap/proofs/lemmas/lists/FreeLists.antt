@@ -113,7 +113,7 @@ of_class-own e front back =
     filter-append (is_of e.class) front (e ∷ back)
     ∙ ap (λ (b : Bool). of_class e.class front ++ cond b (e ∷ of_class e.class back) (of_class e.class back)) (eq-eqb e.class e.class refl)
 
--- the same list of as many free blocks
+-- the same list of equally many free blocks
 same_list : (class : ℕ) (old new : List FreePlace) (places left : List ℕ) → of_class class new ≡ of_class class old → left ≡ places → IsFreeList class old places → IsFreeList class new left
 same_list class old new places left same kept list = record {
   order = list.order;

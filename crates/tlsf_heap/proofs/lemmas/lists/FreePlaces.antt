@@ -86,7 +86,7 @@ places_within sli at blocks place sized c =
     index_within (b ∷ blocks) zero sized h = omega (arith, sized.0.0)
     index_within (b ∷ blocks) (suc i) sized h = let e = index_within blocks i sized.1 (omega arith) in omega (arith, e)
 
--- and its stamp is one of theirs
+-- and its stamp is one of their stamps
 pub stamps_below : (sli tick at : ℕ) (blocks : List Block) (place : FreePlace) → AllByRecursion (λ s. s < tick) (stamps blocks) → Contains (free_places sli at blocks) place → place.stamp < tick
 stamps_below sli tick at blocks place past c =
     let l = (listed_place sli at blocks place c).1 in

@@ -283,7 +283,7 @@ module _ (sli : ℕ) {words at tick : ℕ} {bs : List Block} {lists : ℕ → Li
     pub ahead_out : {old new : RegionState} {most : ℕ} → TakenOut old new (class_of sli read) (at - read) most → Forgets sli (last_free (take t.i bs)) (at - last_free (take t.i bs)) (list_in old.lists) (list_in new.lists)
     ahead_out out = taken_out sli (t.tags.is_previous.some some) (ap (class_of sli) ahead_is) (ap (λ n. at - n) ahead_is) out.list out.others
 
-  -- that behind it is
+  -- that after it is
   module _ (some : next.free ≡ true) {read : ℕ} (is : read ≡ next.size) where
     pub behind_is : read ≡ first_free (drop (suc t.i) bs)
     behind_is = is ∙ t.tags.is_next.size some

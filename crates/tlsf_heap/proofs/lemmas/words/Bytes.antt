@@ -114,7 +114,7 @@ pub mark_of-with_bytes : (b : Block) (bytes : List ℕ) → mark_of (with_bytes 
 mark_of-with_bytes (Live size serial old) bytes = refl
 mark_of-with_bytes (Free size stamp) bytes = refl
 
--- as many bytes have room too
+-- equally many bytes have room too
 pub room-with_bytes : (b : Block) (bytes : List ℕ) → length bytes ≡ length (bytes_of b) → HasRoom b → HasRoom (with_bytes b bytes)
 room-with_bytes (Live size serial old) bytes same room = (room.0, omega (arith, room.1))
 room-with_bytes (Free size stamp) bytes same room = room

@@ -1,4 +1,4 @@
--- What a check of blocks finds, from one block to the next.
+-- The findings of a check of blocks, from one block to the next.
 use Rattle.tlsf_heap.proofs.Common.{◌≡◌, ℕ, zero, suc, ◌+◌, ◌<◌, Bool, List, ◌∷◌, ap, ◌∙◌, subst, sym, arith, Memory, times, Image, Begins, IsSound, AreSound, OnlyLooks, OnlyHeaders, end_at, image_of}
 use Rattle.tlsf_words.proofs.Touching.{times_other}
 
@@ -28,7 +28,7 @@ header_read m at d p {old = old} begins low e is k other =
 pub header_begun : (m : Image) (at d p : ℕ) {old mid new : List ℕ} → Begins m at → d < 3 → p ≡ at + d → mid ≡ old → new ≡ p ∷ mid → OnlyHeaders m old new
 header_begun m at d p begins low e same is k other = header_read m at d p begins low e is k other ∙ ap (λ (l : List ℕ). times l k) same
 
--- words that were looked at, of which those of headers alone were read
+-- words that were looked at: those of headers alone were read
 pub record Seen (old new : Memory) : Type 0 where
   pub same : image_of new ≡ image_of old
   pub headers : OnlyHeaders (image_of old) old.touched new.touched

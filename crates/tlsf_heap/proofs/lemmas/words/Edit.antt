@@ -1,4 +1,4 @@
--- What an edit of the words of a region leaves.
+-- The words of a region after an edit.
 use Rattle.tlsf_heap.proofs.Common.{◌≡◌, ◌≢◌, ℕ, ◌+◌, ◌<◌, ◌≤◌, Bool, inl, inr, false, List, [], ◌∷◌, ◌++◌, length, get_or, set, take, drop, refl, sym, ap, ◌∙◌, subst, arith, AllByRecursion, length-set, get_or-set_other, set-get_or, cases_lt, Image, mark_of, HoldsPayload, BlockAt, ShowsFrom, back_behind, Shows, tag_word, size_in, last_in, free_in, back_in, Block, size_of, words_in, is_free, StandsAt, block_at, with_back, nowhere, blocks_of, HasRoom}
 use Rattle.tlsf_words.proofs.FieldLaws.{tag_word-fields}
 use Rattle.tlsf_heap.proofs.lemmas.words.Image.{word_at, start_at, blocks_replaced}

@@ -93,7 +93,7 @@ others_last tick bs at i k stands o =
     let new = released_lasts P o.1 (λ m s h. false≢true (sym h.0)) tick (take i bs) (drop (suc i) bs) (block_at bs i) (λ h e. o.4 (sym e ∙ stands.place)) (subst (HasFrom P o.1 0) whole (holder bs at k o)) in
     any_word (coalesced tick (site_at bs i)) at k (held_word (coalesced tick (site_at bs i)) bs at k o new)
 
--- so does another block in place of one, or several of as many words, and of the block at the place they are none
+-- so does another block in place of one, or several of equally many words, and of the block at the place they are none
 pub kept_others : (bs new mid : List Block) (at i k : ℕ) → StandsAt bs at i → new ≡ take i bs ++ mid ++ drop (suc i) bs → words_in mid ≡ size_of (block_at bs i) → IsOthersWord bs at k → IsOthersWord new at k
 kept_others bs new mid at i k stands is size o =
     let P = HoldsWord o.1 k in

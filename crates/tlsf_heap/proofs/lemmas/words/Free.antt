@@ -41,7 +41,7 @@ module _ {m : Image} {bs : List Block} (shows : Shows m bs) {at i : ℕ} (stands
         ∙ ap (back_behind 0 nowhere) (sym (none_free (take i bs) (all_left HasRoom (take i bs) (block_at bs i ∷ drop (suc i) bs) (subst (AllByRecursion HasRoom) (around bs at i stands).is shows.rooms)) before));
   }
 
-  -- the header behind it names it already
+  -- the header after it names it already
   pub merges_alone : {v : Image} {tag : Tag} {stamp : ℕ} → AreNeighbours (length m.words) (site_at bs i) 0 0 tag → HasFree v.words at tag.size tag.last tag.back stamp → OnlyFrom m.words v.words at (at + 2)
       → v.starts ≡ m.starts → Merges m v at 0 0 tag stamp
   unfolding without_start
@@ -75,7 +75,7 @@ module _ {words : ℕ} {s : Site} {own next previous tag : Tag} (tags : AreTagsA
         back = back ∙ tags.is_previous.back some;
       }
 
-  -- with the one behind it
+  -- with the one after it
   pub with_next_are : {after : ℕ} → after ≡ next.size → next.free ≡ true → previous.free ≡ false → before_free s.before ≡ s.before → tag.size ≡ own.size + next.size → tag.last ≡ next.last → tag.back ≡ own.back
       → AreNeighbours words s 0 after tag
   with_next_are behind some live all size last back =

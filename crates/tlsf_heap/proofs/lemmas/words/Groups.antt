@@ -1,7 +1,7 @@
 -- In how many groups of eight words the words lie that stand in a row.
 use Rattle.tlsf_heap.proofs.Common.{◌⊎◌, Contains, ◌≡◌, ◌≢◌, ℕ, zero, suc, ◌+◌, ◌-◌, ◌/◌, ◌<◌, ◌≤◌, List, [], ◌∷◌, ◌++◌, length, refl, sym, ap, subst, inl, inr, arith, cases_lt, length-append, Contains-append_left, Contains-append_right, times, InGroups, groups_of}
 
--- so many numbers from one on
+-- this many numbers from one on
 numbers : ℕ → ℕ → List ℕ
 numbers g zero = []
 numbers g (suc n) = g ∷ numbers (suc g) n

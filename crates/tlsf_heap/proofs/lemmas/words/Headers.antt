@@ -1,4 +1,4 @@
--- What the writes of a header leave.
+-- The words after the writes of a header.
 use Rattle.tlsf_heap.proofs.Common.{◌≡◌, Bool, false, eqb, ℕ, ◌+◌, ◌<◌, ◌≤◌, ◌^◌, List, ◌++◌, length, get_or, take, drop, replicate, ◌∙◌, sym, arith, length-take-le, length-append, get_or-take, eqb-false, get_or_append_left, size_in, low_half}
 
 -- a header says a size below 2^30

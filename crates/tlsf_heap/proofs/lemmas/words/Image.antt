@@ -1,4 +1,4 @@
--- What words that show blocks say of each block, and which words may change.
+-- The facts that words which show blocks say of each block, and which words may change.
 use Rattle.tlsf_heap.proofs.Common.{◌≡◌, ℕ, zero, suc, ◌+◌, ◌/◌, ◌%◌, ◌^◌, ◌*◌, ◌<◌, ◌≤◌, Bool, true, false, cond, ltb, List, [], ◌∷◌, ◌++◌, length, take, drop, get_or, inl, inr, refl, sym, ap, ◌∙◌, subst, arith, map, append_assoc, add_assoc, add-zero, zero-add, ◌==◌, AllByRecursion, range_with_len, take-append-drop, drop_more, false≢true, cases_lt, nat_tests, Image, HoldsPayload, BlockAt, ShowsFrom, back_behind, Shows, tag_word, size_in, free_in, low_half, Block, Live, Free, size_of, words_in, is_free, StandsAt, IsPlace, HasRoom, block_at, with_back, byte_in, bytes_in, nowhere, block_in, blocks_from, blocks_of}
 use Rattle.tlsf_words.proofs.FieldLaws.{size_in-tag_word, last_in-tag_word, free_in-tag_word, low_half-length_word}
 use Rattle.tlsf_heap.proofs.lemmas.blocks.Lawful.{words_in-append, all_append, all_left, all_right}

@@ -1,4 +1,4 @@
--- What other payload bytes leave of the free lists of a region.
+-- The free lists of a region with other payload bytes.
 use Rattle.tlsf_heap.proofs.Common.{◌≡◌, ℕ, ◌+◌, ◌*◌, ◌≤◌, ◌⊎◌, inl, inr, true, List, [], ◌∷◌, ◌++◌, length, take, drop, ◌∙◌, arith, Image, payload_byte, ListHeads, Block, size_of, is_free, bytes_of, StandsAt, block_at, with_bytes, RegionState, list_in}
 use Rattle.tlsf_heap.proofs.lemmas.words.Image.{word_at, room_here}
 use Rattle.tlsf_heap.proofs.lemmas.blocks.Stands.{around}

@@ -95,7 +95,7 @@ free_right (x ∷ xs) ys at q e h =
     let same : size_of x + (words_in xs + q) ≡ at = omega arith in
     subst (IsFreeAt (x ∷ xs ++ ys)) same (free_in_rest x (xs ++ ys) (words_in xs + q) (free_right xs ys (words_in xs + q) q refl h))
 
--- where some blocks become others of as many words, a free block stays where the others have it too
+-- where some blocks become others of equally many words, a free block stays where the others have it too
 free_replaced : (front old new after : List Block) (at : ℕ) → words_in new ≡ words_in old → ((q : ℕ) → at ≡ words_in front + q → IsFreeAt old q → IsFreeAt new q)
     → IsFreeAt (front ++ (old ++ after)) at → IsFreeAt (front ++ (new ++ after)) at
 free_replaced front old new after at as_many stays h = elim (free_parts front (old ++ after) at h) [

@@ -117,7 +117,7 @@ pub same_lying : (m v : Image) (at len : ℕ) → OnlyFrom m.words v.words (at +
 same_lying m v at len only =
     bytes_in-same m.words v.words (payload_byte at 0) (payload_byte at 0) len (λ k below. byte_in-same m.words v.words (payload_byte at 0 + k) (only.behind ((payload_byte at 0 + k) / 8) (omega arith)))
 
--- a live block of a name has room for so many bytes, where its payload words hold them
+-- a live block of a name has room for this many bytes, where its payload words hold them
 pub length_room : (h k : HeapState) (name : Name) (len : ℕ) → h ≡ k → IsLawful k → IsLive k name → words_for len ≤ 3 + payload_words_at (named name k.blocks)
     → (is_named : IsNamed h name) × (is_free (block_at h.blocks is_named.1.0) ≡ false) × (words_for len ≤ size_of (block_at h.blocks is_named.1.0))
 length_room h k name len same lawful live room =

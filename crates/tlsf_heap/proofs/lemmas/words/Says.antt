@@ -1,4 +1,4 @@
--- What the words say of the block at a place.
+-- The block at a place, as the words tell of it.
 use Rattle.tlsf_heap.proofs.Common.{◌≡◌, ℕ, ◌+◌, ◌^◌, ◌<◌, ◌≤◌, Bool, true, false, ◌&&◌, eqb, List, length, take, get_or, refl, sym, ap, ◌∙◌, subst, arith, ◌==◌, AllByRecursion, false≢true, eq-eqb, eqb-true, Image, mark_of, StartsOnce, back_behind, Shows, Extents, size_in, last_in, free_in, back_in, Block, Live, Free, size_of, words_in, is_free, StandsAt, IsPlace, block_at, site_at, HasRoom, has_serial, is_named, nowhere, ListHeads, list_of, AreThreaded, blocks_of, NoneNamed, IsFirst, RegionState}
 use Rattle.tlsf_words.proofs.FieldLaws.{size_in-tag_word, last_in-tag_word, free_in-tag_word, back_in-tag_word}
 use Rattle.tlsf_heap.specs.Listed.{AreFreeBlocks, lists_of, HoldsLists}

@@ -2,7 +2,7 @@ use Rattle.tlsf_lines.proofs.Common.{◌≡◌, ◌+◌, ◌*◌, ◌<◌, ◌�
 use Rattle.tlsf_lines.proofs.LineSteps.{put_behind}
 use Rattle.tlsf_lines.proofs.parsing.add_lines.Given as goal
 
--- the lines so far, of which something is made, and those that the rest gives after them are those of all
+-- the lines so far, from which something is made, and those that the rest gives after them are those of all
 abbrev pub invariant-loop-rest : goal.invariant-loop-rest
 invariant-loop-rest g l = record {
   before : List Line;

@@ -1,7 +1,7 @@
 use Rattle.tlsf_picture.proofs.Common.{◌≡◌, ℕ, ◌≤◌, [], length, string_bytes, IsYard, IsScript, Trace, shown_until, HasShown, level_in, Stands}
 use Rattle.tlsf_picture.proofs.page_drawing.add_moments.Given as goal
 
--- the yard stands after a line that isn't behind these, and those of these that have a moment are shown
+-- the yard stands after a line that isn't after these, and those of these that have a moment are shown
 abbrev pub invariant-loop-number : goal.invariant-loop-number
 invariant-loop-number g l = record {
   yard : IsYard l.player.workers.items;

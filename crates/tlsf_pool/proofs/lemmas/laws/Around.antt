@@ -1,4 +1,4 @@
--- What a call leaves of a fact about each block, of the words of a region, and of a new heap.
+-- A fact about each block, the words of a region, and a new heap: how they are after a call.
 use Rattle.tlsf_pool.proofs.Common.{◌≡◌, ℕ, List, [], ◌∷◌, ◌++◌, refl, sym, ◌∙◌, subst, AllByRecursion, Block, Live, Free, HeapState, Site, Call, Allocate, Release, Write, Resize, Read, past_free, before_free, answered, run}
 use Rattle.tlsf_heap.proofs.lemmas.blocks.Lawful.{all_left, all_right}
 use Rattle.tlsf_heap.proofs.lemmas.blocks.Coalesce.{by_last}

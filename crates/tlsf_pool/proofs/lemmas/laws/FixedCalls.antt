@@ -19,7 +19,7 @@ call_kept sli level s h (Write name at bytes) fixed = (fixed_kept sli level s h 
 call_kept sli level s h (Resize name n) fixed = (fixed_kept sli level s h fixed).resize name n
 call_kept sli level s h (Read name at n) fixed = fixed
 
--- where the length itself wants just so many words, it is a call of every heap
+-- where the length itself wants just this many words, it is a call of every heap
 same_call : (sli s : ℕ) (h : HeapState) (call : Call) → WantsWords s call → answered sli h call ≡ answered_fixed sli s h call
 same_call sli s h (Allocate n) wanted = ap (λ (k : ℕ). (Allocated (allocated_words sli h k n).answer, (allocated_words sli h k n).heap)) wanted
 same_call sli s h (Release name) wanted = refl
@@ -135,7 +135,7 @@ fixed_serves sli level id words first most len calls region class enough modest 
 
 -- ---- in fewer words
 
--- where all of so many requests more are served, there are the words of so many blocks more
+-- where all of this many requests more are served, there are the words of this many blocks more
 all_fit : (sli : ℕ) (level : IsLevel sli) (s len n : ℕ) (h : HeapState) → want len ≤ s → IsLawful h → HasFixedSize s h
     → AllByRecursion IsServed (run_fixed sli s h (replicate n (Allocate len))).0 → (live_count h + n) * s ≤ h.words
 all_fit sli level s len zero h wanted lawful fixed served = let least = live_least s h.blocks fixed.sizes in omega (arith, least, lawful.whole)

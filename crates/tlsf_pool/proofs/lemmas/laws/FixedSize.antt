@@ -40,7 +40,7 @@ sure_5 = refl
 pub sure_four : (sli : ℕ) → IsLevel sli → sure sli 4 ≡ 4
 sure_four = by_level (λ sli. sure sli 4 ≡ 4) sure_4 sure_5
 
--- such a size is that of a block, and a region may have so many words
+-- such a size is that of a block, and a region may have this many words
 pub sure_region : (sli : ℕ) (level : IsLevel sli) (s : ℕ) → sure sli s ≡ s → (4 ≤ s) × (s ≤ most_words sli)
 sure_region sli level s is = elim (cases_lt (most_words sli) s) [
   | inl above ↦
@@ -234,7 +234,7 @@ fixed_kept sli level s h fixed = record { allocate = on_allocate sli level s h f
 
 -- ---- how many blocks there are
 
--- between two multiples there are no words or at least s, and fewer than twice so many are just s
+-- between two multiples there are no words or at least s, and fewer than 2 * s are just s
 none_between : (s a b m : ℕ) → a * s + m ≡ b * s → m < s → m ≡ 0
 none_between s a b m is few = elim (cases_lt a b) [
   | inl more ↦ let most = mul-le-mul_right s (next a b more) in absurd (omega (arith, most, is, few))

@@ -1,4 +1,4 @@
--- What a resize comes to, by its cases: a refusal, or one of three edits of a live block and those behind it.
+-- The result of a resize, by its cases: a refusal, or one of three edits of a live block and those after it.
 use Rattle.tlsf_pool.proofs.Common.{◌≡◌, ℕ, ◌+◌, ◌-◌, ◌<◌, ◌≤◌, ◌&&◌, Bool, true, false, cond, eqb, nat_le, nat_lt, List, [], ◌∷◌, ◌++◌, Option, Some, None, Ok, refl, arith, eqb-true, nat_tests, Block, Live, Free, HeapState, want, Site, Outcome, refused, is_worn, is_named, named, first_free, past_free, room_of, fitted, refitted, resized, resized_at, ticked, Name, Refusal, Foreign, Stale, Worn, NoRoom}
 use Rattle.tlsf_heap.proofs.lemmas.calls.Outcomes.{by_test, IsSiteOf, named_site}
 
@@ -6,7 +6,7 @@ whether : {X : Type 0} (P : X → Type 0) (b : Bool) (x y : X) → (b ≡ true �
 whether P true x y f g = f refl
 whether P false x y f g = g refl
 
--- the block keeps its words; or it keeps n of its own and those of the free block behind it; or it has all of these
+-- the block keeps its words; or it keeps n of its own and those of the free block after it. Or it has all of these
 pub by_refit : (P : List Block → Type 0) (tick n len size serial : ℕ) (bytes : List ℕ) (after : List Block)
     → (n ≤ size → size < n + 4 → P (Live size serial (fitted bytes len) ∷ after))
     → (n + 4 ≤ size + first_free after → P (Live n serial (fitted bytes len) ∷ Free (size + first_free after - n) tick ∷ past_free after))

@@ -1,4 +1,5 @@
--- The reserve of a list of blocks: the words of its greatest hole, a large block in front of a hole counted to it. What edits leave of it.
+-- The reserve of a list of blocks: the words of its greatest hole, a large block in front of a hole counted to it. The reserve
+-- after edits.
 use Rattle.tlsf_pool.proofs.Common.{◌≡◌, ℕ, ◌+◌, ◌≤◌, ◌⊎◌, Bool, true, false, cond, max, nat_lt, List, [], ◌∷◌, ◌++◌, length, refl, sym, ap, ◌∙◌, subst, inl, inr, arith, AllByRecursion, false≢true, le-ltb, Block, Live, Free, HeapState, size_of, words_in, bytes_of, is_free, Site, past_free, before_free, first_free, last_free, with_bytes, IsSmall}
 use Rattle.tlsf_heap.proofs.lemmas.blocks.Coalesce.{by_last}
 use Rattle.tlsf_heap.proofs.lemmas.blocks.Lawful.{words_in-append}

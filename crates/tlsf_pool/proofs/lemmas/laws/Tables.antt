@@ -46,7 +46,7 @@ spend_rises n k h = omega (arith, h)
 one_more : (a s c w : ℕ) → a ≤ w → s ≤ c * w → a + s ≤ suc c * w
 one_more a s c w h e = omega (arith, h, e)
 
--- short blocks take no more than so many of the kind's own
+-- short blocks take no more than this many of the kind's own
 short_spent : (k : ℕ) (lens : List ℕ) → sum_of spend (short k lens) ≤ length (short k lens) * spend k
 short_spent k [] = omega arith
 short_spent k (n ∷ lens) = elim (parted k n) [
@@ -66,7 +66,7 @@ spent (kind ∷ kinds) lens fit =
     within (sum_of spend lens) (sum_of spend (short kind.len lens)) (sum_of spend (long kind.len lens)) (kind.most * spend kind.len) (table_words kinds) (split spend kind.len lens)
     (le_trans (short_spent kind.len lens) (mul-le-mul_right (spend kind.len) fit.0)) (spent kinds (long kind.len lens) fit.1)
 
--- and are at most as many
+-- and are at most equally many
 pub counted_in : (kinds : List Kind) (lens : List ℕ) → AreOfKinds kinds lens → length lens ≤ count_in kinds
 counted_in [] lens none = subst (λ (l : List ℕ). length l ≤ 0) (sym none) (omega arith)
 counted_in (kind ∷ kinds) lens fit =

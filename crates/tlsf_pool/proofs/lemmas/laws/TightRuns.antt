@@ -63,7 +63,7 @@ abbrev pairs : (k n tick : ℕ) → List Block
 pairs k zero tick = []
 pairs k (suc n) tick = Live k tick (replicate (8 * (k - 3)) 0) ∷ Live 4 (tick + 1) [] ∷ pairs k n (tick + 1 + 1)
 
--- the stamp of what is left free behind them
+-- the stamp of what is left free after them
 abbrev left_at : (n t tick : ℕ) → ℕ
 left_at zero t tick = t
 left_at (suc n) t tick = left_at n (tick + 1) (tick + 1 + 1)

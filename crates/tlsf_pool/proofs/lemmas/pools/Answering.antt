@@ -1,4 +1,4 @@
--- What the clauses of a table's calls say.
+-- The clauses of a table's calls.
 use Rattle.tlsf_pool.proofs.Common.{◌≡◌, ◌≢◌, ℕ, zero, suc, ◌+◌, ◌-◌, ◌<◌, ◌≤◌, ◌↔◌, List, [], ◌∷◌, length, get_or, set, Option, Some, None, Ok, Err, refl, sym, ap, ◌∙◌, subst, inl, inr, arith, le_trans, sum, IsSomeAnd, slice_index, cases_lt, HeapState, bytes_of, want, payload_words_at, block_at, IsGrant, live_among, named, released, Name, NoFit, fixed_size, AreOfKinds, count_in, HasPlace, HoldsOneMore, IsFull, IsTable, TableRows, held_of, lengths_in, most_at, row_of, table_allocated}
 use Rattle.tlsf_heap.specs.InPlace.{payload_of}
 use Rattle.tlsf_heap.specs.Named.{IsNamed}
@@ -99,7 +99,7 @@ module _ (sli : ℕ) (h : HeapState) (t : TableRows) (is : IsTable sli h t) wher
   pub row_held : (len row : ℕ) → row_of t.kinds len ≡ Some row → row < length t.held
   row_held len row found = subst (λ (n : ℕ). row < n) (sym as_long) (row_is t.kinds len row found).1
 
-  -- where not fewer are held than may be, as many are
+  -- where not fewer are held than may be, just this number is held
   pub full_at : (len row : ℕ) → row_of t.kinds len ≡ Some row → (slice_index t.held row < most_at t.kinds row → ⊥) → IsFull t len
   full_at len row found not =
       of_some (λ (row : ℕ). slice_index t.held row ≡ most_at t.kinds row) (row_of t.kinds len) row found

@@ -1,10 +1,10 @@
--- New heaps for the parts of a table, one behind the other.
+-- New heaps for the parts of a table, one after the other.
 use Rattle.tlsf_pool.proofs.Common.{◌≡◌, ℕ, zero, suc, ◌+◌, ◌-◌, ◌<◌, ◌≤◌, List, [], ◌∷◌, ◌++◌, length, replicate, get_or, take, drop, min, refl, sym, ap, ◌∙◌, subst, arith, append_assoc, add-zero, length-append, length-drop, AllByRecursion, HeapState, opened, fixed_kinds_words, Kind, Rises, IsLeast, IsPart, HasWords, cut_by, parts_of, Split, IsTabled, TableState, AreNew, ArePools, IsNew, no_part}
 use Rattle.tlsf_heap.specs.Memory.{Extent}
 use Rattle.tlsf_pool.proofs.lemmas.sizes.Risings.{parts_rise}
 
 module _ (sli first : ℕ) where
-  -- one more behind the others
+  -- one more after the others
   new_more : (from : ℕ) (tables : List (List Kind)) (parts : List TableState) (kinds : List Kind) (t : TableState) → AreNew sli from first tables parts → IsNew sli (from + length tables) first kinds t
       → AreNew sli from first (tables ++ kinds ∷ []) (parts ++ t ∷ [])
   new_more from [] [] kinds t are new = (subst (λ (n : ℕ). IsNew sli n first kinds t) (add-zero from) new, tt)
@@ -46,7 +46,7 @@ drop_least zero (x ∷ xs) = let none : min zero (suc (length xs)) ≡ zero = om
 drop_least (suc n) [] = let none : min (suc n) zero ≡ zero = omega arith in ap (λ (m : ℕ). drop m []) none
 drop_least (suc n) (x ∷ xs) = let less : min (suc n) (suc (length xs)) ≡ suc (min n (length xs)) = omega arith in ap (λ (m : ℕ). drop m (x ∷ xs)) less ∙ drop_least n xs
 
--- so many parts are still to be opened, for what is left of the table
+-- this many parts are still to be opened, for what is left of the table
 pub record OpenedSoFar (sli id first : ℕ) (all : List (List Kind)) (left : ℕ) (lens : List ℕ) (rest : List Kind) (parts : List TableState) : Type 0 where
   pub done : List (List Kind)
   pub whole : all ≡ done ++ cut_by left lens rest
@@ -128,7 +128,7 @@ many_parts (suc h) lens kinds = ap suc (many_parts h lens (drop (get_or lens h 0
 pub length_more : (parts : List TableState) (t : TableState) (n : ℕ) → length parts ≡ n → length (parts ++ t ∷ []) ≡ n + 1
 length_more parts t n many = omega (arith, length-append parts (t ∷ []), many)
 
--- all that stands behind so many
+-- all that stands after this many
 pub behind_all : (n : ℕ) (xs : List Kind) → take (length xs - n) (drop n xs) ≡ drop n xs
 behind_all n xs = ap (λ (m : ℕ). take m (drop n xs)) (sym (length-drop n xs)) ∙ take_whole (drop n xs)
   where

@@ -19,7 +19,7 @@ new_pool sli id most longest first h level class is =
       fixed = new_fixed (sure sli (want longest)) id (fixed_words sli most longest) first;
     })
 
--- the words of one block or more are those of so many
+-- the words of one block or more are those of this many
 pub whole_words : (s most words : ℕ) → 4 ≤ s → 0 < most → words ≡ max 4 (most * s) → IsMultiple s words
 whole_words s most words four some is =
     let one = mul-le-mul_right s (next most some) in
@@ -55,7 +55,7 @@ module _ (sli : ℕ) (h : HeapState) (p : Bounds) (is : IsPool sli h p) where
   pub granted : (grant : ℕ) → IsGrant sli h.blocks grant → p.held < p.most → p.longest ≤ grant
   granted grant served few = served.greatest p.longest (finds_sure sli is.level (want p.longest) s p.most h is.lawful is.fixed is.class refl (omega (arith, enough)) (omega (arith, is.live, few)))
 
-  -- after a call within the bounds, with so many blocks held
+  -- after a call within the bounds, with this many blocks held
   after : (call : Call) (held : ℕ) → IsModest p.most p.longest (live_count h) call → held_after (live_count h) call (answered_fixed sli s h call).0 ≡ held → held ≤ p.most
       → IsPool sli (answered_fixed sli s h call).1 (record p { held = held })
   after call held modest counts few =

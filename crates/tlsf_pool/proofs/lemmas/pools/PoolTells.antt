@@ -1,4 +1,4 @@
--- What the answers of a pool tell.
+-- The facts that the answers of a pool tell.
 use Rattle.tlsf_pool.proofs.Common.{◌≡◌, ℕ, ◌<◌, ◌≤◌, Bool, true, false, cond, Result, Ok, Err, IsOk, refl, sym, subst, arith, nat_lt, nat_le, false≢true, nat_tests, HeapState, want, Name, Refusal, PoolRefusal, TooLong, Full, sure, Bounds, IsPool, TellsBounds, answered_within, or_worn, pool_allocated}
 use Rattle.tlsf_heap.proofs.lemmas.laws.NoFit.{ok_words}
 use Rattle.tlsf_pool.proofs.lemmas.pools.Given.{given_whole}

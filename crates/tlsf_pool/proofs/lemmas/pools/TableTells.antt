@@ -1,4 +1,4 @@
--- What the answers of a table tell.
+-- The facts that the answers of a table tell.
 use Rattle.tlsf_pool.proofs.Common.{◌≡◌, ℕ, ◌<◌, ◌≤◌, false, Option, Some, None, Result, Ok, Err, IsOk, refl, sym, subst, arith, nat_lt, slice_index, false≢true, nat_tests, IsSomeAnd, HeapState, Name, Refusal, PoolRefusal, TooLong, Full, or_worn, IsTable, TableRows, TellsTable, answered_by_table, answered_in, most_at, row_of, table_allocated, fixed_size}
 use Rattle.tlsf_heap.proofs.lemmas.laws.NoFit.{ok_words}
 use Rattle.tlsf_pool.proofs.lemmas.pools.Answering.{of_some, none_some, full_at, given_words, is_planned, planned, room}

@@ -1,4 +1,4 @@
--- The rows of the whole table, which the parts have one part behind the other.
+-- The rows of the whole table, which the parts have one part after the other.
 use Rattle.tlsf_pool.proofs.Common.{◌≡◌, ◌≢◌, ℕ, zero, suc, ◌+◌, ◌-◌, ◌<◌, ◌≤◌, ◌↔◌, ◌&&◌, Bool, true, false, cond, List, [], ◌∷◌, ◌++◌, length, take, get_or, set, nat_le, nat_lt, Option, Some, None, Result, Ok, Err, map, refl, sym, ap, ap₂, ◌∙◌, subst, inl, inr, arith, length-append, AllByRecursion, position_or_len, IfOk, IsSomeAnd, OnOk, is_some, cases_lt, false≢true, le-leb, le-ltb, lt-leb, lt-ltb, nat_tests, get_or_append_left, get_or-append-add, set-append_left, set-append_right, fails_before_first, position_or_len_is, HeapState, allocated_words, place_of, Name, Kind, Rises, len_at, joined, PoolRefusal, AreAllReached, CountsOneMore, HoldsOneMore, IsTabled, TableExtents, TableState, lengths_in, row_of, table_allocated, fixed_size, AreNew, ArePools, HasRow, PoolsState, Stay, held_by, held_in, memory_of, named_in, no_part, part_at, part_in, part_named, part_of, rows_before, rows_in, table_of}
 use Rattle.std.proofs.lemmas.List.Quantifiers.{position-Some}
 use Rattle.tlsf_heap.specs.Memory.{Extents}
@@ -8,7 +8,7 @@ use Rattle.tlsf_pool.proofs.lemmas.pools.Counts.{held_length, next_row, place, r
 use Rattle.tlsf_pool.proofs.lemmas.pools.Heaps.{is_part, part_has}
 use Rattle.tlsf_pool.proofs.lemmas.sizes.Risings.{shorter_before}
 
--- the rows before the first part, and those before the part behind another
+-- the rows before the first part, and those before the part after another
 before_none : (parts : List TableState) (row : ℕ) → row ≡ rows_before parts 0 + row
 before_none parts row = omega arith
 

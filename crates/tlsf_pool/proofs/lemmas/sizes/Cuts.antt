@@ -35,7 +35,7 @@ begins n kinds part rest joins long = record {
   behind = sym (ap₂ (λ (k : ℕ) (xs : List Kind). drop k xs) (sym long) (sym joins) ∙ dropped part rest);
 }
 
--- the first heap has just so many kinds
+-- the first heap has just this many kinds
 abbrev HasJust : ℕ → ℕ → List (List Kind) → Type 0
 HasJust heaps n [] = ⊥
 HasJust heaps n (part ∷ parts) = (length part ≡ n) × (length parts ≤ heaps)

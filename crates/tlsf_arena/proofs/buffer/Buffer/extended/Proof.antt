@@ -1,4 +1,4 @@
--- `extended` makes room for values of the piece behind theirs. Assumes `Logic`.
+-- `extended` makes room for values of the piece after their own. Assumes `Logic`.
 use Rattle.tlsf_arena.proofs.Walking.{◌≡◌, ℕ, ◌+◌, ◌-◌, ◌*◌, ◌≤◌, List, [], ◌∷◌, ◌++◌, refl, sym, ap, subst, ◌∙◌, arith, w64, Goes-blank, proved_at, leaves, block_with_items, El, IsUnit, piece_size, IsPiece, behind, Ty, Fn, Args, a_type, Val, vint, inst_fn, SProp, emp, Lft, Share, ftrue, fex, froom, flft, size, Env, WpFn, ◌⊑◌, fact, fact_i, tables, ‵, raw, ◌⊛◌, prop, ◌$◌, ◌∵◌, !, qed, by, move, drop, use0, use3, split, split3, join, rewrite, regoal, fsplit, fsplit3, fjoin, fjoin3, fpick, fpack, whole, sub, agg, stop, fld, of_opd, no_more, and_then, returns, enter, alloc_all, pass_all, free_all, look_at, get, get_in, sets, env, RattleType, owns, Ptr, block_ptr, count_of, param, layout, layouts, types_at, nothing, heard, Stays, stay_dropped, walk_of, Goes-dropped, slot_at, sized_val, sized_told, Region, bytes_at}
 use Rattle.tlsf_arena.proofs.UnitCases.{piece_grains, piece_holds}
 use Rattle.tlsf_arena.proofs.Buffers.{buffer_val, buffer_own, buffer_told, buffer_made, extends, block_type, block_size}

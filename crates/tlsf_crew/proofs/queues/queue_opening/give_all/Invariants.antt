@@ -1,7 +1,7 @@
 use Rattle.tlsf_crew.proofs.Common.{◌≡◌, ℕ, ◌≤◌, length, vec_len, AreUngiven, AreGiven}
 use Rattle.tlsf_crew.proofs.queues.queue_opening.give_all.Given as goal
 
--- the ends of the queues behind those that are left were given
+-- the ends of the queues after those that are left were given
 abbrev pub invariant-loop-posters : goal.invariant-loop-posters
 invariant-loop-posters g l = record {
   count : length l.workers ≡ length l.fn.workers;

@@ -33,7 +33,7 @@ alter-requires g c =
       ),
     )
 
--- the block stands in the region, and has so many bytes
+-- the block stands in the region, and has this many bytes
 stood : (g : Over) (c : goal.After-alter g) → (i : ℕ) × StandsAt c.self.inside.region.blocks c.args.name.at i × (c.in_ok-len.len ≡ length (bytes_of (block_at c.self.inside.region.blocks i)))
 stood g c =
     stood_in (state_of g.row.SLI c.self.inside) c.args.self.now.heap c.args.name c.in_ok-len.len (ap (λ (s : Shown). s.heap) c.self.view_is ∙ c.in_ok-len.ensures.same.heap) c.in_ok-len.ensures.answer.0 c.in_ok-len.ensures.answer.1

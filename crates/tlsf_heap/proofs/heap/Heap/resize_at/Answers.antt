@@ -20,7 +20,7 @@ returns-in-Some-clause-leaves g c k o =
     let here = subst (λ (at : ℕ). IsOthersWord h.blocks at k) (sym seen.live.1) o in
     c.resize_words.ensures.resizes.leaves k (subst (λ (s : HeapState). IsOthersWord s.blocks name.at k) (sym seen.same.heap) here) ∙ seen.leaves k (any_word h.blocks c.args.at k o)
 
--- two calls in turn, of which the second may be refused
+-- two calls in turn, and the second may be refused
 refused_both : {A E : Type 0} (bs mid : List Block) (first between last : List ℕ) (answer : Result A E) → mid ≡ bs → LeavesLive bs first between → OnErr answer (LeavesLive mid between last) → OnErr answer (LeavesLive bs first last)
 refused_both bs mid first between last (Ok done) same once twice = tt
 refused_both bs mid first between last (Err why) same once twice = λ k live. twice k (subst (λ (l : List Block). IsLiveWord l k) (sym same) live) ∙ once k live

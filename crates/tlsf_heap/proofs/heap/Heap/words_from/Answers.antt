@@ -169,7 +169,8 @@ returns-clause-keeps g c =
     let edits = c.give.ensures.edits l.0 (rw (c.remove.ensures.blocks ∙ c.free_at.ensures.reads.blocks) l.1.stands) in
     keeps_stored g.row.SLI c.self.inside c.self.view_is c.self.invariant _ (invariant_of-self-2 g c) (omega (arith, edits.rise, c.remove.ensures.edits.rise, c.free_at.ensures.reads.rise)) (edits.stays ∙ c.remove.ensures.edits.stays ∙ c.free_at.ensures.reads.stays)
 
--- 2 to find the block, 6 to take it out, 9 for the headers, 7 to list the rest, and three words at most that are made zero
+-- 2 to find the block, 6 to take it out, and 9 for the headers. Then come 7 to list the rest, and three words at most that are made
+-- zero
 
 pub returns-clause-touches : goal.returns-clause-touches
 returns-clause-touches g c =

@@ -1,4 +1,4 @@
--- An empty body. What it answers has no bytes, and a count of 0.
+-- An empty body. Its answer has no bytes, and a count of 0.
 use mathlib.Core.Path.{refl}
 use mathlib.Core.List.{[], ◌∷◌}
 use seplogic.Ra.Ura.{Ura}

@@ -29,7 +29,7 @@ returns-in-Err-clause-tells g c =
     let here = subst (λ r. g.L.Ledger.tells g.row.SLI c.self.inside.heap.heap c.self.inside.ledger c.args.len r) (c.in-Err.ensures.refuses.1 _) law in
     subst (λ s. g.L.Ledger.tells g.row.SLI s.heap s.ledger c.args.len (Err c.in-Err.why)) c.self.view_is here
 
--- an allocate of as many words is one of the same
+-- an allocate of equally many words is one of the same
 asked : (most sli n m len : ℕ) (old new : Seen) (answer : Result Name Refusal) → n ≡ m → Allocates most sli n len old new answer → Allocates most sli m len old new (allocated_words sli old.heap m len).answer
 asked most sli n m len old new answer same r = subst (λ (k : ℕ). Allocates most sli k len old new (allocated_words sli old.heap k len).answer) same (subst (λ (a : Result Name Refusal). Allocates most sli n len old new a) r.answer_is r)
 
