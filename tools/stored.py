@@ -13,9 +13,10 @@ sys.path.append(str(TOP / "bench"))
 from model.answers import fault_text
 from model.commands import Untold, answer_to
 from model.trace import Fault, trace_in
+import tables
 
 TABLES = TOP / "tests" / "program"
-TRACE = b"tlsf 1 1 64 1\n"   # what the runs of words.toml read
+TRACE = tables.TRACE.encode()
 # The rows of words.toml whose whole text stands there, and of these one that is answered.
 LINES = re.compile(r"^lines = \[\n.*?^\]", re.M | re.S)
 ROW = re.compile(r'^(  \[(\[.*\]), 0, )".*"\],$', re.M)
@@ -46,7 +47,7 @@ def words():
     """words.toml, where the rows that are answered have what is told."""
 
     def row(it):
-        told = answer_to(json.loads(it[2])[1:], TRACE.decode())
+        told = answer_to(json.loads(it[2])[1:], tables.TRACE)
         return f"{it[1]}{json.dumps(told, ensure_ascii=False)}],"
 
     return LINES.sub(lambda lines: ROW.sub(row, lines[0]), kept(TABLES / "words.toml"))
@@ -70,5 +71,11 @@ def kept(file):
 def all_stored():
     answers = [stored_case(it) for it in (*cases().values(), *cases_of(RECORDED))]
     shown = [stored_file(it, TOP / "docs" / it, stored_case(cases()[name]).tell) for it, name in SHOWN.items()]
-    tables = [stored_file(tell.__name__, TABLES / f"{tell.__name__}.toml", tell) for tell in (words, faults)]
-    return [*answers, *shown, *tables]
+    told = [stored_file(tell.__name__, TABLES / f"{tell.__name__}.toml", tell) for tell in (words, faults)]
+    return [*answers, *shown, *told, *map(table_by, (tables.moments, tables.sequences, tables.streams))]
+
+
+def table_by(tell):
+    """A table by the function that tells its text."""
+    file = TABLES / f"{tell.__name__}.toml"
+    return stored_file(tell.__name__, file, lambda: tell(kept(file)))

@@ -129,18 +129,25 @@ def is_served(trace, worker, words):
     return not any(refused.fullmatch(reply) for _, replies in steps for reply in replies)
 
 
+def search(serves, lacking, first, most):
+    """The words that are found to serve, where so many lack room: begun with `first`, then by twice as many, then by halves. None where the
+    most lack room."""
+    found = first
+    while not serves(found) and lacking < most:
+        lacking, found = found, min(2 * found, most)
+    while found - lacking > 1:
+        middle = (lacking + found) // 2
+        lacking, found = (lacking, middle) if serves(middle) else (middle, found)
+    return found if lacking < found else None
+
+
 def least_text(trace):
     most, first, lines = MOST_WORDS[trace.version + 3], trace.words, []
     for worker in range(trace.workers):
-        lacking, found = LEAST - 1, first
-        while not is_served(trace, worker, found) and lacking < most:
-            lacking, found = found, min(2 * found, most)
-        while found - lacking > 1:
-            middle = (lacking + found) // 2
-            lacking, found = (lacking, middle) if is_served(trace, worker, middle) else (middle, found)
-        first = found if lacking < found else first
-        held = held_text(trace._replace(words=found)).splitlines()[worker].split()
-        lines.append(f"least {worker} words {found if lacking < found else 'none'} wanted {held[11]} law {held[7]}")
+        words = search(lambda it, worker=worker: is_served(trace, worker, it), LEAST - 1, first, most)
+        first = words or first
+        held = held_text(trace._replace(words=words or most)).splitlines()[worker].split()
+        lines.append(f"least {worker} words {words or 'none'} wanted {held[11]} law {held[7]}")
     return text_of(lines)
 
 

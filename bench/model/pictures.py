@@ -428,16 +428,18 @@ def plot_svg(trace):
 
 # ---- all forms
 
+def standings(trace):
+    """How badly each heap stands where it stands worst, and the line before that."""
+    found = []
+    for points, length in zip(*curves_of(trace)):
+        at, is_worst = look_at(points, length)
+        found.append(((is_worst, points[at].free, 0) if is_worst else (is_worst, points[at].live, points[at].fragmentation), at + 1))
+    return found
+
+
 def worst_line(trace):
     """The line after which a heap stands worst: the first of those heaps that stand worst."""
-    points, longest = curves_of(trace)
-    looks = [look_at(some, length) for some, length in zip(points, longest)]
-
-    def standing(number):
-        (at, is_worst), some = looks[number], points[number]
-        return (is_worst, some[at].free) if is_worst else (is_worst, some[at].live, some[at].fragmentation)
-
-    return looks[max(range(trace.workers), key=standing)][0] + 1
+    return max(standings(trace), key=lambda it: it[0])[1]
 
 
 def map_at(trace, line, is_text):
