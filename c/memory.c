@@ -94,21 +94,19 @@ void free(void *at);
 
 enum {
     MARK = 8,          /* bytes in front of a piece */
-    HEAP = 2752,       /* bytes of a heap's own fields: beside its words and the bits that say where blocks begin */
+    HEAP = 2752,       /* bytes of a heap's or an arena's own fields: beside its words and the bits that say where blocks begin */
     LINE = 64,         /* the handle of a near heap lies at a multiple of a cache line, */
     HANDLE = 32,       /* has so many bytes, */
     NEAR = 2816,       /* and begins so many, for it and for the heap's own fields */
     PIECES_FIRST = 2,  /* the words and the bits come in front of the own fields */
-    OFFSETS = 2744,    /* the same of an arena of offsets */
     LINES = 128,       /* two cache lines: a processor may fetch both where it needs one */
-    LANE = 384,        /* bytes of a lane beside its names, and of each of its two ends */
+    END = 48,          /* bytes of each end of a lane or a queue */
+    LANE = 384,        /* bytes of a lane beside its names and its ends */
     LANE_NAME = 24,
-    LANE_END = 40,
-    QUEUE = 88,        /* bytes of a queue beside its places, its owner's end and its posters' */
+    QUEUE = 88,        /* bytes of a queue beside its places and its ends */
     PLACES = 384,      /* of its places beside 8 for each */
     QUEUE_NAME = 32,
-    QUEUE_END = 40,
-    POSTER = 16,
+    POSTER = 16,       /* of a poster's end in the list that it is first in */
     LEAST_WORDS = 4,
     MOST_NAMES = 1024, /* of a lane or a queue, which has no more posters */
     MOST_BYTES = 1 << 28, /* no heap takes as many */
@@ -236,24 +234,22 @@ static size_t most_words(uint32_t level) { return level == 4 ? 1u << 20 : level 
 /* The bytes of the bits for so many words. */
 static size_t bits_bytes(size_t words) { return (words + 63) / 64 * 8; }
 
-/* The bytes of so many words, of the bits for them and of a last piece, from a multiple of 16 on. */
-static size_t words_bytes(size_t words, size_t last) { return with_mark(8 * words, 16) + with_mark(bits_bytes(words), 16) + MARK + last; }
-
-static size_t heap_bytes(size_t words) { return words_bytes(words, HEAP); }
+/* The bytes of so many words, of the bits for them and of the own fields, from a multiple of 16 on. */
+static size_t heap_bytes(size_t words) { return with_mark(8 * words, 16) + with_mark(bits_bytes(words), 16) + MARK + HEAP; }
 
 /* The same of a near heap, whose own fields lie elsewhere: the bits are the last piece. */
 static size_t near_bytes(size_t words) { return with_mark(8 * words, 16) + MARK + bits_bytes(words); }
 
 /* The bytes of a lane, from a multiple of LINES on, with all lines of its last piece. */
 static size_t lane_bytes(size_t capacity) {
-    return with_mark(LANE, LINES) + with_mark(LANE_NAME * capacity, LINES) + 2 * with_mark(LANE_END, LINES);
+    return with_mark(LANE, LINES) + with_mark(LANE_NAME * capacity, LINES) + 2 * with_mark(END, LINES);
 }
 
 /* The same of a queue. Opening makes its places twice, and the posters' ends in a list before each gets a piece. */
 static size_t queue_bytes(size_t posters, size_t capacity) {
     return with_mark(POSTER * posters, LINES) + 2 * with_mark(PLACES + 8 * capacity, LINES) +
            2 * with_mark(QUEUE_NAME * capacity, LINES) + with_mark(QUEUE, LINES) + with_mark(8 * posters, LINES) +
-           posters * with_mark(POSTER, LINES) + with_mark(QUEUE_END, LINES);
+           (posters + 1) * with_mark(END, LINES);
 }
 
 /* Whether so many bytes may lie there: not at null, nor past the end of the address space, as from mmap's MAP_FAILED. */
@@ -348,12 +344,12 @@ uint32_t tlsf_queue_open_in(struct tlsf_queue *queue, uint32_t posters, uint32_t
 }
 
 size_t tlsf_offsets_bytes(uint32_t level, uint32_t units) {
-    return units < LEAST_WORDS || units > most_words(level) ? 0 : 15 + words_bytes(units, OFFSETS);
+    return units < LEAST_WORDS || units > most_words(level) ? 0 : 15 + heap_bytes(units);
 }
 
 uint32_t tlsf_offsets_open_in(struct tlsf_offsets *offsets, uint32_t level, uint32_t number, uint32_t unit, uint32_t units, void *memory,
                               size_t bytes) {
-    if (units <= most_words(level) && !has(memory, bytes, 16, words_bytes(units, OFFSETS))) units = 0;
+    if (units <= most_words(level) && !has(memory, bytes, 16, heap_bytes(units))) units = 0;
     begin_in(memory, bytes, 16);
     return end_in(tlsf_offsets_open(offsets, level, number, unit, units), memory, bytes);
 }

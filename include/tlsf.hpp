@@ -41,11 +41,10 @@ namespace detail {
 [[noreturn]] inline void bad_size(const char *) { std::abort(); }
 #endif
 
-// What a heap is to those who refer to it: its handle with its own fields, and its number. It lies still, outlives the heap as
-// long as somebody refers to it, and its handle refuses then.
+// What a heap is to those who refer to it: its handle with its own fields. It lies still, outlives the heap as long as somebody
+// refers to it, and its handle refuses then.
 struct heap_state {
     tlsf_near_heap held = TLSF_NEAR_CLOSED;
-    std::uint32_t number = 0;
     std::atomic<std::size_t> references{1};
 };
 
@@ -107,13 +106,9 @@ constexpr std::size_t bytes_to_find(std::uint32_t len, std::size_t align) noexce
 // A block for objects of any alignment, or null where there is no room.
 inline void *give(heap_state &heap, std::size_t bytes, std::size_t align) noexcept {
     if (align <= 4096) return tlsf_aligned_alloc(tlsf_near(&heap.held), align, bytes);
-    std::uint32_t at = 0;
-    const std::uintptr_t base = reinterpret_cast<std::uintptr_t>(tlsf_near(&heap.held)->base);
-    if (align > TLSF_LONGEST || bytes > TLSF_LONGEST ||
-        tlsf_allocate_aligned(tlsf_near(&heap.held), tlsf_rounded(static_cast<std::uint32_t>(bytes)), static_cast<std::uint32_t>(align / word),
-                              static_cast<std::uint32_t>(base / word % (align / word)), &at) != TLSF_OK)
-        return nullptr;
-    return tlsf_near(&heap.held)->base + at + 3;
+    if (align > TLSF_LONGEST || bytes > TLSF_LONGEST) return nullptr;
+    const tlsf_placed it = tlsf_align_place(tlsf_near(&heap.held), tlsf_rounded(static_cast<std::uint32_t>(bytes)), align);
+    return it.answer == TLSF_OK ? tlsf_near(&heap.held)->base + it.at + 3 : nullptr;
 }
 
 } // namespace detail
@@ -133,13 +128,12 @@ class heap {
     friend class home;
 
     template <typename Open>
-    std::uint32_t open_by(std::uint32_t number, Open opens) noexcept {
+    std::uint32_t open_by(Open opens) noexcept {
         if (is_open()) return TLSF_IN_USE;
         detail::heap_reference state(new (std::nothrow) detail::heap_state);
         if (!state) return TLSF_NO_MEMORY;
         const std::uint32_t answer = opens(&state->held);
         if (answer != TLSF_OK) return answer;
-        state->number = number;
         state_ = std::move(state);
         return TLSF_OK;
     }
@@ -180,12 +174,12 @@ public:
     // As tlsf_open_near, for a heap that isn't open; nothing is thrown.
     [[nodiscard]] std::uint32_t open(level l, std::uint32_t number, std::uint32_t words) noexcept {
         const auto of_level = static_cast<std::uint32_t>(l);
-        return open_by(number, [&](tlsf_near_heap *it) { return tlsf_open_near(it, of_level, number, words); });
+        return open_by([&](tlsf_near_heap *it) { return tlsf_open_near(it, of_level, number, words); });
     }
     // As tlsf_open_near_in: its blocks lie in memory of the caller's, which is the caller's again once it is closed.
     [[nodiscard]] std::uint32_t open_in(level l, std::uint32_t number, void *memory, std::size_t bytes) noexcept {
         const auto of_level = static_cast<std::uint32_t>(l);
-        return open_by(number, [&](tlsf_near_heap *it) { return tlsf_open_near_in(it, of_level, number, memory, bytes); });
+        return open_by([&](tlsf_near_heap *it) { return tlsf_open_near_in(it, of_level, number, memory, bytes); });
     }
     void close() noexcept {
         if (state_) tlsf_close(tlsf_near(&state_->held));
@@ -195,21 +189,21 @@ public:
 
     // The handle for the calls of tlsf.h, or null where it isn't open. It is closed by this object alone.
     tlsf_heap *get() noexcept { return state_ ? tlsf_near(&state_->held) : nullptr; }
-    std::uint32_t number() const noexcept { return state_ ? state_->number : 0; }
+    std::uint32_t number() const noexcept { return state_ ? tlsf_near(&state_->held)->number : 0; }
 
     // The calls of tlsf.h by their names.
     [[nodiscard]] std::uint32_t allocate(std::uint32_t len, tlsf_name &name) noexcept {
         return state_ ? tlsf_allocate(get(), len, &name) : detail::closed;
     }
-    std::uint32_t release(const tlsf_name &name) noexcept { return state_ ? tlsf_release(get(), &name) : detail::closed; }
+    std::uint32_t release(const tlsf_name &name) noexcept { return state_ ? tlsf_release(get(), name) : detail::closed; }
     [[nodiscard]] std::uint32_t resize(const tlsf_name &name, std::uint32_t len) noexcept {
-        return state_ ? tlsf_resize(get(), &name, len) : detail::closed;
+        return state_ ? tlsf_resize(get(), name, len) : detail::closed;
     }
     [[nodiscard]] std::uint32_t reallocate(tlsf_name &name, std::uint32_t len) noexcept {
         return state_ ? tlsf_reallocate(get(), &name, len) : detail::closed;
     }
     void *payload(const tlsf_name &name, std::uint32_t *len = nullptr) noexcept {
-        return state_ ? tlsf_payload(get(), &name, len) : nullptr;
+        return state_ ? tlsf_payload(get(), name, len) : nullptr;
     }
     tlsf_heap_report report() noexcept {
         tlsf_heap_report sums{};
@@ -252,20 +246,20 @@ public:
     const tlsf_name &name() const noexcept { return name_; }
 
     // Its payload, aligned to 8 bytes, and the bytes of it; null and 0 where there is no block.
-    void *data() noexcept { return heap_ ? tlsf_payload(tlsf_near(&heap_->held), &name_, nullptr) : nullptr; }
+    void *data() noexcept { return heap_ ? tlsf_payload(tlsf_near(&heap_->held), name_, nullptr) : nullptr; }
     std::uint32_t size() noexcept {
         std::uint32_t len = 0;
-        if (heap_) (void)tlsf_payload(tlsf_near(&heap_->held), &name_, &len);
+        if (heap_) (void)tlsf_payload(tlsf_near(&heap_->held), name_, &len);
         return len;
     }
     [[nodiscard]] std::uint32_t resize(std::uint32_t len) noexcept {
-        return heap_ ? tlsf_resize(tlsf_near(&heap_->held), &name_, len) : detail::closed;
+        return heap_ ? tlsf_resize(tlsf_near(&heap_->held), name_, len) : detail::closed;
     }
     [[nodiscard]] std::uint32_t reallocate(std::uint32_t len) noexcept {
         return heap_ ? tlsf_reallocate(tlsf_near(&heap_->held), &name_, len) : detail::closed;
     }
     void reset() noexcept {
-        if (heap_) tlsf_release(tlsf_near(&heap_->held), &name_);
+        if (heap_) tlsf_release(tlsf_near(&heap_->held), name_);
         heap_ = {};
     }
     // Gives the name out of its hands: the block stays live until somebody releases it.
@@ -289,7 +283,7 @@ public:
     post_end() noexcept = default;
     tlsf_post_end *get() noexcept { return state_ ? &state_->raw : nullptr; }
     // Whether it was put: false where the lane is full or the end closed.
-    [[nodiscard]] bool put(const tlsf_name &name) noexcept { return state_ && tlsf_put(get(), &name) == TLSF_OK; }
+    [[nodiscard]] bool put(const tlsf_name &name) noexcept { return state_ && tlsf_put(get(), name) == TLSF_OK; }
     // Puts `n` names, the first of them first, until the lane is full, and says how many went: none where the end is closed.
     [[nodiscard]] std::size_t put_all(const tlsf_name *names, std::size_t n) noexcept {
         std::size_t went = 0;
@@ -349,7 +343,7 @@ public:
     tlsf_poster *get() noexcept { return state_ ? &state_->raw : nullptr; }
     // One attempt: TLSF_OK, TLSF_FULL, TLSF_BUSY where another thread is in the way, or TLSF_IS_CLOSED.
     [[nodiscard]] std::uint32_t post(const tlsf_name &name) noexcept {
-        return state_ ? tlsf_queue_post(get(), &name) : detail::closed;
+        return state_ ? tlsf_queue_post(get(), name) : detail::closed;
     }
     // The block's name goes, and the block is empty then; where it isn't posted, the block stays as it is.
     [[nodiscard]] std::uint32_t post(block &&sent) noexcept {
@@ -473,9 +467,9 @@ public:
     std::uint32_t collect() noexcept {
         std::uint32_t came = 0;
         while (const auto name = queue_.take()) {
-            void *at = tlsf_payload(tlsf_near(&heap_->held), &*name, nullptr);
+            void *at = tlsf_payload(tlsf_near(&heap_->held), *name, nullptr);
             if (at) static_cast<T *>(at)->~T();
-            tlsf_release(tlsf_near(&heap_->held), &*name);
+            tlsf_release(tlsf_near(&heap_->held), *name);
             out_--, came++;
         }
         return came;
@@ -513,7 +507,7 @@ public:
         return span;
     }
     std::uint32_t release(const tlsf_span &span) noexcept {
-        return state_ ? tlsf_offsets_release(get(), &span.name) : detail::closed;
+        return state_ ? tlsf_offsets_release(get(), span.name) : detail::closed;
     }
     [[nodiscard]] std::uint32_t resize(tlsf_span &span, std::uint64_t bytes) noexcept {
         return state_ ? tlsf_offsets_resize(get(), &span, bytes) : detail::closed;
@@ -543,12 +537,12 @@ public:
     [[nodiscard]] std::uint32_t allocate(std::uint32_t len, tlsf_name &name) noexcept {
         return state_ ? tlsf_pools_allocate(get(), len, &name) : detail::closed;
     }
-    std::uint32_t release(const tlsf_name &name) noexcept { return state_ ? tlsf_pools_release(get(), &name) : detail::closed; }
+    std::uint32_t release(const tlsf_name &name) noexcept { return state_ ? tlsf_pools_release(get(), name) : detail::closed; }
     [[nodiscard]] std::uint32_t write(const tlsf_name &name, std::uint32_t at, const std::uint8_t *bytes, std::size_t n) noexcept {
-        return state_ ? tlsf_pools_write(get(), &name, at, bytes, n) : detail::closed;
+        return state_ ? tlsf_pools_write(get(), name, at, bytes, n) : detail::closed;
     }
     [[nodiscard]] std::uint32_t read(const tlsf_name &name, std::uint32_t at, std::uint8_t *out, std::size_t n) noexcept {
-        return state_ ? tlsf_pools_read(get(), &name, at, out, n) : detail::closed;
+        return state_ ? tlsf_pools_read(get(), name, at, out, n) : detail::closed;
     }
     // Of the heap of one part, or none where there is no such part.
     std::optional<tlsf_heap_report> report(std::uint32_t part) noexcept {

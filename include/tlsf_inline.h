@@ -18,14 +18,16 @@
 #define TLSF_COPY memcpy
 #endif
 
-/* What these two name otherwise is called from here on: first what writes a trace, then what marks. */
+/* What these two name otherwise is called from here on: first what writes a trace, then what marks. Who asked for a payload may use
+ * so many bytes of it, and what is copied out of it is used. */
 #ifdef TLSF_TRACE
 #include "tlsf_trace.h"
 #endif
 #if defined(TLSF_ASAN) || defined(TLSF_VALGRIND)
 #include "tlsf_marks.h"
 #else
-#define TLSF_ASKED(payload, len, rounded) ((void)0)
+#define TLSF_ASKED(payload, len, rounded) ((void)(len))
+#define TLSF_USED(payload, len) ((void)0)
 #endif
 
 #ifdef __cplusplus
@@ -74,61 +76,56 @@ static inline void tlsf_fetch(uintptr_t header) TLSF_NOEXCEPT {
 #endif
 
 /* A place for `len` bytes at a multiple of `align` bytes, which is 16 at least. */
-static inline uint32_t tlsf_align_place(struct tlsf_heap *heap, uint32_t len, size_t align, uint32_t *at) TLSF_NOEXCEPT {
-    return tlsf_allocate_aligned(heap, len, (uint32_t)(align / 8), (uint32_t)((uintptr_t)heap->base / 8 % (align / 8)), at);
+static inline struct tlsf_placed tlsf_align_place(struct tlsf_heap *heap, uint32_t len, size_t align) TLSF_NOEXCEPT {
+    return tlsf_allocate_aligned(heap, len, (uint32_t)(align / 8), (uint32_t)((uintptr_t)heap->base / 8 % (align / 8)));
 }
 
 /* Gives a misaligned block back for one that is aligned to 16. */
-TLSF_RARE uint32_t tlsf_align_again(struct tlsf_heap *heap, uint32_t len, uint32_t *at) TLSF_NOEXCEPT {
-    tlsf_release_place(heap, *at);
-    return tlsf_align_place(heap, len, 16, at);
+TLSF_RARE struct tlsf_placed tlsf_align_again(struct tlsf_heap *heap, uint32_t len, uint32_t at) TLSF_NOEXCEPT {
+    tlsf_release_place(heap, at);
+    return tlsf_align_place(heap, len, 16);
 }
 
 /* A place for `len` bytes, TLSF_LONGEST at most, at a multiple of 16 bytes. */
-static inline uint32_t tlsf_even_place(struct tlsf_heap *heap, size_t len, uint32_t *at) TLSF_NOEXCEPT {
-    const uint32_t rounded = tlsf_rounded((uint32_t)len);
-    uint32_t answer = tlsf_allocate_place(heap, rounded, at);
-    if (answer == TLSF_OK && (uintptr_t)(heap->base + *at + 3) % 16 != 0) answer = tlsf_align_again(heap, rounded, at);
-    if (answer == TLSF_OK) TLSF_ASKED(heap->base + *at + 3, len, rounded);
-    return answer;
+static inline struct tlsf_placed tlsf_even_place(struct tlsf_heap *heap, size_t len) TLSF_NOEXCEPT {
+    const struct tlsf_placed it = tlsf_allocate_place(heap, tlsf_rounded((uint32_t)len));
+    if (it.answer != TLSF_OK || (uintptr_t)(heap->base + it.at + 3) % 16 == 0) return it;
+    return tlsf_align_again(heap, tlsf_rounded((uint32_t)len), it.at);
 }
 
 /* A place for `len` bytes at that alignment, unfilled; TLSF_BAD_SIZE where it is no power of two up to 4,096. */
-TLSF_ANSWER static inline uint32_t tlsf_allocate_for(struct tlsf_heap *heap, size_t len, size_t align,
-                                                     uint32_t *at) TLSF_NOEXCEPT {
-    if (align == 0 || align > 4096 || (align & (align - 1)) != 0) return TLSF_BAD_SIZE;
-    if (len > TLSF_LONGEST) return heap->is_open ? TLSF_NO_FIT : TLSF_IS_CLOSED;
-    if (align <= 16) return tlsf_even_place(heap, len, at);
-    const uint32_t rounded = tlsf_rounded((uint32_t)len);
-    const uint32_t answer = tlsf_align_place(heap, rounded, align, at);
-    if (answer == TLSF_OK) TLSF_ASKED(heap->base + *at + 3, len, rounded);
-    return answer;
+TLSF_ANSWER static inline struct tlsf_placed tlsf_allocate_for(struct tlsf_heap *heap, size_t len, size_t align) TLSF_NOEXCEPT {
+    struct tlsf_placed refused = {0, TLSF_BAD_SIZE, 0};
+    if (align == 0 || align > 4096 || (align & (align - 1)) != 0) return refused;
+    if (len > TLSF_LONGEST) {
+        refused.answer = heap->is_open ? TLSF_NO_FIT : TLSF_IS_CLOSED;
+        return refused;
+    }
+    return align <= 16 ? tlsf_even_place(heap, len) : tlsf_align_place(heap, tlsf_rounded((uint32_t)len), align);
 }
 
-static inline void *tlsf_malloc(struct tlsf_heap *heap, size_t len) TLSF_NOEXCEPT {
-    uint32_t at = 0;
-    if (len > TLSF_LONGEST || tlsf_even_place(heap, len, &at) != TLSF_OK) return TLSF_NULL;
+/* The address of a payload of which `len` bytes were asked for, or null where there is none. */
+static inline void *tlsf_asked_at(struct tlsf_heap *heap, uint32_t answer, uint32_t at, size_t len) TLSF_NOEXCEPT {
+    if (answer != TLSF_OK) return TLSF_NULL;
+    TLSF_ASKED(heap->base + at + 3, len, tlsf_rounded((uint32_t)len));
     return heap->base + at + 3;
 }
 
 static inline void *tlsf_aligned_alloc(struct tlsf_heap *heap, size_t align, size_t len) TLSF_NOEXCEPT {
-    uint32_t at = 0;
-    return tlsf_allocate_for(heap, len, align, &at) == TLSF_OK ? heap->base + at + 3 : TLSF_NULL;
+    const struct tlsf_placed it = tlsf_allocate_for(heap, len, align);
+    return tlsf_asked_at(heap, it.answer, it.at, len);
 }
+
+static inline void *tlsf_malloc(struct tlsf_heap *heap, size_t len) TLSF_NOEXCEPT { return tlsf_aligned_alloc(heap, 16, len); }
 
 static inline void *tlsf_calloc(struct tlsf_heap *heap, size_t count, size_t each) TLSF_NOEXCEPT {
     struct tlsf_name name = {0, 0, 0};
     if (each != 0 && count > TLSF_LONGEST / each) return TLSF_NULL;
     const size_t len = count * each;
-    const uint32_t rounded = tlsf_rounded((uint32_t)len);
-    if (tlsf_allocate(heap, rounded, &name) != TLSF_OK) return TLSF_NULL;
-    void *p = heap->base + name.at + 3;
-    if ((uintptr_t)p % 16 == 0) {
-        TLSF_ASKED(p, len, rounded);
-        return p;
-    }
+    const uint32_t answer = tlsf_allocate(heap, tlsf_rounded((uint32_t)len), &name);
+    if (answer != TLSF_OK || (uintptr_t)(heap->base + name.at + 3) % 16 == 0) return tlsf_asked_at(heap, answer, name.at, len);
     tlsf_release_place(heap, name.at);
-    p = tlsf_malloc(heap, len);
+    void *const p = tlsf_malloc(heap, len);
     return p == TLSF_NULL ? p : TLSF_SET(p, 0, len);
 }
 
@@ -166,10 +163,10 @@ TLSF_RARE bool tlsf_stays(struct tlsf_heap *heap, void *p, size_t len, uint32_t 
     if (tlsf_block_at(heap, tlsf_place_of(heap, p), &it) != TLSF_OK || it.is_live == 0) return false;
     if (8 * (it.size - 3) >= len && 8 * (it.size - 3) < *rounded) *rounded = 8 * (it.size - 3);
     if (tlsf_has_room(heap, &it, 3 + *rounded / 8)) return true;
-    const size_t had = tlsf_usable_size(heap, p);
     *moved = tlsf_malloc(heap, len);
     if (*moved == TLSF_NULL) return false;
-    TLSF_COPY(*moved, p, had < len ? had : len);
+    TLSF_USED(p, it.len);
+    TLSF_COPY(*moved, p, it.len < len ? it.len : len);
     tlsf_free(heap, p);
     return false;
 }
@@ -189,27 +186,20 @@ static inline void *tlsf_realloc(struct tlsf_heap *heap, void *p, size_t len) TL
 
 static inline uint32_t tlsf_allocate_at(struct tlsf_heap *heap, size_t len, size_t align, uint32_t flags, struct tlsf_name *name,
                                         void **payload) TLSF_NOEXCEPT {
-    struct tlsf_name own = {0, 0, 0};
-    uint32_t at = 0, bytes = 0;
-    uint32_t answer = tlsf_allocate_for(heap, len, align, &at);
-    if (answer == TLSF_OK) answer = tlsf_place(heap, at, &own, &bytes);
-    if (answer != TLSF_OK) return answer;
-    if ((flags & TLSF_UNFILLED) == 0) TLSF_SET(heap->base + at + 3, 0, bytes);
+    const struct tlsf_placed it = tlsf_allocate_for(heap, len, align);
+    const struct tlsf_name own = {heap->number, it.at, it.serial};
+    if (it.answer != TLSF_OK) return it.answer;
+    if ((flags & TLSF_UNFILLED) == 0) TLSF_SET(heap->base + it.at + 3, 0, tlsf_rounded((uint32_t)len));
     *name = own;
-    *payload = heap->base + at + 3;
+    *payload = heap->base + it.at + 3;
     return TLSF_OK;
 }
 
-/* --- By name: a copy of each, which lies in no payload ------------------------------------------------------------------ */
+/* --- By name: names that calls read or write by a pointer lie in no payload ---------------------------------------------- */
 
-/* Notes a block of `len` bytes where it has an odd number of words. A heap that is closed has none. */
+/* Notes a block of `len` bytes where it has an odd number of words. tlsf_open takes the note back. */
 static inline void tlsf_note(struct tlsf_heap *heap, uint32_t len) TLSF_NOEXCEPT {
     if (len > 8 && (len / 8 + (len % 8 != 0)) % 2 == 0) heap->is_mixed = true;
-}
-static inline uint32_t tlsf_close_noted(struct tlsf_heap *heap) TLSF_NOEXCEPT {
-    const uint32_t answer = tlsf_close(heap);
-    if (answer == TLSF_OK) heap->is_mixed = false;
-    return answer;
 }
 
 #ifndef TLSF_NO_COPIES
@@ -222,15 +212,8 @@ TLSF_ANSWER static inline uint32_t tlsf_allocate_copied(struct tlsf_heap *heap, 
     *name = own;
     return TLSF_OK;
 }
-static inline uint32_t tlsf_release_copied(struct tlsf_heap *heap, const struct tlsf_name *name) TLSF_NOEXCEPT {
-    const struct tlsf_name own = *name;
-    tlsf_fetch((uintptr_t)heap->base + 8 * (uintptr_t)own.at);
-    return tlsf_release(heap, &own);
-}
-TLSF_ANSWER static inline uint32_t tlsf_resize_copied(struct tlsf_heap *heap, const struct tlsf_name *name,
-                                                      uint32_t len) TLSF_NOEXCEPT {
-    const struct tlsf_name own = *name;
-    const uint32_t answer = tlsf_resize(heap, &own, len);
+TLSF_ANSWER static inline uint32_t tlsf_resize_noted(struct tlsf_heap *heap, struct tlsf_name name, uint32_t len) TLSF_NOEXCEPT {
+    const uint32_t answer = tlsf_resize(heap, name, len);
     if (answer == TLSF_OK) tlsf_note(heap, len);
     return answer;
 }
@@ -242,25 +225,6 @@ TLSF_ANSWER static inline uint32_t tlsf_reallocate_copied(struct tlsf_heap *heap
     tlsf_note(heap, len);
     *name = own;
     return TLSF_OK;
-}
-TLSF_ANSWER static inline uint32_t tlsf_write_copied(struct tlsf_heap *heap, const struct tlsf_name *name, uint32_t at,
-                                                     const uint8_t *bytes, size_t n) TLSF_NOEXCEPT {
-    const struct tlsf_name own = *name;
-    return tlsf_write(heap, &own, at, bytes, n);
-}
-TLSF_ANSWER static inline uint32_t tlsf_read_copied(struct tlsf_heap *heap, const struct tlsf_name *name, uint32_t at,
-                                                    uint8_t *out, size_t n) TLSF_NOEXCEPT {
-    const struct tlsf_name own = *name;
-    return tlsf_read(heap, &own, at, out, n);
-}
-TLSF_ANSWER static inline uint32_t tlsf_locate_copied(struct tlsf_heap *heap, const struct tlsf_name *name, uint64_t **base,
-                                                      uint32_t *len) TLSF_NOEXCEPT {
-    const struct tlsf_name own = *name;
-    return tlsf_locate(heap, &own, base, len);
-}
-TLSF_ANSWER static inline uint32_t tlsf_put_copied(struct tlsf_post_end *post, const struct tlsf_name *name) TLSF_NOEXCEPT {
-    const struct tlsf_name own = *name;
-    return tlsf_put(post, &own);
 }
 TLSF_ANSWER static inline uint32_t tlsf_put_all_copied(struct tlsf_post_end *post, const struct tlsf_name *names, size_t n,
                                                        size_t *went) TLSF_NOEXCEPT {
@@ -282,50 +246,36 @@ TLSF_ANSWER static inline uint32_t tlsf_take_copied(struct tlsf_take_end *take, 
     if (answer == TLSF_OK) *name = own;
     return answer;
 }
-TLSF_ANSWER static inline uint32_t tlsf_queue_post_copied(struct tlsf_poster *poster,
-                                                          const struct tlsf_name *name) TLSF_NOEXCEPT {
-    const struct tlsf_name own = *name;
-    return tlsf_queue_post(poster, &own);
-}
 TLSF_ANSWER static inline uint32_t tlsf_queue_take_copied(struct tlsf_queue *queue, struct tlsf_name *name) TLSF_NOEXCEPT {
     struct tlsf_name own = {0, 0, 0};
     const uint32_t answer = tlsf_queue_take(queue, &own);
     if (answer == TLSF_OK) *name = own;
     return answer;
 }
+static inline uint32_t tlsf_release_fetched(struct tlsf_heap *heap, struct tlsf_name name) TLSF_NOEXCEPT {
+    tlsf_fetch((uintptr_t)heap->base + 8 * (uintptr_t)name.at);
+    return tlsf_release(heap, name);
+}
 /* What tlsf_trace.h and tlsf_marks.h may have named before. */
-#undef tlsf_close
 #undef tlsf_allocate
-#undef tlsf_release
 #undef tlsf_resize
 #undef tlsf_reallocate
-#undef tlsf_write
-#undef tlsf_read
-#undef tlsf_locate
-#undef tlsf_put
-#undef tlsf_put_all
-#undef tlsf_take
-#define tlsf_close(...) tlsf_close_noted(__VA_ARGS__)
+#undef tlsf_release
 #define tlsf_allocate(...) tlsf_allocate_copied(__VA_ARGS__)
-#define tlsf_release(...) tlsf_release_copied(__VA_ARGS__)
-#define tlsf_resize(...) tlsf_resize_copied(__VA_ARGS__)
+#define tlsf_resize(...) tlsf_resize_noted(__VA_ARGS__)
 #define tlsf_reallocate(...) tlsf_reallocate_copied(__VA_ARGS__)
-#define tlsf_write(...) tlsf_write_copied(__VA_ARGS__)
-#define tlsf_read(...) tlsf_read_copied(__VA_ARGS__)
-#define tlsf_locate(...) tlsf_locate_copied(__VA_ARGS__)
-#define tlsf_put(...) tlsf_put_copied(__VA_ARGS__)
 #define tlsf_put_all(...) tlsf_put_all_copied(__VA_ARGS__)
 #define tlsf_take(...) tlsf_take_copied(__VA_ARGS__)
-#define tlsf_queue_post(...) tlsf_queue_post_copied(__VA_ARGS__)
 #define tlsf_queue_take(...) tlsf_queue_take_copied(__VA_ARGS__)
+#define tlsf_release(...) tlsf_release_fetched(__VA_ARGS__)
 #endif
 
-static inline void *tlsf_payload(struct tlsf_heap *heap, const struct tlsf_name *name, uint32_t *len) TLSF_NOEXCEPT {
+static inline void *tlsf_payload(struct tlsf_heap *heap, struct tlsf_name name, uint32_t *len) TLSF_NOEXCEPT {
     uint64_t *base = TLSF_NULL;
     uint32_t bytes = 0;
     if (tlsf_locate(heap, name, &base, &bytes) != TLSF_OK) return TLSF_NULL;
     if (len != TLSF_NULL) *len = bytes;
-    return base + name->at + 3;
+    return base + name.at + 3;
 }
 
 static inline const char *tlsf_text_of(uint32_t answer) TLSF_NOEXCEPT {
@@ -349,6 +299,7 @@ static inline const char *tlsf_text_of(uint32_t answer) TLSF_NOEXCEPT {
     case TLSF_BUSY: return "another thread is in the way: try again";
     case TLSF_ROW_FULL: return "all blocks of that row are held";
     case TLSF_BAD_MEMORY: return "memory that is null, or past the end of the address space";
+    case TLSF_OTHER_KIND: return "the handle holds something of another kind";
     default: return "no answer of this library";
     }
 }

@@ -63,8 +63,8 @@ static inline void tlsf_mark_filled(void *from, size_t n) TLSF_NOEXCEPT {
 }
 
 /* What malloc's calls gave: no more than was asked for. */
-#undef TLSF_ASKED
 #define TLSF_ASKED(payload, len, rounded) tlsf_mark_dead(payload, len, (rounded) - (len))
+#define TLSF_USED(payload, len) tlsf_mark_live(payload, len)
 
 static inline void *tlsf_mark_at(const struct tlsf_heap *heap, uint32_t at) TLSF_NOEXCEPT { return heap->base + at + 3; }
 
@@ -131,23 +131,23 @@ TLSF_ANSWER static inline uint32_t tlsf_marked_place(struct tlsf_heap *heap, uin
     return answer;
 }
 
-TLSF_ANSWER static inline uint32_t tlsf_marked_locate(struct tlsf_heap *heap, const struct tlsf_name *name, uint64_t **base,
+TLSF_ANSWER static inline uint32_t tlsf_marked_locate(struct tlsf_heap *heap, struct tlsf_name name, uint64_t **base,
                                                       uint32_t *len) TLSF_NOEXCEPT {
     TLSF_BEGIN_CALL;
     const uint32_t answer = tlsf_locate(heap, name, base, len);
     TLSF_END_CALL;
-    if (answer == TLSF_OK) tlsf_mark_live(tlsf_mark_at(heap, name->at), *len);
+    if (answer == TLSF_OK) tlsf_mark_live(tlsf_mark_at(heap, name.at), *len);
     return answer;
 }
 
 /* The bytes of the live block of that name; 0 where the call has to be refused. */
-static inline uint32_t tlsf_marked_len(struct tlsf_heap *heap, const struct tlsf_name *name) TLSF_NOEXCEPT {
+static inline uint32_t tlsf_marked_len(struct tlsf_heap *heap, struct tlsf_name name) TLSF_NOEXCEPT {
     uint64_t *base = TLSF_NULL;
     uint32_t len = 0;
     return tlsf_marked_locate(heap, name, &base, &len) == TLSF_OK ? len : 0;
 }
 
-TLSF_ANSWER static inline uint32_t tlsf_marked_write(struct tlsf_heap *heap, const struct tlsf_name *name, uint32_t at,
+TLSF_ANSWER static inline uint32_t tlsf_marked_write(struct tlsf_heap *heap, struct tlsf_name name, uint32_t at,
                                                      const uint8_t *bytes, size_t n) TLSF_NOEXCEPT {
     (void)tlsf_marked_len(heap, name);
     TLSF_BEGIN_CALL;
@@ -156,7 +156,7 @@ TLSF_ANSWER static inline uint32_t tlsf_marked_write(struct tlsf_heap *heap, con
     return answer;
 }
 
-TLSF_ANSWER static inline uint32_t tlsf_marked_read(struct tlsf_heap *heap, const struct tlsf_name *name, uint32_t at,
+TLSF_ANSWER static inline uint32_t tlsf_marked_read(struct tlsf_heap *heap, struct tlsf_name name, uint32_t at,
                                                     uint8_t *out, size_t n) TLSF_NOEXCEPT {
     (void)tlsf_marked_len(heap, name);
     TLSF_BEGIN_CALL;
@@ -208,31 +208,30 @@ static inline uint32_t tlsf_marked_close(struct tlsf_heap *heap) TLSF_NOEXCEPT {
 
 /* --- What gives and takes back ---------------------------------------------------------------------------------------- */
 
-TLSF_ANSWER static inline uint32_t tlsf_marked_allocate_place(struct tlsf_heap *heap, uint32_t len, uint32_t *at) TLSF_NOEXCEPT {
+TLSF_ANSWER static inline struct tlsf_placed tlsf_marked_allocate_place(struct tlsf_heap *heap, uint32_t len) TLSF_NOEXCEPT {
     TLSF_BEGIN_CALL;
-    const uint32_t answer = tlsf_allocate_place(heap, len, at);
+    const struct tlsf_placed it = tlsf_allocate_place(heap, len);
     TLSF_END_CALL;
-    if (answer == TLSF_OK) tlsf_mark_live(tlsf_mark_at(heap, *at), len);
-    return answer;
+    if (it.answer == TLSF_OK) tlsf_mark_live(tlsf_mark_at(heap, it.at), len);
+    return it;
 }
 
-TLSF_ANSWER static inline uint32_t tlsf_marked_allocate_aligned(struct tlsf_heap *heap, uint32_t len, uint32_t step,
-                                                                uint32_t skew, uint32_t *at) TLSF_NOEXCEPT {
+TLSF_ANSWER static inline struct tlsf_placed tlsf_marked_allocate_aligned(struct tlsf_heap *heap, uint32_t len, uint32_t step,
+                                                                          uint32_t skew) TLSF_NOEXCEPT {
     TLSF_BEGIN_CALL;
-    const uint32_t answer = tlsf_allocate_aligned(heap, len, step, skew, at);
+    const struct tlsf_placed it = tlsf_allocate_aligned(heap, len, step, skew);
     TLSF_END_CALL;
-    if (answer == TLSF_OK) tlsf_mark_live(tlsf_mark_at(heap, *at), len);
-    return answer;
+    if (it.answer == TLSF_OK) tlsf_mark_live(tlsf_mark_at(heap, it.at), len);
+    return it;
 }
 
-/* It is filled here: the library would fill what may not be touched yet. */
 TLSF_ANSWER static inline uint32_t tlsf_marked_allocate(struct tlsf_heap *heap, uint32_t len,
                                                         struct tlsf_name *name) TLSF_NOEXCEPT {
-    uint32_t at = 0, bytes = 0;
-    const uint32_t answer = tlsf_marked_allocate_place(heap, len, &at);
-    if (answer != TLSF_OK) return answer;
-    TLSF_SET(tlsf_mark_at(heap, at), 0, len);
-    return tlsf_marked_place(heap, at, name, &bytes);
+    TLSF_BEGIN_CALL;
+    const uint32_t answer = tlsf_allocate(heap, len, name);
+    TLSF_END_CALL;
+    if (answer == TLSF_OK) tlsf_mark_filled(tlsf_mark_at(heap, name->at), len);
+    return answer;
 }
 
 static inline uint32_t tlsf_marked_release_place(struct tlsf_heap *heap, uint32_t at) TLSF_NOEXCEPT {
@@ -245,12 +244,12 @@ static inline uint32_t tlsf_marked_release_place(struct tlsf_heap *heap, uint32_
     return answer;
 }
 
-static inline uint32_t tlsf_marked_release(struct tlsf_heap *heap, const struct tlsf_name *name) TLSF_NOEXCEPT {
+static inline uint32_t tlsf_marked_release(struct tlsf_heap *heap, struct tlsf_name name) TLSF_NOEXCEPT {
     const uint32_t len = tlsf_marked_len(heap, name);
     TLSF_BEGIN_CALL;
     const uint32_t answer = tlsf_release(heap, name);
     TLSF_END_CALL;
-    if (answer == TLSF_OK) tlsf_mark_dead(tlsf_mark_at(heap, name->at), 0, len);
+    if (answer == TLSF_OK) tlsf_mark_dead(tlsf_mark_at(heap, name.at), 0, len);
     return answer;
 }
 
@@ -259,7 +258,7 @@ static inline uint32_t tlsf_marked_drain(struct tlsf_heap *heap, struct tlsf_tak
     struct tlsf_name name = {0, 0, 0};
     uint32_t count = 0;
     if (!heap->is_open || !take->is_open) return tlsf_drain(heap, take, most, came);
-    for (; count < most && tlsf_take(take, &name) == TLSF_OK; count++) tlsf_marked_release(heap, &name);
+    for (; count < most && tlsf_take(take, &name) == TLSF_OK; count++) tlsf_marked_release(heap, name);
     *came = count;
     return TLSF_OK;
 }
@@ -269,7 +268,7 @@ static inline uint32_t tlsf_marked_queue_drain(struct tlsf_heap *heap, struct tl
     struct tlsf_name name = {0, 0, 0};
     uint32_t count = 0;
     if (!heap->is_open || !queue->is_open) return tlsf_queue_drain(heap, queue, most, came);
-    for (; count < most && tlsf_queue_take(queue, &name) == TLSF_OK; count++) tlsf_marked_release(heap, &name);
+    for (; count < most && tlsf_queue_take(queue, &name) == TLSF_OK; count++) tlsf_marked_release(heap, name);
     *came = count;
     return TLSF_OK;
 }
@@ -293,15 +292,16 @@ static inline void tlsf_mark_copy(struct tlsf_heap *heap, uint32_t from, uint32_
 TLSF_ANSWER static inline uint32_t tlsf_marked_resize_place(struct tlsf_heap *heap, uint32_t at, uint32_t len,
                                                             uint32_t *new_at) TLSF_NOEXCEPT {
     struct tlsf_name name = {0, 0, 0};
-    uint32_t had = 0, to = 0;
+    uint32_t had = 0;
     const bool stays = tlsf_mark_stays(heap, at, len, &had);
     uint32_t answer = tlsf_marked_place(heap, at, &name, &had);
-    if (answer == TLSF_OK && !stays) answer = tlsf_marked_allocate_place(heap, len, &to);
     if (answer != TLSF_OK) return answer;
     if (!stays) {
-        tlsf_mark_copy(heap, at, to, had, len);
+        const struct tlsf_placed to = tlsf_marked_allocate_place(heap, len);
+        if (to.answer != TLSF_OK) return to.answer;
+        tlsf_mark_copy(heap, at, to.at, had, len);
         tlsf_marked_release_place(heap, at);
-        *new_at = to;
+        *new_at = to.at;
         return TLSF_OK;
     }
     TLSF_BEGIN_CALL;
@@ -312,19 +312,14 @@ TLSF_ANSWER static inline uint32_t tlsf_marked_resize_place(struct tlsf_heap *he
     return answer;
 }
 
-/* What has to move is refused by the call; what stays is resized unfilled, and filled here. */
-TLSF_ANSWER static inline uint32_t tlsf_marked_resize(struct tlsf_heap *heap, const struct tlsf_name *name,
+TLSF_ANSWER static inline uint32_t tlsf_marked_resize(struct tlsf_heap *heap, struct tlsf_name name,
                                                       uint32_t len) TLSF_NOEXCEPT {
-    uint64_t *base = TLSF_NULL;
-    uint32_t had = 0, at = 0, answer = tlsf_marked_locate(heap, name, &base, &had);
-    if (answer != TLSF_OK || !tlsf_mark_stays(heap, name->at, len, &had)) {
-        TLSF_BEGIN_CALL;
-        answer = tlsf_resize(heap, name, len);
-        TLSF_END_CALL;
-        return answer;
-    }
-    answer = tlsf_marked_resize_place(heap, name->at, len, &at);
-    if (answer == TLSF_OK && len > had) TLSF_SET((char *)tlsf_mark_at(heap, at) + had, 0, len - had);
+    const uint32_t had = tlsf_marked_len(heap, name);
+    TLSF_BEGIN_CALL;
+    const uint32_t answer = tlsf_resize(heap, name, len);
+    TLSF_END_CALL;
+    if (answer == TLSF_OK && len > had) tlsf_mark_filled((char *)tlsf_mark_at(heap, name.at) + had, len - had);
+    if (answer == TLSF_OK && len < had) tlsf_mark_dead(tlsf_mark_at(heap, name.at), len, had - len);
     return answer;
 }
 
@@ -332,13 +327,13 @@ TLSF_ANSWER static inline uint32_t tlsf_marked_reallocate(struct tlsf_heap *heap
                                                           uint32_t len) TLSF_NOEXCEPT {
     struct tlsf_name moved = {0, 0, 0};
     uint64_t *base = TLSF_NULL;
-    uint32_t had = 0, answer = tlsf_marked_locate(heap, name, &base, &had);
+    uint32_t had = 0, answer = tlsf_marked_locate(heap, *name, &base, &had);
     if (answer != TLSF_OK) return answer;
-    if (tlsf_mark_stays(heap, name->at, len, &had)) return tlsf_marked_resize(heap, name, len);
+    if (tlsf_mark_stays(heap, name->at, len, &had)) return tlsf_marked_resize(heap, *name, len);
     answer = tlsf_marked_allocate(heap, len, &moved);
     if (answer != TLSF_OK) return answer;
     tlsf_mark_copy(heap, name->at, moved.at, had, len);
-    tlsf_marked_release(heap, name);
+    tlsf_marked_release(heap, *name);
     *name = moved;
     return TLSF_OK;
 }

@@ -115,26 +115,24 @@ static inline void tlsf_trace_line(char kind, uint32_t label, uint32_t len) TLSF
     else fprintf(to, "%c 0 %" PRIu32 " %" PRIu32 "\n", kind, label, len);
 }
 
-/* An allocate: accepted, where the block has that name, or refused for want of room. It leaves room for an `f` line, which is
- * the second one where a block moves. */
-static inline void tlsf_trace_given(const struct tlsf_heap *heap, uint32_t answer, const struct tlsf_name *name, uint32_t len) TLSF_NOEXCEPT {
-    if ((answer != TLSF_OK && answer != TLSF_NO_FIT) || !tlsf_trace_takes(heap, 2)) return;
-    if (answer == TLSF_OK) {
-        uint32_t *first = &tlsf_trace.first[name->at % TLSF_TRACE_LISTS];
-        tlsf_trace.block[tlsf_trace.labels].serial = name->serial;
-        tlsf_trace.block[tlsf_trace.labels].at = name->at;
+/* An allocate: accepted, or refused for want of room. It leaves room for an `f` line, which is the second one where a block
+ * moves. */
+static inline void tlsf_trace_given(const struct tlsf_heap *heap, struct tlsf_placed it, uint32_t len) TLSF_NOEXCEPT {
+    if ((it.answer != TLSF_OK && it.answer != TLSF_NO_FIT) || !tlsf_trace_takes(heap, 2)) return;
+    if (it.answer == TLSF_OK) {
+        uint32_t *first = &tlsf_trace.first[it.at % TLSF_TRACE_LISTS];
+        tlsf_trace.block[tlsf_trace.labels].serial = it.serial;
+        tlsf_trace.block[tlsf_trace.labels].at = it.at;
         tlsf_trace.block[tlsf_trace.labels].next = *first;
         *first = tlsf_trace.labels + 1;
     }
     tlsf_trace_line('a', tlsf_trace.labels++, len);
 }
 
-/* The same of a block whose place is at `at`, where it was accepted. */
-static inline void tlsf_trace_given_place(struct tlsf_heap *heap, uint32_t answer, const uint32_t *at, uint32_t len) TLSF_NOEXCEPT {
-    struct tlsf_name name = {0, 0, 0};
-    uint32_t had = 0;
-    if (answer == TLSF_OK && tlsf_place(heap, *at, &name, &had) != TLSF_OK) return;
-    tlsf_trace_given(heap, answer, &name, len);
+/* The same where a call wrote a name, if it was accepted. */
+static inline void tlsf_trace_named(const struct tlsf_heap *heap, uint32_t answer, const struct tlsf_name *name, uint32_t len) TLSF_NOEXCEPT {
+    const struct tlsf_placed it = {name->at, answer, name->serial};
+    tlsf_trace_given(heap, it, len);
 }
 
 /* A release, `f`, or a resize where the block stands, `r`: accepted, or refused for a reason that the trace has too. */
@@ -169,24 +167,22 @@ static inline uint32_t tlsf_trace_class_low(uint32_t words) TLSF_NOEXCEPT {
  * it is cut to the words in front, and released at last. In between the free words behind it give the block. The heap takes
  * them by their place. Here it is asked for the least words of their class, which finds them since they became free last, and
  * which is then resized to those that are wanted. */
-static inline void tlsf_trace_given_aligned(struct tlsf_heap *heap, uint32_t answer, const uint32_t *at, uint32_t len, uint32_t step) TLSF_NOEXCEPT {
+static inline void tlsf_trace_given_aligned(struct tlsf_heap *heap, struct tlsf_placed it, uint32_t len, uint32_t step) TLSF_NOEXCEPT {
     const uint64_t wanted = (len < 8 ? 8 : (uint64_t)len) + 8 * ((uint64_t)(step == 0 ? 1 : step) + 4);
     const uint32_t longest = wanted < UINT32_MAX ? (uint32_t)wanted : UINT32_MAX, front = tlsf_trace.labels;
     struct tlsf_block_info own = {0, 0, 0, 0, 0}, behind = {0, 0, 0, 0, 0};
-    struct tlsf_name name = {0, 0, 0};
-    uint32_t gap, had = 0;
-    if (!tlsf_trace_takes(heap, 5)) return;
-    if (answer == TLSF_OK && (tlsf_place(heap, *at, &name, &had) != TLSF_OK || tlsf_block_at(heap, *at, &own) != TLSF_OK)) return;
-    gap = answer == TLSF_OK ? tlsf_trace_gap(heap, *at, step) : 0;
+    uint32_t gap;
+    if (!tlsf_trace_takes(heap, 5) || (it.answer == TLSF_OK && tlsf_block_at(heap, it.at, &own) != TLSF_OK)) return;
+    gap = it.answer == TLSF_OK ? tlsf_trace_gap(heap, it.at, step) : 0;
     if (gap == 0) {
-        tlsf_trace_given(heap, answer, &name, longest);
-        if (answer == TLSF_OK) tlsf_trace_changed(heap, answer, *at, &name.serial, &len);
+        tlsf_trace_given(heap, it, longest);
+        if (it.answer == TLSF_OK) tlsf_trace_changed(heap, TLSF_OK, it.at, &it.serial, &len);
         return;
     }
-    if (tlsf_block_at(heap, *at + own.size, &behind) == TLSF_OK && behind.is_live == 0) own.size += behind.size;
+    if (tlsf_block_at(heap, it.at + own.size, &behind) == TLSF_OK && behind.is_live == 0) own.size += behind.size;
     tlsf_trace_line('a', tlsf_trace.labels++, longest);
     tlsf_trace_line('r', front, 8 * (gap - 3));
-    tlsf_trace_given(heap, answer, &name, 8 * (tlsf_trace_class_low(own.size) - 3));
+    tlsf_trace_given(heap, it, 8 * (tlsf_trace_class_low(own.size) - 3));
     tlsf_trace_line('r', front + 1, len);
     tlsf_trace_line('f', front, 0);
 }
@@ -229,26 +225,26 @@ static inline uint32_t tlsf_traced_close(struct tlsf_heap *heap) TLSF_NOEXCEPT {
 
 TLSF_ANSWER static inline uint32_t tlsf_traced_allocate(struct tlsf_heap *heap, uint32_t len, struct tlsf_name *name) TLSF_NOEXCEPT {
     const uint32_t answer = tlsf_allocate(heap, len, name);
-    tlsf_trace_given(heap, answer, name, len);
+    tlsf_trace_named(heap, answer, name, len);
     return answer;
 }
 
-TLSF_ANSWER static inline uint32_t tlsf_traced_allocate_place(struct tlsf_heap *heap, uint32_t len, uint32_t *at) TLSF_NOEXCEPT {
-    const uint32_t answer = tlsf_allocate_place(heap, len, at);
-    tlsf_trace_given_place(heap, answer, at, len);
-    return answer;
+TLSF_ANSWER static inline struct tlsf_placed tlsf_traced_allocate_place(struct tlsf_heap *heap, uint32_t len) TLSF_NOEXCEPT {
+    const struct tlsf_placed it = tlsf_allocate_place(heap, len);
+    tlsf_trace_given(heap, it, len);
+    return it;
 }
 
-TLSF_ANSWER static inline uint32_t tlsf_traced_allocate_aligned(struct tlsf_heap *heap, uint32_t len, uint32_t step, uint32_t skew,
-                                                                uint32_t *at) TLSF_NOEXCEPT {
-    const uint32_t answer = tlsf_allocate_aligned(heap, len, step, skew, at);
-    tlsf_trace_given_aligned(heap, answer, at, len, step);
-    return answer;
+TLSF_ANSWER static inline struct tlsf_placed tlsf_traced_allocate_aligned(struct tlsf_heap *heap, uint32_t len, uint32_t step,
+                                                                          uint32_t skew) TLSF_NOEXCEPT {
+    const struct tlsf_placed it = tlsf_allocate_aligned(heap, len, step, skew);
+    tlsf_trace_given_aligned(heap, it, len, step);
+    return it;
 }
 
-static inline uint32_t tlsf_traced_release(struct tlsf_heap *heap, const struct tlsf_name *name) TLSF_NOEXCEPT {
+static inline uint32_t tlsf_traced_release(struct tlsf_heap *heap, struct tlsf_name name) TLSF_NOEXCEPT {
     const uint32_t answer = tlsf_release(heap, name);
-    tlsf_trace_changed(heap, answer, name->at, &name->serial, TLSF_NULL);
+    tlsf_trace_changed(heap, answer, name.at, &name.serial, TLSF_NULL);
     return answer;
 }
 
@@ -258,9 +254,9 @@ static inline uint32_t tlsf_traced_release_place(struct tlsf_heap *heap, uint32_
     return answer;
 }
 
-TLSF_ANSWER static inline uint32_t tlsf_traced_resize(struct tlsf_heap *heap, const struct tlsf_name *name, uint32_t len) TLSF_NOEXCEPT {
+TLSF_ANSWER static inline uint32_t tlsf_traced_resize(struct tlsf_heap *heap, struct tlsf_name name, uint32_t len) TLSF_NOEXCEPT {
     const uint32_t answer = tlsf_resize(heap, name, len);
-    tlsf_trace_changed(heap, answer, name->at, &name->serial, &len);
+    tlsf_trace_changed(heap, answer, name.at, &name.serial, &len);
     return answer;
 }
 
@@ -269,7 +265,7 @@ TLSF_ANSWER static inline uint32_t tlsf_traced_reallocate(struct tlsf_heap *heap
     const struct tlsf_name before = *name;
     const uint32_t answer = tlsf_reallocate(heap, name, len);
     const bool moves = answer == TLSF_NO_FIT || (answer == TLSF_OK && name->at != before.at);
-    if (moves) tlsf_trace_given(heap, answer, name, len);
+    if (moves) tlsf_trace_named(heap, answer, name, len);
     if (answer != TLSF_NO_FIT) tlsf_trace_changed(heap, answer, before.at, &before.serial, moves ? TLSF_NULL : &len);
     return answer;
 }
@@ -277,7 +273,10 @@ TLSF_ANSWER static inline uint32_t tlsf_traced_reallocate(struct tlsf_heap *heap
 TLSF_ANSWER static inline uint32_t tlsf_traced_resize_place(struct tlsf_heap *heap, uint32_t at, uint32_t len, uint32_t *new_at) TLSF_NOEXCEPT {
     const uint32_t answer = tlsf_resize_place(heap, at, len, new_at);
     const bool moves = answer == TLSF_NO_FIT || (answer == TLSF_OK && *new_at != at);
-    if (moves) tlsf_trace_given_place(heap, answer, new_at, len);
+    struct tlsf_name name = {0, 0, 0};
+    uint32_t had = 0;
+    if (answer == TLSF_OK && moves && tlsf_place(heap, *new_at, &name, &had) != TLSF_OK) return answer;
+    if (moves) tlsf_trace_named(heap, answer, &name, len);
     if (answer != TLSF_NO_FIT) tlsf_trace_changed(heap, answer, at, TLSF_NULL, moves ? TLSF_NULL : &len);
     return answer;
 }
@@ -288,7 +287,7 @@ static inline uint32_t tlsf_traced_drain(struct tlsf_heap *heap, struct tlsf_tak
     uint32_t count = 0;
     const uint32_t answer = tlsf_drain(heap, take, 0, came);
     if (answer != TLSF_OK) return answer;
-    for (; count < most && tlsf_take(take, &name) == TLSF_OK; count++) tlsf_traced_release(heap, &name);
+    for (; count < most && tlsf_take(take, &name) == TLSF_OK; count++) tlsf_traced_release(heap, name);
     *came = count;
     return TLSF_OK;
 }
@@ -299,7 +298,7 @@ static inline uint32_t tlsf_traced_queue_drain(struct tlsf_heap *heap, struct tl
     uint32_t count = 0;
     const uint32_t answer = tlsf_queue_drain(heap, queue, 0, came);
     if (answer != TLSF_OK) return answer;
-    for (; count < most && tlsf_queue_take(queue, &name) == TLSF_OK; count++) tlsf_traced_release(heap, &name);
+    for (; count < most && tlsf_queue_take(queue, &name) == TLSF_OK; count++) tlsf_traced_release(heap, name);
     *came = count;
     return TLSF_OK;
 }

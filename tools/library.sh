@@ -1,6 +1,6 @@
 # Sourced: where the files of C's library go, and how the program is linked of its object file.
 
-soname=libpeachanchor.so.1
+soname=libpeachanchor.so.2
 
 # What Debian's packages are made by.
 deb_tools="dpkg-deb gzip strip python3"

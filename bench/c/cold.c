@@ -67,11 +67,11 @@ static _Alignas(LINE) struct tlsf_heap heap;
 static struct tlsf_near_heap near;
 
 static int heap_allocate(struct block *block, uint32_t len) { return !tlsf_allocate(&heap, len, &block->name); }
-static int heap_release(struct block *block, uint32_t len) { return (void)len, !tlsf_release(&heap, &block->name); }
+static int heap_release(struct block *block, uint32_t len) { return (void)len, !tlsf_release(&heap, block->name); }
 static int heap_malloc(struct block *block, uint32_t len) { return (block->at = tlsf_malloc(&heap, len)) != NULL; }
 static int heap_free(struct block *block, uint32_t len) { return (void)len, !tlsf_free(&heap, block->at); }
 static int near_allocate(struct block *block, uint32_t len) { return !tlsf_allocate(tlsf_near(&near), len, &block->name); }
-static int near_release(struct block *block, uint32_t len) { return (void)len, !tlsf_release(tlsf_near(&near), &block->name); }
+static int near_release(struct block *block, uint32_t len) { return (void)len, !tlsf_release(tlsf_near(&near), block->name); }
 static int near_malloc(struct block *block, uint32_t len) { return (block->at = tlsf_malloc(tlsf_near(&near), len)) != NULL; }
 static int near_free(struct block *block, uint32_t len) { return (void)len, !tlsf_free(tlsf_near(&near), block->at); }
 static int system_calloc(struct block *block, uint32_t len) { return (block->at = own->calloc(1, len)) != NULL; }
@@ -183,8 +183,8 @@ static void trace_call(int call, struct block *block, uint32_t len) {
     own->marks[ENDED] = 1;
     ends_if(!is_done, "a call");
     const volatile char *payload = block->at;
-    if (own->calls[call] == heap_allocate) payload = tlsf_payload(&heap, &block->name, NULL);
-    if (own->calls[call] == near_allocate) payload = tlsf_payload(tlsf_near(&near), &block->name, NULL);
+    if (own->calls[call] == heap_allocate) payload = tlsf_payload(&heap, block->name, NULL);
+    if (own->calls[call] == near_allocate) payload = tlsf_payload(tlsf_near(&near), block->name, NULL);
     if (call == RELEASE || call == FREE) payload = own->marks;
     /* Valgrind leaves out reads of what isn't used. */
     const char first = on_stack, second = *payload, third = own->marks[LENGTHS + len];

@@ -101,7 +101,7 @@ static size_t ring_drain(size_t most) {
         if (n > most - came) n = most - came;
         for (size_t k = 0; k < n; k++) some[k] = names[(at + k) % CAPACITY];
         if (n) atomic_store_explicit(&head.at, at + n, memory_order_release);
-        for (size_t k = 0; k < n; k++) (void)tlsf_release(&heap, &some[k]);
+        for (size_t k = 0; k < n; k++) (void)tlsf_release(&heap, some[k]);
         came += n;
     }
     return came;
@@ -132,7 +132,7 @@ static void take_back(void *at, const struct tlsf_name *name) {
         return;
     }
     if (way == LOCK) pthread_mutex_lock(&lock);
-    (void)tlsf_release(&heap, name);
+    (void)tlsf_release(&heap, *name);
     if (way == LOCK) pthread_mutex_unlock(&lock);
 }
 
@@ -145,9 +145,9 @@ static size_t put(struct poster *by, const union block *from, size_t n) {
     } else if (way == RING) {
         went = ring_put(from, n);
     } else if (way == QUEUE) {
-        while (went < n && tlsf_queue_post(&by->end, &from[went].name) == TLSF_OK) went++;
+        while (went < n && tlsf_queue_post(&by->end, from[went].name) == TLSF_OK) went++;
     } else if (n == 1) {
-        went = tlsf_put(by->lane, &from->name) == TLSF_OK;
+        went = tlsf_put(by->lane, from->name) == TLSF_OK;
     } else {
         for (size_t k = 0; k < n; k++) some[k] = from[k].name;
         if (tlsf_put_all(by->lane, some, n, &went) != TLSF_OK) exit(1);
@@ -287,7 +287,7 @@ static int time_frees(char **words) {
 static _Alignas(128) atomic_uint line;
 
 static void put_one(struct lane *lane, const struct tlsf_name *name) {
-    while (tlsf_put(&lane->post, name)) {}
+    while (tlsf_put(&lane->post, *name)) {}
 }
 
 static void take_one(struct lane *lane, struct tlsf_name *name) {

@@ -39,11 +39,11 @@ struct tally {
 };
 
 /* A call, which is added to a tally where there is one. */
-static uint64_t call(struct tally *tally, uintptr_t function, uintptr_t a, uintptr_t b, uintptr_t c, uintptr_t d, uintptr_t e) {
+static uint64_t call(struct tally *tally, uintptr_t function, const uintptr_t with[6]) {
     if (!is_stepped) tally = NULL;
     trap = tally ? TRAP : 0;
     traps = 0;
-    const uint64_t answer = call_stepped(function, a, b, c, d, e);
+    const uint64_t answer = call_stepped(function, with);
     if (tally) {
         tally->sum += traps;
         tally->calls++;
@@ -84,12 +84,12 @@ static int gives(struct block *block, uint32_t len, int counts) {
 #ifdef AUTHORS
         if (column == AUTHORS_OWN) function = (uintptr_t)authors_malloc;
 #endif
-        block->at = call(tally, function, len, 0, 0, 0, 0);
-    } else if (column == SYSTEM) block->at = call(tally, (uintptr_t)calloc, 1, len, 0, 0, 0);
+        block->at = call(tally, function, WITH(len));
+    } else if (column == SYSTEM) block->at = call(tally, (uintptr_t)calloc, WITH(1, len));
 #ifdef AUTHORS
-    else if (column == AUTHORS_OWN) block->at = call(tally, (uintptr_t)authors_calloc, 1, len, 0, 0, 0);
+    else if (column == AUTHORS_OWN) block->at = call(tally, (uintptr_t)authors_calloc, WITH(1, len));
 #endif
-    else block->at = !(uint32_t)call(tally, (uintptr_t)tlsf_allocate, (uintptr_t)&heap, len, (uintptr_t)&block->name, 0, 0);
+    else block->at = !(uint32_t)call(tally, (uintptr_t)tlsf_allocate, WITH((uintptr_t)&heap, len, (uintptr_t)&block->name));
     return block->at != 0;
 }
 
@@ -97,21 +97,21 @@ static void allocate(struct block *block, uint32_t len, int counts) { ends_if(!g
 
 static void release(struct block *block, int counts) {
     struct tally *tally = counts ? &releases : NULL;
-    if (column == SYSTEM) call(tally, (uintptr_t)free, block->at, 0, 0, 0, 0);
+    if (column == SYSTEM) call(tally, (uintptr_t)free, WITH(block->at));
 #ifdef AUTHORS
-    else if (column == AUTHORS_OWN) call(tally, (uintptr_t)authors_free, block->at, 0, 0, 0, 0);
+    else if (column == AUTHORS_OWN) call(tally, (uintptr_t)authors_free, WITH(block->at));
 #endif
-    else if (kind == BY_POINTER) ends_if((int)call(tally, (uintptr_t)free_pointer, block->at, 0, 0, 0, 0), "free");
-    else ends_if((int)call(tally, (uintptr_t)tlsf_release, (uintptr_t)&heap, (uintptr_t)&block->name, 0, 0, 0), "release");
+    else if (kind == BY_POINTER) ends_if((int)call(tally, (uintptr_t)free_pointer, WITH(block->at)), "free");
+    else ends_if((int)call(tally, (uintptr_t)tlsf_release, WITH((uintptr_t)&heap, OF_NAME(block->name))), "release");
 }
 
 static void resize(struct block *block, uint32_t len, int counts) {
     struct tally *tally = counts ? &resizes : NULL;
-    if (column == SYSTEM) block->at = call(tally, (uintptr_t)realloc, block->at, len, 0, 0, 0);
+    if (column == SYSTEM) block->at = call(tally, (uintptr_t)realloc, WITH(block->at, len));
 #ifdef AUTHORS
-    else if (column == AUTHORS_OWN) block->at = call(tally, (uintptr_t)authors_realloc, block->at, len, 0, 0, 0);
+    else if (column == AUTHORS_OWN) block->at = call(tally, (uintptr_t)authors_realloc, WITH(block->at, len));
 #endif
-    else block->at = !(uint32_t)call(tally, (uintptr_t)tlsf_reallocate, (uintptr_t)&heap, (uintptr_t)&block->name, len, 0, 0);
+    else block->at = !(uint32_t)call(tally, (uintptr_t)tlsf_reallocate, WITH((uintptr_t)&heap, (uintptr_t)&block->name, len));
     ends_if(!block->at, "resize");
 }
 
@@ -178,13 +178,12 @@ static void move(uint32_t at, uintptr_t n) {
     if (n < 1000) snprintf(requests, sizeof requests, "%lu bytes at %u", n, at);
     else snprintf(requests, sizeof requests, "%lu,%03lu bytes at %u", n / 1000, n % 1000, at);
     if (column != SYSTEM) allocate(&block, sizeof plain, 0);
-    const uintptr_t name = (uintptr_t)&block.name;
     if (column == SYSTEM) {
-        call(&writes, (uintptr_t)memcpy, (uintptr_t)(plain + at), (uintptr_t)bytes, n, 0, 0);
-        call(&reads, (uintptr_t)memcpy, (uintptr_t)bytes, (uintptr_t)(plain + at), n, 0, 0);
+        call(&writes, (uintptr_t)memcpy, WITH((uintptr_t)(plain + at), (uintptr_t)bytes, n));
+        call(&reads, (uintptr_t)memcpy, WITH((uintptr_t)bytes, (uintptr_t)(plain + at), n));
     } else {
-        ends_if((int)call(&writes, (uintptr_t)tlsf_write, (uintptr_t)&heap, name, at, (uintptr_t)bytes, n), "write");
-        ends_if((int)call(&reads, (uintptr_t)tlsf_read, (uintptr_t)&heap, name, at, (uintptr_t)bytes, n), "read");
+        ends_if((int)call(&writes, (uintptr_t)tlsf_write, WITH((uintptr_t)&heap, OF_NAME(block.name), at, (uintptr_t)bytes, n)), "write");
+        ends_if((int)call(&reads, (uintptr_t)tlsf_read, WITH((uintptr_t)&heap, OF_NAME(block.name), at, (uintptr_t)bytes, n)), "read");
     }
     if (column != SYSTEM) release(&block, 0);
     print("write", requests, &writes);

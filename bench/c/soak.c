@@ -77,11 +77,11 @@ static uint32_t below(struct worker *own, uint32_t bound) {
     return (uint32_t)((uint64_t)own->random * bound >> 32);
 }
 
-static uint32_t called(struct worker *own, enum call kind, uintptr_t function, uintptr_t b, uintptr_t c) {
+static uint32_t called(struct worker *own, enum call kind, uintptr_t function, const uintptr_t with[6]) {
     own->figures.calls++;
-    if (below(own, STEP_ONE_IN)) return (uint32_t)((uint64_t (*)(void *, uintptr_t, uintptr_t))function)(&own->heap, b, c);
+    if (below(own, STEP_ONE_IN)) return (uint32_t)((uint64_t (*)(uintptr_t, uintptr_t, uintptr_t, uintptr_t))function)(with[0], with[1], with[2], with[3]);
     traps_within = 0;
-    const uint32_t answer = (uint32_t)call_stepped(function, (uintptr_t)&own->heap, b, c, 0, 0);
+    const uint32_t answer = (uint32_t)call_stepped(function, with);
     if (traps_within > own->figures.worst[kind]) own->figures.worst[kind] = traps_within;
     return answer;
 }
@@ -94,7 +94,7 @@ static struct tlsf_name name_of(const struct worker *own, uint32_t at) {
 
 static uint8_t *payload(struct worker *own, const struct tlsf_name *name, uint32_t len) {
     uint32_t told = 0;
-    uint8_t *bytes = tlsf_payload(&own->heap, name, &told);
+    uint8_t *bytes = tlsf_payload(&own->heap, *name, &told);
     must(own, bytes && told == len, "a live block isn't found, or has another length");
     return bytes;
 }
@@ -123,7 +123,7 @@ static void forget(struct worker *own, const struct tlsf_name *name) {
 
 static void release(struct worker *own, const struct tlsf_name *name) {
     check_bytes(own, name, own->table[name->at].len);
-    must(own, called(own, RELEASE, (uintptr_t)tlsf_release, (uintptr_t)name, 0) == TLSF_OK, "a live block isn't released");
+    must(own, called(own, RELEASE, (uintptr_t)tlsf_release, WITH((uintptr_t)&own->heap, OF_NAME(*name))) == TLSF_OK, "a live block isn't released");
     forget(own, name);
 }
 
@@ -136,7 +136,7 @@ static void release_any(struct worker *own) {
 static void allocate(struct worker *own) {
     const uint32_t len = sizes[below(own, size_count)];
     struct tlsf_name name = {0, 0, 0};
-    const uint32_t answer = called(own, ALLOCATE, (uintptr_t)tlsf_allocate, len, (uintptr_t)&name);
+    const uint32_t answer = called(own, ALLOCATE, (uintptr_t)tlsf_allocate, WITH((uintptr_t)&own->heap, len, (uintptr_t)&name));
     if (answer == TLSF_NO_FIT) {
         own->figures.refused++;
         for (int i = 0; i < 4; i++) release_any(own);
@@ -155,7 +155,7 @@ static void resize(struct worker *own) {
     const struct tlsf_name name = name_of(own, own->live[below(own, own->live_count)]);
     struct entry *it = &own->table[name.at];
     const uint32_t len = sizes[below(own, size_count)], kept = len < it->len ? len : it->len;
-    const uint32_t answer = called(own, RESIZE, (uintptr_t)tlsf_resize, (uintptr_t)&name, len);
+    const uint32_t answer = called(own, RESIZE, (uintptr_t)tlsf_resize, WITH((uintptr_t)&own->heap, OF_NAME(name), len));
     must(own, answer == TLSF_OK || answer == TLSF_NO_ROOM, "a resize answers what it may not");
     if (answer == TLSF_NO_ROOM) {
         check_bytes(own, &name, it->len);
@@ -170,8 +170,8 @@ static void resize(struct worker *own) {
 
 /* Posts another's block back to its owner. A queue may be busy, and then the name stays held as where it is full. */
 static uint32_t post_back(struct worker *own, const struct tlsf_name *name) {
-    const uint32_t answer = over_queues ? tlsf_queue_post(&inboxes[name->heap].from[own->number].end, name)
-                                        : tlsf_put(&back[own->number][name->heap].post, name);
+    const uint32_t answer = over_queues ? tlsf_queue_post(&inboxes[name->heap].from[own->number].end, *name)
+                                        : tlsf_put(&back[own->number][name->heap].post, *name);
     must(own, answer == TLSF_OK || answer == TLSF_FULL || (over_queues && answer == TLSF_BUSY), "a post answers what it may not");
     return answer;
 }
@@ -185,7 +185,7 @@ static void pass_on(struct worker *own) {
     const uint32_t other = below(own, WORKERS);
     if (other != own->number && own->live_count) {
         const struct tlsf_name name = name_of(own, own->live[below(own, own->live_count)]);
-        if (!own->table[name.at].is_lent && !tlsf_put(&lent[own->number][other].post, &name)) own->table[name.at].is_lent = true;
+        if (!own->table[name.at].is_lent && !tlsf_put(&lent[own->number][other].post, name)) own->table[name.at].is_lent = true;
     }
     if (!own->held_count) return;
     const uint32_t at = below(own, own->held_count);
@@ -243,10 +243,10 @@ static void check_names(struct worker *own) {
     uint8_t byte;
     for (uint32_t i = 0; i < OLD && i < own->old_count; i++) {
         struct tlsf_name name = own->old[i];
-        must(own, tlsf_release(&own->heap, &name) == TLSF_STALE, "a name that is used up isn't stale");
-        must(own, tlsf_resize(&own->heap, &name, 8) == TLSF_STALE, "a name that is used up is resized");
+        must(own, tlsf_release(&own->heap, name) == TLSF_STALE, "a name that is used up isn't stale");
+        must(own, tlsf_resize(&own->heap, name, 8) == TLSF_STALE, "a name that is used up is resized");
         name.heap = (name.heap + 1) % WORKERS;
-        must(own, tlsf_read(&own->heap, &name, 0, &byte, 1) == TLSF_FOREIGN, "a foreign name isn't foreign");
+        must(own, tlsf_read(&own->heap, name, 0, &byte, 1) == TLSF_FOREIGN, "a foreign name isn't foreign");
     }
 }
 
@@ -256,7 +256,7 @@ static void check(struct worker *own) {
         const struct tlsf_name name = name_of(own, own->live[0]);
         if (wrong == 1) *payload(own, &name, own->table[name.at].len) ^= 1;
         else if (wrong == 2) own->table[name.at].len++;
-        else (void)tlsf_release(&own->heap, &name);
+        else (void)tlsf_release(&own->heap, name);
     }
     check_report(own, &told);
     check_names(own);

@@ -6,13 +6,18 @@
 
 enum { TRAP = 0x100 };
 
-/* Calls function(a, b, c, d, e), with a trap behind each instruction while `trap` is TRAP, not 0. The first is behind the call itself. */
-uint64_t call_stepped(uintptr_t function, uintptr_t a, uintptr_t b, uintptr_t c, uintptr_t d, uintptr_t e);
+/* What a function is called with: six registers at most. A name goes in two of them. */
+#define WITH(...) ((const uintptr_t[6]){__VA_ARGS__})
+#define OF_NAME(name) (name).heap | (uintptr_t)(name).at << 32, (name).serial
+
+/* Calls that function, with a trap behind each instruction while `trap` is TRAP, not 0. The first is behind the call itself. */
+uint64_t call_stepped(uintptr_t function, const uintptr_t with[6]);
 uint64_t trap = TRAP;
 extern char returned[], two_instructions[], __executable_start[], etext[];
 __asm__(".text\ntwo_instructions:\n  nop\n  ret\n"
         "call_stepped:\n"
-        "  push %rbp\n  mov %rdi, %rax\n  mov %rsi, %rdi\n  mov %rdx, %rsi\n  mov %rcx, %rdx\n  mov %r8, %rcx\n  mov %r9, %r8\n"
+        "  push %rbp\n  mov %rdi, %rax\n  mov %rsi, %r10\n  mov (%r10), %rdi\n  mov 8(%r10), %rsi\n  mov 16(%r10), %rdx\n"
+        "  mov 24(%r10), %rcx\n  mov 32(%r10), %r8\n  mov 40(%r10), %r9\n"
         "  mov trap(%rip), %r10\n  pushfq\n  or %r10, (%rsp)\n  popfq\n  call *%rax\n"
         "returned:\n  pop %rbp\n  ret\n");
 static __thread volatile uint64_t traps, traps_within; /* within the program's own code */
@@ -34,6 +39,6 @@ static bool counts_traps(void) {
     struct sigaction action = {.sa_sigaction = count_trap, .sa_flags = SA_SIGINFO};
     traps = 0;
     if (sigaction(SIGTRAP, &action, NULL)) return false;
-    call_stepped((uintptr_t)two_instructions, 0, 0, 0, 0, 0);
+    call_stepped((uintptr_t)two_instructions, WITH(0));
     return traps == 2;
 }

@@ -93,10 +93,10 @@ static bool uses_names(void) {
     struct tlsf_name name;
     uint32_t came = 0;
     for (int i = 0; i < NAMES; i++)
-        if (tlsf_allocate(&heap, 64, &name) != TLSF_OK || tlsf_put(&post, &name) != TLSF_OK) return false;
-    if (tlsf_put(&post, &name) != TLSF_FULL || tlsf_drain(&heap, &take, 2 * NAMES, &came) != TLSF_OK) return false;
+        if (tlsf_allocate(&heap, 64, &name) != TLSF_OK || tlsf_put(&post, name) != TLSF_OK) return false;
+    if (tlsf_put(&post, name) != TLSF_FULL || tlsf_drain(&heap, &take, 2 * NAMES, &came) != TLSF_OK) return false;
     say_number("names that came: ", came, "\n");
-    return came == NAMES && tlsf_release(&heap, &name) == TLSF_STALE;
+    return came == NAMES && tlsf_release(&heap, name) == TLSF_STALE;
 }
 
 static bool uses_heap(void) {

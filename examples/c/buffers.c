@@ -57,10 +57,10 @@ int main(void) {
     show("lights", &lights);
 
     /* The level ends. Once the device is done with the texture, as a fence tells, its bytes serve again. */
-    if (tlsf_offsets_release(&memory, &texture.span.name)) return 1;
+    if (tlsf_offsets_release(&memory, texture.span.name)) return 1;
     if (create(&memory, &device, 8388608, &shadows)) return 1;
     show("shadows", &shadows);
-    puts(tlsf_text_of(tlsf_offsets_release(&memory, &texture.span.name))); /* twice */
+    puts(tlsf_text_of(tlsf_offsets_release(&memory, texture.span.name))); /* twice */
     if (tlsf_offsets_report(&memory, &usage)) return 1;
     printf("%u spans, %llu bytes held of %llu\n", (unsigned)usage.spans, (unsigned long long)usage.held, (unsigned long long)device.bytes);
     return tlsf_offsets_close(&memory) != TLSF_OK;

@@ -19,7 +19,7 @@ enum { REQUESTS = 500, SESSIONS = 40 };
 static struct tlsf_heap heap;
 static uint32_t open_all(void) { return tlsf_open(&heap, 4, 1, 1u << 18); }
 static uint32_t allocate(uint32_t len, struct tlsf_name *name) { return tlsf_allocate(&heap, len, name); }
-static uint32_t release(const struct tlsf_name *name) { return tlsf_release(&heap, name); }
+static uint32_t release(const struct tlsf_name *name) { return tlsf_release(&heap, *name); }
 static uint32_t close_all(void) { return tlsf_close(&heap); }
 #else
 /* The second line above wrote: --level 4 --blocks 10 --bytes 24 --blocks 10 --bytes 64 --blocks 10 --bytes 200 --blocks 10 --bytes 1000
@@ -28,7 +28,7 @@ static const struct tlsf_kind table[] = {{10, 24}, {10, 64}, {10, 200}, {10, 100
 static struct tlsf_pools pools;
 static uint32_t open_all(void) { return tlsf_pools_open(&pools, 4, 1, table, sizeof table / sizeof *table); }
 static uint32_t allocate(uint32_t len, struct tlsf_name *name) { return tlsf_pools_allocate(&pools, len, name); }
-static uint32_t release(const struct tlsf_name *name) { return tlsf_pools_release(&pools, name); }
+static uint32_t release(const struct tlsf_name *name) { return tlsf_pools_release(&pools, *name); }
 static uint32_t close_all(void) { return tlsf_pools_close(&pools); }
 #endif
 

@@ -41,7 +41,7 @@ static void *load(void *given) {
         struct image *image = (struct image *)(it->base + name.at + 3);
         for (uint32_t k = 0; k < image->bytes; k++) image->pixels[k] = pixel_of(image->number, k);
         /* Full never, since the queue has room for all that are under way; busy where another loader is half through its post. */
-        while (tlsf_queue_post(&it->home, &name) != TLSF_OK) sched_yield();
+        while (tlsf_queue_post(&it->home, name) != TLSF_OK) sched_yield();
     }
     return NULL;
 }
@@ -61,10 +61,10 @@ struct owner {
 static void collect(struct owner *it) {
     struct tlsf_name name;
     while (tlsf_queue_take(&it->queue, &name) == TLSF_OK) {
-        const struct image *image = tlsf_payload(&it->heap, &name, NULL);
+        const struct image *image = tlsf_payload(&it->heap, name, NULL);
         for (uint32_t k = 0; image && k < image->bytes; k++)
             if (image->pixels[k] != pixel_of(image->number, k)) it->wrong++;
-        if (!image || tlsf_release(&it->heap, &name)) it->wrong++;
+        if (!image || tlsf_release(&it->heap, name)) it->wrong++;
         it->came++;
     }
 }
@@ -77,8 +77,8 @@ static int send(struct owner *it) {
     if (it->sent - it->came == UNDER_WAY) return 0;
     if (tlsf_allocate_at(&it->heap, sizeof(struct image) + bytes_of(number), 16, TLSF_UNFILLED, &name, &at)) return 0;
     *(struct image *)at = (struct image){number, bytes_of(number)};
-    if (tlsf_put(&it->to[number % LOADERS], &name)) { /* never: the lane has room for all that are under way */
-        tlsf_release(&it->heap, &name);
+    if (tlsf_put(&it->to[number % LOADERS], name)) { /* never: the lane has room for all that are under way */
+        tlsf_release(&it->heap, name);
         return 0;
     }
     it->sent++;
@@ -90,7 +90,7 @@ static uint64_t *base_of(struct tlsf_heap *heap) {
     struct tlsf_name name;
     uint64_t *base;
     uint32_t len;
-    if (tlsf_allocate(heap, 0, &name) || tlsf_locate(heap, &name, &base, &len) || tlsf_release(heap, &name)) return NULL;
+    if (tlsf_allocate(heap, 0, &name) || tlsf_locate(heap, name, &base, &len) || tlsf_release(heap, name)) return NULL;
     return base;
 }
 
@@ -113,7 +113,7 @@ int main(void) {
         if (owner.sent == IMAGES) sched_yield();
     }
     for (int k = 0; k < LOADERS; k++)
-        if (tlsf_put(&owner.to[k], &last) || pthread_join(loaders[k].thread, NULL)) return 1;
+        if (tlsf_put(&owner.to[k], last) || pthread_join(loaders[k].thread, NULL)) return 1;
     if (tlsf_counts(&owner.heap, &counts)) return 1;
     printf("%u images by %d loaders: %u wrong, %u words left in use\n", (unsigned)owner.came, (int)LOADERS, (unsigned)owner.wrong,
            (unsigned)counts.words);

@@ -57,7 +57,7 @@ static uint32_t allocate(struct engine *it, uint32_t len, struct tlsf_name *name
 }
 
 static void release(struct engine *it, const struct tlsf_name *name) {
-    if (it->by_heap) tlsf_release(tlsf_near(&it->heap), name);
+    if (it->by_heap) tlsf_release(tlsf_near(&it->heap), *name);
     else free((void *)(uintptr_t)name->serial);
 }
 
@@ -71,11 +71,11 @@ static void start_voice(struct engine *it, uint32_t started) {
         it->refused++;
         return;
     }
-    v->samples = it->by_heap ? tlsf_payload(tlsf_near(&it->heap), &v->name, NULL) : (void *)(uintptr_t)v->name.serial;
+    v->samples = it->by_heap ? tlsf_payload(tlsf_near(&it->heap), v->name, NULL) : (void *)(uintptr_t)v->name.serial;
     v->count = len / sizeof *v->samples;
     v->samples[0] = 1.0f;
     it->live++;
-    if (tlsf_put(&it->to_second, &v->name) != TLSF_OK) atomic_fetch_add(&it->lost, 1);
+    if (tlsf_put(&it->to_second, v->name) != TLSF_OK) atomic_fetch_add(&it->lost, 1);
 }
 
 static void end_voices(struct engine *it, uint32_t *ended) {
@@ -125,7 +125,7 @@ static void *end_them(void *given) {
     struct tlsf_name name;
     while (!atomic_load(&it->is_over)) {
         for (int n = 0; n < 8 && tlsf_take(&it->at_second, &name) == TLSF_OK; n++)
-            if (tlsf_put(&it->from_second, &name) != TLSF_OK) atomic_fetch_add(&it->lost, 1);
+            if (tlsf_put(&it->from_second, name) != TLSF_OK) atomic_fetch_add(&it->lost, 1);
         sleep_until(now() + 5 * PERIOD);
     }
     return NULL;

@@ -64,14 +64,14 @@ static void do_calls_by_name(uint32_t kind, struct tlsf_name *name) {
     if (!below(8)) other.at = below(UINT32_MAX);
     switch (kind) {
     case 0: sum += tlsf_allocate(&heap, len, name); break;
-    case 1: sum += tlsf_release(&heap, &other); break;
-    case 2: sum += tlsf_resize(&heap, &other, len); break;
+    case 1: sum += tlsf_release(&heap, other); break;
+    case 2: sum += tlsf_resize(&heap, other, len); break;
     case 3: sum += tlsf_reallocate(&heap, name, len); break;
-    case 4: sum += tlsf_write(&heap, &other, below(300), bytes, below(256)); break;
-    case 5: sum += tlsf_read(&heap, &other, below(300), bytes, below(256)); break;
-    case 6: sum += tlsf_locate(&heap, &other, &base, &n); break;
-    case 7: sum += tlsf_payload(&heap, &other, &n) != NULL; break;
-    case 8: sum += below(2) ? tlsf_put(&post, &other) : tlsf_put_all(&post, names, below(4), &went); break;
+    case 4: sum += tlsf_write(&heap, other, below(300), bytes, below(256)); break;
+    case 5: sum += tlsf_read(&heap, other, below(300), bytes, below(256)); break;
+    case 6: sum += tlsf_locate(&heap, other, &base, &n); break;
+    case 7: sum += tlsf_payload(&heap, other, &n) != NULL; break;
+    case 8: sum += below(2) ? tlsf_put(&post, other) : tlsf_put_all(&post, names, below(4), &went); break;
     case 9: sum += tlsf_take(&take, name); break;
     default: sum += tlsf_drain(&heap, &take, below(4), &n); break;
     }
@@ -102,8 +102,8 @@ static void do_calls_by_place(uint32_t kind, uint32_t *at) {
     struct tlsf_name name;
     uint32_t n = 0;
     switch (kind) {
-    case 19: sum += tlsf_allocate_place(&heap, len, at); break;
-    case 20: sum += tlsf_allocate_aligned(&heap, len, below(64), below(4), at); break;
+    case 19: sum += *at = tlsf_allocate_place(&heap, len).at; break;
+    case 20: sum += *at = tlsf_allocate_aligned(&heap, len, below(64), below(4)).at; break;
     case 21: sum += tlsf_release_place(&heap, *at); break;
     case 22: sum += tlsf_resize_place(&heap, *at, len, at); break;
     case 23: sum += tlsf_place(&heap, *at, &name, &n); break;
@@ -138,12 +138,12 @@ static void do_calls_of_queues_and_offsets(uint32_t kind, const struct tlsf_name
     uint32_t n = 0;
     switch (kind) {
     case 36: sum += tlsf_poster_open(&queue, &poster[below(4)]); break;
-    case 37: sum += tlsf_queue_post(&poster[below(4)], name); break;
+    case 37: sum += tlsf_queue_post(&poster[below(4)], *name); break;
     case 38: sum += tlsf_queue_take(&queue, &came); break;
     case 39: sum += tlsf_queue_drain(&heap, &queue, below(4), &n); break;
     case 40: sum += tlsf_offsets_allocate(&offsets, below(40000), span); break;
     case 41: sum += tlsf_offsets_resize(&offsets, span, below(40000)); break;
-    case 42: sum += tlsf_offsets_release(&offsets, &span->name); break;
+    case 42: sum += tlsf_offsets_release(&offsets, span->name); break;
     case 43: sum += tlsf_offsets_report(&offsets, &usage) + usage.held; break;
     case 44: sum += tlsf_queue_open(&queue, 1, 1) + tlsf_queue_open(&closed_queue, 0, 1) + tlsf_offsets_open(&closed_offsets, 4, 1, 0, 64); break;
     case 45: sum += tlsf_queue_open_in(&closed_queue, 1, 1, bytes, 8) + tlsf_offsets_open_in(&closed_offsets, 4, 1, 1, 64, bytes, 8); break;
@@ -155,9 +155,9 @@ static void do_calls_of_pools(uint32_t kind, struct tlsf_name *name) {
     struct tlsf_heap_report report;
     switch (kind) {
     case 47: sum += tlsf_pools_allocate(&pools, below(3100), name); break;
-    case 48: sum += tlsf_pools_release(&pools, name); break;
-    case 49: sum += tlsf_pools_write(&pools, name, below(200), bytes, below(256)); break;
-    case 50: sum += tlsf_pools_read(&pools, name, below(200), bytes, below(256)); break;
+    case 48: sum += tlsf_pools_release(&pools, *name); break;
+    case 49: sum += tlsf_pools_write(&pools, *name, below(200), bytes, below(256)); break;
+    case 50: sum += tlsf_pools_read(&pools, *name, below(200), bytes, below(256)); break;
     case 51: sum += tlsf_pools_report(&pools, below(3), &report); break;
     default: sum += tlsf_pools_open(&pools, 4, 1, rows, 2) + tlsf_pools_open(&closed_pools, 4, 1, rows, 65) + tlsf_pools_close(&closed_pools); break;
     }

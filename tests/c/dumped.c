@@ -29,8 +29,8 @@ static bool does(void *user, const char *line, size_t bytes) {
     if (sscanf(line, "tlsf %*u 1 %u 1", &words) == 1) return tlsf_open(&copy, level, 2, words) == TLSF_OK;
     if (sscanf(line, "%*c 0 %u %u", &label, &len) < 1 || label >= TLSF_DUMP_LINES) wrong("no line of a trace");
     if (line[0] == 'a' && tlsf_allocate(&copy, len, &made[label])) wrong("an allocate that is refused");
-    if (line[0] == 'r' && tlsf_resize(&copy, &made[label], len)) wrong("a resize that is refused");
-    if (line[0] == 'f' && tlsf_release(&copy, &made[label])) wrong("a release that is refused");
+    if (line[0] == 'r' && tlsf_resize(&copy, made[label], len)) wrong("a resize that is refused");
+    if (line[0] == 'f' && tlsf_release(&copy, made[label])) wrong("a release that is refused");
     return true;
 }
 
@@ -79,9 +79,8 @@ static void refuse(void) {
 
 /* A heap that has more blocks than a trace has lines. */
 static void refuse_many(void) {
-    uint32_t at;
     if (tlsf_open(&heap, 4, 1, 1u << 18)) exit(1);
-    while (tlsf_allocate_place(&heap, 0, &at) == TLSF_OK) continue;
+    while (tlsf_allocate_place(&heap, 0).answer == TLSF_OK) continue;
     lines = 0;
     if (tlsf_dump_lines(&heap, 4, does, NULL) != TLSF_BAD_SIZE) wrong("too many blocks are not refused");
     wants("lines of too many blocks", lines, 0);
@@ -95,9 +94,9 @@ static void call(uint32_t calls, uint32_t longest) {
         const uint32_t which = live ? below(live) : 0, kind = below(8);
         if (kind < 4 && live < MOST) live += tlsf_allocate(&heap, below(below(longest) + 1), &names[live]) == TLSF_OK;
         else if (kind < 6 && live) {
-            if (tlsf_release(&heap, &names[which])) wrong("a release");
+            if (tlsf_release(&heap, names[which])) wrong("a release");
             names[which] = names[--live];
-        } else if (live && tlsf_resize(&heap, &names[which], below(longest)) == TLSF_STALE) wrong("a resize");
+        } else if (live && tlsf_resize(&heap, names[which], below(longest)) == TLSF_STALE) wrong("a resize");
     }
 }
 

@@ -28,7 +28,7 @@ static void wants(const char *what, uint32_t len, size_t got, size_t wanted) {
 
 static unsigned char *allocate(uint32_t len, struct tlsf_name *name) {
     wants("allocate", len, tlsf_allocate(&heap, len, name), TLSF_OK);
-    return tlsf_payload(&heap, name, NULL);
+    return tlsf_payload(&heap, *name, NULL);
 }
 
 /* Nothing but zeros is in the payload, and a whole block begins where its own ends. */
@@ -44,12 +44,12 @@ int main(void) {
     struct tlsf_name name;
     wants("open", 0, tlsf_open(&heap, 4, 1, WORDS), TLSF_OK);
     memset(allocate(8 * WORDS - 24, &name), 0xa5, 8 * WORDS - 24);
-    wants("release", 0, tlsf_release(&heap, &name), TLSF_OK);
+    wants("release", 0, tlsf_release(&heap, name), TLSF_OK);
     for (uint32_t len = 0; len <= MOST; len++) {
         unsigned char *const payload = allocate(len, &name);
         check(len, &name, payload);
         memset(payload, 0xa5, len);
-        wants("release", len, tlsf_release(&heap, &name), TLSF_OK);
+        wants("release", len, tlsf_release(&heap, name), TLSF_OK);
     }
     wants("close", 0, tlsf_close(&heap), TLSF_OK);
     puts("payload of each length is zero");

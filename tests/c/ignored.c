@@ -1,4 +1,4 @@
-/* With IGNORED from 1 to 8 an answer that has to be looked at isn't: a compiler warns of that, in C and in C++. */
+/* With IGNORED from 1 to 9 an answer that has to be looked at isn't: a compiler warns of that, in C and in C++. */
 #include "tlsf.h"
 
 #ifndef IGNORED
@@ -26,10 +26,12 @@ uint32_t give(struct tlsf_heap *heap, struct tlsf_name *name, void *memory) {
     tlsf_check(heap, 0, 1, &at, &at);
 #elif IGNORED == 8
     tlsf_calloc(heap, 8, 8);
+#elif IGNORED == 9
+    tlsf_allocate_place(heap, 8);
 #endif
     /* What frees, releases or closes may be ignored. */
     tlsf_free(heap, p);
-    tlsf_release(heap, name);
+    tlsf_release(heap, *name);
     tlsf_release_place(heap, at);
     tlsf_close(heap);
     return tlsf_allocate(heap, 8, name);

@@ -25,7 +25,7 @@ static unsigned char *get(size_t len) {
 
 static unsigned char *get_named(uint32_t len, struct tlsf_name *name) {
     if (tlsf_allocate(&heap, len, name) != TLSF_OK) stop("no room");
-    return tlsf_payload(&heap, name, NULL);
+    return tlsf_payload(&heap, *name, NULL);
 }
 
 static void read_at(const unsigned char *p) {
@@ -60,7 +60,7 @@ static void used_after_free(void) {
 static void used_after_release(void) {
     struct tlsf_name name;
     unsigned char *p = get_named(40, &name);
-    tlsf_release(&heap, &name);
+    tlsf_release(&heap, name);
     write_at(p + 39);
 }
 
@@ -80,7 +80,7 @@ static void used_behind_end(void) {
 static void used_after_resize(void) {
     struct tlsf_name name;
     unsigned char *p = get_named(400, &name);
-    if (tlsf_resize(&heap, &name, 99) == TLSF_OK) read_at(p + 99);
+    if (tlsf_resize(&heap, name, 99) == TLSF_OK) read_at(p + 99);
 }
 
 static void used_after_drain(void) {
@@ -89,7 +89,7 @@ static void used_after_drain(void) {
     struct tlsf_name name;
     uint32_t came = 0;
     unsigned char *p = get_named(40, &name);
-    if (tlsf_lane_open(&post, &take, 2) || tlsf_put(&post, &name) || tlsf_drain(&heap, &take, 2, &came)) stop("no lane");
+    if (tlsf_lane_open(&post, &take, 2) || tlsf_put(&post, name) || tlsf_drain(&heap, &take, 2, &came)) stop("no lane");
     read_at(p);
 }
 
@@ -100,7 +100,7 @@ static unsigned char *drained(void) {
     struct tlsf_name name;
     uint32_t came = 0;
     unsigned char *p = get_named(40, &name);
-    if (tlsf_queue_open(&queue, 1, 2) || tlsf_poster_open(&queue, &poster) || tlsf_queue_post(&poster, &name)) stop("no queue");
+    if (tlsf_queue_open(&queue, 1, 2) || tlsf_poster_open(&queue, &poster) || tlsf_queue_post(&poster, name)) stop("no queue");
     if (tlsf_queue_drain(&heap, &queue, 2, &came) || came != 1) stop("no drain");
     tlsf_queue_close(&queue);
     tlsf_poster_close(&poster);
@@ -138,20 +138,20 @@ static void right_by_name(void) {
     unsigned char *p = get_named(29, &name);
     (void)get_named(8, &other);
     for (int k = 0; k < 29; k++) read_at(p + k);
-    if (tlsf_write(&heap, &name, 9, out, 20) || tlsf_read(&heap, &name, 0, out, 29)) stop("no copy");
-    if (tlsf_resize(&heap, &name, 5000) != TLSF_NO_ROOM || tlsf_reallocate(&heap, &name, 5000)) stop("no move");
-    p = tlsf_payload(&heap, &name, NULL);
+    if (tlsf_write(&heap, name, 9, out, 20) || tlsf_read(&heap, name, 0, out, 29)) stop("no copy");
+    if (tlsf_resize(&heap, name, 5000) != TLSF_NO_ROOM || tlsf_reallocate(&heap, &name, 5000)) stop("no move");
+    p = tlsf_payload(&heap, name, NULL);
     for (int k = 0; k < 5000; k++) read_at(p + k);
-    if (tlsf_resize(&heap, &name, 6000)) stop("no room");
+    if (tlsf_resize(&heap, name, 6000)) stop("no room");
     for (int k = 0; k < 6000; k++) read_at(p + k);
-    if (tlsf_release(&heap, &wrong) != TLSF_FOREIGN || tlsf_release(&heap, &name) || tlsf_release(&heap, &other)) stop("no release");
+    if (tlsf_release(&heap, wrong) != TLSF_FOREIGN || tlsf_release(&heap, name) || tlsf_release(&heap, other)) stop("no release");
     p = get(10);
-    if (tlsf_name_at(&heap, p, &name) || tlsf_read(&heap, &name, 0, out, 10)) stop("no name");
+    if (tlsf_name_at(&heap, p, &name) || tlsf_read(&heap, name, 0, out, 10)) stop("no name");
     tlsf_free(&heap, p);
     p = NULL;
     if (tlsf_allocate_at(&heap, 10, 128, 0, &name, (void **)(void *)&p) || !p) stop("no block");
     for (int k = 0; k < 10; k++) read_at(p + k);
-    tlsf_release(&heap, &name);
+    tlsf_release(&heap, name);
 }
 
 static void right(void) {

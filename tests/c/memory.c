@@ -97,7 +97,7 @@ static void use(struct tlsf_heap *heap, const unsigned char *from, size_t bytes)
     uint64_t *base = NULL;
     uint32_t len = 0, count = 0;
     while (tlsf_allocate(heap, 40, &name) == TLSF_OK || tlsf_allocate(heap, 8, &name) == TLSF_OK) {
-        wants("locate", tlsf_locate(heap, &name, &base, &len), TLSF_OK);
+        wants("locate", tlsf_locate(heap, name, &base, &len), TLSF_OK);
         unsigned char *p = (unsigned char *)(base + name.at + 3);
         wants("in its memory", p >= from && p + len <= from + bytes, 1);
         wants("the base, 8 bytes behind a multiple of 16", (uintptr_t)base % 16, 8);
@@ -243,8 +243,8 @@ static uint32_t lane_in(uint32_t capacity, size_t align, size_t bytes) {
     }
     check_lines(4);
     if (align == 1) wants("the last line", ((uintptr_t)last_end + LINES - 1) / LINES * LINES - (uintptr_t)from, tlsf_lane_bytes(capacity));
-    for (uint32_t k = 0; k < capacity; k++) wants("put", tlsf_put(&post, &name), TLSF_OK);
-    wants("put one more", tlsf_put(&post, &name), TLSF_FULL);
+    for (uint32_t k = 0; k < capacity; k++) wants("put", tlsf_put(&post, name), TLSF_OK);
+    wants("put one more", tlsf_put(&post, name), TLSF_FULL);
     wants("take", tlsf_take(&take, &got), TLSF_OK);
     wants("the name", got.serial, 3);
     wants("close", align % 2 ? tlsf_post_close(&post) : tlsf_take_close(&take), TLSF_OK);
@@ -297,8 +297,8 @@ static uint32_t queue_in(uint32_t posters, uint32_t capacity, size_t align, size
     wants("open twice", tlsf_queue_open_in(&queue, 0, capacity, from, 0), TLSF_IN_USE);
     for (uint32_t k = 1; k < posters; k++) wants("a poster", tlsf_poster_open(&queue, &poster) + tlsf_poster_close(&poster), TLSF_OK);
     wants("the last poster", tlsf_poster_open(&queue, &poster), TLSF_OK);
-    for (uint32_t k = 0; k < capacity; k++) wants("post", tlsf_queue_post(&poster, &name), TLSF_OK);
-    wants("post one more", tlsf_queue_post(&poster, &name), TLSF_FULL);
+    for (uint32_t k = 0; k < capacity; k++) wants("post", tlsf_queue_post(&poster, name), TLSF_OK);
+    wants("post one more", tlsf_queue_post(&poster, name), TLSF_FULL);
     wants("take", tlsf_queue_take(&queue, &got), TLSF_OK);
     wants("the name", got.serial, 3);
     wants("close", align % 2 ? tlsf_poster_close(&poster) : tlsf_queue_close(&queue), TLSF_OK);

@@ -14,7 +14,7 @@ static void refusals(void) {
     memset(&span, 7, sizeof span);
     kept = span;
     wants("allocate where closed", tlsf_offsets_allocate(&offsets, 1, &span), TLSF_IS_CLOSED);
-    wants("release where closed", tlsf_offsets_release(&offsets, &span.name), TLSF_IS_CLOSED);
+    wants("release where closed", tlsf_offsets_release(&offsets, span.name), TLSF_IS_CLOSED);
     wants("resize where closed", tlsf_offsets_resize(&offsets, &span, 1), TLSF_IS_CLOSED);
     wants("report where closed", tlsf_offsets_report(&offsets, &usage), TLSF_IS_CLOSED);
     wants("close where closed", tlsf_offsets_close(&offsets), TLSF_IS_CLOSED);
@@ -28,7 +28,7 @@ static void refusals(void) {
     wants("open twice", tlsf_offsets_open(&offsets, 9, 1, 0, 0), TLSF_IN_USE);
     wants("more than there is", tlsf_offsets_allocate(&offsets, 64 * 256 + 1, &span), TLSF_NO_FIT);
     wants("the most", tlsf_offsets_allocate(&offsets, UINT64_MAX, &span), TLSF_NO_FIT);
-    wants("a name of nobody's", tlsf_offsets_release(&offsets, &span.name), TLSF_FOREIGN);
+    wants("a name of nobody's", tlsf_offsets_release(&offsets, span.name), TLSF_FOREIGN);
     wants("nothing was written", (size_t)memcmp(&span, &kept, sizeof span), 0);
     wants("nothing was asked for", tlsf_offsets_allocate(&offsets, 0, &span), TLSF_OK);
     wants("it has four units", span.size, 4 * 256);
@@ -40,8 +40,8 @@ static void refusals(void) {
     wants("spans", usage.spans, 2);
     wants("held", usage.held, 64 * 256);
     wants("free", usage.free + usage.largest, 0);
-    wants("release", tlsf_offsets_release(&offsets, &kept.name), TLSF_OK);
-    wants("release twice", tlsf_offsets_release(&offsets, &kept.name), TLSF_STALE);
+    wants("release", tlsf_offsets_release(&offsets, kept.name), TLSF_OK);
+    wants("release twice", tlsf_offsets_release(&offsets, kept.name), TLSF_STALE);
     wants("resize what was released", tlsf_offsets_resize(&offsets, &kept, 1), TLSF_STALE);
     wants("grow", tlsf_offsets_resize(&offsets, &span, 5 * 256 + 1), TLSF_OK);
     wants("its offset stays", span.offset, 0);
@@ -78,8 +78,8 @@ static void calls(long n, uint32_t level) {
             break;
         case 1:
             if (which < 0) break;
-            wants("release", tlsf_offsets_release(&offsets, &held[which].name), TLSF_OK);
-            wants("and again", tlsf_offsets_release(&offsets, &held[which].name), TLSF_STALE);
+            wants("release", tlsf_offsets_release(&offsets, held[which].name), TLSF_OK);
+            wants("and again", tlsf_offsets_release(&offsets, held[which].name), TLSF_STALE);
             held[which] = held[--count];
             break;
         default:
@@ -99,7 +99,7 @@ static void calls(long n, uint32_t level) {
         wants("held", usage.held, sum);
         wants("all", usage.held + usage.free, memory);
     }
-    while (count) wants("release", tlsf_offsets_release(&offsets, &held[--count].name), TLSF_OK);
+    while (count) wants("release", tlsf_offsets_release(&offsets, held[--count].name), TLSF_OK);
     wants("report", tlsf_offsets_report(&offsets, &usage), TLSF_OK);
     wants("in one piece", usage.largest, memory);
     wants("close", tlsf_offsets_close(&offsets), TLSF_OK);

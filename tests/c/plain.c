@@ -1,7 +1,7 @@
 /* A plain heap and a plain lane that answer as tlsf.h says, by first fit over a table of blocks: what the tests beside it are
  * tried on, since one that passes on each library shows nothing. With a number from 1 to 14, 25 or 26 in the environment's WRONG
- * one thing in it is wrong, and random.c has to notice; from 15 to 24, and pointers.c has to. It is no real-time heap, and its
- * lanes are for one thread. */
+ * one thing in it is wrong, and random.c has to notice; from 15 to 24, 27 or 28, and pointers.c has to. It is no real-time heap,
+ * and its lanes are for one thread. */
 #define TLSF_NO_COPIES
 #include "tlsf.h"
 
@@ -85,11 +85,11 @@ static uint32_t counted(struct plain *p, uint32_t answer, uint32_t len) {
     return answer;
 }
 
-static uint32_t find(struct plain *p, const struct tlsf_name *name, struct piece **found) {
-    if (wrong != 3 && name->heap != p->number) return TLSF_FOREIGN;
+static uint32_t find(struct plain *p, struct tlsf_name name, struct piece **found) {
+    if (wrong != 3 && name.heap != p->number) return TLSF_FOREIGN;
     for (uint32_t k = 0; k < p->count; k++) {
         *found = &p->pieces[k];
-        if ((*found)->is_live && (*found)->at == name->at && (wrong == 2 || (*found)->serial == name->serial)) return TLSF_OK;
+        if ((*found)->is_live && (*found)->at == name.at && (wrong == 2 || (*found)->serial == name.serial)) return TLSF_OK;
     }
     return TLSF_STALE;
 }
@@ -111,6 +111,8 @@ static uint32_t open_over(struct tlsf_heap *heap, uint32_t level, uint32_t numbe
     heap->held = p;
     heap->is_open = true;
     heap->base = p->region;
+    heap->number = number + (wrong == 28);
+    heap->is_mixed = false;
     return TLSF_OK;
 }
 
@@ -154,38 +156,43 @@ static uint32_t give(struct plain *p, uint32_t k, uint32_t gap, uint32_t words, 
     return p->pieces[k].at;
 }
 
-uint32_t tlsf_allocate_place(struct tlsf_heap *heap, uint32_t len, uint32_t *at) {
-    if (!heap->is_open) return TLSF_IS_CLOSED;
+/* The block that was given last at a place, or a refusal. */
+static struct tlsf_placed placed(struct plain *p, uint32_t answer, uint32_t at, uint32_t len) {
+    counted(p, answer, len);
+    return (struct tlsf_placed){at, answer, answer == TLSF_OK ? p->tick + (wrong == 27) : 0};
+}
+
+struct tlsf_placed tlsf_allocate_place(struct tlsf_heap *heap, uint32_t len) {
+    if (!heap->is_open) return (struct tlsf_placed){0, TLSF_IS_CLOSED, 0};
     struct plain *p = heap->held;
     uint32_t k = 0;
     while (k < p->count && (p->pieces[k].is_live || p->pieces[k].words < want(len) + (wrong == 13))) k++;
-    if (k == p->count) return counted(p, TLSF_NO_FIT, len);
-    *at = give(p, k, 0, want(len) - (wrong == 6 && want(len) > LEAST), len);
-    return counted(p, TLSF_OK, len);
+    if (k == p->count) return placed(p, TLSF_NO_FIT, 0, len);
+    const uint32_t at = give(p, k, 0, want(len) - (wrong == 6 && want(len) > LEAST), len);
+    return placed(p, TLSF_OK, at, len);
 }
 
-uint32_t tlsf_allocate_aligned(struct tlsf_heap *heap, uint32_t len, uint32_t step, uint32_t skew, uint32_t *at) {
-    if (!heap->is_open) return TLSF_IS_CLOSED;
+struct tlsf_placed tlsf_allocate_aligned(struct tlsf_heap *heap, uint32_t len, uint32_t step, uint32_t skew) {
+    if (!heap->is_open) return (struct tlsf_placed){0, TLSF_IS_CLOSED, 0};
     struct plain *p = heap->held;
     for (uint32_t k = 0; k < p->count; k++) {
         const struct piece *it = &p->pieces[k];
         uint32_t gap = 0;
         while (gap < it->words && ((it->at + gap + HEADER + skew + (wrong == 16)) % step || (gap && gap < LEAST))) gap++;
         if (it->is_live || it->words < gap + want(len)) continue;
-        *at = give(p, k, gap, want(len), len);
-        return counted(p, TLSF_OK, len);
+        const uint32_t at = give(p, k, gap, want(len), len);
+        return placed(p, TLSF_OK, at, len);
     }
-    return counted(p, TLSF_NO_FIT, len);
+    return placed(p, TLSF_NO_FIT, 0, len);
 }
 
 uint32_t tlsf_allocate(struct tlsf_heap *heap, uint32_t len, struct tlsf_name *name) {
-    uint32_t at = 0;
     if (wrong == 10) name->heap = ~0u;
-    const uint32_t answer = tlsf_allocate_place(heap, len, &at);
-    if (answer != TLSF_OK) return answer;
+    const struct tlsf_placed it = tlsf_allocate_place(heap, len);
+    if (it.answer != TLSF_OK) return it.answer;
     struct plain *p = heap->held;
-    if (wrong != 1) memset(p->region + at + HEADER, 0, len);
-    *name = (struct tlsf_name){p->number, at, p->tick};
+    if (wrong != 1) memset(p->region + it.at + HEADER, 0, len);
+    *name = (struct tlsf_name){p->number, it.at, it.serial};
     return TLSF_OK;
 }
 
@@ -196,7 +203,7 @@ static uint32_t release(struct plain *p, struct piece *found) {
     return counted(p, TLSF_OK, 0);
 }
 
-uint32_t tlsf_release(struct tlsf_heap *heap, const struct tlsf_name *name) {
+uint32_t tlsf_release(struct tlsf_heap *heap, struct tlsf_name name) {
     struct piece *found = NULL;
     if (!heap->is_open) return TLSF_IS_CLOSED;
     const uint32_t answer = find(heap->held, name, &found);
@@ -219,7 +226,7 @@ static uint32_t resize(struct plain *p, struct piece *found, uint32_t len) {
     return counted(p, TLSF_OK, 0);
 }
 
-uint32_t tlsf_resize(struct tlsf_heap *heap, const struct tlsf_name *name, uint32_t len) {
+uint32_t tlsf_resize(struct tlsf_heap *heap, struct tlsf_name name, uint32_t len) {
     struct piece *found = NULL;
     if (!heap->is_open) return TLSF_IS_CLOSED;
     uint32_t answer = find(heap->held, name, &found);
@@ -269,8 +276,9 @@ uint32_t tlsf_resize_place(struct tlsf_heap *heap, uint32_t at, uint32_t len, ui
     if (answer == TLSF_OK && wrong == 22) memset(bytes_of(p, found), 0, 1);
     if (answer == TLSF_OK) *new_at = at;
     if (answer != TLSF_NO_ROOM) return answer;
-    answer = tlsf_allocate_place(heap, len, new_at);
-    if (answer != TLSF_OK) return answer;
+    const struct tlsf_placed it = tlsf_allocate_place(heap, len);
+    if (it.answer != TLSF_OK) return it.answer;
+    *new_at = it.at;
     memmove(p->region + *new_at + HEADER, p->region + at + HEADER, least(had, len));
     return tlsf_release_place(heap, at);
 }
@@ -278,7 +286,7 @@ uint32_t tlsf_resize_place(struct tlsf_heap *heap, uint32_t at, uint32_t len, ui
 uint32_t tlsf_reallocate(struct tlsf_heap *heap, struct tlsf_name *name, uint32_t len) {
     uint32_t had = 0, at = 0;
     uint64_t *base = NULL;
-    uint32_t answer = tlsf_locate(heap, name, &base, &had);
+    uint32_t answer = tlsf_locate(heap, *name, &base, &had);
     if (answer == TLSF_OK) answer = tlsf_resize_place(heap, name->at, len, &at);
     if (answer != TLSF_OK) return answer;
     if (len > had) memset((uint8_t *)(base + at + HEADER) + had, 0, len - had);
@@ -305,7 +313,7 @@ uint32_t tlsf_counts(struct tlsf_heap *heap, struct tlsf_heap_counts *counts) {
     return TLSF_OK;
 }
 
-static uint32_t in_payload(struct tlsf_heap *heap, const struct tlsf_name *name, uint32_t at, size_t n, uint8_t **bytes) {
+static uint32_t in_payload(struct tlsf_heap *heap, struct tlsf_name name, uint32_t at, size_t n, uint8_t **bytes) {
     if (!heap->is_open) return TLSF_IS_CLOSED;
     struct piece *found = NULL;
     const uint32_t answer = find(heap->held, name, &found);
@@ -314,7 +322,7 @@ static uint32_t in_payload(struct tlsf_heap *heap, const struct tlsf_name *name,
     return at + (uint64_t)n > found->len ? TLSF_RANGE : TLSF_OK;
 }
 
-uint32_t tlsf_write(struct tlsf_heap *heap, const struct tlsf_name *name, uint32_t at, const uint8_t *bytes, size_t n) {
+uint32_t tlsf_write(struct tlsf_heap *heap, struct tlsf_name name, uint32_t at, const uint8_t *bytes, size_t n) {
     uint8_t *to = NULL;
     uint32_t answer = in_payload(heap, name, at, n, &to);
     if (wrong == 5 && answer == TLSF_RANGE) answer = in_payload(heap, name, at, n - 1, &to);
@@ -322,7 +330,7 @@ uint32_t tlsf_write(struct tlsf_heap *heap, const struct tlsf_name *name, uint32
     return answer;
 }
 
-uint32_t tlsf_read(struct tlsf_heap *heap, const struct tlsf_name *name, uint32_t at, uint8_t *out, size_t n) {
+uint32_t tlsf_read(struct tlsf_heap *heap, struct tlsf_name name, uint32_t at, uint8_t *out, size_t n) {
     uint8_t *from = NULL;
     const uint32_t answer = in_payload(heap, name, at, n, &from);
     if (wrong == 11 && answer == TLSF_RANGE) return TLSF_OK;
@@ -330,7 +338,7 @@ uint32_t tlsf_read(struct tlsf_heap *heap, const struct tlsf_name *name, uint32_
     return answer;
 }
 
-uint32_t tlsf_locate(struct tlsf_heap *heap, const struct tlsf_name *name, uint64_t **base, uint32_t *len) {
+uint32_t tlsf_locate(struct tlsf_heap *heap, struct tlsf_name name, uint64_t **base, uint32_t *len) {
     if (!heap->is_open) return TLSF_IS_CLOSED;
     struct plain *p = heap->held;
     struct piece *found = NULL;
@@ -393,18 +401,18 @@ static uint32_t close_end(void *held, bool *is_open) {
 uint32_t tlsf_post_close(struct tlsf_post_end *post) { return close_end(post->held, &post->is_open); }
 uint32_t tlsf_take_close(struct tlsf_take_end *take) { return close_end(take->held, &take->is_open); }
 
-uint32_t tlsf_put(struct tlsf_post_end *post, const struct tlsf_name *name) {
+uint32_t tlsf_put(struct tlsf_post_end *post, struct tlsf_name name) {
     struct ring *ring = post->held;
     if (!post->is_open) return TLSF_IS_CLOSED;
     if (ring->count == ring->capacity + (wrong == 9)) return TLSF_FULL;
-    ring->names[ring->count++] = *name;
+    ring->names[ring->count++] = name;
     return TLSF_OK;
 }
 
 uint32_t tlsf_put_all(struct tlsf_post_end *post, const struct tlsf_name *names, size_t n, size_t *went) {
     size_t count = 0;
     if (!post->is_open) return TLSF_IS_CLOSED;
-    while (count < n && tlsf_put(post, &names[wrong == 25 ? 0 : count]) == TLSF_OK) count++;
+    while (count < n && tlsf_put(post, names[wrong == 25 ? 0 : count]) == TLSF_OK) count++;
     *went = count + (wrong == 26 && count != n);
     return TLSF_OK;
 }
@@ -422,7 +430,7 @@ uint32_t tlsf_take(struct tlsf_take_end *take, struct tlsf_name *name) {
 uint32_t tlsf_drain(struct tlsf_heap *heap, struct tlsf_take_end *take, uint32_t most, uint32_t *came) {
     struct tlsf_name name;
     if (!heap->is_open || !take->is_open) return TLSF_IS_CLOSED;
-    for (*came = 0; *came < most && tlsf_take(take, &name) == TLSF_OK; ++*came) (void)tlsf_release(heap, &name);
+    for (*came = 0; *came < most && tlsf_take(take, &name) == TLSF_OK; ++*came) (void)tlsf_release(heap, name);
     return TLSF_OK;
 }
 

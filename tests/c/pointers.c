@@ -96,7 +96,7 @@ static void give_named(struct model *m, struct block *b) {
     struct tlsf_name name = {0, 0, 0}, found = {1, 1, 1};
     void *p = NULL;
     uint32_t answer = is_odd ? tlsf_allocate(&m->heap, (uint32_t)len, &name) : tlsf_allocate_at(&m->heap, len, 64, flags, &name, &p);
-    if (answer == TLSF_OK && is_odd) p = tlsf_payload(&m->heap, &name, NULL);
+    if (answer == TLSF_OK && is_odd) p = tlsf_payload(&m->heap, name, NULL);
     wants("answer", answer, p ? TLSF_OK : TLSF_NO_FIT);
     if (!is_served(m, p, len, 32 + 64)) return;
     take_in(m, b, p, len, is_odd ? 8 : 64);
@@ -136,8 +136,8 @@ static void end(struct model *m, struct block *b) {
     const uint32_t way = below(8);
     if (way == 0) {
         wants("name", tlsf_name_at(&m->heap, b->p, &name), TLSF_OK);
-        wants("release by name", tlsf_release(&m->heap, &name), TLSF_OK);
-        wants("release again", tlsf_release(&m->heap, &name), TLSF_STALE);
+        wants("release by name", tlsf_release(&m->heap, name), TLSF_OK);
+        wants("release again", tlsf_release(&m->heap, name), TLSF_STALE);
     } else if (way == 1) {
         wants("realloc to nothing", tlsf_realloc(&m->heap, b->p, 0) == NULL, 1);
     } else {
@@ -227,8 +227,7 @@ static void check_all(struct model *m) {
 static void count_refusals(struct model *m) {
     struct tlsf_heap_counts c = {0, 0, 0, 0};
     const uint32_t len = 8 * WORDS + 8 * below(WORDS);
-    uint32_t at = 0;
-    wants("too long", tlsf_allocate_place(&m->heap, len, &at), TLSF_NO_FIT);
+    wants("too long", tlsf_allocate_place(&m->heap, len).answer, TLSF_NO_FIT);
     wants("counts", tlsf_counts(&m->heap, &c), TLSF_OK);
     if (len > m->longest) m->longest = len;
     wants("the longest that was refused", c.longest_refused, m->longest);
@@ -268,15 +267,32 @@ static void lacks_one_word(void) {
     wants("open", tlsf_open(&heap, 4, 1, 400), TLSF_OK);
     unsigned char *p = tlsf_malloc(&heap, 24), *q = p;
     for (int k = 0; k < 3; k++) wants("five words", tlsf_allocate(&heap, 16, &names[k]), TLSF_OK);
-    wants("release", tlsf_release(&heap, &names[0]), TLSF_OK);
+    wants("release", tlsf_release(&heap, names[0]), TLSF_OK);
     p = tlsf_realloc(&heap, p, 64); /* 12 words, where 6 and 5 are */
     wants("moved, and aligned", p && p != q && (uintptr_t)p % 16 == 0, 1);
     q = p;
     p = tlsf_realloc(&heap, p, 20);
     wants("it stays where it is shorter", p == q, 1);
-    wants("odd blocks are noted", heap.is_mixed, 1);
     wants("close", tlsf_close(&heap), TLSF_OK);
-    wants("and forgotten", heap.is_mixed, 0);
+}
+
+/* Whether a block of an odd number of words is noted in this heap. */
+static bool is_odd(const struct tlsf_heap *heap) { return heap->is_mixed; }
+
+/* Such blocks are noted, whichever call makes them, and forgotten with the heap. */
+static void odd_blocks_are_noted(void) {
+    struct tlsf_heap heap = TLSF_CLOSED;
+    struct tlsf_name name;
+    for (uint32_t way = 0; way < 3; way++) {
+        wants("open", tlsf_open(&heap, 4, way, 400), TLSF_OK);
+        wants("an even block", tlsf_allocate(&heap, 24, &name) + tlsf_resize(&heap, name, 8) + tlsf_reallocate(&heap, &name, 40), TLSF_OK);
+        wants("isn't noted", is_odd(&heap), false);
+        wants("an odd one", way == 0   ? tlsf_allocate(&heap, 9, &name)
+                            : way == 1 ? tlsf_resize(&heap, name, 16)
+                                       : tlsf_reallocate(&heap, &name, 48), TLSF_OK);
+        wants("is noted", is_odd(&heap), true);
+        wants("close", tlsf_close(&heap), TLSF_OK);
+    }
 }
 
 int main(int argc, char **argv) {
@@ -285,6 +301,7 @@ int main(int argc, char **argv) {
     state = 88172645463325252u + 7919 * (argc > 2 ? strtoul(argv[2], NULL, 10) : 0);
     with_names = argc > 4;
     lacks_one_word();
+    odd_blocks_are_noted();
     open_all(level);
     for (turn = 0; turn < calls; turn++) {
         const uint32_t h = below(HEAPS), kind = below(10);

@@ -37,15 +37,15 @@ static void refusals_of_calls(void) {
     memset(&report, 7, sizeof report);
     kept = report;
     wants("allocate where closed", tlsf_pools_allocate(&pools, 1, &name), TLSF_IS_CLOSED);
-    wants("release where closed", tlsf_pools_release(&pools, &name), TLSF_IS_CLOSED);
-    wants("write where closed", tlsf_pools_write(&pools, &name, 0, bytes, 4), TLSF_IS_CLOSED);
-    wants("read where closed", tlsf_pools_read(&pools, &name, 0, out, 4), TLSF_IS_CLOSED);
+    wants("release where closed", tlsf_pools_release(&pools, name), TLSF_IS_CLOSED);
+    wants("write where closed", tlsf_pools_write(&pools, name, 0, bytes, 4), TLSF_IS_CLOSED);
+    wants("read where closed", tlsf_pools_read(&pools, name, 0, out, 4), TLSF_IS_CLOSED);
     wants("report where closed", tlsf_pools_report(&pools, 0, &report), TLSF_IS_CLOSED);
     wants("open", tlsf_pools_open(&pools, 4, NUMBER, (struct tlsf_kind[]){{1, 16}, {2, 4000}}, 2), TLSF_OK);
     wants("longer than each row", tlsf_pools_allocate(&pools, 4001, &name), TLSF_BAD_SIZE);
-    wants("release of another's", tlsf_pools_release(&pools, &name), TLSF_FOREIGN);
-    wants("write of another's", tlsf_pools_write(&pools, &name, 0, bytes, 4), TLSF_FOREIGN);
-    wants("read of another's", tlsf_pools_read(&pools, &name, 0, out, 4), TLSF_FOREIGN);
+    wants("release of another's", tlsf_pools_release(&pools, name), TLSF_FOREIGN);
+    wants("write of another's", tlsf_pools_write(&pools, name, 0, bytes, 4), TLSF_FOREIGN);
+    wants("read of another's", tlsf_pools_read(&pools, name, 0, out, 4), TLSF_FOREIGN);
     wants("no name came", (size_t)memcmp(&name, &other, sizeof name), 0);
     wants("a short one", tlsf_pools_allocate(&pools, 4, &name), TLSF_OK);
     wants("of the first heap", name.heap, NUMBER);
@@ -53,18 +53,18 @@ static void refusals_of_calls(void) {
     wants("which is no lane", (size_t)strcmp(tlsf_text_of(TLSF_ROW_FULL), "all blocks of that row are held"), 0);
     wants("a long one", tlsf_pools_allocate(&pools, 17, &other), TLSF_OK);
     wants("of the second heap", other.heap, NUMBER + 1);
-    wants("it is zero", tlsf_pools_read(&pools, &other, 13, out, 4), TLSF_OK);
+    wants("it is zero", tlsf_pools_read(&pools, other, 13, out, 4), TLSF_OK);
     wants("all of it", (size_t)out[0] + out[1] + out[2] + out[3], 0);
-    wants("write", tlsf_pools_write(&pools, &name, 0, bytes, 4), TLSF_OK);
-    wants("past the end", tlsf_pools_write(&pools, &name, 1, bytes, 4), TLSF_RANGE);
-    wants("read past the end", tlsf_pools_read(&pools, &name, 1, out, 4), TLSF_RANGE);
+    wants("write", tlsf_pools_write(&pools, name, 0, bytes, 4), TLSF_OK);
+    wants("past the end", tlsf_pools_write(&pools, name, 1, bytes, 4), TLSF_RANGE);
+    wants("read past the end", tlsf_pools_read(&pools, name, 1, out, 4), TLSF_RANGE);
     wants("nothing was read", (size_t)out[3], 0);
     wants("a second part", tlsf_pools_report(&pools, 1, &report), TLSF_OK);
     wants("its block", report.live_blocks, 1);
     wants("no third part", tlsf_pools_report(&pools, 2, &kept), TLSF_STALE);
-    wants("release", tlsf_pools_release(&pools, &name), TLSF_OK);
-    wants("release twice", tlsf_pools_release(&pools, &name), TLSF_STALE);
-    wants("read what was released", tlsf_pools_read(&pools, &name, 0, out, 1), TLSF_STALE);
+    wants("release", tlsf_pools_release(&pools, name), TLSF_OK);
+    wants("release twice", tlsf_pools_release(&pools, name), TLSF_STALE);
+    wants("read what was released", tlsf_pools_read(&pools, name, 0, out, 1), TLSF_STALE);
     wants("its row has a place", tlsf_pools_allocate(&pools, 16, &name), TLSF_OK);
     wants("close", tlsf_pools_close(&pools), TLSF_OK);
 }
@@ -104,16 +104,16 @@ static void one_call(struct tlsf_pools *pools) {
         one_allocate(pools);
     } else if (kind < 6) {
         const struct tlsf_name name = it->name;
-        wants("release", tlsf_pools_release(pools, &name), TLSF_OK);
-        wants("release twice", tlsf_pools_release(pools, &name), TLSF_STALE);
+        wants("release", tlsf_pools_release(pools, name), TLSF_OK);
+        wants("release twice", tlsf_pools_release(pools, name), TLSF_STALE);
         in_row[it->row]--;
         *it = held[--count];
     } else if (kind < 8) {
         const uint32_t at = below(it->len + 1), n = below(it->len - at + 1);
         for (uint32_t i = 0; i < n; i++) it->bytes[at + i] = (uint8_t)below(256);
-        wants("write", tlsf_pools_write(pools, &it->name, at, it->bytes + at, n), TLSF_OK);
+        wants("write", tlsf_pools_write(pools, it->name, at, it->bytes + at, n), TLSF_OK);
     } else {
-        wants("read", tlsf_pools_read(pools, &it->name, 0, out, it->len), TLSF_OK);
+        wants("read", tlsf_pools_read(pools, it->name, 0, out, it->len), TLSF_OK);
         wants("its bytes", (size_t)memcmp(out, it->bytes, it->len), 0);
     }
 }
@@ -131,9 +131,9 @@ static void one_refused(struct tlsf_pools *pools, uint32_t parts) {
     for (uint32_t i = 0; i < count; i++)
         if (!memcmp(&held[i].name, &name, sizeof name)) return;
     const uint32_t why = name.heap - NUMBER < parts ? TLSF_STALE : TLSF_FOREIGN;
-    wants("release by another name", tlsf_pools_release(pools, &name), why);
-    wants("read by another name", tlsf_pools_read(pools, &name, 0, &byte, 1), why);
-    wants("write by another name", tlsf_pools_write(pools, &name, 0, &byte, 1), why);
+    wants("release by another name", tlsf_pools_release(pools, name), why);
+    wants("read by another name", tlsf_pools_read(pools, name, 0, &byte, 1), why);
+    wants("write by another name", tlsf_pools_write(pools, name, 0, &byte, 1), why);
     wants("no byte came", byte, 7);
 }
 
@@ -161,7 +161,7 @@ int main(int argc, char **argv) {
         if (count) one_refused(&pools, parts);
         if (turn % 97 == 0) check_reports(&pools);
     }
-    while (count) wants("release at last", tlsf_pools_release(&pools, &held[--count].name), TLSF_OK);
+    while (count) wants("release at last", tlsf_pools_release(&pools, held[--count].name), TLSF_OK);
     check_reports(&pools);
     wants("close", tlsf_pools_close(&pools), TLSF_OK);
     printf("%ld calls of pools, and each refusal: as they have to be\n", calls);

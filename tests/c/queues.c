@@ -45,7 +45,7 @@ static void refusals_of_names(void) {
     struct tlsf_poster one = TLSF_POSTER_CLOSED, two = TLSF_POSTER_CLOSED;
     struct tlsf_name name = {1, 2, 3}, came = {7, 7, 7};
     const struct tlsf_name untouched = came;
-    wants("post through a closed end", tlsf_queue_post(&one, &name), TLSF_IS_CLOSED);
+    wants("post through a closed end", tlsf_queue_post(&one, name), TLSF_IS_CLOSED);
     wants("take from a closed queue", tlsf_queue_take(&queue, &came), TLSF_IS_CLOSED);
     wants("open", tlsf_queue_open(&queue, 2, 2), TLSF_OK);
     wants("first poster", tlsf_poster_open(&queue, &one), TLSF_OK);
@@ -54,21 +54,21 @@ static void refusals_of_names(void) {
     wants("no name came", (size_t)memcmp(&came, &untouched, sizeof came), 0);
     for (turn = 0; turn < 5; turn++) { /* more than the queue has places */
         name.at = (uint32_t)turn;
-        wants("the first post", tlsf_queue_post(&one, &name), TLSF_OK);
+        wants("the first post", tlsf_queue_post(&one, name), TLSF_OK);
         name.at = (uint32_t)turn + 10;
-        wants("the second post", tlsf_queue_post(&two, &name), TLSF_OK);
-        wants("a third of one", tlsf_queue_post(&one, &name), TLSF_FULL);
-        wants("a third of the other", tlsf_queue_post(&two, &name), TLSF_FULL);
+        wants("the second post", tlsf_queue_post(&two, name), TLSF_OK);
+        wants("a third of one", tlsf_queue_post(&one, name), TLSF_FULL);
+        wants("a third of the other", tlsf_queue_post(&two, name), TLSF_FULL);
         wants("the first comes", tlsf_queue_take(&queue, &came), TLSF_OK);
         wants("it is the first", came.at, (size_t)turn);
         wants("the second comes", tlsf_queue_take(&queue, &came), TLSF_OK);
         wants("it is the second", came.at, (size_t)turn + 10);
         wants("no third", tlsf_queue_take(&queue, &came), TLSF_EMPTY);
     }
-    wants("a post", tlsf_queue_post(&one, &name), TLSF_OK);
+    wants("a post", tlsf_queue_post(&one, name), TLSF_OK);
     wants("the queue closes", tlsf_queue_close(&queue), TLSF_OK);
-    wants("a post that nobody takes", tlsf_queue_post(&two, &name), TLSF_OK);
-    wants("a full one", tlsf_queue_post(&one, &name), TLSF_FULL);
+    wants("a post that nobody takes", tlsf_queue_post(&two, name), TLSF_OK);
+    wants("a full one", tlsf_queue_post(&one, name), TLSF_FULL);
     wants("one closes", tlsf_poster_close(&one), TLSF_OK);
     wants("the last closes", tlsf_poster_close(&two), TLSF_OK);
 }
@@ -90,9 +90,9 @@ static void drains(void) {
     wants("none came", came, 0);
     for (int i = 0; i < 5; i++) {
         wants("allocate", tlsf_allocate(&heap, 40, &name), TLSF_OK);
-        wants("post", tlsf_queue_post(&poster, &name), TLSF_OK);
+        wants("post", tlsf_queue_post(&poster, name), TLSF_OK);
     }
-    wants("the last once more", tlsf_queue_post(&poster, &name), TLSF_OK); /* stale when it comes */
+    wants("the last once more", tlsf_queue_post(&poster, name), TLSF_OK); /* stale when it comes */
     wants("drain none", tlsf_queue_drain(&heap, &queue, 0, &came), TLSF_OK);
     wants("none came", came, 0);
     wants("drain two", tlsf_queue_drain(&heap, &queue, 2, &came), TLSF_OK);
@@ -126,7 +126,7 @@ static void *post_all(void *given) {
     for (long i = 0; i < blocks; i++) {
         uint32_t answer;
         while (tlsf_take(&it->take, &name) != TLSF_OK) sched_yield();
-        while ((answer = tlsf_queue_post(&it->poster, &name)) != TLSF_OK) {
+        while ((answer = tlsf_queue_post(&it->poster, name)) != TLSF_OK) {
             *(answer == TLSF_BUSY ? &it->busy : &it->full) += 1;
             sched_yield();
         }
@@ -159,8 +159,8 @@ static void threads(int posters) {
         for (int i = 0; i < posters; i++) {
             if (out[i] == blocks || tlsf_allocate(&heap, 8 + below(100), &name)) continue;
             of[name.at] = (uint32_t)i + 1; /* before it goes: it may be back at once */
-            if (tlsf_put(&post[i], &name) == TLSF_OK) out[i]++;
-            else of[name.at] = 0, tlsf_release(&heap, &name);
+            if (tlsf_put(&post[i], name) == TLSF_OK) out[i]++;
+            else of[name.at] = 0, tlsf_release(&heap, name);
         }
         while ((answer = tlsf_queue_take(&queue, &name)) == TLSF_OK) {
             const uint32_t by = of[name.at];
@@ -168,7 +168,7 @@ static void threads(int posters) {
             wants("in its poster's order", name.serial > last[by - 1], 1);
             last[by - 1] = name.serial;
             of[name.at] = 0;
-            wants("it is live", tlsf_release(&heap, &name), TLSF_OK);
+            wants("it is live", tlsf_release(&heap, name), TLSF_OK);
             back++;
         }
         if (answer == TLSF_BUSY) took_busy++;

@@ -22,7 +22,7 @@ static void *touch(void *given) {
     (void)given;
     for (uint64_t i = 0; i < TURNS; i++) {
         if (!calls_heap) payload[0] = i;
-        else ignore(tlsf_resize(&heap, &name, 8 + (uint32_t)(i % 8)));
+        else ignore(tlsf_resize(&heap, name, 8 + (uint32_t)(i % 8)));
     }
     return NULL;
 }
@@ -32,13 +32,13 @@ int main(int argc, char **argv) {
     const uint8_t bytes[8] = {1, 2, 3, 4, 5, 6, 7, 8};
     pthread_t thread;
     if (tlsf_open(&heap, 4, 0, 64) || tlsf_allocate(&heap, 16, &name)) return 2;
-    payload = tlsf_payload(&heap, &name, NULL);
+    payload = tlsf_payload(&heap, name, NULL);
     calls_heap = !strcmp(kind, "handle");
     if (pthread_create(&thread, NULL, touch, NULL)) return 2;
     for (int i = 0; i < TURNS; i++) {
         if (!strcmp(kind, "payload")) payload[0] = 0;
-        else if (!strcmp(kind, "release")) ignore(tlsf_release(&heap, &name) + tlsf_allocate(&heap, 16, &name));
-        else ignore(tlsf_write(&heap, &name, 0, bytes, sizeof bytes));
+        else if (!strcmp(kind, "release")) ignore(tlsf_release(&heap, name) + tlsf_allocate(&heap, 16, &name));
+        else ignore(tlsf_write(&heap, name, 0, bytes, sizeof bytes));
     }
     pthread_join(thread, NULL);
     printf("%s: done\n", kind);

@@ -59,14 +59,14 @@ static struct tlsf_heap_report report_of(struct model *m) {
 static void check_block(struct model *m, const struct block *b) {
     uint8_t out[LONGEST + 1];
     uint32_t len = 0;
-    wants("read", tlsf_read(&m->heap, &b->name, 0, out, b->len), TLSF_OK);
-    const uint8_t *payload = tlsf_payload(&m->heap, &b->name, &len);
+    wants("read", tlsf_read(&m->heap, b->name, 0, out, b->len), TLSF_OK);
+    const uint8_t *payload = tlsf_payload(&m->heap, b->name, &len);
     wants("payload", payload != NULL, 1);
     wants("length", len, b->len);
     wants("bytes read", memcmp(out, b->bytes, len) == 0, 1);
     wants("bytes in place", memcmp(payload, b->bytes, len) == 0, 1);
     wants("alignment", (uint32_t)((uintptr_t)payload % 8), 0);
-    wants("read past", tlsf_read(&m->heap, &b->name, 1, out, b->len), TLSF_RANGE);
+    wants("read past", tlsf_read(&m->heap, b->name, 1, out, b->len), TLSF_RANGE);
 }
 
 static void check_sums(struct model *m) {
@@ -106,8 +106,8 @@ static int allocate(struct model *m) {
 static int release(struct model *m, struct block *b) {
     check_block(m, b);
     m->gone = b->name;
-    wants("release", tlsf_release(&m->heap, &b->name), TLSF_OK);
-    wants("release again", tlsf_release(&m->heap, &m->gone), TLSF_STALE);
+    wants("release", tlsf_release(&m->heap, b->name), TLSF_OK);
+    wants("release again", tlsf_release(&m->heap, m->gone), TLSF_STALE);
     *b = m->blocks[--m->live];
     return 1;
 }
@@ -118,7 +118,7 @@ static void longer(struct block *b, uint32_t len) {
 }
 
 static int resize(struct model *m, struct block *b) {
-    const uint32_t len = any_len(), got = tlsf_resize(&m->heap, &b->name, len);
+    const uint32_t len = any_len(), got = tlsf_resize(&m->heap, b->name, len);
     if (got != TLSF_NO_ROOM) {
         wants("resize", got, TLSF_OK);
         longer(b, len);
@@ -134,7 +134,7 @@ static int reallocate(struct model *m, struct block *b) {
     const uint32_t len = any_len(), fit = fits(m, len), got = tlsf_reallocate(&m->heap, &b->name, len);
     if (got == TLSF_OK) {
         longer(b, len);
-        if (!is_same(&before, &b->name)) wants("the old name", tlsf_release(&m->heap, &before), TLSF_STALE);
+        if (!is_same(&before, &b->name)) wants("the old name", tlsf_release(&m->heap, before), TLSF_STALE);
     } else {
         wants("reallocate", got, TLSF_NO_FIT);
         wants("no fit though it fits", fit, TLSF_NO_FIT);
@@ -147,16 +147,16 @@ static int write(struct model *m, struct block *b) {
     uint8_t bytes[LONGEST + 1];
     const uint32_t at = below(b->len + 1), n = below(b->len - at + 1);
     for (uint32_t j = 0; j < sizeof bytes; j++) bytes[j] = (uint8_t)below(256);
-    wants("write", tlsf_write(&m->heap, &b->name, at, bytes, n), TLSF_OK);
+    wants("write", tlsf_write(&m->heap, b->name, at, bytes, n), TLSF_OK);
     memcpy(b->bytes + at, bytes, n);
-    wants("write past", tlsf_write(&m->heap, &b->name, at, bytes, b->len - at + 1), TLSF_RANGE);
+    wants("write past", tlsf_write(&m->heap, b->name, at, bytes, b->len - at + 1), TLSF_RANGE);
     return 1;
 }
 
 /* To the last byte: a neighbour that is hurt shows in what is read of it, or in the sums. */
 static int write_in_place(struct model *m, struct block *b) {
     uint32_t len = 0;
-    uint8_t *payload = tlsf_payload(&m->heap, &b->name, &len);
+    uint8_t *payload = tlsf_payload(&m->heap, b->name, &len);
     wants("length", len, b->len);
     for (uint32_t j = 0; j < len; j++) b->bytes[j] = payload[j] = (uint8_t)below(256);
     return 1;
@@ -170,12 +170,12 @@ static int forged(struct model *m) {
     uint8_t byte = 0;
     for (uint32_t j = 0; j < m->live; j++)
         if (is_same(&m->blocks[j].name, &name)) return 0;
-    wants("release of a forged name", tlsf_release(&m->heap, &name), wanted);
-    wants("resize of a forged name", tlsf_resize(&m->heap, &name, 1), wanted);
-    wants("read of a forged name", tlsf_read(&m->heap, &name, 0, &byte, 0), wanted);
-    wants("write by a forged name", tlsf_write(&m->heap, &name, 0, &byte, 1), wanted);
-    wants("place of a forged name", tlsf_locate(&m->heap, &name, &base, &len), wanted);
-    wants("payload of a forged name", tlsf_payload(&m->heap, &name, &len) == NULL, 1);
+    wants("release of a forged name", tlsf_release(&m->heap, name), wanted);
+    wants("resize of a forged name", tlsf_resize(&m->heap, name, 1), wanted);
+    wants("read of a forged name", tlsf_read(&m->heap, name, 0, &byte, 0), wanted);
+    wants("write by a forged name", tlsf_write(&m->heap, name, 0, &byte, 1), wanted);
+    wants("place of a forged name", tlsf_locate(&m->heap, name, &base, &len), wanted);
+    wants("payload of a forged name", tlsf_payload(&m->heap, name, &len) == NULL, 1);
     return 1;
 }
 
@@ -196,7 +196,7 @@ static int over_lane(struct tlsf_post_end *post, struct tlsf_take_end *take) {
     if (below(2)) {
         const struct tlsf_name sent = {below(9), below(99), state};
         if (state % 4 == 0) return many_over_lane(post, (uint32_t)(state / 4 % (3 * CAPACITY + 1)));
-        wants("put", tlsf_put(post, &sent), in_lane < CAPACITY ? TLSF_OK : TLSF_FULL);
+        wants("put", tlsf_put(post, sent), in_lane < CAPACITY ? TLSF_OK : TLSF_FULL);
         if (in_lane < CAPACITY) lane[in_lane++] = sent;
         return 1;
     }
@@ -210,7 +210,7 @@ static int over_lane(struct tlsf_post_end *post, struct tlsf_take_end *take) {
 
 static void end(struct model *m) {
     for (uint32_t j = 0; j < m->live; j++) check_block(m, &m->blocks[j]);
-    while (m->live) wants("last release", tlsf_release(&m->heap, &m->blocks[--m->live].name), TLSF_OK);
+    while (m->live) wants("last release", tlsf_release(&m->heap, m->blocks[--m->live].name), TLSF_OK);
     const struct tlsf_heap_report r = report_of(m);
     wants("free blocks at the end", r.free_blocks, 1);
     wants("free words at the end", r.free_words, WORDS);

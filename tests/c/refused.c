@@ -84,7 +84,7 @@ static uint32_t open_lane(void) { return tlsf_lane_open(&post, &take, NAMES); }
 
 /* The ends are closed in one order at level 4, and in the other at level 5. All goes with the last. */
 static void close_lane(void) {
-    for (int k = 0; k < NAMES; k++) wants("put", tlsf_put(&post, &sent), TLSF_OK);
+    for (int k = 0; k < NAMES; k++) wants("put", tlsf_put(&post, sent), TLSF_OK);
     wants("one end", level == 4 ? tlsf_post_close(&post) : tlsf_take_close(&take), TLSF_OK);
     wants("the lane is there", count > 0, 1);
     wants("the other end", level == 4 ? tlsf_take_close(&take) : tlsf_post_close(&post), TLSF_OK);
@@ -104,7 +104,7 @@ static void close_queue(void) {
     for (int k = 0; k < most; k++) {
         posters[k] = TLSF_POSTER_CLOSED;
         wants("an end", tlsf_poster_open(&queue, &posters[k]), TLSF_OK);
-        wants("post", tlsf_queue_post(&posters[k], &sent), TLSF_OK);
+        wants("post", tlsf_queue_post(&posters[k], sent), TLSF_OK);
     }
     if (level == 4) close_posters(most);
     wants("the queue is there at last", count > 0, 1);

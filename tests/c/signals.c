@@ -95,7 +95,7 @@ static void must(struct side *it, uint32_t answer) {
 
 static void check(struct side *it, const struct block *b) {
     uint8_t bytes[LONGEST];
-    if (!is_served(it, ANSWER(it, tlsf_read(&heap, &b->name, 0, bytes, b->len)), TLSF_OK)) return;
+    if (!is_served(it, ANSWER(it, tlsf_read(&heap, b->name, 0, bytes, b->len)), TLSF_OK)) return;
     for (uint32_t k = 0; k < b->len; k++)
         if (bytes[k] != b->byte) wrong++;
 }
@@ -103,7 +103,7 @@ static void check(struct side *it, const struct block *b) {
 static void fill(struct side *it, const struct block *b, uint32_t from) {
     uint8_t bytes[LONGEST];
     memset(bytes, b->byte, sizeof bytes);
-    must(it, ANSWER(it, tlsf_write(&heap, &b->name, from, bytes, b->len - from)));
+    must(it, ANSWER(it, tlsf_write(&heap, b->name, from, bytes, b->len - from)));
 }
 
 static void allocate(struct side *it) {
@@ -116,7 +116,7 @@ static void allocate(struct side *it) {
 }
 
 static void release(struct side *it, struct block *b) {
-    const uint32_t answer = below(it, 2) ? ANSWER(it, tlsf_release(&heap, &b->name)) : ANSWER(it, tlsf_release_place(&heap, b->name.at));
+    const uint32_t answer = below(it, 2) ? ANSWER(it, tlsf_release(&heap, b->name)) : ANSWER(it, tlsf_release_place(&heap, b->name.at));
     if (is_served(it, answer, TLSF_OK)) *b = it->blocks[--it->live];
 }
 
@@ -124,7 +124,7 @@ static void resize(struct side *it, struct block *b) {
     const uint32_t len = below(it, LONGEST), before = b->len;
     if (below(it, 2)) {
         if (!is_served(it, ANSWER(it, tlsf_reallocate(&heap, &b->name, len)), TLSF_NO_FIT)) return;
-    } else if (!is_served(it, ANSWER(it, tlsf_resize(&heap, &b->name, len)), TLSF_NO_ROOM)) {
+    } else if (!is_served(it, ANSWER(it, tlsf_resize(&heap, b->name, len)), TLSF_NO_ROOM)) {
         return;
     }
     b->len = len;
@@ -135,7 +135,7 @@ static void locate(struct side *it, const struct block *b) {
     struct tlsf_name name = {0, 0, 0};
     uint64_t *base = NULL;
     uint32_t len = 0;
-    if (is_served(it, ANSWER(it, tlsf_locate(&heap, &b->name, &base, &len)), TLSF_OK) && len != b->len) wrong++;
+    if (is_served(it, ANSWER(it, tlsf_locate(&heap, b->name, &base, &len)), TLSF_OK) && len != b->len) wrong++;
     if (is_served(it, ANSWER(it, tlsf_place(&heap, b->name.at, &name, &len)), TLSF_OK) && (len != b->len || name.serial != b->name.serial)) wrong++;
 }
 
@@ -149,7 +149,7 @@ static void over_lane(struct side *it) {
     struct tlsf_name got = {5, 6, 7};
     uint32_t came = 0;
     const uint32_t kind = below(it, 5);
-    if (kind < 3) (void)is_served(it, ANSWER(it, tlsf_put(&post, &sent)), TLSF_FULL);
+    if (kind < 3) (void)is_served(it, ANSWER(it, tlsf_put(&post, sent)), TLSF_FULL);
     else if (kind == 3) (void)is_served(it, ANSWER(it, tlsf_drain(&heap, &take, 2, &came)), TLSF_OK);
     else if (is_served(it, ANSWER(it, tlsf_take(&take, &got)), TLSF_EMPTY) && memcmp(&sent, &got, sizeof got)) wrong++;
 }

@@ -38,9 +38,10 @@ struct call {
     uint8_t kind, block, want, step;
 };
 
-/* What a call answers: the place of the block that it gives, or a refusal. */
+/* What a call answers: the place of the block that it gives, and the serial of a new one; or a refusal. */
 struct answer {
     uint32_t status, at;
+    uint64_t serial;
 };
 
 /* A state, by the call that led there from another one. */
@@ -251,12 +252,12 @@ static struct answer resized(struct model *m, struct call call, bool may_move, b
     if (refit(m, call.block, call.want))
         set_length(&m->blocks[call.block], len);
     else if (!may_move)
-        return (struct answer){TLSF_NO_ROOM, NOWHERE};
+        return (struct answer){TLSF_NO_ROOM, NOWHERE, 0};
     else
         at = move(m, call.block, call.want, len);
-    if (at == NOWHERE) return (struct answer){TLSF_NO_FIT, NOWHERE};
+    if (at == NOWHERE) return (struct answer){TLSF_NO_FIT, NOWHERE, 0};
     if (!fills) leave_unfilled(m, at);
-    return (struct answer){TLSF_OK, at};
+    return (struct answer){TLSF_OK, at, 0};
 }
 
 static struct answer allocated(struct model *m, struct call call, bool fills) {
@@ -266,9 +267,9 @@ static struct answer allocated(struct model *m, struct call call, bool fills) {
         at = align(m, call.want, call.step, len);
     else if (chosen != NOWHERE)
         give(m, chosen, call.want, len);
-    if (at == NOWHERE) return (struct answer){TLSF_NO_FIT, NOWHERE};
+    if (at == NOWHERE) return (struct answer){TLSF_NO_FIT, NOWHERE, 0};
     if (!fills) leave_unfilled(m, at);
-    return (struct answer){TLSF_OK, at};
+    return (struct answer){TLSF_OK, at, m->blocks[block_at(m, at)].mark};
 }
 
 static struct answer answered(struct model *m, struct call call) {
@@ -279,7 +280,7 @@ static struct answer answered(struct model *m, struct call call) {
     case RESIZE: return resized(m, call, false, true);
     case REALLOCATE: return resized(m, call, true, true);
     case RESIZE_PLACE: return resized(m, call, true, false);
-    default: take_back(m, call.block); return (struct answer){TLSF_OK, NOWHERE};
+    default: take_back(m, call.block); return (struct answer){TLSF_OK, NOWHERE, 0};
     }
 }
 
@@ -289,31 +290,39 @@ static struct tlsf_name name_of(const struct model *m, uint32_t block) {
     return (struct tlsf_name){NUMBER, place_of(m, block), m->blocks[block].mark};
 }
 
+/* A refusal has no place and no serial. */
+static struct answer placed(struct tlsf_placed it) {
+    if (it.answer == TLSF_OK) return (struct answer){TLSF_OK, it.at, it.serial};
+    wants("what a refusal answers besides", it.at | it.serial, 0);
+    return (struct answer){it.answer, NOWHERE, 0};
+}
+
 /* Makes the call, `m` being the heap before it. */
 static struct answer told(const struct model *m, struct call call) {
     const uint32_t len = len_of(call);
     struct tlsf_name name = name_of(m, call.block);
-    struct answer it = {TLSF_OK, NOWHERE};
+    struct answer it = {TLSF_OK, NOWHERE, 0};
     switch (call.kind) {
     case ALLOCATE:
-        name = (struct tlsf_name){NUMBER, NOWHERE, m->tick};
+        name = (struct tlsf_name){NUMBER, NOWHERE, 0};
         it.status = tlsf_allocate(&heap, len, &name);
         it.at = name.at;
-        wants("number and serial", (uint64_t)(name.heap == NUMBER && name.serial == m->tick), 1);
+        it.serial = name.serial;
+        wants("number", name.heap, NUMBER);
         break;
-    case RELEASE: it.status = tlsf_release(&heap, &name); break;
+    case RELEASE: it.status = tlsf_release(&heap, name); break;
     case RESIZE:
-        it.status = tlsf_resize(&heap, &name, len);
+        it.status = tlsf_resize(&heap, name, len);
         it.at = it.status == TLSF_OK ? name.at : NOWHERE;
         break;
     case REALLOCATE:
         it.status = tlsf_reallocate(&heap, &name, len);
         it.at = it.status == TLSF_OK ? name.at : NOWHERE;
         break;
-    case ALLOCATE_PLACE: it.status = tlsf_allocate_place(&heap, len, &it.at); break;
+    case ALLOCATE_PLACE: return placed(tlsf_allocate_place(&heap, len));
     case RELEASE_PLACE: it.status = tlsf_release_place(&heap, name.at); break;
     case RESIZE_PLACE: it.status = tlsf_resize_place(&heap, name.at, len, &it.at); break;
-    default: it.status = tlsf_allocate_aligned(&heap, len, call.step, 0, &it.at);
+    default: return placed(tlsf_allocate_aligned(&heap, len, call.step, 0));
     }
     return it;
 }
@@ -439,12 +448,12 @@ static void check_refused(struct tlsf_name name, uint32_t why) {
     uint32_t len = 0;
     uint64_t *base = NULL;
     struct tlsf_name kept = name;
-    wants("release", tlsf_release(&heap, &name), why);
-    wants("resize", tlsf_resize(&heap, &name, 8), why);
+    wants("release", tlsf_release(&heap, name), why);
+    wants("resize", tlsf_resize(&heap, name, 8), why);
     wants("reallocate", tlsf_reallocate(&heap, &kept, 8), why);
-    wants("write", tlsf_write(&heap, &name, 0, &byte, 1), why);
-    wants("read", tlsf_read(&heap, &name, 0, &byte, 1), why);
-    wants("locate", tlsf_locate(&heap, &name, &base, &len), why);
+    wants("write", tlsf_write(&heap, name, 0, &byte, 1), why);
+    wants("read", tlsf_read(&heap, name, 0, &byte, 1), why);
+    wants("locate", tlsf_locate(&heap, name, &base, &len), why);
     wants("the name", (uint64_t)(kept.at == name.at && kept.serial == name.serial), 1);
 }
 
@@ -455,15 +464,15 @@ static void check_bytes(const struct model *m, uint32_t i) {
     uint8_t out[8 * MOST_WORDS + 1];
     uint32_t len = 0;
     uint64_t *base = NULL;
-    wants("locate", tlsf_locate(&heap, &name, &base, &len), TLSF_OK);
+    wants("locate", tlsf_locate(&heap, name, &base, &len), TLSF_OK);
     wants("located", (uint64_t)(base == heap.base && len == block->len), 1);
     for (uint32_t from = 0; from <= block->len; from += block->len < 8 || from + 8 < block->len ? 3 : 1) {
         const uint32_t n = block->len - from;
-        wants("read", tlsf_read(&heap, &name, from, out, n), TLSF_OK);
+        wants("read", tlsf_read(&heap, name, from, out, n), TLSF_OK);
         for (uint32_t j = 0; j < n; j++) wants("a byte read", out[j], byte_of(block, from + j));
-        wants("write", tlsf_write(&heap, &name, from, out, n), TLSF_OK);
-        wants("read past the end", tlsf_read(&heap, &name, from, out, n + 1), TLSF_RANGE);
-        wants("write past the end", tlsf_write(&heap, &name, from, out, n + 1), TLSF_RANGE);
+        wants("write", tlsf_write(&heap, name, from, out, n), TLSF_OK);
+        wants("read past the end", tlsf_read(&heap, name, from, out, n + 1), TLSF_RANGE);
+        wants("write past the end", tlsf_write(&heap, name, from, out, n + 1), TLSF_RANGE);
     }
 }
 
@@ -550,6 +559,7 @@ static void call_both(struct model *m, struct call call) {
     const struct answer got = told(&before, call);
     wants("answer", got.status, wanted.status);
     wants("place", got.at, wanted.at);
+    wants("serial", got.serial, wanted.serial);
     if (got.status != TLSF_OK) copy(m, &before);
     call_count++;
 }

@@ -54,10 +54,11 @@ static uint32_t live;
 static void call_by_place(uint32_t kind, uint32_t k, uint32_t size) {
     struct tlsf_heap_counts counts;
     struct tlsf_block_info block;
+    struct tlsf_placed it;
     uint32_t at = 0, len = 0;
     if (kind < 4 && live < MOST) {
-        if (kind < 2 ? tlsf_allocate_place(&heap, size, &at) : tlsf_allocate_aligned(&heap, size, 1u << below(6), below(2), &at)) return;
-        if (!tlsf_place(&heap, at, &names[live], &len)) live++;
+        it = kind < 2 ? tlsf_allocate_place(&heap, size) : tlsf_allocate_aligned(&heap, size, 1u << below(6), below(2));
+        if (!it.answer && !tlsf_place(&heap, it.at, &names[live], &len)) live++;
     } else if (kind < 7 && live) {
         if (!tlsf_release_place(&heap, names[k].at)) names[k] = names[--live];
     } else if (kind == 7) {
@@ -83,14 +84,14 @@ static void call_others(long calls) {
         if (kind < 3 && held < MOST) {
             if (!tlsf_offsets_allocate(&offsets, size, &spans[held])) held++;
         } else if (kind < 5 && held) {
-            if (!tlsf_offsets_release(&offsets, &spans[k].name)) spans[k] = spans[--held];
+            if (!tlsf_offsets_release(&offsets, spans[k].name)) spans[k] = spans[--held];
         } else if (kind == 5 && held) {
             if (tlsf_offsets_resize(&offsets, &spans[k], size)) continue;
         } else if (kind == 6) {
             name.serial = (uint64_t)below(1000);
-            tlsf_offsets_release(&offsets, &name);
+            tlsf_offsets_release(&offsets, name);
         } else {
-            (void)(below(2) ? tlsf_queue_post(&poster, &name) : tlsf_queue_take(&queue, &name));
+            (void)(below(2) ? tlsf_queue_post(&poster, name) : tlsf_queue_take(&queue, &name));
         }
     }
 }
@@ -112,14 +113,14 @@ static int make_calls(long calls) {
         } else if (kind < 4 && live < MOST) {
             if (!tlsf_allocate(&heap, size, &names[live])) live++;
         } else if (kind < 7 && live) {
-            if (!tlsf_release(&heap, &names[k])) names[k] = names[--live];
+            if (!tlsf_release(&heap, names[k])) names[k] = names[--live];
         } else if (kind == 7 && live) {
-            if (below(2) ? tlsf_resize(&heap, &names[k], size) : tlsf_reallocate(&heap, &names[k], size)) continue;
+            if (below(2) ? tlsf_resize(&heap, names[k], size) : tlsf_reallocate(&heap, &names[k], size)) continue;
         } else if (kind == 8) {
             name.serial = (uint64_t)below(1000);
-            (void)(below(2) ? tlsf_release(&heap, &name) : tlsf_locate(&heap, live ? &names[k] : &name, &base, &len));
+            (void)(below(2) ? tlsf_release(&heap, name) : tlsf_locate(&heap, live ? names[k] : name, &base, &len));
         } else {
-            (void)(below(2) ? tlsf_put(&post, &name) : tlsf_take(&take, &name));
+            (void)(below(2) ? tlsf_put(&post, name) : tlsf_take(&take, &name));
         }
     }
     call_others(calls);

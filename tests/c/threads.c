@@ -62,7 +62,7 @@ static uint64_t *base_of(struct tlsf_heap *heap) {
     struct tlsf_name name = {0, 0, 0};
     uint64_t *base = NULL;
     uint32_t len = 0;
-    if (tlsf_allocate(heap, 0, &name) || tlsf_locate(heap, &name, &base, &len) || tlsf_release(heap, &name)) return NULL;
+    if (tlsf_allocate(heap, 0, &name) || tlsf_locate(heap, name, &base, &len) || tlsf_release(heap, name)) return NULL;
     return base;
 }
 
@@ -89,9 +89,9 @@ static void send_one(void) {
     uint8_t bytes[8];
     if (out >= blocks || out - oldest() >= UNDER_WAY || tlsf_allocate(&heap, length_of(out), &name)) return;
     memcpy(bytes, &first, sizeof bytes);
-    if (tlsf_write(&heap, &name, 0, bytes, sizeof bytes)) wrong++;
-    if (tlsf_put(&post[out % others], &name) == TLSF_OK) sent[out++ % UNDER_WAY] = name;
-    else if (tlsf_release(&heap, &name)) wrong++;
+    if (tlsf_write(&heap, name, 0, bytes, sizeof bytes)) wrong++;
+    if (tlsf_put(&post[out % others], name) == TLSF_OK) sent[out++ % UNDER_WAY] = name;
+    else if (tlsf_release(&heap, name)) wrong++;
 }
 
 /* What came back of one is in its order, and as it was filled. */
@@ -102,12 +102,12 @@ static void take_from(long j) {
         const long i = next[j];
         uint64_t first = 0;
         if (memcmp(&name, &sent[i % UNDER_WAY], sizeof name)) wrong++;
-        if (tlsf_read(&heap, &name, 0, bytes, length_of(i))) wrong++;
+        if (tlsf_read(&heap, name, 0, bytes, length_of(i))) wrong++;
         memcpy(&first, bytes, sizeof first);
         if (first != (other[j].base ? ~(uint64_t)i : (uint64_t)i)) wrong++;
         for (uint32_t k = 8; k < length_of(i); k++)
             if (bytes[k] != (other[j].base ? byte_of(i, k) : 0)) wrong++;
-        if (tlsf_release(&heap, &name)) wrong++;
+        if (tlsf_release(&heap, name)) wrong++;
         next[j] += others;
         back++;
     }

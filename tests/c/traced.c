@@ -39,7 +39,7 @@ static void given(const struct tlsf_name *name, const void *p) {
     b->label = labels++;
     if (name) b->name = *name;
     if (name || tlsf_name_at(&heap, p, &b->name) == TLSF_OK) {
-        b->p = tlsf_payload(&heap, &b->name, NULL);
+        b->p = tlsf_payload(&heap, b->name, NULL);
         printf("0 a %u at %u serial %u\n", (unsigned)b->label, (unsigned)b->name.at, (unsigned)b->name.serial + moved_on);
         live++;
     } else printf("0 a %u refused %d\n", (unsigned)b->label, TLSF_NO_FIT);
@@ -108,15 +108,15 @@ static void change(uint32_t kind, uint32_t k, uint32_t len) {
     void *p;
     switch (kind) {
     case 0: released(k, tlsf_free(&heap, blocks[k].p)); break;
-    case 1: released(k, tlsf_release(&heap, &name)); break;
+    case 1: released(k, tlsf_release(&heap, name)); break;
     case 2:
-        if (k % 2 ? tlsf_queue_post(&poster, &name) || tlsf_queue_drain(&heap, &queue, 2, &came)
-                  : tlsf_put(&post, &name) || tlsf_drain(&heap, &take, 2, &came))
+        if (k % 2 ? tlsf_queue_post(&poster, name) || tlsf_queue_drain(&heap, &queue, 2, &came)
+                  : tlsf_put(&post, name) || tlsf_drain(&heap, &take, 2, &came))
             exit(1);
         if (came != 1) exit(1);
         released(k, TLSF_OK);
         break;
-    case 3: changed('r', &blocks[k], tlsf_resize(&heap, &name, len / 16 * 16 + 8)); break;
+    case 3: changed('r', &blocks[k], tlsf_resize(&heap, name, len / 16 * 16 + 8)); break;
     case 4:
         answer = tlsf_reallocate(&heap, &name, len / 16 * 16 + 8);
         moved(k, answer, &name);
@@ -143,19 +143,18 @@ static void report(void) {
 static void free_twice(void) {
     struct tlsf_name name;
     if (!gone.p) return;
-    changed('f', &gone, tlsf_release(&heap, &gone.name));
-    changed('r', &gone_long, tlsf_resize(&heap, &gone_long.name, 8));
+    changed('f', &gone, tlsf_release(&heap, gone.name));
+    changed('r', &gone_long, tlsf_resize(&heap, gone_long.name, 8));
     if (tlsf_name_at(&heap, gone.p, &name) == TLSF_STALE) changed('f', &gone, tlsf_free(&heap, gone.p));
 }
 
 /* All is released, and then given but for 11 words, one less than aligning the least block to 32 bytes asks for. */
 static void fill_up(void) {
     struct tlsf_name name;
-    uint32_t at = 0;
     while (live) released(0, tlsf_free(&heap, blocks[0].p));
     given(tlsf_allocate(&heap, 8 * (1152 - 3), &name) == TLSF_OK ? &name : NULL, NULL);
     given(tlsf_allocate(&heap, 8 * (38 - 3), &name) == TLSF_OK ? &name : NULL, NULL);
-    if (tlsf_allocate_aligned(&heap, 0, 4, 0, &at) != TLSF_NO_FIT) exit(1);
+    if (tlsf_allocate_aligned(&heap, 0, 4, 0).answer != TLSF_NO_FIT) exit(1);
     given(NULL, NULL);
 }
 

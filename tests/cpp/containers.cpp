@@ -290,7 +290,7 @@ static void refusals(tlsf::heap &heap) {
 static_assert(std::is_nothrow_move_constructible_v<tlsf::heap> && std::is_nothrow_move_assignable_v<tlsf::heap>);
 static_assert(std::is_nothrow_move_constructible_v<tlsf::block> && !std::is_copy_constructible_v<tlsf::block>);
 static_assert(std::is_nothrow_move_constructible_v<tlsf::post_end> && !std::is_copy_constructible_v<tlsf::take_end>);
-static_assert(!std::is_copy_constructible_v<tlsf::heap> && noexcept(tlsf_release(nullptr, nullptr)));
+static_assert(!std::is_copy_constructible_v<tlsf::heap> && noexcept(tlsf_release(nullptr, tlsf_name{})));
 
 int main() {
     for (tlsf::level level : {tlsf::level::four, tlsf::level::five}) {

@@ -204,9 +204,9 @@ static void do_free(struct area *a) {
     struct block *it = a_live(a);
     if (it == NULL) return;
     see_bytes(it, it->bytes);
-    if (byte() % 4 == 0) MUST(tlsf_release(a->heap, &it->name) == TLSF_OK);
+    if (byte() % 4 == 0) MUST(tlsf_release(a->heap, it->name) == TLSF_OK);
     else MUST(tlsf_free(a->heap, it->p) == TLSF_OK);
-    MUST(tlsf_free(a->heap, it->p) == TLSF_STALE && tlsf_release(a->heap, &it->name) == TLSF_STALE);
+    MUST(tlsf_free(a->heap, it->p) == TLSF_STALE && tlsf_release(a->heap, it->name) == TLSF_STALE);
     leave(a, it);
 }
 
@@ -246,9 +246,9 @@ static void do_stale(struct area *a) {
     for (uint32_t k = 0; k < BLOCKS; k++)
         if (a->blocks[k].p != NULL && memcmp(&a->blocks[k].name, &name, sizeof name) == 0) return;
     unsigned char one = 0;
-    MUST(tlsf_release(a->heap, &name) == want && tlsf_resize(a->heap, &name, number()) == want);
-    MUST(tlsf_read(a->heap, &name, 0, &one, 1) == want && tlsf_write(a->heap, &name, 0, &one, 1) == want);
-    MUST(tlsf_payload(a->heap, &name, NULL) == NULL);
+    MUST(tlsf_release(a->heap, name) == want && tlsf_resize(a->heap, name, number()) == want);
+    MUST(tlsf_read(a->heap, name, 0, &one, 1) == want && tlsf_write(a->heap, name, 0, &one, 1) == want);
+    MUST(tlsf_payload(a->heap, name, NULL) == NULL);
 }
 
 /* --- Blocks by name ------------------------------------------------------------------------------------------------------ */
@@ -266,7 +266,7 @@ static void do_allocate(struct area *a) {
         if (n > a->longest_refused) a->longest_refused = n;
         return;
     }
-    unsigned char *p = tlsf_payload(a->heap, &name, NULL);
+    unsigned char *p = tlsf_payload(a->heap, name, NULL);
     MUST(p != NULL && had >= n);
     for (uint32_t k = 0; k < n; k++) MUST(p[k] == 0);
     enter(a, it, p, n, 8);
@@ -297,14 +297,14 @@ static void do_copy(struct area *a) {
     if (it == NULL || it->usable + 2 > sizeof bytes) return;
     it->seed = seeds++;
     for (size_t k = 0; k < it->usable; k++) bytes[k] = pattern(it->seed, k);
-    MUST(tlsf_write(a->heap, &it->name, 0, bytes, it->usable) == TLSF_OK);
+    MUST(tlsf_write(a->heap, it->name, 0, bytes, it->usable) == TLSF_OK);
     see_bytes(it, it->usable);
     const uint32_t at = number() % (uint32_t)(it->usable + 2);
     const size_t left = at <= it->usable ? it->usable - at : 0, n = byte() % 2 == 0 ? left : left + 1 + byte();
     const uint32_t want = at + n > it->usable ? TLSF_RANGE : TLSF_OK;
-    MUST(n + at > sizeof bytes || tlsf_write(a->heap, &it->name, at, bytes + at, n) == want);
+    MUST(n + at > sizeof bytes || tlsf_write(a->heap, it->name, at, bytes + at, n) == want);
     memset(bytes, 0x11, sizeof bytes);
-    MUST(n > sizeof bytes || tlsf_read(a->heap, &it->name, at, bytes, n) == want);
+    MUST(n > sizeof bytes || tlsf_read(a->heap, it->name, at, bytes, n) == want);
     for (size_t k = 0; k < n && k < sizeof bytes; k++) MUST(bytes[k] == (want == TLSF_OK ? pattern(it->seed, at + k) : 0x11));
 }
 
@@ -316,7 +316,7 @@ static void do_resize(struct area *a) {
     struct tlsf_name name = it->name;
     a->is_mixed = true;
     const bool moves = byte() % 2 == 0;
-    const uint32_t answer = moves ? tlsf_reallocate(a->heap, &name, n) : tlsf_resize(a->heap, &name, n);
+    const uint32_t answer = moves ? tlsf_reallocate(a->heap, &name, n) : tlsf_resize(a->heap, name, n);
     if (answer != TLSF_OK) {
         MUST(answer == (moves ? TLSF_NO_FIT : TLSF_NO_ROOM) && n > had && tlsf_usable_size(a->heap, it->p) == had);
         see_bytes(it, it->bytes);
@@ -325,7 +325,7 @@ static void do_resize(struct area *a) {
         return;
     }
     if (name.at != it->name.at) leave(a, it);
-    it->p = tlsf_payload(a->heap, &name, NULL);
+    it->p = tlsf_payload(a->heap, name, NULL);
     see_bytes(it, stay);
     for (size_t k = had; k < n; k++) MUST(it->p[k] == 0);
     enter(a, it, it->p, n, 8);

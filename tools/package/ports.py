@@ -9,8 +9,8 @@ the toolchain's.
 
 Only what a target has for itself is changed in a module: its layout, what names
 a processor, how C extends a result of 32 bits, and on Windows the convention of
-the two calls that answer a pair. Then each call's result and arguments have to
-be those that CLANG gives it by tlsf.h or c/memory.c for that target.
+calls that are given or answer a pair. Then each call's result and arguments
+have to be those that CLANG gives it by tlsf.h or c/memory.c for that target.
 
 The exit status is 0 where all is written, 1 where something can't be, which a
 line on standard error says, and 2 where the words are others.
@@ -24,6 +24,10 @@ import sys
 import tempfile
 
 TOP = pathlib.Path(__file__).resolve().parent.parent.parent
+sys.dont_write_bytecode = True
+sys.path.insert(0, str(TOP / "tools"))
+import calls
+
 # Lines of LLVM's that GNU's assembler or an older one doesn't know, or that say nothing.
 DROPPED = re.compile(r"\s*(#|//|\.addrsig|\.file\b|\.attribute\b|\.build_version\b|\.seh_((start|end)epilogue|unwindversion)|\.section\s+\.llvm|"
                      r"\.p2align\s+0\b|$)")
@@ -48,18 +52,20 @@ class Failed(Exception):
 
 @dataclasses.dataclass(frozen=True)
 class Port:
-    """A target of LLVM's with the flags of its least processor; the module that is lowered; and how C extends a result of 32 bits."""
+    """A target of LLVM's with the flags of its least processor; the module that is lowered; how C extends a result of 32 bits; and the
+    convention of calls with a pair, where it isn't C's."""
 
     target: str
     flags: tuple
     module: str
     extends: str = ""
+    of_pairs: str = ""
 
 
 PROVED = {"x86_64": Port("x86_64-unknown-linux-gnu", ("-march=x86-64",), "x86_64"), "aarch64": Port("aarch64-unknown-linux-gnu", ("-march=armv8-a",), "aarch64")}
 PORTS = {
     "riscv64": Port("riscv64-unknown-linux-gnu", ("-march=rv64imac", "-mabi=lp64"), "aarch64", "signext"),
-    "x86_64-windows": Port("x86_64-pc-windows-gnu", ("-march=x86-64",), "x86_64"),
+    "x86_64-windows": Port("x86_64-pc-windows-gnu", ("-march=x86-64",), "x86_64", of_pairs="x86_64_sysvcc"),
     "arm64-macos": Port("arm64-apple-macosx13", (), "aarch64"),
 }
 
@@ -99,8 +105,9 @@ def moved(clang, port, text):
     text = re.sub(r' "(target-cpu|target-features|tune-cpu|probe-stack|stack-probe-size)"="[^"]*"', "", text)
     if port.extends:
         text = re.sub(r"^(define [^@\n]*)i32 (?=@tlsf)", rf"\1{port.extends} i32 ", text, flags=re.M)
-    if port.target.startswith("x86_64-pc-windows"):
-        text = re.sub(r"(call|declare) \{ i64, i64 \} @tlsf_memory", r"\1 x86_64_sysvcc { i64, i64 } @tlsf_memory", text)
+    if port.of_pairs:
+        names = "|".join(["tlsf_memory_(?:re)?alloc", *(it.name for it in calls.in_archive(calls.read()) if it.is_by_value)])
+        text = re.sub(rf"(?<=call |fine |lare )([^@\n]*@(?:{names})\()", rf"{port.of_pairs} \1", text)
     return text
 
 
@@ -171,19 +178,20 @@ def faults(clang, port, module):
 
 
 def held_module(clang, name, port, text):
-    """A module for another target, held to C's convention; and where results are extended, that is what the check asks for."""
+    """A module for another target, held to C's convention; and what the target has for itself is what the check asks for."""
     module = moved(clang, port, text)
     if wrong := list(faults(clang, port, module)):
         raise Failed(f"{name}: " + f"\n{name}: ".join(wrong))
-    if port.extends and not list(faults(clang, port, moved(clang, dataclasses.replace(port, extends=""), text))):
-        raise Failed(f"{name}: nothing notices results that aren't extended")
+    for own in ("extends", "of_pairs"):
+        if getattr(port, own) and not list(faults(clang, port, moved(clang, dataclasses.replace(port, **{own: ""}), text))):
+            raise Failed(f"{name}: nothing notices calls that lack {getattr(port, own)}")
     return module
 
 
 def sum_of(clang, modules, memory_c):
     """The checksum of all that `write` reads."""
     told = hashlib.sha256()
-    for file in (clang, *modules.values(), memory_c, *sorted((TOP / "include").iterdir()), pathlib.Path(__file__)):
+    for file in (clang, *modules.values(), memory_c, *sorted((TOP / "include").iterdir()), pathlib.Path(__file__), pathlib.Path(calls.__file__)):
         with file.open("rb") as data:
             told.update(hashlib.file_digest(data, "sha256").digest())
     return told.hexdigest()[:40]

@@ -372,7 +372,9 @@ class Tree:
         """A type of Rust, or its inside, one of its variants or a constant, as the logic sees it."""
         if "TheInside" in rest:
             rest = rest[: rest.index("TheInside")]
-        at = rest.index("TheVariants") if "TheVariants" in rest else len(rest)
+        if "-" in rest[-1]:  # what the kit writes of a type that holds itself
+            return OUTSIDE
+        at = next((rest.index(it) for it in ("TheVariants", "TheOpen") if it in rest), len(rest))
         name = [rest[at - 1], *rest[at + 1 :]]
         found = self.find(crate, name)
         items = self.crates[crate].found.values() if crate in self.crates else ()

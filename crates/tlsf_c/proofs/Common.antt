@@ -11,7 +11,7 @@ pub use Rattle.std_alloc.proofs.SendSync.{lies, quiet}
 pub use Rattle.std_heap.specs.contracts.GlobalAllocator.TheImpl.{dict, ghosts}
 pub use Rattle.tlsf_c.specs.Counting.{AreCounts, counted, no_counts}
 pub use Rattle.tlsf_c.specs.Drains.{drained, LeavesUnnamed}
-pub use Rattle.tlsf_c.specs.Handles.{heap_in, touched_in, counts_in, posts_named, touches_in, ready_in, taken_in, AreEnds, post_of}
+pub use Rattle.tlsf_c.specs.Handles.{heap_in, touched_in, counts_in, posts_named, touches_in, post_of}
 pub use Rattle.tlsf_c.specs.Levels.{LevelHeap, GoesOn}
 pub use Rattle.tlsf_c.specs.Names.{name_of}
 pub use Rattle.tlsf_c.specs.OffsetLevels.{LevelOffsets}
@@ -19,10 +19,11 @@ pub use Rattle.tlsf_c.specs.OffsetsOf.{offsets_shown}
 pub use Rattle.tlsf_c.specs.PoolCalls.{ReleasesInPools, WritesInPools, AllocatesInPools, PartsLeavePayloads, ReadsInPools, ReportsInPools}
 pub use Rattle.tlsf_c.specs.PoolLevels.{LevelPools}
 pub use Rattle.tlsf_c.specs.PoolsOf.{pools_shown}
-pub use Rattle.tlsf_c.specs.Queues.{KeepsQueue, got_in, IsNew, left_in, left_of, owner_in, owner_of_end}
+pub use Rattle.tlsf_c.specs.Queues.{IsNew, left_of, owner_of_end}
 pub use Rattle.tlsf_c.specs.declared.any_offsets.OffsetsOfLevel.{OffsetsOfLevel}
 pub use Rattle.tlsf_c.specs.declared.any_pools.AnyPools.TheInside.{Inside}
 pub use Rattle.tlsf_c.specs.declared.any_pools.PoolsOfLevel.{PoolsOfLevel}
+pub use Rattle.tlsf_c.specs.declared.any_end.AnyEnd.{AnyEnd}
 pub use Rattle.tlsf_c.specs.declared.counts.Counts.{Counts}
 pub use Rattle.tlsf_c.specs.declared.queue_end.QueueEnd.{QueueEnd}
 pub use Rattle.tlsf_heap.specs.Blocks.{HeapState, want, Block, words_in}

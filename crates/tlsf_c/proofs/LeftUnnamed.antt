@@ -34,21 +34,24 @@ leaves_more first last posts more old mid new is before after k all =
     after k (subst (λ (s : HeapState). Unnamed s k more) (sym is) (after_drain first k posts more front back)) ∙ before k front
 
 -- the release of one
-pub leaves_one : (blocks : List Block) (p : Post) (at : ℕ) (old new : List ℕ) → at ≡ p.name.at → LeavesPayloads blocks at old new → LeavesUnnamed blocks (p ∷ []) old new
-leaves_one blocks p at old new is left k all = left k (subst (λ (n : ℕ). IsOthersWord blocks n k) (sym is) all.0)
+leaves_one : (blocks : List Block) (p : Post) (old new : List ℕ) → LeavesPayloads blocks p.name.at old new → LeavesUnnamed blocks (p ∷ []) old new
+leaves_one blocks p old new left k all = left k all.0
 
 -- ---- one post more of several: its name was released
 
-module _ (posts : List Post) (i : ℕ) (d : Post) (name : Name) (inside : i < length posts) (same : name ≡ (get_or posts i d).name) where
+module _ (posts : List Post) (i : ℕ) (d : Post) (inside : i < length posts) where
+  abbrev name : Name
+  name = (get_or posts i d).name
+
   one_longer : take (i + 1) posts ≡ take i posts ++ get_or posts i d ∷ []
   one_longer = let next : i + 1 ≡ suc i = omega arith in ap (λ (n : ℕ). take n posts) next ∙ take-suc posts i d inside
 
   pub drained_one : (first last now : HeapState) → last ≡ drained first (take i posts) → now ≡ (released last name).heap → now ≡ drained first (take (i + 1) posts)
   drained_one first last now is gone =
-      released_more first last now (take i posts) (get_or posts i d ∷ []) is (gone ∙ ap (λ (n : Name). (released last n).heap) same) ∙ sym (ap (drained first) one_longer)
+      released_more first last now (take i posts) (get_or posts i d ∷ []) is gone ∙ sym (ap (drained first) one_longer)
 
   pub leaves_next : (first last : HeapState) (old mid new : List ℕ) → last ≡ drained first (take i posts) → LeavesUnnamed first.blocks (take i posts) old mid
       → LeavesPayloads last.blocks name.at mid new → LeavesUnnamed first.blocks (take (i + 1) posts) old new
   leaves_next first last old mid new is before left =
       subst (λ (l : List Post). LeavesUnnamed first.blocks l old new) (sym one_longer)
-      (leaves_more first last (take i posts) (get_or posts i d ∷ []) old mid new is before (leaves_one last.blocks (get_or posts i d) name.at mid new (ap (λ (n : Name). n.at) same) left))
+      (leaves_more first last (take i posts) (get_or posts i d ∷ []) old mid new is before (leaves_one last.blocks (get_or posts i d) mid new left))

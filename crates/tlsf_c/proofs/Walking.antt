@@ -1,5 +1,5 @@
 -- The names that the walks of this crate cite, passed on from one place, as Common does for its other proofs. Declares nothing.
-pub use Rattle.tlsf_c.proofs.Common.{D, B, word, box_out, box_in, box_typed, Option, Some, None, Bx, handle_tells, box_ty, ghosts, dict, Global, quiet, lies, α, Fits, and_tt, is_some, token, R, QueueEnd, PostEnd, TakeEnd, Goes-blank, P, τ, LevelHeap, false≢true, LevelPools, LevelOffsets, args, no_counts, handle}
+pub use Rattle.tlsf_c.proofs.Common.{D, B, word, box_out, box_in, box_typed, Option, Some, None, Bx, handle_tells, box_ty, ghosts, dict, Global, quiet, lies, α, Fits, and_tt, is_some, token, R, Goes-blank, P, τ, LevelHeap, false≢true, args, no_counts, handle}
 pub use base.Fml.{ftrue, fsep, flft, Lft, GName, Share, Fml, fobs, fbor}
 pub use base.Logic.{SProp, ent, id⊢, emp, sep, never, fst∗}
 pub use base.Shift.{Keyless}
@@ -40,5 +40,4 @@ pub use types.Logic.{Logic, sem}
 pub use types.Part.{agg, whole, sub, look_in}
 pub use types.Run.{returns, enter, no_more, and_then, stop, fld, of_opd, first, blocks, exec, load, addr}
 pub use Rattle.std_alloc.specs.Box.Ownership.{box_owns}
-pub use Rattle.tlsf_post.specs.declared.poster_end.PosterEnd.{PosterEnd}
 pub use Rattle.std.proofs.raw_atomic.Walks.{proved_at}

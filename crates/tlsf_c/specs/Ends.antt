@@ -1,14 +1,79 @@
--- The ends of a queue, as C's handles hold them.
-use Rattle.std.specs.Prelude.{◌≡◌, List, [], ◌∷◌, ◌++◌, map, length}
+-- The ends of lanes and queues that C's handles hold.
+use Rattle.std.specs.Prelude.{◌≡◌, true, Option, Some, None, is_some, All, List, [], ◌∷◌, ◌++◌, map, length}
 use Rattle.tlsf_heap.specs.declared.name.Name.{Name}
 use Rattle.tlsf_post.specs.Mailboxes.{put_by, number_of, plan_of, PosterSaw}
 use Rattle.tlsf_post.specs.declared.post.Post.{Post}
+use Rattle.tlsf_post.specs.declared.post_end.PostEnd.{PostEnd}
+use Rattle.tlsf_post.specs.declared.take_end.TakeEnd.{TakeEnd}
 use Rattle.tlsf_post.specs.declared.poster_end.PosterEnd.{PosterEnd}
+use Rattle.tlsf_c.specs.declared.any_end.AnyEnd.{AnyEnd, AnyEnd-F as KindsOf, out-AnyEnd as as_kind}
+use Rattle.tlsf_c.specs.declared.any_end.AnyEnd.TheOpen as end
 use Rattle.tlsf_c.specs.declared.queue_end.QueueEnd.{QueueEnd}
 
+-- ---- which kind of end it is
+
+-- an end as one of its kinds
+abbrev pub Kinds : Type 0
+Kinds = KindsOf AnyEnd QueueEnd
+
+abbrev pub post_kind : Kinds → Option PostEnd
+post_kind (end.Post p) = Some p
+post_kind (end.Take t) = None
+post_kind (end.Queue q) = None
+post_kind (end.Poster p) = None
+
+abbrev pub take_kind : Kinds → Option TakeEnd
+take_kind (end.Post p) = None
+take_kind (end.Take t) = Some t
+take_kind (end.Queue q) = None
+take_kind (end.Poster p) = None
+
+abbrev pub queue_kind : Kinds → Option QueueEnd
+queue_kind (end.Post p) = None
+queue_kind (end.Take t) = None
+queue_kind (end.Queue q) = Some q
+queue_kind (end.Poster p) = None
+
+abbrev pub poster_kind : Kinds → Option PosterEnd
+poster_kind (end.Post p) = None
+poster_kind (end.Take t) = None
+poster_kind (end.Queue q) = None
+poster_kind (end.Poster p) = Some p
+
+-- the end of a lane that puts names in, if it is one
+abbrev pub post_of_end : Option AnyEnd → Option PostEnd
+post_of_end None = None
+post_of_end (Some e) = post_kind (as_kind e)
+
+-- the one that takes names out, if it is one
+abbrev pub take_of_end : Option AnyEnd → Option TakeEnd
+take_of_end None = None
+take_of_end (Some e) = take_kind (as_kind e)
+
+-- the owner's end of a queue, if it is one
+abbrev pub queue_of_end : Option AnyEnd → Option QueueEnd
+queue_of_end None = None
+queue_of_end (Some e) = queue_kind (as_kind e)
+
+-- a poster's end of a queue, if it is one
+abbrev pub poster_of_end : Option AnyEnd → Option PosterEnd
+poster_of_end None = None
+poster_of_end (Some e) = poster_kind (as_kind e)
+
+-- ---- queues
+
 -- the posters' ends that nobody was given yet
-abbrev pub ends_in : QueueEnd → List PosterEnd
-ends_in q = map (λ b. b.value) q.left.items
+abbrev pub left_in_end : QueueEnd → List AnyEnd
+left_in_end q = map (λ b. b.value) q.left.items
+
+-- each is a poster's
+abbrev pub ArePosters : List AnyEnd → Type 0
+ArePosters = All (λ e. is_some (poster_of_end (Some e)) ≡ true)
+
+-- the last of the ends that were left is given. Where all that were left are posters', so is it, and so are those that are left then
+pub record HasGiven (old new : QueueEnd) (given : AnyEnd) : Type 0 where
+  pub last : left_in_end old ≡ left_in_end new ++ given ∷ []
+  pub posters : ArePosters (left_in_end old) → ArePosters (left_in_end new) × (is_some (poster_of_end (Some given)) ≡ true)
 
 -- what a poster posts of a name
 abbrev pub post_by : PosterEnd → Name → Post

@@ -1,21 +1,27 @@
 -- The objects behind C's handles.
-use Rattle.std.specs.Prelude.{◌≡◌, ℕ, true, List, [], Option, Some, None, map}
+use Rattle.std.specs.Prelude.{◌≡◌, ℕ, Bool, true, false, List, [], ◌∷◌, ◌++◌, Option, Some, None, is_some, map}
 use denote.RawPtr.{Ptr}
+use mathlib.Core.List.{IsPrefix}
 use Rattle.tlsf_heap.specs.Blocks.{HeapState}
+use Rattle.tlsf_heap.specs.Calls.{released}
+use Rattle.tlsf_heap.specs.Effects.{Releases}
 use Rattle.tlsf_heap.specs.Shown.{Seen}
+use Rattle.tlsf_heap.specs.Touched.{release_touches}
+use Rattle.tlsf_heap.specs.WordsInUse.{words_in_use}
 use Rattle.tlsf_heap.specs.Image.{Image}
 use Rattle.tlsf_heap.specs.declared.name.Name.{Name}
 use Rattle.tlsf_post.specs.Lanes.{posts_sent, free_slots, taken, ready, IsLane}
 use Rattle.tlsf_post.specs.declared.post.Post.{Post}
 use Rattle.tlsf_post.specs.declared.post_end.PostEnd.{PostEnd}
 use Rattle.tlsf_post.specs.declared.take_end.TakeEnd.{TakeEnd}
+use Rattle.tlsf_c.specs.Ends.{post_of_end, take_of_end}
 use Rattle.tlsf_c.specs.Levels.{GoesOn, seen_at}
 use Rattle.tlsf_c.specs.Names.{name_of}
+use Rattle.tlsf_c.specs.Refusals.{closed, status_of}
 use Rattle.tlsf_c.specs.declared.counts.Counts.{Counts}
 use Rattle.tlsf_c.specs.declared.names.BlockName.{BlockName}
 use Rattle.tlsf_c.specs.declared.heap_slot.HeapSlot.{HeapSlot}
-use Rattle.tlsf_c.specs.declared.post_slot.PostSlot.{PostSlot}
-use Rattle.tlsf_c.specs.declared.take_slot.TakeSlot.{TakeSlot}
+use Rattle.tlsf_c.specs.declared.end_slot.EndSlot.{EndSlot}
 
 -- ---- heaps
 
@@ -51,11 +57,20 @@ touched_in h = h.held.value.touched
 abbrev pub counts_in : HeapSlot → Counts
 counts_in h = h.held.value.counts
 
--- an open handle stays open, its heap keeps its level and its memory, touches never fall, and the address of its region stays
+-- an open handle stays open, and its number and its region's address stay; its heap keeps its level and its memory, and touches never fall
 pub record StaysOpen (old new : HeapSlot) : Type 0 where
   pub is_open : new.is_open ≡ true
   pub heap : GoesOn old.held.value new.held.value
   pub base : new.base ≡ old.base
+  pub number : new.number ≡ old.number
+
+-- a release of this name is answered so: a closed handle stays as it is, and the heap of an open one releases
+pub record ReleasesIn (old new : HeapSlot) (name : Name) (answer : ℕ) : Type 0 where
+  pub refused : old.is_open ≡ false → (answer ≡ closed) × (new ≡ old)
+  pub stays : old.is_open ≡ true → StaysOpen old new
+  pub status : old.is_open ≡ true → answer ≡ status_of (released (heap_in old) name).answer
+  pub counts : old.is_open ≡ true → counts_in new ≡ record (counts_in old) { words = words_in_use (heap_in new) }
+  pub releases : old.is_open ≡ true → Releases release_touches (seen_in old) (seen_in new) name (released (heap_in old) name).answer
 
 -- ---- ends of lanes
 
@@ -93,17 +108,43 @@ AreEnds (Some p) (Some t) = IsLane p t
 AreEnds (Some p) None = ⊥
 AreEnds None t = ⊥
 
-abbrev pub sent_in : PostSlot → List Post
-sent_in h = sent_by h.held.value
+-- the end of an open handle, if it is one that puts names into a lane
+abbrev pub post_in : EndSlot → Option PostEnd
+post_in h = post_of_end h.held.value
 
-abbrev pub known_slots : PostSlot → ℕ
-known_slots h = free_of h.held.value
+-- if it is one that takes names out
+abbrev pub take_in : EndSlot → Option TakeEnd
+take_in h = take_of_end h.held.value
 
-abbrev pub taken_in : TakeSlot → List Post
-taken_in h = taken_by h.held.value
+-- it is one that puts names into a lane
+abbrev pub holds_post : EndSlot → Bool
+holds_post h = is_some (post_in h)
 
-abbrev pub ready_in : TakeSlot → List Post
-ready_in h = ready_of h.held.value
+-- it is one that takes names out
+abbrev pub holds_take : EndSlot → Bool
+holds_take h = is_some (take_in h)
 
-abbrev pub AreLane : PostSlot → TakeSlot → Type 0
-AreLane p t = AreEnds p.held.value t.held.value
+-- the next post was taken, and has that name
+abbrev pub HasTaken : TakeEnd → TakeEnd → Name → Type 0
+HasTaken old new name = (from : ℕ) × (taken new ≡ taken old ++ record { from = from; name = name } ∷ [])
+    × IsPrefix (ready old) (record { from = from; name = name } ∷ ready new)
+
+abbrev pub Takes : Option TakeEnd → Option TakeEnd → Name → Type 0
+Takes (Some old) (Some new) name = HasTaken old new name
+Takes (Some old) None name = ⊥
+Takes None new name = ⊥
+
+abbrev pub sent_in : EndSlot → List Post
+sent_in h = sent_by (post_in h)
+
+abbrev pub known_slots : EndSlot → ℕ
+known_slots h = free_of (post_in h)
+
+abbrev pub taken_in : EndSlot → List Post
+taken_in h = taken_by (take_in h)
+
+abbrev pub ready_in : EndSlot → List Post
+ready_in h = ready_of (take_in h)
+
+abbrev pub AreLane : EndSlot → EndSlot → Type 0
+AreLane p t = AreEnds (post_in p) (take_in t)

@@ -1,26 +1,32 @@
--- The objects behind C's handles of an arena of offsets, and the values that cross to C beside them.
-use Rattle.std.specs.Prelude.{◌≡◌, ℕ, true}
+-- The objects behind C's handles of an arena of offsets, and what crosses to C beside them.
+use Rattle.std.specs.Prelude.{◌≡◌, ℕ, Bool, true}
 use Rattle.tlsf_offsets.specs.Offsets.{Offsets}
 use Rattle.tlsf_offsets.specs.declared.span.Span.{Span}
 use Rattle.tlsf_offsets.specs.declared.usage.Usage.{Usage}
+use Rattle.tlsf_c.specs.Arenas.{is_offsets, offsets_of}
 use Rattle.tlsf_c.specs.Names.{name_of}
 use Rattle.tlsf_c.specs.OffsetLevels.{OffsetsGoOn}
 use Rattle.tlsf_c.specs.declared.spans.OffsetSpan.{OffsetSpan}
 use Rattle.tlsf_c.specs.declared.spans.OffsetUsage.{OffsetUsage}
-use Rattle.tlsf_c.specs.declared.offsets_slot.OffsetsSlot.{OffsetsSlot}
+use Rattle.tlsf_c.specs.declared.arena_slot.ArenaSlot.{ArenaSlot}
 
 -- the arena of an open handle
-abbrev pub offsets_in : OffsetsSlot → Offsets
-offsets_in h = h.held.value.offsets
+abbrev pub offsets_in : ArenaSlot → Offsets
+offsets_in h = (offsets_of h.held.value).offsets
 
 -- its level
-abbrev pub offsets_level : OffsetsSlot → ℕ
-offsets_level h = h.held.value.level
+abbrev pub offsets_level : ArenaSlot → ℕ
+offsets_level h = (offsets_of h.held.value).level
 
--- an open handle stays open, its arena keeps its level and its unit, and touches never fall
-pub record OffsetsStayOpen (old new : OffsetsSlot) : Type 0 where
+-- it is an arena of offsets
+abbrev pub holds_offsets : ArenaSlot → Bool
+holds_offsets h = is_offsets h.held.value
+
+-- an open handle stays open with its kind, its arena keeps its level and its unit, and touches never fall
+pub record OffsetsStayOpen (old new : ArenaSlot) : Type 0 where
   pub is_open : new.is_open ≡ true
-  pub goes_on : OffsetsGoOn old.held.value new.held.value
+  pub kind : holds_offsets new ≡ holds_offsets old
+  pub goes_on : OffsetsGoOn (offsets_of old.held.value) (offsets_of new.held.value)
 
 abbrev pub span_of : OffsetSpan → Span
 span_of s = record { name = name_of s.name; offset = s.offset; size = s.size }

@@ -1,5 +1,5 @@
--- The objects behind C's handles of pools, and the values that cross to C beside them.
-use Rattle.std.specs.Prelude.{◌≡◌, ℕ, true, List, map, Option, Some, None, Result, Ok, Err}
+-- The objects behind C's handles of pools, and what crosses to C beside them.
+use Rattle.std.specs.Prelude.{◌≡◌, ℕ, Bool, true, List, map, Option, Some, None, Result, Ok, Err}
 use Rattle.tlsf_heap.specs.Numbers.{number_of}
 use Rattle.tlsf_heap.specs.declared.name.Name.{Name}
 use Rattle.tlsf_heap.specs.declared.refusal.Refusal.TheVariants.{Worn, Stale}
@@ -8,21 +8,27 @@ use Rattle.tlsf_pool.specs.declared.kind.Kind.{Kind}
 use Rattle.tlsf_pool.specs.declared.pools.pool_refusal.PoolRefusal.{PoolRefusal}
 use Rattle.tlsf_pool.specs.declared.pools.pool_refusal.PoolRefusal.TheVariants as pool
 use Rattle.tlsf_pool.specs.pools.Parts.{PoolsState}
+use Rattle.tlsf_c.specs.Arenas.{is_pools, pools_of}
 use Rattle.tlsf_c.specs.Refusals.{bad_size, row_full}
+use Rattle.tlsf_c.specs.declared.arena_slot.ArenaSlot.{ArenaSlot}
 use Rattle.tlsf_c.specs.declared.kind_row.KindRow.{KindRow}
-use Rattle.tlsf_c.specs.declared.pools_slot.PoolsSlot.{PoolsSlot}
 
 -- the pools of an open handle
-abbrev pub pools_in : PoolsSlot → PoolsState
-pools_in h = h.held.value.pools
+abbrev pub pools_in : ArenaSlot → PoolsState
+pools_in h = (pools_of h.held.value).pools
 
 -- their level
-abbrev pub pools_level : PoolsSlot → ℕ
-pools_level h = h.held.value.level
+abbrev pub pools_level : ArenaSlot → ℕ
+pools_level h = (pools_of h.held.value).level
 
--- an open handle stays open, and its pools keep their level
-pub record PoolsStayOpen (old new : PoolsSlot) : Type 0 where
+-- it is pools
+abbrev pub holds_pools : ArenaSlot → Bool
+holds_pools h = is_pools h.held.value
+
+-- an open handle stays open with its kind, and its pools keep their level
+pub record PoolsStayOpen (old new : ArenaSlot) : Type 0 where
   pub is_open : new.is_open ≡ true
+  pub kind : holds_pools new ≡ holds_pools old
   pub level : pools_level new ≡ pools_level old
 
 abbrev pub kind_of : KindRow → Kind

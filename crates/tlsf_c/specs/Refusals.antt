@@ -51,6 +51,10 @@ busy = 37
 abbrev pub row_full : ℕ
 row_full = 38
 
+-- the handle is open with another kind of end, or of arena
+abbrev pub other_kind : ℕ
+other_kind = 40
+
 abbrev pub call_number_of : CallFault → ℕ
 call_number_of fault.BadSize = bad_size
 call_number_of fault.NoMemory = no_memory
@@ -62,3 +66,4 @@ call_number_of fault.Empty = empty
 call_number_of fault.Damaged = damage
 call_number_of fault.Busy = busy
 call_number_of fault.RowFull = row_full
+call_number_of fault.OtherKind = other_kind

@@ -28,6 +28,8 @@ pub enum CallFault {
     Busy,
     /// As many blocks of a row of pools are held as may be.
     RowFull,
+    /// The handle is open with another kind of end, or of arena.
+    OtherKind,
 }
 
 impl CallFault {
@@ -49,6 +51,7 @@ impl CallFault {
             CallFault::Damaged => 36,
             CallFault::Busy => 37,
             CallFault::RowFull => 38,
+            CallFault::OtherKind => 40,
         }
     }
 }

@@ -14,8 +14,8 @@ ghost use Rattle.tlsf_heap.specs.Touched.{FollowsNoForgery, allocate_touches, re
 ghost use Rattle.tlsf_heap.specs.declared.refusal.Refusal.{Refusal};
 ghost use Rattle.tlsf_heap.specs.WordsInUse.{words_in_use};
 ghost use Rattle.tlsf_c.specs.Counting.{no_counts, counted, counted_request, counted_move};
-ghost use Rattle.tlsf_c.specs.Names.{name_of, report_in};
-ghost use Rattle.tlsf_c.specs.Handles.{address_in, counts_in, heap_in, seen_in, level_in, touches_in, touched_in, StaysOpen};
+ghost use Rattle.tlsf_c.specs.Names.{name_of, named, report_in};
+ghost use Rattle.tlsf_c.specs.Handles.{address_in, counts_in, heap_in, seen_in, level_in, touches_in, touched_in, ReleasesIn, StaysOpen};
 ghost use Rattle.tlsf_c.specs.Refusals.{status_of, bad_size, no_memory, closed, in_use, bad_level};
 
 use crate::any_heap::AnyHeap;
@@ -24,6 +24,7 @@ use crate::counts::Counts;
 use crate::heap_slot::HeapSlot;
 use crate::names::{BlockName, HeapReport};
 use std::alloc::Global;
+use tlsf_heap::Name;
 
 /// Opens a heap of a level, 4 or 5, and number `id` over `words` words of 8 bytes, at tick 0, in a closed handle.
 ///
@@ -52,6 +53,8 @@ pub extern "C" fn tlsf_open(
     ensures open { result ≡ 0 → heap.new.is_open ≡ true }
     ensures heap { result ≡ 0 → (level_in heap.new ≡ level) × (heap_in heap.new ≡ opened id words 0) }
     ensures base { result ≡ 0 → heap.new.base ≡ address_in heap.new }
+    ensures number { result ≡ 0 → heap.new.number ≡ id }
+    ensures mixed { result ≡ 0 → heap.new.is_mixed ≡ false }
     ensures counts { result ≡ 0 → counts_in heap.new ≡ no_counts }
     ensures touches { result ≡ 0 → touches_in heap.new ≤ 10 }
 {
@@ -67,6 +70,8 @@ pub extern "C" fn tlsf_open(
             Err(_) => CallFault::NoMemory.number(),
             Ok(mut owned) => {
                 heap.base = owned.base();
+                heap.number = id;
+                heap.is_mixed = false;
                 heap.put_in(owned);
                 0
             }
@@ -166,25 +171,39 @@ pub extern "C" fn tlsf_allocate(heap: &mut HeapSlot, len: u32, name: &mut BlockN
 /// Refused as Closed where the handle isn't open; otherwise as `Heap::release` refuses: Foreign, Stale, Worn.
 ///
 /// ```text
-/// tlsf_release(&heap, &name) == TLSF_OK
-/// tlsf_release(&heap, &name) == TLSF_STALE
+/// tlsf_release(&heap, name) == TLSF_OK
+/// tlsf_release(&heap, name) == TLSF_STALE
 /// ```
 #[unsafe(no_mangle)]
-pub extern "C" fn tlsf_release(heap: &mut HeapSlot, name: &BlockName) -> u32
+pub extern "C" fn tlsf_release(heap: &mut HeapSlot, name: BlockName) -> u32
     ensures closed { heap.old.is_open ≡ false → (result ≡ closed) × (heap.new ≡ heap.old) }
     ensures open { heap.old.is_open ≡ true → StaysOpen heap.old heap.new }
-    ensures status { heap.old.is_open ≡ true → result ≡ status_of (released (heap_in heap.old) (name_of name.now)).answer }
+    ensures status { heap.old.is_open ≡ true → result ≡ status_of (released (heap_in heap.old) (name_of name)).answer }
     ensures counts { heap.old.is_open ≡ true → counts_in heap.new ≡ record (counts_in heap.old) { words = words_in_use (heap_in heap.new) } }
-    ensures releases { heap.old.is_open ≡ true → Releases release_touches (seen_in heap.old) (seen_in heap.new) (name_of name.now) (released (heap_in heap.old) (name_of name.now)).answer }
+    ensures releases { heap.old.is_open ≡ true → Releases release_touches (seen_in heap.old) (seen_in heap.new) (name_of name) (released (heap_in heap.old) (name_of name)).answer }
+{
+    release_named(heap, name.heap, name.serial, name.at)
+}
+
+/// `tlsf_release` of the name with these fields, in the order of the registers that have them. A drain calls it too, so the heap's
+/// release has one body.
+pub(crate) fn release_named(heap: &mut HeapSlot, number: u32, serial: u64, at: u32) -> u32
+    ensures { ReleasesIn heap.old heap.new (named number at serial) result }
 {
     if !heap.is_open {
         return CallFault::Closed.number();
     }
+    let name = Name {
+        heap: number,
+        at,
+        serial,
+    };
     heap.is_open = false;
     let owned = heap.held.lend();
-    let answer = owned.release(name.name());
+    let answer = owned.release(name);
+    let number = status(answer);
     heap.is_open = true;
-    status(answer)
+    number
 }
 
 /// Makes the payload of the block of that name `len` bytes long, where the block stands. The name stays.
@@ -192,15 +211,15 @@ pub extern "C" fn tlsf_release(heap: &mut HeapSlot, name: &BlockName) -> u32
 /// Refused as Closed where the handle isn't open; otherwise as `Heap::resize` refuses: Foreign, Stale, NoRoom, Worn.
 ///
 /// ```text
-/// tlsf_resize(&heap, &name, 200) == TLSF_OK    // bytes 100 to 199 are zero
+/// tlsf_resize(&heap, name, 200) == TLSF_OK    // bytes 100 to 199 are zero
 /// ```
 #[unsafe(no_mangle)]
-pub extern "C" fn tlsf_resize(heap: &mut HeapSlot, name: &BlockName, len: u32) -> u32
+pub extern "C" fn tlsf_resize(heap: &mut HeapSlot, name: BlockName, len: u32) -> u32
     ensures closed { heap.old.is_open ≡ false → (result ≡ closed) × (heap.new ≡ heap.old) }
     ensures open { heap.old.is_open ≡ true → StaysOpen heap.old heap.new }
-    ensures status { heap.old.is_open ≡ true → result ≡ status_of (resized (heap_in heap.old) (name_of name.now) len).answer }
+    ensures status { heap.old.is_open ≡ true → result ≡ status_of (resized (heap_in heap.old) (name_of name) len).answer }
     ensures counts { heap.old.is_open ≡ true → counts_in heap.new ≡ counted (counts_in heap.old) (heap_in heap.new) }
-    ensures resizes { heap.old.is_open ≡ true → Resizes (resize_touches + 4) (want len) len (seen_in heap.old) (seen_in heap.new) (name_of name.now) (resized (heap_in heap.old) (name_of name.now) len).answer }
+    ensures resizes { heap.old.is_open ≡ true → Resizes (resize_touches + 4) (want len) len (seen_in heap.old) (seen_in heap.new) (name_of name) (resized (heap_in heap.old) (name_of name) len).answer }
 {
     if !heap.is_open {
         return CallFault::Closed.number();
@@ -209,7 +228,10 @@ pub extern "C" fn tlsf_resize(heap: &mut HeapSlot, name: &BlockName, len: u32) -
     let owned = heap.held.lend();
     let answer = owned.resize(name.name(), len);
     heap.is_open = true;
-    status(answer)
+    match answer {
+        Ok(()) => 0,
+        Err(why) => why.number(),
+    }
 }
 
 /// Makes the payload of the block of that name `len` bytes long: where the block stands, or in another block where there is no
@@ -258,16 +280,16 @@ pub extern "C" fn tlsf_reallocate(heap: &mut HeapSlot, name: &mut BlockName, len
 /// Refused as Closed where the handle isn't open; otherwise as `Heap::write` refuses: Foreign, Stale, Range.
 ///
 /// ```text
-/// tlsf_write(&heap, &name, 98, bytes, 2) == TLSF_OK
-/// tlsf_write(&heap, &name, 99, bytes, 2) == TLSF_RANGE
+/// tlsf_write(&heap, name, 98, bytes, 2) == TLSF_OK
+/// tlsf_write(&heap, name, 99, bytes, 2) == TLSF_RANGE
 /// ```
 #[unsafe(no_mangle)]
-pub extern "C" fn tlsf_write(heap: &mut HeapSlot, name: &BlockName, at: u32, bytes: &[u8]) -> u32
+pub extern "C" fn tlsf_write(heap: &mut HeapSlot, name: BlockName, at: u32, bytes: &[u8]) -> u32
     ensures closed { heap.old.is_open ≡ false → (result ≡ closed) × (heap.new ≡ heap.old) }
     ensures open { heap.old.is_open ≡ true → StaysOpen heap.old heap.new }
-    ensures status { heap.old.is_open ≡ true → result ≡ status_of (written (heap_in heap.old) (name_of name.now) at bytes.now).answer }
+    ensures status { heap.old.is_open ≡ true → result ≡ status_of (written (heap_in heap.old) (name_of name) at bytes.now).answer }
     ensures counts { heap.old.is_open ≡ true → counts_in heap.new ≡ counts_in heap.old }
-    ensures writes { heap.old.is_open ≡ true → Writes (write_touches (length bytes.now)) (seen_in heap.old) (seen_in heap.new) (name_of name.now) at bytes.now (written (heap_in heap.old) (name_of name.now) at bytes.now).answer }
+    ensures writes { heap.old.is_open ≡ true → Writes (write_touches (length bytes.now)) (seen_in heap.old) (seen_in heap.new) (name_of name) at bytes.now (written (heap_in heap.old) (name_of name) at bytes.now).answer }
 {
     if !heap.is_open {
         return CallFault::Closed.number();
@@ -275,8 +297,9 @@ pub extern "C" fn tlsf_write(heap: &mut HeapSlot, name: &BlockName, at: u32, byt
     heap.is_open = false;
     let owned = heap.held.lend();
     let answer = owned.write(name.name(), at, bytes);
+    let number = status(answer);
     heap.is_open = true;
-    status(answer)
+    number
 }
 
 /// Reads bytes of the payload of the block of that name, from byte `at` of it on, and fills `out` with them.
@@ -285,15 +308,15 @@ pub extern "C" fn tlsf_write(heap: &mut HeapSlot, name: &BlockName, at: u32, byt
 /// before.
 ///
 /// ```text
-/// tlsf_read(&heap, &name, 98, out, 2) == TLSF_OK
+/// tlsf_read(&heap, name, 98, out, 2) == TLSF_OK
 /// ```
 #[unsafe(no_mangle)]
-pub extern "C" fn tlsf_read(heap: &mut HeapSlot, name: &BlockName, at: u32, out: &mut [u8]) -> u32
+pub extern "C" fn tlsf_read(heap: &mut HeapSlot, name: BlockName, at: u32, out: &mut [u8]) -> u32
     ensures closed { heap.old.is_open ≡ false → (result ≡ closed) × (heap.new ≡ heap.old) × (out.new ≡ out.old) }
     ensures open { heap.old.is_open ≡ true → StaysOpen heap.old heap.new }
-    ensures status { heap.old.is_open ≡ true → result ≡ status_of (read_answer (read_of (heap_in heap.old) (name_of name.now) at (length out.old))) }
+    ensures status { heap.old.is_open ≡ true → result ≡ status_of (read_answer (read_of (heap_in heap.old) (name_of name) at (length out.old))) }
     ensures counts { heap.old.is_open ≡ true → counts_in heap.new ≡ counts_in heap.old }
-    ensures reads { heap.old.is_open ≡ true → Reads (read_touches (length out.old)) (seen_in heap.old) (seen_in heap.new) (name_of name.now) at out.old out.new (read_answer (read_of (heap_in heap.old) (name_of name.now) at (length out.old))) }
+    ensures reads { heap.old.is_open ≡ true → Reads (read_touches (length out.old)) (seen_in heap.old) (seen_in heap.new) (name_of name) at out.old out.new (read_answer (read_of (heap_in heap.old) (name_of name) at (length out.old))) }
 {
     if !heap.is_open {
         return CallFault::Closed.number();
@@ -301,8 +324,9 @@ pub extern "C" fn tlsf_read(heap: &mut HeapSlot, name: &BlockName, at: u32, out:
     heap.is_open = false;
     let owned = heap.held.lend();
     let answer = owned.read(name.name(), at, out);
+    let number = status(answer);
     heap.is_open = true;
-    status(answer)
+    number
 }
 
 /// Tells where the payload of the block of that name lies. The address of the region's first word goes to `base`, and the payload's
@@ -312,24 +336,24 @@ pub extern "C" fn tlsf_read(heap: &mut HeapSlot, name: &BlockName, at: u32, out:
 /// no live block has that place and serial.
 ///
 /// ```text
-/// tlsf_locate(&heap, &name, &base, &len) == TLSF_OK
+/// tlsf_locate(&heap, name, &base, &len) == TLSF_OK
 /// ```
 #[unsafe(no_mangle)]
 pub extern "C" fn tlsf_locate(
     heap: &mut HeapSlot,
-    name: &BlockName,
+    name: BlockName,
     base: &mut *mut u64,
     len: &mut u32,
 ) -> u32
     ensures closed { heap.old.is_open ≡ false → (result ≡ closed) × (heap.new ≡ heap.old) }
     ensures open { heap.old.is_open ≡ true → StaysOpen heap.old heap.new }
     ensures base { heap.old.is_open ≡ true → result ≡ 0 → base.new ≡ address_in heap.old }
-    ensures len { heap.old.is_open ≡ true → result ≡ 0 → IsPayloadCheck (heap_in heap.old) (name_of name.now) (Ok len.new) }
+    ensures len { heap.old.is_open ≡ true → result ≡ 0 → IsPayloadCheck (heap_in heap.old) (name_of name) (Ok len.new) }
     ensures refused { heap.old.is_open ≡ true → ¬ (result ≡ 0) → (why : Refusal)
-        × IsPayloadCheck (heap_in heap.old) (name_of name.now) (Err why) × (result ≡ number_of why) }
+        × IsPayloadCheck (heap_in heap.old) (name_of name) (Err why) × (result ≡ number_of why) }
     ensures heap { heap.old.is_open ≡ true → heap_in heap.new ≡ heap_in heap.old }
     ensures kept { ¬ (result ≡ 0) → (base.new ≡ base.old) × (len.new ≡ len.old) }
-    ensures forged { heap.old.is_open ≡ true → FollowsNoForgery (seen_in heap.old) (seen_in heap.new) (name_of name.now) }
+    ensures forged { heap.old.is_open ≡ true → FollowsNoForgery (seen_in heap.old) (seen_in heap.new) (name_of name) }
     ensures counts { heap.old.is_open ≡ true → counts_in heap.new ≡ counts_in heap.old }
     ensures touches { heap.old.is_open ≡ true → touches_in heap.new ≤ touches_in heap.old + 4 }
     ensures leaves { heap.old.is_open ≡ true → LeavesLive (heap_in heap.old).blocks (touched_in heap.old) (touched_in heap.new) }

@@ -14,6 +14,10 @@ pub struct HeapSlot {
     pub is_open: bool,
     /// The address of the first word of the region that was opened last, for C's own sums. No call reads it.
     pub base: *mut u64,
+    /// The heap's number, for C's own names. No call reads it.
+    pub number: u32,
+    /// C's own note of a block by name with an odd number of words: payloads may then be misaligned to 16 bytes. Opening clears it.
+    pub is_mixed: bool,
     ghost tied: { is_open ≡ held.full },
 }
 
@@ -25,7 +29,6 @@ impl HeapSlot {
     /// signal handler interrupts.
     pub fn take_out(&mut self, alloc: Global) -> Option<Box<AnyHeap, Global>>
         ensures closed { self.new.is_open ≡ false }
-        ensures base { self.new.base ≡ self.old.base }
         ensures none { result ≡ None → (self.old.is_open ≡ false) × (self.new ≡ self.old) }
         ensures some { (b : _) → result ≡ Some b → (self.old.is_open ≡ true) × (b.value ≡ self.old.held.value) }
     {
@@ -42,7 +45,7 @@ impl HeapSlot {
     pub fn put_in(&mut self, boxed: Box<AnyHeap, Global>)
         requires { self.old.is_open ≡ false }
         ensures open { self.new.is_open ≡ true }
-        ensures base { self.new.base ≡ self.old.base }
+        ensures beside { (self.new.base ≡ self.old.base) × (self.new.number ≡ self.old.number) × (self.new.is_mixed ≡ self.old.is_mixed) }
         ensures value { self.new.held.value ≡ boxed.value }
     {
         self.held = BoxedHeap::new(boxed);

@@ -6,21 +6,21 @@ ghost use Rattle.tlsf_post.specs.declared.post_end.PostEnd.{PostEnd};
 ghost use Rattle.tlsf_post.specs.declared.take_end.TakeEnd.{TakeEnd};
 ghost use Rattle.tlsf_heap.specs.Touched.{release_touches};
 ghost use Rattle.tlsf_heap.specs.WordsInUse.{words_in_use};
-ghost use Rattle.tlsf_post.specs.Lanes.{posts_sent, free_slots, IsLane};
-ghost use Rattle.tlsf_c.specs.Handles.{counts_in, heap_in, touches_in, touched_in, StaysOpen, post_of, posts_named, sent_in, known_slots, taken_in, ready_in, AreEnds, AreLane};
+ghost use Rattle.tlsf_post.specs.Lanes.{posts_sent, free_slots, taken, ready, IsLane};
+ghost use Rattle.tlsf_c.specs.Handles.{counts_in, heap_in, touches_in, touched_in, StaysOpen, post_of, posts_named, post_in, take_in, holds_post, holds_take, sent_in, known_slots, taken_in, ready_in, AreEnds, AreLane, HasTaken, Takes};
 ghost use Rattle.tlsf_c.specs.Drains.{drained, LeavesUnnamed};
 ghost use Rattle.tlsf_c.specs.Names.{name_of};
-ghost use Rattle.tlsf_c.specs.Refusals.{bad_size, no_memory, closed, in_use, full, empty};
+ghost use Rattle.tlsf_c.specs.Refusals.{bad_size, no_memory, closed, other_kind, in_use, full, empty};
 
+use crate::any_end::AnyEnd;
 use crate::call_fault::CallFault;
-use crate::heap_calls::tlsf_release;
+use crate::end_slot::EndSlot;
+use crate::heap_calls::release_named;
 use crate::heap_slot::HeapSlot;
 use crate::names::BlockName;
-use crate::post_slot::PostSlot;
-use crate::take_slot::TakeSlot;
 use std::alloc::Global;
 use tlsf_heap::Name;
-use tlsf_post::{Post, PostEnd, lane};
+use tlsf_post::{Post, PostEnd, TakeEnd, lane};
 
 /// How many names a drain takes out of a lane at once. Each time writes a line that a poster reads who finds the lane full. So
 /// beside such a poster a full lane is drained faster by slices than by single names. An empty drain fills this many places in
@@ -48,13 +48,14 @@ const NO_POST: Post = Post {
 #[unsafe(no_mangle)]
 pub extern "C" fn tlsf_lane_open(
     alloc: Global,
-    post: &mut PostSlot,
-    take: &mut TakeSlot,
+    post: &mut EndSlot,
+    take: &mut EndSlot,
     capacity: u32,
 ) -> u32
     ensures lane { result ≡ 0 → AreLane post.new take.new }
     ensures none { result ≡ 0 → (sent_in post.new ≡ []) × (taken_in take.new ≡ []) × (known_slots post.new ≡ capacity) }
     ensures opens { result ≡ 0 → (post.new.is_open ≡ true) × (take.new.is_open ≡ true) }
+    ensures kinds { result ≡ 0 → (holds_post post.new ≡ true) × (holds_take take.new ≡ true) }
     ensures refused { ¬ (result ≡ 0) → (post.new ≡ post.old) × (take.new ≡ take.old) }
     ensures post_in_use { post.old.is_open ≡ true → result ≡ in_use }
     ensures take_in_use { take.old.is_open ≡ true → result ≡ in_use }
@@ -70,10 +71,10 @@ pub extern "C" fn tlsf_lane_open(
     let Ok((post_end, take_end)) = lane(alloc, capacity) else {
         return CallFault::NoMemory.number();
     };
-    let Ok(post_box) = Box::new(alloc, post_end) else {
+    let Ok(post_box) = Box::new(alloc, AnyEnd::Post(post_end)) else {
         return CallFault::NoMemory.number();
     };
-    let Ok(take_box) = Box::new(alloc, take_end) else {
+    let Ok(take_box) = Box::new(alloc, AnyEnd::Take(take_end)) else {
         return CallFault::NoMemory.number();
     };
     post.put_in(post_box);
@@ -83,74 +84,84 @@ pub extern "C" fn tlsf_lane_open(
 
 /// Closes the end of a lane that puts names in.
 ///
-/// Refused as Closed where the handle isn't open.
+/// Refused as Closed where the handle isn't open. Otherwise as OtherKind where it holds another kind of end.
 ///
 /// ```text
 /// tlsf_post_close(&post) == TLSF_OK
 /// ```
 #[unsafe(no_mangle)]
-pub extern "C" fn tlsf_post_close(alloc: Global, post: &mut PostSlot) -> u32
-    ensures after { post.new.is_open ≡ false }
+pub extern "C" fn tlsf_post_close(alloc: Global, post: &mut EndSlot) -> u32
+    ensures after { result ≡ 0 → post.new.is_open ≡ false }
     ensures closed { post.old.is_open ≡ false → (result ≡ closed) × (post.new ≡ post.old) }
-    ensures open { post.old.is_open ≡ true → result ≡ 0 }
+    ensures other { post.old.is_open ≡ true → holds_post post.old ≡ false → (result ≡ other_kind) × (post.new ≡ post.old) }
+    ensures open { post.old.is_open ≡ true → holds_post post.old ≡ true → result ≡ 0 }
 {
-    match post.take_out(alloc) {
-        None => CallFault::Closed.number(),
-        Some(post_end) => {
-            drop(post_end);
-            0
-        }
+    if !post.is_open {
+        return CallFault::Closed.number();
     }
+    if !post.held.lend().is_post() {
+        return CallFault::OtherKind.number();
+    }
+    post.close(alloc);
+    0
 }
 
 /// Closes the end of a lane that takes names out.
 ///
-/// Refused as Closed where the handle isn't open.
+/// Refused as Closed where the handle isn't open. Otherwise as OtherKind where it holds another kind of end.
 ///
 /// ```text
 /// tlsf_take_close(&take) == TLSF_OK
 /// ```
 #[unsafe(no_mangle)]
-pub extern "C" fn tlsf_take_close(alloc: Global, take: &mut TakeSlot) -> u32
-    ensures after { take.new.is_open ≡ false }
+pub extern "C" fn tlsf_take_close(alloc: Global, take: &mut EndSlot) -> u32
+    ensures after { result ≡ 0 → take.new.is_open ≡ false }
     ensures closed { take.old.is_open ≡ false → (result ≡ closed) × (take.new ≡ take.old) }
-    ensures open { take.old.is_open ≡ true → result ≡ 0 }
+    ensures other { take.old.is_open ≡ true → holds_take take.old ≡ false → (result ≡ other_kind) × (take.new ≡ take.old) }
+    ensures open { take.old.is_open ≡ true → holds_take take.old ≡ true → result ≡ 0 }
 {
-    match take.take_out(alloc) {
-        None => CallFault::Closed.number(),
-        Some(take_end) => {
-            drop(take_end);
-            0
-        }
+    if !take.is_open {
+        return CallFault::Closed.number();
     }
+    if !take.held.lend().is_take() {
+        return CallFault::OtherKind.number();
+    }
+    take.close(alloc);
+    0
 }
 
 /// Puts a name into a lane. The other end may take it at once. Never waits.
 ///
-/// Refused as Closed where the handle isn't open; otherwise as Full where the lane is full, as far as this end knows.
+/// Refused as Closed where the handle isn't open. Otherwise as OtherKind where it holds another kind of end. Otherwise as Full
+/// where the lane is full, as far as this end knows.
 ///
 /// ```text
-/// tlsf_put(&post, &name) == TLSF_OK
+/// tlsf_put(&post, name) == TLSF_OK
 /// ```
 #[unsafe(no_mangle)]
-pub extern "C" fn tlsf_put(alloc: Global, post: &mut PostSlot, name: &BlockName) -> u32
+pub extern "C" fn tlsf_put(post: &mut EndSlot, name: BlockName) -> u32
     ensures closed { post.old.is_open ≡ false → (result ≡ closed) × (post.new ≡ post.old) }
-    ensures open { post.old.is_open ≡ true → post.new.is_open ≡ true }
-    ensures lane { (t : Option TakeEnd) → AreEnds post.old.held.value t → AreEnds post.new.held.value t }
-    ensures sent { post.old.is_open ≡ true → result ≡ 0 → sent_in post.new ≡ sent_in post.old ++ post_of (name_of name.now) ∷ [] }
+    ensures other { post.old.is_open ≡ true → holds_post post.old ≡ false → (result ≡ other_kind) × (post.new ≡ post.old) }
+    ensures open { post.old.is_open ≡ true → (post.new.is_open ≡ true) × (holds_post post.new ≡ holds_post post.old) }
+    ensures lane { (t : Option TakeEnd) → AreEnds (post_in post.old) t → AreEnds (post_in post.new) t }
+    ensures sent { post.old.is_open ≡ true → result ≡ 0 → sent_in post.new ≡ sent_in post.old ++ post_of (name_of name) ∷ [] }
     ensures slots { post.old.is_open ≡ true → result ≡ 0 → known_slots post.new ≡ known_slots post.old - 1 }
-    ensures full { post.old.is_open ≡ true → ¬ (result ≡ 0) → (result ≡ full) × (sent_in post.new ≡ sent_in post.old)
+    ensures full { post.old.is_open ≡ true → holds_post post.old ≡ true → ¬ (result ≡ 0) → (result ≡ full) × (sent_in post.new ≡ sent_in post.old)
         × (known_slots post.new ≡ known_slots post.old) }
     ensures succeeds { post.old.is_open ≡ true → 0 < known_slots post.old → result ≡ 0 }
 {
-    let Some(mut post_end) = post.take_out(alloc) else {
+    if !post.is_open {
         return CallFault::Closed.number();
+    }
+    let AnyEnd::Post(end) = post.held.lend() else {
+        return CallFault::OtherKind.number();
     };
-    let answer = post_end.put(Post {
+    post.is_open = false;
+    let answer = end.put(Post {
         from: 0,
         name: name.name(),
     });
-    post.put_in(post_end);
+    post.is_open = true;
     match answer {
         Ok(()) => 0,
         Err(_) => CallFault::Full.number(),
@@ -161,32 +172,31 @@ pub extern "C" fn tlsf_put(alloc: Global, post: &mut PostSlot, name: &BlockName)
 /// store, which costs it less than each name by itself. How many went goes to `went`: the others may be put again later. Never
 /// waits.
 ///
-/// Refused as Closed where the handle isn't open.
+/// Refused as Closed where the handle isn't open. Otherwise as OtherKind where it holds another kind of end.
 ///
 /// ```text
 /// tlsf_put_all(&post, names, 40, &went) == TLSF_OK
 /// ```
 #[unsafe(no_mangle)]
-pub extern "C" fn tlsf_put_all(
-    alloc: Global,
-    post: &mut PostSlot,
-    names: &[BlockName],
-    went: &mut usize,
-) -> u32
+pub extern "C" fn tlsf_put_all(post: &mut EndSlot, names: &[BlockName], went: &mut usize) -> u32
     ensures closed { post.old.is_open ≡ false → (result ≡ closed) × (post.new ≡ post.old) × (went.new ≡ went.old) }
-    ensures open { post.old.is_open ≡ true → (result ≡ 0) × (post.new.is_open ≡ true) }
-    ensures lane { (t : Option TakeEnd) → AreEnds post.old.held.value t → AreEnds post.new.held.value t }
+    ensures other { post.old.is_open ≡ true → holds_post post.old ≡ false → (result ≡ other_kind) × (post.new ≡ post.old) × (went.new ≡ went.old) }
+    ensures open { post.old.is_open ≡ true → holds_post post.old ≡ true → (result ≡ 0) × (post.new.is_open ≡ true) × (holds_post post.new ≡ true) }
+    ensures lane { (t : Option TakeEnd) → AreEnds (post_in post.old) t → AreEnds (post_in post.new) t }
     ensures most { result ≡ 0 → went.new ≤ length names.now }
     ensures sent { result ≡ 0 → sent_in post.new ≡ sent_in post.old ++ posts_named (take went.new names.now) }
     ensures slots { result ≡ 0 → known_slots post.new ≡ known_slots post.old - went.new }
     ensures succeeds { result ≡ 0 → went.new < length names.now → known_slots post.old ≤ went.new }
 {
-    let Some(mut end) = post.take_out(alloc) else {
+    if !post.is_open {
         return CallFault::Closed.number();
+    }
+    let AnyEnd::Post(end) = post.held.lend() else {
+        return CallFault::OtherKind.number();
     };
-    let count = put_names(&mut end, names);
-    post.put_in(end);
-    *went = count;
+    post.is_open = false;
+    *went = put_names(end, names);
+    post.is_open = true;
     0
 }
 
@@ -232,29 +242,44 @@ fn put_slice(end: &mut PostEnd, names: &[BlockName]) -> usize
 
 /// Takes the next name out of a lane. It goes to `name`. Never waits.
 ///
-/// Refused as Closed where the handle isn't open; otherwise as Empty where this end sees none.
+/// Refused as Closed where the handle isn't open. Otherwise as OtherKind where it holds another kind of end. Otherwise as Empty
+/// where this end sees none.
 ///
 /// ```text
-/// while (tlsf_take(&take, &name) == TLSF_OK) { tlsf_release(&heap, &name); }
+/// while (tlsf_take(&take, &name) == TLSF_OK) { tlsf_release(&heap, name); }
 /// ```
 #[unsafe(no_mangle)]
-pub extern "C" fn tlsf_take(alloc: Global, take: &mut TakeSlot, name: &mut BlockName) -> u32
+pub extern "C" fn tlsf_take(take: &mut EndSlot, name: &mut BlockName) -> u32
     ensures closed { take.old.is_open ≡ false → (result ≡ closed) × (take.new ≡ take.old) }
-    ensures open { take.old.is_open ≡ true → take.new.is_open ≡ true }
-    ensures lane { (p : Option PostEnd) → AreEnds p take.old.held.value → AreEnds p take.new.held.value }
-    ensures taken { take.old.is_open ≡ true → result ≡ 0 → (from : ℕ)
-        × (taken_in take.new ≡ taken_in take.old ++ record { from = from; name = name_of name.new } ∷ [])
-        × IsPrefix (ready_in take.old) (record { from = from; name = name_of name.new } ∷ ready_in take.new) }
-    ensures empty { take.old.is_open ≡ true → ¬ (result ≡ 0) → (result ≡ empty) × (taken_in take.new ≡ taken_in take.old) }
+    ensures other { take.old.is_open ≡ true → holds_take take.old ≡ false → (result ≡ other_kind) × (take.new ≡ take.old) }
+    ensures open { take.old.is_open ≡ true → (take.new.is_open ≡ true) × (holds_take take.new ≡ holds_take take.old) }
+    ensures lane { (p : Option PostEnd) → AreEnds p (take_in take.old) → AreEnds p (take_in take.new) }
+    ensures taken { take.old.is_open ≡ true → result ≡ 0 → Takes (take_in take.old) (take_in take.new) (name_of name.new) }
+    ensures empty { take.old.is_open ≡ true → holds_take take.old ≡ true → ¬ (result ≡ 0) → (result ≡ empty) × (taken_in take.new ≡ taken_in take.old) }
+    ensures no_name { ¬ (result ≡ 0) → name.new ≡ name.old }
     ensures succeeds { take.old.is_open ≡ true → 0 < length (ready_in take.old) → result ≡ 0 }
+{
+    if !take.is_open {
+        return CallFault::Closed.number();
+    }
+    let AnyEnd::Take(end) = take.held.lend() else {
+        return CallFault::OtherKind.number();
+    };
+    take.is_open = false;
+    let answer = take_name(end, name);
+    take.is_open = true;
+    answer
+}
+
+/// Takes the next name out of a lane. It goes to `name`.
+fn take_name(end: &mut TakeEnd, name: &mut BlockName) -> u32
+    ensures lane { (p : PostEnd) → IsLane p end.old → IsLane p end.new }
+    ensures taken { result ≡ 0 → HasTaken end.old end.new (name_of name.new) }
+    ensures empty { ¬ (result ≡ 0) → (result ≡ empty) × (taken end.new ≡ taken end.old) }
+    ensures succeeds { 0 < length (ready end.old) → result ≡ 0 }
     ensures no_name { ¬ (result ≡ 0) → name.new ≡ name.old }
 {
-    let Some(mut take_end) = take.take_out(alloc) else {
-        return CallFault::Closed.number();
-    };
-    let answer = take_end.take();
-    take.put_in(take_end);
-    match answer {
+    match end.take() {
         Some(post) => {
             *name = BlockName::of(post.name);
             0
@@ -266,28 +291,29 @@ pub extern "C" fn tlsf_take(alloc: Global, take: &mut TakeSlot, name: &mut Block
 /// Takes names out of a lane, at most `most` and all that are known to be ready. It releases the block that each names, whatever
 /// the heap answers. How many came goes to `came`. Never waits.
 ///
-/// Refused as Closed where the heap's handle or the lane's isn't open.
+/// Refused as Closed where the heap's handle or the lane's isn't open. Otherwise as OtherKind where the lane's holds another kind
+/// of end.
 ///
 /// ```text
 /// tlsf_drain(&heap, &take, 16, &came) == TLSF_OK
 /// ```
 #[unsafe(no_mangle)]
 pub extern "C" fn tlsf_drain(
-    alloc: Global,
     heap: &mut HeapSlot,
-    take: &mut TakeSlot,
+    take: &mut EndSlot,
     most: u32,
     came: &mut u32,
 ) -> u32
     ensures heap_closed { heap.old.is_open ≡ false → result ≡ closed }
     ensures take_closed { take.old.is_open ≡ false → result ≡ closed }
     ensures refused { ¬ (result ≡ 0) → (heap.new ≡ heap.old) × (take.new ≡ take.old) × (came.new ≡ came.old) }
-    ensures open { heap.old.is_open ≡ true → take.old.is_open ≡ true → (result ≡ 0) × StaysOpen heap.old heap.new × (take.new.is_open ≡ true) }
+    ensures other { heap.old.is_open ≡ true → take.old.is_open ≡ true → holds_take take.old ≡ false → result ≡ other_kind }
+    ensures open { heap.old.is_open ≡ true → take.old.is_open ≡ true → holds_take take.old ≡ true → (result ≡ 0) × StaysOpen heap.old heap.new × (take.new.is_open ≡ true) × (holds_take take.new ≡ true) }
     ensures drained { result ≡ 0 → (posts : List Post) × (taken_in take.new ≡ taken_in take.old ++ posts)
         × (heap_in heap.new ≡ drained (heap_in heap.old) posts) × (length posts ≡ came.new) }
     ensures most { result ≡ 0 → came.new ≤ most }
     ensures ready { result ≡ 0 → came.new < most → length (ready_in take.old) ≤ came.new }
-    ensures lane { (p : Option PostEnd) → AreEnds p take.old.held.value → AreEnds p take.new.held.value }
+    ensures lane { (p : Option PostEnd) → AreEnds p (take_in take.old) → AreEnds p (take_in take.new) }
     ensures no_counts { result ≡ 0 → came.new ≡ 0 → counts_in heap.new ≡ counts_in heap.old }
     ensures counts { result ≡ 0 → 0 < came.new → counts_in heap.new ≡ record (counts_in heap.old) { words = words_in_use (heap_in heap.new) } }
     ensures touches { result ≡ 0 → touches_in heap.new ≤ touches_in heap.old + release_touches * came.new }
@@ -297,20 +323,42 @@ pub extern "C" fn tlsf_drain(
     if !heap.is_open || !take.is_open {
         return CallFault::Closed.number();
     }
+    let AnyEnd::Take(end) = take.held.lend() else {
+        return CallFault::OtherKind.number();
+    };
+    take.is_open = false;
+    *came = drain_names(heap, end, most);
+    take.is_open = true;
+    0
+}
+
+/// Takes names out of a lane by slices: all that are known to be ready, and at most `most`. Releases the block that each names.
+/// Answers how many came. The heap is open.
+fn drain_names(heap: &mut HeapSlot, end: &mut TakeEnd, most: u32) -> u32
+    requires { heap.old.is_open ≡ true }
+    ensures open { StaysOpen heap.old heap.new }
+    ensures drained { (posts : List Post) × (taken end.new ≡ taken end.old ++ posts) × (heap_in heap.new ≡ drained (heap_in heap.old) posts) × (length posts ≡ result)
+        × LeavesUnnamed (heap_in heap.old).blocks posts (touched_in heap.old) (touched_in heap.new) }
+    ensures most { result ≤ most }
+    ensures ready { result < most → length (ready end.old) ≤ result }
+    ensures lane { (p : PostEnd) → IsLane p end.old → IsLane p end.new }
+    ensures no_counts { result ≡ 0 → counts_in heap.new ≡ counts_in heap.old }
+    ensures counts { 0 < result → counts_in heap.new ≡ record (counts_in heap.old) { words = words_in_use (heap_in heap.new) } }
+    ensures touches { touches_in heap.new ≤ touches_in heap.old + release_touches * result }
+{
     let mut posts = [NO_POST; AT_ONCE];
     let mut count = 0;
     let mut left = most;
     while left > 0 {
         let wanted = AT_ONCE.min(left as usize);
         let (places, _) = posts.split_at_mut(wanted);
-        let taken = take_posts(alloc, take, places);
-        let (names, _) = places.split_at(taken);
+        let came = end.take_slice(places);
+        let (names, _) = places.split_at(came);
         release_posts(heap, names);
-        count += taken as u32;
-        left = left_after(left, wanted, taken);
+        count += came as u32;
+        left = left_after(left, wanted, came);
     }
-    *came = count;
-    0
+    count
 }
 
 /// How many names may still come of `left`: none after a look that showed fewer than were wanted.
@@ -327,24 +375,6 @@ fn left_after(left: u32, wanted: usize, taken: usize) -> u32
     }
 }
 
-/// Takes as many names out of an open lane as there are places, and answers how many came.
-fn take_posts(alloc: Global, lane: &mut TakeSlot, places: &mut [Post]) -> usize
-    requires { lane.old.is_open ≡ true }
-    ensures open { lane.new.is_open ≡ true }
-    ensures lane { (p : Option PostEnd) → AreEnds p lane.old.held.value → AreEnds p lane.new.held.value }
-    ensures most { result ≤ length places.old }
-    ensures came { (taken_in lane.new ≡ taken_in lane.old ++ take result places.new)
-        × IsPrefix (ready_in lane.old) (take result places.new ++ ready_in lane.new) }
-    ensures left { result < length places.old → ready_in lane.new ≡ [] }
-{
-    let Some(mut end) = lane.take_out(alloc) else {
-        unreachable!()
-    };
-    let count = end.take_slice(places);
-    lane.put_in(end);
-    count
-}
-
 /// Releases the block that each post names, in their order, whatever the heap answers. The heap is open.
 pub(crate) fn release_posts(heap: &mut HeapSlot, posts: &[Post])
     requires { heap.old.is_open ≡ true }
@@ -356,6 +386,11 @@ pub(crate) fn release_posts(heap: &mut HeapSlot, posts: &[Post])
     ensures leaves { LeavesUnnamed (heap_in heap.old).blocks posts.now (touched_in heap.old) (touched_in heap.new) }
 {
     for post in posts {
-        let _ = tlsf_release(heap, &BlockName::of(post.name));
+        let Name {
+            heap: number,
+            at,
+            serial,
+        } = post.name;
+        let _ = release_named(heap, number, serial, at);
     }
 }

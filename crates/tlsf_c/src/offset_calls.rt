@@ -7,13 +7,14 @@ ghost use Rattle.tlsf_heap.specs.Touched.{allocate_touches, release_touches, res
 ghost use Rattle.tlsf_offsets.specs.Offsets.{IsHeld, KeepsOthers, span_units, usage_of, seen_of};
 ghost use Rattle.tlsf_offsets.specs.declared.span.Span.{Span};
 ghost use Rattle.tlsf_c.specs.Names.{name_of};
-ghost use Rattle.tlsf_c.specs.OffsetHandles.{offsets_in, offsets_level, OffsetsStayOpen, span_of, usage_told};
-ghost use Rattle.tlsf_c.specs.Refusals.{status_of, bad_size, no_memory, closed, in_use, bad_level};
+ghost use Rattle.tlsf_c.specs.OffsetHandles.{offsets_in, offsets_level, holds_offsets, OffsetsStayOpen, span_of, usage_told};
+ghost use Rattle.tlsf_c.specs.Refusals.{status_of, bad_size, no_memory, closed, other_kind, in_use, bad_level};
 
+use crate::any_arena::AnyArena;
 use crate::any_offsets::AnyOffsets;
+use crate::arena_slot::ArenaSlot;
 use crate::call_fault::CallFault;
 use crate::names::BlockName;
-use crate::offsets_slot::OffsetsSlot;
 use crate::spans::{OffsetSpan, OffsetUsage};
 use std::alloc::Global;
 
@@ -30,7 +31,7 @@ use std::alloc::Global;
 #[unsafe(no_mangle)]
 pub extern "C" fn tlsf_offsets_open(
     alloc: Global,
-    offsets: &mut OffsetsSlot,
+    offsets: &mut ArenaSlot,
     level: u32,
     id: u32,
     unit: u32,
@@ -41,7 +42,7 @@ pub extern "C" fn tlsf_offsets_open(
     ensures bad_size { offsets.old.is_open ≡ false → 4 ≤ level → level ≤ 5 → ¬ ((0 < unit) × IsRegion level units) → result ≡ bad_size }
     ensures no_memory { offsets.old.is_open ≡ false → 4 ≤ level → level ≤ 5 → (0 < unit) × IsRegion level units → ¬ (result ≡ 0) → result ≡ no_memory }
     ensures refused { ¬ (result ≡ 0) → offsets.new ≡ offsets.old }
-    ensures open { result ≡ 0 → offsets.new.is_open ≡ true }
+    ensures open { result ≡ 0 → (offsets.new.is_open ≡ true) × (holds_offsets offsets.new ≡ true) }
     ensures arena { result ≡ 0 → (offsets_level offsets.new ≡ level) × ((offsets_in offsets.new).heap ≡ opened id units 0) × ((offsets_in offsets.new).unit ≡ unit) }
     ensures touches { result ≡ 0 → (offsets_in offsets.new).touches ≤ 10 }
 {
@@ -53,7 +54,7 @@ pub extern "C" fn tlsf_offsets_open(
     }
     match AnyOffsets::open(alloc, level, id, unit, units) {
         Err(fault) => fault.number(),
-        Ok(opened) => match Box::new(alloc, opened) {
+        Ok(opened) => match Box::new(alloc, AnyArena::Offsets(opened)) {
             Err(_) => CallFault::NoMemory.number(),
             Ok(owned) => {
                 offsets.put_in(owned);
@@ -65,44 +66,47 @@ pub extern "C" fn tlsf_offsets_open(
 
 /// Closes an arena. No name of its spans is of use from then on.
 ///
-/// Refused as Closed where the handle isn't open.
+/// Refused as Closed where the handle isn't open. Otherwise as OtherKind where it holds another kind of arena.
 ///
 /// ```text
 /// tlsf_offsets_close(&offsets) == TLSF_OK
 /// ```
 #[unsafe(no_mangle)]
-pub extern "C" fn tlsf_offsets_close(alloc: Global, offsets: &mut OffsetsSlot) -> u32
-    ensures after { offsets.new.is_open ≡ false }
+pub extern "C" fn tlsf_offsets_close(alloc: Global, offsets: &mut ArenaSlot) -> u32
+    ensures after { result ≡ 0 → offsets.new.is_open ≡ false }
     ensures closed { offsets.old.is_open ≡ false → (result ≡ closed) × (offsets.new ≡ offsets.old) }
-    ensures open { offsets.old.is_open ≡ true → result ≡ 0 }
+    ensures other { offsets.old.is_open ≡ true → holds_offsets offsets.old ≡ false → (result ≡ other_kind) × (offsets.new ≡ offsets.old) }
+    ensures open { offsets.old.is_open ≡ true → holds_offsets offsets.old ≡ true → result ≡ 0 }
 {
-    match offsets.take_out(alloc) {
-        None => CallFault::Closed.number(),
-        Some(owned) => {
-            drop(owned);
-            0
-        }
+    if !offsets.is_open {
+        return CallFault::Closed.number();
     }
+    if !offsets.held.lend().is_offsets() {
+        return CallFault::OtherKind.number();
+    }
+    offsets.close(alloc);
+    0
 }
 
 /// Gives a span of at least `bytes` bytes, by good fit. It goes to `span`.
 ///
-/// Refused as Closed where the handle isn't open; otherwise as `OffsetArena::allocate` refuses: NoFit, Worn.
+/// Refused as Closed where the handle isn't open. Otherwise as OtherKind where it holds another kind of arena. Otherwise as
+/// `OffsetArena::allocate` refuses: NoFit, Worn.
 ///
 /// ```text
 /// tlsf_offsets_allocate(&offsets, 1000000, &span) == TLSF_OK    // units of 64 KiB: span.size == 1048576
 /// ```
 #[unsafe(no_mangle)]
 pub extern "C" fn tlsf_offsets_allocate(
-    alloc: Global,
-    offsets: &mut OffsetsSlot,
+    offsets: &mut ArenaSlot,
     bytes: u64,
     span: &mut OffsetSpan,
 ) -> u32
     ensures closed { offsets.old.is_open ≡ false → (result ≡ closed) × (offsets.new ≡ offsets.old) }
+    ensures other { offsets.old.is_open ≡ true → holds_offsets offsets.old ≡ false → (result ≡ other_kind) × (offsets.new ≡ offsets.old) }
     ensures open { offsets.old.is_open ≡ true → OffsetsStayOpen offsets.old offsets.new }
-    ensures status { offsets.old.is_open ≡ true → result ≡ status_of (allocated_words (offsets_level offsets.old) (offsets_in offsets.old).heap (span_units (offsets_in offsets.old).unit bytes) 0).answer }
-    ensures allocates { offsets.old.is_open ≡ true → Allocates (allocate_touches + 4) (offsets_level offsets.old) (span_units (offsets_in offsets.old).unit bytes) 0 (seen_of (offsets_in offsets.old)) (seen_of (offsets_in offsets.new)) (allocated_words (offsets_level offsets.old) (offsets_in offsets.old).heap (span_units (offsets_in offsets.old).unit bytes) 0).answer }
+    ensures status { offsets.old.is_open ≡ true → holds_offsets offsets.old ≡ true → result ≡ status_of (allocated_words (offsets_level offsets.old) (offsets_in offsets.old).heap (span_units (offsets_in offsets.old).unit bytes) 0).answer }
+    ensures allocates { offsets.old.is_open ≡ true → holds_offsets offsets.old ≡ true → Allocates (allocate_touches + 4) (offsets_level offsets.old) (span_units (offsets_in offsets.old).unit bytes) 0 (seen_of (offsets_in offsets.old)) (seen_of (offsets_in offsets.new)) (allocated_words (offsets_level offsets.old) (offsets_in offsets.old).heap (span_units (offsets_in offsets.old).unit bytes) 0).answer }
     ensures refused { ¬ (result ≡ 0) → offsets.old.is_open ≡ true → (offsets_in offsets.new).heap ≡ (offsets_in offsets.old).heap }
     ensures no_span { ¬ (result ≡ 0) → span.new ≡ span.old }
     ensures held { result ≡ 0 → IsHeld (offsets_in offsets.new) (span_of span.new) }
@@ -110,11 +114,15 @@ pub extern "C" fn tlsf_offsets_allocate(
     ensures others { offsets.old.is_open ≡ true → (other : Span) → IsHeld (offsets_in offsets.old) other → IsHeld (offsets_in offsets.new) other }
     ensures fresh { result ≡ 0 → (other : Span) → IsHeld (offsets_in offsets.old) other → other.name ≢ name_of span.new.name }
 {
-    let Some(mut owned) = offsets.take_out(alloc) else {
+    if !offsets.is_open {
         return CallFault::Closed.number();
+    }
+    let AnyArena::Offsets(owned) = offsets.held.lend() else {
+        return CallFault::OtherKind.number();
     };
+    offsets.is_open = false;
     let answer = owned.allocate(bytes);
-    offsets.put_in(owned);
+    offsets.is_open = true;
     match answer {
         Ok(given) => {
             *span = OffsetSpan::of(given);
@@ -126,30 +134,32 @@ pub extern "C" fn tlsf_offsets_allocate(
 
 /// Takes the span of that name back.
 ///
-/// Refused as Closed where the handle isn't open; otherwise as `OffsetArena::release` refuses: Foreign, Stale, Worn.
+/// Refused as Closed where the handle isn't open. Otherwise as OtherKind where it holds another kind of arena. Otherwise as
+/// `OffsetArena::release` refuses: Foreign, Stale, Worn.
 ///
 /// ```text
-/// tlsf_offsets_release(&offsets, &span.name) == TLSF_OK
-/// tlsf_offsets_release(&offsets, &span.name) == TLSF_STALE
+/// tlsf_offsets_release(&offsets, span.name) == TLSF_OK
+/// tlsf_offsets_release(&offsets, span.name) == TLSF_STALE
 /// ```
 #[unsafe(no_mangle)]
-pub extern "C" fn tlsf_offsets_release(
-    alloc: Global,
-    offsets: &mut OffsetsSlot,
-    name: &BlockName,
-) -> u32
+pub extern "C" fn tlsf_offsets_release(offsets: &mut ArenaSlot, name: BlockName) -> u32
     ensures closed { offsets.old.is_open ≡ false → (result ≡ closed) × (offsets.new ≡ offsets.old) }
+    ensures other { offsets.old.is_open ≡ true → holds_offsets offsets.old ≡ false → (result ≡ other_kind) × (offsets.new ≡ offsets.old) }
     ensures open { offsets.old.is_open ≡ true → OffsetsStayOpen offsets.old offsets.new }
-    ensures status { offsets.old.is_open ≡ true → result ≡ status_of (released (offsets_in offsets.old).heap (name_of name.now)).answer }
-    ensures releases { offsets.old.is_open ≡ true → Releases release_touches (seen_of (offsets_in offsets.old)) (seen_of (offsets_in offsets.new)) (name_of name.now) (released (offsets_in offsets.old).heap (name_of name.now)).answer }
-    ensures others { offsets.old.is_open ≡ true → KeepsOthers (offsets_in offsets.old) (offsets_in offsets.new) (name_of name.now) }
-    ensures gone { result ≡ 0 → (span : Span) → IsHeld (offsets_in offsets.new) span → span.name ≢ name_of name.now }
+    ensures status { offsets.old.is_open ≡ true → holds_offsets offsets.old ≡ true → result ≡ status_of (released (offsets_in offsets.old).heap (name_of name)).answer }
+    ensures releases { offsets.old.is_open ≡ true → holds_offsets offsets.old ≡ true → Releases release_touches (seen_of (offsets_in offsets.old)) (seen_of (offsets_in offsets.new)) (name_of name) (released (offsets_in offsets.old).heap (name_of name)).answer }
+    ensures others { offsets.old.is_open ≡ true → KeepsOthers (offsets_in offsets.old) (offsets_in offsets.new) (name_of name) }
+    ensures gone { result ≡ 0 → (span : Span) → IsHeld (offsets_in offsets.new) span → span.name ≢ name_of name }
 {
-    let Some(mut owned) = offsets.take_out(alloc) else {
+    if !offsets.is_open {
         return CallFault::Closed.number();
+    }
+    let AnyArena::Offsets(owned) = offsets.held.lend() else {
+        return CallFault::OtherKind.number();
     };
+    offsets.is_open = false;
     let answer = owned.release(name.name());
-    offsets.put_in(owned);
+    offsets.is_open = true;
     match answer {
         Ok(()) => 0,
         Err(why) => why.number(),
@@ -158,32 +168,37 @@ pub extern "C" fn tlsf_offsets_release(
 
 /// Makes a span hold `bytes` bytes where it lies, by its name. The new span goes to `span`: its offset and its name stay.
 ///
-/// Refused as Closed where the handle isn't open; otherwise as `OffsetArena::resize` refuses: Foreign, Stale, NoRoom, Worn.
+/// Refused as Closed where the handle isn't open. Otherwise as OtherKind where it holds another kind of arena. Otherwise as
+/// `OffsetArena::resize` refuses: Foreign, Stale, NoRoom, Worn.
 ///
 /// ```text
 /// tlsf_offsets_resize(&offsets, &span, 3000000) == TLSF_OK
 /// ```
 #[unsafe(no_mangle)]
 pub extern "C" fn tlsf_offsets_resize(
-    alloc: Global,
-    offsets: &mut OffsetsSlot,
+    offsets: &mut ArenaSlot,
     span: &mut OffsetSpan,
     bytes: u64,
 ) -> u32
     ensures closed { offsets.old.is_open ≡ false → (result ≡ closed) × (offsets.new ≡ offsets.old) }
+    ensures other { offsets.old.is_open ≡ true → holds_offsets offsets.old ≡ false → (result ≡ other_kind) × (offsets.new ≡ offsets.old) }
     ensures open { offsets.old.is_open ≡ true → OffsetsStayOpen offsets.old offsets.new }
-    ensures status { offsets.old.is_open ≡ true → result ≡ status_of (resized_words (offsets_in offsets.old).heap (name_of span.old.name) (span_units (offsets_in offsets.old).unit bytes) 0).answer }
-    ensures resizes { offsets.old.is_open ≡ true → Resizes (resize_touches + 4) (span_units (offsets_in offsets.old).unit bytes) 0 (seen_of (offsets_in offsets.old)) (seen_of (offsets_in offsets.new)) (name_of span.old.name) (resized_words (offsets_in offsets.old).heap (name_of span.old.name) (span_units (offsets_in offsets.old).unit bytes) 0).answer }
+    ensures status { offsets.old.is_open ≡ true → holds_offsets offsets.old ≡ true → result ≡ status_of (resized_words (offsets_in offsets.old).heap (name_of span.old.name) (span_units (offsets_in offsets.old).unit bytes) 0).answer }
+    ensures resizes { offsets.old.is_open ≡ true → holds_offsets offsets.old ≡ true → Resizes (resize_touches + 4) (span_units (offsets_in offsets.old).unit bytes) 0 (seen_of (offsets_in offsets.old)) (seen_of (offsets_in offsets.new)) (name_of span.old.name) (resized_words (offsets_in offsets.old).heap (name_of span.old.name) (span_units (offsets_in offsets.old).unit bytes) 0).answer }
     ensures no_span { ¬ (result ≡ 0) → span.new ≡ span.old }
     ensures held { result ≡ 0 → IsHeld (offsets_in offsets.new) (span_of span.new) × (span.new.name ≡ span.old.name) }
     ensures enough { result ≡ 0 → bytes ≤ span.new.size }
     ensures others { offsets.old.is_open ≡ true → KeepsOthers (offsets_in offsets.old) (offsets_in offsets.new) (name_of span.old.name) }
 {
-    let Some(mut owned) = offsets.take_out(alloc) else {
+    if !offsets.is_open {
         return CallFault::Closed.number();
+    }
+    let AnyArena::Offsets(owned) = offsets.held.lend() else {
+        return CallFault::OtherKind.number();
     };
+    offsets.is_open = false;
     let answer = owned.resize(span.name.name(), bytes);
-    offsets.put_in(owned);
+    offsets.is_open = true;
     match answer {
         Ok(grown) => {
             *span = OffsetSpan::of(grown);
@@ -195,28 +210,29 @@ pub extern "C" fn tlsf_offsets_resize(
 
 /// The units that are held and those that are free, by a walk over all blocks. It goes to `usage`.
 ///
-/// Refused as Closed where the handle isn't open.
+/// Refused as Closed where the handle isn't open. Otherwise as OtherKind where it holds another kind of arena.
 ///
 /// ```text
 /// tlsf_offsets_report(&offsets, &usage) == TLSF_OK
 /// ```
 #[unsafe(no_mangle)]
-pub extern "C" fn tlsf_offsets_report(
-    alloc: Global,
-    offsets: &mut OffsetsSlot,
-    usage: &mut OffsetUsage,
-) -> u32
+pub extern "C" fn tlsf_offsets_report(offsets: &mut ArenaSlot, usage: &mut OffsetUsage) -> u32
     ensures closed { offsets.old.is_open ≡ false → (result ≡ closed) × (offsets.new ≡ offsets.old) × (usage.new ≡ usage.old) }
-    ensures open { offsets.old.is_open ≡ true → (result ≡ 0) × (offsets.new.is_open ≡ true) }
+    ensures other { offsets.old.is_open ≡ true → holds_offsets offsets.old ≡ false → (result ≡ other_kind) × (offsets.new ≡ offsets.old) × (usage.new ≡ usage.old) }
+    ensures open { offsets.old.is_open ≡ true → holds_offsets offsets.old ≡ true → (result ≡ 0) × (offsets.new.is_open ≡ true) × (holds_offsets offsets.new ≡ true) }
     ensures usage { result ≡ 0 → usage_told usage.new ≡ usage_of (offsets_level offsets.old) (offsets_in offsets.old) }
     ensures same { offsets.old.is_open ≡ true → (offsets_level offsets.new ≡ offsets_level offsets.old) × ((offsets_in offsets.new).heap ≡ (offsets_in offsets.old).heap) × ((offsets_in offsets.new).unit ≡ (offsets_in offsets.old).unit) }
     ensures touches { offsets.old.is_open ≡ true → (offsets_in offsets.new).touches ≤ (offsets_in offsets.old).touches + 2 * length (offsets_in offsets.old).heap.blocks }
 {
-    let Some(mut owned) = offsets.take_out(alloc) else {
+    if !offsets.is_open {
         return CallFault::Closed.number();
+    }
+    let AnyArena::Offsets(owned) = offsets.held.lend() else {
+        return CallFault::OtherKind.number();
     };
+    offsets.is_open = false;
     let found = owned.usage();
-    offsets.put_in(owned);
+    offsets.is_open = true;
     *usage = OffsetUsage::of(found);
     0
 }

@@ -20,62 +20,55 @@ ghost use Rattle.tlsf_c.specs.Checked.{check_number_of, next_told, damaged_told}
 ghost use Rattle.tlsf_c.specs.Handles.{counts_in, heap_in, seen_in, level_in, stored_in, touches_in, touched_in, StaysOpen};
 ghost use Rattle.tlsf_heap.specs.WordsInUse.{words_in_use};
 ghost use Rattle.tlsf_c.specs.Counting.{counted_request, counted_move};
-ghost use Rattle.tlsf_c.specs.Names.{name_of, info_of};
+ghost use Rattle.tlsf_c.specs.Names.{name_of, info_of, not_placed, placed_name};
 ghost use Rattle.tlsf_c.specs.Places.{length_at, kept_at, resized_or_moved_by_place};
 ghost use Rattle.tlsf_heap.specs.Touched.{FollowsNoPlace};
 ghost use Rattle.tlsf_c.specs.Refusals.{status_of, closed, damage};
 
 use crate::call_fault::{CallFault, check_status, status};
 use crate::heap_slot::HeapSlot;
-use crate::names::{BlockInfo, BlockName};
+use crate::names::{BlockInfo, BlockName, PlacedName};
 use tlsf_heap::{Content, PlacedBlock, Refusal};
 
-/// Gives a block that holds `len` bytes of payload, and fills nothing: its bytes are those that lie there. Its place goes to `at`. It takes no
-/// longer for more bytes.
+/// Gives a block that holds `len` bytes of payload, and fills nothing: its bytes are those that lie there. Its place and its serial are
+/// answered. It takes no longer for more bytes.
 ///
 /// Refused as Closed where the handle isn't open; otherwise as `Heap::allocate_unset` refuses: NoFit, Worn.
 ///
 /// ```text
-/// tlsf_allocate_place(&heap, 100, &at) == TLSF_OK  // the payload is words at + 3 to at + 15 of the region
+/// placed = tlsf_allocate_place(&heap, 100)         // the payload is words placed.at + 3 to placed.at + 15 of the region
 /// ```
 #[unsafe(no_mangle)]
-pub extern "C" fn tlsf_allocate_place(heap: &mut HeapSlot, len: u32, at: &mut u32) -> u32
-    ensures closed { heap.old.is_open ≡ false → (result ≡ closed) × (heap.new ≡ heap.old) }
+pub extern "C" fn tlsf_allocate_place(heap: &mut HeapSlot, len: u32) -> PlacedName
+    ensures closed { heap.old.is_open ≡ false → (result ≡ not_placed closed) × (heap.new ≡ heap.old) }
     ensures open { heap.old.is_open ≡ true → StaysOpen heap.old heap.new }
-    ensures status { heap.old.is_open ≡ true → result ≡ status_of (allocated (level_in heap.old) (heap_in heap.old) len).answer }
-    ensures place { heap.old.is_open ≡ true → result ≡ 0 → (name : Name) × ((allocated (level_in heap.old) (heap_in heap.old) len).answer ≡ Ok name) × (name.at ≡ at.new)
+    ensures placed { heap.old.is_open ≡ true → result ≡ placed_name (allocated (level_in heap.old) (heap_in heap.old) len).answer }
+    ensures place { heap.old.is_open ≡ true → result.answer ≡ 0 → (name : Name) × ((allocated (level_in heap.old) (heap_in heap.old) len).answer ≡ Ok name)
         × (heap_in heap.new ≡ unset_from (allocated (level_in heap.old) (heap_in heap.old) len).heap name (stored_in heap.new) 0 len) }
-    ensures refused { heap.old.is_open ≡ true → ¬ (result ≡ 0) → heap_in heap.new ≡ heap_in heap.old }
-    ensures kept { ¬ (result ≡ 0) → at.new ≡ at.old }
+    ensures refused { heap.old.is_open ≡ true → ¬ (result.answer ≡ 0) → heap_in heap.new ≡ heap_in heap.old }
     ensures counts { heap.old.is_open ≡ true → counts_in heap.new ≡ counted_request (counts_in heap.old) (allocated (level_in heap.old) (heap_in heap.old) len).answer len (heap_in heap.new) }
     ensures touches { heap.old.is_open ≡ true → touches_in heap.new ≤ touches_in heap.old + 33 }
     ensures leaves { heap.old.is_open ≡ true → LeavesLive (heap_in heap.old).blocks (touched_in heap.old) (touched_in heap.new) }
 {
     if !heap.is_open {
-        return CallFault::Closed.number();
+        return PlacedName::refusal(CallFault::Closed.number());
     }
     heap.is_open = false;
     let owned = heap.held.lend();
     let answer = owned.allocate_unset(len);
     heap.is_open = true;
-    match answer {
-        Ok(name) => {
-            *at = name.at;
-            0
-        }
-        Err(why) => why.number(),
-    }
+    PlacedName::of(answer)
 }
 
-/// Gives a block that holds `len` bytes of payload, and fills nothing: its bytes are those that lie there. Its place goes to `at`,
-/// and the payload's first word is aligned: `at + 3 + skew` is a multiple of `step` words. Here `skew` is how many words after such
-/// a multiple the region begins. A `step` of 0 counts as 1. It takes no longer for more bytes.
+/// Gives a block that holds `len` bytes of payload, and fills nothing: its bytes are those that lie there. Its place and its serial are
+/// answered. The payload's first word is aligned: `at + 3 + skew` is a multiple of `step` words. Here `skew` is how many words after
+/// such a multiple the region begins. A `step` of 0 counts as 1. It takes no longer for more bytes.
 ///
 /// Refused as Closed where the handle isn't open. Otherwise as `Heap::allocate_aligned` refuses. It is Worn where fewer than four
 /// ticks are left. Otherwise it is NoFit where no free block has the words wanted with those that a step may take.
 ///
 /// ```text
-/// tlsf_allocate_aligned(&heap, 100, 8, 0, &at) == TLSF_OK  // (at + 3) % 8 == 0
+/// placed = tlsf_allocate_aligned(&heap, 100, 8, 0)  // (placed.at + 3) % 8 == 0
 /// ```
 #[unsafe(no_mangle)]
 pub extern "C" fn tlsf_allocate_aligned(
@@ -83,35 +76,27 @@ pub extern "C" fn tlsf_allocate_aligned(
     len: u32,
     step: u32,
     skew: u32,
-    at: &mut u32,
-) -> u32
-    ensures closed { heap.old.is_open ≡ false → (result ≡ closed) × (heap.new ≡ heap.old) }
+) -> PlacedName
+    ensures closed { heap.old.is_open ≡ false → (result ≡ not_placed closed) × (heap.new ≡ heap.old) }
     ensures open { heap.old.is_open ≡ true → StaysOpen heap.old heap.new }
-    ensures status { heap.old.is_open ≡ true → result ≡ status_of (words_aligned (level_in heap.old) (heap_in heap.old) (want len) (max step 1) skew).answer }
-    ensures place { heap.old.is_open ≡ true → result ≡ 0 → (name : Name)
-        × ((words_aligned (level_in heap.old) (heap_in heap.old) (want len) (max step 1) skew).answer ≡ Ok name) × (name.at ≡ at.new)
+    ensures placed { heap.old.is_open ≡ true → result ≡ placed_name (words_aligned (level_in heap.old) (heap_in heap.old) (want len) (max step 1) skew).answer }
+    ensures place { heap.old.is_open ≡ true → result.answer ≡ 0 → (name : Name)
+        × ((words_aligned (level_in heap.old) (heap_in heap.old) (want len) (max step 1) skew).answer ≡ Ok name)
         × (heap_in heap.new ≡ with_payload (words_aligned (level_in heap.old) (heap_in heap.old) (want len) (max step 1) skew).heap name (lying (stored_in heap.new) name.at len)) }
-    ensures aligned { heap.old.is_open ≡ true → result ≡ 0 → (at.new + 3 + skew) % max step 1 ≡ 0 }
-    ensures refused { heap.old.is_open ≡ true → ¬ (result ≡ 0) → heap_in heap.new ≡ heap_in heap.old }
-    ensures kept { ¬ (result ≡ 0) → at.new ≡ at.old }
+    ensures aligned { heap.old.is_open ≡ true → result.answer ≡ 0 → (result.at + 3 + skew) % max step 1 ≡ 0 }
+    ensures refused { heap.old.is_open ≡ true → ¬ (result.answer ≡ 0) → heap_in heap.new ≡ heap_in heap.old }
     ensures counts { heap.old.is_open ≡ true → counts_in heap.new ≡ counted_request (counts_in heap.old) (words_aligned (level_in heap.old) (heap_in heap.old) (want len) (max step 1) skew).answer len (heap_in heap.new) }
     ensures touches { heap.old.is_open ≡ true → touches_in heap.new ≤ touches_in heap.old + 118 }
     ensures leaves { heap.old.is_open ≡ true → LeavesLive (heap_in heap.old).blocks (touched_in heap.old) (touched_in heap.new) }
 {
     if !heap.is_open {
-        return CallFault::Closed.number();
+        return PlacedName::refusal(CallFault::Closed.number());
     }
     heap.is_open = false;
     let owned = heap.held.lend();
     let answer = owned.allocate_aligned(len, step, skew);
     heap.is_open = true;
-    match answer {
-        Ok(name) => {
-            *at = name.at;
-            0
-        }
-        Err(why) => why.number(),
-    }
+    PlacedName::of(answer)
 }
 
 /// Takes back the live block that begins at a place.
@@ -141,8 +126,9 @@ pub extern "C" fn tlsf_release_place(heap: &mut HeapSlot, at: u32) -> u32
     heap.is_open = false;
     let owned = heap.held.lend();
     let answer = owned.release_at(at);
+    let number = status(answer);
     heap.is_open = true;
-    status(answer)
+    number
 }
 
 /// Makes the payload of the live block that begins at a place `len` bytes long. The block stays where it stands, or becomes another

@@ -7,14 +7,15 @@ ghost use Rattle.tlsf_pool.specs.declared.pools.pool_refusal.PoolRefusal.{PoolRe
 ghost use Rattle.tlsf_pool.specs.sizes.Rising.{HasNoHeaps, Rises};
 ghost use Rattle.tlsf_c.specs.Names.{name_of, report_in};
 ghost use Rattle.tlsf_c.specs.PoolCalls.{AreNewPools, AllocatesInPools, ReleasesInPools, WritesInPools, ReadsInPools, ReportsInPools, PartsLeaveLive, PartsLeavePayloads};
-ghost use Rattle.tlsf_c.specs.PoolHandles.{pools_in, pools_level, PoolsStayOpen, kinds_of, pool_status_of, part_status_of};
-ghost use Rattle.tlsf_c.specs.Refusals.{status_of, bad_size, no_memory, closed, in_use, bad_level};
+ghost use Rattle.tlsf_c.specs.PoolHandles.{pools_in, pools_level, holds_pools, PoolsStayOpen, kinds_of, pool_status_of, part_status_of};
+ghost use Rattle.tlsf_c.specs.Refusals.{status_of, bad_size, no_memory, closed, other_kind, in_use, bad_level};
 
+use crate::any_arena::AnyArena;
 use crate::any_pools::AnyPools;
+use crate::arena_slot::ArenaSlot;
 use crate::call_fault::{CallFault, status};
 use crate::kind_row::KindRow;
 use crate::names::{BlockName, HeapReport};
-use crate::pools_slot::PoolsSlot;
 use std::alloc::Global;
 use tlsf_heap::{OpenFault, Refusal};
 use tlsf_pool::{Kind, PoolRefusal};
@@ -55,7 +56,7 @@ fn open_for(alloc: Global, level: u32, id: u32, rows: &[KindRow]) -> Result<AnyP
 #[unsafe(no_mangle)]
 pub extern "C" fn tlsf_pools_open(
     alloc: Global,
-    pools: &mut PoolsSlot,
+    pools: &mut ArenaSlot,
     level: u32,
     id: u32,
     rows: &[KindRow],
@@ -68,7 +69,7 @@ pub extern "C" fn tlsf_pools_open(
     ensures no_heaps { pools.old.is_open ≡ false → 4 ≤ level → level ≤ 5 → HasNoHeaps level 8 (kinds_of rows.now) → result ≡ bad_size }
     ensures no_memory { pools.old.is_open ≡ false → 4 ≤ level → level ≤ 5 → length rows.now ≤ 64 → id + 8 ≤ 2 ^ 32 → ¬ (HasNoHeaps level 8 (kinds_of rows.now)) → ¬ (result ≡ 0) → result ≡ no_memory }
     ensures refused { ¬ (result ≡ 0) → pools.new ≡ pools.old }
-    ensures open { result ≡ 0 → pools.new.is_open ≡ true }
+    ensures open { result ≡ 0 → (pools.new.is_open ≡ true) × (holds_pools pools.new ≡ true) }
     ensures level { result ≡ 0 → pools_level pools.new ≡ level }
     ensures new { result ≡ 0 → AreNewPools level id (kinds_of rows.now) (pools_in pools.new) }
 {
@@ -83,7 +84,7 @@ pub extern "C" fn tlsf_pools_open(
     }
     match open_for(alloc, level, id, rows) {
         Err(fault) => fault.number(),
-        Ok(opened) => match Box::new(alloc, opened) {
+        Ok(opened) => match Box::new(alloc, AnyArena::Pools(opened)) {
             Err(_) => CallFault::NoMemory.number(),
             Ok(owned) => {
                 pools.put_in(owned);
@@ -95,55 +96,57 @@ pub extern "C" fn tlsf_pools_open(
 
 /// Closes all heaps of pools. No name of their blocks is of use from then on.
 ///
-/// Refused as Closed where the handle isn't open.
+/// Refused as Closed where the handle isn't open. Otherwise as OtherKind where it holds another kind of arena.
 ///
 /// ```text
 /// tlsf_pools_close(&pools) == TLSF_OK
 /// ```
 #[unsafe(no_mangle)]
-pub extern "C" fn tlsf_pools_close(alloc: Global, pools: &mut PoolsSlot) -> u32
-    ensures after { pools.new.is_open ≡ false }
+pub extern "C" fn tlsf_pools_close(alloc: Global, pools: &mut ArenaSlot) -> u32
+    ensures after { result ≡ 0 → pools.new.is_open ≡ false }
     ensures closed { pools.old.is_open ≡ false → (result ≡ closed) × (pools.new ≡ pools.old) }
-    ensures open { pools.old.is_open ≡ true → result ≡ 0 }
+    ensures other { pools.old.is_open ≡ true → holds_pools pools.old ≡ false → (result ≡ other_kind) × (pools.new ≡ pools.old) }
+    ensures open { pools.old.is_open ≡ true → holds_pools pools.old ≡ true → result ≡ 0 }
 {
-    match pools.take_out(alloc) {
-        None => CallFault::Closed.number(),
-        Some(owned) => {
-            drop(owned);
-            0
-        }
+    if !pools.is_open {
+        return CallFault::Closed.number();
     }
+    if !pools.held.lend().is_pools() {
+        return CallFault::OtherKind.number();
+    }
+    pools.close(alloc);
+    0
 }
 
 /// Gives a block that holds `len` bytes of payload, all zero. It comes from the heap of the first part of the table with a long
 /// enough row. Its name goes to `name`.
 ///
-/// Refused as Closed where the handle isn't open. Otherwise as BadSize where no row is long enough. Otherwise as RowFull where as
-/// many blocks of that row are held as may be. Otherwise as Worn where the ticks of that heap are used up. It is never refused for
-/// want of room.
+/// Refused as Closed where the handle isn't open. Otherwise as OtherKind where it holds another kind of arena. Otherwise as
+/// BadSize where no row is long enough. Otherwise as RowFull where as many blocks of that row are held as may be. Otherwise as
+/// Worn where the ticks of that heap are used up. It is never refused for want of room.
 ///
 /// ```text
 /// tlsf_pools_allocate(&pools, 64, &name) == TLSF_OK
 /// ```
 #[unsafe(no_mangle)]
-pub extern "C" fn tlsf_pools_allocate(
-    alloc: Global,
-    pools: &mut PoolsSlot,
-    len: u32,
-    name: &mut BlockName,
-) -> u32
+pub extern "C" fn tlsf_pools_allocate(pools: &mut ArenaSlot, len: u32, name: &mut BlockName) -> u32
     ensures closed { pools.old.is_open ≡ false → (result ≡ closed) × (pools.new ≡ pools.old) }
+    ensures other { pools.old.is_open ≡ true → holds_pools pools.old ≡ false → (result ≡ other_kind) × (pools.new ≡ pools.old) }
     ensures open { pools.old.is_open ≡ true → PoolsStayOpen pools.old pools.new }
-    ensures allocates { pools.old.is_open ≡ true → (answer : Result Name PoolRefusal) × AllocatesInPools (pools_level pools.old) (pools_in pools.old) (pools_in pools.new) len answer
+    ensures allocates { pools.old.is_open ≡ true → holds_pools pools.old ≡ true → (answer : Result Name PoolRefusal) × AllocatesInPools (pools_level pools.old) (pools_in pools.old) (pools_in pools.new) len answer
         × (result ≡ pool_status_of answer) × IfOk answer (λ given. name_of name.new ≡ given) }
     ensures leaves { pools.old.is_open ≡ true → PartsLeaveLive (pools_in pools.old) (pools_in pools.new) }
     ensures no_name { ¬ (result ≡ 0) → name.new ≡ name.old }
 {
-    let Some(mut owned) = pools.take_out(alloc) else {
+    if !pools.is_open {
         return CallFault::Closed.number();
+    }
+    let AnyArena::Pools(owned) = pools.held.lend() else {
+        return CallFault::OtherKind.number();
     };
+    pools.is_open = false;
     let answer = owned.allocate(len);
-    pools.put_in(owned);
+    pools.is_open = true;
     match answer {
         Ok(new) => {
             *name = BlockName::of(new);
@@ -157,117 +160,136 @@ pub extern "C" fn tlsf_pools_allocate(
 
 /// Takes back the block of that name, into the heap that it names.
 ///
-/// Refused as Closed where the handle isn't open; otherwise as `Pools::release` refuses: Foreign, Stale, Worn.
+/// Refused as Closed where the handle isn't open. Otherwise as OtherKind where it holds another kind of arena. Otherwise as
+/// `Pools::release` refuses: Foreign, Stale, Worn.
 ///
 /// ```text
-/// tlsf_pools_release(&pools, &name) == TLSF_OK
+/// tlsf_pools_release(&pools, name) == TLSF_OK
 /// ```
 #[tactic(auto, using(crate::proofs::LeftParts::release_left))]
 #[unsafe(no_mangle)]
-pub extern "C" fn tlsf_pools_release(alloc: Global, pools: &mut PoolsSlot, name: &BlockName) -> u32
+pub extern "C" fn tlsf_pools_release(pools: &mut ArenaSlot, name: BlockName) -> u32
     ensures closed { pools.old.is_open ≡ false → (result ≡ closed) × (pools.new ≡ pools.old) }
+    ensures other { pools.old.is_open ≡ true → holds_pools pools.old ≡ false → (result ≡ other_kind) × (pools.new ≡ pools.old) }
     ensures open { pools.old.is_open ≡ true → PoolsStayOpen pools.old pools.new }
-    ensures releases { pools.old.is_open ≡ true → (answer : Result (Unit {0}) Refusal) × ReleasesInPools (pools_in pools.old) (pools_in pools.new) (name_of name.now) answer × (result ≡ status_of answer) }
-    ensures leaves { pools.old.is_open ≡ true → PartsLeavePayloads (pools_in pools.old) (pools_in pools.new) (name_of name.now) }
+    ensures releases { pools.old.is_open ≡ true → holds_pools pools.old ≡ true → (answer : Result (Unit {0}) Refusal) × ReleasesInPools (pools_in pools.old) (pools_in pools.new) (name_of name) answer × (result ≡ status_of answer) }
+    ensures leaves { pools.old.is_open ≡ true → PartsLeavePayloads (pools_in pools.old) (pools_in pools.new) (name_of name) }
     ensures leaves_all { pools.old.is_open ≡ true → ¬ (result ≡ 0) → PartsLeaveLive (pools_in pools.old) (pools_in pools.new) }
 {
-    let Some(mut owned) = pools.take_out(alloc) else {
+    if !pools.is_open {
         return CallFault::Closed.number();
+    }
+    let AnyArena::Pools(owned) = pools.held.lend() else {
+        return CallFault::OtherKind.number();
     };
+    pools.is_open = false;
     let answer = owned.release(name.name());
-    pools.put_in(owned);
+    pools.is_open = true;
     status(answer)
 }
 
 /// Writes bytes into the payload of the block of that name, from byte `at` of it on.
 ///
-/// Refused as Closed where the handle isn't open; otherwise as `Pools::write` refuses: Foreign, Stale, Range.
+/// Refused as Closed where the handle isn't open. Otherwise as OtherKind where it holds another kind of arena. Otherwise as
+/// `Pools::write` refuses: Foreign, Stale, Range.
 ///
 /// ```text
-/// tlsf_pools_write(&pools, &name, 0, bytes, 2) == TLSF_OK
+/// tlsf_pools_write(&pools, name, 0, bytes, 2) == TLSF_OK
 /// ```
 #[tactic(auto, using(crate::proofs::LeftParts::write_left))]
 #[unsafe(no_mangle)]
 pub extern "C" fn tlsf_pools_write(
-    alloc: Global,
-    pools: &mut PoolsSlot,
-    name: &BlockName,
+    pools: &mut ArenaSlot,
+    name: BlockName,
     at: u32,
     bytes: &[u8],
 ) -> u32
     ensures closed { pools.old.is_open ≡ false → (result ≡ closed) × (pools.new ≡ pools.old) }
+    ensures other { pools.old.is_open ≡ true → holds_pools pools.old ≡ false → (result ≡ other_kind) × (pools.new ≡ pools.old) }
     ensures open { pools.old.is_open ≡ true → PoolsStayOpen pools.old pools.new }
-    ensures writes { pools.old.is_open ≡ true → (answer : Result (Unit {0}) Refusal) × WritesInPools (pools_in pools.old) (pools_in pools.new) (name_of name.now) at bytes.now answer × (result ≡ status_of answer) }
-    ensures leaves { pools.old.is_open ≡ true → PartsLeavePayloads (pools_in pools.old) (pools_in pools.new) (name_of name.now) }
+    ensures writes { pools.old.is_open ≡ true → holds_pools pools.old ≡ true → (answer : Result (Unit {0}) Refusal) × WritesInPools (pools_in pools.old) (pools_in pools.new) (name_of name) at bytes.now answer × (result ≡ status_of answer) }
+    ensures leaves { pools.old.is_open ≡ true → PartsLeavePayloads (pools_in pools.old) (pools_in pools.new) (name_of name) }
     ensures leaves_all { pools.old.is_open ≡ true → ¬ (result ≡ 0) → PartsLeaveLive (pools_in pools.old) (pools_in pools.new) }
 {
-    let Some(mut owned) = pools.take_out(alloc) else {
+    if !pools.is_open {
         return CallFault::Closed.number();
+    }
+    let AnyArena::Pools(owned) = pools.held.lend() else {
+        return CallFault::OtherKind.number();
     };
+    pools.is_open = false;
     let answer = owned.write(name.name(), at, bytes);
-    pools.put_in(owned);
+    pools.is_open = true;
     status(answer)
 }
 
 /// Reads bytes of the payload of the block of that name, from byte `at` of it on, and fills `out` with them.
 ///
-/// Refused as Closed where the handle isn't open; otherwise as `Pools::read` refuses: Foreign, Stale, Range. `out` is then as
-/// before.
+/// Refused as Closed where the handle isn't open. Otherwise as OtherKind where it holds another kind of arena. Otherwise as
+/// `Pools::read` refuses: Foreign, Stale, Range. `out` is then as before.
 ///
 /// ```text
-/// tlsf_pools_read(&pools, &name, 0, out, 2) == TLSF_OK
+/// tlsf_pools_read(&pools, name, 0, out, 2) == TLSF_OK
 /// ```
 #[tactic(auto, using(crate::proofs::LeftParts::read_left))]
 #[unsafe(no_mangle)]
 pub extern "C" fn tlsf_pools_read(
-    alloc: Global,
-    pools: &mut PoolsSlot,
-    name: &BlockName,
+    pools: &mut ArenaSlot,
+    name: BlockName,
     at: u32,
     out: &mut [u8],
 ) -> u32
     ensures closed { pools.old.is_open ≡ false → (result ≡ closed) × (pools.new ≡ pools.old) × (out.new ≡ out.old) }
+    ensures other { pools.old.is_open ≡ true → holds_pools pools.old ≡ false → (result ≡ other_kind) × (pools.new ≡ pools.old) × (out.new ≡ out.old) }
     ensures open { pools.old.is_open ≡ true → PoolsStayOpen pools.old pools.new }
-    ensures reads { pools.old.is_open ≡ true → (answer : Result (Unit {0}) Refusal) × ReadsInPools (pools_in pools.old) (pools_in pools.new) (name_of name.now) at out.old out.new answer × (result ≡ status_of answer) }
-    ensures leaves { pools.old.is_open ≡ true → PartsLeavePayloads (pools_in pools.old) (pools_in pools.new) (name_of name.now) }
+    ensures reads { pools.old.is_open ≡ true → holds_pools pools.old ≡ true → (answer : Result (Unit {0}) Refusal) × ReadsInPools (pools_in pools.old) (pools_in pools.new) (name_of name) at out.old out.new answer × (result ≡ status_of answer) }
+    ensures leaves { pools.old.is_open ≡ true → PartsLeavePayloads (pools_in pools.old) (pools_in pools.new) (name_of name) }
     ensures leaves_all { pools.old.is_open ≡ true → ¬ (result ≡ 0) → PartsLeaveLive (pools_in pools.old) (pools_in pools.new) }
 {
-    let Some(mut owned) = pools.take_out(alloc) else {
+    if !pools.is_open {
         return CallFault::Closed.number();
+    }
+    let AnyArena::Pools(owned) = pools.held.lend() else {
+        return CallFault::OtherKind.number();
     };
+    pools.is_open = false;
     let answer = owned.read(name.name(), at, out);
-    pools.put_in(owned);
+    pools.is_open = true;
     status(answer)
 }
 
 /// The report on the heap of a part of the table goes to `report`. The parts have numbers from 0 on, in the order of the table. It
 /// walks over all blocks of that heap.
 ///
-/// Refused as Closed where the handle isn't open. Otherwise as Stale where there is no such part, so that a walk from 0 on meets
-/// all.
+/// Refused as Closed where the handle isn't open. Otherwise as OtherKind where it holds another kind of arena. Otherwise as Stale
+/// where there is no such part, so that a walk from 0 on meets all.
 ///
 /// ```text
 /// tlsf_pools_report(&pools, 0, &report) == TLSF_OK
 /// ```
 #[unsafe(no_mangle)]
 pub extern "C" fn tlsf_pools_report(
-    alloc: Global,
-    pools: &mut PoolsSlot,
+    pools: &mut ArenaSlot,
     part: u32,
     report: &mut HeapReport,
 ) -> u32
     ensures closed { pools.old.is_open ≡ false → (result ≡ closed) × (pools.new ≡ pools.old) }
+    ensures other { pools.old.is_open ≡ true → holds_pools pools.old ≡ false → (result ≡ other_kind) × (pools.new ≡ pools.old) }
     ensures open { pools.old.is_open ≡ true → PoolsStayOpen pools.old pools.new }
-    ensures reports { pools.old.is_open ≡ true → (answer : Option Report) × ReportsInPools (pools_level pools.old) (pools_in pools.old) (pools_in pools.new) part answer
+    ensures reports { pools.old.is_open ≡ true → holds_pools pools.old ≡ true → (answer : Option Report) × ReportsInPools (pools_level pools.old) (pools_in pools.old) (pools_in pools.new) part answer
         × (result ≡ part_status_of answer) × IfSome answer (λ found. report_in report.new ≡ found) }
     ensures leaves { pools.old.is_open ≡ true → PartsLeaveLive (pools_in pools.old) (pools_in pools.new) }
     ensures no_report { ¬ (result ≡ 0) → report.new ≡ report.old }
 {
-    let Some(mut owned) = pools.take_out(alloc) else {
+    if !pools.is_open {
         return CallFault::Closed.number();
+    }
+    let AnyArena::Pools(owned) = pools.held.lend() else {
+        return CallFault::OtherKind.number();
     };
+    pools.is_open = false;
     let answer = owned.report(part as usize);
-    pools.put_in(owned);
+    pools.is_open = true;
     match answer {
         Some(found) => {
             *report = HeapReport::of(found);

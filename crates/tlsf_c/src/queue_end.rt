@@ -1,20 +1,23 @@
 //! The owner's end of a queue, with the posters' ends that nobody was given yet.
-ghost use Rattle.std.specs.Prelude.{◌≡◌, ◌⊎◌, ◌+◌, ◌<◌, ◌≤◌, [], ◌∷◌, ◌++◌, map, true, false, All, IfOk, IfErr, MatchResult};
-ghost use Rattle.tlsf_post.specs.declared.post_end.PostEnd.{PostEnd};
+ghost use Rattle.std.specs.Prelude.{◌≡◌, ◌⊎◌, ◌+◌, ◌<◌, ◌≤◌, List, [], ◌∷◌, ◌++◌, map, length, true, false, None, All, IfOk, IfSome, IfErr, MatchResult};
+ghost use Rattle.tlsf_post.specs.declared.poster_end.PosterEnd.{PosterEnd};
 ghost use Rattle.tlsf_post.specs.Mailboxes.{number_of, put_by, owner_of, out_of, most_of, got_by, known_to, KeepsOwner, KeepsPoster, OwnerSaw, IsAllTaken, IsWhole};
-ghost use Rattle.tlsf_c.specs.Ends.{ends_in, HasPut, WasFull};
+ghost use Rattle.tlsf_c.specs.Ends.{left_in_end, HasGiven, HasPut, WasFull};
+ghost use Rattle.tlsf_c.specs.declared.any_end.AnyEnd.TheVariants.{Poster};
 ghost use Rattle.tlsf_c.specs.declared.call_fault.CallFault.TheVariants.{Full, Empty, Busy};
 
+use crate::any_end::AnyEnd;
 use crate::call_fault::CallFault;
 use std::alloc::Global;
 use tlsf_heap::Name;
 use tlsf_post::{NoMemory, OwnerEnd, Post, PosterEnd, mailbox};
 
-/// The owner's end of a queue, with the posters' ends that nobody was given yet.
+/// The owner's end of a queue, with the posters' ends that nobody was given yet. Each lies in the box that its handle gets.
+#[cycle(ends)]
 #[derive(Drop)]
 pub struct QueueEnd {
     pub owner: OwnerEnd,
-    pub left: Vec<Box<PosterEnd, Global>, Global>,
+    pub left: Vec<Box<AnyEnd, Global>, Global>,
 }
 
 impl QueueEnd {
@@ -22,10 +25,9 @@ impl QueueEnd {
     pub fn open(alloc: Global, posters: u32, capacity: u32) -> Result<QueueEnd, NoMemory>
         requires posters { (0 < posters) × (posters ≤ 1024) }
         requires capacity { (0 < capacity) × (capacity ≤ 1024) }
-        ensures whole { IfOk result (λ q. IsWhole q.owner (ends_in q)) }
+        ensures ends { IfOk result (λ q. (ends : List PosterEnd) × (left_in_end q ≡ map Poster ends) × IsWhole q.owner ends × All (λ p. put_by p ≡ []) ends) }
         ensures owner { IfOk result (λ q. (owner_of q.owner ≡ 0) × (out_of q.owner ≡ posters + 1) × (most_of q.owner ≡ capacity)
             × (got_by q.owner ≡ []) × (known_to q.owner ≡ [])) }
-        ensures fresh { IfOk result (λ q. All (λ p. put_by p ≡ []) (ends_in q)) }
     {
         let (owner, ends) = mailbox(alloc, 0, posters + 1, capacity)?;
         let left = boxed(alloc, ends)?;
@@ -34,12 +36,12 @@ impl QueueEnd {
 }
 
 /// Each end in a box of its own, in the same order.
-fn boxed(alloc: Global, ends: Vec<PosterEnd>) -> Result<Vec<Box<PosterEnd, Global>>, NoMemory>
-    ensures { IfOk result (λ boxes. map (λ b. b.value) boxes.items ≡ ends.items) }
+fn boxed(alloc: Global, ends: Vec<PosterEnd>) -> Result<Vec<Box<AnyEnd, Global>>, NoMemory>
+    ensures { IfOk result (λ boxes. map (λ b. b.value) boxes.items ≡ map Poster ends.items) }
 {
     let mut boxes = Vec::with_capacity(alloc, ends.len())?;
     for end in ends {
-        let Ok(owned) = Box::new(alloc, end) else {
+        let Ok(owned) = Box::new(alloc, AnyEnd::Poster(end)) else {
             return Err(NoMemory);
         };
         boxes.push_reserved(owned);
@@ -64,17 +66,28 @@ pub fn put_once(end: &mut PosterEnd, name: Name) -> Result<(), CallFault>
 }
 
 /// Takes a post by one attempt. It is Busy where another thread was half through putting it, as far as it saw.
-pub fn take_once(owner: &mut OwnerEnd) -> Result<Post, CallFault>
-    ensures queue { KeepsOwner owner.old owner.new }
-    ensures taken { MatchResult result (λ p. got_by owner.new ≡ got_by owner.old ++ p ∷ []) (λ why. (got_by owner.new ≡ got_by owner.old) × ((why ≡ Empty) ⊎ (why ≡ Busy))) }
-    ensures empty { IfErr result (λ why. why ≡ Empty → IsAllTaken owner.new) }
+pub fn take_once(end: &mut QueueEnd) -> Result<Post, CallFault>
+    ensures queue { KeepsOwner end.old.owner end.new.owner }
+    ensures left { left_in_end end.new ≡ left_in_end end.old }
+    ensures taken { MatchResult result (λ p. got_by end.new.owner ≡ got_by end.old.owner ++ p ∷ []) (λ why. (got_by end.new.owner ≡ got_by end.old.owner) × ((why ≡ Empty) ⊎ (why ≡ Busy))) }
+    ensures empty { IfErr result (λ why. why ≡ Empty → IsAllTaken end.new.owner) }
 {
-    if let Some(post) = owner.try_take() {
+    if let Some(post) = end.owner.try_take() {
         return Ok(post);
     }
-    if owner.is_empty() {
+    if end.owner.is_empty() {
         Err(CallFault::Empty)
     } else {
         Err(CallFault::Busy)
     }
+}
+
+/// Gives the last of the posters' ends that nobody was given yet.
+pub fn give_one(end: &mut QueueEnd) -> Option<Box<AnyEnd, Global>>
+    ensures owner { end.new.owner ≡ end.old.owner }
+    ensures none { result ≡ None → (left_in_end end.old ≡ []) × (left_in_end end.new ≡ []) }
+    ensures empty { length (left_in_end end.old) ≡ 0 → result ≡ None }
+    ensures gives { IfSome result (λ b. HasGiven end.old end.new b.value) }
+{
+    end.left.pop()
 }

@@ -10,8 +10,8 @@ use crate::proved::{
     tlsf_allocate_aligned, tlsf_allocate_place, tlsf_block_at, tlsf_place, tlsf_release_place, tlsf_resize_place,
 };
 use crate::{
-    proved, tlsf_block_info, tlsf_heap, tlsf_name, TLSF_BAD_SIZE, TLSF_IS_CLOSED, TLSF_LONGEST, TLSF_NO_FIT, TLSF_OK,
-    TLSF_UNFILLED,
+    proved, tlsf_block_info, tlsf_heap, tlsf_name, tlsf_placed, TLSF_BAD_SIZE, TLSF_IS_CLOSED, TLSF_LONGEST,
+    TLSF_NO_FIT, TLSF_OK, TLSF_UNFILLED,
 };
 use core::ffi::c_void;
 use core::ptr::null_mut;
@@ -42,34 +42,38 @@ unsafe fn payload_at(heap: *mut tlsf_heap, at: u32) -> *mut c_void {
 }
 
 /// A place for `len` bytes at a multiple of `align` bytes, which is 16 at least.
-unsafe fn align_place(heap: *mut tlsf_heap, len: u32, align: usize, at: *mut u32) -> u32 {
+unsafe fn align_place(heap: *mut tlsf_heap, len: u32, align: usize) -> tlsf_placed {
     let step = align / 8;
-    tlsf_allocate_aligned(heap, len, step as u32, ((*heap).base as usize / 8 % step) as u32, at)
+    tlsf_allocate_aligned(heap, len, step as u32, ((*heap).base as usize / 8 % step) as u32)
 }
 
 /// A place for `len` bytes, `TLSF_LONGEST` at most, at a multiple of 16 bytes. A misaligned block goes back for another.
-unsafe fn even_place(heap: *mut tlsf_heap, len: usize, at: *mut u32) -> u32 {
+unsafe fn even_place(heap: *mut tlsf_heap, len: usize) -> tlsf_placed {
     let rounded = tlsf_rounded(len as u32);
-    let answer = tlsf_allocate_place(heap, rounded, at);
-    if answer != TLSF_OK || payload_at(heap, *at) as usize % 16 == 0 {
-        return answer;
+    let it = tlsf_allocate_place(heap, rounded);
+    if it.answer != TLSF_OK || payload_at(heap, it.at) as usize % 16 == 0 {
+        return it;
     }
-    tlsf_release_place(heap, *at);
-    align_place(heap, rounded, 16, at)
+    tlsf_release_place(heap, it.at);
+    align_place(heap, rounded, 16)
+}
+
+fn refused(answer: u32) -> tlsf_placed {
+    tlsf_placed { answer, ..tlsf_placed::default() }
 }
 
 /// A place for `len` bytes at that alignment, unfilled; `TLSF_BAD_SIZE` where it is no power of two up to 4,096.
-unsafe fn allocate_for(heap: *mut tlsf_heap, len: usize, align: usize, at: *mut u32) -> u32 {
+unsafe fn allocate_for(heap: *mut tlsf_heap, len: usize, align: usize) -> tlsf_placed {
     if align > 4096 || !align.is_power_of_two() {
-        return TLSF_BAD_SIZE;
+        return refused(TLSF_BAD_SIZE);
     }
     if len > TLSF_LONGEST {
-        return if (*heap).is_open { TLSF_NO_FIT } else { TLSF_IS_CLOSED };
+        return refused(if (*heap).is_open { TLSF_NO_FIT } else { TLSF_IS_CLOSED });
     }
     if align <= 16 {
-        even_place(heap, len, at)
+        even_place(heap, len)
     } else {
-        align_place(heap, tlsf_rounded(len as u32), align, at)
+        align_place(heap, tlsf_rounded(len as u32), align)
     }
 }
 
@@ -82,9 +86,9 @@ pub unsafe fn tlsf_malloc(heap: *mut tlsf_heap, len: usize) -> *mut c_void {
 /// As `tlsf_malloc`, aligned to `align`: any power of two up to 4,096, else it is refused.
 #[must_use]
 pub unsafe fn tlsf_aligned_alloc(heap: *mut tlsf_heap, align: usize, len: usize) -> *mut c_void {
-    let mut at = 0;
-    if allocate_for(heap, len, align, &mut at) == TLSF_OK {
-        payload_at(heap, at)
+    let it = allocate_for(heap, len, align);
+    if it.answer == TLSF_OK {
+        payload_at(heap, it.at)
     } else {
         null_mut()
     }
@@ -170,10 +174,9 @@ unsafe fn stays(heap: *mut tlsf_heap, p: *mut c_void, len: usize, rounded: &mut 
     if has_room(heap, &it, 3 + *rounded / 8) {
         return true;
     }
-    let had = tlsf_usable_size(heap, p);
     *moved = tlsf_malloc(heap, len);
     if !moved.is_null() {
-        moved.cast::<u8>().copy_from_nonoverlapping(p.cast(), had.min(len));
+        moved.cast::<u8>().copy_from_nonoverlapping(p.cast(), len.min(it.len as usize));
         tlsf_free(heap, p);
     }
     false
@@ -217,20 +220,15 @@ pub unsafe fn tlsf_allocate_at(
     name: *mut tlsf_name,
     payload: *mut *mut c_void,
 ) -> u32 {
-    let mut own = tlsf_name::default();
-    let (mut at, mut bytes) = (0, 0);
-    let mut answer = allocate_for(heap, len, align, &mut at);
-    if answer == TLSF_OK {
-        answer = tlsf_place(heap, at, &mut own, &mut bytes);
+    let it = allocate_for(heap, len, align);
+    if it.answer != TLSF_OK {
+        return it.answer;
     }
-    if answer != TLSF_OK {
-        return answer;
-    }
-    let p = payload_at(heap, at);
+    let p = payload_at(heap, it.at);
     if flags & TLSF_UNFILLED == 0 {
-        p.cast::<u8>().write_bytes(0, bytes as usize);
+        p.cast::<u8>().write_bytes(0, tlsf_rounded(len as u32) as usize);
     }
-    *name = own;
+    *name = tlsf_name { heap: (*heap).number, at: it.at, serial: it.serial };
     *payload = p;
     TLSF_OK
 }

@@ -8,12 +8,14 @@ pub struct tlsf_heap {
     pub is_open: bool,
     /// The region's first word, 8 bytes after a multiple of 16.
     pub base: *mut u64,
-    /// A block by name has had an odd number of words.
+    /// The number of the names of its blocks.
+    pub number: u32,
+    /// 1 more than the number of the heap where a block by name has had an odd number of words.
     pub is_mixed: bool,
 }
 
 impl tlsf_heap {
     /// A handle that isn't open, to begin with.
     pub const CLOSED: Self =
-        Self { held: core::ptr::null_mut(), is_open: false, base: core::ptr::null_mut(), is_mixed: false };
+        Self { held: core::ptr::null_mut(), is_open: false, base: core::ptr::null_mut(), number: 0, is_mixed: false };
 }

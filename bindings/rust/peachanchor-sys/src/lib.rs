@@ -1,7 +1,7 @@
 //! C's calls of the heap Peachanchor, as `tlsf.h` has them. The header says what each does, and what the caller owes.
 //!
 //! Calls that are inline in the header are written here in Rust: those by pointer in `by_pointer.rs`, those by name in
-//! `by_name.rs`. The others are in the archive. `proved` has them with their plain names, so `tlsf_allocate` here is
+//! `by_name.rs`. The others are in the archive. `proved` has them all with their plain names, so `tlsf_allocate` here is
 //! the header's inline call over `proved::tlsf_allocate`.
 //!
 //! `libtlsf.a` is taken from `$PEACHANCHOR_PREFIX/lib`. Without that variable the C compiler makes it of the assembly in
@@ -25,6 +25,7 @@ mod name;
 mod near_heap;
 mod offsets;
 mod offsets_usage;
+mod placed;
 mod pools;
 mod post_end;
 mod poster;
@@ -34,7 +35,9 @@ mod span;
 mod take_end;
 
 pub use block_info::tlsf_block_info;
-pub use by_name::*;
+pub use by_name::{
+    tlsf_allocate, tlsf_payload, tlsf_put_all, tlsf_queue_take, tlsf_reallocate, tlsf_release, tlsf_resize, tlsf_take,
+};
 pub use by_pointer::*;
 pub use heap::tlsf_heap;
 pub use heap_counts::tlsf_heap_counts;
@@ -44,20 +47,11 @@ pub use name::tlsf_name;
 pub use near_heap::{tlsf_near, tlsf_near_heap};
 pub use offsets::tlsf_offsets;
 pub use offsets_usage::tlsf_offsets_usage;
+pub use placed::tlsf_placed;
 pub use pools::tlsf_pools;
 pub use post_end::tlsf_post_end;
 pub use poster::tlsf_poster;
-pub use proved::{
-    tlsf_allocate_aligned, tlsf_allocate_place, tlsf_block_at, tlsf_bytes, tlsf_check, tlsf_counts, tlsf_drain,
-    tlsf_lane_bytes, tlsf_lane_open_in, tlsf_near_bytes, tlsf_offsets_allocate, tlsf_offsets_bytes, tlsf_offsets_close,
-    tlsf_offsets_open_in, tlsf_offsets_release, tlsf_offsets_report, tlsf_offsets_resize, tlsf_open_in,
-    tlsf_open_near_in, tlsf_place, tlsf_pools_allocate, tlsf_pools_close, tlsf_pools_read, tlsf_pools_release,
-    tlsf_pools_report, tlsf_pools_write, tlsf_post_close, tlsf_poster_close, tlsf_poster_open, tlsf_queue_bytes,
-    tlsf_queue_close, tlsf_queue_drain, tlsf_queue_open_in, tlsf_release_place, tlsf_report, tlsf_resize_place,
-    tlsf_take_close, tlsf_words,
-};
-#[cfg(feature = "malloc")]
-pub use proved::{tlsf_lane_open, tlsf_offsets_open, tlsf_open, tlsf_open_near, tlsf_pools_open, tlsf_queue_open};
+pub use proved::*;
 pub use queue::tlsf_queue;
 pub use span::tlsf_span;
 pub use take_end::tlsf_take_end;
@@ -100,6 +94,8 @@ pub const TLSF_BUSY: u32 = 37;
 pub const TLSF_ROW_FULL: u32 = 38;
 /// Memory of the caller's is null, or would go past the end of the address space, as from `MAP_FAILED`.
 pub const TLSF_BAD_MEMORY: u32 = 39;
+/// The handle holds something of another kind.
+pub const TLSF_OTHER_KIND: u32 = 40;
 
 /// In `flags` of `tlsf_allocate_at`: nothing is filled.
 pub const TLSF_UNFILLED: u32 = 1;
@@ -134,6 +130,7 @@ pub const fn tlsf_text_of(answer: u32) -> &'static str {
         TLSF_BUSY => "another thread is in the way: try again",
         TLSF_ROW_FULL => "all blocks of that row are held",
         TLSF_BAD_MEMORY => "memory that is null, or past the end of the address space",
+        TLSF_OTHER_KIND => "the handle holds something of another kind",
         _ => "no answer of this library",
     }
 }

@@ -12,22 +12,22 @@ fn names_lie_in_payloads() {
         assert_eq!(tlsf_open(heap, 5, 3, 4096), TLSF_OK);
         let (mut first, mut len) = (tlsf_name::default(), 0);
         assert_eq!(tlsf_allocate(heap, size_of::<tlsf_name>() as u32, &mut first), TLSF_OK);
-        let link = tlsf_payload(heap, &first, &mut len).cast::<tlsf_name>();
+        let link = tlsf_payload(heap, first, &mut len).cast::<tlsf_name>();
         assert_eq!((len, (*heap).is_mixed), (16, true));
         assert_eq!(tlsf_allocate(heap, 40, link), TLSF_OK); // the name of the second block lies in the first
-        assert_eq!(tlsf_write(heap, link, 2, [5; 40].as_ptr(), 38), TLSF_OK);
-        assert_eq!(tlsf_write(heap, link, 3, [5; 40].as_ptr(), 38), TLSF_RANGE);
+        assert_eq!(tlsf_write(heap, *link, 2, [5; 40].as_ptr(), 38), TLSF_OK);
+        assert_eq!(tlsf_write(heap, *link, 3, [5; 40].as_ptr(), 38), TLSF_RANGE);
         let second = *link;
-        assert_eq!((tlsf_reallocate(heap, link, 400), tlsf_resize(heap, link, 48)), (TLSF_OK, TLSF_OK));
+        assert_eq!((tlsf_reallocate(heap, link, 400), tlsf_resize(heap, *link, 48)), (TLSF_OK, TLSF_OK));
         let mut bytes = [9_u8; 6];
-        assert_eq!((tlsf_read(heap, link, 36, bytes.as_mut_ptr(), 6), bytes), (TLSF_OK, [5, 5, 5, 5, 0, 0]));
+        assert_eq!((tlsf_read(heap, *link, 36, bytes.as_mut_ptr(), 6), bytes), (TLSF_OK, [5, 5, 5, 5, 0, 0]));
         let base = (*heap).base;
         let mut found = null_mut();
-        assert_eq!((tlsf_locate(heap, link, &mut found, &mut len), found, len), (TLSF_OK, base, 48));
-        assert_eq!((*link == second, tlsf_release(heap, link)), (true, TLSF_OK));
-        assert!(tlsf_payload(heap, link, null_mut()).is_null());
+        assert_eq!((tlsf_locate(heap, *link, &mut found, &mut len), found, len), (TLSF_OK, base, 48));
+        assert_eq!((*link == second, tlsf_release(heap, *link)), (true, TLSF_OK));
+        assert!(tlsf_payload(heap, *link, null_mut()).is_null());
         *link = first;
-        assert_eq!((tlsf_release(heap, link), tlsf_release(heap, &first)), (TLSF_OK, TLSF_STALE));
+        assert_eq!((tlsf_release(heap, *link), tlsf_release(heap, first)), (TLSF_OK, TLSF_STALE));
         let mut counts = tlsf_heap_counts::default();
         assert_eq!((tlsf_counts(heap, &mut counts), counts.words), (TLSF_OK, 0));
         assert_eq!(tlsf_close(heap), TLSF_OK);
@@ -42,7 +42,7 @@ fn names_go_through_a_lane_in_their_order() {
     unsafe {
         assert_eq!(tlsf_lane_open(&mut post, &mut take, 1), TLSF_OK);
         assert_eq!((tlsf_take(&mut take, &mut came), came), (TLSF_EMPTY, tlsf_name::default()));
-        assert_eq!((tlsf_put(&mut post, &name), tlsf_put(&mut post, &name)), (TLSF_OK, TLSF_FULL));
+        assert_eq!((tlsf_put(&mut post, name), tlsf_put(&mut post, name)), (TLSF_OK, TLSF_FULL));
         assert_eq!((tlsf_take(&mut take, &mut came), came), (TLSF_OK, name));
         let (names, mut went) = ([name; 3], 9);
         assert_eq!((tlsf_put_all(&mut post, names.as_ptr(), 3, &mut went), went), (TLSF_OK, 1));
@@ -65,8 +65,8 @@ fn names_of_two_posters_go_through_a_queue() {
             (TLSF_OK, TLSF_OK)
         );
         assert_eq!((tlsf_queue_take(&mut queue, &mut came), came), (TLSF_EMPTY, tlsf_name::default()));
-        assert_eq!((tlsf_queue_post(&mut one, &name), tlsf_queue_post(&mut two, &name)), (TLSF_OK, TLSF_OK));
-        assert_eq!(tlsf_queue_post(&mut one, &name), TLSF_FULL);
+        assert_eq!((tlsf_queue_post(&mut one, name), tlsf_queue_post(&mut two, name)), (TLSF_OK, TLSF_OK));
+        assert_eq!(tlsf_queue_post(&mut one, name), TLSF_FULL);
         assert_eq!((tlsf_queue_take(&mut queue, &mut came), came), (TLSF_OK, name));
         assert_eq!((tlsf_poster_close(&mut one), tlsf_queue_close(&mut queue)), (TLSF_OK, TLSF_OK));
         assert_eq!((tlsf_poster_close(&mut two), tlsf_queue_close(&mut queue)), (TLSF_OK, TLSF_IS_CLOSED));
@@ -82,8 +82,8 @@ fn spans_of_an_arena_of_offsets() {
         assert_eq!((tlsf_offsets_allocate(&mut offsets, 2000, &mut span), span.size), (TLSF_OK, 2048));
         assert_eq!((tlsf_offsets_resize(&mut offsets, &mut span, 4000), span.size), (TLSF_OK, 4096));
         assert_eq!((tlsf_offsets_report(&mut offsets, &mut usage), usage.held, usage.spans), (TLSF_OK, 4096, 1));
-        assert_eq!(tlsf_offsets_release(&mut offsets, &span.name), TLSF_OK);
-        assert_eq!(tlsf_offsets_release(&mut offsets, &span.name), TLSF_STALE);
+        assert_eq!(tlsf_offsets_release(&mut offsets, span.name), TLSF_OK);
+        assert_eq!(tlsf_offsets_release(&mut offsets, span.name), TLSF_STALE);
         assert_eq!(tlsf_offsets_close(&mut offsets), TLSF_OK);
     }
 }
@@ -100,10 +100,7 @@ fn a_queue_and_an_arena_lie_in_memory_of_the_callers() {
         assert_eq!(tlsf_queue_open_in(&mut queue, 1, 2, one.as_mut_ptr().cast(), for_queue / 2), TLSF_BAD_SIZE);
         assert_eq!(tlsf_queue_open_in(&mut queue, 1, 2, one.as_mut_ptr().cast(), for_queue), TLSF_OK);
         assert_eq!(tlsf_offsets_open_in(&mut offsets, 4, 1, 256, 64, two.as_mut_ptr().cast(), for_words), TLSF_OK);
-        assert_eq!(
-            (tlsf_poster_open(&mut queue, &mut poster), tlsf_queue_post(&mut poster, &name)),
-            (TLSF_OK, TLSF_OK)
-        );
+        assert_eq!((tlsf_poster_open(&mut queue, &mut poster), tlsf_queue_post(&mut poster, name)), (TLSF_OK, TLSF_OK));
         assert_eq!((tlsf_queue_take(&mut queue, &mut came), came), (TLSF_OK, name));
         assert_eq!((tlsf_offsets_allocate(&mut offsets, 2000, &mut span), span.size), (TLSF_OK, 2048));
         assert_eq!((tlsf_poster_close(&mut poster), tlsf_queue_close(&mut queue)), (TLSF_OK, TLSF_OK));
@@ -139,14 +136,11 @@ fn pools_serve_a_table() {
         assert_eq!((tlsf_pools_allocate(&mut pools, 16, &mut name), name.heap), (TLSF_OK, 5));
         assert_eq!(tlsf_pools_allocate(&mut pools, 1, &mut other), TLSF_ROW_FULL);
         assert_eq!((tlsf_pools_allocate(&mut pools, 17, &mut other), other.heap), (TLSF_OK, 6));
-        assert_eq!(tlsf_pools_write(&mut pools, &other, 0, [1, 2, 3].as_ptr(), 3), TLSF_OK);
-        assert_eq!((tlsf_pools_read(&mut pools, &other, 1, bytes.as_mut_ptr(), 3), bytes), (TLSF_OK, [2, 3, 0]));
+        assert_eq!(tlsf_pools_write(&mut pools, other, 0, [1, 2, 3].as_ptr(), 3), TLSF_OK);
+        assert_eq!((tlsf_pools_read(&mut pools, other, 1, bytes.as_mut_ptr(), 3), bytes), (TLSF_OK, [2, 3, 0]));
         assert_eq!((tlsf_pools_report(&mut pools, 1, &mut report), report.live_blocks), (TLSF_OK, 1));
         assert_eq!(tlsf_pools_report(&mut pools, 2, &mut report), TLSF_STALE);
-        assert_eq!(
-            (tlsf_pools_release(&mut pools, &name), tlsf_pools_release(&mut pools, &name)),
-            (TLSF_OK, TLSF_STALE)
-        );
+        assert_eq!((tlsf_pools_release(&mut pools, name), tlsf_pools_release(&mut pools, name)), (TLSF_OK, TLSF_STALE));
         assert_eq!(tlsf_pools_close(&mut pools), TLSF_OK);
     }
 }

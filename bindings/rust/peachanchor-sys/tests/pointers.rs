@@ -18,7 +18,7 @@ fn with_heap(mixed: bool, test: impl Fn(*mut tlsf_heap)) {
         assert_eq!((*heap).is_mixed, mixed);
         test(heap);
         assert_eq!(tlsf_close(heap), TLSF_OK);
-        assert_eq!((tlsf_close(heap), (*heap).is_mixed), (TLSF_IS_CLOSED, false));
+        assert_eq!(tlsf_close(heap), TLSF_IS_CLOSED);
     }
 }
 
@@ -83,7 +83,7 @@ fn zeroed_means_zero() {
             assert!(is_filled(at, 0, 1000) && at as usize % 32 == 0);
             let mut other = tlsf_name::default();
             assert_eq!((tlsf_name_at(heap, at, &mut other), other), (TLSF_OK, name));
-            assert_eq!(tlsf_payload(heap, &name, null_mut()), at);
+            assert_eq!(tlsf_payload(heap, name, null_mut()), at);
             assert_eq!(tlsf_allocate_at(heap, 8, 24, 0, &mut name, &mut at), TLSF_BAD_SIZE);
         });
     }
@@ -124,7 +124,7 @@ fn what_is_reallocated_beside_odd_blocks_is_aligned() {
         }
         for (k, p) in blocks.iter_mut().enumerate() {
             if k % 2 == 0 {
-                tlsf_release(heap, &names[k]);
+                tlsf_release(heap, names[k]);
             }
             let len = 40 + 24 * k;
             *p = tlsf_realloc(heap, *p, len);

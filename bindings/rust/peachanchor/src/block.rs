@@ -123,7 +123,7 @@ impl<'h> Block<'h> {
     /// [`Error::NoRoom`] where it would have to move, [`Error::Worn`].
     pub fn resize(&mut self, len: u32) -> Result<(), Error> {
         // SAFETY: as in `zeroed`. No cell of it is borrowed, since this call borrows the block exclusively.
-        Error::check(unsafe { sys::tlsf_resize(self.heap.raw(), &self.name.0, len) })?;
+        Error::check(unsafe { sys::tlsf_resize(self.heap.raw(), self.name.0, len) })?;
         self.len = len as usize;
         Ok(())
     }
@@ -151,7 +151,7 @@ impl<'h> Block<'h> {
     pub fn release(self) -> Result<(), Error> {
         let (heap, name) = (self.heap, self.into_name());
         // SAFETY: as in `zeroed`. The block is gone with its cells.
-        Error::check(unsafe { sys::tlsf_release(heap.raw(), &name.0) })
+        Error::check(unsafe { sys::tlsf_release(heap.raw(), name.0) })
     }
 
     /// Its bytes in place. Another thread may fill them while this one calls the heap.
@@ -197,6 +197,6 @@ impl fmt::Debug for Block<'_> {
 impl Drop for Block<'_> {
     fn drop(&mut self) {
         // SAFETY: as in `zeroed`. Where it is refused the block stays live, and nobody reaches it.
-        unsafe { sys::tlsf_release(self.heap.raw(), &self.name.0) };
+        unsafe { sys::tlsf_release(self.heap.raw(), self.name.0) };
     }
 }

@@ -44,12 +44,14 @@ pub enum Error {
     RowFull = 38,
     /// Memory is null, or would go past the end of the address space.
     BadMemory = 39,
+    /// A handle holds something of another kind. No call of this crate answers it.
+    OtherKind = 40,
     /// The library gave an answer that this crate doesn't know.
     Unknown = 255,
 }
 
 impl Error {
-    const ALL: [Self; 17] = [
+    const ALL: [Self; 18] = [
         Self::NoFit,
         Self::Worn,
         Self::Foreign,
@@ -67,6 +69,7 @@ impl Error {
         Self::Busy,
         Self::RowFull,
         Self::BadMemory,
+        Self::OtherKind,
     ];
 
     /// What an answer of the library says.
@@ -93,10 +96,10 @@ mod tests {
     #[test]
     fn each_answer_has_its_error() {
         assert_eq!(Error::check(0), Ok(()));
-        for answer in (1..=8).chain([10]).chain(32..=39) {
+        for answer in (1..=8).chain([10]).chain(32..=40) {
             assert_eq!(Error::check(answer).map_err(|it| it as u32), Err(answer));
         }
-        for answer in [9, 11, 31, 40, 99] {
+        for answer in [9, 11, 31, 41, 99] {
             assert_eq!(Error::check(answer), Err(Error::Unknown));
         }
         assert_eq!(tlsf_text_of(Error::Unknown as u32), "no answer of this library");

@@ -176,7 +176,7 @@ impl Heap {
     /// [`Error::Worn`].
     pub fn release(&mut self, name: Name) -> Result<(), Error> {
         // SAFETY: rules 1 and 3. No reference into a payload is left, since this call borrows the heap exclusively.
-        Error::check(unsafe { sys::tlsf_release(self.raw(), &name.0) })
+        Error::check(unsafe { sys::tlsf_release(self.raw(), name.0) })
     }
 
     /// Gives a block `len` bytes where it stands. New bytes are zero.
@@ -186,7 +186,7 @@ impl Heap {
     /// As [`release`](Self::release), and [`Error::NoRoom`] where it would have to move.
     pub fn resize(&mut self, name: Name, len: u32) -> Result<(), Error> {
         // SAFETY: as in `release`.
-        Error::check(unsafe { sys::tlsf_resize(self.raw(), &name.0, len) })
+        Error::check(unsafe { sys::tlsf_resize(self.raw(), name.0, len) })
     }
 
     /// Gives a block `len` bytes, where it stands if there is room, else in a new block, and answers its name from now on.
@@ -219,7 +219,7 @@ impl Heap {
     pub(crate) fn locate(&self, name: Name) -> Result<(NonNull<u8>, usize), Error> {
         let (mut base, mut len) = (core::ptr::null_mut(), 0);
         // SAFETY: rules 1 and 3.
-        Error::check(unsafe { sys::tlsf_locate(self.raw(), &name.0, &mut base, &mut len) })?;
+        Error::check(unsafe { sys::tlsf_locate(self.raw(), name.0, &mut base, &mut len) })?;
         // SAFETY: the payload of a live block begins three words after its place, inside the region.
         let payload = unsafe { base.add(name.0.at as usize + 3) }.cast::<u8>();
         Ok((NonNull::new(payload).ok_or(Error::Unknown)?, len as usize))

@@ -17,7 +17,7 @@ impl PostEnd {
     /// [`Error::Full`]: a full lane takes it later.
     pub fn put(&mut self, name: Name) -> Result<(), Error> {
         // SAFETY: the handle is open (rule 1), and the name is no object of another heap's region: it lies on this stack.
-        Error::check(unsafe { sys::tlsf_put(self.0.get(), &name.0) })
+        Error::check(unsafe { sys::tlsf_put(self.0.get(), name.0) })
     }
 
     /// Puts as many of the names after the others as there are slots, the first of them first, and answers how many went.

@@ -20,7 +20,7 @@ pub struct InC {
     pub free: extern "C" fn(Heap, Pointer) -> u32,
     pub usable_size: extern "C" fn(Heap, Pointer) -> usize,
     pub allocate: extern "C" fn(Heap, u32, &mut tlsf_name) -> u32,
-    pub release: extern "C" fn(Heap, &tlsf_name) -> u32,
+    pub release: extern "C" fn(Heap, tlsf_name) -> u32,
     pub reallocate: extern "C" fn(Heap, &mut tlsf_name, u32) -> u32,
     pub allocate_at: extern "C" fn(Heap, usize, usize, u32, &mut tlsf_name, &mut Pointer) -> u32,
     pub text_of: extern "C" fn(u32) -> *const c_char,

@@ -19,7 +19,7 @@ fn calls_answer_as_in_c() {
     let Some(in_c) = InC::load() else {
         return eprintln!("no cc or no tlsf.h: the inline calls of C are not compared");
     };
-    for answer in 0..20 {
+    for answer in 0..50 {
         // SAFETY: C answers a string that stays.
         assert_eq!(unsafe { CStr::from_ptr((in_c.text_of)(answer)) }.to_str(), Ok(tlsf_text_of(answer)));
     }

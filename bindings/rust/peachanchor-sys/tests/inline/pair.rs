@@ -122,7 +122,7 @@ impl<'c> Pair<'c> {
             }
         } else if kind == 11 {
             let name = self.names.swap_remove(k);
-            assert_eq!(tlsf_release(self.a, &name), (self.in_c.release)(self.b, &name));
+            assert_eq!(tlsf_release(self.a, name), (self.in_c.release)(self.b, name));
         } else {
             let (mut n, mut o) = (self.names[k], self.names[k]);
             let answer = tlsf_reallocate(self.a, &mut n, len);

@@ -1,0 +1,76 @@
+"""The calls of C's library are one table, include/tlsf.h, which tools/calls.py
+reads:
+
+- each is a call of crates/tlsf_c with the same parameters, or one of
+  c/memory.c, and there are no others;
+- TLSF_BY_VALUE stands before those that are given or answer a struct by value;
+- proved.rs of peachanchor-sys is as tools/calls.py makes it;
+- the last table of docs/C.md names each call that is inline, or called through
+  a function of the header, or one of c/memory.c;
+- tests/c/steps.c counts the calls that have a bound."""
+import re
+
+import calls
+import tree
+
+PROVED = "bindings/rust/peachanchor-sys/src/proved.rs"
+SOURCES, MEMORY, PAGE, STEPS = "crates/tlsf_c/src", "c/memory.c", "docs/C.md", "tests/c/steps.c"
+CALL = re.compile(r'^pub extern "C" fn (tlsf_\w+)\(\s*(.*?),?\s*\) -> (\S+)', re.M | re.S)
+OF_MEMORY = re.compile(r"^(?:uint32_t|size_t) (tlsf_\w+)\([^;]*?\) \{", re.M)
+HEADING = "## Which calls are proved"
+BOUND = re.compile(r"^library (\w+) ", re.M)
+COUNTED = re.compile(r'\{"(\w+)", \(uintptr_t\)\1,')
+ADDRESS, PAIR = "an address", "a pair"
+
+
+def text_of(name):
+    return tree.read(tree.TOP / name)
+
+
+def in_source(kind):
+    """What C's compiler makes of a type of Rattle's: an address, a pair, or a number of that type."""
+    if kind.startswith(("&[", "&mut [")):
+        return [ADDRESS, "usize"]
+    return [ADDRESS if kind.startswith("&") else PAIR if kind[0].isupper() else kind]
+
+
+def in_header(value):
+    return ADDRESS if value.pointers else PAIR if value.is_pair else value.in_rust
+
+
+def proved():
+    """The calls of tlsf_c, and the kinds of what each answers and is given."""
+    found = {}
+    for file in sorted((tree.TOP / SOURCES).rglob("*.rt")):
+        for name, given, answer in CALL.findall(tree.read(file)):
+            kinds = [it.partition(": ")[2] for it in re.split(r",\s*", given)]
+            found[name] = [*in_source(answer), *(kind for it in kinds if it != "Global" for kind in in_source(it))]
+    return found
+
+
+def differing(what, has, wanted):
+    for it in sorted(has ^ wanted):
+        yield f"{what}: {it} is {'one more' if it in has else 'not there'}"
+
+
+def faults():
+    declared = {it.name: it for it in calls.in_archive(calls.read())}
+    of_source, of_memory = proved(), set(OF_MEMORY.findall(text_of(MEMORY)))
+    yield from differing(f"{SOURCES}, {MEMORY}", {*of_source} | of_memory, {*declared})
+    for name, it in declared.items():
+        wanted = [in_header(value) for value in (it.answer, *it.parameters)]
+        if of_source.get(name, wanted) != wanted:
+            yield f"include/tlsf.h: {name} is of {', '.join(wanted)}, and in {SOURCES} of {', '.join(of_source[name])}"
+        if it.is_by_value != it.says_by_value:
+            yield f"include/tlsf.h: {name} {'lacks' if it.is_by_value else 'needs no'} TLSF_BY_VALUE"
+    if text_of(PROVED) != calls.rust():
+        yield f"{PROVED}: tools/calls.py --rust prints other lines"
+    told = set(re.findall(r"`(tlsf_\w+)`", text_of(PAGE).partition(HEADING)[2]))
+    inline = {it.name for it in calls.read() if it.is_inline}
+    for name in sorted(inline.union(calls.wrapped(), of_memory) - told):
+        yield f"{PAGE}: '{HEADING[3:]}' doesn't name {name}"
+    yield from differing(STEPS, set(COUNTED.findall(text_of(STEPS))), set(BOUND.findall(text_of("tools/longest_path.bounds"))))
+
+
+def looked_at():
+    return f"{len(calls.read())} calls"
