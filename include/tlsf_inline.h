@@ -68,11 +68,13 @@ static inline void tlsf_fetch(uintptr_t header) TLSF_NOEXCEPT {
 
 /* --- By pointer ------------------------------------------------------------------------------------------------------- */
 
-/* What isn't on the way of a heap whose blocks all have an even number of words. */
+/* What isn't on the way of a heap whose blocks all have an even number of words; and what only copies, notes or fetches. */
 #ifdef TLSF_GNU
 #define TLSF_RARE static __attribute__((noinline, cold, unused))
+#define TLSF_THIN static inline __attribute__((always_inline))
 #else
 #define TLSF_RARE static inline
+#define TLSF_THIN static inline
 #endif
 
 /* A place for `len` bytes at a multiple of `align` bytes, which is 16 at least. */
@@ -122,8 +124,8 @@ static inline void *tlsf_calloc(struct tlsf_heap *heap, size_t count, size_t eac
     struct tlsf_name name = {0, 0, 0};
     if (each != 0 && count > TLSF_LONGEST / each) return TLSF_NULL;
     const size_t len = count * each;
-    const uint32_t answer = tlsf_allocate(heap, tlsf_rounded((uint32_t)len), &name);
-    if (answer != TLSF_OK || (uintptr_t)(heap->base + name.at + 3) % 16 == 0) return tlsf_asked_at(heap, answer, name.at, len);
+    if (tlsf_allocate(heap, tlsf_rounded((uint32_t)len), &name) != TLSF_OK) return TLSF_NULL;
+    if ((uintptr_t)(heap->base + name.at + 3) % 16 == 0) return tlsf_asked_at(heap, TLSF_OK, name.at, len);
     tlsf_release_place(heap, name.at);
     void *const p = tlsf_malloc(heap, len);
     return p == TLSF_NULL ? p : TLSF_SET(p, 0, len);
@@ -198,13 +200,12 @@ static inline uint32_t tlsf_allocate_at(struct tlsf_heap *heap, size_t len, size
 /* --- By name: names that calls read or write by a pointer lie in no payload ---------------------------------------------- */
 
 /* Notes a block of `len` bytes where it has an odd number of words. tlsf_open takes the note back. */
-static inline void tlsf_note(struct tlsf_heap *heap, uint32_t len) TLSF_NOEXCEPT {
+TLSF_THIN void tlsf_note(struct tlsf_heap *heap, uint32_t len) TLSF_NOEXCEPT {
     if (len > 8 && (len / 8 + (len % 8 != 0)) % 2 == 0) heap->is_mixed = true;
 }
 
 #ifndef TLSF_NO_COPIES
-TLSF_ANSWER static inline uint32_t tlsf_allocate_copied(struct tlsf_heap *heap, uint32_t len,
-                                                        struct tlsf_name *name) TLSF_NOEXCEPT {
+TLSF_ANSWER TLSF_THIN uint32_t tlsf_allocate_copied(struct tlsf_heap *heap, uint32_t len, struct tlsf_name *name) TLSF_NOEXCEPT {
     struct tlsf_name own = {0, 0, 0};
     const uint32_t answer = tlsf_allocate(heap, len, &own);
     if (answer != TLSF_OK) return answer;
@@ -212,13 +213,12 @@ TLSF_ANSWER static inline uint32_t tlsf_allocate_copied(struct tlsf_heap *heap, 
     *name = own;
     return TLSF_OK;
 }
-TLSF_ANSWER static inline uint32_t tlsf_resize_noted(struct tlsf_heap *heap, struct tlsf_name name, uint32_t len) TLSF_NOEXCEPT {
+TLSF_ANSWER TLSF_THIN uint32_t tlsf_resize_noted(struct tlsf_heap *heap, struct tlsf_name name, uint32_t len) TLSF_NOEXCEPT {
     const uint32_t answer = tlsf_resize(heap, name, len);
     if (answer == TLSF_OK) tlsf_note(heap, len);
     return answer;
 }
-TLSF_ANSWER static inline uint32_t tlsf_reallocate_copied(struct tlsf_heap *heap, struct tlsf_name *name,
-                                                          uint32_t len) TLSF_NOEXCEPT {
+TLSF_ANSWER TLSF_THIN uint32_t tlsf_reallocate_copied(struct tlsf_heap *heap, struct tlsf_name *name, uint32_t len) TLSF_NOEXCEPT {
     struct tlsf_name own = *name;
     const uint32_t answer = tlsf_reallocate(heap, &own, len);
     if (answer != TLSF_OK) return answer;
@@ -240,19 +240,19 @@ TLSF_ANSWER static inline uint32_t tlsf_put_all_copied(struct tlsf_post_end *pos
     *went = count;
     return TLSF_OK;
 }
-TLSF_ANSWER static inline uint32_t tlsf_take_copied(struct tlsf_take_end *take, struct tlsf_name *name) TLSF_NOEXCEPT {
+TLSF_ANSWER TLSF_THIN uint32_t tlsf_take_copied(struct tlsf_take_end *take, struct tlsf_name *name) TLSF_NOEXCEPT {
     struct tlsf_name own = {0, 0, 0};
     const uint32_t answer = tlsf_take(take, &own);
     if (answer == TLSF_OK) *name = own;
     return answer;
 }
-TLSF_ANSWER static inline uint32_t tlsf_queue_take_copied(struct tlsf_queue *queue, struct tlsf_name *name) TLSF_NOEXCEPT {
+TLSF_ANSWER TLSF_THIN uint32_t tlsf_queue_take_copied(struct tlsf_queue *queue, struct tlsf_name *name) TLSF_NOEXCEPT {
     struct tlsf_name own = {0, 0, 0};
     const uint32_t answer = tlsf_queue_take(queue, &own);
     if (answer == TLSF_OK) *name = own;
     return answer;
 }
-static inline uint32_t tlsf_release_fetched(struct tlsf_heap *heap, struct tlsf_name name) TLSF_NOEXCEPT {
+TLSF_THIN uint32_t tlsf_release_fetched(struct tlsf_heap *heap, struct tlsf_name name) TLSF_NOEXCEPT {
     tlsf_fetch((uintptr_t)heap->base + 8 * (uintptr_t)name.at);
     return tlsf_release(heap, name);
 }

@@ -1,7 +1,7 @@
 /* A plain heap and a plain lane that answer as tlsf.h says, by first fit over a table of blocks: what the tests beside it are
  * tried on, since one that passes on each library shows nothing. With a number from 1 to 14, 25 or 26 in the environment's WRONG
- * one thing in it is wrong, and random.c has to notice; from 15 to 24, 27 or 28, and pointers.c has to. It is no real-time heap,
- * and its lanes are for one thread. */
+ * one thing in it is wrong, and random.c has to notice; from 15 to 24 or from 27 to 29, and pointers.c has to. It is no real-time
+ * heap, and its lanes are for one thread. */
 #define TLSF_NO_COPIES
 #include "tlsf.h"
 
@@ -112,7 +112,7 @@ static uint32_t open_over(struct tlsf_heap *heap, uint32_t level, uint32_t numbe
     heap->is_open = true;
     heap->base = p->region;
     heap->number = number + (wrong == 28);
-    heap->is_mixed = false;
+    if (wrong != 29) heap->is_mixed = false;
     return TLSF_OK;
 }
 

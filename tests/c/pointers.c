@@ -276,21 +276,18 @@ static void lacks_one_word(void) {
     wants("close", tlsf_close(&heap), TLSF_OK);
 }
 
-/* Whether a block of an odd number of words is noted in this heap. */
-static bool is_odd(const struct tlsf_heap *heap) { return heap->is_mixed; }
-
-/* Such blocks are noted, whichever call makes them, and forgotten with the heap. */
+/* Blocks of an odd number of words are noted, whichever call makes them, and opening forgets them. */
 static void odd_blocks_are_noted(void) {
     struct tlsf_heap heap = TLSF_CLOSED;
     struct tlsf_name name;
-    for (uint32_t way = 0; way < 3; way++) {
-        wants("open", tlsf_open(&heap, 4, way, 400), TLSF_OK);
+    for (int way = 0; way < 3; way++) {
+        wants("open", tlsf_open(&heap, 4, 1, 400), TLSF_OK);
         wants("an even block", tlsf_allocate(&heap, 24, &name) + tlsf_resize(&heap, name, 8) + tlsf_reallocate(&heap, &name, 40), TLSF_OK);
-        wants("isn't noted", is_odd(&heap), false);
+        wants("isn't noted", heap.is_mixed, false);
         wants("an odd one", way == 0   ? tlsf_allocate(&heap, 9, &name)
                             : way == 1 ? tlsf_resize(&heap, name, 16)
                                        : tlsf_reallocate(&heap, &name, 48), TLSF_OK);
-        wants("is noted", is_odd(&heap), true);
+        wants("is noted", heap.is_mixed, true);
         wants("close", tlsf_close(&heap), TLSF_OK);
     }
 }

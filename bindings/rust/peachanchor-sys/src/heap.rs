@@ -10,7 +10,7 @@ pub struct tlsf_heap {
     pub base: *mut u64,
     /// The number of the names of its blocks.
     pub number: u32,
-    /// 1 more than the number of the heap where a block by name has had an odd number of words.
+    /// A block by name has had an odd number of words since the heap was opened.
     pub is_mixed: bool,
 }
 
