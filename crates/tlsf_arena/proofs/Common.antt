@@ -20,7 +20,7 @@ pub use Rattle.std_alloc.specs.Vec.Ownership.{lodged, has_block, owns_if}
 pub use Rattle.tlsf_arena.specs.Arenas.{Holds, IsMapped}
 pub use Rattle.tlsf_arena.specs.Loans.{Loan, IsBook, is_out, without, right, units_of, rest_of, loan_of, name_of, same_loan, IsLoan, rights, row}
 pub use Rattle.tlsf_arena.specs.Ownership.{Home, behind, ways, whole_token, free_rooms, ints, IsLoanAt, block_token}
-pub use Rattle.tlsf_arena.specs.Places.{IsUnit, piece_size, IsPiece, IsRun, marked, held_at, free_map, free_units_in, held_units, lacking, spread, grain_of, units_for, held_in}
+pub use Rattle.tlsf_arena.specs.Units.{IsUnit, piece_size, IsPiece, IsRun, marked, held_at, free_map, free_units_in, held_units, lacking, spread, grain_of, units_for, held_in}
 pub use Rattle.tlsf_class.specs.Classes.{IsLevel, most_words}
 pub use Rattle.tlsf_heap.specs.Blocks.{HeapState, Block, Free, Live, size_of, words_in, bytes_of, StandsAt}
 pub use Rattle.tlsf_heap.specs.Calls.{resized_words, allocated_words, has_serial, released, Outcome, first_free, named, past_free, refitted, carved, coalesced, fitted, is_sized, recut, room_of, before_free, cut, is_named, is_worn, last_free, last_tick, opened, refused, released_at, ticked}

@@ -8,7 +8,7 @@ use Rattle.tlsf_heap.specs.GoodFit.{Site}
 use Rattle.tlsf_heap.specs.Memory.{Extents}
 use Rattle.tlsf_heap.specs.Calls.{Outcome, named, allocated_words, resized_words}
 use Rattle.tlsf_heap.specs.declared.name.Name.{Name}
-use Rattle.tlsf_arena.specs.Places.{IsUnit, units_for, lacking, held_units, free_map, spread}
+use Rattle.tlsf_arena.specs.Units.{IsUnit, units_for, lacking, held_units, free_map, spread}
 
 -- the heap that decides, the memory that is cut, the book of the blocks that are out, and the heap's own memory. Also its touches,
 -- and how often an address was compared with that of a unit

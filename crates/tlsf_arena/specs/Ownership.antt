@@ -9,7 +9,7 @@ use denote.RawPtr.{Ptr, block_ptr}
 use Rattle.linked_list_allocator.specs.Region.{Region}
 use Rattle.linked_list_allocator.specs.Ownership.{units_of}
 use Rattle.tlsf_arena.specs.Loans.{Loan, name_of, units_of as units_in, right}
-use Rattle.tlsf_arena.specs.Places.{piece_size, units_for, IsPiece}
+use Rattle.tlsf_arena.specs.Units.{piece_size, units_for, IsPiece}
 
 -- the grains that are free, of those from x on
 abbrev pub free_rooms : ℕ → ℕ → List Bool → Fml

@@ -12,7 +12,7 @@ ghost use Rattle.tlsf_heap.specs.Touched.{FollowsNoPlace};
 ghost use Rattle.tlsf_heap.specs.declared.name.Name.{Name};
 ghost use Rattle.tlsf_arena.specs.Arenas.{Holds, IsMapped, SameArena, SameHome, refitted, requested};
 ghost use Rattle.tlsf_arena.specs.Loans.{IsLoan, loan_of, name_of, units_of};
-ghost use Rattle.tlsf_arena.specs.Places.{IsPiece, IsUnit, lacking, units_for, piece_size, held_at, free_units_in};
+ghost use Rattle.tlsf_arena.specs.Units.{IsPiece, IsUnit, lacking, units_for, piece_size, held_at, free_units_in};
 ghost use Rattle.tlsf_heap.specs.ByPlace.{serial_at};
 
 use crate::block::Block;

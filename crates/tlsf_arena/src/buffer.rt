@@ -4,7 +4,7 @@ ghost use denote.RawPtr.{count_of};
 ghost use Rattle.std.specs.Mem.{type_size};
 ghost use Rattle.std.specs.Allocator.{block_with_items};
 ghost use Rattle.linked_list_allocator.specs.Region.{Region};
-ghost use Rattle.tlsf_arena.specs.Places.{IsPiece, IsUnit, piece_size};
+ghost use Rattle.tlsf_arena.specs.Units.{IsPiece, IsUnit, piece_size};
 ghost use Rattle.tlsf_arena.specs.Ownership.{block_token};
 
 use crate::piece::Piece;

@@ -3,7 +3,7 @@ ghost use base.Fml.{GName, fsep};
 ghost use Rattle.linked_list_allocator.specs.Region.{Region};
 ghost use Rattle.linked_list_allocator.specs.Ownership.{bytes_at};
 ghost use Rattle.tlsf_arena.specs.Loans.{Loan, coded_loan, right};
-ghost use Rattle.tlsf_arena.specs.Places.{IsPiece};
+ghost use Rattle.tlsf_arena.specs.Units.{IsPiece};
 
 use crate::piece::Piece;
 use crate::right::Right;

@@ -3,7 +3,7 @@ ghost use Rattle.std.specs.Prelude.{◌≡◌, ℕ, ◌/◌, [], replicate};
 ghost use mir.Syntax.{w8};
 ghost use Rattle.linked_list_allocator.specs.Region.{Region};
 ghost use Rattle.tlsf_arena.specs.Ownership.{ways};
-ghost use Rattle.tlsf_arena.specs.Places.{IsPiece};
+ghost use Rattle.tlsf_arena.specs.Units.{IsPiece};
 
 use crate::piece::Piece;
 use std::marker::Model;

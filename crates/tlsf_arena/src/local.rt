@@ -2,7 +2,7 @@ ghost use Rattle.std.specs.Prelude.{◌≡◌, ◌+◌, ◌*◌, ◌^◌, ◌<�
 ghost use Rattle.std.specs.Mem.{type_size};
 ghost use Rattle.tlsf_class.specs.Classes.{IsLevel};
 ghost use Rattle.tlsf_heap.specs.Lawful.{IsRegion};
-ghost use Rattle.tlsf_arena.specs.Places.{IsUnit, piece_size, units_for};
+ghost use Rattle.tlsf_arena.specs.Units.{IsUnit, piece_size, units_for};
 ghost use Rattle.tlsf_arena.specs.Loans.{name_of, units_of as units_in};
 ghost use Rattle.tlsf_arena.specs.Ownership.{IsLoanAt, whole_token};
 

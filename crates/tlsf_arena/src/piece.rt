@@ -2,7 +2,7 @@ ghost use Rattle.std.specs.Prelude.{◌≡◌, ℕ};
 ghost use types.Logic.{sem};
 ghost use Rattle.linked_list_allocator.specs.Region.{Region};
 ghost use Rattle.linked_list_allocator.specs.Ownership.{bytes_at};
-ghost use Rattle.tlsf_arena.specs.Places.{IsPiece};
+ghost use Rattle.tlsf_arena.specs.Units.{IsPiece};
 
 use crate::filled_piece::FilledPiece;
 use crate::husk::{Husk, set_all};

@@ -2,7 +2,7 @@
 ghost use Rattle.std.specs.Prelude.{◌≡◌, ◌≢◌, ℕ, ◌+◌, ◌-◌, ◌*◌, ◌^◌, ◌<◌, ◌≤◌, MatchOption};
 ghost use Rattle.std.specs.Bool.{Decides};
 ghost use denote.RawPtr.{block_of, count_of, InBlock};
-ghost use Rattle.tlsf_arena.specs.Places.{IsUnit};
+ghost use Rattle.tlsf_arena.specs.Units.{IsUnit};
 
 use crate::space::{begins_at, lies_before};
 use crate::units::grains_before;

@@ -3,7 +3,7 @@ ghost use Rattle.std.specs.Prelude.{◌≡◌, ℕ, ◌+◌, ◌*◌, ◌/◌, �
 ghost use Rattle.std.specs.Bool.{Decides};
 ghost use denote.RawPtr.{block_ptr, block_of, count_of, InBlock};
 ghost use Rattle.linked_list_allocator.specs.Region.{Region, IsRegionSize, region_of};
-ghost use Rattle.tlsf_arena.specs.Places.{IsRun, marked, grain_of};
+ghost use Rattle.tlsf_arena.specs.Units.{IsRun, marked, grain_of};
 ghost use Rattle.tlsf_arena.specs.Ownership.{free_rooms};
 
 use crate::memory::{GRAIN, Memory};

@@ -1,5 +1,5 @@
 ghost use Rattle.std.specs.Prelude.{◌≡◌, ◌*◌, ◌/◌, ◌%◌, ◌^◌, ◌<◌, ◌≤◌};
-ghost use Rattle.tlsf_arena.specs.Places.{IsUnit, held_units, lacking, units_for};
+ghost use Rattle.tlsf_arena.specs.Units.{IsUnit, held_units, lacking, units_for};
 
 use crate::memory::GRAIN;
 

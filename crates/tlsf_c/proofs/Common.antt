@@ -9,7 +9,7 @@ pub use Rattle.std_alloc.proofs.BoxSteps.Steps.{box_in, box_out}
 pub use Rattle.std_alloc.proofs.ResultValues.{and_tt}
 pub use Rattle.std_alloc.proofs.SendSync.{lies, quiet}
 pub use Rattle.std_heap.specs.contracts.GlobalAllocator.TheImpl.{dict, ghosts}
-pub use Rattle.tlsf_c.specs.Counting.{AreCounts, counted, no_counts}
+pub use Rattle.tlsf_c.specs.Counting.{AreHeapCounts, counted, no_counts}
 pub use Rattle.tlsf_c.specs.Drains.{drained, LeavesUnnamed}
 pub use Rattle.tlsf_c.specs.Handles.{heap_in, touched_in, counts_in, posts_named, touches_in, post_of}
 pub use Rattle.tlsf_c.specs.Levels.{LevelHeap, GoesOn}
@@ -24,7 +24,7 @@ pub use Rattle.tlsf_c.specs.declared.any_offsets.OffsetsOfLevel.{OffsetsOfLevel}
 pub use Rattle.tlsf_c.specs.declared.any_pools.AnyPools.TheInside.{Inside}
 pub use Rattle.tlsf_c.specs.declared.any_pools.PoolsOfLevel.{PoolsOfLevel}
 pub use Rattle.tlsf_c.specs.declared.any_end.AnyEnd.{AnyEnd}
-pub use Rattle.tlsf_c.specs.declared.counts.Counts.{Counts}
+pub use Rattle.tlsf_c.specs.declared.heap_counts.HeapCounts.{HeapCounts}
 pub use Rattle.tlsf_c.specs.declared.queue_end.QueueEnd.{QueueEnd}
 pub use Rattle.tlsf_heap.specs.Blocks.{HeapState, want, Block, words_in}
 pub use Rattle.tlsf_heap.specs.Calls.{allocated, allocated_words, refused, released, written, Outcome, Release, Write, has_serial, last_tick, named, resized_words, with_bytes}

@@ -1,5 +1,5 @@
 -- The counts of a heap over its calls.
-use Rattle.tlsf_c.proofs.Common.{◌≡◌, drop, ℕ, ◌+◌, ◌-◌, ◌≤◌, max, List, Result, Ok, Err, refl, sym, ap, ◌∙◌, subst, arith, IfOk, OnErr, HeapState, want, refused, allocated, allocated_words, resized_words, written, FollowsNoForgery, Seen, Shown, words_in_use, words_at, Name, Refusal, counted, AreCounts, Counts}
+use Rattle.tlsf_c.proofs.Common.{◌≡◌, drop, ℕ, ◌+◌, ◌-◌, ◌≤◌, max, List, Result, Ok, Err, refl, sym, ap, ◌∙◌, subst, arith, IfOk, OnErr, HeapState, want, refused, allocated, allocated_words, resized_words, written, FollowsNoForgery, Seen, Shown, words_in_use, words_at, Name, Refusal, counted, AreHeapCounts, HeapCounts}
 use Rattle.tlsf_class.specs.Classes.{IsLevel}
 use Rattle.tlsf_heap.specs.Aligned.{words_aligned}
 use Rattle.tlsf_heap.specs.Lawful.{IsLawful}
@@ -36,7 +36,7 @@ moved_refused sli h name len why r =
     refuses sli h name len why (λ same. subst (RefusesName h name) same r) (sym (ap (λ o. o.answer) (resized_refused h name (want len) len why r)))
 
 -- what a request is counted by: a block was given, or nothing changed
-pub given : (sli : ℕ) → IsLevel sli → (h : HeapState) (c : Counts) → AreCounts h c → (n len : ℕ) → want len ≤ n → IsLawful h → (answer : Result Name Refusal) → answer ≡ (allocated_words sli h n len).answer
+pub given : (sli : ℕ) → IsLevel sli → (h : HeapState) (c : HeapCounts) → AreHeapCounts h c → (n len : ℕ) → want len ≤ n → IsLawful h → (answer : Result Name Refusal) → answer ≡ (allocated_words sli h n len).answer
     → (k : HeapState) → k ≡ (allocated_words sli h n len).heap
     → IfOk answer (IsLive k) × IfOk answer (λ name. words_in_use k ≡ c.words + words_at k name.at) × OnErr answer (words_in_use k ≡ c.words)
 given sli level h c are n len wanted lawful (Ok name) e k is = (
@@ -48,11 +48,11 @@ given sli level h c are n len wanted lawful (Err why) e k is =
     (tt, tt, by_allocated_words sli (λ o. Err why ≡ o.answer → k ≡ o.heap → words_in_use k ≡ c.words) h n len (λ other same left. ap words_in_use left ∙ sym are.words) (λ s site fit bad left. absurd cc) e is)
 
 -- a write changes none of it
-pub counts_written : (h : HeapState) (name : Name) (at : ℕ) (bytes : List ℕ) (c : Counts) → AreCounts h c → AreCounts (written h name at bytes).heap c
+pub counts_written : (h : HeapState) (name : Name) (at : ℕ) (bytes : List ℕ) (c : HeapCounts) → AreHeapCounts h c → AreHeapCounts (written h name at bytes).heap c
 counts_written h name at bytes c are = record { words = omega (arith, are.words, (words_set 0 h (Put name at bytes) tt).0); most = are.most }
 
 -- the same where nothing is filled
-pub given_unset : (sli : ℕ) → IsLevel sli → (h : HeapState) (c : Counts) → AreCounts h c → (len : ℕ) → IsLawful h → (m : Image) (answer : Result Name Refusal) → answer ≡ (allocated sli h len).answer
+pub given_unset : (sli : ℕ) → IsLevel sli → (h : HeapState) (c : HeapCounts) → AreHeapCounts h c → (len : ℕ) → IsLawful h → (m : Image) (answer : Result Name Refusal) → answer ≡ (allocated sli h len).answer
     → (k : HeapState) → IfOk answer (λ name. k ≡ unset_from (allocated sli h len).heap name m 0 len) → OnErr answer (k ≡ h)
     → IfOk answer (IsLive k) × IfOk answer (λ name. words_in_use k ≡ c.words + words_at k name.at) × OnErr answer (words_in_use k ≡ c.words)
 given_unset sli level h c are len lawful m (Ok name) e k is same =
@@ -66,7 +66,7 @@ given_unset sli level h c are len lawful m (Ok name) e k is same =
 given_unset sli level h c are len lawful m (Err why) e k is same = (tt, tt, ap words_in_use same ∙ sym are.words)
 
 -- and where the payload is aligned too
-pub given_aligned : (sli : ℕ) → IsLevel sli → (old new : Shown) (c : Counts) → AreCounts old.heap c → (len step skew : ℕ) → IsLawful old.heap → (answer : Result Name Refusal)
+pub given_aligned : (sli : ℕ) → IsLevel sli → (old new : Shown) (c : HeapCounts) → AreHeapCounts old.heap c → (len step skew : ℕ) → IsLawful old.heap → (answer : Result Name Refusal)
     → answer ≡ (words_aligned sli old.heap (want len) (max step 1) skew).answer → IfOk answer (GivesUnset old new (words_aligned sli old.heap (want len) (max step 1) skew).heap len) → OnErr answer (IsAsBefore old new)
     → IfOk answer (IsLive new.heap) × IfOk answer (λ name. words_in_use new.heap ≡ c.words + words_at new.heap name.at) × OnErr answer (words_in_use new.heap ≡ c.words)
 given_aligned sli level old new c are len step skew lawful (Ok name) e gives same =
@@ -98,14 +98,14 @@ moved_words sli h name len = by_moved sli (λ o. o.heap.words ≡ h.words) h nam
     ∙ by_allocated sli (λ o. o.heap.words ≡ h.words) h len (λ why. refl) (λ s site fit. refl))
 
 -- what it is counted by, of the heap k that it leaves
-pub record Moves (h k : HeapState) (c : Counts) (before : ℕ) (answer : Result Name Refusal) : Type 0 where
+pub record Moves (h k : HeapState) (c : HeapCounts) (before : ℕ) (answer : Result Name Refusal) : Type 0 where
   pub live : IfOk answer (IsLive k)
   pub sum : IfOk answer (λ new. words_in_use k + before ≡ c.words + words_at k new.at)
   pub refused : OnErr answer (words_in_use k ≡ c.words)
   pub small : before ≤ c.words
   pub room : before ≤ k.words
 
-module _ (sli : ℕ) (level : IsLevel sli) (h : HeapState) (c : Counts) (are : AreCounts h c) (name : Name) (len before : ℕ) (lawful : IsLawful h) (live : IsLive h name) (had : before ≡ words_at h name.at) where
+module _ (sli : ℕ) (level : IsLevel sli) (h : HeapState) (c : HeapCounts) (are : AreHeapCounts h c) (name : Name) (len before : ℕ) (lawful : IsLawful h) (live : IsLive h name) (had : before ≡ words_at h name.at) where
   held : before ≤ words_in_use h
   held = omega (arith, had, part h name lawful live)
 
@@ -152,12 +152,12 @@ module _ (sli : ℕ) (level : IsLevel sli) (h : HeapState) (c : Counts) (are : A
     room = omega (arith, held, words_within h lawful, ap (λ (s : HeapState). s.words) same);
   }
 
-module _ (c : Counts) (h k : HeapState) (before after : ℕ) (are : AreCounts h c) (small : before ≤ words_in_use h) (sum : words_in_use k + before ≡ words_in_use h + after) where
+module _ (c : HeapCounts) (h k : HeapState) (before after : ℕ) (are : AreHeapCounts h c) (small : before ≤ words_in_use h) (sum : words_in_use k + before ≡ words_in_use h + after) where
   -- some words are taken off, and others added
-  pub changed : (t g : Counts) → t ≡ record c { words = c.words - before } → g ≡ record t { words = t.words + after; most_words = max t.most_words (t.words + after) }
-      → (g ≡ counted c k) × AreCounts k g
+  pub changed : (t g : HeapCounts) → t ≡ record c { words = c.words - before } → g ≡ record t { words = t.words + after; most_words = max t.most_words (t.words + after) }
+      → (g ≡ counted c k) × AreHeapCounts k g
   changed t g off on =
       let words : c.words - before + after ≡ words_in_use k = omega (arith, are.words, small, sum) in
-      let same : g ≡ counted c k = on ∙ ap (λ (t : Counts). record t { words = t.words + after; most_words = max t.most_words (t.words + after) }) off
+      let same : g ≡ counted c k = on ∙ ap (λ (t : HeapCounts). record t { words = t.words + after; most_words = max t.most_words (t.words + after) }) off
       ∙ ap (λ (n : ℕ). record c { words = n; most_words = max c.most_words n }) words in
-      (same, subst (AreCounts k) (sym same) (record { words = refl; most = omega arith }))
+      (same, subst (AreHeapCounts k) (sym same) (record { words = refl; most = omega arith }))

@@ -1,5 +1,5 @@
 -- A drain goes on by some posts.
-use Rattle.tlsf_c.proofs.Common.{◌≡◌, ℕ, ◌+◌, ◌<◌, ◌≤◌, inl, inr, List, [], ◌∷◌, ◌++◌, length, refl, ap, sym, ◌∙◌, arith, append_assoc, length-append, cases_lt, HeapState, released, Post, drained, Counts}
+use Rattle.tlsf_c.proofs.Common.{◌≡◌, ℕ, ◌+◌, ◌<◌, ◌≤◌, inl, inr, List, [], ◌∷◌, ◌++◌, length, refl, ap, sym, ◌∙◌, arith, append_assoc, length-append, cases_lt, HeapState, released, Post, drained, HeapCounts}
 use Rattle.std.proofs.lemmas.List.Sums.{fold-append}
 use mathlib.Core.List.{IsPrefix}
 
@@ -18,14 +18,14 @@ drained_none h [] none = refl
 drained_none h (x ∷ xs) none = absurd (omega (arith, none))
 
 -- what is counted once `came` posts and then `more` were released, where a heap has this many words in use
-pub counts_more : (first last now : Counts) (last_words now_words came more : ℕ)
+pub counts_more : (first last now : HeapCounts) (last_words now_words came more : ℕ)
     → (came ≡ 0 → last ≡ first) → (0 < came → last ≡ record first { words = last_words })
     → (more ≡ 0 → now ≡ last) → (more ≡ 0 → now_words ≡ last_words) → (0 < more → now ≡ record last { words = now_words })
     → 0 < came + more → now ≡ record first { words = now_words }
 counts_more first last now last_words now_words came more none some same same_words then sum = elim (cases_lt 0 more) [
   | inl m ↦ then m ∙ elim (cases_lt 0 came) [
-    | inl c ↦ ap (λ (k : Counts). record k { words = now_words }) (some c)
-    | inr z ↦ ap (λ (k : Counts). record k { words = now_words }) (none (omega (arith, z)))
+    | inl c ↦ ap (λ (k : HeapCounts). record k { words = now_words }) (some c)
+    | inr z ↦ ap (λ (k : HeapCounts). record k { words = now_words }) (none (omega (arith, z)))
   ]
   | inr z ↦ same (omega (arith, z)) ∙ (some (omega (arith, z, sum)) ∙ ap (λ (w : ℕ). record first { words = w }) (sym (same_words (omega (arith, z)))))
 ]

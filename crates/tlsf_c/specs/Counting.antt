@@ -5,22 +5,22 @@ use Rattle.tlsf_heap.specs.WordsInUse.{words_in_use, words_at}
 use Rattle.tlsf_heap.specs.declared.name.Name.{Name}
 use Rattle.tlsf_heap.specs.declared.refusal.Refusal.{Refusal}
 use Rattle.tlsf_heap.specs.declared.refusal.Refusal.TheVariants.{NoFit, Worn, Foreign, Stale, Range, NoRoom}
-use Rattle.tlsf_c.specs.declared.counts.Counts.{Counts}
+use Rattle.tlsf_c.specs.declared.heap_counts.HeapCounts.{HeapCounts}
 
 -- nothing was counted
-abbrev pub no_counts : Counts
+abbrev pub no_counts : HeapCounts
 no_counts = record { words = 0; most_words = 0; refused = 0; longest_refused = 0 }
 
 -- the counts where a call left this heap: its words in use, and the most there ever were
-abbrev pub counted : Counts → HeapState → Counts
+abbrev pub counted : HeapCounts → HeapState → HeapCounts
 counted c h = record c { words = words_in_use h; most_words = max c.most_words (words_in_use h) }
 
 -- the counts where a request of `len` bytes was refused for want of room
-abbrev pub counted_refusal : Counts → ℕ → Counts
+abbrev pub counted_refusal : HeapCounts → ℕ → HeapCounts
 counted_refusal c len = record c { refused = min (c.refused + 1) (2 ^ 32 - 1); longest_refused = max c.longest_refused len }
 
 -- a refused request of `len` bytes is counted where it was refused for want of room
-abbrev pub counted_if : Counts → ℕ → Refusal → Counts
+abbrev pub counted_if : HeapCounts → ℕ → Refusal → HeapCounts
 counted_if c len NoFit = counted_refusal c len
 counted_if c len Worn = c
 counted_if c len Foreign = c
@@ -29,18 +29,18 @@ counted_if c len Range = c
 counted_if c len NoRoom = c
 
 -- the counts where a request of `len` bytes was answered so and left this heap
-abbrev pub counted_request : {A : Type 0} → Counts → Result A Refusal → ℕ → HeapState → Counts
+abbrev pub counted_request : {A : Type 0} → HeapCounts → Result A Refusal → ℕ → HeapState → HeapCounts
 counted_request c (Ok given) len h = counted c h
 counted_request c (Err why) len h = counted_if c len why
 
 -- the counts where a resize of the block at this place to `len` bytes was answered in this way and left this heap. While a block
 -- moves, its old words are in use and the new ones too
-abbrev pub counted_move : Counts → ℕ → Result Name Refusal → ℕ → HeapState → Counts
+abbrev pub counted_move : HeapCounts → ℕ → Result Name Refusal → ℕ → HeapState → HeapCounts
 counted_move c at (Ok new) len h =
     if new.at == at then counted c h else counted (record c { most_words = max c.most_words (c.words + words_at h new.at) }) h
 counted_move c at (Err why) len h = counted_if c len why
 
 -- they are those of this heap
-pub record AreCounts (h : HeapState) (c : Counts) : Type 0 where
+pub record AreHeapCounts (h : HeapState) (c : HeapCounts) : Type 0 where
   pub words : c.words ≡ words_in_use h
   pub most : c.words ≤ c.most_words

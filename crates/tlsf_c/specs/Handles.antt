@@ -18,7 +18,7 @@ use Rattle.tlsf_c.specs.Ends.{post_of_end, take_of_end}
 use Rattle.tlsf_c.specs.Levels.{GoesOn, seen_at}
 use Rattle.tlsf_c.specs.Names.{name_of}
 use Rattle.tlsf_c.specs.Refusals.{closed, status_of}
-use Rattle.tlsf_c.specs.declared.counts.Counts.{Counts}
+use Rattle.tlsf_c.specs.declared.heap_counts.HeapCounts.{HeapCounts}
 use Rattle.tlsf_c.specs.declared.names.BlockName.{BlockName}
 use Rattle.tlsf_c.specs.declared.heap_slot.HeapSlot.{HeapSlot}
 use Rattle.tlsf_c.specs.declared.end_slot.EndSlot.{EndSlot}
@@ -27,40 +27,40 @@ use Rattle.tlsf_c.specs.declared.end_slot.EndSlot.{EndSlot}
 
 -- the heap of an open handle
 abbrev pub heap_in : HeapSlot → HeapState
-heap_in h = h.held.value.heap
+heap_in h = h.inner.value.heap
 
 -- what that shows of a call
 abbrev pub seen_in : HeapSlot → Seen
-seen_in h = seen_at h.held.value
+seen_in h = seen_at h.inner.value
 
 -- what is stored in its region
 abbrev pub stored_in : HeapSlot → Image
-stored_in h = h.held.value.stored
+stored_in h = h.inner.value.stored
 
 -- the address of its region's first word
 abbrev pub address_in : HeapSlot → Ptr
-address_in h = h.held.value.extents.words.address
+address_in h = h.inner.value.extents.words.address
 
 -- its level
 abbrev pub level_in : HeapSlot → ℕ
-level_in h = h.held.value.level
+level_in h = h.inner.value.level
 
 -- its touches
 abbrev pub touches_in : HeapSlot → ℕ
-touches_in h = h.held.value.touches
+touches_in h = h.inner.value.touches
 
 -- the words of its region that it touched, the last first
 abbrev pub touched_in : HeapSlot → List ℕ
-touched_in h = h.held.value.touched
+touched_in h = h.inner.value.touched
 
 -- its counts
-abbrev pub counts_in : HeapSlot → Counts
-counts_in h = h.held.value.counts
+abbrev pub counts_in : HeapSlot → HeapCounts
+counts_in h = h.inner.value.counts
 
 -- an open handle stays open, and its number and its region's address stay; its heap keeps its level and its memory, and touches never fall
 pub record StaysOpen (old new : HeapSlot) : Type 0 where
   pub is_open : new.is_open ≡ true
-  pub heap : GoesOn old.held.value new.held.value
+  pub heap : GoesOn old.inner.value new.inner.value
   pub base : new.base ≡ old.base
   pub number : new.number ≡ old.number
 
@@ -110,11 +110,11 @@ AreEnds None t = ⊥
 
 -- the end of an open handle, if it is one that puts names into a lane
 abbrev pub post_in : EndSlot → Option PostEnd
-post_in h = post_of_end h.held.value
+post_in h = post_of_end h.inner.value
 
 -- if it is one that takes names out
 abbrev pub take_in : EndSlot → Option TakeEnd
-take_in h = take_of_end h.held.value
+take_in h = take_of_end h.inner.value
 
 -- it is one that puts names into a lane
 abbrev pub holds_post : EndSlot → Bool

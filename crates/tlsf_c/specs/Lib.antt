@@ -17,7 +17,7 @@ pub mod Handles
 pub mod Refusals
 pub mod Names
 pub mod Drains
-pub mod Places
+pub mod PlaceCalls
 pub mod Counting
 pub mod Checked
 pub mod Lending

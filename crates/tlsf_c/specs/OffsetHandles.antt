@@ -12,21 +12,21 @@ use Rattle.tlsf_c.specs.declared.arena_slot.ArenaSlot.{ArenaSlot}
 
 -- the arena of an open handle
 abbrev pub offsets_in : ArenaSlot → Offsets
-offsets_in h = (offsets_of h.held.value).offsets
+offsets_in h = (offsets_of h.inner.value).offsets
 
 -- its level
 abbrev pub offsets_level : ArenaSlot → ℕ
-offsets_level h = (offsets_of h.held.value).level
+offsets_level h = (offsets_of h.inner.value).level
 
 -- it is an arena of offsets
 abbrev pub holds_offsets : ArenaSlot → Bool
-holds_offsets h = is_offsets h.held.value
+holds_offsets h = is_offsets h.inner.value
 
 -- an open handle stays open with its kind, its arena keeps its level and its unit, and touches never fall
 pub record OffsetsStayOpen (old new : ArenaSlot) : Type 0 where
   pub is_open : new.is_open ≡ true
   pub kind : holds_offsets new ≡ holds_offsets old
-  pub goes_on : OffsetsGoOn (offsets_of old.held.value) (offsets_of new.held.value)
+  pub goes_on : OffsetsGoOn (offsets_of old.inner.value) (offsets_of new.inner.value)
 
 abbrev pub span_of : OffsetSpan → Span
 span_of s = record { name = name_of s.name; offset = s.offset; size = s.size }

@@ -15,15 +15,15 @@ use Rattle.tlsf_c.specs.declared.kind_row.KindRow.{KindRow}
 
 -- the pools of an open handle
 abbrev pub pools_in : ArenaSlot → PoolsState
-pools_in h = (pools_of h.held.value).pools
+pools_in h = (pools_of h.inner.value).pools
 
 -- their level
 abbrev pub pools_level : ArenaSlot → ℕ
-pools_level h = (pools_of h.held.value).level
+pools_level h = (pools_of h.inner.value).level
 
 -- it is pools
 abbrev pub holds_pools : ArenaSlot → Bool
-holds_pools h = is_pools h.held.value
+holds_pools h = is_pools h.inner.value
 
 -- an open handle stays open with its kind, and its pools keep their level
 pub record PoolsStayOpen (old new : ArenaSlot) : Type 0 where

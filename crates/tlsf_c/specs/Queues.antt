@@ -27,7 +27,7 @@ got_of (Some o) = got_by o
 
 -- the end of an open handle, if it is the owner's of a queue
 abbrev pub queue_in : EndSlot → Option QueueEnd
-queue_in h = queue_of_end h.held.value
+queue_in h = queue_of_end h.inner.value
 
 -- it is the owner's of a queue
 abbrev pub holds_queue : EndSlot → Bool
@@ -79,7 +79,7 @@ put_of (Some p) = put_by p
 
 -- the end of an open handle, if it is a poster's
 abbrev pub end_in : EndSlot → Option PosterEnd
-end_in h = poster_of_end h.held.value
+end_in h = poster_of_end h.inner.value
 
 -- it is a poster's
 abbrev pub holds_poster : EndSlot → Bool

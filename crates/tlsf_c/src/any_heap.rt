@@ -13,7 +13,7 @@ ghost use Rattle.tlsf_c.specs.Levels.{GoesOn, seen_at};
 
 mod by_place;
 
-use crate::counts::Counts;
+use crate::heap_counts::HeapCounts;
 use std::alloc::Global;
 use std::marker::Model;
 use tlsf_heap::{Heap, Name, OpenFault, Refusal, Report};
@@ -30,7 +30,7 @@ pub enum OfLevel {
 #[derive(Drop)]
 pub struct AnyHeap {
     // First, so that they lie in the first cache line, beside the heap's number, its tick and where its words are.
-    counts: Counts,
+    counts: HeapCounts,
     of_level: OfLevel,
 }
 
@@ -43,9 +43,9 @@ impl Model for AnyHeap {
 
     ghost view = { λ a. shown a.of_level a.counts };
 
-    ghost use Rattle.tlsf_c.specs.Counting.{AreCounts};
+    ghost use Rattle.tlsf_c.specs.Counting.{AreHeapCounts};
 
-    ghost invariant = { λ a. AreCounts (shown a.of_level a.counts).heap a.counts };
+    ghost invariant = { λ a. AreHeapCounts (shown a.of_level a.counts).heap a.counts };
 }
 
 impl AnyHeap {
@@ -63,13 +63,13 @@ impl AnyHeap {
         if level == 4 {
             let heap = Heap::<4>::open(alloc, id, words, 0)?;
             Ok(AnyHeap {
-                counts: Counts::new(),
+                counts: HeapCounts::new(),
                 of_level: OfLevel::Four(heap),
             })
         } else {
             let heap = Heap::<5>::open(alloc, id, words, 0)?;
             Ok(AnyHeap {
-                counts: Counts::new(),
+                counts: HeapCounts::new(),
                 of_level: OfLevel::Five(heap),
             })
         }
@@ -165,7 +165,7 @@ impl AnyHeap {
     }
 
     /// The counts of its calls.
-    pub fn counts(&self) -> Counts
+    pub fn counts(&self) -> HeapCounts
         ensures counts { result ≡ self.now.counts }
 
         // The words in use are what a report would find.

@@ -10,9 +10,9 @@ use std::{mem, ptr};
 #[repr(C)]
 #[derive(Drop)]
 pub struct ArenaSlot {
-    pub held: BoxedArena,
+    pub inner: BoxedArena,
     pub is_open: bool,
-    ghost tied: { is_open ≡ is_some held.value },
+    ghost tied: { is_open ≡ is_some inner.value },
 }
 
 impl ArenaSlot {
@@ -21,20 +21,20 @@ impl ArenaSlot {
     pub fn take_out(&mut self, alloc: Global) -> Option<Box<AnyArena, Global>>
         ensures closed { self.new.is_open ≡ false }
         ensures none { result ≡ None → (self.old.is_open ≡ false) × (self.new ≡ self.old) }
-        ensures some { (b : _) → result ≡ Some b → (self.old.is_open ≡ true) × (self.old.held.value ≡ Some b.value) }
+        ensures some { (b : _) → result ≡ Some b → (self.old.is_open ≡ true) × (self.old.inner.value ≡ Some b.value) }
     {
         if !self.is_open {
             return None;
         }
         let nowhere: *mut u8 = ptr::null_mut();
-        let ArenaSlot { held, .. } = mem::replace(
+        let ArenaSlot { inner, .. } = mem::replace(
             self,
             ArenaSlot {
-                held: BoxedArena::empty(alloc, nowhere),
+                inner: BoxedArena::empty(alloc, nowhere),
                 is_open: false,
             },
         );
-        Some(held.into_box())
+        Some(inner.into_box())
     }
 
     /// Drops what an open place holds, and leaves it closed.
@@ -49,10 +49,10 @@ impl ArenaSlot {
     pub fn put_in(&mut self, boxed: Box<AnyArena, Global>)
         requires { self.old.is_open ≡ false }
         ensures open { self.new.is_open ≡ true }
-        ensures value { self.new.held.value ≡ Some boxed.value }
+        ensures value { self.new.inner.value ≡ Some boxed.value }
     {
         *self = ArenaSlot {
-            held: BoxedArena::new(boxed),
+            inner: BoxedArena::new(boxed),
             is_open: true,
         };
     }

@@ -32,13 +32,13 @@ impl BoxedArena {
     ghost use Rattle.tlsf_c.specs.Lending.{LendsArena};
 
     /// Holds an arena.
-    pub fn new(held: Box<AnyArena, Global>) -> BoxedArena
-        ensures { result.value ≡ Some held.value }
+    pub fn new(inner: Box<AnyArena, Global>) -> BoxedArena
+        ensures { result.value ≡ Some inner.value }
     {
-        BoxedArena::of_parts(Parts::of(held))
+        BoxedArena::of_parts(Parts::of(inner))
     }
 
-    /// The box that is held.
+    /// The box inside.
     pub fn into_box(self) -> Box<AnyArena, Global>
         requires { is_some self.value ≡ true }
         ensures { self.value ≡ Some result.value }
@@ -46,7 +46,7 @@ impl BoxedArena {
         self.into_parts().into_box()
     }
 
-    /// Lends what is held.
+    /// Lends what is inside.
     #[inline(always)]
     pub fn lend(&mut self) -> &mut AnyArena
         requires { is_some self.old.value ≡ true }

@@ -32,13 +32,13 @@ impl BoxedEnd {
     ghost use Rattle.tlsf_c.specs.Lending.{LendsEnd};
 
     /// Holds an end.
-    pub fn new(held: Box<AnyEnd, Global>) -> BoxedEnd
-        ensures { result.value ≡ Some held.value }
+    pub fn new(inner: Box<AnyEnd, Global>) -> BoxedEnd
+        ensures { result.value ≡ Some inner.value }
     {
-        BoxedEnd::of_parts(Parts::of(held))
+        BoxedEnd::of_parts(Parts::of(inner))
     }
 
-    /// The box that is held.
+    /// The box inside.
     pub fn into_box(self) -> Box<AnyEnd, Global>
         requires { is_some self.value ≡ true }
         ensures { self.value ≡ Some result.value }
@@ -46,7 +46,7 @@ impl BoxedEnd {
         self.into_parts().into_box()
     }
 
-    /// Lends what is held.
+    /// Lends what is inside.
     #[inline(always)]
     pub fn lend(&mut self) -> &mut AnyEnd
         requires { is_some self.old.value ≡ true }

@@ -31,14 +31,14 @@ impl BoxedHeap {
     ghost use Rattle.tlsf_c.specs.Lending.{LendsHeap};
 
     /// Holds a heap.
-    pub fn new(held: Box<AnyHeap, Global>) -> BoxedHeap
+    pub fn new(inner: Box<AnyHeap, Global>) -> BoxedHeap
         ensures full { result.full ≡ true }
-        ensures value { result.value ≡ held.value }
+        ensures value { result.value ≡ inner.value }
     {
-        BoxedHeap::of_parts(Parts::of(held))
+        BoxedHeap::of_parts(Parts::of(inner))
     }
 
-    /// The heap that is held.
+    /// The heap inside.
     pub fn into_box(self) -> Box<AnyHeap, Global>
         requires { self.full ≡ true }
         ensures { result.value ≡ self.value }
@@ -46,7 +46,7 @@ impl BoxedHeap {
         self.into_parts().into_box()
     }
 
-    /// Lends what is held.
+    /// Lends what is inside.
     #[inline(always)]
     pub fn lend(&mut self) -> &mut AnyHeap
         requires { self.old.full ≡ true }

@@ -15,13 +15,13 @@ ghost use Rattle.tlsf_heap.specs.InPlace.{payload_of};
 ghost use Rattle.tlsf_heap.specs.Shown.{seen};
 ghost use Rattle.tlsf_heap.specs.Unset.{lying, unset_from, with_payload};
 ghost use Rattle.tlsf_heap.specs.WordsInUse.{words_in_use, words_at};
-ghost use Rattle.tlsf_c.specs.Counting.{AreCounts, counted, counted_request, counted_move};
+ghost use Rattle.tlsf_c.specs.Counting.{AreHeapCounts, counted, counted_request, counted_move};
 
-use crate::counts::Counts;
+use crate::heap_counts::HeapCounts;
 use tlsf_heap::{Heap, Name, Refusal, want};
 
-impl Counts {
-    /// Counts a request of `len` bytes by what a heap answered it.
+impl HeapCounts {
+    /// HeapCounts a request of `len` bytes by what a heap answered it.
     #[inline(always)]
     fn request<const SLI: u32>(
         &mut self,
@@ -34,7 +34,7 @@ impl Counts {
         requires refused { OnErr answer.now (words_in_use heap.old.heap ≡ self.old.words) }
         requires most { self.old.words ≤ self.old.most_words }
         ensures counts { self.new ≡ counted_request self.old answer.now len heap.new.heap }
-        ensures are_counts { AreCounts heap.new.heap self.new }
+        ensures are_counts { AreHeapCounts heap.new.heap self.new }
         ensures heap { heap.new.heap ≡ heap.old.heap }
         ensures stored { heap.new.stored ≡ heap.old.stored }
         ensures stays { heap.new.extents ≡ heap.old.extents }
@@ -51,7 +51,7 @@ impl Counts {
         }
     }
 
-    /// Counts a resize of the block of this name, which had this many words, by the heap's answer to it. The block may have moved.
+    /// HeapCounts a resize of the block of this name, which had this many words, by the heap's answer to it. The block may have moved.
     #[inline(always)]
     fn moved<const SLI: u32>(
         &mut self,
@@ -68,7 +68,7 @@ impl Counts {
         requires most { self.old.words ≤ self.old.most_words }
         requires room { before ≤ heap.old.heap.words }
         ensures counts { self.new ≡ counted_move self.old name.at answer.now len heap.new.heap }
-        ensures are_counts { AreCounts heap.new.heap self.new }
+        ensures are_counts { AreHeapCounts heap.new.heap self.new }
         ensures heap { heap.new.heap ≡ heap.old.heap }
         ensures stored { heap.new.stored ≡ heap.old.stored }
         ensures stays { heap.new.extents ≡ heap.old.extents }
@@ -99,10 +99,10 @@ impl Counts {
         len: u32,
     ) -> Result<Name, Refusal>
         requires level { IsLevel SLI }
-        requires are_counts { AreCounts heap.old.heap self.old }
+        requires are_counts { AreHeapCounts heap.old.heap self.old }
         ensures allocates { Allocates (allocate_touches + 1) SLI (Blocks.want len) len (seen heap.old) (seen heap.new) result }
         ensures counts { self.new ≡ counted_request self.old result len heap.new.heap }
-        ensures are_counts { AreCounts heap.new.heap self.new }
+        ensures are_counts { AreHeapCounts heap.new.heap self.new }
         ensures stays { heap.new.extents ≡ heap.old.extents }
     {
         let answer = heap.allocate_words(want(len), len);
@@ -118,12 +118,12 @@ impl Counts {
         len: u32,
     ) -> Result<Name, Refusal>
         requires level { IsLevel SLI }
-        requires are_counts { AreCounts heap.old.heap self.old }
+        requires are_counts { AreHeapCounts heap.old.heap self.old }
         ensures answer { result ≡ (allocated SLI heap.old.heap len).answer }
         ensures heap { IfOk result (λ name. heap.new.heap ≡ unset_from (allocated SLI heap.old.heap len).heap name heap.new.stored 0 len) }
         ensures err { OnErr result (heap.new.heap ≡ heap.old.heap) }
         ensures counts { self.new ≡ counted_request self.old result len heap.new.heap }
-        ensures are_counts { AreCounts heap.new.heap self.new }
+        ensures are_counts { AreHeapCounts heap.new.heap self.new }
         ensures stays { heap.new.extents ≡ heap.old.extents }
         ensures touches_rise { heap.old.touches ≤ heap.new.touches }
         ensures touches { heap.new.touches ≤ heap.old.touches + 33 }
@@ -144,14 +144,14 @@ impl Counts {
         skew: u32,
     ) -> Result<Name, Refusal>
         requires level { IsLevel SLI }
-        requires are_counts { AreCounts heap.old.heap self.old }
+        requires are_counts { AreHeapCounts heap.old.heap self.old }
         ensures answer { result ≡ (words_aligned SLI heap.old.heap (Blocks.want len) (max step 1) skew).answer }
         ensures heap { IfOk result (λ name. heap.new.heap
             ≡ with_payload (words_aligned SLI heap.old.heap (Blocks.want len) (max step 1) skew).heap name (lying heap.new.stored name.at len)) }
         ensures aligned { IfOk result (λ name. (name.at + 3 + skew) % max step 1 ≡ 0) }
         ensures err { OnErr result (heap.new.heap ≡ heap.old.heap) }
         ensures counts { self.new ≡ counted_request self.old result len heap.new.heap }
-        ensures are_counts { AreCounts heap.new.heap self.new }
+        ensures are_counts { AreHeapCounts heap.new.heap self.new }
         ensures stays { heap.new.extents ≡ heap.old.extents }
         ensures touches_rise { heap.old.touches ≤ heap.new.touches }
         ensures touches { heap.new.touches ≤ heap.old.touches + 118 }
@@ -169,10 +169,10 @@ impl Counts {
         heap: &mut Heap<SLI>,
         name: Name,
     ) -> Result<(), Refusal>
-        requires are_counts { AreCounts heap.old.heap self.old }
+        requires are_counts { AreHeapCounts heap.old.heap self.old }
         ensures releases { Releases release_touches (seen heap.old) (seen heap.new) name result }
         ensures counts { self.new ≡ record self.old { words = words_in_use heap.new.heap } }
-        ensures are_counts { AreCounts heap.new.heap self.new }
+        ensures are_counts { AreHeapCounts heap.new.heap self.new }
         ensures stays { heap.new.extents ≡ heap.old.extents }
     {
         heap.release_counted(name, &mut self.words)
@@ -185,11 +185,11 @@ impl Counts {
         heap: &mut Heap<SLI>,
         at: u32,
     ) -> Result<(), Refusal>
-        requires are_counts { AreCounts heap.old.heap self.old }
+        requires are_counts { AreHeapCounts heap.old.heap self.old }
         ensures answer { result ≡ (released_by_place heap.old.heap at).answer }
         ensures heap { heap.new.heap ≡ (released_by_place heap.old.heap at).heap }
         ensures counts { self.new ≡ record self.old { words = words_in_use heap.new.heap } }
-        ensures are_counts { AreCounts heap.new.heap self.new }
+        ensures are_counts { AreHeapCounts heap.new.heap self.new }
         ensures stays { heap.new.extents ≡ heap.old.extents }
         ensures touches_rise { heap.old.touches ≤ heap.new.touches }
         ensures touches { heap.new.touches ≤ heap.old.touches + 29 }
@@ -208,10 +208,10 @@ impl Counts {
         name: Name,
         len: u32,
     ) -> Result<(), Refusal>
-        requires are_counts { AreCounts heap.old.heap self.old }
+        requires are_counts { AreHeapCounts heap.old.heap self.old }
         ensures resizes { Resizes (resize_touches + 4) (Blocks.want len) len (seen heap.old) (seen heap.new) name result }
         ensures counts { self.new ≡ counted self.old heap.new.heap }
-        ensures are_counts { AreCounts heap.new.heap self.new }
+        ensures are_counts { AreHeapCounts heap.new.heap self.new }
         ensures stays { heap.new.extents ≡ heap.old.extents }
     {
         let before = match heap.words_of(name) {
@@ -238,11 +238,11 @@ impl Counts {
         len: u32,
     ) -> Result<Name, Refusal>
         requires level { IsLevel SLI }
-        requires are_counts { AreCounts heap.old.heap self.old }
+        requires are_counts { AreHeapCounts heap.old.heap self.old }
         ensures answer { result ≡ (resized_or_moved SLI heap.old.heap name len).answer }
         ensures heap { heap.new.heap ≡ (resized_or_moved SLI heap.old.heap name len).heap }
         ensures counts { self.new ≡ counted_move self.old name.at result len heap.new.heap }
-        ensures are_counts { AreCounts heap.new.heap self.new }
+        ensures are_counts { AreHeapCounts heap.new.heap self.new }
         ensures stays { heap.new.extents ≡ heap.old.extents }
         ensures touches_rise { heap.old.touches ≤ heap.new.touches }
         ensures touches { heap.new.touches ≤ heap.old.touches + 133 + payload_words_left (resized heap.old.heap name len).answer (resized heap.old.heap name len).heap name
@@ -269,13 +269,13 @@ impl Counts {
         len: u32,
     ) -> Result<Name, Refusal>
         requires level { IsLevel SLI }
-        requires are_counts { AreCounts heap.old.heap self.old }
+        requires are_counts { AreHeapCounts heap.old.heap self.old }
         ensures answer { result ≡ (resized_or_moved SLI heap.old.heap name len).answer }
         ensures heap { IfOk result (λ new. heap.new.heap
             ≡ unset_from (resized_or_moved SLI heap.old.heap name len).heap new heap.new.stored (min (length (payload_of heap.old.heap name)) len) len) }
         ensures err { OnErr result (heap.new.heap ≡ heap.old.heap) }
         ensures counts { self.new ≡ counted_move self.old name.at result len heap.new.heap }
-        ensures are_counts { AreCounts heap.new.heap self.new }
+        ensures are_counts { AreHeapCounts heap.new.heap self.new }
         ensures stays { heap.new.extents ≡ heap.old.extents }
         ensures touches_rise { heap.old.touches ≤ heap.new.touches }
         ensures touches { heap.new.touches ≤ heap.old.touches + 104 + 2 * (min (length (payload_of heap.old.heap name)) len / 8) }

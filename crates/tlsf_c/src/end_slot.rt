@@ -10,9 +10,9 @@ use std::{mem, ptr};
 #[repr(C)]
 #[derive(Drop)]
 pub struct EndSlot {
-    pub held: BoxedEnd,
+    pub inner: BoxedEnd,
     pub is_open: bool,
-    ghost tied: { is_open ≡ is_some held.value },
+    ghost tied: { is_open ≡ is_some inner.value },
 }
 
 impl EndSlot {
@@ -21,20 +21,20 @@ impl EndSlot {
     pub fn take_out(&mut self, alloc: Global) -> Option<Box<AnyEnd, Global>>
         ensures closed { self.new.is_open ≡ false }
         ensures none { result ≡ None → (self.old.is_open ≡ false) × (self.new ≡ self.old) }
-        ensures some { (b : _) → result ≡ Some b → (self.old.is_open ≡ true) × (self.old.held.value ≡ Some b.value) }
+        ensures some { (b : _) → result ≡ Some b → (self.old.is_open ≡ true) × (self.old.inner.value ≡ Some b.value) }
     {
         if !self.is_open {
             return None;
         }
         let nowhere: *mut u8 = ptr::null_mut();
-        let EndSlot { held, .. } = mem::replace(
+        let EndSlot { inner, .. } = mem::replace(
             self,
             EndSlot {
-                held: BoxedEnd::empty(alloc, nowhere),
+                inner: BoxedEnd::empty(alloc, nowhere),
                 is_open: false,
             },
         );
-        Some(held.into_box())
+        Some(inner.into_box())
     }
 
     /// Drops what an open place holds, and leaves it closed.
@@ -49,10 +49,10 @@ impl EndSlot {
     pub fn put_in(&mut self, boxed: Box<AnyEnd, Global>)
         requires { self.old.is_open ≡ false }
         ensures open { self.new.is_open ≡ true }
-        ensures value { self.new.held.value ≡ Some boxed.value }
+        ensures value { self.new.inner.value ≡ Some boxed.value }
     {
         *self = EndSlot {
-            held: BoxedEnd::new(boxed),
+            inner: BoxedEnd::new(boxed),
             is_open: true,
         };
     }

@@ -20,7 +20,7 @@ ghost use Rattle.tlsf_c.specs.Refusals.{status_of, bad_size, no_memory, closed, 
 
 use crate::any_heap::AnyHeap;
 use crate::call_fault::{CallFault, status};
-use crate::counts::Counts;
+use crate::heap_counts::HeapCounts;
 use crate::heap_slot::HeapSlot;
 use crate::names::{BlockName, HeapReport};
 use std::alloc::Global;
@@ -154,7 +154,7 @@ pub extern "C" fn tlsf_allocate(heap: &mut HeapSlot, len: u32, name: &mut BlockN
         return CallFault::Closed.number();
     }
     heap.is_open = false;
-    let owned = heap.held.lend();
+    let owned = heap.inner.lend();
     let answer = owned.allocate(len);
     heap.is_open = true;
     match answer {
@@ -199,7 +199,7 @@ pub(crate) fn release_named(heap: &mut HeapSlot, number: u32, serial: u64, at: u
         serial,
     };
     heap.is_open = false;
-    let owned = heap.held.lend();
+    let owned = heap.inner.lend();
     let answer = owned.release(name);
     let number = status(answer);
     heap.is_open = true;
@@ -225,7 +225,7 @@ pub extern "C" fn tlsf_resize(heap: &mut HeapSlot, name: BlockName, len: u32) ->
         return CallFault::Closed.number();
     }
     heap.is_open = false;
-    let owned = heap.held.lend();
+    let owned = heap.inner.lend();
     let answer = owned.resize(name.name(), len);
     heap.is_open = true;
     match answer {
@@ -263,7 +263,7 @@ pub extern "C" fn tlsf_reallocate(heap: &mut HeapSlot, name: &mut BlockName, len
         return CallFault::Closed.number();
     }
     heap.is_open = false;
-    let owned = heap.held.lend();
+    let owned = heap.inner.lend();
     let answer = owned.resize_or_move(name.name(), len);
     heap.is_open = true;
     match answer {
@@ -295,7 +295,7 @@ pub extern "C" fn tlsf_write(heap: &mut HeapSlot, name: BlockName, at: u32, byte
         return CallFault::Closed.number();
     }
     heap.is_open = false;
-    let owned = heap.held.lend();
+    let owned = heap.inner.lend();
     let answer = owned.write(name.name(), at, bytes);
     let number = status(answer);
     heap.is_open = true;
@@ -322,7 +322,7 @@ pub extern "C" fn tlsf_read(heap: &mut HeapSlot, name: BlockName, at: u32, out: 
         return CallFault::Closed.number();
     }
     heap.is_open = false;
-    let owned = heap.held.lend();
+    let owned = heap.inner.lend();
     let answer = owned.read(name.name(), at, out);
     let number = status(answer);
     heap.is_open = true;
@@ -362,7 +362,7 @@ pub extern "C" fn tlsf_locate(
         return CallFault::Closed.number();
     }
     heap.is_open = false;
-    let owned = heap.held.lend();
+    let owned = heap.inner.lend();
     let answer = owned.payload(name.name());
     heap.is_open = true;
     match answer {
@@ -393,13 +393,13 @@ pub extern "C" fn tlsf_report(heap: &mut HeapSlot, report: &mut HeapReport) -> u
         return CallFault::Closed.number();
     }
     heap.is_open = false;
-    let owned = heap.held.lend();
+    let owned = heap.inner.lend();
     *report = HeapReport::of(owned.report());
     heap.is_open = true;
     0
 }
 
-/// The counts of the heap since it was opened go to `counts`, at once: no block is looked at. See `Counts`.
+/// The counts of the heap since it was opened go to `counts`, at once: no block is looked at. See `HeapCounts`.
 ///
 /// Refused as Closed where the handle isn't open.
 ///
@@ -407,7 +407,7 @@ pub extern "C" fn tlsf_report(heap: &mut HeapSlot, report: &mut HeapReport) -> u
 /// tlsf_counts(&heap, &counts) == TLSF_OK       // of a new heap: four zeros
 /// ```
 #[unsafe(no_mangle)]
-pub extern "C" fn tlsf_counts(heap: &mut HeapSlot, counts: &mut Counts) -> u32
+pub extern "C" fn tlsf_counts(heap: &mut HeapSlot, counts: &mut HeapCounts) -> u32
     ensures closed { heap.old.is_open ≡ false → (result ≡ closed) × (heap.new ≡ heap.old) × (counts.new ≡ counts.old) }
     ensures open { heap.old.is_open ≡ true → (result ≡ 0) × StaysOpen heap.old heap.new }
     ensures counts { heap.old.is_open ≡ true → counts.new ≡ counts_in heap.old }
@@ -423,7 +423,7 @@ pub extern "C" fn tlsf_counts(heap: &mut HeapSlot, counts: &mut Counts) -> u32
         return CallFault::Closed.number();
     }
     heap.is_open = false;
-    let owned = heap.held.lend();
+    let owned = heap.inner.lend();
     *counts = owned.counts();
     heap.is_open = true;
     0

@@ -10,7 +10,7 @@ use std::{mem, ptr};
 #[repr(C)]
 #[derive(Drop)]
 pub struct HeapSlot {
-    pub held: BoxedHeap,
+    pub inner: BoxedHeap,
     pub is_open: bool,
     /// The address of the first word of the region that was opened last, for C's own sums. No call reads it.
     pub base: *mut u64,
@@ -18,7 +18,7 @@ pub struct HeapSlot {
     pub number: u32,
     /// C's own note of a block by name with an odd number of words: payloads may then be misaligned to 16 bytes. Opening clears it.
     pub is_mixed: bool,
-    ghost tied: { is_open ≡ held.full },
+    ghost tied: { is_open ≡ inner.full },
 }
 
 // It may go to another thread, as what it holds may: no call follows `base`.
@@ -30,15 +30,15 @@ impl HeapSlot {
     pub fn take_out(&mut self, alloc: Global) -> Option<Box<AnyHeap, Global>>
         ensures closed { self.new.is_open ≡ false }
         ensures none { result ≡ None → (self.old.is_open ≡ false) × (self.new ≡ self.old) }
-        ensures some { (b : _) → result ≡ Some b → (self.old.is_open ≡ true) × (b.value ≡ self.old.held.value) }
+        ensures some { (b : _) → result ≡ Some b → (self.old.is_open ≡ true) × (b.value ≡ self.old.inner.value) }
     {
         if !self.is_open {
             return None;
         }
         let nowhere: *mut u8 = ptr::null_mut();
         self.is_open = false;
-        let held = mem::replace(&mut self.held, BoxedHeap::empty(alloc, nowhere));
-        Some(held.into_box())
+        let inner = mem::replace(&mut self.inner, BoxedHeap::empty(alloc, nowhere));
+        Some(inner.into_box())
     }
 
     /// Puts something into a closed place.
@@ -46,9 +46,9 @@ impl HeapSlot {
         requires { self.old.is_open ≡ false }
         ensures open { self.new.is_open ≡ true }
         ensures beside { (self.new.base ≡ self.old.base) × (self.new.number ≡ self.old.number) × (self.new.is_mixed ≡ self.old.is_mixed) }
-        ensures value { self.new.held.value ≡ boxed.value }
+        ensures value { self.new.inner.value ≡ boxed.value }
     {
-        self.held = BoxedHeap::new(boxed);
+        self.inner = BoxedHeap::new(boxed);
         self.is_open = true;
     }
 }

@@ -99,7 +99,7 @@ pub extern "C" fn tlsf_post_close(alloc: Global, post: &mut EndSlot) -> u32
     if !post.is_open {
         return CallFault::Closed.number();
     }
-    if !post.held.lend().is_post() {
+    if !post.inner.lend().is_post() {
         return CallFault::OtherKind.number();
     }
     post.close(alloc);
@@ -123,7 +123,7 @@ pub extern "C" fn tlsf_take_close(alloc: Global, take: &mut EndSlot) -> u32
     if !take.is_open {
         return CallFault::Closed.number();
     }
-    if !take.held.lend().is_take() {
+    if !take.inner.lend().is_take() {
         return CallFault::OtherKind.number();
     }
     take.close(alloc);
@@ -153,7 +153,7 @@ pub extern "C" fn tlsf_put(post: &mut EndSlot, name: BlockName) -> u32
     if !post.is_open {
         return CallFault::Closed.number();
     }
-    let AnyEnd::Post(end) = post.held.lend() else {
+    let AnyEnd::Post(end) = post.inner.lend() else {
         return CallFault::OtherKind.number();
     };
     post.is_open = false;
@@ -191,7 +191,7 @@ pub extern "C" fn tlsf_put_all(post: &mut EndSlot, names: &[BlockName], went: &m
     if !post.is_open {
         return CallFault::Closed.number();
     }
-    let AnyEnd::Post(end) = post.held.lend() else {
+    let AnyEnd::Post(end) = post.inner.lend() else {
         return CallFault::OtherKind.number();
     };
     post.is_open = false;
@@ -262,7 +262,7 @@ pub extern "C" fn tlsf_take(take: &mut EndSlot, name: &mut BlockName) -> u32
     if !take.is_open {
         return CallFault::Closed.number();
     }
-    let AnyEnd::Take(end) = take.held.lend() else {
+    let AnyEnd::Take(end) = take.inner.lend() else {
         return CallFault::OtherKind.number();
     };
     take.is_open = false;
@@ -323,7 +323,7 @@ pub extern "C" fn tlsf_drain(
     if !heap.is_open || !take.is_open {
         return CallFault::Closed.number();
     }
-    let AnyEnd::Take(end) = take.held.lend() else {
+    let AnyEnd::Take(end) = take.inner.lend() else {
         return CallFault::OtherKind.number();
     };
     take.is_open = false;

@@ -81,7 +81,7 @@ pub extern "C" fn tlsf_offsets_close(alloc: Global, offsets: &mut ArenaSlot) -> 
     if !offsets.is_open {
         return CallFault::Closed.number();
     }
-    if !offsets.held.lend().is_offsets() {
+    if !offsets.inner.lend().is_offsets() {
         return CallFault::OtherKind.number();
     }
     offsets.close(alloc);
@@ -117,7 +117,7 @@ pub extern "C" fn tlsf_offsets_allocate(
     if !offsets.is_open {
         return CallFault::Closed.number();
     }
-    let AnyArena::Offsets(owned) = offsets.held.lend() else {
+    let AnyArena::Offsets(owned) = offsets.inner.lend() else {
         return CallFault::OtherKind.number();
     };
     offsets.is_open = false;
@@ -154,7 +154,7 @@ pub extern "C" fn tlsf_offsets_release(offsets: &mut ArenaSlot, name: BlockName)
     if !offsets.is_open {
         return CallFault::Closed.number();
     }
-    let AnyArena::Offsets(owned) = offsets.held.lend() else {
+    let AnyArena::Offsets(owned) = offsets.inner.lend() else {
         return CallFault::OtherKind.number();
     };
     offsets.is_open = false;
@@ -193,7 +193,7 @@ pub extern "C" fn tlsf_offsets_resize(
     if !offsets.is_open {
         return CallFault::Closed.number();
     }
-    let AnyArena::Offsets(owned) = offsets.held.lend() else {
+    let AnyArena::Offsets(owned) = offsets.inner.lend() else {
         return CallFault::OtherKind.number();
     };
     offsets.is_open = false;
@@ -227,7 +227,7 @@ pub extern "C" fn tlsf_offsets_report(offsets: &mut ArenaSlot, usage: &mut Offse
     if !offsets.is_open {
         return CallFault::Closed.number();
     }
-    let AnyArena::Offsets(owned) = offsets.held.lend() else {
+    let AnyArena::Offsets(owned) = offsets.inner.lend() else {
         return CallFault::OtherKind.number();
     };
     offsets.is_open = false;

@@ -21,7 +21,7 @@ ghost use Rattle.tlsf_c.specs.Handles.{counts_in, heap_in, seen_in, level_in, st
 ghost use Rattle.tlsf_heap.specs.WordsInUse.{words_in_use};
 ghost use Rattle.tlsf_c.specs.Counting.{counted_request, counted_move};
 ghost use Rattle.tlsf_c.specs.Names.{name_of, info_of, not_placed, placed_name};
-ghost use Rattle.tlsf_c.specs.Places.{length_at, kept_at, resized_or_moved_by_place};
+ghost use Rattle.tlsf_c.specs.PlaceCalls.{length_at, kept_at, resized_or_moved_by_place};
 ghost use Rattle.tlsf_heap.specs.Touched.{FollowsNoPlace};
 ghost use Rattle.tlsf_c.specs.Refusals.{status_of, closed, damage};
 
@@ -54,7 +54,7 @@ pub extern "C" fn tlsf_allocate_place(heap: &mut HeapSlot, len: u32) -> PlacedNa
         return PlacedName::refusal(CallFault::Closed.number());
     }
     heap.is_open = false;
-    let owned = heap.held.lend();
+    let owned = heap.inner.lend();
     let answer = owned.allocate_unset(len);
     heap.is_open = true;
     PlacedName::of(answer)
@@ -93,7 +93,7 @@ pub extern "C" fn tlsf_allocate_aligned(
         return PlacedName::refusal(CallFault::Closed.number());
     }
     heap.is_open = false;
-    let owned = heap.held.lend();
+    let owned = heap.inner.lend();
     let answer = owned.allocate_aligned(len, step, skew);
     heap.is_open = true;
     PlacedName::of(answer)
@@ -124,7 +124,7 @@ pub extern "C" fn tlsf_release_place(heap: &mut HeapSlot, at: u32) -> u32
         return CallFault::Closed.number();
     }
     heap.is_open = false;
-    let owned = heap.held.lend();
+    let owned = heap.inner.lend();
     let answer = owned.release_at(at);
     let number = status(answer);
     heap.is_open = true;
@@ -161,7 +161,7 @@ pub extern "C" fn tlsf_resize_place(heap: &mut HeapSlot, at: u32, len: u32, new_
         return CallFault::Closed.number();
     }
     heap.is_open = false;
-    let owned = heap.held.lend();
+    let owned = heap.inner.lend();
     let answer = owned.resize_place(at, len);
     heap.is_open = true;
     match answer {
@@ -201,7 +201,7 @@ pub extern "C" fn tlsf_place(
         return CallFault::Closed.number();
     }
     heap.is_open = false;
-    let owned = heap.held.lend();
+    let owned = heap.inner.lend();
     let id = owned.id();
     let found = owned.block_at(at);
     heap.is_open = true;
@@ -246,7 +246,7 @@ pub extern "C" fn tlsf_block_at(heap: &mut HeapSlot, at: u32, block: &mut BlockI
         return CallFault::Closed.number();
     }
     heap.is_open = false;
-    let owned = heap.held.lend();
+    let owned = heap.inner.lend();
     let found = owned.block_at(at);
     heap.is_open = true;
     match found {
@@ -295,7 +295,7 @@ pub extern "C" fn tlsf_check(
         return CallFault::Closed.number();
     }
     heap.is_open = false;
-    let owned = heap.held.lend();
+    let owned = heap.inner.lend();
     let found = owned.check_blocks(from, most);
     heap.is_open = true;
     check_status(found, next, damaged)

@@ -111,7 +111,7 @@ pub extern "C" fn tlsf_pools_close(alloc: Global, pools: &mut ArenaSlot) -> u32
     if !pools.is_open {
         return CallFault::Closed.number();
     }
-    if !pools.held.lend().is_pools() {
+    if !pools.inner.lend().is_pools() {
         return CallFault::OtherKind.number();
     }
     pools.close(alloc);
@@ -141,7 +141,7 @@ pub extern "C" fn tlsf_pools_allocate(pools: &mut ArenaSlot, len: u32, name: &mu
     if !pools.is_open {
         return CallFault::Closed.number();
     }
-    let AnyArena::Pools(owned) = pools.held.lend() else {
+    let AnyArena::Pools(owned) = pools.inner.lend() else {
         return CallFault::OtherKind.number();
     };
     pools.is_open = false;
@@ -179,7 +179,7 @@ pub extern "C" fn tlsf_pools_release(pools: &mut ArenaSlot, name: BlockName) -> 
     if !pools.is_open {
         return CallFault::Closed.number();
     }
-    let AnyArena::Pools(owned) = pools.held.lend() else {
+    let AnyArena::Pools(owned) = pools.inner.lend() else {
         return CallFault::OtherKind.number();
     };
     pools.is_open = false;
@@ -214,7 +214,7 @@ pub extern "C" fn tlsf_pools_write(
     if !pools.is_open {
         return CallFault::Closed.number();
     }
-    let AnyArena::Pools(owned) = pools.held.lend() else {
+    let AnyArena::Pools(owned) = pools.inner.lend() else {
         return CallFault::OtherKind.number();
     };
     pools.is_open = false;
@@ -249,7 +249,7 @@ pub extern "C" fn tlsf_pools_read(
     if !pools.is_open {
         return CallFault::Closed.number();
     }
-    let AnyArena::Pools(owned) = pools.held.lend() else {
+    let AnyArena::Pools(owned) = pools.inner.lend() else {
         return CallFault::OtherKind.number();
     };
     pools.is_open = false;
@@ -284,7 +284,7 @@ pub extern "C" fn tlsf_pools_report(
     if !pools.is_open {
         return CallFault::Closed.number();
     }
-    let AnyArena::Pools(owned) = pools.held.lend() else {
+    let AnyArena::Pools(owned) = pools.inner.lend() else {
         return CallFault::OtherKind.number();
     };
     pools.is_open = false;

@@ -75,20 +75,20 @@ pub extern "C" fn tlsf_poster_open(queue: &mut EndSlot, poster: &mut EndSlot) ->
     ensures succeeds { queue.old.is_open ≡ true → poster.old.is_open ≡ false → 0 < length (left_in queue.old) → result ≡ 0 }
     ensures refused { ¬ (result ≡ 0) → poster.new ≡ poster.old }
     ensures opens { result ≡ 0 → poster.new.is_open ≡ true }
-    ensures given { result ≡ 0 → Gives (queue_in queue.old) (queue_in queue.new) poster.new.held.value }
+    ensures given { result ≡ 0 → Gives (queue_in queue.old) (queue_in queue.new) poster.new.inner.value }
     ensures owner { (queue.new.is_open ≡ queue.old.is_open) × (holds_queue queue.new ≡ holds_queue queue.old) × (owner_in queue.new ≡ owner_in queue.old) }
 {
     if !queue.is_open {
         return CallFault::Closed.number();
     }
     if poster.is_open {
-        return if queue.held.lend().is_queue() {
+        return if queue.inner.lend().is_queue() {
             CallFault::InUse.number()
         } else {
             CallFault::OtherKind.number()
         };
     }
-    let AnyEnd::Queue(end) = queue.held.lend() else {
+    let AnyEnd::Queue(end) = queue.inner.lend() else {
         return CallFault::OtherKind.number();
     };
     queue.is_open = false;
@@ -120,7 +120,7 @@ pub extern "C" fn tlsf_poster_close(alloc: Global, poster: &mut EndSlot) -> u32
     if !poster.is_open {
         return CallFault::Closed.number();
     }
-    if !poster.held.lend().is_poster() {
+    if !poster.inner.lend().is_poster() {
         return CallFault::OtherKind.number();
     }
     poster.close(alloc);
@@ -144,7 +144,7 @@ pub extern "C" fn tlsf_queue_close(alloc: Global, queue: &mut EndSlot) -> u32
     if !queue.is_open {
         return CallFault::Closed.number();
     }
-    if !queue.held.lend().is_queue() {
+    if !queue.inner.lend().is_queue() {
         return CallFault::OtherKind.number();
     }
     queue.close(alloc);
@@ -172,7 +172,7 @@ pub extern "C" fn tlsf_queue_post(poster: &mut EndSlot, name: BlockName) -> u32
     if !poster.is_open {
         return CallFault::Closed.number();
     }
-    let AnyEnd::Poster(end) = poster.held.lend() else {
+    let AnyEnd::Poster(end) = poster.inner.lend() else {
         return CallFault::OtherKind.number();
     };
     poster.is_open = false;
@@ -207,7 +207,7 @@ pub extern "C" fn tlsf_queue_take(queue: &mut EndSlot, name: &mut BlockName) -> 
     if !queue.is_open {
         return CallFault::Closed.number();
     }
-    let AnyEnd::Queue(end) = queue.held.lend() else {
+    let AnyEnd::Queue(end) = queue.inner.lend() else {
         return CallFault::OtherKind.number();
     };
     queue.is_open = false;
@@ -268,7 +268,7 @@ pub extern "C" fn tlsf_queue_drain(
     if !heap.is_open || !queue.is_open {
         return CallFault::Closed.number();
     }
-    let AnyEnd::Queue(end) = queue.held.lend() else {
+    let AnyEnd::Queue(end) = queue.inner.lend() else {
         return CallFault::OtherKind.number();
     };
     queue.is_open = false;

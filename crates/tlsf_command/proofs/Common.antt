@@ -11,7 +11,7 @@ pub use Rattle.std.specs.Str.{bytes_eq}
 pub use Rattle.tlsf_class.specs.Classes.{most_words, IsLevel}
 unfoldable pub use Rattle.tlsf_class.specs.Classes.{class_of, low, search_of}
 pub use Rattle.tlsf_command.specs.Arguments.{Arguments, texts_of, first_number, number_of, texts_in}
-pub use Rattle.tlsf_command.specs.CommandLine.{faults_of, IsOf, tlsf_app, Asks, IsCommand, IsPlainWord, Names, run_asked, words_of, IsAnswerable, IsArg, IsAskedBy, IsRunOn, IsTip, ReadsTrace, number_for, takes_number, tip_line}
+pub use Rattle.tlsf_command.specs.CommandLine.{faults_of, IsOf, tlsf_app, Asks, IsCommand, IsPlainWord, Names, run_asked, arguments_of, IsAnswerable, IsArg, IsAskedBy, IsRunOn, IsTip, ReadsTrace, number_for, takes_number, tip_line}
 pub use Rattle.tlsf_command.specs.Quotes.{within_quotes, is_plain}
 pub use Rattle.tlsf_command.specs.Rivals.{rivals_given}
 pub use Rattle.tlsf_command.specs.Runs.{Does, Streams, ChecksNote, Ends, IsNote, LacksMemory, Refuses, ReportsUnreached, RunsOrLacksMemory, ShowsAnswer, TipsOrLacksMemory, streams, tip_on}

@@ -1,5 +1,5 @@
 -- Words that are written out, and name a run of a trace.
-use Rattle.tlsf_command.proofs.Common.{◌≡◌, ◌≢◌, ◌==◌, ◌++◌, ℕ, false, List, [], ◌∷◌, None, codes, refl, arith, bytes_eq, Arguments, faults_of, run_asked, tlsf_app, words_of, IsPlainWord, Names, rivals_given, TraceRun, Replay, Held, HeldKinds, Least, Race, RaceQueues, Map, MapHtml, MapWorst, Plot, Check}
+use Rattle.tlsf_command.proofs.Common.{◌≡◌, ◌≢◌, ◌==◌, ◌++◌, ℕ, false, List, [], ◌∷◌, None, codes, refl, arith, bytes_eq, Arguments, faults_of, run_asked, tlsf_app, arguments_of, IsPlainWord, Names, rivals_given, TraceRun, Replay, Held, HeldKinds, Least, Race, RaceQueues, Map, MapHtml, MapWorst, Plot, Check}
 use Rattle.std.proofs.lemmas.Bool.Decides.{nat_tests}
 use Rattle.clap.specs.Lexer.{long_of, short_of}
 use Rattle.clap.specs.Words.{Text, subcommand_of}
@@ -21,7 +21,7 @@ pub record NameRun (words : List Text) (run : TraceRun) (files : List Text) : Ty
   pub named : Names (NamesRun run files) (subcommand_of tlsf_app words)
 
 -- the program's name, whatever that is, and the words of a run
-pub run_named : (called : Text) (run : TraceRun) → NameRun (called ∷ words_of run) run []
+pub run_named : (called : Text) (run : TraceRun) → NameRun (called ∷ arguments_of run) run []
 unfolding clap_on_literals
 run_named called Replay = record { faultless = refl; named = ((refl, refl), refl, refl, refl, refl, refl) }
 run_named called Held = record { faultless = refl; named = ((refl, refl), refl, refl, refl, refl, refl) }
@@ -49,7 +49,7 @@ plain_word : (text : Text) → IsPlainWord text → IsPlain text
 plain_word [] plain = (refl, refl, refl)
 plain_word (code ∷ rest) plain = let no = no_hyphen code plain in (rw no refl, rw no refl, rw no refl)
 
-by_plain : (called : Text) (run : TraceRun) (file : Text) → IsPlain file → NameRun (called ∷ (words_of run ++ file ∷ [])) run (file ∷ [])
+by_plain : (called : Text) (run : TraceRun) (file : Text) → IsPlain file → NameRun (called ∷ (arguments_of run ++ file ∷ [])) run (file ∷ [])
 unfolding clap_on_literals
 by_plain called Replay file plain = record { faultless = rw (plain.0, plain.1, plain.2) refl; named = rw (plain.0, plain.1, plain.2) ((refl, refl), refl, refl, refl, refl, refl) }
 by_plain called Held file plain = record { faultless = rw (plain.0, plain.1, plain.2) refl; named = rw (plain.0, plain.1, plain.2) ((refl, refl), refl, refl, refl, refl, refl) }
@@ -67,5 +67,5 @@ by_plain called (Plot Characters) file plain = record { faultless = rw (plain.0,
 by_plain called Check file plain = record { faultless = rw (plain.0, plain.1, plain.2) refl; named = rw (plain.0, plain.1, plain.2) ((refl, refl), refl, refl, refl, refl, refl) }
 
 -- and a word behind them that begins with no hyphen
-pub file_named : (called : Text) (run : TraceRun) (file : Text) → IsPlainWord file → NameRun (called ∷ (words_of run ++ file ∷ [])) run (file ∷ [])
+pub file_named : (called : Text) (run : TraceRun) (file : Text) → IsPlainWord file → NameRun (called ∷ (arguments_of run ++ file ∷ [])) run (file ∷ [])
 file_named called run file plain = by_plain called run file (plain_word file plain)

@@ -1,6 +1,6 @@
 -- The notes on a fault.
 use Rattle.tlsf_command.proofs.Common.{◌≡◌, ◌∙◌, ℕ, Bool, List, [], Option, Result, Ok, Err, refl, subst, IfErr, IfSome, OnOk, tip_on, ChecksNote, IsNote, TraceRun, Replay, Held, HeldKinds, Least, Race, RaceQueues, Map, MapHtml, MapWorst, Plot, Check}
-use Rattle.tlsf_check.specs.Checks.{Notes}
+use Rattle.tlsf_diagnosis.specs.Notes.{Notes}
 use Rattle.tlsf_lines.specs.declared.trace_fault.TraceFault.{TraceFault}
 use Rattle.tlsf_trace.specs.declared.summary.Summary.{Summary}
 

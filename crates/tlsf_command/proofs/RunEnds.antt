@@ -1,5 +1,5 @@
 -- How a run ends, by what its words name.
-use Rattle.tlsf_command.proofs.Common.{◌≡◌, ◌⊎◌, ◌∷◌, ◌++◌, ◌∙◌, ℕ, Bool, List, [], inl, inr, ap, subst, sym, Asks, faults_of, words_of, IsPlainWord, Streams, Does, Ends, LacksMemory, RunsOrLacksMemory, ShowsAnswer, TipsOrLacksMemory, TraceRun}
+use Rattle.tlsf_command.proofs.Common.{◌≡◌, ◌⊎◌, ◌∷◌, ◌++◌, ◌∙◌, ℕ, Bool, List, [], inl, inr, ap, subst, sym, Asks, faults_of, arguments_of, IsPlainWord, Streams, Does, Ends, LacksMemory, RunsOrLacksMemory, ShowsAnswer, TipsOrLacksMemory, TraceRun}
 use Rattle.clap.specs.Words.{IsAmong, Text}
 use Rattle.clap.specs.declared.error.kind.ErrorKind.{ErrorKind}
 use Rattle.clap.specs.declared.error.kind.ErrorKind.TheVariants.{OutOfMemory}
@@ -29,20 +29,20 @@ pub data Run (tips : Bool) (words : List Text) (status : ℕ) (old new : Streams
 -- ---- what words that are written out come to
 
 module _ (tips : Bool) (words : List Text) (called : Text) (status : ℕ) (old new : Streams) (run : Run tips words status old new) where
-  by_run : (wanted : TraceRun) → words ≡ called ∷ words_of wanted → Run tips words status old new → RunsOrLacksMemory tips wanted status old new
+  by_run : (wanted : TraceRun) → words ≡ called ∷ arguments_of wanted → Run tips words status old new → RunsOrLacksMemory tips wanted status old new
   by_run wanted is (does choice asks done) =
       let names = subst (λ (given : List Text). NameRun given wanted []) (sym is) (run_named called wanted) in
       inl (subst (λ (c : Choice). Does tips c status old new) (only_run wanted choice _ names.named asks.asked) done)
   by_run wanted is (fails kind among shows) = inr (answer_lacks words _ kind status old new shows among is (run_named called wanted).faultless)
 
-  pub ends_run : (wanted : TraceRun) → words ≡ called ∷ words_of wanted → RunsOrLacksMemory tips wanted status old new
+  pub ends_run : (wanted : TraceRun) → words ≡ called ∷ arguments_of wanted → RunsOrLacksMemory tips wanted status old new
   ends_run wanted is = by_run wanted is run
 
-  by_file : (wanted : TraceRun) (file : Text) → IsPlainWord file → words ≡ called ∷ (words_of wanted ++ file ∷ []) → Run tips words status old new → TipsOrLacksMemory wanted file status old new
+  by_file : (wanted : TraceRun) (file : Text) → IsPlainWord file → words ≡ called ∷ (arguments_of wanted ++ file ∷ []) → Run tips words status old new → TipsOrLacksMemory wanted file status old new
   by_file wanted file plain is (does choice asks done) =
       let names = subst (λ (given : List Text). NameRun given wanted (file ∷ [])) (sym is) (file_named called wanted file plain) in
       inl (only_tip tips wanted file choice status old new _ names.named asks.asked done)
   by_file wanted file plain is (fails kind among shows) = inr (answer_lacks words _ kind status old new shows among is (file_named called wanted file plain).faultless)
 
-  pub ends_file : (wanted : TraceRun) (file : Text) → IsPlainWord file → words ≡ called ∷ (words_of wanted ++ file ∷ []) → TipsOrLacksMemory wanted file status old new
+  pub ends_file : (wanted : TraceRun) (file : Text) → IsPlainWord file → words ≡ called ∷ (arguments_of wanted ++ file ∷ []) → TipsOrLacksMemory wanted file status old new
   ends_file wanted file plain is = by_file wanted file plain is run

@@ -167,21 +167,21 @@ run_by name is_given merges =
     else replay_by (is_given (codes "kinds") || merges) (is_given (codes "least")) (is_given (codes "held")))))
 
 -- the words that ask for a run, behind the program's name
-abbrev pub words_of : TraceRun → List Text
-words_of Replay = codes "replay" ∷ []
-words_of Held = codes "replay" ∷ codes "--held" ∷ []
-words_of HeldKinds = codes "replay" ∷ codes "--kinds" ∷ []
-words_of Least = codes "replay" ∷ codes "--least" ∷ []
-words_of Race = codes "race" ∷ []
-words_of RaceQueues = codes "race" ∷ codes "--queues" ∷ []
-words_of (Map Svg) = codes "map" ∷ []
-words_of (Map Characters) = codes "map" ∷ codes "--text" ∷ []
-words_of MapHtml = codes "map" ∷ codes "--html" ∷ []
-words_of (MapWorst Svg) = codes "map" ∷ codes "--worst" ∷ []
-words_of (MapWorst Characters) = codes "map" ∷ codes "--worst" ∷ codes "--text" ∷ []
-words_of (Plot Svg) = codes "plot" ∷ []
-words_of (Plot Characters) = codes "plot" ∷ codes "--text" ∷ []
-words_of Check = codes "check" ∷ []
+abbrev pub arguments_of : TraceRun → List Text
+arguments_of Replay = codes "replay" ∷ []
+arguments_of Held = codes "replay" ∷ codes "--held" ∷ []
+arguments_of HeldKinds = codes "replay" ∷ codes "--kinds" ∷ []
+arguments_of Least = codes "replay" ∷ codes "--least" ∷ []
+arguments_of Race = codes "race" ∷ []
+arguments_of RaceQueues = codes "race" ∷ codes "--queues" ∷ []
+arguments_of (Map Svg) = codes "map" ∷ []
+arguments_of (Map Characters) = codes "map" ∷ codes "--text" ∷ []
+arguments_of MapHtml = codes "map" ∷ codes "--html" ∷ []
+arguments_of (MapWorst Svg) = codes "map" ∷ codes "--worst" ∷ []
+arguments_of (MapWorst Characters) = codes "map" ∷ codes "--worst" ∷ codes "--text" ∷ []
+arguments_of (Plot Svg) = codes "plot" ∷ []
+arguments_of (Plot Characters) = codes "plot" ∷ codes "--text" ∷ []
+arguments_of Check = codes "check" ∷ []
 
 -- words in one text
 abbrev pub joined : List Text → Text
@@ -191,7 +191,7 @@ joined (word ∷ words) = word ++ (codes " " ++ joined words)
 
 -- the words of a run in one text
 abbrev pub spelled : TraceRun → Text
-spelled run = joined (words_of run)
+spelled run = joined (arguments_of run)
 
 -- the option that gives a run its number: the line of a picture, or the heaps for which kinds are merged
 abbrev pub option_text : TraceRun → Text

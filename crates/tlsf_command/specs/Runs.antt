@@ -21,7 +21,7 @@ use Rattle.tlsf_command.specs.declared.command_line.Choice.{Choice}
 use Rattle.tlsf_command.specs.declared.command_line.Choice.TheVariants.{Trace, File, Classes, Size, At, Heaps, Excluded}
 use Rattle.tlsf_command.specs.declared.trace_run.TraceRun.{TraceRun}
 use Rattle.tlsf_command.specs.declared.trace_run.TraceRun.TheVariants.{Replay, Held, HeldKinds, Least, Race, RaceQueues, Map, MapHtml, MapWorst, Plot, Check}
-use Rattle.tlsf_check.specs.Checks.{Checks, Notes}
+use Rattle.tlsf_diagnosis.specs.Notes.{Describes, Notes}
 use Rattle.tlsf_held.specs.Least.{TellsLeast}
 use Rattle.tlsf_held.specs.Measures.{Measures, TellsKinds, TellsMerged}
 use Rattle.tlsf_picture.specs.Drawn.{Draws, DrawsAt, DrawsText}
@@ -86,7 +86,7 @@ puts_of (Map Characters) = DrawsText
 puts_of MapHtml = DrawsPage
 puts_of (MapWorst form) = DrawsWorst form
 puts_of (Plot form) = Plots form
-puts_of Check = Checks
+puts_of Check = Describes
 
 -- the trace is run in this way, and the answer gives the status and the report
 pub record RunsAs (tips : Bool) (run : TraceRun) (status : ℕ) (old new : Streams) : Type 0 where

@@ -45,8 +45,8 @@ longest_of [] = 0
 longest_of (kind ∷ kinds) = max kind.len (longest_of kinds)
 
 -- a count of them, as `1 block` and `2 blocks`
-abbrev pub counted : ℕ → List ℕ → List ℕ
-counted n name = decimal n ++ (codes " " ++ (name ++ (if n == 1 then [] else codes "s")))
+abbrev pub quantity : ℕ → List ℕ → List ℕ
+quantity n name = decimal n ++ (codes " " ++ (name ++ (if n == 1 then [] else codes "s")))
 
 -- how many hundredths of b there are in a, to the nearest
 abbrev pub hundredths : ℕ → ℕ → ℕ
@@ -72,7 +72,7 @@ size_line sli kinds = words_line (kinds_words sli kinds) (asked_bytes kinds)
 abbrev pub heap_line : ℕ → (heap before : ℕ) → List Kind → List ℕ
 heap_line sli heap before part =
     codes "heap " ++ (decimal heap ++ (codes " kinds " ++ (decimal (before + 1) ++ (codes " to " ++ (decimal (before + length part)
-    ++ (codes " up to " ++ (counted (longest_of part) (codes "byte") ++ (codes " " ++ words_line (fixed_kinds_words sli part) (asked_bytes part)))))))))
+    ++ (codes " up to " ++ (quantity (longest_of part) (codes "byte") ++ (codes " " ++ words_line (fixed_kinds_words sli part) (asked_bytes part)))))))))
 
 -- those on the heaps of these tables, from a number and a place on
 abbrev pub heap_lines : ℕ → (heap before : ℕ) → List (List Kind) → List ℕ
@@ -101,8 +101,8 @@ no_split_line = codes "tlsf: no region has so many words, however the kinds are 
 -- the refusal of a table whose kind at this place, from 1 on, is longer than the next one, or as long
 abbrev pub falling_line : (place before len : ℕ) → List ℕ
 falling_line place before len =
-    codes "tlsf: kind " ++ (decimal (place + 1) ++ (codes " of " ++ (counted len (codes "byte")
-    ++ (codes " is no longer than kind " ++ (decimal place ++ (codes " of " ++ (counted before (codes "byte")
+    codes "tlsf: kind " ++ (decimal (place + 1) ++ (codes " of " ++ (quantity len (codes "byte")
+    ++ (codes " is no longer than kind " ++ (decimal place ++ (codes " of " ++ (quantity before (codes "byte")
     ++ codes ": --split takes kinds from short to long, each length once\n")))))))
 
 -- the cheapest split of such a table, if it has one
@@ -114,7 +114,7 @@ IsSplitOf sli kinds (Some split) = IsCheapest sli kinds split
 abbrev pub split_hint_text : Option Split → List ℕ
 split_hint_text None = []
 split_hint_text (Some split) =
-    codes "; with --split " ++ (counted split.heaps (codes "heap") ++ (codes " of " ++ (decimal split.words ++ (codes " words "
+    codes "; with --split " ++ (quantity split.heaps (codes "heap") ++ (codes " of " ++ (decimal split.words ++ (codes " words "
     ++ ((if split.heaps == 1 then codes "is" else codes "together are") ++ codes " enough")))))
 
 -- the words of a region of level 5 for such a table, if one has that many
@@ -130,20 +130,20 @@ hint_text (Some words) = codes "; with --level 5 a region of " ++ (decimal words
 -- the refusal, with the most blocks of this length, the most bytes for this many blocks, and both hints
 abbrev pub unreached_line : (most len blocks bytes : ℕ) → Option Split → (finer : Option ℕ) → List ℕ
 unreached_line most len blocks bytes split finer =
-    codes "tlsf: no region has so many words: at most " ++ (counted blocks (codes "block")
-    ++ (codes " of " ++ (counted len (codes "byte")
-    ++ (codes ", or " ++ (counted most (codes "block")
-    ++ (codes " of at most " ++ (counted bytes (codes "byte") ++ (split_hint_text split ++ (hint_text finer ++ codes "\n")))))))))
+    codes "tlsf: no region has so many words: at most " ++ (quantity blocks (codes "block")
+    ++ (codes " of " ++ (quantity len (codes "byte")
+    ++ (codes ", or " ++ (quantity most (codes "block")
+    ++ (codes " of at most " ++ (quantity bytes (codes "byte") ++ (split_hint_text split ++ (hint_text finer ++ codes "\n")))))))))
 
 -- the refusal of a table, with the number of kinds for which a region has room, the next one, and both hints
 abbrev pub unreached_table_line : ℕ → Kind → Option Split → (finer : Option ℕ) → List ℕ
 unreached_table_line n kind split finer =
-    codes "tlsf: no region has so many words: one has room for " ++ (counted n (codes "leading kind")
-    ++ (codes ", but not for " ++ (counted kind.most (codes "block")
-    ++ (codes " of " ++ (counted kind.len (codes "byte") ++ (codes " besides" ++ (split_hint_text split ++ (hint_text finer ++ codes "\n"))))))))
+    codes "tlsf: no region has so many words: one has room for " ++ (quantity n (codes "leading kind")
+    ++ (codes ", but not for " ++ (quantity kind.most (codes "block")
+    ++ (codes " of " ++ (quantity kind.len (codes "byte") ++ (codes " besides" ++ (split_hint_text split ++ (hint_text finer ++ codes "\n"))))))))
 
 -- the refusal of options that are no pairs
 abbrev pub unpaired_line : (blocks bytes : ℕ) → List ℕ
 unpaired_line blocks bytes =
-    codes "tlsf: --blocks is given " ++ (counted blocks (codes "time")
-    ++ (codes " and --bytes " ++ (counted bytes (codes "time") ++ codes ": give one of each for every kind, 64 kinds at most\n")))
+    codes "tlsf: --blocks is given " ++ (quantity blocks (codes "time")
+    ++ (codes " and --bytes " ++ (quantity bytes (codes "time") ++ codes ": give one of each for every kind, 64 kinds at most\n")))

@@ -1,7 +1,7 @@
 ghost use Rattle.std.specs.Prelude.{◌≡◌, ◌++◌, ℕ, List, [], ◌∷◌, Option, map, string_bytes};
 ghost use Rattle.clap.specs.Words.{kind_of};
 ghost use Rattle.tlsf_command.specs.FaultLines.{fault_line, status_of_fault};
-ghost use Rattle.tlsf_command.specs.CommandLine.{words_of, IsAnswerable, IsPlainWord};
+ghost use Rattle.tlsf_command.specs.CommandLine.{arguments_of, IsAnswerable, IsPlainWord};
 ghost use Rattle.tlsf_command.specs.Runs as told;
 ghost use Rattle.tlsf_command.specs.Runs.{puts_of, streams, status_of, ChecksNote, Does, Ends, IsNote, Reports, RunsAs, RunsBy, RunsOrLacksMemory, ShowsAnswer, TipsOrLacksMemory};
 ghost use Rattle.tlsf_command.specs.declared.trace_run.TraceRun.{TraceRun};
@@ -23,8 +23,8 @@ use std::io::{Read, Write};
 use std::marker::Sync;
 use std::sync::Wait;
 use std::thread::Threads;
-use tlsf_check::{NUMBER_TIP, check_trace, have_marked_number};
 use tlsf_crew::Gate;
+use tlsf_diagnosis::{NUMBER_TIP, diagnose_trace, have_marked_number};
 use tlsf_held::{measure_kinds, measure_least, measure_merged_kinds, measure_trace};
 use tlsf_picture::{
     Form, draw_trace, draw_trace_as_page, draw_trace_as_text, draw_trace_at, draw_trace_at_worst,
@@ -126,7 +126,7 @@ fn traced<T: Threads + Wait + Sync, R: Read, W: Write, G: Gate>(
         TraceRun::MapHtml => draw_trace_as_page(alloc, reader, writer),
         TraceRun::MapWorst(form) => draw_trace_at_worst(alloc, form, reader, writer),
         TraceRun::Plot(form) => plot_trace(alloc, form, reader, writer),
-        TraceRun::Check => check_trace(alloc, reader, writer, note),
+        TraceRun::Check => diagnose_trace(alloc, reader, writer, note),
     }
 }
 
@@ -322,14 +322,14 @@ pub fn run<T: Threads + Wait + Sync, S: AsStr, R: Read, W: Write, E: Write, G: G
         (streams (R.remaining reader.new) (W.contents writer.new) (E.contents errors.new)) }
 
     // Where the words are the program's name, whatever that is, and those that ask for a run of a trace.
-    ensures trace { (program : List ℕ) (run : TraceRun) → map S.text words.now ≡ program ∷ words_of run
+    ensures trace { (program : List ℕ) (run : TraceRun) → map S.text words.now ≡ program ∷ arguments_of run
         → RunsOrLacksMemory tips run result
         (streams (R.remaining reader.old) (W.contents writer.old) (E.contents errors.old))
         (streams (R.remaining reader.new) (W.contents writer.new) (E.contents errors.new)) }
 
     // Where a word behind these names a file, and begins with no hyphen: nothing is read or written, and the tip is reported.
     ensures file { (program file : List ℕ) (run : TraceRun) → IsPlainWord file
-        → map S.text words.now ≡ program ∷ (words_of run ++ file ∷ [])
+        → map S.text words.now ≡ program ∷ (arguments_of run ++ file ∷ [])
         → TipsOrLacksMemory run file result
         (streams (R.remaining reader.old) (W.contents writer.old) (E.contents errors.old))
         (streams (R.remaining reader.new) (W.contents writer.new) (E.contents errors.new)) }

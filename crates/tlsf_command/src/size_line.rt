@@ -9,8 +9,8 @@ ghost use Rattle.tlsf_pool.specs.declared.sizes.split.Split.{Split};
 ghost use Rattle.tlsf_pool.specs.sizes.Limits.{most_kinds};
 ghost use Rattle.tlsf_lines.specs.Prefixes.{AppendsFront};
 
-use crate::counted::Counted;
 use crate::finer_hint::FinerHint;
+use crate::quantity::Quantity;
 use crate::region_size::RegionSize;
 use crate::split_hint::SplitHint;
 use crate::split_lines::split_of;
@@ -151,10 +151,10 @@ fn unreached_line_of(
 ) -> Result<ArrayString<256>, fmt::Error>
     ensures { IfOk result (λ line. line.bytes ≡ unreached_line kind.most kind.len blocks bytes split finer) }
 {
-    let blocks_reached = Counted::new(blocks as usize, "block");
-    let len = Counted::new(kind.len as usize, "byte");
-    let most = Counted::new(kind.most as usize, "block");
-    let bytes_reached = Counted::new(bytes as usize, "byte");
+    let blocks_reached = Quantity::new(blocks as usize, "block");
+    let len = Quantity::new(kind.len as usize, "byte");
+    let most = Quantity::new(kind.most as usize, "block");
+    let bytes_reached = Quantity::new(bytes as usize, "byte");
     let pool = SplitHint { split };
     let hint = FinerHint { words: finer };
     let mut line = ArrayString::new();

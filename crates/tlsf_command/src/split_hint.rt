@@ -1,4 +1,4 @@
-use crate::counted::Counted;
+use crate::quantity::Quantity;
 use std::fmt;
 use tlsf_pool::Split;
 
@@ -18,7 +18,7 @@ impl fmt::Display for SplitHint {
     fn fmt<W: fmt::Write>(&self, f: &mut fmt::Formatter<W>) -> fmt::Result {
         match self.split {
             Some(split) => {
-                let heaps = Counted::new(split.heaps as usize, "heap");
+                let heaps = Quantity::new(split.heaps as usize, "heap");
                 let words = split.words;
                 let verb = if split.heaps == 1 {
                     "is"

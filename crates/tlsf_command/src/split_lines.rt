@@ -9,7 +9,7 @@ ghost use Rattle.tlsf_pool.specs.sizes.Rising.{len_at, IsFirstFall};
 ghost use Rattle.tlsf_pool.specs.sizes.Splits.{parts_of, IsPart};
 ghost use Rattle.tlsf_lines.specs.Prefixes.{AppendsFront};
 
-use crate::counted::Counted;
+use crate::quantity::Quantity;
 use crate::region_size::RegionSize;
 use crate::size_line::{are_servable, asked_bytes};
 use arrayvec::ArrayString;
@@ -71,7 +71,7 @@ fn add_heap_line<const SLI: u32>(
 {
     let first = before + 1;
     let last = before + part.len();
-    let longest = Counted::new(longest_of(part) as usize, "byte");
+    let longest = Quantity::new(longest_of(part) as usize, "byte");
     let sized = RegionSize::new(fixed_kinds_words::<SLI>(part) as u32, asked_bytes(part));
     writeln!(
         lines,
@@ -165,8 +165,8 @@ fn falling_line_of(row: usize, before: u32, len: u32) -> Result<ArrayString<192>
     ensures { IfOk result (λ line. line.bytes ≡ falling_line row before len) }
 {
     let place = row + 1;
-    let own = Counted::new(len as usize, "byte");
-    let longer = Counted::new(before as usize, "byte");
+    let own = Quantity::new(len as usize, "byte");
+    let longer = Quantity::new(before as usize, "byte");
     let mut line = ArrayString::new();
     writeln!(
         line,

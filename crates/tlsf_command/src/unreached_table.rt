@@ -6,8 +6,8 @@ ghost use Rattle.tlsf_pool.specs.sizes.Limits.{most_kinds};
 ghost use Rattle.tlsf_pool.specs.declared.sizes.split.Split.{Split};
 ghost use Rattle.tlsf_lines.specs.Prefixes.{AppendsFront};
 
-use crate::counted::Counted;
 use crate::finer_hint::FinerHint;
+use crate::quantity::Quantity;
 use crate::size_line::words_for;
 use crate::split_hint::SplitHint;
 use crate::split_lines::split_of;
@@ -50,9 +50,9 @@ fn table_line_of(
 ) -> Result<ArrayString<384>, fmt::Error>
     ensures { IfOk result (λ line. line.bytes ≡ unreached_table_line reached next split finer) }
 {
-    let front = Counted::new(reached, "leading kind");
-    let most = Counted::new(next.most as usize, "block");
-    let len = Counted::new(next.len as usize, "byte");
+    let front = Quantity::new(reached, "leading kind");
+    let most = Quantity::new(next.most as usize, "block");
+    let len = Quantity::new(next.len as usize, "byte");
     let heaps = SplitHint { split };
     let hint = FinerHint { words: finer };
     let mut line = ArrayString::new();
@@ -97,8 +97,8 @@ pub fn write_unreached_table_line<const SLI: u32, E: Write>(
 fn unpaired_line_of(blocks: usize, bytes: usize) -> Result<ArrayString<160>, fmt::Error>
     ensures { IfOk result (λ line. line.bytes ≡ unpaired_line blocks bytes) }
 {
-    let blocks_given = Counted::new(blocks, "time");
-    let bytes_given = Counted::new(bytes, "time");
+    let blocks_given = Quantity::new(blocks, "time");
+    let bytes_given = Quantity::new(bytes, "time");
     let mut line = ArrayString::new();
     writeln!(
         line,

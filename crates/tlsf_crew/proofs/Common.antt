@@ -69,7 +69,7 @@ pub use Rattle.tlsf_crew.specs.races.QueueRace.{IsQueueRace, AgreeQueue, IsLegal
 pub use Rattle.tlsf_crew.specs.races.QueueTasks.{QueueLastDrained, EachQueueLastDrained, EachQueueWorkerRan, HasPlace, KnowsSomeYard, QueueWorkerRan, SettledAndDrained}
 pub use Rattle.tlsf_crew.specs.races.Race.{IsRace, events_by, Agree, IsLegal, events_of_race}
 pub use Rattle.tlsf_crew.specs.replays.ReplaySteps.{replay_of, ConcernsCall, IsReplied, AreLimits, drain_of}
-pub use Rattle.tlsf_crew.specs.scripts.Counts.{releases_of, is_release, AreLaneLimits, releases_in}
+pub use Rattle.tlsf_crew.specs.scripts.EntryRoom.{releases_of, is_release, AreLaneLimits, releases_in}
 pub use Rattle.tlsf_crew.specs.scripts.Journals.{EntersTake, IsAdmitted, OneFewer}
 pub use Rattle.tlsf_crew.specs.scripts.LaneMoves.{LaneMoved, Spent, one, LaneStepped, PostEndMoved, TakeEndMoved, EachLaneSpent, EachLaneTaken, LaneTakenWithin, WorkerDrain, drain_at, lane_promise, took_by, took_each_lane, took_posts, LaneSpent, LaneTaken, SuitsCall, SuitsDrain, took_post}
 pub use Rattle.tlsf_crew.specs.scripts.QueueMoves.{QueueStepped, QueueMoved, entry_by, queue_promise}

@@ -1,7 +1,7 @@
 -- Facts about a script's calls on their worker, over lanes and over queues.
 
 -- How many entries events can make.
-pub mod Counts
+pub mod EntryRoom
 -- A journal: the posts of a drain that it admits, and the entries for them. For private functions alone.
 pub mod Journals
 -- The answers and effects of the calls of one worker of a race. For private functions alone.

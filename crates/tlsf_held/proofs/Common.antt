@@ -26,16 +26,16 @@ pub use Rattle.tlsf_held.specs.HeldLines.{held_text}
 unfoldable pub use Rattle.tlsf_held.specs.HeldLines.{held_region}
 pub use Rattle.tlsf_held.specs.KindLines.{kinds_text, kinds_line, pairs_text}
 pub use Rattle.tlsf_held.specs.KindTables.{IsLeastRow, IsOfRow, AreRows, KeepWithin, IsTable, kinds_of, lengths_with}
-pub use Rattle.tlsf_held.specs.Least.{IsScriptBut, IsReady, with_words, AreLeastRows, AreLeastWords, IsSpan, least_text, with_least}
-pub use Rattle.tlsf_held.specs.Lent.{ledger_of, with_len, others, with_loan}
+pub use Rattle.tlsf_held.specs.Least.{IsScriptBut, IsReady, with_words, AreLeastRows, AreLeastWords, IsBracket, least_text, with_least}
+pub use Rattle.tlsf_held.specs.Lent.{inventory_of, with_len, others, with_loan}
 pub use Rattle.tlsf_held.specs.Loans.{account_of, Account, accounted, wanted_in, with_resized, with_taken, IsMostWanted, WantAtMost, freed_by, no_loans, wanted_with}
 pub use Rattle.tlsf_held.specs.Measures.{AreLeastBounds, HeldKindsSuffice, HeldWordsSuffice, IsMostWantedOf, Measures, TellsKinds, TellsMerged}
 pub use Rattle.tlsf_held.specs.MergedLines.{AddsMerged}
-pub use Rattle.tlsf_held.specs.Merges.{heaps_of, row_words, span_of, AreMerged, IsLeastMerge, IsMergedTable, IsSpanRow, is_between, no_region, rows_words, starts_at}
+pub use Rattle.tlsf_held.specs.Merges.{heaps_of, row_words, band_of, AreMerged, IsLeastMerge, IsMergedTable, IsBandRow, is_between, no_region, rows_words, starts_at}
 pub use Rattle.tlsf_held.specs.RowTallies.{table_of, RowAccount, first_few, no_rows, row_accounted, with_lengths, rows_told, used_rows, rows_asked, rows_left}
 pub use Rattle.tlsf_held.specs.Rows.{IsWithin, no_row, row_in, row_of, row_count, used, with_one, joined}
 unfoldable pub use Rattle.tlsf_held.specs.Rows.{class_number}
-pub use Rattle.tlsf_held.specs.Steps.{steps_told, StepAccount, freed_steps, moved_steps, no_span, span_after, stepped_all, entry_steps, no_steps, resized_steps, row_between, span_step, stepped, taken_steps, with_freed, with_held}
+pub use Rattle.tlsf_held.specs.Steps.{steps_told, StepAccount, freed_steps, moved_steps, no_band, band_after, stepped_all, entry_steps, no_steps, resized_steps, row_between, band_step, stepped, taken_steps, with_freed, with_held}
 pub use Rattle.tlsf_held.specs.Tallies.{tally_of, noted, no_calls, with_release}
 pub use Rattle.tlsf_held.specs.declared.row.Row.{Row}
 pub use Rattle.tlsf_held.specs.declared.steps.Step.{Step}
@@ -45,6 +45,6 @@ pub use Rattle.tlsf_lines.specs.Versions.{level_of, most_words_of}
 pub use Rattle.tlsf_lines.specs.declared.header.Header.{Header}
 pub use Rattle.tlsf_pool.specs.declared.sizes.split.Split.{Split}
 pub use Rattle.tlsf_pool.specs.laws.Contents.{is_same}
-pub use Rattle.tlsf_pool.specs.laws.Kinds.{Ledger, lengths, ledger_after, with_length, AreOfKinds, ArePlanned, IsPlanned}
+pub use Rattle.tlsf_pool.specs.laws.Kinds.{Inventory, lengths, inventory_after, with_length, AreOfKinds, ArePlanned, IsPlanned}
 pub use Rattle.tlsf_pool.specs.laws.MixedSizes.{AreModest, HasRoomFor, IsModest, mixed_region, mixed_words}
 pub use Rattle.tlsf_trace.specs.Output.{level_in, yard_of, run_of, run_at}

@@ -1,5 +1,5 @@
 -- The words of a table of kinds are enough.
-use Rattle.tlsf_held.proofs.Common.{◌≡◌, ◌≢◌, ◌==◌, ℕ, zero, suc, ◌+◌, ◌<◌, ◌≤◌, Bool, true, false, cond, nat_le, nat_lt, List, [], ◌∷◌, length, map, max, Ok, inl, inr, refl, sym, subst, arith, le_trans, filter, range_with_len, AllByRecursion, cases_eq, cases_lt, le-leb, lt-leb, le-ltb, lt-ltb, ltb-true, nat_tests, get_or-map-range_with_len, length-map-range_with_len, class_of, last_class, most_words, IsLevel, HeapState, want, Call, Answer, Got, opened, run, Ledger, ledger_after, lengths, AreOfKinds, ArePlanned, IsPlanned, HasRoomFor, answers_on, calls_on, handed_on, heap_in, no_heap, events_of, level_in, run_of, yard_of, kinds_of, AreRows, IsOfRow, KeepWithin, HeldKindsSuffice, class_number, row_count, row_in, row_of, used, IsWithin, Row}
+use Rattle.tlsf_held.proofs.Common.{◌≡◌, ◌≢◌, ◌==◌, ℕ, zero, suc, ◌+◌, ◌<◌, ◌≤◌, Bool, true, false, cond, nat_le, nat_lt, List, [], ◌∷◌, length, map, max, Ok, inl, inr, refl, sym, subst, arith, le_trans, filter, range_with_len, AllByRecursion, cases_eq, cases_lt, le-leb, lt-leb, le-ltb, lt-ltb, ltb-true, nat_tests, get_or-map-range_with_len, length-map-range_with_len, class_of, last_class, most_words, IsLevel, HeapState, want, Call, Answer, Got, opened, run, Inventory, inventory_after, lengths, AreOfKinds, ArePlanned, IsPlanned, HasRoomFor, answers_on, calls_on, handed_on, heap_in, no_heap, events_of, level_in, run_of, yard_of, kinds_of, AreRows, IsOfRow, KeepWithin, HeldKindsSuffice, class_number, row_count, row_in, row_of, used, IsWithin, Row}
 use Rattle.std.proofs.Math.Pow.{shr_mono}
 use Rattle.tlsf_class.proofs.ClassOfSize.{class_of-bounds, class_of-rises}
 use Rattle.tlsf_heap.specs.Calls.{Allocate}
@@ -155,17 +155,17 @@ module _ (row : ℕ → ℕ) (rises : (a b : ℕ) → a ≤ b → row a ≤ row 
     all_between (len ∷ lens) below = ((omega arith, below len), all_between lens below)
 
     module _ (below : (len : ℕ) → row len < to) where
-      one_planned : (ledger : Ledger) (call : Call) (answer : Answer) (calls : List Call) (answers : List Answer)
-          → ((i : ℕ) → i < to → KeepWithin row i (all i) ledger (call ∷ calls) (answer ∷ answers)) → IsPlanned (kinds_of (used (map all (range_with_len 0 to)))) ledger call
-      one_planned ledger (Allocate n) answer calls answers each = of_kinds 0 to (n ∷ lengths ledger) (omega arith) (λ i inside. (each i inside).0) (all_between (n ∷ lengths ledger) below)
-      one_planned ledger call answer calls answers each = tt
+      one_planned : (inventory : Inventory) (call : Call) (answer : Answer) (calls : List Call) (answers : List Answer)
+          → ((i : ℕ) → i < to → KeepWithin row i (all i) inventory (call ∷ calls) (answer ∷ answers)) → IsPlanned (kinds_of (used (map all (range_with_len 0 to)))) inventory call
+      one_planned inventory (Allocate n) answer calls answers each = of_kinds 0 to (n ∷ lengths inventory) (omega arith) (λ i inside. (each i inside).0) (all_between (n ∷ lengths inventory) below)
+      one_planned inventory call answer calls answers each = tt
 
-      all_planned : (ledger : Ledger) (calls : List Call) (answers : List Answer) → ((i : ℕ) → i < to → KeepWithin row i (all i) ledger calls answers)
-          → ArePlanned (kinds_of (used (map all (range_with_len 0 to)))) ledger calls answers
-      all_planned ledger [] answers each = tt
-      all_planned ledger (call ∷ calls) [] each = tt
-      all_planned ledger (call ∷ calls) (answer ∷ answers) each =
-          (one_planned ledger call answer calls answers each, all_planned (ledger_after ledger call answer) calls answers (λ i inside. (each i inside).1))
+      all_planned : (inventory : Inventory) (calls : List Call) (answers : List Answer) → ((i : ℕ) → i < to → KeepWithin row i (all i) inventory calls answers)
+          → ArePlanned (kinds_of (used (map all (range_with_len 0 to)))) inventory calls answers
+      all_planned inventory [] answers each = tt
+      all_planned inventory (call ∷ calls) [] each = tt
+      all_planned inventory (call ∷ calls) (answer ∷ answers) each =
+          (one_planned inventory call answer calls answers each, all_planned (inventory_after inventory call answer) calls answers (λ i inside. (each i inside).1))
 
 -- calls keep to the kinds of their rows
 rows_planned : (sli : ℕ) → IsLevel sli → (grain : ℕ) (calls : List Call) (answers : List Answer) (rows : List Row) → AreRows sli grain calls answers rows → ArePlanned (kinds_of rows) [] calls answers
@@ -176,13 +176,13 @@ rows_planned sli level grain calls answers rows are =
 
 -- ---- answers as they are handed on
 
-planned_own : (kinds : List Kind) (ledger : Ledger) (calls : List Call) (answers : List Answer) → ArePlanned kinds ledger calls (map handed_on answers) → ArePlanned kinds ledger calls answers
-planned_own kinds ledger [] answers planned = tt
-planned_own kinds ledger (call ∷ calls) [] planned = tt
-planned_own kinds ledger (call ∷ calls) (answer ∷ answers) planned = (
+planned_own : (kinds : List Kind) (inventory : Inventory) (calls : List Call) (answers : List Answer) → ArePlanned kinds inventory calls (map handed_on answers) → ArePlanned kinds inventory calls answers
+planned_own kinds inventory [] answers planned = tt
+planned_own kinds inventory (call ∷ calls) [] planned = tt
+planned_own kinds inventory (call ∷ calls) (answer ∷ answers) planned = (
   planned.0,
-  planned_own kinds (ledger_after ledger call answer) calls answers
-      (subst (λ (l : Ledger). ArePlanned kinds l calls (map handed_on answers)) (noted_same ledger call answer) planned.1),
+  planned_own kinds (inventory_after inventory call answer) calls answers
+      (subst (λ (l : Inventory). ArePlanned kinds l calls (map handed_on answers)) (noted_same inventory call answer) planned.1),
 )
 
 room_same : (answer : Answer) → HasRoomFor answer → HasRoomFor (handed_on answer)

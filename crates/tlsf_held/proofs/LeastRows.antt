@@ -1,9 +1,9 @@
 -- The rows that calls come to are the least that they keep within.
-use Rattle.tlsf_held.proofs.Common.{◌≡◌, ◌≢◌, ◌⊎◌, ◌==◌, ℕ, ◌<◌, Bool, true, false, cond, List, [], ◌∷◌, length, get_or, max, replicate, Ok, Err, inl, inr, refl, sym, ap, ap₂, ◌∙◌, subst, arith, filter, not, cases_eq, cases_lt, eqb-true, nat_tests, get_or-set_other, length-set, Call, Answer, Allocated, Released, Written, Got, Name, is_same, Ledger, ledger_after, lengths, with_length, lengths_with, IsLeastRow, IsOfRow, KeepWithin, with_lengths, joined, no_row, row_in, with_one, IsWithin, Row}
+use Rattle.tlsf_held.proofs.Common.{◌≡◌, ◌≢◌, ◌⊎◌, ◌==◌, ℕ, ◌<◌, Bool, true, false, cond, List, [], ◌∷◌, length, get_or, max, replicate, Ok, Err, inl, inr, refl, sym, ap, ap₂, ◌∙◌, subst, arith, filter, not, cases_eq, cases_lt, eqb-true, nat_tests, get_or-set_other, length-set, Call, Answer, Allocated, Released, Written, Got, Name, is_same, Inventory, inventory_after, lengths, with_length, lengths_with, IsLeastRow, IsOfRow, KeepWithin, with_lengths, joined, no_row, row_in, with_one, IsWithin, Row}
 use Rattle.std.proofs.lemmas.Grind.{get_or-set_at}
 use Rattle.std.proofs.lemmas.List.{get_or-replicate, length-replicate}
 use Rattle.tlsf_heap.specs.Calls.{Allocate, Release, Write, Resize, Read, Resized}
-use Rattle.tlsf_held.proofs.MostWanted.{read_ledger, written_ledger}
+use Rattle.tlsf_held.proofs.MostWanted.{read_inventory, written_inventory}
 use Rattle.tlsf_held.proofs.RowEntries.{rows_after, rows_after_all, rows_behind}
 
 zero_max : (n : ℕ) → max 0 n ≡ n
@@ -26,23 +26,23 @@ module _ (row : ℕ → ℕ) where
   pub noted_whole : (rows : List Row) (len : ℕ) (lens : List ℕ) → length (with_lengths row rows len lens) ≡ length rows
   noted_whole rows len lens = length-set rows (row len) (joined (get_or rows (row len) no_row) (row_in row (row len) lens))
 
-  behind_whole : (rows : List Row) (len : ℕ) (answer : Answer) (ledger : Ledger) → length (rows_behind row rows len answer ledger) ≡ length rows
-  behind_whole rows len (Resized (Ok done)) ledger = noted_whole rows len (lengths ledger)
-  behind_whole rows len answer ledger = refl
+  behind_whole : (rows : List Row) (len : ℕ) (answer : Answer) (inventory : Inventory) → length (rows_behind row rows len answer inventory) ≡ length rows
+  behind_whole rows len (Resized (Ok done)) inventory = noted_whole rows len (lengths inventory)
+  behind_whole rows len answer inventory = refl
 
-  after_whole : (rows : List Row) (call : Call) (answer : Answer) (ledger behind : Ledger) → length (rows_after row rows call answer ledger behind) ≡ length rows
-  after_whole rows (Allocate len) answer ledger behind = noted_whole rows len (len ∷ lengths ledger)
-  after_whole rows (Release name) answer ledger behind = refl
-  after_whole rows (Write name from bytes) answer ledger behind = refl
-  after_whole rows (Resize name len) answer ledger behind = behind_whole rows len answer behind
-  after_whole rows (Read name from n) answer ledger behind = refl
+  after_whole : (rows : List Row) (call : Call) (answer : Answer) (inventory behind : Inventory) → length (rows_after row rows call answer inventory behind) ≡ length rows
+  after_whole rows (Allocate len) answer inventory behind = noted_whole rows len (len ∷ lengths inventory)
+  after_whole rows (Release name) answer inventory behind = refl
+  after_whole rows (Write name from bytes) answer inventory behind = refl
+  after_whole rows (Resize name len) answer inventory behind = behind_whole rows len answer behind
+  after_whole rows (Read name from n) answer inventory behind = refl
 
-  pub all_whole : (rows : List Row) (ledger : Ledger) (calls : List Call) (answers : List Answer) → length (rows_after_all row rows ledger calls answers) ≡ length rows
-  all_whole rows ledger [] answers = refl
-  all_whole rows ledger (call ∷ calls) [] = refl
-  all_whole rows ledger (call ∷ calls) (answer ∷ answers) =
-      all_whole (rows_after row rows call answer ledger (ledger_after ledger call answer)) (ledger_after ledger call answer) calls answers
-      ∙ after_whole rows call answer ledger (ledger_after ledger call answer)
+  pub all_whole : (rows : List Row) (inventory : Inventory) (calls : List Call) (answers : List Answer) → length (rows_after_all row rows inventory calls answers) ≡ length rows
+  all_whole rows inventory [] answers = refl
+  all_whole rows inventory (call ∷ calls) [] = refl
+  all_whole rows inventory (call ∷ calls) (answer ∷ answers) =
+      all_whole (rows_after row rows call answer inventory (inventory_after inventory call answer)) (inventory_after inventory call answer) calls answers
+      ∙ after_whole rows call answer inventory (inventory_after inventory call answer)
 
 -- ---- what lengths come to in one row
 
@@ -58,27 +58,27 @@ module _ (row : ℕ → ℕ) (at : ℕ) where
   both_within true r s len within = (omega (arith, within.0), omega (arith, within.1))
   both_within false r s len within = within
 
-  kept_within : (test : Bool) (entry : Name × ℕ) (ledger rest : Ledger) → IsWithin (row_in row at (lengths rest)) (row_in row at (lengths ledger))
-      → IsWithin (row_in row at (lengths (cond test (entry ∷ rest) rest))) (row_in row at (entry.1 ∷ lengths ledger))
-  kept_within true entry ledger rest within = both_within (row entry.1 == at) _ _ entry.1 within
-  kept_within false entry ledger rest within = one_within (row entry.1 == at) _ _ entry.1 within
+  kept_within : (test : Bool) (entry : Name × ℕ) (inventory rest : Inventory) → IsWithin (row_in row at (lengths rest)) (row_in row at (lengths inventory))
+      → IsWithin (row_in row at (lengths (cond test (entry ∷ rest) rest))) (row_in row at (entry.1 ∷ lengths inventory))
+  kept_within true entry inventory rest within = both_within (row entry.1 == at) _ _ entry.1 within
+  kept_within false entry inventory rest within = one_within (row entry.1 == at) _ _ entry.1 within
 
-  pub freed_within : (name : Name) (ledger : Ledger) → IsWithin (row_in row at (lengths (filter (λ entry. not (is_same name entry.0)) ledger))) (row_in row at (lengths ledger))
+  pub freed_within : (name : Name) (inventory : Inventory) → IsWithin (row_in row at (lengths (filter (λ entry. not (is_same name entry.0)) inventory))) (row_in row at (lengths inventory))
   freed_within name [] = same_within no_row
-  freed_within name (entry ∷ ledger) = kept_within (not (is_same name entry.0)) entry ledger (filter (λ entry. not (is_same name entry.0)) ledger) (freed_within name ledger)
+  freed_within name (entry ∷ inventory) = kept_within (not (is_same name entry.0)) entry inventory (filter (λ entry. not (is_same name entry.0)) inventory) (freed_within name inventory)
 
   -- a length that is of another row
   other_cons : (len : ℕ) (lens : List ℕ) → row len ≢ at → row_in row at (len ∷ lens) ≡ row_in row at lens
   other_cons len lens ne = let b : (row len == at) ≡ false = grind (arith, nat_tests) in rw b refl
 
-  moved_within : (test : Bool) (entry : Name × ℕ) (len : ℕ) (ledger rest : Ledger) → row len ≢ at → IsWithin (row_in row at (lengths rest)) (row_in row at (lengths ledger))
-      → IsWithin (row_in row at (lengths (cond test (entry.0, len) entry ∷ rest))) (row_in row at (lengths (entry ∷ ledger)))
-  moved_within true entry len ledger rest ne within = rw (other_cons len (lengths rest) ne) (one_within (row entry.1 == at) _ _ entry.1 within)
-  moved_within false entry len ledger rest ne within = both_within (row entry.1 == at) _ _ entry.1 within
+  moved_within : (test : Bool) (entry : Name × ℕ) (len : ℕ) (inventory rest : Inventory) → row len ≢ at → IsWithin (row_in row at (lengths rest)) (row_in row at (lengths inventory))
+      → IsWithin (row_in row at (lengths (cond test (entry.0, len) entry ∷ rest))) (row_in row at (lengths (entry ∷ inventory)))
+  moved_within true entry len inventory rest ne within = rw (other_cons len (lengths rest) ne) (one_within (row entry.1 == at) _ _ entry.1 within)
+  moved_within false entry len inventory rest ne within = both_within (row entry.1 == at) _ _ entry.1 within
 
-  pub resized_within : (name : Name) (len : ℕ) (ledger : Ledger) → row len ≢ at → IsWithin (row_in row at (lengths (with_length ledger name len))) (row_in row at (lengths ledger))
+  pub resized_within : (name : Name) (len : ℕ) (inventory : Inventory) → row len ≢ at → IsWithin (row_in row at (lengths (with_length inventory name len))) (row_in row at (lengths inventory))
   resized_within name len [] ne = same_within no_row
-  resized_within name len (entry ∷ ledger) ne = moved_within (is_same name entry.0) entry len ledger (with_length ledger name len) ne (resized_within name len ledger ne)
+  resized_within name len (entry ∷ inventory) ne = moved_within (is_same name entry.0) entry len inventory (with_length inventory name len) ne (resized_within name len inventory ne)
 
   -- ---- a row that is raised
 
@@ -151,25 +151,25 @@ module _ (row : ℕ → ℕ) (at : ℕ) where
     | inr ne ↦ subst HasOwn (sym (noted_other rows len lens ne)) own
   ]
 
-  own_behind : (rows : List Row) (len : ℕ) (answer : Answer) (ledger : Ledger) → at < length rows → HasOwn (get_or rows at no_row) → HasOwn (get_or (rows_behind row rows len answer ledger) at no_row)
-  own_behind rows len (Resized (Ok done)) ledger inside own = own_raised rows len (lengths ledger) inside own
-  own_behind rows len answer ledger inside own = own
+  own_behind : (rows : List Row) (len : ℕ) (answer : Answer) (inventory : Inventory) → at < length rows → HasOwn (get_or rows at no_row) → HasOwn (get_or (rows_behind row rows len answer inventory) at no_row)
+  own_behind rows len (Resized (Ok done)) inventory inside own = own_raised rows len (lengths inventory) inside own
+  own_behind rows len answer inventory inside own = own
 
-  own_after : (rows : List Row) (call : Call) (answer : Answer) (ledger behind : Ledger) → at < length rows → HasOwn (get_or rows at no_row)
-      → HasOwn (get_or (rows_after row rows call answer ledger behind) at no_row)
-  own_after rows (Allocate len) answer ledger behind inside own = own_raised rows len (len ∷ lengths ledger) inside own
-  own_after rows (Release name) answer ledger behind inside own = own
-  own_after rows (Write name from bytes) answer ledger behind inside own = own
-  own_after rows (Resize name len) answer ledger behind inside own = own_behind rows len answer behind inside own
-  own_after rows (Read name from n) answer ledger behind inside own = own
+  own_after : (rows : List Row) (call : Call) (answer : Answer) (inventory behind : Inventory) → at < length rows → HasOwn (get_or rows at no_row)
+      → HasOwn (get_or (rows_after row rows call answer inventory behind) at no_row)
+  own_after rows (Allocate len) answer inventory behind inside own = own_raised rows len (len ∷ lengths inventory) inside own
+  own_after rows (Release name) answer inventory behind inside own = own
+  own_after rows (Write name from bytes) answer inventory behind inside own = own
+  own_after rows (Resize name len) answer inventory behind inside own = own_behind rows len answer behind inside own
+  own_after rows (Read name from n) answer inventory behind inside own = own
 
-  own_all : (rows : List Row) (ledger : Ledger) (calls : List Call) (answers : List Answer) → at < length rows → HasOwn (get_or rows at no_row)
-      → HasOwn (get_or (rows_after_all row rows ledger calls answers) at no_row)
-  own_all rows ledger [] answers inside own = own
-  own_all rows ledger (call ∷ calls) [] inside own = own
-  own_all rows ledger (call ∷ calls) (answer ∷ answers) inside own =
-      let behind = ledger_after ledger call answer in
-      own_all (rows_after row rows call answer ledger behind) behind calls answers (omega (arith, after_whole row rows call answer ledger behind, inside)) (own_after rows call answer ledger behind inside own)
+  own_all : (rows : List Row) (inventory : Inventory) (calls : List Call) (answers : List Answer) → at < length rows → HasOwn (get_or rows at no_row)
+      → HasOwn (get_or (rows_after_all row rows inventory calls answers) at no_row)
+  own_all rows inventory [] answers inside own = own
+  own_all rows inventory (call ∷ calls) [] inside own = own
+  own_all rows inventory (call ∷ calls) (answer ∷ answers) inside own =
+      let behind = inventory_after inventory call answer in
+      own_all (rows_after row rows call answer inventory behind) behind calls answers (omega (arith, after_whole row rows call answer inventory behind, inside)) (own_after rows call answer inventory behind inside own)
 
   own_told : (r : Row) → HasOwn r → IsOfRow row at r
   own_told r (inl none) = λ some. let count : r.most ≡ 0 = ap (λ (s : Row). s.most) none in absurd (omega (arith, count, some))
@@ -184,25 +184,25 @@ module _ (row : ℕ → ℕ) (at : ℕ) where
   -- ---- a call
 
   -- what is held stays within the row, also with what is asked for, and the row rises no more than it has to
-  record IsStep (rows new : List Row) (ledger behind : Ledger) (call : Call) : Type 0 where
+  record IsStep (rows new : List Row) (inventory behind : Inventory) (call : Call) : Type 0 where
     whole : length new ≡ length rows
-    asked : IsWithin (row_in row at (lengths_with ledger call)) (get_or new at no_row)
+    asked : IsWithin (row_in row at (lengths_with inventory call)) (get_or new at no_row)
     left : IsWithin (row_in row at (lengths behind)) (get_or new at no_row)
     rises : IsWithin (get_or rows at no_row) (get_or new at no_row)
-    least : (bound : Row) → IsWithin (get_or rows at no_row) bound → IsWithin (row_in row at (lengths_with ledger call)) bound → IsWithin (row_in row at (lengths behind)) bound
+    least : (bound : Row) → IsWithin (get_or rows at no_row) bound → IsWithin (row_in row at (lengths_with inventory call)) bound → IsWithin (row_in row at (lengths behind)) bound
         → IsWithin (get_or new at no_row) bound
 
-  given_within : (ledger : Ledger) (len : ℕ) (answer : Answer) → IsWithin (row_in row at (lengths (ledger_after ledger (Allocate len) answer))) (row_in row at (len ∷ lengths ledger))
-  given_within ledger len (Allocated (Ok name)) = same_within (row_in row at (len ∷ lengths ledger))
-  given_within ledger len answer = cons_within len (lengths ledger)
+  given_within : (inventory : Inventory) (len : ℕ) (answer : Answer) → IsWithin (row_in row at (lengths (inventory_after inventory (Allocate len) answer))) (row_in row at (len ∷ lengths inventory))
+  given_within inventory len (Allocated (Ok name)) = same_within (row_in row at (len ∷ lengths inventory))
+  given_within inventory len answer = cons_within len (lengths inventory)
 
-  taken_within : (ledger : Ledger) (name : Name) (answer : Answer) → IsWithin (row_in row at (lengths (ledger_after ledger (Release name) answer))) (row_in row at (lengths ledger))
-  taken_within ledger name (Released (Ok done)) = freed_within name ledger
-  taken_within ledger name answer = same_within (row_in row at (lengths ledger))
+  taken_within : (inventory : Inventory) (name : Name) (answer : Answer) → IsWithin (row_in row at (lengths (inventory_after inventory (Release name) answer))) (row_in row at (lengths inventory))
+  taken_within inventory name (Released (Ok done)) = freed_within name inventory
+  taken_within inventory name answer = same_within (row_in row at (lengths inventory))
 
   -- the rows stay, and what is held is no more
-  module _ (rows : List Row) (ledger : Ledger) (inside : at < length rows) (held : IsWithin (row_in row at (lengths ledger)) (get_or rows at no_row)) where
-    stays : (behind : Ledger) (call : Call) → lengths_with ledger call ≡ lengths ledger → IsWithin (row_in row at (lengths behind)) (row_in row at (lengths ledger)) → IsStep rows rows ledger behind call
+  module _ (rows : List Row) (inventory : Inventory) (inside : at < length rows) (held : IsWithin (row_in row at (lengths inventory)) (get_or rows at no_row)) where
+    stays : (behind : Inventory) (call : Call) → lengths_with inventory call ≡ lengths inventory → IsWithin (row_in row at (lengths behind)) (row_in row at (lengths inventory)) → IsStep rows rows inventory behind call
     stays behind call same fewer = record {
       whole = refl;
       asked = subst (λ (lens : List ℕ). IsWithin (row_in row at lens) (get_or rows at no_row)) (sym same) held;
@@ -211,13 +211,13 @@ module _ (row : ℕ → ℕ) (at : ℕ) where
       least = λ bound old asked left. old;
     }
 
-    resizing : (name : Name) (len : ℕ) (answer : Answer) → let behind = ledger_after ledger (Resize name len) answer in IsStep rows (rows_behind row rows len answer behind) ledger behind (Resize name len)
-    resizing name len (Allocated r) = stays ledger (Resize name len) refl (same_within (row_in row at (lengths ledger)))
-    resizing name len (Released r) = stays ledger (Resize name len) refl (same_within (row_in row at (lengths ledger)))
-    resizing name len (Written r) = stays ledger (Resize name len) refl (same_within (row_in row at (lengths ledger)))
+    resizing : (name : Name) (len : ℕ) (answer : Answer) → let behind = inventory_after inventory (Resize name len) answer in IsStep rows (rows_behind row rows len answer behind) inventory behind (Resize name len)
+    resizing name len (Allocated r) = stays inventory (Resize name len) refl (same_within (row_in row at (lengths inventory)))
+    resizing name len (Released r) = stays inventory (Resize name len) refl (same_within (row_in row at (lengths inventory)))
+    resizing name len (Written r) = stays inventory (Resize name len) refl (same_within (row_in row at (lengths inventory)))
     resizing name len (Resized (Ok done)) =
-        let behind = with_length ledger name len in
-        let raised = raising rows len (lengths behind) inside (λ ne. within_trans _ _ _ (resized_within name len ledger ne) held) in
+        let behind = with_length inventory name len in
+        let raised = raising rows len (lengths behind) inside (λ ne. within_trans _ _ _ (resized_within name len inventory ne) held) in
         record {
           whole = raised.whole;
           asked = within_trans _ _ _ held raised.rises;
@@ -225,58 +225,58 @@ module _ (row : ℕ → ℕ) (at : ℕ) where
           rises = raised.rises;
           least = λ bound old asked left. raised.least bound old left;
         }
-    resizing name len (Resized (Err why)) = stays ledger (Resize name len) refl (same_within (row_in row at (lengths ledger)))
-    resizing name len (Got r) = stays ledger (Resize name len) refl (same_within (row_in row at (lengths ledger)))
+    resizing name len (Resized (Err why)) = stays inventory (Resize name len) refl (same_within (row_in row at (lengths inventory)))
+    resizing name len (Got r) = stays inventory (Resize name len) refl (same_within (row_in row at (lengths inventory)))
 
-    step : (call : Call) (answer : Answer) → let behind = ledger_after ledger call answer in IsStep rows (rows_after row rows call answer ledger behind) ledger behind call
+    step : (call : Call) (answer : Answer) → let behind = inventory_after inventory call answer in IsStep rows (rows_after row rows call answer inventory behind) inventory behind call
     step (Allocate len) answer =
-        let raised = raising rows len (len ∷ lengths ledger) inside (λ ne. rw (other_cons len (lengths ledger) ne) held) in
+        let raised = raising rows len (len ∷ lengths inventory) inside (λ ne. rw (other_cons len (lengths inventory) ne) held) in
         record {
           whole = raised.whole;
           asked = raised.within;
-          left = within_trans _ _ _ (given_within ledger len answer) raised.within;
+          left = within_trans _ _ _ (given_within inventory len answer) raised.within;
           rises = raised.rises;
           least = λ bound old asked left. raised.least bound old asked;
         }
-    step (Release name) answer = stays (ledger_after ledger (Release name) answer) (Release name) refl (taken_within ledger name answer)
+    step (Release name) answer = stays (inventory_after inventory (Release name) answer) (Release name) refl (taken_within inventory name answer)
     step (Write name from bytes) answer =
-        subst (λ (behind : Ledger). IsStep rows rows ledger behind (Write name from bytes)) (written_ledger ledger name from bytes answer)
-        (stays ledger (Write name from bytes) refl (same_within (row_in row at (lengths ledger))))
+        subst (λ (behind : Inventory). IsStep rows rows inventory behind (Write name from bytes)) (written_inventory inventory name from bytes answer)
+        (stays inventory (Write name from bytes) refl (same_within (row_in row at (lengths inventory))))
     step (Resize name len) answer = resizing name len answer
     step (Read name from n) answer =
-        subst (λ (behind : Ledger). IsStep rows rows ledger behind (Read name from n)) (read_ledger ledger name from n answer)
-        (stays ledger (Read name from n) refl (same_within (row_in row at (lengths ledger))))
+        subst (λ (behind : Inventory). IsStep rows rows inventory behind (Read name from n)) (read_inventory inventory name from n answer)
+        (stays inventory (Read name from n) refl (same_within (row_in row at (lengths inventory))))
 
   -- ---- calls in turn
 
-  asked_first : (bound : Row) (ledger : Ledger) (call : Call) → IsWithin (row_in row at (lengths_with ledger call)) bound → IsWithin (row_in row at (lengths ledger)) bound
-  asked_first bound ledger (Allocate len) within = within_trans _ _ _ (cons_within len (lengths ledger)) within
-  asked_first bound ledger call within = within
+  asked_first : (bound : Row) (inventory : Inventory) (call : Call) → IsWithin (row_in row at (lengths_with inventory call)) bound → IsWithin (row_in row at (lengths inventory)) bound
+  asked_first bound inventory (Allocate len) within = within_trans _ _ _ (cons_within len (lengths inventory)) within
+  asked_first bound inventory call within = within
 
-  held_now : (bound : Row) (ledger : Ledger) (calls : List Call) (answers : List Answer) → KeepWithin row at bound ledger calls answers → IsWithin (row_in row at (lengths ledger)) bound
-  held_now bound ledger [] answers keep = keep
-  held_now bound ledger (call ∷ calls) [] keep = keep
-  held_now bound ledger (call ∷ calls) (answer ∷ answers) keep = asked_first bound ledger call keep.0
+  held_now : (bound : Row) (inventory : Inventory) (calls : List Call) (answers : List Answer) → KeepWithin row at bound inventory calls answers → IsWithin (row_in row at (lengths inventory)) bound
+  held_now bound inventory [] answers keep = keep
+  held_now bound inventory (call ∷ calls) [] keep = keep
+  held_now bound inventory (call ∷ calls) (answer ∷ answers) keep = asked_first bound inventory call keep.0
 
-  calls_keep : (bound : Row) (rows : List Row) (ledger : Ledger) (calls : List Call) (answers : List Answer) → at < length rows → IsWithin (row_in row at (lengths ledger)) (get_or rows at no_row)
-      → KeepWithin row at bound ledger calls answers → IsWithin (get_or rows at no_row) bound → IsWithin (get_or (rows_after_all row rows ledger calls answers) at no_row) bound
-  calls_keep bound rows ledger [] answers inside held keep old = old
-  calls_keep bound rows ledger (call ∷ calls) [] inside held keep old = old
-  calls_keep bound rows ledger (call ∷ calls) (answer ∷ answers) inside held keep old =
-      let behind = ledger_after ledger call answer in
-      let new = rows_after row rows call answer ledger behind in
-      let one : IsStep rows new ledger behind call = step rows ledger inside held call answer in
+  calls_keep : (bound : Row) (rows : List Row) (inventory : Inventory) (calls : List Call) (answers : List Answer) → at < length rows → IsWithin (row_in row at (lengths inventory)) (get_or rows at no_row)
+      → KeepWithin row at bound inventory calls answers → IsWithin (get_or rows at no_row) bound → IsWithin (get_or (rows_after_all row rows inventory calls answers) at no_row) bound
+  calls_keep bound rows inventory [] answers inside held keep old = old
+  calls_keep bound rows inventory (call ∷ calls) [] inside held keep old = old
+  calls_keep bound rows inventory (call ∷ calls) (answer ∷ answers) inside held keep old =
+      let behind = inventory_after inventory call answer in
+      let new = rows_after row rows call answer inventory behind in
+      let one : IsStep rows new inventory behind call = step rows inventory inside held call answer in
       calls_keep bound new behind calls answers (omega (arith, one.whole, inside)) one.left keep.1
       (one.least bound old keep.0 (held_now bound behind calls answers keep.1))
 
-  calls_kept : (bound : Row) (rows : List Row) (ledger : Ledger) (calls : List Call) (answers : List Answer) → at < length rows → IsWithin (row_in row at (lengths ledger)) (get_or rows at no_row)
-      → IsWithin (get_or (rows_after_all row rows ledger calls answers) at no_row) bound → KeepWithin row at bound ledger calls answers × IsWithin (get_or rows at no_row) bound
-  calls_kept bound rows ledger [] answers inside held old = (within_trans _ _ _ held old, old)
-  calls_kept bound rows ledger (call ∷ calls) [] inside held old = (within_trans _ _ _ held old, old)
-  calls_kept bound rows ledger (call ∷ calls) (answer ∷ answers) inside held old =
-      let behind = ledger_after ledger call answer in
-      let new = rows_after row rows call answer ledger behind in
-      let one : IsStep rows new ledger behind call = step rows ledger inside held call answer in
+  calls_kept : (bound : Row) (rows : List Row) (inventory : Inventory) (calls : List Call) (answers : List Answer) → at < length rows → IsWithin (row_in row at (lengths inventory)) (get_or rows at no_row)
+      → IsWithin (get_or (rows_after_all row rows inventory calls answers) at no_row) bound → KeepWithin row at bound inventory calls answers × IsWithin (get_or rows at no_row) bound
+  calls_kept bound rows inventory [] answers inside held old = (within_trans _ _ _ held old, old)
+  calls_kept bound rows inventory (call ∷ calls) [] inside held old = (within_trans _ _ _ held old, old)
+  calls_kept bound rows inventory (call ∷ calls) (answer ∷ answers) inside held old =
+      let behind = inventory_after inventory call answer in
+      let new = rows_after row rows call answer inventory behind in
+      let one : IsStep rows new inventory behind call = step rows inventory inside held call answer in
       let rest = calls_kept bound new behind calls answers (omega (arith, one.whole, inside)) one.left old in
       ((within_trans _ _ _ one.asked rest.1, rest.0), within_trans _ _ _ one.rises rest.1)
 

@@ -1,13 +1,13 @@
 -- The lemmas of this crate, a line a file.
 --   Common: the names that most proofs cite, passed on from one place
---   Lent: loans as a ledger
+--   Lent: loans as an inventory
 --   LeastBounds: what is tallied is the least bounds of the calls that the entries tell
 --   MostWanted: what is accounted is the most words that they want at once
 --   RowEntries: what is told of rows, by the calls on the heap
 --   LeastRows: it is the least that the calls keep within
 --   FirstFew: the first list of rows that is short enough
 --   TablesTold: it is the table that they keep to
---   StepsTold: what steps tell of a span of lengths is the row that the calls come to
+--   StepsTold: what steps tell of a band of lengths is the row that the calls come to
 --   MergesTold: so a table that is merged by steps is that of the calls, merged for the fewest words
 --   RowWords: no region has room for very many blocks
 --   Divided: how a row of places is divided by the fewest words

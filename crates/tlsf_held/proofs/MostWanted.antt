@@ -1,5 +1,5 @@
 -- The entries of a run account for the most words that the calls want at once.
-use Rattle.tlsf_held.proofs.Common.{◌≡◌, ◌==◌, ℕ, ◌+◌, ◌<◌, ◌≤◌, Bool, true, false, true≢false, cond, List, [], ◌∷◌, length, All, fold, max, Option, Some, None, Result, Ok, Err, inl, inr, refl, sym, ap, ◌∙◌, subst, arith, filter, is_ok, is_some, not, option_map, cons_option, cases_eq, nat_tests, All-head, All-tail, want, Name, Refusal, is_same, Ledger, ledger_after, Allocate, Release, Write, Read, Resize, Take, Drain, Heap, Entry, Event, Reply, Made, Freed, Resized, Took, Refused, answer_told, answers_on, call_on_own, calls_on, entries_of, meant, name_on_heap, World, name_of, replies, accounted, account_of, no_loans, wanted_in, wanted_with, with_resized, with_taken, Account, IsMostWanted, WantAtMost}
+use Rattle.tlsf_held.proofs.Common.{◌≡◌, ◌==◌, ℕ, ◌+◌, ◌<◌, ◌≤◌, Bool, true, false, true≢false, cond, List, [], ◌∷◌, length, All, fold, max, Option, Some, None, Result, Ok, Err, inl, inr, refl, sym, ap, ◌∙◌, subst, arith, filter, is_ok, is_some, not, option_map, cons_option, cases_eq, nat_tests, All-head, All-tail, want, Name, Refusal, is_same, Inventory, inventory_after, Allocate, Release, Write, Read, Resize, Take, Drain, Heap, Entry, Event, Reply, Made, Freed, Resized, Took, Refused, answer_told, answers_on, call_on_own, calls_on, entries_of, meant, name_on_heap, World, name_of, replies, accounted, account_of, no_loans, wanted_in, wanted_with, with_resized, with_taken, Account, IsMostWanted, WantAtMost}
 use Rattle.tlsf_heap.specs.Calls as heap
 use Rattle.tlsf_calls.specs.Bytes.{bytes_of}
 use Rattle.tlsf_calls.specs.declared.call.Call.{Call}
@@ -16,8 +16,8 @@ resized_after a name len answer = a
 
 -- a call more
 abbrev pub account_after : Account → heap.Call → heap.Answer → Account
-account_after a (heap.Allocate len) answer = record { ledger = ledger_after a.ledger (heap.Allocate len) answer; most = max a.most (want len + wanted_in a.ledger) }
-account_after a (heap.Release name) answer = record a { ledger = ledger_after a.ledger (heap.Release name) answer }
+account_after a (heap.Allocate len) answer = record { inventory = inventory_after a.inventory (heap.Allocate len) answer; most = max a.most (want len + wanted_in a.inventory) }
+account_after a (heap.Release name) answer = record a { inventory = inventory_after a.inventory (heap.Release name) answer }
 account_after a (heap.Write name at bytes) answer = a
 account_after a (heap.Resize name len) answer = resized_after a name len answer
 account_after a (heap.Read name at n) answer = a
@@ -128,100 +128,100 @@ module _ (made : List (Option Name)) (workers j : ℕ) (inside : j < workers) wh
 
 -- ---- the most words
 
-kept_words : (test : Bool) (entry : Name × ℕ) (ledger rest : Ledger) → wanted_in rest ≤ wanted_in ledger → wanted_in (cond test (entry ∷ rest) rest) ≤ want entry.1 + wanted_in ledger
-kept_words true entry ledger rest fewer = omega (arith, fewer)
-kept_words false entry ledger rest fewer = omega (arith, fewer)
+kept_words : (test : Bool) (entry : Name × ℕ) (inventory rest : Inventory) → wanted_in rest ≤ wanted_in inventory → wanted_in (cond test (entry ∷ rest) rest) ≤ want entry.1 + wanted_in inventory
+kept_words true entry inventory rest fewer = omega (arith, fewer)
+kept_words false entry inventory rest fewer = omega (arith, fewer)
 
-fewer_words : (name : Name) (ledger : Ledger) → wanted_in (filter (λ entry. not (is_same name entry.0)) ledger) ≤ wanted_in ledger
+fewer_words : (name : Name) (inventory : Inventory) → wanted_in (filter (λ entry. not (is_same name entry.0)) inventory) ≤ wanted_in inventory
 fewer_words name [] = omega arith
-fewer_words name (entry ∷ ledger) = kept_words (not (is_same name entry.0)) entry ledger (filter (λ entry. not (is_same name entry.0)) ledger) (fewer_words name ledger)
+fewer_words name (entry ∷ inventory) = kept_words (not (is_same name entry.0)) entry inventory (filter (λ entry. not (is_same name entry.0)) inventory) (fewer_words name inventory)
 
-given_words : (ledger : Ledger) (len : ℕ) (answer : heap.Answer) → wanted_in (ledger_after ledger (heap.Allocate len) answer) ≤ want len + wanted_in ledger
-given_words ledger len (heap.Allocated (Ok name)) = omega arith
-given_words ledger len answer = omega arith
+given_words : (inventory : Inventory) (len : ℕ) (answer : heap.Answer) → wanted_in (inventory_after inventory (heap.Allocate len) answer) ≤ want len + wanted_in inventory
+given_words inventory len (heap.Allocated (Ok name)) = omega arith
+given_words inventory len answer = omega arith
 
-freed_words : (ledger : Ledger) (name : Name) (answer : heap.Answer) → wanted_in (ledger_after ledger (heap.Release name) answer) ≤ wanted_in ledger
-freed_words ledger name (heap.Released (Ok done)) = fewer_words name ledger
-freed_words ledger name answer = omega arith
+freed_words : (inventory : Inventory) (name : Name) (answer : heap.Answer) → wanted_in (inventory_after inventory (heap.Release name) answer) ≤ wanted_in inventory
+freed_words inventory name (heap.Released (Ok done)) = fewer_words name inventory
+freed_words inventory name answer = omega arith
 
--- the ledger is that of the law
-pub written_ledger : (ledger : Ledger) (name : Name) (at : ℕ) (bytes : List ℕ) (answer : heap.Answer) → ledger ≡ ledger_after ledger (heap.Write name at bytes) answer
-written_ledger ledger name at bytes (heap.Allocated r) = refl
-written_ledger ledger name at bytes answer = refl
+-- the inventory is that of the law
+pub written_inventory : (inventory : Inventory) (name : Name) (at : ℕ) (bytes : List ℕ) (answer : heap.Answer) → inventory ≡ inventory_after inventory (heap.Write name at bytes) answer
+written_inventory inventory name at bytes (heap.Allocated r) = refl
+written_inventory inventory name at bytes answer = refl
 
-pub read_ledger : (ledger : Ledger) (name : Name) (at n : ℕ) (answer : heap.Answer) → ledger ≡ ledger_after ledger (heap.Read name at n) answer
-read_ledger ledger name at n (heap.Allocated r) = refl
-read_ledger ledger name at n answer = refl
+pub read_inventory : (inventory : Inventory) (name : Name) (at n : ℕ) (answer : heap.Answer) → inventory ≡ inventory_after inventory (heap.Read name at n) answer
+read_inventory inventory name at n (heap.Allocated r) = refl
+read_inventory inventory name at n answer = refl
 
-resized_ledger : (a : Account) (name : Name) (len : ℕ) (answer : heap.Answer) → (resized_after a name len answer).ledger ≡ ledger_after a.ledger (heap.Resize name len) answer
-resized_ledger a name len (heap.Resized (Ok done)) = refl
-resized_ledger a name len answer = refl
+resized_inventory : (a : Account) (name : Name) (len : ℕ) (answer : heap.Answer) → (resized_after a name len answer).inventory ≡ inventory_after a.inventory (heap.Resize name len) answer
+resized_inventory a name len (heap.Resized (Ok done)) = refl
+resized_inventory a name len answer = refl
 
-pub ledger_is : (a : Account) (call : heap.Call) (answer : heap.Answer) → (account_after a call answer).ledger ≡ ledger_after a.ledger call answer
-ledger_is a (heap.Allocate len) answer = refl
-ledger_is a (heap.Release name) answer = refl
-ledger_is a (heap.Write name at bytes) answer = written_ledger a.ledger name at bytes answer
-ledger_is a (heap.Resize name len) answer = resized_ledger a name len answer
-ledger_is a (heap.Read name at n) answer = read_ledger a.ledger name at n answer
+pub inventory_is : (a : Account) (call : heap.Call) (answer : heap.Answer) → (account_after a call answer).inventory ≡ inventory_after a.inventory call answer
+inventory_is a (heap.Allocate len) answer = refl
+inventory_is a (heap.Release name) answer = refl
+inventory_is a (heap.Write name at bytes) answer = written_inventory a.inventory name at bytes answer
+inventory_is a (heap.Resize name len) answer = resized_inventory a name len answer
+inventory_is a (heap.Read name at n) answer = read_inventory a.inventory name at n answer
 
 -- no more is wanted than the account has
 abbrev IsWithin : Account → Type 0
-IsWithin a = wanted_in a.ledger ≤ a.most
+IsWithin a = wanted_in a.inventory ≤ a.most
 
 resized_within : (a : Account) (name : Name) (len : ℕ) (answer : heap.Answer) → IsWithin a → IsWithin (resized_after a name len answer)
 resized_within a name len (heap.Resized (Ok done)) within = omega arith
 resized_within a name len answer within = within
 
 within_after : (a : Account) (call : heap.Call) (answer : heap.Answer) → IsWithin a → IsWithin (account_after a call answer)
-within_after a (heap.Allocate len) answer within = omega (arith, given_words a.ledger len answer)
-within_after a (heap.Release name) answer within = omega (arith, freed_words a.ledger name answer, within)
+within_after a (heap.Allocate len) answer within = omega (arith, given_words a.inventory len answer)
+within_after a (heap.Release name) answer within = omega (arith, freed_words a.inventory name answer, within)
 within_after a (heap.Resize name len) answer within = resized_within a name len answer within
 within_after a call answer within = within
 
-wanted_first : (words : ℕ) (ledger : Ledger) (call : heap.Call) → wanted_with ledger call ≤ words → wanted_in ledger ≤ words
-wanted_first words ledger (heap.Allocate len) upto = omega (arith, upto)
-wanted_first words ledger call upto = upto
+wanted_first : (words : ℕ) (inventory : Inventory) (call : heap.Call) → wanted_with inventory call ≤ words → wanted_in inventory ≤ words
+wanted_first words inventory (heap.Allocate len) upto = omega (arith, upto)
+wanted_first words inventory call upto = upto
 
 module _ (words : ℕ) where
-  wanted_now : (ledger : Ledger) (calls : List heap.Call) (answers : List heap.Answer) → WantAtMost words ledger calls answers → wanted_in ledger ≤ words
-  wanted_now ledger [] answers upto = upto
-  wanted_now ledger (call ∷ calls) [] upto = upto
-  wanted_now ledger (call ∷ calls) (answer ∷ answers) upto = wanted_first words ledger call upto.0
+  wanted_now : (inventory : Inventory) (calls : List heap.Call) (answers : List heap.Answer) → WantAtMost words inventory calls answers → wanted_in inventory ≤ words
+  wanted_now inventory [] answers upto = upto
+  wanted_now inventory (call ∷ calls) [] upto = upto
+  wanted_now inventory (call ∷ calls) (answer ∷ answers) upto = wanted_first words inventory call upto.0
 
-  resize_keeps : (a : Account) (name : Name) (len : ℕ) (answer : heap.Answer) → wanted_in (resized_after a name len answer).ledger ≤ words → a.most ≤ words → (resized_after a name len answer).most ≤ words
+  resize_keeps : (a : Account) (name : Name) (len : ℕ) (answer : heap.Answer) → wanted_in (resized_after a name len answer).inventory ≤ words → a.most ≤ words → (resized_after a name len answer).most ≤ words
   resize_keeps a name len (heap.Resized (Ok done)) upto most = omega (arith, upto, most)
   resize_keeps a name len answer upto most = most
 
-  call_keeps : (a : Account) (call : heap.Call) (answer : heap.Answer) → wanted_with a.ledger call ≤ words → wanted_in (account_after a call answer).ledger ≤ words → a.most ≤ words → (account_after a call answer).most ≤ words
+  call_keeps : (a : Account) (call : heap.Call) (answer : heap.Answer) → wanted_with a.inventory call ≤ words → wanted_in (account_after a call answer).inventory ≤ words → a.most ≤ words → (account_after a call answer).most ≤ words
   call_keeps a (heap.Allocate len) answer upto behind most = omega (arith, upto, most)
   call_keeps a (heap.Resize name len) answer upto behind most = resize_keeps a name len answer behind most
   call_keeps a call answer upto behind most = most
 
-  calls_keep : (a : Account) (calls : List heap.Call) (answers : List heap.Answer) → WantAtMost words a.ledger calls answers → a.most ≤ words → (account_after_all a calls answers).most ≤ words
+  calls_keep : (a : Account) (calls : List heap.Call) (answers : List heap.Answer) → WantAtMost words a.inventory calls answers → a.most ≤ words → (account_after_all a calls answers).most ≤ words
   calls_keep a [] answers upto most = most
   calls_keep a (call ∷ calls) [] upto most = most
   calls_keep a (call ∷ calls) (answer ∷ answers) upto most =
-      let rest = subst (λ (ledger : Ledger). WantAtMost words ledger calls answers) (sym (ledger_is a call answer)) upto.1 in
-      calls_keep (account_after a call answer) calls answers rest (call_keeps a call answer upto.0 (wanted_now (account_after a call answer).ledger calls answers rest) most)
+      let rest = subst (λ (inventory : Inventory). WantAtMost words inventory calls answers) (sym (inventory_is a call answer)) upto.1 in
+      calls_keep (account_after a call answer) calls answers rest (call_keeps a call answer upto.0 (wanted_now (account_after a call answer).inventory calls answers rest) most)
 
   resize_kept : (a : Account) (name : Name) (len : ℕ) (answer : heap.Answer) → (resized_after a name len answer).most ≤ words → a.most ≤ words
   resize_kept a name len (heap.Resized (Ok done)) most = omega (arith, most)
   resize_kept a name len answer most = most
 
-  call_kept : (a : Account) (call : heap.Call) (answer : heap.Answer) → IsWithin a → (account_after a call answer).most ≤ words → (wanted_with a.ledger call ≤ words) × (a.most ≤ words)
+  call_kept : (a : Account) (call : heap.Call) (answer : heap.Answer) → IsWithin a → (account_after a call answer).most ≤ words → (wanted_with a.inventory call ≤ words) × (a.most ≤ words)
   call_kept a (heap.Allocate len) answer within most = (omega (arith, most), omega (arith, most))
   call_kept a (heap.Release name) answer within most = (omega (arith, within, most), most)
   call_kept a (heap.Write name at bytes) answer within most = (omega (arith, within, most), most)
   call_kept a (heap.Resize name len) answer within most = let was = resize_kept a name len answer most in (omega (arith, within, was), was)
   call_kept a (heap.Read name at n) answer within most = (omega (arith, within, most), most)
 
-  calls_kept : (a : Account) (calls : List heap.Call) (answers : List heap.Answer) → IsWithin a → (account_after_all a calls answers).most ≤ words → WantAtMost words a.ledger calls answers × (a.most ≤ words)
+  calls_kept : (a : Account) (calls : List heap.Call) (answers : List heap.Answer) → IsWithin a → (account_after_all a calls answers).most ≤ words → WantAtMost words a.inventory calls answers × (a.most ≤ words)
   calls_kept a [] answers within most = (omega (arith, within, most), most)
   calls_kept a (call ∷ calls) [] within most = (omega (arith, within, most), most)
   calls_kept a (call ∷ calls) (answer ∷ answers) within most =
       let rest = calls_kept (account_after a call answer) calls answers (within_after a call answer within) most in
       let one = call_kept a call answer within rest.1 in
-      ((one.0, subst (λ (ledger : Ledger). WantAtMost words ledger calls answers) (ledger_is a call answer) rest.0), one.1)
+      ((one.0, subst (λ (inventory : Inventory). WantAtMost words inventory calls answers) (inventory_is a call answer) rest.0), one.1)
 
 most_wanted : (calls : List heap.Call) (answers : List heap.Answer) → IsMostWanted calls answers (account_after_all no_loans calls answers).most
 most_wanted calls answers words =

@@ -1,58 +1,58 @@
--- The row that steps tell of a span of lengths is the one that the calls come to.
-use Rattle.tlsf_held.proofs.Common.{◌≡◌, ◌≢◌, ◌==◌, ℕ, ◌+◌, ◌-◌, ◌<◌, ◌≤◌, Bool, true, false, cond, List, [], ◌∷◌, ◌++◌, fold, length, get_or, max, Option, Some, None, inl, inr, refl, sym, ap, ap₂, ◌∙◌, subst, arith, filter, not, cases_eq, Name, is_same, Ledger, lengths, with_length, Allocate, Release, Resize, Take, Entry, Reply, Made, Resized, name_of, accounted, freed_by, with_resized, with_taken, Account, is_between, span_of, no_rows, row_accounted, with_lengths, RowAccount, no_row, row_in, with_one, IsWithin, entry_steps, freed_steps, moved_steps, no_span, no_steps, resized_steps, span_after, span_step, stepped, stepped_all, taken_steps, with_freed, with_held, StepAccount, Row, Step}
+-- The row that steps tell of a band of lengths is the one that the calls come to.
+use Rattle.tlsf_held.proofs.Common.{◌≡◌, ◌≢◌, ◌==◌, ℕ, ◌+◌, ◌-◌, ◌<◌, ◌≤◌, Bool, true, false, cond, List, [], ◌∷◌, ◌++◌, fold, length, get_or, max, Option, Some, None, inl, inr, refl, sym, ap, ap₂, ◌∙◌, subst, arith, filter, not, cases_eq, Name, is_same, Inventory, lengths, with_length, Allocate, Release, Resize, Take, Entry, Reply, Made, Resized, name_of, accounted, freed_by, with_resized, with_taken, Account, is_between, band_of, no_rows, row_accounted, with_lengths, RowAccount, no_row, row_in, with_one, IsWithin, entry_steps, freed_steps, moved_steps, no_band, no_steps, resized_steps, band_after, band_step, stepped, stepped_all, taken_steps, with_freed, with_held, StepAccount, Row, Step}
 use Rattle.tlsf_calls.specs.declared.call.Call.{Call}
-use Rattle.tlsf_held.specs.declared.spans.Span.{Span}
+use Rattle.tlsf_held.specs.declared.band.Band.{Band}
 use Rattle.tlsf_held.specs.declared.steps.Step.TheVariants.{Held, Freed, Reached}
 use Rattle.tlsf_held.proofs.LeastRows.{freed_within, noted_here, noted_other, noted_whole, resized_within}
 
--- ---- a span by its numbers
+-- ---- a band by its numbers
 
-record Is (span : Span) (held most longest : ℕ) : Type 0 where
-  held_is : span.held ≡ held
-  most_is : span.row.most ≡ most
-  longest_is : span.row.longest ≡ longest
+record Is (band : Band) (held most longest : ℕ) : Type 0 where
+  held_is : band.held ≡ held
+  most_is : band.row.most ≡ most
+  longest_is : band.row.longest ≡ longest
 
-same_is : {s : Span} {h m l k n o : ℕ} → Is s h m l → h ≡ k → m ≡ n → l ≡ o → Is s k n o
+same_is : {s : Band} {h m l k n o : ℕ} → Is s h m l → h ≡ k → m ≡ n → l ≡ o → Is s k n o
 same_is is held most longest = record { held_is = is.held_is ∙ held; most_is = is.most_is ∙ most; longest_is = is.longest_is ∙ longest }
 
--- 1 for a length of the span
+-- 1 for a length of the band
 abbrev one : Bool → ℕ
 one b = cond b 1 0
 
-by_held : (b : Bool) (s : Span) (len h m l : ℕ) → Is s h m l → Is (cond b (with_held s len) s) (h + one b) m (max l (cond b len 0))
+by_held : (b : Bool) (s : Band) (len h m l : ℕ) → Is s h m l → Is (cond b (with_held s len) s) (h + one b) m (max l (cond b len 0))
 by_held true s len h m l is = record { held_is = omega (arith, is.held_is); most_is = is.most_is; longest_is = ap (λ (n : ℕ). max n len) is.longest_is }
 by_held false s len h m l is = same_is is (omega arith) refl (omega arith)
 
-by_freed : (b : Bool) (s : Span) (h m l : ℕ) → Is s h m l → Is (cond b (with_freed s) s) (h - one b) m l
+by_freed : (b : Bool) (s : Band) (h m l : ℕ) → Is s h m l → Is (cond b (with_freed s) s) (h - one b) m l
 by_freed true s h m l is = record { held_is = omega (arith, is.held_is); most_is = is.most_is; longest_is = is.longest_is }
 by_freed false s h m l is = same_is is (omega arith) refl refl
 
 -- steps in turn
-after_more : (from to : ℕ) (s : Span) (steps more : List Step) → span_after from to s (steps ++ more) ≡ span_after from to (span_after from to s steps) more
+after_more : (from to : ℕ) (s : Band) (steps more : List Step) → band_after from to s (steps ++ more) ≡ band_after from to (band_after from to s steps) more
 after_more from to s [] more = refl
-after_more from to s (step ∷ steps) more = after_more from to (span_step from to s step) steps more
+after_more from to s (step ∷ steps) more = after_more from to (band_step from to s step) steps more
 
 module _ (from to : ℕ) where
   abbrev between : ℕ → Bool
   between len = is_between from to len
 
   -- the row of lengths, and how many and how long they are
-  abbrev in_span : List ℕ → Row
-  in_span lens = row_in (span_of from to) 1 lens
+  abbrev in_band : List ℕ → Row
+  in_band lens = row_in (band_of from to) 1 lens
 
   abbrev count : List ℕ → ℕ
-  count lens = (in_span lens).most
+  count lens = (in_band lens).most
 
   abbrev long : List ℕ → ℕ
-  long lens = (in_span lens).longest
+  long lens = (in_band lens).longest
 
-  after_held : (s : Span) (len h m l : ℕ) → Is s h m l → Is (span_step from to s (Held len)) (h + one (between len)) m (max l (cond (between len) len 0))
+  after_held : (s : Band) (len h m l : ℕ) → Is s h m l → Is (band_step from to s (Held len)) (h + one (between len)) m (max l (cond (between len) len 0))
   after_held s len h m l is = by_held (between len) s len h m l is
 
-  after_freed : (s : Span) (len h m l : ℕ) → Is s h m l → Is (span_step from to s (Freed len)) (h - one (between len)) m l
+  after_freed : (s : Band) (len h m l : ℕ) → Is s h m l → Is (band_step from to s (Freed len)) (h - one (between len)) m l
   after_freed s len h m l is = by_freed (between len) s h m l is
 
-  after_reached : (s : Span) (h m l : ℕ) → Is s h m l → Is (span_step from to s Reached) h (max m h) l
+  after_reached : (s : Band) (h m l : ℕ) → Is s h m l → Is (band_step from to s Reached) h (max m h) l
   after_reached s h m l is = record { held_is = is.held_is; most_is = ap₂ max is.most_is is.held_is; longest_is = is.longest_is }
 
   -- a length more
@@ -65,94 +65,94 @@ module _ (from to : ℕ) where
   longed false r len = omega arith
 
   count_cons : (len : ℕ) (lens : List ℕ) → count (len ∷ lens) ≡ one (between len) + count lens
-  count_cons len lens = counted (between len) (in_span lens) len
+  count_cons len lens = counted (between len) (in_band lens) len
 
   long_cons : (len : ℕ) (lens : List ℕ) → long (len ∷ lens) ≡ max (long lens) (cond (between len) len 0)
-  long_cons len lens = longed (between len) (in_span lens) len
+  long_cons len lens = longed (between len) (in_band lens) len
 
   -- ---- blocks taken back
 
-  abbrev kept : Name → Ledger → Ledger
-  kept name ledger = filter (λ entry. not (is_same name entry.0)) ledger
+  abbrev kept : Name → Inventory → Inventory
+  kept name inventory = filter (λ entry. not (is_same name entry.0)) inventory
 
-  by_taken : (t : Bool) (s : Span) (entry : Name × ℕ) (rest : Ledger) (m l d : ℕ) → Is s (count (lengths rest) + (one (between entry.1) + d)) m l
-      → Is (span_after from to s (cond t (Freed entry.1 ∷ []) [])) (count (lengths (cond (not t) (entry ∷ rest) rest)) + d) m l
+  by_taken : (t : Bool) (s : Band) (entry : Name × ℕ) (rest : Inventory) (m l d : ℕ) → Is s (count (lengths rest) + (one (between entry.1) + d)) m l
+      → Is (band_after from to s (cond t (Freed entry.1 ∷ []) [])) (count (lengths (cond (not t) (entry ∷ rest) rest)) + d) m l
   by_taken true s entry rest m l d is = same_is (after_freed s entry.1 _ m l is) (omega arith) refl refl
   by_taken false s entry rest m l d is = let more = count_cons entry.1 (lengths rest) in same_is is (omega (arith, more)) refl refl
 
-  all_taken : (name : Name) (ledger : Ledger) (s : Span) (m l d : ℕ) → Is s (count (lengths ledger) + d) m l
-      → Is (span_after from to s (freed_steps name ledger)) (count (lengths (kept name ledger)) + d) m l
+  all_taken : (name : Name) (inventory : Inventory) (s : Band) (m l d : ℕ) → Is s (count (lengths inventory) + d) m l
+      → Is (band_after from to s (freed_steps name inventory)) (count (lengths (kept name inventory)) + d) m l
   all_taken name [] s m l d is = is
-  all_taken name (entry ∷ ledger) s m l d is =
-      let more = count_cons entry.1 (lengths ledger) in
+  all_taken name (entry ∷ inventory) s m l d is =
+      let more = count_cons entry.1 (lengths inventory) in
       let same = is_same name entry.0 in
-      let before = all_taken name ledger s m l (one (between entry.1) + d) (same_is is (omega (arith, more)) refl refl) in
-      subst (λ (now : Span). Is now (count (lengths (cond (not same) (entry ∷ kept name ledger) (kept name ledger))) + d) m l)
-      (sym (after_more from to s (freed_steps name ledger) (cond same (Freed entry.1 ∷ []) [])))
-      (by_taken same (span_after from to s (freed_steps name ledger)) entry (kept name ledger) m l d before)
+      let before = all_taken name inventory s m l (one (between entry.1) + d) (same_is is (omega (arith, more)) refl refl) in
+      subst (λ (now : Band). Is now (count (lengths (cond (not same) (entry ∷ kept name inventory) (kept name inventory))) + d) m l)
+      (sym (after_more from to s (freed_steps name inventory) (cond same (Freed entry.1 ∷ []) [])))
+      (by_taken same (band_after from to s (freed_steps name inventory)) entry (kept name inventory) m l d before)
 
   -- ---- blocks of another length
 
-  by_moved : (t : Bool) (s : Span) (entry : Name × ℕ) (len : ℕ) (rest : Ledger) (m l d : ℕ) → cond (between entry.1) entry.1 0 ≤ l
+  by_moved : (t : Bool) (s : Band) (entry : Name × ℕ) (len : ℕ) (rest : Inventory) (m l d : ℕ) → cond (between entry.1) entry.1 0 ≤ l
       → Is s (count (lengths rest) + (one (between entry.1) + d)) m (max l (long (lengths rest)))
-      → Is (span_after from to s (cond t (Freed entry.1 ∷ (Held len ∷ [])) [])) (count (lengths (cond t (entry.0, len) entry ∷ rest)) + d) m
+      → Is (band_after from to s (cond t (Freed entry.1 ∷ (Held len ∷ [])) [])) (count (lengths (cond t (entry.0, len) entry ∷ rest)) + d) m
       (max l (long (lengths (cond t (entry.0, len) entry ∷ rest))))
   by_moved true s entry len rest m l d upto is =
       let more = count_cons len (lengths rest) in
       let longer = long_cons len (lengths rest) in
       let freed = after_freed s entry.1 _ m (max l (long (lengths rest))) is in
-      same_is (after_held (span_step from to s (Freed entry.1)) len _ m _ freed) (omega (arith, more)) refl (omega (arith, longer))
+      same_is (after_held (band_step from to s (Freed entry.1)) len _ m _ freed) (omega (arith, more)) refl (omega (arith, longer))
   by_moved false s entry len rest m l d upto is =
       let more = count_cons entry.1 (lengths rest) in
       let longer = long_cons entry.1 (lengths rest) in
       same_is is (omega (arith, more)) refl (omega (arith, longer, upto))
 
-  all_moved : (name : Name) (len : ℕ) (ledger : Ledger) (s : Span) (m l d : ℕ) → long (lengths ledger) ≤ l → Is s (count (lengths ledger) + d) m l
-      → Is (span_after from to s (moved_steps name len ledger)) (count (lengths (with_length ledger name len)) + d) m (max l (long (lengths (with_length ledger name len))))
+  all_moved : (name : Name) (len : ℕ) (inventory : Inventory) (s : Band) (m l d : ℕ) → long (lengths inventory) ≤ l → Is s (count (lengths inventory) + d) m l
+      → Is (band_after from to s (moved_steps name len inventory)) (count (lengths (with_length inventory name len)) + d) m (max l (long (lengths (with_length inventory name len))))
   all_moved name len [] s m l d upto is = same_is is refl refl (omega arith)
-  all_moved name len (entry ∷ ledger) s m l d upto is =
-      let more = count_cons entry.1 (lengths ledger) in
-      let longer = long_cons entry.1 (lengths ledger) in
+  all_moved name len (entry ∷ inventory) s m l d upto is =
+      let more = count_cons entry.1 (lengths inventory) in
+      let longer = long_cons entry.1 (lengths inventory) in
       let same = is_same name entry.0 in
-      let rest = with_length ledger name len in
-      let before = all_moved name len ledger s m l (one (between entry.1) + d) (omega (arith, longer, upto)) (same_is is (omega (arith, more)) refl refl) in
-      subst (λ (now : Span). Is now (count (lengths (cond same (entry.0, len) entry ∷ rest)) + d) m (max l (long (lengths (cond same (entry.0, len) entry ∷ rest)))))
-      (sym (after_more from to s (moved_steps name len ledger) (cond same (Freed entry.1 ∷ (Held len ∷ [])) [])))
-      (by_moved same (span_after from to s (moved_steps name len ledger)) entry len rest m l d (omega (arith, longer, upto)) before)
+      let rest = with_length inventory name len in
+      let before = all_moved name len inventory s m l (one (between entry.1) + d) (omega (arith, longer, upto)) (same_is is (omega (arith, more)) refl refl) in
+      subst (λ (now : Band). Is now (count (lengths (cond same (entry.0, len) entry ∷ rest)) + d) m (max l (long (lengths (cond same (entry.0, len) entry ∷ rest)))))
+      (sym (after_more from to s (moved_steps name len inventory) (cond same (Freed entry.1 ∷ (Held len ∷ [])) [])))
+      (by_moved same (band_after from to s (moved_steps name len inventory)) entry len rest m l d (omega (arith, longer, upto)) before)
 
   -- ---- what is told of a row
 
-  -- a span tells what is held, and the row that is told
-  record Tells (span : Span) (told : RowAccount) : Type 0 where
+  -- a band tells what is held, and the row that is told
+  record Tells (band : Band) (told : RowAccount) : Type 0 where
     inside : 1 < length told.rows
-    is : Is span (count (lengths told.account.ledger)) (get_or told.rows 1 no_row).most (get_or told.rows 1 no_row).longest
-    within : IsWithin (in_span (lengths told.account.ledger)) (get_or told.rows 1 no_row)
+    is : Is band (count (lengths told.account.inventory)) (get_or told.rows 1 no_row).most (get_or told.rows 1 no_row).longest
+    within : IsWithin (in_band (lengths told.account.inventory)) (get_or told.rows 1 no_row)
 
   -- a row that may have risen to these lengths; one of them is the newest
   record Rises (rows : List Row) (len : ℕ) (lens : List ℕ) (most longest : ℕ) : Type 0 where
-    inside : 1 < length (with_lengths (span_of from to) rows len lens)
-    most_is : (get_or (with_lengths (span_of from to) rows len lens) 1 no_row).most ≡ most
-    longest_is : (get_or (with_lengths (span_of from to) rows len lens) 1 no_row).longest ≡ longest
+    inside : 1 < length (with_lengths (band_of from to) rows len lens)
+    most_is : (get_or (with_lengths (band_of from to) rows len lens) 1 no_row).most ≡ most
+    longest_is : (get_or (with_lengths (band_of from to) rows len lens) 1 no_row).longest ≡ longest
 
-  outside : (len : ℕ) → between len ≡ false → span_of from to len ≢ 1
-  outside len is = λ same. let none : span_of from to len ≡ 0 = ap (λ (b : Bool). cond b 1 0) is in absurd (omega (arith, none, same))
+  outside : (len : ℕ) → between len ≡ false → band_of from to len ≢ 1
+  outside len is = λ same. let none : band_of from to len ≡ 0 = ap (λ (b : Bool). cond b 1 0) is in absurd (omega (arith, none, same))
 
   rising : (rows : List Row) (len : ℕ) (lens : List ℕ) → 1 < length rows
-      → (between len ≡ false → IsWithin (in_span lens) (get_or rows 1 no_row))
+      → (between len ≡ false → IsWithin (in_band lens) (get_or rows 1 no_row))
       → Rises rows len lens (max (get_or rows 1 no_row).most (count lens)) (max (get_or rows 1 no_row).longest (long lens))
-  rising rows len lens inside others = elim (cases_eq (span_of from to len) 1) [
+  rising rows len lens inside others = elim (cases_eq (band_of from to len) 1) [
     | inl is ↦
-        let new = noted_here (span_of from to) 1 rows len lens is inside in
+        let new = noted_here (band_of from to) 1 rows len lens is inside in
         record {
-          inside = omega (arith, noted_whole (span_of from to) rows len lens, inside);
+          inside = omega (arith, noted_whole (band_of from to) rows len lens, inside);
           most_is = ap (λ (r : Row). r.most) new;
           longest_is = ap (λ (r : Row). r.longest) new;
         }
     | inr ne ↦
-        let same = noted_other (span_of from to) 1 rows len lens ne in
+        let same = noted_other (band_of from to) 1 rows len lens ne in
         let within = others (no_one (between len) ne) in
         record {
-          inside = omega (arith, noted_whole (span_of from to) rows len lens, inside);
+          inside = omega (arith, noted_whole (band_of from to) rows len lens, inside);
           most_is = ap (λ (r : Row). r.most) same ∙ omega (arith, within.0);
           longest_is = ap (λ (r : Row). r.longest) same ∙ omega (arith, within.1);
         }
@@ -164,99 +164,99 @@ module _ (from to : ℕ) where
 
   -- ---- an entry
 
-  module _ (span : Span) (told : RowAccount) (tells : Tells span told) where
-    abbrev ledger : Ledger
-    ledger = told.account.ledger
+  module _ (band : Band) (told : RowAccount) (tells : Tells band told) where
+    abbrev inventory : Inventory
+    inventory = told.account.inventory
 
     abbrev row : Row
     row = get_or told.rows 1 no_row
 
     -- nothing changes
-    stays : (account : Account) → account.ledger ≡ ledger → Tells span (record { account = account; rows = told.rows })
+    stays : (account : Account) → account.inventory ≡ inventory → Tells band (record { account = account; rows = told.rows })
     stays account same = record {
       inside = tells.inside;
-      is = subst (λ (l : Ledger). Is span (count (lengths l)) row.most row.longest) (sym same) tells.is;
-      within = subst (λ (l : Ledger). IsWithin (in_span (lengths l)) row) (sym same) tells.within;
+      is = subst (λ (l : Inventory). Is band (count (lengths l)) row.most row.longest) (sym same) tells.is;
+      within = subst (λ (l : Inventory). IsWithin (in_band (lengths l)) row) (sym same) tells.within;
     }
 
     -- blocks are taken back
-    taken : (name : Name) (account : Account) → account.ledger ≡ kept name ledger → Tells (span_after from to span (freed_steps name ledger)) (record { account = account; rows = told.rows })
+    taken : (name : Name) (account : Account) → account.inventory ≡ kept name inventory → Tells (band_after from to band (freed_steps name inventory)) (record { account = account; rows = told.rows })
     taken name account same =
-        let less = freed_within (span_of from to) 1 name ledger in
+        let less = freed_within (band_of from to) 1 name inventory in
         record {
           inside = tells.inside;
-          is = subst (λ (l : Ledger). Is (span_after from to span (freed_steps name ledger)) (count (lengths l)) row.most row.longest) (sym same)
-              (same_is (all_taken name ledger span row.most row.longest 0 (same_is tells.is (omega arith) refl refl)) (omega arith) refl refl);
-          within = subst (λ (l : Ledger). IsWithin (in_span (lengths l)) row) (sym same) (omega (arith, less.0, tells.within.0), omega (arith, less.1, tells.within.1));
+          is = subst (λ (l : Inventory). Is (band_after from to band (freed_steps name inventory)) (count (lengths l)) row.most row.longest) (sym same)
+              (same_is (all_taken name inventory band row.most row.longest 0 (same_is tells.is (omega arith) refl refl)) (omega arith) refl refl);
+          within = subst (λ (l : Inventory). IsWithin (in_band (lengths l)) row) (sym same) (omega (arith, less.0, tells.within.0), omega (arith, less.1, tells.within.1));
         }
 
-    of_taken : (o : Option Name) → Tells (span_after from to span (taken_steps ledger o)) (record { account = with_taken told.account o; rows = told.rows })
+    of_taken : (o : Option Name) → Tells (band_after from to band (taken_steps inventory o)) (record { account = with_taken told.account o; rows = told.rows })
     of_taken None = stays told.account refl
     of_taken (Some name) = taken name (with_taken told.account (Some name)) refl
 
     -- a block is asked for
     module _ (len : ℕ) where
       abbrev rows_asked : List Row
-      rows_asked = with_lengths (span_of from to) told.rows len (len ∷ lengths ledger)
+      rows_asked = with_lengths (band_of from to) told.rows len (len ∷ lengths inventory)
 
-      rise : Rises told.rows len (len ∷ lengths ledger) (max row.most (count (len ∷ lengths ledger))) (max row.longest (long (len ∷ lengths ledger)))
-      rise = rising told.rows len (len ∷ lengths ledger) tells.inside
+      rise : Rises told.rows len (len ∷ lengths inventory) (max row.most (count (len ∷ lengths inventory))) (max row.longest (long (len ∷ lengths inventory)))
+      rise = rising told.rows len (len ∷ lengths inventory) tells.inside
           (λ is. let none : one (between len) ≡ 0 = ap one is in
           let short : cond (between len) len 0 ≡ 0 = ap (λ (b : Bool). cond b len 0) is in
-          (omega (arith, none, count_cons len (lengths ledger), tells.within.0), omega (arith, short, long_cons len (lengths ledger), tells.within.1)))
+          (omega (arith, none, count_cons len (lengths inventory), tells.within.0), omega (arith, short, long_cons len (lengths inventory), tells.within.1)))
 
-      abbrev asked : Span
-      asked = span_step from to (span_step from to span (Held len)) Reached
+      abbrev asked : Band
+      asked = band_step from to (band_step from to band (Held len)) Reached
 
-      asked_is : Is asked (count (lengths ledger) + one (between len)) (get_or rows_asked 1 no_row).most (get_or rows_asked 1 no_row).longest
+      asked_is : Is asked (count (lengths inventory) + one (between len)) (get_or rows_asked 1 no_row).most (get_or rows_asked 1 no_row).longest
       asked_is =
-          let more = count_cons len (lengths ledger) in
-          let longer = long_cons len (lengths ledger) in
-          same_is (after_reached (span_step from to span (Held len)) _ _ _ (after_held span len _ _ _ tells.is)) refl
+          let more = count_cons len (lengths inventory) in
+          let longer = long_cons len (lengths inventory) in
+          same_is (after_reached (band_step from to band (Held len)) _ _ _ (after_held band len _ _ _ tells.is)) refl
           (omega (arith, more, rise.most_is)) (omega (arith, longer, rise.longest_is, tells.within.1))
 
-      given : (account : Account) (name : Name) → account.ledger ≡ (name, len) ∷ ledger → Tells asked (record { account = account; rows = rows_asked })
+      given : (account : Account) (name : Name) → account.inventory ≡ (name, len) ∷ inventory → Tells asked (record { account = account; rows = rows_asked })
       given account name same = record {
         inside = rise.inside;
-        is = subst (λ (l : Ledger). Is asked (count (lengths l)) (get_or rows_asked 1 no_row).most (get_or rows_asked 1 no_row).longest) (sym same)
-            (same_is asked_is (omega (arith, count_cons len (lengths ledger))) refl refl);
-        within = subst (λ (l : Ledger). IsWithin (in_span (lengths l)) (get_or rows_asked 1 no_row)) (sym same) (omega (arith, rise.most_is), omega (arith, rise.longest_is));
+        is = subst (λ (l : Inventory). Is asked (count (lengths l)) (get_or rows_asked 1 no_row).most (get_or rows_asked 1 no_row).longest) (sym same)
+            (same_is asked_is (omega (arith, count_cons len (lengths inventory))) refl refl);
+        within = subst (λ (l : Inventory). IsWithin (in_band (lengths l)) (get_or rows_asked 1 no_row)) (sym same) (omega (arith, rise.most_is), omega (arith, rise.longest_is));
       }
 
-      not_given : (account : Account) → account.ledger ≡ ledger → Tells (span_step from to asked (Freed len)) (record { account = account; rows = rows_asked })
+      not_given : (account : Account) → account.inventory ≡ inventory → Tells (band_step from to asked (Freed len)) (record { account = account; rows = rows_asked })
       not_given account same = record {
         inside = rise.inside;
-        is = subst (λ (l : Ledger). Is (span_step from to asked (Freed len)) (count (lengths l)) (get_or rows_asked 1 no_row).most (get_or rows_asked 1 no_row).longest) (sym same)
+        is = subst (λ (l : Inventory). Is (band_step from to asked (Freed len)) (count (lengths l)) (get_or rows_asked 1 no_row).most (get_or rows_asked 1 no_row).longest) (sym same)
             (same_is (after_freed asked len _ _ _ asked_is) (omega arith) refl refl);
-        within = subst (λ (l : Ledger). IsWithin (in_span (lengths l)) (get_or rows_asked 1 no_row)) (sym same)
+        within = subst (λ (l : Inventory). IsWithin (in_band (lengths l)) (get_or rows_asked 1 no_row)) (sym same)
             (omega (arith, rise.most_is, tells.within.0), omega (arith, rise.longest_is, tells.within.1));
       }
 
       -- one is resized
-      resized : (o : Option Name) → Tells (span_after from to span (resized_steps ledger len o))
-          (record { account = with_resized told.account len o; rows = with_lengths (span_of from to) told.rows len (lengths (with_resized told.account len o).ledger) })
+      resized : (o : Option Name) → Tells (band_after from to band (resized_steps inventory len o))
+          (record { account = with_resized told.account len o; rows = with_lengths (band_of from to) told.rows len (lengths (with_resized told.account len o).inventory) })
       resized None =
-          let same = rising told.rows len (lengths ledger) tells.inside (λ is. tells.within) in
+          let same = rising told.rows len (lengths inventory) tells.inside (λ is. tells.within) in
           record {
             inside = same.inside;
             is = same_is tells.is refl (omega (arith, same.most_is, tells.within.0)) (omega (arith, same.longest_is, tells.within.1));
             within = (omega (arith, same.most_is), omega (arith, same.longest_is));
           }
       resized (Some name) =
-          let behind = with_length ledger name len in
+          let behind = with_length inventory name len in
           let rose = rising told.rows len (lengths behind) tells.inside
-          (λ is. let fewer = resized_within (span_of from to) 1 name len ledger (outside len is) in
+          (λ is. let fewer = resized_within (band_of from to) 1 name len inventory (outside len is) in
           (omega (arith, fewer.0, tells.within.0), omega (arith, fewer.1, tells.within.1))) in
-          let moved = all_moved name len ledger span row.most row.longest 0 tells.within.1 (same_is tells.is (omega arith) refl refl) in
+          let moved = all_moved name len inventory band row.most row.longest 0 tells.within.1 (same_is tells.is (omega arith) refl refl) in
           record {
             inside = rose.inside;
-            is = subst (λ (now : Span). Is now (count (lengths behind)) (get_or (with_lengths (span_of from to) told.rows len (lengths behind)) 1 no_row).most (get_or (with_lengths (span_of from to) told.rows len (lengths behind)) 1 no_row).longest)
-                (sym (after_more from to span (moved_steps name len ledger) (Reached ∷ [])))
-                (same_is (after_reached (span_after from to span (moved_steps name len ledger)) _ _ _ moved) (omega arith) (omega (arith, rose.most_is)) (omega (arith, rose.longest_is)));
+            is = subst (λ (now : Band). Is now (count (lengths behind)) (get_or (with_lengths (band_of from to) told.rows len (lengths behind)) 1 no_row).most (get_or (with_lengths (band_of from to) told.rows len (lengths behind)) 1 no_row).longest)
+                (sym (after_more from to band (moved_steps name len inventory) (Reached ∷ [])))
+                (same_is (after_reached (band_after from to band (moved_steps name len inventory)) _ _ _ moved) (omega arith) (omega (arith, rose.most_is)) (omega (arith, rose.longest_is)));
             within = (omega (arith, rose.most_is), omega (arith, rose.longest_is));
           }
 
-    entry : (made : List (Option Name)) (call : Call) (reply : Reply) → Tells (span_after from to span (entry_steps made ledger call reply)) (row_accounted (span_of from to) made told call reply)
+    entry : (made : List (Option Name)) (call : Call) (reply : Reply) → Tells (band_after from to band (entry_steps made inventory call reply)) (row_accounted (band_of from to) made told call reply)
     entry made (Allocate len) (Made name) = given len _ name refl
     entry made (Allocate len) reply = not_given len _ refl
     entry made (Release target) reply = of_taken (freed_by made (Release target) reply)
@@ -268,24 +268,24 @@ module _ (from to : ℕ) where
   -- ---- all entries
 
   abbrev rows_of_all : List (Option Name) → RowAccount → List Entry → RowAccount
-  rows_of_all made told entries = fold (λ told e. row_accounted (span_of from to) made told e.call e.reply) told entries
+  rows_of_all made told entries = fold (λ told e. row_accounted (band_of from to) made told e.call e.reply) told entries
 
   all_told : (made : List (Option Name)) (so_far : StepAccount) (told : RowAccount) (entries : List Entry) → so_far.account ≡ told.account
-      → Tells (span_after from to no_span so_far.steps) told → Tells (span_after from to no_span (stepped_all made so_far entries).steps) (rows_of_all made told entries)
+      → Tells (band_after from to no_band so_far.steps) told → Tells (band_after from to no_band (stepped_all made so_far entries).steps) (rows_of_all made told entries)
   all_told made so_far told [] same tells = tells
   all_told made so_far told (e ∷ entries) same tells =
-      let next = row_accounted (span_of from to) made told e.call e.reply in
+      let next = row_accounted (band_of from to) made told e.call e.reply in
       all_told made (stepped made so_far e.call e.reply) next entries (ap (λ (a : Account). accounted made a e.call e.reply) same)
-      (subst (λ (a : Account). Tells (span_after from to no_span (so_far.steps ++ entry_steps made a.ledger e.call e.reply)) next) (sym same)
-      (subst (λ (s : Span). Tells s next) (sym (after_more from to no_span so_far.steps (entry_steps made told.account.ledger e.call e.reply)))
-      (entry (span_after from to no_span so_far.steps) told tells made e.call e.reply)))
+      (subst (λ (a : Account). Tells (band_after from to no_band (so_far.steps ++ entry_steps made a.inventory e.call e.reply)) next) (sym same)
+      (subst (λ (s : Band). Tells s next) (sym (after_more from to no_band so_far.steps (entry_steps made told.account.inventory e.call e.reply)))
+      (entry (band_after from to no_band so_far.steps) told tells made e.call e.reply)))
 
   same_row : (a b : Row) → a.most ≡ b.most → a.longest ≡ b.longest → a ≡ b
   same_row a b most longest = ap₂ (λ (m n : ℕ). let r : Row = record { most = m; longest = n } in r) most longest
 
-  -- what the steps of a worker tell of the span
-  pub span_told : (made : List (Option Name)) (entries : List Entry)
-      → (span_after from to no_span (stepped_all made no_steps entries).steps).row ≡ get_or (rows_of_all made (no_rows 2) entries).rows 1 no_row
-  span_told made entries =
+  -- what the steps of a worker tell of the band
+  pub band_told : (made : List (Option Name)) (entries : List Entry)
+      → (band_after from to no_band (stepped_all made no_steps entries).steps).row ≡ get_or (rows_of_all made (no_rows 2) entries).rows 1 no_row
+  band_told made entries =
       let all = all_told made no_steps (no_rows 2) entries refl (record { inside = omega arith; is = record { held_is = refl; most_is = refl; longest_is = refl }; within = (omega arith, omega arith) }) in
-      same_row (span_after from to no_span (stepped_all made no_steps entries).steps).row (get_or (rows_of_all made (no_rows 2) entries).rows 1 no_row) all.is.most_is all.is.longest_is
+      same_row (band_after from to no_band (stepped_all made no_steps entries).steps).row (get_or (rows_of_all made (no_rows 2) entries).rows 1 no_row) all.is.most_is all.is.longest_is

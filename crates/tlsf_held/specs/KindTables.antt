@@ -2,26 +2,26 @@
 use Rattle.std.specs.Prelude.{◌≡◌, ◌↔◌, ℕ, ◌<◌, ◌≤◌, List, [], ◌∷◌, length, map}
 use Rattle.std.specs.List.{range_with_len}
 use Rattle.tlsf_heap.specs.Calls.{Call, Allocate, Release, Write, Resize, Read, Answer}
-use Rattle.tlsf_pool.specs.laws.Kinds.{Ledger, ledger_after, lengths}
+use Rattle.tlsf_pool.specs.laws.Kinds.{Inventory, inventory_after, lengths}
 use Rattle.tlsf_pool.specs.declared.kind.Kind.{Kind}
 use Rattle.tlsf_held.specs.Rows.{row_count, row_in, row_of, used, IsWithin}
 use Rattle.tlsf_held.specs.declared.row.Row.{Row}
 
 -- the lengths that are held, with that of the block that a call asks for
-abbrev pub lengths_with : Ledger → Call → List ℕ
-lengths_with ledger (Allocate len) = len ∷ lengths ledger
-lengths_with ledger (Release name) = lengths ledger
-lengths_with ledger (Write name at bytes) = lengths ledger
-lengths_with ledger (Resize name len) = lengths ledger
-lengths_with ledger (Read name at n) = lengths ledger
+abbrev pub lengths_with : Inventory → Call → List ℕ
+lengths_with inventory (Allocate len) = len ∷ lengths inventory
+lengths_with inventory (Release name) = lengths inventory
+lengths_with inventory (Write name at bytes) = lengths inventory
+lengths_with inventory (Resize name len) = lengths inventory
+lengths_with inventory (Read name at n) = lengths inventory
 
 -- of one row these calls, which get these answers, hold no more blocks at once, and none longer. So it is with each block that is
 -- asked for, and in the end
-abbrev pub KeepWithin : (ℕ → ℕ) → ℕ → Row → Ledger → List Call → List Answer → Type 0
-KeepWithin row at bound ledger [] answers = IsWithin (row_in row at (lengths ledger)) bound
-KeepWithin row at bound ledger (call ∷ calls) [] = IsWithin (row_in row at (lengths ledger)) bound
-KeepWithin row at bound ledger (call ∷ calls) (answer ∷ answers) =
-    IsWithin (row_in row at (lengths_with ledger call)) bound × KeepWithin row at bound (ledger_after ledger call answer) calls answers
+abbrev pub KeepWithin : (ℕ → ℕ) → ℕ → Row → Inventory → List Call → List Answer → Type 0
+KeepWithin row at bound inventory [] answers = IsWithin (row_in row at (lengths inventory)) bound
+KeepWithin row at bound inventory (call ∷ calls) [] = IsWithin (row_in row at (lengths inventory)) bound
+KeepWithin row at bound inventory (call ∷ calls) (answer ∷ answers) =
+    IsWithin (row_in row at (lengths_with inventory call)) bound × KeepWithin row at bound (inventory_after inventory call answer) calls answers
 
 -- this many blocks and bytes, and no fewer
 abbrev pub IsLeastRow : (ℕ → ℕ) → ℕ → List Call → List Answer → Row → Type 0

@@ -108,6 +108,6 @@ IsScriptBut script trace = IsScript script (with_words script.header.words trace
 
 -- the findings of replays: `served` words serve worker j, unless no heap has that many, and `refused` words don't, unless no heap
 -- has so few
-abbrev pub IsSpan : Trace → ℕ → (refused served : ℕ) → Type 0
-IsSpan trace j refused served = (served ≤ most_words_of trace.header.version → unserved_in served trace j ≡ 0)
+abbrev pub IsBracket : Trace → ℕ → (refused served : ℕ) → Type 0
+IsBracket trace j refused served = (served ≤ most_words_of trace.header.version → unserved_in served trace j ≡ 0)
     × (4 ≤ refused → 0 < unserved_in refused trace j)

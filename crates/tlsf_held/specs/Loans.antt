@@ -4,7 +4,7 @@ use Rattle.tlsf_heap.specs.Blocks.{want}
 use Rattle.tlsf_heap.specs.Calls.{Call as HeapCall, Allocate as AllocateAt, Release as ReleaseAt, Write as WriteAt, Resize as ResizeAt, Read as ReadAt, Answer}
 use Rattle.tlsf_heap.specs.declared.name.Name.{Name}
 use Rattle.tlsf_pool.specs.laws.Contents.{is_same}
-use Rattle.tlsf_pool.specs.laws.Kinds.{Ledger, ledger_after, with_length}
+use Rattle.tlsf_pool.specs.laws.Kinds.{Inventory, inventory_after, with_length}
 use Rattle.tlsf_calls.specs.declared.call.Call.{Call}
 use Rattle.tlsf_calls.specs.declared.call.Call.TheVariants.{Allocate, Release, Resize, Take}
 use Rattle.tlsf_calls.specs.declared.entry.Entry.{Entry}
@@ -14,24 +14,24 @@ use Rattle.tlsf_calls.specs.declared.target.Target.{Target}
 use Rattle.tlsf_crew.specs.histories.History.{entries_of}
 use Rattle.tlsf_crew.specs.model.World.{name_of}
 
--- the words that the blocks of a ledger want
-abbrev pub wanted_in : Ledger → ℕ
+-- the words that the blocks of an inventory want
+abbrev pub wanted_in : Inventory → ℕ
 wanted_in [] = 0
-wanted_in (entry ∷ ledger) = want entry.1 + wanted_in ledger
+wanted_in (entry ∷ inventory) = want entry.1 + wanted_in inventory
 
 -- these, and those of the block that a call asks for
-abbrev pub wanted_with : Ledger → HeapCall → ℕ
-wanted_with ledger (AllocateAt len) = want len + wanted_in ledger
-wanted_with ledger (ReleaseAt name) = wanted_in ledger
-wanted_with ledger (WriteAt name at bytes) = wanted_in ledger
-wanted_with ledger (ResizeAt name len) = wanted_in ledger
-wanted_with ledger (ReadAt name at n) = wanted_in ledger
+abbrev pub wanted_with : Inventory → HeapCall → ℕ
+wanted_with inventory (AllocateAt len) = want len + wanted_in inventory
+wanted_with inventory (ReleaseAt name) = wanted_in inventory
+wanted_with inventory (WriteAt name at bytes) = wanted_in inventory
+wanted_with inventory (ResizeAt name len) = wanted_in inventory
+wanted_with inventory (ReadAt name at n) = wanted_in inventory
 
 -- these calls, which get these answers, want at most this many words at once: with each block that is asked for, and in the end
-abbrev pub WantAtMost : ℕ → Ledger → List HeapCall → List Answer → Type 0
-WantAtMost words ledger [] answers = wanted_in ledger ≤ words
-WantAtMost words ledger (call ∷ calls) [] = wanted_in ledger ≤ words
-WantAtMost words ledger (call ∷ calls) (answer ∷ answers) = (wanted_with ledger call ≤ words) × WantAtMost words (ledger_after ledger call answer) calls answers
+abbrev pub WantAtMost : ℕ → Inventory → List HeapCall → List Answer → Type 0
+WantAtMost words inventory [] answers = wanted_in inventory ≤ words
+WantAtMost words inventory (call ∷ calls) [] = wanted_in inventory ≤ words
+WantAtMost words inventory (call ∷ calls) (answer ∷ answers) = (wanted_with inventory call ≤ words) × WantAtMost words (inventory_after inventory call answer) calls answers
 
 -- these calls want at most this many words at once, and no fewer
 abbrev pub IsMostWanted : List HeapCall → List Answer → ℕ → Type 0
@@ -41,32 +41,32 @@ IsMostWanted calls answers most = (words : ℕ) → WantAtMost words [] calls an
 
 -- what is held, and the most words that were wanted at once
 pub record Account : Type 0 where
-  pub ledger : Ledger
+  pub inventory : Inventory
   pub most : ℕ
 
 abbrev pub no_loans : Account
-no_loans = record { ledger = []; most = 0 }
+no_loans = record { inventory = []; most = 0 }
 
 -- a block of this many bytes is asked for
 abbrev pub with_asked : Account → ℕ → Account
-with_asked account len = record account { most = max account.most (want len + wanted_in account.ledger) }
+with_asked account len = record account { most = max account.most (want len + wanted_in account.inventory) }
 
 -- it is given, or not
 abbrev pub with_given : Account → ℕ → Reply → Account
-with_given account len (Made name) = record account { ledger = (name, len) ∷ account.ledger }
+with_given account len (Made name) = record account { inventory = (name, len) ∷ account.inventory }
 with_given account len reply = account
 
 -- the block of a name is taken back
 abbrev pub with_taken : Account → Option Name → Account
 with_taken account None = account
-with_taken account (Some name) = record account { ledger = filter (λ entry. not (is_same name entry.0)) account.ledger }
+with_taken account (Some name) = record account { inventory = filter (λ entry. not (is_same name entry.0)) account.inventory }
 
 -- the block of a name is resized
 abbrev pub with_resized : Account → ℕ → Option Name → Account
 with_resized account len None = account
 with_resized account len (Some name) =
-    let ledger = with_length account.ledger name len in
-    record { ledger = ledger; most = max account.most (wanted_in ledger) }
+    let inventory = with_length account.inventory name len in
+    record { inventory = inventory; most = max account.most (wanted_in inventory) }
 
 -- the name of the block that the heap took back
 abbrev pub freed_by : List (Option Name) → Call → Reply → Option Name

@@ -8,19 +8,19 @@ use Rattle.tlsf_held.specs.KindTables.{IsLeastRow, IsTable}
 use Rattle.tlsf_held.specs.Rows.{no_row}
 use Rattle.tlsf_held.specs.declared.row.Row.{Row}
 
--- ---- the blocks of a span of lengths
+-- ---- the blocks of a band of lengths
 
 -- the lengths from one on, below another
 abbrev pub is_between : (from to : ℕ) → ℕ → Bool
 is_between from to len = nat_le from len && nat_lt len to
 
 -- 1 for these, 0 for all others
-abbrev pub span_of : (from to : ℕ) → ℕ → ℕ
-span_of from to len = if is_between from to len then 1 else 0
+abbrev pub band_of : (from to : ℕ) → ℕ → ℕ
+band_of from to len = if is_between from to len then 1 else 0
 
 -- the most blocks of such lengths that these calls, which get these answers, hold at once, and the longest of them
-abbrev pub IsSpanRow : List Call → List Answer → (from to : ℕ) → Row → Type 0
-IsSpanRow calls answers from to = IsLeastRow (span_of from to) 1 calls answers
+abbrev pub IsBandRow : List Call → List Answer → (from to : ℕ) → Row → Type 0
+IsBandRow calls answers from to = IsLeastRow (band_of from to) 1 calls answers
 
 -- ---- rows of a table merged
 
@@ -34,7 +34,7 @@ AreMerged calls answers table at [] [] = at ≡ length table
 AreMerged calls answers table at [] (row ∷ rows) = ⊥
 AreMerged calls answers table at (n ∷ lens) [] = ⊥
 AreMerged calls answers table at (n ∷ lens) (row ∷ rows) = (0 < n) × (at + n ≤ length table)
-    × IsSpanRow calls answers (starts_at table at) (starts_at table (at + n)) row × AreMerged calls answers table (at + n) lens rows
+    × IsBandRow calls answers (starts_at table at) (starts_at table (at + n)) row × AreMerged calls answers table (at + n) lens rows
 
 -- a way of merging all rows of a table
 pub record IsMerge (calls : List Call) (answers : List Answer) (table rows : List Row) : Type 0 where

@@ -1,7 +1,7 @@
 -- The rows of a table, as the entries of a worker tell of them.
 use Rattle.std.specs.Prelude.{ℕ, zero, suc, ◌+◌, List, ◌∷◌, Option, fold, length, nat_le, replicate, if◌then◌else◌}
 use Rattle.tlsf_heap.specs.declared.name.Name.{Name}
-use Rattle.tlsf_pool.specs.laws.Kinds.{Ledger, lengths}
+use Rattle.tlsf_pool.specs.laws.Kinds.{Inventory, lengths}
 use Rattle.tlsf_calls.specs.declared.call.Call.{Call}
 use Rattle.tlsf_calls.specs.declared.call.Call.TheVariants.{Allocate, Resize}
 use Rattle.tlsf_calls.specs.declared.entry.Entry.{Entry}
@@ -25,25 +25,25 @@ abbrev pub with_lengths : (ℕ → ℕ) → List Row → ℕ → List ℕ → Li
 with_lengths row rows len lens = raised rows (row len) (row_in row (row len) lens)
 
 -- the rows after a call, by what was held before it: the block that is asked for counts, given or not
-abbrev pub rows_asked : (ℕ → ℕ) → List Row → Call → Ledger → List Row
-rows_asked row rows (Allocate len) ledger = with_lengths row rows len (len ∷ lengths ledger)
-rows_asked row rows call ledger = rows
+abbrev pub rows_asked : (ℕ → ℕ) → List Row → Call → Inventory → List Row
+rows_asked row rows (Allocate len) inventory = with_lengths row rows len (len ∷ lengths inventory)
+rows_asked row rows call inventory = rows
 
 -- a block that was resized
-abbrev pub rows_resized : (ℕ → ℕ) → List Row → ℕ → Reply → Ledger → List Row
-rows_resized row rows len Resized ledger = with_lengths row rows len (lengths ledger)
-rows_resized row rows len reply ledger = rows
+abbrev pub rows_resized : (ℕ → ℕ) → List Row → ℕ → Reply → Inventory → List Row
+rows_resized row rows len Resized inventory = with_lengths row rows len (lengths inventory)
+rows_resized row rows len reply inventory = rows
 
 -- and by what is held after it
-abbrev pub rows_left : (ℕ → ℕ) → List Row → Call → Reply → Ledger → List Row
-rows_left row rows (Resize target len) reply ledger = rows_resized row rows len reply ledger
-rows_left row rows call reply ledger = rows
+abbrev pub rows_left : (ℕ → ℕ) → List Row → Call → Reply → Inventory → List Row
+rows_left row rows (Resize target len) reply inventory = rows_resized row rows len reply inventory
+rows_left row rows call reply inventory = rows
 
 -- one entry more
 abbrev pub row_accounted : (ℕ → ℕ) → List (Option Name) → RowAccount → Call → Reply → RowAccount
 row_accounted row made told call reply =
     let next = accounted made told.account call reply in
-    record { account = next; rows = rows_left row (rows_asked row told.rows call told.account.ledger) call reply next.ledger }
+    record { account = next; rows = rows_left row (rows_asked row told.rows call told.account.inventory) call reply next.inventory }
 
 abbrev pub rows_told : (sli grain worker : ℕ) → List (Option Name) → List Entry → RowAccount
 rows_told sli grain worker made entries =

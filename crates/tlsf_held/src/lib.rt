@@ -20,6 +20,7 @@
 //! worker's calls keep.
 #![tactic(auto)]
 
+mod band;
 mod divisions;
 mod kind_lines;
 mod laws;
@@ -32,7 +33,6 @@ mod measuring;
 mod merging;
 mod row;
 mod rows;
-mod spans;
 mod steps;
 mod tally;
 

@@ -23,7 +23,7 @@ pub struct Loan {
 
 /// The blocks that a worker holds of its heap, told by the entries so far, and the most words that it wanted at once.
 ///
-/// Contracts see the loans as a ledger, the newest first.
+/// Contracts see the loans as an inventory, the newest first.
 #[derive(Drop)]
 pub struct Loans {
     items: Vec<Loan>,
@@ -34,13 +34,13 @@ pub struct Loans {
 impl Model for Loans {
     ghost use Rattle.std.specs.Prelude.{◌≡◌, ◌≤◌, ◌*◌, ◌^◌, vec_len};
     ghost use Rattle.tlsf_held.specs.Loans.{Account, wanted_in};
-    ghost use Rattle.tlsf_held.specs.Lent.{ledger_of};
+    ghost use Rattle.tlsf_held.specs.Lent.{inventory_of};
 
     ghost Value = { Account };
 
-    ghost view = { λ p. record { ledger = ledger_of p.items.items; most = p.most } };
+    ghost view = { λ p. record { inventory = inventory_of p.items.items; most = p.most } };
 
-    ghost invariant = { λ p. (p.words ≡ wanted_in (ledger_of p.items.items)) × (p.words ≤ 2 ^ 32 * vec_len p.items) };
+    ghost invariant = { λ p. (p.words ≡ wanted_in (inventory_of p.items.items)) × (p.words ≤ 2 ^ 32 * vec_len p.items) };
 }
 
 /// Whether two names are the same.
@@ -52,7 +52,7 @@ pub fn is_same(a: Name, b: Name) -> bool
 
 // The words that blocks want.
 fn words_of(loans: &[Loan]) -> u128
-    ensures words { result ≡ told.wanted_in (lent.ledger_of loans.now) }
+    ensures words { result ≡ told.wanted_in (lent.inventory_of loans.now) }
     ensures few { result ≤ 2 ^ 32 * length loans.now }
 {
     let mut words = 0;
@@ -66,7 +66,7 @@ fn words_of(loans: &[Loan]) -> u128
 fn row_in<const SLI: u32>(loans: &[Loan], grain: u32, at: usize) -> Row
     requires level { IsLevel SLI }
     requires grain { grain ≤ 4 }
-    ensures row { result ≡ rows.row_in (rows.row_of SLI grain) at (lengths (lent.ledger_of loans.now)) }
+    ensures row { result ≡ rows.row_in (rows.row_of SLI grain) at (lengths (lent.inventory_of loans.now)) }
     ensures few { result.most + 1 < 2 ^ 64 }
 {
     let mut row = Row::new();
@@ -151,7 +151,7 @@ pub fn resized_by(made: &[Option<Name>], target: Target, reply: Reply) -> Option
 
 impl Loans {
     ghost use Rattle.std.specs.Prelude.{◌≡◌, OnOk, IfOk};
-    ghost use Rattle.tlsf_held.specs.Lent.{ledger_of};
+    ghost use Rattle.tlsf_held.specs.Lent.{inventory_of};
     ghost use Rattle.tlsf_held.specs.Loans.{account_of, accounted, no_loans, with_asked, with_given, with_resized, with_taken};
 
     /// Of no call.
@@ -185,7 +185,7 @@ impl Loans {
 
     /// The blocks that are held, the oldest first.
     pub fn held(&self) -> &[Loan]
-        ensures { ledger_of result.now ≡ self.now.ledger }
+        ensures { inventory_of result.now ≡ self.now.inventory }
     {
         &self.items
     }
@@ -216,7 +216,7 @@ impl Loans {
     }
 
     // Notes that the block of a name was taken back.
-    #[tactic(auto, using(crate::proofs::Lent::ledger_filtered))]
+    #[tactic(auto, using(crate::proofs::Lent::inventory_filtered))]
     fn take_back(&mut self, freed: Option<Name>)
         ensures { self.new ≡ with_taken self.old freed }
     {
@@ -227,7 +227,7 @@ impl Loans {
     }
 
     // Notes that the block of a name was resized.
-    #[tactic(auto, using(crate::proofs::Lent::ledger_mapped))]
+    #[tactic(auto, using(crate::proofs::Lent::inventory_mapped))]
     fn resize(&mut self, len: u32, resized: Option<Name>)
         ensures { self.new ≡ with_resized self.old len resized }
     {
@@ -242,7 +242,7 @@ impl Loans {
     pub fn row_in<const SLI: u32>(&self, grain: u32, at: usize) -> Row
         requires level { IsLevel SLI }
         requires grain { grain ≤ 4 }
-        ensures row { result ≡ rows.row_in (rows.row_of SLI grain) at (lengths self.now.ledger) }
+        ensures row { result ≡ rows.row_in (rows.row_of SLI grain) at (lengths self.now.inventory) }
         ensures few { result.most + 1 < 2 ^ 64 }
     {
         row_in::<SLI>(&self.items, grain, at)

@@ -7,10 +7,10 @@ ghost use Rattle.tlsf_held.specs.Merges as merges;
 ghost use Rattle.tlsf_held.specs.RowTallies as told;
 ghost use Rattle.tlsf_held.specs.Steps as steps;
 
+use crate::band::row_between;
 use crate::divisions::{Costs, MOST_PLACES, cheapest};
 use crate::row::Row;
 use crate::rows::table_of;
-use crate::spans::row_between;
 use crate::steps::{Step, steps_of};
 use std::alloc::{AllocError, Global};
 use tlsf_crew::Entry;

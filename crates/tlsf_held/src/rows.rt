@@ -67,7 +67,7 @@ fn note_asked<const SLI: u32>(rows: &mut [Row], grain: u32, call: Call, loans: &
     requires level { IsLevel SLI }
     requires grain { grain ≤ 4 }
     requires rows { length rows.old ≡ spec.row_count SLI grain }
-    ensures { rows.new ≡ told.rows_asked (spec.row_of SLI grain) rows.old call loans.now.ledger }
+    ensures { rows.new ≡ told.rows_asked (spec.row_of SLI grain) rows.old call loans.now.inventory }
 {
     if let Call::Allocate { len } = call {
         let at = row_of::<SLI>(grain, len);
@@ -81,7 +81,7 @@ fn note_left<const SLI: u32>(rows: &mut [Row], grain: u32, entry: &Entry, loans:
     requires level { IsLevel SLI }
     requires grain { grain ≤ 4 }
     requires rows { length rows.old ≡ spec.row_count SLI grain }
-    ensures { rows.new ≡ told.rows_left (spec.row_of SLI grain) rows.old entry.now.call entry.now.reply loans.now.ledger }
+    ensures { rows.new ≡ told.rows_left (spec.row_of SLI grain) rows.old entry.now.call entry.now.reply loans.now.inventory }
 {
     if let (Call::Resize { len, .. }, Reply::Resized) = (entry.call, entry.reply) {
         let at = row_of::<SLI>(grain, len);

@@ -1,6 +1,6 @@
 //! The lengths that a worker holds, step by step, as the entries of a run tell them.
 ghost use Rattle.std.specs.Prelude.{◌≡◌, ◌++◌, ◌∷◌, [], IfOk, OnOk};
-ghost use Rattle.tlsf_held.specs.Lent.{ledger_of};
+ghost use Rattle.tlsf_held.specs.Lent.{inventory_of};
 ghost use Rattle.tlsf_held.specs.Steps as told;
 
 use crate::loans::{Loan, Loans, freed_by, is_same, resized_by};
@@ -34,7 +34,7 @@ fn push_asked(steps: &mut Vec<Step>, len: u32, reply: Reply) -> Result<(), Alloc
 
 // Adds those of the loans of a name, which are taken back.
 fn push_freed(steps: &mut Vec<Step>, loans: &[Loan], name: Name) -> Result<(), AllocError>
-    ensures { OnOk result (steps.new.items ≡ steps.old.items ++ told.freed_steps name (ledger_of loans.now)) }
+    ensures { OnOk result (steps.new.items ≡ steps.old.items ++ told.freed_steps name (inventory_of loans.now)) }
 {
     for loan in loans {
         if is_same(name, loan.name) {
@@ -46,7 +46,7 @@ fn push_freed(steps: &mut Vec<Step>, loans: &[Loan], name: Name) -> Result<(), A
 
 // Adds those of the loans of a name, which get another length.
 fn push_moved(steps: &mut Vec<Step>, loans: &[Loan], name: Name, len: u32) -> Result<(), AllocError>
-    ensures { OnOk result (steps.new.items ≡ steps.old.items ++ told.moved_steps name len (ledger_of loans.now)) }
+    ensures { OnOk result (steps.new.items ≡ steps.old.items ++ told.moved_steps name len (inventory_of loans.now)) }
 {
     for loan in loans {
         if is_same(name, loan.name) {
@@ -59,7 +59,7 @@ fn push_moved(steps: &mut Vec<Step>, loans: &[Loan], name: Name, len: u32) -> Re
 
 // Adds those of a block that was taken back, where one was.
 fn push_taken(steps: &mut Vec<Step>, loans: &[Loan], freed: Option<Name>) -> Result<(), AllocError>
-    ensures { OnOk result (steps.new.items ≡ steps.old.items ++ told.taken_steps (ledger_of loans.now) freed) }
+    ensures { OnOk result (steps.new.items ≡ steps.old.items ++ told.taken_steps (inventory_of loans.now) freed) }
 {
     match freed {
         Some(name) => push_freed(steps, loans, name),
@@ -74,7 +74,7 @@ fn push_resized(
     len: u32,
     resized: Option<Name>,
 ) -> Result<(), AllocError>
-    ensures { OnOk result (steps.new.items ≡ steps.old.items ++ told.resized_steps (ledger_of loans.now) len resized) }
+    ensures { OnOk result (steps.new.items ≡ steps.old.items ++ told.resized_steps (inventory_of loans.now) len resized) }
 {
     if let Some(name) = resized {
         push_moved(steps, loans, name, len)?;
@@ -91,7 +91,7 @@ fn push_entry(
     entry: &Entry,
 ) -> Result<(), AllocError>
     ensures { OnOk result (steps.new.items
-        ≡ steps.old.items ++ told.entry_steps made.now loans.now.ledger entry.now.call entry.now.reply) }
+        ≡ steps.old.items ++ told.entry_steps made.now loans.now.inventory entry.now.call entry.now.reply) }
 {
     match entry.call {
         Call::Allocate { len } => push_asked(steps, len, entry.reply),

@@ -23,7 +23,7 @@ pub use Rattle.tlsf_lines.specs.Fields.{values_in, digits_in, value_in, field, f
 unfoldable pub use Rattle.tlsf_lines.specs.Header.{header_in, header_from}
 pub use Rattle.tlsf_lines.specs.KeptEvents.{event_kept, Grows, IsCallWithin, IsWithin, call_kept}
 pub use Rattle.tlsf_lines.specs.LabelMemory.{Memory, Recalls, Remembers, event_by, when_made}
-pub use Rattle.tlsf_lines.specs.Lines.{label_in, is_call, kinds_of, request_in, word_of, words}
+pub use Rattle.tlsf_lines.specs.Lines.{label_in, is_call, kinds_of, request_in, keyword_of, keywords}
 unfoldable pub use Rattle.tlsf_lines.specs.Lines.{line_from}
 pub use Rattle.tlsf_lines.specs.Phases.{known_in, own_lines, calls_from, known_behind, call_in, call_that_makes, in_first, is_line_of, known_below, name_by, name_made, phases_of, script_in, scripts_in}
 pub use Rattle.tlsf_lines.specs.Pieces.{pieces_of, AreCut, ArePieces, IsRest, IsWhole}

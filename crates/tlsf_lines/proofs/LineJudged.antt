@@ -1,9 +1,9 @@
 -- A line is judged by its parts: its first field, and what stands after it.
-use Rattle.tlsf_lines.proofs.Common.{◌≡◌, ℕ, List, ◌∷◌, Option, Some, None, option_map, Result, Ok, Err, refl, ◌∙◌, ap, line_behind, fields_in, values_in, kinds_of, line_from, word_of, words, ◌>>=◌, judged_line, some_or, unless, Value, Line, LineFault, BadLine, BadNumber, LabelOrder}
+use Rattle.tlsf_lines.proofs.Common.{◌≡◌, ℕ, List, ◌∷◌, Option, Some, None, option_map, Result, Ok, Err, refl, ◌∙◌, ap, line_behind, fields_in, values_in, kinds_of, line_from, keyword_of, keywords, ◌>>=◌, judged_line, some_or, unless, Value, Line, LineFault, BadLine, BadNumber, LabelOrder}
 use Rattle.tlsf_lines.specs.Labels.{is_in_order}
-use Rattle.tlsf_lines.specs.declared.word.Word.{Word}
+use Rattle.tlsf_lines.specs.declared.keyword.Keyword.{Keyword}
 
--- what comes of what the fields behind a word say
+-- what comes of what the fields after a keyword say
 abbrev pub judged : List Line → Option (Option Line) → Result Line LineFault
 judged before None = Err BadLine
 judged before (Some None) = Err BadNumber
@@ -14,11 +14,11 @@ judged_numbers : (before : List Line) (said : Option Line)
 judged_numbers before None = refl
 judged_numbers before (Some line) = refl
 
-judged_values : (before : List Line) (word : Word) (said : Option (List Value))
-    → (some_or said BadLine >>= λ values. (some_or (line_from word values) BadNumber >>= λ line. (unless (is_in_order before line) LabelOrder >>= λ _. Ok line)))
-    ≡ judged before (option_map (λ values. line_from word values) said)
-judged_values before word None = refl
-judged_values before word (Some values) = judged_numbers before (line_from word values)
+judged_values : (before : List Line) (keyword : Keyword) (said : Option (List Value))
+    → (some_or said BadLine >>= λ values. (some_or (line_from keyword values) BadNumber >>= λ line. (unless (is_in_order before line) LabelOrder >>= λ _. Ok line)))
+    ≡ judged before (option_map (λ values. line_from keyword values) said)
+judged_values before keyword None = refl
+judged_values before keyword (Some values) = judged_numbers before (line_from keyword values)
 
 module _ (workers : ℕ) (before : List Line) (piece : List ℕ) where
   -- the piece has no line feed
@@ -26,15 +26,15 @@ module _ (workers : ℕ) (before : List Line) (piece : List ℕ) where
   unfolding judged_line
   without_feed none = rw none refl
 
-  -- the first field is no word
-  pub without_word : (first : List ℕ) (fields : List (List ℕ)) → fields_in piece ≡ Some (first ∷ fields) → word_of words first ≡ None
+  -- the first field is no keyword
+  pub without_keyword : (first : List ℕ) (fields : List (List ℕ)) → fields_in piece ≡ Some (first ∷ fields) → keyword_of keywords first ≡ None
       → judged_line workers before piece ≡ Err BadLine
   unfolding judged_line
-  without_word first fields are none = rw (are, none) refl
+  without_keyword first fields are none = rw (are, none) refl
 
-  -- the first field is a word
-  pub with_word : (first : List ℕ) (fields : List (List ℕ)) (word : Word) (said : Option (Option Line)) → fields_in piece ≡ Some (first ∷ fields)
-      → word_of words first ≡ Some word → line_behind workers word fields ≡ said → judged_line workers before piece ≡ judged before said
+  -- the first field is a keyword
+  pub with_keyword : (first : List ℕ) (fields : List (List ℕ)) (keyword : Keyword) (said : Option (Option Line)) → fields_in piece ≡ Some (first ∷ fields)
+      → keyword_of keywords first ≡ Some keyword → line_behind workers keyword fields ≡ said → judged_line workers before piece ≡ judged before said
   unfolding judged_line
-  with_word first fields word said are is behind =
-      rw (are, is) (judged_values before word (values_in workers (kinds_of word) fields) ∙ ap (λ s. judged before s) behind)
+  with_keyword first fields keyword said are is behind =
+      rw (are, is) (judged_values before keyword (values_in workers (kinds_of keyword) fields) ∙ ap (λ s. judged before s) behind)

@@ -6,7 +6,7 @@ use Rattle.tlsf_lines.specs.Fields.{values_in}
 use Rattle.tlsf_lines.specs.Lines.{kinds_of, line_from}
 use Rattle.tlsf_lines.specs.Values.{Kind, Value, Number, BadNumber}
 use Rattle.tlsf_lines.specs.declared.line.Line.{Line}
-use Rattle.tlsf_lines.specs.declared.word.Word.{Word}
+use Rattle.tlsf_lines.specs.declared.keyword.Keyword.{Keyword}
 
 -- a number, or none where it is a bad one
 abbrev pub value_of : Option ℕ → Value
@@ -44,6 +44,6 @@ SayFirst workers kinds fields values left = (behind : List Kind) → values_in w
 abbrev pub SayNothing : ℕ → List Kind → List (List ℕ) → Type 0
 SayNothing workers kinds fields = (behind : List Kind) → values_in workers (kinds ++ behind) fields ≡ None
 
--- what the fields behind a word say: nothing where they have not its shape, and no line where a number is bad
-abbrev pub line_behind : ℕ → Word → List (List ℕ) → Option (Option Line)
-line_behind workers word fields = option_map (λ values. line_from word values) (values_in workers (kinds_of word) fields)
+-- what the fields after a keyword say: nothing where they have not its shape, and no line where a number is bad
+abbrev pub line_behind : ℕ → Keyword → List (List ℕ) → Option (Option Line)
+line_behind workers keyword fields = option_map (λ values. line_from keyword values) (values_in workers (kinds_of keyword) fields)

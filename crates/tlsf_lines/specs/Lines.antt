@@ -1,44 +1,44 @@
--- The lines of a trace behind its header: the table of words, and what the fields of a line say.
+-- The lines of a trace after its header: the table of keywords, and what the fields of a line say.
 use Rattle.std.specs.Prelude.{ℕ, Bool, true, false, if◌then◌else◌, List, [], ◌∷◌, codes, Option, Some, None}
 use Rattle.std.specs.Str.{bytes_eq}
 use Rattle.tlsf_lines.specs.Values.{Kind, Worker, Label, Length, Offset, Hex, Count, Most}
 use Rattle.tlsf_lines.specs.declared.line.Line.{Line}
 use Rattle.tlsf_lines.specs.declared.line.Line.TheVariants.{Allocate, Release, Write, Read, Resize, Drain, Phase}
 use Rattle.tlsf_lines.specs.declared.request.Request.{Request}
-use Rattle.tlsf_lines.specs.declared.word.Word.{Word}
-use Rattle.tlsf_lines.specs.declared.word.Word.TheVariants as word
+use Rattle.tlsf_lines.specs.declared.keyword.Keyword.{Keyword}
+use Rattle.tlsf_lines.specs.declared.keyword.Keyword.TheVariants as keyword
 use Rattle.tlsf_lines.specs.Values.{Value, Number, Bytes}
 
--- each word, behind the first field that spells it
-abbrev pub words : List (List ℕ × Word)
-words =
-    (codes "a", word.Allocate) ∷ (codes "f", word.Release) ∷ (codes "p", word.Write)
-    ∷ (codes "g", word.Read) ∷ (codes "d", word.Drain) ∷ (codes "phase", word.Phase) ∷ (codes "r", word.Resize) ∷ []
+-- each keyword, after the first field that spells it
+abbrev pub keywords : List (List ℕ × Keyword)
+keywords =
+    (codes "a", keyword.Allocate) ∷ (codes "f", keyword.Release) ∷ (codes "p", keyword.Write)
+    ∷ (codes "g", keyword.Read) ∷ (codes "d", keyword.Drain) ∷ (codes "phase", keyword.Phase) ∷ (codes "r", keyword.Resize) ∷ []
 
--- the word that a first field spells, of these
-abbrev pub word_of : List (List ℕ × Word) → List ℕ → Option Word
-word_of [] field = None
-word_of (row ∷ rows) field = if bytes_eq field row.0 then Some row.1 else word_of rows field
+-- the keyword that a first field spells, of these
+abbrev pub keyword_of : List (List ℕ × Keyword) → List ℕ → Option Keyword
+keyword_of [] field = None
+keyword_of (row ∷ rows) field = if bytes_eq field row.0 then Some row.1 else keyword_of rows field
 
--- the kinds of the fields behind the word
-abbrev pub kinds_of : Word → List Kind
-kinds_of word.Allocate = Worker ∷ Label ∷ Length ∷ []
-kinds_of word.Release = Worker ∷ Label ∷ []
-kinds_of word.Write = Worker ∷ Label ∷ Offset ∷ Hex ∷ []
-kinds_of word.Read = Worker ∷ Label ∷ Offset ∷ Count ∷ []
-kinds_of word.Resize = Worker ∷ Label ∷ Length ∷ []
-kinds_of word.Drain = Worker ∷ Most ∷ []
-kinds_of word.Phase = []
+-- the kinds of the fields after the keyword
+abbrev pub kinds_of : Keyword → List Kind
+kinds_of keyword.Allocate = Worker ∷ Label ∷ Length ∷ []
+kinds_of keyword.Release = Worker ∷ Label ∷ []
+kinds_of keyword.Write = Worker ∷ Label ∷ Offset ∷ Hex ∷ []
+kinds_of keyword.Read = Worker ∷ Label ∷ Offset ∷ Count ∷ []
+kinds_of keyword.Resize = Worker ∷ Label ∷ Length ∷ []
+kinds_of keyword.Drain = Worker ∷ Most ∷ []
+kinds_of keyword.Phase = []
 
--- the line that a word and the values behind it say, unless a number is bad
-unfoldable pub line_from : Word → List Value → Option Line
-line_from word.Allocate (Number worker ∷ Number label ∷ Number length ∷ []) = Some (Allocate worker label length)
-line_from word.Release (Number worker ∷ Number label ∷ []) = Some (Release worker label)
-line_from word.Write (Number worker ∷ Number label ∷ Number at ∷ Bytes bytes ∷ []) = Some (Write worker label at bytes)
-line_from word.Read (Number worker ∷ Number label ∷ Number at ∷ Number n ∷ []) = Some (Read worker label at n)
-line_from word.Resize (Number worker ∷ Number label ∷ Number length ∷ []) = Some (Resize worker label length)
-line_from word.Drain (Number worker ∷ Number most ∷ []) = Some (Drain worker most)
-line_from word.Phase [] = Some Phase
+-- the line that a keyword and the values after it say, unless a number is bad
+unfoldable pub line_from : Keyword → List Value → Option Line
+line_from keyword.Allocate (Number worker ∷ Number label ∷ Number length ∷ []) = Some (Allocate worker label length)
+line_from keyword.Release (Number worker ∷ Number label ∷ []) = Some (Release worker label)
+line_from keyword.Write (Number worker ∷ Number label ∷ Number at ∷ Bytes bytes ∷ []) = Some (Write worker label at bytes)
+line_from keyword.Read (Number worker ∷ Number label ∷ Number at ∷ Number n ∷ []) = Some (Read worker label at n)
+line_from keyword.Resize (Number worker ∷ Number label ∷ Number length ∷ []) = Some (Resize worker label length)
+line_from keyword.Drain (Number worker ∷ Number most ∷ []) = Some (Drain worker most)
+line_from keyword.Phase [] = Some Phase
 line_from _ _ = None
 
 -- whether a line is a call of a worker

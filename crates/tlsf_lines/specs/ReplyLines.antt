@@ -13,7 +13,7 @@ use Rattle.tlsf_calls.specs.declared.reply.Reply.{Reply}
 use Rattle.tlsf_calls.specs.declared.reply.Reply.TheVariants.{Made, Freed, Posted, Wrote, Got, Resized, Took, Empty, Drained, Refused}
 use Rattle.tlsf_calls.specs.declared.entry.Entry.{Entry}
 
--- the word of a call, as a line has it
+-- the keyword of a call, as a line has it
 abbrev pub call_part : Call → List ℕ
 call_part (Allocate len) = codes " a"
 call_part (Release target) = codes " f"

@@ -4,7 +4,7 @@ use Rattle.tlsf_lines.specs.declared.line_fault.LineFault.{LineFault}
 use Rattle.tlsf_lines.specs.declared.line_fault.LineFault.TheVariants.{BadHeader, BadLine, BadNumber, LabelOrder}
 use Rattle.tlsf_lines.specs.Pieces.{pieces_of}
 use Rattle.tlsf_lines.specs.Fields.{field, fields_in, values_in}
-use Rattle.tlsf_lines.specs.Lines.{is_call, kinds_of, line_from, word_of, words}
+use Rattle.tlsf_lines.specs.Lines.{is_call, kinds_of, line_from, keyword_of, keywords}
 use Rattle.tlsf_lines.specs.Labels.{is_in_order}
 use Rattle.tlsf_lines.specs.Header.{header_in}
 use Rattle.tlsf_lines.specs.declared.header.Header.{Header}
@@ -30,9 +30,9 @@ unless false fault = Err fault
 unfoldable pub judged_line : ℕ → List Line → List ℕ → Result Line LineFault
 judged_line workers before piece = do
   fields ← some_or (fields_in piece) BadLine
-  word ← some_or (word_of words (field fields 0)) BadLine
-  values ← some_or (values_in workers (kinds_of word) (drop 1 fields)) BadLine
-  line ← some_or (line_from word values) BadNumber
+  keyword ← some_or (keyword_of keywords (field fields 0)) BadLine
+  values ← some_or (values_in workers (kinds_of keyword) (drop 1 fields)) BadLine
+  line ← some_or (line_from keyword values) BadNumber
   _ ← unless (is_in_order before line) LabelOrder
   Ok line
 

@@ -18,7 +18,7 @@
 //! events is `tlsf_trace`.
 //!
 //! Who tells more of a faulty line reads it by the same steps. [`cut_piece`] and [`cut_feed`] cut a line off a text, and
-//! [`cut_field`] its fields. [`header_in`], [`word_of`], [`digits_in`] and [`chunk_in`] say what a line or a field spells.
+//! [`cut_field`] its fields. [`header_in`], [`keyword_of`], [`digits_in`] and [`chunk_in`] say what a line or a field spells.
 //!
 //! Contracts see the trace that a text spells, or its first fault, as `trace_of`, its events as `events_of`, and reply lines
 //! as `reply_text`.
@@ -30,6 +30,7 @@ mod header;
 mod input;
 mod kept_event;
 mod kept_events;
+mod keyword;
 mod labels;
 mod last_read;
 mod laws;
@@ -57,12 +58,12 @@ mod texts;
 mod trace;
 mod trace_fault;
 mod version;
-mod word;
 
 pub use fields::{cut_feed, cut_field};
 pub use header::{Header, header_in};
 pub use input::{read_all, read_counted};
 pub use kept_events::KeptEvents;
+pub use keyword::{Keyword, keyword_of};
 pub use last_read::LastRead;
 pub use laws::{first_fault, pieces_join};
 pub use limit::Limit;
@@ -83,4 +84,3 @@ pub use texts::{script_in, trace_in};
 pub use trace::Trace;
 pub use trace_fault::TraceFault;
 pub use version::Version;
-pub use word::{Word, word_of};

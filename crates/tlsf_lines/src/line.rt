@@ -6,11 +6,11 @@ ghost use Rattle.tlsf_lines.specs.Views.{line_found};
 ghost use Rattle.tlsf_lines.specs.declared.line.Line.{Line as ALine};
 
 use crate::fields::{cut_feed, cut_field};
+use crate::keyword::keyword_of;
 use crate::labels::Labels;
 use crate::line_fault::LineFault;
 use crate::reading::parse_fields;
 use crate::request::Request;
-use crate::word::word_of;
 use tlsf_calls::Chunk;
 
 /// A line of a trace after its header: one call that a worker makes, or the end of a phase. A worker is less than the header's
@@ -158,10 +158,10 @@ pub fn judge_line(
         return Err(LineFault::BadLine);
     };
     let (first, fields) = cut_field(line);
-    let Some(word) = word_of(first) else {
+    let Some(keyword) = keyword_of(first) else {
         return Err(LineFault::BadLine);
     };
-    let Some(said) = parse_fields(workers, word, fields) else {
+    let Some(said) = parse_fields(workers, keyword, fields) else {
         return Err(LineFault::BadLine);
     };
     let Some(line) = said else {

@@ -5,7 +5,7 @@ ghost use Rattle.std.specs.Prelude.{◌≡◌};
 pub enum LineFault {
     /// The first line is no header.
     BadHeader,
-    /// The first field is no word, a field is missing, left over or out of shape, or the line
+    /// The first field is no keyword, a field is missing, left over or out of shape, or the line
     /// feed is missing.
     BadLine,
     /// A number has a leading zero or is out of its range.

@@ -5,11 +5,11 @@ ghost use Rattle.tlsf_lines.specs.CutFields.{SayFirst, SayNothing, fields_left, 
 ghost use Rattle.tlsf_lines.specs.Fields.{values_in};
 ghost use Rattle.tlsf_lines.specs.Lines;
 ghost use Rattle.tlsf_lines.specs.Values.{Worker, Label, Length, Offset, Bytes};
-ghost use Rattle.tlsf_lines.specs.declared.word.Word.TheVariants as word;
+ghost use Rattle.tlsf_lines.specs.declared.keyword.Keyword.TheVariants as keyword;
 
 use crate::fields::{last_number, last_payload, next_number};
+use crate::keyword::Keyword;
 use crate::line::Line;
-use crate::word::Word;
 use tlsf_calls::{Chunk, MOST_DRAINED};
 
 /// The greatest label.
@@ -20,7 +20,7 @@ const MOST_COUNT: u32 = 64;
 
 #[tactic(auto, unfolding(crate::specs::Lines::line_from))]
 fn make_allocate(worker: Option<u32>, label: Option<u32>, len: Option<u32>) -> Option<Line>
-    ensures { result ≡ Lines.line_from word.Allocate (value_of worker ∷ value_of label ∷ value_of len ∷ []) }
+    ensures { result ≡ Lines.line_from keyword.Allocate (value_of worker ∷ value_of label ∷ value_of len ∷ []) }
 {
     Some(Line::Allocate {
         worker: worker?,
@@ -31,7 +31,7 @@ fn make_allocate(worker: Option<u32>, label: Option<u32>, len: Option<u32>) -> O
 
 #[tactic(auto, unfolding(crate::specs::Lines::line_from))]
 fn make_release(worker: Option<u32>, label: Option<u32>) -> Option<Line>
-    ensures { result ≡ Lines.line_from word.Release (value_of worker ∷ value_of label ∷ []) }
+    ensures { result ≡ Lines.line_from keyword.Release (value_of worker ∷ value_of label ∷ []) }
 {
     Some(Line::Release {
         worker: worker?,
@@ -46,7 +46,7 @@ fn make_write(
     at: Option<u32>,
     bytes: Chunk,
 ) -> Option<Line>
-    ensures { result ≡ Lines.line_from word.Write (value_of worker ∷ value_of label ∷ value_of at ∷ Bytes bytes ∷ []) }
+    ensures { result ≡ Lines.line_from keyword.Write (value_of worker ∷ value_of label ∷ value_of at ∷ Bytes bytes ∷ []) }
 {
     Some(Line::Write {
         worker: worker?,
@@ -63,7 +63,7 @@ fn make_read(
     at: Option<u32>,
     n: Option<u32>,
 ) -> Option<Line>
-    ensures { result ≡ Lines.line_from word.Read (value_of worker ∷ value_of label ∷ value_of at ∷ value_of n ∷ []) }
+    ensures { result ≡ Lines.line_from keyword.Read (value_of worker ∷ value_of label ∷ value_of at ∷ value_of n ∷ []) }
 {
     Some(Line::Read {
         worker: worker?,
@@ -75,7 +75,7 @@ fn make_read(
 
 #[tactic(auto, unfolding(crate::specs::Lines::line_from))]
 fn make_resize(worker: Option<u32>, label: Option<u32>, len: Option<u32>) -> Option<Line>
-    ensures { result ≡ Lines.line_from word.Resize (value_of worker ∷ value_of label ∷ value_of len ∷ []) }
+    ensures { result ≡ Lines.line_from keyword.Resize (value_of worker ∷ value_of label ∷ value_of len ∷ []) }
 {
     Some(Line::Resize {
         worker: worker?,
@@ -86,7 +86,7 @@ fn make_resize(worker: Option<u32>, label: Option<u32>, len: Option<u32>) -> Opt
 
 #[tactic(auto, unfolding(crate::specs::Lines::line_from))]
 fn make_drain(worker: Option<u32>, most: Option<u32>) -> Option<Line>
-    ensures { result ≡ Lines.line_from word.Drain (value_of worker ∷ value_of most ∷ []) }
+    ensures { result ≡ Lines.line_from keyword.Drain (value_of worker ∷ value_of most ∷ []) }
 {
     Some(Line::Drain {
         worker: worker?,
@@ -139,58 +139,58 @@ fn last_length(
     Some((worker, label, len))
 }
 
-// `a w L len`, behind its word.
+// `a w L len`, after its keyword.
 fn parse_allocate(workers: u32, fields: Option<&[u8]>) -> Option<Option<Line>>
     requires { 0 < workers }
-    ensures { result ≡ line_behind workers word.Allocate (fields_left fields.entry) }
+    ensures { result ≡ line_behind workers keyword.Allocate (fields_left fields.entry) }
 {
     let (worker, label, len) = last_length(workers, fields)?;
     Some(make_allocate(worker, label, len))
 }
 
-// `f w L`, behind its word.
+// `f w L`, after its keyword.
 fn parse_release(workers: u32, fields: Option<&[u8]>) -> Option<Option<Line>>
     requires { 0 < workers }
-    ensures { result ≡ line_behind workers word.Release (fields_left fields.entry) }
+    ensures { result ≡ line_behind workers keyword.Release (fields_left fields.entry) }
 {
     let (worker, fields) = next_number(fields, 0, workers - 1)?;
     let label = last_number(fields, 0, MOST_LABEL)?;
     Some(make_release(worker, label))
 }
 
-// `p w L at HEX`, behind its word.
+// `p w L at HEX`, after its keyword.
 fn parse_write(workers: u32, fields: Option<&[u8]>) -> Option<Option<Line>>
     requires { 0 < workers }
-    ensures { result ≡ line_behind workers word.Write (fields_left fields.entry) }
+    ensures { result ≡ line_behind workers keyword.Write (fields_left fields.entry) }
 {
     let (worker, label, at, fields) = next_place(workers, fields)?;
     let bytes = last_payload(fields)?;
     Some(make_write(worker, label, at, bytes))
 }
 
-// `g w L at n`, behind its word.
+// `g w L at n`, after its keyword.
 fn parse_read(workers: u32, fields: Option<&[u8]>) -> Option<Option<Line>>
     requires { 0 < workers }
-    ensures { result ≡ line_behind workers word.Read (fields_left fields.entry) }
+    ensures { result ≡ line_behind workers keyword.Read (fields_left fields.entry) }
 {
     let (worker, label, at, fields) = next_place(workers, fields)?;
     let n = last_number(fields, 1, MOST_COUNT)?;
     Some(make_read(worker, label, at, n))
 }
 
-// `r w L len`, behind its word.
+// `r w L len`, after its keyword.
 fn parse_resize(workers: u32, fields: Option<&[u8]>) -> Option<Option<Line>>
     requires { 0 < workers }
-    ensures { result ≡ line_behind workers word.Resize (fields_left fields.entry) }
+    ensures { result ≡ line_behind workers keyword.Resize (fields_left fields.entry) }
 {
     let (worker, label, len) = last_length(workers, fields)?;
     Some(make_resize(worker, label, len))
 }
 
-// `d w n`, behind its word.
+// `d w n`, after its keyword.
 fn parse_drain(workers: u32, fields: Option<&[u8]>) -> Option<Option<Line>>
     requires { 0 < workers }
-    ensures { result ≡ line_behind workers word.Drain (fields_left fields.entry) }
+    ensures { result ≡ line_behind workers keyword.Drain (fields_left fields.entry) }
 {
     let (worker, fields) = next_number(fields, 0, workers - 1)?;
     let most = last_number(fields, 1, MOST_DRAINED)?;
@@ -200,7 +200,7 @@ fn parse_drain(workers: u32, fields: Option<&[u8]>) -> Option<Option<Line>>
 // `phase` has no field after it.
 #[tactic(auto, unfolding(crate::specs::Lines::line_from))]
 fn parse_phase(fields: Option<&[u8]>) -> Option<Option<Line>>
-    ensures { (workers : ℕ) → result ≡ line_behind workers word.Phase (fields_left fields.entry) }
+    ensures { (workers : ℕ) → result ≡ line_behind workers keyword.Phase (fields_left fields.entry) }
 {
     match fields {
         None => Some(Some(Line::Phase)),
@@ -208,18 +208,18 @@ fn parse_phase(fields: Option<&[u8]>) -> Option<Option<Line>>
     }
 }
 
-/// The line that the fields after a word say, where there are `workers` workers.
-pub fn parse_fields(workers: u32, word: Word, fields: Option<&[u8]>) -> Option<Option<Line>>
+/// The line that the fields after a keyword say, where there are `workers` workers.
+pub fn parse_fields(workers: u32, keyword: Keyword, fields: Option<&[u8]>) -> Option<Option<Line>>
     requires { 0 < workers }
-    ensures { result ≡ line_behind workers word (fields_left fields.entry) }
+    ensures { result ≡ line_behind workers keyword (fields_left fields.entry) }
 {
-    match word {
-        Word::Allocate => parse_allocate(workers, fields),
-        Word::Release => parse_release(workers, fields),
-        Word::Write => parse_write(workers, fields),
-        Word::Read => parse_read(workers, fields),
-        Word::Resize => parse_resize(workers, fields),
-        Word::Drain => parse_drain(workers, fields),
-        Word::Phase => parse_phase(fields),
+    match keyword {
+        Keyword::Allocate => parse_allocate(workers, fields),
+        Keyword::Release => parse_release(workers, fields),
+        Keyword::Write => parse_write(workers, fields),
+        Keyword::Read => parse_read(workers, fields),
+        Keyword::Resize => parse_resize(workers, fields),
+        Keyword::Drain => parse_drain(workers, fields),
+        Keyword::Phase => parse_phase(fields),
     }
 }

@@ -33,7 +33,7 @@ fn write_number(text: &mut String, number: u64) -> Result<(), AllocError>
     write_long(text, number)
 }
 
-// Adds the word of a call.
+// Adds the keyword of a call.
 fn write_call(text: &mut String, call: Call) -> Result<(), AllocError>
     ensures { OnOk result (string_bytes text.new ≡ string_bytes text.old ++ call_part call) }
 {

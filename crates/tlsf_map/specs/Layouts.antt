@@ -3,9 +3,9 @@ use Rattle.std.specs.Prelude.{ℕ, ◌≤◌, ◌^◌}
 use Rattle.tlsf_map.specs.declared.grid.Grid.{Grid}
 
 -- a character has up to 16,384 words
-pub record IsSpan (span : ℕ) : Type 0 where
-  pub some : 1 ≤ span
-  pub few : span ≤ 2 ^ 14
+pub record IsScale (scale : ℕ) : Type 0 where
+  pub some : 1 ≤ scale
+  pub few : scale ≤ 2 ^ 14
 
 -- a row has up to 262,144 words
 pub record IsGrid (grid : Grid) : Type 0 where

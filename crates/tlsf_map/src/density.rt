@@ -1,6 +1,6 @@
 //! Characters that have many words each: how many of them are live.
 ghost use Rattle.std.specs.Prelude.{◌+◌, ◌≤◌, ◌^◌};
-ghost use Rattle.tlsf_map.specs.Layouts.{IsSpan};
+ghost use Rattle.tlsf_map.specs.Layouts.{IsScale};
 
 use crate::columns::columns;
 use crate::mapped_heap::LabelledBlock;
@@ -58,28 +58,28 @@ fn mark_of(live: u64, words: u64) -> &'static str
 }
 
 // The character of a number in a heap with this many words and these blocks.
-fn mark_at(span: u64, words: u32, number: u64, blocks: &[LabelledBlock]) -> &'static str
-    requires span { IsSpan span }
+fn mark_at(scale: u64, words: u32, number: u64, blocks: &[LabelledBlock]) -> &'static str
+    requires scale { IsScale scale }
     requires number { number ≤ 2 ^ 35 }
 {
-    let from = number * span;
-    let end = (from + span).min(u64::from(words));
+    let from = number * scale;
+    let end = (from + scale).min(u64::from(words));
     mark_of(live_among(from, end, blocks), end.saturating_sub(from))
 }
 
 // Adds the characters that begin in a block of a heap: of these all but the last lie in it.
 fn write_dense_block(
     text: &mut String,
-    span: u64,
+    scale: u64,
     words: u32,
     blocks: &[LabelledBlock],
     block: PlacedBlock,
 ) -> Result<(), AllocError>
-    requires { IsSpan span }
+    requires { IsScale scale }
 {
     let at = u64::from(block.at);
-    let first = columns(span, at);
-    let end = columns(span, at + u64::from(block.size));
+    let first = columns(scale, at);
+    let end = columns(scale, at + u64::from(block.size));
     if first == end {
         return Ok(());
     }
@@ -88,21 +88,21 @@ fn write_dense_block(
         Content::Free { .. } => ".",
         Content::Live { .. } => "@",
     };
-    write_alike(text, span, first, last, whole)?;
-    write_up_to(text, span, last, end, mark_at(span, words, last, blocks))
+    write_alike(text, scale, first, last, whole)?;
+    write_up_to(text, scale, last, end, mark_at(scale, words, last, blocks))
 }
 
 /// Adds the blocks of a heap with `words` words, in characters that tell how many of their words are live.
 pub fn write_dense_blocks(
     text: &mut String,
-    span: u64,
+    scale: u64,
     words: u32,
     blocks: &[LabelledBlock],
 ) -> Result<(), AllocError>
-    requires { IsSpan span }
+    requires { IsScale scale }
 {
     for drawn in blocks {
-        write_dense_block(text, span, words, blocks, drawn.block)?;
+        write_dense_block(text, scale, words, blocks, drawn.block)?;
     }
     Ok(())
 }

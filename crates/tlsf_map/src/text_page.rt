@@ -1,9 +1,9 @@
 //! The picture in characters as a whole: a key to them, and the heaps, one below the other.
 ghost use Rattle.std.specs.Prelude.{OnOk, string_bytes};
-ghost use Rattle.tlsf_map.specs.Layouts.{IsSpan};
+ghost use Rattle.tlsf_map.specs.Layouts.{IsScale};
 ghost use Rattle.tlsf_map.specs.Told.{Adds, all_told, text_told, title_of};
 
-use crate::columns::{is_dense, span};
+use crate::columns::{is_dense, scale};
 use crate::density::write_dense_blocks;
 use crate::free_blocks::FreeBlocks;
 use crate::mapped_heap::MappedHeap;
@@ -20,13 +20,13 @@ const CHARACTERS: &str =
 const DENSE_KEY: &str = "\nlive words of a character: . none  : - = + * # % sevenths  @ all";
 
 // Adds the blocks of a heap, and says in how many no character begins.
-fn write_seen_rows(text: &mut String, span: u64, heap: &MappedHeap) -> Result<(), AllocError>
-    requires { IsSpan span }
+fn write_seen_rows(text: &mut String, scale: u64, heap: &MappedHeap) -> Result<(), AllocError>
+    requires { IsScale scale }
 {
     let free = FreeBlocks::of(heap);
     let mut count = 0u64;
     for drawn in &heap.blocks {
-        if write_block_marks(text, span, free, *drawn)? {
+        if write_block_marks(text, scale, free, *drawn)? {
             count = count.saturating_add(1);
         }
     }
@@ -42,17 +42,17 @@ fn write_seen_rows(text: &mut String, span: u64, heap: &MappedHeap) -> Result<()
 }
 
 // The text after the title of a heap: the words of a character, its numbers, and its blocks.
-fn rows_of(alloc: Global, span: u64, words: u32, heap: &MappedHeap) -> Result<String, AllocError>
-    requires { IsSpan span }
+fn rows_of(alloc: Global, scale: u64, words: u32, heap: &MappedHeap) -> Result<String, AllocError>
+    requires { IsScale scale }
 {
     let mut text = String::new(alloc);
-    write!(text, ", words a character: {span}\n")?;
+    write!(text, ", words a character: {scale}\n")?;
     write_numbers(&mut text, &heap.report, "\n")?;
-    if is_dense(span) {
+    if is_dense(scale) {
         text.push_str(DENSE_KEY)?;
-        write_dense_blocks(&mut text, span, words, &heap.blocks)?;
+        write_dense_blocks(&mut text, scale, words, &heap.blocks)?;
     } else {
-        write_seen_rows(&mut text, span, heap)?;
+        write_seen_rows(&mut text, scale, heap)?;
     }
     text.push_str("\n")?;
     Ok(text)
@@ -67,7 +67,7 @@ fn write_heap(
 ) -> Result<(), AllocError>
     ensures { OnOk result (Adds (title_of words heap.now) (string_bytes text.old) (string_bytes text.new)) }
 {
-    let rows = rows_of(alloc, span(words, &heap.blocks), words, heap)?;
+    let rows = rows_of(alloc, scale(words, &heap.blocks), words, heap)?;
     text.push_str("\n")?;
     write_title(text, words, heap)?;
     text.push_str(&rows)?;

@@ -28,7 +28,7 @@ pub use Rattle.tlsf_pool.specs.declared.sizes.split.Split.{Split}
 pub use Rattle.tlsf_pool.specs.laws.Contents.{is_same, contents, ChangesOneName, Contents, HasWhatIsLive, ReadsBack, ReadsWhatWasWritten, WritesIntoContents, after, after_all, bytes_there, got, part, with_contents}
 pub use Rattle.tlsf_pool.specs.laws.FixedSize.{fixed_size, fixed_words, HasFixedSize, fixed_kinds_words, IsMultiple, answered_fixed, IsWhole, WantsWords, BeginAtMultiples, BlocksAreWhole, FewerThanATable, FewerThanMixedSizes, FixedSizeFindsRoom, FixedSizeIsExact, FixedSizeIsKept, FixedSizeIsTight, FixedSizeServes, FixedSizeSuffices, HundredOfFixedSize, IsFixedSize, NewHasFixedSize, OneLengthSuffices, SureIsSure, run_fixed}
 pub use Rattle.tlsf_pool.specs.laws.Held.{held_after, HoldsWhatIsLive, held_after_all}
-pub use Rattle.tlsf_pool.specs.laws.Kinds.{count_in, used, AreOfKinds, HasClass, table_words, are_fours, words_with, resized_words, Ledger, ledger_after, lengths, ArePlanned, IsPlanned, kinds_words, EmptyKindsAreNothing, KindsSuffice, LedgerHoldsWhatIsLive, OneKindHasMixedWords, OrderIsNothing, ResizedSuffice, StaysFour, ledger_after_all, with_length}
+pub use Rattle.tlsf_pool.specs.laws.Kinds.{count_in, used, AreOfKinds, HasClass, table_words, are_fours, words_with, resized_words, Inventory, inventory_after, lengths, ArePlanned, IsPlanned, kinds_words, EmptyKindsAreNothing, KindsSuffice, InventoryIsLive, OneKindHasMixedWords, OrderIsNothing, ResizedSuffice, StaysFour, inventory_after_all, with_length}
 pub use Rattle.tlsf_pool.specs.laws.MixedSizes.{IsModest, mixed_words, HasRoomFor, AreModest, IsSmall, IsServed, HasMixedRegion, HundredBlocks, MixedSizesServe, MixedSizesSuffice, OneBlockIsTight, RegionHasMixedWords, mixed_region}
 pub use Rattle.tlsf_pool.specs.laws.OneLarge.{longest_of, OneLargeSuffices, ResizesNone, ThousandsAndOne, one_large_words, scattered_words}
 pub use Rattle.tlsf_pool.specs.laws.Room.{sure, live_count, IsSnug, free_words, BlocksAreSnug, RoomIsTight, SumSuffices, wanted_words}

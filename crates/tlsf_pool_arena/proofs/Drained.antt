@@ -1,20 +1,20 @@
--- The places after a look at each in turn.
+-- The slots after a look at each in turn.
 use Rattle.tlsf_pool_arena.proofs.Common.{◌≡◌, ℕ, suc, ◌+◌, ◌*◌, ◌≤◌, Bool, true, false, List, [], ◌∷◌, ◌++◌, length, length-append, length-set, set, slice_get, Option, Some, None, refl, sym, ap, ◌∙◌, inl, inr, append_assoc, append-nil, arith, cases_eq, false≢true, HeapState, last_tick, released, SamePlan, RemoteState, TakesHome, home_from, home_released, looks_from, still_away, Parcel}
 
 -- ---- what one look more comes to
 
-next_place : (k : ℕ) (seen : List Bool) → k + 1 + length seen ≡ k + suc (length seen)
-next_place k seen = omega arith
+next_slot : (k : ℕ) (seen : List Bool) → k + 1 + length seen ≡ k + suc (length seen)
+next_slot k seen = omega arith
 
 looks_on : (k : ℕ) (seen : List Bool) (home : Bool) → looks_from k (seen ++ home ∷ []) ≡ looks_from k seen ++ (k + length seen, home) ∷ []
 looks_on k [] home = ap (λ (j : ℕ). (j, home) ∷ []) (let e : k ≡ k + 0 = omega arith in e)
 looks_on k (was ∷ seen) home =
-    ap (λ (l : List (ℕ × Bool)). (k, was) ∷ l) (looks_on (k + 1) seen home ∙ ap (λ (j : ℕ). looks_from (k + 1) seen ++ (j, home) ∷ []) (next_place k seen))
+    ap (λ (l : List (ℕ × Bool)). (k, was) ∷ l) (looks_on (k + 1) seen home ∙ ap (λ (j : ℕ). looks_from (k + 1) seen ++ (j, home) ∷ []) (next_slot k seen))
 
 home_on : (k : ℕ) (seen : List Bool) → home_from k (seen ++ true ∷ []) ≡ home_from k seen ++ (k + length seen) ∷ []
 home_on k [] = ap (λ (j : ℕ). j ∷ []) (let e : k ≡ k + 0 = omega arith in e)
-home_on k (true ∷ seen) = ap (λ (l : List ℕ). k ∷ l) (home_on (k + 1) seen ∙ ap (λ (j : ℕ). home_from (k + 1) seen ++ j ∷ []) (next_place k seen))
-home_on k (false ∷ seen) = home_on (k + 1) seen ∙ ap (λ (j : ℕ). home_from (k + 1) seen ++ j ∷ []) (next_place k seen)
+home_on k (true ∷ seen) = ap (λ (l : List ℕ). k ∷ l) (home_on (k + 1) seen ∙ ap (λ (j : ℕ). home_from (k + 1) seen ++ j ∷ []) (next_slot k seen))
+home_on k (false ∷ seen) = home_on (k + 1) seen ∙ ap (λ (j : ℕ). home_from (k + 1) seen ++ j ∷ []) (next_slot k seen)
 
 home_off : (k : ℕ) (seen : List Bool) → home_from k (seen ++ false ∷ []) ≡ home_from k seen
 home_off k [] = refl
@@ -25,7 +25,7 @@ abbrev Away : ℕ → Type 0
 Away u = List (Option (Parcel u))
 
 module _ {u : ℕ} where
-  -- the next place is as it was
+  -- the next slot is as it was
   away_next : (away : Away u) (seen : List Bool) → slice_get (still_away away seen) (length seen) ≡ slice_get away (length seen)
   away_next [] seen = refl
   away_next (b ∷ away) [] = refl
@@ -69,9 +69,9 @@ module _ {u : ℕ} where
   heap_off h (Some d ∷ away) (true ∷ seen) = heap_off (released h d.block.name).heap away seen
   heap_off h (d ∷ away) (false ∷ seen) = heap_off h away seen
 
--- the first n places were looked at, unless the last tick came
+-- the first n slots were looked at, unless the last tick came
 pub record Drained {u : ℕ} (first now : RemoteState u) (n : ℕ) : Type 0 where
-  pub own : now.places ≡ first.places
+  pub own : now.slots ≡ first.slots
   pub held : now.arena.held ≤ first.arena.held
   pub plan : SamePlan first.arena now.arena
   pub long : length now.away ≡ length first.away
@@ -105,7 +105,7 @@ none_drained first = record {
 pub all_drained : {u : ℕ} (first now : RemoteState u) (n : ℕ) → Drained first now n → n ≡ length first.away → (seen : List Bool) × TakesHome first now seen
 all_drained first now n d long = (d.seen, record { looks = d.looks; away = d.away; heap = d.heap; idle = d.idle; whole = λ fresh. d.whole fresh ∙ long })
 
-module _ {u : ℕ} (first old new : RemoteState u) (at : ℕ) (was : Drained first old at) (own : new.places ≡ old.places) (plan : SamePlan old.arena new.arena) (touches : new.arena.touches ≤ old.arena.touches + 60) (steps : new.steps ≤ old.steps + 1) where
+module _ {u : ℕ} (first old new : RemoteState u) (at : ℕ) (was : Drained first old at) (own : new.slots ≡ old.slots) (plan : SamePlan old.arena new.arena) (touches : new.arena.touches ≤ old.arena.touches + 60) (steps : new.steps ≤ old.steps + 1) where
   plans : SamePlan first.arena new.arena
   plans = record { region = plan.region ∙ was.plan.region; book = plan.book ∙ was.plan.book; most = plan.most ∙ was.plan.most; longest = plan.longest ∙ was.plan.longest; stays = plan.stays ∙ was.plan.stays }
 

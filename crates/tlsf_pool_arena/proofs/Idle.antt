@@ -1,5 +1,5 @@
--- The places by which no block is away, while blocks go out and come home.
-use Rattle.tlsf_pool_arena.proofs.Common.{◌≡◌, ◌≢◌, ◌↔◌, ℕ, zero, suc, ◌+◌, ◌-◌, ◌<◌, ◌≤◌, cond, List, [], ◌∷◌, ◌++◌, length, length-set, set, take, slice_get, slice_index_or, replicate, Option, Some, None, is_none, Result, IsErrOf, Err, refl, sym, ap, subst, ◌∙◌, ◌⊎◌, inl, inr, ⊎_elim, arith, PoolArenaState, Parcel, AreIdle, NoneLost, RemoteState, idle_places}
+-- The slots by which no block is away, while blocks go out and come home.
+use Rattle.tlsf_pool_arena.proofs.Common.{◌≡◌, ◌≢◌, ◌↔◌, ℕ, zero, suc, ◌+◌, ◌-◌, ◌<◌, ◌≤◌, cond, List, [], ◌∷◌, ◌++◌, length, length-set, set, take, slice_get, slice_index_or, replicate, Option, Some, None, is_none, Result, IsErrOf, Err, refl, sym, ap, subst, ◌∙◌, ◌⊎◌, inl, inr, ⊎_elim, arith, PoolArenaState, Parcel, AreIdle, NoneLost, RemoteState, idle_slots}
 use Rattle.std.specs.List.{range_with_len}
 use Rattle.std.proofs.lemmas.List.FromFn.{length-range_with_len}
 use Rattle.std.proofs.lemmas.List.Sums.{sum_by-cons, sum_by-set}
@@ -61,24 +61,24 @@ got_there [] at a b e = absurd (let no : ⊥ = cc in no)
 got_there (x ∷ l) zero a b e = refl
 got_there (x ∷ l) (suc at) a b e = got_there l at a b e
 
--- how many places are idle at first, once a block went out by one of them, and once it came home
-fresh_places : (u n : ℕ) → idle_places {u = u} (replicate n None) ≡ n
-fresh_places u zero = refl
-fresh_places u (suc n) = sum_by-cons (λ (o : Option (Parcel u)). cond (is_none o) 1 0) None (replicate n None) ∙ (let rest = fresh_places u n in omega (arith, rest))
+-- how many slots are idle at first, once a block went out by one of them, and once it came home
+fresh_slots : (u n : ℕ) → idle_slots {u = u} (replicate n None) ≡ n
+fresh_slots u zero = refl
+fresh_slots u (suc n) = sum_by-cons (λ (o : Option (Parcel u)). cond (is_none o) 1 0) None (replicate n None) ∙ (let rest = fresh_slots u n in omega (arith, rest))
 
 module _ {u : ℕ} (away : List (Option (Parcel u))) (at : ℕ) (was now : Option (Parcel u)) (here : slice_get away at ≡ Some was) where
-  changed_places : idle_places (set away at now) + cond (is_none was) 1 0 ≡ idle_places away + cond (is_none now) 1 0
-  changed_places =
+  changed_slots : idle_slots (set away at now) + cond (is_none was) 1 0 ≡ idle_slots away + cond (is_none now) 1 0
+  changed_slots =
       let inside = slice_get_within away at was here in
       let same : Some (slice_index_or away at was) ≡ Some was = sym (slice_get-get_or away at was inside) ∙ here in
       let is : slice_index_or away at was ≡ was = cc in
-      subst (λ (o : Option (Parcel u)). idle_places (set away at now) + cond (is_none o) 1 0 ≡ idle_places away + cond (is_none now) 1 0) is (sum_by-set (λ (o : Option (Parcel u)). cond (is_none o) 1 0) away at now was inside)
+      subst (λ (o : Option (Parcel u)). idle_slots (set away at now) + cond (is_none o) 1 0 ≡ idle_slots away + cond (is_none now) 1 0) is (sum_by-set (λ (o : Option (Parcel u)). cond (is_none o) 1 0) away at now was inside)
 
-one_out : {u : ℕ} (away : List (Option (Parcel u))) (at : ℕ) (b : Parcel u) → slice_get away at ≡ Some None → suc (idle_places (set away at (Some b))) ≡ idle_places away
-one_out away at b here = let e = changed_places away at None (Some b) here in omega (arith, e)
+one_out : {u : ℕ} (away : List (Option (Parcel u))) (at : ℕ) (b : Parcel u) → slice_get away at ≡ Some None → suc (idle_slots (set away at (Some b))) ≡ idle_slots away
+one_out away at b here = let e = changed_slots away at None (Some b) here in omega (arith, e)
 
-one_back : {u : ℕ} (away : List (Option (Parcel u))) (at : ℕ) (b : Parcel u) → slice_get away at ≡ Some (Some b) → idle_places (set away at None) ≡ suc (idle_places away)
-one_back away at b here = let e = changed_places away at (Some b) None here in omega (arith, e)
+one_back : {u : ℕ} (away : List (Option (Parcel u))) (at : ℕ) (b : Parcel u) → slice_get away at ≡ Some (Some b) → idle_slots (set away at None) ≡ suc (idle_slots away)
+one_back away at b here = let e = changed_slots away at (Some b) None here in omega (arith, e)
 
 -- how many are idle before one more is held, and that there is one
 pub one_more_held : (count most held now : ℕ) → count ≡ most → now ≡ held + 1 → now ≤ most → (count - held ≡ suc (count - now)) × (count - now < count)
@@ -89,14 +89,14 @@ pub one_fewer_held : (count most held now : ℕ) → count ≡ most → now + 1 
 one_fewer_held count most held now same fewer few = (omega (arith, same, fewer, few), omega (arith, same, fewer, few))
 
 module _ {u : ℕ} where
-  -- at first all places are idle
+  -- at first all slots are idle
   pub all_idle : (count n : ℕ) (idle : List ℕ) (away : List (Option (Parcel u))) → idle ≡ range_with_len 0 count → away ≡ replicate count None → n ≡ count → AreIdle u count n idle away
   all_idle count n idle away is none most = record {
     long = ap (λ (l : List ℕ). length l) is ∙ length-range_with_len 0 count;
-    all = ap (λ (l : List (Option (Parcel u))). idle_places l) none ∙ fresh_places u count ∙ sym most;
+    all = ap (λ (l : List (Option (Parcel u))). idle_slots l) none ∙ fresh_slots u count ∙ sym most;
     free = λ k at lt e.
-        let place = got_range 0 count k at (ap (λ (l : List ℕ). slice_get l k) (sym is) ∙ e) in
-        ap (λ (l : List (Option (Parcel u))). slice_get l at) none ∙ got_copy count at None (omega (arith, place, lt, most));
+        let slot = got_range 0 count k at (ap (λ (l : List ℕ). slice_get l k) (sym is) ∙ e) in
+        ap (λ (l : List (Option (Parcel u))). slice_get l at) none ∙ got_copy count at None (omega (arith, slot, lt, most));
     apart = λ j k at lt_j lt_k at_j at_k.
         let first = got_range 0 count j at (ap (λ (l : List ℕ). slice_get l j) (sym is) ∙ at_j) in
         let second = got_range 0 count k at (ap (λ (l : List ℕ). slice_get l k) (sym is) ∙ at_k) in
@@ -116,7 +116,7 @@ module _ {u : ℕ} where
   last_lent count m idle away now at b is last now_is =
       record {
         long = is.long;
-        all = ap (λ (l : List (Option (Parcel u))). idle_places l) now_is ∙ (let one = one_out away at b (is.free m at (omega arith) last) in omega (arith, one, is.all));
+        all = ap (λ (l : List (Option (Parcel u))). idle_slots l) now_is ∙ (let one = one_out away at b (is.free m at (omega arith) last) in omega (arith, one, is.all));
         free = λ k x lt found.
             let before : slice_get away x ≡ Some None = is.free k x (omega (arith, lt)) found in
             let still : slice_get (set away at (Some b)) x ≡ Some None = ⊎_elim
@@ -127,7 +127,7 @@ module _ {u : ℕ} where
         apart = λ j k x lt_j lt_k at_j at_k. is.apart j k x (omega (arith, lt_j)) (omega (arith, lt_k)) at_j at_k;
       }
 
-  -- a block came home by a place, which stands behind them from now on
+  -- a block came home by a slot, which stands behind them from now on
   module _ (count n : ℕ) (idle next : List ℕ) (away now : List (Option (Parcel u))) (at : ℕ) (b : Parcel u) (is : AreIdle u count n idle away) (here : slice_get away at ≡ Some (Some b)) (next_is : next ≡ set idle n at) (now_is : now ≡ set away at None) where
     was_next : (k x : ℕ) → slice_get next k ≡ Some x → ((k ≡ n) × (at ≡ x)) ⊎ ((k ≢ n) × (slice_get idle k ≡ Some x))
     was_next k x e = got_set idle n k at x (ap (λ (l : List ℕ). slice_get l k) (sym next_is) ∙ e)
@@ -150,7 +150,7 @@ module _ {u : ℕ} where
     pub one_home : AreIdle u count (suc n) next now
     one_home = record {
       long = ap (λ (l : List ℕ). length l) next_is ∙ length-set idle n at ∙ is.long;
-      all = ap (λ (l : List (Option (Parcel u))). idle_places l) now_is ∙ one_back away at b here ∙ ap suc is.all;
+      all = ap (λ (l : List (Option (Parcel u))). idle_slots l) now_is ∙ one_back away at b here ∙ ap suc is.all;
       free = λ k x lt e. ap (λ (l : List (Option (Parcel u))). slice_get l x) now_is ∙ free_now k x lt e;
       apart = λ j k x lt_j lt_k at_j at_k. ⊎_elim
           (λ t. ⊎_elim (λ s. t.0 ∙ sym s.0) (λ s. absurd (not_here k (below k lt_k s.0) (s.1 ∙ ap Some (sym t.1)))) (was_next k x at_k))
@@ -158,7 +158,7 @@ module _ {u : ℕ} where
           (was_next j x at_j);
     }
 
-  -- one more is held, and went out by the place that stands behind those that are idle from now on
+  -- one more is held, and went out by the slot that stands behind those that are idle from now on
   module _ (count most held more at : ℕ) (idle : List ℕ) (away : List (Option (Parcel u))) (is : AreIdle u count (count - held) idle away) (same : count ≡ most) (one : more ≡ held + 1) (few : more ≤ most) (at_is : slice_get idle (count - more) ≡ Some at) where
     before : AreIdle u count (suc (count - more)) idle away
     before = as_many count (count - held) (suc (count - more)) idle away (one_more_held count most held more same one few).0 is
@@ -186,25 +186,25 @@ module _ {u : ℕ} where
       let one_less = one_fewer_held count most held fewer same one few in
       ap (λ (j : ℕ). take j (set idle (count - held) at)) one_less.0 ∙ up_to_set idle (count - held) at (omega (arith, one_less.1, is.long))
 
-  -- no place is lost
-  pub kept_places : (count most held : ℕ) (idle : List ℕ) (away : List (Option (Parcel u))) → AreIdle u count (count - held) idle away → count ≡ length away → count ≡ most → held ≤ count → (length away ≡ most) × (idle_places away + held ≡ most)
-  kept_places count most held idle away is long same few = (sym long ∙ same, let all = is.all in omega (arith, all, same, few))
+  -- no slot is lost
+  pub kept_slots : (count most held : ℕ) (idle : List ℕ) (away : List (Option (Parcel u))) → AreIdle u count (count - held) idle away → count ≡ length away → count ≡ most → held ≤ count → (length away ≡ most) × (idle_slots away + held ≡ most)
+  kept_slots count most held idle away is long same few = (sym long ∙ same, let all = is.all in omega (arith, all, same, few))
 
   pub none_lost : (r now : RemoteState u) (count : ℕ) (idle : List ℕ) → r ≡ now → AreIdle u count (count - r.arena.held) idle r.away → count ≡ length r.away → count ≡ r.arena.most → r.arena.held ≤ count → NoneLost now
   none_lost r now count idle view is long same few =
-      subst (λ (r : RemoteState u). NoneLost r) view (let k = kept_places count r.arena.most r.arena.held idle r.away is long same few in record { all = k.0; idle = k.1 })
+      subst (λ (r : RemoteState u). NoneLost r) view (let k = kept_slots count r.arena.most r.arena.held idle r.away is long same few in record { all = k.0; idle = k.1 })
 
   -- while fewer are held than may be, one is idle, and otherwise none is
-  pub none_idle : (r : RemoteState u) → NoneLost r → (idle_places r.away ≡ 0) ↔ (r.arena.held ≡ r.arena.most)
+  pub none_idle : (r : RemoteState u) → NoneLost r → (idle_slots r.away ≡ 0) ↔ (r.arena.held ≡ r.arena.most)
   none_idle r kept = let all = kept.idle in (λ none. omega (arith, all, none), λ full. omega (arith, all, full))
 
   pub full_is : {A B : Type 0} (a : Result A PoolRefusal) (b : Result B PoolRefusal) (arena : PoolArenaState) (r : RemoteState u) (len : ℕ) → arena ≡ r.arena → NoneLost r → (IsErrOf b Full ↔ ((len ≤ arena.longest) × (arena.held ≡ arena.most)))
-      → (IsErrOf a Full → IsErrOf b Full) → (IsErrOf b Full → IsErrOf a Full) → IsErrOf a Full ↔ ((len ≤ r.arena.longest) × (idle_places r.away ≡ 0))
+      → (IsErrOf a Full → IsErrOf b Full) → (IsErrOf b Full → IsErrOf a Full) → IsErrOf a Full ↔ ((len ≤ r.arena.longest) × (idle_slots r.away ≡ 0))
   full_is a b arena r len same kept is there back =
       let full : IsErrOf b Full ↔ ((len ≤ r.arena.longest) × (r.arena.held ≡ r.arena.most)) = subst (λ (p : PoolArenaState). IsErrOf b Full ↔ ((len ≤ p.longest) × (p.held ≡ p.most))) same is in
       (λ yes. let t = full.0 (there yes) in (t.0, (none_idle r kept).1 t.1), λ t. back (full.1 (t.0, (none_idle r kept).0 t.1)))
 
   -- where the refusal is passed on
   pub full_err : {A B : Type 0} (a : Result A PoolRefusal) (b : Result B PoolRefusal) (passed why : PoolRefusal) (arena : PoolArenaState) (r : RemoteState u) (len : ℕ) → a ≡ Err passed → passed ≡ why → arena ≡ r.arena → NoneLost r
-      → (IsErrOf b Full ↔ ((len ≤ arena.longest) × (arena.held ≡ arena.most))) → b ≡ Err why → IsErrOf a Full ↔ ((len ≤ r.arena.longest) × (idle_places r.away ≡ 0))
+      → (IsErrOf b Full ↔ ((len ≤ arena.longest) × (arena.held ≡ arena.most))) → b ≡ Err why → IsErrOf a Full ↔ ((len ≤ r.arena.longest) × (idle_slots r.away ≡ 0))
   full_err a b passed why arena r len is passes same kept given other = full_is a b arena r len same kept given (λ yes. cc) (λ yes. cc)

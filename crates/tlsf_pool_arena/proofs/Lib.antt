@@ -7,11 +7,11 @@ pub mod UnitWords
 pub mod Kept
 --   Mixed: an arena of mixed sizes, and that a request finds room
 pub mod Mixed
---   Lent: what is away by a place
+--   Lent: what is away by a slot
 pub mod Lent
---   Idle: the places by which no block is away, while blocks go out and come home
+--   Idle: the slots by which no block is away, while blocks go out and come home
 pub mod Idle
---   Drained: what a drain of all places comes to
+--   Drained: what a drain of all slots comes to
 pub mod Drained
---   PlaceSteps: each step keeps the rule of the places by which values come home
-pub mod PlaceSteps
+--   SlotSteps: each step keeps the rule of the slots by which values come home
+pub mod SlotSteps

@@ -3,5 +3,5 @@ pub mod Given
 pub mod MixedUnits
 pub mod PoolArenas
 pub mod Remotes
--- Places by which values come home from other threads.
+-- Slots by which values come home from other threads.
 pub mod returns

@@ -11,7 +11,7 @@ use Rattle.tlsf_pool.specs.laws.FixedSize.{HasFixedSize}
 use Rattle.tlsf_pool.specs.laws.MixedSizes.{IsSmall, mixed_region, mixed_words}
 use Rattle.tlsf_pool.specs.laws.Room.{live_count}
 use Rattle.tlsf_arena.specs.Arenas.{refitted, requested}
-use Rattle.tlsf_arena.specs.Places.{units_for}
+use Rattle.tlsf_arena.specs.Units.{units_for}
 
 -- the payload of a heap's block that has as many words as a block of n bytes has units, of u bytes each
 abbrev pub length_for : ℕ → ℕ → ℕ

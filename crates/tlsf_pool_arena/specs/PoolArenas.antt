@@ -12,7 +12,7 @@ use Rattle.tlsf_heap.specs.declared.refusal.Refusal.TheVariants.{NoRoom}
 use Rattle.tlsf_pool.specs.laws.FixedSize.{HasFixedSize}
 use Rattle.tlsf_pool.specs.laws.Room.{live_count, sure}
 use Rattle.tlsf_arena.specs.Arenas.{refitted, requested}
-use Rattle.tlsf_arena.specs.Places.{IsUnit, units_for}
+use Rattle.tlsf_arena.specs.Units.{IsUnit, units_for}
 
 -- the view of the arena: its heap, the region of its memory, the book of its blocks, and how many are held. Also how many may be
 -- held at once and the bytes of the longest request, and the heap's own memory and touches

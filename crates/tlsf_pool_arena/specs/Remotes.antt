@@ -1,4 +1,4 @@
--- An arena whose blocks are away by places.
+-- An arena whose blocks are away by slots.
 use Rattle.std.specs.Prelude.{◌≡◌, ℕ, ◌+◌, ◌<◌, Bool, true, false, List, [], ◌∷◌, ◌++◌, length, count_by, Option, Some, None, is_none, slice_get, slice_set}
 use base.Fml.{GName}
 use Rattle.linked_list_allocator.specs.Region.{Region}
@@ -8,21 +8,21 @@ use Rattle.tlsf_heap.specs.Calls.{last_tick, released}
 use Rattle.tlsf_pool_arena.specs.PoolArenas.{PoolArenaState}
 use Rattle.tlsf_pool_arena.specs.declared.parcel.Parcel.{Parcel}
 
--- numbers of places, and how often one was read or written
-pub record CountedPlaces : Type 0 where
-  pub places : List ℕ
+-- numbers of slots, and how often one was read or written
+pub record CountedSlots : Type 0 where
+  pub slots : List ℕ
   pub steps : ℕ
 
--- the view of the arena: the pool's arena, the block that is away by each place, and the looks that it had at places. Each look
--- tells whether the block was home then. Also the places by which none is away; the next block goes out by the last of these. Also
--- how often an entry of that list was read or written, and which places they are
+-- the view of the arena: the pool's arena, the block that is away by each slot, and the looks that it had at slots. Each look
+-- tells whether the block was home then. Also the slots by which none is away; the next block goes out by the last of these. Also
+-- how often an entry of that list was read or written, and which slots they are
 pub record RemoteState (u : ℕ) : Type 0 where
   pub arena : PoolArenaState
   pub away : List (Option (Parcel u))
   pub looks : List (ℕ × Bool)
   pub idle : List ℕ
   pub steps : ℕ
-  pub places : TableId
+  pub slots : TableId
 
 -- a block of this memory, whose right is of this book
 abbrev pub IsFrom : {u : ℕ} → Region → GName → Parcel u → Type 0
@@ -32,40 +32,40 @@ IsFrom region book b = (b.block.piece.region ≡ region) × (b.block.right.book 
 pub record AreAway (u : ℕ) (region : Region) (book : GName) (away : List (Option (Parcel u))) : Type 0 where
   pub from : (k : ℕ) (b : Parcel u) → slice_get away k ≡ Some (Some b) → IsFrom region book b
 
--- a block is away from now on by a place by which none was
+-- a block is away from now on by a slot by which none was
 abbrev pub IsAwayBy : {u : ℕ} → List (Option (Parcel u)) → List (Option (Parcel u)) → ℕ → Parcel u → Type 0
 IsAwayBy old new at b = (slice_get old at ≡ Some None) × (new ≡ slice_set old at (Some b))
 
--- by how many places none is away
-abbrev pub idle_places : {u : ℕ} → List (Option (Parcel u)) → ℕ
-idle_places away = count_by is_none away
+-- by how many slots none is away
+abbrev pub idle_slots : {u : ℕ} → List (Option (Parcel u)) → ℕ
+idle_slots away = count_by is_none away
 
--- no place is lost: there are as many as blocks may be held, and by all but as many as are held none is away
+-- no slot is lost: there are as many as blocks may be held, and by all but as many as are held none is away
 pub record NoneLost {u : ℕ} (r : RemoteState u) : Type 0 where
   pub all : length r.away ≡ r.arena.most
-  pub idle : idle_places r.away + r.arena.held ≡ r.arena.most
+  pub idle : idle_slots r.away + r.arena.held ≡ r.arena.most
 
--- the first n entries of a list of this many are the places by which none is away, each another one
+-- the first n entries of a list of this many are the slots by which none is away, each another one
 pub record AreIdle (u count n : ℕ) (idle : List ℕ) (away : List (Option (Parcel u))) : Type 0 where
   pub long : length idle ≡ count
-  pub all : idle_places away ≡ n
+  pub all : idle_slots away ≡ n
   pub free : (k at : ℕ) → k < n → slice_get idle k ≡ Some at → slice_get away at ≡ Some None
   pub apart : (j k at : ℕ) → j < n → k < n → slice_get idle j ≡ Some at → slice_get idle k ≡ Some at → j ≡ k
 
--- ---- a look at each place in turn, and what each saw
+-- ---- a look at each slot in turn, and what each saw
 
--- the looks, from place k on
+-- the looks, from slot k on
 abbrev pub looks_from : ℕ → List Bool → List (ℕ × Bool)
 looks_from k [] = []
 looks_from k (home ∷ seen) = (k, home) ∷ looks_from (k + 1) seen
 
--- the places whose block was home, from place k on
+-- the slots whose block was home, from slot k on
 abbrev pub home_from : ℕ → List Bool → List ℕ
 home_from k [] = []
 home_from k (true ∷ seen) = k ∷ home_from (k + 1) seen
 home_from k (false ∷ seen) = home_from (k + 1) seen
 
--- what is away by each place once the blocks that were home are taken
+-- what is away by each slot once the blocks that were home are taken
 abbrev pub still_away : {u : ℕ} → List (Option (Parcel u)) → List Bool → List (Option (Parcel u))
 still_away [] seen = []
 still_away (b ∷ away) [] = b ∷ away
@@ -80,7 +80,7 @@ home_released h (Some b ∷ away) (true ∷ seen) = home_released (released h b.
 home_released h (None ∷ away) (true ∷ seen) = home_released h away seen
 home_released h (b ∷ away) (false ∷ seen) = home_released h away seen
 
--- each block that was home when it was looked at is taken and released, and no other. All places are looked at, unless the last tick came
+-- each block that was home when it was looked at is taken and released, and no other. All slots are looked at, unless the last tick came
 pub record TakesHome {u : ℕ} (old new : RemoteState u) (seen : List Bool) : Type 0 where
   pub looks : new.looks ≡ old.looks ++ looks_from 0 seen
   pub away : new.away ≡ still_away old.away seen

@@ -3,7 +3,7 @@ ghost use Rattle.std.specs.Prelude.{◌≡◌};
 use std::mem::ManuallyDrop;
 use tlsf_arena::Block;
 
-/// A block on its way. One that is dropped with the places that hold it is lost to its arena.
+/// A block on its way. One that is dropped with the slots that hold it is lost to its arena.
 pub struct Parcel<const UNIT: usize> {
     pub(crate) block: Block<UNIT>,
 }

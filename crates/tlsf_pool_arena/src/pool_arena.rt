@@ -9,7 +9,7 @@ ghost use Rattle.tlsf_heap.specs.Touched.{FollowsNoPlace};
 ghost use Rattle.tlsf_heap.specs.declared.name.Name.{Name};
 ghost use Rattle.tlsf_arena.specs.Arenas.{Holds};
 ghost use Rattle.tlsf_arena.specs.Loans.{units_of};
-ghost use Rattle.tlsf_arena.specs.Places.{IsUnit, piece_size, units_for};
+ghost use Rattle.tlsf_arena.specs.Units.{IsUnit, piece_size, units_for};
 ghost use Rattle.tlsf_pool_arena.specs.PoolArenas.{IsPoolArena, SamePlan, SamePoolArena, fixed_bytes, fixed_size, pool_requested, resized_in_pool, units_of_pool};
 
 use crate::units::fixed_units;

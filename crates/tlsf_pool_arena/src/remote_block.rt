@@ -1,11 +1,11 @@
 ghost use Rattle.std.specs.Prelude.{◌≡◌, ◌^◌, ◌<◌, Some};
-ghost use Rattle.tlsf_pool_arena.specs.returns.Ends.{id_of, place_by, ticket_id, value_for};
+ghost use Rattle.tlsf_pool_arena.specs.returns.Ends.{id_of, slot_by, ticket_id, value_for};
 ghost use Rattle.tlsf_pool_arena.specs.Given.{IsGivenBack};
 
 use crate::filled_remote_block::FilledRemoteBlock;
 use crate::parcel::Parcel;
-use crate::returns::places::Places;
 use crate::returns::receipt::Receipt;
+use crate::returns::slots::Slots;
 use crate::returns::ticket::Ticket;
 use tlsf_arena::Block;
 
@@ -13,16 +13,16 @@ use tlsf_arena::Block;
 /// back, it is home: the arena's next `drain` releases it. Its return is never refused, takes no memory and doesn't wait.
 ///
 /// ```text
-/// let block = arena.lend(&places, 512)?;
+/// let block = arena.lend(&slots, 512)?;
 /// scope.spawn(move || drop(block))?;
 /// ```
 pub struct RemoteBlock<'a, const UNIT: usize> {
     pub(crate) parcel: Parcel<UNIT>,
     pub(crate) ticket: Ticket<Parcel<UNIT>>,
-    pub(crate) places: &'a Places<Parcel<UNIT>>,
+    pub(crate) slots: &'a Slots<Parcel<UNIT>>,
     ghost paired: { value_for ticket ≡ Some parcel },
-    ghost own: { ticket_id ticket ≡ id_of places.now },
-    ghost small: { place_by ticket < 2 ^ 32 },
+    ghost own: { ticket_id ticket ≡ id_of slots.now },
+    ghost small: { slot_by ticket < 2 ^ 32 },
 }
 
 impl<'a, const UNIT: usize> RemoteBlock<'a, UNIT> {
@@ -33,24 +33,24 @@ impl<'a, const UNIT: usize> RemoteBlock<'a, UNIT> {
     /// The block with `value` in each of its bytes. From then on they are read and written as a slice, in any thread.
     ///
     /// ```text
-    /// let mut message = arena.lend(&places, 512)?.fill(0);
+    /// let mut message = arena.lend(&slots, 512)?.fill(0);
     /// message.block.as_mut_slice()[0] = 7;
     /// ```
     pub fn fill(self, value: u8) -> FilledRemoteBlock<'a, UNIT>
         ensures bytes { bytes_of result.block.piece ≡ replicate self.entry.parcel.block.piece.size value }
         ensures parcel { parcel_of result.block ≡ self.entry.parcel }
-        ensures home { (result.ticket ≡ self.entry.ticket) × (result.places ≡ self.entry.places) }
+        ensures home { (result.ticket ≡ self.entry.ticket) × (result.slots ≡ self.entry.slots) }
     {
         let RemoteBlock {
             parcel,
             ticket,
-            places,
+            slots,
         } = self;
         let block = parcel.into_block().fill(value);
         FilledRemoteBlock {
             block,
             ticket,
-            places,
+            slots,
         }
     }
 
@@ -66,7 +66,7 @@ impl<'a, const UNIT: usize> RemoteBlock<'a, UNIT> {
         let RemoteBlock {
             parcel,
             ticket,
-            places,
+            slots,
         } = self;
         let Block { name, piece, right } = parcel.into_block();
         let (ptr, piece) = piece.with_ptr();
@@ -79,38 +79,38 @@ impl<'a, const UNIT: usize> RemoteBlock<'a, UNIT> {
             RemoteBlock {
                 parcel,
                 ticket,
-                places,
+                slots,
             },
         )
     }
 
-    /// The number of the place by which it comes home, as [`RemoteArena::take_home`](crate::RemoteArena::take_home) wants it.
+    /// The number of the slot by which it comes home, as [`RemoteArena::take_home`](crate::RemoteArena::take_home) wants it.
     ///
     /// ```text
-    /// let at = block.place();
+    /// let at = block.slot();
     /// drop(block);
-    /// arena.take_home(&places, at) == true
+    /// arena.take_home(&slots, at) == true
     /// ```
-    pub fn place(&self) -> u32
-        ensures place { result ≡ place_by self.now.ticket }
+    pub fn slot(&self) -> u32
+        ensures slot { result ≡ slot_by self.now.ticket }
     {
-        self.ticket.place() as u32
+        self.ticket.slot() as u32
     }
 
-    /// Gives the block back, as its drop does. The receipt shows that it was put back by its place.
+    /// Gives the block back, as its drop does. The receipt shows that it was put back by its slot.
     ///
     /// ```text
     /// let receipt = block.give_back();
     /// ```
     pub fn give_back(self) -> Receipt<Parcel<UNIT>>
-        ensures put { IsGivenBack self.entry.places.now self.entry.parcel result }
+        ensures put { IsGivenBack self.entry.slots.now self.entry.parcel result }
     {
         let RemoteBlock {
             parcel,
             ticket,
-            places,
+            slots,
         } = self;
-        ticket.put(places, parcel)
+        ticket.put(slots, parcel)
     }
 }
 

@@ -1,6 +1,6 @@
 ghost use Rattle.std.specs.Prelude.{◌≡◌, ℕ};
 ghost use Rattle.tlsf_class.specs.Classes.{IsLevel};
-ghost use Rattle.tlsf_arena.specs.Places.{IsUnit};
+ghost use Rattle.tlsf_arena.specs.Units.{IsUnit};
 ghost use Rattle.tlsf_pool_arena.specs.MixedUnits.{MixedUnitsAreKept, MixedUnitsBegin, MixedUnitsFindRoom, length_for, units_of_mixed};
 ghost use Rattle.tlsf_pool_arena.specs.PoolArenas.{units_of_pool};
 

@@ -23,7 +23,7 @@ pub use Rattle.tlsf_heap.specs.Blocks.{HeapState, want}
 pub use Rattle.tlsf_heap.specs.Lawful.{IsLawful, IsRegion}
 pub use Rattle.tlsf_heap.specs.declared.name.Name.{Name}
 pub use Rattle.tlsf_pool.specs.laws.Contents.{is_same, Contents, after, contents, after_all, bytes_there}
-pub use Rattle.tlsf_pool.specs.laws.Kinds.{Ledger, ledger_after, ledger_after_all, with_length}
+pub use Rattle.tlsf_pool.specs.laws.Kinds.{Inventory, inventory_after, inventory_after_all, with_length}
 pub use Rattle.tlsf_pool.specs.laws.MixedSizes.{IsServed, mixed_words, AreModest, IsModest, HasRoomFor}
 pub use Rattle.tlsf_post.specs.declared.post.Post.{Post}
 pub use Rattle.tlsf_yard_laws.specs.Carriers.{Carrier, IsRaceOver, OverLanes, OverQueues}

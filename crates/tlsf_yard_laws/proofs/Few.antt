@@ -1,9 +1,9 @@
--- A ledger in which no name stands twice is no longer than a list that has all its names. The lanes to a worker have no more than
+-- An inventory in which no name stands twice is no longer than a list that has all its names. The lanes to a worker have no more than
 -- they hold.
-use Rattle.tlsf_yard_laws.proofs.Common.{◌≡◌, ◌≢◌, ℕ, zero, suc, ◌+◌, ◌*◌, ◌<◌, ◌≤◌, ◌⊎◌, Bool, true, false, not, cond, eqb, List, [], ◌∷◌, ◌++◌, length, map, filter, Option, Some, None, refl, sym, ap, ◌∙◌, subst, inl, inr, arith, length-append, eq-eqb, cases_eq, false≢true, ne_eqb, length-map, Name, Post, is_same, Ledger}
+use Rattle.tlsf_yard_laws.proofs.Common.{◌≡◌, ◌≢◌, ℕ, zero, suc, ◌+◌, ◌*◌, ◌<◌, ◌≤◌, ◌⊎◌, Bool, true, false, not, cond, eqb, List, [], ◌∷◌, ◌++◌, length, map, filter, Option, Some, None, refl, sym, ap, ◌∙◌, subst, inl, inr, arith, length-append, eq-eqb, cases_eq, false≢true, ne_eqb, length-map, Name, Post, is_same, Inventory}
 use Rattle.tlsf_heap.proofs.lemmas.blocks.Find.{not_true}
 use Rattle.tlsf_pool.proofs.lemmas.laws.Names.{same_self, same_is}
-use Rattle.tlsf_pool.proofs.lemmas.laws.Ledgers.{AreNamesApart, lookup}
+use Rattle.tlsf_pool.proofs.lemmas.laws.Inventories.{AreNamesApart, lookup}
 
 abbrev pub IsAmong : Name → List Name → Type 0
 IsAmong name [] = ⊥
@@ -42,8 +42,8 @@ stays name other (m ∷ ms) ne a = step (stays name other ms ne) (is_same m name
     step more true e = elim a [ inl same ↦ absurd (ne (sym (same_is m name e) ∙ same)) | inr rest ↦ rest ]
     step more false e = elim a [ inl same ↦ inl same | inr rest ↦ inr (more rest) ]
 
--- a ledger whose names are all among others has no more entries than those
-pub few : (l : Ledger) (ms : List Name) → AreNamesApart l → ((name : Name) (n : ℕ) → lookup name l ≡ Some n → IsAmong name ms) → length l ≤ length ms
+-- an inventory whose names are all among others has no more entries than those
+pub few : (l : Inventory) (ms : List Name) → AreNamesApart l → ((name : Name) (n : ℕ) → lookup name l ≡ Some n → IsAmong name ms) → length l ≤ length ms
 few [] ms apart all = omega arith
 few (e ∷ l) ms apart all =
     let first : IsAmong e.0 ms = all e.0 e.1 (ap (λ (c : Bool). cond c (Some e.1) (lookup e.0 l)) (same_self e.0)) in
@@ -57,12 +57,12 @@ few (e ∷ l) ms apart all =
     none_some : (n : ℕ) → ◌≡◌ {A = Option ℕ} None (Some n) → ⊥
     none_some n e = cc
 
--- ---- the names of a ledger
+-- ---- the names of an inventory
 
-abbrev pub names_of : Ledger → List Name
+abbrev pub names_of : Inventory → List Name
 names_of l = map (λ entry. entry.0) l
 
-pub still_among : (name other : Name) (l : Ledger) → (name ≡ other → ⊥) → IsAmong other (names_of l) → IsAmong other (names_of (filter (λ entry. not (is_same name entry.0)) l))
+pub still_among : (name other : Name) (l : Inventory) → (name ≡ other → ⊥) → IsAmong other (names_of l) → IsAmong other (names_of (filter (λ entry. not (is_same name entry.0)) l))
 still_among name other [] ne a = absurd a
 still_among name other (e ∷ l) ne a = step (still_among name other l ne) (is_same name e.0) refl
   where

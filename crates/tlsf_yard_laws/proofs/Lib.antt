@@ -1,6 +1,6 @@
 -- The lemmas of this crate, a line a file.
 --   Common: the names that most proofs cite, passed on from one place
---   Few: a ledger is no longer than a list that has all its names
+--   Few: an inventory is no longer than a list that has all its names
 --   LivePosts: a live block stays live until its release is accepted
 --   Moments: what is live in a race is held by the programs, or under way at some moment
 --   NoStale: a post that is taken finds its block live

@@ -1,12 +1,12 @@
 -- Request by request: what is live is held by the programs or under way at some moment, so each request of a race finds room.
-use Rattle.tlsf_yard_laws.proofs.Common.{◌==◌, ◌≡◌, ◌≢◌, ℕ, zero, suc, ◌+◌, ◌-◌, ◌*◌, ◌<◌, ◌≤◌, ◌⊎◌, Bool, true, false, cond, eqb, List, [], ◌∷◌, ◌++◌, length, map, Option, Some, None, refl, sym, ap, ◌∙◌, subst, inl, inr, arith, length-append, append_assoc, append-nil, eq-eqb, cons_option, filter_map, cases_eq, false≢true, length-map, filter-append, IsLevel, HeapState, IsLawful, Name, Post, AreModest, IsModest, is_same, Ledger, ledger_after, ledger_after_all, World, heap_in, RunsTo, answer_told, answers_on, call_on_own, calls_on, entries_of, handed_on, post_of_release, post_of_take, record_of, Call, Entry, Carrier, IsRaceOver, OverLanes, OverQueues, most_under_way, without_post}
+use Rattle.tlsf_yard_laws.proofs.Common.{◌==◌, ◌≡◌, ◌≢◌, ℕ, zero, suc, ◌+◌, ◌-◌, ◌*◌, ◌<◌, ◌≤◌, ◌⊎◌, Bool, true, false, cond, eqb, List, [], ◌∷◌, ◌++◌, length, map, Option, Some, None, refl, sym, ap, ◌∙◌, subst, inl, inr, arith, length-append, append_assoc, append-nil, eq-eqb, cons_option, filter_map, cases_eq, false≢true, length-map, filter-append, IsLevel, HeapState, IsLawful, Name, Post, AreModest, IsModest, is_same, Inventory, inventory_after, inventory_after_all, World, heap_in, RunsTo, answer_told, answers_on, call_on_own, calls_on, entries_of, handed_on, post_of_release, post_of_take, record_of, Call, Entry, Carrier, IsRaceOver, OverLanes, OverQueues, most_under_way, without_post}
 use mathlib.Core.List.{IsPrefix}
 use Rattle.tlsf_heap.specs.Calls as heap
 use Rattle.tlsf_heap.proofs.lemmas.calls.Outcomes.{lawful_run}
 use Rattle.tlsf_heap.proofs.lemmas.blocks.Lawful.{opened_lawful}
 use Rattle.tlsf_pool.specs.laws.Held.{held_after, held_after_all}
 use Rattle.tlsf_pool.proofs.lemmas.laws.Names.{same_is, same_self}
-use Rattle.tlsf_pool.proofs.lemmas.laws.Ledgers.{Agrees, agrees_run, live_agrees, lookup, new_agrees}
+use Rattle.tlsf_pool.proofs.lemmas.laws.Inventories.{Agrees, agrees_run, live_agrees, lookup, new_agrees}
 use Rattle.tlsf_crew.proofs.lemmas.histories.JoinedEntries.{runs_then, told_other, told_own, told_then, length_told}
 use Rattle.tlsf_yard_laws.specs.Races.{HasPast}
 use Rattle.tlsf_yard_laws.specs.Moments.{IsShort, OrdersHaveMoments, RaceSharedMixedSizesServe, all_under_way, unreleased, AreSparingInRace}
@@ -17,7 +17,7 @@ use Rattle.tlsf_yard_laws.proofs.Told.{noted_same, past_holds, race_serves}
 
 -- ---- what is live is held, or its name is under way
 
-found_among : (name : Name) (n : ℕ) (l : Ledger) → lookup name l ≡ Some n → IsAmong name (names_of l)
+found_among : (name : Name) (n : ℕ) (l : Inventory) → lookup name l ≡ Some n → IsAmong name (names_of l)
 found_among name n [] e = absurd (none_some e)
   where
     none_some : ◌≡◌ {A = Option ℕ} None (Some n) → ⊥
@@ -28,7 +28,7 @@ found_among name n (x ∷ l) e = at (found_among name n l) (is_same x.0 name) re
     at more true same e = inl (same_is x.0 name same)
     at more false same e = inr (more e)
 
-held_or_posted : (name : Name) (l : Ledger) (ps : List Post) → IsAmong name (names_of l) → IsAmong name (names_of (unreleased l ps)) ⊎ IsAmong name (posted ps)
+held_or_posted : (name : Name) (l : Inventory) (ps : List Post) → IsAmong name (names_of l) → IsAmong name (names_of (unreleased l ps)) ⊎ IsAmong name (posted ps)
 held_or_posted name l [] a = inl a
 held_or_posted name l (p ∷ ps) a = at (held_or_posted name (without_post l (Some p)) ps) (is_same p.name name) refl
   where
@@ -39,8 +39,8 @@ held_or_posted name l (p ∷ ps) a = at (held_or_posted name (without_post l (So
         let ne : p.name ≡ name → ⊥ = λ q. false≢true (sym same ∙ subst (λ (x : Name). is_same p.name x ≡ true) q (same_self p.name)) in
         elim (more (still_among p.name name l ne a)) [ inl here ↦ inl here | inr away ↦ inr (inr away) ]
 
--- a ledger that agrees with a heap has no more entries than are held and under way
-unreleased_few : (h : HeapState) (l : Ledger) (ps : List Post) → Agrees h l → length l ≤ length (unreleased l ps) + length ps
+-- an inventory that agrees with a heap has no more entries than are held and under way
+unreleased_few : (h : HeapState) (l : Inventory) (ps : List Post) → Agrees h l → length l ≤ length (unreleased l ps) + length ps
 unreleased_few h l ps agrees =
     let u = unreleased l ps in
     let count : length l ≤ length (names_of u ++ posted ps) = few l (names_of u ++ posted ps) agrees.apart (λ name n found. elim (held_or_posted name l ps (found_among name n l found)) [
@@ -83,19 +83,19 @@ module _ (j capacity : ℕ) (lanes : ℕ → List Post) where
             omega (arith, both, one_more k capacity _ _ rest one)
       ]
 
--- ---- the ledger of a heap, as it is told
+-- ---- the inventory of a heap, as it is told
 
-all_noted : (l : Ledger) (calls : List heap.Call) (answers : List heap.Answer) → ledger_after_all l calls (map handed_on answers) ≡ ledger_after_all l calls answers
+all_noted : (l : Inventory) (calls : List heap.Call) (answers : List heap.Answer) → inventory_after_all l calls (map handed_on answers) ≡ inventory_after_all l calls answers
 all_noted l [] answers = refl
 all_noted l (call ∷ calls) [] = refl
-all_noted l (call ∷ calls) (answer ∷ answers) = ap (λ (l : Ledger). ledger_after_all l calls (map handed_on answers)) (noted_same l call answer) ∙ all_noted (ledger_after l call answer) calls answers
+all_noted l (call ∷ calls) (answer ∷ answers) = ap (λ (l : Inventory). inventory_after_all l calls (map handed_on answers)) (noted_same l call answer) ∙ all_noted (inventory_after l call answer) calls answers
 
 past_agrees : {sli : ℕ} (level : IsLevel sli) (j words first : ℕ) (calls : List heap.Call) (answers : List heap.Answer) (g : HeapState) → RunsTo sli (heap.opened j words first) calls answers g → 4 ≤ words
-    → Agrees g (ledger_after_all [] calls answers)
+    → Agrees g (inventory_after_all [] calls answers)
 past_agrees {sli} level j words first calls answers g runs four =
     let own : List heap.Answer = (heap.run sli (heap.opened j words first) calls).0 in
-    let noted : ledger_after_all [] calls own ≡ ledger_after_all [] calls answers = sym (all_noted [] calls own) ∙ ap (ledger_after_all [] calls) runs.told in
-    subst (λ (h : HeapState). Agrees h (ledger_after_all [] calls answers)) runs.left
+    let noted : inventory_after_all [] calls own ≡ inventory_after_all [] calls answers = sym (all_noted [] calls own) ∙ ap (inventory_after_all [] calls) runs.told in
+    subst (λ (h : HeapState). Agrees h (inventory_after_all [] calls answers)) runs.left
     (subst (Agrees (heap.run sli (heap.opened j words first) calls).1) noted (agrees_run sli level (heap.opened j words first) calls [] (new_agrees j words first) (opened_lawful j words first four)))
 
 -- ---- calls in turn
@@ -138,7 +138,7 @@ module _ {sli : ℕ} (carrier : Carrier) (level : IsLevel sli) (w v : World sli)
       let asked = (sparing before e (later, whole)).0 n (allocate_asks (made j) e.worker e.call e.reply n is) in
       let s = asked.1 in
       let now = history before (e ∷ later) whole in
-      let live = ledger_after_all [] (all_calls before) (all_answers before) in
+      let live = inventory_after_all [] (all_calls before) (all_answers before) in
       let agrees : Agrees now.0 live = past_agrees level j words first (all_calls before) (all_answers before) now.0 now.1 four in
       let held = sym (past_holds j words first (all_calls before) (all_answers before) now.0 now.1 four) ∙ live_agrees now.0 live agrees in
       let ps = all_under_way j s.moment.under_way (length w.heaps) in

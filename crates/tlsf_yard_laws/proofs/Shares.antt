@@ -1,5 +1,5 @@
 -- Entry by entry: what is live in a heap is held by the programs, or its name waits in a lane. So each request finds room.
-use Rattle.tlsf_yard_laws.proofs.Common.{◌==◌, ◌≡◌, ◌≢◌, ℕ, suc, ◌+◌, ◌*◌, ◌<◌, ◌≤◌, ◌⊎◌, Bool, true, false, cond, eqb, List, [], ◌∷◌, ◌++◌, length, Option, Some, None, Result, Ok, Err, refl, sym, ap, ◌∙◌, subst, inl, inr, arith, length-append, eq-eqb, append-nil, ⊤, AllByRecursion, cons_option, option_map, cases_eq, false≢true, ne_eqb, length-map, IsLevel, most_words, HeapState, want, Name, Post, mixed_words, IsModest, IsServed, bytes_there, is_same, Ledger, ledger_after, with_length, bytes_of, RunsTo, answer_told, answers_on, call_on_own, calls_on, handed_on, meant, name_on_heap, post_of_release, post_of_take, posts_made, posts_taken, taken_name, Entry, Call, Allocate, Release, Write, Read, Resize, Take, Drain, Target, Reply, AreSparing, IsSparing, unreleased_after, with_call, without_post}
+use Rattle.tlsf_yard_laws.proofs.Common.{◌==◌, ◌≡◌, ◌≢◌, ℕ, suc, ◌+◌, ◌*◌, ◌<◌, ◌≤◌, ◌⊎◌, Bool, true, false, cond, eqb, List, [], ◌∷◌, ◌++◌, length, Option, Some, None, Result, Ok, Err, refl, sym, ap, ◌∙◌, subst, inl, inr, arith, length-append, eq-eqb, append-nil, ⊤, AllByRecursion, cons_option, option_map, cases_eq, false≢true, ne_eqb, length-map, IsLevel, most_words, HeapState, want, Name, Post, mixed_words, IsModest, IsServed, bytes_there, is_same, Inventory, inventory_after, with_length, bytes_of, RunsTo, answer_told, answers_on, call_on_own, calls_on, handed_on, meant, name_on_heap, post_of_release, post_of_take, posts_made, posts_taken, taken_name, Entry, Call, Allocate, Release, Write, Read, Resize, Take, Drain, Target, Reply, AreSparing, IsSparing, unreleased_after, with_call, without_post}
 use Rattle.tlsf_heap.specs.GoodFit.{Site}
 use Rattle.tlsf_heap.specs.Calls as heap
 use Rattle.tlsf_heap.specs.declared.refusal.Refusal.{Refusal}
@@ -8,7 +8,7 @@ use Rattle.tlsf_heap.proofs.lemmas.blocks.Lawful.{all_append}
 use Rattle.tlsf_heap.proofs.lemmas.calls.Outcomes.{takes}
 use Rattle.tlsf_pool.specs.laws.Room.{live_count}
 use Rattle.tlsf_pool.proofs.lemmas.laws.Names.{same_is, same_self}
-use Rattle.tlsf_pool.proofs.lemmas.laws.Ledgers.{Agrees, agrees_call, live_agrees, lookup, lookup_without}
+use Rattle.tlsf_pool.proofs.lemmas.laws.Inventories.{Agrees, agrees_call, live_agrees, lookup, lookup_without}
 use Rattle.tlsf_pool.proofs.lemmas.laws.ModestCalls.{InMixed, is_served, kept, tick_kept}
 use Rattle.tlsf_calls.specs.declared.reply.Reply.TheVariants.{Took as Taken}
 use Rattle.tlsf_crew.proofs.lemmas.histories.JoinedEntries.{told_other, told_own, told_then}
@@ -21,11 +21,11 @@ use Rattle.tlsf_yard_laws.proofs.Few.{IsAmong, among_left, among_right, few, in_
 abbrev pub WaitsFor : (j n : ℕ) → (ℕ → List Post) → Name → Type 0
 WaitsFor j n lanes name = (i : ℕ) × (i < n) × (i ≢ j) × IsAmong name (posted (lanes i))
 
-abbrev pub IsCovered : (j n : ℕ) → Ledger → (ℕ → List Post) → Name → Type 0
-IsCovered j n ledger lanes name = IsAmong name (names_of ledger) ⊎ WaitsFor j n lanes name
+abbrev pub IsCovered : (j n : ℕ) → Inventory → (ℕ → List Post) → Name → Type 0
+IsCovered j n inventory lanes name = IsAmong name (names_of inventory) ⊎ WaitsFor j n lanes name
 
 -- so it stays, where the name stays on either side
-stay_covered : (j n : ℕ) (u v : Ledger) (lanes later : ℕ → List Post) (name : Name) → (IsAmong name (names_of u) → IsAmong name (names_of v))
+stay_covered : (j n : ℕ) (u v : Inventory) (lanes later : ℕ → List Post) (name : Name) → (IsAmong name (names_of u) → IsAmong name (names_of v))
     → ((i : ℕ) → i ≢ j → IsAmong name (posted (lanes i)) → IsAmong name (posted (later i))) → IsCovered j n u lanes name → IsCovered j n v later name
 stay_covered j n u v lanes later name held waits c = elim c [
   | inl here ↦ inl (held here)
@@ -35,7 +35,7 @@ stay_covered j n u v lanes later name held waits c = elim c [
 -- ---- a call of the heap's own worker
 
 -- a name whose release is refused while the ticks last is not live
-refused_gone : (h : HeapState) (name : Name) (l : Ledger) (why : Refusal) → Agrees h l → h.tick < heap.last_tick → (heap.released h name).answer ≡ Err why → lookup name l ≡ None
+refused_gone : (h : HeapState) (name : Name) (l : Inventory) (why : Refusal) → Agrees h l → h.tick < heap.last_tick → (heap.released h name).answer ≡ Err why → lookup name l ≡ None
 refused_gone h name l why agrees fresh e = agrees.found name ∙ ap (option_map length) (gone (eqb name.heap h.id) (heap.named name h.blocks) e)
   where
     done_refused : ◌≡◌ {A = Result (Unit {0}) Refusal} (Ok tt) (Err why) → ⊥
@@ -47,8 +47,8 @@ refused_gone h name l why agrees fresh e = agrees.found name ∙ ap (option_map 
     gone true (Some s) e = absurd (done_refused (sym (ap (λ (c : Bool). (cond c (heap.refused h Worn) (takes h s)).answer) (ne_eqb h.tick heap.last_tick (λ q. omega (arith, q, fresh)))) ∙ e))
 
 -- after the release of a name, what is live is another, and was live before
-other_name : (h : HeapState) (m name : Name) (l : Ledger) (len : ℕ) (r : Result (Unit {0}) Refusal) → Agrees h l → h.tick < heap.last_tick → (heap.released h m).answer ≡ r
-    → lookup name (ledger_after l (heap.Release m) (heap.Released r)) ≡ Some len → (m ≢ name) × (lookup name l ≡ Some len)
+other_name : (h : HeapState) (m name : Name) (l : Inventory) (len : ℕ) (r : Result (Unit {0}) Refusal) → Agrees h l → h.tick < heap.last_tick → (heap.released h m).answer ≡ r
+    → lookup name (inventory_after l (heap.Release m) (heap.Released r)) ≡ Some len → (m ≢ name) × (lookup name l ≡ Some len)
 other_name h m name l len (Ok done) agrees fresh is found = at (is_same m name) refl (sym (lookup_without m name l) ∙ found)
   where
     nothing : ◌≡◌ {A = Option ℕ} None (Some len) → ⊥
@@ -63,13 +63,13 @@ other_name h m name l len (Err why) agrees fresh is found =
     nothing : ◌≡◌ {A = Option ℕ} None (Some len) → ⊥
     nothing e = cc
 
--- a ledger keeps the other names
-still_held : (m name : Name) (u : Ledger) (r : Result (Unit {0}) Refusal) → m ≢ name → IsAmong name (names_of u) → IsAmong name (names_of (ledger_after u (heap.Release m) (heap.Released r)))
+-- an inventory keeps the other names
+still_held : (m name : Name) (u : Inventory) (r : Result (Unit {0}) Refusal) → m ≢ name → IsAmong name (names_of u) → IsAmong name (names_of (inventory_after u (heap.Release m) (heap.Released r)))
 still_held m name u (Ok done) ne a = still_among m name u ne a
 still_held m name u (Err why) ne a = a
 
--- a resize leaves the names of a ledger, and what else it tells of each
-resize_keeps : (m name : Name) (k : ℕ) (u : Ledger) → IsAmong name (names_of u) → IsAmong name (names_of (with_length u m k))
+-- a resize leaves the names of an inventory, and what else it tells of each
+resize_keeps : (m name : Name) (k : ℕ) (u : Inventory) → IsAmong name (names_of u) → IsAmong name (names_of (with_length u m k))
 resize_keeps m name k [] a = absurd a
 resize_keeps m name k (x ∷ u) a = elim a [
   | inl same ↦ inl (first (is_same m x.0) ∙ same)
@@ -80,10 +80,10 @@ resize_keeps m name k (x ∷ u) a = elim a [
     first true = refl
     first false = refl
 
-abbrev Finds : (m name : Name) → (k len : ℕ) → Ledger → Type 0
+abbrev Finds : (m name : Name) → (k len : ℕ) → Inventory → Type 0
 Finds m name k len l = lookup name (with_length l m k) ≡ Some len → (n : ℕ) × (lookup name l ≡ Some n)
 
-resize_finds : (m name : Name) (k len : ℕ) (l : Ledger) → Finds m name k len l
+resize_finds : (m name : Name) (k len : ℕ) (l : Inventory) → Finds m name k len l
 resize_finds m name k len [] e = cc
 resize_finds m name k len (x ∷ l) e = at (resize_finds m name k len l) (is_same m x.0) e
   where
@@ -99,15 +99,15 @@ resize_finds m name k len (x ∷ l) e = at (resize_finds m name k len l) (is_sam
 abbrev Leaves : ℕ → (ℕ → List Post) → (ℕ → List Post) → Option heap.Call → Type 0
 Leaves j lanes later o = (i : ℕ) → i ≢ j → (name : Name) → IsAmong name (posted (lanes i)) → IsAmong name (posted (later i)) ⊎ (o ≡ Some (heap.Release name))
 
-abbrev Covers : (j n : ℕ) → Ledger → Ledger → (ℕ → List Post) → Type 0
+abbrev Covers : (j n : ℕ) → Inventory → Inventory → (ℕ → List Post) → Type 0
 Covers j n l u lanes = (name : Name) (len : ℕ) → lookup name l ≡ Some len → IsCovered j n u lanes name
 
 still_waits : (j : ℕ) (lanes later : ℕ → List Post) (c : heap.Call) (name : Name) → (◌≡◌ {A = Option heap.Call} (Some c) (Some (heap.Release name)) → ⊥) → Leaves j lanes later (Some c)
     → (i : ℕ) → i ≢ j → IsAmong name (posted (lanes i)) → IsAmong name (posted (later i))
 still_waits j lanes later c name other leaves i ne a = elim (leaves i ne name a) [ inl x ↦ x | inr e ↦ absurd (other e) ]
 
-call_covers : (sli : ℕ) (j n : ℕ) (h : HeapState) (l u : Ledger) (lanes later : ℕ → List Post) (c : heap.Call) → Agrees h l → h.tick < heap.last_tick → Covers j n l u lanes → Leaves j lanes later (Some c)
-    → Covers j n (ledger_after l c (heap.answered sli h c).0) (ledger_after u c (heap.answered sli h c).0) later
+call_covers : (sli : ℕ) (j n : ℕ) (h : HeapState) (l u : Inventory) (lanes later : ℕ → List Post) (c : heap.Call) → Agrees h l → h.tick < heap.last_tick → Covers j n l u lanes → Leaves j lanes later (Some c)
+    → Covers j n (inventory_after l c (heap.answered sli h c).0) (inventory_after u c (heap.answered sli h c).0) later
 call_covers sli j n h l u lanes later (heap.Allocate m) agrees fresh covers leaves name len found = at (heap.allocated sli h m).answer found
   where
     differs : ◌≡◌ {A = Option heap.Call} (Some (heap.Allocate m)) (Some (heap.Release name)) → ⊥
@@ -117,13 +117,13 @@ call_covers sli j n h l u lanes later (heap.Allocate m) agrees fresh covers leav
     new made true same e = inl (inl (same_is made name same))
     new made false same e = stay_covered j n u ((made, m) ∷ u) lanes later name (λ a. inr a) (still_waits j lanes later (heap.Allocate m) name differs leaves) (covers name len e)
 
-    at : (r : Result Name Refusal) → lookup name (ledger_after l (heap.Allocate m) (heap.Allocated r)) ≡ Some len → IsCovered j n (ledger_after u (heap.Allocate m) (heap.Allocated r)) later name
+    at : (r : Result Name Refusal) → lookup name (inventory_after l (heap.Allocate m) (heap.Allocated r)) ≡ Some len → IsCovered j n (inventory_after u (heap.Allocate m) (heap.Allocated r)) later name
     at (Ok made) e = new made (is_same made name) refl e
     at (Err why) e = stay_covered j n u u lanes later name (λ a. a) (still_waits j lanes later (heap.Allocate m) name differs leaves) (covers name len e)
 call_covers sli j n h l u lanes later (heap.Release m) agrees fresh covers leaves name len found =
     let r = (heap.released h m).answer in
     let other = other_name h m name l len r agrees fresh refl found in
-    stay_covered j n u (ledger_after u (heap.Release m) (heap.Released r)) lanes later name (still_held m name u r other.0)
+    stay_covered j n u (inventory_after u (heap.Release m) (heap.Released r)) lanes later name (still_held m name u r other.0)
     (still_waits j lanes later (heap.Release m) name (λ e. let same : m ≡ name = cc in other.0 same) leaves) (covers name len other.1)
 call_covers sli j n h l u lanes later (heap.Write m at bytes) agrees fresh covers leaves name len found =
     stay_covered j n u u lanes later name (λ a. a) (still_waits j lanes later (heap.Write m at bytes) name differs leaves) (covers name len found)
@@ -135,7 +135,7 @@ call_covers sli j n h l u lanes later (heap.Resize m k) agrees fresh covers leav
     differs : ◌≡◌ {A = Option heap.Call} (Some (heap.Resize m k)) (Some (heap.Release name)) → ⊥
     differs e = cc
 
-    on : (r : Result (Unit {0}) Refusal) → lookup name (ledger_after l (heap.Resize m k) (heap.Resized r)) ≡ Some len → IsCovered j n (ledger_after u (heap.Resize m k) (heap.Resized r)) later name
+    on : (r : Result (Unit {0}) Refusal) → lookup name (inventory_after l (heap.Resize m k) (heap.Resized r)) ≡ Some len → IsCovered j n (inventory_after u (heap.Resize m k) (heap.Resized r)) later name
     on (Ok done) e =
         let old = resize_finds m name k len l e in
         stay_covered j n u (with_length u m k) lanes later name (resize_keeps m name k u) (still_waits j lanes later (heap.Resize m k) name differs leaves) (covers name old.0 old.1)
@@ -243,21 +243,21 @@ abbrev pub AllLead : (sli : ℕ) (j n capacity : ℕ) → List (Option Name) →
 AllLead sli j n capacity made h lanes [] = ⊤
 AllLead sli j n capacity made h lanes (e ∷ es) = (g : HeapState) × (later : ℕ → List Post) × Leads sli j n capacity made (side h lanes) e (side g later) × AllLead sli j n capacity made g later es
 
--- what holds of the heap on the way. The first ledger is of what is live, the second of what the programs hold
-pub record IsShared (j n words k : ℕ) (h : HeapState) (l u : Ledger) (lanes : ℕ → List Post) : Type 0 where
+-- what holds of the heap on the way. The first inventory is of what is live, the second of what the programs hold
+pub record IsShared (j n words k : ℕ) (h : HeapState) (l u : Inventory) (lanes : ℕ → List Post) : Type 0 where
   pub mixed : InMixed words k h
   pub agrees : Agrees h l
   pub covers : Covers j n l u lanes
 
 -- what one entry leaves
-record Next (j n words k : ℕ) (h : HeapState) (u : Ledger) (g : HeapState) (later : ℕ → List Post) (answers : List heap.Answer) : Type 0 where
-  live : Ledger
+record Next (j n words k : ℕ) (h : HeapState) (u : Inventory) (g : HeapState) (later : ℕ → List Post) (answers : List heap.Answer) : Type 0 where
+  live : Inventory
   shared : IsShared j n words k g live u later
   tick : g.tick ≤ h.tick + 1
   served : AllByRecursion IsServed answers
 
 -- no more is live than the programs hold and the lanes have
-live_few : (j m capacity words k : ℕ) (h : HeapState) (l u : Ledger) (lanes : ℕ → List Post) → j < m + 1 → ((i : ℕ) → length (lanes i) ≤ capacity) → IsShared j (suc m) words k h l u lanes
+live_few : (j m capacity words k : ℕ) (h : HeapState) (l u : Inventory) (lanes : ℕ → List Post) → j < m + 1 → ((i : ℕ) → length (lanes i) ≤ capacity) → IsShared j (suc m) words k h l u lanes
     → live_count h ≤ length u + m * capacity
 live_few j m capacity words k h l u lanes j_in short shared =
     let all : List Name = names_of u ++ lane_names j lanes (suc m) in
@@ -281,7 +281,7 @@ module _ (sli : ℕ) (level : IsLevel sli) (words most len : ℕ) (region : want
   is_modest h (heap.Resize name m) allows = allows.1 name m refl
   is_modest h c allows = tt
 
-  own_next : (h g : HeapState) (l u : Ledger) (lanes later : ℕ → List Post) (o : Option heap.Call) (a : Option heap.Answer) → RunsTo sli h (cons_option o []) (cons_option a []) g
+  own_next : (h g : HeapState) (l u : Inventory) (lanes later : ℕ → List Post) (o : Option heap.Call) (a : Option heap.Answer) → RunsTo sli h (cons_option o []) (cons_option a []) g
       → IsShared j n words (want len + 3) h l u lanes → Leaves j lanes later o → Allows h o → h.tick < heap.last_tick → Next j n words (want len + 3) h (with_call u o a) g later (cons_option a [])
   own_next h g l u lanes later None None run shared leaves allows fresh = record {
     live = l;
@@ -299,13 +299,13 @@ module _ (sli : ℕ) (level : IsLevel sli) (words most len : ℕ) (region : want
       let answer = (heap.answered sli h c).0 in
       let modest = is_modest h c allows in
       let same : handed_on answer ≡ b = let e = run.told in cc in
-      let noted : ledger_after u c answer ≡ ledger_after u c b = sym (noted_same u c answer) ∙ ap (ledger_after u c) same in
+      let noted : inventory_after u c answer ≡ inventory_after u c b = sym (noted_same u c answer) ∙ ap (inventory_after u c) same in
       record {
-        live = ledger_after l c answer;
-        shared = subst (λ (x : HeapState). IsShared j n words (want len + 3) x (ledger_after l c answer) (ledger_after u c b) later) run.left (record {
+        live = inventory_after l c answer;
+        shared = subst (λ (x : HeapState). IsShared j n words (want len + 3) x (inventory_after l c answer) (inventory_after u c b) later) run.left (record {
           mixed = kept sli level words most len region enough h c shared.mixed modest;
           agrees = agrees_call sli h c l shared.agrees shared.mixed.lawful;
-          covers = subst (λ (v : Ledger). Covers j n (ledger_after l c answer) v later) noted (call_covers sli j n h l u lanes later c shared.agrees fresh shared.covers leaves);
+          covers = subst (λ (v : Inventory). Covers j n (inventory_after l c answer) v later) noted (call_covers sli j n h l u lanes later c shared.agrees fresh shared.covers leaves);
         });
         tick = subst (λ (x : HeapState). x.tick ≤ h.tick + 1) run.left (tick_kept sli level words most len region enough h c);
         served = (subst IsServed same (served_on answer (is_served sli level words most len region enough h c shared.mixed modest fresh)), tt);
@@ -346,7 +346,7 @@ other_waits j n capacity made h g lanes later e other leads i =
     sym (leads.posts i ∙ ap (λ l. l ++ later i) (told_other (λ e. post_of_take i e.call e.reply) j e other))
 
 -- and what it posts waits
-other_covers : {sli : ℕ} (j n capacity : ℕ) (made : List (Option Name)) (h g : HeapState) (l u : Ledger) (lanes later : ℕ → List Post) (e : Entry) → e.worker ≢ j → Leads sli j n capacity made (side h lanes) e (side g later)
+other_covers : {sli : ℕ} (j n capacity : ℕ) (made : List (Option Name)) (h g : HeapState) (l u : Inventory) (lanes later : ℕ → List Post) (e : Entry) → e.worker ≢ j → Leads sli j n capacity made (side h lanes) e (side g later)
     → Covers j n l u lanes → Covers j n l (without_post u (post_of_release j made e.worker e.call e.reply)) later
 other_covers j n capacity made h g l u lanes later e other leads covers name len found = at (post_of_release j made e.worker e.call e.reply) refl (covers name len found)
   where
@@ -375,7 +375,7 @@ module _ (sli : ℕ) (level : IsLevel sli) (words most len : ℕ) (region : want
   abbrev n : ℕ
   n = suc m
 
-  next : (h g : HeapState) (l u : Ledger) (lanes later : ℕ → List Post) (e : Entry) → IsShared j n words (want len + 3) h l u lanes → ((i : ℕ) → length (lanes i) ≤ capacity)
+  next : (h g : HeapState) (l u : Inventory) (lanes later : ℕ → List Post) (e : Entry) → IsShared j n words (want len + 3) h l u lanes → ((i : ℕ) → length (lanes i) ≤ capacity)
       → Leads sli j n capacity made (side h lanes) e (side g later) → IsSparing j most len u e → h.tick < heap.last_tick → Next j n words (want len + 3) h (unreleased_after j made u e) g later (answers_on j (e ∷ []))
   next h g l u lanes later e shared short leads sparing fresh = elim (cases_eq e.worker j) [
     | inl own ↦
@@ -390,7 +390,7 @@ module _ (sli : ℕ) (level : IsLevel sli) (words most len : ℕ) (region : want
         let resizes : (name : Name) (x : ℕ) → o ≡ Some (heap.Resize name x) → x ≤ len
         = λ name x is. let asks = resize_asks made e.worker e.call e.reply name x is in (sparing own).1 asks.0 x asks.1 in
         let test : unreleased_after j made u e ≡ with_call u o a = ap (λ (c : Bool). cond c (with_call u o a) (without_post u (post_of_release j made e.worker e.call e.reply))) (eq-eqb e.worker j own) in
-        subst (λ (v : Ledger). Next j n words (want len + 3) h v g later (answers_on j (e ∷ []))) (sym test)
+        subst (λ (v : Inventory). Next j n words (want len + 3) h v g later (answers_on j (e ∷ []))) (sym test)
         (subst (λ x. Next j n words (want len + 3) h (with_call u o a) g later x) (sym answers)
         (own_next sli level words (most + m * capacity) len region enough j n h g l u lanes later o a run shared (own_leaves j n capacity made h g lanes later e own leads) (allocates, resizes) fresh))
     | inr other ↦
@@ -401,7 +401,7 @@ module _ (sli : ℕ) (level : IsLevel sli) (words most len : ℕ) (region : want
         let test : unreleased_after j made u e ≡ without_post u p = ap (λ (c : Bool). cond c (with_call u (call_on_own made e.worker e.call e.reply) (answer_told e.call e.reply)) (without_post u p)) (ne_eqb e.worker j other) in
         record {
           live = l;
-          shared = subst (λ (v : Ledger). IsShared j n words (want len + 3) g l v later) (sym test) (subst (λ (x : HeapState). IsShared j n words (want len + 3) x l (without_post u p) later) same (record {
+          shared = subst (λ (v : Inventory). IsShared j n words (want len + 3) g l v later) (sym test) (subst (λ (x : HeapState). IsShared j n words (want len + 3) x l (without_post u p) later) same (record {
             mixed = shared.mixed;
             agrees = shared.agrees;
             covers = other_covers j n capacity made h g l u lanes later e other leads shared.covers;
@@ -411,7 +411,7 @@ module _ (sli : ℕ) (level : IsLevel sli) (words most len : ℕ) (region : want
         }
   ]
 
-  pub all_served : (es : List Entry) (h : HeapState) (l u : Ledger) (lanes : ℕ → List Post) → IsShared j n words (want len + 3) h l u lanes → ((i : ℕ) → length (lanes i) ≤ capacity)
+  pub all_served : (es : List Entry) (h : HeapState) (l u : Inventory) (lanes : ℕ → List Post) → IsShared j n words (want len + 3) h l u lanes → ((i : ℕ) → length (lanes i) ≤ capacity)
       → AllLead sli j n capacity made h lanes es → AreSparing j most len made u es → h.tick + length es ≤ heap.last_tick → AllByRecursion IsServed (answers_on j es)
   all_served [] h l u lanes shared short lead sparing fresh = tt
   all_served (e ∷ es) h l u lanes shared short lead sparing fresh =

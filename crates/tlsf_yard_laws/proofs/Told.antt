@@ -1,5 +1,5 @@
 -- Answers as they are handed on tell the same of what is held and of bytes.
-use Rattle.tlsf_yard_laws.proofs.Common.{◌≡◌, ℕ, ◌+◌, ◌<◌, ◌≤◌, List, [], ◌∷◌, length, map, None, Ok, Err, refl, sym, ap, ◌∙◌, subst, arith, AllByRecursion, IsLevel, most_words, HeapState, want, IsRegion, Name, mixed_words, AreModest, HasRoomFor, IsServed, Ledger, ledger_after, Contents, contents, after, after_all, World, heap_in, replies, RunsTo, calls_on, answers_on, handed_on, Carrier}
+use Rattle.tlsf_yard_laws.proofs.Common.{◌≡◌, ℕ, ◌+◌, ◌<◌, ◌≤◌, List, [], ◌∷◌, length, map, None, Ok, Err, refl, sym, ap, ◌∙◌, subst, arith, AllByRecursion, IsLevel, most_words, HeapState, want, IsRegion, Name, mixed_words, AreModest, HasRoomFor, IsServed, Inventory, inventory_after, Contents, contents, after, after_all, World, heap_in, replies, RunsTo, calls_on, answers_on, handed_on, Carrier}
 use Rattle.tlsf_heap.specs.Calls.{Call, Read, Answer, Got, last_tick, opened, run}
 use Rattle.tlsf_pool.specs.laws.Room.{live_count}
 use Rattle.tlsf_pool.specs.laws.Held.{held_after, held_after_all}
@@ -49,12 +49,12 @@ all_after bytes (call ∷ calls) [] = refl
 all_after bytes (call ∷ calls) (answer ∷ answers) =
     ap (λ (b : Contents). after_all b calls (map handed_on answers)) (after_same bytes call answer) ∙ all_after (after bytes call answer) calls answers
 
--- an answer as it is handed on serves, and is noted in a ledger, as the heap's own
+-- an answer as it is handed on serves, and is noted in an inventory, as the heap's own
 pub served_on : (answer : Answer) → IsServed answer → IsServed (handed_on answer)
 served_on (Got (Ok bytes)) s = tt
 served_on answer s = s
 
-pub noted_same : (l : Ledger) (call : Call) (answer : Answer) → ledger_after l call (handed_on answer) ≡ ledger_after l call answer
+pub noted_same : (l : Inventory) (call : Call) (answer : Answer) → inventory_after l call (handed_on answer) ≡ inventory_after l call answer
 noted_same l call (Got (Err why)) = refl
 noted_same l (Read name at n) (Got (Ok bytes)) = refl
 noted_same l call answer = refl

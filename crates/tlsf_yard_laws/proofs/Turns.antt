@@ -1,7 +1,7 @@
 -- The entries of a list of events lead, one after another, from the first world to the last.
 use Rattle.tlsf_yard_laws.proofs.Common.{zero, suc, [], ◌∷◌, ◌++◌, ◌≡◌, ◌≢◌, ℕ, ◌+◌, ◌-◌, ◌*◌, ◌<◌, ◌≤◌, List, Option, Some, None, length, All, refl, sym, ap, ◌∙◌, arith, inl, inr, subst, append_assoc, append-nil, length-append, AllByRecursion, fold, cases_lt, All-tail, IsLevel, HeapState, want, IsLawful, Name, Post, mixed_words, IsServed, World, Replayed, answered, begun, called, heap_in, replies, AreTakes, RunsTo, TellsCall, answer_told, answers_on, call_on_own, calls_on, post_of_release, post_of_take, posts_made, posts_taken, Entry, Call, Allocate, Release, Write, Read, Resize, Take, Drain, Target, Drained, Refused, Stranger, SharedMixedSizesServe}
 use Rattle.tlsf_heap.proofs.lemmas.calls.Outcomes.{lawful_run}
-use Rattle.tlsf_pool.proofs.lemmas.laws.Ledgers.{Agrees, new_agrees}
+use Rattle.tlsf_pool.proofs.lemmas.laws.Inventories.{Agrees, new_agrees}
 use Rattle.tlsf_pool.proofs.lemmas.laws.ModestCalls.{InMixed, opens}
 use Rattle.tlsf_crew.specs.model.World.{after}
 use Rattle.tlsf_calls.specs.declared.event.Event.{Event}

@@ -10,7 +10,7 @@ use Rattle.tlsf_heap.specs.Calls as heap
 use Rattle.tlsf_heap.specs.declared.name.Name.{Name}
 use Rattle.tlsf_post.specs.declared.post.Post.{Post}
 use Rattle.tlsf_pool.specs.laws.MixedSizes.{mixed_words, AreModest, IsServed}
-use Rattle.tlsf_pool.specs.laws.Kinds.{Ledger, ledger_after_all}
+use Rattle.tlsf_pool.specs.laws.Kinds.{Inventory, inventory_after_all}
 use Rattle.tlsf_crew.specs.model.World.{World}
 use Rattle.tlsf_crew.specs.histories.History.{StandsBehind, answers_on, calls_on, entries_of, posts_made, posts_taken}
 use Rattle.tlsf_crew.specs.races.Race.{record_of}
@@ -60,12 +60,12 @@ OrdersHaveMoments sli carrier = (w : World sli) (made : ℕ → List (Option Nam
     → (m : Moment carrier w made records j (entries_of j before)) × ((i : ℕ) → m.told i ≡ entries_of i before) × ((i : ℕ) → m.under_way i ≡ is.waits before i j)
 
 -- what the programs hold, of the live blocks of a heap: those whose names aren't under way to it
-abbrev pub unreleased : Ledger → List Post → Ledger
-unreleased live posts = fold (λ ledger post. without_post ledger (Some post)) live posts
+abbrev pub unreleased : Inventory → List Post → Inventory
+unreleased live posts = fold (λ inventory post. without_post inventory (Some post)) live posts
 
 -- let worker j have been told the entries `before` and let these blocks of its heap be live. Then the programs hold fewer than
 -- `most` of them at some moment that the records admit
-pub record IsSparingNow {sli : ℕ} (carrier : Carrier) (w : World sli) (made : ℕ → List (Option Name)) (records : List (List Entry)) (j most : ℕ) (before : List Entry) (live : Ledger) : Type 0 where
+pub record IsSparingNow {sli : ℕ} (carrier : Carrier) (w : World sli) (made : ℕ → List (Option Name)) (records : List (List Entry)) (j most : ℕ) (before : List Entry) (live : Inventory) : Type 0 where
   pub moment : Moment carrier w made records j before
   pub few : length (unreleased live (all_under_way j moment.under_way (length w.heaps))) < most
 
@@ -74,7 +74,7 @@ pub record IsSparingNow {sli : ℕ} (carrier : Carrier) (w : World sli) (made : 
 abbrev pub AreSparingInRace : {sli : ℕ} (carrier : Carrier) (w : World sli) → (ℕ → List (Option Name)) → List (List Entry) → (j most len : ℕ) → List heap.Call → List heap.Answer → Type 0
 AreSparingInRace carrier w made records j most len calls answers = (before : List Entry) (e : Entry) → StandsBehind (record_of records j) before e
     → ((n : ℕ) → e.call ≡ Allocate n
-    → (n ≤ len) × IsSparingNow carrier w made records j most before (ledger_after_all [] (calls ++ calls_on j (made j) before) (answers ++ answers_on j before)))
+    → (n ≤ len) × IsSparingNow carrier w made records j most before (inventory_after_all [] (calls ++ calls_on j (made j) before) (answers ++ answers_on j before)))
     × ((target : Target) (n : ℕ) → e.call ≡ Resize target n → n ≤ len)
 
 -- a heap with room for the blocks that the programs hold and for those under way serves each request of its worker. It does so

@@ -9,7 +9,7 @@ use Rattle.tlsf_heap.specs.declared.name.Name.{Name}
 use Rattle.tlsf_post.specs.declared.post.Post.{Post}
 use Rattle.tlsf_pool.specs.laws.MixedSizes.{mixed_words, IsServed}
 use Rattle.tlsf_pool.specs.laws.Contents.{is_same}
-use Rattle.tlsf_pool.specs.laws.Kinds.{Ledger, ledger_after}
+use Rattle.tlsf_pool.specs.laws.Kinds.{Inventory, inventory_after}
 use Rattle.tlsf_crew.specs.model.World.{World, replies}
 use Rattle.tlsf_crew.specs.histories.History.{answer_told, answers_on, call_on_own, post_of_release}
 use Rattle.tlsf_calls.specs.declared.entry.Entry.{Entry}
@@ -19,35 +19,35 @@ use Rattle.tlsf_calls.specs.declared.call.Call.TheVariants.{Allocate, Resize}
 use Rattle.tlsf_yard_laws.specs.Carriers.{Carrier, OverLanes, OverQueues}
 use Rattle.tlsf_yard_laws.specs.Yards.{IsNew}
 
--- the ledger after a call on the heap itself, where there is one
-abbrev pub with_call : Ledger → Option heap.Call → Option heap.Answer → Ledger
-with_call ledger (Some call) (Some answer) = ledger_after ledger call answer
-with_call ledger (Some call) None = ledger
-with_call ledger None answer = ledger
+-- the inventory after a call on the heap itself, where there is one
+abbrev pub with_call : Inventory → Option heap.Call → Option heap.Answer → Inventory
+with_call inventory (Some call) (Some answer) = inventory_after inventory call answer
+with_call inventory (Some call) None = inventory
+with_call inventory None answer = inventory
 
--- the ledger without the name of a post
-abbrev pub without_post : Ledger → Option Post → Ledger
-without_post ledger None = ledger
-without_post ledger (Some post) = filter (λ entry. not (is_same post.name entry.0)) ledger
+-- the inventory without the name of a post
+abbrev pub without_post : Inventory → Option Post → Inventory
+without_post inventory None = inventory
+without_post inventory (Some post) = filter (λ entry. not (is_same post.name entry.0)) inventory
 
 -- the blocks that the programs hold of heap j, after an entry. A block is held from the allocate that gave it until a release of
 -- its name is accepted by anybody. The heap's own worker releases at once; where another does, it is the post that counts, not the
 -- drain
-abbrev pub unreleased_after : ℕ → List (Option Name) → Ledger → Entry → Ledger
-unreleased_after j made ledger e =
+abbrev pub unreleased_after : ℕ → List (Option Name) → Inventory → Entry → Inventory
+unreleased_after j made inventory e =
     if e.worker == j
-    then with_call ledger (call_on_own made e.worker e.call e.reply) (answer_told e.call e.reply)
-    else without_post ledger (post_of_release j made e.worker e.call e.reply)
+    then with_call inventory (call_on_own made e.worker e.call e.reply) (answer_told e.call e.reply)
+    else without_post inventory (post_of_release j made e.worker e.call e.reply)
 
 -- each request of worker j is for at most `len` bytes, and is made while the programs hold fewer than `most` blocks of its heap. It
 -- resizes blocks to at most `len` bytes
-abbrev pub IsSparing : ℕ → ℕ → ℕ → Ledger → Entry → Type 0
-IsSparing j most len ledger e = e.worker ≡ j →
-    ((n : ℕ) → e.call ≡ Allocate n → (n ≤ len) × (length ledger < most)) × ((target : Target) (n : ℕ) → e.call ≡ Resize target n → n ≤ len)
+abbrev pub IsSparing : ℕ → ℕ → ℕ → Inventory → Entry → Type 0
+IsSparing j most len inventory e = e.worker ≡ j →
+    ((n : ℕ) → e.call ≡ Allocate n → (n ≤ len) × (length inventory < most)) × ((target : Target) (n : ℕ) → e.call ≡ Resize target n → n ≤ len)
 
-abbrev pub AreSparing : ℕ → ℕ → ℕ → List (Option Name) → Ledger → List Entry → Type 0
-AreSparing j most len made ledger [] = ⊤
-AreSparing j most len made ledger (e ∷ es) = IsSparing j most len ledger e × AreSparing j most len made (unreleased_after j made ledger e) es
+abbrev pub AreSparing : ℕ → ℕ → ℕ → List (Option Name) → Inventory → List Entry → Type 0
+AreSparing j most len made inventory [] = ⊤
+AreSparing j most len made inventory (e ∷ es) = IsSparing j most len inventory e × AreSparing j most len made (unreleased_after j made inventory e) es
 
 -- the posts that may be under way to one worker: all that the lanes from each other worker hold, or that its queue holds
 abbrev pub most_under_way : {sli : ℕ} → Carrier → World sli → ℕ

@@ -8,7 +8,7 @@ use std::alloc::Global;
 use std::marker::Sync;
 use std::sync::Wait;
 use std::thread::{Threads, join, yield_now};
-use tlsf_pool_arena::{FilledRemoteBlock, RemoteArena, RemoteBlock, open_places};
+use tlsf_pool_arena::{FilledRemoteBlock, RemoteArena, RemoteBlock, open_slots};
 
 /// How many frames are played: of 256 samples each, six of them under way at once.
 const FRAMES: u32 = 300;
@@ -74,9 +74,9 @@ pub fn play<R: Wait>(rt: &R, mut from: Consumer<Frame>) -> u64 {
 
 /// Runs the three threads. Tells the sum of what was played, and how many blocks came home.
 pub fn run<R: Threads + Wait + Sync>(rt: &R, alloc: Global) -> Result<(u64, u32), Error> {
-    let (places, ends) = open_places(alloc, 6)?;
+    let (slots, ends) = open_slots(alloc, 6)?;
     let arena = RemoteArena::<4, 64>::open(alloc, ends, 0, 6, 256)?;
-    let inlet = Inlet::new(arena, &places);
+    let inlet = Inlet::new(arena, &slots);
     let (rooms, lent) = RingBuffer::new(alloc, 6)?;
     let (frames, decoded) = RingBuffer::new(alloc, 6)?;
     let decodes = move || decode(rt, lent, frames);

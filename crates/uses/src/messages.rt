@@ -10,25 +10,25 @@ use std::alloc::Global;
 use std::marker::Sync;
 use std::sync::Wait;
 use std::thread::{Threads, join, yield_now};
-use tlsf_pool_arena::{FilledRemoteBlock, Parcel, Places, RemoteArena, open_places};
+use tlsf_pool_arena::{FilledRemoteBlock, Parcel, RemoteArena, Slots, open_slots};
 
 /// How many messages are sent: of 256 bytes each, four of them under way at once.
 const MESSAGES: u32 = 500;
 
 type Message<'a> = FilledRemoteBlock<'a, 64>;
 
-/// Where messages begin: the arena of their blocks, and the places by which these come home.
+/// Where messages begin: the arena of their blocks, and the slots by which these come home.
 #[derive(Drop)]
 pub struct Outlet<'a> {
     arena: RemoteArena<4, 64>,
-    places: &'a Places<Parcel<64>>,
-    ghost own: { arena.places ≡ id_of places.now },
+    slots: &'a Slots<Parcel<64>>,
+    ghost own: { arena.slots ≡ id_of slots.now },
 }
 
 impl<'a> Outlet<'a> {
     /// A message, each byte of which is the last byte of its number. None while as many are under way as may be.
     pub fn write(&mut self, number: u32) -> Option<Message<'a>> {
-        let mut message = self.arena.lend(self.places, 256).ok()?.fill(0);
+        let mut message = self.arena.lend(self.slots, 256).ok()?.fill(0);
         for byte in message.block.as_mut_slice() {
             *byte = (number % 256) as u8;
         }
@@ -37,7 +37,7 @@ impl<'a> Outlet<'a> {
 
     /// Takes the blocks of messages that were dropped back, and answers how many.
     pub fn settle(&mut self) -> u32 {
-        self.arena.drain(self.places)
+        self.arena.drain(self.slots)
     }
 }
 
@@ -83,10 +83,10 @@ pub fn receive<R: Wait>(rt: &R, mut queue: Consumer<Message>) -> u64 {
 
 /// Sends all messages from one thread to the other. Tells the sum of the bytes that were read, and how many blocks came home.
 pub fn run<R: Threads + Wait + Sync>(rt: &R, alloc: Global) -> Result<(u64, u32), Error> {
-    let (places, owner) = open_places(alloc, 4)?;
+    let (slots, owner) = open_slots(alloc, 4)?;
     let arena = RemoteArena::<4, 64>::open(alloc, owner, 0, 4, 256)?;
-    let places = &places;
-    let outlet = Outlet { arena, places };
+    let slots = &slots;
+    let outlet = Outlet { arena, slots };
     let (to, from) = RingBuffer::new(alloc, 4)?;
     let reads = move || receive(rt, from);
     Ok(join(rt, reads, move || send(rt, outlet, to)))

@@ -7,7 +7,7 @@ ghost use Rattle.tlsf_pool_arena.specs.returns.Ends.{id_of};
 use anyhow::Error;
 use std::alloc::Global;
 use std::thread::{Threads, join};
-use tlsf_pool_arena::{Parcel, Places, PoolRefusal, RemoteArena, RemoteBlock, open_places};
+use tlsf_pool_arena::{Parcel, PoolRefusal, RemoteArena, RemoteBlock, Slots, open_slots};
 
 /// How many packets are under way at once, and the bytes of the longest.
 const PACKETS: u32 = 3;
@@ -23,30 +23,30 @@ const BURSTS: [[u32; 4]; 3] = [
 
 type Packet<'a> = RemoteBlock<'a, 64>;
 
-/// Where packets come in: the arena and the places by which its blocks come home.
+/// Where packets come in: the arena and the slots by which its blocks come home.
 #[derive(Drop)]
 pub struct Inlet<'a> {
     packets: RemoteArena<4, 64>,
-    places: &'a Places<Parcel<64>>,
-    ghost own: { packets.places ≡ id_of places.now },
+    slots: &'a Slots<Parcel<64>>,
+    ghost own: { packets.slots ≡ id_of slots.now },
 }
 
 impl<'a> Inlet<'a> {
-    /// An inlet to an arena, with the places by which its blocks come home.
-    pub fn new(packets: RemoteArena<4, 64>, places: &'a Places<Parcel<64>>) -> Inlet<'a>
-        requires own { packets.places ≡ id_of places.now }
+    /// An inlet to an arena, with the slots by which its blocks come home.
+    pub fn new(packets: RemoteArena<4, 64>, slots: &'a Slots<Parcel<64>>) -> Inlet<'a>
+        requires own { packets.slots ≡ id_of slots.now }
     {
-        Inlet { packets, places }
+        Inlet { packets, slots }
     }
 
     /// A block for a packet of `len` bytes, which any thread may drop.
     pub fn take_in(&mut self, len: u32) -> Result<Packet<'a>, PoolRefusal> {
-        self.packets.lend(self.places, len)
+        self.packets.lend(self.slots, len)
     }
 
     /// How many packets were sent since the last time: their room is free again.
     pub fn settle(&mut self) -> u32 {
-        self.packets.drain(self.places)
+        self.packets.drain(self.slots)
     }
 }
 
@@ -57,9 +57,9 @@ pub fn send(rt: &impl Threads, first: Vec<Packet>, second: Vec<Packet>) {
 
 /// Sends all bursts. Tells which packets are refused and why, and how many of each burst were sent.
 pub fn send_all(rt: &impl Threads, alloc: Global) -> Result<String, Error> {
-    let (places, owner) = open_places(alloc, PACKETS as usize)?;
+    let (slots, owner) = open_slots(alloc, PACKETS as usize)?;
     let packets = RemoteArena::<4, 64>::open(alloc, owner, 0, PACKETS, LONGEST)?;
-    let mut inlet = Inlet::new(packets, &places);
+    let mut inlet = Inlet::new(packets, &slots);
     let mut told = String::new(alloc);
     for burst in &BURSTS {
         let mut long: Vec<Packet> = Vec::new(alloc);

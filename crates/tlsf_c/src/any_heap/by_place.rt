@@ -16,7 +16,7 @@ ghost use Rattle.tlsf_heap.specs.Unset.{lying, unset_from, with_payload};
 ghost use Rattle.tlsf_heap.specs.WordsInUse.{words_in_use};
 ghost use Rattle.tlsf_c.specs.Counting.{counted_request, counted_move};
 ghost use Rattle.tlsf_c.specs.Levels.{GoesOn, seen_at};
-ghost use Rattle.tlsf_c.specs.Places.{kept_at, resized_or_moved_by_place};
+ghost use Rattle.tlsf_c.specs.PlaceCalls.{kept_at, resized_or_moved_by_place};
 
 use super::{AnyHeap, OfLevel};
 use tlsf_heap::{Checked, Name, PlacedBlock, Refusal};

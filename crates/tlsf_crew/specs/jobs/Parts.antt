@@ -8,7 +8,7 @@ use Rattle.tlsf_calls.specs.declared.entry.Entry.{Entry}
 use Rattle.tlsf_calls.specs.declared.call.Call.{Call}
 use Rattle.tlsf_crew.specs.declared.jobs.job.Job.{Job}
 use Rattle.tlsf_crew.specs.model.Sums.{sum_of}
-use Rattle.tlsf_crew.specs.scripts.Counts.{releases_of}
+use Rattle.tlsf_crew.specs.scripts.EntryRoom.{releases_of}
 use Rattle.tlsf_crew.specs.scripts.Scripts.{script_of, ScriptRun, ScriptPromise, at_stage}
 use Rattle.tlsf_crew.specs.jobs.Job.{IsReady}
 

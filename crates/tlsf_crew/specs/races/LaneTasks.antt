@@ -10,7 +10,7 @@ use Rattle.tlsf_calls.specs.declared.call.Call.{Call}
 use Rattle.tlsf_crew.specs.lanes.Yard.{IsYard, heap_of_worker, capacity_in, waits_in}
 use Rattle.tlsf_crew.specs.model.Sums.{sum_below}
 use Rattle.tlsf_crew.specs.lanes.Ready.{ready_from}
-use Rattle.tlsf_crew.specs.scripts.Counts.{releases_of}
+use Rattle.tlsf_crew.specs.scripts.EntryRoom.{releases_of}
 use Rattle.tlsf_crew.specs.histories.History.{IsDrain, posts_taken, posts_made, StandsBehind}
 use Rattle.tlsf_crew.specs.scripts.Scripts.{last_call, script_of}
 use Rattle.tlsf_calls.specs.Entries.{record_of}

@@ -6,7 +6,7 @@ use Rattle.tlsf_calls.specs.declared.entry.Entry.{Entry}
 use Rattle.tlsf_calls.specs.declared.call.Call.{Call}
 use Rattle.tlsf_crew.specs.model.World.{World}
 use Rattle.tlsf_crew.specs.model.Sums.{sum_below}
-use Rattle.tlsf_crew.specs.scripts.Counts.{releases_of}
+use Rattle.tlsf_crew.specs.scripts.EntryRoom.{releases_of}
 use Rattle.tlsf_crew.specs.scripts.Scripts.{script_of}
 
 -- the room for the record of worker j. There is one entry for each call of its script, and one for each post that waits for it. One

@@ -22,7 +22,7 @@ use Rattle.tlsf_crew.specs.worker.Workers.{heap_of, id_of}
 use Rattle.tlsf_crew.specs.lanes.LaneWorkers.{id_and_capacity, end_to, end_from, HasTake, KnowsYard}
 use Rattle.tlsf_crew.specs.lanes.LaneCalls.{KeepsYards}
 use Rattle.tlsf_crew.specs.model.Sums.{sum_below}
-use Rattle.tlsf_crew.specs.scripts.Counts.{AreLaneLimits, releases_of}
+use Rattle.tlsf_crew.specs.scripts.EntryRoom.{AreLaneLimits, releases_of}
 use Rattle.tlsf_crew.specs.scripts.Scripts.{Stage, Step, ScriptPromise, told_of}
 use Rattle.tlsf_crew.specs.histories.History.{posts_made, posts_taken, StandsBehind}
 use Rattle.tlsf_crew.specs.model.World.{World, made_by, called}

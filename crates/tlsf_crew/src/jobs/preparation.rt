@@ -1,7 +1,7 @@
 //! The jobs of a race. All room is made here, before a thread starts.
 ghost use Rattle.std.specs.Prelude.{◌≡◌, ℕ, ◌+◌, ◌^◌, ◌<◌, ◌≤◌, length, map, slice_index, vec_len, IfOk, All};
 ghost use Rattle.tlsf_crew.specs.model.Sums.{sum_of};
-ghost use Rattle.tlsf_crew.specs.scripts.Counts.{releases_of};
+ghost use Rattle.tlsf_crew.specs.scripts.EntryRoom.{releases_of};
 ghost use Rattle.tlsf_crew.specs.scripts.Scripts.{script_of};
 ghost use Rattle.tlsf_crew.specs.jobs.Job.{KnowsSome};
 ghost use Rattle.tlsf_crew.specs.jobs.Parts.{IsPrepared};

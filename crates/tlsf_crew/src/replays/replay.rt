@@ -2,7 +2,7 @@
 ghost use Rattle.std.specs.Prelude.{◌≡◌, ◌≢◌, ℕ, ◌+◌, ◌*◌, ◌<◌, ◌≤◌, length, List, Option, Some, vec_len, vec_capacity, IfOk, OnOk, OnErr};
 ghost use Rattle.tlsf_heap.specs.declared.name.Name.{Name};
 ghost use Rattle.tlsf_crew.specs.model.Sums.{sum_below};
-ghost use Rattle.tlsf_crew.specs.scripts.Counts.{entry_room};
+ghost use Rattle.tlsf_crew.specs.scripts.EntryRoom.{entry_room};
 ghost use Rattle.tlsf_crew.specs.lanes.Yard.{IsYard, waits_in, world_of};
 ghost use Rattle.tlsf_crew.specs.model.World.{after, replies, replies_behind};
 ghost use Rattle.tlsf_crew.specs.model.Targets.{target_name};

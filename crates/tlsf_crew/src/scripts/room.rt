@@ -2,7 +2,7 @@
 ghost use Rattle.std.specs.Prelude.{◌≡◌, ℕ, ◌+◌, ◌*◌, ◌≤◌, length};
 ghost use Rattle.tlsf_crew.specs.lanes.Ready.{count_of, ready_from, ready_in};
 ghost use Rattle.tlsf_crew.specs.model.Sums.{sum_below};
-ghost use Rattle.tlsf_crew.specs.scripts.Counts.{releases_in};
+ghost use Rattle.tlsf_crew.specs.scripts.EntryRoom.{releases_in};
 ghost use Rattle.tlsf_crew.specs.lanes.LaneWorkers.{lane_from};
 
 use crate::worker::lanes::Lanes;

@@ -9,20 +9,20 @@ abbrev pub worst_of : ℕ → List Point → Point
 worst_of words points = fold worse (untouched words) points
 
 -- how many points are drawn as one, so that no more than the most are drawn
-abbrev pub span_for : ℕ → ℕ → ℕ
-span_for most points = (points + (most - 1)) / most
+abbrev pub stride_for : ℕ → ℕ → ℕ
+stride_for most points = (points + (most - 1)) / most
 
 -- those that are drawn as one, of this number
 abbrev pub bucket : ℕ → List Point → ℕ → List Point
-bucket span points number = take span (drop (number * span) points)
+bucket stride points number = take stride (drop (number * stride) points)
 
 -- how many are drawn
 abbrev pub buckets_in : ℕ → ℕ → ℕ
-buckets_in span points = (points + (span - 1)) / span
+buckets_in stride points = (points + (stride - 1)) / stride
 
 -- each of them at its worst
 abbrev pub curve_of : ℕ → ℕ → List Point → List Point
-curve_of words span points = map (λ number. worst_of words (bucket span points number)) (range_with_len 0 (buckets_in span (length points)))
+curve_of words stride points = map (λ number. worst_of words (bucket stride points number)) (range_with_len 0 (buckets_in stride (length points)))
 
 -- the point of a number
 abbrev pub point_in : List Point → ℕ → Point

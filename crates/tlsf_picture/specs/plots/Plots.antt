@@ -3,7 +3,7 @@ use Rattle.std.specs.Prelude.{◌≡◌, ℕ, ◌+◌, List, length}
 use Rattle.std.specs.List.{AllZip, range_with_len}
 use Rattle.tlsf_lines.specs.Trace.{Trace}
 use Rattle.tlsf_map.specs.Told.{Tells}
-use Rattle.tlsf_picture.specs.plots.Curves.{curve_of, span_for}
+use Rattle.tlsf_picture.specs.plots.Curves.{curve_of, stride_for}
 use Rattle.tlsf_picture.specs.plots.Peaks.{IsPeak}
 use Rattle.tlsf_picture.specs.plots.Points.{longest_of, points_of}
 use Rattle.tlsf_picture.specs.declared.form.Form.{Form}
@@ -23,11 +23,11 @@ pub record IsChart (most : ℕ) (trace : Trace) (j : ℕ) (chart : Chart) : Type
   pub heap : chart.heap ≡ j
   pub words : chart.words ≡ trace.header.words
   pub lines : chart.lines ≡ length trace.lines + 2
-  pub span : chart.span ≡ span_for most (length trace.lines + 2)
+  pub stride : chart.stride ≡ stride_for most (length trace.lines + 2)
   pub longest : chart.longest ≡ longest_of j trace.lines
   pub look : IsLook chart.longest (heap_points trace j) (length trace.lines + 2) chart.look
   pub peak : IsPeak (heap_points trace j) (length trace.lines + 2) chart.peak
-  pub curve : chart.curve.items ≡ curve_of trace.header.words chart.span (heap_points trace j)
+  pub curve : chart.curve.items ≡ curve_of trace.header.words chart.stride (heap_points trace j)
 
 -- a chart for each heap, in rising number
 abbrev pub AreCharts : ℕ → Trace → List Chart → Type 0

@@ -12,7 +12,7 @@ pub struct Chart {
     /// How many lines the axis has: those of the trace and one for the end.
     pub lines: u32,
     /// How many lines of the trace are drawn as one point.
-    pub span: usize,
+    pub stride: usize,
     /// The bytes of the longest request of its worker.
     pub longest: u32,
     /// The line to look at.

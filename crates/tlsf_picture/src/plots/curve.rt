@@ -11,12 +11,12 @@ use crate::plots::standing::Standing;
 use std::alloc::{AllocError, Global};
 
 /// How many points are drawn as one, so that at most `most` are drawn.
-pub fn span_for(most: usize, points: usize) -> usize
+pub fn stride_for(most: usize, points: usize) -> usize
     requires most { 0 < most }
     requires few { most ≤ 2 ^ 16 }
     requires some { 0 < points }
     requires points { points ≤ 2 ^ 16 }
-    ensures span { result ≡ drawn.span_for most points }
+    ensures stride { result ≡ drawn.stride_for most points }
     ensures some { 0 < result }
     ensures few { result ≤ 2 ^ 17 }
 {
@@ -34,23 +34,23 @@ fn worst_of(words: u32, points: &[Point]) -> Point
     worst
 }
 
-/// The points of a heap of `words` words, `span` of them as one.
+/// The points of a heap of `words` words, `stride` of them as one.
 pub fn curve_of(
     alloc: Global,
     words: u32,
-    span: usize,
+    stride: usize,
     points: &[Point],
 ) -> Result<Vec<Point>, AllocError>
-    requires span { 0 < span }
-    requires few { span ≤ 2 ^ 17 }
+    requires stride { 0 < stride }
+    requires few { stride ≤ 2 ^ 17 }
     requires points { length points.now ≤ 2 ^ 16 }
-    ensures { IfOk result (λ curve. curve.items ≡ drawn.curve_of words span points.now) }
+    ensures { IfOk result (λ curve. curve.items ≡ drawn.curve_of words stride points.now) }
 {
-    let count = (points.len() + (span - 1)) / span;
+    let count = (points.len() + (stride - 1)) / stride;
     let mut curve = Vec::with_capacity(alloc, count)?;
     for number in 0..count {
-        let (_, rest) = points.split_at(number * span);
-        let (part, _) = rest.split_at(span.min(rest.len()));
+        let (_, rest) = points.split_at(number * stride);
+        let (part, _) = rest.split_at(stride.min(rest.len()));
         curve.push(worst_of(words, part))?;
     }
     Ok(curve)

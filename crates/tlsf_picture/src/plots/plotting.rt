@@ -10,7 +10,7 @@ ghost use Rattle.tlsf_trace.specs.Replay.{IsRun};
 
 use crate::form::Form;
 use crate::plots::chart::Chart;
-use crate::plots::curve::{curve_of, peak_of, span_for, worst_line};
+use crate::plots::curve::{curve_of, peak_of, stride_for, worst_line};
 use crate::plots::plot_form::{most_points, write_plot};
 use crate::plots::points::{longest_of, points_of};
 use std::alloc::{AllocError, Global};
@@ -36,16 +36,16 @@ fn chart_of<const SLI: u32>(
     let words = script.header.words;
     let points = points_of::<SLI>(alloc, script, heap)?;
     let lines = points.len();
-    let span = span_for(most, lines);
+    let stride = stride_for(most, lines);
     let longest = longest_of(heap, script);
     let look = worst_line(longest, &points);
     let peak = peak_of(&points);
-    let curve = curve_of(alloc, words, span, &points)?;
+    let curve = curve_of(alloc, words, stride, &points)?;
     Ok(Chart {
         heap,
         words,
         lines: lines as u32,
-        span,
+        stride,
         longest,
         look,
         peak,

@@ -97,9 +97,9 @@ fn parts_of(alloc: Global, chart: &Chart) -> Result<Parts, AllocError> {
     name.push_str(", ")?;
     let mut longest = String::new(alloc);
     let unit = bytes(chart.longest);
-    let span = chart.span;
+    let stride = chart.stride;
     let kind = kind_of(chart.look.standing);
-    write!(longest, " {unit}; lines a column: {span}\n{kind}")?;
+    write!(longest, " {unit}; lines a column: {stride}\n{kind}")?;
     let look = look_of(alloc, chart.longest, chart.look)?;
     let mut peak = String::new(alloc);
     let live = 8 * u64::from(chart.peak.live);

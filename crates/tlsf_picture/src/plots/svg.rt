@@ -137,12 +137,12 @@ fn parts_of(alloc: Global, y: usize, chart: &Chart) -> Result<Parts, AllocError>
     write!(name, " ({room} bytes), ")?;
     let mut longest = String::new(alloc);
     let unit = bytes(chart.longest);
-    let span = chart.span;
-    let lines = plural(span, "line", "lines");
+    let stride = chart.stride;
+    let lines = plural(stride, "line", "lines");
     let kind = kind_of(chart.look.standing);
     write!(
         longest,
-        " {unit}, {span} {lines} a point</text>\n<text x='80' y='40'>{kind}"
+        " {unit}, {stride} {lines} a point</text>\n<text x='80' y='40'>{kind}"
     )?;
     let look = look_of(alloc, chart.longest, chart.look.standing)?;
     let mut peak = String::new(alloc);

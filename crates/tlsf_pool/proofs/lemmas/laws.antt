@@ -8,7 +8,7 @@
 --   FreeRoom: room by counting free blocks, and those too small
 --   Held: as many blocks are live as are held
 --   Hundred: the words of two regions, by computing
---   Ledgers: a ledger has the length of each live block, under its name
+--   Inventories: an inventory has the length of each live block, under its name
 --   Loads: sums over live blocks, and what the calls make of them
 --   Looks: the bytes under a name, by a look through the blocks
 --   ModestCalls: what each call leaves of the bounds of blocks of mixed sizes
@@ -19,7 +19,7 @@
 --   Refits: what a resize comes to, by its cases
 --   Reserves: the greatest hole, a large block in front of it counted with it
 --   Snug: no live block has four words that it doesn't want
---   Spans: names by the sites of their blocks
+--   Occupied: names by the sites of their blocks
 --   Tables: how many blocks fit a table of kinds, and the words they take
 --   TightRuns: calls that leave holes just too small for a request
 pub mod Around
@@ -31,7 +31,7 @@ pub mod FixedWords
 pub mod FreeRoom
 pub mod Held
 pub mod Hundred
-pub mod Ledgers
+pub mod Inventories
 pub mod Loads
 pub mod Looks
 pub mod ModestCalls
@@ -42,6 +42,6 @@ pub mod PlannedCalls
 pub mod Refits
 pub mod Reserves
 pub mod Snug
-pub mod Spans
+pub mod Occupied
 pub mod Tables
 pub mod TightRuns

@@ -1,6 +1,6 @@
 -- Lemmas on pools, a line a file.
 --   Answering: what the clauses of a table's calls say
---   Counts: how many lengths count for each row of a table
+--   RowTotals: how many lengths count for each row of a table
 --   Given: the block that a pool gave has just the words of each
 --   Heaps: several heaps stay heaps for the parts of a table
 --   Opened: new heaps for the parts of a table
@@ -11,7 +11,7 @@
 --   TableTells: what the answers of a table tell
 --   WholeTable: the rows of the whole table, and the part that has each
 pub mod Answering
-pub mod Counts
+pub mod RowTotals
 pub mod Given
 pub mod Heaps
 pub mod Opened

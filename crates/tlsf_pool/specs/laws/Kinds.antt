@@ -12,29 +12,29 @@ use Rattle.tlsf_pool.specs.laws.Contents.{is_same}
 use Rattle.tlsf_pool.specs.declared.kind.Kind.{Kind}
 
 -- what a program holds: the names that it was given and has not released, each with the bytes that it asked for last
-abbrev pub Ledger : Type 0
-Ledger = List (Name × ℕ)
+abbrev pub Inventory : Type 0
+Inventory = List (Name × ℕ)
 
 -- the bytes that were asked for
-abbrev pub lengths : Ledger → List ℕ
-lengths ledger = map (λ entry. entry.1) ledger
+abbrev pub lengths : Inventory → List ℕ
+lengths inventory = map (λ entry. entry.1) inventory
 
--- the ledger with another length under a name
-abbrev pub with_length : Ledger → Name → ℕ → Ledger
-with_length ledger name len = map (λ entry. if is_same name entry.0 then (entry.0, len) else entry) ledger
+-- the inventory with another length under a name
+abbrev pub with_length : Inventory → Name → ℕ → Inventory
+with_length inventory name len = map (λ entry. if is_same name entry.0 then (entry.0, len) else entry) inventory
 
--- the ledger after a call, told by its answer
-abbrev pub ledger_after : Ledger → Call → Answer → Ledger
-ledger_after ledger (Allocate len) (Allocated (Ok name)) = (name, len) ∷ ledger
-ledger_after ledger (Release name) (Released (Ok done)) = filter (λ entry. not (is_same name entry.0)) ledger
-ledger_after ledger (Resize name len) (Resized (Ok done)) = with_length ledger name len
-ledger_after ledger call answer = ledger
+-- the inventory after a call, told by its answer
+abbrev pub inventory_after : Inventory → Call → Answer → Inventory
+inventory_after inventory (Allocate len) (Allocated (Ok name)) = (name, len) ∷ inventory
+inventory_after inventory (Release name) (Released (Ok done)) = filter (λ entry. not (is_same name entry.0)) inventory
+inventory_after inventory (Resize name len) (Resized (Ok done)) = with_length inventory name len
+inventory_after inventory call answer = inventory
 
 -- and after calls in turn
-abbrev pub ledger_after_all : Ledger → List Call → List Answer → Ledger
-ledger_after_all ledger [] answers = ledger
-ledger_after_all ledger (call ∷ calls) [] = ledger
-ledger_after_all ledger (call ∷ calls) (answer ∷ answers) = ledger_after_all (ledger_after ledger call answer) calls answers
+abbrev pub inventory_after_all : Inventory → List Call → List Answer → Inventory
+inventory_after_all inventory [] answers = inventory
+inventory_after_all inventory (call ∷ calls) [] = inventory
+inventory_after_all inventory (call ∷ calls) (answer ∷ answers) = inventory_after_all (inventory_after inventory call answer) calls answers
 
 -- blocks of these lengths fit the table: each counts for the first kind that is long enough for it
 abbrev pub AreOfKinds : List Kind → List ℕ → Type 0
@@ -42,18 +42,18 @@ AreOfKinds [] lens = lens ≡ []
 AreOfKinds (kind ∷ kinds) lens = (length (filter (λ n. nat_le n kind.len) lens) ≤ kind.most) × AreOfKinds kinds (filter (λ n. nat_lt kind.len n) lens)
 
 -- a request fits the table with all that is held, at the lengths that it has then
-abbrev pub IsPlanned : List Kind → Ledger → Call → Type 0
-IsPlanned kinds ledger (Allocate n) = AreOfKinds kinds (n ∷ lengths ledger)
-IsPlanned kinds ledger (Release name) = ⊤
-IsPlanned kinds ledger (Write name at bytes) = ⊤
-IsPlanned kinds ledger (Resize name n) = ⊤
-IsPlanned kinds ledger (Read name at n) = ⊤
+abbrev pub IsPlanned : List Kind → Inventory → Call → Type 0
+IsPlanned kinds inventory (Allocate n) = AreOfKinds kinds (n ∷ lengths inventory)
+IsPlanned kinds inventory (Release name) = ⊤
+IsPlanned kinds inventory (Write name at bytes) = ⊤
+IsPlanned kinds inventory (Resize name n) = ⊤
+IsPlanned kinds inventory (Read name at n) = ⊤
 
 -- so does each request among these calls, which get these answers
-abbrev pub ArePlanned : List Kind → Ledger → List Call → List Answer → Type 0
-ArePlanned kinds ledger [] answers = ⊤
-ArePlanned kinds ledger (call ∷ calls) [] = ⊤
-ArePlanned kinds ledger (call ∷ calls) (answer ∷ answers) = IsPlanned kinds ledger call × ArePlanned kinds (ledger_after ledger call answer) calls answers
+abbrev pub ArePlanned : List Kind → Inventory → List Call → List Answer → Type 0
+ArePlanned kinds inventory [] answers = ⊤
+ArePlanned kinds inventory (call ∷ calls) [] = ⊤
+ArePlanned kinds inventory (call ∷ calls) (answer ∷ answers) = IsPlanned kinds inventory call × ArePlanned kinds (inventory_after inventory call answer) calls answers
 
 -- how many blocks are held at once, at most
 abbrev pub count_in : List Kind → ℕ
@@ -120,7 +120,7 @@ OrderIsNothing sli = (before : List Kind) (a b : Kind) (behind : List Kind) → 
 abbrev pub OneKindHasMixedWords : ℕ → Type 0
 OneKindHasMixedWords sli = (kind : Kind) → kinds_words sli (kind ∷ []) ≡ mixed_words sli kind.most kind.len
 
--- as many blocks are live as the ledger has entries
-abbrev pub LedgerHoldsWhatIsLive : ℕ → Type 0
-LedgerHoldsWhatIsLive sli = (id words first : ℕ) (calls : List Call) → 4 ≤ words
-    → let end = run sli (opened id words first) calls in live_count end.1 ≡ length (ledger_after_all [] calls end.0)
+-- as many blocks are live as the inventory has entries
+abbrev pub InventoryIsLive : ℕ → Type 0
+InventoryIsLive sli = (id words first : ℕ) (calls : List Call) → 4 ≤ words
+    → let end = run sli (opened id words first) calls in live_count end.1 ≡ length (inventory_after_all [] calls end.0)

@@ -9,7 +9,7 @@ use Rattle.tlsf_pool.specs.laws.Held.{held_after_all}
 use Rattle.tlsf_heap.specs.declared.name.Name.{Name}
 
 -- a live block of the heap has this name, and this many words
-pub record Spans (h : HeapState) (name : Name) (words : ℕ) : Type 0 where
+pub record Occupies (h : HeapState) (name : Name) (words : ℕ) : Type 0 where
   pub own : name.heap ≡ h.id
   pub site : Site
   pub found : named name h.blocks ≡ Some site
@@ -17,11 +17,11 @@ pub record Spans (h : HeapState) (name : Name) (words : ℕ) : Type 0 where
 
 -- no word lies in the blocks of two different live names: one ends before the other begins
 abbrev pub ShareNoWord : Type 0
-ShareNoWord = (h : HeapState) (a b : Name) (m n : ℕ) → Spans h a m → Spans h b n → a ≢ b → (a.at + m ≤ b.at) ⊎ (b.at + n ≤ a.at)
+ShareNoWord = (h : HeapState) (a b : Name) (m n : ℕ) → Occupies h a m → Occupies h b n → a ≢ b → (a.at + m ≤ b.at) ⊎ (b.at + n ≤ a.at)
 
 -- and each live block lies in the region
 abbrev pub StayInside : Type 0
-StayInside = (h : HeapState) (name : Name) (words : ℕ) → IsLawful h → Spans h name words → name.at + words ≤ h.words
+StayInside = (h : HeapState) (name : Name) (words : ℕ) → IsLawful h → Occupies h name words → name.at + words ≤ h.words
 
 -- a heap with no live block is one free block, the whole region
 abbrev pub WholeAgain : Type 0

@@ -1,10 +1,10 @@
 ghost use Rattle.std.specs.Prelude.{ℕ};
 ghost use Rattle.tlsf_class.specs.Classes.{IsLevel};
-ghost use Rattle.tlsf_pool.specs.laws.Kinds.{EmptyKindsAreNothing, KindsSuffice, LedgerHoldsWhatIsLive, OneKindHasMixedWords, OrderIsNothing, ResizedSuffice};
+ghost use Rattle.tlsf_pool.specs.laws.Kinds.{EmptyKindsAreNothing, KindsSuffice, InventoryIsLive, OneKindHasMixedWords, OrderIsNothing, ResizedSuffice};
 
 /// How large a region must be for several kinds of request, by a table of sizes with how many blocks of each may be held.
 ///
-/// A block counts for the first kind of the table that is long enough for it. A program keeps a ledger of the names that it was
+/// A block counts for the first kind of the table that is long enough for it. A program keeps an inventory of the names that it was
 /// given, with the bytes that it asked for last. It makes no request that would put more blocks on a kind than the table has. Then
 /// it is never answered `NoFit` in a region of `kinds_words` of the table. These are 2^20 words at most at level 4 and 2^24 at
 /// level 5.
@@ -30,6 +30,6 @@ pub fn kinds_suffice()
     // A table of one kind has the words for mixed sizes.
     ensures one { (sli : ℕ) → OneKindHasMixedWords sli }
 
-    // The ledger has as many entries as blocks are live.
-    ensures held { (sli : ℕ) → IsLevel sli → LedgerHoldsWhatIsLive sli }
+    // The inventory has as many entries as blocks are live.
+    ensures held { (sli : ℕ) → IsLevel sli → InventoryIsLive sli }
 {}

@@ -9,7 +9,7 @@ abbrev pub Seated : Type 0 → Type 0
 Seated T = Me (Option T) (Role T)
 
 module _ {T : Type 0} where
-  -- what the owner knows to be away by each place
+  -- what the owner knows to be away by each slot
   abbrev pub out_by : Role T → List (Option T)
   out_by (Owns out looks) = out
   out_by (Sends out looks at x) = out
@@ -18,7 +18,7 @@ module _ {T : Type 0} where
   out_by (Puts at x) = []
   out_by (Gave at x) = []
 
-  -- the looks that it had at places, in order: the place, and whether the value was home then
+  -- the looks that it had at slots, in order: the slot, and whether the value was home then
   abbrev pub looks_by : Role T → List (ℕ × Bool)
   looks_by (Owns out looks) = looks
   looks_by (Sends out looks at x) = looks
@@ -27,14 +27,14 @@ module _ {T : Type 0} where
   looks_by (Puts at x) = []
   looks_by (Gave at x) = []
 
-  -- the place of a value that goes out or comes home
-  abbrev pub place_of : Role T → ℕ
-  place_of (Owns out looks) = 0
-  place_of (Sends out looks at x) = at
-  place_of (Takes out looks at) = at
-  place_of (Away at x) = at
-  place_of (Puts at x) = at
-  place_of (Gave at x) = at
+  -- the slot of a value that goes out or comes home
+  abbrev pub slot_of : Role T → ℕ
+  slot_of (Owns out looks) = 0
+  slot_of (Sends out looks at x) = at
+  slot_of (Takes out looks at) = at
+  slot_of (Away at x) = at
+  slot_of (Puts at x) = at
+  slot_of (Gave at x) = at
 
   abbrev pub value_of : Role T → Option T
   value_of (Owns out looks) = None
@@ -58,7 +58,7 @@ module _ {T : Type 0} where
 
   -- what the owner knows once the value went out, and what the ticket does
   abbrev pub sent_out : Role T → Role T
-  sent_out v = Owns (slice_set (out_by v) (place_of v) (value_of v)) (looks_by v)
+  sent_out v = Owns (slice_set (out_by v) (slot_of v) (value_of v)) (looks_by v)
 
   abbrev pub ticket_of : Role T → Role T
   ticket_of (Sends out looks at x) = Away at x
@@ -69,12 +69,12 @@ module _ {T : Type 0} where
   ticket_of (Gave at x) = Gave at x
 
   abbrev pub reached : Step (Option T) → Seated T → ℕ → Seated T → Type 0
-  reached st me found after = (x : T) → value_of me.0 ≡ Some x → after ≡ (Puts (place_of me.0) x, (place_of me.0, None) ∷ me.1)
+  reached st me found after = (x : T) → value_of me.0 ≡ Some x → after ≡ (Puts (slot_of me.0) x, (slot_of me.0, None) ∷ me.1)
 
   abbrev pub put_back : Step (Option T) → Seated T → ℕ → Seated T → Type 0
-  put_back st me found after = (x : T) → value_of me.0 ≡ Some x → after ≡ (Gave (place_of me.0) x, rest me.1)
+  put_back st me found after = (x : T) → value_of me.0 ≡ Some x → after ≡ (Gave (slot_of me.0) x, rest me.1)
 
-  -- a value that came home is the one that is away by the place
+  -- a value that came home is the one that is away by the slot
   abbrev pub looked : Step (Option T) → Seated T → ℕ → Seated T → Type 0
   looked st me found after =
       (found ≡ 1 → (x : T) × (slice_get (out_by me.0) st.word ≡ Some (Some x)) × (after ≡ (Takes (out_by me.0) (looks_by me.0 ++ (st.word, true) ∷ []) st.word, (st.word, Some x) ∷ me.1)))

@@ -1,19 +1,19 @@
-//! The rule of the places, and what each step on them tells.
+//! The rule of the slots, and what each step on them tells.
 
 use crate::returns::role::Role;
 use atomic_table::{Play, Seat, Split, Table, TableRule};
 use std::alloc::Global;
 
-pub(super) type PlaceTable<T> = Table<Option<T>, Role<T>, usize, AtHome, Global>;
+pub(super) type SlotTable<T> = Table<Option<T>, Role<T>, usize, AtHome, Global>;
 
-/// The knowledge of one end of the places. It has no bytes.
-pub(super) type PlaceSeat<T> = Seat<Option<T>, Role<T>>;
+/// The knowledge of one end of the slots. It has no bytes.
+pub(super) type SlotSeat<T> = Seat<Option<T>, Role<T>>;
 
-/// At each place stands nothing, what is away, or what came home.
+/// At each slot stands nothing, what is away, or what came home.
 pub(super) struct AtHome;
 
 impl<T> TableRule<Option<T>, Role<T>, usize> for AtHome {
-    ghost use Rattle.tlsf_pool_arena.specs.returns.Places.{Kept, first_role};
+    ghost use Rattle.tlsf_pool_arena.specs.returns.Slots.{Kept, first_role};
 
     ghost holds = { λ n. Kept };
 
@@ -40,7 +40,7 @@ impl<T> Split<Role<T>> for SendOut {
     ghost right = { ticket_of };
 }
 
-/// A ticket takes its place in hand.
+/// A ticket takes its slot in hand.
 pub(super) struct Reach;
 
 impl<T> Play<Option<T>, Role<T>> for Reach {
@@ -49,7 +49,7 @@ impl<T> Play<Option<T>, Role<T>> for Reach {
     ghost then = { reached };
 }
 
-/// It gives the place back, with the value in it.
+/// It gives the slot back, with the value in it.
 pub(super) struct Put;
 
 impl<T> Play<Option<T>, Role<T>> for Put {
@@ -58,7 +58,7 @@ impl<T> Play<Option<T>, Role<T>> for Put {
     ghost then = { put_back };
 }
 
-/// The owner looks whether a value came home, and takes the place in hand where one did.
+/// The owner looks whether a value came home, and takes the slot in hand where one did.
 pub(super) struct Look;
 
 impl<T> Play<Option<T>, Role<T>> for Look {
@@ -67,7 +67,7 @@ impl<T> Play<Option<T>, Role<T>> for Look {
     ghost then = { looked };
 }
 
-/// It gives the place back, with nothing in it.
+/// It gives the slot back, with nothing in it.
 pub(super) struct Clear;
 
 impl<T> Play<Option<T>, Role<T>> for Clear {

@@ -5,7 +5,7 @@ use Rattle.tlsf_c.proofs.lane_calls.drain_names.Given as goal
 abbrev pub invariant-loop-left : goal.invariant-loop-left
 invariant-loop-left l = record {
   heap : l.heap.is_open ≡ true;
-  goes_on : GoesOn l.fn.heap.held.value l.heap.held.value;
+  goes_on : GoesOn l.fn.heap.inner.value l.heap.inner.value;
   base : l.heap.base ≡ l.fn.heap.base;
   number : l.heap.number ≡ l.fn.heap.number;
   few : l.count + l.left ≤ l.most;

@@ -4,7 +4,7 @@ use Rattle.tlsf_c.proofs.lane_calls.release_posts.Given as goal
 abbrev pub invariant-loop-post : goal.invariant-loop-post
 invariant-loop-post l = record {
   heap : l.heap.is_open ≡ true;
-  goes_on : GoesOn l.fn.heap.held.value l.heap.held.value;
+  goes_on : GoesOn l.fn.heap.inner.value l.heap.inner.value;
   base : l.heap.base ≡ l.fn.heap.base;
   number : l.heap.number ≡ l.fn.heap.number;
   no_counts : l.post-index ≡ 0 → counts_in l.heap ≡ counts_in l.fn.heap;

@@ -5,7 +5,7 @@ use Rattle.tlsf_c.proofs.queue_calls.tlsf_queue_open.Goals as goal
 
 pub returns-clause-queue : goal.returns-clause-queue
 returns-clause-queue c done =
-    let held : queue_of_end c.put_in.new.self.held.value ≡ Some c.in-Ok.end =
+    let held : queue_of_end c.put_in.new.self.inner.value ≡ Some c.in-Ok.end =
     ap queue_of_end (c.put_in.ensures.value ∙ ap Some c.in-Ok-new.ensures.ok) ∙ ap queue_kind (outs-Queue c.in-Ok.end) in
     let e = c.in-Ok.ensures in
     subst (λ (v : Option QueueEnd). IsNew (owner_of_end v) (left_of v) c.args.posters c.args.capacity) (sym held)

@@ -77,8 +77,8 @@ pub returns-in-Plot-clause-noted : goal.returns-in-Plot-clause-noted
 returns-in-Plot-clause-noted g c = rw c.in-Plot.is tt
 
 pub returns-in-Check-clause-ran : goal.returns-in-Check-clause-ran
-returns-in-Check-clause-ran g c = rw c.in-Check.is c.check_trace.ensures.run
+returns-in-Check-clause-ran g c = rw c.in-Check.is c.diagnose_trace.ensures.run
 
 pub returns-in-Check-clause-noted : goal.returns-in-Check-clause-noted
-returns-in-Check-clause-noted g c = rw c.in-Check.is (check_notes c.check_trace.result (g.R.Read.remaining c.args.reader.now) (string_bytes c.args.note.now)
-    (string_bytes c.check_trace.new.note) c.requires c.check_trace.ensures.noted c.check_trace.ensures.kept)
+returns-in-Check-clause-noted g c = rw c.in-Check.is (check_notes c.diagnose_trace.result (g.R.Read.remaining c.args.reader.now) (string_bytes c.args.note.now)
+    (string_bytes c.diagnose_trace.new.note) c.requires c.diagnose_trace.ensures.noted c.diagnose_trace.ensures.kept)

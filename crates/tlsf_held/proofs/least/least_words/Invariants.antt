@@ -1,4 +1,4 @@
-use Rattle.tlsf_held.proofs.Common.{◌≡◌, ◌+◌, ◌-◌, ◌<◌, ◌≤◌, IsReady, IsScriptBut, IsSpan, Trace}
+use Rattle.tlsf_held.proofs.Common.{◌≡◌, ◌+◌, ◌-◌, ◌<◌, ◌≤◌, IsReady, IsScriptBut, IsBracket, Trace}
 use Rattle.tlsf_held.proofs.least.least_words.Given as goal
 
 abbrev pub invariant-loop-served : goal.invariant-loop-served
@@ -10,7 +10,7 @@ invariant-loop-served g l = record {
   workers : l.script.header.workers ≡ l.fn.script.header.workers;
   ready : IsReady g.row.SLI l.script;
   kept : (trace : Trace) → IsScriptBut l.fn.script trace → IsScriptBut l.script trace;
-  span : (trace : Trace) → IsScriptBut l.fn.script trace → IsSpan trace l.worker l.refused l.served;
+  bracket : (trace : Trace) → IsScriptBut l.fn.script trace → IsBracket trace l.worker l.refused l.served;
 }
 
 abbrev pub decreases-loop-served : goal.decreases-loop-served

@@ -1,5 +1,5 @@
 -- Many small blocks and one large one: what each call leaves of the reserve.
-use Rattle.tlsf_pool.proofs.Common.{◌≡◌, ◌≢◌, ℕ, ◌+◌, ◌-◌, ◌*◌, ◌<◌, ◌≤◌, ◌⊎◌, Bool, true, false, cond, max, nat_le, nat_lt, List, [], ◌∷◌, ◌++◌, length, map, fold, replicate, Err, refl, sym, ap, ◌∙◌, subst, inl, inr, arith, le_trans, AllByRecursion, mul-le-mul_right, cases_lt, false≢true, le-leb, leb-true, lt-ltb, le-ltb, length-replicate, IsLevel, class_of, most_words, Block, Live, Free, HeapState, size_of, words_in, bytes_of, is_free, want, Site, is_fit, IsLawful, HasRoom, Call, Allocate, Release, Write, Resize, Read, carved, allocated, answered, opened, run, has_serial, overwritten, live_among, free_among, NoFit, live_count, sure, IsSnug, HasRoomFor, IsModest, IsSmall, Ledger, lengths, ledger_after, AreOfKinds, ArePlanned, IsPlanned, count_in, table_words, used, longest_of, scattered_words, one_large_words, ResizesNone, OneLargeSuffices, Kind}
+use Rattle.tlsf_pool.proofs.Common.{◌≡◌, ◌≢◌, ℕ, ◌+◌, ◌-◌, ◌*◌, ◌<◌, ◌≤◌, ◌⊎◌, Bool, true, false, cond, max, nat_le, nat_lt, List, [], ◌∷◌, ◌++◌, length, map, fold, replicate, Err, refl, sym, ap, ◌∙◌, subst, inl, inr, arith, le_trans, AllByRecursion, mul-le-mul_right, cases_lt, false≢true, le-leb, leb-true, lt-ltb, le-ltb, length-replicate, IsLevel, class_of, most_words, Block, Live, Free, HeapState, size_of, words_in, bytes_of, is_free, want, Site, is_fit, IsLawful, HasRoom, Call, Allocate, Release, Write, Resize, Read, carved, allocated, answered, opened, run, has_serial, overwritten, live_among, free_among, NoFit, live_count, sure, IsSnug, HasRoomFor, IsModest, IsSmall, Inventory, lengths, inventory_after, AreOfKinds, ArePlanned, IsPlanned, count_in, table_words, used, longest_of, scattered_words, one_large_words, ResizesNone, OneLargeSuffices, Kind}
 use Rattle.tlsf_class.proofs.ClassOfSize.{search_of-is, serves-from}
 use Rattle.tlsf_heap.proofs.lemmas.blocks.Replace.{carved_small, carved_large}
 use Rattle.tlsf_heap.proofs.lemmas.blocks.Find.{and_left}
@@ -13,7 +13,7 @@ use Rattle.tlsf_pool.proofs.lemmas.laws.Choices.{IsChosen, IsNoBetter, by_chosen
 use Rattle.tlsf_pool.proofs.lemmas.laws.Comb.{too_small}
 use Rattle.tlsf_pool.proofs.lemmas.laws.FreeRoom.{IsHole, few_free, holes_sum, holes_where_none, serves_sure, sure_is, sure_rises}
 use Rattle.tlsf_pool.proofs.lemmas.laws.Held.{one, counted}
-use Rattle.tlsf_pool.proofs.lemmas.laws.Ledgers.{Agrees, agrees_call, new_agrees, sum_of, sum_one}
+use Rattle.tlsf_pool.proofs.lemmas.laws.Inventories.{Agrees, agrees_call, new_agrees, sum_of, sum_one}
 use Rattle.tlsf_pool.proofs.lemmas.laws.Loads.{load}
 use Rattle.tlsf_pool.proofs.lemmas.laws.ModestCalls.{AreSmall, small_kept}
 use Rattle.tlsf_pool.proofs.lemmas.laws.PlannedCalls.{live_spent}
@@ -126,7 +126,7 @@ module _ (sli : ℕ) (level : IsLevel sli) where
   all_beside n t q m s (b ∷ bs) region class few four large rooms best =
       (beside n t q m s b region class few four large rooms.0 best.0, all_beside n t q m s bs region class few four large rooms.1 best.1)
 
-record InTable (words most : ℕ) (h : HeapState) (l : Ledger) : Type 0 where
+record InTable (words most : ℕ) (h : HeapState) (l : Inventory) : Type 0 where
   lawful : IsLawful h
   words_are : h.words ≡ words
   snug : AllByRecursion IsSnug h.blocks
@@ -144,7 +144,7 @@ module _ (sli : ℕ) (level : IsLevel sli) (words : ℕ) (smalls : List Kind) (l
   abbrev outside : ℕ
   outside = scattered_words sli smalls large
 
-  abbrev InLarge : HeapState → Ledger → Type 0
+  abbrev InLarge : HeapState → Inventory → Type 0
   InLarge h l = InTable words (want large.len + 3) h l × (words ≤ reserve k h.blocks 0 + outside)
 
   -- the words of the greatest hole have a class
@@ -160,15 +160,15 @@ module _ (sli : ℕ) (level : IsLevel sli) (words : ℕ) (smalls : List Kind) (l
   short_len : (n : ℕ) (lens : List ℕ) → AreOfKinds kinds (n ∷ lens) → n ≤ large.len
   short_len n lens fit = let has = has_kind kinds n lens fit in le_trans has.short (of_all (λ kind. kind.len ≤ large.len) (used kinds) has.kind has.of (all_used (λ kind. kind.len ≤ large.len) kinds all_lens))
 
-  count_is : (h : HeapState) (l : Ledger) → Agrees h l → live_count h ≡ length (lengths l)
+  count_is : (h : HeapState) (l : Inventory) → Agrees h l → live_count h ≡ length (lengths l)
   count_is h l agrees = counted h.blocks ∙ (agrees.totals one ∙ sum_one (lengths l))
 
-  count_few : (h : HeapState) (l : Ledger) (n : ℕ) → Agrees h l → AreOfKinds kinds (n ∷ lengths l) → live_count h ≤ count_in smalls
+  count_few : (h : HeapState) (l : Inventory) (n : ℕ) → Agrees h l → AreOfKinds kinds (n ∷ lengths l) → live_count h ≤ count_in smalls
   count_few h l n agrees fit = omega (arith, count_is h l agrees, counted_in kinds (n ∷ lengths l) fit, count_with_large smalls large few)
 
   -- ---- a request finds room
 
-  has_room : (h : HeapState) (l : Ledger) (n : ℕ) → InLarge h l → n ≤ large.len → (allocated sli h n).answer ≢ Err NoFit
+  has_room : (h : HeapState) (l : Inventory) (n : ℕ) → InLarge h l → n ≤ large.len → (allocated sli h n).answer ≢ Err NoFit
   has_room h l n is upto e =
       let wanted : want n ≤ want large.len = omega (arith, upto) in
       let holes = holes_where_none sli level (want n) (le_trans wanted class) h.blocks is.0.lawful.rooms ((no_fit sli h n).0 e) in
@@ -209,7 +209,7 @@ module _ (sli : ℕ) (level : IsLevel sli) (words : ℕ) (smalls : List Kind) (l
       sym (ap (λ (bs : List Block). reserve k bs 0) site) ∙ (ap (λ (b : Block). reserve k (s.before ++ b ∷ s.after) 0) is ∙ reserve_append k s.before (Free m t ∷ s.after) 0)
 
   -- a large block goes to the front of a hole, which counts with it
-  large_given : (h : HeapState) (l : Ledger) (n m t : ℕ) (s : Site) → InLarge h l → AreOfKinds kinds (n ∷ lengths l) → k < n → s.block ≡ Free m t → IsSiteOf h.blocks s → Keeps h n s
+  large_given : (h : HeapState) (l : Inventory) (n m t : ℕ) (s : Site) → InLarge h l → AreOfKinds kinds (n ∷ lengths l) → k < n → s.block ≡ Free m t → IsSiteOf h.blocks s → Keeps h n s
   large_given h l n m t s is fit long block site =
       let none : load (large_one k) h.blocks ≡ 0 = is.0.agrees.totals (large_one k) ∙ none_large k n smalls large (lengths l) (all_longest 0 smalls) few long fit in
       let before = (around_site (λ b. length (bytes_of b) ≤ k) h s site (all_short k h.blocks none)).0 in
@@ -218,14 +218,14 @@ module _ (sli : ℕ) (level : IsLevel sli) (words : ℕ) (smalls : List Kind) (l
       omega (arith, is.1, old_reserve h s m t block site, reserve_short k s.before m before, new.0, new.1, new.3 long, size)
 
   -- a small block goes to another hole
-  elsewhere : (h : HeapState) (l : Ledger) (n m t : ℕ) (s : Site) → InLarge h l → m < sure sli (outside + 1) → s.block ≡ Free m t → IsSiteOf h.blocks s → Keeps h n s
+  elsewhere : (h : HeapState) (l : Inventory) (n m t : ℕ) (s : Site) → InLarge h l → m < sure sli (outside + 1) → s.block ≡ Free m t → IsSiteOf h.blocks s → Keeps h n s
   elsewhere h l n m t s is less block site =
       let before = (around_site (IsSmall (want large.len + 3)) h s site is.0.small).0 in
       let new = left_reserve h n s in
       omega (arith, enough, is.1, less, old_reserve h s m t block site, reserve_limit k (want large.len + 3) s.before m before, new.0, new.1)
 
   -- or to the greatest, where no other has room for it
-  last_hole : (h : HeapState) (l : Ledger) (n m t : ℕ) (s : Site) → InLarge h l → AreOfKinds kinds (n ∷ lengths l) → n ≤ k → sure sli (outside + 1) ≤ m → s.block ≡ Free m t → IsChosen sli (want n) h.blocks s → Keeps h n s
+  last_hole : (h : HeapState) (l : Inventory) (n m t : ℕ) (s : Site) → InLarge h l → AreOfKinds kinds (n ∷ lengths l) → n ≤ k → sure sli (outside + 1) ≤ m → s.block ≡ Free m t → IsChosen sli (want n) h.blocks s → Keeps h n s
   last_hole h l n m t s is fit upto great block chosen =
       let lost : ℕ = sure sli (want k) - 1 in
       let wanted : want n ≤ want k = omega (arith, upto) in
@@ -255,7 +255,7 @@ module _ (sli : ℕ) (level : IsLevel sli) (words : ℕ) (smalls : List Kind) (l
       let new = (left_reserve h n s).2 (omega (arith, fits, size)) in
       omega (arith, new, size, fits, live, asked, has.left, table, holes, holes_sum lost s.before left, holes_sum lost s.after right, free.0, ap (λ (bs : List Block). words_in (free_among bs)) whole, words_apart h.blocks, sum)
 
-  given : (h : HeapState) (l : Ledger) (n : ℕ) (s : Site) → InLarge h l → AreOfKinds kinds (n ∷ lengths l) → IsChosen sli (want n) h.blocks s → Keeps h n s
+  given : (h : HeapState) (l : Inventory) (n : ℕ) (s : Site) → InLarge h l → AreOfKinds kinds (n ∷ lengths l) → IsChosen sli (want n) h.blocks s → Keeps h n s
   given h l n s is fit chosen = on s.block refl
     where
       on : (b : Block) → s.block ≡ b → Keeps h n s
@@ -270,7 +270,7 @@ module _ (sli : ℕ) (level : IsLevel sli) (words : ℕ) (smalls : List Kind) (l
 
   -- ---- what each call leaves
 
-  reserve_kept : (h : HeapState) (l : Ledger) (call : Call) → InLarge h l → IsPlanned kinds l call → ResizesNone call → words ≤ reserve k (answered sli h call).1.blocks 0 + outside
+  reserve_kept : (h : HeapState) (l : Inventory) (call : Call) → InLarge h l → IsPlanned kinds l call → ResizesNone call → words ≤ reserve k (answered sli h call).1.blocks 0 + outside
   reserve_kept h l (Allocate n) is planned none = by_chosen sli (λ o. words ≤ reserve k o.heap.blocks 0 + outside) h n (λ why. is.1) (λ s chosen. given h l n s is planned chosen)
   reserve_kept h l (Release name) is planned none = by_released (λ o. words ≤ reserve k o.heap.blocks 0 + outside) h name (λ why. is.1)
       (λ s own site named. omega (arith, is.1, reserve_released k h.tick h s (live_named name.serial s.block (and_left _ _ named)) site))
@@ -283,14 +283,14 @@ module _ (sli : ℕ) (level : IsLevel sli) (words : ℕ) (smalls : List Kind) (l
   reserve_kept h l (Resize name n) is planned none = absurd none
   reserve_kept h l (Read name at n) is planned none = is.1
 
-  modest : (h : HeapState) (l : Ledger) (call : Call) → Agrees h l → IsPlanned kinds l call → ResizesNone call → IsModest (count_in kinds) large.len (live_count h) call
+  modest : (h : HeapState) (l : Inventory) (call : Call) → Agrees h l → IsPlanned kinds l call → ResizesNone call → IsModest (count_in kinds) large.len (live_count h) call
   modest h l (Allocate n) agrees planned none = (short_len n (lengths l) planned, omega (arith, count_is h l agrees, counted_in kinds (n ∷ lengths l) planned))
   modest h l (Release name) agrees planned none = tt
   modest h l (Write name at bytes) agrees planned none = tt
   modest h l (Resize name n) agrees planned none = absurd none
   modest h l (Read name at n) agrees planned none = tt
 
-  kept : (h : HeapState) (l : Ledger) (call : Call) → InLarge h l → IsPlanned kinds l call → ResizesNone call → InLarge (answered sli h call).1 (ledger_after l call (answered sli h call).0)
+  kept : (h : HeapState) (l : Inventory) (call : Call) → InLarge h l → IsPlanned kinds l call → ResizesNone call → InLarge (answered sli h call).1 (inventory_after l call (answered sli h call).0)
   kept h l call is planned none = (
     record {
       lawful = lawful_run sli level h (call ∷ []) is.0.lawful;
@@ -302,17 +302,17 @@ module _ (sli : ℕ) (level : IsLevel sli) (words : ℕ) (smalls : List Kind) (l
     reserve_kept h l call is planned none,
   )
 
-  not_refused : (h : HeapState) (l : Ledger) (call : Call) → InLarge h l → IsPlanned kinds l call → HasRoomFor (answered sli h call).0
+  not_refused : (h : HeapState) (l : Inventory) (call : Call) → InLarge h l → IsPlanned kinds l call → HasRoomFor (answered sli h call).0
   not_refused h l (Allocate n) is planned = λ e. let same : (allocated sli h n).answer ≡ Err NoFit = cc in has_room h l n is (short_len n (lengths l) planned) same
   not_refused h l (Release name) is planned = λ e. cc
   not_refused h l (Write name at bytes) is planned = λ e. cc
   not_refused h l (Resize name n) is planned = λ e. cc
   not_refused h l (Read name at n) is planned = λ e. cc
 
-  none_refused : (h : HeapState) (l : Ledger) (calls : List Call) → InLarge h l → AllByRecursion ResizesNone calls → ArePlanned kinds l calls (run sli h calls).0 → AllByRecursion HasRoomFor (run sli h calls).0
+  none_refused : (h : HeapState) (l : Inventory) (calls : List Call) → InLarge h l → AllByRecursion ResizesNone calls → ArePlanned kinds l calls (run sli h calls).0 → AllByRecursion HasRoomFor (run sli h calls).0
   none_refused h l [] is none planned = tt
   none_refused h l (call ∷ calls) is none planned =
-      (not_refused h l call is planned.0, none_refused (answered sli h call).1 (ledger_after l call (answered sli h call).0) calls (kept h l call is planned.0 none.0) none.1 planned.1)
+      (not_refused h l call is planned.0, none_refused (answered sli h call).1 (inventory_after l call (answered sli h call).0) calls (kept h l call is planned.0 none.0) none.1 planned.1)
 
 pub one_large_suffices : (sli : ℕ) (level : IsLevel sli) → OneLargeSuffices sli
 one_large_suffices sli level id words first smalls large calls region class few longer enough none planned =

@@ -1,5 +1,5 @@
 -- A table of kinds that never refuses: what each call leaves of its bounds.
-use Rattle.tlsf_pool.proofs.Common.{◌≡◌, ◌≢◌, ℕ, zero, suc, ◌+◌, ◌-◌, ◌*◌, ◌<◌, ◌≤◌, Bool, true, false, cond, nat_le, nat_lt, List, [], ◌∷◌, length, map, fold, Err, refl, sym, ap, ◌∙◌, subst, max, add-zero, arith, le_trans, AllByRecursion, list_all, mul-le-mul, leb-true, nat_tests, IsLevel, most_words, Block, Live, Free, HeapState, words_in, want, IsLawful, Call, Allocate, Release, Write, Resize, Read, allocated, answered, opened, run, live_among, NoFit, live_count, free_words, sure, IsSnug, AreModest, HasRoomFor, IsModest, Ledger, lengths, ledger_after, AreOfKinds, IsPlanned, ArePlanned, count_in, table_words, used, words_with, resized_words, are_fours, HasClass, StaysFour, KindsSuffice, ResizedSuffice, OneKindHasMixedWords, Kind}
+use Rattle.tlsf_pool.proofs.Common.{◌≡◌, ◌≢◌, ℕ, zero, suc, ◌+◌, ◌-◌, ◌*◌, ◌<◌, ◌≤◌, Bool, true, false, cond, nat_le, nat_lt, List, [], ◌∷◌, length, map, fold, Err, refl, sym, ap, ◌∙◌, subst, max, add-zero, arith, le_trans, AllByRecursion, list_all, mul-le-mul, leb-true, nat_tests, IsLevel, most_words, Block, Live, Free, HeapState, words_in, want, IsLawful, Call, Allocate, Release, Write, Resize, Read, allocated, answered, opened, run, live_among, NoFit, live_count, free_words, sure, IsSnug, AreModest, HasRoomFor, IsModest, Inventory, lengths, inventory_after, AreOfKinds, IsPlanned, ArePlanned, count_in, table_words, used, words_with, resized_words, are_fours, HasClass, StaysFour, KindsSuffice, ResizedSuffice, OneKindHasMixedWords, Kind}
 use Rattle.tlsf_heap.proofs.lemmas.blocks.Find.{and_left, and_right}
 use Rattle.tlsf_heap.proofs.lemmas.blocks.Sums.{words_apart}
 use Rattle.tlsf_heap.proofs.lemmas.calls.Outcomes.{lawful_run}
@@ -8,7 +8,7 @@ use Rattle.tlsf_heap.proofs.lemmas.blocks.Lawful.{opened_lawful}
 use Rattle.tlsf_pool.proofs.lemmas.laws.Around.{words_kept}
 use Rattle.tlsf_pool.proofs.lemmas.laws.FreeRoom.{finds_room, sure_rises, wants, less}
 use Rattle.tlsf_pool.proofs.lemmas.laws.Held.{one, counted, held_is}
-use Rattle.tlsf_pool.proofs.lemmas.laws.Ledgers.{Agrees, agrees_call, new_agrees, sum_of, sum_one}
+use Rattle.tlsf_pool.proofs.lemmas.laws.Inventories.{Agrees, agrees_call, new_agrees, sum_of, sum_one}
 use Rattle.tlsf_pool.proofs.lemmas.laws.Loads.{load}
 use Rattle.tlsf_pool.proofs.lemmas.laws.ModestCalls.{suffices}
 use Rattle.tlsf_pool.proofs.lemmas.laws.Snug.{snug_kept}
@@ -65,14 +65,14 @@ is_short kinds bs lens n fours totals fit =
 
 -- ---- where some request wants more than four words
 
-record InTable (words : ℕ) (h : HeapState) (l : Ledger) : Type 0 where
+record InTable (words : ℕ) (h : HeapState) (l : Inventory) : Type 0 where
   lawful : IsLawful h
   words_are : h.words ≡ words
   snug : AllByRecursion IsSnug h.blocks
   agrees : Agrees h l
 
 module _ (sli : ℕ) (level : IsLevel sli) (words : ℕ) (kinds : List Kind) (classes : AllByRecursion (HasClass sli) kinds) (large : resized_words sli kinds ≤ words) where
-  kept : (h : HeapState) (l : Ledger) (call : Call) → InTable words h l → InTable words (answered sli h call).1 (ledger_after l call (answered sli h call).0)
+  kept : (h : HeapState) (l : Inventory) (call : Call) → InTable words h l → InTable words (answered sli h call).1 (inventory_after l call (answered sli h call).0)
   kept h l call table = record {
     lawful = lawful_run sli level h (call ∷ []) table.lawful;
     words_are = words_kept sli h call ∙ table.words_are;
@@ -80,7 +80,7 @@ module _ (sli : ℕ) (level : IsLevel sli) (words : ℕ) (kinds : List Kind) (cl
     agrees = agrees_call sli h call l table.agrees table.lawful;
   }
 
-  not_refused : (h : HeapState) (l : Ledger) (call : Call) → InTable words h l → IsPlanned kinds l call → HasRoomFor (answered sli h call).0
+  not_refused : (h : HeapState) (l : Inventory) (call : Call) → InTable words h l → IsPlanned kinds l call → HasRoomFor (answered sli h call).0
   not_refused h l (Allocate n) table planned = λ e.
       let none : (allocated sli h n).answer ≡ Err NoFit = cc in
       holes_room sli level h kinds (lengths l) n table.lawful table.snug classes table.agrees.totals planned (subst (λ (k : ℕ). resized_words sli kinds ≤ k) (sym table.words_are) large) none
@@ -89,10 +89,10 @@ module _ (sli : ℕ) (level : IsLevel sli) (words : ℕ) (kinds : List Kind) (cl
   not_refused h l (Resize name n) table planned = λ e. cc
   not_refused h l (Read name at n) table planned = λ e. cc
 
-  none_refused : (h : HeapState) (l : Ledger) (calls : List Call) → InTable words h l → ArePlanned kinds l calls (run sli h calls).0 → AllByRecursion HasRoomFor (run sli h calls).0
+  none_refused : (h : HeapState) (l : Inventory) (calls : List Call) → InTable words h l → ArePlanned kinds l calls (run sli h calls).0 → AllByRecursion HasRoomFor (run sli h calls).0
   none_refused h l [] table planned = tt
   none_refused h l (call ∷ calls) table planned =
-      (not_refused h l call table planned.0, none_refused (answered sli h call).1 (ledger_after l call (answered sli h call).0) calls (kept h l call table) planned.1)
+      (not_refused h l call table planned.0, none_refused (answered sli h call).1 (inventory_after l call (answered sli h call).0) calls (kept h l call table) planned.1)
 
 -- to whatever blocks are resized
 pub resized_suffice : (sli : ℕ) (level : IsLevel sli) → ResizedSuffice sli
@@ -103,19 +103,19 @@ resized_suffice sli level id words first kinds calls region classes large planne
 -- ---- where all want four words
 
 module _ (sli : ℕ) (level : IsLevel sli) (kinds : List Kind) (fours : are_fours kinds ≡ true) where
-  modest : (h : HeapState) (l : Ledger) (call : Call) → Agrees h l → IsPlanned kinds l call → StaysFour call → IsModest (count_in kinds) 8 (live_count h) call
+  modest : (h : HeapState) (l : Inventory) (call : Call) → Agrees h l → IsPlanned kinds l call → StaysFour call → IsModest (count_in kinds) 8 (live_count h) call
   modest h l (Allocate n) agrees planned stays = is_short kinds h.blocks (lengths l) n fours agrees.totals planned
   modest h l (Release name) agrees planned stays = tt
   modest h l (Write name at bytes) agrees planned stays = tt
   modest h l (Resize name n) agrees planned stays = stays
   modest h l (Read name at n) agrees planned stays = tt
 
-  all_modest : (h : HeapState) (l : Ledger) (calls : List Call) → Agrees h l → IsLawful h → ArePlanned kinds l calls (run sli h calls).0 → AllByRecursion StaysFour calls
+  all_modest : (h : HeapState) (l : Inventory) (calls : List Call) → Agrees h l → IsLawful h → ArePlanned kinds l calls (run sli h calls).0 → AllByRecursion StaysFour calls
       → AreModest (count_in kinds) 8 (live_count h) calls (run sli h calls).0
   all_modest h l [] agrees lawful planned stay = tt
   all_modest h l (call ∷ calls) agrees lawful planned stay =
       let next : HeapState = (answered sli h call).1 in
-      let rest = all_modest next (ledger_after l call (answered sli h call).0) calls (agrees_call sli h call l agrees lawful) (lawful_run sli level h (call ∷ []) lawful) planned.1 stay.1 in
+      let rest = all_modest next (inventory_after l call (answered sli h call).0) calls (agrees_call sli h call l agrees lawful) (lawful_run sli level h (call ∷ []) lawful) planned.1 stay.1 in
       (modest h l call agrees planned.0 stay.0, subst (λ (held : ℕ). AreModest (count_in kinds) 8 held calls (run sli next calls).0) (held_is sli h call) rest)
 
 pub kinds_suffice : (sli : ℕ) (level : IsLevel sli) → KindsSuffice sli

@@ -1,6 +1,6 @@
 -- Blocks that fit a table of kinds: how many they are, and how many words they take.
 use Rattle.tlsf_pool.proofs.Common.{◌≡◌, ℕ, ◌+◌, ◌-◌, ◌*◌, ◌<◌, ◌≤◌, ◌⊎◌, suc, Bool, true, false, cond, List, [], ◌∷◌, length, map, filter, fold, max, nat_le, nat_lt, refl, sym, ap, ap₂, ◌∙◌, subst, inl, inr, arith, le_trans, AllByRecursion, list_all, mul-le-mul_right, cases_lt, lt-ltb, le-ltb, le-leb, lt-leb, nat_tests, want, sure, AreOfKinds, count_in, table_words, used, EmptyKindsAreNothing, Kind}
-use Rattle.tlsf_pool.proofs.lemmas.laws.Ledgers.{sum_of, sum_one}
+use Rattle.tlsf_pool.proofs.lemmas.laws.Inventories.{sum_of, sum_one}
 use Rattle.tlsf_pool.proofs.lemmas.laws.Held.{one}
 
 -- the words that a block takes at most

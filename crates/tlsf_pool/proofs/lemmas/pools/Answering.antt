@@ -3,7 +3,7 @@ use Rattle.tlsf_pool.proofs.Common.{◌≡◌, ◌≢◌, ℕ, zero, suc, ◌+�
 use Rattle.tlsf_heap.specs.InPlace.{payload_of}
 use Rattle.tlsf_heap.specs.Named.{IsNamed}
 use Rattle.tlsf_heap.proofs.lemmas.calls.Alter.{payload_is}
-use Rattle.tlsf_pool.proofs.lemmas.pools.Counts.{HasOneMore, fit_less, fit_more, held_few, held_length, held_more, held_sum, none, place, row_is, row_within, same_held, this_row}
+use Rattle.tlsf_pool.proofs.lemmas.pools.RowTotals.{HasOneMore, fit_less, fit_more, held_few, held_length, held_more, held_sum, none, place, row_is, row_within, same_held, this_row}
 use Rattle.tlsf_pool.proofs.lemmas.pools.TableKept.{given_table, taken_fit, taken_lengths, taken_table}
 use Rattle.tlsf_pool.proofs.lemmas.laws.PlannedCalls.{live_lengths}
 use Rattle.tlsf_pool.proofs.lemmas.pools.Served.{fits_longest, four, has_room, lengths_load, longest_used, modest, no_longer}

@@ -2,7 +2,7 @@
 use Rattle.tlsf_pool.proofs.Common.{◌≡◌, ◌≢◌, ℕ, zero, suc, ◌+◌, ◌-◌, ◌<◌, ◌≤◌, ◌↔◌, ◌&&◌, Bool, true, false, cond, List, [], ◌∷◌, length, get_or, set, nat_le, nat_lt, Option, Some, None, Result, Ok, Err, refl, sym, ap, ◌∙◌, subst, inl, inr, arith, AllByRecursion, IfSome, IsOk, IsSomeAnd, OnErr, OnOk, is_some, cases_lt, false≢true, le-ltb, lt-ltb, position_or_len_is, nat_tests, HeapState, payload_words_given, Release, Write, released, written, Name, PoolRefusal, SameLedger, IsTabled, TableState, row_of, table_allocated, fixed_size, ArePools, OnlyPart, PoolsState, named_in, no_part, part_at, part_in}
 use Rattle.std.proofs.lemmas.List.Quantifiers.{position-Some}
 use Rattle.tlsf_heap.proofs.lemmas.calls.Outcomes.{by_allocated_words, ids}
-use Rattle.tlsf_pool.proofs.lemmas.pools.Counts.{this_row}
+use Rattle.tlsf_pool.proofs.lemmas.pools.RowTotals.{this_row}
 
 -- ---- one of a list
 

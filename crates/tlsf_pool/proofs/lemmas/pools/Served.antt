@@ -3,7 +3,7 @@ use Rattle.tlsf_pool.proofs.Common.{◌≡◌, ◌≢◌, ℕ, ◌+◌, ◌≤�
 use Rattle.tlsf_heap.proofs.lemmas.laws.NoFit.{no_fit_words}
 use Rattle.tlsf_pool.proofs.lemmas.laws.FixedCalls.{InFixed}
 use Rattle.tlsf_pool.proofs.lemmas.laws.FixedSize.{finds_fixed, finds_sure, sure_again, sure_region}
-use Rattle.tlsf_pool.proofs.lemmas.laws.Ledgers.{sum_of}
+use Rattle.tlsf_pool.proofs.lemmas.laws.Inventories.{sum_of}
 use Rattle.tlsf_pool.proofs.lemmas.laws.Loads.{load}
 use Rattle.tlsf_pool.proofs.lemmas.laws.PlannedCalls.{live_lengths}
 use Rattle.tlsf_pool.proofs.lemmas.laws.Tables.{all_used, counted_in, has_kind, most_of}

@@ -5,7 +5,7 @@ use Rattle.tlsf_heap.proofs.lemmas.calls.Outcomes.{by_test, by_allocated_words, 
 use Rattle.tlsf_pool.proofs.lemmas.laws.FixedCalls.{kept}
 use Rattle.tlsf_pool.proofs.lemmas.laws.FixedSize.{new_fixed}
 use Rattle.tlsf_pool.proofs.lemmas.laws.Loads.{load_given_words, load_taken, load_written}
-use Rattle.tlsf_pool.proofs.lemmas.pools.Counts.{SameTotals, same_fit, same_held, held_none, fit_none, fit_less, held_more, place}
+use Rattle.tlsf_pool.proofs.lemmas.pools.RowTotals.{SameTotals, same_fit, same_held, held_none, fit_none, fit_less, held_more, place}
 use Rattle.tlsf_pool.proofs.lemmas.pools.Served.{enough, in_table, lengths_load, longest_used, modest}
 
 -- ---- what the calls leave of the lengths

@@ -4,7 +4,7 @@ use Rattle.std.proofs.lemmas.List.Quantifiers.{position-Some}
 use Rattle.tlsf_heap.specs.Memory.{Extents}
 use Rattle.tlsf_heap.proofs.lemmas.calls.Outcomes.{by_allocated_words}
 use Rattle.tlsf_pool.proofs.lemmas.pools.Answering.{of_some, some_of}
-use Rattle.tlsf_pool.proofs.lemmas.pools.Counts.{held_length, next_row, place, row_is, this_row}
+use Rattle.tlsf_pool.proofs.lemmas.pools.RowTotals.{held_length, next_row, place, row_is, this_row}
 use Rattle.tlsf_pool.proofs.lemmas.pools.Heaps.{is_part, part_has}
 use Rattle.tlsf_pool.proofs.lemmas.sizes.Risings.{shorter_before}
 

@@ -3,4 +3,4 @@ use Rattle.tlsf_picture.proofs.plots.curve.curve_of.Given as goal
 
 -- those below this number are drawn
 abbrev pub invariant-loop-number : goal.invariant-loop-number
-invariant-loop-number l = l.curve.items ≡ map (λ number. worst_of l.words (bucket l.span l.points number)) (range_with_len 0 l.number)
+invariant-loop-number l = l.curve.items ≡ map (λ number. worst_of l.words (bucket l.stride l.points number)) (range_with_len 0 l.number)

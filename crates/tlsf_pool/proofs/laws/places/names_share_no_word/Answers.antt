@@ -1,4 +1,4 @@
-use Rattle.tlsf_pool.proofs.lemmas.laws.Spans.{apart, inside}
+use Rattle.tlsf_pool.proofs.lemmas.laws.Occupied.{apart, inside}
 use Rattle.tlsf_pool.proofs.laws.places.names_share_no_word.Goals as goal
 
 pub returns : goal.returns

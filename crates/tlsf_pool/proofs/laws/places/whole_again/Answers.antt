@@ -1,4 +1,4 @@
-use Rattle.tlsf_pool.proofs.lemmas.laws.Spans.{whole, no_leak}
+use Rattle.tlsf_pool.proofs.lemmas.laws.Occupied.{whole, no_leak}
 use Rattle.tlsf_pool.proofs.laws.places.whole_again.Goals as goal
 
 pub returns : goal.returns

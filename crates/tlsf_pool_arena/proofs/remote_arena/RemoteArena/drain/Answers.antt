@@ -14,7 +14,7 @@ loop-at-preserved g c =
 pub returns-clause-idle : goal.returns-clause-idle
 returns-clause-idle g c =
     let a = c.self-2.inside in
-    none_lost _ _ a.count a.idle.places c.self-2.view_is c.self-2.invariant.3 c.self-2.invariant.1 c.self-2.invariant.2 c.self-2.invariant.4
+    none_lost _ _ a.count a.idle.slots c.self-2.view_is c.self-2.invariant.3 c.self-2.invariant.1 c.self-2.invariant.2 c.self-2.invariant.4
 
 pub returns-clause-taken : goal.returns-clause-taken
 returns-clause-taken g c =

@@ -1,21 +1,21 @@
-use Rattle.tlsf_pool_arena.proofs.Common.{◌≡◌, [], length, Some, None, refl, sym, ap, ◌∙◌, arith, Seated, is_away, looks_by, out_by, place_of, ticket_of, value_of}
-use Rattle.tlsf_pool_arena.proofs.PlaceSteps.{announces_at, is_place, owner_sent, rests_as, sends_at, sized_as}
+use Rattle.tlsf_pool_arena.proofs.Common.{◌≡◌, [], length, Some, None, refl, sym, ap, ◌∙◌, arith, Seated, is_away, looks_by, out_by, slot_of, ticket_of, value_of}
+use Rattle.tlsf_pool_arena.proofs.SlotSteps.{announces_at, is_slot, owner_sent, rests_as, sends_at, sized_as}
 use Rattle.tlsf_pool_arena.proofs.returns.owner_end.OwnerEnd.send_out.Goals as goal
 
 pub compare_exchange_with-requires : goal.compare_exchange_with-requires
 compare_exchange_with-requires g c =
     let seat = c.args.self.now.seat in
-    let place = is_place (out_by seat.me.0) c.args.at None c.requires.idle in
-    let words : length (out_by seat.me.0) ≡ c.args.places.now.table.shared.table_id.words = c.args.self.now.sized.0 ∙ ap (λ z. z.words) c.requires.own in
-    (c.requires.own, omega (arith, place, words), announces_at c.args.places.now.table.shared.table_id.slots seat.id c.args.at c.args.value seat.me c.args.self.now.rests c.requires.idle)
+    let slot = is_slot (out_by seat.me.0) c.args.at None c.requires.idle in
+    let words : length (out_by seat.me.0) ≡ c.args.slots.now.table.shared.table_id.words = c.args.self.now.sized.0 ∙ ap (λ z. z.words) c.requires.own in
+    (c.requires.own, omega (arith, slot, words), announces_at c.args.slots.now.table.shared.table_id.slots seat.id c.args.at c.args.value seat.me c.args.self.now.rests c.requires.idle)
 
 pub split_seat-seat-requires : goal.split_seat-seat-requires
 split_seat-seat-requires g c =
     let seat = c.args.self.now.seat in
-    let place = is_place (out_by seat.me.0) c.args.at None c.requires.idle in
-    let words : length (out_by seat.me.0) ≡ c.args.places.now.table.shared.table_id.words = c.args.self.now.sized.0 ∙ ap (λ z. z.words) c.requires.own in
+    let slot = is_slot (out_by seat.me.0) c.args.at None c.requires.idle in
+    let words : length (out_by seat.me.0) ≡ c.args.slots.now.table.shared.table_id.words = c.args.self.now.sized.0 ∙ ap (λ z. z.words) c.requires.own in
     let said = c.compare_exchange_with.ensures.2 c.args.value refl in
-    (c.compare_exchange_with.ensures.0 ∙ c.requires.own, omega (arith, place, words), sends_at c.compare_exchange_with.new.seat.id c.args.at (out_by seat.me.0) (looks_by seat.me.0) c.args.value c.compare_exchange_with.new.seat.me.0 (ap (λ (m : Seated g.row.T.Denot). m.0) said))
+    (c.compare_exchange_with.ensures.0 ∙ c.requires.own, omega (arith, slot, words), sends_at c.compare_exchange_with.new.seat.id c.args.at (out_by seat.me.0) (looks_by seat.me.0) c.args.value c.compare_exchange_with.new.seat.me.0 (ap (λ (m : Seated g.row.T.Denot). m.0) said))
 
 pub invariant_of-self : goal.invariant_of-self
 invariant_of-self g c =
@@ -36,12 +36,12 @@ invariant_of-result g c =
     let said = c.compare_exchange_with.ensures.2 c.args.value refl in
     let known = c.split_seat-seat.ensures.4 ∙ ap (λ (m : Seated g.row.T.Denot). (ticket_of m.0, [])) said in
     let ids = c.split_seat-seat.ensures.3 ∙ c.compare_exchange_with.ensures.0 in
-    let place = is_place (out_by first.me.0) c.args.at None c.requires.idle in
+    let slot = is_slot (out_by first.me.0) c.args.at None c.requires.idle in
     let words : length (out_by first.me.0) ≡ c.split_seat-seat.result.table_id.words = c.args.self.now.sized.0 ∙ sym (ap (λ z. z.words) ids) in
     let slots : length (out_by first.me.0) ≡ c.split_seat-seat.result.table_id.slots = c.args.self.now.sized.1 ∙ sym (ap (λ z. z.slots) ids) in
     record {
-      away = (ap (λ (m : Seated g.row.T.Denot). is_away m.0) known, ap (λ (m : Seated g.row.T.Denot). m.1) known, ap (λ (m : Seated g.row.T.Denot). place_of m.0) known);
-      inside = (omega (arith, place, words), omega (arith, place, slots));
+      away = (ap (λ (m : Seated g.row.T.Denot). is_away m.0) known, ap (λ (m : Seated g.row.T.Denot). m.1) known, ap (λ (m : Seated g.row.T.Denot). slot_of m.0) known);
+      inside = (omega (arith, slot, words), omega (arith, slot, slots));
     }
 
 pub returns-clause-own : goal.returns-clause-own

@@ -1,0 +1,12 @@
+use Rattle.std.proofs.Common.{string_bytes}
+use Rattle.tlsf_diagnosis.proofs.FieldSteps.{shows_field}
+use Rattle.tlsf_diagnosis.proofs.notes.explain.Goals as goal
+
+pub returns : goal.returns
+returns c = record {
+  shown = string_bytes c.in_ok-note.note;
+  words = c.deref.result.now;
+  shows = shows_field c.args.text.now c.args.fault.line c.args.field c.marked-mark.result c.piece_at-piece.result.now c.of-spot.result.line.now (string_bytes c.in_ok-note.note)
+      c.piece_at-piece.ensures c.of-spot.ensures.line c.marked-mark.ensures.marks c.marked-mark.ensures.within c.in_ok-note.ensures;
+  note_is = c.in_ok-push_field.ensures;
+}

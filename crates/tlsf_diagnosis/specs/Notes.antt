@@ -1,0 +1,39 @@
+-- The output and the notes of a check of a trace.
+use Rattle.std.specs.Prelude.{◌≡◌, ℕ, List, ◌++◌, codes}
+use Rattle.std.specs.Fmt.{decimal}
+use Rattle.tlsf_lines.specs.TraceFaults.{IsLineFault, too_long_fault}
+use Rattle.tlsf_lines.specs.declared.trace_fault.TraceFault.{TraceFault}
+use Rattle.tlsf_trace.specs.Replay.{Outputs}
+use Rattle.tlsf_diagnosis.specs.TraceLines.{trace_line}
+use Rattle.tlsf_diagnosis.specs.FieldFaults.{IsFoundIn}
+use Rattle.tlsf_diagnosis.specs.PassedLimits.{NotesLimit}
+use Rattle.tlsf_diagnosis.specs.Shown.{ShowsField}
+
+-- of a good trace one line is put out
+abbrev pub Describes : Outputs
+Describes trace output = output ≡ trace_line trace
+
+-- the number of a field, and words on it
+abbrev pub field_text : ℕ → List ℕ → List ℕ
+field_text n words = codes "  field " ++ decimal n ++ words ++ codes "\n"
+
+-- a note shows line number `line` of a text with a mark in field n, and names the field below
+pub record NamesField (text : List ℕ) (line n : ℕ) (note : List ℕ) : Type 0 where
+  pub shown : List ℕ
+  pub words : List ℕ
+  pub shows : ShowsField text line n shown
+  pub note_is : note ≡ shown ++ field_text n words
+
+-- a note was added that names the field in which the fault of a text is found
+pub record NotesField (text : List ℕ) (fault : TraceFault) (old new : List ℕ) : Type 0 where
+  pub n : ℕ
+  pub note : List ℕ
+  pub found : IsFoundIn text fault n
+  pub named : NamesField text fault.line n note
+  pub added : new ≡ old ++ note
+
+-- so where a line is at fault, and where the trace is too long the limit that it passes; else nothing was added
+pub record Notes (text : List ℕ) (fault : TraceFault) (old new : List ℕ) : Type 0 where
+  pub line : IsLineFault fault → NotesField text fault old new
+  pub limit : fault ≡ too_long_fault → NotesLimit text old new
+  pub else : (IsLineFault fault → ⊥) → (fault ≡ too_long_fault → ⊥) → new ≡ old
