@@ -1,7 +1,7 @@
 pub use Rattle.tlsf_calls.specs.Bytes
 pub use Rattle.tlsf_calls.specs.Entries
 pub use Rattle.tlsf_calls.specs.Numbers
-pub use Rattle.tlsf_lock.specs.Grants
+pub use Rattle.tlsf_heap.specs.ledger.Grants
 -- The view of a worker, and the answers and effects of its own calls, releases, takes and drains, whatever its ports.
 pub mod worker
 -- The world that a yard shows, one step of it, and what a list of events comes to.

@@ -29,13 +29,23 @@
 //! such workers (`IsQueueRace`): each two records agree on what was posted and taken, poster by poster.
 //! [`queue_race_without_takes`] says when every schedule leads to the same.
 //!
-//! A [`LockedHeap`] is a heap without an owner, outside any yard; it is `tlsf_lock`'s.
+//! A [`LockedHeap`] has no owner and stands outside any yard: any thread that has a reference to it may call it. Whoever locks it
+//! has its heap, as a [`Counted`], until the guard is dropped.
+//!
+//! A `Counted` counts the allocates and the releases that were accepted. Whoever has just got the lock knows that the heap is
+//! lawful. It knows that its live blocks are the accepted allocates less the accepted releases (`IsCounted`). Nothing else is known
+//! then, since other threads may have called the heap before.
+//!
+//! `lock` waits, and no call of a `Counted` does. Only `new` takes memory. The calls of a `Counted` make as many touches as those of
+//! the heap. They are at most 64 for a release. For an allocate they are at most 64 and one for each payload word of the block that
+//! it gives.
 #![tactic(auto)]
 
 mod fair_runs;
 mod histories;
 mod jobs;
 mod lanes;
+mod locked_heap;
 mod queues;
 mod race_laws;
 mod races;
@@ -50,6 +60,7 @@ pub use jobs::outcome::{Outcome, QueueOutcome};
 pub use lanes::laws::lanes_join_the_yard;
 pub use lanes::opening::open_yard;
 pub use lanes::settle::settle;
+pub use locked_heap::{Counted, LockedHeap};
 pub use queues::queue_laws::queues_join_the_yard;
 pub use queues::queue_opening::open_queue_yard;
 pub use queues::queue_settle::settle_queues;
@@ -63,7 +74,6 @@ pub use replays::replay::{replay_behind, replay_events};
 pub use tlsf_calls::{
     Call, Chunk, CrewRefusal, Drained, Entry, Event, MOST_DRAINED, Released, Reply, Target, Took,
 };
-pub use tlsf_lock::{Counted, LockedHeap};
 pub use worker::lanes::Lanes;
 pub use worker::ports::Ports;
 pub use worker::worker::Worker;

@@ -5,8 +5,8 @@ use std::alloc::Global;
 use std::marker::Sync;
 use std::sync::Wait;
 use std::thread::{Threads, join};
+use tlsf_crew::LockedHeap;
 use tlsf_heap::{Name, Refusal};
-use tlsf_lock::LockedHeap;
 
 /// How many messages each thread passes on.
 const MESSAGES: u8 = 100;

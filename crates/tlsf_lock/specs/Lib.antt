@@ -1,1 +1,0 @@
-pub use Rattle.tlsf_heap.specs.ledger.Grants
