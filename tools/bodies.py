@@ -6,9 +6,9 @@ import tomllib
 
 import tree
 
-# What tries a wrong body: the gate, ./attack besides, and a test of what is drawn, of which no prover refuses any.
-TRIED_BY = GATE, ATTACK, DRAWN = "./test", "./attack", "tools/wrong_pictures"
-BY_PROVER = (GATE, ATTACK)
+# What tries a wrong body: ./test, ./attack besides, and a test of what is drawn, of which no prover refuses any.
+TRIED_BY = TEST, ATTACK, DRAWN = "./test", "./attack", "tools/wrong_pictures"
+BY_PROVER = (TEST, ATTACK)
 
 
 @dataclasses.dataclass(frozen=True)

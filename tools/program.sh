@@ -14,7 +14,7 @@
 #                    proved
 #     KEY/tlsf.o, tlsf.verdict, libtlsf.a.s, .ll, .verdict
 #                    what a release needs besides: the object; the library's assembly and LLVM module, without c/memory.c;
-#                    what the checker said, with the checksum of what was built of that. The gate may leave none of these
+#                    what the checker said, with the checksum of what was built of that. rt ci may leave none of these
 #     KEY/ports-SUM  what a release lowered of the library for other targets, by the checksum of all that it was made of
 #     KEY/log        what the last build said
 #     KEY/start      when that build began, in seconds since 1970

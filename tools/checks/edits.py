@@ -11,7 +11,7 @@ import pathlib
 import re
 
 import tree
-from bodies import GATE, TRIED_BY, WrongBody, tables_of, wrong_bodies
+from bodies import TEST, TRIED_BY, WrongBody, tables_of, wrong_bodies
 from case_files import cases
 from checks.names import tests
 
@@ -86,7 +86,7 @@ def known():
 def is_there(name):
     """Whether a wrong body that ./test tries, as CRATE/NAME, a test, a case or a file is there."""
     crate, _, wrong = name.rpartition("/")
-    tried = {it.name for it in wrong_bodies(tree.TOP / "crates" / crate, [GATE])}
+    tried = {it.name for it in wrong_bodies(tree.TOP / "crates" / crate, [TEST])}
     return wrong in tried or name in tests() or name in cases() or (tree.TOP / name).is_file()
 
 

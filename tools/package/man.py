@@ -3,7 +3,7 @@
 
 Writes the man pages of the program into FOLDER, one for it and one for each of
 its commands. They are made of the helps that are stored in cases/help.toml,
-which the gate holds to the program, so there is no other text to keep in step.
+which ./test holds to the program, so there is no other text to keep in step.
 """
 import pathlib
 import re

@@ -1,5 +1,5 @@
 //! Uses of the library, as a caller writes them: a file each, whose test shows what comes of it. They are read with the tests alone, so that
-//! the gate proves each once.
+//! `rt ci` proves each once.
 #![tactic(auto)]
 
 #[cfg(test)]
