@@ -1,5 +1,5 @@
 /* How C's library gets memory: from malloc, or from the caller while it opens something there; and how it fills and copies. It is
- * compiled by the toolchain's clang, which has no headers, so it declares what it calls. tools/library_test compiles it with tlsf.h
+ * compiled by the toolchain's clang, which has no headers, so it declares what it calls. tests/library_test compiles it with tlsf.h
  * in front, which agrees.
  *
  * The proved code takes memory only to open, and gives it back only to close. Each piece lies 8 bytes behind a multiple of 16,

@@ -14,7 +14,10 @@ import pathlib
 import re
 import sys
 
-TOP = pathlib.Path(__file__).resolve().parent.parent
+sys.dont_write_bytecode = True
+import script
+from tree import TOP
+
 HEADER = TOP / "include" / "tlsf.h"
 INLINE = TOP / "include" / "tlsf_inline.h"
 REMARK = re.compile(r"/\*.*?\*/|^#.*?(?<!\\)$", re.S | re.M)
@@ -132,12 +135,6 @@ def rust():
 
 
 def main(words):
-    if words in (["-h"], ["--help"]):
-        print(__doc__.strip())
-        return 0
-    if len(words) > 1 or words and words[0].startswith("-") and words != ["--rust"]:
-        print(__doc__.strip(), file=sys.stderr)
-        return 2
     try:
         if words == ["--rust"]:
             sys.stdout.write(rust())
@@ -150,4 +147,4 @@ def main(words):
 
 
 if __name__ == "__main__":
-    sys.exit(main(sys.argv[1:]))
+    sys.exit(main(script.words(__doc__, lambda it: not it or it == ["--rust"] or len(it) == 1 and not it[0].startswith("-"))))

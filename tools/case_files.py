@@ -9,7 +9,7 @@ import tomllib
 
 from tree import TOP
 
-FOLDER = TOP / "cases"
+FOLDER = TOP / "tests" / "cases"
 # The pictures in characters of recorded programs, in the same form.
 RECORDED = TOP / "examples" / "recorded" / "pictures.toml"
 # A text that stands as it is between two lines of three quotes.

@@ -25,7 +25,7 @@
 #     KEY/builder    its process, which leads a group of its own; KEY/lock is locked as long as one of that group lives
 #     KEY/work       what is being made; removed at the end
 #     rlibs/         proved libraries for the next build, each named by the checksum of all that it is made from
-#     roots/         clean roots that tests made, each a tar, for a month (tools/clean_root)
+#     roots/         clean roots that tests made, each a tar, for a month (tests/clean_root)
 #     seen/GOAL-SUM  names the text of a checkout, by the checksum of its files' places, sizes and times
 #     lock           locked by the build that runs: one at a time
 
@@ -242,6 +242,7 @@ get_product() {
     ! is_there || return 0
     "$top/tools/first_build" "$goal" ${target:+"$target"} ${whole:+--whole} || exit 1
     say "proving and building $what${target:+ for $target}, which takes some minutes; the log is $build/log"
+    # shellcheck disable=SC2119
     await_program
 }
 

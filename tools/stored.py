@@ -1,4 +1,4 @@
-"""The answers of the program that are stored, and what a second reading tells of each (bench/model)."""
+"""The answers of the program that are stored, and what a second reading tells of each (tests/model)."""
 import collections
 import functools
 import json
@@ -9,9 +9,9 @@ import tomllib
 from case_files import RECORDED, cases, cases_of, store
 from tree import TOP
 
-sys.path.append(str(TOP / "bench"))
+sys.path.append(str(TOP / "tests"))
 from model.answers import fault_text
-from model.commands import Untold, answer_to
+from model.commands import answer_to
 from model.trace import Fault, trace_in
 import tables
 

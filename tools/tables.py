@@ -1,4 +1,4 @@
-"""Tables of tests/program by their text, in which a second reading tells what it can (bench/model). All else stays as it is."""
+"""Tables of tests/program by their text, in which a second reading tells what it can (tests/model). All else stays as it is."""
 import json
 import re
 import tomllib

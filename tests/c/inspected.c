@@ -1,4 +1,4 @@
-/* A heap to be looked at by gdb, with tools/package/tlsf-gdb.py: tools/package_test stops where this calls `look`, and compares what
+/* A heap to be looked at by gdb, with tools/package/tlsf-gdb.py: tests/package_test stops where this calls `look`, and compares what
  * gdb prints with inspected.stdout. */
 #include <stdlib.h>
 #include <tlsf.h>

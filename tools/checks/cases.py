@@ -1,8 +1,8 @@
 """Each stored answer of the program is the one that a second reading tells, and
 so is each picture of a page that is one; but for helps and the version
-(tools/cases). So no case is changed by hand alone. In a file of cases/ they
-stand in the order of their names, each with `args`, one of `input` and `trace`
-or none, and `stdout` last. Each recorded program has its picture."""
+(tools/cases). So no case is changed by hand alone. In a file of tests/cases/
+they stand in the order of their names, each with `args`, one of `input` and
+`trace` or none, and `stdout` last. Each recorded program has its picture."""
 import itertools
 
 import case_files

@@ -1,7 +1,7 @@
 """Each script that can be run answers --help and -h at once, with its use on
 standard output from the first line on, no line of more than 80 characters,
 nothing on standard error and status 0, and starts neither `rt` nor a compiler.
-No line of a stored help of the program, of cases/help.toml, is longer."""
+No line of a stored help of the program, of tests/cases/help.toml, is longer."""
 import os
 import pathlib
 import subprocess
@@ -11,7 +11,7 @@ import case_files
 import tree
 
 MOST_WIDTH = 80
-SCRIPTS = ("test", "attack", "library", "bench/*", "tools/*", "tests/*/run")
+SCRIPTS = ("test", "attack", "library", "bench/*", "tools/*", "tests/*", "tests/*/run")
 # What no script may start for its help.
 TOOLS = ("rt", "cc", "c++", "valgrind", "perf", "taskset")
 

@@ -72,7 +72,8 @@ def facts_of(crate):
     return found
 
 
-def mend_lines():
+def mend():
+    """Makes the lines of crates.txt that a README.md shows those of today."""
     lines = tree.lines_of_crates()
     for page in sorted((tree.TOP / "crates").glob("*/README.md")):
         mended = re.sub(r"^(\w+)(?: [\w=+ ]*)?:.*$", lambda it: lines.get(it[1], it[0]), tree.read(page), flags=re.M)

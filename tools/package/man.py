@@ -2,7 +2,7 @@
 """usage: tools/package/man.py VERSION DATE FOLDER
 
 Writes the man pages of the program into FOLDER, one for it and one for each of
-its commands. They are made of the helps that are stored in cases/help.toml,
+its commands. They are made of the helps that are stored in tests/cases/help.toml,
 which ./test holds to the program, so there is no other text to keep in step.
 """
 import pathlib
@@ -12,6 +12,7 @@ import sys
 sys.dont_write_bytecode = True
 sys.path.insert(0, str(pathlib.Path(__file__).resolve().parent.parent))
 import case_files
+import script
 
 LISTED = ("Commands:", "Arguments:", "Options:")
 
@@ -57,20 +58,14 @@ def main(version, date, folder):
     commands = re.findall(r"^  ([a-z]+)  ", helps["help"].partition("Commands:\n")[2].partition("\n\n")[0], re.M)
     names = {"help": "tlsf"} | {f"help_{it}": f"tlsf-{it}" for it in commands if it != "help"}
     if lacks := names.keys() ^ helps.keys():
-        raise ValueError(f"cases/help.toml has no help of its own, or one too many: {', '.join(sorted(lacks))}")
+        raise ValueError(f"tests/cases/help.toml has no help of its own, or one too many: {', '.join(sorted(lacks))}")
     for stem, name in names.items():
         (pathlib.Path(folder) / f"{name}.1").write_text(page(name, helps[stem], version, date, names.values()), encoding="utf-8")
 
 
 if __name__ == "__main__":
-    if sys.argv[1:] in (["-h"], ["--help"]):
-        print(__doc__.strip())
-        sys.exit(0)
-    if len(sys.argv) != 4:
-        print(__doc__.strip(), file=sys.stderr)
-        sys.exit(2)
     try:
-        main(*sys.argv[1:])
+        main(*script.words(__doc__, lambda it: len(it) == 3))
     except (OSError, ValueError) as why:
         print(f"man.py: {why}", file=sys.stderr)
         sys.exit(1)

@@ -27,6 +27,7 @@ TOP = pathlib.Path(__file__).resolve().parent.parent.parent
 sys.dont_write_bytecode = True
 sys.path.insert(0, str(TOP / "tools"))
 import calls
+import script
 
 # Lines of LLVM's that GNU's assembler or an older one doesn't know, or that say nothing.
 DROPPED = re.compile(r"\s*(#|//|\.addrsig|\.file\b|\.attribute\b|\.build_version\b|\.seh_((start|end)epilogue|unwindversion)|\.section\s+\.llvm|"
@@ -211,10 +212,6 @@ def write(clang, modules, memory_c, folder):
 
 
 def main(words):
-    if len(words) != 4:
-        asked = words in (["-h"], ["--help"])
-        print(__doc__.strip(), file=sys.stdout if asked else sys.stderr)
-        return 0 if asked else 2
     clang, first, second, folder = map(pathlib.Path, words)
     try:
         write(clang, {"x86_64": first, "aarch64": second}, TOP / "c" / "memory.c", folder)
@@ -225,4 +222,4 @@ def main(words):
 
 
 if __name__ == "__main__":
-    sys.exit(main(sys.argv[1:]))
+    sys.exit(main(script.words(__doc__, lambda it: len(it) == 4)))

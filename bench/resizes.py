@@ -1,6 +1,6 @@
 """An adversary that resizes: calls within a table of kinds, by which a heap as large as can be refuses the longest request."""
 from model.heap import LEAST, MOST_WORDS, NO_FIT, low, search_of, want
-from model.script import tlsf
+from script import tlsf
 from model.trace import MOST_LINES
 
 LEAST_LEFT = 3      # blocks that come last: with fewer there are no kinds left for a filler and a hole

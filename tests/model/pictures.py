@@ -4,13 +4,9 @@ import bisect
 import collections
 import functools
 import itertools
-import pathlib
-import sys
 
-from model.answers import Yard, curve_of, curves_of, look_at, peak_at, plot_text
-
-sys.path.append(str(pathlib.Path(__file__).resolve().parents[2] / "tools"))
 from case_files import cases
+from model.answers import Yard, curve_of, curves_of, look_at, peak_at, plot_text
 
 # A row of the table of a heap: a free block has the tick since which it is free, a live one its bytes, its serial, and its label or none.
 Block = collections.namedtuple("Block", "place size free_since length serial label")

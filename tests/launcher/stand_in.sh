@@ -1,4 +1,4 @@
-# Sourced by tools/launcher_test: what stands there for the toolchain.
+# Sourced by tests/launcher_test: what stands there for the toolchain.
 
 # A stand-in for `rt doc`, `rt version`, `rt try`, `rattle build`, `rattle-link`, clang, ld.lld, llvm-ar, strip and getent, which is one
 # file of many names.

@@ -1,4 +1,5 @@
-"""What the scripts of bench/ share: their help, the programs that they run, and what they say where something lacks."""
+"""What scripts share: their help, the programs that they run, and what they say where something lacks."""
+import argparse
 import collections
 import functools
 import multiprocessing
@@ -10,15 +11,30 @@ import subprocess
 import sys
 import time
 
-TOP = pathlib.Path(__file__).resolve().parents[2]
+from tree import TOP
+
 TUNABLES = "glibc.cpu.x86_rep_stosb_threshold=1073741824:glibc.cpu.x86_rep_movsb_threshold=1073741824"
 CALLGRIND = ["valgrind", "--tool=callgrind", "--callgrind-out-file=/dev/null"]
+
+
+class Reader(argparse.ArgumentParser):
+    """Reads the command line of a script, whose own text is the help. What it refuses it says in one line, with status 2."""
+
+    def __init__(self, doc):
+        super().__init__(allow_abbrev=False)
+        self.doc = doc
+
+    def format_help(self):
+        return f"{self.doc.strip()}\n"
+
+    def error(self, message):
+        stop(f"{message}; --help says more")
 
 
 def words(doc, are_well=lambda given: not given):
     """The words of the command line. Where they ask for help, or aren't well, the script ends here."""
     given = sys.argv[1:]
-    if "-h" in given or "--help" in given:
+    if given[:1] in (["-h"], ["--help"]):
         print(doc.strip())
         sys.exit(0)
     if not are_well(given):
@@ -51,7 +67,7 @@ def program(named=None):
     if named:
         return str(pathlib.Path(named).resolve()) if os.access(named, os.X_OK) else stop(f"{named} isn't there, or can't be run")
     done = subprocess.run([TOP / "tlsf", "--program"], stdout=subprocess.PIPE, text=True, check=False)
-    return done.stdout.strip() if done.returncode == 0 else stop("the program isn't built")
+    return done.stdout.strip() if done.returncode == 0 else stop("the program isn't built, and none is named")
 
 
 def tlsf(*given, text="", status=0):

@@ -9,7 +9,7 @@ case ${1-} in
     ;;
 esac
 stop() {
-    echo "$name_of_test: $*; tools/$name_of_test --help says more" >&2
+    echo "$name_of_test: $*; tests/$name_of_test --help says more" >&2
     exit 2
 }
 cc=${cc:-cc}

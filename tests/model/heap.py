@@ -1,4 +1,4 @@
-"""The heap as docs/MODEL.md tells it in words, for the scripts of bench/: it shares nothing with the program."""
+"""The heap as docs/MODEL.md tells it in words, for scripts: it shares nothing with the program."""
 
 MOST_WORDS = {4: 1 << 20, 5: 1 << 24}
 LEAST = 4       # words of the smallest block
