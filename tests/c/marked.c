@@ -3,6 +3,8 @@
  * the same in memory of the program's. It prints what it was going to touch, and goes on if nobody stops it. */
 #include "tlsf.h"
 
+#include "tlsf_cache.h"
+
 #include <stdio.h>
 #include <stdlib.h>
 #include <string.h>
@@ -109,10 +111,44 @@ static unsigned char *drained(void) {
 
 static void used_after_queue_drain(void) { read_at(drained()); }
 
+/* A pointer to what a magazine keeps. */
+static unsigned char *kept(struct tlsf_cache *cache) {
+    if (tlsf_cache_open(cache, &heap)) stop("no magazine");
+    unsigned char *p = tlsf_cache_malloc(cache, 40);
+    if (!p) stop("no room");
+    memset(p, 0, 40);
+    if (tlsf_cache_free(cache, p)) stop("no free");
+    return p;
+}
+
+static void used_while_kept(void) {
+    struct tlsf_cache cache = TLSF_CACHE_CLOSED;
+    read_at(kept(&cache) + 20);
+}
+
+static void used_after_second_free(void) {
+    struct tlsf_cache cache = TLSF_CACHE_CLOSED;
+    unsigned char *p = kept(&cache);
+    if (tlsf_cache_free(&cache, p) != TLSF_STALE || tlsf_cache_usable_size(&cache, p) != 0) stop("a second free");
+    write_at(p + 39);
+}
+
+static void overrun_after_kept(void) {
+    struct tlsf_cache cache = TLSF_CACHE_CLOSED;
+    unsigned char *p = kept(&cache);
+    if (tlsf_cache_malloc(&cache, 30) == p) write_at(p + 30);
+}
+
 #ifdef TLSF_VALGRIND
 static void not_initialised(void) {
     unsigned char *p = get(40);
     read_at(p + 3);
+}
+
+static void not_initialised_after_kept(void) {
+    struct tlsf_cache cache = TLSF_CACHE_CLOSED;
+    unsigned char *p = kept(&cache);
+    if (tlsf_cache_malloc(&cache, 40) == p) read_at(p + 3);
 }
 #endif
 
@@ -154,10 +190,21 @@ static void right_by_name(void) {
     tlsf_release(&heap, name);
 }
 
+static void right_by_magazine(void) {
+    struct tlsf_cache cache = TLSF_CACHE_CLOSED;
+    unsigned char *const p = kept(&cache), *const q = tlsf_cache_calloc(&cache, 3, 11);
+    if (p != q) stop("no kept block");
+    for (int k = 0; k < 33; k++) read_at(q + k);
+    if (tlsf_cache_realloc(&cache, q, 40) != q) stop("it moves");
+    memset(q, 1, 40);
+    if (tlsf_cache_usable_size(&cache, q) != 40 || tlsf_cache_free(&cache, q) || tlsf_cache_close(&cache)) stop("no close");
+    tlsf_free(&heap, get(40));
+}
+
 static void right(void) {
     struct tlsf_heap_report report;
     struct tlsf_heap_counts counts;
-    for (int turn = 0; turn < 20; turn++) right_by_pointer(), right_by_name();
+    for (int turn = 0; turn < 20; turn++) right_by_pointer(), right_by_name(), right_by_magazine();
     (void)drained();
     if (tlsf_report(&heap, &report) || tlsf_counts(&heap, &counts) || tlsf_close(&heap)) stop("no report");
     for (size_t k = 0; k < sizeof memory; k++) memory[k] = 1; /* the program's again */
@@ -171,8 +218,9 @@ static const struct {
     {"overrun_aligned", overrun_aligned}, {"used_after_free", used_after_free}, {"used_after_release", used_after_release},
     {"used_after_move", used_after_move}, {"used_behind_end", used_behind_end}, {"used_after_resize", used_after_resize},
     {"used_after_drain", used_after_drain}, {"used_after_queue_drain", used_after_queue_drain},
+    {"used_while_kept", used_while_kept}, {"used_after_second_free", used_after_second_free}, {"overrun_after_kept", overrun_after_kept},
 #ifdef TLSF_VALGRIND
-    {"not_initialised", not_initialised},
+    {"not_initialised", not_initialised}, {"not_initialised_after_kept", not_initialised_after_kept},
 #endif
     {"right", right},
 };
