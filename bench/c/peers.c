@@ -1,11 +1,12 @@
 /* Counts, times and fills heaps of the C library, and others beside them. bench/peers builds and runs it.
  *
- * PEERS WAY COLUMN, where COLUMN is level4, level5, system (calloc, free, realloc and memcpy of what is loaded) or, with -DAUTHORS, authors
- * (TLSF 2.4 of its authors). Payload is made zero in each but malloc and free, which are by pointer here too. A call that is refused ends
- * the program with status 1. WAY is one of these:
+ * PEERS WAY COLUMN, where COLUMN is level4, level5, near4 or near5 (near heaps), system (calloc, malloc, free, realloc and memcpy of what is
+ * loaded) or, with -DAUTHORS, authors (TLSF 2.4, or what has its calls). By name payload is made zero, which is calloc where there are no
+ * names; malloc, free and realloc are by pointer here too. A call that is refused ends the program with status 1. WAY is one of these:
  *   calls   prints 'CALL, REQUESTS: MEAN WORST' in instructions: the processor traps behind each. What is counted begins with the first
  *           instruction of the function that a program calls, and ends with its return; what fills and copies payload is part of it.
- *   holes   prints 'worst call, N holes: WORST' so, where blocks are made and released beside N holes in which none fits.
+ *   holes   prints 'worst call, N holes: WORST' so, where blocks are made and released by name beside N holes in which none fits. Of
+ *           1,000 holes it prints the calls as above too, by name and by pointer.
  *   time    prints 'time, REQUESTS: NANOSECONDS' of an allocate and a release, of a malloc and a free, and of a resize.
  *   full    prints 'full, REQUESTS: FRESH AGED', the bytes asked for in thousandths of 8 MiB: at the first refusal, and in the mean where
  *           100,000 blocks have come and gone before. Of the system it is so much resident memory, and its peak while blocks come and go. */
@@ -31,7 +32,7 @@ void *authors_realloc(void *block, size_t bytes) __asm__("tlsf_realloc");
 #endif
 
 enum { ROUNDS = 1000, WARM = 20000, LIVE = 1000, MOST_HOLES = 100000, MOST_BLOCKS = 1 << 20, WORDS = 1 << 20 };
-static enum { LEVEL_4, LEVEL_5, SYSTEM, AUTHORS_OWN } column;
+static enum { OURS, SYSTEM, AUTHORS_OWN } column;
 static int is_stepped; /* else no call is counted */
 
 struct tally {
@@ -67,29 +68,47 @@ struct block {
     uintptr_t at;
     uint32_t len;
 };
-static struct tlsf_heap heap;
 static struct tally allocates, releases, resizes;
-static enum { FILLED, BY_POINTER, RESIZED } kind;
+static enum { BY_NAME, BY_POINTER, RESIZED, RESIZED_BY_POINTER } kind;
+static const char *const calls_of_kind[][3] = {
+    {"allocate", "release", ""}, {"malloc", "free", ""}, {"", "", "resize"}, {"", "", "realloc"}};
 
-/* Not by their own names, which TLSF 2.4 of its authors has too. */
-static void *pointer_of(uint32_t len) { return tlsf_malloc(&heap, len); }
-static int free_pointer(void *at) { return (int)tlsf_free(&heap, at); }
+/* The calls of a column. Those of the library have the handle first; the others have none, and calloc, free and realloc in the place of
+ * calls by name. */
+static struct calls {
+    uintptr_t handle, allocate, release, resize, malloc, free, realloc, write, read;
+} calls;
+
+static int is_by_pointer(void) { return kind == BY_POINTER || kind == RESIZED_BY_POINTER; }
+
+/* Calls that are inline in tlsf.h, and those that find the handle of a near heap first. */
+static void *level_malloc(struct tlsf_heap *heap, size_t len) { return tlsf_malloc(heap, len); }
+static uint32_t level_free(struct tlsf_heap *heap, void *at) { return tlsf_free(heap, at); }
+static void *level_realloc(struct tlsf_heap *heap, void *at, size_t len) { return tlsf_realloc(heap, at, len); }
+static uint32_t near_allocate(struct tlsf_near_heap *heap, uint32_t len, struct tlsf_name *name) {
+    return tlsf_allocate(tlsf_near(heap), len, name);
+}
+static uint32_t near_release(struct tlsf_near_heap *heap, struct tlsf_name name) { return tlsf_release(tlsf_near(heap), name); }
+static uint32_t near_reallocate(struct tlsf_near_heap *heap, struct tlsf_name *name, uint32_t len) {
+    return tlsf_reallocate(tlsf_near(heap), name, len);
+}
+static void *near_malloc(struct tlsf_near_heap *heap, size_t len) { return tlsf_malloc(tlsf_near(heap), len); }
+static uint32_t near_free(struct tlsf_near_heap *heap, void *at) { return tlsf_free(tlsf_near(heap), at); }
+static void *near_realloc(struct tlsf_near_heap *heap, void *at, size_t len) { return tlsf_realloc(tlsf_near(heap), at, len); }
+static uint32_t near_write(struct tlsf_near_heap *heap, struct tlsf_name name, uint32_t at, const uint8_t *from, size_t n) {
+    return tlsf_write(tlsf_near(heap), name, at, from, n);
+}
+static uint32_t near_read(struct tlsf_near_heap *heap, struct tlsf_name name, uint32_t at, uint8_t *to, size_t n) {
+    return tlsf_read(tlsf_near(heap), name, at, to, n);
+}
 
 /* Says whether there was room. */
 static int gives(struct block *block, uint32_t len, int counts) {
     struct tally *tally = counts ? &allocates : NULL;
     block->len = len;
-    if (kind == BY_POINTER) {
-        uintptr_t function = column == SYSTEM ? (uintptr_t)malloc : (uintptr_t)pointer_of;
-#ifdef AUTHORS
-        if (column == AUTHORS_OWN) function = (uintptr_t)authors_malloc;
-#endif
-        block->at = call(tally, function, WITH(len));
-    } else if (column == SYSTEM) block->at = call(tally, (uintptr_t)calloc, WITH(1, len));
-#ifdef AUTHORS
-    else if (column == AUTHORS_OWN) block->at = call(tally, (uintptr_t)authors_calloc, WITH(1, len));
-#endif
-    else block->at = !(uint32_t)call(tally, (uintptr_t)tlsf_allocate, WITH((uintptr_t)&heap, len, (uintptr_t)&block->name));
+    if (is_by_pointer()) block->at = calls.handle ? call(tally, calls.malloc, WITH(calls.handle, len)) : call(tally, calls.malloc, WITH(len));
+    else if (!calls.handle) block->at = call(tally, calls.allocate, WITH(1, len));
+    else block->at = !(uint32_t)call(tally, calls.allocate, WITH(calls.handle, len, (uintptr_t)&block->name));
     return block->at != 0;
 }
 
@@ -97,21 +116,16 @@ static void allocate(struct block *block, uint32_t len, int counts) { ends_if(!g
 
 static void release(struct block *block, int counts) {
     struct tally *tally = counts ? &releases : NULL;
-    if (column == SYSTEM) call(tally, (uintptr_t)free, WITH(block->at));
-#ifdef AUTHORS
-    else if (column == AUTHORS_OWN) call(tally, (uintptr_t)authors_free, WITH(block->at));
-#endif
-    else if (kind == BY_POINTER) ends_if((int)call(tally, (uintptr_t)free_pointer, WITH(block->at)), "free");
-    else ends_if((int)call(tally, (uintptr_t)tlsf_release, WITH((uintptr_t)&heap, OF_NAME(block->name))), "release");
+    if (!calls.handle) call(tally, calls.free, WITH(block->at));
+    else if (is_by_pointer()) ends_if((int)call(tally, calls.free, WITH(calls.handle, block->at)), "free");
+    else ends_if((int)call(tally, calls.release, WITH(calls.handle, OF_NAME(block->name))), "release");
 }
 
 static void resize(struct block *block, uint32_t len, int counts) {
     struct tally *tally = counts ? &resizes : NULL;
-    if (column == SYSTEM) block->at = call(tally, (uintptr_t)realloc, WITH(block->at, len));
-#ifdef AUTHORS
-    else if (column == AUTHORS_OWN) block->at = call(tally, (uintptr_t)authors_realloc, WITH(block->at, len));
-#endif
-    else block->at = !(uint32_t)call(tally, (uintptr_t)tlsf_reallocate, WITH((uintptr_t)&heap, (uintptr_t)&block->name, len));
+    if (!calls.handle) block->at = call(tally, calls.realloc, WITH(block->at, len));
+    else if (is_by_pointer()) block->at = call(tally, calls.realloc, WITH(calls.handle, block->at, len));
+    else block->at = !(uint32_t)call(tally, calls.resize, WITH(calls.handle, (uintptr_t)&block->name, len));
     ends_if(!block->at, "resize");
 }
 
@@ -131,28 +145,28 @@ static double nanoseconds(void) {
 }
 
 static void print_both(const char *requests) {
-    print(kind == BY_POINTER ? "malloc" : "allocate", requests, &allocates);
-    print(kind == BY_POINTER ? "free" : "release", requests, &releases);
-    print("resize", requests, &resizes);
+    print(calls_of_kind[kind][0], requests, &allocates);
+    print(calls_of_kind[kind][1], requests, &releases);
+    print(calls_of_kind[kind][2], requests, &resizes);
     allocates = releases = resizes = (struct tally){0, 0, 0};
 }
 
 /* Keeps so many blocks live, and puts another in the place of one of them, or resizes one, again and again, WARM times before any counts. */
 static void replace(const char *requests, int live, uint32_t least, uint32_t most, int rounds) {
-    static const char *const calls[] = {"", "by pointer, ", "resize, "};
+    static const char *const named[] = {"", "by pointer, ", "resize, ", "realloc, "};
     double since = 0;
     if (!is_stepped) rounds *= 100;
     for (int i = 0; i < live; i++) allocate(&blocks[i], between(least, most), 0);
     for (int i = -WARM; i < rounds; i++) {
         struct block *block = &blocks[between(0, (uint32_t)live - 1)];
         if (!i) since = nanoseconds();
-        if (kind == RESIZED) resize(block, between(least, most), i >= 0);
+        if (kind >= RESIZED) resize(block, between(least, most), i >= 0);
         else {
             release(block, i >= 0);
             allocate(block, between(least, most), i >= 0);
         }
     }
-    if (!is_stepped) printf("time, %s%s: %.1f\n", calls[kind], requests, (nanoseconds() - since) / rounds);
+    if (!is_stepped) printf("time, %s%s: %.1f\n", named[kind], requests, (nanoseconds() - since) / rounds);
     for (int i = 0; i < live; i++) release(&blocks[i], 0);
     print_both(requests);
 }
@@ -182,21 +196,39 @@ static void move(uint32_t at, uintptr_t n) {
         call(&writes, (uintptr_t)memcpy, WITH((uintptr_t)(plain + at), (uintptr_t)bytes, n));
         call(&reads, (uintptr_t)memcpy, WITH((uintptr_t)bytes, (uintptr_t)(plain + at), n));
     } else {
-        ends_if((int)call(&writes, (uintptr_t)tlsf_write, WITH((uintptr_t)&heap, OF_NAME(block.name), at, (uintptr_t)bytes, n)), "write");
-        ends_if((int)call(&reads, (uintptr_t)tlsf_read, WITH((uintptr_t)&heap, OF_NAME(block.name), at, (uintptr_t)bytes, n)), "read");
+        ends_if((int)call(&writes, calls.write, WITH(calls.handle, OF_NAME(block.name), at, (uintptr_t)bytes, n)), "write");
+        ends_if((int)call(&reads, calls.read, WITH(calls.handle, OF_NAME(block.name), at, (uintptr_t)bytes, n)), "read");
     }
     if (column != SYSTEM) release(&block, 0);
     print("write", requests, &writes);
     print("read", requests, &reads);
 }
 
+#define AT(function) (uintptr_t)(function)
+
+static void open_ours(const char *name) {
+    static struct tlsf_heap heap;
+    static struct tlsf_near_heap near;
+    const int is_near = *name == 'n';
+    const uint32_t level = (uint32_t)atoi(name + strcspn(name, "45"));
+    const struct calls of_level = {AT(&heap), AT(tlsf_allocate), AT(tlsf_release), AT(tlsf_reallocate), AT(level_malloc), AT(level_free),
+                                   AT(level_realloc), AT(tlsf_write), AT(tlsf_read)};
+    const struct calls of_near = {AT(&near), AT(near_allocate), AT(near_release), AT(near_reallocate), AT(near_malloc), AT(near_free),
+                                  AT(near_realloc), AT(near_write), AT(near_read)};
+    calls = is_near ? of_near : of_level;
+    ends_if((int)(is_near ? tlsf_open_near(&near, level, 0, WORDS) : tlsf_open(&heap, level, 0, WORDS)), "the heap");
+}
+
 static void open_all(const char *name) {
     if (is_stepped) ends_if(!counts_traps(), "a trap behind each instruction");
-    column = !strcmp(name, "level4") ? LEVEL_4 : !strcmp(name, "level5") ? LEVEL_5 : !strcmp(name, "system") ? SYSTEM : AUTHORS_OWN;
-    if (column <= LEVEL_5) ends_if((int)tlsf_open(&heap, column == LEVEL_4 ? 4 : 5, 0, WORDS), "the heap");
+    column = *name == 'l' || *name == 'n' ? OURS : *name == 's' ? SYSTEM : AUTHORS_OWN;
+    if (column == OURS) open_ours(name);
+    if (column == SYSTEM) calls = (struct calls){.allocate = AT(calloc), .malloc = AT(malloc), .free = AT(free), .realloc = AT(realloc)};
 #ifdef AUTHORS
     static char pool[8 * WORDS];
     if (column == AUTHORS_OWN) ends_if(init_memory_pool(sizeof pool, pool) == (size_t)-1, "the pool");
+    if (column == AUTHORS_OWN)
+        calls = (struct calls){.allocate = AT(authors_calloc), .malloc = AT(authors_malloc), .free = AT(authors_free), .realloc = AT(authors_realloc)};
 #else
     ends_if(column == AUTHORS_OWN, "a column that isn't built");
 #endif
@@ -259,30 +291,39 @@ static void fill_apart(const char *requests, uint32_t most) {
 }
 
 static void run_all(void) {
-    replace("64 bytes in pairs", 1, 64, 64, ROUNDS);
-    replace("8 bytes, 1,000 live", LIVE, 8, 8, ROUNDS);
-    replace("8..512 bytes, 1,000 live", LIVE, 8, 512, ROUNDS);
-    replace("8..512 bytes, 10,000 live", 10 * LIVE, 8, 512, ROUNDS);
-    replace("8..65,536 bytes, 100 live", 100, 8, 65536, ROUNDS / 4); /* most of what is counted there fills payload */
-    for (kind = BY_POINTER; kind <= RESIZED; kind++) replace("8..512 bytes, 1,000 live", LIVE, 8, 512, ROUNDS);
-    kind = FILLED;
+    for (kind = BY_NAME; kind <= BY_POINTER; kind++) {
+        replace("64 bytes in pairs", 1, 64, 64, ROUNDS);
+        replace("8 bytes, 1,000 live", LIVE, 8, 8, ROUNDS);
+        replace("8..512 bytes, 1,000 live", LIVE, 8, 512, ROUNDS);
+        replace("8..512 bytes, 10,000 live", 10 * LIVE, 8, 512, ROUNDS);
+        replace("8..65,536 bytes, 100 live", 100, 8, 65536, ROUNDS / 4); /* by name most of what is counted there fills payload */
+    }
+    for (; kind <= RESIZED_BY_POINTER; kind++) replace("8..512 bytes, 1,000 live", LIVE, 8, 512, ROUNDS);
+    kind = BY_NAME;
+    for (uint32_t at = 0; at <= 3 && is_stepped && column != AUTHORS_OWN; at += 3)
+        for (uintptr_t n = 8; n <= 4096; n *= 8) move(at, n);
+}
+
+/* By name, and in the means of 1,000 holes by pointer too. */
+static void pass_all_holes(void) {
+    for (int holes = 100; holes <= MOST_HOLES; holes *= 10) {
+        pass_holes(holes);
+        printf("worst call, %d holes: %lu\n", holes, allocates.worst > releases.worst ? allocates.worst : releases.worst);
+        if (holes == 1000) print_both("1,000 holes");
+        allocates = releases = (struct tally){0, 0, 0};
+    }
+    kind = BY_POINTER;
+    pass_holes(1000);
+    print_both("1,000 holes");
 }
 
 int main(int argc, char **argv) {
     const char *way = argc == 3 ? argv[1] : "";
     is_stepped = way[0] == 'c' || way[0] == 'h';
     open_all(argc == 3 ? argv[2] : "");
-    if (way[0] == 'c' || way[0] == 't') {
-        run_all();
-        for (uint32_t at = 0; at <= 3 && is_stepped && column != AUTHORS_OWN; at += 3)
-            for (uintptr_t n = 8; n <= 4096; n *= 8) move(at, n);
-    } else if (way[0] == 'h') {
-        for (int holes = 100; holes <= MOST_HOLES; holes *= 10) {
-            pass_holes(holes);
-            printf("worst call, %d holes: %lu\n", holes, allocates.worst > releases.worst ? allocates.worst : releases.worst);
-            allocates = releases = (struct tally){0, 0, 0};
-        }
-    } else if (way[0] == 'f') {
+    if (way[0] == 'c' || way[0] == 't') run_all();
+    else if (way[0] == 'h') pass_all_holes();
+    else if (way[0] == 'f') {
         fill_apart("8 bytes", 8);
         fill_apart("8..512 bytes", 512);
         fill_apart("8..65,536 bytes", 65536);

@@ -52,10 +52,16 @@ __attribute__((constructor)) static void start(void) {
     sched_setaffinity(0, sizeof one, &one);
 }
 
+/* Under SCHED_FIFO a thread that spins keeps its processor, so a new one begins on its own wherever its maker leaves that open. */
 int pthread_create(pthread_t *thread, const pthread_attr_t *how, void *(*run)(void *), void *with) {
     int (*create)(pthread_t *, const pthread_attr_t *, void *(*)(void *), void *) = dlsym(RTLD_NEXT, "pthread_create");
-    const int answer = create(thread, how, run, with);
     const cpu_set_t one = processor_of(atomic_fetch_add(&started, 1) + 1);
-    if (!answer) pthread_setaffinity_np(*thread, sizeof one, &one);
+    pthread_attr_t own;
+    if (!how && !pthread_attr_init(&own)) {
+        pthread_attr_setaffinity_np(&own, sizeof one, &one);
+        how = &own;
+    }
+    const int answer = create(thread, how, run, with);
+    if (!answer && how != &own) pthread_setaffinity_np(*thread, sizeof one, &one);
     return answer;
 }
