@@ -23,6 +23,8 @@ ROW = re.compile(r'^(  \[(\[.*\]), 0, )".*"\],$', re.M)
 FAULT = re.compile(r'(?<=^\[\[fault\]\]\n)line = ".*"\n(traces = \[\n(?:  .*\n)*\])', re.M)
 # Pictures of pages, by the cases whose answers they are.
 SHOWN = {"heap.svg": "map_labels", "plot.svg": "plot_fragmented"}
+# What `rt ci` runs the program on: files beside its sources.
+TOOL = TOP / "crates" / "tlsf_tool"
 
 # An answer by its name and its place: the text that is stored, what tells it or raises Untold, and what stores another.
 Stored = collections.namedtuple("Stored", "name place text tell store")
@@ -41,6 +43,11 @@ def stored_file(name, file, tell):
     """An answer that is a file."""
     place, write = file.relative_to(TOP).as_posix(), functools.partial(file.write_text, encoding="utf-8")
     return Stored(name, place, kept(file), tell, write)
+
+
+def run_by_gate():
+    """What the program writes where the gate runs it."""
+    return stored_file("stdout", TOOL / "stdout", lambda: answer_to(kept(TOOL / "args").split(), kept(TOOL / "stdin")))
 
 
 def words():
@@ -72,7 +79,7 @@ def all_stored():
     answers = [stored_case(it) for it in (*cases().values(), *cases_of(RECORDED))]
     shown = [stored_file(it, TOP / "docs" / it, stored_case(cases()[name]).tell) for it, name in SHOWN.items()]
     told = [stored_file(tell.__name__, TABLES / f"{tell.__name__}.toml", tell) for tell in (words, faults)]
-    return [*answers, *shown, *told, *map(table_by, (tables.moments, tables.sequences, tables.streams))]
+    return [*answers, *shown, run_by_gate(), *told, *map(table_by, (tables.moments, tables.sequences, tables.streams))]
 
 
 def table_by(tell):

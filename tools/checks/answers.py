@@ -6,6 +6,8 @@
 - an answer that is named in the table of refusals of docs/TRACE.md has its
   number there. Others below 32 are those of `SHARED` here, and the rest begin
   at 32: so no number means one thing in a trace and another in C;
+- ALL, in which Error::check finds an answer, has each variant of Error but
+  Unknown;
 - tlsf_text_of says the same of each answer in C and in Rust, and of no two
   answers the same."""
 import re
@@ -58,6 +60,10 @@ def faults():
     yield from differing(RUST, numbers_in(RUST, r"^pub const TLSF_([A-Z_]+): u32 = (\d+);$"), {**answers, "UNFILLED": 1})
     of_error = numbers_in(ERROR, r"^    ([A-Z]\w+) = (\d+),$", OF_ERROR)
     yield from differing(ERROR, of_error, {it: number for it, number in answers.items() if it not in ("OK", "NOT_WRITTEN")})
+    # `Error::check` finds an answer in this list alone.
+    listed = found_in(ERROR, r"^        Self::([A-Z]\w+),$")
+    if set(listed) != set(found_in(ERROR, r"^    ([A-Z]\w+) = \d+,$")) - {"Unknown"}:
+        yield f"{ERROR}: ALL has not each error but Unknown, or one more"
     in_c, in_rust = dict(found_in(INLINE, r'^    case TLSF_(\w+): return "(.*)";$')), dict(found_in(RUST, r'^        TLSF_(\w+) => "(.*)",$'))
     if in_c != in_rust or in_c.keys() != answers.keys():
         yield f"{INLINE}, {RUST}: tlsf_text_of says other words in C and in Rust, or not of each answer"
