@@ -577,6 +577,9 @@ class resource : public std::pmr::memory_resource {
 
 public:
     explicit resource(heap &owner) noexcept : heap_(owner.state_) {}
+    // Copied also where it is moved: containers may have the address of the one that is moved from.
+    resource(const resource &) noexcept = default;
+    resource &operator=(const resource &) noexcept = default;
 };
 
 // The heap under a container's own allocator: std::vector<float, tlsf::allocator<float>> samples(heap);
@@ -590,6 +593,9 @@ public:
     using value_type = T;
 
     allocator(heap &owner) noexcept : heap_(owner.state_) {}
+    // Copied also where it is moved: an allocator keeps its value then ([allocator.requirements]).
+    allocator(const allocator &) noexcept = default;
+    allocator &operator=(const allocator &) noexcept = default;
     template <typename U>
     allocator(const allocator<U> &other) noexcept : heap_(other.heap_) {}
 
