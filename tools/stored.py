@@ -17,7 +17,7 @@ import tables
 
 TABLES = TOP / "tests" / "program"
 TRACE = tables.TRACE.encode()
-# The rows of words.toml whose whole text stands there, and of these one that is answered.
+# The rows of arguments.toml whose whole text stands there, and of these one that is answered.
 LINES = re.compile(r"^lines = \[\n.*?^\]", re.M | re.S)
 ROW = re.compile(r'^(  \[(\[.*\]), 0, )".*"\],$', re.M)
 FAULT = re.compile(r'(?<=^\[\[fault\]\]\n)line = ".*"\n(traces = \[\n(?:  .*\n)*\])', re.M)
@@ -45,19 +45,19 @@ def stored_file(name, file, tell):
     return Stored(name, place, kept(file), tell, write)
 
 
-def run_by_gate():
-    """What the program writes where the gate runs it."""
+def run_by_rt_ci():
+    """What the program writes where `rt ci` runs it."""
     return stored_file("stdout", TOOL / "stdout", lambda: answer_to(kept(TOOL / "args").split(), kept(TOOL / "stdin")))
 
 
-def words():
-    """words.toml, where the rows that are answered have what is told."""
+def arguments():
+    """arguments.toml, where the rows that are answered have what is told."""
 
     def row(it):
         told = answer_to(json.loads(it[2])[1:], tables.TRACE)
         return f"{it[1]}{json.dumps(told, ensure_ascii=False)}],"
 
-    return LINES.sub(lambda lines: ROW.sub(row, lines[0]), kept(TABLES / "words.toml"))
+    return LINES.sub(lambda lines: ROW.sub(row, lines[0]), kept(TABLES / "arguments.toml"))
 
 
 def faults():
@@ -78,8 +78,8 @@ def kept(file):
 def all_stored():
     answers = [stored_case(it) for it in (*cases().values(), *cases_of(RECORDED))]
     shown = [stored_file(it, TOP / "docs" / it, stored_case(cases()[name]).tell) for it, name in SHOWN.items()]
-    told = [stored_file(tell.__name__, TABLES / f"{tell.__name__}.toml", tell) for tell in (words, faults)]
-    return [*answers, *shown, run_by_gate(), *told, *map(table_by, (tables.moments, tables.sequences, tables.streams))]
+    told = [stored_file(tell.__name__, TABLES / f"{tell.__name__}.toml", tell) for tell in (arguments, faults)]
+    return [*answers, *shown, run_by_rt_ci(), *told, *map(table_by, (tables.moments, tables.sequences, tables.streams))]
 
 
 def table_by(tell):

@@ -8,7 +8,7 @@ from model.commands import Untold, answer_to
 from model.sequences import answer_of, fault_in, traces_of, worst_of
 from model.trace import trace_in
 
-TRACE = "tlsf 1 1 64 1\n"   # what the runs of words.toml and streams.toml read
+TRACE = "tlsf 1 1 64 1\n"   # what the runs of arguments.toml and streams.toml read
 MOMENT = re.compile(r'^  \[\["tlsf", (.*)\], (\d+)\],$', re.M)
 FRONT = re.compile(r'^  \[\["tlsf", (.*)\], (".*")\],$', re.M)
 ANSWERS = re.compile(r"^answers = \[\n.*?^\]", re.M | re.S)

@@ -55,6 +55,11 @@ def lines_of(accesses):
     return len(lines)
 
 
+def hows(column):
+    """The ways to call it: only this heap has names."""
+    return ["pointer", "name"] if column in OURS else ["pointer"]
+
+
 class Rows:
     """Runs the programs, and keeps what they told. A row is known by its text."""
 
@@ -93,9 +98,7 @@ class Rows:
             for (_, column, *_), text in zip(ways, pool.map(lambda way: way[0](*way[1:]), ways)):
                 self.keep_lines(column, text)
             list(pool.map(self.count_lines, self.columns("cold")))
-            for column, counted in zip(self.columns("recorded"), pool.map(self.count_recorded, self.columns("recorded"))):
-                for row, figure in counted:
-                    self.keep(row, column, figure)
+            self.count_recorded(pool)
 
     def count_lines(self, column):
         """Of each call of cold.c the cache lines that it touches, by the trace that valgrind's lackey writes."""
@@ -119,16 +122,18 @@ class Rows:
         for call in COLD_CALLS:
             self.told[f"lines, {call}"][column].append([statistics.mean(touched[call]), max(touched[call])])
 
-    def count_recorded(self, column):
+    def count_recorded(self, pool):
         """The mean instructions of each call of recorded programs, by pointer and, of this heap, by name; less what the loop itself takes."""
-        found = []
-        for how in ("pointer", "name")[: 2 if column in OURS else 1]:
-            for call, names in RECORDED.items():
-                mean, own = (self.instructions(column, memory, how, call) for memory in ("COLUMN", "nothing"))
-                found.append((f"recorded, {names[how == 'name']}", mean - own))
-        return found
+        columns = self.columns("recorded")
+        loops = [(columns[0], "nothing", "pointer", call) for call in RECORDED if columns]
+        ways = [(it, "COLUMN", how, call) for it in columns for how in hows(it) for call in RECORDED]
+        counted = list(pool.map(lambda way: self.instructions(*way), loops + ways))
+        loop = dict(zip(RECORDED, counted))
+        for (column, _, how, call), figure in zip(ways, counted[len(loops) :]):
+            self.keep(f"recorded, {RECORDED[call][how == 'name']}", column, figure - loop[call])
 
     def instructions(self, column, memory, how, call):
+        """The mean of a call, counted by valgrind's callgrind."""
         path = self.built.work / f"counts_{column}_{memory}_{how}_{call}"
         valgrind = ["valgrind", "--tool=callgrind", "--callgrind-out-file=/dev/null", f"--toggle-collect=do_{call}_*", f"--log-file={path}"]
         told = self.built.output(column, [*valgrind, *self.built.words("replay", column, memory, how, "1", *TRACES)])
@@ -178,7 +183,7 @@ class Rows:
 
     def time_recorded(self):
         for column in self.columns("recorded"):
-            for how in ("pointer", "name")[: 2 if column in OURS else 1]:
+            for how in hows(column):
                 told = self.run(column, "replay", "COLUMN", how, "5", *TRACES, is_pinned=True).split()
                 self.keep(f"time of a call, recorded{', by name' if how == 'name' else ''}", column, told[4])
                 if float(told[3]):

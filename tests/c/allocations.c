@@ -5,9 +5,11 @@
 #include "piece.h"
 #include "tlsf.h"
 
+#include "tlsf_cache.h"
+
 #include <string.h>
 
-enum { BLOCKS = 64, TURNS = 40000, KINDS = 58 };
+enum { BLOCKS = 64, TURNS = 40000, KINDS = 62 };
 
 static size_t calls; /* of malloc and free, and of what the proved code asks for */
 static int is_counted;
@@ -41,6 +43,8 @@ void __wrap_tlsf_memory_dealloc(void *at) {
 
 static struct tlsf_heap heap, closed;
 static struct tlsf_near_heap near, closed_near;
+static struct tlsf_heap behind; /* a magazine */
+static struct tlsf_cache cache, closed_cache;
 static struct tlsf_post_end post, closed_post;
 static struct tlsf_take_end take, closed_take;
 static struct tlsf_queue queue, closed_queue;
@@ -50,7 +54,7 @@ static struct tlsf_pools pools, closed_pools;
 static const struct tlsf_kind rows[] = {{20, 100}, {10, 3000}};
 static struct tlsf_span spans[BLOCKS];
 static struct tlsf_name names[BLOCKS];
-static void *pointers[BLOCKS];
+static void *pointers[BLOCKS], *cached[BLOCKS];
 static uint8_t bytes[256];
 static uint64_t sum; /* of what comes, so that none of it is ignored */
 
@@ -174,6 +178,22 @@ static void do_calls_of_near_heaps(uint32_t kind, uint32_t level, void **p) {
     }
 }
 
+/* Many blocks are short enough to be kept, and the heap behind the magazine is full now and then. */
+static void do_calls_of_a_magazine(uint32_t kind, void **p) {
+    const size_t len = below(below(8) ? 600 : 9000);
+    struct tlsf_cache_usage usage = {0, 0};
+    switch (kind) {
+    case 58: if (!*p) *p = below(2) ? tlsf_cache_malloc(&cache, len) : tlsf_cache_calloc(&cache, len, 1); break;
+    case 59: sum += tlsf_cache_free(&cache, *p) + tlsf_cache_usable_size(&cache, *p); *p = NULL; break;
+    case 60: {
+        void *moved = *p ? tlsf_cache_realloc(&cache, *p, len + 1) : tlsf_cache_aligned_alloc(&cache, 64, len);
+        if (moved) *p = moved;
+        break;
+    }
+    default: sum += tlsf_cache_open(&cache, &behind) + tlsf_cache_close(&closed_cache) + tlsf_cache_report(&cache, &usage) + (below(8) ? 0 : tlsf_cache_flush(&cache)); break;
+    }
+}
+
 static void do_call(uint32_t kind, uint32_t level) {
     static void *of_near;
     static uint32_t place;
@@ -184,15 +204,18 @@ static void do_call(uint32_t kind, uint32_t level) {
     else if (kind < 36) do_other_calls(kind, level);
     else if (kind < 47) do_calls_of_queues_and_offsets(kind, &names[which], &spans[which]);
     else if (kind < 53) do_calls_of_pools(kind, &names[which]);
-    else do_calls_of_near_heaps(kind, level, &of_near);
+    else if (kind < 58) do_calls_of_near_heaps(kind, level, &of_near);
+    else do_calls_of_a_magazine(kind, &cached[which]);
 }
 
 static void all_calls(uint32_t level, int takes) {
     memset(names, 0, sizeof names);
     memset(pointers, 0, sizeof pointers);
+    memset(cached, 0, sizeof cached);
     is_counted = 1;
     wants("open", tlsf_open(&heap, level, 7, 5000) + tlsf_lane_open(&post, &take, 8), TLSF_OK);
     wants("open a near heap", tlsf_open_near(&near, level, 8, 5000), TLSF_OK);
+    wants("open a magazine", tlsf_open(&behind, level, 9, 5000) + tlsf_cache_open(&cache, &behind), TLSF_OK);
     wants("open a queue", tlsf_queue_open(&queue, 3, 8), TLSF_OK);
     wants("open an arena of offsets", tlsf_offsets_open(&offsets, level, 7, 64, 5000), TLSF_OK);
     wants("open pools", tlsf_pools_open(&pools, level, 20, rows, 2), TLSF_OK);
@@ -209,6 +232,7 @@ static void all_calls(uint32_t level, int takes) {
     }
     wants("close", tlsf_close(&heap) + tlsf_post_close(&post) + tlsf_take_close(&take), TLSF_OK);
     wants("close a near heap", tlsf_close(tlsf_near(&near)), TLSF_OK);
+    wants("close a magazine", tlsf_cache_close(&cache) + tlsf_close(&behind), TLSF_OK);
     wants("close a queue", tlsf_queue_close(&queue) + tlsf_offsets_close(&offsets) + tlsf_pools_close(&pools), TLSF_OK);
     for (uint32_t i = 0; i < 4; i++) sum += tlsf_poster_close(&poster[i]);
     wants("closing gives memory back", calls > 0, 1);

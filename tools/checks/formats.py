@@ -105,5 +105,5 @@ def faults():
 
 def looked_at():
     lacks = [it.name for it in TOOLS if not is_there(it)]
-    absent = f" without {', '.join(lacks)}, which isn't there in that version" if lacks else ""
+    absent = f"; not there in their versions: {', '.join(lacks)}" if lacks else ""
     return f"{sum(map(len, sources().values()))} sources{absent}"

@@ -73,7 +73,7 @@ unfolding hex_on_literals
 sample_passes Worker = refl
 sample_passes kind = refl
 
--- behind a word a line has its shape where its fields pass
+-- after a keyword a line has its shape where its fields pass
 shaped_line : (workers : ℕ) (first : List ℕ) (w : Keyword) (fields : List (List ℕ)) → keyword_of keywords first ≡ Some w → is_shaped workers (first ∷ fields) ≡ all_pass shape (kinds_behind w) fields
 shaped_line workers first w fields is =
     let as_kinds : is_some (values_in workers (kinds_of w) fields) ≡ all_pass shape (kinds_behind w) fields =
@@ -108,13 +108,13 @@ module _ (workers : ℕ) (fields : List (List ℕ)) where
   )
 
 module _ (workers : ℕ) (first : List ℕ) (fields : List (List ℕ)) where
-  -- no word
+  -- no keyword
   pub no_keyword : keyword_of keywords first ≡ None → FindsWrong (is_line workers) (IsFirstWrong workers) (first ∷ fields) (Some 1)
   no_keyword none =
       unshaped workers (first ∷ fields) 1 (rw none refl)
       (astray_at (is_shaped workers) (first ∷ fields) 0 1 refl (codes "phase" ∷ [], refl) (inl (never (is_shaped workers) (first ∷ []) (λ more. rw none refl))))
 
-  -- a word, and fields behind it that have not its shape
+  -- a keyword, and fields after it that have not its shape
   module _ (w : Keyword) (is : keyword_of keywords first ≡ Some w) where
     astray_behind : (n m : ℕ) → m ≡ passing_count shape (kinds_behind w) fields → all_pass shape (kinds_behind w) fields ≡ false → n ≡ m + 2 → GoAstrayAt (is_shaped workers) (first ∷ fields) n
     astray_behind n m count fails at =
@@ -327,7 +327,7 @@ module _ (workers : ℕ) (first : List ℕ) (fields : List (List ℕ)) (w : Keyw
         let behind : passing_count (λ k f. good workers k f) (kinds_behind w) fields ≡ m + 2 - 2 = omega (arith, fails.1) in
         let none : line_from w values ≡ None = bad_line w values (goods ∙ fails.0) in
         let found : HasFirstBadNumberAt workers (first ∷ fields) (m + 2) = record {
-          word = w;
+          keyword = w;
           values = values;
           keyword_is = is;
           say = say;

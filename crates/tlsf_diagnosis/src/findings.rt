@@ -152,7 +152,7 @@ pub fn push_wanted(text: &mut String, wanted: Wanted, workers: u32) -> Result<()
         Wanted::Name => text.push_str(", the name: `tlsf`"),
         Wanted::Version => text.push_str(", the version: `1` or `2`"),
         Wanted::Keyword => {
-            text.push_str(", the word of the line: `a`, `f`, `p`, `g`, `r`, `d` or `phase`")
+            text.push_str(", the keyword of the line: `a`, `f`, `p`, `g`, `r`, `d` or `phase`")
         }
         Wanted::Value(Kind::Payload) => text.push_str(
             ", the bytes to write: 2 to 128 hexadecimal digits, an even number of them",
