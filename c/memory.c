@@ -94,7 +94,7 @@ void free(void *at);
 
 enum {
     MARK = 8,          /* bytes in front of a piece */
-    HEAP = 2752,       /* bytes of a heap's or an arena's own fields: beside its words and the bits that say where blocks begin */
+    HEAP = 2760,       /* bytes of a heap's or an arena's own fields: beside its words and the bits that say where blocks begin */
     LINE = 64,         /* the handle of a near heap lies at a multiple of a cache line, */
     HANDLE = 32,       /* has so many bytes, */
     NEAR = 2816,       /* and begins so many, for it and for the heap's own fields */

@@ -95,12 +95,18 @@ static inline struct tlsf_placed tlsf_even_place(struct tlsf_heap *heap, size_t 
     return tlsf_align_again(heap, tlsf_rounded((uint32_t)len), it.at);
 }
 
+/* What a request is answered that no heap has room for: where no block begins is told by an open handle that no call is using. */
+TLSF_RARE uint32_t tlsf_too_long(struct tlsf_heap *heap) TLSF_NOEXCEPT {
+    struct tlsf_block_info none = {0, 0, 0, 0, 0};
+    return tlsf_block_at(heap, UINT32_MAX, &none) == TLSF_IS_CLOSED ? TLSF_IS_CLOSED : TLSF_NO_FIT;
+}
+
 /* A place for `len` bytes at that alignment, unfilled; TLSF_BAD_SIZE where it is no power of two up to 4,096. */
 TLSF_ANSWER static inline struct tlsf_placed tlsf_allocate_for(struct tlsf_heap *heap, size_t len, size_t align) TLSF_NOEXCEPT {
     struct tlsf_placed refused = {0, TLSF_BAD_SIZE, 0};
     if (align == 0 || align > 4096 || (align & (align - 1)) != 0) return refused;
     if (len > TLSF_LONGEST) {
-        refused.answer = heap->is_open ? TLSF_NO_FIT : TLSF_IS_CLOSED;
+        refused.answer = tlsf_too_long(heap);
         return refused;
     }
     return align <= 16 ? tlsf_even_place(heap, len) : tlsf_align_place(heap, tlsf_rounded((uint32_t)len), align);
@@ -199,9 +205,10 @@ static inline uint32_t tlsf_allocate_at(struct tlsf_heap *heap, size_t len, size
 
 /* --- By name: names that calls read or write by a pointer lie in no payload ---------------------------------------------- */
 
-/* Notes a block of `len` bytes where it has an odd number of words. tlsf_open takes the note back. */
+/* Notes a block of `len` bytes where it has an odd number of words. tlsf_open takes the note back. It is written once, so that what
+ * other threads read beside the handle stays in their caches. */
 TLSF_THIN void tlsf_note(struct tlsf_heap *heap, uint32_t len) TLSF_NOEXCEPT {
-    if (len > 8 && (len / 8 + (len % 8 != 0)) % 2 == 0) heap->is_mixed = true;
+    if (len > 8 && (len / 8 + (len % 8 != 0)) % 2 == 0 && !heap->is_mixed) heap->is_mixed = true;
 }
 
 #ifndef TLSF_NO_COPIES

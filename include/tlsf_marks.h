@@ -257,7 +257,8 @@ static inline uint32_t tlsf_marked_drain(struct tlsf_heap *heap, struct tlsf_tak
                                          uint32_t *came) TLSF_NOEXCEPT {
     struct tlsf_name name = {0, 0, 0};
     uint32_t count = 0;
-    if (!heap->is_open || !take->is_open) return tlsf_drain(heap, take, most, came);
+    const uint32_t answer = tlsf_drain(heap, take, 0, came); /* what it refuses, before a name is taken */
+    if (answer != TLSF_OK) return answer;
     for (; count < most && tlsf_take(take, &name) == TLSF_OK; count++) tlsf_marked_release(heap, name);
     *came = count;
     return TLSF_OK;
@@ -267,7 +268,8 @@ static inline uint32_t tlsf_marked_queue_drain(struct tlsf_heap *heap, struct tl
                                                uint32_t *came) TLSF_NOEXCEPT {
     struct tlsf_name name = {0, 0, 0};
     uint32_t count = 0;
-    if (!heap->is_open || !queue->is_open) return tlsf_queue_drain(heap, queue, most, came);
+    const uint32_t answer = tlsf_queue_drain(heap, queue, 0, came);
+    if (answer != TLSF_OK) return answer;
     for (; count < most && tlsf_queue_take(queue, &name) == TLSF_OK; count++) tlsf_marked_release(heap, name);
     *came = count;
     return TLSF_OK;

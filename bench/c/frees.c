@@ -3,6 +3,7 @@
  * FREES WAY COLUMN PATTERN [POSTERS] prints one or two figures. The owner has 80,000 blocks of 8 bytes for each poster, 1 to 3 threads,
  * which free them. WAY is
  *   lanes  their names go through a lane of 1,024 from each, and the owner drains them
+ *   beside the same, with the heap's handle in the cache line that a poster reads for each name; else it has a line of its own
  *   queue  the same through one queue of 1,024 for all
  *   ring   the same through a ring in C, of acquire and release, from which the owner copies up to 64 names before he stores the head
  *   lock   a poster frees them itself, and each call of any thread is under a lock
@@ -38,10 +39,17 @@ void authors_free(void *block) __asm__("tlsf_free");
 enum { EACH = 80000, MOST_POSTERS = 3, CAPACITY = 1024, TURN = 128, MOST_TURNS = EACH / TURN + 1, PERIOD = 100000, SLICE = 64 };
 enum { NAMES = 1 << 20 }; /* that go between two threads */
 
-static enum { LANES, QUEUE, RING, LOCK } way;
-static enum { WAITS, WORKS, TURNS, FULL } pattern;
-static enum { LEVEL_4, SYSTEM, AUTHORS_OWN } column;
-static struct tlsf_heap heap;
+/* What each poster reads for each name, beside a handle as a caller may declare it. */
+static struct {
+    _Alignas(128) struct tlsf_heap handle;
+    enum { LANES, QUEUE, RING, LOCK } way;
+    enum { WAITS, WORKS, TURNS, FULL } pattern;
+    enum { LEVEL_4, SYSTEM, AUTHORS_OWN } column;
+} shown;
+static struct {
+    _Alignas(128) struct tlsf_heap handle;
+} apart;
+static struct tlsf_heap *heap = &apart.handle;
 static pthread_mutex_t lock = PTHREAD_MUTEX_INITIALIZER;
 static struct lane {
     _Alignas(128) struct tlsf_post_end post;
@@ -101,7 +109,7 @@ static size_t ring_drain(size_t most) {
         if (n > most - came) n = most - came;
         for (size_t k = 0; k < n; k++) some[k] = names[(at + k) % CAPACITY];
         if (n) atomic_store_explicit(&head.at, at + n, memory_order_release);
-        for (size_t k = 0; k < n; k++) (void)tlsf_release(&heap, some[k]);
+        for (size_t k = 0; k < n; k++) (void)tlsf_release(heap, some[k]);
         came += n;
     }
     return came;
@@ -111,40 +119,40 @@ static size_t ring_drain(size_t most) {
 
 static void *give(size_t bytes, struct tlsf_name *name) {
 #ifdef AUTHORS
-    if (column == AUTHORS_OWN) return authors_malloc(bytes);
+    if (shown.column == AUTHORS_OWN) return authors_malloc(bytes);
 #endif
-    if (column == SYSTEM) return malloc(bytes);
-    if (way == LOCK) pthread_mutex_lock(&lock);
-    const uint32_t answer = tlsf_allocate(&heap, (uint32_t)bytes, name);
-    if (way == LOCK) pthread_mutex_unlock(&lock);
+    if (shown.column == SYSTEM) return malloc(bytes);
+    if (shown.way == LOCK) pthread_mutex_lock(&lock);
+    const uint32_t answer = tlsf_allocate(heap, (uint32_t)bytes, name);
+    if (shown.way == LOCK) pthread_mutex_unlock(&lock);
     return answer == TLSF_OK ? name : NULL;
 }
 
 static void take_back(void *at, const struct tlsf_name *name) {
 #ifdef AUTHORS
-    if (column == AUTHORS_OWN) {
+    if (shown.column == AUTHORS_OWN) {
         authors_free(at);
         return;
     }
 #endif
-    if (column == SYSTEM) {
+    if (shown.column == SYSTEM) {
         free(at);
         return;
     }
-    if (way == LOCK) pthread_mutex_lock(&lock);
-    (void)tlsf_release(&heap, *name);
-    if (way == LOCK) pthread_mutex_unlock(&lock);
+    if (shown.way == LOCK) pthread_mutex_lock(&lock);
+    (void)tlsf_release(heap, *name);
+    if (shown.way == LOCK) pthread_mutex_unlock(&lock);
 }
 
 /* Frees blocks from another thread, and says how many: fewer than `n` where there is no slot. */
 static size_t put(struct poster *by, const union block *from, size_t n) {
     struct tlsf_name some[TURN];
     size_t went = 0;
-    if (way == LOCK) {
+    if (shown.way == LOCK) {
         for (; went < n; went++) take_back(from[went].at, &from[went].name);
-    } else if (way == RING) {
+    } else if (shown.way == RING) {
         went = ring_put(from, n);
-    } else if (way == QUEUE) {
+    } else if (shown.way == QUEUE) {
         while (went < n && tlsf_queue_post(&by->end, from[went].name) == TLSF_OK) went++;
     } else if (n == 1) {
         went = tlsf_put(by->lane, from->name) == TLSF_OK;
@@ -158,10 +166,10 @@ static size_t put(struct poster *by, const union block *from, size_t n) {
 static size_t drain(size_t most) {
     uint32_t came = 0;
     size_t all = 0;
-    if (way == RING) return ring_drain(most);
-    if (way == QUEUE) (void)tlsf_queue_drain(&heap, &queue, (uint32_t)most, &came);
-    for (int k = 0; way == LANES && k < count; k++, all += came) (void)tlsf_drain(&heap, &lanes[k].take, (uint32_t)most, &came);
-    return way == QUEUE ? came : all;
+    if (shown.way == RING) return ring_drain(most);
+    if (shown.way == QUEUE) (void)tlsf_queue_drain(heap, &queue, (uint32_t)most, &came);
+    for (int k = 0; shown.way == LANES && k < count; k++, all += came) (void)tlsf_drain(heap, &lanes[k].take, (uint32_t)most, &came);
+    return shown.way == QUEUE ? came : all;
 }
 
 /* --- Patterns of frees --- */
@@ -175,7 +183,7 @@ static void *post_all(void *given) {
     for (size_t k = 0; k < EACH; k++) by->read += by->own[k].name.heap;
     atomic_fetch_add(&ready, 1);
     while (atomic_load(&ready) <= MOST_POSTERS) {}
-    for (; pattern == TURNS && done < EACH; posts++) {
+    for (; shown.pattern == TURNS && done < EACH; posts++) {
         wait_until(begins + PERIOD * (double)posts);
         const double from = nanoseconds();
         const size_t went = put(by, by->own + done, EACH - done < TURN ? EACH - done : TURN);
@@ -185,14 +193,14 @@ static void *post_all(void *given) {
     }
     while (done < EACH) {
         if (put(by, by->own + done, 1)) done++;
-        else if (pattern != FULL) for (int k = 0; k < 30; k++) __builtin_ia32_pause();
+        else if (shown.pattern != FULL) for (int k = 0; k < 30; k++) __builtin_ia32_pause();
     }
     atomic_fetch_add(&ended, 1);
     return NULL;
 }
 
 static int is_over(size_t back) {
-    return way == LOCK ? atomic_load_explicit(&ended, memory_order_acquire) == count : back >= (size_t)count * EACH;
+    return shown.way == LOCK ? atomic_load_explicit(&ended, memory_order_acquire) == count : back >= (size_t)count * EACH;
 }
 
 static void join_all(void) {
@@ -202,18 +210,18 @@ static void join_all(void) {
 /* Drains what the others post until all is back, beside pairs of its own or not. With neither it sleeps. */
 static void drain_on(void) {
     const double from = nanoseconds();
-    const int sleeps = way == LOCK && pattern == WAITS;
+    const int sleeps = shown.way == LOCK && shown.pattern == WAITS;
     size_t back = 0, pairs = 0;
     if (sleeps) join_all();
     while (!sleeps && !is_over(back)) {
-        for (int k = 0; pattern == WORKS && k < 16; k++, pairs++) {
+        for (int k = 0; shown.pattern == WORKS && k < 16; k++, pairs++) {
             struct tlsf_name name;
             void *at = give(64, &name);
             if (!at) exit(1);
-            *(volatile char *)(column == LEVEL_4 ? (char *)&name : at) = 0; /* so that the pair isn't left out */
+            *(volatile char *)(shown.column == LEVEL_4 ? (char *)&name : at) = 0; /* so that the pair isn't left out */
             take_back(at, &name);
         }
-        back += way == LOCK ? 0 : drain(pattern == WORKS ? SLICE : CAPACITY);
+        back += shown.way == LOCK ? 0 : drain(shown.pattern == WORKS ? SLICE : CAPACITY);
     }
     const double took = nanoseconds() - from;
     printf("%.0f %.0f\n", count * EACH * 1e6 / took, (double)pairs * 1e6 / took);
@@ -226,9 +234,9 @@ static void drain_by_turns(double lag, size_t least) {
     for (size_t turn = 0; !is_over(back); turn++) {
         wait_until(begins + PERIOD * (double)turn + lag);
         const double from = nanoseconds();
-        const size_t came = way == LOCK ? 0 : drain(CAPACITY);
+        const size_t came = shown.way == LOCK ? 0 : drain(CAPACITY);
         const double took = nanoseconds() - from;
-        if (came >= least && way != LOCK && drains < MOST_TURNS) drain_times[drains++] = (float)(pattern == FULL ? took : took * 1000 / (double)came);
+        if (came >= least && shown.way != LOCK && drains < MOST_TURNS) drain_times[drains++] = (float)(shown.pattern == FULL ? took : took * 1000 / (double)came);
         back += came;
     }
     join_all();
@@ -244,9 +252,9 @@ static double median(float *times, size_t n) {
 static int opens(void) {
 #ifdef AUTHORS
     static char pool[16 << 20];
-    if (column == AUTHORS_OWN && init_memory_pool(sizeof pool, pool) == (size_t)-1) return 0;
+    if (shown.column == AUTHORS_OWN && init_memory_pool(sizeof pool, pool) == (size_t)-1) return 0;
 #endif
-    if (tlsf_open(&heap, 4, 0, 1 << 20) || tlsf_queue_open(&queue, (uint32_t)count, CAPACITY)) return 0;
+    if (tlsf_open(heap, 4, 0, 1 << 20) || tlsf_queue_open(&queue, (uint32_t)count, CAPACITY)) return 0;
     for (int k = 0; k < count; k++) {
         posters[k].own = blocks[k];
         posters[k].lane = &lanes[k].post;
@@ -255,7 +263,7 @@ static int opens(void) {
             struct tlsf_name name = {0, 0, 0};
             void *at = give(8, &name);
             if (!at) return 0;
-            if (column == LEVEL_4) blocks[k][i].name = name;
+            if (shown.column == LEVEL_4) blocks[k][i].name = name;
             else blocks[k][i].at = at;
         }
     }
@@ -263,22 +271,23 @@ static int opens(void) {
 }
 
 static int time_frees(char **words) {
-    way = *words[1] == 'r' ? RING : *words[1] == 'q' ? QUEUE : words[1][1] == 'a' ? LANES : LOCK;
-    column = !strcmp(words[2], "level4") ? LEVEL_4 : !strcmp(words[2], "system") ? SYSTEM : AUTHORS_OWN;
-    pattern = words[3][1] == 'a' ? WAITS : *words[3] == 'w' ? WORKS : *words[3] == 't' ? TURNS : FULL;
+    shown.way = *words[1] == 'r' ? RING : *words[1] == 'q' ? QUEUE : words[1][1] == 'o' ? LOCK : LANES;
+    if (*words[1] == 'b') heap = &shown.handle;
+    shown.column = !strcmp(words[2], "level4") ? LEVEL_4 : !strcmp(words[2], "system") ? SYSTEM : AUTHORS_OWN;
+    shown.pattern = words[3][1] == 'a' ? WAITS : *words[3] == 'w' ? WORKS : *words[3] == 't' ? TURNS : FULL;
     count = words[4] ? atoi(words[4]) : 1;
-    if (count < 1 || count > MOST_POSTERS || (count > 1 && (pattern != WAITS || way == RING))) return 2;
-    if ((way != LOCK && column != LEVEL_4) || (way == LOCK && pattern == FULL) || (way == QUEUE && pattern == TURNS)) return 2;
+    if (count < 1 || count > MOST_POSTERS || (count > 1 && (shown.pattern != WAITS || shown.way == RING))) return 2;
+    if ((shown.way != LOCK && shown.column != LEVEL_4) || (shown.way == LOCK && shown.pattern == FULL) || (shown.way == QUEUE && shown.pattern == TURNS)) return 2;
     if (!opens()) return 1;
     for (int k = 0; k < count; k++)
         if (pthread_create(&threads[k], NULL, post_all, &posters[k])) return 1;
     while (atomic_load(&ready) < count) {}
     begins = nanoseconds() + PERIOD;
     atomic_store(&ready, MOST_POSTERS + 1);
-    if (pattern <= WORKS) drain_on();
-    else drain_by_turns(pattern == TURNS ? PERIOD / 2 : PERIOD, pattern == TURNS ? 1 : CAPACITY);
-    if (pattern == TURNS) printf("%.0f %.0f\n", median(post_times, posts), median(drain_times, drains));
-    if (pattern == FULL) printf("%.0f\n", median(drain_times, drains));
+    if (shown.pattern <= WORKS) drain_on();
+    else drain_by_turns(shown.pattern == TURNS ? PERIOD / 2 : PERIOD, shown.pattern == TURNS ? 1 : CAPACITY);
+    if (shown.pattern == TURNS) printf("%.0f %.0f\n", median(post_times, posts), median(drain_times, drains));
+    if (shown.pattern == FULL) printf("%.0f\n", median(drain_times, drains));
     return 0;
 }
 

@@ -141,7 +141,11 @@ static void locate(struct side *it, const struct block *b) {
 
 static void report(struct side *it) {
     struct tlsf_heap_report sums;
-    if (is_served(it, ANSWER(it, tlsf_report(&heap, &sums)), TLSF_OK) && sums.live_words + sums.free_words != WORDS) wrong++;
+    struct tlsf_heap_counts counts = {0, 0, 0, 0};
+    if (!is_served(it, ANSWER(it, tlsf_report(&heap, &sums)), TLSF_OK)) return;
+    if (sums.live_words + sums.free_words != WORDS) wrong++;
+    /* Between two calls of the program the handler may make one. */
+    if (is_served(it, ANSWER(it, tlsf_counts(&heap, &counts)), TLSF_OK) && it == &handler && counts.words != sums.live_words) wrong++;
 }
 
 static void over_lane(struct side *it) {
@@ -198,13 +202,15 @@ static void handle(int signal) {
 
 static int end(void) {
     struct tlsf_heap_report sums;
+    struct tlsf_heap_counts counts = {0, 0, 0, 0};
     for (struct side *it = &program; it; it = it == &program ? &handler : NULL)
         while (it->live) {
             check(it, &it->blocks[it->live - 1]);
             release(it, &it->blocks[it->live - 1]);
         }
     must(&program, tlsf_report(&heap, &sums));
-    if (sums.live_blocks || sums.free_blocks != 1 || sums.free_words != WORDS) wrong++;
+    must(&program, tlsf_counts(&heap, &counts));
+    if (sums.live_blocks || sums.free_blocks != 1 || sums.free_words != WORDS || counts.words) wrong++;
     must(&program, tlsf_post_close(&post));
     must(&program, tlsf_take_close(&take));
     must(&program, tlsf_close(&heap));

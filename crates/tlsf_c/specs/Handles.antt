@@ -18,6 +18,7 @@ use Rattle.tlsf_c.specs.Ends.{post_of_end, take_of_end}
 use Rattle.tlsf_c.specs.Levels.{GoesOn, seen_at}
 use Rattle.tlsf_c.specs.Names.{name_of}
 use Rattle.tlsf_c.specs.Refusals.{closed, status_of}
+use Rattle.tlsf_c.specs.Serving.{idle_if}
 use Rattle.tlsf_c.specs.declared.heap_counts.HeapCounts.{HeapCounts}
 use Rattle.tlsf_c.specs.declared.names.BlockName.{BlockName}
 use Rattle.tlsf_c.specs.declared.heap_slot.HeapSlot.{HeapSlot}
@@ -25,52 +26,56 @@ use Rattle.tlsf_c.specs.declared.end_slot.EndSlot.{EndSlot}
 
 -- ---- heaps
 
+-- an open handle, whose heap no call is using
+abbrev pub serves : HeapSlot → Bool
+serves h = idle_if h.is_open h.inner.value.is_in_use
+
 -- the heap of an open handle
 abbrev pub heap_in : HeapSlot → HeapState
-heap_in h = h.inner.value.heap
+heap_in h = h.inner.value.heap.heap
 
 -- what that shows of a call
 abbrev pub seen_in : HeapSlot → Seen
-seen_in h = seen_at h.inner.value
+seen_in h = seen_at h.inner.value.heap
 
 -- what is stored in its region
 abbrev pub stored_in : HeapSlot → Image
-stored_in h = h.inner.value.stored
+stored_in h = h.inner.value.heap.stored
 
 -- the address of its region's first word
 abbrev pub address_in : HeapSlot → Ptr
-address_in h = h.inner.value.extents.words.address
+address_in h = h.inner.value.heap.extents.words.address
 
 -- its level
 abbrev pub level_in : HeapSlot → ℕ
-level_in h = h.inner.value.level
+level_in h = h.inner.value.heap.level
 
 -- its touches
 abbrev pub touches_in : HeapSlot → ℕ
-touches_in h = h.inner.value.touches
+touches_in h = h.inner.value.heap.touches
 
 -- the words of its region that it touched, the last first
 abbrev pub touched_in : HeapSlot → List ℕ
-touched_in h = h.inner.value.touched
+touched_in h = h.inner.value.heap.touched
 
 -- its counts
 abbrev pub counts_in : HeapSlot → HeapCounts
-counts_in h = h.inner.value.counts
+counts_in h = h.inner.value.heap.counts
 
--- an open handle stays open, and its number and its region's address stay; its heap keeps its level and its memory, and touches never fall
+-- an open handle serves again, and its number and its region's address stay; its heap keeps its level and its memory, and touches never fall
 pub record StaysOpen (old new : HeapSlot) : Type 0 where
-  pub is_open : new.is_open ≡ true
-  pub heap : GoesOn old.inner.value new.inner.value
+  pub serves : serves new ≡ true
+  pub heap : GoesOn old.inner.value.heap new.inner.value.heap
   pub base : new.base ≡ old.base
   pub number : new.number ≡ old.number
 
--- a release of this name is answered so: a closed handle stays as it is, and the heap of an open one releases
+-- a release of this name is answered so: a handle that serves none stays as it is, and the heap of another one releases
 pub record ReleasesIn (old new : HeapSlot) (name : Name) (answer : ℕ) : Type 0 where
-  pub refused : old.is_open ≡ false → (answer ≡ closed) × (new ≡ old)
-  pub stays : old.is_open ≡ true → StaysOpen old new
-  pub status : old.is_open ≡ true → answer ≡ status_of (released (heap_in old) name).answer
-  pub counts : old.is_open ≡ true → counts_in new ≡ record (counts_in old) { words = words_in_use (heap_in new) }
-  pub releases : old.is_open ≡ true → Releases release_touches (seen_in old) (seen_in new) name (released (heap_in old) name).answer
+  pub refused : serves old ≡ false → (answer ≡ closed) × (new ≡ old)
+  pub stays : serves old ≡ true → StaysOpen old new
+  pub status : serves old ≡ true → answer ≡ status_of (released (heap_in old) name).answer
+  pub counts : serves old ≡ true → counts_in new ≡ record (counts_in old) { words = words_in_use (heap_in new) }
+  pub releases : serves old ≡ true → Releases release_touches (seen_in old) (seen_in new) name (released (heap_in old) name).answer
 
 -- ---- ends of lanes
 

@@ -13,6 +13,7 @@ pub mod Arenas
 pub mod OffsetHandles
 pub mod PoolCalls
 pub mod PoolHandles
+pub mod Serving
 pub mod Handles
 pub mod Refusals
 pub mod Names

@@ -1,8 +1,9 @@
 //! A boxed heap whose type names none, so that it may lie in C's memory.
 ghost use Rattle.std.specs.Prelude.{◌≡◌, Bool, true, false};
-ghost use Rattle.tlsf_c.specs.Levels.{LevelHeap};
+ghost use Rattle.tlsf_c.specs.contracts.held_heap.HeldHeap.{the_row as held_row};
+ghost use Rattle.tlsf_c.specs.declared.held_heap.HeldHeap.{HeldHeap};
 
-use crate::any_heap::AnyHeap;
+use crate::held_heap::HeldHeap;
 use crate::parts::Parts;
 use std::alloc::Global;
 use std::marker::Model;
@@ -14,7 +15,7 @@ pub struct BoxedHeap {
     at: *mut u8,
     alloc: Global,
     pub ghost full: { Bool },
-    pub ghost value: { LevelHeap },
+    pub ghost value: { HeldHeap } by { held_row.coded },
 }
 
 impl Model for BoxedHeap {
@@ -31,7 +32,7 @@ impl BoxedHeap {
     ghost use Rattle.tlsf_c.specs.Lending.{LendsHeap};
 
     /// Holds a heap.
-    pub fn new(inner: Box<AnyHeap, Global>) -> BoxedHeap
+    pub fn new(inner: Box<HeldHeap, Global>) -> BoxedHeap
         ensures full { result.full ≡ true }
         ensures value { result.value ≡ inner.value }
     {
@@ -39,7 +40,7 @@ impl BoxedHeap {
     }
 
     /// The heap inside.
-    pub fn into_box(self) -> Box<AnyHeap, Global>
+    pub fn into_box(self) -> Box<HeldHeap, Global>
         requires { self.full ≡ true }
         ensures { result.value ≡ self.value }
     {
@@ -48,12 +49,12 @@ impl BoxedHeap {
 
     /// Lends what is inside.
     #[inline(always)]
-    pub fn lend(&mut self) -> &mut AnyHeap
+    pub fn lend(&mut self) -> &mut HeldHeap
         requires { self.old.full ≡ true }
         ensures* back { sem 𝓛 (LendsHeap self.entry result) }
         ensures heap { result.now ≡ self.old.value }
     {
-        let at = self.at as *mut AnyHeap;
+        let at = self.at as *mut HeldHeap;
         unsafe { &mut *at }
     }
 
@@ -64,7 +65,7 @@ impl BoxedHeap {
         BoxedHeap { at, alloc }
     }
 
-    fn of_parts(parts: Parts<AnyHeap, Global>) -> BoxedHeap
+    fn of_parts(parts: Parts<HeldHeap, Global>) -> BoxedHeap
         ensures { (result.full ≡ true) × (result.value ≡ parts.value) }
     {
         let Parts { ptr, alloc } = parts;
@@ -74,13 +75,13 @@ impl BoxedHeap {
         }
     }
 
-    fn into_parts(self) -> Parts<AnyHeap, Global>
+    fn into_parts(self) -> Parts<HeldHeap, Global>
         requires { self.full ≡ true }
         ensures { result.value ≡ self.value }
     {
         let BoxedHeap { at, alloc } = self;
         Parts {
-            ptr: at as *mut AnyHeap,
+            ptr: at as *mut HeldHeap,
             alloc,
         }
     }

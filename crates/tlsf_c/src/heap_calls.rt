@@ -15,13 +15,14 @@ ghost use Rattle.tlsf_heap.specs.declared.refusal.Refusal.{Refusal};
 ghost use Rattle.tlsf_heap.specs.WordsInUse.{words_in_use};
 ghost use Rattle.tlsf_c.specs.Counting.{no_counts, counted, counted_request, counted_move};
 ghost use Rattle.tlsf_c.specs.Names.{name_of, named, report_in};
-ghost use Rattle.tlsf_c.specs.Handles.{address_in, counts_in, heap_in, seen_in, level_in, touches_in, touched_in, ReleasesIn, StaysOpen};
+ghost use Rattle.tlsf_c.specs.Handles.{address_in, counts_in, heap_in, seen_in, level_in, touches_in, touched_in, ReleasesIn, StaysOpen, serves};
 ghost use Rattle.tlsf_c.specs.Refusals.{status_of, bad_size, no_memory, closed, in_use, bad_level};
 
 use crate::any_heap::AnyHeap;
 use crate::call_fault::{CallFault, status};
 use crate::heap_counts::HeapCounts;
 use crate::heap_slot::HeapSlot;
+use crate::held_heap::HeldHeap;
 use crate::names::{BlockName, HeapReport};
 use std::alloc::Global;
 use tlsf_heap::Name;
@@ -50,7 +51,7 @@ pub extern "C" fn tlsf_open(
     ensures bad_size { heap.old.is_open ≡ false → 4 ≤ level → level ≤ 5 → ¬ (IsRegion level words) → result ≡ bad_size }
     ensures no_memory { heap.old.is_open ≡ false → 4 ≤ level → level ≤ 5 → IsRegion level words → ¬ (result ≡ 0) → result ≡ no_memory }
     ensures refused { ¬ (result ≡ 0) → heap.new ≡ heap.old }
-    ensures open { result ≡ 0 → heap.new.is_open ≡ true }
+    ensures open { result ≡ 0 → serves heap.new ≡ true }
     ensures heap { result ≡ 0 → (level_in heap.new ≡ level) × (heap_in heap.new ≡ opened id words 0) }
     ensures base { result ≡ 0 → heap.new.base ≡ address_in heap.new }
     ensures number { result ≡ 0 → heap.new.number ≡ id }
@@ -66,10 +67,16 @@ pub extern "C" fn tlsf_open(
     }
     match AnyHeap::open(alloc, level, id, words) {
         Err(fault) => fault.number(),
-        Ok(opened) => match Box::new(alloc, opened) {
+        Ok(opened) => match Box::new(
+            alloc,
+            HeldHeap {
+                is_in_use: false,
+                heap: opened,
+            },
+        ) {
             Err(_) => CallFault::NoMemory.number(),
             Ok(mut owned) => {
-                heap.base = owned.base();
+                heap.base = owned.heap.base();
                 heap.number = id;
                 heap.is_mixed = false;
                 heap.put_in(owned);
@@ -120,9 +127,9 @@ pub extern "C" fn tlsf_words(level: u32, most: u32, len: u32, words: &mut u32) -
 /// ```
 #[unsafe(no_mangle)]
 pub extern "C" fn tlsf_close(alloc: Global, heap: &mut HeapSlot) -> u32
-    ensures after { heap.new.is_open ≡ false }
-    ensures closed { heap.old.is_open ≡ false → (result ≡ closed) × (heap.new ≡ heap.old) }
-    ensures open { heap.old.is_open ≡ true → result ≡ 0 }
+    ensures after { serves heap.new ≡ false }
+    ensures closed { serves heap.old ≡ false → (result ≡ closed) × (heap.new ≡ heap.old) }
+    ensures open { serves heap.old ≡ true → result ≡ 0 }
 {
     match heap.take_out(alloc) {
         None => CallFault::Closed.number(),
@@ -142,21 +149,22 @@ pub extern "C" fn tlsf_close(alloc: Global, heap: &mut HeapSlot) -> u32
 /// ```
 #[unsafe(no_mangle)]
 pub extern "C" fn tlsf_allocate(heap: &mut HeapSlot, len: u32, name: &mut BlockName) -> u32
-    ensures closed { heap.old.is_open ≡ false → (result ≡ closed) × (heap.new ≡ heap.old) }
-    ensures open { heap.old.is_open ≡ true → StaysOpen heap.old heap.new }
-    ensures status { heap.old.is_open ≡ true → result ≡ status_of (allocated (level_in heap.old) (heap_in heap.old) len).answer }
-    ensures name { heap.old.is_open ≡ true → result ≡ 0 → (allocated (level_in heap.old) (heap_in heap.old) len).answer ≡ Ok (name_of name.new) }
+    ensures closed { serves heap.old ≡ false → (result ≡ closed) × (heap.new ≡ heap.old) }
+    ensures open { serves heap.old ≡ true → StaysOpen heap.old heap.new }
+    ensures status { serves heap.old ≡ true → result ≡ status_of (allocated (level_in heap.old) (heap_in heap.old) len).answer }
+    ensures name { serves heap.old ≡ true → result ≡ 0 → (allocated (level_in heap.old) (heap_in heap.old) len).answer ≡ Ok (name_of name.new) }
     ensures no_name { ¬ (result ≡ 0) → name.new ≡ name.old }
-    ensures counts { heap.old.is_open ≡ true → counts_in heap.new ≡ counted_request (counts_in heap.old) (allocated (level_in heap.old) (heap_in heap.old) len).answer len (heap_in heap.new) }
-    ensures allocates { heap.old.is_open ≡ true → Allocates (allocate_touches + 1) (level_in heap.old) (want len) len (seen_in heap.old) (seen_in heap.new) (allocated (level_in heap.old) (heap_in heap.old) len).answer }
+    ensures counts { serves heap.old ≡ true → counts_in heap.new ≡ counted_request (counts_in heap.old) (allocated (level_in heap.old) (heap_in heap.old) len).answer len (heap_in heap.new) }
+    ensures allocates { serves heap.old ≡ true → Allocates (allocate_touches + 1) (level_in heap.old) (want len) len (seen_in heap.old) (seen_in heap.new) (allocated (level_in heap.old) (heap_in heap.old) len).answer }
 {
-    if !heap.is_open {
+    if !heap.serves() {
         return CallFault::Closed.number();
     }
-    heap.is_open = false;
-    let owned = heap.inner.lend();
+    let held = heap.inner.lend();
+    held.is_in_use = true;
+    let owned = &mut held.heap;
     let answer = owned.allocate(len);
-    heap.is_open = true;
+    held.is_in_use = false;
     match answer {
         Ok(new) => {
             *name = BlockName::of(new);
@@ -176,11 +184,11 @@ pub extern "C" fn tlsf_allocate(heap: &mut HeapSlot, len: u32, name: &mut BlockN
 /// ```
 #[unsafe(no_mangle)]
 pub extern "C" fn tlsf_release(heap: &mut HeapSlot, name: BlockName) -> u32
-    ensures closed { heap.old.is_open ≡ false → (result ≡ closed) × (heap.new ≡ heap.old) }
-    ensures open { heap.old.is_open ≡ true → StaysOpen heap.old heap.new }
-    ensures status { heap.old.is_open ≡ true → result ≡ status_of (released (heap_in heap.old) (name_of name)).answer }
-    ensures counts { heap.old.is_open ≡ true → counts_in heap.new ≡ record (counts_in heap.old) { words = words_in_use (heap_in heap.new) } }
-    ensures releases { heap.old.is_open ≡ true → Releases release_touches (seen_in heap.old) (seen_in heap.new) (name_of name) (released (heap_in heap.old) (name_of name)).answer }
+    ensures closed { serves heap.old ≡ false → (result ≡ closed) × (heap.new ≡ heap.old) }
+    ensures open { serves heap.old ≡ true → StaysOpen heap.old heap.new }
+    ensures status { serves heap.old ≡ true → result ≡ status_of (released (heap_in heap.old) (name_of name)).answer }
+    ensures counts { serves heap.old ≡ true → counts_in heap.new ≡ record (counts_in heap.old) { words = words_in_use (heap_in heap.new) } }
+    ensures releases { serves heap.old ≡ true → Releases release_touches (seen_in heap.old) (seen_in heap.new) (name_of name) (released (heap_in heap.old) (name_of name)).answer }
 {
     release_named(heap, name.heap, name.serial, name.at)
 }
@@ -190,7 +198,7 @@ pub extern "C" fn tlsf_release(heap: &mut HeapSlot, name: BlockName) -> u32
 pub(crate) fn release_named(heap: &mut HeapSlot, number: u32, serial: u64, at: u32) -> u32
     ensures { ReleasesIn heap.old heap.new (named number at serial) result }
 {
-    if !heap.is_open {
+    if !heap.serves() {
         return CallFault::Closed.number();
     }
     let name = Name {
@@ -198,11 +206,12 @@ pub(crate) fn release_named(heap: &mut HeapSlot, number: u32, serial: u64, at: u
         at,
         serial,
     };
-    heap.is_open = false;
-    let owned = heap.inner.lend();
+    let held = heap.inner.lend();
+    held.is_in_use = true;
+    let owned = &mut held.heap;
     let answer = owned.release(name);
     let number = status(answer);
-    heap.is_open = true;
+    held.is_in_use = false;
     number
 }
 
@@ -215,19 +224,20 @@ pub(crate) fn release_named(heap: &mut HeapSlot, number: u32, serial: u64, at: u
 /// ```
 #[unsafe(no_mangle)]
 pub extern "C" fn tlsf_resize(heap: &mut HeapSlot, name: BlockName, len: u32) -> u32
-    ensures closed { heap.old.is_open ≡ false → (result ≡ closed) × (heap.new ≡ heap.old) }
-    ensures open { heap.old.is_open ≡ true → StaysOpen heap.old heap.new }
-    ensures status { heap.old.is_open ≡ true → result ≡ status_of (resized (heap_in heap.old) (name_of name) len).answer }
-    ensures counts { heap.old.is_open ≡ true → counts_in heap.new ≡ counted (counts_in heap.old) (heap_in heap.new) }
-    ensures resizes { heap.old.is_open ≡ true → Resizes (resize_touches + 4) (want len) len (seen_in heap.old) (seen_in heap.new) (name_of name) (resized (heap_in heap.old) (name_of name) len).answer }
+    ensures closed { serves heap.old ≡ false → (result ≡ closed) × (heap.new ≡ heap.old) }
+    ensures open { serves heap.old ≡ true → StaysOpen heap.old heap.new }
+    ensures status { serves heap.old ≡ true → result ≡ status_of (resized (heap_in heap.old) (name_of name) len).answer }
+    ensures counts { serves heap.old ≡ true → counts_in heap.new ≡ counted (counts_in heap.old) (heap_in heap.new) }
+    ensures resizes { serves heap.old ≡ true → Resizes (resize_touches + 4) (want len) len (seen_in heap.old) (seen_in heap.new) (name_of name) (resized (heap_in heap.old) (name_of name) len).answer }
 {
-    if !heap.is_open {
+    if !heap.serves() {
         return CallFault::Closed.number();
     }
-    heap.is_open = false;
-    let owned = heap.inner.lend();
+    let held = heap.inner.lend();
+    held.is_in_use = true;
+    let owned = &mut held.heap;
     let answer = owned.resize(name.name(), len);
-    heap.is_open = true;
+    held.is_in_use = false;
     match answer {
         Ok(()) => 0,
         Err(why) => why.number(),
@@ -245,27 +255,28 @@ pub extern "C" fn tlsf_resize(heap: &mut HeapSlot, name: BlockName, len: u32) ->
 /// ```
 #[unsafe(no_mangle)]
 pub extern "C" fn tlsf_reallocate(heap: &mut HeapSlot, name: &mut BlockName, len: u32) -> u32
-    ensures closed { heap.old.is_open ≡ false → (result ≡ closed) × (heap.new ≡ heap.old) }
-    ensures open { heap.old.is_open ≡ true → StaysOpen heap.old heap.new }
-    ensures status { heap.old.is_open ≡ true → result ≡ status_of (resized_or_moved (level_in heap.old) (heap_in heap.old) (name_of name.old) len).answer }
-    ensures name { heap.old.is_open ≡ true → result ≡ 0 → (resized_or_moved (level_in heap.old) (heap_in heap.old) (name_of name.old) len).answer ≡ Ok (name_of name.new) }
+    ensures closed { serves heap.old ≡ false → (result ≡ closed) × (heap.new ≡ heap.old) }
+    ensures open { serves heap.old ≡ true → StaysOpen heap.old heap.new }
+    ensures status { serves heap.old ≡ true → result ≡ status_of (resized_or_moved (level_in heap.old) (heap_in heap.old) (name_of name.old) len).answer }
+    ensures name { serves heap.old ≡ true → result ≡ 0 → (resized_or_moved (level_in heap.old) (heap_in heap.old) (name_of name.old) len).answer ≡ Ok (name_of name.new) }
     ensures no_name { ¬ (result ≡ 0) → name.new ≡ name.old }
-    ensures heap { heap.old.is_open ≡ true → heap_in heap.new ≡ (resized_or_moved (level_in heap.old) (heap_in heap.old) (name_of name.old) len).heap }
-    ensures forged { heap.old.is_open ≡ true → FollowsNoForgery (seen_in heap.old) (seen_in heap.new) (name_of name.old) }
-    ensures counts { heap.old.is_open ≡ true → counts_in heap.new ≡ counted_move (counts_in heap.old) (name_of name.old).at (resized_or_moved (level_in heap.old) (heap_in heap.old) (name_of name.old) len).answer len (heap_in heap.new) }
-    ensures touches { heap.old.is_open ≡ true → touches_in heap.new ≤ touches_in heap.old + 133
+    ensures heap { serves heap.old ≡ true → heap_in heap.new ≡ (resized_or_moved (level_in heap.old) (heap_in heap.old) (name_of name.old) len).heap }
+    ensures forged { serves heap.old ≡ true → FollowsNoForgery (seen_in heap.old) (seen_in heap.new) (name_of name.old) }
+    ensures counts { serves heap.old ≡ true → counts_in heap.new ≡ counted_move (counts_in heap.old) (name_of name.old).at (resized_or_moved (level_in heap.old) (heap_in heap.old) (name_of name.old) len).answer len (heap_in heap.new) }
+    ensures touches { serves heap.old ≡ true → touches_in heap.new ≤ touches_in heap.old + 133
         + payload_words_left (resized (heap_in heap.old) (name_of name.old) len).answer (resized (heap_in heap.old) (name_of name.old) len).heap (name_of name.old)
         + 3 * payload_words_moved (level_in heap.old) (heap_in heap.old) len }
-    ensures leaves { heap.old.is_open ≡ true → LeavesPayloads (heap_in heap.old).blocks name.old.at (touched_in heap.old) (touched_in heap.new) }
-    ensures leaves_all { heap.old.is_open ≡ true → ¬ (result ≡ 0) → LeavesLive (heap_in heap.old).blocks (touched_in heap.old) (touched_in heap.new) }
+    ensures leaves { serves heap.old ≡ true → LeavesPayloads (heap_in heap.old).blocks name.old.at (touched_in heap.old) (touched_in heap.new) }
+    ensures leaves_all { serves heap.old ≡ true → ¬ (result ≡ 0) → LeavesLive (heap_in heap.old).blocks (touched_in heap.old) (touched_in heap.new) }
 {
-    if !heap.is_open {
+    if !heap.serves() {
         return CallFault::Closed.number();
     }
-    heap.is_open = false;
-    let owned = heap.inner.lend();
+    let held = heap.inner.lend();
+    held.is_in_use = true;
+    let owned = &mut held.heap;
     let answer = owned.resize_or_move(name.name(), len);
-    heap.is_open = true;
+    held.is_in_use = false;
     match answer {
         Ok(moved) => {
             *name = BlockName::of(moved);
@@ -285,20 +296,21 @@ pub extern "C" fn tlsf_reallocate(heap: &mut HeapSlot, name: &mut BlockName, len
 /// ```
 #[unsafe(no_mangle)]
 pub extern "C" fn tlsf_write(heap: &mut HeapSlot, name: BlockName, at: u32, bytes: &[u8]) -> u32
-    ensures closed { heap.old.is_open ≡ false → (result ≡ closed) × (heap.new ≡ heap.old) }
-    ensures open { heap.old.is_open ≡ true → StaysOpen heap.old heap.new }
-    ensures status { heap.old.is_open ≡ true → result ≡ status_of (written (heap_in heap.old) (name_of name) at bytes.now).answer }
-    ensures counts { heap.old.is_open ≡ true → counts_in heap.new ≡ counts_in heap.old }
-    ensures writes { heap.old.is_open ≡ true → Writes (write_touches (length bytes.now)) (seen_in heap.old) (seen_in heap.new) (name_of name) at bytes.now (written (heap_in heap.old) (name_of name) at bytes.now).answer }
+    ensures closed { serves heap.old ≡ false → (result ≡ closed) × (heap.new ≡ heap.old) }
+    ensures open { serves heap.old ≡ true → StaysOpen heap.old heap.new }
+    ensures status { serves heap.old ≡ true → result ≡ status_of (written (heap_in heap.old) (name_of name) at bytes.now).answer }
+    ensures counts { serves heap.old ≡ true → counts_in heap.new ≡ counts_in heap.old }
+    ensures writes { serves heap.old ≡ true → Writes (write_touches (length bytes.now)) (seen_in heap.old) (seen_in heap.new) (name_of name) at bytes.now (written (heap_in heap.old) (name_of name) at bytes.now).answer }
 {
-    if !heap.is_open {
+    if !heap.serves() {
         return CallFault::Closed.number();
     }
-    heap.is_open = false;
-    let owned = heap.inner.lend();
+    let held = heap.inner.lend();
+    held.is_in_use = true;
+    let owned = &mut held.heap;
     let answer = owned.write(name.name(), at, bytes);
     let number = status(answer);
-    heap.is_open = true;
+    held.is_in_use = false;
     number
 }
 
@@ -312,20 +324,21 @@ pub extern "C" fn tlsf_write(heap: &mut HeapSlot, name: BlockName, at: u32, byte
 /// ```
 #[unsafe(no_mangle)]
 pub extern "C" fn tlsf_read(heap: &mut HeapSlot, name: BlockName, at: u32, out: &mut [u8]) -> u32
-    ensures closed { heap.old.is_open ≡ false → (result ≡ closed) × (heap.new ≡ heap.old) × (out.new ≡ out.old) }
-    ensures open { heap.old.is_open ≡ true → StaysOpen heap.old heap.new }
-    ensures status { heap.old.is_open ≡ true → result ≡ status_of (read_answer (read_of (heap_in heap.old) (name_of name) at (length out.old))) }
-    ensures counts { heap.old.is_open ≡ true → counts_in heap.new ≡ counts_in heap.old }
-    ensures reads { heap.old.is_open ≡ true → Reads (read_touches (length out.old)) (seen_in heap.old) (seen_in heap.new) (name_of name) at out.old out.new (read_answer (read_of (heap_in heap.old) (name_of name) at (length out.old))) }
+    ensures closed { serves heap.old ≡ false → (result ≡ closed) × (heap.new ≡ heap.old) × (out.new ≡ out.old) }
+    ensures open { serves heap.old ≡ true → StaysOpen heap.old heap.new }
+    ensures status { serves heap.old ≡ true → result ≡ status_of (read_answer (read_of (heap_in heap.old) (name_of name) at (length out.old))) }
+    ensures counts { serves heap.old ≡ true → counts_in heap.new ≡ counts_in heap.old }
+    ensures reads { serves heap.old ≡ true → Reads (read_touches (length out.old)) (seen_in heap.old) (seen_in heap.new) (name_of name) at out.old out.new (read_answer (read_of (heap_in heap.old) (name_of name) at (length out.old))) }
 {
-    if !heap.is_open {
+    if !heap.serves() {
         return CallFault::Closed.number();
     }
-    heap.is_open = false;
-    let owned = heap.inner.lend();
+    let held = heap.inner.lend();
+    held.is_in_use = true;
+    let owned = &mut held.heap;
     let answer = owned.read(name.name(), at, out);
     let number = status(answer);
-    heap.is_open = true;
+    held.is_in_use = false;
     number
 }
 
@@ -345,26 +358,27 @@ pub extern "C" fn tlsf_locate(
     base: &mut *mut u64,
     len: &mut u32,
 ) -> u32
-    ensures closed { heap.old.is_open ≡ false → (result ≡ closed) × (heap.new ≡ heap.old) }
-    ensures open { heap.old.is_open ≡ true → StaysOpen heap.old heap.new }
-    ensures base { heap.old.is_open ≡ true → result ≡ 0 → base.new ≡ address_in heap.old }
-    ensures len { heap.old.is_open ≡ true → result ≡ 0 → IsPayloadCheck (heap_in heap.old) (name_of name) (Ok len.new) }
-    ensures refused { heap.old.is_open ≡ true → ¬ (result ≡ 0) → (why : Refusal)
+    ensures closed { serves heap.old ≡ false → (result ≡ closed) × (heap.new ≡ heap.old) }
+    ensures open { serves heap.old ≡ true → StaysOpen heap.old heap.new }
+    ensures base { serves heap.old ≡ true → result ≡ 0 → base.new ≡ address_in heap.old }
+    ensures len { serves heap.old ≡ true → result ≡ 0 → IsPayloadCheck (heap_in heap.old) (name_of name) (Ok len.new) }
+    ensures refused { serves heap.old ≡ true → ¬ (result ≡ 0) → (why : Refusal)
         × IsPayloadCheck (heap_in heap.old) (name_of name) (Err why) × (result ≡ number_of why) }
-    ensures heap { heap.old.is_open ≡ true → heap_in heap.new ≡ heap_in heap.old }
+    ensures heap { serves heap.old ≡ true → heap_in heap.new ≡ heap_in heap.old }
     ensures kept { ¬ (result ≡ 0) → (base.new ≡ base.old) × (len.new ≡ len.old) }
-    ensures forged { heap.old.is_open ≡ true → FollowsNoForgery (seen_in heap.old) (seen_in heap.new) (name_of name) }
-    ensures counts { heap.old.is_open ≡ true → counts_in heap.new ≡ counts_in heap.old }
-    ensures touches { heap.old.is_open ≡ true → touches_in heap.new ≤ touches_in heap.old + 4 }
-    ensures leaves { heap.old.is_open ≡ true → LeavesLive (heap_in heap.old).blocks (touched_in heap.old) (touched_in heap.new) }
+    ensures forged { serves heap.old ≡ true → FollowsNoForgery (seen_in heap.old) (seen_in heap.new) (name_of name) }
+    ensures counts { serves heap.old ≡ true → counts_in heap.new ≡ counts_in heap.old }
+    ensures touches { serves heap.old ≡ true → touches_in heap.new ≤ touches_in heap.old + 4 }
+    ensures leaves { serves heap.old ≡ true → LeavesLive (heap_in heap.old).blocks (touched_in heap.old) (touched_in heap.new) }
 {
-    if !heap.is_open {
+    if !heap.serves() {
         return CallFault::Closed.number();
     }
-    heap.is_open = false;
-    let owned = heap.inner.lend();
+    let held = heap.inner.lend();
+    held.is_in_use = true;
+    let owned = &mut held.heap;
     let answer = owned.payload(name.name());
-    heap.is_open = true;
+    held.is_in_use = false;
     match answer {
         Ok((at, n)) => {
             *base = at;
@@ -384,18 +398,19 @@ pub extern "C" fn tlsf_locate(
 /// ```
 #[unsafe(no_mangle)]
 pub extern "C" fn tlsf_report(heap: &mut HeapSlot, report: &mut HeapReport) -> u32
-    ensures closed { heap.old.is_open ≡ false → (result ≡ closed) × (heap.new ≡ heap.old) × (report.new ≡ report.old) }
-    ensures open { heap.old.is_open ≡ true → (result ≡ 0) × StaysOpen heap.old heap.new }
-    ensures counts { heap.old.is_open ≡ true → counts_in heap.new ≡ counts_in heap.old }
-    ensures reports { heap.old.is_open ≡ true → Reports (level_in heap.old) (seen_in heap.old) (seen_in heap.new) (report_in report.new) }
+    ensures closed { serves heap.old ≡ false → (result ≡ closed) × (heap.new ≡ heap.old) × (report.new ≡ report.old) }
+    ensures open { serves heap.old ≡ true → (result ≡ 0) × StaysOpen heap.old heap.new }
+    ensures counts { serves heap.old ≡ true → counts_in heap.new ≡ counts_in heap.old }
+    ensures reports { serves heap.old ≡ true → Reports (level_in heap.old) (seen_in heap.old) (seen_in heap.new) (report_in report.new) }
 {
-    if !heap.is_open {
+    if !heap.serves() {
         return CallFault::Closed.number();
     }
-    heap.is_open = false;
-    let owned = heap.inner.lend();
+    let held = heap.inner.lend();
+    held.is_in_use = true;
+    let owned = &mut held.heap;
     *report = HeapReport::of(owned.report());
-    heap.is_open = true;
+    held.is_in_use = false;
     0
 }
 
@@ -408,23 +423,24 @@ pub extern "C" fn tlsf_report(heap: &mut HeapSlot, report: &mut HeapReport) -> u
 /// ```
 #[unsafe(no_mangle)]
 pub extern "C" fn tlsf_counts(heap: &mut HeapSlot, counts: &mut HeapCounts) -> u32
-    ensures closed { heap.old.is_open ≡ false → (result ≡ closed) × (heap.new ≡ heap.old) × (counts.new ≡ counts.old) }
-    ensures open { heap.old.is_open ≡ true → (result ≡ 0) × StaysOpen heap.old heap.new }
-    ensures counts { heap.old.is_open ≡ true → counts.new ≡ counts_in heap.old }
+    ensures closed { serves heap.old ≡ false → (result ≡ closed) × (heap.new ≡ heap.old) × (counts.new ≡ counts.old) }
+    ensures open { serves heap.old ≡ true → (result ≡ 0) × StaysOpen heap.old heap.new }
+    ensures counts { serves heap.old ≡ true → counts.new ≡ counts_in heap.old }
 
     // The words in use are those of all live blocks, as a report finds them.
-    ensures words { heap.old.is_open ≡ true → counts.new.words ≡ words_in_use (heap_in heap.old) }
-    ensures most { heap.old.is_open ≡ true → counts.new.words ≤ counts.new.most_words }
-    ensures heap { heap.old.is_open ≡ true → heap_in heap.new ≡ heap_in heap.old }
-    ensures stay { heap.old.is_open ≡ true → counts_in heap.new ≡ counts_in heap.old }
-    ensures touches { heap.old.is_open ≡ true → touches_in heap.new ≡ touches_in heap.old }
+    ensures words { serves heap.old ≡ true → counts.new.words ≡ words_in_use (heap_in heap.old) }
+    ensures most { serves heap.old ≡ true → counts.new.words ≤ counts.new.most_words }
+    ensures heap { serves heap.old ≡ true → heap_in heap.new ≡ heap_in heap.old }
+    ensures stay { serves heap.old ≡ true → counts_in heap.new ≡ counts_in heap.old }
+    ensures touches { serves heap.old ≡ true → touches_in heap.new ≡ touches_in heap.old }
 {
-    if !heap.is_open {
+    if !heap.serves() {
         return CallFault::Closed.number();
     }
-    heap.is_open = false;
-    let owned = heap.inner.lend();
+    let held = heap.inner.lend();
+    held.is_in_use = true;
+    let owned = &mut held.heap;
     *counts = owned.counts();
-    heap.is_open = true;
+    held.is_in_use = false;
     0
 }

@@ -1,8 +1,8 @@
 //! A place for a heap in C's memory.
 ghost use Rattle.std.specs.Prelude.{◌≡◌, true, false, None, Some};
 
-use crate::any_heap::AnyHeap;
 use crate::boxed_heap::BoxedHeap;
+use crate::held_heap::HeldHeap;
 use std::alloc::Global;
 use std::{mem, ptr};
 
@@ -25,14 +25,27 @@ pub struct HeapSlot {
 unsafe impl Send for HeapSlot {}
 
 impl HeapSlot {
-    /// Takes out what is there, and leaves the place closed. A closed place is not written to: what was there may be in use by the call that a
-    /// signal handler interrupts.
-    pub fn take_out(&mut self, alloc: Global) -> Option<Box<AnyHeap, Global>>
-        ensures closed { self.new.is_open ≡ false }
-        ensures none { result ≡ None → (self.old.is_open ≡ false) × (self.new ≡ self.old) }
-        ensures some { (b : _) → result ≡ Some b → (self.old.is_open ≡ true) × (b.value ≡ self.old.inner.value) }
+    ghost use Rattle.tlsf_c.specs.Handles.{serves};
+
+    /// Whether it is open, and no call is using it.
+    #[inline(always)]
+    pub fn serves(&mut self) -> bool
+        ensures serves { result ≡ serves self.old }
+        ensures open { result ≡ true → self.old.is_open ≡ true }
+        ensures idle { result ≡ true → self.old.inner.value.is_in_use ≡ false }
+        ensures same { self.new ≡ self.old }
     {
-        if !self.is_open {
+        self.is_open && !self.inner.lend().is_in_use
+    }
+
+    /// Takes out what is there, and leaves the place closed. A place that is closed or in use stays as it is: a signal handler interrupts
+    /// the call that uses it.
+    pub fn take_out(&mut self, alloc: Global) -> Option<Box<HeldHeap, Global>>
+        ensures closed { serves self.new ≡ false }
+        ensures none { result ≡ None → (serves self.old ≡ false) × (self.new ≡ self.old) }
+        ensures some { (b : _) → result ≡ Some b → (serves self.old ≡ true) × (self.new.is_open ≡ false) × (b.value ≡ self.old.inner.value) }
+    {
+        if !self.serves() {
             return None;
         }
         let nowhere: *mut u8 = ptr::null_mut();
@@ -41,10 +54,11 @@ impl HeapSlot {
         Some(inner.into_box())
     }
 
-    /// Puts something into a closed place.
-    pub fn put_in(&mut self, boxed: Box<AnyHeap, Global>)
-        requires { self.old.is_open ≡ false }
-        ensures open { self.new.is_open ≡ true }
+    /// Puts a heap that no call is using into a closed place.
+    pub fn put_in(&mut self, boxed: Box<HeldHeap, Global>)
+        requires closed { self.old.is_open ≡ false }
+        requires idle { boxed.value.is_in_use ≡ false }
+        ensures open { serves self.new ≡ true }
         ensures beside { (self.new.base ≡ self.old.base) × (self.new.number ≡ self.old.number) × (self.new.is_mixed ≡ self.old.is_mixed) }
         ensures value { self.new.inner.value ≡ boxed.value }
     {

@@ -7,7 +7,7 @@ ghost use Rattle.tlsf_post.specs.declared.take_end.TakeEnd.{TakeEnd};
 ghost use Rattle.tlsf_heap.specs.Touched.{release_touches};
 ghost use Rattle.tlsf_heap.specs.WordsInUse.{words_in_use};
 ghost use Rattle.tlsf_post.specs.Lanes.{posts_sent, free_slots, taken, ready, IsLane};
-ghost use Rattle.tlsf_c.specs.Handles.{counts_in, heap_in, touches_in, touched_in, StaysOpen, post_of, posts_named, post_in, take_in, holds_post, holds_take, sent_in, known_slots, taken_in, ready_in, AreEnds, AreLane, HasTaken, Takes};
+ghost use Rattle.tlsf_c.specs.Handles.{counts_in, heap_in, touches_in, touched_in, StaysOpen, post_of, posts_named, post_in, take_in, holds_post, holds_take, sent_in, known_slots, taken_in, ready_in, AreEnds, AreLane, HasTaken, Takes, serves};
 ghost use Rattle.tlsf_c.specs.Drains.{drained, LeavesUnnamed};
 ghost use Rattle.tlsf_c.specs.Names.{name_of};
 ghost use Rattle.tlsf_c.specs.Refusals.{bad_size, no_memory, closed, other_kind, in_use, full, empty};
@@ -304,11 +304,11 @@ pub extern "C" fn tlsf_drain(
     most: u32,
     came: &mut u32,
 ) -> u32
-    ensures heap_closed { heap.old.is_open ≡ false → result ≡ closed }
+    ensures heap_closed { serves heap.old ≡ false → result ≡ closed }
     ensures take_closed { take.old.is_open ≡ false → result ≡ closed }
     ensures refused { ¬ (result ≡ 0) → (heap.new ≡ heap.old) × (take.new ≡ take.old) × (came.new ≡ came.old) }
-    ensures other { heap.old.is_open ≡ true → take.old.is_open ≡ true → holds_take take.old ≡ false → result ≡ other_kind }
-    ensures open { heap.old.is_open ≡ true → take.old.is_open ≡ true → holds_take take.old ≡ true → (result ≡ 0) × StaysOpen heap.old heap.new × (take.new.is_open ≡ true) × (holds_take take.new ≡ true) }
+    ensures other { serves heap.old ≡ true → take.old.is_open ≡ true → holds_take take.old ≡ false → result ≡ other_kind }
+    ensures open { serves heap.old ≡ true → take.old.is_open ≡ true → holds_take take.old ≡ true → (result ≡ 0) × StaysOpen heap.old heap.new × (take.new.is_open ≡ true) × (holds_take take.new ≡ true) }
     ensures drained { result ≡ 0 → (posts : List Post) × (taken_in take.new ≡ taken_in take.old ++ posts)
         × (heap_in heap.new ≡ drained (heap_in heap.old) posts) × (length posts ≡ came.new) }
     ensures most { result ≡ 0 → came.new ≤ most }
@@ -320,7 +320,7 @@ pub extern "C" fn tlsf_drain(
     ensures leaves { result ≡ 0 → (posts : List Post) × (taken_in take.new ≡ taken_in take.old ++ posts)
         × LeavesUnnamed (heap_in heap.old).blocks posts (touched_in heap.old) (touched_in heap.new) }
 {
-    if !heap.is_open || !take.is_open {
+    if !heap.serves() || !take.is_open {
         return CallFault::Closed.number();
     }
     let AnyEnd::Take(end) = take.inner.lend() else {
@@ -335,7 +335,7 @@ pub extern "C" fn tlsf_drain(
 /// Takes names out of a lane by slices: all that are known to be ready, and at most `most`. Releases the block that each names.
 /// Answers how many came. The heap is open.
 fn drain_names(heap: &mut HeapSlot, end: &mut TakeEnd, most: u32) -> u32
-    requires { heap.old.is_open ≡ true }
+    requires { serves heap.old ≡ true }
     ensures open { StaysOpen heap.old heap.new }
     ensures drained { (posts : List Post) × (taken end.new ≡ taken end.old ++ posts) × (heap_in heap.new ≡ drained (heap_in heap.old) posts) × (length posts ≡ result)
         × LeavesUnnamed (heap_in heap.old).blocks posts (touched_in heap.old) (touched_in heap.new) }
@@ -377,7 +377,7 @@ fn left_after(left: u32, wanted: usize, taken: usize) -> u32
 
 /// Releases the block that each post names, in their order, whatever the heap answers. The heap is open.
 pub(crate) fn release_posts(heap: &mut HeapSlot, posts: &[Post])
-    requires { heap.old.is_open ≡ true }
+    requires { serves heap.old ≡ true }
     ensures open { StaysOpen heap.old heap.new }
     ensures drained { heap_in heap.new ≡ drained (heap_in heap.old) posts.now }
     ensures no_counts { length posts.now ≡ 0 → counts_in heap.new ≡ counts_in heap.old }

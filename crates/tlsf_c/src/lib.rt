@@ -19,6 +19,7 @@ mod end_slot;
 mod heap_calls;
 mod heap_counts;
 mod heap_slot;
+mod held_heap;
 mod kind_row;
 mod lane_calls;
 mod names;

@@ -17,7 +17,7 @@ ghost use Rattle.tlsf_heap.specs.declared.checked.Checked.TheVariants.{Sound};
 ghost use Rattle.tlsf_heap.specs.declared.placed_block.PlacedBlock.{PlacedBlock};
 ghost use Rattle.tlsf_heap.specs.declared.refusal.Refusal.TheVariants.{Stale};
 ghost use Rattle.tlsf_c.specs.Checked.{check_number_of, next_told, damaged_told};
-ghost use Rattle.tlsf_c.specs.Handles.{counts_in, heap_in, seen_in, level_in, stored_in, touches_in, touched_in, StaysOpen};
+ghost use Rattle.tlsf_c.specs.Handles.{counts_in, heap_in, seen_in, level_in, stored_in, touches_in, touched_in, StaysOpen, serves};
 ghost use Rattle.tlsf_heap.specs.WordsInUse.{words_in_use};
 ghost use Rattle.tlsf_c.specs.Counting.{counted_request, counted_move};
 ghost use Rattle.tlsf_c.specs.Names.{name_of, info_of, not_placed, placed_name};
@@ -40,23 +40,24 @@ use tlsf_heap::{Content, PlacedBlock, Refusal};
 /// ```
 #[unsafe(no_mangle)]
 pub extern "C" fn tlsf_allocate_place(heap: &mut HeapSlot, len: u32) -> PlacedName
-    ensures closed { heap.old.is_open ≡ false → (result ≡ not_placed closed) × (heap.new ≡ heap.old) }
-    ensures open { heap.old.is_open ≡ true → StaysOpen heap.old heap.new }
-    ensures placed { heap.old.is_open ≡ true → result ≡ placed_name (allocated (level_in heap.old) (heap_in heap.old) len).answer }
-    ensures place { heap.old.is_open ≡ true → result.answer ≡ 0 → (name : Name) × ((allocated (level_in heap.old) (heap_in heap.old) len).answer ≡ Ok name)
+    ensures closed { serves heap.old ≡ false → (result ≡ not_placed closed) × (heap.new ≡ heap.old) }
+    ensures open { serves heap.old ≡ true → StaysOpen heap.old heap.new }
+    ensures placed { serves heap.old ≡ true → result ≡ placed_name (allocated (level_in heap.old) (heap_in heap.old) len).answer }
+    ensures place { serves heap.old ≡ true → result.answer ≡ 0 → (name : Name) × ((allocated (level_in heap.old) (heap_in heap.old) len).answer ≡ Ok name)
         × (heap_in heap.new ≡ unset_from (allocated (level_in heap.old) (heap_in heap.old) len).heap name (stored_in heap.new) 0 len) }
-    ensures refused { heap.old.is_open ≡ true → ¬ (result.answer ≡ 0) → heap_in heap.new ≡ heap_in heap.old }
-    ensures counts { heap.old.is_open ≡ true → counts_in heap.new ≡ counted_request (counts_in heap.old) (allocated (level_in heap.old) (heap_in heap.old) len).answer len (heap_in heap.new) }
-    ensures touches { heap.old.is_open ≡ true → touches_in heap.new ≤ touches_in heap.old + 33 }
-    ensures leaves { heap.old.is_open ≡ true → LeavesLive (heap_in heap.old).blocks (touched_in heap.old) (touched_in heap.new) }
+    ensures refused { serves heap.old ≡ true → ¬ (result.answer ≡ 0) → heap_in heap.new ≡ heap_in heap.old }
+    ensures counts { serves heap.old ≡ true → counts_in heap.new ≡ counted_request (counts_in heap.old) (allocated (level_in heap.old) (heap_in heap.old) len).answer len (heap_in heap.new) }
+    ensures touches { serves heap.old ≡ true → touches_in heap.new ≤ touches_in heap.old + 33 }
+    ensures leaves { serves heap.old ≡ true → LeavesLive (heap_in heap.old).blocks (touched_in heap.old) (touched_in heap.new) }
 {
-    if !heap.is_open {
+    if !heap.serves() {
         return PlacedName::refusal(CallFault::Closed.number());
     }
-    heap.is_open = false;
-    let owned = heap.inner.lend();
+    let held = heap.inner.lend();
+    held.is_in_use = true;
+    let owned = &mut held.heap;
     let answer = owned.allocate_unset(len);
-    heap.is_open = true;
+    held.is_in_use = false;
     PlacedName::of(answer)
 }
 
@@ -77,25 +78,26 @@ pub extern "C" fn tlsf_allocate_aligned(
     step: u32,
     skew: u32,
 ) -> PlacedName
-    ensures closed { heap.old.is_open ≡ false → (result ≡ not_placed closed) × (heap.new ≡ heap.old) }
-    ensures open { heap.old.is_open ≡ true → StaysOpen heap.old heap.new }
-    ensures placed { heap.old.is_open ≡ true → result ≡ placed_name (words_aligned (level_in heap.old) (heap_in heap.old) (want len) (max step 1) skew).answer }
-    ensures place { heap.old.is_open ≡ true → result.answer ≡ 0 → (name : Name)
+    ensures closed { serves heap.old ≡ false → (result ≡ not_placed closed) × (heap.new ≡ heap.old) }
+    ensures open { serves heap.old ≡ true → StaysOpen heap.old heap.new }
+    ensures placed { serves heap.old ≡ true → result ≡ placed_name (words_aligned (level_in heap.old) (heap_in heap.old) (want len) (max step 1) skew).answer }
+    ensures place { serves heap.old ≡ true → result.answer ≡ 0 → (name : Name)
         × ((words_aligned (level_in heap.old) (heap_in heap.old) (want len) (max step 1) skew).answer ≡ Ok name)
         × (heap_in heap.new ≡ with_payload (words_aligned (level_in heap.old) (heap_in heap.old) (want len) (max step 1) skew).heap name (lying (stored_in heap.new) name.at len)) }
-    ensures aligned { heap.old.is_open ≡ true → result.answer ≡ 0 → (result.at + 3 + skew) % max step 1 ≡ 0 }
-    ensures refused { heap.old.is_open ≡ true → ¬ (result.answer ≡ 0) → heap_in heap.new ≡ heap_in heap.old }
-    ensures counts { heap.old.is_open ≡ true → counts_in heap.new ≡ counted_request (counts_in heap.old) (words_aligned (level_in heap.old) (heap_in heap.old) (want len) (max step 1) skew).answer len (heap_in heap.new) }
-    ensures touches { heap.old.is_open ≡ true → touches_in heap.new ≤ touches_in heap.old + 118 }
-    ensures leaves { heap.old.is_open ≡ true → LeavesLive (heap_in heap.old).blocks (touched_in heap.old) (touched_in heap.new) }
+    ensures aligned { serves heap.old ≡ true → result.answer ≡ 0 → (result.at + 3 + skew) % max step 1 ≡ 0 }
+    ensures refused { serves heap.old ≡ true → ¬ (result.answer ≡ 0) → heap_in heap.new ≡ heap_in heap.old }
+    ensures counts { serves heap.old ≡ true → counts_in heap.new ≡ counted_request (counts_in heap.old) (words_aligned (level_in heap.old) (heap_in heap.old) (want len) (max step 1) skew).answer len (heap_in heap.new) }
+    ensures touches { serves heap.old ≡ true → touches_in heap.new ≤ touches_in heap.old + 118 }
+    ensures leaves { serves heap.old ≡ true → LeavesLive (heap_in heap.old).blocks (touched_in heap.old) (touched_in heap.new) }
 {
-    if !heap.is_open {
+    if !heap.serves() {
         return PlacedName::refusal(CallFault::Closed.number());
     }
-    heap.is_open = false;
-    let owned = heap.inner.lend();
+    let held = heap.inner.lend();
+    held.is_in_use = true;
+    let owned = &mut held.heap;
     let answer = owned.allocate_aligned(len, step, skew);
-    heap.is_open = true;
+    held.is_in_use = false;
     PlacedName::of(answer)
 }
 
@@ -110,24 +112,25 @@ pub extern "C" fn tlsf_allocate_aligned(
 /// ```
 #[unsafe(no_mangle)]
 pub extern "C" fn tlsf_release_place(heap: &mut HeapSlot, at: u32) -> u32
-    ensures closed { heap.old.is_open ≡ false → (result ≡ closed) × (heap.new ≡ heap.old) }
-    ensures open { heap.old.is_open ≡ true → StaysOpen heap.old heap.new }
-    ensures status { heap.old.is_open ≡ true → result ≡ status_of (released_by_place (heap_in heap.old) at).answer }
-    ensures heap { heap.old.is_open ≡ true → heap_in heap.new ≡ (released_by_place (heap_in heap.old) at).heap }
-    ensures wild { heap.old.is_open ≡ true → FollowsNoPlace (heap_in heap.old) at (touches_in heap.old) (touches_in heap.new) }
-    ensures counts { heap.old.is_open ≡ true → counts_in heap.new ≡ record (counts_in heap.old) { words = words_in_use (heap_in heap.new) } }
-    ensures touches { heap.old.is_open ≡ true → touches_in heap.new ≤ touches_in heap.old + 29 }
-    ensures leaves { heap.old.is_open ≡ true → LeavesPayloads (heap_in heap.old).blocks at (touched_in heap.old) (touched_in heap.new) }
-    ensures leaves_all { heap.old.is_open ≡ true → ¬ (result ≡ 0) → LeavesLive (heap_in heap.old).blocks (touched_in heap.old) (touched_in heap.new) }
+    ensures closed { serves heap.old ≡ false → (result ≡ closed) × (heap.new ≡ heap.old) }
+    ensures open { serves heap.old ≡ true → StaysOpen heap.old heap.new }
+    ensures status { serves heap.old ≡ true → result ≡ status_of (released_by_place (heap_in heap.old) at).answer }
+    ensures heap { serves heap.old ≡ true → heap_in heap.new ≡ (released_by_place (heap_in heap.old) at).heap }
+    ensures wild { serves heap.old ≡ true → FollowsNoPlace (heap_in heap.old) at (touches_in heap.old) (touches_in heap.new) }
+    ensures counts { serves heap.old ≡ true → counts_in heap.new ≡ record (counts_in heap.old) { words = words_in_use (heap_in heap.new) } }
+    ensures touches { serves heap.old ≡ true → touches_in heap.new ≤ touches_in heap.old + 29 }
+    ensures leaves { serves heap.old ≡ true → LeavesPayloads (heap_in heap.old).blocks at (touched_in heap.old) (touched_in heap.new) }
+    ensures leaves_all { serves heap.old ≡ true → ¬ (result ≡ 0) → LeavesLive (heap_in heap.old).blocks (touched_in heap.old) (touched_in heap.new) }
 {
-    if !heap.is_open {
+    if !heap.serves() {
         return CallFault::Closed.number();
     }
-    heap.is_open = false;
-    let owned = heap.inner.lend();
+    let held = heap.inner.lend();
+    held.is_in_use = true;
+    let owned = &mut held.heap;
     let answer = owned.release_at(at);
     let number = status(answer);
-    heap.is_open = true;
+    held.is_in_use = false;
     number
 }
 
@@ -143,27 +146,28 @@ pub extern "C" fn tlsf_release_place(heap: &mut HeapSlot, at: u32) -> u32
 /// ```
 #[unsafe(no_mangle)]
 pub extern "C" fn tlsf_resize_place(heap: &mut HeapSlot, at: u32, len: u32, new_at: &mut u32) -> u32
-    ensures closed { heap.old.is_open ≡ false → (result ≡ closed) × (heap.new ≡ heap.old) }
-    ensures open { heap.old.is_open ≡ true → StaysOpen heap.old heap.new }
-    ensures status { heap.old.is_open ≡ true → result ≡ status_of (resized_or_moved_by_place (level_in heap.old) (heap_in heap.old) at len).answer }
-    ensures place { heap.old.is_open ≡ true → result ≡ 0 → (name : Name)
+    ensures closed { serves heap.old ≡ false → (result ≡ closed) × (heap.new ≡ heap.old) }
+    ensures open { serves heap.old ≡ true → StaysOpen heap.old heap.new }
+    ensures status { serves heap.old ≡ true → result ≡ status_of (resized_or_moved_by_place (level_in heap.old) (heap_in heap.old) at len).answer }
+    ensures place { serves heap.old ≡ true → result ≡ 0 → (name : Name)
         × ((resized_or_moved_by_place (level_in heap.old) (heap_in heap.old) at len).answer ≡ Ok name) × (name.at ≡ new_at.new)
         × (heap_in heap.new ≡ unset_from (resized_or_moved_by_place (level_in heap.old) (heap_in heap.old) at len).heap name (stored_in heap.new) (kept_at (heap_in heap.old) at len) len) }
-    ensures refused { heap.old.is_open ≡ true → ¬ (result ≡ 0) → heap_in heap.new ≡ heap_in heap.old }
+    ensures refused { serves heap.old ≡ true → ¬ (result ≡ 0) → heap_in heap.new ≡ heap_in heap.old }
     ensures kept { ¬ (result ≡ 0) → new_at.new ≡ new_at.old }
-    ensures wild { heap.old.is_open ≡ true → FollowsNoPlace (heap_in heap.old) at (touches_in heap.old) (touches_in heap.new) }
-    ensures counts { heap.old.is_open ≡ true → counts_in heap.new ≡ counted_move (counts_in heap.old) at (resized_or_moved_by_place (level_in heap.old) (heap_in heap.old) at len).answer len (heap_in heap.new) }
-    ensures touches { heap.old.is_open ≡ true → touches_in heap.new ≤ touches_in heap.old + 107 + 2 * (kept_at (heap_in heap.old) at len / 8) }
-    ensures leaves { heap.old.is_open ≡ true → LeavesPayloads (heap_in heap.old).blocks at (touched_in heap.old) (touched_in heap.new) }
-    ensures leaves_all { heap.old.is_open ≡ true → ¬ (result ≡ 0) → LeavesLive (heap_in heap.old).blocks (touched_in heap.old) (touched_in heap.new) }
+    ensures wild { serves heap.old ≡ true → FollowsNoPlace (heap_in heap.old) at (touches_in heap.old) (touches_in heap.new) }
+    ensures counts { serves heap.old ≡ true → counts_in heap.new ≡ counted_move (counts_in heap.old) at (resized_or_moved_by_place (level_in heap.old) (heap_in heap.old) at len).answer len (heap_in heap.new) }
+    ensures touches { serves heap.old ≡ true → touches_in heap.new ≤ touches_in heap.old + 107 + 2 * (kept_at (heap_in heap.old) at len / 8) }
+    ensures leaves { serves heap.old ≡ true → LeavesPayloads (heap_in heap.old).blocks at (touched_in heap.old) (touched_in heap.new) }
+    ensures leaves_all { serves heap.old ≡ true → ¬ (result ≡ 0) → LeavesLive (heap_in heap.old).blocks (touched_in heap.old) (touched_in heap.new) }
 {
-    if !heap.is_open {
+    if !heap.serves() {
         return CallFault::Closed.number();
     }
-    heap.is_open = false;
-    let owned = heap.inner.lend();
+    let held = heap.inner.lend();
+    held.is_in_use = true;
+    let owned = &mut held.heap;
     let answer = owned.resize_place(at, len);
-    heap.is_open = true;
+    held.is_in_use = false;
     match answer {
         Ok(name) => {
             *new_at = name.at;
@@ -188,23 +192,24 @@ pub extern "C" fn tlsf_place(
     name: &mut BlockName,
     len: &mut u32,
 ) -> u32
-    ensures closed { heap.old.is_open ≡ false → (result ≡ closed) × (heap.new ≡ heap.old) }
-    ensures open { heap.old.is_open ≡ true → StaysOpen heap.old heap.new }
-    ensures name { heap.old.is_open ≡ true → result ≡ 0 → name_at (heap_in heap.old) at ≡ Some (name_of name.new) }
-    ensures len { heap.old.is_open ≡ true → result ≡ 0 → length_at (heap_in heap.old).blocks at ≡ Some len.new }
-    ensures stale { heap.old.is_open ≡ true → ¬ (result ≡ 0) → (result ≡ number_of Stale) × (name_at (heap_in heap.old) at ≡ None) }
+    ensures closed { serves heap.old ≡ false → (result ≡ closed) × (heap.new ≡ heap.old) }
+    ensures open { serves heap.old ≡ true → StaysOpen heap.old heap.new }
+    ensures name { serves heap.old ≡ true → result ≡ 0 → name_at (heap_in heap.old) at ≡ Some (name_of name.new) }
+    ensures len { serves heap.old ≡ true → result ≡ 0 → length_at (heap_in heap.old).blocks at ≡ Some len.new }
+    ensures stale { serves heap.old ≡ true → ¬ (result ≡ 0) → (result ≡ number_of Stale) × (name_at (heap_in heap.old) at ≡ None) }
     ensures kept { ¬ (result ≡ 0) → (name.new ≡ name.old) × (len.new ≡ len.old) }
-    ensures counts { heap.old.is_open ≡ true → counts_in heap.new ≡ counts_in heap.old }
-    ensures looks { heap.old.is_open ≡ true → Looks (seen_in heap.old) (seen_in heap.new) at (placed_at (heap_in heap.old).blocks at) }
+    ensures counts { serves heap.old ≡ true → counts_in heap.new ≡ counts_in heap.old }
+    ensures looks { serves heap.old ≡ true → Looks (seen_in heap.old) (seen_in heap.new) at (placed_at (heap_in heap.old).blocks at) }
 {
-    if !heap.is_open {
+    if !heap.serves() {
         return CallFault::Closed.number();
     }
-    heap.is_open = false;
-    let owned = heap.inner.lend();
+    let held = heap.inner.lend();
+    held.is_in_use = true;
+    let owned = &mut held.heap;
     let id = owned.id();
     let found = owned.block_at(at);
-    heap.is_open = true;
+    held.is_in_use = false;
     match found {
         Some(
             PlacedBlock {
@@ -234,21 +239,22 @@ pub extern "C" fn tlsf_place(
 /// ```
 #[unsafe(no_mangle)]
 pub extern "C" fn tlsf_block_at(heap: &mut HeapSlot, at: u32, block: &mut BlockInfo) -> u32
-    ensures closed { heap.old.is_open ≡ false → (result ≡ closed) × (heap.new ≡ heap.old) }
-    ensures open { heap.old.is_open ≡ true → StaysOpen heap.old heap.new }
-    ensures block { heap.old.is_open ≡ true → result ≡ 0 → (b : PlacedBlock) × (placed_at (heap_in heap.old).blocks at ≡ Some b) × (block.new ≡ info_of b) }
-    ensures stale { heap.old.is_open ≡ true → ¬ (result ≡ 0) → (result ≡ number_of Stale) × (placed_at (heap_in heap.old).blocks at ≡ None) }
+    ensures closed { serves heap.old ≡ false → (result ≡ closed) × (heap.new ≡ heap.old) }
+    ensures open { serves heap.old ≡ true → StaysOpen heap.old heap.new }
+    ensures block { serves heap.old ≡ true → result ≡ 0 → (b : PlacedBlock) × (placed_at (heap_in heap.old).blocks at ≡ Some b) × (block.new ≡ info_of b) }
+    ensures stale { serves heap.old ≡ true → ¬ (result ≡ 0) → (result ≡ number_of Stale) × (placed_at (heap_in heap.old).blocks at ≡ None) }
     ensures kept { ¬ (result ≡ 0) → block.new ≡ block.old }
-    ensures counts { heap.old.is_open ≡ true → counts_in heap.new ≡ counts_in heap.old }
-    ensures looks { heap.old.is_open ≡ true → Looks (seen_in heap.old) (seen_in heap.new) at (placed_at (heap_in heap.old).blocks at) }
+    ensures counts { serves heap.old ≡ true → counts_in heap.new ≡ counts_in heap.old }
+    ensures looks { serves heap.old ≡ true → Looks (seen_in heap.old) (seen_in heap.new) at (placed_at (heap_in heap.old).blocks at) }
 {
-    if !heap.is_open {
+    if !heap.serves() {
         return CallFault::Closed.number();
     }
-    heap.is_open = false;
-    let owned = heap.inner.lend();
+    let held = heap.inner.lend();
+    held.is_in_use = true;
+    let owned = &mut held.heap;
     let found = owned.block_at(at);
-    heap.is_open = true;
+    held.is_in_use = false;
     match found {
         Some(there) => {
             *block = BlockInfo::of(there);
@@ -277,26 +283,27 @@ pub extern "C" fn tlsf_check(
     next: &mut u32,
     damaged: &mut u32,
 ) -> u32
-    ensures closed { heap.old.is_open ≡ false → (result ≡ closed) × (heap.new ≡ heap.old) }
-    ensures open { heap.old.is_open ≡ true → StaysOpen heap.old heap.new }
-    ensures sound { heap.old.is_open ≡ true → IsPlace (heap_in heap.old).blocks from → (result ≡ 0) × FindsSound (heap_in heap.old).blocks from most (Sound next.new) }
-    ensures stale { heap.old.is_open ≡ true → ¬ (IsPlace (heap_in heap.old).blocks from) → result ≡ number_of Stale }
-    ensures looks { heap.old.is_open ≡ true → (found : Option Checked) × IsCheck (stored_in heap.old) from most found × (result ≡ check_number_of found)
+    ensures closed { serves heap.old ≡ false → (result ≡ closed) × (heap.new ≡ heap.old) }
+    ensures open { serves heap.old ≡ true → StaysOpen heap.old heap.new }
+    ensures sound { serves heap.old ≡ true → IsPlace (heap_in heap.old).blocks from → (result ≡ 0) × FindsSound (heap_in heap.old).blocks from most (Sound next.new) }
+    ensures stale { serves heap.old ≡ true → ¬ (IsPlace (heap_in heap.old).blocks from) → result ≡ number_of Stale }
+    ensures looks { serves heap.old ≡ true → (found : Option Checked) × IsCheck (stored_in heap.old) from most found × (result ≡ check_number_of found)
         × (next.new ≡ next_told next.old found) × (damaged.new ≡ damaged_told damaged.old found) }
     ensures no_next { ¬ (result ≡ 0) → next.new ≡ next.old }
     ensures no_damage { ¬ (result ≡ damage) → damaged.new ≡ damaged.old }
-    ensures heap { heap.old.is_open ≡ true → heap_in heap.new ≡ heap_in heap.old }
-    ensures wild { heap.old.is_open ≡ true → FollowsNoPlace (heap_in heap.old) from (touches_in heap.old) (touches_in heap.new) }
-    ensures counts { heap.old.is_open ≡ true → counts_in heap.new ≡ counts_in heap.old }
-    ensures touches { heap.old.is_open ≡ true → touches_in heap.new ≤ touches_in heap.old + 1 + block_touches * most }
-    ensures leaves { heap.old.is_open ≡ true → LeavesLive (heap_in heap.old).blocks (touched_in heap.old) (touched_in heap.new) }
+    ensures heap { serves heap.old ≡ true → heap_in heap.new ≡ heap_in heap.old }
+    ensures wild { serves heap.old ≡ true → FollowsNoPlace (heap_in heap.old) from (touches_in heap.old) (touches_in heap.new) }
+    ensures counts { serves heap.old ≡ true → counts_in heap.new ≡ counts_in heap.old }
+    ensures touches { serves heap.old ≡ true → touches_in heap.new ≤ touches_in heap.old + 1 + block_touches * most }
+    ensures leaves { serves heap.old ≡ true → LeavesLive (heap_in heap.old).blocks (touched_in heap.old) (touched_in heap.new) }
 {
-    if !heap.is_open {
+    if !heap.serves() {
         return CallFault::Closed.number();
     }
-    heap.is_open = false;
-    let owned = heap.inner.lend();
+    let held = heap.inner.lend();
+    held.is_in_use = true;
+    let owned = &mut held.heap;
     let found = owned.check_blocks(from, most);
-    heap.is_open = true;
+    held.is_in_use = false;
     check_status(found, next, damaged)
 }

@@ -4,7 +4,7 @@ ghost use Rattle.tlsf_post.specs.Mailboxes.{got_by, IsAllTaken, KeepsOwner};
 ghost use Rattle.tlsf_post.specs.declared.post.Post.{Post};
 ghost use Rattle.tlsf_heap.specs.Touched.{release_touches};
 ghost use Rattle.tlsf_heap.specs.WordsInUse.{words_in_use};
-ghost use Rattle.tlsf_c.specs.Handles.{counts_in, heap_in, touches_in, touched_in, StaysOpen};
+ghost use Rattle.tlsf_c.specs.Handles.{counts_in, heap_in, touches_in, touched_in, StaysOpen, serves};
 ghost use Rattle.tlsf_c.specs.Ends.{left_in_end};
 ghost use Rattle.tlsf_c.specs.Drains.{drained, LeavesUnnamed};
 ghost use Rattle.tlsf_c.specs.Names.{name_of};
@@ -250,11 +250,11 @@ pub extern "C" fn tlsf_queue_drain(
     most: u32,
     came: &mut u32,
 ) -> u32
-    ensures heap_closed { heap.old.is_open ≡ false → result ≡ closed }
+    ensures heap_closed { serves heap.old ≡ false → result ≡ closed }
     ensures queue_closed { queue.old.is_open ≡ false → result ≡ closed }
     ensures refused { ¬ (result ≡ 0) → (heap.new ≡ heap.old) × (queue.new ≡ queue.old) × (came.new ≡ came.old) }
-    ensures other { heap.old.is_open ≡ true → queue.old.is_open ≡ true → holds_queue queue.old ≡ false → result ≡ other_kind }
-    ensures open { heap.old.is_open ≡ true → queue.old.is_open ≡ true → holds_queue queue.old ≡ true → (result ≡ 0) × StaysOpen heap.old heap.new × (queue.new.is_open ≡ true) × (holds_queue queue.new ≡ true) }
+    ensures other { serves heap.old ≡ true → queue.old.is_open ≡ true → holds_queue queue.old ≡ false → result ≡ other_kind }
+    ensures open { serves heap.old ≡ true → queue.old.is_open ≡ true → holds_queue queue.old ≡ true → (result ≡ 0) × StaysOpen heap.old heap.new × (queue.new.is_open ≡ true) × (holds_queue queue.new ≡ true) }
     ensures queue { KeepsQueue (owner_in queue.old) (owner_in queue.new) × (left_in queue.new ≡ left_in queue.old) }
     ensures drained { result ≡ 0 → (posts : List Post) × (got_in queue.new ≡ got_in queue.old ++ posts)
         × (heap_in heap.new ≡ drained (heap_in heap.old) posts) × (length posts ≡ came.new) }
@@ -265,7 +265,7 @@ pub extern "C" fn tlsf_queue_drain(
     ensures leaves { result ≡ 0 → (posts : List Post) × (got_in queue.new ≡ got_in queue.old ++ posts)
         × LeavesUnnamed (heap_in heap.old).blocks posts (touched_in heap.old) (touched_in heap.new) }
 {
-    if !heap.is_open || !queue.is_open {
+    if !heap.serves() || !queue.is_open {
         return CallFault::Closed.number();
     }
     let AnyEnd::Queue(end) = queue.inner.lend() else {
@@ -279,7 +279,7 @@ pub extern "C" fn tlsf_queue_drain(
 
 /// Takes names out of a queue, at most `most`, and releases the block that each names. Answers how many came. The heap is open.
 fn drain_names(heap: &mut HeapSlot, end: &mut QueueEnd, most: u32) -> u32
-    requires { heap.old.is_open ≡ true }
+    requires { serves heap.old ≡ true }
     ensures open { StaysOpen heap.old heap.new }
     ensures queue { KeepsOwner end.old.owner end.new.owner }
     ensures left { left_in_end end.new ≡ left_in_end end.old }
@@ -305,7 +305,7 @@ fn drain_names(heap: &mut HeapSlot, end: &mut QueueEnd, most: u32) -> u32
 
 /// Takes a post out of a queue, and releases the block that it names. Whether one came. The heap is open.
 fn drain_one(heap: &mut HeapSlot, end: &mut QueueEnd) -> bool
-    requires { heap.old.is_open ≡ true }
+    requires { serves heap.old ≡ true }
     ensures open { StaysOpen heap.old heap.new }
     ensures queue { KeepsOwner end.old.owner end.new.owner }
     ensures left { left_in_end end.new ≡ left_in_end end.old }

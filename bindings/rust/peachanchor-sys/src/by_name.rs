@@ -9,9 +9,10 @@ use crate::fetch::fetch;
 use crate::{proved, tlsf_heap, tlsf_name, tlsf_post_end, tlsf_queue, tlsf_take_end, TLSF_OK};
 use core::ffi::c_void;
 
-/// Notes a block of `len` bytes where it has an odd number of words.
+/// Notes a block of `len` bytes where it has an odd number of words. It is written once, so that what other threads read beside
+/// the handle stays in their caches.
 unsafe fn note(heap: *mut tlsf_heap, len: u32) {
-    if len > 8 && len.div_ceil(8) % 2 == 0 {
+    if len > 8 && len.div_ceil(8) % 2 == 0 && !(*heap).is_mixed {
         (*heap).is_mixed = true;
     }
 }

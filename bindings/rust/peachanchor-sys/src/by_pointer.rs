@@ -68,7 +68,9 @@ unsafe fn allocate_for(heap: *mut tlsf_heap, len: usize, align: usize) -> tlsf_p
         return refused(TLSF_BAD_SIZE);
     }
     if len > TLSF_LONGEST {
-        return refused(if (*heap).is_open { TLSF_NO_FIT } else { TLSF_IS_CLOSED });
+        let mut none = tlsf_block_info::default();
+        let looked = tlsf_block_at(heap, u32::MAX, &mut none);
+        return refused(if looked == TLSF_IS_CLOSED { TLSF_IS_CLOSED } else { TLSF_NO_FIT });
     }
     if align <= 16 {
         even_place(heap, len)

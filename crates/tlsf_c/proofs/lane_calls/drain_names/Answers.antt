@@ -16,7 +16,7 @@ loop-left-preserved c =
     let still = still_ready (ready c.loop-left.end) (ready c.take_slice-came.new.self) names
     (subst (λ l. IsPrefix (ready c.loop-left.end) (l ++ ready c.take_slice-came.new.self)) (sym front) took.came.1) in
     record {
-      heap = gone.open.is_open;
+      heap = gone.open.serves;
       goes_on = record {
         level = gone.open.heap.level ∙ i.goes_on.level;
         stays = gone.open.heap.stays ∙ i.goes_on.stays;

@@ -1,10 +1,10 @@
-use Rattle.tlsf_c.proofs.Common.{◌≡◌, ◌+◌, ◌*◌, ◌<◌, ◌≤◌, true, take, release_touches, words_in_use, drained, LeavesUnnamed, GoesOn, counts_in, heap_in, touches_in, touched_in}
+use Rattle.tlsf_c.proofs.Common.{◌≡◌, ◌+◌, ◌*◌, ◌<◌, ◌≤◌, true, take, release_touches, words_in_use, drained, LeavesUnnamed, GoesOn, serves, counts_in, heap_in, touches_in, touched_in}
 use Rattle.tlsf_c.proofs.lane_calls.release_posts.Given as goal
 
 abbrev pub invariant-loop-post : goal.invariant-loop-post
 invariant-loop-post l = record {
-  heap : l.heap.is_open ≡ true;
-  goes_on : GoesOn l.fn.heap.inner.value l.heap.inner.value;
+  heap : serves l.heap ≡ true;
+  goes_on : GoesOn l.fn.heap.inner.value.heap l.heap.inner.value.heap;
   base : l.heap.base ≡ l.fn.heap.base;
   number : l.heap.number ≡ l.fn.heap.number;
   no_counts : l.post-index ≡ 0 → counts_in l.heap ≡ counts_in l.fn.heap;

@@ -1,12 +1,12 @@
-use Rattle.tlsf_c.proofs.Common.{◌≡◌, ◌+◌, ◌*◌, ◌<◌, ◌≤◌, true, List, ◌++◌, length, release_touches, words_in_use, Post, drained, LeavesUnnamed, GoesOn, counts_in, heap_in, touches_in, touched_in}
+use Rattle.tlsf_c.proofs.Common.{◌≡◌, ◌+◌, ◌*◌, ◌<◌, ◌≤◌, true, List, ◌++◌, length, release_touches, words_in_use, Post, drained, LeavesUnnamed, GoesOn, serves, counts_in, heap_in, touches_in, touched_in}
 use Rattle.tlsf_c.specs.Ends.{left_in_end}
 use Rattle.tlsf_post.specs.Mailboxes.{got_by, KeepsOwner}
 use Rattle.tlsf_c.proofs.queue_calls.drain_names.Given as goal
 
 abbrev pub invariant-loop-left : goal.invariant-loop-left
 invariant-loop-left l = record {
-  heap : l.heap.is_open ≡ true;
-  goes_on : GoesOn l.fn.heap.inner.value l.heap.inner.value;
+  heap : serves l.heap ≡ true;
+  goes_on : GoesOn l.fn.heap.inner.value.heap l.heap.inner.value.heap;
   base : l.heap.base ≡ l.fn.heap.base;
   number : l.heap.number ≡ l.fn.heap.number;
   few : l.count + l.left ≤ l.most;

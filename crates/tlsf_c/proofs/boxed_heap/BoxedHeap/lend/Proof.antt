@@ -1,5 +1,5 @@
 -- `lend` lends the heap that a full handle owns, and the handle follows it.
-use Rattle.tlsf_c.proofs.Walking.{token, D, B, R, τ, word, handle, box_out, box_in, LevelHeap, ◌≡◌, refl, sym, subst, Bool, true, List, [], ◌∷◌, ◌++◌, Ura, Fn, named, bare, Val, vptr, SProp, ent, sep, id⊢, Lft, GName, Share, Fml, ftrue, fsep, flft, fobs, fbor, Memory, Routine, Env, Calls, Loops, WpFn, Tables, Logic, sem, Fun, tables, tables_of, WpFn-mono, Item, ⋆, ‵, raw, ◌⊛◌, some, later, await, pick, at_ret, ◌$◌, ◌∵◌, !, qed, by, move, keep, use1, split, join, group, rewrite, fsplit, fsplit3, fjoin, fjoin3, fpack, feq_l, suffices, frame, done, whole, sub, look_in, stop, fld, load, of_opd, addr, first, blocks, exec, returns, enter, alloc_all, pass_all, free_all, look_at, get, through, sets, sets_last, env, no, RattleType, owns, cell_at, part_at, part_of, mem, block_ptr, plain, mut_ref_to, nothing, opens, triple_of, entered, says, needs, Stays, stay_dropped, walk_of, ends_at, Goes-spent_ref, walk_Meets}
+use Rattle.tlsf_c.proofs.Walking.{token, D, B, R, τ, word, handle, box_out, box_in, ◌≡◌, refl, sym, subst, Bool, true, List, [], ◌∷◌, ◌++◌, Ura, Fn, named, bare, Val, vptr, SProp, ent, sep, id⊢, Lft, GName, Share, Fml, ftrue, fsep, flft, fobs, fbor, Memory, Routine, Env, Calls, Loops, WpFn, Tables, Logic, sem, Fun, tables, tables_of, WpFn-mono, Item, ⋆, ‵, raw, ◌⊛◌, some, later, await, pick, at_ret, ◌$◌, ◌∵◌, !, qed, by, move, keep, use1, split, join, group, rewrite, fsplit, fsplit3, fjoin, fjoin3, fpack, feq_l, suffices, frame, done, whole, sub, look_in, stop, fld, load, of_opd, addr, first, blocks, exec, returns, enter, alloc_all, pass_all, free_all, look_at, get, through, sets, sets_last, env, no, RattleType, owns, cell_at, part_at, part_of, mem, block_ptr, plain, mut_ref_to, nothing, opens, triple_of, entered, says, needs, Stays, stay_dropped, walk_of, ends_at, Goes-spent_ref, walk_Meets}
 use Prim.Native.Nat.{ℕ}
 use base.Fraction.{full_share}
 use types.SemTy.{Body as Borrowed}
@@ -9,7 +9,8 @@ use denote.Triple.Entry.{on_entry}
 use Rattle.std_alloc.proofs.VecSteps.Shapes.{after}
 use Rattle.tlsf_c.specs.Lending.{holding}
 use Rattle.tlsf_c.specs.declared.boxed_heap.BoxedHeap.{BoxedHeap}
-use Rattle.tlsf_c.specs.contracts.any_heap.AnyHeap as Home
+use Rattle.tlsf_c.specs.declared.held_heap.HeldHeap.{HeldHeap}
+use Rattle.tlsf_c.specs.contracts.held_heap.HeldHeap as Home
 use Rattle.tlsf_c.specs.contracts.boxed_heap.BoxedHeap as Sealed
 use Rattle.tlsf_c.proofs.HeapBox.{E}
 use Rattle.tlsf_c.specs.contracts.boxed_heap.BoxedHeap.lend as F
@@ -43,7 +44,7 @@ module _ {M : Type 1} {𝓤 : Ura M} (𝓛 : Logic 𝓤) (at_mem : Memory → SP
   Post = (walk_of 𝓛 F.ended stayed (F.clauses 𝓛 at_mem run)).post bound
 
   -- the box that a full handle owns
-  abbrev boxed : LevelHeap → D E
+  abbrev boxed : HeldHeap → D E
   boxed value = record { ptr = h.at; alloc = h.alloc; value = value }
 
   module _ (full : h.full ≡ true) (b o : ℕ) (hv : Val) where
@@ -51,7 +52,7 @@ module _ {M : Type 1} {𝓤 : Ura M} (𝓛 : Logic 𝓤) (at_mem : Memory → SP
     abbrev Rest : Fml
     Rest = fsep (token E.al h.alloc (bare (τ E)) (block_ptr b o)) (fsep (handle E h.alloc hv) (cell_at full_share S.mir (word E hv b o ∷ []) rb ro))
 
-    back : h.at ≡ block_ptr b o → (w : LevelHeap) → ent 𝓤 (sep 𝓤 (sem 𝓛 ((mem T).own_at w b o)) (sem 𝓛 Rest)) (sem 𝓛 ((mem S).own_at (holding h w) rb ro))
+    back : h.at ≡ block_ptr b o → (w : HeldHeap) → ent 𝓤 (sep 𝓤 (sem 𝓛 ((mem T).own_at w b o)) (sem 𝓛 Rest)) (sem 𝓛 ((mem S).own_at (holding h w) rb ro))
     unfolding part_of
     back at_b w =
         qed 𝓛 (‵ (part_at (R E) full_share w b o) ∷ ‵ Rest ∷ []) ∵ move ! (1 ∷ []) $ fsplit3 ! $ move ! (3 ∷ 0 ∷ 1 ∷ 2 ∷ []) $
