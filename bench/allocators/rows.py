@@ -33,6 +33,8 @@ POSTS = {"alone": "a post and its take, one thread", "stream": "a post, two thre
 # The calls of bench/c/cold.c, and the marks that its traces have.
 COLD_CALLS = ["allocate", "release", "malloc", "free"]
 OWN, ENDED, TOLD, LENGTHS = 0x20000000, 0x20000040, 0x20000041, 0x20000080
+# How a row calls lanes where the owner's handle has no cache line of its own.
+BESIDE = "lanes, the handle beside what posters read"
 # What frees.c prints of each pattern.
 BUSY = {"works": ("frees while the owner works, {}", "pairs of the owner meanwhile, {}"),
         "turns": ("bursts: a free, {}", "bursts: a drained name, {}"), "full": ("drain of a full lane, {}",)}
@@ -211,7 +213,7 @@ class Rows:
             for column in self.columns("frees"):
                 told = self.run(column, "frees", "lock", "COLUMN", "waits", str(posters), is_pinned=True)
                 self.keep(f"frees under a lock, {posters + 1} threads", column, told.split()[0])
-            for way, text in (("lanes", "lanes"), ("queue", "a queue")):
+            for way, text in (("lanes", "lanes"), ("beside", BESIDE), ("queue", "a queue")):
                 if "level4" in self.columns("frees"):
                     told = self.run("level4", "frees", way, "level4", "waits", str(posters), is_pinned=True)
                     self.keep(f"frees over {text}, {posters + 1} threads", "level4", told.split()[0])
@@ -219,7 +221,7 @@ class Rows:
     def time_busy(self, pattern, column):
         """Frees beside the owner's work. Only this heap has lanes and rings, and a lane alone is full."""
         memory = COLUMNS[column].memory
-        ways = {"lanes": "over lanes", "ring": "over a ring in C"} if column == "level4" else {}
+        ways = {"lanes": "over lanes", "beside": f"over {BESIDE}", "ring": "over a ring in C"} if column == "level4" else {}
         if pattern != "full":
             ways["lock"] = "under a lock" if memory != "system" else "by free"
         for way, text in ways.items():
