@@ -81,16 +81,17 @@ static struct calls {
 
 static int is_by_pointer(void) { return kind == BY_POINTER || kind == RESIZED_BY_POINTER; }
 
-/* Calls that are inline in tlsf.h, and those that find the handle of a near heap first. */
+/* Calls that are inline in tlsf.h, and those that find the handle of a near heap first. In parentheses a name is that of the proved call,
+ * with nothing that is inline around it. */
 static void *level_malloc(struct tlsf_heap *heap, size_t len) { return tlsf_malloc(heap, len); }
 static uint32_t level_free(struct tlsf_heap *heap, void *at) { return tlsf_free(heap, at); }
 static void *level_realloc(struct tlsf_heap *heap, void *at, size_t len) { return tlsf_realloc(heap, at, len); }
 static uint32_t near_allocate(struct tlsf_near_heap *heap, uint32_t len, struct tlsf_name *name) {
-    return tlsf_allocate(tlsf_near(heap), len, name);
+    return (tlsf_allocate)(tlsf_near(heap), len, name);
 }
-static uint32_t near_release(struct tlsf_near_heap *heap, struct tlsf_name name) { return tlsf_release(tlsf_near(heap), name); }
+static uint32_t near_release(struct tlsf_near_heap *heap, struct tlsf_name name) { return (tlsf_release)(tlsf_near(heap), name); }
 static uint32_t near_reallocate(struct tlsf_near_heap *heap, struct tlsf_name *name, uint32_t len) {
-    return tlsf_reallocate(tlsf_near(heap), name, len);
+    return (tlsf_reallocate)(tlsf_near(heap), name, len);
 }
 static void *near_malloc(struct tlsf_near_heap *heap, size_t len) { return tlsf_malloc(tlsf_near(heap), len); }
 static uint32_t near_free(struct tlsf_near_heap *heap, void *at) { return tlsf_free(tlsf_near(heap), at); }

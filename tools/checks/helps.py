@@ -4,6 +4,7 @@ nothing on standard error and status 0, and starts neither `rt` nor a compiler.
 No line of a stored help of the program, of tests/cases/help.toml, is longer."""
 import os
 import pathlib
+import resource
 import subprocess
 import tempfile
 
@@ -11,6 +12,8 @@ import case_files
 import tree
 
 MOST_WIDTH = 80
+# Of processor time, and of any: beside other work a script may wait long.
+MOST_SECONDS, MOST_WAIT = 5, 60
 SCRIPTS = ("test", "attack", "library", "bench/*", "tools/*", "tests/*", "tests/*/run")
 # What no script may start for its help.
 TOOLS = ("rt", "cc", "c++", "valgrind", "perf", "taskset")
@@ -27,9 +30,10 @@ def fault_of(script, word, folder):
     mark.unlink(missing_ok=True)
     path = {**os.environ, "PATH": f"{folder}:{os.environ['PATH']}"}
     try:
-        ran = subprocess.run([f"./{script}", word], cwd=tree.TOP, env=path, stdin=subprocess.DEVNULL, capture_output=True, timeout=10, check=False)
+        ran = subprocess.run([f"./{script}", word], cwd=tree.TOP, env=path, stdin=subprocess.DEVNULL, capture_output=True, timeout=MOST_WAIT, check=False,
+                             preexec_fn=lambda: resource.setrlimit(resource.RLIMIT_CPU, (MOST_SECONDS, MOST_SECONDS)))
     except subprocess.TimeoutExpired:
-        return "doesn't end in ten seconds"
+        return f"doesn't end in {MOST_WAIT} seconds"
     lines = ran.stdout.split(b"\n")
     if ran.returncode or ran.stderr or not lines[0].startswith((f"usage: {script}".encode(), f"usage: ./{script}".encode())):
         return f"doesn't show its use, and ends with status {ran.returncode}"
