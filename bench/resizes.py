@@ -3,7 +3,7 @@ from model.heap import LEAST, MOST_WORDS, NO_FIT, low, search_of, want
 from script import tlsf
 from model.trace import MOST_LINES
 
-LEAST_LEFT = 3      # blocks that come last: with fewer there are no kinds left for a filler and a hole
+LEAST_LEFT = 3  # blocks that come last: with fewer there are no kinds left for a filler and a hole
 
 
 def payload(words):
@@ -53,12 +53,14 @@ class Layout:
 
     def ways(self, block, sizes, kinds):
         """The kinds and sizes, of these, that the block may get."""
-        return ((kind, size) for size in sizes for kind in kinds if self.length(kind, size) and (self.free[kind] or kind == self.kinds[block]))
+        return (
+            (kind, size) for size in sizes for kind in kinds if self.length(kind, size) and (self.free[kind] or kind == self.kinds[block])
+        )
 
     def shape(self, block, words, kinds):
         """Gives the longest block at the front so many words, as one of these kinds, and tells whether that could be."""
         steps = [*self.ways(block, [words], kinds)][:1]
-        if steps and 0 < self.longest - words < LEAST:      # so few are not split off: first there are fewer words, and then more
+        if steps and 0 < self.longest - words < LEAST:  # so few are not split off: first there are fewer words, and then more
             fewer = next(self.ways(block, range(self.longest - LEAST, LEAST - 1, -1), range(self.last + 1)), None)
             steps = [fewer, *steps] if fewer else []
         for kind, size in steps:
@@ -142,7 +144,7 @@ def forced(table, level):
         for left, kind in zip(range(len(order), 0, -1), order):
             words, lines, blocks, short = layout.words, len(layout.lines), len(layout.kinds), layout.short
             layout.place(kind, left)
-            if layout.words + layout.hole > MOST_WORDS[level] or len(layout.lines) + 2 > MOST_LINES:     # no more blocks have room
+            if layout.words + layout.hole > MOST_WORDS[level] or len(layout.lines) + 2 > MOST_LINES:  # no more blocks have room
                 layout.words, layout.lines, layout.kinds = words - (short[2] if short else 0), layout.lines[:lines], layout.kinds[:blocks]
                 break
         found = max(found, (layout.words + layout.hole, [*layout.lines, f"a 0 {len(layout.kinds)} {table[-1][1]}"]), key=lambda it: it[0])
@@ -151,7 +153,7 @@ def forced(table, level):
 
 def forced_in(line):
     """Of one heap for a line of `tlsf replay --kinds`: how many kinds it has, and the words forced."""
-    words = line.split()[line.split().index("--level"):]
+    words = line.split()[line.split().index("--level") :]
     level, table = int(words[1]), list(zip(map(int, words[3::4]), map(int, words[5::4])))
     most, lines = forced(table, level)
     replies = tlsf("replay", text="\n".join([f"tlsf {level - 3} 1 {most} 1", *lines, ""])).splitlines()[: len(lines)]

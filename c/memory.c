@@ -93,24 +93,24 @@ void free(void *at);
 #endif
 
 enum {
-    MARK = 8,          /* bytes in front of a piece */
-    HEAP = 2760,       /* bytes of a heap's or an arena's own fields: beside its words and the bits that say where blocks begin */
-    LINE = 64,         /* the handle of a near heap lies at a multiple of a cache line, */
-    HANDLE = 32,       /* has so many bytes, */
-    NEAR = 2816,       /* and begins so many, for it and for the heap's own fields */
-    PIECES_FIRST = 2,  /* the words and the bits come in front of the own fields */
-    LINES = 128,       /* two cache lines: a processor may fetch both where it needs one */
-    END = 48,          /* bytes of each end of a lane or a queue */
-    LANE = 384,        /* bytes of a lane beside its names and its ends */
+    MARK = 8,         /* bytes in front of a piece */
+    HEAP = 2760,      /* bytes of a heap's or an arena's own fields: beside its words and the bits that say where blocks begin */
+    LINE = 64,        /* the handle of a near heap lies at a multiple of a cache line, */
+    HANDLE = 32,      /* has so many bytes, */
+    NEAR = 2816,      /* and begins so many, for it and for the heap's own fields */
+    PIECES_FIRST = 2, /* the words and the bits come in front of the own fields */
+    LINES = 128,      /* two cache lines: a processor may fetch both where it needs one */
+    END = 48,         /* bytes of each end of a lane or a queue */
+    LANE = 384,       /* bytes of a lane beside its names and its ends */
     LANE_NAME = 24,
-    QUEUE = 88,        /* bytes of a queue beside its places and its ends */
-    PLACES = 384,      /* of its places beside 8 for each */
+    QUEUE = 88,   /* bytes of a queue beside its places and its ends */
+    PLACES = 384, /* of its places beside 8 for each */
     QUEUE_NAME = 32,
-    POSTER = 16,       /* of a poster's end in the list that it is first in */
+    POSTER = 16, /* of a poster's end in the list that it is first in */
     LEAST_WORDS = 4,
-    MOST_NAMES = 1024, /* of a lane or a queue, which has no more posters */
+    MOST_NAMES = 1024,    /* of a lane or a queue, which has no more posters */
     MOST_BYTES = 1 << 28, /* no heap takes as many */
-    BAD_SIZE = 5,      /* two numbers of enum tlsf_answer (tools/check answers) */
+    BAD_SIZE = 5,         /* two numbers of enum tlsf_answer (tools/check answers) */
     BAD_MEMORY = 39
 };
 
@@ -201,18 +201,12 @@ static inline __attribute__((always_inline)) void zero_ends(unsigned char *at, s
 void *tlsf_memory_set(void *to, int byte, size_t n) {
     unsigned char *const at = to;
     if (__builtin_expect(n > 512, 0) || __builtin_expect(byte != 0, 0)) return memset(to, byte, n);
-    if (n > 256)
-        zero_ends(at, n, 16);
-    else if (n > 128)
-        zero_ends(at, n, 8);
-    else if (n > 64)
-        zero_ends(at, n, 4);
-    else if (n > 32)
-        zero_ends(at, n, 2);
-    else if (n > 16)
-        zero_ends(at, n, 1);
-    else if (n < 8)
-        return memset(to, 0, n);
+    if (n > 256) zero_ends(at, n, 16);
+    else if (n > 128) zero_ends(at, n, 8);
+    else if (n > 64) zero_ends(at, n, 4);
+    else if (n > 32) zero_ends(at, n, 2);
+    else if (n > 16) zero_ends(at, n, 1);
+    else if (n < 8) return memset(to, 0, n);
     else {
         *(word *)to = 0;
         *(word *)(void *)(at + n - 8) = 0;
@@ -247,9 +241,8 @@ static size_t lane_bytes(size_t capacity) {
 
 /* The same of a queue. Opening makes its places twice, and the posters' ends in a list before each gets a piece. */
 static size_t queue_bytes(size_t posters, size_t capacity) {
-    return with_mark(POSTER * posters, LINES) + 2 * with_mark(PLACES + 8 * capacity, LINES) +
-           2 * with_mark(QUEUE_NAME * capacity, LINES) + with_mark(QUEUE, LINES) + with_mark(8 * posters, LINES) +
-           (posters + 1) * with_mark(END, LINES);
+    return with_mark(POSTER * posters, LINES) + 2 * with_mark(PLACES + 8 * capacity, LINES) + 2 * with_mark(QUEUE_NAME * capacity, LINES) +
+           with_mark(QUEUE, LINES) + with_mark(8 * posters, LINES) + (posters + 1) * with_mark(END, LINES);
 }
 
 /* Whether so many bytes may lie there: not at null, nor past the end of the address space, as from mmap's MAP_FAILED. */

@@ -41,7 +41,9 @@ static struct piece piece_at(void *at) {
 }
 
 /* malloc may answer NULL to a request for 0 bytes, and realloc may free at one. */
-struct piece rattle_alloc(size_t bytes, size_t align) { return piece_at(malloc(bytes ? bytes : align)); }
+struct piece rattle_alloc(size_t bytes, size_t align) {
+    return piece_at(malloc(bytes ? bytes : align));
+}
 
 struct piece rattle_realloc(void *at, size_t kept, size_t bytes, size_t align) {
     (void)kept;

@@ -74,10 +74,8 @@ static void *give(size_t align, size_t bytes, bool zeroed) {
     }
     enter();
     if (!is_tried) open_heap();
-    if (align > 16)
-        p = tlsf_aligned_alloc(&heap, align, bytes);
-    else
-        p = zeroed ? tlsf_calloc(&heap, bytes, 1) : tlsf_malloc(&heap, bytes);
+    if (align > 16) p = tlsf_aligned_alloc(&heap, align, bytes);
+    else p = zeroed ? tlsf_calloc(&heap, bytes, 1) : tlsf_malloc(&heap, bytes);
     leave();
     if (p) given++;
     return p;
@@ -182,6 +180,6 @@ __attribute__((destructor)) static void report(void) {
     leave();
     tell(line, snprintf(line, sizeof line,
                         "tlsf_preload: %s: %lu blocks of the heap, at most %lu of its %lu bytes at once; %lu larger, %lu without room\n",
-                        program_invocation_short_name, (unsigned long)given, 8ul * counts.most_words, (unsigned long)(end ? end - begin : 0),
-                        (unsigned long)larger, (unsigned long)counts.refused));
+                        program_invocation_short_name, (unsigned long)given, 8ul * counts.most_words,
+                        (unsigned long)(end ? end - begin : 0), (unsigned long)larger, (unsigned long)counts.refused));
 }

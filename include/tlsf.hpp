@@ -342,9 +342,7 @@ public:
     poster() noexcept = default;
     tlsf_poster *get() noexcept { return state_ ? &state_->raw : nullptr; }
     // One attempt: TLSF_OK, TLSF_FULL, TLSF_BUSY where another thread is in the way, or TLSF_IS_CLOSED.
-    [[nodiscard]] std::uint32_t post(const tlsf_name &name) noexcept {
-        return state_ ? tlsf_queue_post(get(), name) : detail::closed;
-    }
+    [[nodiscard]] std::uint32_t post(const tlsf_name &name) noexcept { return state_ ? tlsf_queue_post(get(), name) : detail::closed; }
     // The block's name goes, and the block is empty then; where it isn't posted, the block stays as it is.
     [[nodiscard]] std::uint32_t post(block &&sent) noexcept {
         if (!sent) return TLSF_STALE;
@@ -367,8 +365,7 @@ public:
         if (answer != TLSF_OK) detail::bad_size("tlsf: a queue has 1 to 1,024 posters and 1 to 1,024 names");
     }
     // In memory of the caller's: of tlsf_queue_bytes(posters, capacity) bytes there is enough at any alignment.
-    queue(std::uint32_t posters, std::uint32_t capacity, void *memory, std::size_t bytes)
-        : state_(new (std::nothrow) detail::queue_state) {
+    queue(std::uint32_t posters, std::uint32_t capacity, void *memory, std::size_t bytes) : state_(new (std::nothrow) detail::queue_state) {
         if (!state_) detail::no_room();
         if (tlsf_queue_open_in(get(), posters, capacity, memory, bytes) != TLSF_OK)
             detail::bad_size("tlsf: a queue of so many posters and names has no room in that memory");
@@ -455,7 +452,8 @@ public:
         tlsf_name name{};
         void *at = nullptr;
         if (out_ == most_) collect();
-        if (out_ == most_ || !heap_ || tlsf_allocate_at(tlsf_near(&heap_->held), sizeof(T), alignof(T), TLSF_UNFILLED, &name, &at) != TLSF_OK)
+        if (out_ == most_ || !heap_ ||
+            tlsf_allocate_at(tlsf_near(&heap_->held), sizeof(T), alignof(T), TLSF_UNFILLED, &name, &at) != TLSF_OK)
             return pointer();
         block held(heap_, name); // goes back where the constructor throws
         T *made = ::new (at) T(std::forward<Args>(args)...);
@@ -486,8 +484,7 @@ class offsets {
 public:
     offsets() noexcept = default;
     // `units` units of `unit` bytes each.
-    offsets(level l, std::uint32_t number, std::uint32_t unit, std::uint32_t units)
-        : state_(new (std::nothrow) detail::offsets_state) {
+    offsets(level l, std::uint32_t number, std::uint32_t unit, std::uint32_t units) : state_(new (std::nothrow) detail::offsets_state) {
         if (!state_) detail::no_room();
         const std::uint32_t answer = tlsf_offsets_open(get(), static_cast<std::uint32_t>(l), number, unit, units);
         if (answer == TLSF_NO_MEMORY) detail::no_room();
@@ -506,9 +503,7 @@ public:
         if (!state_ || tlsf_offsets_allocate(get(), bytes, &span) != TLSF_OK) return std::nullopt;
         return span;
     }
-    std::uint32_t release(const tlsf_span &span) noexcept {
-        return state_ ? tlsf_offsets_release(get(), span.name) : detail::closed;
-    }
+    std::uint32_t release(const tlsf_span &span) noexcept { return state_ ? tlsf_offsets_release(get(), span.name) : detail::closed; }
     [[nodiscard]] std::uint32_t resize(tlsf_span &span, std::uint64_t bytes) noexcept {
         return state_ ? tlsf_offsets_resize(get(), &span, bytes) : detail::closed;
     }
@@ -601,8 +596,7 @@ public:
 
     [[nodiscard]] T *allocate(std::size_t n) {
         void *p = nullptr;
-        if (heap_ && n <= std::numeric_limits<std::size_t>::max() / sizeof(T))
-            p = detail::give(*heap_, n * sizeof(T), alignof(T));
+        if (heap_ && n <= std::numeric_limits<std::size_t>::max() / sizeof(T)) p = detail::give(*heap_, n * sizeof(T), alignof(T));
         if (!p) detail::no_room();
         return static_cast<T *>(p);
     }

@@ -76,7 +76,10 @@ struct tlsf_cache {
 };
 
 /* A magazine that isn't open, to begin with alone. One whose bytes are all zero is closed too. */
-#define TLSF_CACHE_CLOSED { TLSF_NULL, TLSF_NULL, { { 0 } }, { 0 } }
+#define TLSF_CACHE_CLOSED \
+    { \
+        TLSF_NULL, TLSF_NULL, {{0}}, { 0 } \
+    }
 
 /* The blocks that a magazine keeps, and the bytes of their payload. Those of tlsf_report less these are the program's. */
 struct tlsf_cache_usage {

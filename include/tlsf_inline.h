@@ -36,9 +36,7 @@ extern "C" {
 
 #define TLSF_LONGEST (UINT64_C(1) << 27) /* no region has so many bytes */
 
-static inline uint32_t tlsf_rounded(uint32_t len) TLSF_NOEXCEPT {
-    return len > UINT32_MAX - 15 ? UINT32_MAX : ((len + 7) / 8 | 1) * 8;
-}
+static inline uint32_t tlsf_rounded(uint32_t len) TLSF_NOEXCEPT { return len > UINT32_MAX - 15 ? UINT32_MAX : ((len + 7) / 8 | 1) * 8; }
 
 static inline uint32_t tlsf_place_of(const struct tlsf_heap *heap, const void *p) TLSF_NOEXCEPT {
     const uint64_t offset = (uintptr_t)p - (uintptr_t)heap->base - 24;

@@ -91,8 +91,7 @@ void *tlsf_memory_move(void *to, const void *from, size_t n) { return tlsf_memor
 
 /* --- Looks ---------------------------------------------------------------------------------------------------------- */
 
-TLSF_ANSWER static inline uint32_t tlsf_marked_block_at(struct tlsf_heap *heap, uint32_t at,
-                                                        struct tlsf_block_info *block) TLSF_NOEXCEPT {
+TLSF_ANSWER static inline uint32_t tlsf_marked_block_at(struct tlsf_heap *heap, uint32_t at, struct tlsf_block_info *block) TLSF_NOEXCEPT {
     TLSF_BEGIN_CALL;
     const uint32_t answer = tlsf_block_at(heap, at, block);
     TLSF_END_CALL;
@@ -147,8 +146,8 @@ static inline uint32_t tlsf_marked_len(struct tlsf_heap *heap, struct tlsf_name 
     return tlsf_marked_locate(heap, name, &base, &len) == TLSF_OK ? len : 0;
 }
 
-TLSF_ANSWER static inline uint32_t tlsf_marked_write(struct tlsf_heap *heap, struct tlsf_name name, uint32_t at,
-                                                     const uint8_t *bytes, size_t n) TLSF_NOEXCEPT {
+TLSF_ANSWER static inline uint32_t tlsf_marked_write(struct tlsf_heap *heap, struct tlsf_name name, uint32_t at, const uint8_t *bytes,
+                                                     size_t n) TLSF_NOEXCEPT {
     (void)tlsf_marked_len(heap, name);
     TLSF_BEGIN_CALL;
     const uint32_t answer = tlsf_write(heap, name, at, bytes, n);
@@ -156,8 +155,8 @@ TLSF_ANSWER static inline uint32_t tlsf_marked_write(struct tlsf_heap *heap, str
     return answer;
 }
 
-TLSF_ANSWER static inline uint32_t tlsf_marked_read(struct tlsf_heap *heap, struct tlsf_name name, uint32_t at,
-                                                    uint8_t *out, size_t n) TLSF_NOEXCEPT {
+TLSF_ANSWER static inline uint32_t tlsf_marked_read(struct tlsf_heap *heap, struct tlsf_name name, uint32_t at, uint8_t *out,
+                                                    size_t n) TLSF_NOEXCEPT {
     (void)tlsf_marked_len(heap, name);
     TLSF_BEGIN_CALL;
     const uint32_t answer = tlsf_read(heap, name, at, out, n);
@@ -169,13 +168,11 @@ TLSF_ANSWER static inline uint32_t tlsf_marked_read(struct tlsf_heap *heap, stru
 
 static inline uint32_t tlsf_mark_region(struct tlsf_heap *heap, uint32_t answer) TLSF_NOEXCEPT {
     struct tlsf_block_info whole = {0, 0, 0, 0, 0};
-    if (answer == TLSF_OK && tlsf_marked_block_at(heap, 0, &whole) == TLSF_OK)
-        tlsf_mark_dead(heap->base, 0, (size_t)whole.size * 8);
+    if (answer == TLSF_OK && tlsf_marked_block_at(heap, 0, &whole) == TLSF_OK) tlsf_mark_dead(heap->base, 0, (size_t)whole.size * 8);
     return answer;
 }
 
-TLSF_ANSWER static inline uint32_t tlsf_marked_open(struct tlsf_heap *heap, uint32_t level, uint32_t number,
-                                                    uint32_t words) TLSF_NOEXCEPT {
+TLSF_ANSWER static inline uint32_t tlsf_marked_open(struct tlsf_heap *heap, uint32_t level, uint32_t number, uint32_t words) TLSF_NOEXCEPT {
     return tlsf_mark_region(heap, tlsf_open(heap, level, number, words));
 }
 
@@ -189,8 +186,8 @@ TLSF_ANSWER static inline uint32_t tlsf_marked_open_near(struct tlsf_near_heap *
     return tlsf_mark_region(tlsf_near(heap), tlsf_open_near(heap, level, number, words));
 }
 
-TLSF_ANSWER static inline uint32_t tlsf_marked_open_near_in(struct tlsf_near_heap *heap, uint32_t level, uint32_t number,
-                                                            void *memory, size_t bytes) TLSF_NOEXCEPT {
+TLSF_ANSWER static inline uint32_t tlsf_marked_open_near_in(struct tlsf_near_heap *heap, uint32_t level, uint32_t number, void *memory,
+                                                            size_t bytes) TLSF_NOEXCEPT {
     return tlsf_mark_region(tlsf_near(heap), tlsf_open_near_in(heap, level, number, memory, bytes));
 }
 
@@ -225,8 +222,7 @@ TLSF_ANSWER static inline struct tlsf_placed tlsf_marked_allocate_aligned(struct
     return it;
 }
 
-TLSF_ANSWER static inline uint32_t tlsf_marked_allocate(struct tlsf_heap *heap, uint32_t len,
-                                                        struct tlsf_name *name) TLSF_NOEXCEPT {
+TLSF_ANSWER static inline uint32_t tlsf_marked_allocate(struct tlsf_heap *heap, uint32_t len, struct tlsf_name *name) TLSF_NOEXCEPT {
     TLSF_BEGIN_CALL;
     const uint32_t answer = tlsf_allocate(heap, len, name);
     TLSF_END_CALL;
@@ -253,8 +249,7 @@ static inline uint32_t tlsf_marked_release(struct tlsf_heap *heap, struct tlsf_n
     return answer;
 }
 
-static inline uint32_t tlsf_marked_drain(struct tlsf_heap *heap, struct tlsf_take_end *take, uint32_t most,
-                                         uint32_t *came) TLSF_NOEXCEPT {
+static inline uint32_t tlsf_marked_drain(struct tlsf_heap *heap, struct tlsf_take_end *take, uint32_t most, uint32_t *came) TLSF_NOEXCEPT {
     struct tlsf_name name = {0, 0, 0};
     uint32_t count = 0;
     const uint32_t answer = tlsf_drain(heap, take, 0, came); /* what it refuses, before a name is taken */
@@ -314,8 +309,7 @@ TLSF_ANSWER static inline uint32_t tlsf_marked_resize_place(struct tlsf_heap *he
     return answer;
 }
 
-TLSF_ANSWER static inline uint32_t tlsf_marked_resize(struct tlsf_heap *heap, struct tlsf_name name,
-                                                      uint32_t len) TLSF_NOEXCEPT {
+TLSF_ANSWER static inline uint32_t tlsf_marked_resize(struct tlsf_heap *heap, struct tlsf_name name, uint32_t len) TLSF_NOEXCEPT {
     const uint32_t had = tlsf_marked_len(heap, name);
     TLSF_BEGIN_CALL;
     const uint32_t answer = tlsf_resize(heap, name, len);
@@ -325,8 +319,7 @@ TLSF_ANSWER static inline uint32_t tlsf_marked_resize(struct tlsf_heap *heap, st
     return answer;
 }
 
-TLSF_ANSWER static inline uint32_t tlsf_marked_reallocate(struct tlsf_heap *heap, struct tlsf_name *name,
-                                                          uint32_t len) TLSF_NOEXCEPT {
+TLSF_ANSWER static inline uint32_t tlsf_marked_reallocate(struct tlsf_heap *heap, struct tlsf_name *name, uint32_t len) TLSF_NOEXCEPT {
     struct tlsf_name moved = {0, 0, 0};
     uint64_t *base = TLSF_NULL;
     uint32_t had = 0, answer = tlsf_marked_locate(heap, *name, &base, &had);

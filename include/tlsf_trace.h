@@ -130,13 +130,15 @@ static inline void tlsf_trace_given(const struct tlsf_heap *heap, struct tlsf_pl
 }
 
 /* The same where a call wrote a name, if it was accepted. */
-static inline void tlsf_trace_named(const struct tlsf_heap *heap, uint32_t answer, const struct tlsf_name *name, uint32_t len) TLSF_NOEXCEPT {
+static inline void tlsf_trace_named(const struct tlsf_heap *heap, uint32_t answer, const struct tlsf_name *name,
+                                    uint32_t len) TLSF_NOEXCEPT {
     const struct tlsf_placed it = {name->at, answer, name->serial};
     tlsf_trace_given(heap, it, len);
 }
 
 /* A release, `f`, or a resize where the block stands, `r`: accepted, or refused for a reason that the trace has too. */
-static inline void tlsf_trace_changed(const struct tlsf_heap *heap, uint32_t answer, uint32_t at, const uint64_t *serial, const uint32_t *len) TLSF_NOEXCEPT {
+static inline void tlsf_trace_changed(const struct tlsf_heap *heap, uint32_t answer, uint32_t at, const uint64_t *serial,
+                                      const uint32_t *len) TLSF_NOEXCEPT {
     uint32_t found;
     if ((answer != TLSF_OK && answer != TLSF_STALE && answer != TLSF_NO_ROOM) || !tlsf_trace_takes(heap, 1)) return;
     found = tlsf_trace_label(at, serial);
@@ -209,8 +211,8 @@ TLSF_ANSWER static inline uint32_t tlsf_traced_open_near(struct tlsf_near_heap *
     return answer;
 }
 
-TLSF_ANSWER static inline uint32_t tlsf_traced_open_near_in(struct tlsf_near_heap *heap, uint32_t level, uint32_t number,
-                                                            void *memory, size_t bytes) TLSF_NOEXCEPT {
+TLSF_ANSWER static inline uint32_t tlsf_traced_open_near_in(struct tlsf_near_heap *heap, uint32_t level, uint32_t number, void *memory,
+                                                            size_t bytes) TLSF_NOEXCEPT {
     const uint32_t answer = tlsf_open_near_in(heap, level, number, memory, bytes);
     if (answer == TLSF_OK) tlsf_trace_begin(tlsf_near(heap), level, number);
     return answer;
@@ -270,7 +272,8 @@ TLSF_ANSWER static inline uint32_t tlsf_traced_reallocate(struct tlsf_heap *heap
     return answer;
 }
 
-TLSF_ANSWER static inline uint32_t tlsf_traced_resize_place(struct tlsf_heap *heap, uint32_t at, uint32_t len, uint32_t *new_at) TLSF_NOEXCEPT {
+TLSF_ANSWER static inline uint32_t tlsf_traced_resize_place(struct tlsf_heap *heap, uint32_t at, uint32_t len,
+                                                            uint32_t *new_at) TLSF_NOEXCEPT {
     const uint32_t answer = tlsf_resize_place(heap, at, len, new_at);
     const bool moves = answer == TLSF_NO_FIT || (answer == TLSF_OK && *new_at != at);
     struct tlsf_name name = {0, 0, 0};

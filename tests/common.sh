@@ -48,7 +48,10 @@ later() {
     echo "$1" > "$work/later.$under_way.said"
     rm -f "$work/later.$under_way.status"
     shift
-    { "$@" > "$work/later.$under_way" 2>&1 < /dev/null; echo $? > "$work/later.$under_way.status"; } &
+    {
+        "$@" > "$work/later.$under_way" 2>&1 < /dev/null
+        echo $? > "$work/later.$under_way.status"
+    } &
 }
 
 wait_for_all() {
@@ -73,7 +76,10 @@ has() {
     tried=$1
     shift
     for tool; do
-        command -v "$tool" > /dev/null || { echo "$name_of_test: $tool isn't there, so $tried isn't tried" >&2; return 1; }
+        command -v "$tool" > /dev/null || {
+            echo "$name_of_test: $tool isn't there, so $tried isn't tried" >&2
+            return 1
+        }
     done
 }
 

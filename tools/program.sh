@@ -63,14 +63,14 @@ is_own() {
 
 # The home of this user, which the system knows where the environment names none: there builds are looked for, not made.
 own_home() {
-    if [ -n "${HOME-}" ]; then echo "$HOME"; else getent passwd "$(id -u)" 2>/dev/null | cut -d : -f 6; fi
+    if [ -n "${HOME-}" ]; then echo "$HOME"; else getent passwd "$(id -u)" 2> /dev/null | cut -d : -f 6; fi
 }
 
 # Sets $builds to the first folder of this user's own that can be written, and makes it; $build and $program lie there.
 find_builds() { in_folders "${HOME-}" takes_builds; }
 
 takes_builds() {
-    [ -d "$1" ] || (umask 077 && mkdir -p "$1") 2>/dev/null
+    [ -d "$1" ] || (umask 077 && mkdir -p "$1") 2> /dev/null
     is_own "$1" && [ -w "$1" ] && lie_in "$1"
 }
 
@@ -101,7 +101,7 @@ lie_in() {
 }
 
 find_newest() {
-    newest=$(ls -t "$builds/$key-"????????????????"${target:+-$target}/$1" 2>/dev/null | head -n 1)
+    newest=$(ls -t "$builds/$key-"????????????????"${target:+-$target}/$1" 2> /dev/null | head -n 1)
     [ -n "$newest" ] && build=${newest%/*}
 }
 
@@ -110,7 +110,7 @@ find_newest() {
 find_kit() {
     kit='' logic=''
     rt=$(command -v rt) && rt=$(readlink -f "$rt") || return 0
-    { read -r kit < "${rt%/*/*}/KIT-ID" || kit=$(rt version < /dev/null); } 2>/dev/null
+    { read -r kit < "${rt%/*/*}/KIT-ID" || kit=$(rt version < /dev/null); } 2> /dev/null
     case $kit in *' logic '*) logic=${kit##* logic } && logic=${logic%% *} ;; esac
     case $logic in *[!0-9a-f]*) logic='' ;; ????????????????) ;; *) logic='' ;; esac
 }
@@ -118,7 +118,7 @@ find_kit() {
 # Prints what KIT has: what the toolchain says of itself, and the checksums of its archive, its sources and its compiler.
 tell_kit() {
     echo "$kit"
-    grep -E '^(archive|commit|compiler) ' "${rt%/*/*}/WHAT" 2>/dev/null || :
+    grep -E '^(archive|commit|compiler) ' "${rt%/*/*}/WHAT" 2> /dev/null || :
 }
 
 # text_sum TREE: prints the checksum of all that the goal is proved and built from in a tree.
@@ -147,7 +147,7 @@ source_sums() {
 # places_sum TREE: prints, in milliseconds, a checksum that changes with each write to a source; else nothing.
 places_sum() {
     listed=$(find "$1/crates.txt" "$1/HANDLES" "$1/c" "$1"/crates/*/src "$1"/crates/*/specs "$1"/crates/*/proofs \
-        ! -type d -printf '%p %i %s %T@ %C@\n' 2>/dev/null) && echo "$listed" | sha256sum | cut -c 1-40
+        ! -type d -printf '%p %i %s %T@ %C@\n' 2> /dev/null) && echo "$listed" | sha256sum | cut -c 1-40
 }
 
 # Sets $key, the checksum of the text in the repository, and what find_kit does; writes nothing.
@@ -171,7 +171,7 @@ recalls_key() {
 note_key() {
     [ -z "$recalled" ] && [ -n "$places" ] && [ -w "$builds" ] && [ "$places" = "$(places_sum "$top")" ] || return 0
     mkdir -p "$builds/seen" && echo "$key" > "$builds/seen/$goal-$places" || return 0
-} 2>/dev/null
+} 2> /dev/null
 
 # Sets all of these, with `stop` of the caller's.
 find_text() {
@@ -190,12 +190,12 @@ is_building() {
 }
 
 is_alive() {
-    case $(sed -n 's/^State:[[:space:]]*//p' "/proc/$1/status" 2>/dev/null) in Z* | X* | '') return 1 ;; esac
+    case $(sed -n 's/^State:[[:space:]]*//p' "/proc/$1/status" 2> /dev/null) in Z* | X* | '') return 1 ;; esac
 }
 
 # Ends what builds in this folder, with all that it started.
 end_build() {
-    [ ! -s "$1/builder" ] || kill -9 "-$(cat "$1/builder")" 2>/dev/null
+    [ ! -s "$1/builder" ] || kill -9 "-$(cat "$1/builder")" 2> /dev/null
 }
 
 # Sets $prover to the name of the toolchain that proved what is there, and to another's here that has the same logic.
@@ -277,7 +277,7 @@ find_progress() {
     seconds=$(($(date +%s) - $(cat "$build/start")))
     unit=seconds
     [ "$seconds" -ne 1 ] || unit=second
-    case $(tail -n 1 "$build/log" 2>/dev/null) in
+    case $(tail -n 1 "$build/log" 2> /dev/null) in
     waiting*)
         stage=waiting
         progress="waiting until another build has ended, for $seconds $unit"
@@ -330,8 +330,8 @@ lacking() {
 free_megabytes() {
     free=$(awk '/^MemAvailable:/ { print int($2 / 1024) }' /proc/meminfo)
     group=/sys/fs/cgroup
-    limit=$(cat "$group/memory.max" 2>/dev/null) && [ "$limit" != max ] && [ -n "$limit" ] &&
-        held=$(awk '$1 == "anon" { print $2 }' "$group/memory.stat" 2>/dev/null) &&
+    limit=$(cat "$group/memory.max" 2> /dev/null) && [ "$limit" != max ] && [ -n "$limit" ] &&
+        held=$(awk '$1 == "anon" { print $2 }' "$group/memory.stat" 2> /dev/null) &&
         limit=$(((limit - held) / 1048576)) && [ "$limit" -lt "$free" ] && free=$limit
     echo "$free"
 }

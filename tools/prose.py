@@ -15,16 +15,52 @@ SHORT = re.compile(r"(?:^|[\s(])(?:[A-Z]|e\.g|i\.e|etc|vs|cf|pp|no)\.$")
 ENDS = re.compile(r"(?<=[.?!])[)\"”]*\s+(?=[\"“(]*[A-Z0-9`])")
 NUMBER = re.compile(r"[(\"~-]*\d[\d,.^/]*%?(?:\*\*)?[)\",;:.?!]*")
 # The number after one of these is a part of a name.
-NAMES = {"level", "levels", "line", "lines", "heap", "heaps", "worker", "workers", "block", "status", "python", "version", "ecrts", "tlsf", "field",
-    "fault", "tick", "place", "serial", "step", "section", "rule", "rules", "case", "point", "points", "phase", "label", "moment", "bit", "bits"}
+NAMES = {
+    "level",
+    "levels",
+    "line",
+    "lines",
+    "heap",
+    "heaps",
+    "worker",
+    "workers",
+    "block",
+    "status",
+    "python",
+    "version",
+    "ecrts",
+    "tlsf",
+    "field",
+    "fault",
+    "tick",
+    "place",
+    "serial",
+    "step",
+    "section",
+    "rule",
+    "rules",
+    "case",
+    "point",
+    "points",
+    "phase",
+    "label",
+    "moment",
+    "bit",
+    "bits",
+}
 NO_QUESTION = re.compile(r"(What|That)\b.*[^?]$", re.S)
-UNCLEAR = re.compile(r"\b(so many|theirs|behind that|(?<=, )of which|as it were|else as|is had|are had|(?:is|are) as (?:there|here)|are (?:these|those)(?=[.,;]?$))\b"
-    r"|^So (?:is|are|does|do|has|have)\b(?= that\b)", re.I)
+UNCLEAR = re.compile(
+    r"\b(so many|theirs|behind that|(?<=, )of which|as it were|else as|is had|are had|(?:is|are) as (?:there|here)|are (?:these|those)(?=[.,;]?$))\b"
+    r"|^So (?:is|are|does|do|has|have)\b(?= that\b)",
+    re.I,
+)
 # A number that is compared with nothing, as in 'and takes as many'.
 AS_MANY = re.compile(r"(?<!twice )(?<!times )\bas many\b(?![^.;:]*\bas\b)", re.I)
 # Things may lie behind others in memory, or behind a lock. Whatever comes later in time or in a text comes after.
 BEHIND = re.compile(r"\bbehind\b", re.I)
-LIES = re.compile(r"\b(?:block|word|byte|unit|cell|place|zero|slot|lock|handle|pair|payload|region|span|pointer|size|bit|piece|rest|four)s?\b", re.I)
+LIES = re.compile(
+    r"\b(?:block|word|byte|unit|cell|place|zero|slot|lock|handle|pair|payload|region|span|pointer|size|bit|piece|rest|four)s?\b", re.I
+)
 
 
 class Text:
@@ -86,7 +122,7 @@ class Text:
 
 def numbers_in(words):
     """How many numbers there are among the words of a sentence, but those that name something."""
-    return sum(1 for before, it in zip(["", *words], words) if NUMBER.fullmatch(it) and before.strip("(\"").lower() not in NAMES)
+    return sum(1 for before, it in zip(["", *words], words) if NUMBER.fullmatch(it) and before.strip('("').lower() not in NAMES)
 
 
 def phrases_in(sentence):

@@ -124,7 +124,8 @@ __attribute__((destructor)) static void write_modules(void) {
     int file = open(modules, O_WRONLY | O_CREAT | O_TRUNC | O_CLOEXEC, 0600);
     if (file < 0) return;
     char program[512] = "";
-    if (readlink("/proc/self/exe", program, sizeof program - 1) > 0 && !write_line(file, 0, 0, program)) dl_iterate_phdr(write_module, &file);
+    if (readlink("/proc/self/exe", program, sizeof program - 1) > 0 && !write_line(file, 0, 0, program))
+        dl_iterate_phdr(write_module, &file);
     close(file);
 }
 

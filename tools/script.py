@@ -88,7 +88,11 @@ def own_program(name, folder, named=None):
 def counted(command, **how):
     """The instructions of a run of a command, whose memset and memcpy are kept from instructions that move many bytes each."""
     done = subprocess.run([*CALLGRIND, *command], capture_output=True, env={**os.environ, "GLIBC_TUNABLES": TUNABLES}, check=False, **how)
-    return int(re.search(rb"Collected *: *(\d+)", done.stderr)[1]) if done.returncode == 0 else stop(f"{command[0]} ended with {done.returncode}")
+    return (
+        int(re.search(rb"Collected *: *(\d+)", done.stderr)[1])
+        if done.returncode == 0
+        else stop(f"{command[0]} ended with {done.returncode}")
+    )
 
 
 class Runner:

@@ -8,7 +8,7 @@ from model.commands import Untold, answer_to
 from model.sequences import answer_of, fault_in, traces_of, worst_of
 from model.trace import trace_in
 
-TRACE = "tlsf 1 1 64 1\n"   # what the runs of arguments.toml and streams.toml read
+TRACE = "tlsf 1 1 64 1\n"  # what the runs of arguments.toml and streams.toml read
 MOMENT = re.compile(r'^  \[\["tlsf", (.*)\], (\d+)\],$', re.M)
 FRONT = re.compile(r'^  \[\["tlsf", (.*)\], (".*")\],$', re.M)
 ANSWERS = re.compile(r"^answers = \[\n.*?^\]", re.M | re.S)
@@ -57,9 +57,11 @@ def sequences(text):
         return f'"""\n{told}"""' if told.count("\n") > 2 else json.dumps(told)
 
     two = tomllib.loads(text)["two"]
-    for rows, tell in ((OTHER, lambda row: (3, lambda: written(answer_of(words_in(row[1]), row[2])))),
-                       (WORST, lambda row: (1, lambda: worst_of([trace_in(it) for _, it in traces_of(row[2])]))),
-                       (FAULT, lambda row: (2, lambda: fault_text(fault_in(row[1])).strip()))):
+    for rows, tell in (
+        (OTHER, lambda row: (3, lambda: written(answer_of(words_in(row[1]), row[2])))),
+        (WORST, lambda row: (1, lambda: worst_of([trace_in(it) for _, it in traces_of(row[2])]))),
+        (FAULT, lambda row: (2, lambda: fault_text(fault_in(row[1])).strip())),
+    ):
         text = rows.sub(lambda row, tell=tell: retold(row, *tell(row)), text)
 
     def answer(row):

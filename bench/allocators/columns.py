@@ -93,7 +93,13 @@ class Built:
         own = [f"-I{self.prefix}/include", "-o", self.path(program, source), TOP / f"bench/c/{program}.c"]
         if source:
             made = self.path(program, source).with_suffix(".o")
-            defined = [f"-DTLSF_USE_LOCKS={PROGRAMS[program]}", "-DUSE_MMAP=0", "-DUSE_SBRK=0", f"-I{self.work}", f"-I{self.prefix}/include"]
+            defined = [
+                f"-DTLSF_USE_LOCKS={PROGRAMS[program]}",
+                "-DUSE_MMAP=0",
+                "-DUSE_SBRK=0",
+                f"-I{self.work}",
+                f"-I{self.prefix}/include",
+            ]
             compile_c("-O2", "-w", *defined, "-c", "-o", made, self.source(source))
             own += ["-DAUTHORS", made]
         compile_c(*FLAGS, *own, self.prefix / "lib/libtlsf.a")
@@ -108,8 +114,15 @@ class Built:
         environment = {**os.environ, "GLIBC_TUNABLES": TUNABLES, "LD_PRELOAD": " ".join(map(str, loaded))}
         before = self.keep_processor if self.is_fifo and is_pinned else None
         try:
-            done = subprocess.run(command, env=environment, stdout=subprocess.PIPE, text=True, check=False, timeout=LONGEST if is_pinned else None,
-                                  preexec_fn=before)
+            done = subprocess.run(
+                command,
+                env=environment,
+                stdout=subprocess.PIPE,
+                text=True,
+                check=False,
+                timeout=LONGEST if is_pinned else None,
+                preexec_fn=before,
+            )
         except (subprocess.TimeoutExpired, subprocess.SubprocessError) as why:
             stop(f"{' '.join(map(str, command))}: {why}")
         return done.stdout if done.returncode == 0 else stop(f"{' '.join(map(str, command))} ended with {done.returncode}")

@@ -28,16 +28,23 @@ ROWS = {
     "cold": ("cold", list(COLUMNS)),
     "opens": ("cold", ["level4", "level5", "authors", "mattconte"]),
 }
-POSTS = {"alone": "a post and its take, one thread", "stream": "a post, two threads, in a stream",
-         "echo": "a post, two threads, to and fro", "line": "one cache line, two threads"}
+POSTS = {
+    "alone": "a post and its take, one thread",
+    "stream": "a post, two threads, in a stream",
+    "echo": "a post, two threads, to and fro",
+    "line": "one cache line, two threads",
+}
 # The calls of bench/c/cold.c, and the marks that its traces have.
 COLD_CALLS = ["allocate", "release", "malloc", "free"]
 OWN, ENDED, TOLD, LENGTHS = 0x20000000, 0x20000040, 0x20000041, 0x20000080
 # How a row calls lanes where the owner's handle has no cache line of its own.
 BESIDE = "lanes, the handle beside what posters read"
 # What frees.c prints of each pattern.
-BUSY = {"works": ("frees while the owner works, {}", "pairs of the owner meanwhile, {}"),
-        "turns": ("bursts: a free, {}", "bursts: a drained name, {}"), "full": ("drain of a full lane, {}",)}
+BUSY = {
+    "works": ("frees while the owner works, {}", "pairs of the owner meanwhile, {}"),
+    "turns": ("bursts: a free, {}", "bursts: a drained name, {}"),
+    "full": ("drain of a full lane, {}",),
+}
 FIGURES = ["p50", "p99", "p99.9", "p99.99", "worst"]
 TAIL_CALLS, TAIL_ROUNDS = 10_000_000, 3
 TRACES = sorted((TOP / "examples/recorded").glob("*.trace"))

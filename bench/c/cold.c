@@ -273,7 +273,8 @@ static double milliseconds_to_open(const char *column, uint32_t words, int is_in
 static void time_opens(const char *column) {
     for (int bits = 17; bits <= (strcmp(column, "level4") ? 24 : 20); bits += bits == 17 ? 3 : 2)
         for (int is_in_place = 0; is_in_place <= 1; is_in_place++)
-            printf("open, 2^%d words%s: %.3f\n", bits, is_in_place ? " in place" : "", milliseconds_to_open(column, 1u << bits, is_in_place));
+            printf("open, 2^%d words%s: %.3f\n", bits, is_in_place ? " in place" : "",
+                   milliseconds_to_open(column, 1u << bits, is_in_place));
 }
 
 int main(int argc, char **argv) {

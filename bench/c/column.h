@@ -118,8 +118,10 @@ static void *open_authors(const char *column, size_t bytes, void *memory) {
 }
 #endif
 
-#define OF(kind) {open_##kind, do_allocate_##kind, do_release_##kind, do_resize_##kind}
-#define ZEROED(kind) {open_##kind, do_allocate_##kind##_zeroed, do_release_##kind, do_resize_##kind}
+#define OF(kind) \
+    { open_##kind, do_allocate_##kind, do_release_##kind, do_resize_##kind }
+#define ZEROED(kind) \
+    { open_##kind, do_allocate_##kind##_zeroed, do_release_##kind, do_resize_##kind }
 
 /* The calls of a column; the program ends where it isn't built. */
 static struct calls calls_of(const char *column, bool is_by_name) {

@@ -46,9 +46,7 @@ static struct {
     enum { WAITS, WORKS, TURNS, FULL } pattern;
     enum { LEVEL_4, SYSTEM, AUTHORS_OWN } column;
 } shown;
-static struct {
-    _Alignas(128) struct tlsf_heap handle;
-} apart;
+static struct { _Alignas(128) struct tlsf_heap handle; } apart;
 static struct tlsf_heap *heap = &apart.handle;
 static pthread_mutex_t lock = PTHREAD_MUTEX_INITIALIZER;
 static struct lane {
@@ -68,7 +66,7 @@ static struct poster {
 } posters[MOST_POSTERS];
 static pthread_t threads[MOST_POSTERS];
 static _Alignas(128) atomic_int ready, ended;
-static int count; /* of posters */
+static int count;     /* of posters */
 static double begins; /* the first turn */
 
 static double nanoseconds(void) {
@@ -193,7 +191,8 @@ static void *post_all(void *given) {
     }
     while (done < EACH) {
         if (put(by, by->own + done, 1)) done++;
-        else if (shown.pattern != FULL) for (int k = 0; k < 30; k++) __builtin_ia32_pause();
+        else if (shown.pattern != FULL)
+            for (int k = 0; k < 30; k++) __builtin_ia32_pause();
     }
     atomic_fetch_add(&ended, 1);
     return NULL;
@@ -236,13 +235,16 @@ static void drain_by_turns(double lag, size_t least) {
         const double from = nanoseconds();
         const size_t came = shown.way == LOCK ? 0 : drain(CAPACITY);
         const double took = nanoseconds() - from;
-        if (came >= least && shown.way != LOCK && drains < MOST_TURNS) drain_times[drains++] = (float)(shown.pattern == FULL ? took : took * 1000 / (double)came);
+        if (came >= least && shown.way != LOCK && drains < MOST_TURNS)
+            drain_times[drains++] = (float)(shown.pattern == FULL ? took : took * 1000 / (double)came);
         back += came;
     }
     join_all();
 }
 
-static int rising(const void *a, const void *b) { return (*(const float *)a > *(const float *)b) - (*(const float *)a < *(const float *)b); }
+static int rising(const void *a, const void *b) {
+    return (*(const float *)a > *(const float *)b) - (*(const float *)a < *(const float *)b);
+}
 
 static double median(float *times, size_t n) {
     qsort(times, n, sizeof *times, rising);
@@ -277,7 +279,9 @@ static int time_frees(char **words) {
     shown.pattern = words[3][1] == 'a' ? WAITS : *words[3] == 'w' ? WORKS : *words[3] == 't' ? TURNS : FULL;
     count = words[4] ? atoi(words[4]) : 1;
     if (count < 1 || count > MOST_POSTERS || (count > 1 && (shown.pattern != WAITS || shown.way == RING))) return 2;
-    if ((shown.way != LOCK && shown.column != LEVEL_4) || (shown.way == LOCK && shown.pattern == FULL) || (shown.way == QUEUE && shown.pattern == TURNS)) return 2;
+    if ((shown.way != LOCK && shown.column != LEVEL_4) || (shown.way == LOCK && shown.pattern == FULL) ||
+        (shown.way == QUEUE && shown.pattern == TURNS))
+        return 2;
     if (!opens()) return 1;
     for (int k = 0; k < count; k++)
         if (pthread_create(&threads[k], NULL, post_all, &posters[k])) return 1;

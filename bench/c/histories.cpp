@@ -6,9 +6,13 @@
 #include <unordered_set>
 #include <vector>
 
-struct Kind { int most, want; };    // at most so many blocks at once, of so many words wanted at most
+struct Kind {
+    int most, want;
+}; // at most so many blocks at once, of so many words wanted at most
 
-struct Block { int size, kind, stamp; };    // kind -1: free, since that stamp
+struct Block {
+    int size, kind, stamp;
+}; // kind -1: free, since that stamp
 
 using Heap = std::vector<Block>;
 
@@ -36,25 +40,28 @@ static int kind_of(int want) {
     return kind;
 }
 
-static int count(const Heap& heap, int kind) {
+static int count(const Heap &heap, int kind) {
     int held = 0;
-    for (const Block& block : heap) held += block.kind == kind;
+    for (const Block &block : heap) held += block.kind == kind;
     return held;
 }
 
 // whether one more of this kind keeps within the table
-static bool is_planned(const Heap& heap, int kind) {
+static bool is_planned(const Heap &heap, int kind) {
     for (int k = 0; k < (int)kinds.size(); k++)
         if (count(heap, k) + (k == kind) > kinds[k].most) return false;
     return true;
 }
 
 // the index of the block that serves, -1 where none does
-static int choice(const Heap& heap, int want) {
+static int choice(const Heap &heap, int want) {
     int best = -1, least = sure(want);
     for (int i = 0; i < (int)heap.size(); i++) {
         if (heap[i].kind >= 0 || heap[i].size < least) continue;
-        if (best < 0) { best = i; continue; }
+        if (best < 0) {
+            best = i;
+            continue;
+        }
         int a = class_of(heap[i].size), b = class_of(heap[best].size);
         if (a < b || (a == b && heap[i].stamp > heap[best].stamp)) best = i;
     }
@@ -102,23 +109,25 @@ static Heap resized(Heap heap, int i, int want, int tick) {
 }
 
 // stamps matter among free blocks of one class alone: there they become 0, 1, .. in their order
-static void normalize(Heap& heap) {
+static void normalize(Heap &heap) {
     Heap old = heap;
     for (size_t i = 0; i < heap.size(); i++) {
         heap[i].stamp = 0;
         if (old[i].kind >= 0) continue;
-        for (const Block& other : old)
+        for (const Block &other : old)
             heap[i].stamp += other.kind < 0 && class_of(other.size) == class_of(old[i].size) && other.stamp < old[i].stamp;
     }
 }
 
 // size 6 bits, kind 2 bits, stamp 3 bits: 11 bits a block, at most 11 blocks
 using Key = unsigned __int128;
-struct Hash { size_t operator()(Key key) const { return ((uint64_t)key ^ (uint64_t)(key >> 64) * 0x9e3779b97f4a7c15u) * 0xff51afd7ed558ccdu; } };
+struct Hash {
+    size_t operator()(Key key) const { return ((uint64_t)key ^ (uint64_t)(key >> 64) * 0x9e3779b97f4a7c15u) * 0xff51afd7ed558ccdu; }
+};
 
-static Key key_of(const Heap& heap) {
+static Key key_of(const Heap &heap) {
     Key key = 1;
-    for (const Block& block : heap) key = key << 11 | (block.size << 5) | (block.kind + 1) << 3 | block.stamp;
+    for (const Block &block : heap) key = key << 11 | (block.size << 5) | (block.kind + 1) << 3 | block.stamp;
     return key;
 }
 
@@ -132,8 +141,8 @@ static Heap heap_of(Key key) {
 }
 
 // whether some history of a region of so many words has a request within the table that finds no room
-static bool refuses(int words, size_t* states) {
-    const int tick = 8;    // above every stamp of a normalized heap
+static bool refuses(int words, size_t *states) {
+    const int tick = 8; // above every stamp of a normalized heap
     std::unordered_set<Key, Hash> seen;
     std::vector<Key> todo;
     auto meet = [&](Heap heap) {
@@ -162,7 +171,7 @@ static bool refuses(int words, size_t* states) {
 }
 
 // usage: histories LAW RESIZES B M [B M]..  with M the words wanted, rising; at most three kinds, and sizes below 64
-int main(int argc, char** argv) {
+int main(int argc, char **argv) {
     int law = atoi(argv[1]);
     resizes = atoi(argv[2]);
     for (int i = 3; i + 1 < argc; i += 2) kinds.push_back(Kind{atoi(argv[i]), atoi(argv[i + 1])});

@@ -75,9 +75,7 @@ static const char *const calls_of_kind[][3] = {
 
 /* The calls of a column. Those of the library have the handle first; the others have none, and calloc, free and realloc in the place of
  * calls by name. */
-static struct calls {
-    uintptr_t handle, allocate, release, resize, malloc, free, realloc, write, read;
-} calls;
+static struct calls { uintptr_t handle, allocate, release, resize, malloc, free, realloc, write, read; } calls;
 
 static int is_by_pointer(void) { return kind == BY_POINTER || kind == RESIZED_BY_POINTER; }
 
@@ -107,7 +105,8 @@ static uint32_t near_read(struct tlsf_near_heap *heap, struct tlsf_name name, ui
 static int gives(struct block *block, uint32_t len, int counts) {
     struct tally *tally = counts ? &allocates : NULL;
     block->len = len;
-    if (is_by_pointer()) block->at = calls.handle ? call(tally, calls.malloc, WITH(calls.handle, len)) : call(tally, calls.malloc, WITH(len));
+    if (is_by_pointer())
+        block->at = calls.handle ? call(tally, calls.malloc, WITH(calls.handle, len)) : call(tally, calls.malloc, WITH(len));
     else if (!calls.handle) block->at = call(tally, calls.allocate, WITH(1, len));
     else block->at = !(uint32_t)call(tally, calls.allocate, WITH(calls.handle, len, (uintptr_t)&block->name));
     return block->at != 0;
@@ -212,10 +211,10 @@ static void open_ours(const char *name) {
     static struct tlsf_near_heap near;
     const int is_near = *name == 'n';
     const uint32_t level = (uint32_t)atoi(name + strcspn(name, "45"));
-    const struct calls of_level = {AT(&heap), AT(tlsf_allocate), AT(tlsf_release), AT(tlsf_reallocate), AT(level_malloc), AT(level_free),
-                                   AT(level_realloc), AT(tlsf_write), AT(tlsf_read)};
-    const struct calls of_near = {AT(&near), AT(near_allocate), AT(near_release), AT(near_reallocate), AT(near_malloc), AT(near_free),
-                                  AT(near_realloc), AT(near_write), AT(near_read)};
+    const struct calls of_level = {AT(&heap),      AT(tlsf_allocate), AT(tlsf_release), AT(tlsf_reallocate), AT(level_malloc),
+                                   AT(level_free), AT(level_realloc), AT(tlsf_write),   AT(tlsf_read)};
+    const struct calls of_near = {AT(&near),     AT(near_allocate), AT(near_release), AT(near_reallocate), AT(near_malloc),
+                                  AT(near_free), AT(near_realloc),  AT(near_write),   AT(near_read)};
     calls = is_near ? of_near : of_level;
     ends_if((int)(is_near ? tlsf_open_near(&near, level, 0, WORDS) : tlsf_open(&heap, level, 0, WORDS)), "the heap");
 }
@@ -229,7 +228,8 @@ static void open_all(const char *name) {
     static char pool[8 * WORDS];
     if (column == AUTHORS_OWN) ends_if(init_memory_pool(sizeof pool, pool) == (size_t)-1, "the pool");
     if (column == AUTHORS_OWN)
-        calls = (struct calls){.allocate = AT(authors_calloc), .malloc = AT(authors_malloc), .free = AT(authors_free), .realloc = AT(authors_realloc)};
+        calls = (struct calls){
+            .allocate = AT(authors_calloc), .malloc = AT(authors_malloc), .free = AT(authors_free), .realloc = AT(authors_realloc)};
 #else
     ends_if(column == AUTHORS_OWN, "a column that isn't built");
 #endif

@@ -76,6 +76,7 @@ int main(int argc, char **argv) {
         took += least;
     }
     const double all = (double)(allocates + releases + resizes) / times;
-    printf("%.0f %.0f %.0f %.0f %.2f\n", (double)allocates / times, (double)releases / times, (double)resizes / times, (double)refused / times, took / all);
+    printf("%.0f %.0f %.0f %.0f %.2f\n", (double)allocates / times, (double)releases / times, (double)resizes / times,
+           (double)refused / times, took / all);
     return 0;
 }

@@ -79,14 +79,17 @@ static uint32_t below(struct worker *own, uint32_t bound) {
 
 static uint32_t called(struct worker *own, enum call kind, uintptr_t function, const uintptr_t with[6]) {
     own->figures.calls++;
-    if (below(own, STEP_ONE_IN)) return (uint32_t)((uint64_t (*)(uintptr_t, uintptr_t, uintptr_t, uintptr_t))function)(with[0], with[1], with[2], with[3]);
+    if (below(own, STEP_ONE_IN))
+        return (uint32_t)((uint64_t(*)(uintptr_t, uintptr_t, uintptr_t, uintptr_t))function)(with[0], with[1], with[2], with[3]);
     traps_within = 0;
     const uint32_t answer = (uint32_t)call_stepped(function, with);
     if (traps_within > own->figures.worst[kind]) own->figures.worst[kind] = traps_within;
     return answer;
 }
 
-static uint8_t pattern(const struct tlsf_name *name, uint32_t at) { return (uint8_t)(name->serial * 31 + at * 7 + name->heap * 13 + (at >> 8)); }
+static uint8_t pattern(const struct tlsf_name *name, uint32_t at) {
+    return (uint8_t)(name->serial * 31 + at * 7 + name->heap * 13 + (at >> 8));
+}
 
 static struct tlsf_name name_of(const struct worker *own, uint32_t at) {
     return (struct tlsf_name){own->number, at, own->table[at].serial};
@@ -123,7 +126,8 @@ static void forget(struct worker *own, const struct tlsf_name *name) {
 
 static void release(struct worker *own, const struct tlsf_name *name) {
     check_bytes(own, name, own->table[name->at].len);
-    must(own, called(own, RELEASE, (uintptr_t)tlsf_release, WITH((uintptr_t)&own->heap, OF_NAME(*name))) == TLSF_OK, "a live block isn't released");
+    must(own, called(own, RELEASE, (uintptr_t)tlsf_release, WITH((uintptr_t)&own->heap, OF_NAME(*name))) == TLSF_OK,
+         "a live block isn't released");
     forget(own, name);
 }
 
@@ -204,8 +208,9 @@ static void take_all(struct worker *own) {
         if (other == own->number) continue;
         while (own->held_count < MOST_HELD && !tlsf_take(&lent[other][own->number].take, &name)) own->held[own->held_count++] = name;
         while (!take_back(own, other, &name)) {
-            must(own, name.heap == own->number && name.at < WORDS && own->table[name.at].is_lent &&
-                          own->table[name.at].serial == name.serial, "a name comes back that wasn't lent");
+            must(own,
+                 name.heap == own->number && name.at < WORDS && own->table[name.at].is_lent && own->table[name.at].serial == name.serial,
+                 "a name comes back that wasn't lent");
             release(own, &name);
         }
     }
@@ -235,7 +240,8 @@ static void check_report(struct worker *own, struct tlsf_heap_report *told) {
     must(own, told->live_words >= least && told->live_words <= least + 3 * (uint64_t)blocks, "live words are out of their bounds");
     must(own, told->live_words + told->free_words == WORDS && told->waste == 8 * told->live_words - told->live_bytes, "words are lost");
     must(own, told->largest <= told->free_words && told->free_blocks <= blocks + 1, "free blocks are out of their bounds");
-    must(own, !told->free_words || told->fragmentation == 1000 - (uint64_t)1000 * told->largest / told->free_words, "fragmentation is another");
+    must(own, !told->free_words || told->fragmentation == 1000 - (uint64_t)1000 * told->largest / told->free_words,
+         "fragmentation is another");
 }
 
 /* Names that are used up, of another heap or forged are refused, and change nothing. */

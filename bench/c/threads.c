@@ -59,7 +59,8 @@ static void release_by_lane(int me, void *at) {
     struct tlsf_name name;
     memcpy(&name, at, sizeof name);
     if ((int)name.heap == me) (void)tlsf_release(owners[me].heap, name);
-    else while (tlsf_put(&lanes[me][name.heap].post, name)) drain_all(me);
+    else
+        while (tlsf_put(&lanes[me][name.heap].post, name)) drain_all(me);
 }
 
 static void *allocate_locked(int me, size_t bytes) {

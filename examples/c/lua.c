@@ -22,14 +22,13 @@ struct scripts {
     uint64_t in_frame, worst_frame, worst_call; /* nanoseconds in the heap's calls */
 };
 
-static const char script[] =
-    "local shots, sum = {}, 0\n"
-    "function frame(n)\n"
-    "  for i = 1, 10 do shots[#shots + 1] = {x = n, y = i, name = 'shot ' .. n .. '.' .. i} end\n"
-    "  while #shots > 200 do sum = sum + #table.remove(shots, 1).name end\n"
-    "  return sum\n"
-    "end\n"
-    "function greedy() local t = {} while true do t[#t + 1] = ('x'):rep(1000) .. #t end end\n";
+static const char script[] = "local shots, sum = {}, 0\n"
+                             "function frame(n)\n"
+                             "  for i = 1, 10 do shots[#shots + 1] = {x = n, y = i, name = 'shot ' .. n .. '.' .. i} end\n"
+                             "  while #shots > 200 do sum = sum + #table.remove(shots, 1).name end\n"
+                             "  return sum\n"
+                             "end\n"
+                             "function greedy() local t = {} while true do t[#t + 1] = ('x'):rep(1000) .. #t end end\n";
 
 static uint64_t now(void) {
     struct timespec t;

@@ -68,8 +68,10 @@ static int say_row(void *total, int n, char **values, char **names) {
 static int record(sqlite3 *database, int *total) {
     static const char question[] = "select max(note), count(*), sum(load) from frame where load > 50";
     sqlite3_stmt *row = NULL;
-    int answer = sqlite3_exec(database, "create table frame(n integer primary key, load int, note text);"
-        "create index by_load on frame(load)", NULL, NULL, NULL);
+    int answer = sqlite3_exec(database,
+                              "create table frame(n integer primary key, load int, note text);"
+                              "create index by_load on frame(load)",
+                              NULL, NULL, NULL);
     if (answer == SQLITE_OK)
         answer = sqlite3_prepare_v2(database, "insert into frame values(?, ?, printf('frame %d', ?1))", -1, &row, NULL);
     for (int n = 1; answer == SQLITE_OK && n <= FRAMES; n++) {

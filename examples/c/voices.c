@@ -24,14 +24,14 @@ struct voice {
 };
 
 struct engine {
-    int by_heap; /* or by malloc, and then a name's serial holds the pointer */
+    int by_heap;                /* or by malloc, and then a name's serial holds the pointer */
     struct tlsf_near_heap heap; /* other work has the caches between two callbacks */
     struct tlsf_post_end to_second, from_second;
     struct tlsf_take_end at_second, at_callback;
     struct voice voices[AT_ONCE];
     uint32_t live, refused, late;
     atomic_int is_over;
-    atomic_int lost; /* names that found a lane full: none, since each lane has room for AT_ONCE of them */
+    atomic_int lost;                              /* names that found a lane full: none, since each lane has room for AT_ONCE of them */
     uint32_t allocate[STARTED], release[STARTED]; /* nanoseconds of each call */
 };
 
@@ -151,13 +151,13 @@ static int run(int by_heap) {
     memset(&engine, 0, sizeof engine); /* all handles are closed */
     engine.by_heap = by_heap;
     if (tlsf_words(4, AT_ONCE, LONGEST, &words) || tlsf_open_near(&engine.heap, 4, 1, words) ||
-        tlsf_lane_open(&engine.to_second, &engine.at_second, AT_ONCE) ||
-        tlsf_lane_open(&engine.from_second, &engine.at_callback, AT_ONCE))
+        tlsf_lane_open(&engine.to_second, &engine.at_second, AT_ONCE) || tlsf_lane_open(&engine.from_second, &engine.at_callback, AT_ONCE))
         return 1;
     if (pthread_create(&second, NULL, end_them, &engine) || pthread_create(&first, NULL, callback, &engine)) return 1;
     pthread_join(first, NULL);
     pthread_join(second, NULL);
-    if (by_heap) printf("%d voices, at most %d at once of at most %d bytes: a heap of %u words\n", STARTED, AT_ONCE, LONGEST, (unsigned)words);
+    if (by_heap)
+        printf("%d voices, at most %d at once of at most %d bytes: a heap of %u words\n", STARTED, AT_ONCE, LONGEST, (unsigned)words);
     printf("%s: %u refused\n", by_heap ? "the heap" : "malloc", (unsigned)engine.refused);
     tell(by_heap ? "tlsf_allocate" : "malloc and memset", engine.allocate);
     tell(by_heap ? "tlsf_release" : "free", engine.release);

@@ -85,18 +85,29 @@ static void do_calls_by_pointer(uint32_t kind, void **p) {
     const size_t len = below(below(8) ? 200 : 40000), align = (size_t)1 << below(14);
     struct tlsf_name name = {0, 0, 0};
     switch (kind) {
-    case 11: if (!*p) *p = tlsf_malloc(&heap, len); break;
-    case 12: if (!*p) *p = tlsf_calloc(&heap, len, 1 + below(3)); break;
+    case 11:
+        if (!*p) *p = tlsf_malloc(&heap, len);
+        break;
+    case 12:
+        if (!*p) *p = tlsf_calloc(&heap, len, 1 + below(3));
+        break;
     case 13: {
         void *moved = tlsf_realloc(&heap, *p, len + 1);
         if (moved) *p = moved;
         break;
     }
-    case 14: if (!*p) *p = tlsf_aligned_alloc(&heap, align, len); break;
-    case 15: sum += tlsf_free(&heap, *p); *p = NULL; break;
+    case 14:
+        if (!*p) *p = tlsf_aligned_alloc(&heap, align, len);
+        break;
+    case 15:
+        sum += tlsf_free(&heap, *p);
+        *p = NULL;
+        break;
     case 16: sum += tlsf_usable_size(&heap, *p); break;
     case 17: sum += tlsf_name_at(&heap, *p, &name); break;
-    default: if (!*p) sum += tlsf_allocate_at(&heap, len, align, below(2), &name, p); break;
+    default:
+        if (!*p) sum += tlsf_allocate_at(&heap, len, align, below(2), &name, p);
+        break;
     }
 }
 
@@ -131,7 +142,9 @@ static void do_other_calls(uint32_t kind, uint32_t level) {
     case 32: sum += tlsf_open_in(&heap, level, 1, bytes, 256) + tlsf_open_in(&closed, level, 1, bytes, 8); break;
     case 33: sum += tlsf_lane_open(&post, &take, 4) + tlsf_lane_open(&closed_post, &closed_take, 0); break;
     case 34: sum += tlsf_lane_open_in(&closed_post, &closed_take, 4, bytes, 8); break;
-    default: sum += tlsf_close(&closed) + tlsf_post_close(&closed_post) + tlsf_take_close(&closed_take) + (tlsf_text_of(below(41)) != NULL); break;
+    default:
+        sum += tlsf_close(&closed) + tlsf_post_close(&closed_post) + tlsf_take_close(&closed_take) + (tlsf_text_of(below(41)) != NULL);
+        break;
     }
 }
 
@@ -149,7 +162,9 @@ static void do_calls_of_queues_and_offsets(uint32_t kind, const struct tlsf_name
     case 41: sum += tlsf_offsets_resize(&offsets, span, below(40000)); break;
     case 42: sum += tlsf_offsets_release(&offsets, span->name); break;
     case 43: sum += tlsf_offsets_report(&offsets, &usage) + usage.held; break;
-    case 44: sum += tlsf_queue_open(&queue, 1, 1) + tlsf_queue_open(&closed_queue, 0, 1) + tlsf_offsets_open(&closed_offsets, 4, 1, 0, 64); break;
+    case 44:
+        sum += tlsf_queue_open(&queue, 1, 1) + tlsf_queue_open(&closed_queue, 0, 1) + tlsf_offsets_open(&closed_offsets, 4, 1, 0, 64);
+        break;
     case 45: sum += tlsf_queue_open_in(&closed_queue, 1, 1, bytes, 8) + tlsf_offsets_open_in(&closed_offsets, 4, 1, 1, 64, bytes, 8); break;
     default: sum += tlsf_queue_close(&closed_queue) + tlsf_poster_close(&closed_poster) + tlsf_offsets_close(&closed_offsets); break;
     }
@@ -163,7 +178,9 @@ static void do_calls_of_pools(uint32_t kind, struct tlsf_name *name) {
     case 49: sum += tlsf_pools_write(&pools, *name, below(200), bytes, below(256)); break;
     case 50: sum += tlsf_pools_read(&pools, *name, below(200), bytes, below(256)); break;
     case 51: sum += tlsf_pools_report(&pools, below(3), &report); break;
-    default: sum += tlsf_pools_open(&pools, 4, 1, rows, 2) + tlsf_pools_open(&closed_pools, 4, 1, rows, 65) + tlsf_pools_close(&closed_pools); break;
+    default:
+        sum += tlsf_pools_open(&pools, 4, 1, rows, 2) + tlsf_pools_open(&closed_pools, 4, 1, rows, 65) + tlsf_pools_close(&closed_pools);
+        break;
     }
 }
 
@@ -183,14 +200,22 @@ static void do_calls_of_a_magazine(uint32_t kind, void **p) {
     const size_t len = below(below(8) ? 600 : 9000);
     struct tlsf_cache_usage usage = {0, 0};
     switch (kind) {
-    case 58: if (!*p) *p = below(2) ? tlsf_cache_malloc(&cache, len) : tlsf_cache_calloc(&cache, len, 1); break;
-    case 59: sum += tlsf_cache_free(&cache, *p) + tlsf_cache_usable_size(&cache, *p); *p = NULL; break;
+    case 58:
+        if (!*p) *p = below(2) ? tlsf_cache_malloc(&cache, len) : tlsf_cache_calloc(&cache, len, 1);
+        break;
+    case 59:
+        sum += tlsf_cache_free(&cache, *p) + tlsf_cache_usable_size(&cache, *p);
+        *p = NULL;
+        break;
     case 60: {
         void *moved = *p ? tlsf_cache_realloc(&cache, *p, len + 1) : tlsf_cache_aligned_alloc(&cache, 64, len);
         if (moved) *p = moved;
         break;
     }
-    default: sum += tlsf_cache_open(&cache, &behind) + tlsf_cache_close(&closed_cache) + tlsf_cache_report(&cache, &usage) + (below(8) ? 0 : tlsf_cache_flush(&cache)); break;
+    default:
+        sum += tlsf_cache_open(&cache, &behind) + tlsf_cache_close(&closed_cache) + tlsf_cache_report(&cache, &usage) +
+               (below(8) ? 0 : tlsf_cache_flush(&cache));
+        break;
     }
 }
 

@@ -114,7 +114,8 @@ static void closed_ones(void) {
     struct tlsf_cache_usage usage = {7, 7};
     int own = 0;
     wants("a closed magazine", tlsf_cache_malloc(&cache, 8) == NULL && tlsf_cache_malloc(&cache, 5000) == NULL, 1);
-    wants("its other calls", !tlsf_cache_calloc(&cache, 2, 4) && !tlsf_cache_aligned_alloc(&cache, 64, 8) && !tlsf_cache_realloc(&cache, &own, 8), 1);
+    wants("its other calls",
+          !tlsf_cache_calloc(&cache, 2, 4) && !tlsf_cache_aligned_alloc(&cache, 64, 8) && !tlsf_cache_realloc(&cache, &own, 8), 1);
     wants("its free", tlsf_cache_free(&cache, &own), TLSF_IS_CLOSED);
     wants("its free of null", tlsf_cache_free(&cache, NULL), TLSF_OK);
     wants("its size", tlsf_cache_usable_size(&cache, &own), 0);
@@ -210,19 +211,22 @@ static void freed_twice(void) {
 }
 
 static void sizes_that_wrap(void) {
-    static const size_t too_long[] = {SIZE_MAX, SIZE_MAX - 6, SIZE_MAX - 7, SIZE_MAX / 2 + 1, (size_t)1 << 32, ((size_t)1 << 32) + 8, ((size_t)1 << 27) + 1};
+    static const size_t too_long[] = {SIZE_MAX,        SIZE_MAX - 6,          SIZE_MAX - 7,         SIZE_MAX / 2 + 1,
+                                      (size_t)1 << 32, ((size_t)1 << 32) + 8, ((size_t)1 << 27) + 1};
     open_with(4000);
     void *const p = get(8), *const q = get(8);
     end(q);
     for (size_t k = 0; k < sizeof too_long / sizeof *too_long; k++) {
         const size_t len = too_long[k];
         wants("malloc", tlsf_cache_malloc(&cache, len) == NULL, 1);
-        wants("calloc", !tlsf_cache_calloc(&cache, len, 1) && !tlsf_cache_calloc(&cache, len, len) && !tlsf_cache_calloc(&cache, 8, len / 8 + 1), 1);
+        wants("calloc",
+              !tlsf_cache_calloc(&cache, len, 1) && !tlsf_cache_calloc(&cache, len, len) && !tlsf_cache_calloc(&cache, 8, len / 8 + 1), 1);
         wants("realloc", tlsf_cache_realloc(&cache, p, len) == NULL && tlsf_cache_realloc(&cache, NULL, len) == NULL, 1);
         wants("aligned_alloc", !tlsf_cache_aligned_alloc(&cache, 8, len) && !tlsf_cache_aligned_alloc(&cache, 64, len), 1);
     }
     for (size_t align = 0; align < 9000; align++)
-        if (align == 0 || align > 4096 || (align & (align - 1)) != 0) wants("an alignment", tlsf_cache_aligned_alloc(&cache, align, 8) == NULL, 1);
+        if (align == 0 || align > 4096 || (align & (align - 1)) != 0)
+            wants("an alignment", tlsf_cache_aligned_alloc(&cache, align, 8) == NULL, 1);
     wants("nothing goes back for these", kept().blocks, 1);
     wants("a block stays", tlsf_cache_usable_size(&cache, p), 8);
     close_with();
@@ -480,7 +484,8 @@ static void by_chance(long calls, int with_names) {
         else leave(b);
         if (turn % 100 == 0) compare(turn % 300 == 0);
     }
-    for (int k = 0; k < MOST; k++) if (blocks[k].p) leave(&blocks[k]);
+    for (int k = 0; k < MOST; k++)
+        if (blocks[k].p) leave(&blocks[k]);
     compare(0);
     compare(1);
     wants("one free block", report_of(&heap).live_blocks == 0 && report_of(&heap).free_blocks == 1, 1);
@@ -505,7 +510,7 @@ int main(int argc, char **argv) {
     blocks_by_name();
     rule_3_broken();
     by_chance(calls, argc > 4);
-    printf("level %u%s: %ld given, %ld refused, %ld by one heap alone, %ld moved\n", (unsigned)level, argc > 4 ? ", with names" : "", counts[0],
-           counts[1], counts[2], counts[3]);
+    printf("level %u%s: %ld given, %ld refused, %ld by one heap alone, %ld moved\n", (unsigned)level, argc > 4 ? ", with names" : "",
+           counts[0], counts[1], counts[2], counts[3]);
     return 0;
 }

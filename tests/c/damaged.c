@@ -81,7 +81,8 @@ int main(int argc, char **argv) {
     unsigned char *memory = guarded(bytes);
     for (turn = 0; turn < turns; turn++) {
         memset(memory, 0, bytes);
-        wants("open", tlsf_open_in(&heap, 4 + (uint32_t)turn % 2, 1, memory + bytes - tlsf_bytes(4, WORDS) + 1, tlsf_bytes(4, WORDS)), TLSF_OK);
+        wants("open", tlsf_open_in(&heap, 4 + (uint32_t)turn % 2, 1, memory + bytes - tlsf_bytes(4, WORDS) + 1, tlsf_bytes(4, WORDS)),
+              TLSF_OK);
         fill_heap();
         check_sound();
         const int found = damage();

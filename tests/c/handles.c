@@ -254,8 +254,12 @@ static void other_kinds(void) {
     for (int k = 0; k < 4; k++) {
         uint32_t n = 77;
         size_t went = 77;
-        if (k != 0) refuses("put", tlsf_put(ends[k], name)), refuses("put all", tlsf_put_all(ends[k], &name, 1, &went)), refuses("close", tlsf_post_close(ends[k]));
-        if (k != 1) refuses("take", tlsf_take(ends[k], &name)), refuses("drain", tlsf_drain(&heap, ends[k], 9, &n)), refuses("close", tlsf_take_close(ends[k]));
+        if (k != 0)
+            refuses("put", tlsf_put(ends[k], name)), refuses("put all", tlsf_put_all(ends[k], &name, 1, &went)),
+                refuses("close", tlsf_post_close(ends[k]));
+        if (k != 1)
+            refuses("take", tlsf_take(ends[k], &name)), refuses("drain", tlsf_drain(&heap, ends[k], 9, &n)),
+                refuses("close", tlsf_take_close(ends[k]));
         if (k != 2) refuses("take", tlsf_queue_take(ends[k], &name)), refuses("drain", tlsf_queue_drain(&heap, ends[k], 9, &n));
         if (k != 2) refuses("open a poster's end", tlsf_poster_open(ends[k], &other)), refuses("close", tlsf_queue_close(ends[k]));
         if (k != 3) refuses("post", tlsf_queue_post(ends[k], name)), refuses("close", tlsf_poster_close(ends[k]));
@@ -265,8 +269,8 @@ static void other_kinds(void) {
     printf("  %u calls refused, %u wrote\n", (unsigned)refused, (unsigned)written);
     said("take", tlsf_take(&take, &name));
     said("take", tlsf_queue_take(&queue, &name));
-    said("close all", tlsf_close(&heap) + tlsf_post_close(&post) + tlsf_take_close(&take) + tlsf_queue_close(&queue) + tlsf_poster_close(&poster) +
-                          tlsf_offsets_close(&offsets) + tlsf_pools_close(&pools));
+    said("close all", tlsf_close(&heap) + tlsf_post_close(&post) + tlsf_take_close(&take) + tlsf_queue_close(&queue) +
+                          tlsf_poster_close(&poster) + tlsf_offsets_close(&offsets) + tlsf_pools_close(&pools));
 }
 
 /* Closed handles as those of a struct, static or not, and as values that are assigned. */

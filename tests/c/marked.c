@@ -214,13 +214,24 @@ static const struct {
     const char *name;
     void (*does)(void);
 } kinds[] = {
-    {"overrun", overrun}, {"overrun_read", overrun_read}, {"underrun", underrun}, {"overrun_named", overrun_named},
-    {"overrun_aligned", overrun_aligned}, {"used_after_free", used_after_free}, {"used_after_release", used_after_release},
-    {"used_after_move", used_after_move}, {"used_behind_end", used_behind_end}, {"used_after_resize", used_after_resize},
-    {"used_after_drain", used_after_drain}, {"used_after_queue_drain", used_after_queue_drain},
-    {"used_while_kept", used_while_kept}, {"used_after_second_free", used_after_second_free}, {"overrun_after_kept", overrun_after_kept},
+    {"overrun", overrun},
+    {"overrun_read", overrun_read},
+    {"underrun", underrun},
+    {"overrun_named", overrun_named},
+    {"overrun_aligned", overrun_aligned},
+    {"used_after_free", used_after_free},
+    {"used_after_release", used_after_release},
+    {"used_after_move", used_after_move},
+    {"used_behind_end", used_behind_end},
+    {"used_after_resize", used_after_resize},
+    {"used_after_drain", used_after_drain},
+    {"used_after_queue_drain", used_after_queue_drain},
+    {"used_while_kept", used_while_kept},
+    {"used_after_second_free", used_after_second_free},
+    {"overrun_after_kept", overrun_after_kept},
 #ifdef TLSF_VALGRIND
-    {"not_initialised", not_initialised}, {"not_initialised_after_kept", not_initialised_after_kept},
+    {"not_initialised", not_initialised},
+    {"not_initialised_after_kept", not_initialised_after_kept},
 #endif
     {"right", right},
 };

@@ -57,9 +57,7 @@ static void wants(const char *what, size_t got, size_t wanted) {
 static _Thread_local const unsigned char *last_end;
 static _Thread_local size_t close_end;
 static _Thread_local int pieces_in_near;
-static _Thread_local struct {
-    uintptr_t first, last;
-} lines[PIECES];
+static _Thread_local struct { uintptr_t first, last; } lines[PIECES];
 static _Thread_local size_t pieces;
 PAIR struct piece __wrap_tlsf_memory_alloc(size_t bytes, size_t align) {
     const struct piece piece = __real_tlsf_memory_alloc(bytes, align);
@@ -274,7 +272,8 @@ static void lanes_of_malloc(void) {
         wants("a lane", tlsf_lane_open(&post[k], &take[k], 1 + 7 * (uint32_t)k), NEW_ANSWER);
         if (NEW_ANSWER == TLSF_OK) check_lines(4);
     }
-    for (size_t k = 0; k < 3; k++) wants("close", tlsf_post_close(&post[k]) + tlsf_take_close(&take[k]), NEW_ANSWER == TLSF_OK ? 0 : 2 * TLSF_IS_CLOSED);
+    for (size_t k = 0; k < 3; k++)
+        wants("close", tlsf_post_close(&post[k]) + tlsf_take_close(&take[k]), NEW_ANSWER == TLSF_OK ? 0 : 2 * TLSF_IS_CLOSED);
 }
 
 /* --- Queues --------------------------------------------------------------------------------------------------------- */

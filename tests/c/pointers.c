@@ -52,7 +52,8 @@ static void take_in(struct model *m, struct block *b, void *p, size_t len, size_
     wants("alignment", (uintptr_t)p % align, 0);
     wants("in the region", offset >= 8 * HEADER && offset + len <= 8 * (size_t)WORDS, 1);
     wants("usable size", tlsf_usable_size(&m->heap, p) >= len, 1);
-    for (int k = 0; k < MOST; k++) if (m->gone[k] == p) m->gone[k] = NULL;
+    for (int k = 0; k < MOST; k++)
+        if (m->gone[k] == p) m->gone[k] = NULL;
     b->p = p;
     b->len = len;
 }
@@ -166,7 +167,8 @@ static unsigned char *wild(struct model *m, struct model *other, struct block *b
 }
 
 static int is_given(const struct model *m, const unsigned char *p) {
-    for (int k = 0; k < MOST; k++) if (m->blocks[k].p == p) return 1;
+    for (int k = 0; k < MOST; k++)
+        if (m->blocks[k].p == p) return 1;
     return 0;
 }
 
@@ -194,9 +196,12 @@ static void refuse_sizes(struct model *m, void *live) {
     wants("free of null", tlsf_free(&m->heap, NULL), TLSF_OK);
     wants("malloc", tlsf_malloc(&m->heap, len) == NULL, 1);
     wants("realloc", tlsf_realloc(&m->heap, live, len) == NULL, 1);
-    wants("calloc", tlsf_calloc(&m->heap, len, len) == NULL && tlsf_calloc(&m->heap, len, 1) == NULL && tlsf_calloc(&m->heap, 8, len / 8 + 1) == NULL, 1);
+    wants("calloc",
+          tlsf_calloc(&m->heap, len, len) == NULL && tlsf_calloc(&m->heap, len, 1) == NULL && tlsf_calloc(&m->heap, 8, len / 8 + 1) == NULL,
+          1);
     wants("aligned_alloc", tlsf_aligned_alloc(&m->heap, 64, len) == NULL, 1);
-    wants("no alignment", !tlsf_aligned_alloc(&m->heap, 0, 8) && !tlsf_aligned_alloc(&m->heap, 24, 8) && !tlsf_aligned_alloc(&m->heap, 8192, 8), 1);
+    wants("no alignment",
+          !tlsf_aligned_alloc(&m->heap, 0, 8) && !tlsf_aligned_alloc(&m->heap, 24, 8) && !tlsf_aligned_alloc(&m->heap, 8192, 8), 1);
     wants("allocate_at", tlsf_allocate_at(&m->heap, len, 8, 0, &name, &p), TLSF_NO_FIT);
     wants("allocate_at 3", tlsf_allocate_at(&m->heap, 8, 3, 0, &name, &p), TLSF_BAD_SIZE);
     wants("as before", name.heap == 9 && p == NULL, 1);
@@ -208,7 +213,8 @@ static void check_all(struct model *m) {
     struct tlsf_heap_counts c = {0, 0, 0, 0};
     struct tlsf_block_info it = {0, 0, 0, 0, 0};
     uint32_t at = 0, live = 0, words = 0;
-    for (int k = 0; k < MOST; k++) if (m->blocks[k].p) check_bytes(&m->blocks[k], m->blocks[k].len);
+    for (int k = 0; k < MOST; k++)
+        if (m->blocks[k].p) check_bytes(&m->blocks[k], m->blocks[k].len);
     for (; tlsf_block_at(&m->heap, at, &it) == TLSF_OK; at += it.size) {
         wants("an even place", !with_names && at % 2, 0);
         wants("a block's words hold its bytes", 8 * (size_t)it.size >= 8 * HEADER + it.len, 1);
@@ -249,7 +255,8 @@ static void close_all(uint32_t level) {
     const size_t bytes = tlsf_bytes(level, WORDS);
     for (int h = 0; h < HEAPS; h++) {
         struct model *m = &models[h];
-        for (int k = 0; k < MOST; k++) if (m->blocks[k].p) end(m, &m->blocks[k]);
+        for (int k = 0; k < MOST; k++)
+            if (m->blocks[k].p) end(m, &m->blocks[k]);
         const struct tlsf_heap_report r = report_of(m);
         wants("one free block", r.live_blocks == 0 && r.free_blocks == 1 && r.free_words == WORDS, 1);
         wants("close", tlsf_close(&m->heap), TLSF_OK);
@@ -284,9 +291,11 @@ static void odd_blocks_are_noted(void) {
         wants("open", tlsf_open(&heap, 4, 1, 400), TLSF_OK);
         wants("an even block", tlsf_allocate(&heap, 24, &name) + tlsf_resize(&heap, name, 8) + tlsf_reallocate(&heap, &name, 40), TLSF_OK);
         wants("isn't noted", heap.is_mixed, false);
-        wants("an odd one", way == 0   ? tlsf_allocate(&heap, 9, &name)
-                            : way == 1 ? tlsf_resize(&heap, name, 16)
-                                       : tlsf_reallocate(&heap, &name, 48), TLSF_OK);
+        wants("an odd one",
+              way == 0   ? tlsf_allocate(&heap, 9, &name)
+              : way == 1 ? tlsf_resize(&heap, name, 16)
+                         : tlsf_reallocate(&heap, &name, 48),
+              TLSF_OK);
         wants("is noted", heap.is_mixed, true);
         wants("close", tlsf_close(&heap), TLSF_OK);
     }

@@ -139,7 +139,7 @@ static void *post_all(void *given) {
 static void threads(int posters) {
     static struct worker worker[MOST_POSTERS];
     static struct tlsf_post_end post[MOST_POSTERS];
-    static uint32_t of[WORDS];        /* the poster that a block went to, and 1 more, by its place */
+    static uint32_t of[WORDS];          /* the poster that a block went to, and 1 more, by its place */
     static uint64_t last[MOST_POSTERS]; /* the serial that came last of each: they rise */
     struct tlsf_heap heap = TLSF_CLOSED;
     struct tlsf_queue queue = TLSF_QUEUE_CLOSED;
@@ -184,7 +184,8 @@ static void threads(int posters) {
     wants("all are back", report.live_blocks, 0);
     wants("close", tlsf_queue_close(&queue), TLSF_OK);
     wants("close the heap", tlsf_close(&heap), TLSF_OK);
-    printf("%ld names came, each poster's in order; posts found it full %ld times and busy %ld times, takes busy %ld times\n", back, full, busy, took_busy);
+    printf("%ld names came, each poster's in order; posts found it full %ld times and busy %ld times, takes busy %ld times\n", back, full,
+           busy, took_busy);
 }
 
 int main(int argc, char **argv) {

@@ -253,6 +253,8 @@ int main(int argc, char **argv) {
     wants("close the post end", tlsf_post_close(&post), TLSF_OK);
     wants("close the take end", tlsf_take_close(&take), TLSF_OK);
     printf("level %u, seed %u, %ld calls as the tables say:", (unsigned)level, (unsigned)seed, calls);
-    for (uint32_t k = 1; k < KINDS; k++) printf(" %s %ld (%ld refused)%s", kinds[k], done[k] + (k == 1 ? done[0] : 0), refused[k] + (k == 1 ? refused[0] : 0), k + 1 < KINDS ? "," : "\n");
+    for (uint32_t k = 1; k < KINDS; k++)
+        printf(" %s %ld (%ld refused)%s", kinds[k], done[k] + (k == 1 ? done[0] : 0), refused[k] + (k == 1 ? refused[0] : 0),
+               k + 1 < KINDS ? "," : "\n");
     return 0;
 }

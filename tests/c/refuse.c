@@ -24,19 +24,17 @@ struct refusals {
     atomic_long asked;
 };
 
-static struct refusals growths = { "REFUSE_GROWTH" }, reads = { "REFUSE_READ" }, threads = { "REFUSE_THREAD" };
+static struct refusals growths = {"REFUSE_GROWTH"}, reads = {"REFUSE_READ"}, threads = {"REFUSE_THREAD"};
 static long read_bytes, output_bytes;
 static int takes_none;
 static atomic_long refused;
 
-static long number(const char *name, long otherwise)
-{
+static long number(const char *name, long otherwise) {
     const char *text = getenv(name);
     return text ? atol(text) : otherwise;
 }
 
-__attribute__((constructor)) static void start(void)
-{
+__attribute__((constructor)) static void start(void) {
     growths.which = number(growths.name, 0);
     reads.which = number(reads.name, 0);
     threads.which = number(threads.name, 0);
@@ -45,10 +43,9 @@ __attribute__((constructor)) static void start(void)
     takes_none = !number("OUTPUT_THEN", 1);
 }
 
-static void tell_counts(void)
-{
+static void tell_counts(void) {
     const char *path = getenv("COUNTS");
-    long counts[] = { growths.asked, reads.asked, threads.asked, refused };
+    long counts[] = {growths.asked, reads.asked, threads.asked, refused};
     growths.which = 0;
     FILE *file = path ? fopen(path, "w") : NULL;
     if (file) {
@@ -58,39 +55,31 @@ static void tell_counts(void)
 }
 
 /* A program that may start threads ends by _exit, any other by exit. */
-__attribute__((destructor)) static void end(void)
-{
-    tell_counts();
-}
+__attribute__((destructor)) static void end(void) { tell_counts(); }
 
-void _exit(int status)
-{
+void _exit(int status) {
     tell_counts();
     for (;;) syscall(SYS_exit_group, status);
 }
 
-static int is_refused(struct refusals *of)
-{
+static int is_refused(struct refusals *of) {
     if (atomic_fetch_add(&of->asked, 1) + 1 != of->which) return 0;
     refused++;
     return 1;
 }
 
-void *malloc(size_t size)
-{
+void *malloc(size_t size) {
     extern void *__libc_malloc(size_t);
     return is_refused(&growths) ? NULL : __libc_malloc(size);
 }
 
-void *realloc(void *old, size_t size)
-{
+void *realloc(void *old, size_t size) {
     extern void *__libc_realloc(void *, size_t);
     int grows = size > malloc_usable_size(old);
     return grows && is_refused(&growths) ? NULL : __libc_realloc(old, size);
 }
 
-ssize_t read(int file, void *into, size_t size)
-{
+ssize_t read(int file, void *into, size_t size) {
     if (is_refused(&reads)) {
         errno = EIO;
         return -1;
@@ -98,8 +87,7 @@ ssize_t read(int file, void *into, size_t size)
     return syscall(SYS_read, file, into, read_bytes >= 0 && (size_t)read_bytes < size ? (size_t)read_bytes : size);
 }
 
-ssize_t write(int file, const void *from, size_t size)
-{
+ssize_t write(int file, const void *from, size_t size) {
     if (file == 1 && output_bytes >= 0 && size > (size_t)output_bytes) {
         if (!output_bytes) {
             refused++;
@@ -113,13 +101,9 @@ ssize_t write(int file, const void *from, size_t size)
     return taken;
 }
 
-ssize_t __write(int file, const void *from, size_t size)
-{
-    return write(file, from, size);
-}
+ssize_t __write(int file, const void *from, size_t size) { return write(file, from, size); }
 
-int pthread_create(pthread_t *thread, const pthread_attr_t *how, void *(*run)(void *), void *with)
-{
+int pthread_create(pthread_t *thread, const pthread_attr_t *how, void *(*run)(void *), void *with) {
     int (*create)(pthread_t *, const pthread_attr_t *, void *(*)(void *), void *) = dlsym(RTLD_NEXT, "pthread_create");
     return is_refused(&threads) ? EAGAIN : create(thread, how, run, with);
 }

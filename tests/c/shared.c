@@ -29,9 +29,7 @@ struct shared {
 /* Where no program has anything else. */
 static struct shared *const it = (struct shared *)0x200000000000;
 
-static int map(int file) {
-    return mmap(it, sizeof *it, PROT_READ | PROT_WRITE, MAP_SHARED | MAP_FIXED_NOREPLACE, file, 0) != it;
-}
+static int map(int file) { return mmap(it, sizeof *it, PROT_READ | PROT_WRITE, MAP_SHARED | MAP_FIXED_NOREPLACE, file, 0) != it; }
 
 static int holds(const struct block *b) {
     for (uint32_t k = 0; k < b->len; k++)

@@ -136,7 +136,8 @@ static void locate(struct side *it, const struct block *b) {
     uint64_t *base = NULL;
     uint32_t len = 0;
     if (is_served(it, ANSWER(it, tlsf_locate(&heap, b->name, &base, &len)), TLSF_OK) && len != b->len) wrong++;
-    if (is_served(it, ANSWER(it, tlsf_place(&heap, b->name.at, &name, &len)), TLSF_OK) && (len != b->len || name.serial != b->name.serial)) wrong++;
+    if (is_served(it, ANSWER(it, tlsf_place(&heap, b->name.at, &name, &len)), TLSF_OK) && (len != b->len || name.serial != b->name.serial))
+        wrong++;
 }
 
 static void report(struct side *it) {

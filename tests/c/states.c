@@ -17,9 +17,9 @@ enum { MOST_WORDS = 124, LEAST = 4, MOST_BLOCKS = MOST_WORDS / LEAST, HEADER = 3
 
 struct block {
     uint32_t size, len;
-    uint64_t mark;    /* the serial of a live block; the stamp of a free one */
-    uint64_t pattern; /* which bytes a live block has, */
-    uint32_t kept;    /* so many of them; the others are zero, */
+    uint64_t mark;             /* the serial of a live block; the stamp of a free one */
+    uint64_t pattern;          /* which bytes a live block has, */
+    uint32_t kept;             /* so many of them; the others are zero, */
     bool is_live, is_unfilled; /* or, where it is unfilled, any */
 };
 
@@ -30,8 +30,8 @@ struct model {
 };
 
 enum kind { ALLOCATE, RELEASE, RESIZE, REALLOCATE, ALLOCATE_PLACE, RELEASE_PLACE, RESIZE_PLACE, ALLOCATE_ALIGNED, KINDS };
-static const char *const kinds[KINDS] = {"allocate", "release", "resize", "reallocate", "allocate_place", "release_place", "resize_place",
-                                         "allocate_aligned"};
+static const char *const kinds[KINDS] = {"allocate",       "release",       "resize",       "reallocate",
+                                         "allocate_place", "release_place", "resize_place", "allocate_aligned"};
 
 /* A call on block number `block`, so that it, or a new one, has `want` words; aligned to `step` words. */
 struct call {
@@ -87,8 +87,7 @@ static uint32_t path_length;
 
 static _Noreturn void tell(const char *what, uint64_t got, uint64_t wanted) {
     printf("%u words, level %u:", (unsigned)words, (unsigned)level);
-    for (uint32_t i = 0; i < path_length; i++)
-        printf(" %s(%u, %u, %u)", kinds[path[i].kind], path[i].block, path[i].want, path[i].step);
+    for (uint32_t i = 0; i < path_length; i++) printf(" %s(%u, %u, %u)", kinds[path[i].kind], path[i].block, path[i].want, path[i].step);
     printf(": %s: %llx, and not %llx\n", what, (unsigned long long)got, (unsigned long long)wanted);
     exit(1);
 }
@@ -108,10 +107,10 @@ static uint32_t low(uint32_t class) {
 static uint8_t class_of[MOST_WORDS + 1], search_of[2 * MOST_WORDS];
 
 static void set_classes(void) {
-    for (uint32_t size = LEAST, class = LEAST; size <= MOST_WORDS; class_of[size++] = (uint8_t)class)
-        while (low(class + 1) <= size) class++;
-    for (uint32_t size = LEAST, class = LEAST; size < 2 * MOST_WORDS; search_of[size++] = (uint8_t)class)
-        while (low(class) < size) class++;
+    for (uint32_t size = LEAST, class = LEAST; size <= MOST_WORDS; class_of[size++] = (uint8_t) class)
+        while (low(class + 1) <= size) class ++;
+    for (uint32_t size = LEAST, class = LEAST; size < 2 * MOST_WORDS; search_of[size++] = (uint8_t) class)
+        while (low(class) < size) class ++;
 }
 
 /* A length for which a request wants so many words: each number of bytes in the last of them has its turn. */
@@ -249,12 +248,9 @@ static void leave_unfilled(struct model *m, uint32_t at) { m->blocks[block_at(m,
 static struct answer resized(struct model *m, struct call call, bool may_move, bool fills) {
     const uint32_t len = len_of(call);
     uint32_t at = place_of(m, call.block);
-    if (refit(m, call.block, call.want))
-        set_length(&m->blocks[call.block], len);
-    else if (!may_move)
-        return (struct answer){TLSF_NO_ROOM, NOWHERE, 0};
-    else
-        at = move(m, call.block, call.want, len);
+    if (refit(m, call.block, call.want)) set_length(&m->blocks[call.block], len);
+    else if (!may_move) return (struct answer){TLSF_NO_ROOM, NOWHERE, 0};
+    else at = move(m, call.block, call.want, len);
     if (at == NOWHERE) return (struct answer){TLSF_NO_FIT, NOWHERE, 0};
     if (!fills) leave_unfilled(m, at);
     return (struct answer){TLSF_OK, at, 0};
@@ -263,10 +259,8 @@ static struct answer resized(struct model *m, struct call call, bool may_move, b
 static struct answer allocated(struct model *m, struct call call, bool fills) {
     const uint32_t len = len_of(call), chosen = call.step == 0 ? choice(m, call.want) : NOWHERE;
     uint32_t at = chosen == NOWHERE ? NOWHERE : place_of(m, chosen);
-    if (call.step != 0)
-        at = align(m, call.want, call.step, len);
-    else if (chosen != NOWHERE)
-        give(m, chosen, call.want, len);
+    if (call.step != 0) at = align(m, call.want, call.step, len);
+    else if (chosen != NOWHERE) give(m, chosen, call.want, len);
     if (at == NOWHERE) return (struct answer){TLSF_NO_FIT, NOWHERE, 0};
     if (!fills) leave_unfilled(m, at);
     return (struct answer){TLSF_OK, at, m->blocks[block_at(m, at)].mark};
@@ -507,7 +501,8 @@ static void *room_for(void *old, size_t bytes) {
 static uint8_t rank_of(const struct model *m, uint32_t block) {
     uint8_t later = 0;
     for (uint32_t i = 0; i < m->count; i++)
-        if (is_free(m, i) && class_of[m->blocks[i].size] == class_of[m->blocks[block].size] && m->blocks[i].mark > m->blocks[block].mark) later++;
+        if (is_free(m, i) && class_of[m->blocks[i].size] == class_of[m->blocks[block].size] && m->blocks[i].mark > m->blocks[block].mark)
+            later++;
     return later;
 }
 
@@ -652,5 +647,6 @@ int main(int argc, char **argv) {
     const struct model open = {.tick = 1, .count = 1, .blocks = {{.size = words}}};
     note(&open, 0, (struct call){0, 0, 0, 0});
     for (uint32_t i = 0; i < state_count; i++) try_state(i);
-    printf("%u words, level %u: %u states, %llu calls\n", (unsigned)words, (unsigned)level, (unsigned)state_count, (unsigned long long)call_count);
+    printf("%u words, level %u: %u states, %llu calls\n", (unsigned)words, (unsigned)level, (unsigned)state_count,
+           (unsigned long long)call_count);
 }

@@ -133,9 +133,12 @@ static struct {
     uintptr_t at;
     unsigned calls, most;
 } counted[] = {
-    {"tlsf_allocate", (uintptr_t)tlsf_allocate, 0, 0}, {"tlsf_release", (uintptr_t)tlsf_release, 0, 0},
-    {"tlsf_resize", (uintptr_t)tlsf_resize, 0, 0},     {"tlsf_locate", (uintptr_t)tlsf_locate, 0, 0},
-    {"tlsf_put", (uintptr_t)tlsf_put, 0, 0},           {"tlsf_take", (uintptr_t)tlsf_take, 0, 0},
+    {"tlsf_allocate", (uintptr_t)tlsf_allocate, 0, 0},
+    {"tlsf_release", (uintptr_t)tlsf_release, 0, 0},
+    {"tlsf_resize", (uintptr_t)tlsf_resize, 0, 0},
+    {"tlsf_locate", (uintptr_t)tlsf_locate, 0, 0},
+    {"tlsf_put", (uintptr_t)tlsf_put, 0, 0},
+    {"tlsf_take", (uintptr_t)tlsf_take, 0, 0},
     {"tlsf_reallocate", (uintptr_t)tlsf_reallocate, 0, 0},
     {"tlsf_resize_place", (uintptr_t)tlsf_resize_place, 0, 0},
     {"tlsf_allocate_place", (uintptr_t)tlsf_allocate_place, 0, 0},

@@ -104,7 +104,8 @@ static void blocks(tlsf::heap &heap) {
     holds("nothing to take", !take.take());
     const tlsf_name names[] = {heap.make(8).detach(), heap.make(8).detach(), heap.make(8).detach()};
     holds("as many as there are slots", from.put_all(names, 3) == 2 && from.put_all(names + 2, 1) == 0);
-    holds("in their order", take.take()->serial == names[0].serial && from.put_all(names + 2, 1) == 1 && take.take()->serial == names[1].serial);
+    holds("in their order",
+          take.take()->serial == names[0].serial && from.put_all(names + 2, 1) == 1 && take.take()->serial == names[1].serial);
     holds("a closed end takes none", tlsf::post_end().put_all(names, 3) == 0);
     holds("drained again", take.drain(heap, 9) == 1 && heap.release(names[0]) == TLSF_OK && heap.release(names[1]) == TLSF_OK);
     holds("too large, it is empty", !heap.make(1u << 30));
@@ -122,8 +123,8 @@ static void moved_heaps() {
         before.resize(200, 2);
         holds("containers and blocks follow a heap that moves", before[199] == 2 && block.size() == 8 && moved.report().live_blocks == 2);
         tlsf_name name{};
-        holds("what it was moved from is closed",
-              !heap.is_open() && heap.allocate(8, name) == TLSF_IS_CLOSED && heap.release(name) == TLSF_IS_CLOSED && !heap.get() && !heap.make(8));
+        holds("what it was moved from is closed", !heap.is_open() && heap.allocate(8, name) == TLSF_IS_CLOSED &&
+                                                      heap.release(name) == TLSF_IS_CLOSED && !heap.get() && !heap.make(8));
         heap = std::move(moved);
     }
     holds("back, and empty", heap.report().live_blocks == 0 && heap.open(tlsf::level::four, 1, 64) == TLSF_IN_USE);
@@ -181,7 +182,8 @@ static void outlived_heaps() {
 
 // A heap that was sized for so many blocks of so many bytes serves so many, whoever asks.
 static void fills(tlsf::level level, std::uint32_t count, std::uint32_t len, std::size_t align) {
-    auto heap = align > alignof(std::max_align_t) ? tlsf::heap::for_blocks(level, 2, count, len, align) : tlsf::heap::for_blocks(level, 2, count, len);
+    auto heap = align > alignof(std::max_align_t) ? tlsf::heap::for_blocks(level, 2, count, len, align)
+                                                  : tlsf::heap::for_blocks(level, 2, count, len);
     tlsf::resource resource(heap);
     std::vector<void *> given(count);
     for (std::uint32_t turn = 0; turn < 3; turn++) {
@@ -263,7 +265,8 @@ static void sized_heaps(tlsf::level level) {
     }
     auto exact = tlsf::heap::for_blocks(level, 2, 100, 512, 0);
     std::uint32_t words = 0;
-    holds("the fewest words", tlsf_words(static_cast<std::uint32_t>(level), 100, 512, &words) == TLSF_OK && exact.report().free_words == words);
+    holds("the fewest words",
+          tlsf_words(static_cast<std::uint32_t>(level), 100, 512, &words) == TLSF_OK && exact.report().free_words == words);
     holds("past 32 bits", throws<std::invalid_argument>([&] { (void)tlsf::heap::for_blocks(level, 2, 1, ~0u, 64); }));
     holds("no such alignment", throws<std::invalid_argument>([&] { (void)tlsf::heap::for_blocks(level, 2, 1, 8, ~std::size_t(0)); }));
     holds("no blocks", tlsf::heap::for_blocks(level, 2, 0, 1u << 30).report().free_words == 4);
@@ -290,7 +293,7 @@ static void refusals(tlsf::heap &heap) {
 static_assert(std::is_nothrow_move_constructible_v<tlsf::heap> && std::is_nothrow_move_assignable_v<tlsf::heap>);
 static_assert(std::is_nothrow_move_constructible_v<tlsf::block> && !std::is_copy_constructible_v<tlsf::block>);
 static_assert(std::is_nothrow_move_constructible_v<tlsf::post_end> && !std::is_copy_constructible_v<tlsf::take_end>);
-static_assert(!std::is_copy_constructible_v<tlsf::heap> && noexcept(tlsf_release(nullptr, tlsf_name{})));
+static_assert(!std::is_copy_constructible_v<tlsf::heap> &&noexcept(tlsf_release(nullptr, tlsf_name{})));
 
 int main() {
     for (tlsf::level level : {tlsf::level::four, tlsf::level::five}) {

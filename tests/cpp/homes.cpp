@@ -221,7 +221,8 @@ void heap_behind_a_lock() {
         for (std::size_t i = 0; i < 3; i++)
             threads.emplace_back([&shared, i] {
                 std::pmr::vector<std::pmr::string> lines(&shared);
-                for (std::size_t k = 0; k < 500; k++) lines.emplace_back("a line that is too long to lie in its string").append(std::to_string(k + i));
+                for (std::size_t k = 0; k < 500; k++)
+                    lines.emplace_back("a line that is too long to lie in its string").append(std::to_string(k + i));
                 wants("lines", lines.size(), 500);
             });
         for (auto &it : threads) it.join();

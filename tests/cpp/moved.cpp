@@ -43,8 +43,7 @@ void containers_are_used_again(tlsf::heap &heap) {
     container_is_used_again<std::list<int, over<int>>>("a list", heap, push);
     container_is_used_again<std::deque<int, over<int>>>("a deque", heap, push);
     container_is_used_again<std::map<int, int, std::less<int>, over<std::pair<const int, int>>>>("a map", heap, enter);
-    container_is_used_again<
-        std::unordered_map<int, int, std::hash<int>, std::equal_to<int>, over<std::pair<const int, int>>>>(
+    container_is_used_again<std::unordered_map<int, int, std::hash<int>, std::equal_to<int>, over<std::pair<const int, int>>>>(
         "an unordered map", heap, enter);
 }
 

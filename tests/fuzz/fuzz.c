@@ -29,7 +29,7 @@ struct area {
     unsigned char *memory, *buffer;
     size_t bytes;
     uint32_t words, most_words, refused, longest_refused;
-    bool is_mixed;    /* a block of it was asked for by name, and may have an odd number of words */
+    bool is_mixed;     /* a block of it was asked for by name, and may have an odd number of words */
     bool is_uncounted; /* something was refused of which tlsf.h leaves open whether it counts */
     struct block blocks[BLOCKS];
     void *gone[GONE]; /* pointers that were freed */
@@ -432,9 +432,9 @@ static void end(struct area *a) {
 int LLVMFuzzerTestOneInput(const uint8_t *bytes, size_t n);
 
 int LLVMFuzzerTestOneInput(const uint8_t *bytes, size_t n) {
-    static void (*const calls[])(struct area *) = {do_malloc, do_malloc, do_malloc, do_calloc, do_aligned, do_realloc,
-        do_realloc, do_free, do_free, do_free, do_wild, do_stale, do_copy, do_allocate, do_allocate_at, do_resize,
-        do_walk, do_counts, do_check};
+    static void (*const calls[])(struct area *) = {do_malloc,      do_malloc, do_malloc, do_calloc, do_aligned, do_realloc, do_realloc,
+                                                   do_free,        do_free,   do_free,   do_wild,   do_stale,   do_copy,    do_allocate,
+                                                   do_allocate_at, do_resize, do_walk,   do_counts, do_check};
     input = bytes;
     input_end = bytes + n;
     seeds = 0;

@@ -46,7 +46,7 @@ def may_change_places(line, other, over_queues):
 
 def with_more(fields, field):
     """The line with one added to a number in it."""
-    return " ".join(fields[:field] + [str(int(fields[field]) + 1)] + fields[field + 1:])
+    return " ".join(fields[:field] + [str(int(fields[field]) + 1)] + fields[field + 1 :])
 
 
 def other_answers(fields):

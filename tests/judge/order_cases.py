@@ -24,12 +24,27 @@ CASES = [
     ("full by another's post", 1, QUEUES, ["post 0>2 a", "full 1>2", ""], "take 0>2 a"),
     ("full before another's post", 1, NONE, ["take 1>0 b, post 0>2 a", "full 1>2, post 1>0 b", ""], "take 0>2 a"),
     ("empty beside a post", 1, BOTH, ["post 0>1 a", "empty 0>1"], "take 0>1 a"),
-    ("empty after a post that it knows of", 1, NONE,
-     ["post 0>1 a, post 0>2 b", "take 2>1 c, empty 0>1", "take 0>2 b, post 2>1 c"], "take 0>1 a"),
-    ("empty beside a post after one that it knows of", 2, BOTH,
-     ["post 0>2 b, post 0>1 a", "take 2>1 c, empty 0>1", "take 0>2 b, post 2>1 c"], "take 0>1 a"),
-    ("two posters, the later one taken first", 2, LANES,
-     ["post 0>2 a, post 0>1 x", "take 0>1 x, post 1>2 b", ""], "take 1>2 b, take 0>2 a"),
+    (
+        "empty after a post that it knows of",
+        1,
+        NONE,
+        ["post 0>1 a, post 0>2 b", "take 2>1 c, empty 0>1", "take 0>2 b, post 2>1 c"],
+        "take 0>1 a",
+    ),
+    (
+        "empty beside a post after one that it knows of",
+        2,
+        BOTH,
+        ["post 0>2 b, post 0>1 a", "take 2>1 c, empty 0>1", "take 0>2 b, post 2>1 c"],
+        "take 0>1 a",
+    ),
+    (
+        "two posters, the later one taken first",
+        2,
+        LANES,
+        ["post 0>2 a, post 0>1 x", "take 0>1 x, post 1>2 b", ""],
+        "take 1>2 b, take 0>2 a",
+    ),
     ("two posters, either taken first", 2, BOTH, ["post 0>2 a", "post 1>2 b", ""], "take 1>2 b, take 0>2 a"),
 ]
 

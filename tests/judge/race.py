@@ -63,8 +63,7 @@ class Race(Calls):
             refused = self.heaps[worker].release(name)
             if poster == worker or poster >= self.count:
                 raise Illegal(f"line {text.at}: a take from {poster}")
-            if line != (f"{worker} take {poster} at {name[0]} serial {name[1]} "
-                        + (f"refused {refused}" if refused else "freed")):
+            if line != (f"{worker} take {poster} at {name[0]} serial {name[1]} " + (f"refused {refused}" if refused else "freed")):
                 raise Illegal(f"line {text.at}: '{line}', and the heap answers {refused}")
             if not self.over_queues:
                 if poster < lane:

@@ -8,7 +8,7 @@ make_toolchain() {
     kit=$work/kit
     mkdir -p "$kit/bin" "$kit/path" "$kit/toolchain/bin" "$kit/toolchain/lib"
     echo "$kit_id" > "$kit/KIT-ID"
-    cat > "$kit/program" <<'PROGRAM'
+    cat > "$kit/program" << 'PROGRAM'
 #!/bin/sh
 # GLIBC_2.34
 case "${1-}: $* " in
@@ -24,7 +24,7 @@ bad:*) echo "tlsf: line 1: bad line (12)" >&2; exit 1 ;;
 esac
 sleep "${FAKE_RUN_SECONDS:-0}"
 PROGRAM
-    cat > "$kit/bin/tool" <<'TOOL'
+    cat > "$kit/bin/tool" << 'TOOL'
 #!/bin/sh
 kit=$(readlink -f "$0") name=${0##*/}
 kit=${kit%/*/*}

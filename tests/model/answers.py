@@ -151,8 +151,10 @@ def replay_text(trace):
 def held_text(trace):
     yard = Yard(trace)
     collections.deque(yard.steps(), 0)
-    return text_of(f"held {number} blocks {it.most} bytes {it.longest} words {it.law(trace.version + 3)} region {trace.words} wanted {it.wanted}"
-                   for number, it in enumerate(yard.asked))
+    return text_of(
+        f"held {number} blocks {it.most} bytes {it.longest} words {it.law(trace.version + 3)} region {trace.words} wanted {it.wanted}"
+        for number, it in enumerate(yard.asked)
+    )
 
 
 def has_drain_lines(trace):

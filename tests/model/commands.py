@@ -9,14 +9,34 @@ from model.trace import Fault, trace_in
 
 # The options of each command, and which of them aren't given together.
 OPTIONS = {
-    "replay": "--held --kinds --heaps --least", "race": "--queues", "map": "--text --html --at --worst",
-    "plot": "--text", "check": "", "size": "--blocks --bytes --level --split", "classes": "--level N",
+    "replay": "--held --kinds --heaps --least",
+    "race": "--queues",
+    "map": "--text --html --at --worst",
+    "plot": "--text",
+    "check": "",
+    "size": "--blocks --bytes --level --split",
+    "classes": "--level N",
 }
-APART = ["--held --least", "--held --kinds", "--held --heaps", "--least --kinds", "--least --heaps",
-         "--html --text", "--html --at", "--html --worst", "--at --worst"]
+APART = [
+    "--held --least",
+    "--held --kinds",
+    "--held --heaps",
+    "--least --kinds",
+    "--least --heaps",
+    "--html --text",
+    "--html --at",
+    "--html --worst",
+    "--at --worst",
+]
 MANY = range(1, 1 << 32)
-NUMBERS = {"--heaps": range(1, 9), "--at": MANY, "--blocks": MANY, "--bytes": MANY, "--level": range(4, 6),
-           "N": range(4, MOST_WORDS[5] + 1)}
+NUMBERS = {
+    "--heaps": range(1, 9),
+    "--at": MANY,
+    "--blocks": MANY,
+    "--bytes": MANY,
+    "--level": range(4, 6),
+    "N": range(4, MOST_WORDS[5] + 1),
+}
 
 
 class Untold(Exception):
@@ -43,6 +63,7 @@ def options_in(command, words):
 
 
 # ---- commands that read no trace
+
 
 def classes_text(size, level):
     if size > MOST_WORDS[level]:
@@ -92,6 +113,7 @@ def size_text(kinds, level, is_split):
 
 
 # ---- commands that read one
+
 
 def check_text(trace):
     phases = sum(line.kind == "phase" for line in trace.lines)
@@ -177,7 +199,7 @@ def answer_to(words, text):
     options = options_in(command, rest) if command in OPTIONS else None
     if options is None:
         return ""
-    level, = options.get("--level", [4])
+    (level,) = options.get("--level", [4])
     if command == "classes":
         return classes_text(*options["N"], level) if "N" in options else ""
     if command == "size":

@@ -1,7 +1,7 @@
 """The heap as docs/MODEL.md tells it in words, for scripts: it shares nothing with the program."""
 
 MOST_WORDS = {4: 1 << 20, 5: 1 << 24}
-LEAST = 4       # words of the smallest block
+LEAST = 4  # words of the smallest block
 NO_FIT, FOREIGN, STALE, RANGE, NO_ROOM = 1, 3, 4, 7, 10
 
 
@@ -43,7 +43,7 @@ class Heap:
     def __init__(self, words, level=4):
         self.level, self.tick, self.words, self.free_words = level, 0, words, 0
         self.blocks, self.free_ends, self.lists = {}, {}, {}
-        self.filled = 0     # a bit for each class that has a free block
+        self.filled = 0  # a bit for each class that has a free block
         self.enlist(Block(0, words))
 
     def enlist(self, block):
@@ -176,5 +176,7 @@ class Heap:
         words, size = self.words - self.free_words, sum(block.length for block in live)
         largest, grant, apart = self.room()
         age = self.tick + 1 - min((block.tick for block in free), default=self.tick + 1)
-        return (f"heap {number} live {len(live)} {words} {size} free {len(free)} {self.free_words} largest {largest} "
-                f"grant {grant} fragmentation {apart} waste {8 * words - size} age {age}")
+        return (
+            f"heap {number} live {len(live)} {words} {size} free {len(free)} {self.free_words} largest {largest} "
+            f"grant {grant} fragmentation {apart} waste {8 * words - size} age {age}"
+        )

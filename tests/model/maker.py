@@ -6,7 +6,7 @@ class Maker:
     """Writes a trace that has no fault, line by line: of each kind this share."""
 
     shares = {"phase": 8, "d": 8, "a": 34, "f": 22, "r": 10, "p": 9, "g": 9}
-    late = 70    # of a hundred uses those of the last labels
+    late = 70  # of a hundred uses those of the last labels
 
     def __init__(self, chance):
         self.chance, self.pick = chance, chance.randint
@@ -16,7 +16,7 @@ class Maker:
         self.drains = self.draws(50)
         # Whether blocks mostly go to other workers, so that lanes become full.
         self.own_uses = 10 if self.draws(30) else 50
-        self.labels = []    # label, maker and length of each block, and the phase that it is of
+        self.labels = []  # label, maker and length of each block, and the phase that it is of
         self.phase = self.made = 0
         self.capacity = self.pick(1, 2) if self.draws(60) else self.pick(3, 40) if self.draws(90) else self.pick(41, 1024)
         self.count = self.pick(0, 40) if self.draws(93) else self.pick(41, 300) if self.draws(98) else self.pick(301, 3000)
@@ -63,7 +63,7 @@ class Maker:
         return "".join(self.chance.choices(digits, k=2 * (self.pick(1, 9) if self.draws(80) else self.pick(10, 64))))
 
     def line(self):
-        kind, = self.chance.choices(list(self.shares), self.shares.values())
+        (kind,) = self.chance.choices(list(self.shares), self.shares.values())
         if kind == "phase":
             self.phase += 1
             return "phase"

@@ -7,8 +7,8 @@ import math
 from model.answers import Asked, Yard
 from model.heap import MOST_WORDS, low, search_of, want
 
-NO_REGION = 1 << 32     # more than eight regions have
-MOST_WAYS = 1 << 17     # that are tried
+NO_REGION = 1 << 32  # more than eight regions have
+MOST_WAYS = 1 << 17  # that are tried
 
 
 class Steps(Asked):

@@ -29,6 +29,7 @@ def count_of(number, one, many=None):
 
 # ---- tables
 
+
 def report_of(heap):
     live = [it for it in heap.blocks.values() if not it.is_free]
     free = [it for it in heap.blocks.values() if it.is_free]
@@ -44,8 +45,12 @@ def table_of(yard, number):
     """A heap as it stands: each of its blocks, in the order of their places."""
     heap = yard.heaps[number]
     labels = {name[1][1]: label for label, name in yard.made.items() if name[0] == number}
-    blocks = [Block(it.place, it.size, it.tick, 0, 0, None) if it.is_free else Block(it.place, it.size, None, it.length, it.tick, labels.get(it.tick))
-              for _, it in sorted(heap.blocks.items())]
+    blocks = [
+        Block(it.place, it.size, it.tick, 0, 0, None)
+        if it.is_free
+        else Block(it.place, it.size, None, it.length, it.tick, labels.get(it.tick))
+        for _, it in sorted(heap.blocks.items())
+    ]
     return Table(number, heap.words, heap.tick + 1, blocks, report_of(heap))
 
 
@@ -102,6 +107,7 @@ def title_of(table):
 
 
 # ---- characters
+
 
 def columns(span, place):
     """How many characters begin before a place."""
@@ -170,17 +176,24 @@ class Characters:
             place, behind = 64 * row * self.span, folds.get(row, row + 1)
             begin = f"{place:7}" + " " * (place < 10_000_000)
             marks = "".join(map(self.mark, range(64 * row, min(64 * row + 64, self.count)))) if behind == row + 1 else self.mark(64 * row)
-            yield begin + (f"|{marks}" if behind == row + 1 else f"~ {behind - row} rows of {marks} alone, {64 * (behind - row) * self.span} words")
+            yield begin + (
+                f"|{marks}" if behind == row + 1 else f"~ {behind - row} rows of {marks} alone, {64 * (behind - row) * self.span} words"
+            )
             row = behind
         unseen = sum(columns(self.span, it.place) == columns(self.span, it.place + it.size) for it in self.table.blocks)
         if unseen and not self.is_dense:
-            yield (f"{unseen} block is not shown: it has the first word of no character" if unseen == 1 else
-                   f"{unseen} blocks are not shown: none of them has the first word of a character")
+            yield (
+                f"{unseen} block is not shown: it has the first word of no character"
+                if unseen == 1
+                else f"{unseen} blocks are not shown: none of them has the first word of a character"
+            )
 
 
 def characters_for(table):
     """As few words a character as may be, by powers of two up to 16,384, where at most 16 rows are written."""
-    return next((it for it in (Characters(table, 1 << power) for power in range(14)) if it.row_count() <= 16), None) or Characters(table, 1 << 14)
+    return next((it for it in (Characters(table, 1 << power) for power in range(14)) if it.row_count() <= 16), None) or Characters(
+        table, 1 << 14
+    )
 
 
 def map_text(tables):
@@ -194,6 +207,7 @@ def map_text(tables):
 
 # ---- SVG files: lengths are in sixteenths of a pixel
 
+
 class Rows:
     """A heap in rows of so many words, and the rows that are drawn for many alike."""
 
@@ -205,7 +219,9 @@ class Rows:
     def fold_of(self, block):
         """The rows that show a block's payload alone, or free words behind the first: the first of them and the one behind."""
         is_free = block.free_since is not None
-        begin, end = (block.place + 1, block.place + block.size) if is_free else (block.place + 3, block.place + min(used_words(block), block.size))
+        begin, end = (
+            (block.place + 1, block.place + block.size) if is_free else (block.place + 3, block.place + min(used_words(block), block.size))
+        )
         return -(-begin // self.row), end // self.row
 
     def left_out(self, block):
@@ -273,7 +289,9 @@ class Rows:
 
     def joined_text(self, group):
         words, live = (sum(it.size for it in some) for some in (group, [it for it in group if it.free_since is None]))
-        text = f"<g class='joined' fill-opacity='.{15 + 70 * live // words}'><title>{len(group)} blocks drawn as one, place {group[0].place}, "
+        text = (
+            f"<g class='joined' fill-opacity='.{15 + 70 * live // words}'><title>{len(group)} blocks drawn as one, place {group[0].place}, "
+        )
         text += f"{words} words, {live} of live blocks</title>"
         return text + "".join(self.spread(group[0].place, group[0].place + words, True)) + "</g>\n"
 
@@ -323,6 +341,7 @@ def map_svg(tables):
 
 # ---- pages
 
+
 def item_of(block):
     if block.free_since is not None:
         return f"f{block.size},{block.free_since};"
@@ -349,6 +368,7 @@ def page_text(trace):
 
 # ---- plots as an SVG file
 
+
 def step_for(lines):
     """The least of 1, 2, 5, 10 and so on of which at most ten are in so many lines; 5,000 is the greatest."""
     return next((it for it in (digit * 10**power for power in range(4) for digit in (1, 2, 5)) if lines <= 10 * it), 5000)
@@ -357,7 +377,9 @@ def step_for(lines):
 def frame_text(box, turn, inner):
     y, height, count, high = box
     text = f"<svg x='80' y='{y}' width='960' height='{height}' viewBox='0 0 {count} {high}' preserveAspectRatio='none'>"
-    return text + f"<rect class='frame' width='{count}' height='{high}'/><g transform='matrix(1 0 0 -{turn} 0 {high})'>\n{inner}</g></svg>\n"
+    return (
+        text + f"<rect class='frame' width='{count}' height='{high}'/><g transform='matrix(1 0 0 -{turn} 0 {high})'>\n{inner}</g></svg>\n"
+    )
 
 
 def curve_text(name, curve):
@@ -424,6 +446,7 @@ def plot_svg(trace):
 
 # ---- all forms
 
+
 def standings(trace):
     """How badly each heap stands where it stands worst, and the line before that."""
     found = []
@@ -439,7 +462,7 @@ def worst_line(trace):
 
 
 def map_at(trace, line, is_text):
-    (_, tables), = tables_at(trace, [line])
+    ((_, tables),) = tables_at(trace, [line])
     return (map_text if is_text else map_svg)(tables)
 
 

@@ -12,8 +12,13 @@ MOST_LENGTH = (1 << 32) - 1
 WORKER, LABEL, LENGTH = ("worker", 0, None), ("label", 0, 65535), ("count", 0, MOST_LENGTH)
 AT, COUNT, MOST_TAKES, GIVEN = ("at", 0, MOST_LENGTH), ("count", 1, 64), ("count", 1, 8192), ("given", None, None)
 SHAPES = {
-    "a": (WORKER, LABEL, LENGTH), "f": (WORKER, LABEL), "r": (WORKER, LABEL, LENGTH), "p": (WORKER, LABEL, AT, GIVEN),
-    "g": (WORKER, LABEL, AT, COUNT), "d": (WORKER, MOST_TAKES), "phase": (),
+    "a": (WORKER, LABEL, LENGTH),
+    "f": (WORKER, LABEL),
+    "r": (WORKER, LABEL, LENGTH),
+    "p": (WORKER, LABEL, AT, GIVEN),
+    "g": (WORKER, LABEL, AT, COUNT),
+    "d": (WORKER, MOST_TAKES),
+    "phase": (),
 }
 
 Fault = collections.namedtuple("Fault", "number line")  # the line from 1 on, or 0 where the fault is of none

@@ -287,8 +287,8 @@ static void close_heap(void) {
     struct tlsf_heap_counts counted;
     if (tlsf_report(&heap, &report) != TLSF_OK || tlsf_counts(&heap, &counted) != TLSF_OK) return;
     const uint32_t words = report.live_words + report.free_words;
-    told->is_whole = is_sound() && counted.words == report.live_words && counted.refused == told->refused &&
-                     report.live_blocks == told->given;
+    told->is_whole =
+        is_sound() && counted.words == report.live_words && counted.refused == told->refused && report.live_blocks == told->given;
     told->most_words = counted.most_words;
     told->left = release_left();
     told->is_whole &= tlsf_report(&heap, &report) == TLSF_OK && told->left == told->given && report.live_blocks == 0 &&
@@ -485,8 +485,8 @@ static uint32_t compare(const char *file) {
     if (!told->did_all || told->refused != 0) fault("refused in the heap that the recorded run names", (long)told->refused);
     if (!says(answer, said)) fault("other answers in the heap that the recorded run names", (long)words);
     if (told->left != left) fault("other blocks are kept than on malloc", (long)told->left - (long)left);
-    printf("%-9s %-8s %7u %8llu %8u %5.2f %5.1f %6.1f %5u", program_name, program_version(), (unsigned)recorded,
-           (unsigned long long)asked, (unsigned)words, 8.0 * words / (double)asked, over, malloc_over, (unsigned)left);
+    printf("%-9s %-8s %7u %8llu %8u %5.2f %5.1f %6.1f %5u", program_name, program_version(), (unsigned)recorded, (unsigned long long)asked,
+           (unsigned)words, 8.0 * words / (double)asked, over, malloc_over, (unsigned)left);
     run(ON_HEAP, words / 10 * 9 & ~1u, WORK, file);
     if (told->refused == 0) fault("nothing is refused in nine tenths of that heap", (long)words);
     printf(" %7u", (unsigned)told->refused);

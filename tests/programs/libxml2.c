@@ -48,8 +48,9 @@ static bool ask(xmlDocPtr document, const char *path) {
 }
 
 static bool ask_all(xmlDocPtr document) {
-    static const char *const paths[] = {"/store/part[@id='p77']/name", "count(//use[@n > 1])", "//part[price > 480]/name",
-        "sum(//part[position() mod 7 = 0]/price)", "//part[@m:kind='3'][last()]/@id", "//use[not(@of = preceding-sibling::use/@of)][@n = 4]"};
+    static const char *const paths[] = {"/store/part[@id='p77']/name",     "count(//use[@n > 1])",
+                                        "//part[price > 480]/name",        "sum(//part[position() mod 7 = 0]/price)",
+                                        "//part[@m:kind='3'][last()]/@id", "//use[not(@of = preceding-sibling::use/@of)][@n = 4]"};
     bool all = true;
     for (size_t k = 0; all && k < sizeof paths / sizeof *paths; k++) all = ask(document, paths[k]);
     return all;

@@ -29,8 +29,15 @@ static void write_text(void) {
     }
 }
 
-static const char *const patterns[] = {"(\\w+)@(\\w+)", "^(?<key>[a-j]+)[:=]\\s*(?<value>.*)$", "(?:a|b|c[de]*)+(?=\\d)", "(\\d+)[^\\d]+\\1",
-    "\\b([a-z])\\w*\\1\\b", "(?i)ab(?:c|d)?.{0,9}?[0-4]", "((a|b)*c?){3,7}\\d", "(?<!\\d)\\d{2,4}(?!\\d)", "[^\\s]+\\s+(?>[a-f]+)[g-j]"};
+static const char *const patterns[] = {"(\\w+)@(\\w+)",
+                                       "^(?<key>[a-j]+)[:=]\\s*(?<value>.*)$",
+                                       "(?:a|b|c[de]*)+(?=\\d)",
+                                       "(\\d+)[^\\d]+\\1",
+                                       "\\b([a-z])\\w*\\1\\b",
+                                       "(?i)ab(?:c|d)?.{0,9}?[0-4]",
+                                       "((a|b)*c?){3,7}\\d",
+                                       "(?<!\\d)\\d{2,4}(?!\\d)",
+                                       "[^\\s]+\\s+(?>[a-f]+)[g-j]"};
 
 /* All matches from `at` on, at most `most` of them. */
 static bool find(const pcre2_code *code, pcre2_match_data *match, pcre2_match_context *context, size_t at, unsigned most) {
@@ -52,7 +59,8 @@ static bool find(const pcre2_code *code, pcre2_match_data *match, pcre2_match_co
 static bool replace(const pcre2_code *code, pcre2_match_context *context) {
     static unsigned char to[4 * TEXT];
     size_t n = sizeof to;
-    const int answer = pcre2_substitute(code, (PCRE2_SPTR)text, 2000, 0, PCRE2_SUBSTITUTE_GLOBAL, NULL, context, (PCRE2_SPTR) "<$0>", 4, to, &n);
+    const int answer =
+        pcre2_substitute(code, (PCRE2_SPTR)text, 2000, 0, PCRE2_SUBSTITUTE_GLOBAL, NULL, context, (PCRE2_SPTR) "<$0>", 4, to, &n);
     if (answer >= 0) say_bytes(to, n);
     return answer >= 0;
 }

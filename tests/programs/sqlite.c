@@ -17,7 +17,7 @@ static void end(void *unused) { (void)unused; }
 static const char *const steps[] = {
     "create table person(id integer primary key, name text, city int, note text)",
     "insert into person with recursive n(i) as (select 1 union all select i + 1 from n where i < 6000) "
-        "select i, 'name ' || (i * 7919 % 6007), i * 31 % 97, hex(i * 2654435761 % 4294967296) from n",
+    "select i, 'name ' || (i * 7919 % 6007), i * 31 % 97, hex(i * 2654435761 % 4294967296) from n",
     "create index by_city on person(city, name)",
     "select count(*), sum(length(note)), max(name) from person",
     "select city, count(*), group_concat(id) from (select * from person where city < 4 order by city, name limit 200) group by city",

@@ -56,7 +56,9 @@ def faults():
     proved = {it: number for it, number in answers.items() if number >= OWN and it not in UNPROVED}
     defined = numbers_in(SOURCE, r"^([a-z_]+) = (\d+)$", OF_DEFINITION)
     yield from differing(SOURCE, defined, {**proved, **{it: answers.get(it) for it in ("BAD_SIZE", "NO_MEMORY", "FULL")}})
-    yield from differing(MEMORY, numbers_in(MEMORY, r"^    (BAD_[A-Z]+) = (\d+)\b"), {it: answers.get(it) for it in ("BAD_SIZE", "BAD_MEMORY")})
+    yield from differing(
+        MEMORY, numbers_in(MEMORY, r"^    (BAD_[A-Z]+) = (\d+)\b"), {it: answers.get(it) for it in ("BAD_SIZE", "BAD_MEMORY")}
+    )
     yield from differing(RUST, numbers_in(RUST, r"^pub const TLSF_([A-Z_]+): u32 = (\d+);$"), {**answers, "UNFILLED": 1})
     of_error = numbers_in(ERROR, r"^    ([A-Z]\w+) = (\d+),$", OF_ERROR)
     yield from differing(ERROR, of_error, {it: number for it, number in answers.items() if it not in ("OK", "NOT_WRITTEN")})
@@ -64,7 +66,9 @@ def faults():
     listed = found_in(ERROR, r"^        Self::([A-Z]\w+),$")
     if set(listed) != set(found_in(ERROR, r"^    ([A-Z]\w+) = \d+,$")) - {"Unknown"}:
         yield f"{ERROR}: ALL has not each error but Unknown, or one more"
-    in_c, in_rust = dict(found_in(INLINE, r'^    case TLSF_(\w+): return "(.*)";$')), dict(found_in(RUST, r'^        TLSF_(\w+) => "(.*)",$'))
+    in_c, in_rust = dict(found_in(INLINE, r'^    case TLSF_(\w+): return "(.*)";$')), dict(
+        found_in(RUST, r'^        TLSF_(\w+) => "(.*)",$')
+    )
     if in_c != in_rust or in_c.keys() != answers.keys():
         yield f"{INLINE}, {RUST}: tlsf_text_of says other words in C and in Rust, or not of each answer"
     if len(set(in_c.values())) != len(in_c):

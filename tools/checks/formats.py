@@ -88,7 +88,9 @@ def faults_of(job):
         return said.splitlines()
     # Each names the files in a form of its own.
     found = [it for it in files if re.search(rf"(^|[ /]){re.escape(it)}(:|$)", said, re.M)]
-    return [f"{it}: {tool.name} sets it otherwise: tools/check --mend formats" for it in found] or ([] if well else [f"{tool.name}: {said[:200]}"])
+    return [f"{it}: {tool.name} sets it otherwise: tools/check --mend formats" for it in found] or (
+        [] if well else [f"{tool.name}: {said[:200]}"]
+    )
 
 
 def mend():

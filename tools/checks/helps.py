@@ -30,8 +30,16 @@ def fault_of(script, word, folder):
     mark.unlink(missing_ok=True)
     path = {**os.environ, "PATH": f"{folder}:{os.environ['PATH']}"}
     try:
-        ran = subprocess.run([f"./{script}", word], cwd=tree.TOP, env=path, stdin=subprocess.DEVNULL, capture_output=True, timeout=MOST_WAIT, check=False,
-                             preexec_fn=lambda: resource.setrlimit(resource.RLIMIT_CPU, (MOST_SECONDS, MOST_SECONDS)))
+        ran = subprocess.run(
+            [f"./{script}", word],
+            cwd=tree.TOP,
+            env=path,
+            stdin=subprocess.DEVNULL,
+            capture_output=True,
+            timeout=MOST_WAIT,
+            check=False,
+            preexec_fn=lambda: resource.setrlimit(resource.RLIMIT_CPU, (MOST_SECONDS, MOST_SECONDS)),
+        )
     except subprocess.TimeoutExpired:
         return f"doesn't end in {MOST_WAIT} seconds"
     lines = ran.stdout.split(b"\n")

@@ -30,8 +30,10 @@ import calls
 import script
 
 # Lines of LLVM's that GNU's assembler or an older one doesn't know, or that say nothing.
-DROPPED = re.compile(r"\s*(#|//|\.addrsig|\.file\b|\.attribute\b|\.build_version\b|\.seh_((start|end)epilogue|unwindversion)|\.section\s+\.llvm|"
-                     r"\.p2align\s+0\b|$)")
+DROPPED = re.compile(
+    r"\s*(#|//|\.addrsig|\.file\b|\.attribute\b|\.build_version\b|\.seh_((start|end)epilogue|unwindversion)|\.section\s+\.llvm|"
+    r"\.p2align\s+0\b|$)"
+)
 # What stands behind an instruction; and what is quoted, where nothing is a remark.
 REMARK = re.compile(r'("(?:\\.|[^"\\])*")|[ \t]+(?:#|//)[ \t].*$|[ \t]+$')
 # The name of a function of Rattle's.
@@ -42,9 +44,14 @@ MEMORY = ["-std=c11", "-O2", "-fPIC", "-ffreestanding", "-fno-stack-protector", 
 # What lies in front of the name of each file for what flags.
 KINDS = {"memory": [], "memory_nomalloc": ["-DTLSF_NO_MALLOC"], "memory_bare": ["-DTLSF_NO_MALLOC", "-DTLSF_NO_TLS"]}
 # The headers that tlsf.h asks of a compiler, which the toolchain's lacks.
-HEADERS = {"stdbool.h": "#define bool _Bool\n#define true 1\n#define false 0\n", "stddef.h": "typedef __SIZE_TYPE__ size_t;\n#define NULL ((void *)0)\n",
-           "stdint.h": "".join(f"typedef __{it.upper()}_TYPE__ {it}_t;\n" for it in ("uint8", "uint16", "uint32", "uint64", "int32", "int64", "uintptr"))
-           + "#define UINT32_MAX 0xffffffffu\n#define UINT64_C(n) n##ull\n"}
+HEADERS = {
+    "stdbool.h": "#define bool _Bool\n#define true 1\n#define false 0\n",
+    "stddef.h": "typedef __SIZE_TYPE__ size_t;\n#define NULL ((void *)0)\n",
+    "stdint.h": "".join(
+        f"typedef __{it.upper()}_TYPE__ {it}_t;\n" for it in ("uint8", "uint16", "uint32", "uint64", "int32", "int64", "uintptr")
+    )
+    + "#define UINT32_MAX 0xffffffffu\n#define UINT64_C(n) n##ull\n",
+}
 
 
 class Failed(Exception):
@@ -63,7 +70,10 @@ class Port:
     of_pairs: str = ""
 
 
-PROVED = {"x86_64": Port("x86_64-unknown-linux-gnu", ("-march=x86-64",), "x86_64"), "aarch64": Port("aarch64-unknown-linux-gnu", ("-march=armv8-a",), "aarch64")}
+PROVED = {
+    "x86_64": Port("x86_64-unknown-linux-gnu", ("-march=x86-64",), "x86_64"),
+    "aarch64": Port("aarch64-unknown-linux-gnu", ("-march=armv8-a",), "aarch64"),
+}
 PORTS = {
     "riscv64": Port("riscv64-unknown-linux-gnu", ("-march=rv64imac", "-mabi=lp64"), "aarch64", "signext"),
     "x86_64-windows": Port("x86_64-pc-windows-gnu", ("-march=x86-64",), "x86_64", of_pairs="x86_64_sysvcc"),
@@ -115,7 +125,9 @@ def moved(clang, port, text):
 def calls_text(clang, port, module):
     """The proved calls for a target, in which what fills and copies has names of the library's own."""
     pic = () if "windows" in port.target else ("-fPIC",)
-    text = told(clang, f"--target={port.target}", *port.flags, "-O3", *pic, "-fno-verbose-asm", "-x", "ir", "-S", "-", "-o", "-", text=module)
+    text = told(
+        clang, f"--target={port.target}", *port.flags, "-O3", *pic, "-fno-verbose-asm", "-x", "ir", "-S", "-", "-o", "-", text=module
+    )
     return plainly_named(portable(re.sub(r"(\s_?)mem(set|cpy|move)((?:@\w+)?\s)", r"\1tlsf_memory_\2\3", text)))
 
 
@@ -123,7 +135,9 @@ def calls_text(clang, port, module):
 
 HEAD = re.compile(r"^(declare|define) ([^@\n]*)@(tlsf_\w+)\((.*?)\)(?: [^)\n]*)?$", re.M)
 # Of what stands in front of a name or a parameter: what machine code is made by.
-SAYS = re.compile(r"x86_64_sysvcc|win64cc|fastcc|signext|zeroext|inreg|sret\([^)]*\)|byval\([^)]*\)|void|\[2 x i64\]|\{[^}]*\}|\bi\d+\b|\bptr\b")
+SAYS = re.compile(
+    r"x86_64_sysvcc|win64cc|fastcc|signext|zeroext|inreg|sret\([^)]*\)|byval\([^)]*\)|void|\[2 x i64\]|\{[^}]*\}|\bi\d+\b|\bptr\b"
+)
 
 
 def said(words):
@@ -147,7 +161,17 @@ def heads_of_c(clang, port, names):
     with tempfile.TemporaryDirectory() as folder:
         for name, text in HEADERS.items():
             pathlib.Path(folder, name).write_text(text, encoding="utf-8")
-        words = [clang, f"--target={port.target}", *port.flags, "-std=c11", "-O1", "-ffreestanding", "-nostdinc", f"-I{folder}", f"-I{TOP / 'include'}"]
+        words = [
+            clang,
+            f"--target={port.target}",
+            *port.flags,
+            "-std=c11",
+            "-O1",
+            "-ffreestanding",
+            "-nostdinc",
+            f"-I{folder}",
+            f"-I{TOP / 'include'}",
+        ]
         listed = ", ".join(f"(call *){it}" for it in sorted(names))
         source = f"#include <tlsf.h>\ntypedef void call(void);\nextern call *all[];\ncall *all[] = {{{listed}}};\n"
         header = told(*words, "-x", "c", "-S", "-emit-llvm", "-", "-o", "-", text=source)
@@ -192,7 +216,14 @@ def held_module(clang, name, port, text):
 def sum_of(clang, modules, memory_c):
     """The checksum of all that `write` reads."""
     told = hashlib.sha256()
-    for file in (clang, *modules.values(), memory_c, *sorted((TOP / "include").iterdir()), pathlib.Path(__file__), pathlib.Path(calls.__file__)):
+    for file in (
+        clang,
+        *modules.values(),
+        memory_c,
+        *sorted((TOP / "include").iterdir()),
+        pathlib.Path(__file__),
+        pathlib.Path(calls.__file__),
+    ):
         with file.open("rb") as data:
             told.update(hashlib.file_digest(data, "sha256").digest())
     return told.hexdigest()[:40]

@@ -23,16 +23,30 @@ def named(kind, name):
 
 
 def package(name, version, licence, comment):
-    told = {"SPDXID": named("Package", name), "name": name, "downloadLocation": "NOASSERTION", "filesAnalyzed": False, "licenseConcluded": licence,
-            "licenseDeclared": licence, "copyrightText": "NOASSERTION", "comment": comment}
+    told = {
+        "SPDXID": named("Package", name),
+        "name": name,
+        "downloadLocation": "NOASSERTION",
+        "filesAnalyzed": False,
+        "licenseConcluded": licence,
+        "licenseDeclared": licence,
+        "copyrightText": "NOASSERTION",
+        "comment": comment,
+    }
     return told | ({"versionInfo": version} if version else {})
 
 
 def file_of(name, data):
     sums = [{"algorithm": it, "checksumValue": hashlib.new(it, data).hexdigest()} for it in ("SHA1", "SHA256")]
     licence = "NOASSERTION" if MADE.fullmatch(name) or name == "NOTICES" else OURS
-    return {"SPDXID": named("File", name), "fileName": f"./{name}", "checksums": sums, "licenseConcluded": licence,
-            "licenseInfoInFiles": ["NOASSERTION"], "copyrightText": "NOASSERTION"}
+    return {
+        "SPDXID": named("File", name),
+        "fileName": f"./{name}",
+        "checksums": sums,
+        "licenseConcluded": licence,
+        "licenseInfoInFiles": ["NOASSERTION"],
+        "copyrightText": "NOASSERTION",
+    }
 
 
 def built_in(notices, has_program):
@@ -55,14 +69,34 @@ def document(folder, version, date):
     sums = sorted(it["checksums"][0]["checksumValue"] for it in files)
     own = package("peachanchor", version, OURS, "LICENCES says which code in it is under no stated licence")
     own |= {"licenseConcluded": "NOASSERTION", "copyrightText": re.search(r"^Copyright .*", tree.read(folder / "LICENSE-MIT"), re.M)[0]}
-    own |= {"filesAnalyzed": True, "licenseInfoFromFiles": ["NOASSERTION"], "packageVerificationCode": {
-        "packageVerificationCodeValue": hashlib.sha1("".join(sums).encode()).hexdigest(), "packageVerificationCodeExcludedFiles": [f"./{it}" for it in LISTS]}}
+    own |= {
+        "filesAnalyzed": True,
+        "licenseInfoFromFiles": ["NOASSERTION"],
+        "packageVerificationCode": {
+            "packageVerificationCodeValue": hashlib.sha1("".join(sums).encode()).hexdigest(),
+            "packageVerificationCodeExcludedFiles": [f"./{it}" for it in LISTS],
+        },
+    }
     others = list(built_in(tree.read(folder / "NOTICES"), (folder / "bin").exists()))
-    related = [("SPDXRef-DOCUMENT", "DESCRIBES", own), *((own["SPDXID"], "CONTAINS", it) for it in files), *((own["SPDXID"], "STATIC_LINK", it) for it in others)]
-    return {"spdxVersion": "SPDX-2.3", "dataLicense": "CC0-1.0", "SPDXID": "SPDXRef-DOCUMENT", "name": f"peachanchor-{version}",
-            "documentNamespace": f"https://peachanchor.example/spdx/peachanchor-{version}-{own['packageVerificationCode']['packageVerificationCodeValue']}",
-            "creationInfo": {"created": date, "creators": [f"Tool: peachanchor-tools-release-{version}", "Organization: Peachanchor contributors"]}, "packages": [own, *others], "files": files,
-            "relationships": [{"spdxElementId": one, "relationshipType": how, "relatedSpdxElement": it["SPDXID"]} for one, how, it in related]}
+    related = [
+        ("SPDXRef-DOCUMENT", "DESCRIBES", own),
+        *((own["SPDXID"], "CONTAINS", it) for it in files),
+        *((own["SPDXID"], "STATIC_LINK", it) for it in others),
+    ]
+    return {
+        "spdxVersion": "SPDX-2.3",
+        "dataLicense": "CC0-1.0",
+        "SPDXID": "SPDXRef-DOCUMENT",
+        "name": f"peachanchor-{version}",
+        "documentNamespace": f"https://peachanchor.example/spdx/peachanchor-{version}-{own['packageVerificationCode']['packageVerificationCodeValue']}",
+        "creationInfo": {
+            "created": date,
+            "creators": [f"Tool: peachanchor-tools-release-{version}", "Organization: Peachanchor contributors"],
+        },
+        "packages": [own, *others],
+        "files": files,
+        "relationships": [{"spdxElementId": one, "relationshipType": how, "relatedSpdxElement": it["SPDXID"]} for one, how, it in related],
+    }
 
 
 def write(folder, version, date):

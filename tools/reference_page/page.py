@@ -10,8 +10,23 @@ from .sources import Definition
 from .text import Plain, clause_anchor, crate_parts, definition_anchor, definitions_parts
 
 TEMPLATE = pathlib.Path(__file__).resolve().parent / "page.html"
-PANDOC = ["pandoc", "-f", "commonmark+pipe_tables+attributes", "-t", "html5", "-s", "--template", TEMPLATE, "--toc", "--toc-depth=2",
-          "--section-divs", "--wrap=none", "--no-highlight", "-M", "title=Peachanchor: the calls and their contracts"]
+PANDOC = [
+    "pandoc",
+    "-f",
+    "commonmark+pipe_tables+attributes",
+    "-t",
+    "html5",
+    "-s",
+    "--template",
+    TEMPLATE,
+    "--toc",
+    "--toc-depth=2",
+    "--section-divs",
+    "--wrap=none",
+    "--no-highlight",
+    "-M",
+    "title=Peachanchor: the calls and their contracts",
+]
 CODE_SPAN = re.compile(r"(`+[^`]+`+)")
 CODE_POINT = re.compile(r"^([-*] )`(\w+)`(?!\])", re.M)
 CODE_PATH = re.compile(r"(?<!\[)`(\w+(?:::\w+)+)`")
@@ -115,8 +130,11 @@ def page_of(tree, crates):
     files = tree.definitions(crates)
     publics, defined = [it for crate in crates for it in crate.publics()], [it for _, some in files for it in some]
     by = Linked(tree, publics, defined)
-    parts = ["# Crates {#crates}", "Each public item of these crates, with its docs and the clauses that are proved of it, as the sources have "
-             "them. A name in a clause leads to its definition."]
+    parts = [
+        "# Crates {#crates}",
+        "Each public item of these crates, with its docs and the clauses that are proved of it, as the sources have "
+        "them. A name in a clause leads to its definition.",
+    ]
     parts.append("\n".join(f"- [{it.name}](#{it.name}): {by.docs(first_sentence(it.docs), it.scopes[it.root])}" for it in crates))
     parts += ["# How to read a clause {#notation}", NOTATION]
     for crate in crates:

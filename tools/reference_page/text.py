@@ -93,8 +93,12 @@ def declaration(public, by):
         inside += [by.code(f"{mark} {it}") for it in part.docs.split("\n") if it]
         inside += [by.code(part.shown)] if part.shown else []
         before, name, after = part.text.partition(part.name)
-        inside.append(by.code(before) + by.place(name, f"{public.anchor}.{name}") + by.code(after, None if part.ghost else public.scope)
-                      + ("" if item.kind == "trait" else ","))
+        inside.append(
+            by.code(before)
+            + by.place(name, f"{public.anchor}.{name}")
+            + by.code(after, None if part.ghost else public.scope)
+            + ("" if item.kind == "trait" else ",")
+        )
     if item.kind == "trait":
         inside.append("// and the functions below" if inside else "// the functions below")
     if item.hides:
