@@ -94,7 +94,8 @@ void free(void *at);
 
 enum {
     MARK = 8,         /* bytes in front of a piece */
-    HEAP = 2760,      /* bytes of a heap's or an arena's own fields: beside its words and the bits that say where blocks begin */
+    HEAP = 2760,      /* bytes of a heap's own fields: beside its words and the bits that say where blocks begin */
+    ARENA = 2752,     /* and of an arena's */
     LINE = 64,        /* the handle of a near heap lies at a multiple of a cache line, */
     HANDLE = 32,      /* has so many bytes, */
     NEAR = 2816,      /* and begins so many, for it and for the heap's own fields */
@@ -231,6 +232,9 @@ static size_t bits_bytes(size_t words) { return (words + 63) / 64 * 8; }
 /* The bytes of so many words, of the bits for them and of the own fields, from a multiple of 16 on. */
 static size_t heap_bytes(size_t words) { return with_mark(8 * words, 16) + with_mark(bits_bytes(words), 16) + MARK + HEAP; }
 
+/* The same of an arena's units. */
+static size_t arena_bytes(size_t units) { return heap_bytes(units) - HEAP + ARENA; }
+
 /* The same of a near heap, whose own fields lie elsewhere: the bits are the last piece. */
 static size_t near_bytes(size_t words) { return with_mark(8 * words, 16) + MARK + bits_bytes(words); }
 
@@ -337,12 +341,12 @@ uint32_t tlsf_queue_open_in(struct tlsf_queue *queue, uint32_t posters, uint32_t
 }
 
 size_t tlsf_offsets_bytes(uint32_t level, uint32_t units) {
-    return units < LEAST_WORDS || units > most_words(level) ? 0 : 15 + heap_bytes(units);
+    return units < LEAST_WORDS || units > most_words(level) ? 0 : 15 + arena_bytes(units);
 }
 
 uint32_t tlsf_offsets_open_in(struct tlsf_offsets *offsets, uint32_t level, uint32_t number, uint32_t unit, uint32_t units, void *memory,
                               size_t bytes) {
-    if (units <= most_words(level) && !has(memory, bytes, 16, heap_bytes(units))) units = 0;
+    if (units <= most_words(level) && !has(memory, bytes, 16, arena_bytes(units))) units = 0;
     begin_in(memory, bytes, 16);
     return end_in(tlsf_offsets_open(offsets, level, number, unit, units), memory, bytes);
 }
