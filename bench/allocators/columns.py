@@ -25,6 +25,7 @@ COLUMNS = {
     "near4": Column("Near, 4", "near4"),
     "level5": Column("Level 5", "level5"),
     "near5": Column("Near, 5", "near5"),
+    "magazine": Column("Magazine, 4", "authors", source="heaps/magazine.c"),
     "authors": Column("TLSF 2.4", "authors", source="tlsf.c"),
     "mattconte": Column("mattconte", "authors", source="heaps/mattconte.c"),
     "malloc": Column("malloc", "system"),
