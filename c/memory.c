@@ -1,5 +1,5 @@
-/* How C's library gets memory: from malloc, or from the caller while it opens something there; and how it fills and copies. It is
- * compiled by the toolchain's clang, which has no headers, so it declares what it calls. tests/library_test compiles it with tlsf.h
+/* How C's library gets memory: from malloc, or from the caller while it opens something there; how it fills and copies; and numbers of heaps. It is
+ * compiled by the toolchain's clang, which has no headers, so it declares what it calls. tests/library_test compiles it with peachanchor.h
  * in front, which agrees.
  *
  * The proved code takes memory only to open, and gives it back only to close. Each piece lies 8 bytes behind a multiple of 16,
@@ -111,7 +111,9 @@ enum {
     LEAST_WORDS = 4,
     MOST_NAMES = 1024,    /* of a lane or a queue, which has no more posters */
     MOST_BYTES = 1 << 28, /* no heap takes as many */
-    BAD_SIZE = 5,         /* two numbers of enum tlsf_answer (tools/check answers) */
+    NUMBERS = 8,          /* that pools take, and so are given at once */
+    WORN = 2,             /* three numbers of enum tlsf_answer (tools/check answers) */
+    BAD_SIZE = 5,
     BAD_MEMORY = 39
 };
 
@@ -321,6 +323,23 @@ uint32_t tlsf_open_near_in(struct tlsf_near_heap *near, uint32_t level, uint32_t
     return answer;
 }
 
+/* The same calls by the names that they have for the linker (peachanchor.h). */
+uint32_t tlsf_open_32(struct tlsf_heap *heap, uint32_t level, uint32_t number, uint32_t words) {
+    return tlsf_open(heap, level, number, words);
+}
+
+uint32_t tlsf_open_in_32(struct tlsf_heap *heap, uint32_t level, uint32_t number, void *memory, size_t bytes) {
+    return tlsf_open_in(heap, level, number, memory, bytes);
+}
+
+uint32_t tlsf_open_near_2880(struct tlsf_near_heap *near, uint32_t level, uint32_t number, uint32_t words) {
+    return tlsf_open_near(near, level, number, words);
+}
+
+uint32_t tlsf_open_near_in_2880(struct tlsf_near_heap *near, uint32_t level, uint32_t number, void *memory, size_t bytes) {
+    return tlsf_open_near_in(near, level, number, memory, bytes);
+}
+
 size_t tlsf_lane_bytes(uint32_t capacity) { return capacity == 0 || capacity > MOST_NAMES ? 0 : LINES - 1 + lane_bytes(capacity); }
 
 uint32_t tlsf_lane_open_in(struct tlsf_post_end *post, struct tlsf_take_end *take_end, uint32_t capacity, void *memory, size_t bytes) {
@@ -349,4 +368,22 @@ uint32_t tlsf_offsets_open_in(struct tlsf_offsets *offsets, uint32_t level, uint
     if (units <= most_words(level) && !has(memory, bytes, 16, arena_bytes(units))) units = 0;
     begin_in(memory, bytes, 16);
     return end_in(tlsf_offsets_open(offsets, level, number, unit, units), memory, bytes);
+}
+
+/* --- Numbers of heaps ---------------------------------------------------------------------------------------------- */
+
+/* Compilers for aarch64 make a call of libgcc's of what is atomic, unless they are told not to. */
+#ifdef __aarch64__
+#define ATOMICS_INLINE __attribute__((target("no-outline-atomics")))
+#else
+#define ATOMICS_INLINE
+#endif
+
+/* Each call counts, also a refused one: 64 bits last for centuries. So a call is one step, and needs no second try. */
+ATOMICS_INLINE uint32_t tlsf_next_number(uint32_t *number) {
+    static uint64_t calls;
+    const uint64_t first = 1u << 31, next = first + NUMBERS * __atomic_fetch_add(&calls, 1, __ATOMIC_RELAXED);
+    if (next >> 32) return WORN;
+    *number = (uint32_t)next;
+    return 0;
 }

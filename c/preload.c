@@ -6,7 +6,7 @@
  * end to standard error what the heap did. A free of what isn't live ends the process.
  *
  * This is no more than a trial: under a lock one call waits for the others. A payload is used by whoever holds the block, in any thread,
- * also during calls on the heap that aren't about this block: so rule 4 of tlsf.h has it. A forked child goes on with the heap, which
+ * also during calls on the heap that aren't about this block: so rule 4 of peachanchor.h has it. A forked child goes on with the heap, which
  * rule 5 forbids: that is tested here, and promised nowhere. */
 #define _GNU_SOURCE
 #include <dlfcn.h>
@@ -18,7 +18,7 @@
 #include <stdlib.h>
 #include <string.h>
 #include <sys/mman.h>
-#include <tlsf.h>
+#include <peachanchor.h>
 #include <unistd.h>
 
 void *__libc_malloc(size_t);
@@ -93,6 +93,7 @@ void *calloc(size_t count, size_t each) {
 }
 
 void free(void *p) {
+    void *const volatile refused = p; /* gcc would take it for a use after free */
     uint32_t answer;
     if (!is_ours(p)) {
         __libc_free(p);
@@ -101,7 +102,7 @@ void free(void *p) {
     enter();
     answer = tlsf_free(&heap, p);
     leave();
-    if (answer != TLSF_OK) end_for(p);
+    if (answer != TLSF_OK) end_for(refused);
 }
 
 void *realloc(void *p, size_t bytes) {

@@ -1,11 +1,12 @@
-// tlsf.h for C++17 and later: heaps, ends of lanes and queues, and arenas of offsets that close themselves; blocks that release
-// themselves, and objects whose std::unique_ptr may die in any thread (home); and the heap under the containers of std, as a
-// std::pmr::memory_resource and as an allocator.
+// peachanchor.h for C++17 and later: heaps, ends of lanes and queues, arenas of offsets and pools that close themselves; blocks that release
+// themselves; and the heap under the containers of std, as an allocator. tlsf_resource.hpp has it as a std::pmr::memory_resource,
+// and tlsf_home.hpp objects whose std::unique_ptr may die in any thread: each needs headers that cost a compiler more than all this.
 //
-// Header-only; libtlsf.a is all that is linked. What the caller owes is said in tlsf.h. Constructors, heap::for_blocks and
-// queue::open_poster throw std::bad_alloc where malloc says no. Constructors and for_blocks throw std::invalid_argument where no
-// region, lane, queue or arena is of that size. resource and allocator throw std::bad_alloc where there is no room, and home::make
-// what the object's constructor throws. Everything else is noexcept. Where exceptions are off, what would throw aborts.
+// Header-only; libpeachanchor.a is all that is linked. What the caller owes is said in peachanchor.h. Constructors, heap::for_blocks and
+// queue::open_poster throw std::bad_alloc where malloc says no. Constructors and for_blocks throw bad_size where no region, lane,
+// queue or arena is of that size. allocator throws std::bad_alloc where there is no room. Everything else is noexcept. Where
+// exceptions are off, what would throw aborts.
+// A heap without a number takes that of tlsf_next_number.
 #ifndef TLSF_HPP
 #define TLSF_HPP
 
@@ -13,39 +14,100 @@
 #error "tlsf.hpp is for C++17 and later"
 #endif
 
-#include "tlsf.h"
+#include "peachanchor.h"
 
 #include <atomic>
 #include <cstddef>
 #include <cstdint>
 #include <cstdlib>
+#include <exception>
 #include <limits>
-#include <memory>
-#include <memory_resource>
 #include <new>
 #include <optional>
-#include <stdexcept>
 #include <utility>
 
 namespace tlsf {
 
 enum class level : std::uint32_t { four = 4, five = 5 };
 
+// Thrown where no region, lane, queue, arena or table is of that size, or has no room in memory of the caller's.
+class bad_size : public std::exception {
+    const char *what_;
+
+public:
+    explicit bad_size(const char *what) noexcept : what_(what) {}
+    const char *what() const noexcept override { return what_; }
+};
+
 namespace detail {
 
 #if defined(__cpp_exceptions) || defined(_CPPUNWIND)
 [[noreturn]] inline void no_room() { throw std::bad_alloc(); }
-[[noreturn]] inline void bad_size(const char *what) { throw std::invalid_argument(what); }
+[[noreturn]] inline void no_such_size(const char *what) { throw bad_size(what); }
 #else
 [[noreturn]] inline void no_room() { std::abort(); }
-[[noreturn]] inline void bad_size(const char *) { std::abort(); }
+[[noreturn]] inline void no_such_size(const char *) { std::abort(); }
 #endif
+
+// What a constructor does with an answer.
+inline void must_be_ok(std::uint32_t answer, const char *otherwise) {
+    if (answer == TLSF_NO_MEMORY) no_room();
+    if (answer != TLSF_OK) no_such_size(otherwise);
+}
+
+// States lie in memory of operator new's, or in the caller's. Each has a pointer to what ends it, so what is opened in the caller's
+// memory alone names no operator new and no operator delete.
+template <typename State>
+void delete_state(State *it) noexcept {
+    delete it;
+}
+template <typename State>
+void end_state_there(State *it) noexcept {
+    it->~State();
+}
+
+// Null where operator new says no.
+template <typename State>
+State *new_state() noexcept {
+    return new (std::nothrow) State(delete_state<State>);
+}
+
+// Whether so many bytes may lie there: not at null, nor past the end of the address space.
+inline bool is_memory(const void *memory, std::size_t bytes) noexcept {
+    return memory && bytes <= ~reinterpret_cast<std::uintptr_t>(memory);
+}
+
+// Takes room for `count` objects of T off the front of memory of the caller's. `memory` and `bytes` are then what is left. Null where
+// it is no memory, or too little.
+template <typename T>
+void *room_for(void *&memory, std::size_t &bytes, std::size_t count = 1) noexcept {
+    const std::size_t skipped = (0 - reinterpret_cast<std::uintptr_t>(memory)) % alignof(T), taken = skipped + count * sizeof(T);
+    if (!is_memory(memory, bytes) || bytes < taken) return nullptr;
+    unsigned char *const at = static_cast<unsigned char *>(memory);
+    memory = at + taken;
+    bytes -= taken;
+    return at + skipped;
+}
+template <typename State>
+State *state_in(void *&memory, std::size_t &bytes) noexcept {
+    void *const at = room_for<State>(memory, bytes);
+    return at ? ::new (at) State(end_state_there<State>) : nullptr;
+}
+
+// The bytes that have room for `count` such objects at any alignment, and for so many bytes besides; 0 where these are 0.
+template <typename T>
+constexpr std::size_t bytes_with(std::size_t others, std::size_t count = 1) noexcept {
+    return others == 0 ? 0 : alignof(T) - 1 + count * sizeof(T) + others;
+}
 
 // What a heap is to those who refer to it: its handle with its own fields. It lies still, outlives the heap as long as somebody
 // refers to it, and its handle refuses then.
 struct heap_state {
     tlsf_near_heap held = TLSF_NEAR_CLOSED;
     std::atomic<std::size_t> references{1};
+    void (*const end)(heap_state *) noexcept;
+
+    explicit heap_state(void (*ends)(heap_state *) noexcept) noexcept : end(ends) {}
 };
 
 // One of those who refer to a heap, or none. The heap is closed by its owner alone.
@@ -65,7 +127,7 @@ public:
         return *this;
     }
     ~heap_reference() {
-        if (state_ && state_->references.fetch_sub(1, std::memory_order_acq_rel) == 1) delete state_;
+        if (state_ && state_->references.fetch_sub(1, std::memory_order_acq_rel) == 1) state_->end(state_);
     }
 
     explicit operator bool() const noexcept { return state_ != nullptr; }
@@ -79,8 +141,9 @@ public:
 template <typename End, std::uint32_t (*Close)(End *)>
 struct alignas(128) end_state {
     End raw{};
+    void (*const end)(end_state *) noexcept;
 
-    end_state() noexcept = default;
+    explicit end_state(void (*ends)(end_state *) noexcept) noexcept : end(ends) {}
     end_state(const end_state &) = delete;
     end_state &operator=(const end_state &) = delete;
     ~end_state() { Close(&raw); }
@@ -92,26 +155,75 @@ using poster_state = end_state<tlsf_poster, tlsf_poster_close>;
 using offsets_state = end_state<tlsf_offsets, tlsf_offsets_close>;
 using pools_state = end_state<tlsf_pools, tlsf_pools_close>;
 
+// Has a state alone, or none, and ends it. It can be moved, and not copied.
+template <typename State>
+class holder {
+    State *state_ = nullptr;
+
+public:
+    holder() noexcept = default;
+    explicit holder(State *fresh) noexcept : state_(fresh) {}
+    holder(holder &&other) noexcept : state_(std::exchange(other.state_, nullptr)) {}
+    holder &operator=(holder &&other) noexcept {
+        holder taken(std::move(other));
+        std::swap(state_, taken.state_);
+        return *this;
+    }
+    holder(const holder &) = delete;
+    holder &operator=(const holder &) = delete;
+    ~holder() {
+        if (state_) state_->end(state_);
+    }
+
+    explicit operator bool() const noexcept { return state_ != nullptr; }
+    // The handle in it, or null where there is none.
+    auto raw() const noexcept { return state_ ? &state_->raw : nullptr; }
+};
+
+template <typename State>
+holder<State> hold_new() {
+    State *const fresh = new_state<State>();
+    if (!fresh) no_room();
+    return holder<State>(fresh);
+}
+template <typename State>
+holder<State> hold_in(void *&memory, std::size_t &bytes, const char *otherwise) {
+    State *const fresh = state_in<State>(memory, bytes);
+    if (!fresh) no_such_size(otherwise);
+    return holder<State>(fresh);
+}
+
 constexpr std::uint32_t closed = TLSF_IS_CLOSED;
 constexpr std::size_t word = sizeof(std::uint64_t);
 constexpr std::size_t most_bytes = std::numeric_limits<std::uint32_t>::max();
 
 // The bytes that a block of `len` bytes for objects of that alignment has to find room for, by tlsf_words: rounded up, and with
 // what aligning may take, also to 16, since blocks by name may have an odd number of words.
-constexpr std::size_t bytes_to_find(std::uint32_t len, std::size_t align) noexcept {
-    if (align == 0 || align > most_bytes) return align == 0 ? len : align;
-    return ((std::size_t(len) + word - 1) / word | 1) * word + 4 * word + (align > 16 ? align : 16);
+constexpr std::size_t bytes_to_find(std::size_t len, std::size_t align) noexcept {
+    if (align == 0 || len > most_bytes) return len;
+    if (align > most_bytes) return align;
+    return ((len + word - 1) / word | 1) * word + 4 * word + (align > 16 ? align : 16);
 }
+
+// A byte of a payload, or one past the end of each.
+constexpr std::uint32_t in_32_bits(std::size_t at) noexcept { return static_cast<std::uint32_t>(at < most_bytes ? at : most_bytes); }
 
 // A block for objects of any alignment, or null where there is no room.
 inline void *give(heap_state &heap, std::size_t bytes, std::size_t align) noexcept {
     if (align <= 4096) return tlsf_aligned_alloc(tlsf_near(&heap.held), align, bytes);
     if (align > TLSF_LONGEST || bytes > TLSF_LONGEST) return nullptr;
-    const tlsf_placed it = tlsf_align_place(tlsf_near(&heap.held), tlsf_rounded(static_cast<std::uint32_t>(bytes)), align);
+    const tlsf_placed it = tlsf_align_place(tlsf_near(&heap.held), tlsf_rounded(bytes), align);
     return it.answer == TLSF_OK ? tlsf_near(&heap.held)->base + it.at + 3 : nullptr;
 }
 
 } // namespace detail
+
+// As tlsf_next_number. Where all were given it throws as for want of memory.
+inline std::uint32_t next_number() {
+    std::uint32_t number = 0;
+    if (tlsf_next_number(&number) != TLSF_OK) detail::no_room();
+    return number;
+}
 
 class block;
 
@@ -121,30 +233,35 @@ class block;
 class heap {
     detail::heap_reference state_;
     friend class block;
-    friend class resource;
+    friend class resource; // of tlsf_resource.hpp, as home is of tlsf_home.hpp
     template <typename T>
     friend class allocator;
     template <typename T>
     friend class home;
 
+    tlsf_heap *handle() const noexcept { return tlsf_near(&state_->held); }
+
+    // Takes over a fresh state where what it opened answered that all is well.
+    std::uint32_t keep(detail::heap_reference fresh, std::uint32_t answer) noexcept {
+        if (answer == TLSF_OK) state_ = std::move(fresh);
+        return answer;
+    }
+
     template <typename Open>
-    std::uint32_t open_by(Open opens) noexcept {
+    std::uint32_t open_numbered(Open opens) noexcept {
+        std::uint32_t number = 0;
         if (is_open()) return TLSF_IN_USE;
-        detail::heap_reference state(new (std::nothrow) detail::heap_state);
-        if (!state) return TLSF_NO_MEMORY;
-        const std::uint32_t answer = opens(&state->held);
-        if (answer != TLSF_OK) return answer;
-        state_ = std::move(state);
-        return TLSF_OK;
+        const std::uint32_t answer = tlsf_next_number(&number);
+        return answer == TLSF_OK ? opens(number) : answer;
     }
 
 public:
     heap() noexcept = default;
     heap(level l, std::uint32_t number, std::uint32_t words) {
-        const std::uint32_t answer = open(l, number, words);
-        if (answer == TLSF_NO_MEMORY) detail::no_room();
-        if (answer != TLSF_OK) detail::bad_size("tlsf: no region has so many words");
+        detail::must_be_ok(open(l, number, words), "tlsf: no region has so many words");
     }
+    // The same with a number of tlsf_next_number.
+    heap(level l, std::uint32_t words) : heap(l, next_number(), words) {}
     heap(heap &&other) noexcept = default;
     heap &operator=(heap &&other) noexcept {
         if (this != &other) {
@@ -161,58 +278,99 @@ public:
     // ask for them: of this class, or of a resource or an allocator, for objects aligned to at most `align` bytes. With `align`
     // 0 the heap has the fewest words, and room for the calls by name of this class alone. That is proved of allocates, resizes
     // in place and releases; of moves and aligned blocks it is tested.
-    static heap for_blocks(level l, std::uint32_t number, std::uint32_t blocks, std::uint32_t len,
+    static heap for_blocks(level l, std::uint32_t number, std::uint32_t blocks, std::size_t len,
                            std::size_t align = alignof(std::max_align_t)) {
         const std::size_t bytes = detail::bytes_to_find(len, align);
         std::uint32_t words = 0;
-        if (bytes > detail::most_bytes ||
-            tlsf_words(static_cast<std::uint32_t>(l), blocks, static_cast<std::uint32_t>(bytes), &words) != TLSF_OK)
-            detail::bad_size("tlsf: no region serves so many blocks of so many bytes");
+        if (tlsf_words(static_cast<std::uint32_t>(l), blocks, bytes, &words) != TLSF_OK)
+            detail::no_such_size("tlsf: no region serves so many blocks of so many bytes");
         return heap(l, number, words);
     }
 
     // As tlsf_open_near, for a heap that isn't open; nothing is thrown.
     [[nodiscard]] std::uint32_t open(level l, std::uint32_t number, std::uint32_t words) noexcept {
-        const auto of_level = static_cast<std::uint32_t>(l);
-        return open_by([&](tlsf_near_heap *it) { return tlsf_open_near(it, of_level, number, words); });
+        if (is_open()) return TLSF_IN_USE;
+        detail::heap_state *const fresh = detail::new_state<detail::heap_state>();
+        if (!fresh) return TLSF_NO_MEMORY;
+        return keep(detail::heap_reference(fresh), tlsf_open_near(&fresh->held, static_cast<std::uint32_t>(l), number, words));
     }
-    // As tlsf_open_near_in: its blocks lie in memory of the caller's, which is the caller's again once it is closed.
+    // As tlsf_open_near_in: its blocks lie in memory of the caller's, and so does all else, so no operator new is called. The memory is
+    // the caller's again once the heap is closed and nothing refers to it: no block, resource, allocator or home.
     [[nodiscard]] std::uint32_t open_in(level l, std::uint32_t number, void *memory, std::size_t bytes) noexcept {
         const auto of_level = static_cast<std::uint32_t>(l);
-        return open_by([&](tlsf_near_heap *it) { return tlsf_open_near_in(it, of_level, number, memory, bytes); });
+        if (is_open()) return TLSF_IN_USE;
+        void *rest = memory;
+        std::size_t left = bytes;
+        detail::heap_state *const fresh = detail::state_in<detail::heap_state>(rest, left);
+        if (fresh) return keep(detail::heap_reference(fresh), tlsf_open_near_in(&fresh->held, of_level, number, rest, left));
+        // Too little memory is refused as none of it is.
+        tlsf_heap none = TLSF_CLOSED;
+        return tlsf_open_in(&none, of_level, number, memory, detail::is_memory(memory, bytes) ? 0 : bytes);
+    }
+    // The bytes in which open_in finds room for so many words, at any alignment; 0 where no heap of that level has so many.
+    static std::size_t bytes(level l, std::uint32_t words) noexcept {
+        return detail::bytes_with<detail::heap_state>(tlsf_near_bytes(static_cast<std::uint32_t>(l), words));
+    }
+    // The same two with a number of tlsf_next_number; TLSF_WORN where all were given.
+    [[nodiscard]] std::uint32_t open(level l, std::uint32_t words) noexcept {
+        return open_numbered([&](std::uint32_t number) { return open(l, number, words); });
+    }
+    [[nodiscard]] std::uint32_t open_in(level l, void *memory, std::size_t bytes) noexcept {
+        return open_numbered([&](std::uint32_t number) { return open_in(l, number, memory, bytes); });
     }
     void close() noexcept {
-        if (state_) tlsf_close(tlsf_near(&state_->held));
+        if (state_) tlsf_close(handle());
         state_ = {};
     }
     bool is_open() const noexcept { return static_cast<bool>(state_); }
 
-    // The handle for the calls of tlsf.h, or null where it isn't open. It is closed by this object alone.
-    tlsf_heap *get() noexcept { return state_ ? tlsf_near(&state_->held) : nullptr; }
-    std::uint32_t number() const noexcept { return state_ ? tlsf_near(&state_->held)->number : 0; }
+    // The handle for the calls of peachanchor.h, or null where it isn't open. It is closed by this object alone.
+    tlsf_heap *get() noexcept { return state_ ? handle() : nullptr; }
+    std::uint32_t number() const noexcept { return state_ ? handle()->number : 0; }
 
-    // The calls of tlsf.h by their names.
-    [[nodiscard]] std::uint32_t allocate(std::uint32_t len, tlsf_name &name) noexcept {
-        return state_ ? tlsf_allocate(get(), len, &name) : detail::closed;
+    // The calls of peachanchor.h by their names. Each takes a heap that isn't open too.
+    [[nodiscard]] std::uint32_t allocate(std::size_t len, tlsf_name &name) noexcept {
+        return state_ ? tlsf_allocate(handle(), len, &name) : detail::closed;
     }
-    std::uint32_t release(const tlsf_name &name) noexcept { return state_ ? tlsf_release(get(), name) : detail::closed; }
-    [[nodiscard]] std::uint32_t resize(const tlsf_name &name, std::uint32_t len) noexcept {
-        return state_ ? tlsf_resize(get(), name, len) : detail::closed;
+    std::uint32_t release(const tlsf_name &name) noexcept { return state_ ? tlsf_release(handle(), name) : detail::closed; }
+    [[nodiscard]] std::uint32_t resize(const tlsf_name &name, std::size_t len) noexcept {
+        return state_ ? tlsf_resize(handle(), name, len) : detail::closed;
     }
-    [[nodiscard]] std::uint32_t reallocate(tlsf_name &name, std::uint32_t len) noexcept {
-        return state_ ? tlsf_reallocate(get(), &name, len) : detail::closed;
+    [[nodiscard]] std::uint32_t reallocate(tlsf_name &name, std::size_t len) noexcept {
+        return state_ ? tlsf_reallocate(handle(), &name, len) : detail::closed;
     }
-    void *payload(const tlsf_name &name, std::uint32_t *len = nullptr) noexcept {
-        return state_ ? tlsf_payload(get(), name, len) : nullptr;
+    void *payload(const tlsf_name &name, std::uint32_t *len = nullptr) const noexcept {
+        return state_ ? tlsf_payload(handle(), name, len) : nullptr;
     }
-    tlsf_heap_report report() noexcept {
+    [[nodiscard]] std::uint32_t write(const tlsf_name &name, std::size_t at, const std::uint8_t *bytes, std::size_t n) noexcept {
+        return state_ ? tlsf_write(handle(), name, detail::in_32_bits(at), bytes, n) : detail::closed;
+    }
+    [[nodiscard]] std::uint32_t read(const tlsf_name &name, std::size_t at, std::uint8_t *out, std::size_t n) const noexcept {
+        return state_ ? tlsf_read(handle(), name, detail::in_32_bits(at), out, n) : detail::closed;
+    }
+    [[nodiscard]] void *malloc(std::size_t len) noexcept { return state_ ? tlsf_malloc(handle(), len) : nullptr; }
+    std::uint32_t free(void *p) noexcept { return state_ ? tlsf_free(handle(), p) : detail::closed; }
+    std::size_t usable_size(const void *p) const noexcept { return state_ ? tlsf_usable_size(handle(), p) : 0; }
+    // As tlsf_reset. A `block` of before is stale then, so its end releases nothing. What a resource or an allocator gave may not be
+    // used, nor given back.
+    std::uint32_t reset() noexcept { return state_ ? tlsf_reset(handle()) : detail::closed; }
+    // What report and counts give is all zero where the heap isn't open.
+    tlsf_heap_report report() const noexcept {
         tlsf_heap_report sums{};
-        if (state_) (void)tlsf_report(get(), &sums);
+        if (state_) (void)tlsf_report(handle(), &sums);
         return sums;
+    }
+    tlsf_heap_counts counts() const noexcept {
+        tlsf_heap_counts counted{};
+        if (state_) (void)tlsf_counts(handle(), &counted);
+        return counted;
+    }
+    [[nodiscard]] std::uint32_t check(std::uint32_t from, std::uint32_t most, std::uint32_t &next, std::uint32_t &damaged) const noexcept {
+        return state_ ? tlsf_check(handle(), from, most, &next, &damaged) : detail::closed;
     }
 
     // A block of `len` bytes, all zero, that releases itself; empty where it is refused.
-    [[nodiscard]] block make(std::uint32_t len) noexcept;
+    [[nodiscard]] block make(std::size_t len) noexcept;
 };
 
 // A live block, which is released at the end of its life; or none. It can be moved, and not copied. It stays in the thread
@@ -246,16 +404,16 @@ public:
     const tlsf_name &name() const noexcept { return name_; }
 
     // Its payload, aligned to 8 bytes, and the bytes of it; null and 0 where there is no block.
-    void *data() noexcept { return heap_ ? tlsf_payload(tlsf_near(&heap_->held), name_, nullptr) : nullptr; }
-    std::uint32_t size() noexcept {
+    void *data() const noexcept { return heap_ ? tlsf_payload(tlsf_near(&heap_->held), name_, nullptr) : nullptr; }
+    std::uint32_t size() const noexcept {
         std::uint32_t len = 0;
         if (heap_) (void)tlsf_payload(tlsf_near(&heap_->held), name_, &len);
         return len;
     }
-    [[nodiscard]] std::uint32_t resize(std::uint32_t len) noexcept {
+    [[nodiscard]] std::uint32_t resize(std::size_t len) noexcept {
         return heap_ ? tlsf_resize(tlsf_near(&heap_->held), name_, len) : detail::closed;
     }
-    [[nodiscard]] std::uint32_t reallocate(std::uint32_t len) noexcept {
+    [[nodiscard]] std::uint32_t reallocate(std::size_t len) noexcept {
         return heap_ ? tlsf_reallocate(tlsf_near(&heap_->held), &name_, len) : detail::closed;
     }
     void reset() noexcept {
@@ -269,19 +427,19 @@ public:
     }
 };
 
-inline block heap::make(std::uint32_t len) noexcept {
+inline block heap::make(std::size_t len) noexcept {
     tlsf_name name{};
     return allocate(len, name) == TLSF_OK ? block(*this, name) : block();
 }
 
 // The ends of a lane. Each can be moved, and not copied, and is closed at the end of its life.
 class post_end {
-    std::unique_ptr<detail::post_state> state_;
+    detail::holder<detail::post_state> state_;
     friend struct lane;
 
 public:
     post_end() noexcept = default;
-    tlsf_post_end *get() noexcept { return state_ ? &state_->raw : nullptr; }
+    tlsf_post_end *get() noexcept { return state_.raw(); }
     // Whether it was put: false where the lane is full or the end closed.
     [[nodiscard]] bool put(const tlsf_name &name) noexcept { return state_ && tlsf_put(get(), name) == TLSF_OK; }
     // Puts `n` names, the first of them first, until the lane is full, and says how many went: none where the end is closed.
@@ -298,12 +456,12 @@ public:
 };
 
 class take_end {
-    std::unique_ptr<detail::take_state> state_;
+    detail::holder<detail::take_state> state_;
     friend struct lane;
 
 public:
     take_end() noexcept = default;
-    tlsf_take_end *get() noexcept { return state_ ? &state_->raw : nullptr; }
+    tlsf_take_end *get() noexcept { return state_.raw(); }
     // The first name, or none where the lane is empty or the end closed.
     [[nodiscard]] std::optional<tlsf_name> take() noexcept {
         tlsf_name name{};
@@ -324,23 +482,31 @@ struct lane {
     take_end take;
 
     explicit lane(std::uint32_t capacity) {
-        post.state_.reset(new (std::nothrow) detail::post_state);
-        take.state_.reset(new (std::nothrow) detail::take_state);
-        if (!post.state_ || !take.state_) detail::no_room();
-        const std::uint32_t answer = tlsf_lane_open(post.get(), take.get(), capacity);
-        if (answer == TLSF_NO_MEMORY) detail::no_room();
-        if (answer != TLSF_OK) detail::bad_size("tlsf: a lane has 1 to 1,024 names");
+        post.state_ = detail::hold_new<detail::post_state>();
+        take.state_ = detail::hold_new<detail::take_state>();
+        detail::must_be_ok(tlsf_lane_open(post.get(), take.get(), capacity), "tlsf: a lane has 1 to 1,024 names");
+    }
+    // In memory of the caller's, which is the caller's again once both ends are closed.
+    lane(std::uint32_t capacity, void *memory, std::size_t bytes) {
+        constexpr auto otherwise = "tlsf: a lane of so many names has no room in that memory";
+        post.state_ = detail::hold_in<detail::post_state>(memory, bytes, otherwise);
+        take.state_ = detail::hold_in<detail::take_state>(memory, bytes, otherwise);
+        detail::must_be_ok(tlsf_lane_open_in(post.get(), take.get(), capacity, memory, bytes), otherwise);
+    }
+    // The bytes that are enough for that, at any alignment; 0 where there is no such lane.
+    static std::size_t bytes(std::uint32_t capacity) noexcept {
+        return detail::bytes_with<detail::post_state>(tlsf_lane_bytes(capacity), 2);
     }
 };
 
 // A poster's end of a queue, for one thread at a time. It can be moved, and not copied, and is closed at the end of its life.
 class poster {
-    std::unique_ptr<detail::poster_state> state_;
+    detail::holder<detail::poster_state> state_;
     friend class queue;
 
 public:
     poster() noexcept = default;
-    tlsf_poster *get() noexcept { return state_ ? &state_->raw : nullptr; }
+    tlsf_poster *get() noexcept { return state_.raw(); }
     // One attempt: TLSF_OK, TLSF_FULL, TLSF_BUSY where another thread is in the way, or TLSF_IS_CLOSED.
     [[nodiscard]] std::uint32_t post(const tlsf_name &name) noexcept { return state_ ? tlsf_queue_post(get(), name) : detail::closed; }
     // The block's name goes, and the block is empty then; where it isn't posted, the block stays as it is.
@@ -354,29 +520,41 @@ public:
 
 // The owner's end of a queue. It can be moved, and not copied, and is closed at the end of its life; posters' ends stay open.
 class queue {
-    std::unique_ptr<detail::queue_state> state_;
+    detail::holder<detail::queue_state> state_;
+    // What makes a poster's end: by operator new, or in memory of the caller's, with the room there for those that weren't given.
+    detail::poster_state *(*make_end_)(void *&memory, std::size_t &bytes) noexcept = nullptr;
+    void *ends_ = nullptr;
+    std::size_t ends_bytes_ = 0;
 
 public:
     queue() noexcept = default;
-    queue(std::uint32_t posters, std::uint32_t capacity) : state_(new (std::nothrow) detail::queue_state) {
-        if (!state_) detail::no_room();
-        const std::uint32_t answer = tlsf_queue_open(get(), posters, capacity);
-        if (answer == TLSF_NO_MEMORY) detail::no_room();
-        if (answer != TLSF_OK) detail::bad_size("tlsf: a queue has 1 to 1,024 posters and 1 to 1,024 names");
+    queue(std::uint32_t posters, std::uint32_t capacity) : state_(detail::hold_new<detail::queue_state>()) {
+        make_end_ = [](void *&, std::size_t &) noexcept { return detail::new_state<detail::poster_state>(); };
+        detail::must_be_ok(tlsf_queue_open(get(), posters, capacity), "tlsf: a queue has 1 to 1,024 posters and 1 to 1,024 names");
     }
-    // In memory of the caller's: of tlsf_queue_bytes(posters, capacity) bytes there is enough at any alignment.
-    queue(std::uint32_t posters, std::uint32_t capacity, void *memory, std::size_t bytes) : state_(new (std::nothrow) detail::queue_state) {
-        if (!state_) detail::no_room();
-        if (tlsf_queue_open_in(get(), posters, capacity, memory, bytes) != TLSF_OK)
-            detail::bad_size("tlsf: a queue of so many posters and names has no room in that memory");
+    // In memory of the caller's, which is the caller's again once this end and all posters' ends that were opened are closed.
+    queue(std::uint32_t posters, std::uint32_t capacity, void *memory, std::size_t bytes) {
+        constexpr auto otherwise = "tlsf: a queue of so many posters and names has no room in that memory";
+        if (tlsf_queue_bytes(posters, capacity) == 0) detail::no_such_size(otherwise);
+        state_ = detail::hold_in<detail::queue_state>(memory, bytes, otherwise);
+        make_end_ = detail::state_in<detail::poster_state>;
+        ends_ = detail::room_for<detail::poster_state>(memory, bytes, posters);
+        ends_bytes_ = posters * sizeof(detail::poster_state);
+        if (!ends_) detail::no_such_size(otherwise);
+        detail::must_be_ok(tlsf_queue_open_in(get(), posters, capacity, memory, bytes), otherwise);
     }
-    tlsf_queue *get() noexcept { return state_ ? &state_->raw : nullptr; }
+    // The bytes that are enough for that, at any alignment; 0 where there is no such queue.
+    static std::size_t bytes(std::uint32_t posters, std::uint32_t capacity) noexcept {
+        return detail::bytes_with<detail::poster_state>(tlsf_queue_bytes(posters, capacity), std::size_t(posters) + 1);
+    }
+    tlsf_queue *get() noexcept { return state_.raw(); }
     // The next poster's end, for any thread; one that isn't open where all were given. std::bad_alloc where malloc says no.
     [[nodiscard]] poster open_poster() {
         poster given;
-        given.state_.reset(new (std::nothrow) detail::poster_state);
-        if (!given.state_) detail::no_room();
-        if (!state_ || tlsf_poster_open(get(), given.get()) != TLSF_OK) given.state_.reset();
+        if (!state_) return given;
+        given.state_ = detail::holder(make_end_(ends_, ends_bytes_));
+        if (!given.state_ && !ends_) detail::no_room();
+        if (given.state_ && tlsf_poster_open(get(), given.get()) != TLSF_OK) given.state_ = {};
         return given;
     }
     // The first name, or none where the queue is empty, its first name half put, or the end closed.
@@ -393,111 +571,29 @@ public:
     }
 };
 
-// Objects of one type in a heap, each held by a std::unique_ptr that may die in any thread: it sends the object's name home,
-// and `collect`, in the thread of the heap, destroys the object and frees its block. A pointer that dies tries until its post goes
-// in, so it may spin while another thread is half through one. The object itself is another thread's to use as the payload of any
-// block is (rule 4 of tlsf.h). A home dies in the heap's thread, before its heap and after all its pointers.
-template <typename T>
-class home {
-    // A poster's end that one thread at a time has, while `taken`.
-    struct desk {
-        poster end;
-        std::atomic<bool> taken{false};
-    };
-
-    detail::heap_reference heap_;
-    queue queue_;
-    std::unique_ptr<desk[]> desks_;
-    std::uint32_t threads_, most_, out_ = 0;
-
-    // Goes over the desks until one is free and its post goes in. With a desk for each thread one always is free, and the queue
-    // has room for each object that is out, so this ends as soon as no other thread stands still in the midst of a post.
-    void send(const tlsf_name &name) noexcept {
-        for (std::uint32_t i = 0;; i = (i + 1) % threads_) {
-            desk &here = desks_[i];
-            if (here.taken.exchange(true)) continue;
-            const std::uint32_t answer = here.end.post(name);
-            here.taken.store(false);
-            if (answer == TLSF_OK) return;
-        }
-    }
-
-public:
-    class send_home {
-        home *home_ = nullptr;
-        tlsf_name name_{};
-        friend class home;
-        send_home(home *to, const tlsf_name &name) noexcept : home_(to), name_(name) {}
-
-    public:
-        send_home() noexcept = default;
-        void operator()(T *) const noexcept { home_->send(name_); }
-    };
-    using pointer = std::unique_ptr<T, send_home>;
-
-    // For at most `objects` objects at once, and pointers that die in at most `threads` threads, each 1 to 1,024.
-    home(heap &owner, std::uint32_t objects, std::uint32_t threads)
-        : heap_(owner.state_), queue_(threads, objects), desks_(new (std::nothrow) desk[threads]), threads_(threads), most_(objects) {
-        if (!desks_) detail::no_room();
-        for (std::uint32_t i = 0; i < threads; i++) desks_[i].end = queue_.open_poster();
-    }
-    home(const home &) = delete;
-    home &operator=(const home &) = delete;
-    ~home() { collect(); }
-
-    // In the heap's thread. An empty pointer where the heap has no room, or as many objects are out as may be. What the
-    // constructor of T throws comes through.
-    template <typename... Args>
-    [[nodiscard]] pointer make(Args &&...args) {
-        tlsf_name name{};
-        void *at = nullptr;
-        if (out_ == most_) collect();
-        if (out_ == most_ || !heap_ ||
-            tlsf_allocate_at(tlsf_near(&heap_->held), sizeof(T), alignof(T), TLSF_UNFILLED, &name, &at) != TLSF_OK)
-            return pointer();
-        block held(heap_, name); // goes back where the constructor throws
-        T *made = ::new (at) T(std::forward<Args>(args)...);
-        held.detach();
-        out_++;
-        return pointer(made, send_home(this, name));
-    }
-    // In the heap's thread: destroys the objects whose pointers have died, and frees their blocks. How many they were.
-    std::uint32_t collect() noexcept {
-        std::uint32_t came = 0;
-        while (const auto name = queue_.take()) {
-            void *at = tlsf_payload(tlsf_near(&heap_->held), *name, nullptr);
-            if (at) static_cast<T *>(at)->~T();
-            tlsf_release(tlsf_near(&heap_->held), *name);
-            out_--, came++;
-        }
-        return came;
-    }
-    // How many objects are out: made, and not yet collected.
-    std::uint32_t out() const noexcept { return out_; }
-};
-
 // Spans of memory that the processor never touches, as a graphics card's: the calls tlsf_offsets_*. It can be moved, and not
 // copied, and is closed at the end of its life.
 class offsets {
-    std::unique_ptr<detail::offsets_state> state_;
+    detail::holder<detail::offsets_state> state_;
 
 public:
     offsets() noexcept = default;
     // `units` units of `unit` bytes each.
-    offsets(level l, std::uint32_t number, std::uint32_t unit, std::uint32_t units) : state_(new (std::nothrow) detail::offsets_state) {
-        if (!state_) detail::no_room();
-        const std::uint32_t answer = tlsf_offsets_open(get(), static_cast<std::uint32_t>(l), number, unit, units);
-        if (answer == TLSF_NO_MEMORY) detail::no_room();
-        if (answer != TLSF_OK) detail::bad_size("tlsf: no arena has so many units of so many bytes");
+    offsets(level l, std::uint32_t number, std::uint32_t unit, std::uint32_t units) : state_(detail::hold_new<detail::offsets_state>()) {
+        detail::must_be_ok(tlsf_offsets_open(get(), static_cast<std::uint32_t>(l), number, unit, units),
+                           "tlsf: no arena has so many units of so many bytes");
     }
-    // Its words lie in memory of the caller's: of tlsf_offsets_bytes(level, units) bytes there is enough at any alignment.
-    offsets(level l, std::uint32_t number, std::uint32_t unit, std::uint32_t units, void *memory, std::size_t bytes)
-        : state_(new (std::nothrow) detail::offsets_state) {
-        if (!state_) detail::no_room();
-        if (tlsf_offsets_open_in(get(), static_cast<std::uint32_t>(l), number, unit, units, memory, bytes) != TLSF_OK)
-            detail::bad_size("tlsf: an arena of so many units of so many bytes has no room in that memory");
+    // In memory of the caller's, which is the caller's again once it is closed.
+    offsets(level l, std::uint32_t number, std::uint32_t unit, std::uint32_t units, void *memory, std::size_t bytes) {
+        constexpr auto otherwise = "tlsf: an arena of so many units of so many bytes has no room in that memory";
+        state_ = detail::hold_in<detail::offsets_state>(memory, bytes, otherwise);
+        detail::must_be_ok(tlsf_offsets_open_in(get(), static_cast<std::uint32_t>(l), number, unit, units, memory, bytes), otherwise);
     }
-    tlsf_offsets *get() noexcept { return state_ ? &state_->raw : nullptr; }
+    // The bytes that are enough for that, at any alignment; 0 where no arena of that level has so many units.
+    static std::size_t bytes(level l, std::uint32_t units) noexcept {
+        return detail::bytes_with<detail::offsets_state>(tlsf_offsets_bytes(static_cast<std::uint32_t>(l), units));
+    }
+    tlsf_offsets *get() noexcept { return state_.raw(); }
     [[nodiscard]] std::optional<tlsf_span> allocate(std::uint64_t bytes) noexcept {
         tlsf_span span{};
         if (!state_ || tlsf_offsets_allocate(get(), bytes, &span) != TLSF_OK) return std::nullopt;
@@ -507,9 +603,9 @@ public:
     [[nodiscard]] std::uint32_t resize(tlsf_span &span, std::uint64_t bytes) noexcept {
         return state_ ? tlsf_offsets_resize(get(), &span, bytes) : detail::closed;
     }
-    tlsf_offsets_usage report() noexcept {
+    tlsf_offsets_usage report() const noexcept {
         tlsf_offsets_usage usage{};
-        if (state_) (void)tlsf_offsets_report(get(), &usage);
+        if (state_) (void)tlsf_offsets_report(state_.raw(), &usage);
         return usage;
     }
 };
@@ -517,64 +613,32 @@ public:
 // Heaps for a table of kinds, which never lack room: the calls tlsf_pools_*. It can be moved, and not copied, and is closed at the end
 // of its life.
 class pools {
-    std::unique_ptr<detail::pools_state> state_;
+    detail::holder<detail::pools_state> state_;
 
 public:
     pools() noexcept = default;
     // For `n` rows, which rise in `len`. Their heaps have the numbers from `number` on.
-    pools(level l, std::uint32_t number, const tlsf_kind *rows, std::size_t n) : state_(new (std::nothrow) detail::pools_state) {
-        if (!state_) detail::no_room();
-        const std::uint32_t answer = tlsf_pools_open(get(), static_cast<std::uint32_t>(l), number, rows, n);
-        if (answer == TLSF_NO_MEMORY) detail::no_room();
-        if (answer != TLSF_OK) detail::bad_size("tlsf: the rows of the table don't rise in len, or no regions serve it");
+    pools(level l, std::uint32_t number, const tlsf_kind *rows, std::size_t n) : state_(detail::hold_new<detail::pools_state>()) {
+        detail::must_be_ok(tlsf_pools_open(get(), static_cast<std::uint32_t>(l), number, rows, n),
+                           "tlsf: the rows of the table don't rise in len, or no regions serve it");
     }
-    tlsf_pools *get() noexcept { return state_ ? &state_->raw : nullptr; }
-    [[nodiscard]] std::uint32_t allocate(std::uint32_t len, tlsf_name &name) noexcept {
+    tlsf_pools *get() noexcept { return state_.raw(); }
+    [[nodiscard]] std::uint32_t allocate(std::size_t len, tlsf_name &name) noexcept {
         return state_ ? tlsf_pools_allocate(get(), len, &name) : detail::closed;
     }
     std::uint32_t release(const tlsf_name &name) noexcept { return state_ ? tlsf_pools_release(get(), name) : detail::closed; }
-    [[nodiscard]] std::uint32_t write(const tlsf_name &name, std::uint32_t at, const std::uint8_t *bytes, std::size_t n) noexcept {
-        return state_ ? tlsf_pools_write(get(), name, at, bytes, n) : detail::closed;
+    [[nodiscard]] std::uint32_t write(const tlsf_name &name, std::size_t at, const std::uint8_t *bytes, std::size_t n) noexcept {
+        return state_ ? tlsf_pools_write(get(), name, detail::in_32_bits(at), bytes, n) : detail::closed;
     }
-    [[nodiscard]] std::uint32_t read(const tlsf_name &name, std::uint32_t at, std::uint8_t *out, std::size_t n) noexcept {
-        return state_ ? tlsf_pools_read(get(), name, at, out, n) : detail::closed;
+    [[nodiscard]] std::uint32_t read(const tlsf_name &name, std::size_t at, std::uint8_t *out, std::size_t n) const noexcept {
+        return state_ ? tlsf_pools_read(state_.raw(), name, detail::in_32_bits(at), out, n) : detail::closed;
     }
     // Of the heap of one part, or none where there is no such part.
-    std::optional<tlsf_heap_report> report(std::uint32_t part) noexcept {
+    std::optional<tlsf_heap_report> report(std::uint32_t part) const noexcept {
         tlsf_heap_report sums{};
-        if (!state_ || tlsf_pools_report(get(), part, &sums) != TLSF_OK) return std::nullopt;
+        if (!state_ || tlsf_pools_report(state_.raw(), part, &sums) != TLSF_OK) return std::nullopt;
         return sums;
     }
-};
-
-// The heap under what takes a std::pmr::memory_resource, in one thread at a time. Any alignment; std::bad_alloc where there
-// is no room. It adds nothing to what tlsf_malloc takes. Two resources over one heap are equal. A container that still holds
-// objects goes before its heap does, since they lie in the heap's memory.
-class resource : public std::pmr::memory_resource {
-    detail::heap_reference heap_;
-
-    void *do_allocate(std::size_t bytes, std::size_t align) override {
-        void *p = heap_ ? detail::give(*heap_, bytes, align) : nullptr;
-        if (!p) detail::no_room();
-        return p;
-    }
-    void do_deallocate(void *p, std::size_t, std::size_t) override { tlsf_free(tlsf_near(&heap_->held), p); }
-    bool do_is_equal(const std::pmr::memory_resource &other) const noexcept override { return is_over_one_heap(&other); }
-
-    bool is_over_one_heap(const std::pmr::memory_resource *other) const noexcept {
-#if defined(__cpp_rtti)
-        const auto *same = dynamic_cast<const resource *>(other);
-        return same && same->heap_ == heap_;
-#else
-        return other == this;
-#endif
-    }
-
-public:
-    explicit resource(heap &owner) noexcept : heap_(owner.state_) {}
-    // Copied also where it is moved: containers may have the address of the one that is moved from.
-    resource(const resource &) noexcept = default;
-    resource &operator=(const resource &) noexcept = default;
 };
 
 // The heap under a container's own allocator: std::vector<float, tlsf::allocator<float>> samples(heap);

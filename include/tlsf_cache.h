@@ -11,7 +11,7 @@
  *
  * It keeps 8 blocks at most of each of 33 sizes: of 8, 24, 40 .. 520 bytes, in steps of 16. Longer blocks go to the heap, and so do
  * those for which there is no slot. A block that is kept is live for the heap, so each promise of the heap holds as it did. All is
- * inline, over calls of tlsf.h alone. It takes no memory, and writes to no payload but to fill it for tlsf_cache_calloc.
+ * inline, over calls of peachanchor.h alone. It takes no memory, and writes to no payload but to fill it for tlsf_cache_calloc.
  *
  * WHAT IT COSTS
  *   Room. It holds back 264 blocks at most. They have 69,696 bytes of payload, and 76,032 with their headers: the sum of
@@ -31,10 +31,11 @@
  *     tlsf_cache_report tells how many these are. A trace of TLSF_TRACE has the calls that reach the heap.
  * With TLSF_ASAN or TLSF_VALGRIND a block that is kept is marked as a free one is. Calls answer as without marks.
  *
- * WHAT THE CALLER OWES, besides the rules of tlsf.h. Nothing checks these.
+ * WHAT THE CALLER OWES, besides the rules of peachanchor.h. Nothing checks these.
  *   1. A magazine is a handle, and belongs to the thread that its heap belongs to. No signal handler calls it.
  *   2. A heap has one open magazine at most, which is closed before the heap is.
- *   3. A block that is kept is the magazine's. No call of the heap frees, releases or resizes it, by a pointer, a name or a drain.
+ *   3. A magazine is flushed before its heap is reset.
+ *   4. A block that is kept is the magazine's. No call of the heap frees, releases or resizes it, by a pointer, a name or a drain.
  *      Else it is given again while it is free.
  * All other blocks may go either way. A block that the heap gave may be freed here. One that the magazine gave may be released by a call
  * of the heap, as where another thread posts its name to a lane. Then it goes past the magazine.
@@ -42,7 +43,7 @@
 #ifndef TLSF_CACHE_H
 #define TLSF_CACHE_H
 
-#include "tlsf.h"
+#include "peachanchor.h"
 
 #ifndef TLSF_GNU
 #error "tlsf_cache.h is for gcc and clang"
@@ -89,55 +90,55 @@ struct tlsf_cache_usage {
 
 /* Opens a magazine before an open heap. It keeps nothing yet.
  * Refused, in this order: TLSF_IN_USE where the magazine is open, TLSF_IS_CLOSED where the heap isn't. */
-TLSF_ANSWER static inline uint32_t tlsf_cache_open(struct tlsf_cache *cache, struct tlsf_heap *heap) TLSF_NOEXCEPT;
+TLSF_ANSWER TLSF_BODY uint32_t tlsf_cache_open(struct tlsf_cache *cache, struct tlsf_heap *heap) TLSF_NOEXCEPT;
 
 /* Releases all that is kept, 264 blocks at most. After it the heap's live blocks are those that the program holds, and no two free
  * blocks touch. Where blocks lie, serials, ticks and the order of free lists differ from those of a heap without a magazine.
  * Refused: TLSF_IS_CLOSED. Where the heap refuses a release its first refusal is the answer, and the magazine is empty all the
- * same: TLSF_STALE tells that rule 3 was broken, and TLSF_IS_CLOSED that rule 2 was. */
-static inline uint32_t tlsf_cache_flush(struct tlsf_cache *cache) TLSF_NOEXCEPT;
+ * same: TLSF_STALE tells that rule 3 or 4 was broken, and TLSF_IS_CLOSED that rule 2 was. */
+TLSF_BODY uint32_t tlsf_cache_flush(struct tlsf_cache *cache) TLSF_NOEXCEPT;
 
 /* The same, and closes the magazine, whatever the answer. The heap stays open. */
-static inline uint32_t tlsf_cache_close(struct tlsf_cache *cache) TLSF_NOEXCEPT;
+TLSF_BODY uint32_t tlsf_cache_close(struct tlsf_cache *cache) TLSF_NOEXCEPT;
 
 /* How much is kept, by a walk over 33 counts. Refused: TLSF_IS_CLOSED. */
-TLSF_ANSWER static inline uint32_t tlsf_cache_report(const struct tlsf_cache *cache, struct tlsf_cache_usage *usage) TLSF_NOEXCEPT;
+TLSF_ANSWER TLSF_BODY uint32_t tlsf_cache_report(const struct tlsf_cache *cache, struct tlsf_cache_usage *usage) TLSF_NOEXCEPT;
 
 /* As tlsf_malloc. Where a block of that size is kept it is the one that was freed last. */
-TLSF_ANSWER static inline void *tlsf_cache_malloc(struct tlsf_cache *cache, size_t len) TLSF_NOEXCEPT;
+TLSF_ANSWER TLSF_BODY void *tlsf_cache_malloc(struct tlsf_cache *cache, size_t len) TLSF_NOEXCEPT;
 
 /* As tlsf_calloc: tlsf_cache_malloc of `count * each` bytes, filled with zeros here. */
-TLSF_ANSWER static inline void *tlsf_cache_calloc(struct tlsf_cache *cache, size_t count, size_t each) TLSF_NOEXCEPT;
+TLSF_ANSWER TLSF_BODY void *tlsf_cache_calloc(struct tlsf_cache *cache, size_t count, size_t each) TLSF_NOEXCEPT;
 
 /* As tlsf_aligned_alloc. Up to 16 it is tlsf_cache_malloc, and above it the heap is asked. */
-TLSF_ANSWER static inline void *tlsf_cache_aligned_alloc(struct tlsf_cache *cache, size_t align, size_t len) TLSF_NOEXCEPT;
+TLSF_ANSWER TLSF_BODY void *tlsf_cache_aligned_alloc(struct tlsf_cache *cache, size_t align, size_t len) TLSF_NOEXCEPT;
 
 /* As tlsf_realloc, on the heap. A block that has the bytes for `len` and no more stays with no call but a look. Where the block
  * moves its old one goes to the heap. A null pointer is tlsf_cache_malloc's, and a `len` of 0 is tlsf_cache_free's. Null, too, for a
  * block that is kept. */
-TLSF_ANSWER static inline void *tlsf_cache_realloc(struct tlsf_cache *cache, void *p, size_t len) TLSF_NOEXCEPT;
+TLSF_ANSWER TLSF_BODY void *tlsf_cache_realloc(struct tlsf_cache *cache, void *p, size_t len) TLSF_NOEXCEPT;
 
 /* As tlsf_free. One proved call, tlsf_place, shows whether a live block's payload begins at `p`. It is kept where there is a slot, and
  * else released. TLSF_STALE also where it is kept already. A null pointer is TLSF_OK. */
-static inline uint32_t tlsf_cache_free(struct tlsf_cache *cache, void *p) TLSF_NOEXCEPT;
+TLSF_BODY uint32_t tlsf_cache_free(struct tlsf_cache *cache, void *p) TLSF_NOEXCEPT;
 
 /* As tlsf_usable_size; 0 also where the block is kept. */
-static inline size_t tlsf_cache_usable_size(struct tlsf_cache *cache, const void *p) TLSF_NOEXCEPT;
+TLSF_BODY size_t tlsf_cache_usable_size(struct tlsf_cache *cache, const void *p) TLSF_NOEXCEPT;
 
 /* --- The calls, and their parts ------------------------------------------------------------------------------------- */
 
 /* The bytes of a size. */
-static inline uint32_t tlsf_cache_bytes(uint32_t size) TLSF_NOEXCEPT { return 16 * size + 8; }
+TLSF_BODY uint32_t tlsf_cache_bytes(uint32_t size) TLSF_NOEXCEPT { return 16 * size + 8; }
 
 /* The size of a block of `len` bytes; a number that no size has where such a block isn't kept. */
-static inline uint32_t tlsf_cache_size(uint32_t len) TLSF_NOEXCEPT { return (len - 8) >> 4 | (len - 8) << 28; }
+TLSF_BODY uint32_t tlsf_cache_size(uint32_t len) TLSF_NOEXCEPT { return (len - 8) >> 4 | (len - 8) << 28; }
 
 /* Four slots, which are compared at once; and what two numbers of 64 bits hold of the outcome. */
 typedef uint32_t tlsf_cache_four __attribute__((vector_size(16), may_alias));
 typedef uint64_t tlsf_cache_two __attribute__((vector_size(16)));
 
 /* Whether one of the slots of a size has that place. */
-static inline bool tlsf_cache_has(const uint32_t *slots, uint32_t at) TLSF_NOEXCEPT {
+TLSF_BODY bool tlsf_cache_has(const uint32_t *slots, uint32_t at) TLSF_NOEXCEPT {
     const tlsf_cache_four *const all = (const tlsf_cache_four *)(const void *)slots;
     const tlsf_cache_four wanted = {at, at, at, at};
     const tlsf_cache_two found = (tlsf_cache_two)((all[0] == wanted) | (all[1] == wanted));
@@ -145,7 +146,7 @@ static inline bool tlsf_cache_has(const uint32_t *slots, uint32_t at) TLSF_NOEXC
 }
 
 /* Looks at a pointer: the place and the bytes of the live block that isn't kept, or TLSF_STALE, or TLSF_IS_CLOSED. */
-static inline uint32_t tlsf_cache_look(struct tlsf_cache *cache, const void *p, uint32_t *at, uint32_t *len) TLSF_NOEXCEPT {
+TLSF_BODY uint32_t tlsf_cache_look(struct tlsf_cache *cache, const void *p, uint32_t *at, uint32_t *len) TLSF_NOEXCEPT {
     struct tlsf_name name;
     uint32_t bytes;
     if (cache->heap == TLSF_NULL) return TLSF_IS_CLOSED;
@@ -159,7 +160,7 @@ static inline uint32_t tlsf_cache_look(struct tlsf_cache *cache, const void *p, 
     return TLSF_STALE;
 }
 
-static inline uint32_t tlsf_cache_open(struct tlsf_cache *cache, struct tlsf_heap *heap) TLSF_NOEXCEPT {
+TLSF_BODY uint32_t tlsf_cache_open(struct tlsf_cache *cache, struct tlsf_heap *heap) TLSF_NOEXCEPT {
     if (cache->heap != TLSF_NULL) return TLSF_IN_USE;
     if (!heap->is_open) return TLSF_IS_CLOSED;
     cache->heap = heap;
@@ -169,7 +170,7 @@ static inline uint32_t tlsf_cache_open(struct tlsf_cache *cache, struct tlsf_hea
     return TLSF_OK;
 }
 
-static inline uint32_t tlsf_cache_flush(struct tlsf_cache *cache) TLSF_NOEXCEPT {
+TLSF_BODY uint32_t tlsf_cache_flush(struct tlsf_cache *cache) TLSF_NOEXCEPT {
     uint32_t first = TLSF_OK;
     if (cache->heap == TLSF_NULL) return TLSF_IS_CLOSED;
     for (uint32_t size = 0; size < TLSF_CACHE_SIZES; size++) {
@@ -183,13 +184,13 @@ static inline uint32_t tlsf_cache_flush(struct tlsf_cache *cache) TLSF_NOEXCEPT 
     return first;
 }
 
-static inline uint32_t tlsf_cache_close(struct tlsf_cache *cache) TLSF_NOEXCEPT {
+TLSF_BODY uint32_t tlsf_cache_close(struct tlsf_cache *cache) TLSF_NOEXCEPT {
     const uint32_t answer = tlsf_cache_flush(cache);
     cache->heap = TLSF_NULL;
     return answer;
 }
 
-static inline uint32_t tlsf_cache_report(const struct tlsf_cache *cache, struct tlsf_cache_usage *usage) TLSF_NOEXCEPT {
+TLSF_BODY uint32_t tlsf_cache_report(const struct tlsf_cache *cache, struct tlsf_cache_usage *usage) TLSF_NOEXCEPT {
     struct tlsf_cache_usage sums = {0, 0};
     if (cache->heap == TLSF_NULL) return TLSF_IS_CLOSED;
     for (uint32_t size = 0; size < TLSF_CACHE_SIZES; size++) {
@@ -215,7 +216,7 @@ TLSF_RARE struct tlsf_placed tlsf_cache_ask_again(struct tlsf_cache *cache, size
 
 /* Asks the heap, and once more after all went back to it where it has no room. It stands apart, so that a call of a block that is kept
  * needs no frame. */
-static __attribute__((noinline, unused)) void *tlsf_cache_ask(struct tlsf_cache *cache, size_t len, size_t align) TLSF_NOEXCEPT {
+TLSF_APART void *tlsf_cache_ask(struct tlsf_cache *cache, size_t len, size_t align) TLSF_NOEXCEPT {
     if (cache->heap == TLSF_NULL) return TLSF_NULL;
     struct tlsf_placed it = tlsf_allocate_for(cache->heap, len, align);
     if (it.answer == TLSF_NO_FIT) it = tlsf_cache_ask_again(cache, len, align);
@@ -223,7 +224,7 @@ static __attribute__((noinline, unused)) void *tlsf_cache_ask(struct tlsf_cache 
 }
 
 /* Takes the last block of a size out of its slot; there is one. */
-static inline void *tlsf_cache_take(struct tlsf_cache *cache, uint32_t size, size_t len) TLSF_NOEXCEPT {
+TLSF_BODY void *tlsf_cache_take(struct tlsf_cache *cache, uint32_t size, size_t len) TLSF_NOEXCEPT {
     const uint32_t last = cache->count[size] - 1;
     uint64_t *const p = cache->base + cache->at[size][last] + 3;
     cache->count[size] = last;
@@ -233,7 +234,7 @@ static inline void *tlsf_cache_take(struct tlsf_cache *cache, uint32_t size, siz
     return p;
 }
 
-static inline void *tlsf_cache_malloc(struct tlsf_cache *cache, size_t len) TLSF_NOEXCEPT {
+TLSF_BODY void *tlsf_cache_malloc(struct tlsf_cache *cache, size_t len) TLSF_NOEXCEPT {
     if (len <= TLSF_CACHE_LONGEST) {
         const uint32_t size = ((uint32_t)len + 7) / 16;
         if (cache->count[size] != 0) return tlsf_cache_take(cache, size, len);
@@ -241,13 +242,13 @@ static inline void *tlsf_cache_malloc(struct tlsf_cache *cache, size_t len) TLSF
     return tlsf_cache_ask(cache, len, 16);
 }
 
-static inline void *tlsf_cache_calloc(struct tlsf_cache *cache, size_t count, size_t each) TLSF_NOEXCEPT {
+TLSF_BODY void *tlsf_cache_calloc(struct tlsf_cache *cache, size_t count, size_t each) TLSF_NOEXCEPT {
     if (each != 0 && count > TLSF_LONGEST / each) return TLSF_NULL;
     void *const p = tlsf_cache_malloc(cache, count * each);
     return p == TLSF_NULL ? p : TLSF_SET(p, 0, count * each);
 }
 
-static inline void *tlsf_cache_aligned_alloc(struct tlsf_cache *cache, size_t align, size_t len) TLSF_NOEXCEPT {
+TLSF_BODY void *tlsf_cache_aligned_alloc(struct tlsf_cache *cache, size_t align, size_t len) TLSF_NOEXCEPT {
     const bool is_plain = align <= 16 && align != 0 && (align & (align - 1)) == 0;
     return is_plain ? tlsf_cache_malloc(cache, len) : tlsf_cache_ask(cache, len, align);
 }
@@ -256,12 +257,12 @@ TLSF_RARE void *tlsf_cache_move_again(struct tlsf_cache *cache, void *p, size_t 
     return tlsf_cache_gives(cache, len) ? tlsf_realloc(cache->heap, p, len) : TLSF_NULL;
 }
 
-static inline void *tlsf_cache_realloc(struct tlsf_cache *cache, void *p, size_t len) TLSF_NOEXCEPT {
+TLSF_BODY void *tlsf_cache_realloc(struct tlsf_cache *cache, void *p, size_t len) TLSF_NOEXCEPT {
     uint32_t at = 0, had = 0;
     if (p == TLSF_NULL) return tlsf_cache_malloc(cache, len);
     if (len == 0) (void)tlsf_cache_free(cache, p);
     if (len == 0 || len > TLSF_LONGEST || tlsf_cache_look(cache, p, &at, &had) != TLSF_OK) return TLSF_NULL;
-    if (had == tlsf_rounded((uint32_t)len)) {
+    if (had == tlsf_rounded(len)) {
         TLSF_ASKED(p, len, had);
         return p;
     }
@@ -269,7 +270,7 @@ static inline void *tlsf_cache_realloc(struct tlsf_cache *cache, void *p, size_t
     return moved != TLSF_NULL ? moved : tlsf_cache_move_again(cache, p, len);
 }
 
-static inline uint32_t tlsf_cache_free(struct tlsf_cache *cache, void *p) TLSF_NOEXCEPT {
+TLSF_BODY uint32_t tlsf_cache_free(struct tlsf_cache *cache, void *p) TLSF_NOEXCEPT {
     uint32_t at = 0, len = 0;
     if (p == TLSF_NULL) return TLSF_OK;
     tlsf_fetch((uintptr_t)p - 24);
@@ -283,7 +284,7 @@ static inline uint32_t tlsf_cache_free(struct tlsf_cache *cache, void *p) TLSF_N
     return TLSF_OK;
 }
 
-static inline size_t tlsf_cache_usable_size(struct tlsf_cache *cache, const void *p) TLSF_NOEXCEPT {
+TLSF_BODY size_t tlsf_cache_usable_size(struct tlsf_cache *cache, const void *p) TLSF_NOEXCEPT {
     uint32_t at = 0, len = 0;
     return tlsf_cache_look(cache, p, &at, &len) == TLSF_OK ? len : 0;
 }

@@ -1,4 +1,4 @@
-/* Marks what isn't live, so that an overrun or a use after free is told where it happens. tlsf.h includes this where TLSF_ASAN or
+/* Marks what isn't live, so that an overrun or a use after free is told where it happens. peachanchor.h includes this where TLSF_ASAN or
  * TLSF_VALGRIND is defined before it, in each file of the program that calls the heap:
  *
  *   TLSF_ASAN      for -fsanitize=address: what isn't payload is poisoned.
@@ -120,6 +120,20 @@ TLSF_ANSWER static inline uint32_t tlsf_marked_check(struct tlsf_heap *heap, uin
     return answer;
 }
 
+TLSF_ANSWER static inline uint32_t tlsf_marked_check_around(struct tlsf_heap *heap, uint32_t at, uint32_t *damaged) TLSF_NOEXCEPT {
+    TLSF_BEGIN_CALL;
+    const uint32_t answer = tlsf_check_around(heap, at, damaged);
+    TLSF_END_CALL;
+    return answer;
+}
+
+TLSF_ANSWER static inline uint32_t tlsf_marked_check_request(struct tlsf_heap *heap, size_t len, uint32_t *damaged) TLSF_NOEXCEPT {
+    TLSF_BEGIN_CALL;
+    const uint32_t answer = tlsf_check_request(heap, len, damaged);
+    TLSF_END_CALL;
+    return answer;
+}
+
 /* Who asks for the length may use it. */
 TLSF_ANSWER static inline uint32_t tlsf_marked_place(struct tlsf_heap *heap, uint32_t at, struct tlsf_name *name,
                                                      uint32_t *len) TLSF_NOEXCEPT {
@@ -203,9 +217,16 @@ static inline uint32_t tlsf_marked_close(struct tlsf_heap *heap) TLSF_NOEXCEPT {
     return tlsf_close(heap);
 }
 
+static inline uint32_t tlsf_marked_reset(struct tlsf_heap *heap) TLSF_NOEXCEPT {
+    TLSF_BEGIN_CALL;
+    const uint32_t answer = tlsf_reset(heap);
+    TLSF_END_CALL;
+    return tlsf_mark_region(heap, answer);
+}
+
 /* --- What gives and takes back ---------------------------------------------------------------------------------------- */
 
-TLSF_ANSWER static inline struct tlsf_placed tlsf_marked_allocate_place(struct tlsf_heap *heap, uint32_t len) TLSF_NOEXCEPT {
+TLSF_ANSWER static inline struct tlsf_placed tlsf_marked_allocate_place(struct tlsf_heap *heap, size_t len) TLSF_NOEXCEPT {
     TLSF_BEGIN_CALL;
     const struct tlsf_placed it = tlsf_allocate_place(heap, len);
     TLSF_END_CALL;
@@ -213,7 +234,7 @@ TLSF_ANSWER static inline struct tlsf_placed tlsf_marked_allocate_place(struct t
     return it;
 }
 
-TLSF_ANSWER static inline struct tlsf_placed tlsf_marked_allocate_aligned(struct tlsf_heap *heap, uint32_t len, uint32_t step,
+TLSF_ANSWER static inline struct tlsf_placed tlsf_marked_allocate_aligned(struct tlsf_heap *heap, size_t len, uint32_t step,
                                                                           uint32_t skew) TLSF_NOEXCEPT {
     TLSF_BEGIN_CALL;
     const struct tlsf_placed it = tlsf_allocate_aligned(heap, len, step, skew);
@@ -222,7 +243,7 @@ TLSF_ANSWER static inline struct tlsf_placed tlsf_marked_allocate_aligned(struct
     return it;
 }
 
-TLSF_ANSWER static inline uint32_t tlsf_marked_allocate(struct tlsf_heap *heap, uint32_t len, struct tlsf_name *name) TLSF_NOEXCEPT {
+TLSF_ANSWER static inline uint32_t tlsf_marked_allocate(struct tlsf_heap *heap, size_t len, struct tlsf_name *name) TLSF_NOEXCEPT {
     TLSF_BEGIN_CALL;
     const uint32_t answer = tlsf_allocate(heap, len, name);
     TLSF_END_CALL;
@@ -249,44 +270,23 @@ static inline uint32_t tlsf_marked_release(struct tlsf_heap *heap, struct tlsf_n
     return answer;
 }
 
-static inline uint32_t tlsf_marked_drain(struct tlsf_heap *heap, struct tlsf_take_end *take, uint32_t most, uint32_t *came) TLSF_NOEXCEPT {
-    struct tlsf_name name = {0, 0, 0};
-    uint32_t count = 0;
-    const uint32_t answer = tlsf_drain(heap, take, 0, came); /* what it refuses, before a name is taken */
-    if (answer != TLSF_OK) return answer;
-    for (; count < most && tlsf_take(take, &name) == TLSF_OK; count++) tlsf_marked_release(heap, name);
-    *came = count;
-    return TLSF_OK;
-}
-
-static inline uint32_t tlsf_marked_queue_drain(struct tlsf_heap *heap, struct tlsf_queue *queue, uint32_t most,
-                                               uint32_t *came) TLSF_NOEXCEPT {
-    struct tlsf_name name = {0, 0, 0};
-    uint32_t count = 0;
-    const uint32_t answer = tlsf_queue_drain(heap, queue, 0, came);
-    if (answer != TLSF_OK) return answer;
-    for (; count < most && tlsf_queue_take(queue, &name) == TLSF_OK; count++) tlsf_marked_release(heap, name);
-    *came = count;
-    return TLSF_OK;
-}
-
 /* --- What resizes ----------------------------------------------------------------------------------------------------- */
 
 /* Whether the live block at a place may have so many bytes where it stands; `*had` is what it has. */
-static inline bool tlsf_mark_stays(struct tlsf_heap *heap, uint32_t at, uint32_t len, uint32_t *had) TLSF_NOEXCEPT {
+static inline bool tlsf_mark_stays(struct tlsf_heap *heap, uint32_t at, size_t len, uint32_t *had) TLSF_NOEXCEPT {
     struct tlsf_block_info it = {0, 0, 0, 0, 0}, behind = {0, 0, 0, 0, 0};
     if (tlsf_marked_block_at(heap, at, &it) != TLSF_OK || it.is_live == 0) return false;
     *had = it.len;
     if (tlsf_marked_block_at(heap, at + it.size, &behind) != TLSF_OK || behind.is_live != 0) behind.size = 0;
-    return 3 + (uint64_t)(len > 8 ? len / 8 + (len % 8 != 0) : 1) <= it.size + behind.size;
+    return 3 + (len > 8 ? len / 8 + (len % 8 != 0) : 1) <= (size_t)it.size + behind.size;
 }
 
-static inline void tlsf_mark_copy(struct tlsf_heap *heap, uint32_t from, uint32_t to, uint32_t had, uint32_t len) TLSF_NOEXCEPT {
+static inline void tlsf_mark_copy(struct tlsf_heap *heap, uint32_t from, uint32_t to, uint32_t had, size_t len) TLSF_NOEXCEPT {
     tlsf_mark_live(tlsf_mark_at(heap, from), had);
     TLSF_COPY(tlsf_mark_at(heap, to), tlsf_mark_at(heap, from), had < len ? had : len);
 }
 
-TLSF_ANSWER static inline uint32_t tlsf_marked_resize_place(struct tlsf_heap *heap, uint32_t at, uint32_t len,
+TLSF_ANSWER static inline uint32_t tlsf_marked_resize_place(struct tlsf_heap *heap, uint32_t at, size_t len,
                                                             uint32_t *new_at) TLSF_NOEXCEPT {
     struct tlsf_name name = {0, 0, 0};
     uint32_t had = 0;
@@ -309,7 +309,7 @@ TLSF_ANSWER static inline uint32_t tlsf_marked_resize_place(struct tlsf_heap *he
     return answer;
 }
 
-TLSF_ANSWER static inline uint32_t tlsf_marked_resize(struct tlsf_heap *heap, struct tlsf_name name, uint32_t len) TLSF_NOEXCEPT {
+TLSF_ANSWER static inline uint32_t tlsf_marked_resize(struct tlsf_heap *heap, struct tlsf_name name, size_t len) TLSF_NOEXCEPT {
     const uint32_t had = tlsf_marked_len(heap, name);
     TLSF_BEGIN_CALL;
     const uint32_t answer = tlsf_resize(heap, name, len);
@@ -319,7 +319,7 @@ TLSF_ANSWER static inline uint32_t tlsf_marked_resize(struct tlsf_heap *heap, st
     return answer;
 }
 
-TLSF_ANSWER static inline uint32_t tlsf_marked_reallocate(struct tlsf_heap *heap, struct tlsf_name *name, uint32_t len) TLSF_NOEXCEPT {
+TLSF_ANSWER static inline uint32_t tlsf_marked_reallocate(struct tlsf_heap *heap, struct tlsf_name *name, size_t len) TLSF_NOEXCEPT {
     struct tlsf_name moved = {0, 0, 0};
     uint64_t *base = TLSF_NULL;
     uint32_t had = 0, answer = tlsf_marked_locate(heap, *name, &base, &had);
@@ -337,12 +337,13 @@ TLSF_ANSWER static inline uint32_t tlsf_marked_reallocate(struct tlsf_heap *heap
 }
 #endif
 
-/* What tlsf_trace.h may have named before. */
+/* What tlsf_trace.h or tlsf_checked.h may have named before. */
 #undef tlsf_open
 #undef tlsf_open_in
 #undef tlsf_open_near
 #undef tlsf_open_near_in
 #undef tlsf_close
+#undef tlsf_reset
 #undef tlsf_allocate
 #undef tlsf_allocate_place
 #undef tlsf_allocate_aligned
@@ -351,13 +352,12 @@ TLSF_ANSWER static inline uint32_t tlsf_marked_reallocate(struct tlsf_heap *heap
 #undef tlsf_resize
 #undef tlsf_resize_place
 #undef tlsf_reallocate
-#undef tlsf_drain
-#undef tlsf_queue_drain
 #define tlsf_open tlsf_marked_open
 #define tlsf_open_in tlsf_marked_open_in
 #define tlsf_open_near tlsf_marked_open_near
 #define tlsf_open_near_in tlsf_marked_open_near_in
 #define tlsf_close tlsf_marked_close
+#define tlsf_reset tlsf_marked_reset
 #define tlsf_allocate tlsf_marked_allocate
 #define tlsf_allocate_place tlsf_marked_allocate_place
 #define tlsf_allocate_aligned tlsf_marked_allocate_aligned
@@ -366,8 +366,6 @@ TLSF_ANSWER static inline uint32_t tlsf_marked_reallocate(struct tlsf_heap *heap
 #define tlsf_resize tlsf_marked_resize
 #define tlsf_resize_place tlsf_marked_resize_place
 #define tlsf_reallocate tlsf_marked_reallocate
-#define tlsf_drain tlsf_marked_drain
-#define tlsf_queue_drain tlsf_marked_queue_drain
 #define tlsf_place tlsf_marked_place
 #define tlsf_locate tlsf_marked_locate
 #define tlsf_read tlsf_marked_read
@@ -376,4 +374,6 @@ TLSF_ANSWER static inline uint32_t tlsf_marked_reallocate(struct tlsf_heap *heap
 #define tlsf_counts tlsf_marked_counts
 #define tlsf_report tlsf_marked_report
 #define tlsf_check tlsf_marked_check
+#define tlsf_check_around tlsf_marked_check_around
+#define tlsf_check_request tlsf_marked_check_request
 #endif

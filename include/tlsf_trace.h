@@ -1,16 +1,16 @@
 /* Writes a program's own calls on a heap as a trace (docs/TRACE.md), which `tlsf replay`, `map`, `plot`, `size` and `check` take.
- * tlsf.h includes this where TLSF_TRACE is defined, in front of its inline calls, so that they are written too:
+ * peachanchor.h includes this where TLSF_TRACE is defined, in front of its inline calls, so that they are written too:
  *
  *     #include <stdio.h>
  *     static FILE *trace;          // opened by the program; null writes nothing
  *     #define TLSF_TRACE trace
- *     #include <tlsf.h>
+ *     #include <peachanchor.h>
  *
  * Written are the calls on one heap: the first that is opened, or with `#define TLSF_TRACE_NUMBER 2` the first of number 2. The
  * trace begins when it is opened, and ends when it is closed. Its places and serials, and what it refuses, are those of the
  * heap: a block that moves is an `a` line and an `f` line, a drain is an `f` line for each name, and a block that is aligned to
  * more than 16 bytes is what the heap makes of it, in two lines or five. Of these five a replay takes one tick more than the heap
- * does, so each later serial is higher by 1. Every file of the program that calls the heap defines TLSF_TRACE. It needs gcc or
+ * does, so each later serial is higher by 1. A reset is an `f` line for each live block, though it takes one tick. Every file of the program that calls the heap defines TLSF_TRACE. It needs gcc or
  * clang, and half a megabyte of memory.
  *
  * Payloads and lanes are left out. So are these, of which the program tells on standard error, each once, since a trace has no
@@ -106,18 +106,19 @@ static inline void tlsf_trace_begin(struct tlsf_heap *heap, uint32_t level, uint
     __atomic_store_n(&tlsf_trace.base, heap->base, __ATOMIC_RELAXED);
 }
 
-/* A line: `a` and `r` have a length, and `f` has none. */
-static inline void tlsf_trace_line(char kind, uint32_t label, uint32_t len) TLSF_NOEXCEPT {
+/* A line: `a` and `r` have a length, and `f` has none. A trace's lengths have 32 bits, as many as a heap looks at. */
+static inline void tlsf_trace_line(char kind, uint32_t label, size_t len) TLSF_NOEXCEPT {
+    const uint32_t bytes = len < UINT32_MAX ? (uint32_t)len : UINT32_MAX;
     FILE *to = tlsf_trace_file();
     tlsf_trace.lines++;
     if (to == TLSF_NULL) return;
     if (kind == 'f') fprintf(to, "f 0 %" PRIu32 "\n", label);
-    else fprintf(to, "%c 0 %" PRIu32 " %" PRIu32 "\n", kind, label, len);
+    else fprintf(to, "%c 0 %" PRIu32 " %" PRIu32 "\n", kind, label, bytes);
 }
 
 /* An allocate: accepted, or refused for want of room. It leaves room for an `f` line, which is the second one where a block
  * moves. */
-static inline void tlsf_trace_given(const struct tlsf_heap *heap, struct tlsf_placed it, uint32_t len) TLSF_NOEXCEPT {
+static inline void tlsf_trace_given(const struct tlsf_heap *heap, struct tlsf_placed it, size_t len) TLSF_NOEXCEPT {
     if ((it.answer != TLSF_OK && it.answer != TLSF_NO_FIT) || !tlsf_trace_takes(heap, 2)) return;
     if (it.answer == TLSF_OK) {
         uint32_t *first = &tlsf_trace.first[it.at % TLSF_TRACE_LISTS];
@@ -130,15 +131,14 @@ static inline void tlsf_trace_given(const struct tlsf_heap *heap, struct tlsf_pl
 }
 
 /* The same where a call wrote a name, if it was accepted. */
-static inline void tlsf_trace_named(const struct tlsf_heap *heap, uint32_t answer, const struct tlsf_name *name,
-                                    uint32_t len) TLSF_NOEXCEPT {
+static inline void tlsf_trace_named(const struct tlsf_heap *heap, uint32_t answer, const struct tlsf_name *name, size_t len) TLSF_NOEXCEPT {
     const struct tlsf_placed it = {name->at, answer, name->serial};
     tlsf_trace_given(heap, it, len);
 }
 
 /* A release, `f`, or a resize where the block stands, `r`: accepted, or refused for a reason that the trace has too. */
 static inline void tlsf_trace_changed(const struct tlsf_heap *heap, uint32_t answer, uint32_t at, const uint64_t *serial,
-                                      const uint32_t *len) TLSF_NOEXCEPT {
+                                      const size_t *len) TLSF_NOEXCEPT {
     uint32_t found;
     if ((answer != TLSF_OK && answer != TLSF_STALE && answer != TLSF_NO_ROOM) || !tlsf_trace_takes(heap, 1)) return;
     found = tlsf_trace_label(at, serial);
@@ -169,8 +169,8 @@ static inline uint32_t tlsf_trace_class_low(uint32_t words) TLSF_NOEXCEPT {
  * it is cut to the words in front, and released at last. In between the free words behind it give the block. The heap takes
  * them by their place. Here it is asked for the least words of their class, which finds them since they became free last, and
  * which is then resized to those that are wanted. */
-static inline void tlsf_trace_given_aligned(struct tlsf_heap *heap, struct tlsf_placed it, uint32_t len, uint32_t step) TLSF_NOEXCEPT {
-    const uint64_t wanted = (len < 8 ? 8 : (uint64_t)len) + 8 * ((uint64_t)(step == 0 ? 1 : step) + 4);
+static inline void tlsf_trace_given_aligned(struct tlsf_heap *heap, struct tlsf_placed it, size_t len, uint32_t step) TLSF_NOEXCEPT {
+    const uint64_t bytes = len < 8 ? 8 : len < UINT32_MAX ? len : UINT32_MAX, wanted = bytes + 8 * ((uint64_t)(step == 0 ? 1 : step) + 4);
     const uint32_t longest = wanted < UINT32_MAX ? (uint32_t)wanted : UINT32_MAX, front = tlsf_trace.labels;
     struct tlsf_block_info own = {0, 0, 0, 0, 0}, behind = {0, 0, 0, 0, 0};
     uint32_t gap;
@@ -189,7 +189,7 @@ static inline void tlsf_trace_given_aligned(struct tlsf_heap *heap, struct tlsf_
     tlsf_trace_line('f', front, 0);
 }
 
-/* --- The calls in place of those of tlsf.h ------------------------------------------------------------------------ */
+/* --- The calls in place of those of peachanchor.h ------------------------------------------------------------------------ */
 
 TLSF_ANSWER static inline uint32_t tlsf_traced_open(struct tlsf_heap *heap, uint32_t level, uint32_t number, uint32_t words) TLSF_NOEXCEPT {
     const uint32_t answer = tlsf_open(heap, level, number, words);
@@ -225,19 +225,19 @@ static inline uint32_t tlsf_traced_close(struct tlsf_heap *heap) TLSF_NOEXCEPT {
     return answer;
 }
 
-TLSF_ANSWER static inline uint32_t tlsf_traced_allocate(struct tlsf_heap *heap, uint32_t len, struct tlsf_name *name) TLSF_NOEXCEPT {
+TLSF_ANSWER static inline uint32_t tlsf_traced_allocate(struct tlsf_heap *heap, size_t len, struct tlsf_name *name) TLSF_NOEXCEPT {
     const uint32_t answer = tlsf_allocate(heap, len, name);
     tlsf_trace_named(heap, answer, name, len);
     return answer;
 }
 
-TLSF_ANSWER static inline struct tlsf_placed tlsf_traced_allocate_place(struct tlsf_heap *heap, uint32_t len) TLSF_NOEXCEPT {
+TLSF_ANSWER static inline struct tlsf_placed tlsf_traced_allocate_place(struct tlsf_heap *heap, size_t len) TLSF_NOEXCEPT {
     const struct tlsf_placed it = tlsf_allocate_place(heap, len);
     tlsf_trace_given(heap, it, len);
     return it;
 }
 
-TLSF_ANSWER static inline struct tlsf_placed tlsf_traced_allocate_aligned(struct tlsf_heap *heap, uint32_t len, uint32_t step,
+TLSF_ANSWER static inline struct tlsf_placed tlsf_traced_allocate_aligned(struct tlsf_heap *heap, size_t len, uint32_t step,
                                                                           uint32_t skew) TLSF_NOEXCEPT {
     const struct tlsf_placed it = tlsf_allocate_aligned(heap, len, step, skew);
     tlsf_trace_given_aligned(heap, it, len, step);
@@ -250,20 +250,28 @@ static inline uint32_t tlsf_traced_release(struct tlsf_heap *heap, struct tlsf_n
     return answer;
 }
 
+/* A trace has no line for it. Each line of a live block takes a tick of a replay's. */
+static inline uint32_t tlsf_traced_reset(struct tlsf_heap *heap) TLSF_NOEXCEPT {
+    struct tlsf_block_info it = {0, 0, 0, 0, 0};
+    for (uint32_t at = 0; tlsf_trace_is_of(heap) && tlsf_block_at(heap, at, &it) == TLSF_OK; at += it.size)
+        if (it.is_live != 0) tlsf_trace_changed(heap, TLSF_OK, at, &it.mark, TLSF_NULL);
+    return tlsf_reset(heap);
+}
+
 static inline uint32_t tlsf_traced_release_place(struct tlsf_heap *heap, uint32_t at) TLSF_NOEXCEPT {
     const uint32_t answer = tlsf_release_place(heap, at);
     tlsf_trace_changed(heap, answer, at, TLSF_NULL, TLSF_NULL);
     return answer;
 }
 
-TLSF_ANSWER static inline uint32_t tlsf_traced_resize(struct tlsf_heap *heap, struct tlsf_name name, uint32_t len) TLSF_NOEXCEPT {
+TLSF_ANSWER static inline uint32_t tlsf_traced_resize(struct tlsf_heap *heap, struct tlsf_name name, size_t len) TLSF_NOEXCEPT {
     const uint32_t answer = tlsf_resize(heap, name, len);
     tlsf_trace_changed(heap, answer, name.at, &name.serial, &len);
     return answer;
 }
 
 /* Where it moves, the new block is allocated before the old one is released. */
-TLSF_ANSWER static inline uint32_t tlsf_traced_reallocate(struct tlsf_heap *heap, struct tlsf_name *name, uint32_t len) TLSF_NOEXCEPT {
+TLSF_ANSWER static inline uint32_t tlsf_traced_reallocate(struct tlsf_heap *heap, struct tlsf_name *name, size_t len) TLSF_NOEXCEPT {
     const struct tlsf_name before = *name;
     const uint32_t answer = tlsf_reallocate(heap, name, len);
     const bool moves = answer == TLSF_NO_FIT || (answer == TLSF_OK && name->at != before.at);
@@ -272,7 +280,7 @@ TLSF_ANSWER static inline uint32_t tlsf_traced_reallocate(struct tlsf_heap *heap
     return answer;
 }
 
-TLSF_ANSWER static inline uint32_t tlsf_traced_resize_place(struct tlsf_heap *heap, uint32_t at, uint32_t len,
+TLSF_ANSWER static inline uint32_t tlsf_traced_resize_place(struct tlsf_heap *heap, uint32_t at, size_t len,
                                                             uint32_t *new_at) TLSF_NOEXCEPT {
     const uint32_t answer = tlsf_resize_place(heap, at, len, new_at);
     const bool moves = answer == TLSF_NO_FIT || (answer == TLSF_OK && *new_at != at);
@@ -284,33 +292,12 @@ TLSF_ANSWER static inline uint32_t tlsf_traced_resize_place(struct tlsf_heap *he
     return answer;
 }
 
-/* Of none it says whether both handles are open. */
-static inline uint32_t tlsf_traced_drain(struct tlsf_heap *heap, struct tlsf_take_end *take, uint32_t most, uint32_t *came) TLSF_NOEXCEPT {
-    struct tlsf_name name = {0, 0, 0};
-    uint32_t count = 0;
-    const uint32_t answer = tlsf_drain(heap, take, 0, came);
-    if (answer != TLSF_OK) return answer;
-    for (; count < most && tlsf_take(take, &name) == TLSF_OK; count++) tlsf_traced_release(heap, name);
-    *came = count;
-    return TLSF_OK;
-}
-
-static inline uint32_t tlsf_traced_queue_drain(struct tlsf_heap *heap, struct tlsf_queue *queue, uint32_t most,
-                                               uint32_t *came) TLSF_NOEXCEPT {
-    struct tlsf_name name = {0, 0, 0};
-    uint32_t count = 0;
-    const uint32_t answer = tlsf_queue_drain(heap, queue, 0, came);
-    if (answer != TLSF_OK) return answer;
-    for (; count < most && tlsf_queue_take(queue, &name) == TLSF_OK; count++) tlsf_traced_release(heap, name);
-    *came = count;
-    return TLSF_OK;
-}
-
 #define tlsf_open tlsf_traced_open
 #define tlsf_open_in tlsf_traced_open_in
 #define tlsf_open_near tlsf_traced_open_near
 #define tlsf_open_near_in tlsf_traced_open_near_in
 #define tlsf_close tlsf_traced_close
+#define tlsf_reset tlsf_traced_reset
 #define tlsf_allocate tlsf_traced_allocate
 #define tlsf_allocate_place tlsf_traced_allocate_place
 #define tlsf_allocate_aligned tlsf_traced_allocate_aligned
@@ -319,7 +306,5 @@ static inline uint32_t tlsf_traced_queue_drain(struct tlsf_heap *heap, struct tl
 #define tlsf_resize tlsf_traced_resize
 #define tlsf_reallocate tlsf_traced_reallocate
 #define tlsf_resize_place tlsf_traced_resize_place
-#define tlsf_drain tlsf_traced_drain
-#define tlsf_queue_drain tlsf_traced_queue_drain
 
 #endif

@@ -65,7 +65,7 @@ linked_with() { # linked_with TO KIND OBJECT FILE [FLAG..]
 
 with_thread_checks() {
     holds "TSan in the library" sanitized thread "$work/thread.o"
-    for file in tests/c/threads.c tests/c/race.c tests/c/queues.c examples/c/loaders.c tests/cpp/homes.cpp; do
+    for file in tests/c/threads.c tests/c/race.c tests/c/queues.c tests/c/locked.c examples/c/loaders.c tests/cpp/homes.cpp; do
         name=${file##*/}
         holds "$name over it" linked_with "$work/${name%.*}" thread "$work/thread.o" "$file" -lstdc++
     done
@@ -73,6 +73,7 @@ with_thread_checks() {
     does threads 200000
     does threads '100000 3'
     does queues '4 50000'
+    does locked 50000
     does homes ''
     does loaders ''
     with=

@@ -1,10 +1,12 @@
 #!/usr/bin/env python3
-"""usage: tools/calls.py [--rust | HEADER]
+"""usage: tools/calls.py [--rust | --prefix | HEADER]
 
 Prints the names of the calls that C's library has, one a line, as
-include/tlsf.h or another HEADER declares them: that file is the one table of
-them. With --rust it prints bindings/rust/peachanchor-sys/src/proved.rs, which
-is made of it. `tools/check` holds all else to the table that lists calls.
+include/peachanchor.h or another HEADER declares them, and those that some have
+for the linker besides: that file is the one table of them. Of it are made what
+--rust prints, bindings/rust/peachanchor-sys/src/proved.rs, and what --prefix
+prints, include/tlsf_prefix.h. `tools/check` holds all else to the table that
+lists calls.
 
 The exit status is 0, 1 where the header can't be read, and 2 where the words
 are others.
@@ -18,18 +20,19 @@ sys.dont_write_bytecode = True
 import script
 from tree import TOP
 
-HEADER = TOP / "include" / "tlsf.h"
+HEADER = TOP / "include" / "peachanchor.h"
 INLINE = TOP / "include" / "tlsf_inline.h"
 REMARK = re.compile(r"/\*.*?\*/|^#.*?(?<!\\)$", re.S | re.M)
-DECLARED = re.compile(r"(?:^|[;{}])\s*((?:TLSF_\w+ )*)(static inline )?([\w ]+?[ *]+)(tlsf_\w+)\(([^()]*)\) TLSF_NOEXCEPT(?=;)", re.M)
-IN_RUST = {"uint8_t": "u8", "uint32_t": "u32", "uint64_t": "u64", "size_t": "usize", "void": "c_void"}
+DECLARED = re.compile(
+    r"(?:^|[;{}])\s*((?:TLSF_\w+ )*)(?:static inline )?([\w ]+?[ *]+)(tlsf_\w+)\(([^()]*)\)\s+TLSF_NOEXCEPT(?=(?:\s+TLSF_\w+\([^()]*\))*;)", re.M
+)
+IN_RUST = {"uint8_t": "u8", "uint32_t": "u32", "uint64_t": "u64", "size_t": "usize", "void": "c_void", "char": "c_char"}
 # What takes memory from malloc, so the archive without malloc refuses it.
 TAKES_MALLOC = re.compile(r"tlsf_(?!poster)(\w+_)?open(_near)?")
-RUST = """//! The calls that are in the archive, as `tlsf.h` declares them: made by `tools/calls.py --rust`. A name that they get by a
-//! pointer lies in no payload: the calls of the same names in the root of this crate see to that.
+RUST = """//! The calls that are in the archive, as `peachanchor.h` declares them: made by `tools/calls.py --rust`.
 
 use crate::*;
-use core::ffi::c_void;
+use core::ffi::{{c_char, c_void}};
 
 #[cfg(feature = "malloc")]
 #[rustfmt::skip]
@@ -56,6 +59,33 @@ macro_rules! by_value {{
 by_value! {{
 {by_value}
 }}
+"""
+PREFIX = """/* What the linker calls the calls where TLSF_PREFIX is defined before peachanchor.h, which includes this; made by `tools/calls.py --prefix`. */
+#ifndef TLSF_PREFIX_H
+#define TLSF_PREFIX_H
+
+#if !defined(__PRAGMA_REDEFINE_EXTNAME) || defined(__APPLE__)
+#error "TLSF_PREFIX is for gcc and clang, and for no macOS, where the pragma would leave out the mark in front of a name"
+#endif
+
+/* The prefix is replaced first, since it is a macro itself; so three steps are needed. */
+#define TLSF_DO(text) _Pragma(#text)
+#define TLSF_RENAME_BY(prefix, call, name) TLSF_DO(redefine_extname call prefix##name)
+#define TLSF_RENAME_AS(prefix, call, name) TLSF_RENAME_BY(prefix, call, name)
+#define TLSF_RENAME(call, name) TLSF_RENAME_AS(TLSF_PREFIX, call, name)
+
+{proved}
+
+/* These are of the file alone where they are inline. */
+#ifndef TLSF_INLINE
+{of_c}
+#endif
+
+#undef TLSF_RENAME
+#undef TLSF_RENAME_AS
+#undef TLSF_RENAME_BY
+#undef TLSF_DO
+#endif
 """
 
 
@@ -91,7 +121,7 @@ class Call:
     name: str
     answer: Value
     parameters: tuple
-    is_inline: bool
+    is_of_c: bool  # C over proved calls, with a body in tlsf_inline.h
     is_looked_at: bool  # a compiler warns where its answer isn't
     says_by_value: bool
 
@@ -106,40 +136,54 @@ class Call:
 
 
 def read(header=HEADER):
-    """The calls of a header in their order, those that are inline too."""
+    """The calls of a header in their order."""
     text = REMARK.sub("", header.read_text(encoding="utf-8"))
     calls = []
-    for said, inline, answer, name, given in DECLARED.findall(text):
-        parameters = tuple(Value.read(it) for it in given.split(","))
-        calls.append(Call(name, Value.read(answer), parameters, bool(inline), "TLSF_ANSWER" in said, "TLSF_BY_VALUE" in said))
+    for said, answer, name, given in DECLARED.findall(text):
+        parameters, words = tuple(Value.read(it) for it in given.split(",")), said.split()
+        is_of_c = not {"TLSF_CALL", "TLSF_SHORT_CALL"}.isdisjoint(words)
+        calls.append(Call(name, Value.read(answer), parameters, is_of_c, "TLSF_ANSWER" in words, "TLSF_BY_VALUE" in words))
     if not calls:
         raise ValueError(f"{header} declares no call")
     return calls
 
 
-def in_archive(calls):
-    return [it for it in calls if not it.is_inline]
+def renamed(header=HEADER):
+    """The calls that have another name for the linker, and that name."""
+    return dict(re.findall(r"^#pragma redefine_extname (\w+) (\w+)$", header.read_text(encoding="utf-8"), re.M))
 
 
 def wrapped():
-    """The calls of the archive that are called through a function of tlsf_inline.h."""
+    """The calls that are called through an inline function of tlsf_inline.h."""
     return re.findall(r"^#define (tlsf_\w+)\(\.\.\.\)", INLINE.read_text(encoding="utf-8"), re.M)
 
 
 def rust():
     """proved.rs of peachanchor-sys."""
     groups = {"malloc": [], "by_value": [], "others": []}
-    for it in in_archive(read()):
+    for it in read():
         groups["by_value" if it.is_by_value else "malloc" if TAKES_MALLOC.fullmatch(it.name) else "others"].append(it.in_rust)
     return RUST.format(**{kind: "\n".join(lines) for kind, lines in groups.items()})
 
 
+def prefix():
+    """tlsf_prefix.h. A call that has another name for the linker keeps that one after the prefix."""
+    groups, names = {"proved": [], "of_c": []}, renamed()
+    for it in read():
+        groups["of_c" if it.is_of_c else "proved"].append(f"TLSF_RENAME({it.name}, {names.get(it.name, it.name)})")
+    return PREFIX.format(**{kind: "\n".join(lines) for kind, lines in groups.items()})
+
+
+MADE = {"--rust": rust, "--prefix": prefix}
+
+
 def main(words):
     try:
-        if words == ["--rust"]:
-            sys.stdout.write(rust())
+        if words and words[0] in MADE:
+            sys.stdout.write(MADE[words[0]]())
         else:
-            print("\n".join(sorted(it.name for it in in_archive(read(*map(pathlib.Path, words))))))
+            header = pathlib.Path(words[0]) if words else HEADER
+            print("\n".join(sorted([*(it.name for it in read(header)), *renamed(header).values()])))
     except (OSError, ValueError) as why:
         print(f"calls.py: {why}", file=sys.stderr)
         return 1
@@ -147,4 +191,4 @@ def main(words):
 
 
 if __name__ == "__main__":
-    sys.exit(main(script.words(__doc__, lambda it: not it or it == ["--rust"] or len(it) == 1 and not it[0].startswith("-"))))
+    sys.exit(main(script.words(__doc__, lambda it: not it or len(it) == 1 and (it[0] in MADE or not it[0].startswith("-")))))

@@ -1,6 +1,8 @@
 # Sourced: where the files of C's library go, and how the program is linked of its object file.
 
-soname=libpeachanchor.so.2
+soname=libpeachanchor.so.3
+# The version at which that number rose last: who was written for an older one is refused by find_package.
+compatible=0.16.0
 
 # What Debian's packages are made by.
 deb_tools="dpkg-deb gzip strip python3"
@@ -36,7 +38,8 @@ time_of() {
 }
 
 put_archives() {
-    put_file cat "$1" "$2/libtlsf.a" && put_file cat "$1.nomalloc" "$2/libtlsf_nomalloc.a"
+    put_file cat "$1" "$2/libpeachanchor.a" && put_file cat "$1.nomalloc" "$2/libpeachanchor_nomalloc.a" &&
+        for kind in '' _nomalloc; do ln -sf "libpeachanchor$kind.a" "$2/libtlsf$kind.a" || return 1; done
 }
 
 # put_names TOP LIB INCLUDE: what pkg-config and CMake read, in LIB, from where INCLUDE leads to the headers.
@@ -56,9 +59,9 @@ put_names() {
         put_file of_kind "$from/peachanchor-config-version.cmake" "$2/cmake/tlsf/tlsf-config-version.cmake"
 }
 
-# The macros of tlsf.h, which tools/check holds to the program's version. A release has no more of it.
+# The macros of peachanchor.h, which tools/check holds to the program's version. A release has no more of it.
 version_of() {
-    sed -n 's/^#define TLSF_VERSION_[A-Z]* //p' "$1/include/tlsf.h" | tr '\n' . | sed 's/\.$//' | grep .
+    sed -n 's/^#define TLSF_VERSION_[A-Z]* //p' "$1/include/peachanchor.h" | tr '\n' . | sed 's/\.$//' | grep .
 }
 
 # put_builds TOP FOLDER: what builds the library in FOLDER, a release that has no toolchain, and what lies beside the archives.
@@ -92,15 +95,15 @@ put_headers() {
 }
 
 of_kind() {
-    sed -e "s/@VERSION@/$version/" -e "s/@SONAME@/$soname/" -e "s#@INCLUDE@#$include#" "$1"
+    sed -e "s/@VERSION@/$version/" -e "s/@SONAME@/$soname/" -e "s/@COMPATIBLE@/$compatible/" -e "s#@INCLUDE@#$include#" "$1"
 }
 
 of_kind_nomalloc() {
-    of_kind "$1" | sed -e 's/^Name: .*/&-nomalloc/' -e '/^Libs:/ s/tlsf/&_nomalloc/g' -e '/^Description:/ s/$/; for programs with no malloc/'
+    of_kind "$1" | sed -e 's/^Name: .*/&-nomalloc/' -e '/^Libs:/ s/libpeachanchor/&_nomalloc/g' -e '/^Description:/ s/$/; for programs with no malloc/'
 }
 
 of_kind_shared() {
-    of_kind "$1" | sed -e 's/^Name: .*/&-shared/' -e 's/ -ltlsf .*/ -lpeachanchor/' -e '/^Description:/ s/$/; the shared library/'
+    of_kind "$1" | sed -e 's/^Name: .*/&-shared/' -e 's/ -l:libpeachanchor.*/ -lpeachanchor/' -e '/^Description:/ s/$/; the shared library/'
 }
 
 # The names until version 0.5.

@@ -13,7 +13,7 @@
 #     KEY/KIT        what the toolchain that proved it says of itself, and its checksums: others of the same logic take it as
 #                    proved
 #     KEY/tlsf.o, tlsf.verdict, libtlsf.a.s, .ll, .verdict
-#                    what a release needs besides: the object; the library's assembly and LLVM module, without c/memory.c;
+#                    what a release needs besides: the object; the library's assembly and LLVM module, without what is C;
 #                    what the checker said, with the checksum of what was built of that. rt ci may leave none of these
 #     KEY/ports-SUM  what a release lowered of the library for other targets, by the checksum of all that it was made of
 #     KEY/log        what the last build said
@@ -132,7 +132,7 @@ text_sum() (
 
 # What C's library is built of besides.
 c_sum() {
-    [ "$goal" != tlsf_c ] || sha256sum c/memory.c c/exports.map
+    [ "$goal" != tlsf_c ] || sha256sum c/memory.c c/pointers.c c/exports.map include/peachanchor.h include/tlsf_*.h
 }
 
 # source_sums CRATE..: prints the checksum of each source of these crates, in the tree that is the current folder.
@@ -146,7 +146,7 @@ source_sums() {
 
 # places_sum TREE: prints, in milliseconds, a checksum that changes with each write to a source; else nothing.
 places_sum() {
-    listed=$(find "$1/crates.txt" "$1/HANDLES" "$1/c" "$1"/crates/*/src "$1"/crates/*/specs "$1"/crates/*/proofs \
+    listed=$(find "$1/crates.txt" "$1/HANDLES" "$1/c" "$1/include" "$1"/crates/*/src "$1"/crates/*/specs "$1"/crates/*/proofs \
         ! -type d -printf '%p %i %s %T@ %C@\n' 2> /dev/null) && echo "$listed" | sha256sum | cut -c 1-40
 }
 

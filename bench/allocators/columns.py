@@ -103,7 +103,7 @@ class Built:
             ]
             compile_c("-O2", "-w", *defined, "-c", "-o", made, self.source(source))
             own += ["-DAUTHORS", made]
-        compile_c(*FLAGS, *own, self.prefix / "lib/libtlsf.a")
+        compile_c(*FLAGS, *own, self.prefix / "lib/libpeachanchor.a")
 
     def words(self, program, column, *words):
         """The command line of a program with the words of a column: COLUMN stands for what the program calls that."""

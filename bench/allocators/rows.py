@@ -39,12 +39,16 @@ COLD_CALLS = ["allocate", "release", "malloc", "free"]
 OWN, ENDED, TOLD, LENGTHS = 0x20000000, 0x20000040, 0x20000041, 0x20000080
 # How a row calls lanes where the owner's handle has no cache line of its own.
 BESIDE = "lanes, the handle beside what posters read"
+# And where the archive's own call drains them.
+CALLED = "lanes, drained by the archive's call"
 # What frees.c prints of each pattern.
 BUSY = {
     "works": ("frees while the owner works, {}", "pairs of the owner meanwhile, {}"),
     "turns": ("bursts: a free, {}", "bursts: a drained name, {}"),
     "full": ("drain of a full lane, {}",),
 }
+# The words for frees.c of an order in which blocks are freed, and its name in a row.
+ORDERS = {(): "", ("random",): ", by chance"}
 FIGURES = ["p50", "p99", "p99.9", "p99.99", "worst"]
 TAIL_CALLS, TAIL_ROUNDS = 10_000_000, 3
 TRACES = sorted((TOP / "examples/recorded").glob("*.trace"))
@@ -217,21 +221,25 @@ class Rows:
 
     def time_frees(self):
         for posters in (1, 3):
-            for column in self.columns("frees"):
-                told = self.run(column, "frees", "lock", "COLUMN", "waits", str(posters), is_pinned=True)
-                self.keep(f"frees under a lock, {posters + 1} threads", column, told.split()[0])
-            for way, text in (("lanes", "lanes"), ("beside", BESIDE), ("queue", "a queue")):
-                if "level4" in self.columns("frees"):
-                    told = self.run("level4", "frees", way, "level4", "waits", str(posters), is_pinned=True)
-                    self.keep(f"frees over {text}, {posters + 1} threads", "level4", told.split()[0])
+            for order, by_chance in ORDERS.items():
+                threads = f"{posters + 1} threads{by_chance}"
+                for column in self.columns("frees"):
+                    told = self.run(column, "frees", "lock", "COLUMN", "waits", str(posters), *order, is_pinned=True)
+                    self.keep(f"frees under a lock, {threads}", column, told.split()[0])
+                for way, text in (("lanes", "lanes"), ("called", CALLED), ("beside", BESIDE), ("queue", "a queue")):
+                    if "level4" in self.columns("frees"):
+                        told = self.run("level4", "frees", way, "level4", "waits", str(posters), *order, is_pinned=True)
+                        self.keep(f"frees over {text}, {threads}", "level4", told.split()[0])
 
     def time_busy(self, pattern, column):
         """Frees beside the owner's work. Only this heap has lanes and rings, and a lane alone is full."""
         memory = COLUMNS[column].memory
-        ways = {"lanes": "over lanes", "beside": f"over {BESIDE}", "ring": "over a ring in C"} if column == "level4" else {}
+        ways = {"lanes": "over lanes", "called": f"over {CALLED}", "beside": f"over {BESIDE}", "ring": "over a ring in C"}
+        ways = ways if column == "level4" else {}
         if pattern != "full":
             ways["lock"] = "under a lock" if memory != "system" else "by free"
         for way, text in ways.items():
-            figures = self.run(column, "frees", way, memory, pattern, is_pinned=True).split()
-            for row, figure in zip(BUSY[pattern][: 1 if way == "lock" and pattern == "turns" else 2], figures):
-                self.keep(row.format(text), column, figure)
+            for order, by_chance in ORDERS.items():
+                figures = self.run(column, "frees", way, memory, pattern, "1", *order, is_pinned=True).split()
+                for row, figure in zip(BUSY[pattern][: 1 if way == "lock" and pattern == "turns" else 2], figures):
+                    self.keep(row.format(text) + by_chance, column, figure)

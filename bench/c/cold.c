@@ -12,7 +12,7 @@
  * The calls are allocate (payload is made zero) and release, and malloc (it is not) and free. Here the first two are by name, the others by
  * pointer. 1,000 blocks of 8 to 512 bytes are live, and one is released and another allocated in its place, again and again. */
 #define _GNU_SOURCE
-#include "tlsf.h"
+#include "peachanchor.h"
 
 #include <cpuid.h>
 #include <fcntl.h>

@@ -3,7 +3,7 @@
  * COLUMN is level4, level5, near4 or near5 (a heap of the library, and a near one), system (what is loaded), nothing (calls that do
  * nothing: what a program's own loop takes) or, with -DAUTHORS, authors (TLSF 2.4, or a file of heaps/ with the calls of that).
  * By pointer nothing is filled. By name payload is made zero; where there are no names that is calloc, and free as ever. */
-#include "tlsf.h"
+#include "peachanchor.h"
 
 #include <stdbool.h>
 #include <stdint.h>

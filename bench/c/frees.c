@@ -1,8 +1,9 @@
 /* Times frees of another thread's blocks, and names through the lanes of the C library. bench/peers builds and runs it.
  *
- * FREES WAY COLUMN PATTERN [POSTERS] prints one or two figures. The owner has 80,000 blocks of 8 bytes for each poster, 1 to 3 threads,
- * which free them. WAY is
+ * FREES WAY COLUMN PATTERN [POSTERS [ORDER]] prints one or two figures. The owner has 80,000 blocks of 8 bytes for each poster, 1 to 3
+ * threads, which free them: in the order of their places, or by chance where ORDER is random. WAY is
  *   lanes  their names go through a lane of 1,024 from each, and the owner drains them
+ *   called the same, by the archive's own drain, as by a pointer to the call
  *   beside the same, with the heap's handle in the cache line that a poster reads for each name; else it has a line of its own
  *   queue  the same through one queue of 1,024 for all
  *   ring   the same through a ring in C, of acquire and release, from which the owner copies up to 64 names before he stores the head
@@ -20,7 +21,7 @@
  * (two threads send one name to and fro through two lanes: half of a round) or line (two threads write one cache line by turns, each once
  * it has seen what the other wrote: half of a round). */
 #define _GNU_SOURCE
-#include "tlsf.h"
+#include "peachanchor.h"
 
 #include <pthread.h>
 #include <stdatomic.h>
@@ -31,7 +32,7 @@
 
 #ifdef AUTHORS
 size_t init_memory_pool(size_t bytes, void *pool);
-/* Inline calls of tlsf.h have these names too. */
+/* Inline calls of peachanchor.h have these names too. */
 void *authors_malloc(size_t bytes) __asm__("tlsf_malloc");
 void authors_free(void *block) __asm__("tlsf_free");
 #endif
@@ -48,6 +49,7 @@ static struct {
 } shown;
 static struct { _Alignas(128) struct tlsf_heap handle; } apart;
 static struct tlsf_heap *heap = &apart.handle;
+static uint32_t (*drain_called)(struct tlsf_heap *, struct tlsf_take_end *, uint32_t, uint32_t *);
 static pthread_mutex_t lock = PTHREAD_MUTEX_INITIALIZER;
 static struct lane {
     _Alignas(128) struct tlsf_post_end post;
@@ -166,7 +168,9 @@ static size_t drain(size_t most) {
     size_t all = 0;
     if (shown.way == RING) return ring_drain(most);
     if (shown.way == QUEUE) (void)tlsf_queue_drain(heap, &queue, (uint32_t)most, &came);
-    for (int k = 0; shown.way == LANES && k < count; k++, all += came) (void)tlsf_drain(heap, &lanes[k].take, (uint32_t)most, &came);
+    for (int k = 0; shown.way == LANES && k < count; k++, all += came)
+        if (drain_called) (void)drain_called(heap, &lanes[k].take, (uint32_t)most, &came);
+        else (void)tlsf_drain(heap, &lanes[k].take, (uint32_t)most, &came);
     return shown.way == QUEUE ? came : all;
 }
 
@@ -272,9 +276,23 @@ static int opens(void) {
     return 1;
 }
 
+static void shuffle(union block *all) {
+    uint64_t state = 88172645463325252u;
+    for (size_t k = EACH; k > 1; k--) {
+        state ^= state << 13;
+        state ^= state >> 7;
+        state ^= state << 17;
+        const size_t other = (size_t)(state >> 16) % k;
+        const union block last = all[k - 1];
+        all[k - 1] = all[other];
+        all[other] = last;
+    }
+}
+
 static int time_frees(char **words) {
     shown.way = *words[1] == 'r' ? RING : *words[1] == 'q' ? QUEUE : words[1][1] == 'o' ? LOCK : LANES;
     if (*words[1] == 'b') heap = &shown.handle;
+    if (*words[1] == 'c') drain_called = tlsf_drain;
     shown.column = !strcmp(words[2], "level4") ? LEVEL_4 : !strcmp(words[2], "system") ? SYSTEM : AUTHORS_OWN;
     shown.pattern = words[3][1] == 'a' ? WAITS : *words[3] == 'w' ? WORKS : *words[3] == 't' ? TURNS : FULL;
     count = words[4] ? atoi(words[4]) : 1;
@@ -283,6 +301,7 @@ static int time_frees(char **words) {
         (shown.way == QUEUE && shown.pattern == TURNS))
         return 2;
     if (!opens()) return 1;
+    for (int k = 0; words[4] && words[5] && k < count; k++) shuffle(blocks[k]);
     for (int k = 0; k < count; k++)
         if (pthread_create(&threads[k], NULL, post_all, &posters[k])) return 1;
     while (atomic_load(&ready) < count) {}
@@ -343,4 +362,4 @@ static int time_names(char *between) {
     return 0;
 }
 
-int main(int argc, char **argv) { return argc == 2 ? time_names(argv[1]) : argc == 4 || argc == 5 ? time_frees(argv) : 2; }
+int main(int argc, char **argv) { return argc == 2 ? time_names(argv[1]) : argc >= 4 && argc <= 6 ? time_frees(argv) : 2; }

@@ -9,7 +9,7 @@
  * released block. The first thing that is wrong ends it with status 1. */
 #define _GNU_SOURCE
 #include "stepped.h"
-#include "tlsf.h"
+#include "peachanchor.h"
 
 #include <pthread.h>
 #include <stdatomic.h>

@@ -1,7 +1,7 @@
 /* A heap with no system below it and no C library: it lies in a static array, fills and copies by the functions here, and prints over
  * the serial port: on qemu's machine `virt` for aarch64 and riscv64, and on its PC for x86-64. A board has other addresses for the port.
  * The start files switch on what the calls need: on aarch64 memory that is cached, and there and on x86-64 the registers of vectors. */
-#include <tlsf.h>
+#include <peachanchor.h>
 
 enum { BLOCKS = 40, NAMES = 8 };
 

@@ -1,7 +1,7 @@
 /* Buffers in a graphics card's memory, as an engine over Vulkan would place them: one large allocation of the device's, and spans of
  * it for the buffers. The processor never touches that memory, so the library's own bookkeeping lies elsewhere. Nothing of Vulkan
  * is needed here: `struct device` stands for it, and its sizes are made up. */
-#include <tlsf.h>
+#include <peachanchor.h>
 
 #include <stdio.h>
 

@@ -1,6 +1,6 @@
 /* The first block: a heap in memory of the program's, a pointer as malloc gives it, and a double free, which is refused. */
 #include <stdio.h>
-#include <tlsf.h>
+#include <peachanchor.h>
 static unsigned char memory[65536];
 static struct tlsf_heap heap; /* its bytes are zero, so it is closed */
 int main(void) {
@@ -8,6 +8,7 @@ int main(void) {
     int *numbers = tlsf_malloc(&heap, 100 * sizeof *numbers);       /* aligned to 16, and not filled */
     if (!numbers) return 1;                                         /* there is no room */
     numbers[0] = 42;
+    void *volatile again = numbers; /* so that gcc doesn't warn of what follows */
     tlsf_free(&heap, numbers);
-    puts(tlsf_text_of(tlsf_free(&heap, numbers))); /* a double free: it is refused, and changes nothing */
+    puts(tlsf_text_of(tlsf_free(&heap, again))); /* a double free: it is refused, and changes nothing */
 }

@@ -9,7 +9,7 @@
 #ifdef RECORD
 #define TLSF_TRACE stdout
 #endif
-#include <tlsf.h>
+#include <peachanchor.h>
 
 enum { REQUESTS = 500, SESSIONS = 40 };
 

@@ -2,7 +2,7 @@
  * over a lane. The loader fills the payload in place, while the owner goes on calling the heap, and posts the name home: all loaders
  * into one queue. The owner uses the image and releases its block. No call waits, and nothing is copied. */
 #define _POSIX_C_SOURCE 200809L
-#include <tlsf.h>
+#include <peachanchor.h>
 
 #include <pthread.h>
 #include <sched.h>

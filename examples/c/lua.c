@@ -5,7 +5,7 @@
  *
  * The line with times is of this run on this machine, as processor time: it shows no bound. */
 #define _POSIX_C_SOURCE 200809L
-#include <tlsf.h>
+#include <peachanchor.h>
 
 #include <lauxlib.h>
 #include <lua.h>

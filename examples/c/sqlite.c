@@ -5,7 +5,7 @@
  *
  * The line with a time is of this run on this machine, as processor time: it shows no bound. */
 #define _POSIX_C_SOURCE 200809L
-#include <tlsf.h>
+#include <peachanchor.h>
 
 #include <sqlite3.h>
 

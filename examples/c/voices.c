@@ -6,7 +6,7 @@
  * Then the same is done with malloc and free. The lines with times are of this run on this machine, with all else that it
  * did meanwhile: they show no bound. */
 #define _POSIX_C_SOURCE 200809L
-#include <tlsf.h>
+#include <peachanchor.h>
 
 #include <pthread.h>
 #include <stdatomic.h>

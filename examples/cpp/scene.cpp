@@ -1,5 +1,6 @@
 // A scene of a game: its objects, their names and their index lie in one heap, which is closed with it.
 #include <tlsf.hpp>
+#include <tlsf_resource.hpp>
 
 #include <cstdio>
 #include <map>

@@ -3,7 +3,7 @@
  * Link with -Wl,--wrap=malloc,--wrap=free,--wrap=tlsf_memory_alloc,--wrap=tlsf_memory_dealloc. */
 #include "chance.h"
 #include "piece.h"
-#include "tlsf.h"
+#include "peachanchor.h"
 
 #include "tlsf_cache.h"
 
@@ -62,13 +62,13 @@ static uint64_t sum; /* of what comes, so that none of it is ignored */
 static void do_calls_by_name(uint32_t kind, struct tlsf_name *name) {
     const uint32_t len = below(below(8) ? 200 : 40000);
     uint64_t *base = NULL;
-    struct tlsf_name other = *name;
+    struct tlsf_name other = *name, taken[4];
     size_t went = 0;
     uint32_t n = 0;
     if (!below(8)) other.at = below(UINT32_MAX);
     switch (kind) {
     case 0: sum += tlsf_allocate(&heap, len, name); break;
-    case 1: sum += tlsf_release(&heap, other); break;
+    case 1: sum += below(50) ? tlsf_release(&heap, other) : tlsf_reset(&heap); break;
     case 2: sum += tlsf_resize(&heap, other, len); break;
     case 3: sum += tlsf_reallocate(&heap, name, len); break;
     case 4: sum += tlsf_write(&heap, other, below(300), bytes, below(256)); break;
@@ -76,7 +76,7 @@ static void do_calls_by_name(uint32_t kind, struct tlsf_name *name) {
     case 6: sum += tlsf_locate(&heap, other, &base, &n); break;
     case 7: sum += tlsf_payload(&heap, other, &n) != NULL; break;
     case 8: sum += below(2) ? tlsf_put(&post, other) : tlsf_put_all(&post, names, below(4), &went); break;
-    case 9: sum += tlsf_take(&take, name); break;
+    case 9: sum += below(2) ? tlsf_take(&take, name) : tlsf_take_all(&take, taken, below(5), &went); break;
     default: sum += tlsf_drain(&heap, &take, below(4), &n); break;
     }
 }
@@ -112,7 +112,7 @@ static void do_calls_by_pointer(uint32_t kind, void **p) {
 }
 
 static void do_calls_by_place(uint32_t kind, uint32_t *at) {
-    const uint32_t len = tlsf_rounded(below(300));
+    const size_t len = tlsf_rounded(below(300));
     struct tlsf_block_info block;
     struct tlsf_name name;
     uint32_t n = 0;
@@ -124,7 +124,10 @@ static void do_calls_by_place(uint32_t kind, uint32_t *at) {
     case 23: sum += tlsf_place(&heap, *at, &name, &n); break;
     case 24: sum += tlsf_block_at(&heap, *at, &block); break;
     case 25: sum += tlsf_check(&heap, 0, below(100), &n, &n); break;
-    default: sum += tlsf_check(&heap, below(5000), 3, &n, &n); break;
+    default:
+        sum += tlsf_check(&heap, below(5000), 3, &n, &n);
+        sum += tlsf_check_around(&heap, *at, &n) + tlsf_check_request(&heap, len, &n);
+        break;
     }
 }
 

@@ -1,7 +1,7 @@
-/* A program with no C library: it links libtlsf_nomalloc.a, three functions of its own that fill and copy, and nothing else. It
+/* A program with no C library: it links libpeachanchor_nomalloc.a, three functions of its own that fill and copy, and nothing else. It
  * allocates, writes, frees and closes in a static array, and ends with 0 where all is as it should be.
  * Build with -nostdlib -static -O2, for x86-64, aarch64 or riscv64 Linux. */
-#include "tlsf.h"
+#include "peachanchor.h"
 
 static _Alignas(16) unsigned char memory[1 << 16];
 
@@ -79,7 +79,8 @@ static int uses_heap(void) {
     p[999] = 7;
     p = tlsf_realloc(&heap, p, 5000);
     if (!p || p[999] != 7) return 3;
-    if (tlsf_free(&heap, p) || tlsf_free(&heap, q) || tlsf_free(&heap, p) != TLSF_STALE) return 4;
+    void *volatile again = p; /* gcc would warn of a second free in plain sight */
+    if (tlsf_free(&heap, p) || tlsf_free(&heap, q) || tlsf_free(&heap, again) != TLSF_STALE) return 4;
     return tlsf_close(&heap) == TLSF_OK ? 0 : 5;
 }
 

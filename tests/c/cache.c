@@ -3,7 +3,7 @@
  * made by name, so that some lie at 8 bytes more than a multiple of 16. How often the magazine calls the heap is counted.
  * cache.edits has wrong magazines. CACHE [CALLS] [SEED] [LEVEL] [names] */
 #include "chance.h"
-#include "tlsf.h"
+#include "peachanchor.h"
 
 #include <string.h>
 

@@ -2,7 +2,7 @@
  * leaves all as it is. Before that it finds nothing, in slices of any size. DAMAGED [TURNS] [SEED] */
 #define _DEFAULT_SOURCE
 #include "chance.h"
-#include "tlsf.h"
+#include "peachanchor.h"
 
 #include <string.h>
 #include <sys/mman.h>

@@ -1,7 +1,7 @@
 /* Heaps as they stand, written as traces: the lines are calls that make the same heap out of a new one, which is compared block by
  * block. With a file, what it writes of a heap that some calls made goes there; it has to be dumped.trace.
  * DUMPED HEAPS [FILE] */
-#include "tlsf.h"
+#include "peachanchor.h"
 
 #include "tlsf_dump.h"
 

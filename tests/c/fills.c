@@ -1,6 +1,6 @@
 /* Payload of each length up to 1,100 bytes, where other bytes lay: all of it is zero, and the block behind it is as it was.
  * With WRONG the program fills by a function of its own: 1 leaves the last word, 2 fills a word more. */
-#include "tlsf.h"
+#include "peachanchor.h"
 
 #include <stdio.h>
 #include <stdlib.h>

@@ -1,6 +1,6 @@
 /* What each call answers of a handle that is closed, zeroed, opened twice or closed twice, at both levels, what becomes of names
  * under way where an end is closed, and what the header's own calls answer. */
-#include "tlsf.h"
+#include "peachanchor.h"
 
 #include <stdio.h>
 #include <string.h>
@@ -16,12 +16,15 @@ static void closed_heap(struct tlsf_heap *heap) {
     said("close", tlsf_close(heap));
     said("allocate", tlsf_allocate(heap, 8, &name));
     said("release", tlsf_release(heap, name));
+    said("reset", tlsf_reset(heap));
     said("resize", tlsf_resize(heap, name, 8));
     said("reallocate", tlsf_reallocate(heap, &name, 8));
     said("write", tlsf_write(heap, name, 0, &byte, 1));
     said("read", tlsf_read(heap, name, 0, &byte, 1));
     said("locate", tlsf_locate(heap, name, &base, &len));
     said("report", tlsf_report(heap, &report));
+    said("check_around", tlsf_check_around(heap, 0, &len));
+    said("check_request", tlsf_check_request(heap, 8, &len));
     printf("  no payload %d, nothing written %d\n", tlsf_payload(heap, name, &len) == NULL,
            !memcmp(&name, &kept, sizeof name) && !base && len == 5);
 }
@@ -131,6 +134,8 @@ static void lanes(void) {
     said("put all", tlsf_put_all(&post, &name, 1, &went));
     printf("  count as before %d\n", went == 88);
     said("take", tlsf_take(&take, &got));
+    said("take all", tlsf_take_all(&take, &got, 1, &went));
+    printf("  count as before %d\n", went == 88);
     said("drain", tlsf_drain(&heap, &take, 9, &came));
     said("close", tlsf_post_close(&post));
     said("close", tlsf_take_close(&take));
@@ -258,8 +263,8 @@ static void other_kinds(void) {
             refuses("put", tlsf_put(ends[k], name)), refuses("put all", tlsf_put_all(ends[k], &name, 1, &went)),
                 refuses("close", tlsf_post_close(ends[k]));
         if (k != 1)
-            refuses("take", tlsf_take(ends[k], &name)), refuses("drain", tlsf_drain(&heap, ends[k], 9, &n)),
-                refuses("close", tlsf_take_close(ends[k]));
+            refuses("take", tlsf_take(ends[k], &name)), refuses("take all", tlsf_take_all(ends[k], &name, 1, &went)),
+                refuses("drain", tlsf_drain(&heap, ends[k], 9, &n)), refuses("close", tlsf_take_close(ends[k]));
         if (k != 2) refuses("take", tlsf_queue_take(ends[k], &name)), refuses("drain", tlsf_queue_drain(&heap, ends[k], 9, &n));
         if (k != 2) refuses("open a poster's end", tlsf_poster_open(ends[k], &other)), refuses("close", tlsf_queue_close(ends[k]));
         if (k != 3) refuses("post", tlsf_queue_post(ends[k], name)), refuses("close", tlsf_poster_close(ends[k]));

@@ -1,7 +1,14 @@
-/* With IGNORED from 1 to 13 an answer that has to be looked at isn't: a compiler warns of that, in C and in C++. */
-#include "tlsf.h"
+/* With IGNORED from 1 to 16 an answer that has to be looked at isn't: a compiler warns of that, in C and in C++. Of one that is cast to
+ * void it doesn't. The headers are read as after windows.h, which has these words. */
+#define near
+#define far
+#define small char
+#define interface struct
+
+#include "peachanchor.h"
 
 #include "tlsf_cache.h"
+#include "tlsf_locked.h"
 
 #ifndef IGNORED
 #define IGNORED 0
@@ -13,6 +20,7 @@ uint32_t give(struct tlsf_heap *heap, struct tlsf_name *name, void *memory) {
     uint32_t at = 0;
     void *p = memory;
     struct tlsf_cache cache = TLSF_CACHE_CLOSED;
+    struct tlsf_locked locked = TLSF_LOCKED_CLOSED;
 #if IGNORED == 1
     tlsf_allocate(heap, 8, name);
 #elif IGNORED == 2
@@ -39,14 +47,28 @@ uint32_t give(struct tlsf_heap *heap, struct tlsf_name *name, void *memory) {
     tlsf_cache_realloc(&cache, p, 8);
 #elif IGNORED == 13
     tlsf_cache_calloc(&cache, 8, 8);
+#elif IGNORED == 14
+    tlsf_locked_open(&locked, 4, 1, 4096, true);
+#elif IGNORED == 15
+    tlsf_locked_malloc(&locked, 8);
+#elif IGNORED == 16
+    tlsf_locked_allocate(&locked, 8, name);
 #endif
-    /* What frees, releases or closes may be ignored. */
+    /* What is cast to void may be ignored, */
+    (void)tlsf_allocate(heap, 8, name);
+    (void)tlsf_check(heap, 0, 1, &at, &at);
+    (void)tlsf_malloc(heap, 8);
+    (void)tlsf_allocate_place(heap, 8);
+    /* and so may what frees, releases or closes. */
     tlsf_free(heap, p);
     tlsf_release(heap, *name);
     tlsf_release_place(heap, at);
-    tlsf_cache_free(&cache, p);
+    tlsf_cache_free(&cache, TLSF_NULL);
     tlsf_cache_flush(&cache);
     tlsf_cache_close(&cache);
+    tlsf_locked_free(&locked, TLSF_NULL);
+    tlsf_locked_release(&locked, *name);
+    tlsf_locked_close(&locked);
     tlsf_close(heap);
     return tlsf_allocate(heap, 8, name);
 }

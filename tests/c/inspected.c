@@ -1,7 +1,7 @@
 /* A heap to be looked at by gdb, with tools/package/tlsf-gdb.py: tests/package_test stops where this calls `look`, and compares what
  * gdb prints with inspected.stdout. */
 #include <stdlib.h>
-#include <tlsf.h>
+#include <peachanchor.h>
 
 static struct tlsf_heap heap, shut, gone;
 static struct tlsf_near_heap near;

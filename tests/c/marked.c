@@ -1,7 +1,7 @@
 /* Programs that touch what isn't live, which has to be told where it happens: with TLSF_ASAN by AddressSanitizer, with
  * TLSF_VALGRIND by memcheck. MARKED KIND: a kind below, or `right` for a program that touches nothing but payload. MARKED KIND in:
  * the same in memory of the program's. It prints what it was going to touch, and goes on if nobody stops it. */
-#include "tlsf.h"
+#include "peachanchor.h"
 
 #include "tlsf_cache.h"
 

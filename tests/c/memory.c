@@ -4,7 +4,7 @@
  * taken. With NO_MALLOC there is no malloc, and tlsf_open is refused.
  * Link with -Wl,--wrap=malloc,--wrap=free,--wrap=tlsf_memory_alloc. */
 #include "piece.h"
-#include "tlsf.h"
+#include "peachanchor.h"
 
 #include <pthread.h>
 #include <stdio.h>

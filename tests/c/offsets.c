@@ -1,6 +1,6 @@
 /* An arena of offsets: each refusal, and then calls by chance beside a plain table of the spans that are held. None overlaps another,
  * each lies in the memory, and a span that is given back is refused from then on. OFFSETS [CALLS] [LEVEL] [SEED] */
-#include "tlsf.h"
+#include "peachanchor.h"
 #include "chance.h"
 
 #include <string.h>

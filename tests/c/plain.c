@@ -1,9 +1,9 @@
-/* A plain heap and a plain lane that answer as tlsf.h says, by first fit over a table of blocks: what the tests beside it are
- * tried on, since one that passes on each library shows nothing. With a number from 1 to 14, 25 or 26 in the environment's WRONG
- * one thing in it is wrong, and random.c has to notice; from 15 to 24 or from 27 to 29, and pointers.c has to. It is no real-time
- * heap, and its lanes are for one thread. */
-#define TLSF_NO_COPIES
-#include "tlsf.h"
+/* A plain heap and a plain lane that answer as peachanchor.h says, by first fit over a table of blocks: what the tests beside it are
+ * tried on, since one that passes on each library shows nothing. With a number from 1 to 14, 25, 26, 35 or 36 in the
+ * environment's WRONG one thing in it is wrong, and random.c has to notice; from 15 to 24 or from 27 to 30, and pointers.c has
+ * to; from 31 to 34, and lengths.c has to. It is no real-time heap, and its lanes are for one thread. */
+#include "peachanchor.h"
+#undef tlsf_release /* the call itself */
 
 #include <stdlib.h>
 #include <string.h>
@@ -36,9 +36,18 @@ struct ring {
     struct tlsf_name names[1026];
 };
 
+/* A length as the heap has it. The wrong heap of that number cuts it. */
+static uint32_t saturated(size_t len, int number) { return len > UINT32_MAX && wrong != number ? UINT32_MAX : (uint32_t)len; }
+
 static uint32_t want(uint32_t len) {
     const uint32_t words = HEADER + len / 8 + (len % 8 != 0);
     return words < LEAST ? LEAST : words;
+}
+
+/* Notes a block of an odd number of words, where it was given. */
+static uint32_t note(struct tlsf_heap *heap, uint32_t answer, uint32_t len) {
+    if (answer == TLSF_OK && want(len) % 2 && wrong != 30) heap->is_mixed = true;
+    return answer;
 }
 
 static void insert(struct plain *p, uint32_t k, struct piece new) {
@@ -162,9 +171,10 @@ static struct tlsf_placed placed(struct plain *p, uint32_t answer, uint32_t at, 
     return (struct tlsf_placed){at, answer, answer == TLSF_OK ? p->tick + (wrong == 27) : 0};
 }
 
-struct tlsf_placed tlsf_allocate_place(struct tlsf_heap *heap, uint32_t len) {
+struct tlsf_placed tlsf_allocate_place(struct tlsf_heap *heap, size_t bytes) {
     if (!heap->is_open) return (struct tlsf_placed){0, TLSF_IS_CLOSED, 0};
     struct plain *p = heap->held;
+    const uint32_t len = saturated(bytes, 31);
     uint32_t k = 0;
     while (k < p->count && (p->pieces[k].is_live || p->pieces[k].words < want(len) + (wrong == 13))) k++;
     if (k == p->count) return placed(p, TLSF_NO_FIT, 0, len);
@@ -172,9 +182,10 @@ struct tlsf_placed tlsf_allocate_place(struct tlsf_heap *heap, uint32_t len) {
     return placed(p, TLSF_OK, at, len);
 }
 
-struct tlsf_placed tlsf_allocate_aligned(struct tlsf_heap *heap, uint32_t len, uint32_t step, uint32_t skew) {
+struct tlsf_placed tlsf_allocate_aligned(struct tlsf_heap *heap, size_t bytes, uint32_t step, uint32_t skew) {
     if (!heap->is_open) return (struct tlsf_placed){0, TLSF_IS_CLOSED, 0};
     struct plain *p = heap->held;
+    const uint32_t len = saturated(bytes, 31);
     for (uint32_t k = 0; k < p->count; k++) {
         const struct piece *it = &p->pieces[k];
         uint32_t gap = 0;
@@ -186,14 +197,14 @@ struct tlsf_placed tlsf_allocate_aligned(struct tlsf_heap *heap, uint32_t len, u
     return placed(p, TLSF_NO_FIT, 0, len);
 }
 
-uint32_t tlsf_allocate(struct tlsf_heap *heap, uint32_t len, struct tlsf_name *name) {
+uint32_t tlsf_allocate(struct tlsf_heap *heap, size_t len, struct tlsf_name *name) {
     if (wrong == 10) name->heap = ~0u;
     const struct tlsf_placed it = tlsf_allocate_place(heap, len);
     if (it.answer != TLSF_OK) return it.answer;
     struct plain *p = heap->held;
     if (wrong != 1) memset(p->region + it.at + HEADER, 0, len);
     *name = (struct tlsf_name){p->number, it.at, it.serial};
-    return TLSF_OK;
+    return note(heap, TLSF_OK, (uint32_t)len);
 }
 
 static uint32_t release(struct plain *p, struct piece *found) {
@@ -226,15 +237,16 @@ static uint32_t resize(struct plain *p, struct piece *found, uint32_t len) {
     return counted(p, TLSF_OK, 0);
 }
 
-uint32_t tlsf_resize(struct tlsf_heap *heap, struct tlsf_name name, uint32_t len) {
+uint32_t tlsf_resize(struct tlsf_heap *heap, struct tlsf_name name, size_t bytes) {
     struct piece *found = NULL;
+    const uint32_t len = saturated(bytes, 32);
     if (!heap->is_open) return TLSF_IS_CLOSED;
     uint32_t answer = find(heap->held, name, &found);
     if (answer != TLSF_OK) return answer;
     const uint32_t had = found->len;
     answer = resize(heap->held, found, len);
     if (wrong != 4 && answer == TLSF_OK && len > had) memset(bytes_of(heap->held, found) + had, 0, len - had);
-    return answer;
+    return note(heap, answer, len);
 }
 
 static uint32_t at_place(struct tlsf_heap *heap, uint32_t at, struct piece **found) {
@@ -266,9 +278,10 @@ uint32_t tlsf_place(struct tlsf_heap *heap, uint32_t at, struct tlsf_name *name,
 
 static uint32_t least(uint32_t a, uint32_t b) { return a < b ? a : b; }
 
-uint32_t tlsf_resize_place(struct tlsf_heap *heap, uint32_t at, uint32_t len, uint32_t *new_at) {
+uint32_t tlsf_resize_place(struct tlsf_heap *heap, uint32_t at, size_t bytes, uint32_t *new_at) {
     struct piece *found = NULL;
     struct plain *p = heap->held;
+    const uint32_t len = saturated(bytes, 33);
     uint32_t answer = at_place(heap, at, &found);
     if (answer != TLSF_OK) return answer;
     const uint32_t had = found->len;
@@ -283,14 +296,14 @@ uint32_t tlsf_resize_place(struct tlsf_heap *heap, uint32_t at, uint32_t len, ui
     return tlsf_release_place(heap, at);
 }
 
-uint32_t tlsf_reallocate(struct tlsf_heap *heap, struct tlsf_name *name, uint32_t len) {
+uint32_t tlsf_reallocate(struct tlsf_heap *heap, struct tlsf_name *name, size_t len) {
     uint32_t had = 0, at = 0;
     uint64_t *base = NULL;
     uint32_t answer = tlsf_locate(heap, *name, &base, &had);
     if (answer == TLSF_OK) answer = tlsf_resize_place(heap, name->at, len, &at);
     if (answer != TLSF_OK) return answer;
     if (len > had) memset((uint8_t *)(base + at + HEADER) + had, 0, len - had);
-    return tlsf_place(heap, at, name, &had);
+    return note(heap, tlsf_place(heap, at, name, &had), (uint32_t)len);
 }
 
 uint32_t tlsf_block_at(struct tlsf_heap *heap, uint32_t at, struct tlsf_block_info *block) {
@@ -427,7 +440,16 @@ uint32_t tlsf_take(struct tlsf_take_end *take, struct tlsf_name *name) {
     return TLSF_OK;
 }
 
-uint32_t tlsf_drain(struct tlsf_heap *heap, struct tlsf_take_end *take, uint32_t most, uint32_t *came) {
+uint32_t tlsf_take_all(struct tlsf_take_end *take, struct tlsf_name *names, size_t n, size_t *came) {
+    size_t count = 0;
+    if (!take->is_open) return TLSF_IS_CLOSED;
+    while (count < n && count < 32 && tlsf_take(take, &names[wrong == 35 ? 0 : count]) == TLSF_OK) count++;
+    if (count == 0 && n != 0) return TLSF_EMPTY;
+    *came = count + (wrong == 36 && count != n);
+    return TLSF_OK;
+}
+
+uint32_t(tlsf_drain)(struct tlsf_heap *heap, struct tlsf_take_end *take, uint32_t most, uint32_t *came) {
     struct tlsf_name name;
     if (!heap->is_open || !take->is_open) return TLSF_IS_CLOSED;
     for (*came = 0; *came < most && tlsf_take(take, &name) == TLSF_OK; ++*came) (void)tlsf_release(heap, name);
@@ -435,9 +457,11 @@ uint32_t tlsf_drain(struct tlsf_heap *heap, struct tlsf_take_end *take, uint32_t
 }
 
 /* By the law of the heap that it stands for, at level 4 and for small sizes. */
-uint32_t tlsf_words(uint32_t level, uint32_t blocks, uint32_t len, uint32_t *words) {
+uint32_t tlsf_words(uint32_t level, uint32_t blocks, size_t bytes, uint32_t *words) {
     if (level != 4 && level != 5) return TLSF_BAD_LEVEL;
-    const uint64_t m = want(len), found = (blocks - 1) * (m + 3) + blocks * (m - 1 + m / 16) + 1;
+    *words = blocks == 0 ? LEAST : *words;
+    if (blocks == 0) return TLSF_OK;
+    const uint64_t m = want(saturated(bytes, 34)), found = (blocks - 1) * (m + 3) + blocks * (m - 1 + m / 16) + 1;
     if (found > (level == 4 ? 1u << 20 : 1u << 24)) return TLSF_BAD_SIZE;
     *words = (uint32_t)found;
     return TLSF_OK;

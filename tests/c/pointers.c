@@ -2,7 +2,7 @@
  * holds is looked at byte by byte, and each answer is judged. Pointers that no live block has are given to each call, and some
  * blocks are made or released by name. POINTERS [CALLS] [SEED] [LEVEL] [names] */
 #include "chance.h"
-#include "tlsf.h"
+#include "peachanchor.h"
 
 #include <string.h>
 
@@ -61,7 +61,7 @@ static void take_in(struct model *m, struct block *b, void *p, size_t len, size_
 /* By what the report grants a request has to be served, where aligning takes no more than `extra` bytes. */
 static int is_served(struct model *m, const void *p, size_t len, size_t extra) {
     const struct tlsf_heap_report r = report_of(m);
-    const size_t wanted = tlsf_rounded((uint32_t)len);
+    const size_t wanted = tlsf_rounded(len);
     const int has_room = r.free_blocks != 0;
     counts[p == NULL]++;
     if (p) return 1;
@@ -96,7 +96,7 @@ static void give_named(struct model *m, struct block *b) {
     const uint32_t flags = below(2) ? TLSF_UNFILLED : 0;
     struct tlsf_name name = {0, 0, 0}, found = {1, 1, 1};
     void *p = NULL;
-    uint32_t answer = is_odd ? tlsf_allocate(&m->heap, (uint32_t)len, &name) : tlsf_allocate_at(&m->heap, len, 64, flags, &name, &p);
+    uint32_t answer = is_odd ? tlsf_allocate(&m->heap, len, &name) : tlsf_allocate_at(&m->heap, len, 64, flags, &name, &p);
     if (answer == TLSF_OK && is_odd) p = tlsf_payload(&m->heap, name, NULL);
     wants("answer", answer, p ? TLSF_OK : TLSF_NO_FIT);
     if (!is_served(m, p, len, 32 + 64)) return;
@@ -173,7 +173,7 @@ static int is_given(const struct model *m, const unsigned char *p) {
 }
 
 static void refuse_wild(struct model *m, struct model *other, struct block *b) {
-    unsigned char *const p = wild(m, other, b);
+    unsigned char *volatile const p = wild(m, other, b); /* gcc would warn of it in plain sight */
     struct tlsf_name name = {9, 9, 9};
     if (!p || is_given(m, p)) return;
     counts[3]++;
@@ -189,10 +189,10 @@ static void refuse_sizes(struct model *m, void *live) {
     const size_t len = too_long[below(6)];
     struct tlsf_name name = {9, 9, 9};
     void *p = NULL;
-    const uint32_t any = below(1u << 30) * 5u, rounded = tlsf_rounded(any);
-    wants("rounded", rounded == UINT32_MAX ? any > UINT32_MAX - 15 : rounded >= any && rounded - any < 16 && rounded % 16 == 8, 1);
-    wants("the longest", tlsf_rounded(UINT32_MAX), UINT32_MAX);
-    wants("nearly", tlsf_rounded(UINT32_MAX - 15) >= UINT32_MAX - 15 && tlsf_rounded(UINT32_MAX - 14) == UINT32_MAX, 1);
+    const size_t any = below(2) ? (size_t)below(1u << 30) * 5 : SIZE_MAX - below(40), rounded = tlsf_rounded(any);
+    wants("rounded", rounded == SIZE_MAX ? any > SIZE_MAX - 15 : rounded >= any && rounded - any < 16 && rounded % 16 == 8, 1);
+    wants("the longest", tlsf_rounded(SIZE_MAX), SIZE_MAX);
+    wants("nearly", tlsf_rounded(SIZE_MAX - 15) >= SIZE_MAX - 15 && tlsf_rounded(SIZE_MAX - 14) == SIZE_MAX, 1);
     wants("free of null", tlsf_free(&m->heap, NULL), TLSF_OK);
     wants("malloc", tlsf_malloc(&m->heap, len) == NULL, 1);
     wants("realloc", tlsf_realloc(&m->heap, live, len) == NULL, 1);

@@ -1,6 +1,6 @@
 /* Pools for a table of kinds: each refusal, and then calls by chance beside a plain table of the blocks that are held. A request is served
  * just where its row has a place, each payload keeps its bytes, and no call takes memory. POOLS [CALLS] [LEVEL] [SEED] */
-#include "tlsf.h"
+#include "peachanchor.h"
 #include "chance.h"
 
 #include <string.h>
@@ -21,6 +21,7 @@ static void refusals_of_opening(void) {
     wants("rows that fall", tlsf_pools_open(&pools, 4, 1, (struct tlsf_kind[]){{10, 100}, {10, 50}}, 2), TLSF_BAD_SIZE);
     wants("a length twice", tlsf_pools_open(&pools, 4, 1, (struct tlsf_kind[]){{1, 8}, {1, 50}, {1, 50}}, 3), TLSF_BAD_SIZE);
     wants("no region so large", tlsf_pools_open(&pools, 4, 1, &(struct tlsf_kind){UINT32_MAX, 8}, 1), TLSF_BAD_SIZE);
+    wants("a length past 32 bits", tlsf_pools_open(&pools, 4, 1, &(struct tlsf_kind){1, ((size_t)1 << 32) + 16}, 1), TLSF_BAD_SIZE);
     wants("the last numbers", tlsf_pools_open(&pools, 4, UINT32_MAX - 7, many, 64), TLSF_OK);
     wants("open twice", tlsf_pools_open(&pools, 9, UINT32_MAX, rows, 70), TLSF_IN_USE);
     wants("close", tlsf_pools_close(&pools), TLSF_OK);
@@ -43,6 +44,7 @@ static void refusals_of_calls(void) {
     wants("report where closed", tlsf_pools_report(&pools, 0, &report), TLSF_IS_CLOSED);
     wants("open", tlsf_pools_open(&pools, 4, NUMBER, (struct tlsf_kind[]){{1, 16}, {2, 4000}}, 2), TLSF_OK);
     wants("longer than each row", tlsf_pools_allocate(&pools, 4001, &name), TLSF_BAD_SIZE);
+    wants("longer than 32 bits", tlsf_pools_allocate(&pools, ((size_t)1 << 32) + 16, &name), TLSF_BAD_SIZE);
     wants("release of another's", tlsf_pools_release(&pools, name), TLSF_FOREIGN);
     wants("write of another's", tlsf_pools_write(&pools, name, 0, bytes, 4), TLSF_FOREIGN);
     wants("read of another's", tlsf_pools_read(&pools, name, 0, out, 4), TLSF_FOREIGN);
@@ -85,7 +87,7 @@ static uint32_t row_of(uint32_t len) {
 }
 
 static void one_allocate(struct tlsf_pools *pools) {
-    const uint32_t len = below(4) ? rows[below(ROWS)].len - below(8) : below(LONGEST + 20), row = row_of(len);
+    const uint32_t len = below(4) ? (uint32_t)rows[below(ROWS)].len - below(8) : below(LONGEST + 20), row = row_of(len);
     struct held *it = &held[count];
     const uint32_t answer = tlsf_pools_allocate(pools, len, &it->name);
     wants("allocate", answer, row == ROWS ? TLSF_BAD_SIZE : in_row[row] == rows[row].most ? TLSF_ROW_FULL : TLSF_OK);

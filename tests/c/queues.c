@@ -1,6 +1,6 @@
 /* A queue: each refusal, and then several threads that post the names of one heap's blocks, whose owner releases them. Each poster's
  * names come in its order, none twice, and none is lost. QUEUES [POSTERS] [BLOCKS of each] */
-#include "tlsf.h"
+#include "peachanchor.h"
 #include "chance.h"
 
 #include <pthread.h>

@@ -1,8 +1,8 @@
-/* Programs with a race, which a checker of threads has to report: what tlsf.h says that C owes isn't kept.
+/* Programs with a race, which a checker of threads has to report: what peachanchor.h says that C owes isn't kept.
  * RACE payload: two threads write one payload in place. RACE call: one writes in place while the other calls tlsf_write.
  * RACE release: one fills a block in place while the other releases it, and allocates it again. RACE handle: two threads call one
  * heap. */
-#include "tlsf.h"
+#include "peachanchor.h"
 
 #include <pthread.h>
 #include <stdio.h>

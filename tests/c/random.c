@@ -1,7 +1,6 @@
 /* Calls by chance on two heaps and a lane, against plain tables: what each live block holds, byte by byte, and which names
  * lie in the lane. Each answer is judged, refusals too. RANDOM [CALLS] [SEED] [LEVEL] */
-#define TLSF_NO_COPIES /* the calls themselves, which a copy would hide */
-#include "tlsf.h"
+#include "peachanchor.h"
 
 #include <stdio.h>
 #include <stdlib.h>
@@ -192,6 +191,21 @@ static int many_over_lane(struct tlsf_post_end *post, uint32_t n) {
     return 1;
 }
 
+/* Those that wait come in their order, as many as there are places. Other places stay. */
+static int many_out_of_lane(struct tlsf_take_end *take, uint32_t n) {
+    const struct tlsf_name before = {77, 77, 77};
+    struct tlsf_name got[3 * CAPACITY];
+    size_t came = 77;
+    const uint32_t wanted = n < in_lane ? n : in_lane;
+    for (uint32_t k = 0; k < 3 * CAPACITY; k++) got[k] = before;
+    wants("take all", tlsf_take_all(take, got, n, &came), n && !in_lane ? TLSF_EMPTY : TLSF_OK);
+    wants("how many came", (uint32_t)came, n && !in_lane ? 77 : wanted);
+    for (uint32_t k = 0; k < 3 * CAPACITY; k++) wants("a name taken", (uint32_t)is_same(&got[k], k < wanted ? &lane[k] : &before), 1);
+    in_lane -= wanted;
+    memmove(lane, lane + wanted, in_lane * sizeof *lane);
+    return 1;
+}
+
 static int over_lane(struct tlsf_post_end *post, struct tlsf_take_end *take) {
     if (below(2)) {
         const struct tlsf_name sent = {below(9), below(99), state};
@@ -200,6 +214,7 @@ static int over_lane(struct tlsf_post_end *post, struct tlsf_take_end *take) {
         if (in_lane < CAPACITY) lane[in_lane++] = sent;
         return 1;
     }
+    if (state % 4 == 0) return many_out_of_lane(take, (uint32_t)(state / 4 % (3 * CAPACITY + 1)));
     struct tlsf_name got = {77, 77, 77};
     wants("take", tlsf_take(take, &got), in_lane ? TLSF_OK : TLSF_EMPTY);
     if (!in_lane) return got.heap == 77;

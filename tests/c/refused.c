@@ -2,7 +2,7 @@
  * TLSF_NO_MEMORY, and has given back all that it had. What is open, and is used and closed, has given back each piece once. Pieces that
  * are back are overwritten. Prints how many words the heaps of pools have for some tables.
  * Link with -Wl,--wrap=malloc,--wrap=free. */
-#include "tlsf.h"
+#include "peachanchor.h"
 
 #include <stdio.h>
 #include <stdlib.h>

@@ -2,7 +2,7 @@
  * heap lie in that memory. The second program is another process of this one, behind an exec, so all else of it lies elsewhere.
  * Each frees blocks of the other's. SHARED [CALLS] */
 #define _GNU_SOURCE
-#include "tlsf.h"
+#include "peachanchor.h"
 
 #include <pthread.h>
 #include <stdio.h>

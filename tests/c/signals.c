@@ -5,7 +5,7 @@
  * blocks of its own. SIGNALS step CALLS: each call is interrupted at each instruction, and the handler makes a call. SIGNALS
  * timer COUNT: a timer interrupts COUNT times. SIGNALS walk CALLS: at each instruction the handler walks the stack. */
 #define _GNU_SOURCE
-#include "tlsf.h"
+#include "peachanchor.h"
 
 #include <signal.h>
 #include <stdio.h>

@@ -4,8 +4,7 @@
  * came in another order. STATES WORDS LEVEL [WANT..]: each request wants so many words; all that the region has, where none is named.
  * It prints how many states and calls there were. Linked with --wrap=malloc, so that it sees, keeps and puts back all that a heap has.
  * With a number from 1 to 5 in the environment's WRONG it spoils what each call left, and has to notice. */
-#define TLSF_NO_COPIES /* the calls themselves, which a copy would hide */
-#include "tlsf.h"
+#include "peachanchor.h"
 
 #include <stddef.h>
 #include <stdio.h>
@@ -29,9 +28,9 @@ struct model {
     struct block blocks[MOST_BLOCKS + 1];
 };
 
-enum kind { ALLOCATE, RELEASE, RESIZE, REALLOCATE, ALLOCATE_PLACE, RELEASE_PLACE, RESIZE_PLACE, ALLOCATE_ALIGNED, KINDS };
-static const char *const kinds[KINDS] = {"allocate",       "release",       "resize",       "reallocate",
-                                         "allocate_place", "release_place", "resize_place", "allocate_aligned"};
+enum kind { ALLOCATE, RELEASE, RESIZE, REALLOCATE, ALLOCATE_PLACE, RELEASE_PLACE, RESIZE_PLACE, ALLOCATE_ALIGNED, RESET, KINDS };
+static const char *const kinds[KINDS] = {"allocate",      "release",      "resize",           "reallocate", "allocate_place",
+                                         "release_place", "resize_place", "allocate_aligned", "reset"};
 
 /* A call on block number `block`, so that it, or a new one, has `want` words; aligned to `step` words. */
 struct call {
@@ -188,6 +187,12 @@ static void take_back(struct model *m, uint32_t block) {
     m->tick++;
 }
 
+static void take_all_back(struct model *m) {
+    m->blocks[0] = (struct block){.size = words, .mark = m->tick};
+    m->count = 1;
+    m->tick++;
+}
+
 static void set_length(struct block *block, uint32_t len) {
     block->len = len;
     if (len < block->kept) block->kept = len;
@@ -274,6 +279,7 @@ static struct answer answered(struct model *m, struct call call) {
     case RESIZE: return resized(m, call, false, true);
     case REALLOCATE: return resized(m, call, true, true);
     case RESIZE_PLACE: return resized(m, call, true, false);
+    case RESET: take_all_back(m); return (struct answer){TLSF_OK, NOWHERE, 0};
     default: take_back(m, call.block); return (struct answer){TLSF_OK, NOWHERE, 0};
     }
 }
@@ -291,6 +297,20 @@ static struct answer placed(struct tlsf_placed it) {
     return (struct answer){it.answer, NOWHERE, 0};
 }
 
+/* No word is in use then, and the most that ever were stay. No name of before is live. */
+static uint32_t reset(const struct model *m) {
+    struct tlsf_heap_counts before = {0, 0, 0, 0}, after = {1, 0, 0, 0};
+    wants("counts", tlsf_counts(&heap, &before), TLSF_OK);
+    const uint32_t answer = tlsf_reset(&heap);
+    wants("counts", tlsf_counts(&heap, &after), TLSF_OK);
+    wants("no word in use", after.words, 0);
+    before.words = 0;
+    wants("the other counts", (uint64_t)memcmp(&before, &after, sizeof before), 0);
+    for (uint32_t i = 0; i < m->count; i++)
+        if (m->blocks[i].is_live) wants("release after a reset", tlsf_release(&heap, name_of(m, i)), TLSF_STALE);
+    return answer;
+}
+
 /* Makes the call, `m` being the heap before it. */
 static struct answer told(const struct model *m, struct call call) {
     const uint32_t len = len_of(call);
@@ -305,6 +325,7 @@ static struct answer told(const struct model *m, struct call call) {
         wants("number", name.heap, NUMBER);
         break;
     case RELEASE: it.status = tlsf_release(&heap, name); break;
+    case RESET: it.status = reset(m); break;
     case RESIZE:
         it.status = tlsf_resize(&heap, name, len);
         it.at = it.status == TLSF_OK ? name.at : NOWHERE;
@@ -419,7 +440,13 @@ static void check_place(const struct model *m, uint32_t at) {
     const uint32_t i = block_at(m, at), is_block = i < m->count, is_live = is_block && m->blocks[i].is_live;
     struct tlsf_block_info info = {0, 0, 0, 0, 0};
     struct tlsf_name name = {0, 0, 0};
-    uint32_t len = 0;
+    uint32_t len = 0, damaged = NOWHERE;
+    wants("check_around", tlsf_check_around(&heap, at, &damaged), is_block ? TLSF_OK : TLSF_STALE);
+    if (at > LEAST) {
+        const bool fits = choice(m, at) != NOWHERE;
+        wants("check_request", tlsf_check_request(&heap, 8 * (at - HEADER), &damaged), fits ? TLSF_OK : TLSF_NO_FIT);
+    }
+    wants("nothing is damaged", damaged, NOWHERE);
     wants("block_at", tlsf_block_at(&heap, at, &info), is_block ? TLSF_OK : TLSF_STALE);
     wants("place", tlsf_place(&heap, at, &name, &len), is_live ? TLSF_OK : TLSF_STALE);
     if (is_block) {
@@ -628,6 +655,7 @@ static void try_state(uint32_t number) {
         try_call(&m, number, (struct call){ALLOCATE_PLACE, 0, wants_tried[i], 0});
         for (uint8_t step = 1; step <= 8; step *= 2) try_call(&m, number, (struct call){ALLOCATE_ALIGNED, 0, wants_tried[i], step});
     }
+    try_call(&m, number, (struct call){RESET, 0, LEAST, 0});
     for (uint8_t i = 0; i < m.count; i++)
         if (m.blocks[i].is_live) try_block(&m, number, i);
 }

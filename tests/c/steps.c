@@ -3,7 +3,7 @@
  * that one took. STEPS [CALLS] [SEED]
  * On another processor than x86-64 it only makes the calls, and tests/c/counted counts. */
 #define _GNU_SOURCE
-#include "tlsf.h"
+#include "peachanchor.h"
 
 #include <signal.h>
 #include <stdio.h>

@@ -1,7 +1,7 @@
 /* A thread that has the heap, and others: it sends the names of its blocks over lanes; the others send them back, many at once where many
  * came, to be released. With FILLERS, 1 to 3, so many others fill each payload in place meanwhile, whatever the first calls: by rule 4 of
- * tlsf.h they may. With 0 there is one other, which touches no payload. THREADS [BLOCKS] [FILLERS] */
-#include "tlsf.h"
+ * peachanchor.h they may. With 0 there is one other, which touches no payload. THREADS [BLOCKS] [FILLERS] */
+#include "peachanchor.h"
 
 #include <pthread.h>
 #include <sched.h>
@@ -43,8 +43,10 @@ static void *send_back(void *given) {
     for (long i = it->number; i < blocks;) {
         const size_t most = 1 + (size_t)i % AT_ONCE;
         size_t n = 0, gone = 0;
-        for (; n < most && i < blocks && tlsf_take(&it->take, &names[n]) == TLSF_OK; n++, i += others)
-            if (it->base) fill(it, &names[n], i);
+        const uint32_t answer = tlsf_take_all(&it->take, names, most, &n);
+        if (answer != TLSF_OK && answer != TLSF_EMPTY) it->wrong++;
+        for (size_t k = 0; k < n; k++, i += others)
+            if (it->base) fill(it, &names[k], i);
         while (gone < n) {
             size_t went = 0;
             if (tlsf_put_all(&it->post, names + gone, n - gone, &went) != TLSF_OK || went > n - gone) it->wrong++;

@@ -4,7 +4,7 @@
 #include <stdio.h>
 static FILE *trace;
 #define TLSF_TRACE trace
-#include "tlsf.h"
+#include "peachanchor.h"
 
 #include <stdlib.h>
 

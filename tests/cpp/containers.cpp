@@ -1,5 +1,6 @@
 // The heap under containers of std, blocks that release themselves, and what is thrown.
 #include "tlsf.hpp"
+#include "tlsf_resource.hpp"
 
 #include <cstdio>
 #include <cstring>
@@ -267,8 +268,8 @@ static void sized_heaps(tlsf::level level) {
     std::uint32_t words = 0;
     holds("the fewest words",
           tlsf_words(static_cast<std::uint32_t>(level), 100, 512, &words) == TLSF_OK && exact.report().free_words == words);
-    holds("past 32 bits", throws<std::invalid_argument>([&] { (void)tlsf::heap::for_blocks(level, 2, 1, ~0u, 64); }));
-    holds("no such alignment", throws<std::invalid_argument>([&] { (void)tlsf::heap::for_blocks(level, 2, 1, 8, ~std::size_t(0)); }));
+    holds("past 32 bits", throws<tlsf::bad_size>([&] { (void)tlsf::heap::for_blocks(level, 2, 1, ~0u, 64); }));
+    holds("no such alignment", throws<tlsf::bad_size>([&] { (void)tlsf::heap::for_blocks(level, 2, 1, 8, ~std::size_t(0)); }));
     holds("no blocks", tlsf::heap::for_blocks(level, 2, 0, 1u << 30).report().free_words == 4);
 }
 
@@ -278,9 +279,9 @@ static void refusals(tlsf::heap &heap) {
     holds("past 32 bits", throws<std::bad_alloc>([&] { (void)resource.allocate(std::size_t(1) << 40, 8); }));
     holds("no such alignment", throws<std::bad_alloc>([&] { (void)resource.allocate(8, std::size_t(1) << 32); }));
     holds("an allocator's", throws<std::bad_alloc>([&] { (void)tlsf::allocator<long>(heap).allocate(~std::size_t(0) / 2); }));
-    holds("no region", throws<std::invalid_argument>([] { tlsf::heap none(tlsf::level::four, 0, 3); }));
-    holds("no region for so many", throws<std::invalid_argument>([] { (void)tlsf::heap::for_blocks(tlsf::level::four, 0, 1000000, 512); }));
-    holds("no lane", throws<std::invalid_argument>([] { tlsf::lane none(0); }));
+    holds("no region", throws<tlsf::bad_size>([] { tlsf::heap none(tlsf::level::four, 0, 3); }));
+    holds("no region for so many", throws<tlsf::bad_size>([] { (void)tlsf::heap::for_blocks(tlsf::level::four, 0, 1000000, 512); }));
+    holds("no lane", throws<tlsf::bad_size>([] { tlsf::lane none(0); }));
     tlsf::heap closed;
     tlsf::resource over_none(closed);
     holds("a closed heap", throws<std::bad_alloc>([&] { (void)over_none.allocate(8, 8); }));
@@ -295,6 +296,18 @@ static_assert(std::is_nothrow_move_constructible_v<tlsf::block> && !std::is_copy
 static_assert(std::is_nothrow_move_constructible_v<tlsf::post_end> && !std::is_copy_constructible_v<tlsf::take_end>);
 static_assert(!std::is_copy_constructible_v<tlsf::heap> &&noexcept(tlsf_release(nullptr, tlsf_name{})));
 
+// Heaps that take numbers by themselves: no two have one.
+void numbered() {
+    alignas(8) static unsigned char memory[8192];
+    tlsf::heap given(tlsf::level::four, 64), opened, lent;
+    holds("open", opened.open(tlsf::level::five, 64) == TLSF_OK && lent.open_in(tlsf::level::four, memory, sizeof memory) == TLSF_OK);
+    holds("in use", opened.open(tlsf::level::five, 64) == TLSF_IN_USE && lent.open_in(tlsf::level::four, memory, 8) == TLSF_IN_USE);
+    const std::uint32_t least = 1u << 31;
+    holds("from 2^31 on", given.number() >= least && opened.number() >= least && lent.number() >= least && tlsf::next_number() >= least);
+    holds("three numbers", given.number() != opened.number() && opened.number() != lent.number() && lent.number() != given.number());
+    holds("no such size", throws<tlsf::bad_size>([] { tlsf::heap none(tlsf::level::four, 3); }));
+}
+
 int main() {
     for (tlsf::level level : {tlsf::level::four, tlsf::level::five}) {
         tlsf::heap heap(level, 1, 1 << 16);
@@ -308,6 +321,7 @@ int main() {
         const tlsf_heap_report after = heap.report();
         holds("nothing is live afterwards", after.live_blocks == 0 && after.free_blocks == 1 && after.largest == 1 << 16);
     }
+    numbered();
     moved_heaps();
     closed_heaps(false);
     closed_heaps(true);

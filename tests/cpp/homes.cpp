@@ -1,6 +1,8 @@
 // Objects whose std::unique_ptr dies in any thread come home; classes of queues, of arenas of offsets and of pools; and a heap that
 // threads share behind a std::pmr::synchronized_pool_resource, or behind a mutex.
 #include "tlsf.hpp"
+#include "tlsf_home.hpp"
+#include "tlsf_resource.hpp"
 
 #include <algorithm>
 #include <atomic>
@@ -117,7 +119,7 @@ void ends_of_a_queue() {
     std::size_t caught = 0;
     try {
         const tlsf::queue too_large(1, 1025);
-    } catch (const std::invalid_argument &) {
+    } catch (const tlsf::bad_size &) {
         caught++;
     }
     wants("no such queue", caught, 1);
@@ -139,7 +141,7 @@ void spans() {
 
 // Those that lie in memory of the program's: where it is too little they throw.
 void in_memory_of_the_programs() {
-    std::vector<unsigned char> memory(std::max(tlsf_queue_bytes(2, 4), tlsf_offsets_bytes(4, 100)));
+    std::vector<unsigned char> memory(std::max(tlsf::queue::bytes(2, 4), tlsf::offsets::bytes(tlsf::level::four, 100)));
     std::size_t caught = 0;
     {
         tlsf::queue queue(2, 4, memory.data(), memory.size());
@@ -154,23 +156,23 @@ void in_memory_of_the_programs() {
     }
     try {
         const tlsf::queue queue(2, 4, memory.data(), 100);
-    } catch (const std::invalid_argument &) {
+    } catch (const tlsf::bad_size &) {
         caught++;
     }
     try {
         const tlsf::offsets arena(tlsf::level::four, 9, 16, 100, memory.data(), 100);
-    } catch (const std::invalid_argument &) {
+    } catch (const tlsf::bad_size &) {
         caught++;
     }
     wants("too little memory", caught, 2);
     try {
         const tlsf::queue queue(2, 4, nullptr, memory.size());
-    } catch (const std::invalid_argument &) {
+    } catch (const tlsf::bad_size &) {
         caught++;
     }
     try {
         const tlsf::offsets arena(tlsf::level::four, 9, 16, 100, nullptr, memory.size());
-    } catch (const std::invalid_argument &) {
+    } catch (const tlsf::bad_size &) {
         caught++;
     }
     wants("no memory at all", caught, 4);
@@ -198,13 +200,13 @@ void pools_for_a_table() {
     try {
         const tlsf_kind many{1u << 31, 8};
         const tlsf::pools too_large(tlsf::level::four, 12, &many, 1);
-    } catch (const std::invalid_argument &) {
+    } catch (const tlsf::bad_size &) {
         caught++;
     }
     try {
         const tlsf_kind falling[] = {{10, 100}, {10, 50}};
         const tlsf::pools unreached(tlsf::level::four, 12, falling, 2);
-    } catch (const std::invalid_argument &) {
+    } catch (const tlsf::bad_size &) {
         caught++;
     }
     wants("no such pools", caught, 2);

@@ -1,5 +1,6 @@
 // A heap of C++ to be looked at by gdb, with tools/package/tlsf-gdb.py, where this calls `look`.
 #include <tlsf.hpp>
+#include <tlsf_resource.hpp>
 #include <utility>
 
 [[gnu::noinline]] static void look() { asm volatile("" ::: "memory"); }

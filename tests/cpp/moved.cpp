@@ -1,6 +1,7 @@
 // Allocators and resources keep their heap where they are moved from, as the standard asks ([allocator.requirements]). So a
 // container that was moved from can be destroyed, assigned to and filled again.
 #include "tlsf.hpp"
+#include "tlsf_resource.hpp"
 
 #include <cstdio>
 #include <cstdlib>

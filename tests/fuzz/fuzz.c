@@ -1,7 +1,7 @@
 /* Bytes as calls of the heap, for libFuzzer: two heaps in memory of any alignment, and beside them a table of what is live. Each
  * answer is held against the table: alignment, room, bytes that stay, zeros, refusals and their counts, names, walks and checks.
  * At the end something is written past a payload, and tlsf_check has to come back all the same. tests/fuzz/run builds it. */
-#include <tlsf.h>
+#include <peachanchor.h>
 
 #include <stdio.h>
 #include <stdlib.h>
@@ -30,7 +30,7 @@ struct area {
     size_t bytes;
     uint32_t words, most_words, refused, longest_refused;
     bool is_mixed;     /* a block of it was asked for by name, and may have an odd number of words */
-    bool is_uncounted; /* something was refused of which tlsf.h leaves open whether it counts */
+    bool is_uncounted; /* something was refused of which peachanchor.h leaves open whether it counts */
     struct block blocks[BLOCKS];
     void *gone[GONE]; /* pointers that were freed */
     struct tlsf_name stale[GONE];
@@ -108,9 +108,9 @@ static size_t grant(struct area *a) {
 }
 
 static void count_refused(struct area *a, size_t n) {
-    if (n > TLSF_LONGEST) return; /* refused by tlsf.h alone */
+    if (n > TLSF_LONGEST) return; /* refused by peachanchor.h alone */
     a->refused++;
-    if (tlsf_rounded((uint32_t)n) > a->longest_refused) a->longest_refused = tlsf_rounded((uint32_t)n);
+    if (tlsf_rounded(n) > a->longest_refused) a->longest_refused = (uint32_t)tlsf_rounded(n);
 }
 
 /* --- Calls ------------------------------------------------------------------------------------------------------------- */
@@ -129,7 +129,7 @@ static struct block *a_live(struct area *a) {
 
 /* A pointer comes just where there is room for it, as the report says; on a mixed heap it may want more. */
 static void see_refusal(struct area *a, const void *p, size_t n, size_t had) {
-    const bool has_room = n <= TLSF_LONGEST && had != 0 && tlsf_rounded((uint32_t)n) <= had;
+    const bool has_room = n <= TLSF_LONGEST && had != 0 && tlsf_rounded(n) <= had;
     if (p != NULL) MUST(has_room);
     else MUST(!has_room || a->is_mixed);
 }
@@ -171,7 +171,7 @@ static void do_aligned(struct area *a) {
     if (p != NULL) enter(a, it, p, n, align);
     if (p != NULL || n > TLSF_LONGEST) return;
     /* above 16 bytes a block is asked for that has room for the alignment and for one of four words in front */
-    MUST(a->is_mixed || had < tlsf_rounded((uint32_t)n) + (align > 16 ? 32 + align : 0) || had == 0);
+    MUST(a->is_mixed || had < tlsf_rounded(n) + (align > 16 ? 32 + align : 0) || had == 0);
     a->is_uncounted = true; /* that one counts, where it is refused */
 }
 
@@ -189,7 +189,7 @@ static void do_realloc(struct area *a) {
         return;
     }
     if (p == NULL) {
-        MUST(tlsf_usable_size(a->heap, it->p) == had.usable && (n > TLSF_LONGEST || tlsf_rounded((uint32_t)n) > had.usable));
+        MUST(tlsf_usable_size(a->heap, it->p) == had.usable && (n > TLSF_LONGEST || tlsf_rounded(n) > had.usable));
         see_bytes(it, it->bytes);
         count_refused(a, n);
         return;

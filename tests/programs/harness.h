@@ -6,6 +6,10 @@
 #include <stdbool.h>
 #include <stddef.h>
 
+#ifdef __cplusplus
+extern "C" {
+#endif
+
 /* --- What a program's file has ----------------------------------------------------------------------------------------- */
 
 extern const char program_name[];
@@ -30,5 +34,9 @@ __attribute__((format(printf, 1, 2)))
 #endif
 void say(const char *format, ...);
 void say_bytes(const void *bytes, size_t n);
+
+#ifdef __cplusplus
+}
+#endif
 
 #endif

@@ -1,15 +1,14 @@
 """The numbers that calls from C answer are one list, wherever they stand:
 
-- `enum tlsf_answer` of include/tlsf.h, the constants of peachanchor-sys and the
-  enum Error of peachanchor have the same numbers, and so have the definitions
-  in crates/tlsf_c/specs/Refusals.antt and what c/memory.c answers;
+- `enum tlsf_answer` of include/peachanchor.h, the constants of peachanchor-sys
+  and the enum Error of peachanchor have the same numbers, and so have the
+  definitions in crates/tlsf_c/specs/Refusals.antt and what c/memory.c answers;
 - an answer that is named in the table of refusals of docs/TRACE.md has its
   number there. Others below 32 are those of `SHARED` here, and the rest begin
   at 32: so no number means one thing in a trace and another in C;
 - ALL, in which Error::check finds an answer, has each variant of Error but
   Unknown;
-- tlsf_text_of says the same of each answer in C and in Rust, and of no two
-  answers the same."""
+- tlsf_text_of says something of each answer, and of no two answers the same."""
 import re
 
 import tree
@@ -17,7 +16,7 @@ import tree
 OWN = 32
 # What no reply of a trace refuses: what is no refusal, and numbers of faults of `tlsf` itself.
 SHARED = {"OK": 0, "BAD_SIZE": 5, "NO_MEMORY": 6, "NOT_WRITTEN": 17}
-HEADER, SOURCE, MEMORY = "include/tlsf.h", "crates/tlsf_c/specs/Refusals.antt", "c/memory.c"
+HEADER, SOURCE, MEMORY = "include/peachanchor.h", "crates/tlsf_c/specs/Refusals.antt", "c/memory.c"
 INLINE, RUST, ERROR = "include/tlsf_inline.h", "bindings/rust/peachanchor-sys/src/lib.rs", "bindings/rust/peachanchor/src/error.rs"
 # Names of the definitions, and of Error, that are other words than C's.
 OF_DEFINITION = {"CLOSED": "IS_CLOSED", "DAMAGE": "DAMAGED"}
@@ -66,12 +65,10 @@ def faults():
     listed = found_in(ERROR, r"^        Self::([A-Z]\w+),$")
     if set(listed) != set(found_in(ERROR, r"^    ([A-Z]\w+) = \d+,$")) - {"Unknown"}:
         yield f"{ERROR}: ALL has not each error but Unknown, or one more"
-    in_c, in_rust = dict(found_in(INLINE, r'^    case TLSF_(\w+): return "(.*)";$')), dict(
-        found_in(RUST, r'^        TLSF_(\w+) => "(.*)",$')
-    )
-    if in_c != in_rust or in_c.keys() != answers.keys():
-        yield f"{INLINE}, {RUST}: tlsf_text_of says other words in C and in Rust, or not of each answer"
-    if len(set(in_c.values())) != len(in_c):
+    texts = dict(found_in(INLINE, r'^    case TLSF_(\w+): return "(.*)";$'))
+    if texts.keys() != answers.keys():
+        yield f"{INLINE}: tlsf_text_of doesn't know each answer, or one more"
+    if len(set(texts.values())) != len(texts):
         yield f"{INLINE}: tlsf_text_of says the same of two answers"
 
 

@@ -1,22 +1,25 @@
-"""The calls of C's library are one table, include/tlsf.h, which tools/calls.py
-reads:
+"""The calls of C's library are one table, include/peachanchor.h, which
+tools/calls.py reads:
 
 - each is a call of crates/tlsf_c with the same parameters, or one of
-  c/memory.c, and there are no others;
+  c/memory.c, or one of C's, which TLSF_CALL or TLSF_SHORT_CALL says and whose
+  body tlsf_inline.h has, and there are no others;
 - TLSF_BY_VALUE stands before those that are given or answer a struct by value;
-- proved.rs of peachanchor-sys is as tools/calls.py makes it;
-- the last table of docs/C.md names each call that is inline, or called through
-  a function of the header, or one of c/memory.c;
+- proved.rs of peachanchor-sys and include/tlsf_prefix.h are as tools/calls.py
+  makes them;
+- the last table of docs/C.md names each call of C's, and each that is called
+  through an inline function of the header;
 - tests/c/steps.c counts the calls that have a bound."""
 import re
 
 import calls
 import tree
 
-PROVED = "bindings/rust/peachanchor-sys/src/proved.rs"
+PROVED, INLINE, PREFIX = "bindings/rust/peachanchor-sys/src/proved.rs", "include/tlsf_inline.h", "include/tlsf_prefix.h"
 SOURCES, MEMORY, PAGE, STEPS = "crates/tlsf_c/src", "c/memory.c", "docs/C.md", "tests/c/steps.c"
 CALL = re.compile(r'^pub extern "C" fn (tlsf_\w+)\(\s*(.*?),?\s*\) -> (\S+)', re.M | re.S)
-OF_MEMORY = re.compile(r"^(?:uint32_t|size_t) (tlsf_\w+)\([^;]*?\) \{", re.M)
+OF_MEMORY = re.compile(r"^(?:[A-Z_]+ )*(?:uint32_t|size_t) (tlsf_\w+)\([^;]*?\) \{", re.M)
+BODY = re.compile(r"^(?:TLSF_\w+ )+[\w *]*?\b(tlsf_\w+)\([^;{]*?\) TLSF_NOEXCEPT \{", re.M)
 HEADING = "## Which calls are proved"
 BOUND = re.compile(r"^library (\w+) ", re.M)
 COUNTED = re.compile(r'\{"(\w+)", \(uintptr_t\)\1,')
@@ -54,20 +57,24 @@ def differing(what, has, wanted):
 
 
 def faults():
-    declared = {it.name: it for it in calls.in_archive(calls.read())}
+    declared = {it.name: it for it in calls.read()}
     of_source, of_memory = proved(), set(OF_MEMORY.findall(text_of(MEMORY)))
-    yield from differing(f"{SOURCES}, {MEMORY}", {*of_source} | of_memory, {*declared})
+    of_c = {it.name for it in declared.values() if it.is_of_c}
+    yield from differing(f"{SOURCES}, {MEMORY}", {*of_source} | of_memory, ({*declared} - of_c).union(calls.renamed().values()))
+    for name in sorted(of_c.difference(BODY.findall(text_of(INLINE)))):
+        yield f"{INLINE}: {name} has no body"
     for name, it in declared.items():
         wanted = [in_header(value) for value in (it.answer, *it.parameters)]
         if of_source.get(name, wanted) != wanted:
-            yield f"include/tlsf.h: {name} is of {', '.join(wanted)}, and in {SOURCES} of {', '.join(of_source[name])}"
+            yield f"include/peachanchor.h: {name} is of {', '.join(wanted)}, and in {SOURCES} of {', '.join(of_source[name])}"
         if it.is_by_value != it.says_by_value:
-            yield f"include/tlsf.h: {name} {'lacks' if it.is_by_value else 'needs no'} TLSF_BY_VALUE"
+            yield f"include/peachanchor.h: {name} {'lacks' if it.is_by_value else 'needs no'} TLSF_BY_VALUE"
     if text_of(PROVED) != calls.rust():
         yield f"{PROVED}: tools/calls.py --rust prints other lines"
+    if text_of(PREFIX) != calls.prefix():
+        yield f"{PREFIX}: tools/calls.py --prefix prints other lines"
     told = set(re.findall(r"`(tlsf_\w+)`", text_of(PAGE).partition(HEADING)[2]))
-    inline = {it.name for it in calls.read() if it.is_inline}
-    for name in sorted(inline.union(calls.wrapped(), of_memory) - told):
+    for name in sorted(of_c.union(calls.wrapped(), of_memory).difference(told, calls.renamed().values())):
         yield f"{PAGE}: '{HEADING[3:]}' doesn't name {name}"
     yield from differing(STEPS, set(COUNTED.findall(text_of(STEPS))), set(BOUND.findall(text_of("tools/longest_path.bounds"))))
 

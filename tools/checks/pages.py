@@ -12,11 +12,11 @@
 - no phrase is used that the list UNCLEAR of tools/prose.py has, 'as many' is
   compared with something, and behind is for places, after for time;
 - the newest version of CHANGELOG.md is the one that `tlsf --version` names, and
-  so is the one that the macros TLSF_VERSION_ of include/tlsf.h make;
+  so is the one that the macros TLSF_VERSION_ of include/peachanchor.h make;
 - a function in backticks with a number after it, as `tlsf_put` 56, has the
   bound of tools/longest_path.bounds, and in the next column that on aarch64;
-- who uses a payload in place is said in the words of rule 4 of tlsf.h wherever
-  the rule stands, and nowhere otherwise;
+- who uses a payload in place is said in the words of rule 4 of peachanchor.h
+  wherever the rule stands, and nowhere otherwise;
 - a trace that a page shows beside its replies is examples/two_workers.trace,
   with the reply lines of the case two_workers."""
 import functools
@@ -41,7 +41,7 @@ WRONG_BODY = re.compile(r"[a-z]\w*?__[a-z0-9]\w*")
 QUOTED_BOUND = re.compile(r"`([^`\s]+)` (?:\| |takes at most )?(\d+)\b(?: \| (\d+)\b)?")
 # Who uses a payload in place, in which files that stands, and what would be another rule.
 RULE = "by whoever holds the block, in any thread, also during calls on the heap that aren't about this block"
-STATE_RULE = ("include/tlsf.h", "c/preload.c", "docs/C.md", "docs/THREADS.md", "bindings/rust/peachanchor/src/lib.rs")
+STATE_RULE = ("include/peachanchor.h", "c/preload.c", "docs/C.md", "docs/THREADS.md", "bindings/rust/peachanchor/src/lib.rs")
 OTHER_RULE = re.compile(r"in no call on (?:the|that) heap|no call on (?:the|that) heap (?:runs|is made)|while one of them is in a call")
 LINE_START = re.compile(r"\s*\n\s*(?:\*|//!?)?\s*")
 # A trace beside its replies: the columns of its lines, and of the reply lines.
@@ -164,16 +164,16 @@ class Repository:
         pages = {page.name: LINE_START.sub(" ", page.text) for page in self.pages.values() if page.name != "CHANGELOG.md"}
         for name, text in {**pages, **stating}.items():
             for found in OTHER_RULE.finditer(text):
-                yield f"{name}: says '{found[0]}', which is another rule for payloads than that of tlsf.h"
+                yield f"{name}: says '{found[0]}', which is another rule for payloads than that of peachanchor.h"
 
     def version_faults(self):
         newest = NEWEST.search(self.pages[tree.TOP / "CHANGELOG.md"].text)
         named = VERSION.search(tree.read(tree.TOP / "crates" / "tlsf_command" / "src" / "lib.rt"))
         if not newest or not named or newest[1] != named[1]:
             yield f"CHANGELOG.md: its newest version is {newest and newest[1]}, and the program's {named and named[1]}"
-        macros = ".".join(MACRO.findall(tree.read(tree.TOP / "include" / "tlsf.h")))
+        macros = ".".join(MACRO.findall(tree.read(tree.TOP / "include" / "peachanchor.h")))
         if named and macros != named[1]:
-            yield f"include/tlsf.h: its macros make version {macros}, and the program's is {named[1]}"
+            yield f"include/peachanchor.h: its macros make version {macros}, and the program's is {named[1]}"
 
     def faults(self):
         for _, page in sorted(self.pages.items()):

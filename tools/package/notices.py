@@ -17,7 +17,7 @@ import tree
 LINE = "-" * 80
 HEAD = """Peachanchor may be used, at your option, by LICENSE-MIT or by LICENSE-APACHE.
 
-The libraries libtlsf.a, libtlsf_nomalloc.a and libpeachanchor.so, and the program
+The libraries libpeachanchor.a, libpeachanchor_nomalloc.a and libpeachanchor.so, and the program
 tlsf, are built by the toolchain Rattle over libraries that it brings. Some of
 these are ported from Rust crates, or follow them. Here are their notices, as they
 lie in the toolchain. The text of the Apache License 2.0 is LICENSE-APACHE.

@@ -1,19 +1,19 @@
 # find_package(peachanchor CONFIG), then target_link_libraries(... peachanchor::peachanchor); peachanchor::nomalloc in a program with
 # no malloc; peachanchor::shared for the shared library
 get_filename_component(peachanchor_lib "${CMAKE_CURRENT_LIST_DIR}/../.." ABSOLUTE)
-if(NOT EXISTS "${peachanchor_lib}/libtlsf.a")
+if(NOT EXISTS "${peachanchor_lib}/libpeachanchor.a")
   set(peachanchor_FOUND FALSE)
-  set(peachanchor_NOT_FOUND_MESSAGE "${peachanchor_lib}/libtlsf.a isn't built: type make there first")
+  set(peachanchor_NOT_FOUND_MESSAGE "${peachanchor_lib}/libpeachanchor.a isn't built: type make there first")
 elseif(NOT TARGET peachanchor::peachanchor)
   get_filename_component(peachanchor_include "${peachanchor_lib}/@INCLUDE@" ABSOLUTE)
   add_library(peachanchor::peachanchor STATIC IMPORTED)
   set_target_properties(peachanchor::peachanchor PROPERTIES
-    IMPORTED_LOCATION "${peachanchor_lib}/libtlsf.a"
-    INTERFACE_LINK_OPTIONS "-Wl,--exclude-libs,libtlsf.a")
+    IMPORTED_LOCATION "${peachanchor_lib}/libpeachanchor.a"
+    INTERFACE_LINK_OPTIONS "-Wl,--exclude-libs,libpeachanchor.a")
   add_library(peachanchor::nomalloc STATIC IMPORTED)
   set_target_properties(peachanchor::nomalloc PROPERTIES
-    IMPORTED_LOCATION "${peachanchor_lib}/libtlsf_nomalloc.a"
-    INTERFACE_LINK_OPTIONS "-Wl,--exclude-libs,libtlsf_nomalloc.a")
+    IMPORTED_LOCATION "${peachanchor_lib}/libpeachanchor_nomalloc.a"
+    INTERFACE_LINK_OPTIONS "-Wl,--exclude-libs,libpeachanchor_nomalloc.a")
   set(peachanchor_all peachanchor::peachanchor peachanchor::nomalloc)
   if(EXISTS "${peachanchor_lib}/@SONAME@")
     add_library(peachanchor::shared SHARED IMPORTED)

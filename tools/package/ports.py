@@ -2,15 +2,15 @@
 """usage: tools/package/ports.py CLANG X86_64.ll AARCH64.ll FOLDER
 
 Writes into FOLDER the library as assembly for processors and systems that no
-verdict of the checker names, riscv64, Windows and macOS; and c/memory.c for
-these and for x86-64 and aarch64, with malloc, without, and for no system. The
-two files are the LLVM modules that the proved library is made of, and CLANG is
-the toolchain's.
+verdict of the checker names, riscv64, Windows and macOS; and for these and for
+x86-64 and aarch64 c/pointers.c, and c/memory.c with malloc, without, and for no
+system. The two files are the LLVM modules that the proved library is made of,
+and CLANG is the toolchain's.
 
 Only what a target has for itself is changed in a module: its layout, what names
 a processor, how C extends a result of 32 bits, and on Windows the convention of
 calls that are given or answer a pair. Then each call's result and arguments
-have to be those that CLANG gives it by tlsf.h or c/memory.c for that target.
+have to be those that CLANG gives it by peachanchor.h or c/memory.c for that target.
 
 The exit status is 0 where all is written, 1 where something can't be, which a
 line on standard error says, and 2 where the words are others.
@@ -40,17 +40,23 @@ REMARK = re.compile(r'("(?:\\.|[^"\\])*")|[ \t]+(?:#|//)[ \t].*$|[ \t]+$')
 QUOTED = re.compile(r'"([^"\n]*::[^"\n]*)"')
 # The same on Windows: a flag of the linker's for 32 bits, and which compiler it was.
 SAID = re.compile(r'^\t\.def\t@feat\.00;\n(?:.*\n)*?@feat\.00 = .*\n|^\t\.section\t\.debug\$S,"dr"\n(?:(?!\t\.section).*\n)*', re.M)
-MEMORY = ["-std=c11", "-O2", "-fPIC", "-ffreestanding", "-fno-stack-protector", "-fasynchronous-unwind-tables", "-fno-verbose-asm"]
+# How the library's files of C are compiled, by no header but those of put_headers.
+OF_C = ["-std=c11", "-O2", "-fPIC", "-ffreestanding", "-nostdinc", "-fno-stack-protector", "-fasynchronous-unwind-tables"]
 # What lies in front of the name of each file for what flags.
-KINDS = {"memory": [], "memory_nomalloc": ["-DTLSF_NO_MALLOC"], "memory_bare": ["-DTLSF_NO_MALLOC", "-DTLSF_NO_TLS"]}
-# The headers that tlsf.h asks of a compiler, which the toolchain's lacks.
+KINDS = {
+    "pointers": [],
+    "memory": [],
+    "memory_nomalloc": ["-DTLSF_NO_MALLOC"],
+    "memory_bare": ["-DTLSF_NO_MALLOC", "-DTLSF_NO_TLS"],
+}
+# The headers that peachanchor.h asks of a compiler, which the toolchain's lacks.
 HEADERS = {
     "stdbool.h": "#define bool _Bool\n#define true 1\n#define false 0\n",
     "stddef.h": "typedef __SIZE_TYPE__ size_t;\n#define NULL ((void *)0)\n",
     "stdint.h": "".join(
         f"typedef __{it.upper()}_TYPE__ {it}_t;\n" for it in ("uint8", "uint16", "uint32", "uint64", "int32", "int64", "uintptr")
     )
-    + "#define UINT32_MAX 0xffffffffu\n#define UINT64_C(n) n##ull\n",
+    + "#define SIZE_MAX __SIZE_MAX__\n#define UINT32_MAX 0xffffffffu\n#define UINT64_C(n) n##ull\n",
 }
 
 
@@ -101,10 +107,19 @@ def told(*words, text=None):
     return ran.stdout
 
 
-def memory_text(clang, memory_c, target, flags):
-    """c/memory.c for a target by these flags, with labels that the proved calls, which stand in the same file, don't have."""
-    text = portable(told(clang, f"--target={target}", *MEMORY, *flags, "-S", memory_c, "-o", "-"))
-    return re.sub(r"(?<![\w.$])(L|\.L)(?=[A-Za-z_])", r"\1m_", text)
+def put_headers(folder):
+    """Puts the headers there that peachanchor.h asks of a compiler."""
+    for name, text in HEADERS.items():
+        pathlib.Path(folder, name).write_text(text, encoding="utf-8")
+
+
+def text_of_c(clang, file, target, flags):
+    """A file of C for a target by these flags, with labels that the proved calls, which stand in the same file, don't have."""
+    with tempfile.TemporaryDirectory() as headers:
+        put_headers(headers)
+        words = [clang, f"--target={target}", *OF_C, "-fno-verbose-asm", f"-isystem{headers}", *flags]
+        text = portable(told(*words, "-S", file, "-o", "-"))
+    return re.sub(r"(?<![\w.$])(L|\.L)(?=[A-Za-z_])", rf"\1{file.stem[0]}_", text)
 
 
 def moved(clang, port, text):
@@ -117,7 +132,7 @@ def moved(clang, port, text):
     if port.extends:
         text = re.sub(r"^(define [^@\n]*)i32 (?=@tlsf)", rf"\1{port.extends} i32 ", text, flags=re.M)
     if port.of_pairs:
-        names = "|".join(["tlsf_memory_(?:re)?alloc", *(it.name for it in calls.in_archive(calls.read()) if it.is_by_value)])
+        names = "|".join(["tlsf_memory_(?:re)?alloc", *(it.name for it in calls.read() if it.is_by_value)])
         text = re.sub(rf"(?<=call |fine |lare )([^@\n]*@(?:{names})\()", rf"{port.of_pairs} \1", text)
     return text
 
@@ -157,10 +172,9 @@ def heads(text, kind):
 
 
 def heads_of_c(clang, port, names):
-    """What clang makes of the calls of tlsf.h that have these names, and of all functions of c/memory.c."""
+    """What clang makes of the calls of peachanchor.h that have these names, and of all functions of c/memory.c."""
     with tempfile.TemporaryDirectory() as folder:
-        for name, text in HEADERS.items():
-            pathlib.Path(folder, name).write_text(text, encoding="utf-8")
+        put_headers(folder)
         words = [
             clang,
             f"--target={port.target}",
@@ -173,7 +187,7 @@ def heads_of_c(clang, port, names):
             f"-I{TOP / 'include'}",
         ]
         listed = ", ".join(f"(call *){it}" for it in sorted(names))
-        source = f"#include <tlsf.h>\ntypedef void call(void);\nextern call *all[];\ncall *all[] = {{{listed}}};\n"
+        source = f"#include <peachanchor.h>\ntypedef void call(void);\nextern call *all[];\ncall *all[] = {{{listed}}};\n"
         header = told(*words, "-x", "c", "-S", "-emit-llvm", "-", "-o", "-", text=source)
         memory = told(*words, "-S", "-emit-llvm", TOP / "c" / "memory.c", "-o", "-")
     return heads(header, "declare"), heads(memory, "define"), heads(memory, "declare")
@@ -213,13 +227,13 @@ def held_module(clang, name, port, text):
     return module
 
 
-def sum_of(clang, modules, memory_c):
+def sum_of(clang, modules, folder_of_c):
     """The checksum of all that `write` reads."""
     told = hashlib.sha256()
     for file in (
         clang,
         *modules.values(),
-        memory_c,
+        *sorted(folder_of_c.iterdir()),
         *sorted((TOP / "include").iterdir()),
         pathlib.Path(__file__),
         pathlib.Path(calls.__file__),
@@ -229,23 +243,23 @@ def sum_of(clang, modules, memory_c):
     return told.hexdigest()[:40]
 
 
-def write(clang, modules, memory_c, folder):
-    """Writes the calls of all ports into a folder, and c/memory.c for these and for what is proved. `modules` has the files of the two
-    modules by their processors."""
+def write(clang, modules, folder_of_c, folder):
+    """Writes the calls of all ports into a folder, and for these and for what is proved c/memory.c and c/pointers.c. `modules` has the files
+    of the two modules by their processors."""
     folder.mkdir(parents=True, exist_ok=True)
     for name, port in PORTS.items():
         module = held_module(clang, name, port, modules[port.module].read_text(encoding="utf-8"))
         (folder / f"calls-{name}.s").write_text(calls_text(clang, port, module), encoding="utf-8")
     for name, port in (PROVED | PORTS).items():
         for kind, flags in KINDS.items():
-            text = memory_text(clang, memory_c, port.target, [*port.flags, *flags])
+            text = text_of_c(clang, folder_of_c / f"{kind.partition('_')[0]}.c", port.target, [*port.flags, *flags])
             (folder / f"{kind}-{name}.s").write_text(text, encoding="utf-8")
 
 
 def main(words):
     clang, first, second, folder = map(pathlib.Path, words)
     try:
-        write(clang, {"x86_64": first, "aarch64": second}, TOP / "c" / "memory.c", folder)
+        write(clang, {"x86_64": first, "aarch64": second}, TOP / "c", folder)
     except (Failed, OSError) as why:
         print(f"ports: {why}", file=sys.stderr)
         return 1

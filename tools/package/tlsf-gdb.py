@@ -1,4 +1,4 @@
-"""Heaps of tlsf.h and tlsf.hpp in gdb: `source PREFIX/share/gdb/tlsf-gdb.py`, then
+"""Heaps of peachanchor.h and tlsf.hpp in gdb: `source PREFIX/share/gdb/tlsf-gdb.py`, then
 
     tlsf blocks HEAP            a line for each block: its place, where its payload lies, its words, what it is
     tlsf lists HEAP             a line for each list of free blocks, in the order in which they are taken

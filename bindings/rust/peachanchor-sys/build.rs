@@ -12,9 +12,9 @@ fn main() {
     println!("cargo:rerun-if-changed=build.rs");
     let takes_malloc = env::var_os("CARGO_FEATURE_MALLOC").is_some();
     let (archive, packages) = if takes_malloc {
-        ("tlsf", ["peachanchor", "tlsf"])
+        ("peachanchor", ["peachanchor", "tlsf"])
     } else {
-        ("tlsf_nomalloc", ["peachanchor-nomalloc", "tlsf-nomalloc"])
+        ("peachanchor_nomalloc", ["peachanchor-nomalloc", "tlsf-nomalloc"])
     };
     let folder = if let Some(prefix) = told("PEACHANCHOR_PREFIX") {
         format!("{prefix}/lib")

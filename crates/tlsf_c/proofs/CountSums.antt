@@ -2,6 +2,9 @@
 use Rattle.tlsf_c.proofs.Common.{◌≡◌, drop, ℕ, ◌+◌, ◌-◌, ◌≤◌, max, List, Result, Ok, Err, refl, sym, ap, ◌∙◌, subst, arith, IfOk, OnErr, HeapState, want, refused, allocated, allocated_words, resized_words, written, FollowsNoForgery, Seen, Shown, words_in_use, words_at, Name, Refusal, counted, AreHeapCounts, HeapCounts}
 use Rattle.tlsf_class.specs.Classes.{IsLevel}
 use Rattle.tlsf_heap.specs.Aligned.{words_aligned}
+use Rattle.tlsf_heap.specs.Calls.{reset}
+use Rattle.tlsf_c.specs.Refusals.{status_of}
+use Rattle.std.specs.Prelude.{IsOk}
 use Rattle.tlsf_heap.specs.Lawful.{IsLawful}
 use Rattle.tlsf_heap.specs.Laws.{IsLive}
 use Rattle.tlsf_heap.specs.Moved.{copied, resized_or_moved}
@@ -17,6 +20,7 @@ use Rattle.tlsf_heap.proofs.lemmas.laws.MovedWords.{moved_live, in_use_moved}
 use Rattle.tlsf_heap.proofs.lemmas.calls.ResizeOrMove.{by_moved, refuses}
 use Rattle.tlsf_heap.proofs.lemmas.calls.Named.{named_stands, named_live, not_forged}
 use Rattle.tlsf_heap.proofs.lemmas.calls.Outcomes.{by_allocated, by_allocated_words, by_released, by_resized, by_written}
+use Rattle.tlsf_heap.proofs.lemmas.calls.Reset.{by_reset, none_in_use}
 use Rattle.tlsf_heap.proofs.lemmas.calls.Resize.{resized_refused}
 use Rattle.tlsf_heap.proofs.lemmas.laws.WordsInUse.{words_named, words_part, words_within, in_use_allocated, in_use_resized, words_set}
 
@@ -50,6 +54,14 @@ given sli level h c are n len wanted lawful (Err why) e k is =
 -- a write changes none of it
 pub counts_written : (h : HeapState) (name : Name) (at : ℕ) (bytes : List ℕ) (c : HeapCounts) → AreHeapCounts h c → AreHeapCounts (written h name at bytes).heap c
 counts_written h name at bytes c are = record { words = omega (arith, are.words, (words_set 0 h (Put name at bytes) tt).0); most = are.most }
+
+-- a reset that is accepted leaves no word in use
+pub unused : (h k : HeapState) → Ok tt ≡ (reset h).answer → k ≡ (reset h).heap → words_in_use k ≡ 0
+unused h k ok is = ap words_in_use is ∙ none_in_use h (subst (λ (o : Result (Unit {0}) Refusal). IsOk o) ok refl)
+
+-- by its status
+pub unused_at : (h : HeapState) → status_of (reset h).answer ≡ 0 → words_in_use (reset h).heap ≡ 0
+unused_at h = by_reset (λ o. status_of o.answer ≡ 0 → words_in_use o.heap ≡ 0) h (λ late bad. absurd (omega (arith, bad))) (λ fresh ok. refl)
 
 -- the same where nothing is filled
 pub given_unset : (sli : ℕ) → IsLevel sli → (h : HeapState) (c : HeapCounts) → AreHeapCounts h c → (len : ℕ) → IsLawful h → (m : Image) (answer : Result Name Refusal) → answer ≡ (allocated sli h len).answer

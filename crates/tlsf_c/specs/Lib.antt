@@ -11,6 +11,7 @@ pub mod PoolsOf
 pub mod ArenaOwned
 pub mod Arenas
 pub mod OffsetHandles
+pub mod Lengths
 pub mod PoolCalls
 pub mod PoolHandles
 pub mod Serving
@@ -18,6 +19,7 @@ pub mod Handles
 pub mod Refusals
 pub mod Names
 pub mod Drains
+pub mod Takes
 pub mod PlaceCalls
 pub mod Counting
 pub mod Checked

@@ -9,6 +9,7 @@ use Rattle.tlsf_pool.specs.declared.pools.pool_refusal.PoolRefusal.{PoolRefusal}
 use Rattle.tlsf_pool.specs.declared.pools.pool_refusal.PoolRefusal.TheVariants as pool
 use Rattle.tlsf_pool.specs.pools.Parts.{PoolsState}
 use Rattle.tlsf_c.specs.Arenas.{is_pools, pools_of}
+use Rattle.tlsf_c.specs.Lengths.{saturated}
 use Rattle.tlsf_c.specs.Refusals.{bad_size, row_full}
 use Rattle.tlsf_c.specs.declared.arena_slot.ArenaSlot.{ArenaSlot}
 use Rattle.tlsf_c.specs.declared.kind_row.KindRow.{KindRow}
@@ -32,7 +33,7 @@ pub record PoolsStayOpen (old new : ArenaSlot) : Type 0 where
   pub level : pools_level new ≡ pools_level old
 
 abbrev pub kind_of : KindRow → Kind
-kind_of row = record { most = row.most; len = row.len }
+kind_of row = record { most = row.most; len = saturated row.len }
 
 abbrev pub kinds_of : List KindRow → List Kind
 kinds_of rows = map kind_of rows

@@ -4,13 +4,14 @@ ghost use Rattle.tlsf_heap.specs.Blocks.{want};
 ghost use Rattle.tlsf_heap.specs.Lawful.{IsRegion};
 ghost use Rattle.tlsf_heap.specs.Calls.{opened};
 ghost use Rattle.tlsf_heap.specs.InPlace.{IsPayloadCheck};
-ghost use Rattle.tlsf_heap.specs.Effects.{Allocates, Reads, Releases, Reports, Resizes, Writes};
+ghost use Rattle.tlsf_heap.specs.Effects.{Allocates, Reads, Releases, Reports, Resets, Resizes, Writes};
 ghost use Rattle.tlsf_heap.specs.Footprint.{LeavesLive};
-ghost use Rattle.tlsf_heap.specs.Touched.{FollowsNoForgery, allocate_touches, read_touches, release_touches, resize_touches, write_touches};
+ghost use Rattle.tlsf_heap.specs.Touched.{FollowsNoForgery, allocate_touches, read_touches, release_touches, reset_touches, resize_touches, write_touches};
 ghost use Rattle.tlsf_heap.specs.WordsInUse.{words_in_use};
 ghost use Rattle.tlsf_c.specs.Counting.{no_counts, counted, counted_request};
 ghost use Rattle.tlsf_c.specs.Levels.{GoesOn, seen_at};
 
+mod around;
 mod by_place;
 
 use crate::heap_counts::HeapCounts;
@@ -96,6 +97,18 @@ impl AnyHeap {
         match &mut self.of_level {
             OfLevel::Four(heap) => self.counts.release(heap, name),
             OfLevel::Five(heap) => self.counts.release(heap, name),
+        }
+    }
+
+    /// `Heap::reset`.
+    pub fn reset(&mut self) -> Result<(), Refusal>
+        ensures resets { Resets reset_touches (seen_at self.old) (seen_at self.new) result }
+        ensures goes_on { GoesOn self.old self.new }
+        ensures counts { self.new.counts ≡ record self.old.counts { words = words_in_use self.new.heap } }
+    {
+        match &mut self.of_level {
+            OfLevel::Four(heap) => self.counts.reset(heap),
+            OfLevel::Five(heap) => self.counts.reset(heap),
         }
     }
 

@@ -4,12 +4,12 @@ ghost use Rattle.tlsf_class.specs.Classes.{IsLevel};
 ghost use Rattle.tlsf_heap.specs.Aligned.{words_aligned};
 ghost use Rattle.tlsf_heap.specs.Blocks;
 ghost use Rattle.tlsf_heap.specs.Calls.{allocated, resized};
-ghost use Rattle.tlsf_heap.specs.Effects.{Allocates, Releases, Resizes};
+ghost use Rattle.tlsf_heap.specs.Effects.{Allocates, Releases, Resets, Resizes};
 ghost use Rattle.tlsf_heap.specs.Footprint.{LeavesLive, LeavesPayloads};
 ghost use Rattle.tlsf_heap.specs.Given.{payload_words_left};
 ghost use Rattle.tlsf_heap.specs.Laws.{IsLive};
 ghost use Rattle.tlsf_heap.specs.Moved.{resized_or_moved, payload_words_moved};
-ghost use Rattle.tlsf_heap.specs.Touched.{FollowsNoForgery, FollowsNoPlace, allocate_touches, release_touches, resize_touches};
+ghost use Rattle.tlsf_heap.specs.Touched.{FollowsNoForgery, FollowsNoPlace, allocate_touches, release_touches, reset_touches, resize_touches};
 ghost use Rattle.tlsf_heap.specs.ByPlace.{released_by_place};
 ghost use Rattle.tlsf_heap.specs.InPlace.{payload_of};
 ghost use Rattle.tlsf_heap.specs.Shown.{seen};
@@ -198,6 +198,23 @@ impl HeapCounts {
         ensures wild { FollowsNoPlace heap.old.heap at heap.old.touches heap.new.touches }
     {
         heap.release_counted_at(at, &mut self.words)
+    }
+
+    /// `Heap::reset`. The most words ever in use stay, and so do the refusals.
+    pub fn reset<const SLI: u32>(&mut self, heap: &mut Heap<SLI>) -> Result<(), Refusal>
+        requires are_counts { AreHeapCounts heap.old.heap self.old }
+        ensures resets { Resets reset_touches (seen heap.old) (seen heap.new) result }
+        ensures counts { self.new ≡ record self.old { words = words_in_use heap.new.heap } }
+        ensures are_counts { AreHeapCounts heap.new.heap self.new }
+        ensures stays { heap.new.extents ≡ heap.old.extents }
+    {
+        match heap.reset() {
+            Ok(()) => {
+                self.words = 0;
+                Ok(())
+            }
+            Err(why) => Err(why),
+        }
     }
 
     /// `Heap::resize`.

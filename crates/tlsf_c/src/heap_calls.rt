@@ -1,19 +1,20 @@
 //! C's calls of a heap.
-ghost use Rattle.std.specs.Prelude.{◌≡◌, true, false, ◌<◌, ◌≤◌, ◌+◌, ◌*◌, length, Ok, Err, Some, None};
+ghost use Rattle.std.specs.Prelude.{◌≡◌, true, false, ◌<◌, ◌≤◌, ◌+◌, ◌*◌, ◌%◌, length, Ok, Err, Some, None};
 ghost use Rattle.tlsf_heap.specs.Blocks.{want};
 ghost use Rattle.tlsf_heap.specs.Lawful.{IsRegion};
 ghost use Rattle.tlsf_pool.specs.laws.MixedSizes.{mixed_region};
-ghost use Rattle.tlsf_heap.specs.Calls.{opened, allocated, released, resized, written, read_of, read_answer};
-ghost use Rattle.tlsf_heap.specs.Effects.{Allocates, Reads, Releases, Reports, Resizes, Writes};
+ghost use Rattle.tlsf_heap.specs.Calls.{opened, allocated, released, reset, resized, written, read_of, read_answer};
+ghost use Rattle.tlsf_heap.specs.Effects.{Allocates, Reads, Releases, Reports, Resets, Resizes, Writes};
 ghost use Rattle.tlsf_heap.specs.Footprint.{LeavesLive, LeavesPayloads};
 ghost use Rattle.tlsf_heap.specs.InPlace.{IsPayloadCheck};
 ghost use Rattle.tlsf_heap.specs.Given.{payload_words_left};
 ghost use Rattle.tlsf_heap.specs.Moved.{resized_or_moved, payload_words_moved};
 ghost use Rattle.tlsf_heap.specs.Numbers.{number_of};
-ghost use Rattle.tlsf_heap.specs.Touched.{FollowsNoForgery, allocate_touches, read_touches, release_touches, resize_touches, write_touches};
+ghost use Rattle.tlsf_heap.specs.Touched.{FollowsNoForgery, allocate_touches, read_touches, release_touches, reset_touches, resize_touches, write_touches};
 ghost use Rattle.tlsf_heap.specs.declared.refusal.Refusal.{Refusal};
 ghost use Rattle.tlsf_heap.specs.WordsInUse.{words_in_use};
 ghost use Rattle.tlsf_c.specs.Counting.{no_counts, counted, counted_request, counted_move};
+ghost use Rattle.tlsf_c.specs.Lengths.{saturated};
 ghost use Rattle.tlsf_c.specs.Names.{name_of, named, report_in};
 ghost use Rattle.tlsf_c.specs.Handles.{address_in, counts_in, heap_in, seen_in, level_in, touches_in, touched_in, ReleasesIn, StaysOpen, serves};
 ghost use Rattle.tlsf_c.specs.Refusals.{status_of, bad_size, no_memory, closed, in_use, bad_level};
@@ -23,6 +24,7 @@ use crate::call_fault::{CallFault, status};
 use crate::heap_counts::HeapCounts;
 use crate::heap_slot::HeapSlot;
 use crate::held_heap::HeldHeap;
+use crate::lengths::saturated;
 use crate::names::{BlockName, HeapReport};
 use std::alloc::Global;
 use tlsf_heap::Name;
@@ -95,13 +97,14 @@ pub extern "C" fn tlsf_open(
 /// tlsf_words(4, 100, 256, &words) == TLSF_OK   // then tlsf_open(&heap, 4, 0, words)
 /// ```
 #[unsafe(no_mangle)]
-pub extern "C" fn tlsf_words(level: u32, most: u32, len: u32, words: &mut u32) -> u32
+pub extern "C" fn tlsf_words(level: u32, most: u32, len: usize, words: &mut u32) -> u32
     ensures bad_level { ¬ (level ≡ 4) → ¬ (level ≡ 5) → result ≡ bad_level }
     ensures no_blocks { 4 ≤ level → level ≤ 5 → most ≡ 0 → (result ≡ 0) × (words.new ≡ 4) }
-    ensures words { result ≡ 0 → 0 < most → mixed_region level most len ≡ Some words.new }
-    ensures none { 4 ≤ level → level ≤ 5 → ¬ (result ≡ 0) → (result ≡ bad_size) × (mixed_region level most len ≡ None) }
+    ensures words { result ≡ 0 → 0 < most → mixed_region level most (saturated len) ≡ Some words.new }
+    ensures none { 4 ≤ level → level ≤ 5 → ¬ (result ≡ 0) → (result ≡ bad_size) × (mixed_region level most (saturated len) ≡ None) }
     ensures no_words { ¬ (result ≡ 0) → words.new ≡ words.old }
 {
+    let len = saturated(len);
     let found = match level {
         4 | 5 if most == 0 => Some(4),
         4 => tlsf_pool::mixed_region::<4>(most, len),
@@ -148,18 +151,22 @@ pub extern "C" fn tlsf_close(alloc: Global, heap: &mut HeapSlot) -> u32
 /// tlsf_allocate(&heap, 100, &name) == TLSF_OK  // 16 words of the region
 /// ```
 #[unsafe(no_mangle)]
-pub extern "C" fn tlsf_allocate(heap: &mut HeapSlot, len: u32, name: &mut BlockName) -> u32
+pub extern "C" fn tlsf_allocate(heap: &mut HeapSlot, len: usize, name: &mut BlockName) -> u32
     ensures closed { serves heap.old ≡ false → (result ≡ closed) × (heap.new ≡ heap.old) }
     ensures open { serves heap.old ≡ true → StaysOpen heap.old heap.new }
-    ensures status { serves heap.old ≡ true → result ≡ status_of (allocated (level_in heap.old) (heap_in heap.old) len).answer }
-    ensures name { serves heap.old ≡ true → result ≡ 0 → (allocated (level_in heap.old) (heap_in heap.old) len).answer ≡ Ok (name_of name.new) }
+    ensures status { serves heap.old ≡ true → result ≡ status_of (allocated (level_in heap.old) (heap_in heap.old) (saturated len)).answer }
+    ensures name { serves heap.old ≡ true → result ≡ 0 → (allocated (level_in heap.old) (heap_in heap.old) (saturated len)).answer ≡ Ok (name_of name.new) }
     ensures no_name { ¬ (result ≡ 0) → name.new ≡ name.old }
-    ensures counts { serves heap.old ≡ true → counts_in heap.new ≡ counted_request (counts_in heap.old) (allocated (level_in heap.old) (heap_in heap.old) len).answer len (heap_in heap.new) }
-    ensures allocates { serves heap.old ≡ true → Allocates (allocate_touches + 1) (level_in heap.old) (want len) len (seen_in heap.old) (seen_in heap.new) (allocated (level_in heap.old) (heap_in heap.old) len).answer }
+    ensures mixed { serves heap.old ≡ true → result ≡ 0 → want (saturated len) % 2 ≡ 1 → heap.new.is_mixed ≡ true }
+    ensures not_mixed { ¬ (want (saturated len) % 2 ≡ 1) → heap.new.is_mixed ≡ heap.old.is_mixed }
+    ensures no_note { ¬ (result ≡ 0) → heap.new.is_mixed ≡ heap.old.is_mixed }
+    ensures counts { serves heap.old ≡ true → counts_in heap.new ≡ counted_request (counts_in heap.old) (allocated (level_in heap.old) (heap_in heap.old) (saturated len)).answer (saturated len) (heap_in heap.new) }
+    ensures allocates { serves heap.old ≡ true → Allocates (allocate_touches + 1) (level_in heap.old) (want (saturated len)) (saturated len) (seen_in heap.old) (seen_in heap.new) (allocated (level_in heap.old) (heap_in heap.old) (saturated len)).answer }
 {
     if !heap.serves() {
         return CallFault::Closed.number();
     }
+    let len = saturated(len);
     let held = heap.inner.lend();
     held.is_in_use = true;
     let owned = &mut held.heap;
@@ -167,6 +174,7 @@ pub extern "C" fn tlsf_allocate(heap: &mut HeapSlot, len: u32, name: &mut BlockN
     held.is_in_use = false;
     match answer {
         Ok(new) => {
+            heap.note(len);
             *name = BlockName::of(new);
             0
         }
@@ -215,6 +223,37 @@ pub(crate) fn release_named(heap: &mut HeapSlot, number: u32, serial: u64, at: u
     number
 }
 
+/// Takes all blocks back in one step. No name or pointer of before is of use from then on.
+///
+/// Refused as Closed where the handle isn't open; otherwise as Worn where the tick is at its last value.
+///
+/// ```text
+/// tlsf_reset(&heap) == TLSF_OK                 // at the end of a frame
+/// tlsf_release(&heap, name) == TLSF_STALE
+/// ```
+#[unsafe(no_mangle)]
+pub extern "C" fn tlsf_reset(heap: &mut HeapSlot) -> u32
+    ensures closed { serves heap.old ≡ false → (result ≡ closed) × (heap.new ≡ heap.old) }
+    ensures open { serves heap.old ≡ true → StaysOpen heap.old heap.new }
+    ensures status { serves heap.old ≡ true → result ≡ status_of (reset (heap_in heap.old)).answer }
+    ensures counts { serves heap.old ≡ true → counts_in heap.new ≡ record (counts_in heap.old) { words = words_in_use (heap_in heap.new) } }
+
+    // Where it is accepted, no word is in use.
+    ensures words { serves heap.old ≡ true → result ≡ 0 → (counts_in heap.new).words ≡ 0 }
+    ensures resets { serves heap.old ≡ true → Resets reset_touches (seen_in heap.old) (seen_in heap.new) (reset (heap_in heap.old)).answer }
+{
+    if !heap.serves() {
+        return CallFault::Closed.number();
+    }
+    let held = heap.inner.lend();
+    held.is_in_use = true;
+    let owned = &mut held.heap;
+    let answer = owned.reset();
+    let number = status(answer);
+    held.is_in_use = false;
+    number
+}
+
 /// Makes the payload of the block of that name `len` bytes long, where the block stands. The name stays.
 ///
 /// Refused as Closed where the handle isn't open; otherwise as `Heap::resize` refuses: Foreign, Stale, NoRoom, Worn.
@@ -223,23 +262,30 @@ pub(crate) fn release_named(heap: &mut HeapSlot, number: u32, serial: u64, at: u
 /// tlsf_resize(&heap, name, 200) == TLSF_OK    // bytes 100 to 199 are zero
 /// ```
 #[unsafe(no_mangle)]
-pub extern "C" fn tlsf_resize(heap: &mut HeapSlot, name: BlockName, len: u32) -> u32
+pub extern "C" fn tlsf_resize(heap: &mut HeapSlot, name: BlockName, len: usize) -> u32
     ensures closed { serves heap.old ≡ false → (result ≡ closed) × (heap.new ≡ heap.old) }
     ensures open { serves heap.old ≡ true → StaysOpen heap.old heap.new }
-    ensures status { serves heap.old ≡ true → result ≡ status_of (resized (heap_in heap.old) (name_of name) len).answer }
+    ensures status { serves heap.old ≡ true → result ≡ status_of (resized (heap_in heap.old) (name_of name) (saturated len)).answer }
+    ensures mixed { serves heap.old ≡ true → result ≡ 0 → want (saturated len) % 2 ≡ 1 → heap.new.is_mixed ≡ true }
+    ensures not_mixed { ¬ (want (saturated len) % 2 ≡ 1) → heap.new.is_mixed ≡ heap.old.is_mixed }
+    ensures no_note { ¬ (result ≡ 0) → heap.new.is_mixed ≡ heap.old.is_mixed }
     ensures counts { serves heap.old ≡ true → counts_in heap.new ≡ counted (counts_in heap.old) (heap_in heap.new) }
-    ensures resizes { serves heap.old ≡ true → Resizes (resize_touches + 4) (want len) len (seen_in heap.old) (seen_in heap.new) (name_of name) (resized (heap_in heap.old) (name_of name) len).answer }
+    ensures resizes { serves heap.old ≡ true → Resizes (resize_touches + 4) (want (saturated len)) (saturated len) (seen_in heap.old) (seen_in heap.new) (name_of name) (resized (heap_in heap.old) (name_of name) (saturated len)).answer }
 {
     if !heap.serves() {
         return CallFault::Closed.number();
     }
+    let len = saturated(len);
     let held = heap.inner.lend();
     held.is_in_use = true;
     let owned = &mut held.heap;
     let answer = owned.resize(name.name(), len);
     held.is_in_use = false;
     match answer {
-        Ok(()) => 0,
+        Ok(()) => {
+            heap.note(len);
+            0
+        }
         Err(why) => why.number(),
     }
 }
@@ -254,24 +300,28 @@ pub extern "C" fn tlsf_resize(heap: &mut HeapSlot, name: BlockName, len: u32) ->
 /// tlsf_reallocate(&heap, &name, 500) == TLSF_OK
 /// ```
 #[unsafe(no_mangle)]
-pub extern "C" fn tlsf_reallocate(heap: &mut HeapSlot, name: &mut BlockName, len: u32) -> u32
+pub extern "C" fn tlsf_reallocate(heap: &mut HeapSlot, name: &mut BlockName, len: usize) -> u32
     ensures closed { serves heap.old ≡ false → (result ≡ closed) × (heap.new ≡ heap.old) }
     ensures open { serves heap.old ≡ true → StaysOpen heap.old heap.new }
-    ensures status { serves heap.old ≡ true → result ≡ status_of (resized_or_moved (level_in heap.old) (heap_in heap.old) (name_of name.old) len).answer }
-    ensures name { serves heap.old ≡ true → result ≡ 0 → (resized_or_moved (level_in heap.old) (heap_in heap.old) (name_of name.old) len).answer ≡ Ok (name_of name.new) }
+    ensures status { serves heap.old ≡ true → result ≡ status_of (resized_or_moved (level_in heap.old) (heap_in heap.old) (name_of name.old) (saturated len)).answer }
+    ensures name { serves heap.old ≡ true → result ≡ 0 → (resized_or_moved (level_in heap.old) (heap_in heap.old) (name_of name.old) (saturated len)).answer ≡ Ok (name_of name.new) }
     ensures no_name { ¬ (result ≡ 0) → name.new ≡ name.old }
-    ensures heap { serves heap.old ≡ true → heap_in heap.new ≡ (resized_or_moved (level_in heap.old) (heap_in heap.old) (name_of name.old) len).heap }
+    ensures heap { serves heap.old ≡ true → heap_in heap.new ≡ (resized_or_moved (level_in heap.old) (heap_in heap.old) (name_of name.old) (saturated len)).heap }
+    ensures mixed { serves heap.old ≡ true → result ≡ 0 → want (saturated len) % 2 ≡ 1 → heap.new.is_mixed ≡ true }
+    ensures not_mixed { ¬ (want (saturated len) % 2 ≡ 1) → heap.new.is_mixed ≡ heap.old.is_mixed }
+    ensures no_note { ¬ (result ≡ 0) → heap.new.is_mixed ≡ heap.old.is_mixed }
     ensures forged { serves heap.old ≡ true → FollowsNoForgery (seen_in heap.old) (seen_in heap.new) (name_of name.old) }
-    ensures counts { serves heap.old ≡ true → counts_in heap.new ≡ counted_move (counts_in heap.old) (name_of name.old).at (resized_or_moved (level_in heap.old) (heap_in heap.old) (name_of name.old) len).answer len (heap_in heap.new) }
+    ensures counts { serves heap.old ≡ true → counts_in heap.new ≡ counted_move (counts_in heap.old) (name_of name.old).at (resized_or_moved (level_in heap.old) (heap_in heap.old) (name_of name.old) (saturated len)).answer (saturated len) (heap_in heap.new) }
     ensures touches { serves heap.old ≡ true → touches_in heap.new ≤ touches_in heap.old + 133
-        + payload_words_left (resized (heap_in heap.old) (name_of name.old) len).answer (resized (heap_in heap.old) (name_of name.old) len).heap (name_of name.old)
-        + 3 * payload_words_moved (level_in heap.old) (heap_in heap.old) len }
+        + payload_words_left (resized (heap_in heap.old) (name_of name.old) (saturated len)).answer (resized (heap_in heap.old) (name_of name.old) (saturated len)).heap (name_of name.old)
+        + 3 * payload_words_moved (level_in heap.old) (heap_in heap.old) (saturated len) }
     ensures leaves { serves heap.old ≡ true → LeavesPayloads (heap_in heap.old).blocks name.old.at (touched_in heap.old) (touched_in heap.new) }
     ensures leaves_all { serves heap.old ≡ true → ¬ (result ≡ 0) → LeavesLive (heap_in heap.old).blocks (touched_in heap.old) (touched_in heap.new) }
 {
     if !heap.serves() {
         return CallFault::Closed.number();
     }
+    let len = saturated(len);
     let held = heap.inner.lend();
     held.is_in_use = true;
     let owned = &mut held.heap;
@@ -279,6 +329,7 @@ pub extern "C" fn tlsf_reallocate(heap: &mut HeapSlot, name: &mut BlockName, len
     held.is_in_use = false;
     match answer {
         Ok(moved) => {
+            heap.note(len);
             *name = BlockName::of(moved);
             0
         }

@@ -1,10 +1,11 @@
 //! A place for a heap in C's memory.
-ghost use Rattle.std.specs.Prelude.{◌≡◌, true, false, None, Some};
+ghost use Rattle.std.specs.Prelude.{◌≡◌, ◌%◌, true, false, None, Some};
 
 use crate::boxed_heap::BoxedHeap;
 use crate::held_heap::HeldHeap;
 use std::alloc::Global;
 use std::{mem, ptr};
+use tlsf_heap::want;
 
 /// A place for a heap in C's memory: open with one, or closed. All zero, it is closed.
 #[repr(C)]
@@ -16,7 +17,7 @@ pub struct HeapSlot {
     pub base: *mut u64,
     /// The heap's number, for C's own names. No call reads it.
     pub number: u32,
-    /// C's own note of a block by name with an odd number of words: payloads may then be misaligned to 16 bytes. Opening clears it.
+    /// Whether a block by name has had an odd number of words: payloads may then be misaligned to 16 bytes. Opening clears it.
     pub is_mixed: bool,
     ghost tied: { is_open ≡ inner.full },
 }
@@ -26,6 +27,7 @@ unsafe impl Send for HeapSlot {}
 
 impl HeapSlot {
     ghost use Rattle.tlsf_c.specs.Handles.{serves};
+    ghost use Rattle.tlsf_heap.specs.Blocks;
 
     /// Whether it is open, and no call is using it.
     #[inline(always)]
@@ -38,18 +40,36 @@ impl HeapSlot {
         self.is_open && !self.inner.lend().is_in_use
     }
 
+    /// Notes a block of `len` bytes, where it has an odd number of words. It is written once, so that what other threads read beside
+    /// the handle stays in their caches.
+    #[inline(always)]
+    pub fn note(&mut self, len: u32)
+        ensures mixed { Blocks.want len % 2 ≡ 1 → self.new.is_mixed ≡ true }
+        ensures not_mixed { ¬ (Blocks.want len % 2 ≡ 1) → self.new.is_mixed ≡ self.old.is_mixed }
+        ensures stays { self.old.is_mixed ≡ true → self.new.is_mixed ≡ true }
+        ensures open { self.new.is_open ≡ self.old.is_open }
+        ensures value { self.new.inner.value ≡ self.old.inner.value }
+        ensures beside { (self.new.base ≡ self.old.base) × (self.new.number ≡ self.old.number) }
+    {
+        if want(len) % 2 == 1 && !self.is_mixed {
+            self.is_mixed = true;
+        }
+    }
+
     /// Takes out what is there, and leaves the place closed. A place that is closed or in use stays as it is: a signal handler interrupts
-    /// the call that uses it.
+    /// the call that uses it. The heap that is taken out says that a call is using it. So a copy of the place is refused as long as
+    /// that memory has no other use.
     pub fn take_out(&mut self, alloc: Global) -> Option<Box<HeldHeap, Global>>
         ensures closed { serves self.new ≡ false }
         ensures none { result ≡ None → (serves self.old ≡ false) × (self.new ≡ self.old) }
-        ensures some { (b : _) → result ≡ Some b → (serves self.old ≡ true) × (self.new.is_open ≡ false) × (b.value ≡ self.old.inner.value) }
+        ensures some { (b : _) → result ≡ Some b → (serves self.old ≡ true) × (self.new.is_open ≡ false) × (b.value ≡ record (self.old.inner.value) { is_in_use = true }) }
     {
         if !self.serves() {
             return None;
         }
         let nowhere: *mut u8 = ptr::null_mut();
         self.is_open = false;
+        self.inner.lend().is_in_use = true;
         let inner = mem::replace(&mut self.inner, BoxedHeap::empty(alloc, nowhere));
         Some(inner.into_box())
     }

@@ -2,6 +2,7 @@
 ghost use Rattle.std.specs.Prelude.{◌≡◌};
 ghost use Rattle.tlsf_c.specs.PoolHandles.{kind_of};
 
+use crate::lengths::saturated;
 use tlsf_pool::Kind;
 
 /// A kind of request: how many blocks of it are held at once, and how many bytes it has, at most.
@@ -9,7 +10,7 @@ use tlsf_pool::Kind;
 #[derive(Clone, Copy)]
 pub struct KindRow {
     pub most: u32,
-    pub len: u32,
+    pub len: usize,
 }
 
 impl KindRow {
@@ -19,7 +20,7 @@ impl KindRow {
     {
         Kind {
             most: self.most,
-            len: self.len,
+            len: saturated(self.len),
         }
     }
 }

@@ -1,5 +1,5 @@
 //! C's calls of a lane: one thread puts names in, another takes them out.
-ghost use Rattle.std.specs.Prelude.{◌≡◌, ℕ, true, false, ◌+◌, ◌*◌, ◌-◌, ◌<◌, ◌≤◌, [], ◌∷◌, ◌++◌, List, Option, length, take};
+ghost use Rattle.std.specs.Prelude.{◌≡◌, ℕ, true, false, ◌+◌, ◌*◌, ◌-◌, ◌<◌, ◌≤◌, [], ◌∷◌, ◌++◌, List, Option, length, take, drop};
 ghost use mathlib.Core.List.{IsPrefix};
 ghost use Rattle.tlsf_post.specs.declared.post.Post.{Post};
 ghost use Rattle.tlsf_post.specs.declared.post_end.PostEnd.{PostEnd};
@@ -10,6 +10,7 @@ ghost use Rattle.tlsf_post.specs.Lanes.{posts_sent, free_slots, taken, ready, Is
 ghost use Rattle.tlsf_c.specs.Handles.{counts_in, heap_in, touches_in, touched_in, StaysOpen, post_of, posts_named, post_in, take_in, holds_post, holds_take, sent_in, known_slots, taken_in, ready_in, AreEnds, AreLane, HasTaken, Takes, serves};
 ghost use Rattle.tlsf_c.specs.Drains.{drained, LeavesUnnamed};
 ghost use Rattle.tlsf_c.specs.Names.{name_of};
+ghost use Rattle.tlsf_c.specs.Takes.{HasTakenFirst, TakesFirst};
 ghost use Rattle.tlsf_c.specs.Refusals.{bad_size, no_memory, closed, other_kind, in_use, full, empty};
 
 use crate::any_end::AnyEnd;
@@ -286,6 +287,70 @@ fn take_name(end: &mut TakeEnd, name: &mut BlockName) -> u32
         }
         None => CallFault::Empty.number(),
     }
+}
+
+/// Takes the first names out of a lane, in their order. All come that are known to be ready, up to the places of `names`, and to 32.
+/// One store hands their slots back, so a poster who finds the lane full disturbs this less than single takes. How many came goes
+/// to `came`. Other places stay as they were. Never waits.
+///
+/// Refused as Closed where the handle isn't open. Otherwise as OtherKind where it holds another kind of end. Otherwise as Empty
+/// where there is a place and this end sees no name.
+///
+/// ```text
+/// tlsf_take_all(&take, names, 32, &came) == TLSF_OK
+/// ```
+#[unsafe(no_mangle)]
+pub extern "C" fn tlsf_take_all(
+    take: &mut EndSlot,
+    names: &mut [BlockName],
+    came: &mut usize,
+) -> u32
+    ensures closed { take.old.is_open ≡ false → (result ≡ closed) × (take.new ≡ take.old) }
+    ensures other { take.old.is_open ≡ true → holds_take take.old ≡ false → (result ≡ other_kind) × (take.new ≡ take.old) }
+    ensures refused { ¬ (result ≡ 0) → (names.new ≡ names.old) × (came.new ≡ came.old) }
+    ensures open { take.old.is_open ≡ true → (take.new.is_open ≡ true) × (holds_take take.new ≡ holds_take take.old) }
+    ensures lane { (p : Option PostEnd) → AreEnds p (take_in take.old) → AreEnds p (take_in take.new) }
+    ensures taken { result ≡ 0 → TakesFirst (take_in take.old) (take_in take.new) came.new names.new }
+    ensures rest { result ≡ 0 → drop came.new names.new ≡ drop came.new names.old }
+    ensures most { result ≡ 0 → (came.new ≤ length names.old) × (came.new ≤ 32) }
+    ensures some { result ≡ 0 → 0 < length names.old → 0 < came.new }
+    ensures ready { result ≡ 0 → came.new < length names.old → came.new < 32 → length (ready_in take.old) ≤ came.new }
+    ensures empty { take.old.is_open ≡ true → holds_take take.old ≡ true → ¬ (result ≡ 0) → (result ≡ empty) × (0 < length names.old)
+        × (length (ready_in take.old) ≡ 0) × (taken_in take.new ≡ taken_in take.old) }
+{
+    if !take.is_open {
+        return CallFault::Closed.number();
+    }
+    let AnyEnd::Take(end) = take.inner.lend() else {
+        return CallFault::OtherKind.number();
+    };
+    take.is_open = false;
+    let count = take_names(end, names);
+    take.is_open = true;
+    if count == 0 && !names.is_empty() {
+        return CallFault::Empty.number();
+    }
+    *came = count;
+    0
+}
+
+/// Takes up to 32 names out of a lane with one store, in their order, and answers how many came.
+fn take_names(end: &mut TakeEnd, names: &mut [BlockName]) -> usize
+    ensures lane { (p : PostEnd) → IsLane p end.old → IsLane p end.new }
+    ensures taken { HasTakenFirst end.old end.new result names.new }
+    ensures rest { drop result names.new ≡ drop result names.old }
+    ensures most { (result ≤ length names.old) × (result ≤ 32) }
+    ensures ready { result < length names.old → result < 32 → length (ready end.old) ≤ result }
+    ensures none { result ≡ 0 → (names.new ≡ names.old) × (taken end.new ≡ taken end.old) }
+{
+    let mut posts = [NO_POST; AT_ONCE];
+    let (places, _) = posts.split_at_mut(AT_ONCE.min(names.len()));
+    let count = end.take_slice(places);
+    let (came, _) = places.split_at(count);
+    for (k, post) in came.iter().enumerate() {
+        names[k] = BlockName::of(post.name);
+    }
+    count
 }
 
 /// Takes names out of a lane, at most `most` and all that are known to be ready. It releases the block that each names, whatever

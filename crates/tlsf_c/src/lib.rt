@@ -14,6 +14,7 @@ mod boxed_arena;
 mod boxed_end;
 mod boxed_heap;
 mod call_fault;
+mod check_calls;
 mod counting;
 mod end_slot;
 mod heap_calls;
@@ -22,6 +23,8 @@ mod heap_slot;
 mod held_heap;
 mod kind_row;
 mod lane_calls;
+mod lengths;
+mod may_cross;
 mod names;
 mod offset_calls;
 mod parts;
@@ -34,12 +37,13 @@ mod spans;
 use crate::arena_slot::ArenaSlot;
 use crate::end_slot::EndSlot;
 use crate::heap_slot::HeapSlot;
+use crate::may_cross::MayCross;
 
-fn asks_send<T: Send>() {}
-
-/// Open handles may go to other threads.
-pub fn handles_may_cross() {
-    asks_send::<HeapSlot>();
-    asks_send::<EndSlot>();
-    asks_send::<ArenaSlot>();
+/// Open handles may go to other threads: the answer's type can be had of those alone that are `Send`.
+///
+/// ```text
+/// handles_may_cross();
+/// ```
+pub fn handles_may_cross() -> (MayCross<HeapSlot>, MayCross<EndSlot>, MayCross<ArenaSlot>) {
+    (MayCross::new(), MayCross::new(), MayCross::new())
 }

@@ -20,6 +20,7 @@ ghost use Rattle.tlsf_c.specs.Checked.{check_number_of, next_told, damaged_told}
 ghost use Rattle.tlsf_c.specs.Handles.{counts_in, heap_in, seen_in, level_in, stored_in, touches_in, touched_in, StaysOpen, serves};
 ghost use Rattle.tlsf_heap.specs.WordsInUse.{words_in_use};
 ghost use Rattle.tlsf_c.specs.Counting.{counted_request, counted_move};
+ghost use Rattle.tlsf_c.specs.Lengths.{saturated};
 ghost use Rattle.tlsf_c.specs.Names.{name_of, info_of, not_placed, placed_name};
 ghost use Rattle.tlsf_c.specs.PlaceCalls.{length_at, kept_at, resized_or_moved_by_place};
 ghost use Rattle.tlsf_heap.specs.Touched.{FollowsNoPlace};
@@ -27,6 +28,7 @@ ghost use Rattle.tlsf_c.specs.Refusals.{status_of, closed, damage};
 
 use crate::call_fault::{CallFault, check_status, status};
 use crate::heap_slot::HeapSlot;
+use crate::lengths::saturated;
 use crate::names::{BlockInfo, BlockName, PlacedName};
 use tlsf_heap::{Content, PlacedBlock, Refusal};
 
@@ -39,20 +41,21 @@ use tlsf_heap::{Content, PlacedBlock, Refusal};
 /// placed = tlsf_allocate_place(&heap, 100)         // the payload is words placed.at + 3 to placed.at + 15 of the region
 /// ```
 #[unsafe(no_mangle)]
-pub extern "C" fn tlsf_allocate_place(heap: &mut HeapSlot, len: u32) -> PlacedName
+pub extern "C" fn tlsf_allocate_place(heap: &mut HeapSlot, len: usize) -> PlacedName
     ensures closed { serves heap.old ≡ false → (result ≡ not_placed closed) × (heap.new ≡ heap.old) }
     ensures open { serves heap.old ≡ true → StaysOpen heap.old heap.new }
-    ensures placed { serves heap.old ≡ true → result ≡ placed_name (allocated (level_in heap.old) (heap_in heap.old) len).answer }
-    ensures place { serves heap.old ≡ true → result.answer ≡ 0 → (name : Name) × ((allocated (level_in heap.old) (heap_in heap.old) len).answer ≡ Ok name)
-        × (heap_in heap.new ≡ unset_from (allocated (level_in heap.old) (heap_in heap.old) len).heap name (stored_in heap.new) 0 len) }
+    ensures placed { serves heap.old ≡ true → result ≡ placed_name (allocated (level_in heap.old) (heap_in heap.old) (saturated len)).answer }
+    ensures place { serves heap.old ≡ true → result.answer ≡ 0 → (name : Name) × ((allocated (level_in heap.old) (heap_in heap.old) (saturated len)).answer ≡ Ok name)
+        × (heap_in heap.new ≡ unset_from (allocated (level_in heap.old) (heap_in heap.old) (saturated len)).heap name (stored_in heap.new) 0 (saturated len)) }
     ensures refused { serves heap.old ≡ true → ¬ (result.answer ≡ 0) → heap_in heap.new ≡ heap_in heap.old }
-    ensures counts { serves heap.old ≡ true → counts_in heap.new ≡ counted_request (counts_in heap.old) (allocated (level_in heap.old) (heap_in heap.old) len).answer len (heap_in heap.new) }
+    ensures counts { serves heap.old ≡ true → counts_in heap.new ≡ counted_request (counts_in heap.old) (allocated (level_in heap.old) (heap_in heap.old) (saturated len)).answer (saturated len) (heap_in heap.new) }
     ensures touches { serves heap.old ≡ true → touches_in heap.new ≤ touches_in heap.old + 33 }
     ensures leaves { serves heap.old ≡ true → LeavesLive (heap_in heap.old).blocks (touched_in heap.old) (touched_in heap.new) }
 {
     if !heap.serves() {
         return PlacedName::refusal(CallFault::Closed.number());
     }
+    let len = saturated(len);
     let held = heap.inner.lend();
     held.is_in_use = true;
     let owned = &mut held.heap;
@@ -74,25 +77,26 @@ pub extern "C" fn tlsf_allocate_place(heap: &mut HeapSlot, len: u32) -> PlacedNa
 #[unsafe(no_mangle)]
 pub extern "C" fn tlsf_allocate_aligned(
     heap: &mut HeapSlot,
-    len: u32,
+    len: usize,
     step: u32,
     skew: u32,
 ) -> PlacedName
     ensures closed { serves heap.old ≡ false → (result ≡ not_placed closed) × (heap.new ≡ heap.old) }
     ensures open { serves heap.old ≡ true → StaysOpen heap.old heap.new }
-    ensures placed { serves heap.old ≡ true → result ≡ placed_name (words_aligned (level_in heap.old) (heap_in heap.old) (want len) (max step 1) skew).answer }
+    ensures placed { serves heap.old ≡ true → result ≡ placed_name (words_aligned (level_in heap.old) (heap_in heap.old) (want (saturated len)) (max step 1) skew).answer }
     ensures place { serves heap.old ≡ true → result.answer ≡ 0 → (name : Name)
-        × ((words_aligned (level_in heap.old) (heap_in heap.old) (want len) (max step 1) skew).answer ≡ Ok name)
-        × (heap_in heap.new ≡ with_payload (words_aligned (level_in heap.old) (heap_in heap.old) (want len) (max step 1) skew).heap name (lying (stored_in heap.new) name.at len)) }
+        × ((words_aligned (level_in heap.old) (heap_in heap.old) (want (saturated len)) (max step 1) skew).answer ≡ Ok name)
+        × (heap_in heap.new ≡ with_payload (words_aligned (level_in heap.old) (heap_in heap.old) (want (saturated len)) (max step 1) skew).heap name (lying (stored_in heap.new) name.at (saturated len))) }
     ensures aligned { serves heap.old ≡ true → result.answer ≡ 0 → (result.at + 3 + skew) % max step 1 ≡ 0 }
     ensures refused { serves heap.old ≡ true → ¬ (result.answer ≡ 0) → heap_in heap.new ≡ heap_in heap.old }
-    ensures counts { serves heap.old ≡ true → counts_in heap.new ≡ counted_request (counts_in heap.old) (words_aligned (level_in heap.old) (heap_in heap.old) (want len) (max step 1) skew).answer len (heap_in heap.new) }
+    ensures counts { serves heap.old ≡ true → counts_in heap.new ≡ counted_request (counts_in heap.old) (words_aligned (level_in heap.old) (heap_in heap.old) (want (saturated len)) (max step 1) skew).answer (saturated len) (heap_in heap.new) }
     ensures touches { serves heap.old ≡ true → touches_in heap.new ≤ touches_in heap.old + 118 }
     ensures leaves { serves heap.old ≡ true → LeavesLive (heap_in heap.old).blocks (touched_in heap.old) (touched_in heap.new) }
 {
     if !heap.serves() {
         return PlacedName::refusal(CallFault::Closed.number());
     }
+    let len = saturated(len);
     let held = heap.inner.lend();
     held.is_in_use = true;
     let owned = &mut held.heap;
@@ -145,24 +149,30 @@ pub extern "C" fn tlsf_release_place(heap: &mut HeapSlot, at: u32) -> u32
 /// tlsf_resize_place(&heap, at, 500, &at) == TLSF_OK
 /// ```
 #[unsafe(no_mangle)]
-pub extern "C" fn tlsf_resize_place(heap: &mut HeapSlot, at: u32, len: u32, new_at: &mut u32) -> u32
+pub extern "C" fn tlsf_resize_place(
+    heap: &mut HeapSlot,
+    at: u32,
+    len: usize,
+    new_at: &mut u32,
+) -> u32
     ensures closed { serves heap.old ≡ false → (result ≡ closed) × (heap.new ≡ heap.old) }
     ensures open { serves heap.old ≡ true → StaysOpen heap.old heap.new }
-    ensures status { serves heap.old ≡ true → result ≡ status_of (resized_or_moved_by_place (level_in heap.old) (heap_in heap.old) at len).answer }
+    ensures status { serves heap.old ≡ true → result ≡ status_of (resized_or_moved_by_place (level_in heap.old) (heap_in heap.old) at (saturated len)).answer }
     ensures place { serves heap.old ≡ true → result ≡ 0 → (name : Name)
-        × ((resized_or_moved_by_place (level_in heap.old) (heap_in heap.old) at len).answer ≡ Ok name) × (name.at ≡ new_at.new)
-        × (heap_in heap.new ≡ unset_from (resized_or_moved_by_place (level_in heap.old) (heap_in heap.old) at len).heap name (stored_in heap.new) (kept_at (heap_in heap.old) at len) len) }
+        × ((resized_or_moved_by_place (level_in heap.old) (heap_in heap.old) at (saturated len)).answer ≡ Ok name) × (name.at ≡ new_at.new)
+        × (heap_in heap.new ≡ unset_from (resized_or_moved_by_place (level_in heap.old) (heap_in heap.old) at (saturated len)).heap name (stored_in heap.new) (kept_at (heap_in heap.old) at (saturated len)) (saturated len)) }
     ensures refused { serves heap.old ≡ true → ¬ (result ≡ 0) → heap_in heap.new ≡ heap_in heap.old }
     ensures kept { ¬ (result ≡ 0) → new_at.new ≡ new_at.old }
     ensures wild { serves heap.old ≡ true → FollowsNoPlace (heap_in heap.old) at (touches_in heap.old) (touches_in heap.new) }
-    ensures counts { serves heap.old ≡ true → counts_in heap.new ≡ counted_move (counts_in heap.old) at (resized_or_moved_by_place (level_in heap.old) (heap_in heap.old) at len).answer len (heap_in heap.new) }
-    ensures touches { serves heap.old ≡ true → touches_in heap.new ≤ touches_in heap.old + 107 + 2 * (kept_at (heap_in heap.old) at len / 8) }
+    ensures counts { serves heap.old ≡ true → counts_in heap.new ≡ counted_move (counts_in heap.old) at (resized_or_moved_by_place (level_in heap.old) (heap_in heap.old) at (saturated len)).answer (saturated len) (heap_in heap.new) }
+    ensures touches { serves heap.old ≡ true → touches_in heap.new ≤ touches_in heap.old + 107 + 2 * (kept_at (heap_in heap.old) at (saturated len) / 8) }
     ensures leaves { serves heap.old ≡ true → LeavesPayloads (heap_in heap.old).blocks at (touched_in heap.old) (touched_in heap.new) }
     ensures leaves_all { serves heap.old ≡ true → ¬ (result ≡ 0) → LeavesLive (heap_in heap.old).blocks (touched_in heap.old) (touched_in heap.new) }
 {
     if !heap.serves() {
         return CallFault::Closed.number();
     }
+    let len = saturated(len);
     let held = heap.inner.lend();
     held.is_in_use = true;
     let owned = &mut held.heap;

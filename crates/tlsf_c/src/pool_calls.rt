@@ -5,6 +5,7 @@ ghost use Rattle.tlsf_heap.specs.declared.refusal.Refusal.{Refusal};
 ghost use Rattle.tlsf_heap.specs.declared.report.Report.{Report};
 ghost use Rattle.tlsf_pool.specs.declared.pools.pool_refusal.PoolRefusal.{PoolRefusal};
 ghost use Rattle.tlsf_pool.specs.sizes.Rising.{HasNoHeaps, Rises};
+ghost use Rattle.tlsf_c.specs.Lengths.{saturated};
 ghost use Rattle.tlsf_c.specs.Names.{name_of, report_in};
 ghost use Rattle.tlsf_c.specs.PoolCalls.{AreNewPools, AllocatesInPools, ReleasesInPools, WritesInPools, ReadsInPools, ReportsInPools, PartsLeaveLive, PartsLeavePayloads};
 ghost use Rattle.tlsf_c.specs.PoolHandles.{pools_in, pools_level, holds_pools, PoolsStayOpen, kinds_of, pool_status_of, part_status_of};
@@ -15,6 +16,7 @@ use crate::any_pools::AnyPools;
 use crate::arena_slot::ArenaSlot;
 use crate::call_fault::{CallFault, status};
 use crate::kind_row::KindRow;
+use crate::lengths::saturated;
 use crate::names::{BlockName, HeapReport};
 use std::alloc::Global;
 use tlsf_heap::{OpenFault, Refusal};
@@ -129,11 +131,15 @@ pub extern "C" fn tlsf_pools_close(alloc: Global, pools: &mut ArenaSlot) -> u32
 /// tlsf_pools_allocate(&pools, 64, &name) == TLSF_OK
 /// ```
 #[unsafe(no_mangle)]
-pub extern "C" fn tlsf_pools_allocate(pools: &mut ArenaSlot, len: u32, name: &mut BlockName) -> u32
+pub extern "C" fn tlsf_pools_allocate(
+    pools: &mut ArenaSlot,
+    len: usize,
+    name: &mut BlockName,
+) -> u32
     ensures closed { pools.old.is_open ≡ false → (result ≡ closed) × (pools.new ≡ pools.old) }
     ensures other { pools.old.is_open ≡ true → holds_pools pools.old ≡ false → (result ≡ other_kind) × (pools.new ≡ pools.old) }
     ensures open { pools.old.is_open ≡ true → PoolsStayOpen pools.old pools.new }
-    ensures allocates { pools.old.is_open ≡ true → holds_pools pools.old ≡ true → (answer : Result Name PoolRefusal) × AllocatesInPools (pools_level pools.old) (pools_in pools.old) (pools_in pools.new) len answer
+    ensures allocates { pools.old.is_open ≡ true → holds_pools pools.old ≡ true → (answer : Result Name PoolRefusal) × AllocatesInPools (pools_level pools.old) (pools_in pools.old) (pools_in pools.new) (saturated len) answer
         × (result ≡ pool_status_of answer) × IfOk answer (λ given. name_of name.new ≡ given) }
     ensures leaves { pools.old.is_open ≡ true → PartsLeaveLive (pools_in pools.old) (pools_in pools.new) }
     ensures no_name { ¬ (result ≡ 0) → name.new ≡ name.old }
@@ -145,7 +151,7 @@ pub extern "C" fn tlsf_pools_allocate(pools: &mut ArenaSlot, len: u32, name: &mu
         return CallFault::OtherKind.number();
     };
     pools.is_open = false;
-    let answer = owned.allocate(len);
+    let answer = owned.allocate(saturated(len));
     pools.is_open = true;
     match answer {
         Ok(new) => {

@@ -10,8 +10,8 @@ use crate::levels::Levels;
 use std::marker::Model;
 
 /// A set of classes, as of those that have a free block, in two levels of bitmaps (ECRTS 2004, section 3). It holds 22
-/// words of 32 bits and takes no other memory. A call reads and writes four words at most, and counts each read and
-/// write as a touch.
+/// words of 32 bits and takes no other memory. A call on one class reads and writes four words at most. Each read and
+/// write counts as a touch.
 ///
 /// ```
 /// let mut bitmaps = Bitmaps::<4>::new();
@@ -91,6 +91,19 @@ impl<const SLI: u32> Bitmaps<SLI> {
             self.levels
                 .set_first_word(without_bit(first_word, first_level));
         }
+    }
+
+    /// Takes every class out. 22 touches, one a word.
+    ///
+    /// ```
+    /// bitmaps.clear_all();
+    /// let none = bitmaps.next_from(class_of(4));     // None
+    /// ```
+    pub fn clear_all(&mut self)
+        ensures members { self.new.members ≡ [] }
+        ensures touches { self.new.touches ≡ self.old.touches + 22 }
+    {
+        self.levels.clear();
     }
 
     /// Whether a class is a member. One touch. No heap asks it, since [`Bitmaps::next_from`] tells more: it is for those

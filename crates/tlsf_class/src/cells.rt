@@ -56,4 +56,13 @@ impl Cells {
         self.words[at as usize] = word;
         self.touches.add_one();
     }
+
+    /// Makes every word zero. One touch a word.
+    pub(crate) fn clear(&mut self)
+        ensures words { self.new.words ≡ replicate 22 0 }
+        ensures touches { self.new.touches ≡ self.old.touches + 22 }
+    {
+        self.words = [0; 22];
+        self.touches.add(22);
+    }
 }

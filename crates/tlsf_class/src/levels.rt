@@ -70,4 +70,13 @@ impl Levels {
     {
         self.cells.write(first_level + 1, word);
     }
+
+    /// Makes every word zero.
+    pub(crate) fn clear(&mut self)
+        ensures first { self.new.first ≡ 0 }
+        ensures second { self.new.second ≡ replicate 21 0 }
+        ensures touches { self.new.touches ≡ self.old.touches + 22 }
+    {
+        self.cells.clear();
+    }
 }

@@ -1,5 +1,5 @@
 -- A line as it is shown, and a mark below it.
-use Rattle.std.specs.Prelude.{◌≡◌, ◌⊎◌, ℕ, ◌+◌, ◌-◌, ◌^◌, ◌≤◌, ◌==◌, ◌&&◌, false, nat_le, List, [], ◌∷◌, ◌++◌, None, codes, count_by, drop, take, length, replicate, slice_index, if◌then◌else◌}
+use Rattle.std.specs.Prelude.{◌≡◌, ◌⊎◌, ℕ, ◌+◌, ◌-◌, ◌^◌, ◌<◌, ◌≤◌, ◌==◌, ◌&&◌, false, nat_le, List, [], ◌∷◌, ◌++◌, None, codes, count_by, drop, take, length, replicate, slice_index, if◌then◌else◌}
 use Rattle.std.specs.Fmt.{digits, format_spec, padded_integral}
 use Rattle.std.specs.List.{flat_map}
 use Rattle.tlsf_lines.specs.CutFields.{fields_of}
@@ -14,6 +14,10 @@ shown_byte byte =
     else (if byte == 13 then codes "\\r"
     else codes "\\x" ++ padded_integral (format_spec 32 0 4 2 (2 ^ 64 - 1)) false [] (digits 16 false byte)))
 
+-- the columns in which bytes are shown
+abbrev pub columns_in : List ℕ → ℕ
+columns_in bytes = length (flat_map shown_byte bytes)
+
 -- the dots that stand for bytes that are left out, where there are any
 abbrev pub dots_for : ℕ → List ℕ
 dots_for left_out = if left_out == 0 then [] else codes ".."
@@ -24,12 +28,17 @@ rows_text first before behind last =
     codes "  " ++ (first ++ (flat_map shown_byte before ++ (flat_map shown_byte behind ++ (last ++ codes "\n  "))))
     ++ replicate (length first) 32 ++ replicate (length (flat_map shown_byte before)) 32 ++ codes "^\n"
 
--- the rows show a line around the byte at this place, and mark that byte, or the end of the line
+-- the rows show a line around the byte at this place, and mark that byte, or the end of the line. Before it they show as many bytes
+-- as have room in 40 columns, and from it on as many as have room in 32
 pub record ShowsAt (line : List ℕ) (at : ℕ) (rows : List ℕ) : Type 0 where
   pub from : ℕ
   pub count : ℕ
   pub within : from ≤ at
   pub few : at + count ≤ length line
+  pub before_fits : columns_in (drop from (take at line)) ≤ 40
+  pub before_is_most : 0 < from → 40 < columns_in (drop (from - 1) (take at line))
+  pub behind_fits : columns_in (take count (drop at line)) ≤ 32
+  pub behind_is_most : at + count < length line → 32 < columns_in (take (count + 1) (drop at line))
   pub rows_are : rows ≡ rows_text (dots_for from) (drop from (take at line)) (take count (drop at line)) (dots_for (length (drop at line) - count))
 
 -- a line as it stands, without its line feed

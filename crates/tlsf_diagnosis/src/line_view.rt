@@ -1,7 +1,7 @@
 //! A line as it is shown: what isn't printable is escaped, and a long line is cut on both sides of its mark.
-ghost use Rattle.std.specs.Prelude.{◌≡◌, ◌≤◌, ◌<◌, ◌++◌, length, replicate, min, string_bytes, IfOk, OnOk, if◌then◌else◌};
+ghost use Rattle.std.specs.Prelude.{◌≡◌, ◌≤◌, ◌<◌, ◌+◌, ◌-◌, ◌++◌, length, take, drop, replicate, min, string_bytes, IfOk, OnOk, if◌then◌else◌};
 ghost use Rattle.std.specs.List.{flat_map};
-ghost use Rattle.tlsf_diagnosis.specs.Shown.{ShowsAt, dots_for, rows_text, shown_byte};
+ghost use Rattle.tlsf_diagnosis.specs.Shown.{ShowsAt, columns_in, dots_for, rows_text, shown_byte};
 
 use std::alloc::{AllocError, Global};
 
@@ -12,7 +12,9 @@ const COLUMNS_BEFORE: usize = 40;
 const COLUMNS_BEHIND: usize = 32;
 
 /// How many columns a byte is shown in.
-fn columns_of(byte: u8) -> usize {
+fn columns_of(byte: u8) -> usize
+    ensures { result ≡ length (shown_byte byte) }
+{
     match byte {
         b' '..=b'~' => 1,
         b'\t' | b'\r' => 2,
@@ -54,29 +56,35 @@ fn push_spaces(text: &mut String, count: usize) -> Result<(), AllocError>
 
 // How many of the first bytes are shown in this many columns.
 fn first_shown(bytes: &[u8], columns: usize) -> usize
-    ensures { result ≤ length bytes.now }
+    ensures within { result ≤ length bytes.now }
+    ensures fits { columns_in (take result bytes.now) ≤ columns }
+    ensures most { result < length bytes.now → columns < columns_in (take (result + 1) bytes.now) }
 {
     let mut left = columns;
-    for (i, byte) in bytes.iter().enumerate() {
-        let wide = columns_of(*byte);
+    let mut count = 0;
+    while count < bytes.len() {
+        let wide = columns_of(bytes[count]);
         if wide > left {
-            return i;
+            return count;
         }
         left -= wide;
+        count += 1;
     }
-    bytes.len()
+    count
 }
 
 // Where the last bytes begin that are shown in this many columns.
 fn last_shown(bytes: &[u8], columns: usize) -> usize
-    ensures { result ≤ length bytes.now }
+    ensures within { result ≤ length bytes.now }
+    ensures fits { columns_in (drop result bytes.now) ≤ columns }
+    ensures most { 0 < result → columns < columns_in (drop (result - 1) bytes.now) }
 {
     let mut left = columns;
     let mut from = bytes.len();
     while from > 0 {
         let wide = columns_of(bytes[from - 1]);
         if wide > left {
-            break;
+            return from;
         }
         left -= wide;
         from -= 1;

@@ -102,6 +102,12 @@ released_at h (Some s) = if is_worn h then refused h Worn else record { answer =
 abbrev pub released : HeapState → Name → Outcome (Unit {0})
 released h name = if name.heap == h.id then released_at h (named name h.blocks) else refused h Foreign
 
+-- ---- reset
+
+-- all blocks back in one step. It leaves a heap as if opened at its tick, so no serial comes again
+abbrev pub reset : HeapState → Outcome (Unit {0})
+reset h = if is_worn h then refused h Worn else record { answer = Ok tt; heap = opened h.id h.words h.tick }
+
 -- ---- write
 
 -- some bytes with those from number `at` on replaced

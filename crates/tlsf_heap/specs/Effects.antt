@@ -1,8 +1,8 @@
 -- The effect of one call of a heap, told once: each layer above says it of its own view.
-use Rattle.std.specs.Prelude.{◌≡◌, ℕ, ◌+◌, ◌-◌, ◌*◌, ◌≤◌, ◌↔◌, List, [], Bool, Option, Result, length, OnErr, IsOk, IsErrOf, IsTrue}
+use Rattle.std.specs.Prelude.{◌≡◌, ℕ, ◌+◌, ◌-◌, ◌*◌, ◌/◌, ◌≤◌, ◌↔◌, List, [], Bool, Option, Result, length, OnErr, IsOk, IsErrOf, IsTrue}
 use Rattle.std.specs.Result.{result_unwrap_or}
 use Rattle.tlsf_heap.specs.Blocks.{want, words_for}
-use Rattle.tlsf_heap.specs.Calls.{allocated_words, last_tick, read_answer, read_of, released, resized_words, written}
+use Rattle.tlsf_heap.specs.Calls.{allocated_words, last_tick, read_answer, read_of, released, reset, resized_words, written}
 use Rattle.tlsf_heap.specs.Footprint.{LeavesLive, LeavesPayloads}
 use Rattle.tlsf_heap.specs.Given.{payload_words_given, payload_words_left}
 use Rattle.tlsf_heap.specs.GoodFit.{fits}
@@ -47,6 +47,15 @@ pub record Releases (most : ℕ) (old new : Seen) (name : Name) (answer : Result
   pub leaves : LeavesPayloads old.heap.blocks name.at old.touched new.touched
   pub refused : OnErr answer (LeavesLive old.heap.blocks old.touched new.touched)
   pub forged : FollowsNoForgery old new name
+
+-- a reset, of at most this many touches and one for each 64 words of the region. It answers and leaves what the sequential heap does.
+-- It takes all live blocks back, and touches the payload of none
+pub record Resets (most : ℕ) (old new : Seen) (answer : Result (Unit {0}) Refusal) : Type 0 where
+  pub answer_is : answer ≡ (reset old.heap).answer
+  pub heap : new.heap ≡ (reset old.heap).heap
+  pub touches : new.touches ≤ old.touches + most + (old.heap.words + 63) / 64
+  pub rise : old.touches ≤ new.touches
+  pub leaves : LeavesLive old.heap.blocks old.touched new.touched
 
 -- a resize of the block of a name to n words for `len` bytes. It takes at most this many touches, and one for each payload word of
 -- the block left. For these it takes no more than one, and one for each word by which the payload grows

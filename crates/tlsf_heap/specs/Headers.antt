@@ -68,6 +68,7 @@ pub record Splits (old new : Image) (at : ℕ) (tag : Tag) (size serial len : �
 pub record Merges (old new : Image) (at before after : ℕ) (tag : Tag) (stamp : ℕ) : Type 0 where
   pub free : HasFree new.words (at - before) tag.size tag.last tag.back stamp
   pub next : NamesBefore old.words new.words (at - before + tag.size) (at - before)
+  pub links : slice_index new.words (at - before + 2) ≡ slice_index old.words (at - before + 2)
   pub only : OnlyFrom old.words new.words (at - before) (at - before + tag.size + 1)
   pub starts : new.starts ≡ without_start (without_start old.starts at before) (at - before + tag.size - after) after
 

@@ -21,6 +21,7 @@ pub mod Named
 pub mod Placed
 pub mod ByPlace
 pub mod Unset
+pub mod CarvedUnset
 pub mod Steady
 pub mod Reports
 pub mod Tallies
@@ -31,6 +32,7 @@ pub mod Footprint
 pub mod Effects
 pub mod WordsInUse
 pub mod Checks
+pub mod Around
 pub mod Aligned
 pub mod Steps
 pub mod ledger

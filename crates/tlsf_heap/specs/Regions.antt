@@ -175,3 +175,15 @@ pub record TakenOut (old new : RegionState) (class at most : ℕ) : Type 0 where
   pub edits : Edits old new most
   pub touched : LeavesLive old.blocks old.touched new.touched
   pub groups : InGroups 3 old.touched new.touched
+
+-- the lists of all classes without a place that one of them has
+pub record IsWithout (lists : ℕ → List ℕ) (class at : ℕ) (left : ℕ → List ℕ) : Type 0 where
+  pub out : left class ≡ without_place at (lists class)
+  pub others : (other : ℕ) → other ≢ class → left other ≡ lists other
+
+-- a place is taken out of the list of one class, and put in front of that of another, or of the same
+pub record MovedToFront (old new : RegionState) (from to at : ℕ) : Type 0 where
+  pub left : ℕ → List ℕ
+  pub without : IsWithout (list_in old.lists) from at left
+  pub list : list_in new.lists to ≡ at ∷ left to
+  pub others : (other : ℕ) → other ≢ to → list_in new.lists other ≡ left other

@@ -35,6 +35,11 @@ release_touches = 30
 abbrev pub resize_touches : ℕ
 resize_touches = 27
 
+-- the most touches of a reset. They are 641 for the heads of the lists, 22 for the bitmaps, 3 for the header, and 7 to list the block.
+-- Each 64 start bits take one more
+abbrev pub reset_touches : ℕ
+reset_touches = 673
+
 -- the most touches of a write of this many bytes. They are 3 to check the name, 1 for the length, and two for each word that they
 -- lie in
 abbrev pub write_touches : ℕ → ℕ

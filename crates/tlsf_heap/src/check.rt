@@ -57,7 +57,7 @@ pub fn check_words(words: &mut Words, from: u32, most: u32) -> Option<Checked>
 }
 
 /// Where the block at a place ends, `None` where it isn't sound.
-fn examine(words: &mut Words, at: u32) -> Option<u32>
+pub fn examine(words: &mut Words, at: u32) -> Option<u32>
     ensures answer { MatchOption result (¬ (IsSound (image_of words.old) at)) (λ end. IsSound (image_of words.old) at × (end ≡ end_at (image_of words.old) at)) }
     ensures looks { OnlyLooks words.old words.new block_touches }
     ensures touched { OnlyHeaders (image_of words.old) words.old.touched words.new.touched }
@@ -88,7 +88,7 @@ fn examine(words: &mut Words, at: u32) -> Option<u32>
 }
 
 /// Whether a block begins at a place, which may be any number. No start bit is read unless the place lies in the region.
-fn begins(words: &mut Words, at: u32) -> bool
+pub fn begins(words: &mut Words, at: u32) -> bool
     ensures yes { result ≡ true → Begins (image_of words.old) at }
     ensures no { result ≡ false → ¬ (Begins (image_of words.old) at) }
     ensures looks { OnlyLooks words.old words.new 1 }
@@ -100,7 +100,7 @@ fn begins(words: &mut Words, at: u32) -> bool
 }
 
 /// Whether a free block begins at a place, which may be any number.
-fn begins_free(words: &mut Words, at: u32) -> bool
+pub fn begins_free(words: &mut Words, at: u32) -> bool
     ensures yes { result ≡ true → BeginsFree (image_of words.old) at }
     ensures no { result ≡ false → ¬ (BeginsFree (image_of words.old) at) }
     ensures looks { OnlyLooks words.old words.new 2 }

@@ -1,14 +1,16 @@
 //! Good fit, splitting and coalescing over a region and the lists of its free blocks. Sizes and places are in words.
-ghost use Rattle.std.specs.Prelude.{◌≡◌, ◌≢◌, ℕ, ◌+◌, ◌-◌, ◌<◌, ◌≤◌, ◌++◌, true, false, Some, slice_get};
+ghost use Rattle.std.specs.Prelude.{◌≡◌, ◌≢◌, ℕ, ◌+◌, ◌-◌, ◌<◌, ◌≤◌, ◌++◌, true, false, Some, slice_get, List, Contains};
 ghost use Rattle.std.specs.List.{AllByRecursion};
 ghost use Rattle.tlsf_heap.specs.Blocks.{size_of, words_in, payload_words, is_free, stamps, want, StandsAt};
-ghost use Rattle.tlsf_class.specs.Classes.{IsLevel, most_words};
-ghost use Rattle.tlsf_heap.specs.Regions.{AreRegions, EachAt, HasAt, IsTagOf, IsNextTag, IsPreviousTag, AreTagsAround, withheld, withheld_alone, list_in, OnlyReads, Edits};
+ghost use Rattle.tlsf_class.specs.Classes.{IsLevel, most_words, class_of};
+ghost use Rattle.tlsf_heap.specs.Regions.{AreRegions, EachAt, HasAt, IsTagOf, IsNextTag, IsPreviousTag, AreTagsAround, AreNeighbours, AreUnlisted, IsWithout, MovedToFront, withheld_alone, list_in, OnlyReads, Edits};
 ghost use Rattle.tlsf_heap.specs.Footprint.{LeavesLive, LeavesPayloads};
 ghost use Rattle.tlsf_heap.specs.GoodFit.{block_at};
 ghost use Rattle.tlsf_heap.specs.Headers.{IsRest};
+ghost use Rattle.tlsf_heap.specs.Lawful.{IsRegion};
 ghost use Rattle.tlsf_heap.specs.Chosen.{IsHead, IsBestClass};
-ghost use Rattle.tlsf_heap.specs.Calls.{carved, coalesced, first_free, last_free, last_tick};
+ghost use Rattle.tlsf_heap.specs.Calls.{carved, coalesced, last_free, last_tick};
+ghost use Rattle.tlsf_heap.specs.CarvedUnset.{CarvedUnset};
 ghost use Rattle.tlsf_heap.specs.FreePlaces.{AreFreeLists};
 ghost use Rattle.tlsf_heap.specs.Touched.{groups_of};
 ghost use Rattle.tlsf_words.specs.Touched.{InGroups};
@@ -39,12 +41,13 @@ pub fn choose<const SLI: u32>(region: &mut Region<SLI>, words: u32) -> Option<Cl
 /// `spare` of the `words` aren't of its payload. Neither they nor the words that the block has above `words` are made zero.
 // Always inline. In a call of its own, as where several calls of a heap end in it, each of them takes fourteen to thirty
 // instructions more.
+// The serial comes by value, and is read once: for all that LLVM knows, the list's links are written where the tick lies.
 #[inline(always)]
 pub fn carve<const SLI: u32>(
     region: &mut Region<SLI>,
     class: Class<SLI>,
     words: u32,
-    tick: &mut u64,
+    serial: u64,
     len: u32,
     spare: u32,
 ) -> u32
@@ -54,19 +57,46 @@ pub fn carve<const SLI: u32>(
     requires sized { AreRegions SLI region.old.blocks }
     requires small { words_in region.old.blocks ≤ most_words SLI }
     requires listed { AreFreeLists SLI region.old.blocks (list_in region.old.lists) }
-    requires stamped { AllByRecursion (λ s. s < tick.old) (stamps region.old.blocks) }
+    requires stamped { AllByRecursion (λ s. s < serial) (stamps region.old.blocks) }
     ensures place { slice_get (list_in region.old.lists class.entry) 0 ≡ Some result }
-    ensures blocks { EachAt region.old.blocks result (λ s. region.new.blocks ≡ s.before ++ carved (size_of s.block) words tick.old len ++ s.after) }
+    ensures blocks { EachAt region.old.blocks result (λ s. region.new.blocks ≡ s.before ++ carved (size_of s.block) words serial len ++ s.after) }
     ensures listed { AreFreeLists SLI region.new.blocks (list_in region.new.lists) }
-    ensures tick { tick.new ≡ tick.old }
     ensures touched { LeavesLive region.old.blocks region.old.touched region.new.touched }
     ensures edits { (i : ℕ) → StandsAt region.old.blocks result i → Edits region.old region.new (23 + (payload_words (block_at region.new.blocks i) - spare)) }
     ensures groups { InGroups (11 + groups_of (words - 4 - spare)) region.old.touched region.new.touched }
 {
     let at = region.pop_first(class);
     let own = region.tag(at);
-    let serial = *tick;
     give(region, at, own, words, serial, len, spare);
+    at
+}
+
+/// Takes the head of the list of a class, as `carve`, and fills nothing. The payload of the block has the bytes that lie there, whose
+/// first word is made zero.
+// Always inline, as `carve` is. The length goes into the header with the serial: set later, it lives over the listing of the rest.
+#[inline(always)]
+pub fn carve_unset<const SLI: u32>(
+    region: &mut Region<SLI>,
+    class: Class<SLI>,
+    words: u32,
+    serial: u64,
+    len: u32,
+) -> u32
+    requires level { IsLevel SLI }
+    requires payload { want len ≤ words }
+    requires fits { (at : ℕ) × (i : ℕ) × IsHead SLI region.old.blocks (list_in region.old.lists) class at i × (is_free (block_at region.old.blocks i) ≡ true) × (words ≤ size_of (block_at region.old.blocks i)) }
+    requires sized { AreRegions SLI region.old.blocks }
+    requires small { words_in region.old.blocks ≤ most_words SLI }
+    requires listed { AreFreeLists SLI region.old.blocks (list_in region.old.lists) }
+    requires stamped { AllByRecursion (λ s. s < serial) (stamps region.old.blocks) }
+    ensures place { slice_get (list_in region.old.lists class.entry) 0 ≡ Some result }
+    ensures carved { EachAt region.old.blocks result (λ s. CarvedUnset SLI region.old region.new s result words serial len 24) }
+    ensures touched { LeavesLive region.old.blocks region.old.touched region.new.touched }
+    ensures groups { InGroups 11 region.old.touched region.new.touched }
+{
+    let at = region.pop_first(class);
+    let own = region.tag(at);
+    give_unset(region, at, own, words, serial, len);
     at
 }
 
@@ -98,15 +128,43 @@ pub fn give<const SLI: u32>(
     ensures edits { (i : ℕ) → StandsAt region.old.blocks at i → Edits region.old region.new (15 + (payload_words (block_at region.new.blocks i) - spare)) }
     ensures groups { InGroups (7 + groups_of (words - 4 - spare)) region.old.touched region.new.touched }
 {
+    // The zeros last, so that few registers are wanted at once: three are saved.
+    give_unset(region, at, own, words, serial, len);
+    region.zero(at, words - 4 - spare);
+}
+
+/// Makes the free block at a place a live one, as `give`, and fills nothing. The payload of the block has the bytes that lie there,
+/// whose first word is made zero.
+// Always inline, as `give` is.
+#[inline(always)]
+fn give_unset<const SLI: u32>(
+    region: &mut Region<SLI>,
+    at: u32,
+    own: Tag,
+    words: u32,
+    serial: u64,
+    len: u32,
+)
+    requires level { IsLevel SLI }
+    requires payload { want len ≤ words }
+    requires free { HasAt region.old.blocks at (λ s. (is_free s.block ≡ true) × (words ≤ size_of s.block)) }
+    requires own { EachAt region.old.blocks at (λ s. IsTagOf region.old.words s own) }
+    requires sized { AreRegions SLI region.old.blocks }
+    requires small { words_in region.old.blocks ≤ most_words SLI }
+    requires listed { EachAt region.old.blocks at (λ s. AreFreeLists SLI (withheld_alone s) (list_in region.old.lists)) }
+    requires stamped { AllByRecursion (λ s. s < serial) (stamps region.old.blocks) }
+    ensures carved { EachAt region.old.blocks at (λ s. CarvedUnset SLI region.old region.new s at words serial len 16) }
+    ensures touched { LeavesLive region.old.blocks region.old.touched region.new.touched }
+    ensures groups { InGroups 7 region.old.touched region.new.touched }
+{
     let (rest, left) = rest_of(own, words, at);
-    // The zeros last, and both headers before the rest is listed, so that few registers are wanted at once: three are saved.
+    // Both headers before the rest is listed, so that few registers are wanted at once.
     if left < 4 {
         region.grant(at, own, serial, len);
     } else {
         region.split(at, own, rest, words, serial, len);
         region.push(class_of(left), at + words);
     }
-    region.zero(at, words - 4 - spare);
 }
 
 /// The tag of the rest after the first `words` words of the block of this tag at a place, and how many words it has.
@@ -127,6 +185,7 @@ fn rest_of(own: Tag, words: u32, at: u32) -> (Tag, u32)
 // Where neither neighbour is free, most often, a release is this alone. Always inline: otherwise the tag is taken apart for all
 // releases, and not just where a merge needs a part of it. The tick rises before a merge, so that no register is kept for it over
 // the call. Otherwise it rises after the stores of the header, where one instruction does it.
+// Each neighbour has a test and a call of its own: one test for both would want a register more, saved in each release.
 #[inline(always)]
 pub fn coalesce<const SLI: u32>(region: &mut Region<SLI>, tick: &mut u64, at: u32, own: Tag)
     requires level { IsLevel SLI }
@@ -147,10 +206,16 @@ pub fn coalesce<const SLI: u32>(region: &mut Region<SLI>, tick: &mut u64, at: u3
 {
     let next = next_tag(region, at, own);
     let previous = previous_tag(region, at, own);
-    if next.is_free() || previous.is_free() {
+    if previous.is_free() {
         let stamp = *tick;
         *tick = stamp + 1;
-        merge(region, next, previous, stamp, at, own);
+        merge_before(region, next, previous, stamp, at, own);
+        return;
+    }
+    if next.is_free() {
+        let stamp = *tick;
+        *tick = stamp + 1;
+        merge_next(region, next, own, stamp, at);
         return;
     }
     region.free(at, own, *tick);
@@ -195,23 +260,19 @@ fn previous_tag<const SLI: u32>(region: &mut Region<SLI>, at: u32, own: Tag) -> 
     region.tag(own.back())
 }
 
-/// Makes the live block at a place and its free neighbours, at least one, one free block. The tags are those of these blocks.
-// Never inline: so a release that merges nothing saves no registers. The argument that a caller knows last comes first, since the
-// register of the second one holds the name until its serial is read. The stamp is the fourth: its register is wanted for shifts,
-// and the stamp is needed last.
+/// Makes the live block at a place and the free one after it one free block. No free one is before it. The tags are those of these
+/// two blocks.
+// Never inline, and so the two below: a release that merges nothing then saves no registers. The argument that a caller knows last
+// comes first, since the register of the second one holds the name until its serial is read. The stamp is the fourth: its register
+// is wanted for shifts, and the stamp is needed last.
 #[inline(never)]
-fn merge<const SLI: u32>(
-    region: &mut Region<SLI>,
-    next: Tag,
-    previous: Tag,
-    tick: u64,
-    at: u32,
-    own: Tag,
-)
+fn merge_next<const SLI: u32>(region: &mut Region<SLI>, next: Tag, own: Tag, tick: u64, at: u32)
     requires level { IsLevel SLI }
     requires live { HasAt region.old.blocks at (λ s. is_free s.block ≡ false) }
-    requires tags { EachAt region.old.blocks at (λ s. AreTagsAround region.old.words s own next previous) }
-    requires some { next.free ≡ false → previous.free ≡ true }
+    requires own { EachAt region.old.blocks at (λ s. IsTagOf region.old.words s own) }
+    requires next { EachAt region.old.blocks at (λ s. IsNextTag region.old.words s next) }
+    requires some { next.free ≡ true }
+    requires none { EachAt region.old.blocks at (λ s. last_free s.before ≡ 0) }
     requires whole { words_in region.old.blocks ≡ region.old.words }
     requires sized { AreRegions SLI region.old.blocks }
     requires small { words_in region.old.blocks ≤ most_words SLI }
@@ -223,56 +284,111 @@ fn merge<const SLI: u32>(
     ensures touched { LeavesPayloads region.old.blocks at region.old.touched region.new.touched }
     ensures groups { InGroups 11 region.old.touched region.new.touched }
 {
-    let (place, size) = join(region, at, own, next, previous, tick);
-    region.push(class_of(size), place);
+    let after = next.size();
+    region.remove(after, at + own.size());
+    let whole = own.with_next(next);
+    region.merge(at, 0, after, false, true, whole, tick);
+    region.push(class_of(whole.size()), at);
 }
 
-/// Takes the free neighbours of the live block at a place, at least one, out of their lists. Makes it and them one free block,
-/// which is in no list. The tags are those of these blocks. Answers its place and its size.
-// Each case stands for itself, so that no flag and no size is tested again where the header and the start bits are written.
-#[inline(always)]
-fn join<const SLI: u32>(
+/// Makes the live block at a place, the free one before it, and the one after it, if that is free, one free block. The tags are those
+/// of these blocks.
+#[inline(never)]
+fn merge_before<const SLI: u32>(
     region: &mut Region<SLI>,
-    at: u32,
-    own: Tag,
     next: Tag,
     previous: Tag,
     tick: u64,
-) -> (u32, u32)
+    at: u32,
+    own: Tag,
+)
     requires level { IsLevel SLI }
     requires live { HasAt region.old.blocks at (λ s. is_free s.block ≡ false) }
     requires tags { EachAt region.old.blocks at (λ s. AreTagsAround region.old.words s own next previous) }
-    requires some { next.free ≡ false → previous.free ≡ true }
+    requires some { previous.free ≡ true }
     requires whole { words_in region.old.blocks ≡ region.old.words }
     requires sized { AreRegions SLI region.old.blocks }
     requires small { words_in region.old.blocks ≤ most_words SLI }
     requires listed { AreFreeLists SLI region.old.blocks (list_in region.old.lists) }
     requires stamped { AllByRecursion (λ s. s < tick) (stamps region.old.blocks) }
-    ensures place { EachAt region.old.blocks at (λ s. result.0 ≡ at - last_free s.before) }
-    ensures size { EachAt region.old.blocks at (λ s. result.1 ≡ last_free s.before + size_of s.block + first_free s.after) }
     ensures blocks { EachAt region.old.blocks at (λ s. region.new.blocks ≡ coalesced tick s) }
-    ensures listed { EachAt region.old.blocks at (λ s. AreFreeLists SLI (withheld s) (list_in region.new.lists)) }
-    ensures edits { Edits region.old region.new 18 }
-    ensures touched { LeavesLive region.old.blocks region.old.touched region.new.touched }
-    ensures groups { InGroups 9 region.old.touched region.new.touched }
+    ensures listed { AreFreeLists SLI region.new.blocks (list_in region.new.lists) }
+    ensures edits { Edits region.old region.new 25 }
+    ensures touched { LeavesPayloads region.old.blocks at region.old.touched region.new.touched }
+    ensures groups { InGroups 11 region.old.touched region.new.touched }
 {
-    if !next.is_free() {
-        let before = previous.size();
-        region.remove(before, at - before);
-        let whole = own.as_free().with_previous(previous);
-        region.merge(at, before, 0, true, false, whole, tick);
-        return (at - before, whole.size());
-    }
-    let after = next.size();
-    region.remove(after, at + own.size());
-    let behind = own.with_next(next);
-    if !previous.is_free() {
-        region.merge(at, 0, after, false, true, behind, tick);
-        return (at, behind.size());
+    if next.is_free() {
+        merge_both(region, next, previous, tick, at, own);
+        return;
     }
     let before = previous.size();
+    let whole = own.as_free().with_previous(previous);
+    take_in(region, at, before, whole, tick);
+}
+
+/// Makes the live block at a place and the free ones before and after it one free block. The tags are those of these blocks.
+#[inline(never)]
+fn merge_both<const SLI: u32>(
+    region: &mut Region<SLI>,
+    next: Tag,
+    previous: Tag,
+    tick: u64,
+    at: u32,
+    own: Tag,
+)
+    requires level { IsLevel SLI }
+    requires live { HasAt region.old.blocks at (λ s. is_free s.block ≡ false) }
+    requires tags { EachAt region.old.blocks at (λ s. AreTagsAround region.old.words s own next previous) }
+    requires some { next.free ≡ true }
+    requires both { previous.free ≡ true }
+    requires whole { words_in region.old.blocks ≡ region.old.words }
+    requires sized { AreRegions SLI region.old.blocks }
+    requires small { words_in region.old.blocks ≤ most_words SLI }
+    requires listed { AreFreeLists SLI region.old.blocks (list_in region.old.lists) }
+    requires stamped { AllByRecursion (λ s. s < tick) (stamps region.old.blocks) }
+    ensures blocks { EachAt region.old.blocks at (λ s. region.new.blocks ≡ coalesced tick s) }
+    ensures listed { AreFreeLists SLI region.new.blocks (list_in region.new.lists) }
+    ensures edits { Edits region.old region.new 25 }
+    ensures touched { LeavesPayloads region.old.blocks at region.old.touched region.new.touched }
+    ensures groups { InGroups 11 region.old.touched region.new.touched }
+{
+    let after = next.size();
+    region.remove(after, at + own.size());
+    let before = previous.size();
     region.remove(before, at - before);
-    let whole = behind.with_previous(previous);
+    let whole = own.with_next(next).with_previous(previous);
     region.merge(at, before, after, true, true, whole, tick);
-    (at - before, whole.size())
+    region.push(class_of(whole.size()), at - before);
+}
+
+/// Makes the block at a place one free block of this tag. It takes in the free one of `before` words before it. The block is then at
+/// the head of the list of its class. Where the one before it is there already, it stays, and no link is written.
+// The links of the one before say whether it is first, and are read anyway, to take it out. So one that isn't takes no instruction
+// more. The same test beside a free block after it would take six in the longest release, which it can't shorten.
+#[inline(always)]
+fn take_in<const SLI: u32>(region: &mut Region<SLI>, at: u32, before: u32, tag: Tag, tick: u64)
+    requires level { IsLevel SLI }
+    requires before { IsRegion SLI before }
+    requires around { HasAt region.old.blocks at (λ s. AreNeighbours region.old.words s before 0 tag) }
+    requires most { tag.size ≤ most_words SLI }
+    requires listed { Contains (list_in region.old.lists (class_of SLI before)) (at - before) }
+    requires unlisted { (left : ℕ → List ℕ) → IsWithout (list_in region.old.lists) (class_of SLI before) (at - before) left → AreUnlisted left (at - before) (at - before + tag.size) }
+    ensures blocks { EachAt region.old.blocks at (λ s. region.new.blocks ≡ coalesced tick s) }
+    ensures lists { MovedToFront region.old region.new (class_of SLI before) (class_of SLI tag.size) (at - before) }
+    ensures edits { Edits region.old region.new 20 }
+    ensures touched { LeavesPayloads region.old.blocks at region.old.touched region.new.touched }
+    ensures groups { InGroups 9 region.old.touched region.new.touched }
+{
+    let place = at - before;
+    if region.is_first(place) {
+        let from = class_of::<SLI>(before);
+        let to = class_of::<SLI>(tag.size());
+        if from.number() == to.number() {
+            region.merge(at, before, 0, true, false, tag, tick);
+            return;
+        }
+    }
+    region.remove(before, place);
+    region.merge(at, before, 0, true, false, tag, tick);
+    region.push(class_of(tag.size()), place);
 }

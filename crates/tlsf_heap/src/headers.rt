@@ -49,6 +49,7 @@ pub fn first_header(words: &mut Words, stamp: u64)
     ensures starts { words.new.starts ≡ slice_set words.old.starts 0 true }
     ensures stays { words.new.extents ≡ words.old.extents }
     ensures touches { words.new.touches ≡ words.old.touches + 3 }
+    ensures touched { words.new.touched ≡ 1 ∷ 0 ∷ words.old.touched }
 {
     let tag = Tag::new(words.len(), true, true, NO_PLACE);
     free_header(words, 0, tag, stamp);

@@ -26,7 +26,10 @@ ghost use Rattle.tlsf_heap.specs.Shown.{seen};
 mod aligned;
 mod by_place;
 mod check;
+mod check_around;
+mod check_request;
 mod live;
+mod reset;
 mod unset;
 mod words_in_use;
 
@@ -197,7 +200,7 @@ impl<const SLI: u32> Heap<SLI> {
         if self.tick == u64::MAX {
             return Err(Refusal::Worn);
         }
-        let at = carve(&mut self.region, class, words, &mut self.tick, len, spare);
+        let at = carve(&mut self.region, class, words, self.tick, len, spare);
         // Read again: a register that outlives the zeroing costs more.
         let serial = self.tick;
         self.tick += 1;
@@ -679,6 +682,8 @@ impl<const SLI: u32> Heap<SLI> {
     }
 
     /// Copies the payload of the first of two live blocks to the other, as far as both reach, and releases the first. A tick is left.
+    // Always inline: in a call of its own both names go through memory.
+    #[inline(always)]
     fn hand_over(&mut self, name: Name, new: Name) -> Result<Name, Refusal>
         requires from { IsLive self.old.heap name }
         requires to { IsLive self.old.heap new }
@@ -692,8 +697,22 @@ impl<const SLI: u32> Heap<SLI> {
     {
         let len = self.length(name).min(self.length(new));
         self.copy(name, new, len);
-        self.release(name)?;
+        let tag = self.tag_of(name);
+        self.give_back(name.at, tag, &mut tag.size())?;
         Ok(new)
+    }
+
+    /// The tag of the live block of that name.
+    fn tag_of(&mut self, name: Name) -> Tag
+        requires { IsLive self.old.heap name }
+        ensures tag { IsPlaceCheck self.old.heap name.at (Ok result) }
+        ensures same { IsAsBefore self.old self.new }
+        ensures keeps { Keeps SLI self.old self.new }
+        ensures touches { self.new.touches ≤ self.old.touches + 1 }
+        ensures leaves { LeavesLive self.old.heap.blocks self.old.touched self.new.touched }
+        ensures groups { InGroups 1 self.old.touched self.new.touched }
+    {
+        self.region.tag(name.at)
     }
 
     /// The payload length in bytes of the live block of that name.

@@ -7,7 +7,7 @@ ghost use Rattle.tlsf_heap.specs.Aligned.{words_aligned};
 ghost use Rattle.tlsf_heap.specs.ByPlace.{name_at};
 ghost use Rattle.tlsf_heap.specs.Steady.{HasPayload, IsEven, AreEvenFrom, IsPayloadWord};
 ghost use Rattle.tlsf_heap.specs.Steps.{Step, stepped, after, step_of, IsRoomy, TakesBack, IsOfOtherBlocks, IsOfOthers, IsWrite, IsEvenStep};
-ghost use Rattle.tlsf_heap.specs.Calls.{Call, allocated, allocated_words, last_tick, opened, released, resized_words, run, read_of};
+ghost use Rattle.tlsf_heap.specs.Calls.{Call, allocated, allocated_words, last_tick, opened, released, reset, resized_words, run, read_of};
 ghost use Rattle.tlsf_heap.specs.GoodFit.{fits};
 ghost use Rattle.tlsf_heap.specs.Lawful.{IsLawful};
 ghost use Rattle.tlsf_heap.specs.Laws.{LieApart, LieInRegion, IsLive, IsTaken, IsGone};
@@ -66,6 +66,23 @@ pub fn names_live_until_released()
     // nor as Foreign.
     ensures stale { (h : HeapState) (name : Name) → name.heap ≡ h.id → ¬ (IsLive h name) → (released h name).answer ≡ Err Stale }
     ensures known { (h : HeapState) (name : Name) → IsLive h name → ((released h name).answer ≢ Err Stale) × ((released h name).answer ≢ Err Foreign) }
+{}
+
+/// A reset ends every name. No live block is left, and no serial that was given until then is one of a later block.
+///
+/// ```text
+/// let name = heap.allocate(8)?;           // live, and at place 0
+/// heap.reset()?;
+/// let again = heap.allocate(8)?;          // at place 0 too, under another serial: `name` stays stale
+/// ```
+pub fn resets_end_all_names()
+    ensures none { (h : HeapState) (name : Name) → IsOk (reset h).answer → ¬ (IsLive (reset h).heap name) }
+    ensures gone { (h : HeapState) (name : Name) → IsLawful h → IsLive h name → IsOk (reset h).answer → IsGone (reset h).heap name.serial }
+    ensures serials { (h : HeapState) (serial : ℕ) → IsOk (reset h).answer → IsGone h serial → IsGone (reset h).heap serial }
+
+    // It is refused at the last tick, and nowhere else. Then it leaves no word in use.
+    ensures ok { (h : HeapState) → IsOk (reset h).answer ↔ (¬ (h.tick ≡ last_tick)) }
+    ensures unused { (h : HeapState) → IsOk (reset h).answer → words_in_use (reset h).heap ≡ 0 }
 {}
 
 /// The grant of a report is the greatest length of which a request is not refused as `NoFit`. It is the payload of the least block

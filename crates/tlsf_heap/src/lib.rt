@@ -35,6 +35,7 @@
 //! has written over.
 #![tactic(auto)]
 
+mod around;
 mod check;
 mod checked;
 mod fitting;
@@ -52,13 +53,14 @@ mod region;
 mod report;
 mod tally;
 
+pub use around::{check_around, check_taken};
 pub use check::check_words;
 pub use checked::Checked;
 pub use heap::{Heap, want};
 pub use laws::{
     blocks_never_overlap, calls_are_steps, even_blocks_stay_even, grant_is_greatest,
     names_live_until_released, payload_words_stay, payloads_stay, places_name_blocks,
-    refused_only_where_nothing_fits, words_in_use_add_up,
+    refused_only_where_nothing_fits, resets_end_all_names, words_in_use_add_up,
 };
 pub use ledger::Ledger;
 pub use ledger::counts::Counts;

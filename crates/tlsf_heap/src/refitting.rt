@@ -92,6 +92,8 @@ fn recut<const SLI: u32>(
 
 /// Gives the live block at a place, of this tag, `len` bytes of payload, for which `words` words are wanted. The free block of tag
 /// `next` follows it. A block that has those and fewer than four more keeps its size.
+// Always inline: in a call of its own it saves all registers, where a block that keeps its size needs few.
+#[inline(always)]
 pub fn refit<const SLI: u32>(
     region: &mut Region<SLI>,
     at: u32,

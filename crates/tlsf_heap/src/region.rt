@@ -1,11 +1,11 @@
 ghost use Rattle.std.specs.Fn.{FnOnceReturnsAt, FnOnceReturnsAtMut, FnOnceTakesAt, FnOnceTakesAtMut};
-ghost use Rattle.std.specs.Prelude.{◌≡◌, ℕ, ◌+◌, ◌*◌, ◌/◌, ◌-◌, ◌<◌, ◌≤◌, ◌^◌, [], ◌∷◌, ◌++◌, false, true, length, take, drop, replicate, Some, slice_get, Contains, IfOk};
+ghost use Rattle.std.specs.Prelude.{◌≡◌, ◌≢◌, ℕ, ◌+◌, ◌*◌, ◌/◌, ◌-◌, ◌<◌, ◌≤◌, ◌^◌, [], ◌∷◌, ◌++◌, false, true, length, take, drop, replicate, Some, slice_get, Contains, IfOk};
 ghost use Rattle.std.specs.List.{AllByRecursion};
 ghost use Rattle.tlsf_class.specs.Classes.{IsLevel, most_words, class_of};
 ghost use Rattle.tlsf_class.specs.Members.{next_member};
 ghost use Rattle.tlsf_words.specs.Bytes.{bytes_in, payload_byte};
-ghost use Rattle.tlsf_words.specs.Touched.{InGroups};
-ghost use Rattle.tlsf_words.specs.Lists.{listed_classes, IsUnlisted};
+ghost use Rattle.tlsf_words.specs.Touched.{InGroups, times};
+ghost use Rattle.tlsf_words.specs.Lists.{without_place, listed_classes, IsUnlisted};
 ghost use Rattle.tlsf_heap.specs.Aligned.{IsFreeTest};
 ghost use Rattle.tlsf_heap.specs.Blocks.{Live, Free, size_of, is_free, bytes_of, words_for, want, StandsAt, IsPlace};
 ghost use Rattle.tlsf_heap.specs.GoodFit.{block_at};
@@ -21,8 +21,10 @@ ghost use Rattle.tlsf_heap.specs.InPlace.{payload_at};
 ghost use Rattle.tlsf_heap.specs.Lawful.{HasRoom};
 ghost use Rattle.tlsf_heap.specs.Named.{IsNameTest};
 ghost use Rattle.tlsf_heap.specs.Placed.{placed_at};
-ghost use Rattle.tlsf_heap.specs.Touched.{groups_of};
-ghost use Rattle.tlsf_heap.specs.Regions.{list_in, AreUnlisted, EachAt, HasAt, IsTagOf, IsTagBehind, AreNeighbours, rest_of, BeginsZero, AwaitsZeros, image_of, OnlyReads, Rewrites, PutInFront, TakenOut, IsOpened};
+ghost use Rattle.tlsf_heap.specs.Touched.{groups_of, reset_touches};
+ghost use Rattle.tlsf_heap.specs.Regions.{list_in, AreUnlisted, EachAt, HasAt, IsTagOf, IsTagBehind, AreNeighbours, rest_of, BeginsZero, AwaitsZeros, image_of, OnlyReads, Edits, Rewrites, PutInFront, TakenOut, IsOpened};
+
+mod around;
 
 use crate::check::check_words;
 use crate::checked::Checked;
@@ -33,7 +35,7 @@ use crate::payload::set_payload;
 use crate::placed_block::{Content, PlacedBlock};
 use std::alloc::Global;
 use std::marker::Model;
-use tlsf_class::Class;
+use tlsf_class::{Class, class_of};
 use tlsf_words::{FreeLists, NoMemory, Tag, Words};
 
 /// The words of a region, seen as the blocks that they show, one after the other. Their links thread the lists of free blocks, one
@@ -72,6 +74,24 @@ impl<const SLI: u32> Region<SLI> {
             words: region,
             lists: FreeLists::new(),
         })
+    }
+
+    /// Makes the region one free block, which is alone in the lists. No word is read or written but the three of its header.
+    pub fn reset(&mut self, stamp: u64)
+        requires level { IsLevel SLI }
+        requires most { self.old.words ≤ most_words SLI }
+        ensures least { 4 ≤ self.old.words }
+        ensures blocks { self.new.blocks ≡ Free self.old.words stamp ∷ [] }
+        ensures list { list_in self.new.lists (class_of SLI self.old.words) ≡ 0 ∷ [] }
+        ensures others { (other : ℕ) → other ≢ class_of SLI self.old.words → list_in self.new.lists other ≡ [] }
+        ensures edits { Edits self.old self.new (reset_touches + (self.old.words + 63) / 64) }
+        ensures touched { (k : ℕ) → 3 ≤ k → times self.new.touched k ≡ times self.old.touched k }
+    {
+        let words = self.words.len();
+        self.words.clear_starts();
+        first_header(&mut self.words, stamp);
+        self.lists.clear();
+        self.lists.push(&mut self.words, class_of(words), 0);
     }
 
     /// The number of words.
@@ -417,8 +437,8 @@ impl<const SLI: u32> Region<SLI> {
     }
 
     /// Makes the block at a place one free block of this tag. It takes in the free one of `before` words before it and the one of
-    /// `after` words after it. None of them is in a list. Where there is none, that is 0. `previous` and `next` say whether there
-    /// is one.
+    /// `after` words after it. Where there is none, that is 0. `previous` and `next` say whether there is one. Only the first of them
+    /// may be in a list, where it stays.
     #[inline(always)]
     pub fn merge(
         &mut self,
@@ -435,7 +455,7 @@ impl<const SLI: u32> Region<SLI> {
         requires next { next ≡ true → 0 < after }
         requires no_next { next ≡ false → after ≡ 0 }
         requires around { HasAt self.old.blocks at (λ s. AreNeighbours self.old.words s before after tag) }
-        requires unlisted { AreUnlisted (list_in self.old.lists) (at - before) (at - before + tag.size) }
+        requires unlisted { AreUnlisted (list_in self.old.lists) (at - before + 1) (at - before + tag.size) }
         ensures change { EachAt self.old.blocks at (λ s. Rewrites self.old self.new (Calls.coalesced stamp s) 6) }
         ensures touched { LeavesLive self.old.blocks self.old.touched self.new.touched }
         ensures groups { InGroups 3 self.old.touched self.new.touched }
@@ -459,6 +479,17 @@ impl<const SLI: u32> Region<SLI> {
         ensures { PutInFront self.old self.new class.entry at 7 }
     {
         self.lists.push(&mut self.words, class, at);
+    }
+
+    /// Whether a free block that is in a list is the first of it.
+    pub fn is_first(&mut self, at: u32) -> bool
+        requires listed { (class : ℕ) × Contains (list_in self.old.lists class) at }
+        ensures first { result ≡ true → (class : ℕ) → Contains (list_in self.old.lists class) at → list_in self.old.lists class ≡ at ∷ without_place at (list_in self.old.lists class) }
+        ensures reads { OnlyReads self.old self.new 1 }
+        ensures touched { LeavesLive self.old.blocks self.old.touched self.new.touched }
+        ensures groups { InGroups 1 self.old.touched self.new.touched }
+    {
+        self.lists.is_first(&mut self.words, at)
     }
 
     /// Takes a block of this size out of the list of its class.

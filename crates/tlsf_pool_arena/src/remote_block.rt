@@ -62,6 +62,7 @@ impl<'a, const UNIT: usize> RemoteBlock<'a, UNIT> {
     pub fn with_parts(self) -> (*mut u8, usize, RemoteBlock<'a, UNIT>)
         ensures bytes { (result.0 ≡ self.entry.parcel.block.piece.ptr) × (result.1 ≡ self.entry.parcel.block.piece.size) }
         ensures same { (result.2.parcel.block.name ≡ self.entry.parcel.block.name) × (result.2.parcel.block.piece ≡ self.entry.parcel.block.piece) × (result.2.parcel.block.right ≡ self.entry.parcel.block.right) }
+        ensures home { (result.2.ticket ≡ self.entry.ticket) × (result.2.slots ≡ self.entry.slots) }
     {
         let RemoteBlock {
             parcel,

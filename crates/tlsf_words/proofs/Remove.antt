@@ -116,6 +116,16 @@ module _ (sli : ℕ) (heads members w : List ℕ) (class at : ℕ) (t : AreThrea
   rest_apart : AllByRecursion (λ y. y ≢ last_of nowhere prefix) rest
   rest_apart = behind_apart nowhere at prefix rest (none_nowhere w nowhere (prefix ++ at ∷ rest) small linked) distinct
 
+  first_left : (xs : List ℕ) → LinkedFrom w nowhere (xs ++ at ∷ rest) → last_of nowhere xs ≡ nowhere → xs ≡ []
+  first_left [] h e = refl
+  first_left (x ∷ xs) h e = absurd (last_inside w x xs (at ∷ rest) small h.1 h.2 e)
+
+  -- where no place is before it, it is the first
+  pub none_before : high_half (get_or w (at + 2) 0) ≡ nowhere → old ≡ at ∷ without_place at old
+  none_before none =
+      let empty : prefix ≡ [] = first_left prefix linked (sym previous_last ∙ none) in
+      parts.2 ∙ ap (λ (ps : List ℕ). ps ++ at ∷ rest) empty ∙ ap (λ (ps : List ℕ). at ∷ ps) (sym (left_is ∙ ap (λ (ps : List ℕ). ps ++ rest) empty))
+
   module _ (next previous : ℕ) (next_is : next ≡ low_half (get_or w (at + 2) 0)) (previous_is : previous ≡ high_half (get_or w (at + 2) 0)) where
     next_left : next ≢ nowhere → Contains (prefix ++ rest) next
     next_left some =
@@ -148,10 +158,6 @@ module _ (sli : ℕ) (heads members w : List ℕ) (class at : ℕ) (t : AreThrea
         (sym (next_is ∙ next_first) ∙ e ∙ previous_is ∙ previous_last)
 
   module _ (next previous : ℕ) (new_heads new_members v : List ℕ) (r : RemoveWrites sli heads members w class at next previous new_heads new_members v) where
-    first_left : (xs : List ℕ) → LinkedFrom w nowhere (xs ++ at ∷ rest) → last_of nowhere xs ≡ nowhere → xs ≡ []
-    first_left [] h e = refl
-    first_left (x ∷ xs) h e = absurd (last_inside w x xs (at ∷ rest) small h.1 h.2 e)
-
     first_kept : (xs : List ℕ) → last_of nowhere xs ≢ nowhere → first_of (xs ++ at ∷ rest) ≡ first_of (xs ++ rest)
     first_kept [] some = absurd (some refl)
     first_kept (x ∷ xs) some = refl

@@ -57,6 +57,23 @@ impl<const SLI: u32> FreeLists<SLI> {
         }
     }
 
+    /// Takes every place out of its list. It makes 663 touches: one for each head and each word of the bitmaps. No word of the
+    /// region is read or written, so the links stay as they lie.
+    ///
+    /// ```
+    /// lists.clear();
+    /// let none = lists.next_from(class_of(4));     // None
+    /// ```
+    pub fn clear(&mut self)
+        requires { IsLevel SLI }
+        ensures empty { (words : List ℕ) (class : ℕ) → list_of self.new.heads words class ≡ [] }
+        ensures threaded { (words : List ℕ) → AreThreaded SLI self.new.heads self.new.members words }
+        ensures touches { self.new.touches ≡ self.old.touches + 663 }
+    {
+        self.heads.clear();
+        self.bitmaps.clear_all();
+    }
+
     /// Puts a place that is in no list at the head of the list of a class, in seven touches at most. It writes the links of
     /// the place and those of the head before.
     ///
@@ -210,6 +227,25 @@ impl<const SLI: u32> FreeLists<SLI> {
     {
         let at = self.heads.place(class);
         if at == NO_PLACE { None } else { Some(at) }
+    }
+
+    /// Whether a place that is in a list is the first of it: its links name none before it. One touch.
+    ///
+    /// ```
+    /// lists.push(&mut words, class_of(12), 20);
+    /// let stands_first = lists.is_first(&mut words, 20);     // true
+    /// ```
+    pub fn is_first(&self, words: &mut Words, at: u32) -> bool
+        requires threaded { AreThreaded SLI self.now.heads self.now.members words.old.words }
+        requires listed { (class : ℕ) × Contains (list_of self.now.heads words.old.words class) at }
+        ensures first { result ≡ true → (class : ℕ) → Contains (list_of self.now.heads words.old.words class) at → list_of self.now.heads words.old.words class ≡ at ∷ without_place at (list_of self.now.heads words.old.words class) }
+        ensures words { words.new.words ≡ words.old.words }
+        ensures starts { words.new.starts ≡ words.old.starts }
+        ensures stays { words.new.extents ≡ words.old.extents }
+        ensures touches { words.new.touches ≡ words.old.touches + 1 }
+        ensures touched { words.new.touched ≡ (at + 2) ∷ words.old.touched }
+    {
+        !is_place(words.links(at).previous)
     }
 
     /// The least class at or above a class whose list isn't empty, `None` where there is none. Three touches at most

@@ -69,4 +69,13 @@ impl<const SLI: u32> Heads<SLI> {
         self.touches.add_one();
         self.places[class.index()] = at;
     }
+
+    /// Makes every list begin nowhere. One touch for each number that a class might have, and those below 4.
+    pub(crate) fn clear(&mut self)
+        ensures places { (class : ℕ) → slice_index_or self.new.places class nowhere ≡ nowhere }
+        ensures touches { self.new.touches ≡ self.old.touches + 641 }
+    {
+        self.places = [NO_PLACE; 641];
+        self.touches.add(641);
+    }
 }

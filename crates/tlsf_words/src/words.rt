@@ -1,5 +1,5 @@
 ghost use Rattle.std.specs.Fn.{FnOnceReturnsAt, FnOnceReturnsAtMut, FnOnceTakesAt, FnOnceTakesAtMut};
-ghost use Rattle.std.specs.Prelude.{◌≡◌, ℕ, ◌+◌, ◌<◌, ◌≤◌, ◌^◌, [], ◌∷◌, ◌++◌, false, length, take, drop, replicate, slice_index, slice_index_or, slice_set, IfOk};
+ghost use Rattle.std.specs.Prelude.{◌≡◌, ℕ, ◌+◌, ◌/◌, ◌<◌, ◌≤◌, ◌^◌, [], ◌∷◌, ◌++◌, false, length, take, drop, replicate, slice_index, slice_index_or, slice_set, IfOk};
 ghost use Rattle.tlsf_words.specs.Fields.{tag_word, size_in, last_in, free_in, back_in, length_word, links_word, low_half, high_half};
 ghost use Rattle.tlsf_words.specs.Touched.{times};
 
@@ -362,6 +362,22 @@ impl Words {
         ensures touched { self.new.touched ≡ self.old.touched }
     {
         self.starts.set(at, starts);
+    }
+
+    /// Says that no block starts anywhere. One touch for 64 words, or part of them: the map has a bit for each.
+    ///
+    /// ```
+    /// words.clear_starts();
+    /// let is_block = words.starts(0);     // false
+    /// ```
+    pub fn clear_starts(&mut self)
+        ensures words { self.new.words ≡ self.old.words }
+        ensures starts { self.new.starts ≡ replicate (length self.old.words) false }
+        ensures stays { self.new.extents ≡ self.old.extents }
+        ensures touches { self.new.touches ≡ self.old.touches + (length self.old.words + 63) / 64 }
+        ensures touched { self.new.touched ≡ self.old.touched }
+    {
+        self.starts.clear();
     }
 
     /// Makes `n` words zero, from a place on, as one slice. One touch a word.

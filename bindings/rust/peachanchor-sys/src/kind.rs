@@ -3,5 +3,5 @@
 #[derive(Clone, Copy, Debug, Default, PartialEq, Eq)]
 pub struct tlsf_kind {
     pub most: u32,
-    pub len: u32,
+    pub len: usize,
 }

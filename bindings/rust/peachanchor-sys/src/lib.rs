@@ -1,21 +1,19 @@
-//! C's calls of the heap Peachanchor, as `tlsf.h` has them. The header says what each does, and what the caller owes.
+//! C's calls of the heap Peachanchor, as `peachanchor.h` has them. The header says what each does, and what the caller owes.
 //!
-//! Calls that are inline in the header are written here in Rust: those by pointer in `by_pointer.rs`, those by name in
-//! `by_name.rs`. The others are in the archive. `proved` has them all with their plain names, so `tlsf_allocate` here is
-//! the header's inline call over `proved::tlsf_allocate`.
+//! All calls are in the archive, and `proved` has them with their plain names. `tlsf_release` here is the header's inline
+//! call over `proved::tlsf_release`, which `by_name.rs` has in Rust. The calls by pointer are the archive's own.
 //!
-//! `libtlsf.a` is taken from `$PEACHANCHOR_PREFIX/lib`. Without that variable the C compiler makes it of the assembly in
+//! `libpeachanchor.a` is taken from `$PEACHANCHOR_PREFIX/lib`. Without that variable the C compiler makes it of the assembly in
 //! this crate, which a release has, or pkg-config says where it is. Without the feature `malloc` it is
-//! `libtlsf_nomalloc.a`.
+//! `libpeachanchor_nomalloc.a`.
 //!
-//! Each function here is unsafe, as C is. Its caller keeps the rules of `tlsf.h`. A body passes pointers on to calls
+//! Each function here is unsafe, as C is. Its caller keeps the rules of `peachanchor.h`. A body passes pointers on to calls
 //! that have the same rules.
 #![no_std]
 #![allow(non_camel_case_types)]
 
 mod block_info;
 mod by_name;
-mod by_pointer;
 mod fetch;
 mod heap;
 mod heap_counts;
@@ -35,16 +33,13 @@ mod span;
 mod take_end;
 
 pub use block_info::tlsf_block_info;
-pub use by_name::{
-    tlsf_allocate, tlsf_payload, tlsf_put_all, tlsf_queue_take, tlsf_reallocate, tlsf_release, tlsf_resize, tlsf_take,
-};
-pub use by_pointer::*;
+pub use by_name::tlsf_release;
 pub use heap::tlsf_heap;
 pub use heap_counts::tlsf_heap_counts;
 pub use heap_report::tlsf_heap_report;
 pub use kind::tlsf_kind;
 pub use name::tlsf_name;
-pub use near_heap::{tlsf_near, tlsf_near_heap};
+pub use near_heap::tlsf_near_heap;
 pub use offsets::tlsf_offsets;
 pub use offsets_usage::tlsf_offsets_usage;
 pub use placed::tlsf_placed;
@@ -60,7 +55,7 @@ pub use take_end::tlsf_take_end;
 pub const TLSF_OK: u32 = 0;
 /// No free block is large enough, by the classes that are searched.
 pub const TLSF_NO_FIT: u32 = 1;
-/// Too few ticks are left.
+/// Too few ticks are left, or no number.
 pub const TLSF_WORN: u32 = 2;
 /// The name is of a heap with another number.
 pub const TLSF_FOREIGN: u32 = 3;
@@ -101,36 +96,3 @@ pub const TLSF_OTHER_KIND: u32 = 40;
 pub const TLSF_UNFILLED: u32 = 1;
 /// No region has so many bytes.
 pub const TLSF_LONGEST: usize = 1 << 27;
-
-/// What an answer says, in a few words.
-///
-/// ```
-/// use peachanchor_sys::{tlsf_text_of, TLSF_FULL};
-/// assert_eq!(tlsf_text_of(TLSF_FULL), "the lane or queue is full");
-/// ```
-#[must_use]
-pub const fn tlsf_text_of(answer: u32) -> &'static str {
-    match answer {
-        TLSF_OK => "done",
-        TLSF_NO_FIT => "no free block fits",
-        TLSF_WORN => "the ticks are used up",
-        TLSF_FOREIGN => "a name of another heap",
-        TLSF_STALE => "no live block has that name or address",
-        TLSF_BAD_SIZE => "a size out of range",
-        TLSF_NO_MEMORY => "no memory",
-        TLSF_RANGE => "bytes past the end of the payload",
-        TLSF_FULL => "the lane or queue is full",
-        TLSF_NO_ROOM => "no room where the block stands",
-        TLSF_NOT_WRITTEN => "a line was not written",
-        TLSF_IS_CLOSED => "the handle is closed",
-        TLSF_IN_USE => "the handle is open already",
-        TLSF_BAD_LEVEL => "a level is 4 or 5",
-        TLSF_EMPTY => "the lane or queue is empty",
-        TLSF_DAMAGED => "a header is damaged",
-        TLSF_BUSY => "another thread is in the way: try again",
-        TLSF_ROW_FULL => "all blocks of that row are held",
-        TLSF_BAD_MEMORY => "memory that is null, or past the end of the address space",
-        TLSF_OTHER_KIND => "the handle holds something of another kind",
-        _ => "no answer of this library",
-    }
-}

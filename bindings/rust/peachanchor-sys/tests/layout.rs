@@ -17,7 +17,7 @@ fn values_lie_as_in_c() {
     assert_eq!((size_of::<tlsf_heap_report>(), offset_of!(tlsf_heap_report, age)), (48, 40));
     assert_eq!((size_of::<tlsf_block_info>(), offset_of!(tlsf_block_info, mark)), (24, 16));
     assert_eq!((size_of::<tlsf_queue>(), size_of::<tlsf_poster>(), size_of::<tlsf_offsets>()), (16, 16, 16));
-    assert_eq!((size_of::<tlsf_pools>(), size_of::<tlsf_kind>(), offset_of!(tlsf_kind, len)), (16, 8, 4));
+    assert_eq!((size_of::<tlsf_pools>(), size_of::<tlsf_kind>(), offset_of!(tlsf_kind, len)), (16, 16, 8));
     assert_eq!((size_of::<tlsf_span>(), offset_of!(tlsf_span, size)), (32, 24));
     assert_eq!((size_of::<tlsf_offsets_usage>(), offset_of!(tlsf_offsets_usage, held)), (32, 8));
 }

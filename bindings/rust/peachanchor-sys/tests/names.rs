@@ -11,7 +11,7 @@ fn names_lie_in_payloads() {
     unsafe {
         assert_eq!(tlsf_open(heap, 5, 3, 4096), TLSF_OK);
         let (mut first, mut len) = (tlsf_name::default(), 0);
-        assert_eq!(tlsf_allocate(heap, size_of::<tlsf_name>() as u32, &mut first), TLSF_OK);
+        assert_eq!(tlsf_allocate(heap, size_of::<tlsf_name>(), &mut first), TLSF_OK);
         let link = tlsf_payload(heap, first, &mut len).cast::<tlsf_name>();
         assert_eq!((len, (*heap).is_mixed), (16, true));
         assert_eq!(tlsf_allocate(heap, 40, link), TLSF_OK); // the name of the second block lies in the first
@@ -47,6 +47,11 @@ fn names_go_through_a_lane_in_their_order() {
         let (names, mut went) = ([name; 3], 9);
         assert_eq!((tlsf_put_all(&mut post, names.as_ptr(), 3, &mut went), went), (TLSF_OK, 1));
         assert_eq!((tlsf_put_all(&mut post, names.as_ptr(), 0, &mut went), went), (TLSF_OK, 0));
+        let (mut taken, mut many) = ([tlsf_name::default(); 3], 9);
+        assert_eq!((tlsf_take_all(&mut take, taken.as_mut_ptr(), 3, &mut many), many), (TLSF_OK, 1));
+        assert_eq!(taken, [name, tlsf_name::default(), tlsf_name::default()]);
+        assert_eq!((tlsf_take_all(&mut take, taken.as_mut_ptr(), 3, &mut many), many), (TLSF_EMPTY, 1));
+        assert_eq!((tlsf_take_all(&mut take, taken.as_mut_ptr(), 0, &mut many), many), (TLSF_OK, 0));
         assert_eq!((tlsf_post_close(&mut post), tlsf_take_close(&mut take)), (TLSF_OK, TLSF_OK));
         assert_eq!(tlsf_take_close(&mut take), TLSF_IS_CLOSED);
     }

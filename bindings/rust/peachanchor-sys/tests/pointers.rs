@@ -1,4 +1,4 @@
-//! The calls that are inline in `tlsf.h`, as they are written here.
+//! The calls that are inline in `peachanchor.h`, as they are written here.
 #![cfg(feature = "malloc")]
 
 use peachanchor_sys::*;
@@ -120,7 +120,7 @@ fn what_is_reallocated_beside_odd_blocks_is_aligned() {
         for (k, (p, name)) in blocks.iter_mut().zip(&mut names).enumerate() {
             *p = tlsf_malloc(heap, 24);
             fill(*p, k as u8, 24);
-            assert_eq!(tlsf_allocate(heap, 16 * (k as u32 % 3), name), TLSF_OK);
+            assert_eq!(tlsf_allocate(heap, 16 * (k % 3), name), TLSF_OK);
         }
         for (k, p) in blocks.iter_mut().enumerate() {
             if k % 2 == 0 {

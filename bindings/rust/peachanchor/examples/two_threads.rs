@@ -8,7 +8,7 @@ const MESSAGES: u32 = 20_000;
 const UNDER_WAY: u32 = 32;
 
 /// Sends each name back, in its order. It needs no heap for that.
-fn send_back(mut take: TakeEnd, mut post: PostEnd) {
+fn send_back(mut take: TakeEnd<'_>, mut post: PostEnd<'_>) {
     for _ in 0..MESSAGES {
         let name = wait_for(|| take.take());
         wait_for(|| post.put(name));
@@ -26,8 +26,8 @@ fn wait_for<T>(mut call: impl FnMut() -> Result<T, Error>) -> T {
 }
 
 /// A message with its number in it, by name.
-fn message(heap: &Heap, number: u32) -> Result<Name, Error> {
-    let block = heap.allocate(8 + number % 200)?;
+fn message(heap: &Heap<'_>, number: u32) -> Result<Name, Error> {
+    let block = heap.allocate(8 + number as usize % 200)?;
     block.write(0, &number.to_le_bytes())?;
     Ok(block.into_name())
 }

@@ -4,7 +4,7 @@
 use peachanchor::{Block, Error, Heap, Level};
 
 const AT_ONCE: usize = 16;
-const LONGEST: u32 = 4096;
+const LONGEST: usize = 4096;
 
 /// A voice: its samples lie in a block, which goes back when the voice does.
 struct Voice<'h> {
@@ -12,7 +12,7 @@ struct Voice<'h> {
 }
 
 impl<'h> Voice<'h> {
-    fn start(heap: &'h Heap, bytes: u32) -> Result<Self, Error> {
+    fn start(heap: &'h Heap<'_>, bytes: usize) -> Result<Self, Error> {
         let samples = heap.allocate(bytes)?; // all zero
         samples[0].set(64);
         Ok(Self { samples })
@@ -32,8 +32,8 @@ fn main() -> Result<(), Error> {
     let heap = Heap::open(Level::Four, 1, words)?;
     let mut voices: [Option<Voice<'_>>; AT_ONCE] = [const { None }; AT_ONCE];
     let mut loudness = 0;
-    for started in 0..4000_u32 {
-        let slot = (started as usize * 7 + started as usize / 31) % AT_ONCE;
+    for started in 0..4000_usize {
+        let slot = (started * 7 + started / 31) % AT_ONCE;
         voices[slot] = None; // the voice that was here ends
         voices[slot] = Some(Voice::start(&heap, 256 + started * 1103 % (LONGEST - 255))?);
         loudness += voices.iter().flatten().map(Voice::play).sum::<u64>();

@@ -41,7 +41,7 @@ use peachanchor_sys as sys;
 /// }
 /// ```
 pub struct Block<'h> {
-    heap: &'h Heap,
+    heap: &'h Heap<'h>,
     name: Name,
     payload: NonNull<u8>,
     len: usize,
@@ -49,7 +49,7 @@ pub struct Block<'h> {
 
 impl<'h> Block<'h> {
     /// A block of `len` bytes, all zero.
-    pub(crate) fn zeroed(heap: &'h Heap, len: u32) -> Result<Self, Error> {
+    pub(crate) fn zeroed(heap: &'h Heap<'h>, len: usize) -> Result<Self, Error> {
         let mut name = sys::tlsf_name::default();
         // SAFETY: rules 1 and 3: the handle is open, and the name lies on this stack.
         Error::check(unsafe { sys::tlsf_allocate(heap.raw(), len, &mut name) })?;
@@ -58,24 +58,33 @@ impl<'h> Block<'h> {
         Ok(Self { heap, name, payload, len })
     }
 
-    /// A block that holds a copy of these bytes.
-    pub(crate) fn copied(heap: &'h Heap, bytes: &[u8]) -> Result<Self, Error> {
+    /// A block of `len` bytes at that alignment. Whoever calls sets them before any is shown.
+    pub(crate) fn unfilled(heap: &'h Heap<'h>, len: usize, align: usize) -> Result<Self, Error> {
         let mut name = sys::tlsf_name::default();
         let mut at = core::ptr::null_mut();
         // SAFETY: as in `zeroed`.
-        let answer =
-            unsafe { sys::tlsf_allocate_at(heap.raw(), bytes.len(), 16, sys::TLSF_UNFILLED, &mut name, &mut at) };
+        let answer = unsafe { sys::tlsf_allocate_at(heap.raw(), len, align, sys::TLSF_UNFILLED, &mut name, &mut at) };
         Error::check(answer)?;
-        let name = Name(name);
-        let (payload, has) = heap.locate(name)?;
-        let len = bytes.len();
+        let payload = NonNull::new(at.cast()).ok_or(Error::Unknown)?;
+        Ok(Self { heap, name: Name(name), payload, len })
+    }
+
+    /// A block that holds a copy of these bytes.
+    pub(crate) fn copied(heap: &'h Heap<'h>, bytes: &[u8]) -> Result<Self, Error> {
+        let block = Self::unfilled(heap, bytes.len(), 16)?;
+        let (_, has) = heap.locate(block.name)?;
         // SAFETY: the payload has at least as many bytes, and nobody else knows of it. The bytes that round it up are set too: a
         // later resize or `Heap::payload` shows them.
         unsafe {
-            payload.as_ptr().copy_from_nonoverlapping(bytes.as_ptr(), len);
-            payload.as_ptr().add(len).write_bytes(0, has - len);
+            block.payload.as_ptr().copy_from_nonoverlapping(bytes.as_ptr(), block.len);
+            block.payload.as_ptr().add(block.len).write_bytes(0, has - block.len);
         }
-        Ok(Self { heap, name, payload, len })
+        Ok(block)
+    }
+
+    /// Where its bytes lie.
+    pub(crate) fn payload(&self) -> NonNull<u8> {
+        self.payload
     }
 
     /// Its name.
@@ -121,10 +130,10 @@ impl<'h> Block<'h> {
     /// # Errors
     ///
     /// [`Error::NoRoom`] where it would have to move, [`Error::Worn`].
-    pub fn resize(&mut self, len: u32) -> Result<(), Error> {
+    pub fn resize(&mut self, len: usize) -> Result<(), Error> {
         // SAFETY: as in `zeroed`. No cell of it is borrowed, since this call borrows the block exclusively.
         Error::check(unsafe { sys::tlsf_resize(self.heap.raw(), self.name.0, len) })?;
-        self.len = len as usize;
+        self.len = len;
         Ok(())
     }
 
@@ -134,7 +143,7 @@ impl<'h> Block<'h> {
     /// # Errors
     ///
     /// [`Error::NoFit`], [`Error::Worn`]; the block is then as before.
-    pub fn reallocate(&mut self, len: u32) -> Result<(), Error> {
+    pub fn reallocate(&mut self, len: usize) -> Result<(), Error> {
         let mut name = self.name.0;
         // SAFETY: as in `resize`.
         Error::check(unsafe { sys::tlsf_reallocate(self.heap.raw(), &mut name, len) })?;

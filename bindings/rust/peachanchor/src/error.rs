@@ -1,3 +1,4 @@
+use core::ffi::CStr;
 use core::fmt;
 use peachanchor_sys::{tlsf_text_of, TLSF_OK};
 
@@ -34,7 +35,7 @@ pub enum Error {
     InUse = 33,
     /// A level is 4 or 5.
     BadLevel = 34,
-    /// The lane or the queue is empty.
+    /// The lane or the queue is empty, or all posters' ends of a queue were given.
     Empty = 35,
     /// A header doesn't agree with its neighbours or its size, as after a write past a payload.
     Damaged = 36,
@@ -79,11 +80,17 @@ impl Error {
         }
         Err(Self::ALL.into_iter().find(|it| *it as u32 == answer).unwrap_or(Self::Unknown))
     }
+
+    /// What the library says of an answer, in a few words.
+    fn text_of(answer: u32) -> &'static str {
+        // SAFETY: the call takes any number, and answers a string that stays.
+        unsafe { CStr::from_ptr(tlsf_text_of(answer)) }.to_str().unwrap_or_default()
+    }
 }
 
 impl fmt::Display for Error {
     fn fmt(&self, f: &mut fmt::Formatter<'_>) -> fmt::Result {
-        f.write_str(tlsf_text_of(*self as u32))
+        f.write_str(Self::text_of(*self as u32))
     }
 }
 
@@ -91,17 +98,17 @@ impl core::error::Error for Error {}
 
 #[cfg(test)]
 mod tests {
-    use super::{tlsf_text_of, Error};
+    use super::Error;
     use peachanchor_sys::TLSF_NOT_WRITTEN;
 
     // Each answer that the library has words for but TLSF_NOT_WRITTEN, which no call of this crate's answers.
     #[test]
     fn each_answer_has_its_error() {
-        let unknown = tlsf_text_of(Error::Unknown as u32);
+        let unknown = Error::text_of(Error::Unknown as u32);
         assert_eq!(unknown, "no answer of this library");
         assert_eq!(Error::check(0), Ok(()));
         for answer in 1..Error::Unknown as u32 {
-            let has_error = tlsf_text_of(answer) != unknown && answer != TLSF_NOT_WRITTEN;
+            let has_error = Error::text_of(answer) != unknown && answer != TLSF_NOT_WRITTEN;
             let wanted = if has_error { answer } else { Error::Unknown as u32 };
             assert_eq!(Error::check(answer).map_err(|it| it as u32), Err(wanted));
         }

@@ -27,7 +27,7 @@ pub struct GlobalHeap<const WORDS: usize> {
     number: u32,
     region: &'static Region<WORDS>,
     is_locked: AtomicBool,
-    heap: UnsafeCell<Option<Heap>>,
+    heap: UnsafeCell<Option<Heap<'static>>>,
 }
 
 // SAFETY: the heap is reached by `with` alone, under the lock (rule 2).
@@ -38,7 +38,7 @@ impl<const WORDS: usize> GlobalHeap<WORDS> {
     ///
     /// # Safety
     ///
-    /// Whoever allocates keeps rules 3 to 5 of `tlsf.h`: no heap or lane is opened in what was allocated here, nothing is
+    /// Whoever allocates keeps rules 3 to 5 of `peachanchor.h`: no heap or lane is opened in what was allocated here, nothing is
     /// written past what was asked for, and no signal handler allocates.
     #[must_use]
     pub const unsafe fn new(level: Level, number: u32, region: &'static Region<WORDS>) -> Self {

@@ -27,11 +27,11 @@ use peachanchor_sys as sys;
 /// ```
 #[derive(Clone, Copy, Debug)]
 pub struct InPlace<'h> {
-    heap: &'h Heap,
+    heap: &'h Heap<'h>,
 }
 
 impl<'h> InPlace<'h> {
-    pub(crate) fn over(heap: &'h Heap) -> Self {
+    pub(crate) fn over(heap: &'h Heap<'h>) -> Self {
         Self { heap }
     }
 

@@ -21,7 +21,7 @@ use peachanchor_sys::{self as sys, tlsf_post_end, tlsf_take_end};
 /// # Ok::<(), peachanchor::Error>(())
 /// ```
 #[cfg(feature = "malloc")]
-pub fn lane(capacity: u32) -> Result<(PostEnd, TakeEnd), Error> {
+pub fn lane(capacity: u32) -> Result<(PostEnd<'static>, TakeEnd<'static>), Error> {
     let post = Handle::from_malloc(tlsf_post_end::CLOSED)?;
     let take = Handle::from_malloc(tlsf_take_end::CLOSED)?;
     // SAFETY: both handles are closed and lie still (rule 1).
@@ -29,7 +29,7 @@ pub fn lane(capacity: u32) -> Result<(PostEnd, TakeEnd), Error> {
     Ok((PostEnd(post), TakeEnd(take)))
 }
 
-/// As `lane`, in memory of yours.
+/// As `lane`, in memory of yours. It is yours again once both ends are gone.
 ///
 /// # Errors
 ///
@@ -42,11 +42,23 @@ pub fn lane(capacity: u32) -> Result<(PostEnd, TakeEnd), Error> {
 /// assert_eq!(take.take(), Err(Error::Empty));
 /// # Ok::<(), peachanchor::Error>(())
 /// ```
-pub fn lane_in(capacity: u32, memory: &'static mut [MaybeUninit<u64>]) -> Result<(PostEnd, TakeEnd), Error> {
+///
+/// Nobody else has the memory while one end is there:
+///
+/// ```compile_fail,E0506
+/// # use core::mem::MaybeUninit;
+/// fn reused(memory: &mut [MaybeUninit<u64>]) {
+///     let (post, take) = peachanchor::lane_in(64, memory).unwrap();
+///     drop(post);
+///     memory[0] = MaybeUninit::uninit();
+///     drop(take);
+/// }
+/// ```
+pub fn lane_in(capacity: u32, memory: &mut [MaybeUninit<u64>]) -> Result<(PostEnd<'_>, TakeEnd<'_>), Error> {
     let (post, rest) = Handle::lent(tlsf_post_end::CLOSED, memory).ok_or(Error::BadSize)?;
     let (take, rest) = Handle::lent(tlsf_take_end::CLOSED, rest).ok_or(Error::BadSize)?;
     let bytes = size_of_val(rest);
-    // SAFETY: as in `lane`. The rest is the lane's for ever (rule 6).
+    // SAFETY: as in `lane`. The rest is the lane's as long as one end is there (rule 6).
     Error::check(unsafe { sys::tlsf_lane_open_in(post.get(), take.get(), capacity, rest.as_mut_ptr().cast(), bytes) })?;
     Ok((PostEnd(post), TakeEnd(take)))
 }

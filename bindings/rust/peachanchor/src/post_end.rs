@@ -4,12 +4,12 @@ use peachanchor_sys::{self as sys, tlsf_post_end};
 
 /// The end of a lane into which names are put. It may go to another thread, and is closed when it is dropped.
 #[derive(Debug)]
-pub struct PostEnd(pub(crate) Handle<tlsf_post_end>);
+pub struct PostEnd<'m>(pub(crate) Handle<'m, tlsf_post_end>);
 
 // SAFETY: an end is the only way to its handle. The library lets the two ends of a lane be called at the same time.
-unsafe impl Send for PostEnd {}
+unsafe impl Send for PostEnd<'_> {}
 
-impl PostEnd {
+impl PostEnd<'_> {
     /// Puts a name after the others. It never waits.
     ///
     /// # Errors
@@ -34,7 +34,7 @@ impl PostEnd {
     }
 }
 
-impl Drop for PostEnd {
+impl Drop for PostEnd<'_> {
     fn drop(&mut self) {
         // SAFETY: rule 1: nobody else reaches the handle.
         if unsafe { sys::tlsf_post_close(self.0.get()) } != sys::TLSF_OK {

@@ -2,7 +2,7 @@ use core::cell::UnsafeCell;
 use core::mem::MaybeUninit;
 use core::sync::atomic::{AtomicBool, Ordering};
 
-/// A static array of words for a heap or a lane, which is given away once.
+/// A static array of words for a heap, a lane, a queue or an arena, which is given away once.
 ///
 /// ```
 /// use peachanchor::{Heap, Level, Region};

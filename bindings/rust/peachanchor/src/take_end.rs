@@ -5,12 +5,12 @@ use peachanchor_sys::{self as sys, tlsf_take_end};
 /// The end of a lane from which names are taken, in the order in which they were put. It may go to another thread, and is
 /// closed when it is dropped.
 #[derive(Debug)]
-pub struct TakeEnd(pub(crate) Handle<tlsf_take_end>);
+pub struct TakeEnd<'m>(pub(crate) Handle<'m, tlsf_take_end>);
 
 // SAFETY: as for `PostEnd`.
-unsafe impl Send for TakeEnd {}
+unsafe impl Send for TakeEnd<'_> {}
 
-impl TakeEnd {
+impl TakeEnd<'_> {
     /// Takes the first name. It never waits.
     ///
     /// # Errors
@@ -29,7 +29,7 @@ impl TakeEnd {
     /// # Errors
     ///
     /// [`Error::Closed`], in a signal handler alone.
-    pub fn drain(&mut self, heap: &mut Heap, most: u32) -> Result<u32, Error> {
+    pub fn drain(&mut self, heap: &mut Heap<'_>, most: u32) -> Result<u32, Error> {
         let mut came = 0;
         // SAFETY: rules 1 and 3. No block of the heap is in use, since it is borrowed exclusively.
         Error::check(unsafe { sys::tlsf_drain(heap.raw(), self.0.get(), most, &mut came) })?;
@@ -37,7 +37,7 @@ impl TakeEnd {
     }
 }
 
-impl Drop for TakeEnd {
+impl Drop for TakeEnd<'_> {
     fn drop(&mut self) {
         // SAFETY: rule 1: nobody else reaches the handle.
         if unsafe { sys::tlsf_take_close(self.0.get()) } != sys::TLSF_OK {

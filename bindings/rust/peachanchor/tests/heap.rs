@@ -4,7 +4,7 @@
 use peachanchor::{Block, Error, Heap, Level, Name, Region};
 use std::alloc::Layout;
 
-fn heap(words: u32) -> Heap {
+fn heap(words: u32) -> Heap<'static> {
     Heap::open(Level::Four, 1, words).unwrap()
 }
 
@@ -135,7 +135,7 @@ fn a_heap_in_memory_has_the_words_that_were_asked_for() {
         let (first, last) = (memory.as_ptr() as usize, memory.as_ptr_range().end as usize);
         let heap = Heap::open_in(Level::Four, 1, memory).unwrap();
         assert!(heap.report().unwrap().free_words >= words, "{words}");
-        let block = heap.allocate(heap.report().unwrap().grant).unwrap();
+        let block = heap.allocate(heap.report().unwrap().grant as usize).unwrap();
         block.iter().for_each(|cell| cell.set(0xff));
         let inside = block.as_ptr_range();
         assert!(first + 32 <= inside.start as usize && inside.end as usize <= last);
@@ -191,7 +191,7 @@ fn random_calls_agree_with_a_table() {
     for round in 0..20_000 {
         let (len, k) = (chance(300), chance(table.len().max(1)));
         match chance(5) {
-            0 => match heap.allocate(len as u32) {
+            0 => match heap.allocate(len) {
                 Ok(block) => table.push((block.into_name(), vec![0; len])),
                 Err(_) => refused += 1,
             },
@@ -204,7 +204,7 @@ fn random_calls_agree_with_a_table() {
                 assert_eq!(heap.payload(name).unwrap()[..bytes.len()], bytes, "round {round}");
                 assert_eq!((heap.release(name), heap.release(name)), (Ok(()), Err(Error::Stale)));
             }
-            3 if !table.is_empty() => match heap.reallocate(table[k].0, len as u32) {
+            3 if !table.is_empty() => match heap.reallocate(table[k].0, len) {
                 Ok(name) => {
                     table[k].0 = name;
                     table[k].1.resize(len, 0);

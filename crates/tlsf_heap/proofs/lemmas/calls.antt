@@ -14,7 +14,9 @@ pub mod ByPlace
 pub mod GivenBack
 pub mod ResizeOrMove
 pub mod Unset
+pub mod AllocateUnset
 pub mod OtherBytes
 pub mod AllocateAligned
 pub mod Reports
 pub mod Looked
+pub mod Reset

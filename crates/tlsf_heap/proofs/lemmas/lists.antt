@@ -4,6 +4,7 @@ pub mod FreeLists
 pub mod Heads
 pub mod Chosen
 pub mod Withheld
+pub mod InFront
 pub mod Recut
 pub mod Carved
 pub mod Refit

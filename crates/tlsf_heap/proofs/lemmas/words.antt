@@ -1,4 +1,5 @@
 pub mod Image
+pub mod OneFree
 pub mod Says
 pub mod Footprint
 pub mod Groups
@@ -19,3 +20,4 @@ pub mod Recut
 pub mod Tallies
 pub mod Checks
 pub mod Undamaged
+pub mod Around

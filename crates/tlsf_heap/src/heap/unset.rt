@@ -13,6 +13,7 @@ ghost use Rattle.tlsf_words.specs.Touched.{InGroups};
 ghost use Rattle.tlsf_heap.specs.Shown.{seen};
 
 use super::{Heap, want};
+use crate::fitting::{carve_unset, choose};
 use crate::name::Name;
 use crate::refusal::Refusal;
 
@@ -46,12 +47,21 @@ impl<const SLI: u32> Heap<SLI> {
         ensures leaves { LeavesLive self.old.heap.blocks self.old.touched self.new.touched }
         ensures groups { InGroups 14 self.old.touched self.new.touched }
     {
-        let name = match self.allocate_words(want(len), 0) {
-            Ok(name) => name,
-            Err(why) => return Err(why),
+        let words = want(len);
+        let Some(class) = choose(&mut self.region, words) else {
+            return Err(Refusal::NoFit);
         };
-        self.set_length(name, len);
-        Ok(name)
+        if self.tick == u64::MAX {
+            return Err(Refusal::Worn);
+        }
+        let at = carve_unset(&mut self.region, class, words, self.tick, len);
+        let serial = self.tick;
+        self.tick += 1;
+        Ok(Name {
+            heap: self.id,
+            at,
+            serial,
+        })
     }
 
     /// Makes the payload of the block of that name `len` bytes long, where the block stands, as `resize`, and fills nothing. The

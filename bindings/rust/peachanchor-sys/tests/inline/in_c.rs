@@ -19,9 +19,9 @@ pub struct InC {
     pub aligned_alloc: extern "C" fn(Heap, usize, usize) -> Pointer,
     pub free: extern "C" fn(Heap, Pointer) -> u32,
     pub usable_size: extern "C" fn(Heap, Pointer) -> usize,
-    pub allocate: extern "C" fn(Heap, u32, &mut tlsf_name) -> u32,
+    pub allocate: extern "C" fn(Heap, usize, &mut tlsf_name) -> u32,
     pub release: extern "C" fn(Heap, tlsf_name) -> u32,
-    pub reallocate: extern "C" fn(Heap, &mut tlsf_name, u32) -> u32,
+    pub reallocate: extern "C" fn(Heap, &mut tlsf_name, usize) -> u32,
     pub allocate_at: extern "C" fn(Heap, usize, usize, u32, &mut tlsf_name, &mut Pointer) -> u32,
     pub text_of: extern "C" fn(u32) -> *const c_char,
 }
@@ -30,7 +30,7 @@ impl InC {
     /// Compiles inline.c and loads it; nothing where there is no header or no compiler.
     pub fn load() -> Option<Self> {
         let include = concat!(env!("CARGO_MANIFEST_DIR"), "/../../../include");
-        Path::new(include).join("tlsf.h").exists().then_some(())?;
+        Path::new(include).join("peachanchor.h").exists().then_some(())?;
         let to = format!("{}/inline.so", env!("CARGO_TARGET_TMPDIR"));
         let source = concat!(env!("CARGO_MANIFEST_DIR"), "/tests/inline/inline.c");
         let mut words = env!("PEACHANCHOR_CC").split_whitespace();

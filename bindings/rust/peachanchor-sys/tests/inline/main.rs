@@ -1,5 +1,5 @@
-//! The calls that are inline in `tlsf.h` answer in Rust as they do in C: by chance on two heaps, one for each. It needs a C
-//! compiler, `tlsf.h` where the repository and a release have it, and a system that loads libraries by `dlopen`.
+//! Calls answer in Rust as they do where they are inline in C: by chance on two heaps, one for each. It needs a C
+//! compiler, `peachanchor.h` where the repository and a release have it, and a system that loads libraries by `dlopen`.
 
 #![cfg(unix)]
 
@@ -17,11 +17,12 @@ type Pointer = *mut c_void;
 #[test]
 fn calls_answer_as_in_c() {
     let Some(in_c) = InC::load() else {
-        return eprintln!("no cc or no tlsf.h: the inline calls of C are not compared");
+        return eprintln!("no cc or no peachanchor.h: the inline calls of C are not compared");
     };
     for answer in 0..50 {
         // SAFETY: C answers a string that stays.
-        assert_eq!(unsafe { CStr::from_ptr((in_c.text_of)(answer)) }.to_str(), Ok(tlsf_text_of(answer)));
+        let (here, there) = unsafe { (CStr::from_ptr(tlsf_text_of(answer)), CStr::from_ptr((in_c.text_of)(answer))) };
+        assert_eq!(here, there);
     }
     for (level, by_name) in [(4, false), (4, true), (5, false), (5, true)] {
         // SAFETY: one thread calls both heaps, with pointers and names that may be any.

@@ -56,7 +56,7 @@ impl<'c> Pair<'c> {
                 kind @ 0..4 => self.get(kind, len, align),
                 kind @ 4..9 if !self.pointers.is_empty() => self.use_pointer(kind, len),
                 9 => self.allocate_at(len, align),
-                kind @ 10..13 => self.use_name(kind, len as u32),
+                kind @ 10..13 => self.use_name(kind, len),
                 _ => NOTHING,
             };
             assert_eq!(place(self.a, got.0), place(self.b, got.1), "round {round}, {len} bytes, {align}");
@@ -111,7 +111,7 @@ impl<'c> Pair<'c> {
         got
     }
 
-    unsafe fn use_name(&mut self, kind: usize, len: u32) -> (Pointer, Pointer) {
+    unsafe fn use_name(&mut self, kind: usize, len: usize) -> (Pointer, Pointer) {
         let k = self.chance(self.names.len().max(1));
         if kind == 10 || self.names.is_empty() {
             let (mut n, mut o) = (tlsf_name::default(), tlsf_name::default());

@@ -11,6 +11,7 @@ loop-post-preserved c =
       goes_on = search rules;
       base = search rules;
       number = search rules;
+      mixed = search rules;
       no_counts = search rules;
       counts = search rules;
       drained = drained_one c.args.posts.now c.loop-post.post-index _ c.loop-post-test.true (heap_in c.args.heap.now) (heap_in c.loop-post.heap) _ i.drained (gone.releases i.heap).heap;

@@ -14,6 +14,7 @@ loop-left-preserved-then-drain_one c =
       goes_on = search rules;
       base = search rules;
       number = search rules;
+      mixed = search rules;
       few = search rules;
       kept = search rules;
       left = search rules;

@@ -8,5 +8,9 @@ returns c = record {
   count = c.first_shown-to.result;
   within = grind (arith, common_steps);
   few = grind (arith, common_steps);
+  before_fits = grind (arith, common_steps);
+  before_is_most = grind (arith, common_steps);
+  behind_fits = grind (arith, common_steps);
+  behind_is_most = grind (arith, common_steps);
   rows_are = grind (arith, common_steps);
 }

@@ -13,8 +13,8 @@ free-requires g c =
     let previous = c.previous_tag-previous.ensures in
     let blocks = previous.reads.blocks ∙ next.reads.blocks in
     let lists = previous.reads.lists ∙ next.reads.lists in
-    let next_live = sym c.is_free.ensures ∙ c.if-is_free.false in
-    let previous_live = sym c.is_free-else-is_free.ensures ∙ c.if-is_free-2.false in
+    let next_live = sym c.is_free-2.ensures ∙ c.if-is_free-2.false in
+    let previous_live = sym c.is_free.ensures ∙ c.if-is_free.false in
     let ahead = (rw next.reads.blocks at previous.tag) in
     let none_behind = (next.tag live.0 live.1).live next_live in
     let none_ahead = (ahead live.0 live.1).live previous_live in
@@ -42,8 +42,8 @@ push-requires g c =
     let previous = c.previous_tag-previous.ensures in
     let blocks = previous.reads.blocks ∙ next.reads.blocks in
     let lists = previous.reads.lists ∙ next.reads.lists in
-    let next_live = sym c.is_free.ensures ∙ c.if-is_free.false in
-    let previous_live = sym c.is_free-else-is_free.ensures ∙ c.if-is_free-2.false in
+    let next_live = sym c.is_free-2.ensures ∙ c.if-is_free-2.false in
+    let previous_live = sym c.is_free.ensures ∙ c.if-is_free.false in
     let ahead = (rw next.reads.blocks at previous.tag) in
     let none_behind = (next.tag live.0 live.1).live next_live in
     let none_ahead = (ahead live.0 live.1).live previous_live in
@@ -70,8 +70,8 @@ returns-clause-listed g c =
     let previous = c.previous_tag-previous.ensures in
     let blocks = previous.reads.blocks ∙ next.reads.blocks in
     let lists = previous.reads.lists ∙ next.reads.lists in
-    let next_live = sym c.is_free.ensures ∙ c.if-is_free.false in
-    let previous_live = sym c.is_free-else-is_free.ensures ∙ c.if-is_free-2.false in
+    let next_live = sym c.is_free-2.ensures ∙ c.if-is_free-2.false in
+    let previous_live = sym c.is_free.ensures ∙ c.if-is_free.false in
     let ahead = (rw next.reads.blocks at previous.tag) in
     let none_behind = (next.tag live.0 live.1).live next_live in
     let none_ahead = (ahead live.0 live.1).live previous_live in
@@ -103,7 +103,7 @@ pub returns-clause-groups : goal.returns-clause-groups
 returns-clause-groups g c =
     more_groups (omega arith) (groups_then (groups_then (groups_then c.next_tag-next.ensures.groups c.previous_tag-previous.ensures.groups) c.free.ensures.groups) c.push.ensures.groups)
 
--- ---- a neighbour is free
+-- ---- the block before is free
 
 pub returns-then-is_free-clause-touched : goal.returns-then-is_free-clause-touched
 returns-then-is_free-clause-touched g c k o =
@@ -111,7 +111,20 @@ returns-then-is_free-clause-touched g c k o =
     let previous = c.previous_tag-previous.ensures in
     let blocks = previous.reads.blocks ∙ next.reads.blocks in
     let word : IsLiveWord c.args.region.now.blocks k = (o.0, o.1, o.2, o.3) in
-    (rw blocks at c.merge.ensures.touched) k o ∙ (rw next.reads.blocks at previous.touched) k word ∙ next.touched k word
+    (rw blocks at c.merge_before.ensures.touched) k o ∙ (rw next.reads.blocks at previous.touched) k word ∙ next.touched k word
 
 pub returns-then-is_free-clause-groups : goal.returns-then-is_free-clause-groups
-returns-then-is_free-clause-groups g c = groups_then (groups_then c.next_tag-next.ensures.groups c.previous_tag-previous.ensures.groups) c.merge.ensures.groups
+returns-then-is_free-clause-groups g c = groups_then (groups_then c.next_tag-next.ensures.groups c.previous_tag-previous.ensures.groups) c.merge_before.ensures.groups
+
+-- ---- only the block after is
+
+pub returns-then-is_free-2-clause-touched : goal.returns-then-is_free-2-clause-touched
+returns-then-is_free-2-clause-touched g c k o =
+    let next = c.next_tag-next.ensures in
+    let previous = c.previous_tag-previous.ensures in
+    let blocks = previous.reads.blocks ∙ next.reads.blocks in
+    let word : IsLiveWord c.args.region.now.blocks k = (o.0, o.1, o.2, o.3) in
+    (rw blocks at c.merge_next.ensures.touched) k o ∙ (rw next.reads.blocks at previous.touched) k word ∙ next.touched k word
+
+pub returns-then-is_free-2-clause-groups : goal.returns-then-is_free-2-clause-groups
+returns-then-is_free-2-clause-groups g c = groups_then (groups_then c.next_tag-next.ensures.groups c.previous_tag-previous.ensures.groups) c.merge_next.ensures.groups

@@ -1,5 +1,5 @@
 -- Heaps of which the live block of one serial has other bytes: each call does to them what it does to the others.
-use Rattle.tlsf_heap.proofs.Common.{◌≡◌, ◌≢◌, ℕ, suc, ◌+◌, ◌-◌, ◌≤◌, Bool, true, false, cond, eqb, nat_le, nat_lt, List, [], ◌∷◌, ◌++◌, ◌&&◌, length, take, drop, find, replicate, Option, Some, None, Ok, refl, sym, ap, ◌∙◌, subst, arith, eq-eqb, IsSome, AllByRecursion, false≢true, eqb-true, ne_eqb, nat_tests, AreDistinct, Block, Live, Free, HeapState, size_of, bytes_of, words_in, serials, Site, sites_behind, block_at, choice, Outcome, refused, is_worn, carved, allocated_at, allocated_words, has_serial, is_named, named, first_free, past_free, last_free, before_free, coalesced, released, released_at, ticked, with_bytes, with_blocks, overwritten, has_bytes, written, written_at, recut, is_sized, room_of, refitted, resized_words, resized_at, fitted, bytes_at, payload_of, IsLawful, IsLive, IsNamed, with_payload, with_payload_at, Name, Worn, Foreign, Range, NoRoom}
+use Rattle.tlsf_heap.proofs.Common.{◌≡◌, ◌≢◌, ℕ, suc, ◌+◌, ◌-◌, ◌≤◌, Bool, true, false, cond, eqb, nat_le, nat_lt, List, [], ◌∷◌, ◌++◌, ◌&&◌, length, take, drop, find, Option, Some, None, Ok, refl, sym, ap, ◌∙◌, subst, arith, IsSome, AllByRecursion, false≢true, eqb-true, ne_eqb, nat_tests, AreDistinct, Block, Live, Free, HeapState, size_of, bytes_of, words_in, serials, Site, sites_behind, block_at, Outcome, refused, is_worn, has_serial, is_named, named, first_free, past_free, last_free, before_free, coalesced, released, released_at, ticked, with_bytes, with_blocks, overwritten, has_bytes, written, written_at, recut, is_sized, room_of, refitted, resized_words, resized_at, fitted, bytes_at, payload_of, IsLawful, IsLive, IsNamed, with_payload, with_payload_at, Name, Worn, Foreign, Range, NoRoom}
 use Rattle.tlsf_heap.proofs.lemmas.calls.Alter.{named_of, payload_is}
 use Rattle.tlsf_heap.proofs.lemmas.calls.Allocate.{split_at}
 use Rattle.tlsf_heap.proofs.lemmas.blocks.Coalesce.{by_last}
@@ -8,7 +8,7 @@ use Rattle.tlsf_heap.proofs.lemmas.blocks.Find.{and_left}
 use Rattle.tlsf_heap.proofs.lemmas.laws.Gone.{distinct_from}
 use Rattle.tlsf_heap.proofs.lemmas.blocks.Lawful.{serials-append}
 use Rattle.tlsf_heap.proofs.lemmas.calls.Named.{named_is, at_name}
-use Rattle.tlsf_heap.proofs.lemmas.calls.Outcomes.{named_site, gives_words, takes, resizes}
+use Rattle.tlsf_heap.proofs.lemmas.calls.Outcomes.{named_site, takes, resizes}
 
 module _ (serial : ℕ) (new : List ℕ) where
   -- the block, with these bytes if it has this serial
@@ -231,52 +231,6 @@ rebyted_same h name lawful live =
     own (Free m t) = refl
 
 -- ---- bytes that a call gives don't tell what else it does
-
-module _ (sli : ℕ) (h : HeapState) (n len other : ℕ) where
-  -- an allocate of another length is answered the same
-  pub allocated_answers : (allocated_words sli h n len).answer ≡ (allocated_words sli h n other).answer
-  allocated_answers = at (choice sli n h.blocks)
-    where
-      worn : (c : Bool) (name : Name) (x y : HeapState) → (cond c (refused h Worn) (record { answer = Ok name; heap = x })).answer ≡ (cond c (refused h Worn) (record { answer = Ok name; heap = y })).answer
-      worn true name x y = refl
-      worn false name x y = refl
-
-      at : (o : Option Site) → (allocated_at h n len o).answer ≡ (allocated_at h n other o).answer
-      at None = refl
-      at (Some s) = worn (is_worn h) _ _ _
-
-  -- and leaves the same but for the bytes
-  pub allocated_rebyted : (name : Name) (new : List ℕ) → (allocated_words sli h n len).answer ≡ Ok name → rebyted name.serial new (allocated_words sli h n len).heap ≡ rebyted name.serial new (allocated_words sli h n other).heap
-  allocated_rebyted name new = at (choice sli n h.blocks)
-    where
-      zeros : (size : ℕ) (c : Bool) (k : ℕ) → rebytes h.tick new (cond c (Live n h.tick (replicate len 0) ∷ Free k h.tick ∷ []) (Live size h.tick (replicate len 0) ∷ []))
-          ≡ rebytes h.tick new (cond c (Live n h.tick (replicate other 0) ∷ Free k h.tick ∷ []) (Live size h.tick (replicate other 0) ∷ []))
-      zeros size true k = ap (λ (b : Bool). Live n h.tick (cond b new (replicate len 0)) ∷ Free k h.tick ∷ []) own ∙ sym (ap (λ (b : Bool). Live n h.tick (cond b new (replicate other 0)) ∷ Free k h.tick ∷ []) own)
-        where
-          own : eqb h.tick h.tick ≡ true
-          own = eq-eqb h.tick h.tick refl
-      zeros size false k = ap (λ (b : Bool). Live size h.tick (cond b new (replicate len 0)) ∷ []) own ∙ sym (ap (λ (b : Bool). Live size h.tick (cond b new (replicate other 0)) ∷ []) own)
-        where
-          own : eqb h.tick h.tick ≡ true
-          own = eq-eqb h.tick h.tick refl
-
-      blocks : (s : Site) → rebytes h.tick new (s.before ++ carved (size_of s.block) n h.tick len ++ s.after) ≡ rebytes h.tick new (s.before ++ carved (size_of s.block) n h.tick other ++ s.after)
-      blocks s =
-          let parts : (l : List Block) → rebytes h.tick new (s.before ++ l ++ s.after) ≡ rebytes h.tick new s.before ++ rebytes h.tick new l ++ rebytes h.tick new s.after = λ l.
-          rebytes-append h.tick new (s.before ++ l) s.after ∙ ap (λ (r : List Block). r ++ rebytes h.tick new s.after) (rebytes-append h.tick new s.before l) in
-          parts (carved (size_of s.block) n h.tick len)
-          ∙ ap (λ (l : List Block). rebytes h.tick new s.before ++ l ++ rebytes h.tick new s.after) (zeros (size_of s.block) (nat_le (n + 4) (size_of s.block)) (size_of s.block - n))
-          ∙ sym (parts (carved (size_of s.block) n h.tick other))
-
-      worn : (c : Bool) (s : Site) → (cond c (refused h Worn) (gives_words h n len s)).answer ≡ Ok name → rebyted name.serial new (cond c (refused h Worn) (gives_words h n len s)).heap ≡ rebyted name.serial new (cond c (refused h Worn) (gives_words h n other s)).heap
-      worn true s e = cc
-      worn false s e =
-          let same : h.tick ≡ name.serial = cc in
-          subst (λ (t : ℕ). rebyted t new (gives_words h n len s).heap ≡ rebyted t new (gives_words h n other s).heap) same (ap (ticked h) (blocks s))
-
-      at : (o : Option Site) → (allocated_at h n len o).answer ≡ Ok name → rebyted name.serial new (allocated_at h n len o).heap ≡ rebyted name.serial new (allocated_at h n other o).heap
-      at None e = cc
-      at (Some s) e = worn (is_worn h) s e
 
 module _ (h : HeapState) (name : Name) (n len other : ℕ) where
   pub resized_answers : (resized_words h name n len).answer ≡ (resized_words h name n other).answer

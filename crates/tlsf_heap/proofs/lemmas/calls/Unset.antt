@@ -12,7 +12,7 @@ use Rattle.tlsf_heap.proofs.lemmas.laws.Live.{given_words, kept_others, kept_res
 use Rattle.tlsf_heap.proofs.lemmas.calls.ResizeOrMove.{ticks}
 use Rattle.tlsf_heap.proofs.lemmas.calls.Outcomes.{lawful_run, lawful_allocated_words, lawful_resized_words, lawful_site, named_site, by_allocated_words, by_resized_found}
 use Rattle.tlsf_heap.proofs.lemmas.words.Bytes.{length-bytes_in, bytes_among}
-use Rattle.tlsf_heap.proofs.lemmas.calls.OtherBytes.{rebyted, allocated_answers, allocated_rebyted, resized_answers, resized_rebyted, with_payload_rebyted, written_rebyted, only_one, live_rebyted, payload_rebyted, payload_other, rebyted_same, released_rebyted, rebytes-twice}
+use Rattle.tlsf_heap.proofs.lemmas.calls.OtherBytes.{rebyted, resized_answers, resized_rebyted, with_payload_rebyted, written_rebyted, only_one, live_rebyted, payload_rebyted, payload_other, rebyted_same, released_rebyted, rebytes-twice}
 use Rattle.tlsf_heap.proofs.lemmas.calls.Resize.{by_refitted}
 
 -- ---- what holds of each block of a serial
@@ -43,7 +43,7 @@ module _ (P : Block → Type 0) (serial : ℕ) where
           let here = all_right OfSerial s.before (s.block ∷ s.after) (subst (AllByRecursion OfSerial) (sym site.0) all) in
           (s, refl, here.0 (subst (λ (k : ℕ). has_serial k s.block ≡ true) same (and_left (has_serial name.serial s.block) _ site.1)))
 
-past_of : (k : ℕ) (xs : List ℕ) → AllByRecursion (λ y. y < k) xs → AllByRecursion (λ y. y ≢ k) xs
+pub past_of : (k : ℕ) (xs : List ℕ) → AllByRecursion (λ y. y < k) xs → AllByRecursion (λ y. y ≢ k) xs
 past_of k [] all = tt
 past_of k (x ∷ xs) all = (λ e. let below = all.0 in omega (arith, below, e), past_of k xs all.1)
 
@@ -107,18 +107,6 @@ pub given_length : (sli : ℕ) (h : HeapState) (len : ℕ) (name : Name) → IsL
 given_length sli h len name lawful answer =
     let found = given_block (λ b. length (bytes_of b) ≡ len) sli h (want len) len name lawful answer (length-replicate {A = ℕ} len 0) (λ b fit. length-replicate {A = ℕ} len 0) in
     ap (λ (o : Option Site). length (bytes_at o)) found.1 ∙ found.2
-
--- an allocate of no bytes, and then of those that lie there
-module _ (sli : ℕ) (h : HeapState) (len : ℕ) (name : Name) (lawful : IsLawful h) (answer : (allocated_words sli h (want len) 0).answer ≡ Ok name) where
-  pub given_answer : (allocated sli h len).answer ≡ Ok name
-  given_answer = sym (allocated_answers sli h (want len) 0 len) ∙ answer
-
-  pub allocated_unset : (m : Image) → IsLevel sli → IsLawful (allocated_words sli h (want len) 0).heap
-      → with_payload (allocated_words sli h (want len) 0).heap name (lying m name.at len) ≡ unset_from (allocated sli h len).heap name m 0 len
-  allocated_unset m level lawful_none =
-      with_payload_rebyted (allocated_words sli h (want len) 0).heap name (lying m name.at len) lawful_none (given_words sli h (want len) 0 name answer)
-      ∙ allocated_rebyted sli h (want len) 0 len name (lying m name.at len) answer
-      ∙ sym (unset_is (allocated sli h len).heap name m 0 len (lawful_allocated_words sli level h (want len) len (omega arith) lawful) (given_words sli h (want len) len name given_answer) (omega arith) (sym (given_length sli h len name lawful given_answer)))
 
 -- the first of those that lie there
 lying_less : (m : Image) (at len n : ℕ) → n ≤ len → take n (lying m at len) ≡ lying m at n

@@ -1,9 +1,12 @@
 -- A free block that becomes a live one, and the lists of the free blocks.
-use Rattle.tlsf_heap.proofs.Common.{◌≡◌, ◌≢◌, ℕ, suc, ◌+◌, ◌-◌, ◌<◌, ◌≤◌, true, List, [], ◌∷◌, ◌++◌, length, take, drop, replicate, Option, Some, None, sym, ap, ◌∙◌, subst, arith, append_assoc, slice_get, Contains, class_of, Block, Live, Free, size_of, words_in, is_free, stamp_of, StandsAt, IsHead, IsRegion, RegionState, AreRegions, AreUnlisted, SameLists, BeginsZero, EachAt, HasAt, IsTagOf, Edits, Rewrites, PutInFront, TakenOut, list_in, withheld_alone, block_at, site_at, carved, FreePlace, free_places, AreFreeLists, IsUnlisted, without_place, Tag}
+use Rattle.tlsf_heap.proofs.Common.{◌≡◌, ◌≢◌, ℕ, suc, ◌+◌, ◌-◌, ◌*◌, ◌<◌, ◌≤◌, true, List, [], ◌∷◌, ◌++◌, length, take, drop, replicate, Option, Some, None, sym, ap, ◌∙◌, subst, inl, inr, arith, append_assoc, cases_lt, slice_get, Contains, class_of, Block, Live, Free, size_of, words_in, is_free, bytes_of, stamp_of, StandsAt, IsHead, IsRegion, RegionState, AreRegions, AreUnlisted, SameLists, BeginsZero, EachAt, HasAt, IsTagOf, Rewrites, PutInFront, TakenOut, list_in, withheld_alone, block_at, site_at, carved, cut, lying, Image, Shows, bytes_in, payload_byte, FreePlace, free_places, AreFreeLists, IsUnlisted, without_place, Tag}
 use Rattle.tlsf_heap.proofs.lemmas.words.ClearPayload.{zeroed_block}
-use Rattle.tlsf_heap.proofs.lemmas.blocks.Replace.{carved_small, carved_large}
 use Rattle.tlsf_heap.proofs.lemmas.lists.FreeLists.{AreListed, IsFresh, fresh_both, contains_own, not_listed, same_lists, unlisted_same, taken, given}
 use Rattle.tlsf_heap.proofs.lemmas.calls.Write.{places_bytes}
+use Rattle.tlsf_heap.proofs.lemmas.words.Recut.{cut_small, cut_large}
+use Rattle.tlsf_heap.proofs.lemmas.words.Bytes.{length-bytes_in, held_bytes}
+use Rattle.tlsf_heap.proofs.lemmas.words.Image.{shown_here}
+use Rattle.tlsf_heap.specs.CarvedUnset.{CarvedUnset}
 use Rattle.tlsf_heap.proofs.lemmas.blocks.Around.{Around, around, around_next, take_around, drop_around, block_around, stands_around, words_around, regions_front, regions_back, region_around, one_index, free_as, places_behind, fresh_front, fresh_back, ArePast, past_around, newest, place}
 
 -- a free block begins at a place, among blocks of sizes that a region may have
@@ -56,6 +59,40 @@ module _ (sli : ℕ) {bs : List Block} {at i words tick len size : ℕ} {r : Reg
       let places : free_places sli 0 new ≡ free_places sli 0 r.blocks =
       ap (free_places sli 0) zeroed_is ∙ places_bytes sli (take i bs) given.more old (replicate len 0) ∙ ap (free_places sli 0) (sym given.around.is) in
       subst (λ (l : List FreePlace). AreListed l lists) (sym places) (same_lists (free_places sli 0 r.blocks) (list_in r.lists) lists same given.listed)
+
+-- where nobody filled it, it has the bytes that lie there
+pub given_unset : (sli : ℕ) {old new : RegionState} {at i words tick len most : ℕ} → StandsAt old.blocks at i → words ≤ size_of (block_at old.blocks i) → CarvedUnset sli old new (site_at old.blocks i) at words tick len most
+    → (size : ℕ) × IsGiven sli old.blocks at i words tick len size new
+given_unset sli {old = old} {new = new} {at = at} {i = i} {words = words} {tick = tick} {len = len} stands fits unset =
+    let bs = old.blocks in
+    let size = size_of (block_at bs i) in
+    let a = around bs at i stands in
+    let with_rest : (k : ℕ) (rest : List Block) → ((xs : List ℕ) → cut size words tick tick xs ≡ Live k tick xs ∷ rest) → words ≤ k → IsGiven sli bs at i words tick len k new = λ k rest is room.
+    let parts : (xs : List ℕ) → take i bs ++ cut size words tick tick xs ++ drop (suc i) bs ≡ take i bs ++ Live k tick xs ∷ (rest ++ drop (suc i) bs) = λ xs.
+    ap (λ (l : List Block). take i bs ++ l ++ drop (suc i) bs) (is xs) ∙ append_assoc (take i bs) (Live k tick xs ∷ rest) (drop (suc i) bs) in
+    record {
+      bytes = lying new.stored at len;
+      more = rest ++ drop (suc i) bs;
+      many = length-bytes_in new.stored.words (payload_byte at 0) len;
+      first = unset.first;
+      around = record { is = unset.blocks ∙ parts (lying new.stored at len); before = a.before; place = a.place };
+      left = parts (replicate len 0);
+      listed = unset.listed;
+      room = room;
+    } in
+    elim (cases_lt size (words + 4)) [
+      | inl small ↦ (size, with_rest size [] (λ xs. cut_small size words tick tick xs small) fits)
+      | inr large ↦ (words, with_rest words (Free (size - words) tick ∷ []) (λ xs. cut_large size words tick tick xs large) (omega arith))
+    ]
+
+-- the bytes of a live block lie behind its header
+lies_there : {m : Image} {bs front back : List Block} {at i size tick len : ℕ} {bytes : List ℕ} → Shows m bs → Around bs at i front (Live size tick bytes) back → length bytes ≡ len → lying m at len ≡ bytes
+lies_there {m = m} {bs = bs} {at = at} {i = i} {bytes = bytes} shows a many =
+    let from : payload_byte at 0 ≡ 8 * (at + 3) = omega arith in
+    let held = held_bytes m.words at (block_at bs i) (shown_here m bs shows at i (stands_around a)).payload in
+    ap (bytes_in m.words (payload_byte at 0)) (sym many)
+    ∙ ap (λ (k : ℕ). bytes_in m.words k (length bytes)) from
+    ∙ subst (λ (b : Block). bytes_in m.words (8 * (at + 3)) (length (bytes_of b)) ≡ bytes_of b) (block_around a) held
 
 module _ (sli : ℕ) {bs : List Block} {at i : ℕ} (f : IsFreeHere sli bs at i) where
   abbrev size : ℕ
@@ -123,21 +160,11 @@ module _ (sli : ℕ) {bs : List Block} {at i : ℕ} (f : IsFreeHere sli bs at i)
     left_unlisted_each j other = subst (λ (k : ℕ). AreUnlisted left at (at + size_of (block_at bs k))) (one_index sli bs at i j f.regions f.stands other) left_unlisted
 
     -- and whole a live block
-    pub given_whole : (words len : ℕ) (bytes : List ℕ) (r : RegionState) → length bytes ≡ len → BeginsZero bytes → words ≤ size → size < words + 4
-        → r.blocks ≡ take i bs ++ (Live size tick bytes ∷ []) ++ drop (suc i) bs → SameLists (list_in r.lists) left → IsGiven sli bs at i words tick len size r
-    given_whole words len bytes r many first room small is stay =
-        let a : Around r.blocks at i (take i bs) (Live size tick bytes) (drop (suc i) bs) = record { is = is ∙ append_assoc (take i bs) (Live size tick bytes ∷ []) (drop (suc i) bs); before = around_free.before; place = around_free.place } in
-        record {
-          bytes = bytes;
-          more = drop (suc i) bs;
-          many = many;
-          first = first;
-          around = a;
-          left = ap (λ (l : List Block). take i bs ++ l ++ drop (suc i) bs) (carved_small size words tick len small) ∙ append_assoc (take i bs) (Live size tick (replicate len 0) ∷ []) (drop (suc i) bs);
-          listed = subst (λ (l : List FreePlace). AreListed l (list_in r.lists)) (sym (ap (free_places sli 0) a.is ∙ places_behind sli (take i bs) (Live size tick bytes ∷ drop (suc i) bs) at a.place))
-              (same_lists (before ++ behind) left (list_in r.lists) stay left_listed);
-          room = room;
-        }
+    pub whole_listed : (bytes : List ℕ) (r : RegionState) → r.blocks ≡ take i bs ++ (Live size tick bytes ∷ []) ++ drop (suc i) bs → SameLists (list_in r.lists) left → AreFreeLists sli r.blocks (list_in r.lists)
+    whole_listed bytes r is stay =
+        subst (λ (l : List FreePlace). AreListed l (list_in r.lists))
+        (sym (ap (free_places sli 0) (is ∙ append_assoc (take i bs) (Live size tick bytes ∷ []) (drop (suc i) bs)) ∙ places_behind sli (take i bs) (Live size tick bytes ∷ drop (suc i) bs) at around_free.place))
+        (same_lists (before ++ behind) left (list_in r.lists) stay left_listed)
 
     -- or split
     module _ (words : ℕ) (bytes : List ℕ) (large : words + 4 ≤ size) (new : List Block) (is : new ≡ take i bs ++ (Live words tick bytes ∷ Free (size - words) tick ∷ []) ++ drop (suc i) bs) (kept : ℕ → List ℕ) (stay : SameLists kept left) where
@@ -165,20 +192,9 @@ module _ (sli : ℕ) {bs : List Block} {at i : ℕ} (f : IsFreeHere sli bs at i)
           ∙ ap (λ (n : ℕ). before ++ record { class = class_of sli (size - words); at = at + words; stamp = tick } ∷ free_places sli n (drop (suc i) bs)) rest
           ∙ ap (λ (n : ℕ). before ++ record { class = n; at = at + words; stamp = tick } ∷ behind) (sym is_class))) listed
 
-      pub given_split : (len : ℕ) (r : RegionState) → length bytes ≡ len → BeginsZero bytes → r.blocks ≡ new → (came : ℕ) → came ≡ class_of sli (size - words) → list_in r.lists came ≡ (at + words) ∷ kept came
-          → ((other : ℕ) → other ≢ came → list_in r.lists other ≡ kept other) → IsGiven sli bs at i words tick len words r
-      given_split len r many first same came is_class is_more rest_stays =
-          record {
-            bytes = bytes;
-            more = Free (size - words) tick ∷ drop (suc i) bs;
-            many = many;
-            first = first;
-            around = record { is = same ∙ split.is; before = split.before; place = split.place };
-            left = ap (λ (l : List Block). take i bs ++ l ++ drop (suc i) bs) (carved_large size words tick len large)
-                ∙ append_assoc (take i bs) (Live words tick (replicate len 0) ∷ Free (size - words) tick ∷ []) (drop (suc i) bs);
-            listed = subst (λ (bs : List Block). AreFreeLists sli bs (list_in r.lists)) (sym same) (rest_listed came (list_in r.lists) is_class is_more rest_stays);
-            room = omega arith;
-          }
+      pub split_listed : (r : RegionState) → r.blocks ≡ new → (came : ℕ) → came ≡ class_of sli (size - words) → list_in r.lists came ≡ (at + words) ∷ kept came
+          → ((other : ℕ) → other ≢ came → list_in r.lists other ≡ kept other) → AreFreeLists sli r.blocks (list_in r.lists)
+      split_listed r same came is_class is_more rest_stays = subst (λ (bs : List Block). AreFreeLists sli bs (list_in r.lists)) (sym same) (rest_listed came (list_in r.lists) is_class is_more rest_stays)
 
 -- ---- a block that is given, step by step
 
@@ -193,29 +209,26 @@ pub is_out : (sli : ℕ) {old : RegionState} {at tick words : ℕ} {own : Tag} �
     → AreRegions sli old.blocks → EachAt old.blocks at (λ s. AreFreeLists sli (withheld_alone s) (list_in old.lists)) → ArePast tick old.blocks → IsOut sli old at free.0 tick own
 is_out sli free own regions listed past = record { here = record { stands = free.1; free = free.2.0; regions = regions }; past = past; withheld = listed free.0 free.1; is_own = own free.0 free.1 }
 
--- the block has its header, its rest is listed, and its payload is left
-pub record IsReady (sli : ℕ) (old : RegionState) (at i words tick len size : ℕ) (now : RegionState) : Type 0 where
-  pub given : IsGiven sli old.blocks at i words tick len size now
-  pub edits : Edits old now 16
-
 module _ (sli : ℕ) {old : RegionState} {at i tick : ℕ} {own : Tag} (t : IsOut sli old at i tick own) where
   pub out_unlisted : (j : ℕ) → StandsAt old.blocks at j → AreUnlisted (list_in old.lists) at (at + size_of (block_at old.blocks j))
   out_unlisted = left_unlisted_each sli t.here tick t.past (list_in old.lists) t.withheld
 
-  module _ (words len : ℕ) (bytes : List ℕ) (many : length bytes ≡ len) (first : BeginsZero bytes) (fits : words ≤ own.size) where
+  module _ (words len : ℕ) where
     -- it was given whole
-    pub by_grant : {v now : RegionState} {n : ℕ} → own.size < words + 4 → EachAt old.blocks at (λ s. Rewrites old v (s.before ++ (Live (size_of s.block) tick bytes ∷ []) ++ s.after) 4) → now ≡ v → n ≡ own.size
-        → IsReady sli old at i words tick len n now
-    by_grant {v = v} {now = now} {n = n} small each joined sized =
+    pub by_grant : {v : RegionState} → BeginsZero (lying v.stored at len) → own.size < words + 4 → EachAt old.blocks at (λ s. Rewrites old v (s.before ++ (Live (size_of s.block) tick (lying v.stored at len) ∷ []) ++ s.after) 4)
+        → CarvedUnset sli old v (site_at old.blocks i) at words tick len 16
+    by_grant {v = v} first small each =
         let w = each i t.here.stands in
-        subst (λ (s : RegionState). IsReady sli old at i words tick len n s) (sym joined)
-        (subst (λ (k : ℕ). IsReady sli old at i words tick len k v) (sym (sized ∙ t.is_own.size)) (record {
-          given = given_whole sli t.here tick t.past (list_in old.lists) t.withheld words len bytes v many first (omega (arith, t.is_own.size, fits)) (omega (arith, t.is_own.size, small)) w.blocks w.lists;
+        let bytes = lying v.stored at len in
+        record {
+          blocks = w.blocks ∙ ap (λ (l : List Block). take i old.blocks ++ l ++ drop (suc i) old.blocks) (sym (cut_small (size_of (block_at old.blocks i)) words tick tick bytes (omega (arith, t.is_own.size, small))));
+          first = first;
+          listed = whole_listed sli t.here tick t.past (list_in old.lists) t.withheld bytes v w.blocks w.lists;
           edits = record { words = w.edits.words; shows = w.edits.shows; linked = w.edits.linked; bits = w.edits.bits; stays = w.edits.stays; touches = omega (arith, w.edits.touches); rise = w.edits.rise };
-        }))
+        }
 
     -- or split
-    module _ (large : words + 4 ≤ own.size) {v : RegionState} (each : EachAt old.blocks at (λ s. Rewrites old v (s.before ++ (Live words tick bytes ∷ Free (size_of s.block - words) tick ∷ []) ++ s.after) 9)) where
+    module _ (bytes : List ℕ) (large : words + 4 ≤ own.size) {v : RegionState} (each : EachAt old.blocks at (λ s. Rewrites old v (s.before ++ (Live words tick bytes ∷ Free (size_of s.block - words) tick ∷ []) ++ s.after) 9)) where
       written : Rewrites old v (take i old.blocks ++ (Live words tick bytes ∷ Free (size_of (block_at old.blocks i) - words) tick ∷ []) ++ drop (suc i) old.blocks) 9
       written = each i t.here.stands
 
@@ -229,14 +242,25 @@ module _ (sli : ℕ) {old : RegionState} {at i tick : ℕ} {own : Tag} (t : IsOu
       split_rest_unlisted = rest_unlisted sli t.here tick t.past (list_in old.lists) t.withheld words bytes wide v.blocks written.blocks (list_in v.lists) written.lists
 
       -- and the rest is listed
-      pub by_split : {u now : RegionState} {n came : ℕ} → came ≡ class_of sli (own.size - words) → PutInFront v u came (at + words) 7 → now ≡ u → n ≡ words → IsReady sli old at i words tick len n now
-      by_split {u = u} {n = n} {came = came} is_class push joined sized =
+      pub by_split : {u : RegionState} {came : ℕ} → length bytes ≡ len → BeginsZero bytes → came ≡ class_of sli (own.size - words) → PutInFront v u came (at + words) 7 → CarvedUnset sli old u (site_at old.blocks i) at words tick len 16
+      by_split {u = u} {came = came} many first is_class push =
           let w = written in
-          subst (λ (s : RegionState). IsReady sli old at i words tick len n s) (sym joined)
-          (subst (λ (k : ℕ). IsReady sli old at i words tick len k u) (sym sized) (record {
-            given = given_split sli t.here tick t.past (list_in old.lists) t.withheld words bytes wide v.blocks w.blocks (list_in v.lists) w.lists len u many first push.blocks came (is_class ∙ ap (λ (k : ℕ). class_of sli (k - words)) t.is_own.size) push.list push.others;
+          let size = size_of (block_at old.blocks i) in
+          let a = around old.blocks at i t.here.stands in
+          let now : Around u.blocks at i (take i old.blocks) (Live words tick bytes) (Free (size - words) tick ∷ drop (suc i) old.blocks) = record {
+            is = push.blocks ∙ w.blocks ∙ append_assoc (take i old.blocks) (Live words tick bytes ∷ Free (size - words) tick ∷ []) (drop (suc i) old.blocks);
+            before = a.before;
+            place = a.place;
+          } in
+          let same : bytes ≡ lying u.stored at len = sym (lies_there push.edits.shows now many) in
+          record {
+            blocks = push.blocks ∙ w.blocks
+                ∙ ap (λ (l : List Block). take i old.blocks ++ l ++ drop (suc i) old.blocks) (sym (cut_large size words tick tick bytes wide))
+                ∙ ap (λ (l : List ℕ). take i old.blocks ++ cut size words tick tick l ++ drop (suc i) old.blocks) same;
+            first = subst BeginsZero same first;
+            listed = split_listed sli t.here tick t.past (list_in old.lists) t.withheld words bytes wide v.blocks w.blocks (list_in v.lists) w.lists u push.blocks came (is_class ∙ ap (λ (k : ℕ). class_of sli (k - words)) t.is_own.size) push.list push.others;
             edits = record { words = push.edits.words ∙ w.edits.words; shows = push.edits.shows; linked = push.edits.linked; bits = push.edits.bits; stays = push.edits.stays ∙ w.edits.stays; touches = omega (arith, push.edits.touches, w.edits.touches); rise = omega (arith, push.edits.rise, w.edits.rise) };
-          }))
+          }
 
 -- a free block that is taken out of the list of its class
 pub taken_each : (sli : ℕ) {old r : RegionState} {at i class most : ℕ} → IsFreeHere sli old.blocks at i → class ≡ class_of sli (size_of (block_at old.blocks i)) → AreFreeLists sli old.blocks (list_in old.lists)

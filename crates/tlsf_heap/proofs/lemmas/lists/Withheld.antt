@@ -1,5 +1,5 @@
 -- The lists of the free blocks when a live block becomes one with its free neighbours.
-use Rattle.tlsf_heap.proofs.Common.{◌≡◌, ◌≢◌, ℕ, zero, suc, ◌+◌, ◌-◌, ◌<◌, ◌≤◌, true, false, List, [], ◌∷◌, ◌++◌, length, take, drop, refl, sym, ap, ◌∙◌, subst, arith, append_assoc, Contains, false≢true, class_of, Block, Live, Free, size_of, words_in, is_free, StandsAt, IsRegion, RegionState, AreRegions, AreTagsAround, AreUnlisted, EachAt, SameLists, TakenOut, list_in, withheld, block_at, site_at, without_place, Tag, coalesced, first_free, past_free, last_free, before_free, FreePlace, free_places, AreFreeLists}
+use Rattle.tlsf_heap.proofs.Common.{◌≡◌, ◌≢◌, ℕ, zero, suc, ◌+◌, ◌-◌, ◌<◌, ◌≤◌, true, false, List, [], ◌∷◌, ◌++◌, length, take, drop, refl, sym, ap, ◌∙◌, subst, arith, append_assoc, Contains, false≢true, class_of, Block, Live, Free, size_of, words_in, is_free, StandsAt, IsRegion, RegionState, AreRegions, AreTagsAround, AreUnlisted, EachAt, SameLists, TakenOut, IsWithout, IsTagOf, IsNextTag, list_in, withheld, block_at, site_at, without_place, Tag, coalesced, first_free, past_free, last_free, before_free, FreePlace, free_places, AreFreeLists}
 use Rattle.tlsf_heap.proofs.lemmas.blocks.Replace.{first_free-words}
 use Rattle.tlsf_heap.proofs.lemmas.lists.FreeLists.{AreListed, IsFresh, fresh_both, contains_own, not_listed, same_lists, taken, given}
 use Rattle.tlsf_heap.proofs.lemmas.blocks.Around.{Around, around, around_first, around_last, one_index, block_around, stands_around, words_around, region_around, regions_front, regions_back, next_is, next_none, last_is, last_none, last_words, past_regions, before_regions, place, places_behind, fresh_front, fresh_back, ArePast, past_around, newest, past_past, before_past}
@@ -267,6 +267,22 @@ tagged sli live tags sized past listed = record {
   between = record { stands = live.1; live = live.2; sized = sized; is_size = refl; is_before = refl; is_after = refl; past = past; listed = listed };
 }
 
+-- where no free block is before it, as with the tag of a live one
+abbrev pub live_tag : Tag
+live_tag = record { word = 0; size = 0; free = false; last = false; back = 0 }
+
+pub tagged_next : (sli : ℕ) {words at tick : ℕ} {bs : List Block} {lists : ℕ → List ℕ} {own next : Tag} → (live : (i : ℕ) × StandsAt bs at i × (is_free (block_at bs i) ≡ false))
+    → EachAt bs at (λ s. IsTagOf words s own) → EachAt bs at (λ s. IsNextTag words s next) → EachAt bs at (λ s. last_free s.before ≡ 0) → AreRegions sli bs → ArePast tick bs → AreFreeLists sli bs lists
+    → Tagged sli words at tick bs lists own next live_tag
+tagged_next sli live own next none sized past listed =
+    tagged sli live
+    (λ i stands. record {
+      is_own = own i stands;
+      is_next = next i stands;
+      is_previous = record { live = λ _. none i stands; some = λ e. absurd (false≢true e); size = λ e. absurd (false≢true e); last = λ e. absurd (false≢true e); back = λ e. absurd (false≢true e) };
+    })
+    sized past listed
+
 module _ (sli : ℕ) {words at tick : ℕ} {bs : List Block} {lists : ℕ → List ℕ} {own next previous : Tag} (t : Tagged sli words at tick bs lists own next previous) where
   -- the block before it is free, and its size was read
   module _ (some : previous.free ≡ true) {read : ℕ} (is : read ≡ previous.size) where
@@ -280,8 +296,8 @@ module _ (sli : ℕ) {words at tick : ℕ} {bs : List Block} {lists : ℕ → Li
     ahead_region = rw ahead_is (previous_region sli t.between (t.tags.is_previous.some some))
 
     -- it is taken out of its list
-    pub ahead_out : {old new : RegionState} {most : ℕ} → TakenOut old new (class_of sli read) (at - read) most → Forgets sli (last_free (take t.i bs)) (at - last_free (take t.i bs)) (list_in old.lists) (list_in new.lists)
-    ahead_out out = taken_out sli (t.tags.is_previous.some some) (ap (class_of sli) ahead_is) (ap (λ n. at - n) ahead_is) out.list out.others
+    pub ahead_out : {lists left : ℕ → List ℕ} → IsWithout lists (class_of sli read) (at - read) left → Forgets sli (last_free (take t.i bs)) (at - last_free (take t.i bs)) lists left
+    ahead_out out = taken_out sli (t.tags.is_previous.some some) (ap (class_of sli) ahead_is) (ap (λ n. at - n) ahead_is) out.out out.others
 
   -- that after it is
   module _ (some : next.free ≡ true) {read : ℕ} (is : read ≡ next.size) where

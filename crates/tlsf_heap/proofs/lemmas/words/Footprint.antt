@@ -124,13 +124,20 @@ recut_others bs new mid at i k stands is size o =
       ]
     ]))
 
+-- a block that is cut keeps its words
+pub cut_words : (room n tick serial : ℕ) (bytes : List ℕ) → n ≤ room → words_in (cut room n tick serial bytes) ≡ room
+cut_words room n tick serial bytes fits = elim (cases_lt room (n + 4)) [
+  | inl small ↦ ap words_in (cut_small room n tick serial bytes small) ∙ omega arith
+  | inr large ↦ ap words_in (cut_large room n tick serial bytes large) ∙ omega (arith, large)
+]
+
 pub recut_words : (b : Block) (back : List Block) (n tick : ℕ) → is_free b ≡ false → (mid : List Block) × (recut tick n b back ≡ mid ++ past_free back) × (n ≤ size_of b + first_free back → words_in mid ≡ size_of b + first_free back)
 recut_words (Free m s) back n tick live = absurd (false≢true (sym live))
 recut_words (Live m s xs) back n tick live =
     let room = m + first_free back in (
       cut room n tick s xs,
       refl,
-      λ fits. elim (cases_lt room (n + 4)) [ inl small ↦ ap words_in (cut_small room n tick s xs small) ∙ omega arith | inr large ↦ ap words_in (cut_large room n tick s xs large) ∙ omega (arith, large, fits) ],
+      cut_words room n tick s xs,
     )
 
 pub recut_lasts : (bs new : List Block) (at i k n tick : ℕ) → StandsAt bs at i → is_free (block_at bs i) ≡ false → n ≤ size_of (block_at bs i) + first_free (drop (suc i) bs)

@@ -3,19 +3,19 @@ use Rattle.tlsf_heap.proofs.Common.{◌≡◌, ℕ, suc, ◌+◌, ◌-◌, false
 use Rattle.tlsf_heap.proofs.lemmas.blocks.Coalesce.{by_last}
 use Rattle.tlsf_heap.proofs.lemmas.words.Edit.{next_same}
 use Rattle.tlsf_heap.proofs.lemmas.blocks.Lawful.{all_left, all_right}
-use Rattle.tlsf_heap.proofs.lemmas.words.Links.{HoldsState, Reshapes, reshaped}
-use Rattle.tlsf_heap.proofs.lemmas.words.Merge.{merge_begins, merge_is, merge_parts, merge_range, merge_replaces}
+use Rattle.tlsf_heap.proofs.lemmas.words.Links.{HoldsState, Reshapes, reshaped_first, free_only}
+use Rattle.tlsf_heap.proofs.lemmas.words.Merge.{merge_begins, merge_is, merge_links, merge_parts, merge_range, merge_replaces}
 use Rattle.tlsf_heap.proofs.lemmas.words.Says.{says_here}
 use Rattle.tlsf_heap.proofs.lemmas.words.Image.{word_at}
 use Rattle.tlsf_heap.proofs.lemmas.blocks.Around.{around}
 
--- the blocks and the lists that a merge leaves
+-- the blocks and the lists that a merge leaves: the first of the blocks may be listed
 pub merged : (sli : ℕ) {m v : Image} {l : ListHeads} {r : RegionState} → HoldsState sli m l r → {at i stamp before after : ℕ} {tag : Tag} → StandsAt r.blocks at i → AreNeighbours (length m.words) (site_at r.blocks i) before after tag
-    → Merges m v at before after tag stamp → AreUnlisted (list_in r.lists) (at - before) (at - before + tag.size) → Reshapes sli v l (coalesced stamp (site_at r.blocks i)) r.lists
+    → Merges m v at before after tag stamp → AreUnlisted (list_in r.lists) (at - before + 1) (at - before + tag.size) → Reshapes sli v l (coalesced stamp (site_at r.blocks i)) r.lists
 merged sli {v = v} {l = l} {r = r} state {i = i} {stamp = stamp} stands is merges unlisted =
     let shows = state.shows in
     subst (λ (bs : List Block). Reshapes sli v l bs r.lists) (merge_is shows stands is merges)
-    (reshaped sli state v _ _ _ _ (merge_parts shows stands is merges) (merge_replaces shows stands is merges)
+    (reshaped_first sli state v _ _ _ _ (merge_parts shows stands is merges) (merge_replaces shows stands is merges) (λ listed. (merge_links shows stands is merges, free_only _ 0 refl refl))
     (λ k low high. unlisted k (omega (arith, low, merge_begins shows stands is merges)) (omega (arith, high, merge_range shows stands is merges))))
 
 -- ---- a block alone
@@ -54,6 +54,7 @@ module _ {m : Image} {bs : List Block} (shows : Shows m bs) {at i : ℕ} (stands
         next = λ inside. subst (λ (k : ℕ). word_at v k ≡ with_back (word_at m k) (at - 0)) end
             (subst (λ (p : ℕ). word_at v (at + size_of (block_at bs i)) ≡ with_back (word_at m (at + size_of (block_at bs i))) p) here
             (only.behind (at + size_of (block_at bs i)) (omega (arith, least)) ∙ next_same shows stands (omega (arith, inside, end))));
+        links = subst (λ (k : ℕ). word_at v (k + 2) ≡ word_at m (k + 2)) here (only.behind (at + 2) (omega arith));
         only = record { before = λ k h. only.before k (omega (arith, h)); behind = λ k h. only.behind k (omega (arith, h, end, least)); length = only.length };
         starts = starts;
       }

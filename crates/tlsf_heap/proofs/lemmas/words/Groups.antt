@@ -64,3 +64,14 @@ rows_and_word p q n m r only =
           only k (outside p n k (λ c. none (Contains-append_left (row p n) (row q m) (k / 8) c))) (outside q m k (λ c. none (Contains-append_right (row p n) (row q m) (k / 8) c)))
           (λ e. out (Contains-append_right rows (r / 8 ∷ []) (k / 8) (subst (λ (x : ℕ). Contains (r / 8 ∷ []) (x / 8)) (sym e) (0, omega arith, refl))));
     }
+
+-- all of a header at the begin of a region is in one
+pub first_words : {old new : List ℕ} → ((k : ℕ) → 3 ≤ k → times new k ≡ times old k) → InGroups 1 old new
+first_words only = record {
+  groups = 0 ∷ [];
+  few = omega arith;
+  only = λ k out. only k (elim (cases_lt k 3) [
+    | inl low ↦ absurd (out (let first : 0 ≡ k / 8 = omega (arith, low) in subst (Contains (0 ∷ [])) first (0, omega arith, refl)))
+    | inr past ↦ past
+  ]);
+}

@@ -1,5 +1,5 @@
 -- The free lists of a region, and what an edit of its words leaves of them.
-use Rattle.tlsf_heap.proofs.Common.{◌≡◌, ◌≢◌, ℕ, suc, zero, ◌+◌, ◌<◌, ◌≤◌, ◌⊎◌, inl, inr, Bool, true, List, [], ◌∷◌, ◌++◌, length, take, get_or, refl, sym, ap, ◌∙◌, subst, arith, append_assoc, ◌==◌, Contains, AllByRecursion, false≢true, cases_eq, cases_order, classes, Extents, tag_word, Image, HoldsPayload, StartsOnce, BlockAt, ShowsFrom, Shows, ListHeads, nowhere, places_from, list_of, without_place, LinkedFrom, AreThreaded, OnlyLinksChange, Block, Live, Free, size_of, words_in, is_free, StandsAt, block_at, blocks_of, HasRoom, AreMarked, RegionState, SameLists, AreUnlisted, AreLinked, list_in}
+use Rattle.tlsf_heap.proofs.Common.{◌≡◌, ◌≢◌, ℕ, suc, zero, ◌+◌, ◌<◌, ◌≤◌, ◌⊎◌, inl, inr, Bool, true, List, [], ◌∷◌, ◌++◌, length, take, get_or, refl, sym, ap, ◌∙◌, subst, arith, append_assoc, ◌==◌, Contains, AllByRecursion, false≢true, cases_eq, cases_lt, cases_order, classes, Extents, tag_word, Image, HoldsPayload, StartsOnce, BlockAt, ShowsFrom, Shows, ListHeads, nowhere, places_from, list_of, without_place, LinkedFrom, AreThreaded, OnlyLinksChange, Block, Live, Free, size_of, words_in, is_free, StandsAt, block_at, blocks_of, HasRoom, AreMarked, RegionState, SameLists, AreUnlisted, AreLinked, list_in}
 use Rattle.std.proofs.Math.ListN.{get_or-map}
 use Rattle.tlsf_words.proofs.ListedClasses.{are_some, some-cons}
 use Rattle.tlsf_words.proofs.PlaceLists.{member_cases, without_within}
@@ -178,21 +178,31 @@ pub record Reshapes (sli : ℕ) (v : Image) (l : ListHeads) (left : List Block) 
   pub holds : HoldsLists sli v l
   pub same : SameLists (list_in (lists_of l.heads v.words)) (list_in lists)
 
--- lists stay where blocks in whose words no listed place is become others
-pub reshaped : (sli : ℕ) {m : Image} {l : ListHeads} {r : RegionState} → HoldsState sli m l r → (v : Image) → (front old new after : List Block) → front ++ old ++ after ≡ r.blocks → Replaces m v front old new
-    → AreUnlisted (list_in r.lists) (words_in front) (words_in front + words_in old) → Reshapes sli v l (front ++ new ++ after) r.lists
-reshaped sli {m = m} {l = l} {r = r} state v front old new after whole replaces unlisted =
+-- where the first of some blocks is listed, it keeps its links, and the first of those that they become is free
+abbrev pub KeepsFirst : (ℕ → List ℕ) → ℕ → Image → Image → List Block → Type 0
+KeepsFirst lists at m v new = IsListed lists at → (word_at v (at + 2) ≡ word_at m (at + 2)) × IsFreeAt new 0
+
+-- lists stay where blocks in whose words no other listed place is become others
+pub reshaped_first : (sli : ℕ) {m : Image} {l : ListHeads} {r : RegionState} → HoldsState sli m l r → (v : Image) → (front old new after : List Block) → front ++ old ++ after ≡ r.blocks → Replaces m v front old new
+    → KeepsFirst (list_in r.lists) (words_in front) m v new → AreUnlisted (list_in r.lists) (words_in front + 1) (words_in front + words_in old) → Reshapes sli v l (front ++ new ++ after) r.lists
+reshaped_first sli {m = m} {l = l} {r = r} state v front old new after whole replaces first unlisted =
     let parts : front ++ (old ++ after) ≡ r.blocks = sym (append_assoc front old after) ∙ whole in
     let shown = blocks_replaced m v front old new after replaces (subst (Shows m) (sym whole) state.shows) in
     let rooms = subst (AllByRecursion HasRoom) (sym parts) state.shows.rooms in
     let front_rooms = all_left HasRoom front (old ++ after) rooms in
     let old_rooms = all_left HasRoom old after (all_right HasRoom front (old ++ after) rooms) in
     let left : (at : ℕ) → IsFreeAt (front ++ (new ++ after)) at → IsFreeAt (blocks_of v.words) at = λ at h. subst (λ (bs : List Block). IsFreeAt bs at) (sym (shown.0 ∙ append_assoc front new after)) h in
+    let begins : (at : ℕ) → IsListed (list_in r.lists) at → at ≡ words_in front → (word_at v (at + 2) ≡ word_at m (at + 2)) × IsFreeAt (blocks_of v.words) at = λ at listed e.
+    let kept = first (subst (IsListed (list_in r.lists)) e listed) in
+    (subst (λ (k : ℕ). word_at v (k + 2) ≡ word_at m (k + 2)) (sym e) kept.0, left at (free_right front (new ++ after) at 0 (omega (arith, e)) (free_left new after 0 kept.1))) in
     let relists : Relists sli v l r.lists = relisted sli state v shown.1 replaces.as_long (λ at listed h.
     elim (free_parts front (old ++ after) at (subst (λ (bs : List Block). IsFreeAt bs at) (sym parts) h)) [
       | inl ahead ↦ let four = four_within front front_rooms at ahead in (replaces.before (at + 2) (omega arith), left at (free_left front (new ++ after) at ahead))
       | inr here ↦ elim (free_parts old after here.0 here.2) [
-        | inl inside ↦ absurd (unlisted at (omega (arith, here.1)) (omega (arith, here.1, four_within old old_rooms here.0 inside)) listed.0 listed.1)
+        | inl inside ↦ elim (cases_lt 0 here.0) [
+          | inl some ↦ absurd (unlisted at (omega (arith, here.1, some)) (omega (arith, here.1, four_within old old_rooms here.0 inside)) listed.0 listed.1)
+          | inr none ↦ begins at listed (omega (arith, here.1, none))
+        ]
         | inr behind ↦ (
           replaces.behind (at + 2) (omega (arith, here.1, behind.1)),
           left at (free_right front (new ++ after) at here.0 here.1 (free_right new after here.0 behind.0 (omega (arith, behind.1, replaces.as_many)) behind.2)),
@@ -200,6 +210,20 @@ reshaped sli {m = m} {l = l} {r = r} state v front old new after whole replaces 
       ]
     ]) in
     record { blocks = shown.0; holds = relists.holds; same = relists.same }
+
+some_words : (bs : List Block) → AllByRecursion HasRoom bs → 0 < length bs → 0 < words_in bs
+some_words [] rooms some = absurd (omega (arith, some))
+some_words (b ∷ bs) rooms some = omega (arith, least b rooms.0)
+
+-- so they do where no listed place is
+pub reshaped : (sli : ℕ) {m : Image} {l : ListHeads} {r : RegionState} → HoldsState sli m l r → (v : Image) → (front old new after : List Block) → front ++ old ++ after ≡ r.blocks → Replaces m v front old new
+    → AreUnlisted (list_in r.lists) (words_in front) (words_in front + words_in old) → Reshapes sli v l (front ++ new ++ after) r.lists
+reshaped sli {m = m} {l = l} {r = r} state v front old new after whole replaces unlisted =
+    let rooms = subst (AllByRecursion HasRoom) (sym (sym (append_assoc front old after) ∙ whole)) state.shows.rooms in
+    let some = some_words old (all_left HasRoom old after (all_right HasRoom front (old ++ after) rooms)) replaces.some in
+    reshaped_first sli state v front old new after whole replaces
+    (λ listed. absurd (unlisted (words_in front) (omega arith) (omega (arith, some)) listed.0 listed.1))
+    (λ k low high. unlisted k (omega (arith, low)) high)
 
 -- ---- other links
 

@@ -1,7 +1,7 @@
 -- The words of a region whose block was merged with its free neighbours show the one block.
 use Rattle.tlsf_heap.proofs.Common.{◌≡◌, ℕ, zero, suc, ◌+◌, ◌-◌, ◌<◌, ◌≤◌, inl, inr, Bool, true, false, cond, eqb, List, [], ◌∷◌, ◌++◌, length, take, drop, get_or, set, refl, sym, ap, ◌∙◌, subst, arith, append_assoc, length-append, cases_lt, cases_order, ne_eqb, length-set, get_or-set_same, get_or-set_other, Image, BlockAt, StartsOnce, back_behind, Shows, nowhere, Block, Free, size_of, words_in, StandsAt, first_free, past_free, last_free, before_free, coalesced, block_at, site_at, place_of, Merges, without_start, AreNeighbours, Tag}
 use Rattle.tlsf_heap.proofs.lemmas.blocks.Lawful.{words_in-append}
-use Rattle.tlsf_heap.proofs.lemmas.words.Image.{Replaces, start_at}
+use Rattle.tlsf_heap.proofs.lemmas.words.Image.{Replaces, start_at, word_at}
 use Rattle.tlsf_heap.proofs.lemmas.words.Says.{says_here}
 use Rattle.tlsf_heap.proofs.lemmas.blocks.Around.{Around, around, around_first, around_last, block_around, stands_around, last_words, last_part, first_part}
 
@@ -189,6 +189,10 @@ module _ {m : Image} {bs : List Block} (shows : Shows m bs) {at i : ℕ} (stands
 
       pub merge_begins : words_in (before_free front) ≡ place
       merge_begins = begins
+
+      -- the links of the first of them stay
+      pub merge_links : word_at v (words_in (before_free front) + 2) ≡ word_at m (words_in (before_free front) + 2)
+      merge_links = rw begins merges.links
 
       pub merge_is : before_free front ++ (Free tag.size stamp ∷ []) ++ past_free back ≡ coalesced stamp (site_at bs i)
       merge_is = append_assoc (before_free front) (Free tag.size stamp ∷ []) (past_free back) ∙ ap (λ (n : ℕ). before_free front ++ Free n stamp ∷ past_free back) is.size

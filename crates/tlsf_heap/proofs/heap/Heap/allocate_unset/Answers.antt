@@ -1,66 +1,204 @@
-use Rattle.tlsf_heap.proofs.Common.{◌≡◌, ℕ, sym, ap, ◌∙◌, subst, Result, Ok, arith, HeapState, want, allocated_words, IsLive, IsLawful, lying, with_payload, Name, Refusal, IsLiveWord, Give}
-use Rattle.tlsf_heap.proofs.lemmas.laws.Live.{given_words}
-use Rattle.tlsf_heap.proofs.lemmas.calls.OtherBytes.{allocated_answers}
-use Rattle.tlsf_heap.proofs.lemmas.calls.Unset.{given_answer, allocated_unset}
-use Rattle.tlsf_heap.proofs.lemmas.calls.Leaves.{live_step}
-use Rattle.tlsf_words.proofs.Touching.{more_groups, groups_then}
+use Rattle.tlsf_heap.proofs.Common.{◌≡◌, ℕ, List, ◌+◌, ap, ◌∙◌, subst, Ok, Err, arith, Block, words_in, want, allocated, StandsAt, Shown, NoneFits, IsChoice, site_at, IsLawful, state_of, NoFit, Worn, InGroups, unset_from}
+use Rattle.tlsf_heap.specs.CarvedUnset.{CarvedUnset}
+use Rattle.tlsf_heap.proofs.lemmas.lists.Carved.{head_stands}
+use Rattle.tlsf_heap.proofs.lemmas.calls.Allocate.{Allocates, allocates_none, allocates_worn, lawful_regions, fits_size}
+use Rattle.tlsf_heap.proofs.lemmas.calls.AllocateUnset.{given_zeros, given_lying, lying_lawful, zeroed}
+use Rattle.tlsf_heap.proofs.lemmas.blocks.Lawful.{with_region}
+use Rattle.tlsf_heap.proofs.lemmas.blocks.Find.{and_left}
+use Rattle.tlsf_heap.proofs.lemmas.calls.Kept.{keeps_stored, keeps_read}
+use Rattle.tlsf_heap.proofs.lemmas.calls.Leaves.{seen_live}
+use Rattle.tlsf_words.proofs.Touching.{no_groups, more_groups, groups_then}
+use Rattle.tlsf_heap.proofs.heap.Heap.allocate_unset.Given.{Over}
 use Rattle.tlsf_heap.proofs.heap.Heap.allocate_unset.Goals as goal
 
-pub returns-in-Err-clause-answer : goal.returns-in-Err-clause-answer
-returns-in-Err-clause-answer g c =
-    sym c.in-Err.is ∙ c.allocate_words.ensures.allocates.answer_is ∙ ap (λ (n : ℕ). (allocated_words g.row.SLI c.args.self.now.heap n 0).answer) c.want.ensures
-    ∙ allocated_answers g.row.SLI c.args.self.now.heap (want c.args.len) 0 c.args.len
+pub choose-requires : goal.choose-requires
+choose-requires g c = (
+  omega arith,
+  (
+    omega arith,
+    (
+      c.self.invariant.level,
+      (
+        omega (arith, c.want-words.ensures),
+        (
+          lawful_regions g.row.SLI (state_of g.row.SLI c.self.inside) c.self.invariant.lawful c.self.invariant.small,
+          c.self.invariant.listed,
+        ),
+      ),
+    ),
+  ),
+)
 
--- an allocate of no bytes, with the words that are wanted
-given : (sli n len : ℕ) (h : HeapState) (name : Name) (answer : Result Name Refusal) → n ≡ want len → answer ≡ (allocated_words sli h n 0).answer → answer ≡ Ok name → (allocated_words sli h (want len) 0).answer ≡ Ok name
-given sli n len h name answer wanted is gives = ap (λ (k : ℕ). (allocated_words sli h k 0).answer) (sym wanted) ∙ sym is ∙ gives
+-- the words wanted, by what is asked for
+fit_at : (sli n len : ℕ) (bs : List Block) (i : ℕ) → n ≡ want len → IsChoice sli n bs i → IsChoice sli (want len) bs i
+fit_at sli n len bs i wanted best = subst (λ (k : ℕ). IsChoice sli k bs i) wanted best
 
-left : (sli n len : ℕ) (h k : HeapState) → n ≡ want len → k ≡ (allocated_words sli h n 0).heap → k ≡ (allocated_words sli h (want len) 0).heap
-left sli n len h k wanted is = is ∙ ap (λ (m : ℕ). (allocated_words sli h m 0).heap) wanted
+-- ---- nothing fits
 
-pub set_length-requires : goal.set_length-requires
-set_length-requires g c =
-    let h = c.args.self.now.heap in
-    let name = c.in-Ok.name in
-    let lives = given_words g.row.SLI h (want c.args.len) 0 name (given g.row.SLI _ c.args.len h name _ c.want.ensures c.allocate_words.ensures.allocates.answer_is c.in-Ok.is) in (
+nothing : (g : Over) (c : goal.In_default g) → Allocates g.row.SLI c.args.self.now.heap (want c.args.len) c.args.len (Err NoFit) (with_region (state_of g.row.SLI c.self.inside) c.self.inside.tick c.choose.new.region)
+nothing g c =
+    allocates_none g.row.SLI c.self.invariant.level (state_of g.row.SLI c.self.inside) c.args.self.now.heap (want c.args.len) c.args.len (omega arith) c.self.invariant.lawful (ap (λ (s : Shown). s.heap) c.self.view_is)
+    c.choose.new.region c.choose.ensures.reads.words c.choose.ensures.reads.blocks (subst (λ (k : ℕ). NoneFits g.row.SLI k c.self.inside.region.blocks) c.want-words.ensures c.in_default.ensures.best)
+
+pub returns-in_default-clause-answer : goal.returns-in_default-clause-answer
+returns-in_default-clause-answer g c = (nothing g c).is_answer
+
+pub returns-in_default-clause-no_fit : goal.returns-in_default-clause-no_fit
+returns-in_default-clause-no_fit g c = (nothing g c).no_fit
+
+pub returns-in_default-clause-ok : goal.returns-in_default-clause-ok
+returns-in_default-clause-ok g c = (nothing g c).ok
+
+pub returns-in_default-clause-leaves : goal.returns-in_default-clause-leaves
+returns-in_default-clause-leaves g c = seen_live g.row.SLI c.self.inside c.self.view_is _ c.choose.ensures.touched
+
+-- ---- the tick is at its last value
+
+worn : (g : Over) (c : goal.Then-self g) → Allocates g.row.SLI c.args.self.now.heap (want c.args.len) c.args.len (Err Worn) (with_region (state_of g.row.SLI c.self.inside) c.self.inside.tick c.choose.new.region)
+worn g c =
+    let best = c.in-Some.ensures.best in
+    allocates_worn g.row.SLI c.self.invariant.level (state_of g.row.SLI c.self.inside) c.args.self.now.heap (want c.args.len) c.args.len (omega arith) c.self.invariant.lawful (ap (λ (s : Shown). s.heap) c.self.view_is)
+    c.choose.new.region c.choose.ensures.reads.words best.1 (fit_at g.row.SLI _ c.args.len c.self.inside.region.blocks best.1 c.want-words.ensures best.3) c.choose.ensures.reads.blocks c.if-self.true
+
+pub returns-then-self-clause-answer : goal.returns-then-self-clause-answer
+returns-then-self-clause-answer g c = (worn g c).is_answer
+
+pub returns-then-self-clause-no_fit : goal.returns-then-self-clause-no_fit
+returns-then-self-clause-no_fit g c = (worn g c).no_fit
+
+pub returns-then-self-clause-ok : goal.returns-then-self-clause-ok
+returns-then-self-clause-ok g c = (worn g c).ok
+
+pub returns-then-self-clause-leaves : goal.returns-then-self-clause-leaves
+returns-then-self-clause-leaves g c = seen_live g.row.SLI c.self.inside c.self.view_is _ c.choose.ensures.touched
+
+pub invariant_of-self-then-self : goal.invariant_of-self-then-self
+invariant_of-self-then-self g c =
+    let was = c.self.invariant in
+    let reads = c.choose.ensures.reads in
+    record {
+      lawful = (worn g c).lawful;
+      shows = rw (reads.stored, reads.blocks) was.shows;
+      linked = rw (reads.stored, reads.lists) was.linked;
+      bits = rw (reads.marked, reads.lists) was.bits;
+      level = was.level;
+      small = omega (arith, reads.words, was.small);
+      listed = rw (reads.blocks, reads.lists) was.listed;
+    }
+
+-- ---- a block is given
+
+pub carve_unset-at-requires : goal.carve_unset-at-requires
+carve_unset-at-requires g c =
+    let best = c.in-Some.ensures.best in (
       omega arith,
       (
-        subst (λ (s : HeapState). IsLive s name) (sym (left g.row.SLI _ c.args.len h _ c.want.ensures c.allocate_words.ensures.allocates.heap)) lives,
-        omega (arith, c.in-Ok.ensures.room, c.want.ensures),
+        omega arith,
+        (
+          c.self.invariant.level,
+          (
+            omega (arith, c.want-words.ensures),
+            (
+              rw (c.choose.ensures.reads.blocks, c.choose.ensures.reads.lists) (best.0, best.1, best.2, and_left _ _ best.3.fit, fits_size g.row.SLI c.self.invariant.level _ _ best.3.fit),
+              (
+                rw c.choose.ensures.reads.blocks (lawful_regions g.row.SLI (state_of g.row.SLI c.self.inside) c.self.invariant.lawful c.self.invariant.small),
+                (
+                  omega (arith, ap words_in c.choose.ensures.reads.blocks, c.self.invariant.lawful.whole, c.self.invariant.small),
+                  (
+                    rw (c.choose.ensures.reads.blocks, c.choose.ensures.reads.lists) c.self.invariant.listed,
+                    rw c.choose.ensures.reads.blocks c.self.invariant.lawful.stamps_past,
+                  ),
+                ),
+              ),
+            ),
+          ),
+        ),
       ),
     )
 
+-- the block that is given is the one that was chosen
+stands : (g : Over) (c : goal.After-self-1 g) → StandsAt c.self.inside.region.blocks c.carve_unset-at.result c.in-Some.ensures.best.1
+stands g c = head_stands g.row.SLI c.in-Some.ensures.best.2 ((rw c.choose.ensures.reads.lists at c.carve_unset-at.ensures.place))
+
+unset : (g : Over) (c : goal.After-self-1 g)
+    → CarvedUnset g.row.SLI c.choose.new.region c.carve_unset-at.new.region (site_at c.self.inside.region.blocks c.in-Some.ensures.best.1) c.carve_unset-at.result (want c.args.len) c.self.inside.tick c.args.len 24
+unset g c =
+    let i = c.in-Some.ensures.best.1 in
+    let new = c.carve_unset-at.new.region in
+    subst (λ (n : ℕ). CarvedUnset g.row.SLI c.choose.new.region new (site_at c.self.inside.region.blocks i) c.carve_unset-at.result n c.self.inside.tick c.args.len 24) c.want-words.ensures
+    (subst (λ (l : List Block). CarvedUnset g.row.SLI c.choose.new.region new (site_at l i) c.carve_unset-at.result c.want-words.result c.self.inside.tick c.args.len 24) c.choose.ensures.reads.blocks
+    (c.carve_unset-at.ensures.carved i (rw c.choose.ensures.reads.blocks (stands g c))))
+
+-- as an allocate, but for the bytes
+zeros : (g : Over) (c : goal.After-self-1 g) → Allocates g.row.SLI c.args.self.now.heap (want c.args.len) c.args.len (Ok (record { heap = c.self.inside.id; at = c.carve_unset-at.result; serial = c.self.inside.tick }))
+    (with_region (state_of g.row.SLI c.self.inside) (c.self.inside.tick + 1) (zeroed g.row.SLI c.self.invariant.level (state_of g.row.SLI c.self.inside) c.args.self.now.heap c.args.len c.self.invariant.lawful (ap (λ (s : Shown). s.heap) c.self.view_is)
+    c.carve_unset-at.new.region ((unset g c).edits.words ∙ c.choose.ensures.reads.words) c.in-Some.ensures.best.1 (fit_at g.row.SLI _ c.args.len c.self.inside.region.blocks c.in-Some.ensures.best.1 c.want-words.ensures c.in-Some.ensures.best.3)))
+zeros g c =
+    let best = c.in-Some.ensures.best in
+    given_zeros g.row.SLI c.self.invariant.level (state_of g.row.SLI c.self.inside) c.args.self.now.heap c.args.len c.self.invariant.lawful (ap (λ (s : Shown). s.heap) c.self.view_is)
+    c.carve_unset-at.new.region ((unset g c).edits.words ∙ c.choose.ensures.reads.words) best.1 (fit_at g.row.SLI _ c.args.len c.self.inside.region.blocks best.1 c.want-words.ensures best.3) c.carve_unset-at.result (stands g c).place (unset g c).blocks c.if-self.false
+
+given : (g : Over) (c : goal.After-self-1 g)
+    → let new = with_region (state_of g.row.SLI c.self.inside) (c.self.inside.tick + 1) c.carve_unset-at.new.region in
+    (new ≡ unset_from (allocated g.row.SLI c.args.self.now.heap c.args.len).heap (record { heap = c.self.inside.id; at = c.carve_unset-at.result; serial = c.self.inside.tick }) c.carve_unset-at.new.region.stored 0 c.args.len) × IsLawful new
+given g c =
+    let best = c.in-Some.ensures.best in
+    let h = state_of g.row.SLI c.self.inside in
+    let same = ap (λ (s : Shown). s.heap) c.self.view_is in
+    let words = (unset g c).edits.words ∙ c.choose.ensures.reads.words in
+    let fit = fit_at g.row.SLI _ c.args.len c.self.inside.region.blocks best.1 c.want-words.ensures best.3 in (
+      given_lying g.row.SLI c.self.invariant.level h c.args.self.now.heap c.args.len c.self.invariant.lawful same c.carve_unset-at.new.region words best.1 fit c.carve_unset-at.result (stands g c).place (unset g c).blocks c.if-self.false,
+      lying_lawful g.row.SLI c.self.invariant.level h c.args.self.now.heap c.args.len c.self.invariant.lawful same c.carve_unset-at.new.region words best.1 fit c.carve_unset-at.result (stands g c).place (unset g c).blocks c.if-self.false,
+    )
+
+pub invariant_of-self-2 : goal.invariant_of-self-2
+invariant_of-self-2 g c = record {
+  lawful = (given g c).1;
+  shows = (unset g c).edits.shows;
+  linked = (unset g c).edits.linked;
+  bits = (unset g c).edits.bits;
+  level = c.self.invariant.level;
+  small = omega (arith, (unset g c).edits.words, c.choose.ensures.reads.words, c.self.invariant.small);
+  listed = (unset g c).listed;
+}
+
 pub returns-clause-answer : goal.returns-clause-answer
-returns-clause-answer g c =
-    let h = c.args.self.now.heap in
-    sym (given_answer g.row.SLI h c.args.len c.in-Ok.name c.in-Ok.ensures.keeps.was_lawful (given g.row.SLI _ c.args.len h c.in-Ok.name _ c.want.ensures c.allocate_words.ensures.allocates.answer_is c.in-Ok.is))
+returns-clause-answer g c = (zeros g c).is_answer
 
 pub returns-clause-heap : goal.returns-clause-heap
-returns-clause-heap g c =
-    let h = c.args.self.now.heap in
-    let name = c.in-Ok.name in
-    let m = c.set_length.new.self.stored in
-    let is = left g.row.SLI _ c.args.len h _ c.want.ensures c.allocate_words.ensures.allocates.heap in
-    c.set_length.ensures.heap
-    ∙ ap (λ (s : HeapState). with_payload s name (lying m name.at c.args.len)) is
-    ∙ allocated_unset g.row.SLI h c.args.len name c.in-Ok.ensures.keeps.was_lawful (given g.row.SLI _ c.args.len h name _ c.want.ensures c.allocate_words.ensures.allocates.answer_is c.in-Ok.is) m
-    c.set_length.ensures.level (subst IsLawful is c.in-Ok.ensures.keeps.lawful)
+returns-clause-heap g c = (given g c).0
 
--- ---- the payloads of other blocks
+pub returns-clause-no_fit : goal.returns-clause-no_fit
+returns-clause-no_fit g c = (zeros g c).no_fit
 
-pub returns-in-Err-clause-leaves : goal.returns-in-Err-clause-leaves
-returns-in-Err-clause-leaves g c k live = c.allocate_words.ensures.allocates.leaves k live
+pub returns-clause-ok : goal.returns-clause-ok
+returns-clause-ok g c = (zeros g c).ok
+
+pub returns-clause-touches : goal.returns-clause-touches
+returns-clause-touches g c = omega (arith, (unset g c).edits.touches, c.choose.ensures.reads.touches, ap (λ (s : Shown). s.touches) c.self.view_is)
 
 pub returns-clause-leaves : goal.returns-clause-leaves
-returns-clause-leaves g c k live =
-    let h = c.args.self.now.heap in
-    c.set_length.ensures.leaves k (subst (λ (s : HeapState). IsLiveWord s.blocks k) (sym c.allocate_words.ensures.allocates.heap) (live_step h k live g.row.SLI (Give c.want.result 0) tt))
-    ∙ c.allocate_words.ensures.allocates.leaves k live
+returns-clause-leaves g c = seen_live g.row.SLI c.self.inside c.self.view_is _ (λ k live. (rw c.choose.ensures.reads.blocks at c.carve_unset-at.ensures.touched) k live ∙ c.choose.ensures.touched k live)
+
+-- ---- what is kept
+
+pub returns-clause-keeps : goal.returns-clause-keeps
+returns-clause-keeps g c = keeps_stored g.row.SLI c.self.inside c.self.view_is c.self.invariant _ (invariant_of-self-2 g c) (omega (arith, (unset g c).edits.rise, c.choose.ensures.reads.rise)) ((unset g c).edits.stays ∙ c.choose.ensures.reads.stays)
+
+pub returns-in_default-clause-keeps : goal.returns-in_default-clause-keeps
+returns-in_default-clause-keeps g c = keeps_read g.row.SLI c.self.inside c.self.view_is c.self.invariant _ c.choose.ensures.reads
+
+pub returns-then-self-clause-keeps : goal.returns-then-self-clause-keeps
+returns-then-self-clause-keeps g c = keeps_read g.row.SLI c.self.inside c.self.view_is c.self.invariant _ c.choose.ensures.reads
 
 -- ---- groups of eight words
 
-pub returns-in-Err-clause-groups : goal.returns-in-Err-clause-groups
-returns-in-Err-clause-groups g c = more_groups (omega arith) c.allocate_words.ensures.groups
+pub returns-in_default-clause-groups : goal.returns-in_default-clause-groups
+returns-in_default-clause-groups g c = more_groups (omega arith) (no_groups (c.choose.ensures.untouched ∙ ap (λ (s : Shown). s.touched) c.self.view_is))
+
+pub returns-then-self-clause-groups : goal.returns-then-self-clause-groups
+returns-then-self-clause-groups g c = more_groups (omega arith) (no_groups (c.choose.ensures.untouched ∙ ap (λ (s : Shown). s.touched) c.self.view_is))
 
 pub returns-clause-groups : goal.returns-clause-groups
-returns-clause-groups g c = more_groups (omega arith) (groups_then c.allocate_words.ensures.groups c.set_length.ensures.groups)
+returns-clause-groups g c =
+    subst (λ (s : Shown). InGroups 14 s.touched c.carve_unset-at.new.region.touched) c.self.view_is (more_groups (omega arith) (groups_then (no_groups c.choose.ensures.untouched) c.carve_unset-at.ensures.groups))

@@ -123,11 +123,11 @@ stands g c = head_stands g.row.SLI c.in-Some.ensures.best.2 ((rw c.choose.ensure
 carved : (g : Over) (c : goal.After-self-1 g) → Edits c.choose.new.region c.carve-at.new.region (23 + (payload_words (block_at c.carve-at.new.region.blocks c.in-Some.ensures.best.1) - (c.args.words - c.want.result)))
 carved g c = c.carve-at.ensures.edits c.in-Some.ensures.best.1 (rw c.choose.ensures.reads.blocks (stands g c))
 
-given : (g : Over) (c : goal.After-self-1 g) → Allocates g.row.SLI c.args.self.now.heap c.args.words c.args.len (Ok (record { heap = c.self.inside.id; at = c.carve-at.result; serial = c.carve-at.new.tick }))
-    (with_region (state_of g.row.SLI c.self.inside) (c.carve-at.new.tick + 1) c.carve-at.new.region)
+given : (g : Over) (c : goal.After-self-1 g) → Allocates g.row.SLI c.args.self.now.heap c.args.words c.args.len (Ok (record { heap = c.self.inside.id; at = c.carve-at.result; serial = c.self.inside.tick }))
+    (with_region (state_of g.row.SLI c.self.inside) (c.self.inside.tick + 1) c.carve-at.new.region)
 given g c =
     let best = c.in-Some.ensures.best in
-    rw c.carve-at.ensures.tick (allocates_some g.row.SLI c.self.invariant.level (state_of g.row.SLI c.self.inside) c.args.self.now.heap c.args.words c.args.len c.requires c.self.invariant.lawful (ap (λ (s : Shown). s.heap) c.self.view_is)
+    (allocates_some g.row.SLI c.self.invariant.level (state_of g.row.SLI c.self.inside) c.args.self.now.heap c.args.words c.args.len c.requires c.self.invariant.lawful (ap (λ (s : Shown). s.heap) c.self.view_is)
     c.carve-at.new.region ((carved g c).words ∙ c.choose.ensures.reads.words) best.1 best.3 c.carve-at.result (stands g c).place ((rw c.choose.ensures.reads.blocks at c.carve-at.ensures.blocks) best.1 (stands g c)) c.if-self.false)
 
 pub invariant_of-self-2 : goal.invariant_of-self-2
@@ -150,13 +150,13 @@ few g c =
     omega (arith, (carved g c).touches, c.choose.ensures.reads.touches, now.1, c.requires, c.want.ensures)
 
 -- the name that is given names the block at its place, whose payload was made zero
-touched : (g : Over) (c : goal.After-self-1 g) → c.carve-at.new.region.touches ≤ c.self.inside.region.touches + 26 + payload_words_given {E = Refusal} (Ok (record { heap = c.self.inside.id; at = c.carve-at.result; serial = c.carve-at.new.tick }))
-    (with_region (state_of g.row.SLI c.self.inside) (c.carve-at.new.tick + 1) c.carve-at.new.region)
+touched : (g : Over) (c : goal.After-self-1 g) → c.carve-at.new.region.touches ≤ c.self.inside.region.touches + 26 + payload_words_given {E = Refusal} (Ok (record { heap = c.self.inside.id; at = c.carve-at.result; serial = c.self.inside.tick }))
+    (with_region (state_of g.row.SLI c.self.inside) (c.self.inside.tick + 1) c.carve-at.new.region)
 touched g c =
     let best = c.in-Some.ensures.best in
     let old = c.self.inside.region.blocks in
-    let heap : HeapState = with_region (state_of g.row.SLI c.self.inside) (c.carve-at.new.tick + 1) c.carve-at.new.region in
-    let name : Name = record { heap = c.self.inside.id; at = c.carve-at.result; serial = c.carve-at.new.tick } in
+    let heap : HeapState = with_region (state_of g.row.SLI c.self.inside) (c.self.inside.tick + 1) c.carve-at.new.region in
+    let name : Name = record { heap = c.self.inside.id; at = c.carve-at.result; serial = c.self.inside.tick } in
     let live : IsLive heap name = subst (λ (h : HeapState). IsLive h name) (sym (given g c).is_heap) (living.given_words g.row.SLI c.args.self.now.heap c.args.words c.args.len name (sym (given g c).is_answer)) in
     let now = carved_stands old heap.blocks name.at best.1 (size_of (block_at old best.1)) c.args.words c.self.inside.tick c.args.len (stands g c)
     ((rw c.choose.ensures.reads.blocks at c.carve-at.ensures.blocks) best.1 (stands g c)) in
@@ -181,7 +181,7 @@ pub returns-clause-room : goal.returns-clause-room
 returns-clause-room g c =
     let n = c.args.words in
     let h = c.args.self.now.heap in
-    let name : Name = record { heap = c.self.inside.id; at = c.carve-at.result; serial = c.carve-at.new.tick } in
+    let name : Name = record { heap = c.self.inside.id; at = c.carve-at.result; serial = c.self.inside.tick } in
     let lawful = subst IsLawful (ap (λ (s : Shown). s.heap) c.self.view_is) c.self.invariant.lawful in
     let found = given_block (λ b. n ≤ 3 + payload_words b) g.row.SLI h n c.args.len name lawful (sym (given g c).is_answer) (omega arith) (λ b fit. let many = fits_size g.row.SLI c.self.invariant.level n b fit in omega (arith, many)) in
     omega (arith, ap (λ (s : HeapState). payload_words_at (named name s.blocks)) (given g c).is_heap, ap payload_words_at found.1, found.2)

@@ -1,32 +1,76 @@
-use Rattle.tlsf_heap.proofs.Common.{◌≡◌, Result, Ok, Err, take, length, ap, ◌∙◌, sym, subst, arith, HeapState, released, written, payload_of, Refusal, IsOthersWord, IsLiveWord, Put}
+use Rattle.tlsf_heap.proofs.Common.{◌≡◌, ℕ, List, Result, Ok, Err, take, min, length, ap, ◌∙◌, sym, subst, arith, HeapState, Outcome, IsLawful, IsLive, released, released_by_place, call_by, written, payload_of, Refusal, Name, IsOthersWord, IsLiveWord, Put}
+use Rattle.tlsf_heap.specs.ByPlace.{IsPlaceCheck}
+use Rattle.tlsf_heap.specs.Moved.{copied}
+use Rattle.tlsf_heap.proofs.lemmas.calls.ByPlace.{live_is_found}
 use Rattle.tlsf_heap.proofs.lemmas.calls.ResizeOrMove.{release_done}
+use Rattle.tlsf_heap.proofs.lemmas.laws.Live.{kept_others}
 use Rattle.tlsf_heap.proofs.lemmas.words.Footprint.{any_word}
 use Rattle.tlsf_heap.proofs.lemmas.calls.Leaves.{word_step}
 use Rattle.tlsf_words.proofs.Touching.{more_groups, groups_then}
 use Rattle.tlsf_heap.proofs.heap.Heap.hand_over.Goals as goal
 
--- the release isn't refused
-pub returns-in_err-release-clause-answer : goal.returns-in_err-release-clause-answer
-returns-in_err-release-clause-answer g c =
+-- ---- the block is still live once its payload is copied
+
+still : (sli : ℕ) (h l : HeapState) (name new : Name) (bytes : List ℕ) → IsLive h name → l ≡ (written h new 0 bytes).heap → IsLive l name
+still sli h l name new bytes live is = subst (λ (s : HeapState). IsLive s name) (sym is) (kept_others sli h name (Put new 0 bytes) tt live)
+
+-- what gives back the block that begins where it stands releases it
+by_name : (h l : HeapState) (name : Name) → l ≡ h → IsLawful h → IsLive h name → released_by_place l name.at ≡ released h name
+by_name h l name same lawful live = ap (λ (s : HeapState). released_by_place s name.at) same ∙ ap (call_by h (released h)) (live_is_found h name lawful live)
+
+pub tag_of-tag-requires : goal.tag_of-tag-requires
+tag_of-tag-requires g c =
     let h = c.args.self.now.heap in
     let same = c.length-2.ensures.same.heap ∙ c.length.ensures.same.heap in
     let bytes = take c.min-len.result (payload_of c.length-2.new.self.heap c.args.name) in
-    let copied = c.copy.ensures.heap ∙ ap (λ (s : HeapState). (written s c.args.new 0 bytes).heap) same in
-    let done = ap (λ (s : HeapState). (released s c.args.name).answer) copied ∙ release_done g.row.SLI h c.args.name c.args.new bytes c.requires.from c.requires.tick in
-    let bad : ◌≡◌ {A = Result (Unit {0}) Refusal} (Err c.in_err-release.field-0.0) (Ok tt) = c.in_err-release.ensures.releases.answer_is ∙ done in cc
+    (omega arith, still g.row.SLI h c.copy.new.self.heap c.args.name c.args.new bytes c.requires.from (c.copy.ensures.heap ∙ ap (λ (s : HeapState). (written s c.args.new 0 bytes).heap) same))
+
+pub give_back-requires : goal.give_back-requires
+give_back-requires g c =
+    let e = c.tag_of-tag.ensures in
+    (omega arith, (subst (λ (s : HeapState). IsPlaceCheck s c.args.name.at (Ok c.tag_of-tag.result)) (sym e.same.heap) e.tag, omega (arith, c.size.ensures.value)))
+
+-- what the release of the name does
+done : (sli : ℕ) (h once twice copy last : HeapState) (name new : Name) (n a b : ℕ) → IsLive h name → once ≡ h → twice ≡ once → a ≡ length (payload_of h name) → b ≡ length (payload_of once new) → n ≡ min a b
+    → copy ≡ (written twice new 0 (take n (payload_of twice name))).heap → last ≡ copy → IsLawful copy → released_by_place last name.at ≡ released (copied h name new).heap name
+done sli h once twice copy last name new n a b live first second many room least is same lawful =
+    let held = ap (λ (s : HeapState). length (payload_of s new)) first in
+    let some : n ≡ min (length (payload_of h name)) (length (payload_of h new)) = omega (arith, held, least, many, room) in
+    let to : copy ≡ (copied h name new).heap =
+    is ∙ ap (λ (s : HeapState). (written s new 0 (take n (payload_of s name))).heap) (second ∙ first) ∙ ap (λ (m : ℕ). (written h new 0 (take m (payload_of h name))).heap) some in
+    by_name copy last name same lawful (still sli h copy name new _ live to) ∙ ap (λ (s : HeapState). released s name) to
+
+-- the release isn't refused
+pub returns-in_err-give_back-clause-answer : goal.returns-in_err-give_back-clause-answer
+returns-in_err-give_back-clause-answer g c =
+    let h = c.args.self.now.heap in
+    let bytes = take (min (length (payload_of h c.args.name)) (length (payload_of h c.args.new))) (payload_of h c.args.name) in
+    let bad : ◌≡◌ {A = Result (Unit {0}) Refusal} (Err c.in_err-give_back.field-0.0) (Ok tt) =
+    c.in_err-give_back.ensures.answer ∙ ap (λ (o : Outcome (Unit {0})). o.answer) (done g.row.SLI c.args.self.now.heap c.length.new.self.heap c.length-2.new.self.heap c.copy.new.self.heap c.tag_of-tag.new.self.heap c.args.name c.args.new c.min-len.result c.length.result c.length-2.result
+    c.requires.from c.length.ensures.same.heap c.length-2.ensures.same.heap c.length.ensures.value c.length-2.ensures.value c.min-len.ensures c.copy.ensures.heap c.tag_of-tag.ensures.same.heap c.tag_of-tag.ensures.keeps.was_lawful) ∙ release_done g.row.SLI h c.args.name c.args.new bytes c.requires.from c.requires.tick in cc
+
+pub returns-in_err-give_back-clause-heap : goal.returns-in_err-give_back-clause-heap
+returns-in_err-give_back-clause-heap g c = c.in_err-give_back.ensures.heap ∙ ap (λ (o : Outcome (Unit {0})). o.heap) (done g.row.SLI c.args.self.now.heap c.length.new.self.heap c.length-2.new.self.heap c.copy.new.self.heap c.tag_of-tag.new.self.heap c.args.name c.args.new c.min-len.result c.length.result c.length-2.result
+    c.requires.from c.length.ensures.same.heap c.length-2.ensures.same.heap c.length.ensures.value c.length-2.ensures.value c.min-len.ensures c.copy.ensures.heap c.tag_of-tag.ensures.same.heap c.tag_of-tag.ensures.keeps.was_lawful)
+
+pub returns-clause-heap : goal.returns-clause-heap
+returns-clause-heap g c = c.in_ok-give_back.ensures.heap ∙ ap (λ (o : Outcome (Unit {0})). o.heap) (done g.row.SLI c.args.self.now.heap c.length.new.self.heap c.length-2.new.self.heap c.copy.new.self.heap c.tag_of-tag.new.self.heap c.args.name c.args.new c.min-len.result c.length.result c.length-2.result
+    c.requires.from c.length.ensures.same.heap c.length-2.ensures.same.heap c.length.ensures.value c.length-2.ensures.value c.min-len.ensures c.copy.ensures.heap c.tag_of-tag.ensures.same.heap c.tag_of-tag.ensures.keeps.was_lawful)
 
 -- ---- the payloads of other blocks
 
-pub returns-in_err-release-clause-leaves : goal.returns-in_err-release-clause-leaves
-returns-in_err-release-clause-leaves g c k o p =
+pub returns-in_err-give_back-clause-leaves : goal.returns-in_err-give_back-clause-leaves
+returns-in_err-give_back-clause-leaves g c k o p =
     let h = c.args.self.now.heap in
     let name = c.args.name in
     let new = c.args.new in
     let once = c.length.ensures.same.heap in
     let same = c.length-2.ensures.same.heap ∙ once in
+    let tag = c.tag_of-tag.ensures in
     let was = subst (λ (s : HeapState). IsOthersWord s.blocks name.at k) (sym same) o in
-    let left = subst (λ (s : HeapState). IsOthersWord s.blocks name.at k) (sym c.copy.ensures.heap) (word_step c.length-2.new.self.heap name.at k was 0 (Put new 0 _) tt) in
-    c.in_err-release.ensures.releases.leaves k left
+    let last = subst (λ (s : HeapState). IsOthersWord s.blocks name.at k) (sym c.copy.ensures.heap) (word_step c.length-2.new.self.heap name.at k was 0 (Put new 0 _) tt) in
+    c.in_err-give_back.ensures.leaves k (subst (λ (s : HeapState). IsOthersWord s.blocks name.at k) (sym tag.same.heap) last)
+    ∙ tag.leaves k (any_word c.copy.new.self.heap.blocks name.at k last)
     ∙ c.copy.ensures.leaves k was (subst (λ (s : HeapState). IsOthersWord s.blocks new.at k) (sym same) p)
     ∙ c.length-2.ensures.leaves k (subst (λ (s : HeapState). IsLiveWord s.blocks k) (sym once) (any_word h.blocks name.at k o))
     ∙ c.length.ensures.leaves k (any_word h.blocks name.at k o)
@@ -38,23 +82,25 @@ returns-clause-leaves g c k o p =
     let new = c.args.new in
     let once = c.length.ensures.same.heap in
     let same = c.length-2.ensures.same.heap ∙ once in
+    let tag = c.tag_of-tag.ensures in
     let was = subst (λ (s : HeapState). IsOthersWord s.blocks name.at k) (sym same) o in
-    let left = subst (λ (s : HeapState). IsOthersWord s.blocks name.at k) (sym c.copy.ensures.heap) (word_step c.length-2.new.self.heap name.at k was 0 (Put new 0 _) tt) in
-    c.in_ok-release.ensures.releases.leaves k left
+    let last = subst (λ (s : HeapState). IsOthersWord s.blocks name.at k) (sym c.copy.ensures.heap) (word_step c.length-2.new.self.heap name.at k was 0 (Put new 0 _) tt) in
+    c.in_ok-give_back.ensures.leaves k (subst (λ (s : HeapState). IsOthersWord s.blocks name.at k) (sym tag.same.heap) last)
+    ∙ tag.leaves k (any_word c.copy.new.self.heap.blocks name.at k last)
     ∙ c.copy.ensures.leaves k was (subst (λ (s : HeapState). IsOthersWord s.blocks new.at k) (sym same) p)
     ∙ c.length-2.ensures.leaves k (subst (λ (s : HeapState). IsLiveWord s.blocks k) (sym once) (any_word h.blocks name.at k o))
     ∙ c.length.ensures.leaves k (any_word h.blocks name.at k o)
 
 -- ---- groups of eight words
 
-pub returns-in_err-release-clause-groups : goal.returns-in_err-release-clause-groups
-returns-in_err-release-clause-groups g c =
+pub returns-in_err-give_back-clause-groups : goal.returns-in_err-give_back-clause-groups
+returns-in_err-give_back-clause-groups g c =
     let held = ap (λ (s : HeapState). length (payload_of s c.args.new)) c.length.ensures.same.heap in
     more_groups (omega (arith, held, c.min-len.ensures, c.length.ensures.value, c.length-2.ensures.value))
-    (groups_then (groups_then (groups_then c.length.ensures.groups c.length-2.ensures.groups) c.copy.ensures.groups) c.release.ensures.groups)
+    (groups_then (groups_then (groups_then (groups_then c.length.ensures.groups c.length-2.ensures.groups) c.copy.ensures.groups) c.tag_of-tag.ensures.groups) c.give_back.ensures.groups)
 
 pub returns-clause-groups : goal.returns-clause-groups
 returns-clause-groups g c =
     let held = ap (λ (s : HeapState). length (payload_of s c.args.new)) c.length.ensures.same.heap in
     more_groups (omega (arith, held, c.min-len.ensures, c.length.ensures.value, c.length-2.ensures.value))
-    (groups_then (groups_then (groups_then c.length.ensures.groups c.length-2.ensures.groups) c.copy.ensures.groups) c.release.ensures.groups)
+    (groups_then (groups_then (groups_then (groups_then c.length.ensures.groups c.length-2.ensures.groups) c.copy.ensures.groups) c.tag_of-tag.ensures.groups) c.give_back.ensures.groups)

@@ -1,0 +1,94 @@
+//! C's looks at the headers that another call is about to follow.
+ghost use Rattle.std.specs.Prelude.{◌≡◌, true, false, ◌≤◌, ◌+◌, Option, MatchOption};
+ghost use Rattle.tlsf_heap.specs.Around.{FindsChoice, IsAroundCheck, around_touches, request_touches};
+ghost use Rattle.tlsf_heap.specs.Blocks.{want, IsPlace};
+ghost use Rattle.tlsf_heap.specs.Chosen.{NoneFits};
+ghost use Rattle.tlsf_heap.specs.Footprint.{LeavesLive};
+ghost use Rattle.tlsf_heap.specs.Numbers.{number_of};
+ghost use Rattle.tlsf_heap.specs.Touched.{FollowsNoPlace};
+ghost use Rattle.tlsf_heap.specs.declared.checked.Checked.{Checked};
+ghost use Rattle.tlsf_heap.specs.declared.refusal.Refusal.TheVariants.{NoFit, Stale};
+ghost use Rattle.tlsf_c.specs.Checked.{check_number_of, request_number_of, damaged_told};
+ghost use Rattle.tlsf_c.specs.Handles.{counts_in, heap_in, level_in, stored_in, touches_in, touched_in, StaysOpen, serves};
+ghost use Rattle.tlsf_c.specs.Lengths.{saturated};
+ghost use Rattle.tlsf_c.specs.Refusals.{closed, damage};
+
+use crate::call_fault::{CallFault, check_status};
+use crate::heap_slot::HeapSlot;
+use crate::lengths::saturated;
+use tlsf_heap::Refusal;
+
+/// Looks at the block that begins at place `at`, which may be any number, and at both its neighbours. A release or a resize of the
+/// block follows no other headers. A heap that only these calls have changed is always sound. Where other code has written past the
+/// end of a payload, one of the three may be damaged, and its place goes to `damaged`. The call follows no place that it has not
+/// looked at.
+///
+/// Refused as Closed where the handle isn't open; otherwise as Stale where no block begins at `at`; otherwise as Damaged.
+///
+/// ```text
+/// tlsf_check_around(&heap, name.at, &damaged) == TLSF_OK
+/// ```
+#[unsafe(no_mangle)]
+pub extern "C" fn tlsf_check_around(heap: &mut HeapSlot, at: u32, damaged: &mut u32) -> u32
+    ensures closed { serves heap.old ≡ false → (result ≡ closed) × (heap.new ≡ heap.old) }
+    ensures open { serves heap.old ≡ true → StaysOpen heap.old heap.new }
+    ensures sound { serves heap.old ≡ true → IsPlace (heap_in heap.old).blocks at → result ≡ 0 }
+    ensures stale { serves heap.old ≡ true → ¬ (IsPlace (heap_in heap.old).blocks at) → result ≡ number_of Stale }
+    ensures looks { serves heap.old ≡ true → (found : Option Checked) × IsAroundCheck (stored_in heap.old) at found × (result ≡ check_number_of found) × (damaged.new ≡ damaged_told damaged.old found) }
+    ensures no_damage { ¬ (result ≡ damage) → damaged.new ≡ damaged.old }
+    ensures heap { serves heap.old ≡ true → heap_in heap.new ≡ heap_in heap.old }
+    ensures wild { serves heap.old ≡ true → FollowsNoPlace (heap_in heap.old) at (touches_in heap.old) (touches_in heap.new) }
+    ensures counts { serves heap.old ≡ true → counts_in heap.new ≡ counts_in heap.old }
+    ensures touches { serves heap.old ≡ true → touches_in heap.new ≤ touches_in heap.old + around_touches }
+    ensures leaves { serves heap.old ≡ true → LeavesLive (heap_in heap.old).blocks (touched_in heap.old) (touched_in heap.new) }
+{
+    if !heap.serves() {
+        return CallFault::Closed.number();
+    }
+    let held = heap.inner.lend();
+    held.is_in_use = true;
+    let owned = &mut held.heap;
+    let found = owned.check_around(at);
+    held.is_in_use = false;
+    let mut next = 0;
+    check_status(found, &mut next, damaged)
+}
+
+/// Looks at the free block that a request for `len` bytes would take, and at both its neighbours. An allocate follows no other
+/// headers. A heap that only these calls have changed is always sound. Where other code has written past the end of a payload, one of
+/// the three may be damaged. Its place then goes to `damaged`.
+///
+/// Refused as Closed where the handle isn't open; otherwise as NoFit where no block fits; otherwise as Damaged.
+///
+/// ```text
+/// tlsf_check_request(&heap, 100, &damaged) == TLSF_OK
+/// ```
+#[unsafe(no_mangle)]
+pub extern "C" fn tlsf_check_request(heap: &mut HeapSlot, len: usize, damaged: &mut u32) -> u32
+    ensures closed { serves heap.old ≡ false → (result ≡ closed) × (heap.new ≡ heap.old) }
+    ensures open { serves heap.old ≡ true → StaysOpen heap.old heap.new }
+    ensures looks { serves heap.old ≡ true → (found : Option Checked)
+        × MatchOption found (NoneFits (level_in heap.old) (want (saturated len)) (heap_in heap.old).blocks) (FindsChoice (level_in heap.old) (want (saturated len)) (stored_in heap.old) (heap_in heap.old).blocks)
+        × (result ≡ request_number_of found) × (damaged.new ≡ damaged_told damaged.old found) }
+    ensures sound { serves heap.old ≡ true → ¬ (NoneFits (level_in heap.old) (want (saturated len)) (heap_in heap.old).blocks) → result ≡ 0 }
+    ensures no_damage { ¬ (result ≡ damage) → damaged.new ≡ damaged.old }
+    ensures heap { serves heap.old ≡ true → heap_in heap.new ≡ heap_in heap.old }
+    ensures counts { serves heap.old ≡ true → counts_in heap.new ≡ counts_in heap.old }
+    ensures touches { serves heap.old ≡ true → touches_in heap.new ≤ touches_in heap.old + request_touches }
+    ensures leaves { serves heap.old ≡ true → LeavesLive (heap_in heap.old).blocks (touched_in heap.old) (touched_in heap.new) }
+{
+    if !heap.serves() {
+        return CallFault::Closed.number();
+    }
+    let len = saturated(len);
+    let held = heap.inner.lend();
+    held.is_in_use = true;
+    let owned = &mut held.heap;
+    let found = owned.check_request(len);
+    held.is_in_use = false;
+    if found.is_none() {
+        return Refusal::NoFit.number();
+    }
+    let mut next = 0;
+    check_status(found, &mut next, damaged)
+}

@@ -1,0 +1,66 @@
+use Rattle.tlsf_heap.proofs.Common.{ℕ, List, sym, ap, ◌∙◌, subst, arith, Image, Shown, times, state_of, want}
+use Rattle.tlsf_heap.specs.Around.{TellsTaken, FindsChoice}
+use Rattle.tlsf_heap.proofs.lemmas.blocks.Find.{and_left}
+use Rattle.tlsf_heap.proofs.lemmas.calls.Allocate.{lawful_regions, fits_size}
+use Rattle.tlsf_heap.proofs.lemmas.calls.Kept.{keeps_read, reads_both}
+use Rattle.tlsf_heap.proofs.lemmas.calls.Leaves.{seen_live}
+use Rattle.tlsf_heap.proofs.lemmas.lists.Carved.{head_stands}
+use Rattle.tlsf_heap.proofs.lemmas.words.Around.{chosen_sound}
+use Rattle.tlsf_heap.proofs.heap.Heap.check_request.Goals as goal
+
+pub choose-requires : goal.choose-requires
+choose-requires g c = (
+  omega arith,
+  (
+    omega arith,
+    (
+      c.self.invariant.level,
+      (
+        omega (arith, c.want-words.ensures),
+        (
+          lawful_regions g.row.SLI (state_of g.row.SLI c.self.inside) c.self.invariant.lawful c.self.invariant.small,
+          c.self.invariant.listed,
+        ),
+      ),
+    ),
+  ),
+)
+
+pub returns-in_err-class-clause-keeps : goal.returns-in_err-class-clause-keeps
+returns-in_err-class-clause-keeps g c = keeps_read g.row.SLI c.self.inside c.self.view_is c.self.invariant _ c.choose.ensures.reads
+
+-- ---- the block that serves the request
+
+pub invariant_of-self-2 : goal.invariant_of-self-2
+invariant_of-self-2 g c =
+    let was = c.self.invariant in
+    let reads = reads_both (reads_both c.choose.ensures.reads c.head.ensures.reads) c.check_taken.ensures.reads in
+    record {
+      lawful = (keeps_read g.row.SLI c.self.inside c.self.view_is c.self.invariant _ reads).lawful;
+      shows = rw (reads.stored, reads.blocks) was.shows;
+      linked = rw (reads.stored, reads.lists) was.linked;
+      bits = rw (reads.marked, reads.lists) was.bits;
+      level = was.level;
+      small = omega (arith, reads.words, was.small);
+      listed = rw (reads.blocks, reads.lists) was.listed;
+    }
+
+pub returns-clause-answer : goal.returns-clause-answer
+returns-clause-answer g c =
+    let is = c.self.invariant in
+    let best = c.in_ok-class.ensures.best in
+    let n = c.want-words.result in
+    let stands = head_stands g.row.SLI best.2 (rw c.choose.ensures.reads.lists at (sym c.in_ok-at.ensures.place)) in
+    let regions = lawful_regions g.row.SLI (state_of g.row.SLI c.self.inside) is.lawful is.small in
+    let tells = subst (λ (m : Image). TellsTaken m c.in_ok-at.at n c.check_taken.result) (c.head.ensures.reads.stored ∙ c.choose.ensures.reads.stored) c.check_taken.ensures.answer in
+    let found = chosen_sound is.shows g.row.SLI is.listed is.linked is.lawful.apart regions best.3 stands (and_left _ _ best.3.fit) (fits_size g.row.SLI is.level n _ best.3.fit) c.check_taken.result tells in
+    subst (λ (s : Shown). FindsChoice g.row.SLI (want c.args.len) s.stored s.heap.blocks c.check_taken.result) c.self.view_is
+    (subst (λ (k : ℕ). FindsChoice g.row.SLI k c.self.inside.region.stored c.self.inside.region.blocks c.check_taken.result) c.want-words.ensures found)
+
+pub returns-clause-keeps : goal.returns-clause-keeps
+returns-clause-keeps g c = keeps_read g.row.SLI c.self.inside c.self.view_is c.self.invariant _ (reads_both (reads_both c.choose.ensures.reads c.head.ensures.reads) c.check_taken.ensures.reads)
+
+pub returns-clause-leaves : goal.returns-clause-leaves
+returns-clause-leaves g c =
+    seen_live g.row.SLI c.self.inside c.self.view_is _ (λ k live. (rw (c.head.ensures.reads.blocks ∙ c.choose.ensures.reads.blocks) at c.check_taken.ensures.touched) k live
+    ∙ ap (λ (l : List ℕ). times l k) (c.head.ensures.untouched ∙ c.choose.ensures.untouched))

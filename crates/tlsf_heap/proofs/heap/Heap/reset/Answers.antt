@@ -1,0 +1,69 @@
+use Rattle.tlsf_heap.proofs.Common.{[], refl, sym, ap, ◌∙◌, subst, arith, class_of, Outcome, opened, list_in, Shown, InGroups}
+use Rattle.tlsf_words.proofs.Touching.{no_groups, more_groups}
+use Rattle.tlsf_heap.proofs.lemmas.blocks.Lawful.{opened_lawful}
+use Rattle.tlsf_heap.proofs.lemmas.calls.Kept.{keeps_same, keeps_stored}
+use Rattle.tlsf_heap.proofs.lemmas.calls.Leaves.{seen_live}
+use Rattle.tlsf_heap.proofs.lemmas.calls.Reset.{reset_worn, reset_done}
+use Rattle.tlsf_heap.proofs.lemmas.lists.FreeLists.{listed_first}
+use Rattle.tlsf_heap.proofs.lemmas.words.Groups.{first_words}
+use Rattle.tlsf_heap.proofs.heap.Heap.reset.Goals as goal
+
+-- ---- the tick is at its last value
+
+pub returns-then-self-clause-resets : goal.returns-then-self-clause-resets
+returns-then-self-clause-resets g c =
+    let late = reset_worn c.args.self.now.heap (sym (ap (λ (s : Shown). s.heap.tick) c.self.view_is) ∙ c.if-self.true) in
+    record {
+      answer_is = sym (ap (λ (o : Outcome (Unit {0})). o.answer) late);
+      heap = sym (ap (λ (o : Outcome (Unit {0})). o.heap) late);
+      touches = omega arith;
+      rise = omega arith;
+      leaves = λ k live. refl;
+    }
+
+pub returns-then-self-clause-keeps : goal.returns-then-self-clause-keeps
+returns-then-self-clause-keeps g c = keeps_same g.row.SLI c.self.inside c.self.view_is c.self.invariant
+
+pub returns-then-self-clause-groups : goal.returns-then-self-clause-groups
+returns-then-self-clause-groups g c = more_groups (omega arith) (no_groups refl)
+
+-- ---- all blocks are back
+
+pub reset-requires : goal.reset-requires
+reset-requires g c = (omega arith, (c.self.invariant.level, c.self.invariant.small))
+
+pub invariant_of-self : goal.invariant_of-self
+invariant_of-self g c =
+    let e = c.reset.ensures in
+    let words = c.self.inside.region.words in
+    record {
+      lawful = rw (e.edits.words, e.blocks) (opened_lawful c.self.inside.id words c.self.inside.tick e.least);
+      shows = e.edits.shows;
+      linked = e.edits.linked;
+      bits = e.edits.bits;
+      level = c.self.invariant.level;
+      small = omega (arith, e.edits.words, c.self.invariant.small);
+      listed = rw e.blocks (listed_first g.row.SLI words c.self.inside.tick (class_of g.row.SLI words) (λ class. []) (list_in c.reset.new.self.lists) (λ class. refl) refl e.list e.others);
+    }
+
+pub returns-clause-resets : goal.returns-clause-resets
+returns-clause-resets g c =
+    let e = c.reset.ensures in
+    let h = c.args.self.now.heap in
+    let tick = ap (λ (s : Shown). s.heap.tick) c.self.view_is in
+    let done = reset_done h (λ late. c.if-self.false (tick ∙ late)) in
+    let left = ap (λ (s : Shown). opened s.heap.id s.heap.words s.heap.tick) c.self.view_is ∙ sym (ap (λ (o : Outcome (Unit {0})). o.heap) done) in
+    let touches = ap (λ (s : Shown). s.touches) c.self.view_is in
+    record {
+      answer_is = sym (ap (λ (o : Outcome (Unit {0})). o.answer) done);
+      heap = rw (e.edits.words, e.blocks) left;
+      touches = omega (arith, e.edits.touches, touches, ap (λ (s : Shown). s.heap.words) c.self.view_is);
+      rise = omega (arith, e.edits.rise, touches);
+      leaves = seen_live g.row.SLI c.self.inside c.self.view_is _ (λ k live. e.touched k (omega (arith, live.2.behind)));
+    }
+
+pub returns-clause-keeps : goal.returns-clause-keeps
+returns-clause-keeps g c = keeps_stored g.row.SLI c.self.inside c.self.view_is c.self.invariant _ (invariant_of-self g c) c.reset.ensures.edits.rise c.reset.ensures.edits.stays
+
+pub returns-clause-groups : goal.returns-clause-groups
+returns-clause-groups g c = subst (λ (s : Shown). InGroups 1 s.touched c.reset.new.self.touched) c.self.view_is (first_words c.reset.ensures.touched)

@@ -1,0 +1,40 @@
+ghost use Rattle.std.specs.Prelude.{◌+◌, ◌≤◌, MatchOption};
+ghost use Rattle.tlsf_heap.specs.Around.{IsAroundCheck, around_touches};
+ghost use Rattle.tlsf_heap.specs.Blocks.{IsPlace};
+ghost use Rattle.tlsf_heap.specs.Checks.{FindsSound};
+ghost use Rattle.tlsf_heap.specs.Footprint.{LeavesLive};
+ghost use Rattle.tlsf_heap.specs.Kept.{IsAsBefore, Keeps};
+ghost use Rattle.tlsf_heap.specs.Touched.{FollowsNoPlace};
+
+use super::Heap;
+use crate::checked::Checked;
+
+impl<const SLI: u32> Heap<SLI> {
+    /// Looks at the block that begins at a place, which may be any number, and at both its neighbours; `None` where none begins
+    /// there. These are the headers that a release or a resize of the block is about to follow. A heap that only these calls have
+    /// changed is never called damaged.
+    ///
+    /// Where other code has written past the end of a payload, the answer is that of [`crate::check_around`] on words that may hold
+    /// anything. It follows no place that it has not looked at. Takes no memory.
+    ///
+    /// ```text
+    /// let name = heap.allocate(8)?;                    // of a new heap of 64 words: 4 of them
+    /// heap.check_around(name.at)                       // Some(Checked::Sound { next: 4 })
+    /// heap.check_around(5) == None
+    /// ```
+    pub fn check_around(&mut self, at: u32) -> Option<Checked>
+        ensures answer { MatchOption result (¬ (IsPlace self.old.heap.blocks at)) (FindsSound self.old.heap.blocks at 1) }
+
+        // The law on words that hold anything, of these.
+        ensures looks { IsAroundCheck self.old.stored at result }
+        ensures same { IsAsBefore self.old self.new }
+        ensures keeps { Keeps SLI self.old self.new }
+        ensures touches { self.new.touches ≤ self.old.touches + around_touches }
+        ensures leaves { LeavesLive self.old.heap.blocks self.old.touched self.new.touched }
+
+        // Not even a start bit is read unless the place lies in the region, and no word unless a block begins there.
+        ensures wild { FollowsNoPlace self.old.heap at self.old.touches self.new.touches }
+    {
+        self.region.check_around(at)
+    }
+}

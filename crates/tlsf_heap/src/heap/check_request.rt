@@ -1,0 +1,37 @@
+ghost use Rattle.std.specs.Prelude.{◌+◌, ◌≤◌, MatchOption};
+ghost use Rattle.tlsf_heap.specs.Around.{FindsChoice, request_touches};
+ghost use Rattle.tlsf_heap.specs.Blocks;
+ghost use Rattle.tlsf_heap.specs.Chosen.{NoneFits};
+ghost use Rattle.tlsf_heap.specs.Footprint.{LeavesLive};
+ghost use Rattle.tlsf_heap.specs.Kept.{IsAsBefore, Keeps};
+
+use super::{Heap, want};
+use crate::checked::Checked;
+use crate::fitting::choose;
+
+impl<const SLI: u32> Heap<SLI> {
+    /// Looks at the free block that a request for `len` bytes would take, and at both its neighbours; `None` where no block fits. These
+    /// are the headers and the links that an allocate is about to follow. The block is damaged where it isn't free, or has fewer
+    /// words than the request wants. A heap that only these calls have changed is never called damaged.
+    ///
+    /// Where other code has written into a free block, the answer is that of [`crate::check_taken`] on words that may hold anything.
+    /// Takes no memory.
+    ///
+    /// ```text
+    /// heap.check_request(8)                            // of a new heap of 64 words: Some(Checked::Sound { next: 0 })
+    /// heap.check_request(1000) == None
+    /// ```
+    pub fn check_request(&mut self, len: u32) -> Option<Checked>
+        // The law on words that hold anything is one of these, by the place of the block that serves the request.
+        ensures answer { MatchOption result (NoneFits SLI (Blocks.want len) self.old.heap.blocks) (FindsChoice SLI (Blocks.want len) self.old.stored self.old.heap.blocks) }
+        ensures same { IsAsBefore self.old self.new }
+        ensures keeps { Keeps SLI self.old self.new }
+        ensures touches { self.new.touches ≤ self.old.touches + request_touches }
+        ensures leaves { LeavesLive self.old.heap.blocks self.old.touched self.new.touched }
+    {
+        let words = want(len);
+        let class = choose(&mut self.region, words)?;
+        let at = self.region.head(class)?;
+        Some(self.region.check_taken(at, words))
+    }
+}

@@ -1,0 +1,132 @@
+// The calls of peachanchor.h as members of tlsf::heap, and that what looks takes a heap, a block, an arena or pools that may not be changed.
+#include "tlsf.hpp"
+
+#include <cstdint>
+#include <cstdio>
+#include <cstdlib>
+#include <cstring>
+
+namespace {
+
+void wants(const char *what, std::uint64_t got, std::uint64_t wanted) {
+    if (got == wanted) return;
+    std::printf("calls: %s: %llu, and not %llu\n", what, static_cast<unsigned long long>(got), static_cast<unsigned long long>(wanted));
+    std::exit(1);
+}
+
+// Further than 32 bits lead: cut to them it would be 4.
+constexpr std::size_t far = (std::size_t(1) << 32) + 4;
+
+void by_name(tlsf::heap &heap) {
+    const tlsf::heap &looked_at = heap;
+    const std::uint8_t in[] = {1, 2, 3, 4, 5};
+    std::uint8_t out[] = {9, 9, 9, 9, 9, 9};
+    std::uint32_t len = 0;
+    tlsf_name name{};
+    wants("allocate", heap.allocate(10, name), TLSF_OK);
+    wants("write", heap.write(name, 3, in, 5), TLSF_OK);
+    wants("read", looked_at.read(name, 2, out, 6), TLSF_OK);
+    wants("what was written", std::uint64_t(std::memcmp(out, "\0\1\2\3\4\5", 6)), 0);
+    wants("in place", looked_at.payload(name, &len) && static_cast<const std::uint8_t *>(looked_at.payload(name))[7] == 5, 1);
+    wants("its bytes", len, 10);
+    wants("write past the end", heap.write(name, 6, in, 5), TLSF_RANGE);
+    wants("read past the end", looked_at.read(name, 5, out, 6), TLSF_RANGE);
+    wants("write far past the end", heap.write(name, far, in, 5), TLSF_RANGE);
+    wants("read far past the end", looked_at.read(name, far, out, 6), TLSF_RANGE);
+    wants("release", heap.release(name), TLSF_OK);
+    wants("write where no block is", heap.write(name, 0, in, 1), TLSF_STALE);
+    wants("read where no block is", looked_at.read(name, 0, out, 1), TLSF_STALE);
+}
+
+void by_pointer(tlsf::heap &heap) {
+    const tlsf::heap &looked_at = heap;
+    void *volatile const p = heap.malloc(100); // else the compiler warns of what is freed twice
+    wants("malloc", p != nullptr && reinterpret_cast<std::uintptr_t>(p) % 16 == 0, 1);
+    wants("usable_size", looked_at.usable_size(p), 104);
+    wants("words in use", looked_at.counts().words, 16);
+    wants("refused", looked_at.counts().refused, 0);
+    wants("too much", heap.malloc(1 << 20) == nullptr && heap.malloc(far) == nullptr, 1);
+    wants("one that counts", looked_at.counts().refused, 1);
+    wants("free", heap.free(p), TLSF_OK);
+    wants("twice", heap.free(p), TLSF_STALE);
+    wants("null", heap.free(nullptr), TLSF_OK);
+    wants("usable_size of none", looked_at.usable_size(p), 0);
+    wants("most words", looked_at.counts().most_words, 16);
+}
+
+// The header behind a block is overrun, told, and made whole again.
+void checked(tlsf::heap &heap) {
+    const tlsf::heap &looked_at = heap;
+    std::uint32_t next = 9, damaged = 9;
+    tlsf::block first = heap.make(8), second = heap.make(8);
+    wants("check of two", looked_at.check(0, 2, next, damaged), TLSF_OK);
+    wants("on to the free one", next, second.name().at + 4);
+    wants("check of all", looked_at.check(next, 9, next, damaged), TLSF_OK);
+    wants("the last", next, 0);
+    std::uint8_t *const past = static_cast<std::uint8_t *>(first.data()) + 8;
+    const std::uint8_t had = *past;
+    *past = static_cast<std::uint8_t>(~had);
+    wants("check after an overrun", looked_at.check(0, 9, next, damaged), TLSF_DAMAGED);
+    wants("where", damaged, second.name().at);
+    *past = had;
+    wants("check where no block begins", looked_at.check(1, 1, next, damaged), TLSF_STALE);
+}
+
+void looks(const tlsf::heap &heap, const tlsf::block &block, const tlsf::offsets &arena, const tlsf::pools &pools, const tlsf_name &name) {
+    std::uint8_t out = 9;
+    wants("report", heap.report().live_blocks, 1);
+    wants("a block's bytes", block.size(), 5);
+    wants("its payload", *static_cast<const std::uint8_t *>(block.data()), 0);
+    wants("spans", arena.report().spans, 1);
+    wants("a part of pools", pools.report(0)->live_blocks, 1);
+    wants("a byte there", pools.read(name, 3, &out, 1), TLSF_OK);
+    wants("it", out, 7);
+    wants("far past the end", pools.read(name, far, &out, 1), TLSF_RANGE);
+}
+
+void looked_at(tlsf::heap &heap) {
+    const tlsf_kind row{2, 16};
+    const std::uint8_t in = 7;
+    tlsf_name name{};
+    tlsf::pools pools(tlsf::level::four, 7, &row, 1);
+    tlsf::offsets arena(tlsf::level::four, 8, 16, 64);
+    const tlsf::block block = heap.make(5);
+    wants("a block of pools", pools.allocate(16, name), TLSF_OK);
+    wants("a byte of it", pools.write(name, 3, &in, 1), TLSF_OK);
+    wants("far past its end", pools.write(name, far, &in, 1), TLSF_RANGE);
+    wants("a span", arena.allocate(100).has_value(), 1);
+    looks(heap, block, arena, pools, name);
+}
+
+void closed() {
+    tlsf::heap heap;
+    const tlsf::heap &looked_at = heap;
+    std::uint8_t byte = 9;
+    std::uint32_t next = 9, damaged = 9;
+    const tlsf_name name{};
+    wants("write", heap.write(name, 0, &byte, 1), TLSF_IS_CLOSED);
+    wants("read", looked_at.read(name, 0, &byte, 1), TLSF_IS_CLOSED);
+    wants("malloc", heap.malloc(8) == nullptr, 1);
+    wants("free", heap.free(&byte), TLSF_IS_CLOSED);
+    wants("usable_size", looked_at.usable_size(&byte), 0);
+    wants("counts", looked_at.counts().most_words, 0);
+    wants("report", looked_at.report().free_words, 0);
+    wants("check", looked_at.check(0, 1, next, damaged), TLSF_IS_CLOSED);
+    wants("payload", looked_at.payload(name) == nullptr, 1);
+    wants("nothing is written", byte == 9 && next == 9 && damaged == 9, 1);
+}
+
+} // namespace
+
+int main() {
+    for (const tlsf::level level : {tlsf::level::four, tlsf::level::five}) {
+        tlsf::heap heap(level, 1, 1 << 10);
+        by_pointer(heap);
+        by_name(heap);
+        checked(heap);
+        looked_at(heap);
+        wants("all is back", heap.report().live_blocks, 0);
+    }
+    closed();
+    return 0;
+}
