@@ -20,6 +20,8 @@ struct tlsf_post_end;
 struct tlsf_take_end;
 struct tlsf_queue;
 struct tlsf_offsets;
+struct tlsf_pools;
+struct tlsf_kind;
 uint32_t tlsf_open(struct tlsf_heap *heap, uint32_t level, uint32_t number, uint32_t words);
 uint32_t tlsf_lane_open(struct tlsf_post_end *post, struct tlsf_take_end *take, uint32_t capacity);
 size_t tlsf_bytes(uint32_t level, uint32_t words);
@@ -36,6 +38,11 @@ uint32_t tlsf_offsets_open(struct tlsf_offsets *offsets, uint32_t level, uint32_
 size_t tlsf_offsets_bytes(uint32_t level, uint32_t units);
 uint32_t tlsf_offsets_open_in(struct tlsf_offsets *offsets, uint32_t level, uint32_t number, uint32_t unit, uint32_t units, void *memory,
                               size_t bytes);
+uint32_t tlsf_pools_open(struct tlsf_pools *pools, uint32_t level, uint32_t number, const struct tlsf_kind *rows, size_t n);
+uint32_t tlsf_pools_words(uint32_t level, const struct tlsf_kind *rows, size_t n, uint64_t *words, uint32_t *heaps);
+size_t tlsf_pools_bytes(uint32_t level, const struct tlsf_kind *rows, size_t n);
+uint32_t tlsf_pools_open_in(struct tlsf_pools *pools, uint32_t level, uint32_t number, const struct tlsf_kind *rows, size_t n, void *memory,
+                            size_t bytes);
 
 /* What the proved code calls: functions of the toolchain's C library, rattle_alloc, _dealloc and _realloc, by names of this library's.
  * The proofs rest on their contracts, which its `Global` passes on:
@@ -44,7 +51,7 @@ uint32_t tlsf_offsets_open_in(struct tlsf_offsets *offsets, uint32_t level, uint
  *   pointer that isn't null, to which nothing is written.
  * - dealloc is called once for each such piece, with its `at`.
  * - realloc is asked to make a piece one of `bytes`, whose first `kept` stay. It may move it; where it answers 0, all is as before.
- *   Pools ask for it when they are opened, since their heaps come one by one. The other vectors have their room from the beginning.
+ *   No vector does today: each has its room from the beginning.
  * The toolchain has them for x86-64 alone, over malloc and free: for 0 bytes it asks malloc for as many as the alignment has.
  * Those here are for each processor, since they are C. They refuse an alignment of 16 and what is longer than MOST_BYTES, and
  * what they give lies behind a mark, so only dealloc can give it back. A request for 0 bytes is one for the mark. C answers the
@@ -112,8 +119,12 @@ enum {
     MOST_NAMES = 1024,    /* of a lane or a queue, which has no more posters */
     MOST_BYTES = 1 << 28, /* no heap takes as many */
     NUMBERS = 8,          /* that pools take, and so are given at once */
-    WORN = 2,             /* three numbers of enum tlsf_answer (tools/check answers) */
+    POOL = 2784,          /* bytes of a heap of pools, with its table, and */
+    PIECES = 80,          /* of what its four pieces have at most beside what lies in them: marks, and the ends of bits */
+    ROW = 12,             /* and of each row */
+    WORN = 2,             /* four numbers of enum tlsf_answer (tools/check answers) */
     BAD_SIZE = 5,
+    NO_MEMORY = 6,
     BAD_MEMORY = 39
 };
 
@@ -368,6 +379,25 @@ uint32_t tlsf_offsets_open_in(struct tlsf_offsets *offsets, uint32_t level, uint
     if (units <= most_words(level) && !has(memory, bytes, 16, arena_bytes(units))) units = 0;
     begin_in(memory, bytes, 16);
     return end_in(tlsf_offsets_open(offsets, level, number, unit, units), memory, bytes);
+}
+
+/* The bytes of pools, from a multiple of 16 on: of their list, of the heaps in it with their words, and of their own fields. */
+static size_t pools_bytes(size_t words, size_t heaps, size_t rows) {
+    return with_mark(POOL * heaps, 16) + 8 * words + words / 64 * 8 + PIECES * heaps + ROW * rows + MARK + ARENA;
+}
+
+size_t tlsf_pools_bytes(uint32_t level, const struct tlsf_kind *rows, size_t n) {
+    uint64_t words = 0;
+    uint32_t heaps = 0;
+    return tlsf_pools_words(level, rows, n, &words, &heaps) ? 0 : 15 + pools_bytes((size_t)words, heaps, n);
+}
+
+uint32_t tlsf_pools_open_in(struct tlsf_pools *pools, uint32_t level, uint32_t number, const struct tlsf_kind *rows, size_t n, void *memory,
+                            size_t bytes) {
+    uint32_t answer;
+    begin_in(memory, bytes, 16);
+    answer = tlsf_pools_open(pools, level, number, rows, n);
+    return end_in(answer == NO_MEMORY ? BAD_SIZE : answer, memory, bytes);
 }
 
 /* --- Numbers of heaps ---------------------------------------------------------------------------------------------- */

@@ -20,8 +20,8 @@
  *   for the `damaged` of a check. It changes nothing but what tlsf_counts tells; only one that is made of several proved calls
  *   may take ticks besides. The compiler warns where an answer is ignored, except for calls that close, free, release or drain.
  * Time: only tlsf_report, tlsf_offsets_report, tlsf_pools_report, tlsf_check, tlsf_reset, tlsf_drain, tlsf_queue_drain, tlsf_put_all and
- *   tlsf_take_all, opening, closing a queue,
- *   and what fills or copies payload run a loop. Only opening takes memory, and only closing gives it back. No call waits, locks or
+ *   tlsf_take_all, opening, tlsf_pools_words and tlsf_pools_bytes, closing a queue, what finds the part of a pointer into pools, eight at
+ *   most, and what fills or copies payload run a loop. Only opening takes memory, and only closing gives it back. No call waits, locks or
  *   makes a system call, except as malloc and free do.
  *
  * WHAT THE CALLER OWES. Nothing checks these rules, and the proofs rest on them.
@@ -37,7 +37,7 @@
  *   5. A signal handler makes no call that opens or closes, and it returns. Its other calls are for handles of the thread that
  *      it interrupts: on a handle in use they are refused as TLSF_IS_CLOSED. In the forked child of a process with threads
  *      no call is made.
- *   6. Memory that a heap, a lane, a queue or an arena of offsets is opened in is its own until it is closed. malloc and free
+ *   6. Memory that a heap, a lane, a queue, an arena of offsets or pools are opened in is their own until it is closed. malloc and free
  *      belong to one allocator, which aligns memory as C's does.
  *
  * A pointer has no serial, as a name has. So a second free of it, or a use after it was freed, is not seen once its place was
@@ -50,7 +50,7 @@
 
 /* The version of this header, as of the program and of the packages. */
 #define TLSF_VERSION_MAJOR 0
-#define TLSF_VERSION_MINOR 16
+#define TLSF_VERSION_MINOR 17
 #define TLSF_VERSION_PATCH 0
 
 #include <stdbool.h>
@@ -188,7 +188,8 @@ enum tlsf_answer {
     TLSF_OTHER_KIND = 40   /* the handle holds something of another kind, as a post end's does that was cast to a take end's */
 };
 
-/* Handles. Their fields are the library's own. */
+/* Handles. Their fields are the library's own. Calls that open or close write them, and of the others only the one that notes the
+ * first block by name of an odd number of words. */
 struct tlsf_heap {
     void *held;
     bool is_open;
@@ -626,12 +627,13 @@ TLSF_ANSWER uint32_t tlsf_offsets_report(struct tlsf_offsets *offsets, struct tl
  * A table says how many blocks of each kind are held at once, at most, as `tlsf replay --kinds` tells of a recording. It is cut
  * into at most eight parts, so that heaps for them have the fewest words together. A request goes to the heap of the first part that
  * has a row long enough, and counts for that row. While no row has more blocks than it may, each request is served, in whatever
- * order they come. Payloads are read and written by name.
+ * order they come. A block is known by its name or by its pointer, as a heap's.
  *
- *     static const struct tlsf_kind rows[] = {{2000, 64}, {1, 65536}};
+ *     static const struct tlsf_kind rows[] = {{2000, 72}, {1, 65544}};
  *     struct tlsf_pools pools = TLSF_POOLS_CLOSED;
- *     if (tlsf_pools_open(&pools, 4, 1, rows, 2)) return 1;                          // heaps of 22,000 and 8,704 words
+ *     if (tlsf_pools_open(&pools, 4, 1, rows, 2)) return 1;                          // heaps of 24,000 and 8,704 words
  *     if (tlsf_pools_allocate(&pools, 64, &name)) return 1;
+ *     node = tlsf_pools_malloc(&pools, sizeof *node);
  */
 
 /* Opens pools for `n` rows, 64 at most, in a closed handle. The rows rise in `len`, so that requests count for each. Their heaps are of
@@ -641,6 +643,20 @@ TLSF_ANSWER uint32_t tlsf_offsets_report(struct tlsf_offsets *offsets, struct tl
  * where numbers would go past 2^32, or where no region is large enough, TLSF_NO_MEMORY. */
 TLSF_ANSWER uint32_t tlsf_pools_open(struct tlsf_pools *pools, uint32_t level, uint32_t number, const struct tlsf_kind *rows,
                                      size_t n) TLSF_NOEXCEPT;
+
+/* As tlsf_pools_open, in memory of the caller's as tlsf_open_in has it. It is the caller's again once the pools are closed.
+ * Refused, in this order: TLSF_IN_USE, TLSF_BAD_LEVEL, TLSF_BAD_MEMORY, TLSF_BAD_SIZE as tlsf_pools_open, and where `bytes` are too few. */
+TLSF_ANSWER uint32_t tlsf_pools_open_in(struct tlsf_pools *pools, uint32_t level, uint32_t number, const struct tlsf_kind *rows, size_t n,
+                                        void *memory, size_t bytes) TLSF_NOEXCEPT;
+
+/* Bytes in which tlsf_pools_open_in finds room for these rows, at any alignment of `memory`: at most 16, and 60 a heap, more than it takes.
+ * It is 0 where tlsf_pools_words is refused. It tries each way to cut the table: write the answer down. */
+size_t tlsf_pools_bytes(uint32_t level, const struct tlsf_kind *rows, size_t n) TLSF_NOEXCEPT;
+
+/* The words of all heaps together that tlsf_pools_open would open go to `words`, and how many heaps these are to `heaps`.
+ * Refused: TLSF_BAD_LEVEL, TLSF_BAD_SIZE as tlsf_pools_open. */
+TLSF_ANSWER uint32_t tlsf_pools_words(uint32_t level, const struct tlsf_kind *rows, size_t n, uint64_t *words,
+                                      uint32_t *heaps) TLSF_NOEXCEPT;
 
 /* Closes all heaps, with all blocks. Refused: TLSF_IS_CLOSED. */
 uint32_t tlsf_pools_close(struct tlsf_pools *pools) TLSF_NOEXCEPT;
@@ -660,6 +676,43 @@ TLSF_ANSWER TLSF_BY_VALUE uint32_t tlsf_pools_read(struct tlsf_pools *pools, str
 /* Sums over all blocks of the heap of one part, by its number in the order of the table: a walk from 0 on meets all.
  * Refused: TLSF_IS_CLOSED, TLSF_STALE where there is no such part. */
 TLSF_ANSWER uint32_t tlsf_pools_report(struct tlsf_pools *pools, uint32_t part, struct tlsf_heap_report *report) TLSF_NOEXCEPT;
+
+/* Blocks of pools by pointer. Each call is C over several proved ones, at most eight of them to find the part. `p` is any pointer: it is
+ * followed only where a live block's payload begins there. What tlsf_pools_malloc gives has all bytes of the row for which it counts.
+ * Each block is aligned to 16 where each row's `len` is a tlsf_rounded one, as those of a recording by pointer are, and to 8 otherwise.
+ *
+ * tlsf_pools_free frees a block: TLSF_OK, and TLSF_STALE where no live block's payload begins at `p`. A null pointer is TLSF_OK, with no
+ * call. Refused besides: TLSF_IS_CLOSED, TLSF_WORN. */
+TLSF_CALL uint32_t tlsf_pools_free(struct tlsf_pools *pools, void *p) TLSF_NOEXCEPT;
+
+/* At least `len` bytes, all zero; null where it is refused, as tlsf_pools_allocate is. */
+TLSF_ANSWER TLSF_CALL void *tlsf_pools_malloc(struct tlsf_pools *pools, size_t len) TLSF_NOEXCEPT TLSF_OF_BYTES(2)
+    TLSF_FREED_BY(tlsf_pools_free, 2);
+
+/* Gives what `p` points to at least `len` bytes. Where these count for the row that the block counts for, and it has so many, it stays as
+ * it is. Otherwise what it had is copied to a block that tlsf_pools_malloc gives, up to the smaller length, bytes after that are zero, and
+ * the old block is freed: until then both count. A null pointer is tlsf_pools_malloc's; with a `len` of 0 it is freed, and the answer is
+ * null. Where it is refused the answer is null, and the block is as before. */
+TLSF_ANSWER TLSF_CALL void *tlsf_pools_realloc(struct tlsf_pools *pools, void *p, size_t len) TLSF_NOEXCEPT TLSF_OF_BYTES(3)
+    TLSF_FREED_BY(tlsf_pools_free, 2);
+
+/* The bytes from `p` on that the program may use: 0 where no live block's payload begins there. */
+TLSF_CALL size_t tlsf_pools_usable_size(struct tlsf_pools *pools, const void *p) TLSF_NOEXCEPT;
+
+/* The name of the block whose payload begins at `p` goes to `name`. Refused: TLSF_IS_CLOSED, TLSF_STALE. */
+TLSF_ANSWER TLSF_CALL uint32_t tlsf_pools_name_at(struct tlsf_pools *pools, const void *p, struct tlsf_name *name) TLSF_NOEXCEPT;
+
+/* Of what these are made. tlsf_pools_part tells of the heap of one part: the address of its region's first word goes to `base`, and the
+ * number that the names of its blocks have to `number`. Refused: TLSF_IS_CLOSED, TLSF_STALE where there is no such part. */
+TLSF_ANSWER uint32_t tlsf_pools_part(struct tlsf_pools *pools, uint32_t part, uint64_t **base, uint32_t *number) TLSF_NOEXCEPT;
+
+/* As tlsf_place, of the heap of a part. Refused: TLSF_IS_CLOSED, TLSF_STALE, also where there is no such part. */
+TLSF_ANSWER uint32_t tlsf_pools_place(struct tlsf_pools *pools, uint32_t part, uint32_t at, struct tlsf_name *name,
+                                      uint32_t *len) TLSF_NOEXCEPT;
+
+/* The bytes of the row for which a request of `len` bytes counts go to `row_len`: the first that is long enough.
+ * Refused: TLSF_IS_CLOSED, TLSF_BAD_SIZE where no row is. */
+TLSF_ANSWER uint32_t tlsf_pools_row(struct tlsf_pools *pools, size_t len, uint32_t *row_len) TLSF_NOEXCEPT;
 
 /* --- What a heap holds --------------------------------------------------------------------------------------------- */
 

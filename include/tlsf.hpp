@@ -3,9 +3,9 @@
 // and tlsf_home.hpp objects whose std::unique_ptr may die in any thread: each needs headers that cost a compiler more than all this.
 //
 // Header-only; libpeachanchor.a is all that is linked. What the caller owes is said in peachanchor.h. Constructors, heap::for_blocks and
-// queue::open_poster throw std::bad_alloc where malloc says no. Constructors and for_blocks throw bad_size where no region, lane,
-// queue or arena is of that size. allocator throws std::bad_alloc where there is no room. Everything else is noexcept. Where
-// exceptions are off, what would throw aborts.
+// queue::open_poster throw std::bad_alloc where malloc says no, and next_number where all were given. Constructors and for_blocks throw
+// bad_size where no region, lane, queue or arena is of that size. allocator throws std::bad_alloc where there is no room. Everything
+// else is noexcept. Where exceptions are off, what would throw aborts.
 // A heap without a number takes that of tlsf_next_number.
 #ifndef TLSF_HPP
 #define TLSF_HPP
@@ -136,8 +136,8 @@ public:
     friend bool operator==(const heap_reference &a, const heap_reference &b) noexcept { return a.state_ == b.state_; }
 };
 
-// The end of a lane that is closed at the end of its life. It lies still, whoever holds it, on cache lines that the other end
-// doesn't write.
+// The end of a lane that is closed at the end of its life. It lies still, whoever holds it, on cache lines where nothing else is:
+// what other threads write beside it would take these lines from its calls.
 template <typename End, std::uint32_t (*Close)(End *)>
 struct alignas(128) end_state {
     End raw{};

@@ -6,10 +6,10 @@
  *     static void on_refusal(struct tlsf_heap *heap, const char *call, uint32_t answer, uint32_t at, void *context) { abort(); }
  *     tlsf_on_refusal(&heap, on_refusal, NULL);
  *
- * A call that would follow a damaged header is refused as TLSF_DAMAGED, or answers null, and changes nothing. So an overrun or a
- * write after a free ends in an answer, and not in a crash or a loop. A release and a resize look at the block and both its
- * neighbours by tlsf_check_around, and an allocate at the block that it would take by tlsf_check_request. A call that may move a
- * block looks at both. No block takes more room.
+ * A call that would follow a damaged header is refused as TLSF_DAMAGED, or answers null, and changes nothing. So a header that an
+ * overrun or a write after a free has changed ends in an answer, and not in a crash or a loop. A release and a resize look at the
+ * block and both its neighbours by tlsf_check_around, and an allocate at the block that it would take by tlsf_check_request. A call
+ * that may move a block looks at both. No block takes more room.
  *
  * The program's own function is told of each TLSF_DAMAGED, TLSF_STALE and TLSF_FOREIGN of a call that gives, takes back or resizes.
  * So it is told of a double free too, where the answer is dropped, as C++ containers do. Offsets and pools aren't looked at. What the
@@ -22,7 +22,8 @@ extern "C" {
 #endif
 
 /* The program's function: the heap, the call of peachanchor.h that was refused, its answer, and a place. That is the place of the damaged
- * block, or else the one that was given. It makes no call on the heap, but it may end the process. */
+ * block, or else the one that was given. Of tlsf_free the call is tlsf_release_place, and of each call by pointer the one that it makes.
+ * The function makes no call on the heap, but it may end the process. */
 typedef void tlsf_refusal_function(struct tlsf_heap *heap, const char *call, uint32_t answer, uint32_t at, void *context);
 
 enum { TLSF_REFUSAL_HEAPS = 64 };

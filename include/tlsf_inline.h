@@ -229,6 +229,69 @@ TLSF_CALL TLSF_BY_VALUE void *tlsf_payload(struct tlsf_heap *heap, struct tlsf_n
     return base + name.at + 3;
 }
 
+/* --- Pools by pointer: a part has the base and the number that a heap's handle has ------------------------------------------ */
+
+/* The part whose region begins last in front of `p`, or the first one. Its address goes to `own`, which tells the place. */
+TLSF_BODY uint32_t tlsf_pools_part_of(struct tlsf_pools *pools, const void *p, struct tlsf_heap *own) TLSF_NOEXCEPT {
+    uint32_t part = 0, found = 0, number = 0;
+    uint64_t *base = TLSF_NULL;
+    for (; tlsf_pools_part(pools, part, &base, &number) == TLSF_OK; part++) {
+        if (own->base != TLSF_NULL && ((uintptr_t)base > (uintptr_t)p || base < own->base)) continue;
+        own->base = base;
+        found = part;
+    }
+    return found;
+}
+
+/* The live block whose payload begins at `p`: its name and its length. */
+TLSF_BODY uint32_t tlsf_pools_block(struct tlsf_pools *pools, const void *p, struct tlsf_name *name, uint32_t *len) TLSF_NOEXCEPT {
+    struct tlsf_heap own = TLSF_CLOSED;
+    const uint32_t part = tlsf_pools_part_of(pools, p, &own);
+    return tlsf_pools_place(pools, part, tlsf_place_of(&own, p), name, len);
+}
+
+TLSF_CALL uint32_t tlsf_pools_name_at(struct tlsf_pools *pools, const void *p, struct tlsf_name *name) TLSF_NOEXCEPT {
+    uint32_t len = 0;
+    return tlsf_pools_block(pools, p, name, &len);
+}
+
+TLSF_CALL size_t tlsf_pools_usable_size(struct tlsf_pools *pools, const void *p) TLSF_NOEXCEPT {
+    struct tlsf_name name = {0, 0, 0};
+    uint32_t len = 0;
+    return tlsf_pools_block(pools, p, &name, &len) == TLSF_OK ? len : 0;
+}
+
+TLSF_CALL uint32_t tlsf_pools_free(struct tlsf_pools *pools, void *p) TLSF_NOEXCEPT {
+    struct tlsf_name name = {0, 0, 0};
+    if (p == TLSF_NULL) return TLSF_OK;
+    const uint32_t answer = tlsf_pools_name_at(pools, p, &name);
+    return answer != TLSF_OK ? answer : tlsf_pools_release(pools, name);
+}
+
+TLSF_CALL void *tlsf_pools_malloc(struct tlsf_pools *pools, size_t len) TLSF_NOEXCEPT {
+    struct tlsf_name name = {0, 0, 0};
+    uint32_t bytes = 0, number = 0;
+    uint64_t *base = TLSF_NULL;
+    if (tlsf_pools_row(pools, len, &bytes) != TLSF_OK || tlsf_pools_allocate(pools, bytes, &name) != TLSF_OK) return TLSF_NULL;
+    for (uint32_t part = 0; tlsf_pools_part(pools, part, &base, &number) == TLSF_OK; part++)
+        if (number == name.heap) return base + name.at + 3;
+    return TLSF_NULL;
+}
+
+TLSF_CALL void *tlsf_pools_realloc(struct tlsf_pools *pools, void *p, size_t len) TLSF_NOEXCEPT {
+    struct tlsf_name name = {0, 0, 0};
+    uint32_t had = 0, row = 0, bytes = 0;
+    if (p == TLSF_NULL) return tlsf_pools_malloc(pools, len);
+    if (len == 0) tlsf_pools_free(pools, p);
+    if (len == 0 || tlsf_pools_block(pools, p, &name, &had) != TLSF_OK || tlsf_pools_row(pools, len, &bytes) != TLSF_OK) return TLSF_NULL;
+    if (len <= had && tlsf_pools_row(pools, had, &row) == TLSF_OK && row == bytes) return p;
+    void *const moved = tlsf_pools_malloc(pools, len);
+    if (moved == TLSF_NULL) return TLSF_NULL;
+    TLSF_COPY(moved, p, had < len ? had : len);
+    tlsf_pools_release(pools, name);
+    return moved;
+}
+
 TLSF_CALL const char *tlsf_text_of(uint32_t answer) TLSF_NOEXCEPT {
     switch (answer) {
     case TLSF_OK: return "done";

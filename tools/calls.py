@@ -24,7 +24,8 @@ HEADER = TOP / "include" / "peachanchor.h"
 INLINE = TOP / "include" / "tlsf_inline.h"
 REMARK = re.compile(r"/\*.*?\*/|^#.*?(?<!\\)$", re.S | re.M)
 DECLARED = re.compile(
-    r"(?:^|[;{}])\s*((?:TLSF_\w+ )*)(?:static inline )?([\w ]+?[ *]+)(tlsf_\w+)\(([^()]*)\)\s+TLSF_NOEXCEPT(?=(?:\s+TLSF_\w+\([^()]*\))*;)", re.M
+    r"(?:^|[;{}])\s*((?:TLSF_\w+ )*)(?:static inline )?([\w ]+?[ *]+)(tlsf_\w+)\(([^()]*)\)\s+TLSF_NOEXCEPT(?=(?:\s+TLSF_\w+\([^()]*\))*;)",
+    re.M,
 )
 IN_RUST = {"uint8_t": "u8", "uint32_t": "u32", "uint64_t": "u64", "size_t": "usize", "void": "c_void", "char": "c_char"}
 # What takes memory from malloc, so the archive without malloc refuses it.

@@ -26,6 +26,10 @@ COLUMNS = {
     "level5": Column("Level 5", "level5"),
     "near5": Column("Near, 5", "near5"),
     "magazine": Column("Magazine, 4", "authors", source="heaps/magazine.c"),
+    "checked": Column("Checked, 4", "authors", source="heaps/checked.c"),
+    "locked": Column("Locked, 4", "authors", source="heaps/locked.c"),
+    "canary": Column("Canary, 4", "authors", source="heaps/canary.c"),
+    "quarantine": Column("Quarantine, 4", "authors", source="heaps/quarantine.c"),
     "authors": Column("TLSF 2.4", "authors", source="tlsf.c"),
     "mattconte": Column("mattconte", "authors", source="heaps/mattconte.c"),
     "malloc": Column("malloc", "system"),
@@ -34,10 +38,15 @@ COLUMNS = {
     "tbbmalloc": Column("tbbmalloc", "system", loads=("libtbbmalloc.so.2", "libtbbmalloc_proxy.so.2")),
     "jemalloc": Column("jemalloc", "system", loads=("libjemalloc.so.2",)),
 }
+# What guards a heap of level 4 more: no column unless it is named.
+GUARDED = ["checked", "locked", "canary", "quarantine"]
 NEAR = ["near4", "near5"]
 OURS = ["level4", "near4", "level5", "near5"]
 # The programs in C, and whether TLSF 2.4 has its lock there.
 PROGRAMS = {"peers": 0, "frees": 1, "cold": 0, "tail": 0, "replay": 0, "threads": 0, "first": 0}
+
+# What TLSF 2.4 calls these is a call of our library too. So the programs know them by other names.
+RENAMED = [f"-Dtlsf_{it}=authors_{it}" for it in ("malloc", "calloc", "realloc", "free")]
 
 
 def compile_c(*words):
@@ -55,7 +64,7 @@ class Built:
             stop("the library isn't built")
         self.peers = pathlib.Path(options.peers or work).resolve()
         wanted = options.columns
-        if not options.peers and set(wanted) - set(OURS) - {"malloc"}:
+        if not options.peers and set(wanted) - {*OURS, *GUARDED, "magazine", "malloc"}:
             self.fetch()
         self.columns = self.find(wanted)
         compile_c("-O2", "-shared", "-fPIC", "-o", self.work / "pin.so", TOP / "bench/c/pin.c", "-ldl")
@@ -96,6 +105,7 @@ class Built:
             made = self.path(program, source).with_suffix(".o")
             defined = [
                 f"-DTLSF_USE_LOCKS={PROGRAMS[program]}",
+                *RENAMED * ("/" not in source),
                 "-DUSE_MMAP=0",
                 "-DUSE_SBRK=0",
                 f"-I{self.work}",

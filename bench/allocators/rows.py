@@ -16,6 +16,7 @@ ONE_OF_EACH = [it for it in COLUMNS if it not in ("level5", "near5")]
 ROWS = {
     "calls": ("peers", list(COLUMNS)),
     "holes": ("peers", list(COLUMNS)),
+    "resets": ("peers", ["level4", "level5"]),
     "full": ("peers", PLAIN),
     "time": ("peers", list(COLUMNS)),
     "recorded": ("replay", ONE_OF_EACH),
@@ -106,7 +107,8 @@ class Rows:
 
     def count(self):
         """All columns side by side; what they told is kept in the order of the table."""
-        ways = [(self.run, column, "peers", way, "COLUMN") for way in ("calls", "holes", "full") for column in self.columns(way)]
+        counted = ("calls", "holes", "resets", "full")
+        ways = [(self.run, column, "peers", way, "COLUMN") for way in counted for column in self.columns(way)]
         with concurrent.futures.ThreadPoolExecutor(len(os.sched_getaffinity(0))) as pool:
             for (_, column, *_), text in zip(ways, pool.map(lambda way: way[0](*way[1:]), ways)):
                 self.keep_lines(column, text)

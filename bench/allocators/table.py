@@ -22,7 +22,7 @@ def stroked(figures):
 CELLS = [
     (("allocate", "release", "resize", "malloc,", "free,", "realloc,"), lambda runs: stroked(runs[0])),
     (("full",), lambda runs: ", ".join(f"{it / 10:.1f}" for it in runs[0])),
-    (("worst", "write", "read", "recorded"), lambda runs: f"{runs[0][0]:,.0f}"),
+    (("worst", "write", "read", "recorded", "reset"), lambda runs: f"{runs[0][0]:,.0f}"),
     (("lines",), lambda runs: f"{runs[0][0]:.1f}/{runs[0][1]:.0f}"),
     (("first mallocs",), lambda runs: stroked([medians(runs)[0], min(worst for _, worst in runs)])),
     (("cold", "page faults", "tail"), lambda runs: stroked(medians(runs))),

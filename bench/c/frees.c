@@ -32,9 +32,8 @@
 
 #ifdef AUTHORS
 size_t init_memory_pool(size_t bytes, void *pool);
-/* Inline calls of peachanchor.h have these names too. */
-void *authors_malloc(size_t bytes) __asm__("tlsf_malloc");
-void authors_free(void *block) __asm__("tlsf_free");
+void *authors_malloc(size_t bytes);
+void authors_free(void *block);
 #endif
 
 enum { EACH = 80000, MOST_POSTERS = 3, CAPACITY = 1024, TURN = 128, MOST_TURNS = EACH / TURN + 1, PERIOD = 100000, SLICE = 64 };

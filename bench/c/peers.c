@@ -7,6 +7,7 @@
  *           instruction of the function that a program calls, and ends with its return; what fills and copies payload is part of it.
  *   holes   prints 'worst call, N holes: WORST' so, where blocks are made and released by name beside N holes in which none fits. Of
  *           1,000 holes it prints the calls as above too, by name and by pointer.
+ *   resets  prints 'reset of N blocks: INSTRUCTIONS' of one reset so, and 'releases of N blocks: INSTRUCTIONS' of all frees in its place.
  *   time    prints 'time, REQUESTS: NANOSECONDS' of an allocate and a release, of a malloc and a free, and of a resize.
  *   full    prints 'full, REQUESTS: FRESH AGED', the bytes asked for in thousandths of 8 MiB: at the first refusal, and in the mean where
  *           100,000 blocks have come and gone before. Of the system it is so much resident memory, and its peak while blocks come and go. */
@@ -24,11 +25,10 @@
 
 #ifdef AUTHORS
 size_t init_memory_pool(size_t bytes, void *pool);
-/* Inline calls of peachanchor.h have these names too. */
-void *authors_calloc(size_t count, size_t bytes) __asm__("tlsf_calloc");
-void *authors_malloc(size_t bytes) __asm__("tlsf_malloc");
-void authors_free(void *block) __asm__("tlsf_free");
-void *authors_realloc(void *block, size_t bytes) __asm__("tlsf_realloc");
+void *authors_calloc(size_t count, size_t bytes);
+void *authors_malloc(size_t bytes);
+void authors_free(void *block);
+void *authors_realloc(void *block, size_t bytes);
 #endif
 
 enum { ROUNDS = 1000, WARM = 20000, LIVE = 1000, MOST_HOLES = 100000, MOST_BLOCKS = 1 << 20, WORDS = 1 << 20 };
@@ -324,12 +324,27 @@ static void pass_all_holes(void) {
     print_both("1,000 holes");
 }
 
+/* Of a heap of ours. */
+static void reset_all(void) {
+    kind = BY_POINTER;
+    for (int count = 10; count <= 10000; count *= 10) {
+        struct tally resets = {0, 0, 0};
+        releases = resets;
+        for (int i = 0; i < count; i++) allocate(&blocks[i], 64, 0);
+        ends_if((int)call(&resets, (uintptr_t)(tlsf_reset), WITH(calls.handle)), "reset");
+        for (int i = 0; i < count; i++) allocate(&blocks[i], 64, 0);
+        for (int i = 0; i < count; i++) release(&blocks[i], 1);
+        printf("reset of %d blocks: %lu\nreleases of %d blocks: %lu\n", count, resets.sum, count, releases.sum);
+    }
+}
+
 int main(int argc, char **argv) {
     const char *way = argc == 3 ? argv[1] : "";
-    is_stepped = way[0] == 'c' || way[0] == 'h';
+    is_stepped = way[0] == 'c' || way[0] == 'h' || way[0] == 'r';
     open_all(argc == 3 ? argv[2] : "");
     if (way[0] == 'c' || way[0] == 't') run_all(argv[2]);
     else if (way[0] == 'h') pass_all_holes();
+    else if (way[0] == 'r') reset_all();
     else if (way[0] == 'f') {
         fill_apart("8 bytes", 8);
         fill_apart("8..512 bytes", 512);

@@ -174,15 +174,29 @@ static void do_calls_of_queues_and_offsets(uint32_t kind, const struct tlsf_name
 }
 
 static void do_calls_of_pools(uint32_t kind, struct tlsf_name *name) {
+    static void *p;
+    const size_t len = below(3100);
     struct tlsf_heap_report report;
     switch (kind) {
-    case 47: sum += tlsf_pools_allocate(&pools, below(3100), name); break;
-    case 48: sum += tlsf_pools_release(&pools, *name); break;
+    case 47:
+        if (below(2)) sum += tlsf_pools_allocate(&pools, len, name);
+        else if (!p) p = tlsf_pools_malloc(&pools, len);
+        else sum += tlsf_pools_usable_size(&pools, p) + tlsf_pools_name_at(&pools, p, name);
+        break;
+    case 48:
+        if (below(2)) sum += tlsf_pools_release(&pools, *name);
+        else if (below(2)) sum += tlsf_pools_free(&pools, p), p = NULL;
+        else {
+            void *moved = tlsf_pools_realloc(&pools, p, len + 1);
+            if (moved) p = moved;
+        }
+        break;
     case 49: sum += tlsf_pools_write(&pools, *name, below(200), bytes, below(256)); break;
     case 50: sum += tlsf_pools_read(&pools, *name, below(200), bytes, below(256)); break;
     case 51: sum += tlsf_pools_report(&pools, below(3), &report); break;
     default:
         sum += tlsf_pools_open(&pools, 4, 1, rows, 2) + tlsf_pools_open(&closed_pools, 4, 1, rows, 65) + tlsf_pools_close(&closed_pools);
+        sum += tlsf_pools_open_in(&closed_pools, 4, 1, rows, 65, bytes, sizeof bytes) + tlsf_pools_bytes(4, rows, 2);
         break;
     }
 }

@@ -223,7 +223,10 @@ static void arenas_of_other_kinds(void *offsets, void *pools) {
     struct tlsf_span span = {{2, 0, 1}, 0, 0};
     struct tlsf_offsets_usage usage;
     struct tlsf_heap_report report;
+    uint64_t *base = NULL;
+    uint32_t n = 0;
     uint8_t byte = 0;
+    void *volatile wild = &byte;
     refuses("offsets: allocate", tlsf_offsets_allocate(pools, 8, &span));
     refuses("offsets: release", tlsf_offsets_release(pools, span.name));
     refuses("offsets: resize", tlsf_offsets_resize(pools, &span, 8));
@@ -234,6 +237,10 @@ static void arenas_of_other_kinds(void *offsets, void *pools) {
     refuses("pools: write", tlsf_pools_write(offsets, name, 0, &byte, 1));
     refuses("pools: read", tlsf_pools_read(offsets, name, 0, &byte, 1));
     refuses("pools: report", tlsf_pools_report(offsets, 0, &report));
+    refuses("pools: part", tlsf_pools_part(offsets, 0, &base, &n));
+    refuses("pools: place", tlsf_pools_place(offsets, 0, 0, &name, &n));
+    refuses("pools: row", tlsf_pools_row(offsets, 8, &n));
+    refuses("pools: free", tlsf_pools_free(offsets, wild));
     refuses("pools: close", tlsf_pools_close(offsets));
 }
 

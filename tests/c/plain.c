@@ -466,3 +466,22 @@ uint32_t tlsf_words(uint32_t level, uint32_t blocks, size_t bytes, uint32_t *wor
     *words = (uint32_t)found;
     return TLSF_OK;
 }
+
+/* It has no pools: calls on them are refused as on closed handles. */
+uint32_t tlsf_pools_allocate(struct tlsf_pools *pools, size_t len, struct tlsf_name *name) {
+    return (void)pools, (void)len, (void)name, TLSF_IS_CLOSED;
+}
+
+uint32_t tlsf_pools_release(struct tlsf_pools *pools, struct tlsf_name name) { return (void)pools, (void)name, TLSF_IS_CLOSED; }
+
+uint32_t tlsf_pools_part(struct tlsf_pools *pools, uint32_t part, uint64_t **base, uint32_t *number) {
+    return (void)pools, (void)part, (void)base, (void)number, TLSF_IS_CLOSED;
+}
+
+uint32_t tlsf_pools_place(struct tlsf_pools *pools, uint32_t part, uint32_t at, struct tlsf_name *name, uint32_t *len) {
+    return (void)pools, (void)part, (void)at, (void)name, (void)len, TLSF_IS_CLOSED;
+}
+
+uint32_t tlsf_pools_row(struct tlsf_pools *pools, size_t len, uint32_t *row_len) {
+    return (void)pools, (void)len, (void)row_len, TLSF_IS_CLOSED;
+}

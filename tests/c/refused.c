@@ -1,6 +1,7 @@
 /* Memory that is refused. Each call that opens is made anew for each of its requests, of which malloc then refuses that one: it answers
  * TLSF_NO_MEMORY, and has given back all that it had. What is open, and is used and closed, has given back each piece once. Pieces that
- * are back are overwritten. Prints how many words the heaps of pools have for some tables.
+ * are back are overwritten. Prints how many words the heaps of pools have for some tables. With `keeps`, one open that is refused
+ * keeps a piece, which has to be told.
  * Link with -Wl,--wrap=malloc,--wrap=free. */
 #include "peachanchor.h"
 
@@ -15,7 +16,7 @@ static struct {
     size_t bytes;
 } pieces[MOST];
 static size_t count, requests, refused_at;
-static bool is_counted;
+static bool is_counted, is_one_kept;
 static const char *what;
 
 static void wants(const char *said, size_t got, size_t wanted) {
@@ -45,6 +46,10 @@ void __wrap_free(void *at) {
     size_t k = 0;
     if (!is_counted || !at) {
         __real_free(at);
+        return;
+    }
+    if (is_one_kept && refused_at) {
+        is_one_kept = false;
         return;
     }
     while (k < count && pieces[k].at != at) k++;
@@ -188,7 +193,8 @@ static void print_pools(void) {
     wants("close", tlsf_pools_close(&pools), TLSF_OK);
 }
 
-int main(void) {
+int main(int argc, char **argv) {
+    is_one_kept = argc > 1 && !strcmp(argv[1], "keeps");
     for (level = 4; level <= 5; level++) {
         refuse_each("a heap", open_heap, close_heap);
         refuse_each("a near heap", open_near, close_near);

@@ -1,11 +1,12 @@
-/* Calls from a signal handler: those on a handle that the interrupted call is using are refused, and harm nothing. And whoever
- * walks the stack in a handler, as a crash reporter does, finds the way through the library.
+/* Calls from a signal handler: those on a handle that the interrupted call is using are refused, and harm nothing. No call writes
+ * the handles that it uses. And whoever walks the stack in a handler, as a crash reporter does, finds the way through the library.
  *
- * The program makes calls by chance on a heap and a lane, and knows what each of its blocks holds. So does the handler, with
- * blocks of its own. SIGNALS step CALLS: each call is interrupted at each instruction, and the handler makes a call. SIGNALS
+ * The program makes calls by chance on a heap, a lane, a queue, an arena of offsets and pools, and knows what each of its blocks
+ * holds. So does the handler, with blocks of its own. It looks at the handles too. SIGNALS step CALLS: each call is interrupted at each instruction, and the handler makes a call. SIGNALS
  * timer COUNT: a timer interrupts COUNT times. SIGNALS walk CALLS: at each instruction the handler walks the stack. */
 #define _GNU_SOURCE
 #include "peachanchor.h"
+#include "stepping.h"
 
 #include <signal.h>
 #include <stdio.h>
@@ -33,6 +34,11 @@ struct side {
 static struct tlsf_heap heap = TLSF_CLOSED;
 static struct tlsf_post_end post = TLSF_POST_CLOSED;
 static struct tlsf_take_end take = TLSF_TAKE_CLOSED;
+static struct tlsf_queue queue = TLSF_QUEUE_CLOSED;
+static struct tlsf_poster poster = TLSF_POSTER_CLOSED;
+static struct tlsf_offsets offsets = TLSF_OFFSETS_CLOSED;
+static struct tlsf_pools pools = TLSF_POOLS_CLOSED;
+static const struct tlsf_kind rows[] = {{2, 16}};
 static struct side program = {1, 0, 0, {{{0, 0, 0}, 0, 0}}}, handler = {2, 0, 0, {{{0, 0, 0}, 0, 0}}};
 static volatile sig_atomic_t is_in_call, is_stepped, is_walked;
 static volatile long signals, served, refused, wrong;
@@ -43,21 +49,6 @@ static uint32_t below(struct side *it, uint32_t n) {
 }
 
 /* --- One call, by the program or by the handler --------------------------------------------------------------------- */
-
-/* They set and clear the trap flag: a signal comes after each instruction. The stack can be walked from within them too. Only
- * x86-64 has them here. */
-void start_steps(void);
-void stop_steps(void);
-#ifdef __x86_64__
-#define OF_FLAGS(name, change) \
-    __asm__(".text\n" name ":\n .cfi_startproc\n pushfq\n .cfi_adjust_cfa_offset 8\n " change ", (%rsp)\n popfq\n" \
-            " .cfi_adjust_cfa_offset -8\n ret\n .cfi_endproc\n")
-OF_FLAGS("start_steps", "orq $256");
-OF_FLAGS("stop_steps", "andq $-257");
-#else
-void start_steps(void) { abort(); }
-void stop_steps(void) { abort(); }
-#endif
 
 static void begins(const struct side *it) {
     if (it != &program) return;
@@ -89,6 +80,26 @@ static bool is_served(struct side *it, uint32_t answer, uint32_t refusal) {
 static void must(struct side *it, uint32_t answer) {
     (void)it;
     if (answer != TLSF_OK) wrong++;
+}
+
+/* --- The handles -------------------------------------------------------------------------------------------------------- */
+
+/* What each shows of itself, but for the note of an odd block in a heap's, which is written once. */
+struct shown {
+    const void *held[7];
+    bool is_open[7];
+};
+static struct shown opened;
+
+static struct shown shown_now(void) {
+    const struct shown now = {{heap.held, post.held, take.held, queue.held, poster.held, offsets.held, pools.held},
+                              {heap.is_open, post.is_open, take.is_open, queue.is_open, poster.is_open, offsets.is_open, pools.is_open}};
+    return now;
+}
+
+static bool are_as_opened(void) {
+    const struct shown now = shown_now();
+    return !memcmp(now.held, opened.held, sizeof now.held) && !memcmp(now.is_open, opened.is_open, sizeof now.is_open);
 }
 
 /* --- What they do, and what they know ------------------------------------------------------------------------------- */
@@ -159,14 +170,49 @@ static void over_lane(struct side *it) {
     else if (is_served(it, ANSWER(it, tlsf_take(&take, &got)), TLSF_EMPTY) && memcmp(&sent, &got, sizeof got)) wrong++;
 }
 
+/* Another call on the queue may be half through its step. */
+static bool is_posted(struct side *it, uint32_t answer, uint32_t refusal) {
+    return is_served(it, answer == TLSF_BUSY ? refusal : answer, refusal);
+}
+
+static void over_queue(struct side *it) {
+    const struct tlsf_name sent = {5, 6, 7};
+    struct tlsf_name got = {5, 6, 7};
+    uint32_t came = 0;
+    const uint32_t kind = below(it, 5);
+    if (kind < 3) (void)is_posted(it, ANSWER(it, tlsf_queue_post(&poster, sent)), TLSF_FULL);
+    else if (kind == 3) (void)is_served(it, ANSWER(it, tlsf_queue_drain(&heap, &queue, 2, &came)), TLSF_OK);
+    else if (is_posted(it, ANSWER(it, tlsf_queue_take(&queue, &got)), TLSF_EMPTY) && memcmp(&sent, &got, sizeof got)) wrong++;
+}
+
+static void in_arenas(struct side *it) {
+    struct tlsf_offsets_usage usage;
+    struct tlsf_span span;
+    struct tlsf_name name;
+    const uint32_t kind = below(it, 3);
+    if (kind == 0) {
+        (void)is_served(it, ANSWER(it, tlsf_offsets_report(&offsets, &usage)), TLSF_OK);
+    } else if (kind == 1) {
+        if (!is_served(it, ANSWER(it, tlsf_offsets_allocate(&offsets, 40, &span)), TLSF_OK)) return;
+        must(it, ANSWER(it, tlsf_offsets_resize(&offsets, &span, 20)));
+        must(it, ANSWER(it, tlsf_offsets_release(&offsets, span.name)));
+    } else {
+        if (!is_served(it, ANSWER(it, tlsf_pools_allocate(&pools, 16, &name)), TLSF_OK)) return;
+        must(it, ANSWER(it, tlsf_pools_write(&pools, name, 0, &it->byte, 1)));
+        must(it, ANSWER(it, tlsf_pools_release(&pools, name)));
+    }
+}
+
 __attribute__((noinline)) static void do_one(struct side *it) {
-    const uint32_t kind = below(it, 9);
+    const uint32_t kind = below(it, 11);
     struct block *b = it->live ? &it->blocks[below(it, it->live)] : NULL;
     if (kind < 3 || !b) allocate(it);
     else if (kind < 5) release(it, b);
     else if (kind == 5) resize(it, b);
     else if (kind == 6) check(it, b), locate(it, b);
     else if (kind == 7) over_lane(it);
+    else if (kind == 8) over_queue(it);
+    else if (kind == 9) in_arenas(it);
     else report(it);
 }
 
@@ -197,11 +243,13 @@ static bool leads_back(void) {
 static void handle(int signal) {
     (void)signal;
     signals++;
+    if (!are_as_opened()) wrong++;
     if (!is_walked) do_one(&handler);
     else if (!leads_back()) wrong++;
 }
 
 static int end(void) {
+    struct tlsf_offsets_usage usage = {0, 0, 0, 0};
     struct tlsf_heap_report sums;
     struct tlsf_heap_counts counts = {0, 0, 0, 0};
     for (struct side *it = &program; it; it = it == &program ? &handler : NULL)
@@ -212,6 +260,12 @@ static int end(void) {
     must(&program, tlsf_report(&heap, &sums));
     must(&program, tlsf_counts(&heap, &counts));
     if (sums.live_blocks || sums.free_blocks != 1 || sums.free_words != WORDS || counts.words) wrong++;
+    must(&program, tlsf_offsets_report(&offsets, &usage));
+    if (usage.spans) wrong++;
+    must(&program, tlsf_offsets_close(&offsets));
+    must(&program, tlsf_pools_close(&pools));
+    must(&program, tlsf_poster_close(&poster));
+    must(&program, tlsf_queue_close(&queue));
     must(&program, tlsf_post_close(&post));
     must(&program, tlsf_take_close(&take));
     must(&program, tlsf_close(&heap));
@@ -230,6 +284,9 @@ int main(int argc, char **argv) {
     (void)leads_back(); /* the first walk takes memory */
     if (sigaction(SIGTRAP, &action, NULL) || sigaction(SIGALRM, &action, NULL)) return 2;
     if (tlsf_open(&heap, 4, 1, WORDS) || tlsf_lane_open(&post, &take, CAPACITY)) return 2;
+    if (tlsf_queue_open(&queue, 1, CAPACITY) || tlsf_poster_open(&queue, &poster)) return 2;
+    if (tlsf_offsets_open(&offsets, 4, 2, 1, WORDS) || tlsf_pools_open(&pools, 4, 3, rows, 1)) return 2;
+    opened = shown_now();
     is_walked = !strcmp(kind, "walk");
     if (!strcmp(kind, "timer")) {
         if (setitimer(ITIMER_REAL, &often, NULL)) return 2;

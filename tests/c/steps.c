@@ -75,8 +75,21 @@ static struct tlsf_queue queue = TLSF_QUEUE_CLOSED;
 static struct tlsf_poster poster = TLSF_POSTER_CLOSED;
 static struct tlsf_span spans[MOST];
 static uint32_t held;
+static struct tlsf_pools pools = TLSF_POOLS_CLOSED;
+static const struct tlsf_kind rows[] = {{8, 64}, {2, 4096}};
+static struct tlsf_name pooled[4];
 
-/* Spans of an arena that is full of holes, names of spans that aren't held, and a queue that is full and empty. */
+/* Parts that are there and one that isn't, and places where a block begins or none. */
+static uint32_t call_pools(void) {
+    struct tlsf_name name;
+    uint64_t *base;
+    uint32_t number, len;
+    const uint32_t part = below(3);
+    if (below(2)) return tlsf_pools_part(&pools, part, &base, &number);
+    return tlsf_pools_place(&pools, part, pooled[below(4)].at + (below(4) ? 0 : 1), &name, &len);
+}
+
+/* Spans of an arena that is full of holes, names of spans that aren't held, a queue that is full and empty, and pools. */
 static void call_others(long calls) {
     struct tlsf_name name = {1, 0, 0};
     for (long i = 0; i < calls; i++) {
@@ -90,6 +103,8 @@ static void call_others(long calls) {
         } else if (kind == 6) {
             name.serial = (uint64_t)below(1000);
             tlsf_offsets_release(&offsets, name);
+        } else if (kind == 7) {
+            if (call_pools()) continue;
         } else {
             (void)(below(2) ? tlsf_queue_post(&poster, name) : tlsf_queue_take(&queue, &name));
         }
@@ -105,6 +120,9 @@ static int make_calls(long calls) {
     uint32_t len = 0;
     if (tlsf_open(&heap, 4 + below(2), 1, 1u << 15) || tlsf_lane_open(&post, &take, 8)) return 1;
     if (tlsf_offsets_open(&offsets, 4, 1, 1, 1u << 15) || tlsf_queue_open(&queue, 1, 8) || tlsf_poster_open(&queue, &poster)) return 1;
+    if (tlsf_pools_open(&pools, 4, 1, rows, sizeof rows / sizeof *rows)) return 1;
+    for (int i = 0; i < 4; i++)
+        if (tlsf_pools_allocate(&pools, i < 2 ? 64 : 4096, &pooled[i])) return 1;
     if (is_stopped) raise(SIGSTOP); /* from here on each instruction is counted */
     for (long i = 0; i < calls; i++) {
         const uint32_t kind = below(10), k = live ? below(live) : 0, size = below(3) ? below(64) : below(256);
@@ -152,6 +170,8 @@ static struct {
     {"tlsf_offsets_allocate", (uintptr_t)tlsf_offsets_allocate, 0, 0},
     {"tlsf_offsets_release", (uintptr_t)tlsf_offsets_release, 0, 0},
     {"tlsf_offsets_resize", (uintptr_t)tlsf_offsets_resize, 0, 0},
+    {"tlsf_pools_part", (uintptr_t)tlsf_pools_part, 0, 0},
+    {"tlsf_pools_place", (uintptr_t)tlsf_pools_place, 0, 0},
 };
 enum { COUNT = sizeof counted / sizeof *counted };
 

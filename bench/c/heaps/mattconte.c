@@ -1,6 +1,5 @@
 /* mattconte/tlsf 3.0 by the calls of TLSF 2.4, so that each program of bench/c measures either. bench/peers compiles it, and makes
- * mattconte_tlsf.c of Kamailio's sources (bench/allocators/mattconte.py). With -DTLSF_USE_LOCKS=1 the calls of the one pool that was opened
- * last are under a mutex, as they are in TLSF 2.4. */
+ * mattconte_tlsf.c of Kamailio's sources (bench/allocators/mattconte.py). */
 #define NDEBUG
 #define tlsf_malloc of_heap_malloc
 #define tlsf_realloc of_heap_realloc
@@ -12,15 +11,7 @@
 #undef tlsf_free
 #undef tlsf_check
 
-#if TLSF_USE_LOCKS
-#include <pthread.h>
-static pthread_mutex_t own_lock = PTHREAD_MUTEX_INITIALIZER;
-#define ACQUIRE pthread_mutex_lock(&own_lock)
-#define LEAVE pthread_mutex_unlock(&own_lock)
-#else
-#define ACQUIRE ((void)0)
-#define LEAVE ((void)0)
-#endif
+#include "own_lock.h"
 
 static tlsf_t own;
 
@@ -38,28 +29,28 @@ void *calloc_ex(size_t count, size_t bytes, void *pool) {
     return block ? memset(block, 0, count * bytes) : block;
 }
 
-void *tlsf_malloc(size_t bytes) {
+void *authors_malloc(size_t bytes) {
     ACQUIRE;
     void *const block = of_heap_malloc(own, bytes);
     LEAVE;
     return block;
 }
 
-void *tlsf_calloc(size_t count, size_t bytes) {
+void *authors_calloc(size_t count, size_t bytes) {
     ACQUIRE;
     void *const block = calloc_ex(count, bytes, own);
     LEAVE;
     return block;
 }
 
-void *tlsf_realloc(void *block, size_t bytes) {
+void *authors_realloc(void *block, size_t bytes) {
     ACQUIRE;
     block = of_heap_realloc(own, block, bytes);
     LEAVE;
     return block;
 }
 
-void tlsf_free(void *block) {
+void authors_free(void *block) {
     ACQUIRE;
     of_heap_free(own, block);
     LEAVE;

@@ -48,9 +48,13 @@ words_mapped sli u units h free mapped lawful =
 -- ---- a block that is held, sought by its address p in the memory at b
 
 module _ (sli u units : ℕ) (h : HeapState) (free : List Bool) (mapped : IsMapped sli u units h free) (lawful : IsLawful h) (name : Name) (k : ℕ) (holds : Holds h name k) (b p : ℕ) (here : p ≡ b + u * name.at) where
+  -- it is one of the units
+  pub one_unit : name.at < units
+  one_unit = subst (λ (m : ℕ). name.at < m) (words_mapped sli u units h free mapped lawful) (place_within h name holds.0 lawful holds.2)
+
   -- it begins at a unit
   pub at_a_unit : ((at : ℕ) → at < units → p ≢ b + u * at) → ⊥
-  at_a_unit none = none name.at (subst (λ (m : ℕ). name.at < m) (words_mapped sli u units h free mapped lawful) (place_within h name holds.0 lawful holds.2)) here
+  at_a_unit none = none name.at one_unit here
 
   module _ (at : ℕ) (found : p ≡ b + u * at) where
     same_place : at ≡ name.at

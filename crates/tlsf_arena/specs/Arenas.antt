@@ -1,5 +1,5 @@
 -- An arena as contracts see it, and the calls on its heap.
-use Rattle.std.specs.Prelude.{◌≡◌, ℕ, ◌*◌, ◌/◌, ◌^◌, ◌≤◌, List, Bool, Some, length}
+use Rattle.std.specs.Prelude.{◌≡◌, ℕ, ◌+◌, ◌*◌, ◌/◌, ◌^◌, ◌≤◌, List, Bool, Some, length}
 use base.Fml.{GName}
 use Rattle.linked_list_allocator.specs.Region.{Region}
 use Rattle.tlsf_class.specs.Classes.{IsLevel}
@@ -39,6 +39,10 @@ SameHome old new = (new.region ≡ old.region) × (new.book ≡ old.book) × (ne
 -- the same heap besides. Only the counts of steps may differ
 abbrev pub SameArena : ArenaState → ArenaState → Type 0
 SameArena old new = (new.heap ≡ old.heap) × SameHome old new
+
+-- where a place is the first of two guesses it is found by one comparison, and where it is the second by two
+abbrev pub IsFoundByGuess : ℕ → ℕ × ℕ → ℕ → ℕ → Type 0
+IsFoundByGuess at guesses before behind = (guesses.0 ≡ at → behind ≤ before + 1) × (guesses.1 ≡ at → behind ≤ before + 2)
 
 -- the map of free grains, sixteen bytes each, is that of the heap's units: this many, of u bytes each
 pub record IsMapped (sli u units : ℕ) (h : HeapState) (free : List Bool) : Type 0 where

@@ -10,7 +10,7 @@ ghost use Rattle.tlsf_heap.specs.Placed.{placed_at};
 ghost use Rattle.tlsf_heap.specs.Reports.{report_of};
 ghost use Rattle.tlsf_heap.specs.Touched.{FollowsNoPlace};
 ghost use Rattle.tlsf_heap.specs.declared.name.Name.{Name};
-ghost use Rattle.tlsf_arena.specs.Arenas.{Holds, IsMapped, SameArena, SameHome, refitted, requested};
+ghost use Rattle.tlsf_arena.specs.Arenas.{Holds, IsFoundByGuess, IsMapped, SameArena, SameHome, refitted, requested};
 ghost use Rattle.tlsf_arena.specs.Loans.{IsLoan, loan_of, name_of, units_of};
 ghost use Rattle.tlsf_arena.specs.Units.{IsPiece, IsUnit, lacking, units_for, piece_size, held_at, free_units_in};
 ghost use Rattle.tlsf_heap.specs.ByPlace.{serial_at};
@@ -304,7 +304,8 @@ impl<const SLI: u32, const UNIT: usize> Arena<SLI, UNIT> {
     }
 
     /// Takes a block back that has lost its name: the address of its piece tells the place. Two places are tried first, as those of blocks
-    /// that went out last, else the place is sought by halves. At most 27 comparisons of addresses, whatever the arena holds.
+    /// that went out last, else the place is sought by halves. At most 27 comparisons of addresses, whatever the arena holds. The
+    /// first guess takes one, and the second two (`guessed`).
     ///
     /// It goes as [`Arena::release`] of the block: so it is refused, and comes back, for nothing but `Worn`.
     ///
@@ -334,6 +335,7 @@ impl<const SLI: u32, const UNIT: usize> Arena<SLI, UNIT> {
 
         // However many units there are: at most 27 comparisons, and 64 touches.
         ensures compared { self.new.compared ≤ self.old.compared + 27 }
+        ensures guessed { IsFoundByGuess (name_of right.loan).at guesses self.old.compared self.new.compared }
         ensures touches { self.new.touches ≤ self.old.touches + 64 }
         ensures touches_rise { self.old.touches ≤ self.new.touches }
     {
@@ -352,6 +354,7 @@ impl<const SLI: u32, const UNIT: usize> Arena<SLI, UNIT> {
         ensures live { Holds self.old.heap (name_of right.loan) (units_of right.loan) }
         ensures same { SameArena self.old self.new }
         ensures compared { self.new.compared ≤ self.old.compared + 27 }
+        ensures guessed { IsFoundByGuess (name_of right.loan).at guesses self.old.compared self.new.compared }
         ensures touches { self.new.touches ≤ self.old.touches + 4 }
         ensures touches_rise { self.old.touches ≤ self.new.touches }
     {
@@ -697,6 +700,7 @@ impl<const SLI: u32, const UNIT: usize> Arena<SLI, UNIT> {
         ensures lawful { IfSome result (λ _. IsLawful self.old.heap) }
         ensures unit { IsUnit UNIT }
         ensures compared { self.new.compared ≤ self.old.compared + 27 }
+        ensures guessed { (name : Name) (units : ℕ) → count_of ptr ≡ self.old.region.start + UNIT * name.at → Holds self.old.heap name units → IsFoundByGuess name.at guesses self.old.compared self.new.compared }
         ensures touches { self.new.touches ≤ self.old.touches + 4 }
         ensures touches_rise { self.old.touches ≤ self.new.touches }
     {

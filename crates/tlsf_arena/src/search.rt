@@ -25,6 +25,8 @@ pub(crate) fn unit_at(
     ensures place { MatchOption result ((at : ℕ) → at < units → count_of ptr ≢ count_of base + unit * at) (λ at. (at < units) × (count_of ptr ≡ count_of base + unit * at)) }
     ensures counted { compared.old.count ≤ compared.new.count }
     ensures steps { 2 ^ (compared.new.count - (compared.old.count + 3)) < 2 * units }
+    ensures first { guesses.0 < units → count_of ptr ≡ count_of base + unit * guesses.0 → compared.new.count ≤ compared.old.count + 1 }
+    ensures second { guesses.1 < units → count_of ptr ≡ count_of base + unit * guesses.1 → compared.new.count ≤ compared.old.count + 2 }
 {
     if is_unit_at(ptr, base, units, unit, guesses.0, compared) {
         return Some(guesses.0);

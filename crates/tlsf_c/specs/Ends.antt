@@ -1,5 +1,5 @@
 -- The ends of lanes and queues that C's handles hold.
-use Rattle.std.specs.Prelude.{◌≡◌, true, Option, Some, None, is_some, All, List, [], ◌∷◌, ◌++◌, map, length}
+use Rattle.std.specs.Prelude.{◌≡◌, Bool, true, false, Option, Some, None, is_some, All, List, [], ◌∷◌, ◌++◌, map, length}
 use Rattle.tlsf_heap.specs.declared.name.Name.{Name}
 use Rattle.tlsf_post.specs.Mailboxes.{put_by, number_of, plan_of, PosterSaw}
 use Rattle.tlsf_post.specs.declared.post.Post.{Post}
@@ -8,6 +8,7 @@ use Rattle.tlsf_post.specs.declared.take_end.TakeEnd.{TakeEnd}
 use Rattle.tlsf_post.specs.declared.poster_end.PosterEnd.{PosterEnd}
 use Rattle.tlsf_c.specs.declared.any_end.AnyEnd.{AnyEnd, AnyEnd-F as KindsOf, out-AnyEnd as as_kind}
 use Rattle.tlsf_c.specs.declared.any_end.AnyEnd.TheOpen as end
+use Rattle.tlsf_c.specs.declared.any_end.AnyEnd.TheVariants.{Poster}
 use Rattle.tlsf_c.specs.declared.queue_end.QueueEnd.{QueueEnd}
 
 -- ---- which kind of end it is
@@ -17,28 +18,39 @@ abbrev pub Kinds : Type 0
 Kinds = KindsOf AnyEnd QueueEnd
 
 abbrev pub post_kind : Kinds → Option PostEnd
-post_kind (end.Post p) = Some p
-post_kind (end.Take t) = None
-post_kind (end.Queue q) = None
-post_kind (end.Poster p) = None
+post_kind (end.Post in_use p) = Some p
+post_kind (end.Take in_use t) = None
+post_kind (end.Queue in_use q) = None
+post_kind (end.Poster in_use p) = None
 
 abbrev pub take_kind : Kinds → Option TakeEnd
-take_kind (end.Post p) = None
-take_kind (end.Take t) = Some t
-take_kind (end.Queue q) = None
-take_kind (end.Poster p) = None
+take_kind (end.Post in_use p) = None
+take_kind (end.Take in_use t) = Some t
+take_kind (end.Queue in_use q) = None
+take_kind (end.Poster in_use p) = None
 
 abbrev pub queue_kind : Kinds → Option QueueEnd
-queue_kind (end.Post p) = None
-queue_kind (end.Take t) = None
-queue_kind (end.Queue q) = Some q
-queue_kind (end.Poster p) = None
+queue_kind (end.Post in_use p) = None
+queue_kind (end.Take in_use t) = None
+queue_kind (end.Queue in_use q) = Some q
+queue_kind (end.Poster in_use p) = None
 
 abbrev pub poster_kind : Kinds → Option PosterEnd
-poster_kind (end.Post p) = None
-poster_kind (end.Take t) = None
-poster_kind (end.Queue q) = None
-poster_kind (end.Poster p) = Some p
+poster_kind (end.Post in_use p) = None
+poster_kind (end.Take in_use t) = None
+poster_kind (end.Queue in_use q) = None
+poster_kind (end.Poster in_use p) = Some p
+
+abbrev pub used_kind : Kinds → Bool
+used_kind (end.Post in_use p) = in_use
+used_kind (end.Take in_use t) = in_use
+used_kind (end.Queue in_use q) = in_use
+used_kind (end.Poster in_use p) = in_use
+
+-- a call is using it, where there is one
+abbrev pub is_used : Option AnyEnd → Bool
+is_used None = false
+is_used (Some e) = used_kind (as_kind e)
 
 -- the end of a lane that puts names in, if it is one
 abbrev pub post_of_end : Option AnyEnd → Option PostEnd
@@ -66,14 +78,18 @@ poster_of_end (Some e) = poster_kind (as_kind e)
 abbrev pub left_in_end : QueueEnd → List AnyEnd
 left_in_end q = map (λ b. b.value) q.left.items
 
--- each is a poster's
-abbrev pub ArePosters : List AnyEnd → Type 0
-ArePosters = All (λ e. is_some (poster_of_end (Some e)) ≡ true)
+-- a poster's, that no call is using
+abbrev pub idle_poster : PosterEnd → AnyEnd
+idle_poster p = Poster false p
 
--- the last of the ends that were left is given. Where all that were left are posters', so is it, and so are those that are left then
+-- it is a poster's, and no call is using it
+abbrev pub IsIdlePoster : AnyEnd → Type 0
+IsIdlePoster e = (is_some (poster_of_end (Some e)) ≡ true) × (is_used (Some e) ≡ false)
+
+-- the last of the ends that were left is given. Where all that were left are idle posters', so is it, and so are those that are left then
 pub record HasGiven (old new : QueueEnd) (given : AnyEnd) : Type 0 where
   pub last : left_in_end old ≡ left_in_end new ++ given ∷ []
-  pub posters : ArePosters (left_in_end old) → ArePosters (left_in_end new) × (is_some (poster_of_end (Some given)) ≡ true)
+  pub posters : All IsIdlePoster (left_in_end old) → All IsIdlePoster (left_in_end new) × IsIdlePoster given
 
 -- what a poster posts of a name
 abbrev pub post_by : PosterEnd → Name → Post

@@ -14,7 +14,7 @@ use Rattle.tlsf_post.specs.Lanes.{posts_sent, free_slots, taken, ready, IsLane}
 use Rattle.tlsf_post.specs.declared.post.Post.{Post}
 use Rattle.tlsf_post.specs.declared.post_end.PostEnd.{PostEnd}
 use Rattle.tlsf_post.specs.declared.take_end.TakeEnd.{TakeEnd}
-use Rattle.tlsf_c.specs.Ends.{post_of_end, take_of_end}
+use Rattle.tlsf_c.specs.Ends.{is_used, post_of_end, take_of_end}
 use Rattle.tlsf_c.specs.Levels.{GoesOn, seen_at}
 use Rattle.tlsf_c.specs.Names.{name_of}
 use Rattle.tlsf_c.specs.Refusals.{closed, status_of}
@@ -114,6 +114,10 @@ abbrev pub AreEnds : Option PostEnd → Option TakeEnd → Type 0
 AreEnds (Some p) (Some t) = IsLane p t
 AreEnds (Some p) None = ⊥
 AreEnds None t = ⊥
+
+-- an open handle, whose end no call is using
+abbrev pub end_serves : EndSlot → Bool
+end_serves h = idle_if h.is_open (is_used h.inner.value)
 
 -- the end of an open handle, if it is one that puts names into a lane
 abbrev pub post_in : EndSlot → Option PostEnd

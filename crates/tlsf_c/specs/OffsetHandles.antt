@@ -6,6 +6,7 @@ use Rattle.tlsf_offsets.specs.declared.usage.Usage.{Usage}
 use Rattle.tlsf_c.specs.Arenas.{is_offsets, offsets_of}
 use Rattle.tlsf_c.specs.Names.{name_of}
 use Rattle.tlsf_c.specs.OffsetLevels.{OffsetsGoOn}
+use Rattle.tlsf_c.specs.Serving.{arena_serves}
 use Rattle.tlsf_c.specs.declared.spans.OffsetSpan.{OffsetSpan}
 use Rattle.tlsf_c.specs.declared.spans.OffsetUsage.{OffsetUsage}
 use Rattle.tlsf_c.specs.declared.arena_slot.ArenaSlot.{ArenaSlot}
@@ -22,9 +23,9 @@ offsets_level h = (offsets_of h.inner.value).level
 abbrev pub holds_offsets : ArenaSlot → Bool
 holds_offsets h = is_offsets h.inner.value
 
--- an open handle stays open with its kind, its arena keeps its level and its unit, and touches never fall
+-- an open handle serves again with its kind, its arena keeps its level and its unit, and touches never fall
 pub record OffsetsStayOpen (old new : ArenaSlot) : Type 0 where
-  pub is_open : new.is_open ≡ true
+  pub serves : arena_serves new ≡ true
   pub kind : holds_offsets new ≡ holds_offsets old
   pub goes_on : OffsetsGoOn (offsets_of old.inner.value) (offsets_of new.inner.value)
 

@@ -11,6 +11,7 @@ use Rattle.tlsf_pool.specs.pools.Parts.{PoolsState}
 use Rattle.tlsf_c.specs.Arenas.{is_pools, pools_of}
 use Rattle.tlsf_c.specs.Lengths.{saturated}
 use Rattle.tlsf_c.specs.Refusals.{bad_size, row_full}
+use Rattle.tlsf_c.specs.Serving.{arena_serves}
 use Rattle.tlsf_c.specs.declared.arena_slot.ArenaSlot.{ArenaSlot}
 use Rattle.tlsf_c.specs.declared.kind_row.KindRow.{KindRow}
 
@@ -26,9 +27,9 @@ pools_level h = (pools_of h.inner.value).level
 abbrev pub holds_pools : ArenaSlot → Bool
 holds_pools h = is_pools h.inner.value
 
--- an open handle stays open with its kind, and its pools keep their level
+-- an open handle serves again with its kind, and its pools keep their level
 pub record PoolsStayOpen (old new : ArenaSlot) : Type 0 where
-  pub is_open : new.is_open ≡ true
+  pub serves : arena_serves new ≡ true
   pub kind : holds_pools new ≡ holds_pools old
   pub level : pools_level new ≡ pools_level old
 

@@ -5,10 +5,9 @@ use Rattle.tlsf_post.specs.Mailboxes.{put_by, out_of, most_of, got_by, IsAllTake
 use Rattle.tlsf_post.specs.declared.post.Post.{Post}
 use Rattle.tlsf_post.specs.declared.owner_end.OwnerEnd.{OwnerEnd}
 use Rattle.tlsf_post.specs.declared.poster_end.PosterEnd.{PosterEnd}
-use Rattle.tlsf_c.specs.Ends.{left_in_end, queue_of_end, poster_of_end, HasGiven, HasPut, WasFull}
+use Rattle.tlsf_c.specs.Ends.{idle_poster, left_in_end, queue_of_end, poster_of_end, HasGiven, HasPut, WasFull}
 use Rattle.tlsf_c.specs.declared.queue_end.QueueEnd.{QueueEnd}
 use Rattle.tlsf_c.specs.declared.any_end.AnyEnd.{AnyEnd}
-use Rattle.tlsf_c.specs.declared.any_end.AnyEnd.TheVariants.{Poster}
 use Rattle.tlsf_c.specs.declared.end_slot.EndSlot.{EndSlot}
 
 -- ---- the owner's end
@@ -66,10 +65,10 @@ KeepsQueue (Some old) None = ⊥
 KeepsQueue None (Some new) = ⊥
 KeepsQueue None None = ⊤
 
--- all ends of one new queue, by the number of its posters and the most names that it holds; nothing was put or taken
+-- all ends of one new queue, by the number of its posters and the most names that it holds. Nothing was put or taken. No call is using one
 abbrev pub IsNew : Option OwnerEnd → List AnyEnd → ℕ → ℕ → Type 0
 IsNew None left posters capacity = ⊥
-IsNew (Some o) left posters capacity = (ends : List PosterEnd) × (left ≡ map Poster ends) × IsWhole o ends × (out_of o ≡ posters + 1) × (most_of o ≡ capacity) × (got_by o ≡ []) × All (λ p. put_by p ≡ []) ends
+IsNew (Some o) left posters capacity = (ends : List PosterEnd) × (left ≡ map idle_poster ends) × IsWhole o ends × (out_of o ≡ posters + 1) × (most_of o ≡ capacity) × (got_by o ≡ []) × All (λ p. put_by p ≡ []) ends
 
 -- ---- a poster's end
 

@@ -1,46 +1,60 @@
 //! The content of an end's handle.
 ghost use Rattle.std.specs.Prelude.{◌≡◌, is_some, Some};
-ghost use Rattle.tlsf_c.specs.Ends.{post_of_end, take_of_end, queue_of_end, poster_of_end};
+ghost use Rattle.tlsf_c.specs.Ends.{is_used, post_of_end, take_of_end, queue_of_end, poster_of_end};
 
 use crate::queue_end::QueueEnd;
 use tlsf_post::{PostEnd, PosterEnd, TakeEnd};
 
-/// An end of a lane or of a queue.
+/// An end of a lane or of a queue, and whether a call is using it. The note lies beside the end's kind, in memory that no other
+/// thread reads. So a call writes nothing in the handle, and what other threads read beside that stays in their caches.
 #[cycle(ends)]
 #[derive(Drop)]
 pub enum AnyEnd {
-    Post(PostEnd),
-    Take(TakeEnd),
-    Queue(QueueEnd),
-    Poster(PosterEnd),
+    Post { is_in_use: bool, end: PostEnd },
+    Take { is_in_use: bool, end: TakeEnd },
+    Queue { is_in_use: bool, end: QueueEnd },
+    Poster { is_in_use: bool, end: PosterEnd },
 }
 
 impl AnyEnd {
+    /// Whether a call is using it.
+    #[inline(always)]
+    pub fn is_in_use(&self) -> bool
+        ensures { result ≡ is_used (Some self.now) }
+    {
+        match self {
+            AnyEnd::Post { is_in_use, .. }
+            | AnyEnd::Take { is_in_use, .. }
+            | AnyEnd::Queue { is_in_use, .. }
+            | AnyEnd::Poster { is_in_use, .. } => *is_in_use,
+        }
+    }
+
     /// Whether it puts names into a lane.
     pub fn is_post(&self) -> bool
         ensures { result ≡ is_some (post_of_end (Some self.now)) }
     {
-        matches!(self, AnyEnd::Post(_))
+        matches!(self, AnyEnd::Post { .. })
     }
 
     /// Whether it takes names out of a lane.
     pub fn is_take(&self) -> bool
         ensures { result ≡ is_some (take_of_end (Some self.now)) }
     {
-        matches!(self, AnyEnd::Take(_))
+        matches!(self, AnyEnd::Take { .. })
     }
 
     /// Whether it is the owner's end of a queue.
     pub fn is_queue(&self) -> bool
         ensures { result ≡ is_some (queue_of_end (Some self.now)) }
     {
-        matches!(self, AnyEnd::Queue(_))
+        matches!(self, AnyEnd::Queue { .. })
     }
 
     /// Whether it is a poster's end of a queue.
     pub fn is_poster(&self) -> bool
         ensures { result ≡ is_some (poster_of_end (Some self.now)) }
     {
-        matches!(self, AnyEnd::Poster(_))
+        matches!(self, AnyEnd::Poster { .. })
     }
 }

@@ -1,11 +1,13 @@
 //! Pools whose level is told when they are opened.
-ghost use Rattle.std.specs.Prelude.{◌≡◌, ◌+◌, ◌<◌, ◌≤◌, ◌^◌, ◌↔◌, length, IfOk, IfErr, IsErrOf, ◌≢◌};
+ghost use Rattle.std.specs.Prelude.{◌≡◌, ◌+◌, ◌<◌, ◌≤◌, ◌^◌, ◌↔◌, None, length, IfOk, IfErr, IfSome, IsErrOf, ◌≢◌};
 ghost use Rattle.tlsf_pool.specs.sizes.Rising.{HasNoHeaps};
-ghost use Rattle.tlsf_c.specs.PoolCalls.{AreNewPools, AllocatesInPools, ReleasesInPools, WritesInPools, ReadsInPools, ReportsInPools};
+ghost use Rattle.tlsf_c.specs.PoolCalls.{AreNewPools, AllocatesInPools, ReleasesInPools, WritesInPools, ReadsInPools, ReportsInPools, LooksInPools};
+ghost use Rattle.tlsf_pool.specs.pools.Parts.{part_at, table_of};
+ghost use Rattle.tlsf_pool.specs.pools.Tables as tables;
 
 use std::alloc::Global;
 use std::marker::Model;
-use tlsf_heap::{Name, OpenFault, Refusal, Report};
+use tlsf_heap::{Name, OpenFault, PlacedBlock, Refusal, Report};
 use tlsf_pool::{Kind, PoolRefusal, Pools};
 
 /// Pools of one of the two levels.
@@ -108,6 +110,50 @@ impl AnyPools {
         match &mut self.of_level {
             PoolsOfLevel::Four(pools) => pools.report(part),
             PoolsOfLevel::Five(pools) => pools.report(part),
+        }
+    }
+
+    /// `Pools::number`.
+    pub fn number(&self, part: usize) -> Option<u32>
+        ensures none { (result ≡ None) ↔ (length self.now.pools.parts ≤ part) }
+        ensures number { IfSome result (λ number. number ≡ (part_at self.now.pools part).heap.id) }
+    {
+        match &self.of_level {
+            PoolsOfLevel::Four(pools) => pools.number(part),
+            PoolsOfLevel::Five(pools) => pools.number(part),
+        }
+    }
+
+    /// `Pools::base`.
+    pub fn base(&mut self, part: usize) -> Option<*mut u64>
+        ensures none { (result ≡ None) ↔ (length self.old.pools.parts ≤ part) }
+        ensures address { IfSome result (λ base. base ≡ (part_at self.old.pools part).extents.words.address) }
+        ensures same { self.new ≡ self.old }
+    {
+        match &mut self.of_level {
+            PoolsOfLevel::Four(pools) => pools.base(part),
+            PoolsOfLevel::Five(pools) => pools.base(part),
+        }
+    }
+
+    /// `Pools::row_len`.
+    pub fn row_len(&self, len: u32) -> Option<u32>
+        ensures { result ≡ tables.row_len (table_of self.now.pools) len }
+    {
+        match &self.of_level {
+            PoolsOfLevel::Four(pools) => pools.row_len(len),
+            PoolsOfLevel::Five(pools) => pools.row_len(len),
+        }
+    }
+
+    /// `Pools::block_at`.
+    pub fn block_at(&mut self, part: usize, at: u32) -> Option<PlacedBlock>
+        ensures level { self.new.level ≡ self.old.level }
+        ensures looks { LooksInPools self.old.pools self.new.pools part at result }
+    {
+        match &mut self.of_level {
+            PoolsOfLevel::Four(pools) => pools.block_at(part, at),
+            PoolsOfLevel::Five(pools) => pools.block_at(part, at),
         }
     }
 }

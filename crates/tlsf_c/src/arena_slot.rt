@@ -16,14 +16,28 @@ pub struct ArenaSlot {
 }
 
 impl ArenaSlot {
-    /// Takes out what is there, and leaves the place closed. A closed place is not written to: what was there may be in use by the call that a
-    /// signal handler interrupts.
-    pub fn take_out(&mut self, alloc: Global) -> Option<Box<AnyArena, Global>>
-        ensures closed { self.new.is_open ≡ false }
-        ensures none { result ≡ None → (self.old.is_open ≡ false) × (self.new ≡ self.old) }
-        ensures some { (b : _) → result ≡ Some b → (self.old.is_open ≡ true) × (self.old.inner.value ≡ Some b.value) }
+    ghost use Rattle.tlsf_c.specs.Arenas.{is_arena_used};
+    ghost use Rattle.tlsf_c.specs.Serving.{arena_serves};
+
+    /// Whether it is open, and no call is using it.
+    #[inline(always)]
+    pub fn serves(&mut self) -> bool
+        ensures serves { result ≡ arena_serves self.old }
+        ensures open { result ≡ true → self.old.is_open ≡ true }
+        ensures idle { result ≡ true → is_arena_used self.old.inner.value ≡ false }
+        ensures same { self.new ≡ self.old }
     {
-        if !self.is_open {
+        self.is_open && !self.inner.lend().is_in_use()
+    }
+
+    /// Takes out what is there, and leaves the place closed. A place that is closed or in use stays as it is: a signal handler interrupts
+    /// the call that uses it.
+    pub fn take_out(&mut self, alloc: Global) -> Option<Box<AnyArena, Global>>
+        ensures closed { arena_serves self.new ≡ false }
+        ensures none { result ≡ None → (arena_serves self.old ≡ false) × (self.new ≡ self.old) }
+        ensures some { (b : _) → result ≡ Some b → (arena_serves self.old ≡ true) × (self.new.is_open ≡ false) × (self.old.inner.value ≡ Some b.value) }
+    {
+        if !self.serves() {
             return None;
         }
         let nowhere: *mut u8 = ptr::null_mut();
@@ -37,9 +51,9 @@ impl ArenaSlot {
         Some(inner.into_box())
     }
 
-    /// Drops what an open place holds, and leaves it closed.
+    /// Drops what an open place holds that no call is using, and leaves it closed.
     pub fn close(&mut self, alloc: Global)
-        requires { self.old.is_open ≡ true }
+        requires { arena_serves self.old ≡ true }
         ensures { self.new.is_open ≡ false }
     {
         drop(self.take_out(alloc));

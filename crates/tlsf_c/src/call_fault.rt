@@ -54,6 +54,15 @@ impl CallFault {
             CallFault::OtherKind => 40,
         }
     }
+
+    /// The same number, of a call that is refused before it begins. Never inline: on the way of one that serves no instruction is for it.
+    #[cold]
+    #[inline(never)]
+    pub fn refusal(self) -> u32
+        ensures { result ≡ call_number_of self }
+    {
+        self.number()
+    }
 }
 
 /// 0, or the number of a heap's refusal.

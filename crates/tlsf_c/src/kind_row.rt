@@ -1,9 +1,12 @@
 //! A row of a table of kinds, as C gives it.
-ghost use Rattle.std.specs.Prelude.{◌≡◌};
-ghost use Rattle.tlsf_c.specs.PoolHandles.{kind_of};
+ghost use Rattle.std.specs.Prelude.{◌≡◌, ◌≤◌, length, take};
+ghost use Rattle.tlsf_c.specs.PoolHandles.{kind_of, kinds_of};
 
 use crate::lengths::saturated;
 use tlsf_pool::Kind;
+
+/// The value in a place that has no row.
+const NO_KIND: Kind = Kind { most: 0, len: 0 };
 
 /// A kind of request: how many blocks of it are held at once, and how many bytes it has, at most.
 #[repr(C)]
@@ -23,4 +26,17 @@ impl KindRow {
             len: saturated(self.len),
         }
     }
+}
+
+/// The table of at most 64 rows, as pools have it, and places after it that have no row.
+pub fn kinds_in(rows: &[KindRow]) -> [Kind; 64]
+    requires few { length rows.now ≤ 64 }
+    ensures places { length result ≡ 64 }
+    ensures table { take (length rows.now) result ≡ kinds_of rows.now }
+{
+    let mut kinds = [NO_KIND; 64];
+    for (k, row) in rows.iter().enumerate() {
+        kinds[k] = row.kind();
+    }
+    kinds
 }

@@ -7,7 +7,7 @@ ghost use Rattle.tlsf_post.specs.declared.take_end.TakeEnd.{TakeEnd};
 ghost use Rattle.tlsf_heap.specs.Touched.{release_touches};
 ghost use Rattle.tlsf_heap.specs.WordsInUse.{words_in_use};
 ghost use Rattle.tlsf_post.specs.Lanes.{posts_sent, free_slots, taken, ready, IsLane};
-ghost use Rattle.tlsf_c.specs.Handles.{counts_in, heap_in, touches_in, touched_in, StaysOpen, post_of, posts_named, post_in, take_in, holds_post, holds_take, sent_in, known_slots, taken_in, ready_in, AreEnds, AreLane, HasTaken, Takes, serves};
+ghost use Rattle.tlsf_c.specs.Handles.{counts_in, heap_in, touches_in, touched_in, StaysOpen, post_of, posts_named, post_in, take_in, holds_post, holds_take, sent_in, known_slots, taken_in, ready_in, AreEnds, AreLane, HasTaken, Takes, end_serves, serves};
 ghost use Rattle.tlsf_c.specs.Drains.{drained, LeavesUnnamed};
 ghost use Rattle.tlsf_c.specs.Names.{name_of};
 ghost use Rattle.tlsf_c.specs.Takes.{HasTakenFirst, TakesFirst};
@@ -55,7 +55,7 @@ pub extern "C" fn tlsf_lane_open(
 ) -> u32
     ensures lane { result ≡ 0 → AreLane post.new take.new }
     ensures none { result ≡ 0 → (sent_in post.new ≡ []) × (taken_in take.new ≡ []) × (known_slots post.new ≡ capacity) }
-    ensures opens { result ≡ 0 → (post.new.is_open ≡ true) × (take.new.is_open ≡ true) }
+    ensures opens { result ≡ 0 → (end_serves post.new ≡ true) × (end_serves take.new ≡ true) }
     ensures kinds { result ≡ 0 → (holds_post post.new ≡ true) × (holds_take take.new ≡ true) }
     ensures refused { ¬ (result ≡ 0) → (post.new ≡ post.old) × (take.new ≡ take.old) }
     ensures post_in_use { post.old.is_open ≡ true → result ≡ in_use }
@@ -72,10 +72,22 @@ pub extern "C" fn tlsf_lane_open(
     let Ok((post_end, take_end)) = lane(alloc, capacity) else {
         return CallFault::NoMemory.number();
     };
-    let Ok(post_box) = Box::new(alloc, AnyEnd::Post(post_end)) else {
+    let Ok(post_box) = Box::new(
+        alloc,
+        AnyEnd::Post {
+            is_in_use: false,
+            end: post_end,
+        },
+    ) else {
         return CallFault::NoMemory.number();
     };
-    let Ok(take_box) = Box::new(alloc, AnyEnd::Take(take_end)) else {
+    let Ok(take_box) = Box::new(
+        alloc,
+        AnyEnd::Take {
+            is_in_use: false,
+            end: take_end,
+        },
+    ) else {
         return CallFault::NoMemory.number();
     };
     post.put_in(post_box);
@@ -93,11 +105,11 @@ pub extern "C" fn tlsf_lane_open(
 #[unsafe(no_mangle)]
 pub extern "C" fn tlsf_post_close(alloc: Global, post: &mut EndSlot) -> u32
     ensures after { result ≡ 0 → post.new.is_open ≡ false }
-    ensures closed { post.old.is_open ≡ false → (result ≡ closed) × (post.new ≡ post.old) }
-    ensures other { post.old.is_open ≡ true → holds_post post.old ≡ false → (result ≡ other_kind) × (post.new ≡ post.old) }
-    ensures open { post.old.is_open ≡ true → holds_post post.old ≡ true → result ≡ 0 }
+    ensures closed { end_serves post.old ≡ false → (result ≡ closed) × (post.new ≡ post.old) }
+    ensures other { end_serves post.old ≡ true → holds_post post.old ≡ false → (result ≡ other_kind) × (post.new ≡ post.old) }
+    ensures open { end_serves post.old ≡ true → holds_post post.old ≡ true → result ≡ 0 }
 {
-    if !post.is_open {
+    if !post.serves() {
         return CallFault::Closed.number();
     }
     if !post.inner.lend().is_post() {
@@ -117,11 +129,11 @@ pub extern "C" fn tlsf_post_close(alloc: Global, post: &mut EndSlot) -> u32
 #[unsafe(no_mangle)]
 pub extern "C" fn tlsf_take_close(alloc: Global, take: &mut EndSlot) -> u32
     ensures after { result ≡ 0 → take.new.is_open ≡ false }
-    ensures closed { take.old.is_open ≡ false → (result ≡ closed) × (take.new ≡ take.old) }
-    ensures other { take.old.is_open ≡ true → holds_take take.old ≡ false → (result ≡ other_kind) × (take.new ≡ take.old) }
-    ensures open { take.old.is_open ≡ true → holds_take take.old ≡ true → result ≡ 0 }
+    ensures closed { end_serves take.old ≡ false → (result ≡ closed) × (take.new ≡ take.old) }
+    ensures other { end_serves take.old ≡ true → holds_take take.old ≡ false → (result ≡ other_kind) × (take.new ≡ take.old) }
+    ensures open { end_serves take.old ≡ true → holds_take take.old ≡ true → result ≡ 0 }
 {
-    if !take.is_open {
+    if !take.serves() {
         return CallFault::Closed.number();
     }
     if !take.inner.lend().is_take() {
@@ -141,28 +153,28 @@ pub extern "C" fn tlsf_take_close(alloc: Global, take: &mut EndSlot) -> u32
 /// ```
 #[unsafe(no_mangle)]
 pub extern "C" fn tlsf_put(post: &mut EndSlot, name: BlockName) -> u32
-    ensures closed { post.old.is_open ≡ false → (result ≡ closed) × (post.new ≡ post.old) }
-    ensures other { post.old.is_open ≡ true → holds_post post.old ≡ false → (result ≡ other_kind) × (post.new ≡ post.old) }
-    ensures open { post.old.is_open ≡ true → (post.new.is_open ≡ true) × (holds_post post.new ≡ holds_post post.old) }
+    ensures closed { end_serves post.old ≡ false → (result ≡ closed) × (post.new ≡ post.old) }
+    ensures other { end_serves post.old ≡ true → holds_post post.old ≡ false → (result ≡ other_kind) × (post.new ≡ post.old) }
+    ensures open { end_serves post.old ≡ true → (end_serves post.new ≡ true) × (holds_post post.new ≡ holds_post post.old) }
     ensures lane { (t : Option TakeEnd) → AreEnds (post_in post.old) t → AreEnds (post_in post.new) t }
-    ensures sent { post.old.is_open ≡ true → result ≡ 0 → sent_in post.new ≡ sent_in post.old ++ post_of (name_of name) ∷ [] }
-    ensures slots { post.old.is_open ≡ true → result ≡ 0 → known_slots post.new ≡ known_slots post.old - 1 }
-    ensures full { post.old.is_open ≡ true → holds_post post.old ≡ true → ¬ (result ≡ 0) → (result ≡ full) × (sent_in post.new ≡ sent_in post.old)
+    ensures sent { end_serves post.old ≡ true → result ≡ 0 → sent_in post.new ≡ sent_in post.old ++ post_of (name_of name) ∷ [] }
+    ensures slots { end_serves post.old ≡ true → result ≡ 0 → known_slots post.new ≡ known_slots post.old - 1 }
+    ensures full { end_serves post.old ≡ true → holds_post post.old ≡ true → ¬ (result ≡ 0) → (result ≡ full) × (sent_in post.new ≡ sent_in post.old)
         × (known_slots post.new ≡ known_slots post.old) }
-    ensures succeeds { post.old.is_open ≡ true → 0 < known_slots post.old → result ≡ 0 }
+    ensures succeeds { end_serves post.old ≡ true → 0 < known_slots post.old → result ≡ 0 }
 {
-    if !post.is_open {
-        return CallFault::Closed.number();
+    if !post.serves() {
+        return CallFault::Closed.refusal();
     }
-    let AnyEnd::Post(end) = post.inner.lend() else {
-        return CallFault::OtherKind.number();
+    let AnyEnd::Post { is_in_use, end } = post.inner.lend() else {
+        return CallFault::OtherKind.refusal();
     };
-    post.is_open = false;
+    *is_in_use = true;
     let answer = end.put(Post {
         from: 0,
         name: name.name(),
     });
-    post.is_open = true;
+    *is_in_use = false;
     match answer {
         Ok(()) => 0,
         Err(_) => CallFault::Full.number(),
@@ -180,24 +192,24 @@ pub extern "C" fn tlsf_put(post: &mut EndSlot, name: BlockName) -> u32
 /// ```
 #[unsafe(no_mangle)]
 pub extern "C" fn tlsf_put_all(post: &mut EndSlot, names: &[BlockName], went: &mut usize) -> u32
-    ensures closed { post.old.is_open ≡ false → (result ≡ closed) × (post.new ≡ post.old) × (went.new ≡ went.old) }
-    ensures other { post.old.is_open ≡ true → holds_post post.old ≡ false → (result ≡ other_kind) × (post.new ≡ post.old) × (went.new ≡ went.old) }
-    ensures open { post.old.is_open ≡ true → holds_post post.old ≡ true → (result ≡ 0) × (post.new.is_open ≡ true) × (holds_post post.new ≡ true) }
+    ensures closed { end_serves post.old ≡ false → (result ≡ closed) × (post.new ≡ post.old) × (went.new ≡ went.old) }
+    ensures other { end_serves post.old ≡ true → holds_post post.old ≡ false → (result ≡ other_kind) × (post.new ≡ post.old) × (went.new ≡ went.old) }
+    ensures open { end_serves post.old ≡ true → holds_post post.old ≡ true → (result ≡ 0) × (end_serves post.new ≡ true) × (holds_post post.new ≡ true) }
     ensures lane { (t : Option TakeEnd) → AreEnds (post_in post.old) t → AreEnds (post_in post.new) t }
     ensures most { result ≡ 0 → went.new ≤ length names.now }
     ensures sent { result ≡ 0 → sent_in post.new ≡ sent_in post.old ++ posts_named (take went.new names.now) }
     ensures slots { result ≡ 0 → known_slots post.new ≡ known_slots post.old - went.new }
     ensures succeeds { result ≡ 0 → went.new < length names.now → known_slots post.old ≤ went.new }
 {
-    if !post.is_open {
-        return CallFault::Closed.number();
+    if !post.serves() {
+        return CallFault::Closed.refusal();
     }
-    let AnyEnd::Post(end) = post.inner.lend() else {
-        return CallFault::OtherKind.number();
+    let AnyEnd::Post { is_in_use, end } = post.inner.lend() else {
+        return CallFault::OtherKind.refusal();
     };
-    post.is_open = false;
+    *is_in_use = true;
     *went = put_names(end, names);
-    post.is_open = true;
+    *is_in_use = false;
     0
 }
 
@@ -251,24 +263,24 @@ fn put_slice(end: &mut PostEnd, names: &[BlockName]) -> usize
 /// ```
 #[unsafe(no_mangle)]
 pub extern "C" fn tlsf_take(take: &mut EndSlot, name: &mut BlockName) -> u32
-    ensures closed { take.old.is_open ≡ false → (result ≡ closed) × (take.new ≡ take.old) }
-    ensures other { take.old.is_open ≡ true → holds_take take.old ≡ false → (result ≡ other_kind) × (take.new ≡ take.old) }
-    ensures open { take.old.is_open ≡ true → (take.new.is_open ≡ true) × (holds_take take.new ≡ holds_take take.old) }
+    ensures closed { end_serves take.old ≡ false → (result ≡ closed) × (take.new ≡ take.old) }
+    ensures other { end_serves take.old ≡ true → holds_take take.old ≡ false → (result ≡ other_kind) × (take.new ≡ take.old) }
+    ensures open { end_serves take.old ≡ true → (end_serves take.new ≡ true) × (holds_take take.new ≡ holds_take take.old) }
     ensures lane { (p : Option PostEnd) → AreEnds p (take_in take.old) → AreEnds p (take_in take.new) }
-    ensures taken { take.old.is_open ≡ true → result ≡ 0 → Takes (take_in take.old) (take_in take.new) (name_of name.new) }
-    ensures empty { take.old.is_open ≡ true → holds_take take.old ≡ true → ¬ (result ≡ 0) → (result ≡ empty) × (taken_in take.new ≡ taken_in take.old) }
+    ensures taken { end_serves take.old ≡ true → result ≡ 0 → Takes (take_in take.old) (take_in take.new) (name_of name.new) }
+    ensures empty { end_serves take.old ≡ true → holds_take take.old ≡ true → ¬ (result ≡ 0) → (result ≡ empty) × (taken_in take.new ≡ taken_in take.old) }
     ensures no_name { ¬ (result ≡ 0) → name.new ≡ name.old }
-    ensures succeeds { take.old.is_open ≡ true → 0 < length (ready_in take.old) → result ≡ 0 }
+    ensures succeeds { end_serves take.old ≡ true → 0 < length (ready_in take.old) → result ≡ 0 }
 {
-    if !take.is_open {
-        return CallFault::Closed.number();
+    if !take.serves() {
+        return CallFault::Closed.refusal();
     }
-    let AnyEnd::Take(end) = take.inner.lend() else {
-        return CallFault::OtherKind.number();
+    let AnyEnd::Take { is_in_use, end } = take.inner.lend() else {
+        return CallFault::OtherKind.refusal();
     };
-    take.is_open = false;
+    *is_in_use = true;
     let answer = take_name(end, name);
-    take.is_open = true;
+    *is_in_use = false;
     answer
 }
 
@@ -305,28 +317,28 @@ pub extern "C" fn tlsf_take_all(
     names: &mut [BlockName],
     came: &mut usize,
 ) -> u32
-    ensures closed { take.old.is_open ≡ false → (result ≡ closed) × (take.new ≡ take.old) }
-    ensures other { take.old.is_open ≡ true → holds_take take.old ≡ false → (result ≡ other_kind) × (take.new ≡ take.old) }
+    ensures closed { end_serves take.old ≡ false → (result ≡ closed) × (take.new ≡ take.old) }
+    ensures other { end_serves take.old ≡ true → holds_take take.old ≡ false → (result ≡ other_kind) × (take.new ≡ take.old) }
     ensures refused { ¬ (result ≡ 0) → (names.new ≡ names.old) × (came.new ≡ came.old) }
-    ensures open { take.old.is_open ≡ true → (take.new.is_open ≡ true) × (holds_take take.new ≡ holds_take take.old) }
+    ensures open { end_serves take.old ≡ true → (end_serves take.new ≡ true) × (holds_take take.new ≡ holds_take take.old) }
     ensures lane { (p : Option PostEnd) → AreEnds p (take_in take.old) → AreEnds p (take_in take.new) }
     ensures taken { result ≡ 0 → TakesFirst (take_in take.old) (take_in take.new) came.new names.new }
     ensures rest { result ≡ 0 → drop came.new names.new ≡ drop came.new names.old }
     ensures most { result ≡ 0 → (came.new ≤ length names.old) × (came.new ≤ 32) }
     ensures some { result ≡ 0 → 0 < length names.old → 0 < came.new }
     ensures ready { result ≡ 0 → came.new < length names.old → came.new < 32 → length (ready_in take.old) ≤ came.new }
-    ensures empty { take.old.is_open ≡ true → holds_take take.old ≡ true → ¬ (result ≡ 0) → (result ≡ empty) × (0 < length names.old)
+    ensures empty { end_serves take.old ≡ true → holds_take take.old ≡ true → ¬ (result ≡ 0) → (result ≡ empty) × (0 < length names.old)
         × (length (ready_in take.old) ≡ 0) × (taken_in take.new ≡ taken_in take.old) }
 {
-    if !take.is_open {
-        return CallFault::Closed.number();
+    if !take.serves() {
+        return CallFault::Closed.refusal();
     }
-    let AnyEnd::Take(end) = take.inner.lend() else {
-        return CallFault::OtherKind.number();
+    let AnyEnd::Take { is_in_use, end } = take.inner.lend() else {
+        return CallFault::OtherKind.refusal();
     };
-    take.is_open = false;
+    *is_in_use = true;
     let count = take_names(end, names);
-    take.is_open = true;
+    *is_in_use = false;
     if count == 0 && !names.is_empty() {
         return CallFault::Empty.number();
     }
@@ -370,10 +382,10 @@ pub extern "C" fn tlsf_drain(
     came: &mut u32,
 ) -> u32
     ensures heap_closed { serves heap.old ≡ false → result ≡ closed }
-    ensures take_closed { take.old.is_open ≡ false → result ≡ closed }
+    ensures take_closed { end_serves take.old ≡ false → result ≡ closed }
     ensures refused { ¬ (result ≡ 0) → (heap.new ≡ heap.old) × (take.new ≡ take.old) × (came.new ≡ came.old) }
-    ensures other { serves heap.old ≡ true → take.old.is_open ≡ true → holds_take take.old ≡ false → result ≡ other_kind }
-    ensures open { serves heap.old ≡ true → take.old.is_open ≡ true → holds_take take.old ≡ true → (result ≡ 0) × StaysOpen heap.old heap.new × (take.new.is_open ≡ true) × (holds_take take.new ≡ true) }
+    ensures other { serves heap.old ≡ true → end_serves take.old ≡ true → holds_take take.old ≡ false → result ≡ other_kind }
+    ensures open { serves heap.old ≡ true → end_serves take.old ≡ true → holds_take take.old ≡ true → (result ≡ 0) × StaysOpen heap.old heap.new × (end_serves take.new ≡ true) × (holds_take take.new ≡ true) }
     ensures drained { result ≡ 0 → (posts : List Post) × (taken_in take.new ≡ taken_in take.old ++ posts)
         × (heap_in heap.new ≡ drained (heap_in heap.old) posts) × (length posts ≡ came.new) }
     ensures most { result ≡ 0 → came.new ≤ most }
@@ -385,15 +397,15 @@ pub extern "C" fn tlsf_drain(
     ensures leaves { result ≡ 0 → (posts : List Post) × (taken_in take.new ≡ taken_in take.old ++ posts)
         × LeavesUnnamed (heap_in heap.old).blocks posts (touched_in heap.old) (touched_in heap.new) }
 {
-    if !heap.serves() || !take.is_open {
-        return CallFault::Closed.number();
+    if !heap.serves() || !take.serves() {
+        return CallFault::Closed.refusal();
     }
-    let AnyEnd::Take(end) = take.inner.lend() else {
-        return CallFault::OtherKind.number();
+    let AnyEnd::Take { is_in_use, end } = take.inner.lend() else {
+        return CallFault::OtherKind.refusal();
     };
-    take.is_open = false;
+    *is_in_use = true;
     *came = drain_names(heap, end, most);
-    take.is_open = true;
+    *is_in_use = false;
     0
 }
 

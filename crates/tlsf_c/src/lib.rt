@@ -30,6 +30,7 @@ mod offset_calls;
 mod parts;
 mod place_calls;
 mod pool_calls;
+mod pool_places;
 mod queue_calls;
 mod queue_end;
 mod spans;

@@ -9,6 +9,7 @@ ghost use Rattle.tlsf_offsets.specs.declared.span.Span.{Span};
 ghost use Rattle.tlsf_c.specs.Names.{name_of};
 ghost use Rattle.tlsf_c.specs.OffsetHandles.{offsets_in, offsets_level, holds_offsets, OffsetsStayOpen, span_of, usage_told};
 ghost use Rattle.tlsf_c.specs.Refusals.{status_of, bad_size, no_memory, closed, other_kind, in_use, bad_level};
+ghost use Rattle.tlsf_c.specs.Serving.{arena_serves};
 
 use crate::any_arena::AnyArena;
 use crate::any_offsets::AnyOffsets;
@@ -42,7 +43,7 @@ pub extern "C" fn tlsf_offsets_open(
     ensures bad_size { offsets.old.is_open ≡ false → 4 ≤ level → level ≤ 5 → ¬ ((0 < unit) × IsRegion level units) → result ≡ bad_size }
     ensures no_memory { offsets.old.is_open ≡ false → 4 ≤ level → level ≤ 5 → (0 < unit) × IsRegion level units → ¬ (result ≡ 0) → result ≡ no_memory }
     ensures refused { ¬ (result ≡ 0) → offsets.new ≡ offsets.old }
-    ensures open { result ≡ 0 → (offsets.new.is_open ≡ true) × (holds_offsets offsets.new ≡ true) }
+    ensures open { result ≡ 0 → (arena_serves offsets.new ≡ true) × (holds_offsets offsets.new ≡ true) }
     ensures arena { result ≡ 0 → (offsets_level offsets.new ≡ level) × ((offsets_in offsets.new).heap ≡ opened id units 0) × ((offsets_in offsets.new).unit ≡ unit) }
     ensures touches { result ≡ 0 → (offsets_in offsets.new).touches ≤ 10 }
 {
@@ -54,7 +55,13 @@ pub extern "C" fn tlsf_offsets_open(
     }
     match AnyOffsets::open(alloc, level, id, unit, units) {
         Err(fault) => fault.number(),
-        Ok(opened) => match Box::new(alloc, AnyArena::Offsets(opened)) {
+        Ok(opened) => match Box::new(
+            alloc,
+            AnyArena::Offsets {
+                is_in_use: false,
+                owned: opened,
+            },
+        ) {
             Err(_) => CallFault::NoMemory.number(),
             Ok(owned) => {
                 offsets.put_in(owned);
@@ -74,11 +81,11 @@ pub extern "C" fn tlsf_offsets_open(
 #[unsafe(no_mangle)]
 pub extern "C" fn tlsf_offsets_close(alloc: Global, offsets: &mut ArenaSlot) -> u32
     ensures after { result ≡ 0 → offsets.new.is_open ≡ false }
-    ensures closed { offsets.old.is_open ≡ false → (result ≡ closed) × (offsets.new ≡ offsets.old) }
-    ensures other { offsets.old.is_open ≡ true → holds_offsets offsets.old ≡ false → (result ≡ other_kind) × (offsets.new ≡ offsets.old) }
-    ensures open { offsets.old.is_open ≡ true → holds_offsets offsets.old ≡ true → result ≡ 0 }
+    ensures closed { arena_serves offsets.old ≡ false → (result ≡ closed) × (offsets.new ≡ offsets.old) }
+    ensures other { arena_serves offsets.old ≡ true → holds_offsets offsets.old ≡ false → (result ≡ other_kind) × (offsets.new ≡ offsets.old) }
+    ensures open { arena_serves offsets.old ≡ true → holds_offsets offsets.old ≡ true → result ≡ 0 }
 {
-    if !offsets.is_open {
+    if !offsets.serves() {
         return CallFault::Closed.number();
     }
     if !offsets.inner.lend().is_offsets() {
@@ -102,27 +109,27 @@ pub extern "C" fn tlsf_offsets_allocate(
     bytes: u64,
     span: &mut OffsetSpan,
 ) -> u32
-    ensures closed { offsets.old.is_open ≡ false → (result ≡ closed) × (offsets.new ≡ offsets.old) }
-    ensures other { offsets.old.is_open ≡ true → holds_offsets offsets.old ≡ false → (result ≡ other_kind) × (offsets.new ≡ offsets.old) }
-    ensures open { offsets.old.is_open ≡ true → OffsetsStayOpen offsets.old offsets.new }
-    ensures status { offsets.old.is_open ≡ true → holds_offsets offsets.old ≡ true → result ≡ status_of (allocated_words (offsets_level offsets.old) (offsets_in offsets.old).heap (span_units (offsets_in offsets.old).unit bytes) 0).answer }
-    ensures allocates { offsets.old.is_open ≡ true → holds_offsets offsets.old ≡ true → Allocates (allocate_touches + 4) (offsets_level offsets.old) (span_units (offsets_in offsets.old).unit bytes) 0 (seen_of (offsets_in offsets.old)) (seen_of (offsets_in offsets.new)) (allocated_words (offsets_level offsets.old) (offsets_in offsets.old).heap (span_units (offsets_in offsets.old).unit bytes) 0).answer }
-    ensures refused { ¬ (result ≡ 0) → offsets.old.is_open ≡ true → (offsets_in offsets.new).heap ≡ (offsets_in offsets.old).heap }
+    ensures closed { arena_serves offsets.old ≡ false → (result ≡ closed) × (offsets.new ≡ offsets.old) }
+    ensures other { arena_serves offsets.old ≡ true → holds_offsets offsets.old ≡ false → (result ≡ other_kind) × (offsets.new ≡ offsets.old) }
+    ensures open { arena_serves offsets.old ≡ true → OffsetsStayOpen offsets.old offsets.new }
+    ensures status { arena_serves offsets.old ≡ true → holds_offsets offsets.old ≡ true → result ≡ status_of (allocated_words (offsets_level offsets.old) (offsets_in offsets.old).heap (span_units (offsets_in offsets.old).unit bytes) 0).answer }
+    ensures allocates { arena_serves offsets.old ≡ true → holds_offsets offsets.old ≡ true → Allocates (allocate_touches + 4) (offsets_level offsets.old) (span_units (offsets_in offsets.old).unit bytes) 0 (seen_of (offsets_in offsets.old)) (seen_of (offsets_in offsets.new)) (allocated_words (offsets_level offsets.old) (offsets_in offsets.old).heap (span_units (offsets_in offsets.old).unit bytes) 0).answer }
+    ensures refused { ¬ (result ≡ 0) → arena_serves offsets.old ≡ true → (offsets_in offsets.new).heap ≡ (offsets_in offsets.old).heap }
     ensures no_span { ¬ (result ≡ 0) → span.new ≡ span.old }
     ensures held { result ≡ 0 → IsHeld (offsets_in offsets.new) (span_of span.new) }
     ensures enough { result ≡ 0 → bytes ≤ span.new.size }
-    ensures others { offsets.old.is_open ≡ true → (other : Span) → IsHeld (offsets_in offsets.old) other → IsHeld (offsets_in offsets.new) other }
+    ensures others { arena_serves offsets.old ≡ true → (other : Span) → IsHeld (offsets_in offsets.old) other → IsHeld (offsets_in offsets.new) other }
     ensures fresh { result ≡ 0 → (other : Span) → IsHeld (offsets_in offsets.old) other → other.name ≢ name_of span.new.name }
 {
-    if !offsets.is_open {
-        return CallFault::Closed.number();
+    if !offsets.serves() {
+        return CallFault::Closed.refusal();
     }
-    let AnyArena::Offsets(owned) = offsets.inner.lend() else {
-        return CallFault::OtherKind.number();
+    let AnyArena::Offsets { is_in_use, owned } = offsets.inner.lend() else {
+        return CallFault::OtherKind.refusal();
     };
-    offsets.is_open = false;
+    *is_in_use = true;
     let answer = owned.allocate(bytes);
-    offsets.is_open = true;
+    *is_in_use = false;
     match answer {
         Ok(given) => {
             *span = OffsetSpan::of(given);
@@ -143,23 +150,23 @@ pub extern "C" fn tlsf_offsets_allocate(
 /// ```
 #[unsafe(no_mangle)]
 pub extern "C" fn tlsf_offsets_release(offsets: &mut ArenaSlot, name: BlockName) -> u32
-    ensures closed { offsets.old.is_open ≡ false → (result ≡ closed) × (offsets.new ≡ offsets.old) }
-    ensures other { offsets.old.is_open ≡ true → holds_offsets offsets.old ≡ false → (result ≡ other_kind) × (offsets.new ≡ offsets.old) }
-    ensures open { offsets.old.is_open ≡ true → OffsetsStayOpen offsets.old offsets.new }
-    ensures status { offsets.old.is_open ≡ true → holds_offsets offsets.old ≡ true → result ≡ status_of (released (offsets_in offsets.old).heap (name_of name)).answer }
-    ensures releases { offsets.old.is_open ≡ true → holds_offsets offsets.old ≡ true → Releases release_touches (seen_of (offsets_in offsets.old)) (seen_of (offsets_in offsets.new)) (name_of name) (released (offsets_in offsets.old).heap (name_of name)).answer }
-    ensures others { offsets.old.is_open ≡ true → KeepsOthers (offsets_in offsets.old) (offsets_in offsets.new) (name_of name) }
+    ensures closed { arena_serves offsets.old ≡ false → (result ≡ closed) × (offsets.new ≡ offsets.old) }
+    ensures other { arena_serves offsets.old ≡ true → holds_offsets offsets.old ≡ false → (result ≡ other_kind) × (offsets.new ≡ offsets.old) }
+    ensures open { arena_serves offsets.old ≡ true → OffsetsStayOpen offsets.old offsets.new }
+    ensures status { arena_serves offsets.old ≡ true → holds_offsets offsets.old ≡ true → result ≡ status_of (released (offsets_in offsets.old).heap (name_of name)).answer }
+    ensures releases { arena_serves offsets.old ≡ true → holds_offsets offsets.old ≡ true → Releases release_touches (seen_of (offsets_in offsets.old)) (seen_of (offsets_in offsets.new)) (name_of name) (released (offsets_in offsets.old).heap (name_of name)).answer }
+    ensures others { arena_serves offsets.old ≡ true → KeepsOthers (offsets_in offsets.old) (offsets_in offsets.new) (name_of name) }
     ensures gone { result ≡ 0 → (span : Span) → IsHeld (offsets_in offsets.new) span → span.name ≢ name_of name }
 {
-    if !offsets.is_open {
-        return CallFault::Closed.number();
+    if !offsets.serves() {
+        return CallFault::Closed.refusal();
     }
-    let AnyArena::Offsets(owned) = offsets.inner.lend() else {
-        return CallFault::OtherKind.number();
+    let AnyArena::Offsets { is_in_use, owned } = offsets.inner.lend() else {
+        return CallFault::OtherKind.refusal();
     };
-    offsets.is_open = false;
+    *is_in_use = true;
     let answer = owned.release(name.name());
-    offsets.is_open = true;
+    *is_in_use = false;
     match answer {
         Ok(()) => 0,
         Err(why) => why.number(),
@@ -180,25 +187,25 @@ pub extern "C" fn tlsf_offsets_resize(
     span: &mut OffsetSpan,
     bytes: u64,
 ) -> u32
-    ensures closed { offsets.old.is_open ≡ false → (result ≡ closed) × (offsets.new ≡ offsets.old) }
-    ensures other { offsets.old.is_open ≡ true → holds_offsets offsets.old ≡ false → (result ≡ other_kind) × (offsets.new ≡ offsets.old) }
-    ensures open { offsets.old.is_open ≡ true → OffsetsStayOpen offsets.old offsets.new }
-    ensures status { offsets.old.is_open ≡ true → holds_offsets offsets.old ≡ true → result ≡ status_of (resized_words (offsets_in offsets.old).heap (name_of span.old.name) (span_units (offsets_in offsets.old).unit bytes) 0).answer }
-    ensures resizes { offsets.old.is_open ≡ true → holds_offsets offsets.old ≡ true → Resizes (resize_touches + 4) (span_units (offsets_in offsets.old).unit bytes) 0 (seen_of (offsets_in offsets.old)) (seen_of (offsets_in offsets.new)) (name_of span.old.name) (resized_words (offsets_in offsets.old).heap (name_of span.old.name) (span_units (offsets_in offsets.old).unit bytes) 0).answer }
+    ensures closed { arena_serves offsets.old ≡ false → (result ≡ closed) × (offsets.new ≡ offsets.old) }
+    ensures other { arena_serves offsets.old ≡ true → holds_offsets offsets.old ≡ false → (result ≡ other_kind) × (offsets.new ≡ offsets.old) }
+    ensures open { arena_serves offsets.old ≡ true → OffsetsStayOpen offsets.old offsets.new }
+    ensures status { arena_serves offsets.old ≡ true → holds_offsets offsets.old ≡ true → result ≡ status_of (resized_words (offsets_in offsets.old).heap (name_of span.old.name) (span_units (offsets_in offsets.old).unit bytes) 0).answer }
+    ensures resizes { arena_serves offsets.old ≡ true → holds_offsets offsets.old ≡ true → Resizes (resize_touches + 4) (span_units (offsets_in offsets.old).unit bytes) 0 (seen_of (offsets_in offsets.old)) (seen_of (offsets_in offsets.new)) (name_of span.old.name) (resized_words (offsets_in offsets.old).heap (name_of span.old.name) (span_units (offsets_in offsets.old).unit bytes) 0).answer }
     ensures no_span { ¬ (result ≡ 0) → span.new ≡ span.old }
     ensures held { result ≡ 0 → IsHeld (offsets_in offsets.new) (span_of span.new) × (span.new.name ≡ span.old.name) }
     ensures enough { result ≡ 0 → bytes ≤ span.new.size }
-    ensures others { offsets.old.is_open ≡ true → KeepsOthers (offsets_in offsets.old) (offsets_in offsets.new) (name_of span.old.name) }
+    ensures others { arena_serves offsets.old ≡ true → KeepsOthers (offsets_in offsets.old) (offsets_in offsets.new) (name_of span.old.name) }
 {
-    if !offsets.is_open {
-        return CallFault::Closed.number();
+    if !offsets.serves() {
+        return CallFault::Closed.refusal();
     }
-    let AnyArena::Offsets(owned) = offsets.inner.lend() else {
-        return CallFault::OtherKind.number();
+    let AnyArena::Offsets { is_in_use, owned } = offsets.inner.lend() else {
+        return CallFault::OtherKind.refusal();
     };
-    offsets.is_open = false;
+    *is_in_use = true;
     let answer = owned.resize(span.name.name(), bytes);
-    offsets.is_open = true;
+    *is_in_use = false;
     match answer {
         Ok(grown) => {
             *span = OffsetSpan::of(grown);
@@ -217,22 +224,22 @@ pub extern "C" fn tlsf_offsets_resize(
 /// ```
 #[unsafe(no_mangle)]
 pub extern "C" fn tlsf_offsets_report(offsets: &mut ArenaSlot, usage: &mut OffsetUsage) -> u32
-    ensures closed { offsets.old.is_open ≡ false → (result ≡ closed) × (offsets.new ≡ offsets.old) × (usage.new ≡ usage.old) }
-    ensures other { offsets.old.is_open ≡ true → holds_offsets offsets.old ≡ false → (result ≡ other_kind) × (offsets.new ≡ offsets.old) × (usage.new ≡ usage.old) }
-    ensures open { offsets.old.is_open ≡ true → holds_offsets offsets.old ≡ true → (result ≡ 0) × (offsets.new.is_open ≡ true) × (holds_offsets offsets.new ≡ true) }
+    ensures closed { arena_serves offsets.old ≡ false → (result ≡ closed) × (offsets.new ≡ offsets.old) × (usage.new ≡ usage.old) }
+    ensures other { arena_serves offsets.old ≡ true → holds_offsets offsets.old ≡ false → (result ≡ other_kind) × (offsets.new ≡ offsets.old) × (usage.new ≡ usage.old) }
+    ensures open { arena_serves offsets.old ≡ true → holds_offsets offsets.old ≡ true → (result ≡ 0) × (arena_serves offsets.new ≡ true) × (holds_offsets offsets.new ≡ true) }
     ensures usage { result ≡ 0 → usage_told usage.new ≡ usage_of (offsets_level offsets.old) (offsets_in offsets.old) }
-    ensures same { offsets.old.is_open ≡ true → (offsets_level offsets.new ≡ offsets_level offsets.old) × ((offsets_in offsets.new).heap ≡ (offsets_in offsets.old).heap) × ((offsets_in offsets.new).unit ≡ (offsets_in offsets.old).unit) }
-    ensures touches { offsets.old.is_open ≡ true → (offsets_in offsets.new).touches ≤ (offsets_in offsets.old).touches + 2 * length (offsets_in offsets.old).heap.blocks }
+    ensures same { arena_serves offsets.old ≡ true → (offsets_level offsets.new ≡ offsets_level offsets.old) × ((offsets_in offsets.new).heap ≡ (offsets_in offsets.old).heap) × ((offsets_in offsets.new).unit ≡ (offsets_in offsets.old).unit) }
+    ensures touches { arena_serves offsets.old ≡ true → (offsets_in offsets.new).touches ≤ (offsets_in offsets.old).touches + 2 * length (offsets_in offsets.old).heap.blocks }
 {
-    if !offsets.is_open {
-        return CallFault::Closed.number();
+    if !offsets.serves() {
+        return CallFault::Closed.refusal();
     }
-    let AnyArena::Offsets(owned) = offsets.inner.lend() else {
-        return CallFault::OtherKind.number();
+    let AnyArena::Offsets { is_in_use, owned } = offsets.inner.lend() else {
+        return CallFault::OtherKind.refusal();
     };
-    offsets.is_open = false;
+    *is_in_use = true;
     let found = owned.usage();
-    offsets.is_open = true;
+    *is_in_use = false;
     *usage = OffsetUsage::of(found);
     0
 }

@@ -10,20 +10,18 @@ ghost use Rattle.tlsf_c.specs.Names.{name_of, report_in};
 ghost use Rattle.tlsf_c.specs.PoolCalls.{AreNewPools, AllocatesInPools, ReleasesInPools, WritesInPools, ReadsInPools, ReportsInPools, PartsLeaveLive, PartsLeavePayloads};
 ghost use Rattle.tlsf_c.specs.PoolHandles.{pools_in, pools_level, holds_pools, PoolsStayOpen, kinds_of, pool_status_of, part_status_of};
 ghost use Rattle.tlsf_c.specs.Refusals.{status_of, bad_size, no_memory, closed, other_kind, in_use, bad_level};
+ghost use Rattle.tlsf_c.specs.Serving.{arena_serves};
 
 use crate::any_arena::AnyArena;
 use crate::any_pools::AnyPools;
 use crate::arena_slot::ArenaSlot;
 use crate::call_fault::{CallFault, status};
-use crate::kind_row::KindRow;
+use crate::kind_row::{KindRow, kinds_in};
 use crate::lengths::saturated;
 use crate::names::{BlockName, HeapReport};
 use std::alloc::Global;
 use tlsf_heap::{OpenFault, Refusal};
-use tlsf_pool::{Kind, PoolRefusal};
-
-/// The value in a place that has no row.
-const NO_KIND: Kind = Kind { most: 0, len: 0 };
+use tlsf_pool::PoolRefusal;
 
 /// Opens pools of a level, 4 or 5, for a table of at most 64 rows.
 fn open_for(alloc: Global, level: u32, id: u32, rows: &[KindRow]) -> Result<AnyPools, OpenFault>
@@ -36,10 +34,7 @@ fn open_for(alloc: Global, level: u32, id: u32, rows: &[KindRow]) -> Result<AnyP
     ensures bad_size { IsErrOf result OpenFault.BadSize ↔ HasNoHeaps level 8 (kinds_of rows.now) }
     ensures not_worn { ¬ (IsErrOf result OpenFault.Worn) }
 {
-    let mut kinds = [NO_KIND; 64];
-    for (k, row) in rows.iter().enumerate() {
-        kinds[k] = row.kind();
-    }
+    let kinds = kinds_in(rows);
     let (table, _) = kinds.split_at(rows.len());
     AnyPools::open(alloc, level, id, table)
 }
@@ -71,7 +66,7 @@ pub extern "C" fn tlsf_pools_open(
     ensures no_heaps { pools.old.is_open ≡ false → 4 ≤ level → level ≤ 5 → HasNoHeaps level 8 (kinds_of rows.now) → result ≡ bad_size }
     ensures no_memory { pools.old.is_open ≡ false → 4 ≤ level → level ≤ 5 → length rows.now ≤ 64 → id + 8 ≤ 2 ^ 32 → ¬ (HasNoHeaps level 8 (kinds_of rows.now)) → ¬ (result ≡ 0) → result ≡ no_memory }
     ensures refused { ¬ (result ≡ 0) → pools.new ≡ pools.old }
-    ensures open { result ≡ 0 → (pools.new.is_open ≡ true) × (holds_pools pools.new ≡ true) }
+    ensures open { result ≡ 0 → (arena_serves pools.new ≡ true) × (holds_pools pools.new ≡ true) }
     ensures level { result ≡ 0 → pools_level pools.new ≡ level }
     ensures new { result ≡ 0 → AreNewPools level id (kinds_of rows.now) (pools_in pools.new) }
 {
@@ -86,7 +81,13 @@ pub extern "C" fn tlsf_pools_open(
     }
     match open_for(alloc, level, id, rows) {
         Err(fault) => fault.number(),
-        Ok(opened) => match Box::new(alloc, AnyArena::Pools(opened)) {
+        Ok(opened) => match Box::new(
+            alloc,
+            AnyArena::Pools {
+                is_in_use: false,
+                owned: opened,
+            },
+        ) {
             Err(_) => CallFault::NoMemory.number(),
             Ok(owned) => {
                 pools.put_in(owned);
@@ -106,11 +107,11 @@ pub extern "C" fn tlsf_pools_open(
 #[unsafe(no_mangle)]
 pub extern "C" fn tlsf_pools_close(alloc: Global, pools: &mut ArenaSlot) -> u32
     ensures after { result ≡ 0 → pools.new.is_open ≡ false }
-    ensures closed { pools.old.is_open ≡ false → (result ≡ closed) × (pools.new ≡ pools.old) }
-    ensures other { pools.old.is_open ≡ true → holds_pools pools.old ≡ false → (result ≡ other_kind) × (pools.new ≡ pools.old) }
-    ensures open { pools.old.is_open ≡ true → holds_pools pools.old ≡ true → result ≡ 0 }
+    ensures closed { arena_serves pools.old ≡ false → (result ≡ closed) × (pools.new ≡ pools.old) }
+    ensures other { arena_serves pools.old ≡ true → holds_pools pools.old ≡ false → (result ≡ other_kind) × (pools.new ≡ pools.old) }
+    ensures open { arena_serves pools.old ≡ true → holds_pools pools.old ≡ true → result ≡ 0 }
 {
-    if !pools.is_open {
+    if !pools.serves() {
         return CallFault::Closed.number();
     }
     if !pools.inner.lend().is_pools() {
@@ -136,23 +137,23 @@ pub extern "C" fn tlsf_pools_allocate(
     len: usize,
     name: &mut BlockName,
 ) -> u32
-    ensures closed { pools.old.is_open ≡ false → (result ≡ closed) × (pools.new ≡ pools.old) }
-    ensures other { pools.old.is_open ≡ true → holds_pools pools.old ≡ false → (result ≡ other_kind) × (pools.new ≡ pools.old) }
-    ensures open { pools.old.is_open ≡ true → PoolsStayOpen pools.old pools.new }
-    ensures allocates { pools.old.is_open ≡ true → holds_pools pools.old ≡ true → (answer : Result Name PoolRefusal) × AllocatesInPools (pools_level pools.old) (pools_in pools.old) (pools_in pools.new) (saturated len) answer
+    ensures closed { arena_serves pools.old ≡ false → (result ≡ closed) × (pools.new ≡ pools.old) }
+    ensures other { arena_serves pools.old ≡ true → holds_pools pools.old ≡ false → (result ≡ other_kind) × (pools.new ≡ pools.old) }
+    ensures open { arena_serves pools.old ≡ true → PoolsStayOpen pools.old pools.new }
+    ensures allocates { arena_serves pools.old ≡ true → holds_pools pools.old ≡ true → (answer : Result Name PoolRefusal) × AllocatesInPools (pools_level pools.old) (pools_in pools.old) (pools_in pools.new) (saturated len) answer
         × (result ≡ pool_status_of answer) × IfOk answer (λ given. name_of name.new ≡ given) }
-    ensures leaves { pools.old.is_open ≡ true → PartsLeaveLive (pools_in pools.old) (pools_in pools.new) }
+    ensures leaves { arena_serves pools.old ≡ true → PartsLeaveLive (pools_in pools.old) (pools_in pools.new) }
     ensures no_name { ¬ (result ≡ 0) → name.new ≡ name.old }
 {
-    if !pools.is_open {
-        return CallFault::Closed.number();
+    if !pools.serves() {
+        return CallFault::Closed.refusal();
     }
-    let AnyArena::Pools(owned) = pools.inner.lend() else {
-        return CallFault::OtherKind.number();
+    let AnyArena::Pools { is_in_use, owned } = pools.inner.lend() else {
+        return CallFault::OtherKind.refusal();
     };
-    pools.is_open = false;
+    *is_in_use = true;
     let answer = owned.allocate(saturated(len));
-    pools.is_open = true;
+    *is_in_use = false;
     match answer {
         Ok(new) => {
             *name = BlockName::of(new);
@@ -175,22 +176,22 @@ pub extern "C" fn tlsf_pools_allocate(
 #[tactic(auto, using(crate::proofs::LeftParts::release_left))]
 #[unsafe(no_mangle)]
 pub extern "C" fn tlsf_pools_release(pools: &mut ArenaSlot, name: BlockName) -> u32
-    ensures closed { pools.old.is_open ≡ false → (result ≡ closed) × (pools.new ≡ pools.old) }
-    ensures other { pools.old.is_open ≡ true → holds_pools pools.old ≡ false → (result ≡ other_kind) × (pools.new ≡ pools.old) }
-    ensures open { pools.old.is_open ≡ true → PoolsStayOpen pools.old pools.new }
-    ensures releases { pools.old.is_open ≡ true → holds_pools pools.old ≡ true → (answer : Result (Unit {0}) Refusal) × ReleasesInPools (pools_in pools.old) (pools_in pools.new) (name_of name) answer × (result ≡ status_of answer) }
-    ensures leaves { pools.old.is_open ≡ true → PartsLeavePayloads (pools_in pools.old) (pools_in pools.new) (name_of name) }
-    ensures leaves_all { pools.old.is_open ≡ true → ¬ (result ≡ 0) → PartsLeaveLive (pools_in pools.old) (pools_in pools.new) }
+    ensures closed { arena_serves pools.old ≡ false → (result ≡ closed) × (pools.new ≡ pools.old) }
+    ensures other { arena_serves pools.old ≡ true → holds_pools pools.old ≡ false → (result ≡ other_kind) × (pools.new ≡ pools.old) }
+    ensures open { arena_serves pools.old ≡ true → PoolsStayOpen pools.old pools.new }
+    ensures releases { arena_serves pools.old ≡ true → holds_pools pools.old ≡ true → (answer : Result (Unit {0}) Refusal) × ReleasesInPools (pools_in pools.old) (pools_in pools.new) (name_of name) answer × (result ≡ status_of answer) }
+    ensures leaves { arena_serves pools.old ≡ true → PartsLeavePayloads (pools_in pools.old) (pools_in pools.new) (name_of name) }
+    ensures leaves_all { arena_serves pools.old ≡ true → ¬ (result ≡ 0) → PartsLeaveLive (pools_in pools.old) (pools_in pools.new) }
 {
-    if !pools.is_open {
-        return CallFault::Closed.number();
+    if !pools.serves() {
+        return CallFault::Closed.refusal();
     }
-    let AnyArena::Pools(owned) = pools.inner.lend() else {
-        return CallFault::OtherKind.number();
+    let AnyArena::Pools { is_in_use, owned } = pools.inner.lend() else {
+        return CallFault::OtherKind.refusal();
     };
-    pools.is_open = false;
+    *is_in_use = true;
     let answer = owned.release(name.name());
-    pools.is_open = true;
+    *is_in_use = false;
     status(answer)
 }
 
@@ -210,22 +211,22 @@ pub extern "C" fn tlsf_pools_write(
     at: u32,
     bytes: &[u8],
 ) -> u32
-    ensures closed { pools.old.is_open ≡ false → (result ≡ closed) × (pools.new ≡ pools.old) }
-    ensures other { pools.old.is_open ≡ true → holds_pools pools.old ≡ false → (result ≡ other_kind) × (pools.new ≡ pools.old) }
-    ensures open { pools.old.is_open ≡ true → PoolsStayOpen pools.old pools.new }
-    ensures writes { pools.old.is_open ≡ true → holds_pools pools.old ≡ true → (answer : Result (Unit {0}) Refusal) × WritesInPools (pools_in pools.old) (pools_in pools.new) (name_of name) at bytes.now answer × (result ≡ status_of answer) }
-    ensures leaves { pools.old.is_open ≡ true → PartsLeavePayloads (pools_in pools.old) (pools_in pools.new) (name_of name) }
-    ensures leaves_all { pools.old.is_open ≡ true → ¬ (result ≡ 0) → PartsLeaveLive (pools_in pools.old) (pools_in pools.new) }
+    ensures closed { arena_serves pools.old ≡ false → (result ≡ closed) × (pools.new ≡ pools.old) }
+    ensures other { arena_serves pools.old ≡ true → holds_pools pools.old ≡ false → (result ≡ other_kind) × (pools.new ≡ pools.old) }
+    ensures open { arena_serves pools.old ≡ true → PoolsStayOpen pools.old pools.new }
+    ensures writes { arena_serves pools.old ≡ true → holds_pools pools.old ≡ true → (answer : Result (Unit {0}) Refusal) × WritesInPools (pools_in pools.old) (pools_in pools.new) (name_of name) at bytes.now answer × (result ≡ status_of answer) }
+    ensures leaves { arena_serves pools.old ≡ true → PartsLeavePayloads (pools_in pools.old) (pools_in pools.new) (name_of name) }
+    ensures leaves_all { arena_serves pools.old ≡ true → ¬ (result ≡ 0) → PartsLeaveLive (pools_in pools.old) (pools_in pools.new) }
 {
-    if !pools.is_open {
-        return CallFault::Closed.number();
+    if !pools.serves() {
+        return CallFault::Closed.refusal();
     }
-    let AnyArena::Pools(owned) = pools.inner.lend() else {
-        return CallFault::OtherKind.number();
+    let AnyArena::Pools { is_in_use, owned } = pools.inner.lend() else {
+        return CallFault::OtherKind.refusal();
     };
-    pools.is_open = false;
+    *is_in_use = true;
     let answer = owned.write(name.name(), at, bytes);
-    pools.is_open = true;
+    *is_in_use = false;
     status(answer)
 }
 
@@ -245,22 +246,22 @@ pub extern "C" fn tlsf_pools_read(
     at: u32,
     out: &mut [u8],
 ) -> u32
-    ensures closed { pools.old.is_open ≡ false → (result ≡ closed) × (pools.new ≡ pools.old) × (out.new ≡ out.old) }
-    ensures other { pools.old.is_open ≡ true → holds_pools pools.old ≡ false → (result ≡ other_kind) × (pools.new ≡ pools.old) × (out.new ≡ out.old) }
-    ensures open { pools.old.is_open ≡ true → PoolsStayOpen pools.old pools.new }
-    ensures reads { pools.old.is_open ≡ true → holds_pools pools.old ≡ true → (answer : Result (Unit {0}) Refusal) × ReadsInPools (pools_in pools.old) (pools_in pools.new) (name_of name) at out.old out.new answer × (result ≡ status_of answer) }
-    ensures leaves { pools.old.is_open ≡ true → PartsLeavePayloads (pools_in pools.old) (pools_in pools.new) (name_of name) }
-    ensures leaves_all { pools.old.is_open ≡ true → ¬ (result ≡ 0) → PartsLeaveLive (pools_in pools.old) (pools_in pools.new) }
+    ensures closed { arena_serves pools.old ≡ false → (result ≡ closed) × (pools.new ≡ pools.old) × (out.new ≡ out.old) }
+    ensures other { arena_serves pools.old ≡ true → holds_pools pools.old ≡ false → (result ≡ other_kind) × (pools.new ≡ pools.old) × (out.new ≡ out.old) }
+    ensures open { arena_serves pools.old ≡ true → PoolsStayOpen pools.old pools.new }
+    ensures reads { arena_serves pools.old ≡ true → holds_pools pools.old ≡ true → (answer : Result (Unit {0}) Refusal) × ReadsInPools (pools_in pools.old) (pools_in pools.new) (name_of name) at out.old out.new answer × (result ≡ status_of answer) }
+    ensures leaves { arena_serves pools.old ≡ true → PartsLeavePayloads (pools_in pools.old) (pools_in pools.new) (name_of name) }
+    ensures leaves_all { arena_serves pools.old ≡ true → ¬ (result ≡ 0) → PartsLeaveLive (pools_in pools.old) (pools_in pools.new) }
 {
-    if !pools.is_open {
-        return CallFault::Closed.number();
+    if !pools.serves() {
+        return CallFault::Closed.refusal();
     }
-    let AnyArena::Pools(owned) = pools.inner.lend() else {
-        return CallFault::OtherKind.number();
+    let AnyArena::Pools { is_in_use, owned } = pools.inner.lend() else {
+        return CallFault::OtherKind.refusal();
     };
-    pools.is_open = false;
+    *is_in_use = true;
     let answer = owned.read(name.name(), at, out);
-    pools.is_open = true;
+    *is_in_use = false;
     status(answer)
 }
 
@@ -279,23 +280,23 @@ pub extern "C" fn tlsf_pools_report(
     part: u32,
     report: &mut HeapReport,
 ) -> u32
-    ensures closed { pools.old.is_open ≡ false → (result ≡ closed) × (pools.new ≡ pools.old) }
-    ensures other { pools.old.is_open ≡ true → holds_pools pools.old ≡ false → (result ≡ other_kind) × (pools.new ≡ pools.old) }
-    ensures open { pools.old.is_open ≡ true → PoolsStayOpen pools.old pools.new }
-    ensures reports { pools.old.is_open ≡ true → holds_pools pools.old ≡ true → (answer : Option Report) × ReportsInPools (pools_level pools.old) (pools_in pools.old) (pools_in pools.new) part answer
+    ensures closed { arena_serves pools.old ≡ false → (result ≡ closed) × (pools.new ≡ pools.old) }
+    ensures other { arena_serves pools.old ≡ true → holds_pools pools.old ≡ false → (result ≡ other_kind) × (pools.new ≡ pools.old) }
+    ensures open { arena_serves pools.old ≡ true → PoolsStayOpen pools.old pools.new }
+    ensures reports { arena_serves pools.old ≡ true → holds_pools pools.old ≡ true → (answer : Option Report) × ReportsInPools (pools_level pools.old) (pools_in pools.old) (pools_in pools.new) part answer
         × (result ≡ part_status_of answer) × IfSome answer (λ found. report_in report.new ≡ found) }
-    ensures leaves { pools.old.is_open ≡ true → PartsLeaveLive (pools_in pools.old) (pools_in pools.new) }
+    ensures leaves { arena_serves pools.old ≡ true → PartsLeaveLive (pools_in pools.old) (pools_in pools.new) }
     ensures no_report { ¬ (result ≡ 0) → report.new ≡ report.old }
 {
-    if !pools.is_open {
-        return CallFault::Closed.number();
+    if !pools.serves() {
+        return CallFault::Closed.refusal();
     }
-    let AnyArena::Pools(owned) = pools.inner.lend() else {
-        return CallFault::OtherKind.number();
+    let AnyArena::Pools { is_in_use, owned } = pools.inner.lend() else {
+        return CallFault::OtherKind.refusal();
     };
-    pools.is_open = false;
+    *is_in_use = true;
     let answer = owned.report(part as usize);
-    pools.is_open = true;
+    *is_in_use = false;
     match answer {
         Some(found) => {
             *report = HeapReport::of(found);

@@ -4,7 +4,7 @@ ghost use Rattle.tlsf_post.specs.Mailboxes.{got_by, IsAllTaken, KeepsOwner};
 ghost use Rattle.tlsf_post.specs.declared.post.Post.{Post};
 ghost use Rattle.tlsf_heap.specs.Touched.{release_touches};
 ghost use Rattle.tlsf_heap.specs.WordsInUse.{words_in_use};
-ghost use Rattle.tlsf_c.specs.Handles.{counts_in, heap_in, touches_in, touched_in, StaysOpen, serves};
+ghost use Rattle.tlsf_c.specs.Handles.{counts_in, heap_in, touches_in, touched_in, StaysOpen, end_serves, serves};
 ghost use Rattle.tlsf_c.specs.Ends.{left_in_end};
 ghost use Rattle.tlsf_c.specs.Drains.{drained, LeavesUnnamed};
 ghost use Rattle.tlsf_c.specs.Names.{name_of};
@@ -39,7 +39,7 @@ pub extern "C" fn tlsf_queue_open(
     ensures bad_size { queue.old.is_open ≡ false → ¬ ((0 < posters) × (posters ≤ 1024) × (0 < capacity) × (capacity ≤ 1024)) → result ≡ bad_size }
     ensures no_memory { queue.old.is_open ≡ false → 0 < posters → posters ≤ 1024 → 0 < capacity → capacity ≤ 1024 → ¬ (result ≡ 0) → result ≡ no_memory }
     ensures refused { ¬ (result ≡ 0) → queue.new ≡ queue.old }
-    ensures opens { result ≡ 0 → (queue.new.is_open ≡ true) × (holds_queue queue.new ≡ true) }
+    ensures opens { result ≡ 0 → (end_serves queue.new ≡ true) × (holds_queue queue.new ≡ true) }
     ensures queue { result ≡ 0 → IsNew (owner_in queue.new) (left_in queue.new) posters capacity }
 {
     if queue.is_open {
@@ -51,7 +51,13 @@ pub extern "C" fn tlsf_queue_open(
     let Ok(end) = QueueEnd::open(alloc, posters, capacity) else {
         return CallFault::NoMemory.number();
     };
-    let Ok(owned) = Box::new(alloc, AnyEnd::Queue(end)) else {
+    let Ok(owned) = Box::new(
+        alloc,
+        AnyEnd::Queue {
+            is_in_use: false,
+            end,
+        },
+    ) else {
         return CallFault::NoMemory.number();
     };
     queue.put_in(owned);
@@ -68,18 +74,18 @@ pub extern "C" fn tlsf_queue_open(
 /// ```
 #[unsafe(no_mangle)]
 pub extern "C" fn tlsf_poster_open(queue: &mut EndSlot, poster: &mut EndSlot) -> u32
-    ensures queue_closed { queue.old.is_open ≡ false → (result ≡ closed) × (queue.new ≡ queue.old) }
-    ensures other { queue.old.is_open ≡ true → holds_queue queue.old ≡ false → (result ≡ other_kind) × (queue.new ≡ queue.old) }
-    ensures in_use { queue.old.is_open ≡ true → holds_queue queue.old ≡ true → poster.old.is_open ≡ true → (result ≡ in_use) × (queue.new ≡ queue.old) }
-    ensures none_left { queue.old.is_open ≡ true → holds_queue queue.old ≡ true → poster.old.is_open ≡ false → length (left_in queue.old) ≡ 0 → (result ≡ empty) × (left_in queue.new ≡ []) }
-    ensures succeeds { queue.old.is_open ≡ true → poster.old.is_open ≡ false → 0 < length (left_in queue.old) → result ≡ 0 }
+    ensures queue_closed { end_serves queue.old ≡ false → (result ≡ closed) × (queue.new ≡ queue.old) }
+    ensures other { end_serves queue.old ≡ true → holds_queue queue.old ≡ false → (result ≡ other_kind) × (queue.new ≡ queue.old) }
+    ensures in_use { end_serves queue.old ≡ true → holds_queue queue.old ≡ true → poster.old.is_open ≡ true → (result ≡ in_use) × (queue.new ≡ queue.old) }
+    ensures none_left { end_serves queue.old ≡ true → holds_queue queue.old ≡ true → poster.old.is_open ≡ false → length (left_in queue.old) ≡ 0 → (result ≡ empty) × (left_in queue.new ≡ []) }
+    ensures succeeds { end_serves queue.old ≡ true → poster.old.is_open ≡ false → 0 < length (left_in queue.old) → result ≡ 0 }
     ensures refused { ¬ (result ≡ 0) → poster.new ≡ poster.old }
     ensures opens { result ≡ 0 → poster.new.is_open ≡ true }
     ensures given { result ≡ 0 → Gives (queue_in queue.old) (queue_in queue.new) poster.new.inner.value }
-    ensures owner { (queue.new.is_open ≡ queue.old.is_open) × (holds_queue queue.new ≡ holds_queue queue.old) × (owner_in queue.new ≡ owner_in queue.old) }
+    ensures owner { (end_serves queue.new ≡ end_serves queue.old) × (holds_queue queue.new ≡ holds_queue queue.old) × (owner_in queue.new ≡ owner_in queue.old) }
 {
-    if !queue.is_open {
-        return CallFault::Closed.number();
+    if !queue.serves() {
+        return CallFault::Closed.refusal();
     }
     if poster.is_open {
         return if queue.inner.lend().is_queue() {
@@ -88,12 +94,12 @@ pub extern "C" fn tlsf_poster_open(queue: &mut EndSlot, poster: &mut EndSlot) ->
             CallFault::OtherKind.number()
         };
     }
-    let AnyEnd::Queue(end) = queue.inner.lend() else {
-        return CallFault::OtherKind.number();
+    let AnyEnd::Queue { is_in_use, end } = queue.inner.lend() else {
+        return CallFault::OtherKind.refusal();
     };
-    queue.is_open = false;
+    *is_in_use = true;
     let given = give_one(end);
-    queue.is_open = true;
+    *is_in_use = false;
     match given {
         Some(boxed) => {
             poster.put_in(boxed);
@@ -113,11 +119,11 @@ pub extern "C" fn tlsf_poster_open(queue: &mut EndSlot, poster: &mut EndSlot) ->
 #[unsafe(no_mangle)]
 pub extern "C" fn tlsf_poster_close(alloc: Global, poster: &mut EndSlot) -> u32
     ensures after { result ≡ 0 → poster.new.is_open ≡ false }
-    ensures closed { poster.old.is_open ≡ false → (result ≡ closed) × (poster.new ≡ poster.old) }
-    ensures other { poster.old.is_open ≡ true → holds_poster poster.old ≡ false → (result ≡ other_kind) × (poster.new ≡ poster.old) }
-    ensures open { poster.old.is_open ≡ true → holds_poster poster.old ≡ true → result ≡ 0 }
+    ensures closed { end_serves poster.old ≡ false → (result ≡ closed) × (poster.new ≡ poster.old) }
+    ensures other { end_serves poster.old ≡ true → holds_poster poster.old ≡ false → (result ≡ other_kind) × (poster.new ≡ poster.old) }
+    ensures open { end_serves poster.old ≡ true → holds_poster poster.old ≡ true → result ≡ 0 }
 {
-    if !poster.is_open {
+    if !poster.serves() {
         return CallFault::Closed.number();
     }
     if !poster.inner.lend().is_poster() {
@@ -137,11 +143,11 @@ pub extern "C" fn tlsf_poster_close(alloc: Global, poster: &mut EndSlot) -> u32
 #[unsafe(no_mangle)]
 pub extern "C" fn tlsf_queue_close(alloc: Global, queue: &mut EndSlot) -> u32
     ensures after { result ≡ 0 → queue.new.is_open ≡ false }
-    ensures closed { queue.old.is_open ≡ false → (result ≡ closed) × (queue.new ≡ queue.old) }
-    ensures other { queue.old.is_open ≡ true → holds_queue queue.old ≡ false → (result ≡ other_kind) × (queue.new ≡ queue.old) }
-    ensures open { queue.old.is_open ≡ true → holds_queue queue.old ≡ true → result ≡ 0 }
+    ensures closed { end_serves queue.old ≡ false → (result ≡ closed) × (queue.new ≡ queue.old) }
+    ensures other { end_serves queue.old ≡ true → holds_queue queue.old ≡ false → (result ≡ other_kind) × (queue.new ≡ queue.old) }
+    ensures open { end_serves queue.old ≡ true → holds_queue queue.old ≡ true → result ≡ 0 }
 {
-    if !queue.is_open {
+    if !queue.serves() {
         return CallFault::Closed.number();
     }
     if !queue.inner.lend().is_queue() {
@@ -161,23 +167,23 @@ pub extern "C" fn tlsf_queue_close(alloc: Global, queue: &mut EndSlot) -> u32
 /// ```
 #[unsafe(no_mangle)]
 pub extern "C" fn tlsf_queue_post(poster: &mut EndSlot, name: BlockName) -> u32
-    ensures closed { poster.old.is_open ≡ false → (result ≡ closed) × (poster.new ≡ poster.old) }
-    ensures other { poster.old.is_open ≡ true → holds_poster poster.old ≡ false → (result ≡ other_kind) × (poster.new ≡ poster.old) }
-    ensures open { poster.old.is_open ≡ true → (poster.new.is_open ≡ true) × (holds_poster poster.new ≡ holds_poster poster.old) }
+    ensures closed { end_serves poster.old ≡ false → (result ≡ closed) × (poster.new ≡ poster.old) }
+    ensures other { end_serves poster.old ≡ true → holds_poster poster.old ≡ false → (result ≡ other_kind) × (poster.new ≡ poster.old) }
+    ensures open { end_serves poster.old ≡ true → (end_serves poster.new ≡ true) × (holds_poster poster.new ≡ holds_poster poster.old) }
     ensures queue { KeepsEnd (end_in poster.old) (end_in poster.new) }
     ensures posted { result ≡ 0 → Puts (end_in poster.old) (end_in poster.new) (name_of name) }
-    ensures missed { poster.old.is_open ≡ true → holds_poster poster.old ≡ true → ¬ (result ≡ 0) → ((result ≡ full) ⊎ (result ≡ busy)) × (put_in poster.new ≡ put_in poster.old) }
+    ensures missed { end_serves poster.old ≡ true → holds_poster poster.old ≡ true → ¬ (result ≡ 0) → ((result ≡ full) ⊎ (result ≡ busy)) × (put_in poster.new ≡ put_in poster.old) }
     ensures full { result ≡ full → SawFull (end_in poster.old) }
 {
-    if !poster.is_open {
-        return CallFault::Closed.number();
+    if !poster.serves() {
+        return CallFault::Closed.refusal();
     }
-    let AnyEnd::Poster(end) = poster.inner.lend() else {
-        return CallFault::OtherKind.number();
+    let AnyEnd::Poster { is_in_use, end } = poster.inner.lend() else {
+        return CallFault::OtherKind.refusal();
     };
-    poster.is_open = false;
+    *is_in_use = true;
     let answer = put_once(end, name.name());
-    poster.is_open = true;
+    *is_in_use = false;
     match answer {
         Ok(()) => 0,
         Err(why) => why.number(),
@@ -195,24 +201,24 @@ pub extern "C" fn tlsf_queue_post(poster: &mut EndSlot, name: BlockName) -> u32
 /// ```
 #[unsafe(no_mangle)]
 pub extern "C" fn tlsf_queue_take(queue: &mut EndSlot, name: &mut BlockName) -> u32
-    ensures closed { queue.old.is_open ≡ false → (result ≡ closed) × (queue.new ≡ queue.old) }
-    ensures other { queue.old.is_open ≡ true → holds_queue queue.old ≡ false → (result ≡ other_kind) × (queue.new ≡ queue.old) }
-    ensures open { queue.old.is_open ≡ true → (queue.new.is_open ≡ true) × (holds_queue queue.new ≡ holds_queue queue.old) }
+    ensures closed { end_serves queue.old ≡ false → (result ≡ closed) × (queue.new ≡ queue.old) }
+    ensures other { end_serves queue.old ≡ true → holds_queue queue.old ≡ false → (result ≡ other_kind) × (queue.new ≡ queue.old) }
+    ensures open { end_serves queue.old ≡ true → (end_serves queue.new ≡ true) × (holds_queue queue.new ≡ holds_queue queue.old) }
     ensures queue { KeepsQueue (owner_in queue.old) (owner_in queue.new) × (left_in queue.new ≡ left_in queue.old) }
     ensures taken { result ≡ 0 → Gets (owner_in queue.old) (owner_in queue.new) (name_of name.new) }
-    ensures missed { queue.old.is_open ≡ true → holds_queue queue.old ≡ true → ¬ (result ≡ 0) → ((result ≡ empty) ⊎ (result ≡ busy)) × (got_in queue.new ≡ got_in queue.old) }
+    ensures missed { end_serves queue.old ≡ true → holds_queue queue.old ≡ true → ¬ (result ≡ 0) → ((result ≡ empty) ⊎ (result ≡ busy)) × (got_in queue.new ≡ got_in queue.old) }
     ensures empty { result ≡ empty → AllTaken (owner_in queue.new) }
     ensures no_name { ¬ (result ≡ 0) → name.new ≡ name.old }
 {
-    if !queue.is_open {
-        return CallFault::Closed.number();
+    if !queue.serves() {
+        return CallFault::Closed.refusal();
     }
-    let AnyEnd::Queue(end) = queue.inner.lend() else {
-        return CallFault::OtherKind.number();
+    let AnyEnd::Queue { is_in_use, end } = queue.inner.lend() else {
+        return CallFault::OtherKind.refusal();
     };
-    queue.is_open = false;
+    *is_in_use = true;
     let answer = take_name(end, name);
-    queue.is_open = true;
+    *is_in_use = false;
     answer
 }
 
@@ -251,10 +257,10 @@ pub extern "C" fn tlsf_queue_drain(
     came: &mut u32,
 ) -> u32
     ensures heap_closed { serves heap.old ≡ false → result ≡ closed }
-    ensures queue_closed { queue.old.is_open ≡ false → result ≡ closed }
+    ensures queue_closed { end_serves queue.old ≡ false → result ≡ closed }
     ensures refused { ¬ (result ≡ 0) → (heap.new ≡ heap.old) × (queue.new ≡ queue.old) × (came.new ≡ came.old) }
-    ensures other { serves heap.old ≡ true → queue.old.is_open ≡ true → holds_queue queue.old ≡ false → result ≡ other_kind }
-    ensures open { serves heap.old ≡ true → queue.old.is_open ≡ true → holds_queue queue.old ≡ true → (result ≡ 0) × StaysOpen heap.old heap.new × (queue.new.is_open ≡ true) × (holds_queue queue.new ≡ true) }
+    ensures other { serves heap.old ≡ true → end_serves queue.old ≡ true → holds_queue queue.old ≡ false → result ≡ other_kind }
+    ensures open { serves heap.old ≡ true → end_serves queue.old ≡ true → holds_queue queue.old ≡ true → (result ≡ 0) × StaysOpen heap.old heap.new × (end_serves queue.new ≡ true) × (holds_queue queue.new ≡ true) }
     ensures queue { KeepsQueue (owner_in queue.old) (owner_in queue.new) × (left_in queue.new ≡ left_in queue.old) }
     ensures drained { result ≡ 0 → (posts : List Post) × (got_in queue.new ≡ got_in queue.old ++ posts)
         × (heap_in heap.new ≡ drained (heap_in heap.old) posts) × (length posts ≡ came.new) }
@@ -265,15 +271,15 @@ pub extern "C" fn tlsf_queue_drain(
     ensures leaves { result ≡ 0 → (posts : List Post) × (got_in queue.new ≡ got_in queue.old ++ posts)
         × LeavesUnnamed (heap_in heap.old).blocks posts (touched_in heap.old) (touched_in heap.new) }
 {
-    if !heap.serves() || !queue.is_open {
-        return CallFault::Closed.number();
+    if !heap.serves() || !queue.serves() {
+        return CallFault::Closed.refusal();
     }
-    let AnyEnd::Queue(end) = queue.inner.lend() else {
-        return CallFault::OtherKind.number();
+    let AnyEnd::Queue { is_in_use, end } = queue.inner.lend() else {
+        return CallFault::OtherKind.refusal();
     };
-    queue.is_open = false;
+    *is_in_use = true;
     *came = drain_names(heap, end, most);
-    queue.is_open = true;
+    *is_in_use = false;
     0
 }
 

@@ -2,8 +2,7 @@
 ghost use Rattle.std.specs.Prelude.{◌≡◌, ◌⊎◌, ◌+◌, ◌<◌, ◌≤◌, List, [], ◌∷◌, ◌++◌, map, length, true, false, None, All, IfOk, IfSome, IfErr, MatchResult};
 ghost use Rattle.tlsf_post.specs.declared.poster_end.PosterEnd.{PosterEnd};
 ghost use Rattle.tlsf_post.specs.Mailboxes.{number_of, put_by, owner_of, out_of, most_of, got_by, known_to, KeepsOwner, KeepsPoster, OwnerSaw, IsAllTaken, IsWhole};
-ghost use Rattle.tlsf_c.specs.Ends.{left_in_end, HasGiven, HasPut, WasFull};
-ghost use Rattle.tlsf_c.specs.declared.any_end.AnyEnd.TheVariants.{Poster};
+ghost use Rattle.tlsf_c.specs.Ends.{idle_poster, left_in_end, HasGiven, HasPut, WasFull};
 ghost use Rattle.tlsf_c.specs.declared.call_fault.CallFault.TheVariants.{Full, Empty, Busy};
 
 use crate::any_end::AnyEnd;
@@ -25,7 +24,7 @@ impl QueueEnd {
     pub fn open(alloc: Global, posters: u32, capacity: u32) -> Result<QueueEnd, NoMemory>
         requires posters { (0 < posters) × (posters ≤ 1024) }
         requires capacity { (0 < capacity) × (capacity ≤ 1024) }
-        ensures ends { IfOk result (λ q. (ends : List PosterEnd) × (left_in_end q ≡ map Poster ends) × IsWhole q.owner ends × All (λ p. put_by p ≡ []) ends) }
+        ensures ends { IfOk result (λ q. (ends : List PosterEnd) × (left_in_end q ≡ map idle_poster ends) × IsWhole q.owner ends × All (λ p. put_by p ≡ []) ends) }
         ensures owner { IfOk result (λ q. (owner_of q.owner ≡ 0) × (out_of q.owner ≡ posters + 1) × (most_of q.owner ≡ capacity)
             × (got_by q.owner ≡ []) × (known_to q.owner ≡ [])) }
     {
@@ -37,11 +36,17 @@ impl QueueEnd {
 
 /// Each end in a box of its own, in the same order.
 fn boxed(alloc: Global, ends: Vec<PosterEnd>) -> Result<Vec<Box<AnyEnd, Global>>, NoMemory>
-    ensures { IfOk result (λ boxes. map (λ b. b.value) boxes.items ≡ map Poster ends.items) }
+    ensures { IfOk result (λ boxes. map (λ b. b.value) boxes.items ≡ map idle_poster ends.items) }
 {
     let mut boxes = Vec::with_capacity(alloc, ends.len())?;
     for end in ends {
-        let Ok(owned) = Box::new(alloc, AnyEnd::Poster(end)) else {
+        let Ok(owned) = Box::new(
+            alloc,
+            AnyEnd::Poster {
+                is_in_use: false,
+                end,
+            },
+        ) else {
             return Err(NoMemory);
         };
         boxes.push_reserved(owned);

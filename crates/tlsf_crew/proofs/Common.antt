@@ -45,7 +45,7 @@ pub use Rattle.tlsf_crew.specs.lanes.NewLanes.{IsLaid, opened_numbers, IsBefore}
 pub use Rattle.tlsf_crew.specs.lanes.Ready.{count_of, ready_from, ready_below}
 unfoldable pub use Rattle.tlsf_crew.specs.lanes.Ready.{ready_in}
 pub use Rattle.tlsf_crew.specs.lanes.Settle.{EachLaneSettled, LaneSettled}
-pub use Rattle.tlsf_crew.specs.lanes.Yard.{IsYard, take_at, post_at, capacity_in, lane_waits, heap_of_worker, waits_in, end_from_in, HasYardLane, end_to_in, BothBeside, id_in}
+pub use Rattle.tlsf_crew.specs.lanes.Yard.{IsYard, shown_in, take_at, post_at, capacity_in, lane_waits, heap_of_worker, waits_in, end_from_in, HasYardLane, end_to_in, BothBeside, id_in}
 unfoldable pub use Rattle.tlsf_crew.specs.lanes.Yard.{world_of}
 pub use Rattle.tlsf_crew.specs.model.Heaps.{as_chunk, too_many, bytes_read}
 unfoldable pub use Rattle.tlsf_crew.specs.model.Heaps.{released, allocated, chunk_read, resized, written}
@@ -78,7 +78,7 @@ pub use Rattle.tlsf_crew.specs.worker.Calls.{AfterTake, ReleasedThere, by_heap, 
 pub use Rattle.tlsf_crew.specs.worker.Drains.{IsCountOf, heap_after, is_freed}
 pub use Rattle.tlsf_crew.specs.worker.Notes.{EachNoted, EachTakeNoted, SourceNoted, TakeRules, AllNoted, SourceEnds, TurnNoted}
 pub use Rattle.tlsf_crew.specs.worker.Slices.{MayTake, PortsInTurn, EachReleased, SliceTaken, post_of}
-pub use Rattle.tlsf_crew.specs.worker.Workers.{heap_of, id_of, SameButHeap, end_extents, extent_of, KeepsHeap, slot_of, IsHeapOf, SameButPorts, IsOther, Stays, touches_of}
+pub use Rattle.tlsf_crew.specs.worker.Workers.{heap_of, shown_of, id_of, SameButHeap, end_extents, extent_of, KeepsHeap, slot_of, IsHeapOf, SameButPorts, IsOther, Stays, touches_of}
 pub use Rattle.tlsf_heap.specs.Blocks.{HeapState, want}
 pub use Rattle.tlsf_heap.specs.Calls.{opened, read_of, allocated_at, has_bytes, is_worn, named, read_answer, read_at, refused, resized_at, room_of, written_at}
 pub use Rattle.tlsf_heap.specs.Lawful.{IsLawful, IsRegion}

@@ -1,28 +1,35 @@
 -- The output and the notes of a check of a trace.
-use Rattle.std.specs.Prelude.{◌≡◌, ℕ, List, ◌++◌, codes}
+use Rattle.std.specs.Prelude.{◌≡◌, ℕ, Bool, true, false, List, [], ◌++◌, codes}
 use Rattle.std.specs.Fmt.{decimal}
+use Rattle.std.specs.List.{flat_map}
 use Rattle.tlsf_lines.specs.TraceFaults.{IsLineFault, too_long_fault}
 use Rattle.tlsf_lines.specs.declared.trace_fault.TraceFault.{TraceFault}
 use Rattle.tlsf_trace.specs.Replay.{Outputs}
 use Rattle.tlsf_diagnosis.specs.TraceLines.{trace_line}
 use Rattle.tlsf_diagnosis.specs.FieldFaults.{IsFoundIn}
 use Rattle.tlsf_diagnosis.specs.PassedLimits.{NotesLimit}
-use Rattle.tlsf_diagnosis.specs.Shown.{ShowsField}
+use Rattle.tlsf_diagnosis.specs.Shown.{ShowsField, shown_byte}
 
 -- of a good trace one line is put out
 abbrev pub Describes : Outputs
 Describes trace output = output ≡ trace_line trace
 
--- the number of a field, and words on it
-abbrev pub field_text : ℕ → List ℕ → List ℕ
-field_text n words = codes "  field " ++ decimal n ++ words ++ codes "\n"
+-- a row with the number of a field, and words on it, each byte of them as it is shown
+abbrev pub field_row : ℕ → List ℕ → List ℕ
+field_row n words = codes "  field " ++ decimal n ++ flat_map shown_byte words ++ codes "\n"
+
+-- a row with the tip on numbers, or none
+abbrev pub tip_row : Bool → List ℕ
+tip_row true = codes "  " ++ codes "tip: numbers are plain digits, as 65536 for 64 KiB\n"
+tip_row false = []
 
 -- a note shows line number `line` of a text with a mark in field n, and names the field below
 pub record NamesField (text : List ℕ) (line n : ℕ) (note : List ℕ) : Type 0 where
   pub shown : List ℕ
   pub words : List ℕ
+  pub is_tipped : Bool
   pub shows : ShowsField text line n shown
-  pub note_is : note ≡ shown ++ field_text n words
+  pub note_is : note ≡ shown ++ field_row n words ++ tip_row is_tipped
 
 -- a note was added that names the field in which the fault of a text is found
 pub record NotesField (text : List ℕ) (fault : TraceFault) (old new : List ℕ) : Type 0 where

@@ -4,7 +4,7 @@ ghost use Rattle.std.specs.Prelude.{◌≡◌, ◌≤◌, length, IfSome, false,
 use crate::judge::{Judge, is_all_digits, passes};
 use crate::kind::{Kind, kinds_behind};
 use crate::line_view::push_bytes;
-use crate::number_tip::{NUMBER_TIP, is_marked_number};
+use crate::number_tip::is_marked_number;
 use crate::spot::{Spot, field_in};
 use std::alloc::AllocError;
 use tlsf_lines::{Version, keyword_of};
@@ -322,13 +322,10 @@ pub fn push_found(
     }
 }
 
-/// Adds a line with the tip on numbers, where the field is a number with more in it than digits.
-pub fn push_tip(text: &mut String, spot: Spot, wanted: Wanted) -> Result<(), AllocError> {
+/// Whether the tip on numbers helps: the field is a number with more in it than digits.
+pub fn wants_tip(spot: Spot, wanted: Wanted) -> bool {
     match (spot.field, wanted) {
-        (Some(field), Wanted::Value(kind)) if kind.is_number() && is_tipped(field) => {
-            text.push_str("\n  ")?;
-            text.push_str(NUMBER_TIP.trim_end())
-        }
-        _ => Ok(()),
+        (Some(field), Wanted::Value(kind)) => kind.is_number() && is_tipped(field),
+        _ => false,
     }
 }

@@ -10,7 +10,7 @@
 //!
 //! Contracts see the fault of a text as `fault_of` of `tlsf_lines`, its field as `IsFoundIn` of `specs/FieldFaults.antt`, and the limit as
 //! `NotesLimit` of `specs/PassedLimits.antt`. They see the rows that show the line, with the mark below, as `ShowsField` of
-//! `specs/Shown.antt`. The words of a note are shown by tests.
+//! `specs/Shown.antt`. By `NamesField` of `specs/Notes.antt` the words are printable. Tests show that they are the right ones.
 #![tactic(auto)]
 
 mod count_line;

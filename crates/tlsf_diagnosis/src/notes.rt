@@ -1,15 +1,16 @@
 //! The note on a fault.
 ghost use Rattle.std.specs.Prelude.{◌≡◌, ◌≤◌, ◌++◌, length, IfOk, OnOk, string_bytes};
-ghost use Rattle.tlsf_diagnosis.specs.Notes.{NamesField, field_text};
+ghost use Rattle.tlsf_diagnosis.specs.Notes.{NamesField, field_row, tip_row};
 ghost use Rattle.tlsf_diagnosis.specs.Shown.{MarksField, without_feed};
 
 use crate::field_spots::piece_at;
 use crate::findings::{
-    Wanted, lacks_feed_alone, mark_in, push_found, push_tip, push_wanted, wanted_in_header,
-    wanted_in_line,
+    Wanted, lacks_feed_alone, mark_in, push_found, push_wanted, wanted_in_header, wanted_in_line,
+    wants_tip,
 };
 use crate::labels::making_of;
 use crate::line_view::{push_bytes, view};
+use crate::number_tip::NUMBER_TIP;
 use crate::spot::{Spot, field_in};
 use std::alloc::{AllocError, Global};
 use tlsf_lines::{TraceFault, header_in};
@@ -71,7 +72,6 @@ fn words_on(
         push_wanted(&mut words, wanted, workers)?;
         words.push_str("; ")?;
         push_found(&mut words, spot, wanted, workers)?;
-        push_tip(&mut words, spot, wanted)?;
     }
     Ok(words)
 }
@@ -92,11 +92,24 @@ fn marked(piece: &[u8], field: usize, wanted: Wanted, workers: u32) -> usize
     }
 }
 
-// Adds the number of a field and the words on it.
+// Adds a row with the number of a field and the words on it, each byte as it is shown. So no byte of a trace gets by, whatever the
+// words quote.
 fn push_field(note: &mut String, field: usize, words: &str) -> Result<(), AllocError>
-    ensures { OnOk result (string_bytes note.new ≡ string_bytes note.old ++ field_text field words.now) }
+    ensures { OnOk result (string_bytes note.new ≡ string_bytes note.old ++ field_row field words.now) }
 {
-    writeln!(note, "  field {field}{words}")
+    write!(note, "  field {field}")?;
+    push_bytes(note, words.as_bytes())?;
+    note.push_str("\n")
+}
+
+// Adds a row with the tip on numbers, where it helps.
+fn push_tip(note: &mut String, is_tipped: bool) -> Result<(), AllocError>
+    ensures { OnOk result (string_bytes note.new ≡ string_bytes note.old ++ tip_row is_tipped) }
+{
+    if is_tipped {
+        return write!(note, "  {NUMBER_TIP}");
+    }
+    Ok(())
 }
 
 /// Explains the fault of a text in a field of its line, in three lines. These are the line as it stands, a mark under the byte, and
@@ -134,5 +147,6 @@ pub fn explain(
     let mark = marked(piece, field, wanted, workers_of(text));
     let mut note = view(alloc, spot.line, mark)?;
     push_field(&mut note, field, &words)?;
+    push_tip(&mut note, wants_tip(spot, wanted))?;
     Ok(note)
 }

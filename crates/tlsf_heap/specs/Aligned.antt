@@ -4,6 +4,7 @@ use Rattle.tlsf_heap.specs.Blocks.{Block, HeapState, size_of, is_free, StandsAt}
 use Rattle.tlsf_heap.specs.Calls.{Outcome, refused, is_worn, ticked, carved, last_tick, allocated_words, resized_words, released}
 use Rattle.tlsf_heap.specs.GoodFit.{Site, sites, block_at, site_at, place_of, fits}
 use Rattle.tlsf_heap.specs.Regions.{IsTagOf}
+use Rattle.tlsf_heap.specs.WordsInUse.{words_in_use, words_at}
 use Rattle.tlsf_words.specs.declared.tag.Tag.{Tag}
 use Rattle.tlsf_heap.specs.declared.name.Name.{Name}
 use Rattle.tlsf_heap.specs.declared.refusal.Refusal.{Refusal}
@@ -54,6 +55,13 @@ pub record AnswersFrom (h : HeapState) (at n : ℕ) (answer : Result Name Refusa
 abbrev pub gap_of : ℕ → ℕ → ℕ → ℕ
 gap_of at step skew = if (at + 3 + skew) % step == 0 then 0 else 4 + (step - (at + 7 + skew) % step) % step
 
+-- So the gap is the least: such a number of words aligns the payload, and no smaller one does
+pub record IsLeastGap (at step skew gap : ℕ) : Type 0 where
+  pub block : 0 < gap → 4 ≤ gap
+  pub aligned : (at + gap + 3 + skew) % step ≡ 0
+  pub few : gap ≤ step + 3
+  pub least : (k : ℕ) → (0 < k → 4 ≤ k) → (at + k + 3 + skew) % step ≡ 0 → gap ≤ k
+
 -- the block of a name has n words after the first `gap`. It becomes one of n words that begins there, and the words before it are
 -- released
 abbrev pub moved_by : HeapState → Name → ℕ → ℕ → Outcome Name
@@ -82,3 +90,11 @@ pub record AnswersAligned (sli : ℕ) (h : HeapState) (n step : ℕ) (answer : R
   pub worn : IsErrOf answer Worn ↔ (last_tick ≤ h.tick + 3)
   pub no_fit : h.tick + 3 < last_tick → (IsErrOf answer NoFit ↔ (fits sli (aligned_words n step) h.blocks ≡ []))
   pub ok : IsOk answer ↔ ((h.tick + 3 < last_tick) × ¬ (fits sli (aligned_words n step) h.blocks ≡ []))
+
+-- what a caller gets who wants n words: a block whose payload begins `skew` words before a multiple of `step`. It has these words, and
+-- three more at most. No other word came into use: the rest of what was asked for is free
+pub record GetsAligned (old new : HeapState) (n step skew : ℕ) (name : Name) : Type 0 where
+  pub aligned : (name.at + 3 + skew) % step ≡ 0
+  pub room : n ≤ words_at new name.at
+  pub few : words_at new name.at ≤ n + 3
+  pub rest : words_in_use new ≡ words_in_use old + words_at new name.at

@@ -30,6 +30,7 @@ pub fn check_around(words: &mut Words, at: u32) -> Option<Checked>
     // Not even a start bit is read unless the place lies in the region, and no word unless a block begins there.
     ensures outside { length words.old.words ≤ at → words.new.touches ≡ words.old.touches }
     ensures nowhere { ¬ (Begins (image_of words.old) at) → words.new.touches ≤ words.old.touches + 1 }
+    ensures unread { ¬ (Begins (image_of words.old) at) → words.new.touched ≡ words.old.touched }
 {
     if !begins(words, at) {
         return None;

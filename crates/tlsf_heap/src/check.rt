@@ -39,6 +39,7 @@ pub fn check_words(words: &mut Words, from: u32, most: u32) -> Option<Checked>
     // Not even a start bit is read unless the place lies in the region, and no word unless a block begins there.
     ensures outside { length words.old.words ≤ from → words.new.touches ≡ words.old.touches }
     ensures nowhere { ¬ (Begins (image_of words.old) from) → words.new.touches ≤ words.old.touches + 1 }
+    ensures unread { ¬ (Begins (image_of words.old) from) → words.new.touched ≡ words.old.touched }
 {
     if !begins(words, from) {
         return None;

@@ -16,7 +16,6 @@ ghost use Rattle.tlsf_heap.specs.Named.{IsFirst, IsNameCheck};
 ghost use Rattle.tlsf_heap.specs.Regions.{image_of};
 ghost use Rattle.tlsf_heap.specs.Given.{payload_words_at, payload_words_left};
 ghost use Rattle.tlsf_heap.specs.Unset.{lying, with_payload};
-ghost use Rattle.tlsf_heap.specs.WordsInUse.{CameOff};
 ghost use Rattle.tlsf_heap.specs.Touched.{FollowsNoForgery, FollowsNoPlace, allocate_groups, allocate_touches, move_groups, release_groups, release_touches, resize_groups, resize_touches, read_touches, write_touches};
 ghost use Rattle.tlsf_heap.specs.Calls.{opened, released, resized, named, written, read_of, read_answer, has_bytes, last_tick};
 ghost use Rattle.tlsf_heap.specs.Kept.{IsAsBefore, Keeps};
@@ -234,8 +233,9 @@ impl<const SLI: u32> Heap<SLI> {
         ensures groups { InGroups release_groups self.old.touched self.new.touched }
     {
         let own = self.check(name)?;
-        // The count is the block's own words: nobody keeps one here.
-        self.give_back(name.at, own, &mut own.size())
+        self.check_tick()?;
+        self.give_back(name.at, own);
+        Ok(())
     }
 
     /// Makes the payload of the block of that name `len` bytes long, where the block stands. Its place and serial stay, so the name
@@ -512,6 +512,7 @@ impl<const SLI: u32> Heap<SLI> {
     /// ```
     pub fn block_at(&mut self, at: u32) -> Option<PlacedBlock>
         ensures looks { Looks (seen self.old) (seen self.new) at result }
+        ensures unread { ¬ (Blocks.IsPlace self.old.heap.blocks at) → self.new.touched ≡ self.old.touched }
         ensures same { IsAsBefore self.old self.new }
         ensures keeps { Keeps SLI self.old self.new }
         ensures most { self.old.heap.words ≤ most_words SLI }
@@ -593,6 +594,7 @@ impl<const SLI: u32> Heap<SLI> {
         ensures leaves { LeavesLive self.old.heap.blocks self.old.touched self.new.touched }
         ensures groups { InGroups 1 self.old.touched self.new.touched }
         ensures wild { FollowsNoPlace self.old.heap at self.old.touches self.new.touches }
+        ensures unread { ¬ (Blocks.IsPlace self.old.heap.blocks at) → self.new.touched ≡ self.old.touched }
     {
         let Some(tag) = self.region.live_at(at) else {
             return Err(Refusal::Stale);
@@ -600,30 +602,32 @@ impl<const SLI: u32> Heap<SLI> {
         Ok(tag)
     }
 
-    /// Takes back the live block at a place, of this tag, and its words off a count. Where the tick is at its last value, `Worn`: the count
-    /// then stays.
-    // The words are taken off in front of the merge, so that nothing of the count lives in a register over that.
+    /// Refuses a call as `Worn` where the tick is at its last value.
     #[inline(always)]
-    fn give_back(&mut self, at: u32, own: Tag, in_use: &mut u32) -> Result<(), Refusal>
-        requires live { IsPlaceCheck self.old.heap at (Ok own) }
-        requires counted { own.size ≤ in_use.old }
-        ensures answer { result ≡ (released_by_place self.old.heap at).answer }
-        ensures heap { self.new.heap ≡ (released_by_place self.old.heap at).heap }
-        ensures off { OnOk result (CameOff self.old.heap self.new.heap at in_use.old in_use.new) }
-        ensures err { OnErr result (IsAsBefore self.old self.new) }
-        ensures count { OnErr result (in_use.new ≡ in_use.old) }
-        ensures keeps { Keeps SLI self.old self.new }
-        ensures touches { self.new.touches ≤ self.old.touches + 27 }
-        ensures leaves { LeavesPayloads self.old.heap.blocks at self.old.touched self.new.touched }
-        ensures groups { InGroups 13 self.old.touched self.new.touched }
-        ensures refused { OnErr result (self.new.touched ≡ self.old.touched) }
+    fn check_tick(&self) -> Result<(), Refusal>
+        ensures answer { MatchResult result (λ done. self.now.heap.tick ≢ last_tick) (λ why. (why ≡ Refusal.Worn) × (self.now.heap.tick ≡ last_tick)) }
     {
         if self.tick == u64::MAX {
             return Err(Refusal::Worn);
         }
-        *in_use -= own.size();
-        coalesce(&mut self.region, &mut self.tick, at, own);
         Ok(())
+    }
+
+    /// Takes back the live block at a place, of this tag. A tick is left.
+    // Who counts takes the words off before this, once the tick is checked. So nothing of the count lives in a register over the
+    // merge.
+    #[inline(always)]
+    fn give_back(&mut self, at: u32, own: Tag)
+        requires live { IsPlaceCheck self.old.heap at (Ok own) }
+        requires tick { self.old.heap.tick ≢ last_tick }
+        ensures answer { (released_by_place self.old.heap at).answer ≡ Ok tt }
+        ensures heap { self.new.heap ≡ (released_by_place self.old.heap at).heap }
+        ensures keeps { Keeps SLI self.old self.new }
+        ensures touches { self.new.touches ≤ self.old.touches + 27 }
+        ensures leaves { LeavesPayloads self.old.heap.blocks at self.old.touched self.new.touched }
+        ensures groups { InGroups 13 self.old.touched self.new.touched }
+    {
+        coalesce(&mut self.region, &mut self.tick, at, own);
     }
 
     /// The payload length in bytes of the live block of that name. Where none has it, `Foreign` or else `Stale`.
@@ -698,7 +702,7 @@ impl<const SLI: u32> Heap<SLI> {
         let len = self.length(name).min(self.length(new));
         self.copy(name, new, len);
         let tag = self.tag_of(name);
-        self.give_back(name.at, tag, &mut tag.size())?;
+        self.give_back(name.at, tag);
         Ok(new)
     }
 

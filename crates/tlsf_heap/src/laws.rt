@@ -1,12 +1,14 @@
-ghost use Rattle.std.specs.Prelude.{◌≡◌, ◌≢◌, ◌↔◌, ℕ, ◌+◌, ◌*◌, ◌-◌, ◌<◌, ◌≤◌, List, [], Ok, Err, Some, IsOk, length, map};
+ghost use Rattle.std.specs.Prelude.{◌≡◌, ◌≢◌, ◌↔◌, ℕ, ◌+◌, ◌*◌, ◌-◌, ◌<◌, ◌≤◌, List, [], Ok, Err, Option, Some, IsOk, length, map};
 ghost use Rattle.std.specs.List.{AllByRecursion};
 ghost use Rattle.tlsf_class.specs.Classes.{IsLevel, low, class_of};
 ghost use Rattle.tlsf_heap.specs.Footprint.{IsLiveWord, IsOthersWord};
 ghost use Rattle.tlsf_heap.specs.Blocks.{Block, HeapState, IsPlace, want};
-ghost use Rattle.tlsf_heap.specs.Aligned.{words_aligned};
+ghost use Rattle.tlsf_heap.specs.Aligned.{gap_of, words_aligned, IsLeastGap, GetsAligned};
 ghost use Rattle.tlsf_heap.specs.ByPlace.{name_at};
 ghost use Rattle.tlsf_heap.specs.Steady.{HasPayload, IsEven, AreEvenFrom, IsPayloadWord};
 ghost use Rattle.tlsf_heap.specs.Steps.{Step, stepped, after, step_of, IsRoomy, TakesBack, IsOfOtherBlocks, IsOfOthers, IsWrite, IsEvenStep};
+ghost use Rattle.tlsf_heap.specs.Checks.{Begins, IsCheck, MeetDamage};
+ghost use Rattle.tlsf_heap.specs.Image.{Image};
 ghost use Rattle.tlsf_heap.specs.Calls.{Call, allocated, allocated_words, last_tick, opened, released, reset, resized_words, run, read_of};
 ghost use Rattle.tlsf_heap.specs.GoodFit.{fits};
 ghost use Rattle.tlsf_heap.specs.Lawful.{IsLawful};
@@ -14,6 +16,8 @@ ghost use Rattle.tlsf_heap.specs.Laws.{LieApart, LieInRegion, IsLive, IsTaken, I
 ghost use Rattle.tlsf_heap.specs.Moved.{resized_or_moved};
 ghost use Rattle.tlsf_heap.specs.Reports.{report_of, IsGrant};
 ghost use Rattle.tlsf_heap.specs.WordsInUse.{words_in_use, words_at};
+ghost use Rattle.tlsf_heap.specs.declared.checked.Checked.{Checked};
+ghost use Rattle.tlsf_heap.specs.declared.checked.Checked.TheVariants.{Damaged};
 ghost use Rattle.tlsf_heap.specs.declared.name.Name.{Name};
 ghost use Rattle.tlsf_heap.specs.declared.refusal.Refusal.TheVariants.{Foreign, NoFit, Stale};
 
@@ -177,6 +181,34 @@ pub fn even_blocks_stay_even()
     ensures moved { (from sli : ℕ) (h : HeapState) (name : Name) (len : ℕ) → IsEven (want len) → from ≤ name.at → AreEvenFrom from h.blocks → AreEvenFrom from (resized_or_moved sli h name len).heap.blocks }
     ensures aligned { (from sli : ℕ) (h : HeapState) (n step skew : ℕ) → IsEven n → 0 < step → IsEven step → IsEven (from + 3 + skew) → AreEvenFrom from h.blocks
         → AreEvenFrom from (words_aligned sli h n step skew).heap.blocks }
+{}
+
+/// A block whose payload is aligned has the words wanted, and three more at most. All else that `allocate_aligned` asks for is free
+/// again. It moves a payload on by the fewest words that align it, where the words in front have room for a free block.
+///
+/// ```text
+/// of a new heap of 64 words: allocate_aligned(100, 8, 0) asks for 28 words, whose payload begins at word 3
+/// it moves on by 5 words to word 8, and the block has 16 words
+/// ```
+pub fn aligned_blocks_fit()
+    ensures gets { (sli : ℕ) → IsLevel sli → (h : HeapState) (n step skew : ℕ) → IsLawful h → 0 < step → 4 ≤ n → (name : Name) → (words_aligned sli h n step skew).answer ≡ Ok name →
+        GetsAligned h (words_aligned sli h n step skew).heap n step skew name }
+
+    // The words by which it moves on: none, or four at least.
+    ensures gap { (at step skew : ℕ) → 0 < step → IsLeastGap at step skew (gap_of at step skew) }
+{}
+
+/// Words that may hold anything have one answer to a check. So `check_words` says Damaged wherever a check meets damage, and never
+/// elsewhere. It is the answer of which `check_blocks` speaks, of the words that are stored.
+///
+/// ```text
+/// check_words(&mut words, 0, 100)         // Some(Checked::Damaged { at: 0 }): no other answer holds of these words
+/// ```
+pub fn checks_have_one_answer()
+    ensures one { (m : Image) (from most : ℕ) (a b : Option Checked) → IsCheck m from most a → IsCheck m from most b → a ≡ b }
+
+    // Where blocks are sound from a place on, up to one that is not, a check of enough blocks names that one.
+    ensures told { (m : Image) (from most at : ℕ) → Begins m from → MeetDamage m from most at → (answer : Option Checked) → IsCheck m from most answer → answer ≡ Some (Damaged at) }
 {}
 
 /// The words in use, those of the live blocks with their headers, add up. An allocate adds the words of the block that it gives,

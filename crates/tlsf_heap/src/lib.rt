@@ -58,9 +58,10 @@ pub use check::check_words;
 pub use checked::Checked;
 pub use heap::{Heap, want};
 pub use laws::{
-    blocks_never_overlap, calls_are_steps, even_blocks_stay_even, grant_is_greatest,
-    names_live_until_released, payload_words_stay, payloads_stay, places_name_blocks,
-    refused_only_where_nothing_fits, resets_end_all_names, words_in_use_add_up,
+    aligned_blocks_fit, blocks_never_overlap, calls_are_steps, checks_have_one_answer,
+    even_blocks_stay_even, grant_is_greatest, names_live_until_released, payload_words_stay,
+    payloads_stay, places_name_blocks, refused_only_where_nothing_fits, resets_end_all_names,
+    words_in_use_add_up,
 };
 pub use ledger::Ledger;
 pub use ledger::counts::Counts;

@@ -153,6 +153,7 @@ impl<const SLI: u32> Region<SLI> {
         ensures groups { InGroups 1 self.old.touched self.new.touched }
         ensures outside { self.old.words ≤ at → self.new.touches ≡ self.old.touches }
         ensures nowhere { ¬ (IsPlace self.old.blocks at) → self.new.touches ≤ self.old.touches + 1 }
+        ensures unread { ¬ (IsPlace self.old.blocks at) → self.new.touched ≡ self.old.touched }
     {
         if !self.begins(at) {
             return None;
@@ -173,6 +174,7 @@ impl<const SLI: u32> Region<SLI> {
         ensures groups { InGroups 1 self.old.touched self.new.touched }
         ensures outside { self.old.words ≤ at → self.new.touches ≡ self.old.touches }
         ensures nowhere { ¬ (IsPlace self.old.blocks at) → self.new.touches ≤ self.old.touches + 1 }
+        ensures unread { ¬ (IsPlace self.old.blocks at) → self.new.touched ≡ self.old.touched }
     {
         if !self.begins(at) {
             return None;
@@ -207,6 +209,7 @@ impl<const SLI: u32> Region<SLI> {
         ensures touched { LeavesLive self.old.blocks self.old.touched self.new.touched }
         ensures outside { self.old.words ≤ at → self.new.touches ≡ self.old.touches }
         ensures nowhere { ¬ (IsPlace self.old.blocks at) → self.new.touches ≤ self.old.touches + 1 }
+        ensures unread { ¬ (IsPlace self.old.blocks at) → self.new.touched ≡ self.old.touched }
     {
         if !self.begins(at) {
             return None;
@@ -232,6 +235,7 @@ impl<const SLI: u32> Region<SLI> {
         ensures few { self.new.touches ≤ self.old.touches + 1 + block_touches * (self.old.words / 4) }
         ensures outside { self.old.words ≤ from → self.new.touches ≡ self.old.touches }
         ensures nowhere { ¬ (Begins self.old.stored from) → self.new.touches ≤ self.old.touches + 1 }
+        ensures unread { ¬ (Begins self.old.stored from) → self.new.touched ≡ self.old.touched }
         ensures touched { LeavesLive self.old.blocks self.old.touched self.new.touched }
     {
         check_words(&mut self.words, from, most)

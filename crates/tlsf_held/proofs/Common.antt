@@ -29,7 +29,7 @@ pub use Rattle.tlsf_held.specs.KindTables.{IsLeastRow, IsOfRow, AreRows, KeepWit
 pub use Rattle.tlsf_held.specs.Least.{IsScriptBut, IsReady, with_words, AreLeastRows, AreLeastWords, IsBracket, least_text, with_least}
 pub use Rattle.tlsf_held.specs.Lent.{inventory_of, with_len, others, with_loan}
 pub use Rattle.tlsf_held.specs.Loans.{account_of, Account, accounted, wanted_in, with_resized, with_taken, IsMostWanted, WantAtMost, freed_by, no_loans, wanted_with}
-pub use Rattle.tlsf_held.specs.Measures.{AreLeastBounds, HeldKindsSuffice, HeldWordsSuffice, IsMostWantedOf, Measures, TellsKinds, TellsMerged}
+pub use Rattle.tlsf_held.specs.Measures.{AreLeastBounds, EachServed, HeldKindsSuffice, HeldPoolsSuffice, IsServed, HeldWordsSuffice, IsMostWantedOf, Measures, TellsKinds, TellsMerged}
 pub use Rattle.tlsf_held.specs.MergedLines.{AddsMerged}
 pub use Rattle.tlsf_held.specs.Merges.{heaps_of, row_words, band_of, AreMerged, IsLeastMerge, IsMergedTable, IsBandRow, is_between, no_region, rows_words, starts_at}
 pub use Rattle.tlsf_held.specs.RowTallies.{table_of, RowAccount, first_few, no_rows, row_accounted, with_lengths, rows_told, used_rows, rows_asked, rows_left}

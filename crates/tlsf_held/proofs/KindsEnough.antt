@@ -35,10 +35,10 @@ module _ (sli : ℕ) (level : IsLevel sli) where
         omega (arith, number_in sli b inside, number_in sli a (le_trans fewer inside), class_of-rises sli level (want a) (want b) fewer)
   ]
 
-  row_rises : (grain a b : ℕ) → a ≤ b → row_of sli grain a ≤ row_of sli grain b
+  pub row_rises : (grain a b : ℕ) → a ≤ b → row_of sli grain a ≤ row_of sli grain b
   row_rises grain a b upto = shr_mono grain (number_rises a b upto)
 
-  row_below : (grain len : ℕ) → row_of sli grain len < row_count sli grain
+  pub row_below : (grain len : ℕ) → row_of sli grain len < row_count sli grain
   row_below grain len = omega (arith, shr_mono grain (number_most len))
 
 -- ---- lengths by rows

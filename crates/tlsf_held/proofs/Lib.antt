@@ -16,6 +16,7 @@
 --   Measured: what is told of a run's entries is what the trace asks for
 --   Enough: the words for mixed sizes are enough
 --   KindsEnough: and so are those of a table of kinds
+--   PoolsEnough: pools of a merged table have a place for each request
 --   LeastFound: the least words, found by replays
 mod Common
 pub mod Lent
@@ -34,4 +35,5 @@ pub mod Costs
 pub mod Measured
 pub mod Enough
 pub mod KindsEnough
+pub mod PoolsEnough
 pub mod LeastFound

@@ -1,11 +1,14 @@
 -- The needs of a trace's workers from their heaps.
-use Rattle.std.specs.Prelude.{◌≡◌, ◌↔◌, ℕ, ◌<◌, ◌≤◌, IsTrue, List, Option, Some, Result}
+use Rattle.std.specs.Prelude.{◌≡◌, ◌↔◌, ℕ, ◌<◌, ◌≤◌, IsSomeAnd, IsTrue, List, [], ◌∷◌, Option, Some, Result, ⊤}
 use Rattle.std.specs.List.{AllByRecursion}
-use Rattle.tlsf_heap.specs.Calls.{Call, Answer}
+use Rattle.tlsf_heap.specs.Calls.{Call, Allocate, Release, Write, Resize, Read, Answer}
 use Rattle.tlsf_heap.specs.Lawful.{IsRegion}
 use Rattle.tlsf_pool.specs.laws.MixedSizes.{AreModest, HasRoomFor}
 use Rattle.tlsf_crew.specs.histories.History.{answers_on, calls_on}
-use Rattle.tlsf_pool.specs.laws.Kinds.{kinds_words, HasClass, StaysFour, are_fours}
+use Rattle.tlsf_pool.specs.declared.kind.Kind.{Kind}
+use Rattle.tlsf_pool.specs.laws.Kinds.{Inventory, inventory_after, kinds_words, lengths, HasClass, StaysFour, are_fours}
+use Rattle.tlsf_pool.specs.pools.Parts.{ArePools, PoolsState, held_by, part_at, part_of, table_of}
+use Rattle.tlsf_pool.specs.pools.Tables.{HasPlace, held_of}
 use Rattle.tlsf_held.specs.HeldLines.{held_region, held_text}
 use Rattle.tlsf_held.specs.KindLines.{kinds_text}
 use Rattle.tlsf_held.specs.KindTables.{kinds_of, IsTable}
@@ -93,3 +96,24 @@ HeldKindsSuffice = (trace : Trace) (j : ℕ) (rows : List Row) → IsRegion (lev
     → kinds_words (level_in trace.header) kinds ≤ trace.header.words
     → (IsTrue (are_fours kinds) → AllByRecursion StaysFour (calls_on j (run_of trace).made (run_of trace).entries))
     → AllByRecursion HasRoomFor (answers_on j (run_of trace).entries)
+
+-- Let pools of these kinds hold blocks of the lengths that are held. They have a place for the block that a call asks for. So it is
+-- given unless the tick of its heap is at the last value
+abbrev pub IsServed : List Kind → Inventory → Call → Type 0
+IsServed kinds inventory (Allocate len) = (sli : ℕ) (p : PoolsState) → ArePools sli p → table_of p ≡ kinds → held_by p ≡ held_of kinds (lengths inventory)
+    → IsSomeAnd (part_of p len) (λ i. HasPlace (part_at p i).ledger len)
+IsServed kinds inventory (Release name) = ⊤
+IsServed kinds inventory (Write name at bytes) = ⊤
+IsServed kinds inventory (Resize name len) = ⊤
+IsServed kinds inventory (Read name at n) = ⊤
+
+-- so it is with each of these calls, which get these answers
+abbrev pub EachServed : List Kind → Inventory → List Call → List Answer → Type 0
+EachServed kinds inventory [] answers = ⊤
+EachServed kinds inventory (call ∷ calls) [] = ⊤
+EachServed kinds inventory (call ∷ calls) (answer ∷ answers) = IsServed kinds inventory call × EachServed kinds (inventory_after inventory call answer) calls answers
+
+-- pools of a worker's merged table serve each request of the run that was measured
+abbrev pub HeldPoolsSuffice : Type 0
+HeldPoolsSuffice = (trace : Trace) (heaps j : ℕ) (rows : List Row) → IsMergedTableOf trace heaps j rows
+    → let run = run_of trace in EachServed (kinds_of rows) [] (calls_on j run.made run.entries) (answers_on j run.entries)

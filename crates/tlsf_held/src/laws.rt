@@ -1,4 +1,4 @@
-ghost use Rattle.tlsf_held.specs.Measures.{HeldKindsSuffice, HeldWordsSuffice};
+ghost use Rattle.tlsf_held.specs.Measures.{HeldKindsSuffice, HeldPoolsSuffice, HeldWordsSuffice};
 
 /// A worker whose heap has the words that its line names was never refused for want of room in that trace.
 ///
@@ -24,4 +24,17 @@ pub fn held_words_suffice()
 /// ```
 pub fn held_kinds_suffice()
     ensures { HeldKindsSuffice }
+{}
+
+/// Let pools have the kinds of a worker's table, merged for whatever number of heaps. At each request of the run that was measured
+/// let them hold blocks of the lengths that the run holds. Then they have a place for it, in the heap to which it goes.
+///
+/// `tlsf_pool::Pools::allocate` asks for no more, so it is never `Full` or `TooLong`. A request that was refused counts as asked
+/// for. A resize counts as if the block had the new length from the beginning, since pools resize none.
+///
+/// ```text
+/// tlsf 1 1 64 1, a 0 1 100, a 0 2 8, f 0 1:   --level 4 --blocks 1 --bytes 8 --blocks 1 --bytes 100
+/// ```
+pub fn held_pools_suffice()
+    ensures { HeldPoolsSuffice }
 {}

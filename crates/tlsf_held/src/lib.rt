@@ -36,6 +36,6 @@ mod rows;
 mod steps;
 mod tally;
 
-pub use laws::{held_kinds_suffice, held_words_suffice};
+pub use laws::{held_kinds_suffice, held_pools_suffice, held_words_suffice};
 pub use least_run::measure_least;
 pub use measuring::{measure_kinds, measure_merged_kinds, measure_trace};

@@ -34,7 +34,7 @@ pub use Rattle.tlsf_pool.specs.laws.OneLarge.{longest_of, OneLargeSuffices, Resi
 pub use Rattle.tlsf_pool.specs.laws.Room.{sure, live_count, IsSnug, free_words, BlocksAreSnug, RoomIsTight, SumSuffices, wanted_words}
 pub use Rattle.tlsf_pool.specs.pools.Bounds.{IsPool, Bounds, pool_allocated, or_worn, TellsBounds, answered_within}
 pub use Rattle.tlsf_pool.specs.pools.Parts.{PoolsState, Stay, rows_in, table_of, named_in, no_part, part_at, ArePools, part_in, part_named, AreNew, HasRow, held_by, held_in, part_of, Allocates, IsNew, OnlyPart, Releases, memory_of, rows_before}
-pub use Rattle.tlsf_pool.specs.pools.Tables.{TableRows, row_of, TableState, IsTable, table_allocated, HoldsOneMore, IsTabled, lengths_in, AreAllReached, HasPlace, held_of, most_at, IsFull, TableExtents, CountsOneMore, TellsTable, answered_by_table, answered_in}
+pub use Rattle.tlsf_pool.specs.pools.Tables.{TableRows, row_len, row_of, TableState, IsTable, table_allocated, HoldsOneMore, IsTabled, lengths_in, AreAllReached, HasPlace, held_of, most_at, IsFull, TableExtents, CountsOneMore, TellsTable, answered_by_table, answered_in}
 pub use Rattle.tlsf_pool.specs.sizes.Cheapest.{AreSmall, AreBest, HasFirst, IsBest, IsBestAmong, cheaper, with_first}
 pub use Rattle.tlsf_pool.specs.sizes.Rising.{Rises, len_at, IsFirstFall}
 pub use Rattle.tlsf_pool.specs.sizes.Splits.{parts_of, HasWords, joined, IsPart, cut_by, HasAtMost, IsCut, IsLeast, IsLeastAmong, words_together}

@@ -1,5 +1,5 @@
 -- The slots after a look at each in turn.
-use Rattle.tlsf_pool_arena.proofs.Common.{◌≡◌, ℕ, suc, ◌+◌, ◌*◌, ◌≤◌, Bool, true, false, List, [], ◌∷◌, ◌++◌, length, length-append, length-set, set, slice_get, Option, Some, None, refl, sym, ap, ◌∙◌, inl, inr, append_assoc, append-nil, arith, cases_eq, false≢true, HeapState, last_tick, released, SamePlan, RemoteState, TakesHome, home_from, home_released, looks_from, still_away, Parcel}
+use Rattle.tlsf_pool_arena.proofs.Common.{◌≡◌, ℕ, suc, zero, ◌+◌, ◌*◌, ◌<◌, ◌≤◌, Bool, true, false, List, [], ◌∷◌, ◌++◌, length, length-append, length-set, set, slice_get, subst, take, Option, Some, None, refl, sym, ap, ◌∙◌, inl, inr, append_assoc, append-nil, arith, cases_eq, false≢true, HeapState, last_tick, released, SamePlan, RemoteState, LookedInTime, TakesHome, home_from, home_released, looks_from, still_away, Parcel}
 
 -- ---- what one look more comes to
 
@@ -20,6 +20,16 @@ home_off : (k : ℕ) (seen : List Bool) → home_from k (seen ++ false ∷ []) �
 home_off k [] = refl
 home_off k (true ∷ seen) = ap (λ (l : List ℕ). k ∷ l) (home_off (k + 1) seen)
 home_off k (false ∷ seen) = home_off (k + 1) seen
+
+-- the first looks are the same after one more
+front_of : (k : ℕ) (seen : List Bool) (home : Bool) → k ≤ length seen → take k (seen ++ home ∷ []) ≡ take k seen
+front_of zero seen home few = refl
+front_of (suc k) [] home few = absurd (omega (arith, few))
+front_of (suc k) (was ∷ seen) home few = ap (λ (l : List Bool). was ∷ l) (front_of k seen home (omega (arith, few)))
+
+take_all : (seen : List Bool) → take (length seen) seen ≡ seen
+take_all [] = refl
+take_all (was ∷ seen) = ap (λ (l : List Bool). was ∷ l) (take_all seen)
 
 abbrev Away : ℕ → Type 0
 Away u = List (Option (Parcel u))
@@ -69,6 +79,14 @@ module _ {u : ℕ} where
   heap_off h (Some d ∷ away) (true ∷ seen) = heap_off (released h d.block.name).heap away seen
   heap_off h (d ∷ away) (false ∷ seen) = heap_off h away seen
 
+  in_time_on : (h : HeapState) (away : Away u) (seen : List Bool) (home : Bool) → LookedInTime h away seen → ¬ ((home_released h away seen).tick ≡ last_tick) → LookedInTime h away (seen ++ home ∷ [])
+  in_time_on h away seen home was fresh k inside = elim (cases_eq k (length seen)) [
+    | inl last ↦ subst (λ (l : List Bool). ¬ ((home_released h away l).tick ≡ last_tick)) (sym (ap (λ (j : ℕ). take j (seen ++ home ∷ [])) last ∙ front_of (length seen) seen home (omega arith) ∙ take_all seen)) fresh
+    | inr before ↦
+        let sooner : k < length seen = omega (arith, inside, before, length-append seen (home ∷ [])) in
+        subst (λ (l : List Bool). ¬ ((home_released h away l).tick ≡ last_tick)) (sym (front_of k seen home (omega (arith, sooner)))) (was k sooner)
+  ]
+
 -- the first n slots were looked at, unless the last tick came
 pub record Drained {u : ℕ} (first now : RemoteState u) (n : ℕ) : Type 0 where
   pub own : now.slots ≡ first.slots
@@ -76,6 +94,7 @@ pub record Drained {u : ℕ} (first now : RemoteState u) (n : ℕ) : Type 0 wher
   pub plan : SamePlan first.arena now.arena
   pub long : length now.away ≡ length first.away
   pub touches : now.arena.touches ≤ first.arena.touches + 60 * n
+  pub compared : now.arena.compared ≡ first.arena.compared
   pub steps : now.steps ≤ first.steps + n
   pub seen : List Bool
   pub looks : now.looks ≡ first.looks ++ looks_from 0 seen
@@ -83,6 +102,7 @@ pub record Drained {u : ℕ} (first now : RemoteState u) (n : ℕ) : Type 0 wher
   pub heap : now.arena.heap ≡ home_released first.arena.heap first.away seen
   pub idle : now.idle ≡ first.idle ++ home_from 0 seen
   pub whole : ¬ (now.arena.heap.tick ≡ last_tick) → length seen ≡ n
+  pub in_time : LookedInTime first.arena.heap first.away seen
 
 -- before the first look
 pub none_drained : {u : ℕ} (first : RemoteState u) → Drained first first 0
@@ -92,6 +112,7 @@ none_drained first = record {
   plan = record { region = refl; book = refl; most = refl; longest = refl; stays = refl };
   long = refl;
   touches = omega arith;
+  compared = refl;
   steps = omega arith;
   seen = [];
   looks = sym (append-nil first.looks);
@@ -99,13 +120,14 @@ none_drained first = record {
   heap = sym (nothing_seen first.arena.heap first.away);
   idle = sym (append-nil first.idle);
   whole = λ _. refl;
+  in_time = λ k inside. absurd (omega (arith, inside));
 }
 
 -- after the last
 pub all_drained : {u : ℕ} (first now : RemoteState u) (n : ℕ) → Drained first now n → n ≡ length first.away → (seen : List Bool) × TakesHome first now seen
-all_drained first now n d long = (d.seen, record { looks = d.looks; away = d.away; heap = d.heap; idle = d.idle; whole = λ fresh. d.whole fresh ∙ long })
+all_drained first now n d long = (d.seen, record { looks = d.looks; away = d.away; heap = d.heap; idle = d.idle; whole = λ fresh. d.whole fresh ∙ long; in_time = d.in_time })
 
-module _ {u : ℕ} (first old new : RemoteState u) (at : ℕ) (was : Drained first old at) (own : new.slots ≡ old.slots) (plan : SamePlan old.arena new.arena) (touches : new.arena.touches ≤ old.arena.touches + 60) (steps : new.steps ≤ old.steps + 1) where
+module _ {u : ℕ} (first old new : RemoteState u) (at : ℕ) (was : Drained first old at) (own : new.slots ≡ old.slots) (plan : SamePlan old.arena new.arena) (touches : new.arena.touches ≤ old.arena.touches + 60) (compared : new.arena.compared ≡ old.arena.compared) (steps : new.steps ≤ old.steps + 1) where
   plans : SamePlan first.arena new.arena
   plans = record { region = plan.region ∙ was.plan.region; book = plan.book ∙ was.plan.book; most = plan.most ∙ was.plan.most; longest = plan.longest ∙ was.plan.longest; stays = plan.stays ∙ was.plan.stays }
 
@@ -120,6 +142,9 @@ module _ {u : ℕ} (first old new : RemoteState u) (at : ℕ) (was : Drained fir
 
   one_longer : (home : Bool) → length was.seen ≡ at → length (was.seen ++ home ∷ []) ≡ at + 1
   one_longer home long = length-append was.seen (home ∷ []) ∙ ap (λ (j : ℕ). j + 1) long
+
+  one_in_time : (home : Bool) → ¬ (old.arena.heap.tick ≡ last_tick) → LookedInTime first.arena.heap first.away (was.seen ++ home ∷ [])
+  one_in_time home fresh = in_time_on first.arena.heap first.away was.seen home was.in_time (λ last. fresh (ap (λ (s : HeapState). s.tick) was.heap ∙ last))
 
   pub one_drained : (result : Bool)
       → (result ≡ true → (b : Parcel u) × (slice_get old.away at ≡ Some (Some b)) × (new.away ≡ set old.away at None) × (new.arena.heap ≡ (released old.arena.heap b.block.name).heap) × (new.arena.held + 1 ≡ old.arena.held) × (new.idle ≡ old.idle ++ at ∷ []))
@@ -137,6 +162,7 @@ module _ {u : ℕ} (first old new : RemoteState u) (at : ℕ) (was : Drained fir
         plan = plans;
         long = ap (λ (l : List (Option (Parcel u))). length l) h.2 ∙ length-set old.away at None ∙ was.long;
         touches = omega (arith, was.touches, touches);
+        compared = compared ∙ was.compared;
         steps = omega (arith, was.steps, steps);
         seen = was.seen ++ true ∷ [];
         looks = seen_on true long (looks fresh);
@@ -145,6 +171,7 @@ module _ {u : ℕ} (first old new : RemoteState u) (at : ℕ) (was : Drained fir
         idle = h.5 ∙ ap (λ (l : List ℕ). l ++ at ∷ []) was.idle ∙ append_assoc first.idle (home_from 0 was.seen) (at ∷ [])
             ∙ ap (λ (j : ℕ). first.idle ++ (home_from 0 was.seen ++ j ∷ [])) (from_first long) ∙ ap (λ (l : List ℕ). first.idle ++ l) (sym (home_on 0 was.seen));
         whole = λ _. one_longer true long;
+        in_time = one_in_time true fresh;
       }
   one_drained false home none looks worn = elim (cases_eq old.arena.heap.tick last_tick) [
     | inl last ↦
@@ -154,6 +181,7 @@ module _ {u : ℕ} (first old new : RemoteState u) (at : ℕ) (was : Drained fir
           plan = plans;
           long = ap (λ (l : List (Option (Parcel u))). length l) h.0 ∙ was.long;
           touches = omega (arith, was.touches, touches);
+          compared = compared ∙ was.compared;
           steps = omega (arith, was.steps, steps);
           seen = was.seen;
           looks = (worn last).1 ∙ was.looks;
@@ -161,6 +189,7 @@ module _ {u : ℕ} (first old new : RemoteState u) (at : ℕ) (was : Drained fir
           heap = h.1 ∙ was.heap;
           idle = h.3 ∙ was.idle;
           whole = λ fresh. absurd (fresh (ap (λ (s : HeapState). s.tick) h.1 ∙ last));
+          in_time = was.in_time;
         }
     | inr fresh ↦
         let h = none refl in
@@ -170,6 +199,7 @@ module _ {u : ℕ} (first old new : RemoteState u) (at : ℕ) (was : Drained fir
           plan = plans;
           long = ap (λ (l : List (Option (Parcel u))). length l) h.0 ∙ was.long;
           touches = omega (arith, was.touches, touches);
+          compared = compared ∙ was.compared;
           steps = omega (arith, was.steps, steps);
           seen = was.seen ++ false ∷ [];
           looks = seen_on false long (looks fresh);
@@ -177,5 +207,6 @@ module _ {u : ℕ} (first old new : RemoteState u) (at : ℕ) (was : Drained fir
           heap = h.1 ∙ was.heap ∙ sym (heap_off first.arena.heap first.away was.seen);
           idle = h.3 ∙ was.idle ∙ ap (λ (l : List ℕ). first.idle ++ l) (sym (home_off 0 was.seen));
           whole = λ _. one_longer false long;
+          in_time = one_in_time false fresh;
         }
   ]

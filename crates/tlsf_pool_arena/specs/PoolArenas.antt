@@ -15,7 +15,8 @@ use Rattle.tlsf_arena.specs.Arenas.{refitted, requested}
 use Rattle.tlsf_arena.specs.Units.{IsUnit, units_for}
 
 -- the view of the arena: its heap, the region of its memory, the book of its blocks, and how many are held. Also how many may be
--- held at once and the bytes of the longest request, and the heap's own memory and touches
+-- held at once and the bytes of the longest request, and the heap's own memory and touches. Also how often an address was compared
+-- with that of a unit
 pub record PoolArenaState : Type 0 where
   pub heap : HeapState
   pub region : Region
@@ -25,6 +26,7 @@ pub record PoolArenaState : Type 0 where
   pub held : ℕ
   pub extents : Extents
   pub touches : ℕ
+  pub compared : ℕ
 
 -- the units of each block, whatever its length: those from which every free block serves the longest request
 abbrev pub fixed_size : ℕ → ℕ → ℕ → ℕ

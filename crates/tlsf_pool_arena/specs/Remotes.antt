@@ -1,5 +1,5 @@
 -- An arena whose blocks are away by slots.
-use Rattle.std.specs.Prelude.{◌≡◌, ℕ, ◌+◌, ◌<◌, Bool, true, false, List, [], ◌∷◌, ◌++◌, length, count_by, Option, Some, None, is_none, slice_get, slice_set}
+use Rattle.std.specs.Prelude.{◌≡◌, ℕ, ◌+◌, ◌<◌, Bool, true, false, List, [], ◌∷◌, ◌++◌, length, count_by, Option, Some, None, is_none, slice_get, slice_set, take}
 use base.Fml.{GName}
 use Rattle.linked_list_allocator.specs.Region.{Region}
 use Rattle.atomic_table.specs.Seated.{TableId}
@@ -80,10 +80,16 @@ home_released h (Some b ∷ away) (true ∷ seen) = home_released (released h b.
 home_released h (None ∷ away) (true ∷ seen) = home_released h away seen
 home_released h (b ∷ away) (false ∷ seen) = home_released h away seen
 
--- each block that was home when it was looked at is taken and released, and no other. All slots are looked at, unless the last tick came
+-- each look came before the last tick: the looks before it had left another one
+abbrev pub LookedInTime : {u : ℕ} → HeapState → List (Option (Parcel u)) → List Bool → Type 0
+LookedInTime h away seen = (k : ℕ) → k < length seen → ¬ ((home_released h away (take k seen)).tick ≡ last_tick)
+
+-- each block that was home when it was looked at is taken and released, and no other. Slots are looked at in turn, until all were or
+-- the last tick came: so just those are left out that come after it
 pub record TakesHome {u : ℕ} (old new : RemoteState u) (seen : List Bool) : Type 0 where
   pub looks : new.looks ≡ old.looks ++ looks_from 0 seen
   pub away : new.away ≡ still_away old.away seen
   pub heap : new.arena.heap ≡ home_released old.arena.heap old.away seen
   pub idle : new.idle ≡ old.idle ++ home_from 0 seen
   pub whole : ¬ (new.arena.heap.tick ≡ last_tick) → length seen ≡ length old.away
+  pub in_time : LookedInTime old.arena.heap old.away seen

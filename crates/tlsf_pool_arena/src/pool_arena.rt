@@ -24,7 +24,8 @@ use tlsf_pool::PoolRefusal;
 /// is that of its heap, 4 or 5, and a unit has 16, 32 or 64 bytes. Each block has the units of the longest request, whatever its own length.
 ///
 /// Contracts see it as its heap, the region of its memory, and the book in which its blocks stand. They see the two bounds, how
-/// many blocks are held, and the heap's own memory (`extents`) and touches. Lengths are in bytes.
+/// many blocks are held, and the heap's own memory (`extents`) and touches. They see how often an address was compared with that of
+/// a unit. Lengths are in bytes.
 #[derive(Drop)]
 pub struct PoolArena<const SLI: u32, const UNIT: usize> {
     arena: Arena<SLI, UNIT>,
@@ -41,9 +42,9 @@ impl<const SLI: u32, const UNIT: usize> Model for PoolArena<SLI, UNIT> {
 
     ghost Value = { PoolArenaState };
 
-    ghost view = { λ p. record { heap = p.arena.heap; region = p.arena.region; book = p.arena.book; most = p.most; longest = p.longest; held = p.held; extents = p.arena.extents; touches = p.arena.touches } };
+    ghost view = { λ p. record { heap = p.arena.heap; region = p.arena.region; book = p.arena.book; most = p.most; longest = p.longest; held = p.held; extents = p.arena.extents; touches = p.arena.touches; compared = p.arena.compared } };
 
-    ghost invariant = { λ p. IsPoolArena SLI UNIT (record { heap = p.arena.heap; region = p.arena.region; book = p.arena.book; most = p.most; longest = p.longest; held = p.held; extents = p.arena.extents; touches = p.arena.touches }) × (p.bytes ≡ fixed_bytes SLI UNIT p.longest) };
+    ghost invariant = { λ p. IsPoolArena SLI UNIT (record { heap = p.arena.heap; region = p.arena.region; book = p.arena.book; most = p.most; longest = p.longest; held = p.held; extents = p.arena.extents; touches = p.arena.touches; compared = p.arena.compared }) × (p.bytes ≡ fixed_bytes SLI UNIT p.longest) };
 }
 
 // The bytes of each block: those of the units from which every free block serves the longest request.
@@ -131,6 +132,7 @@ impl<const SLI: u32, const UNIT: usize> PoolArena<SLI, UNIT> {
         // Accepted or refused, whatever the length: at most 64 touches.
         ensures touches { self.new.touches ≤ self.old.touches + 64 }
         ensures touches_rise { self.old.touches ≤ self.new.touches }
+        ensures compared { self.new.compared ≡ self.old.compared }
     {
         if len > self.longest {
             return Err(PoolRefusal::TooLong);
@@ -172,6 +174,7 @@ impl<const SLI: u32, const UNIT: usize> PoolArena<SLI, UNIT> {
         ensures plan { SamePlan self.old self.new }
         ensures touches { self.new.touches ≤ self.old.touches + 60 }
         ensures touches_rise { self.old.touches ≤ self.new.touches }
+        ensures compared { self.new.compared ≡ self.old.compared }
     {
         match self.arena.release(block) {
             Ok(()) => {
@@ -216,6 +219,7 @@ impl<const SLI: u32, const UNIT: usize> PoolArena<SLI, UNIT> {
         ensures plan { SamePlan self.old self.new }
         ensures touches { self.new.touches ≤ self.old.touches + 64 }
         ensures touches_rise { self.old.touches ≤ self.new.touches }
+        ensures compared { self.new.compared ≡ self.old.compared }
     {
         if self.longest >= len {
             return self.arena.resize(block, self.bytes);
@@ -238,6 +242,7 @@ impl<const SLI: u32, const UNIT: usize> PoolArena<SLI, UNIT> {
         ensures same { SamePoolArena self.old self.new }
         ensures touches { self.new.touches ≤ self.old.touches + 2 * length self.old.heap.blocks }
         ensures touches_rise { self.old.touches ≤ self.new.touches }
+        ensures compared { self.new.compared ≡ self.old.compared }
     {
         self.arena.report()
     }
@@ -252,6 +257,7 @@ impl<const SLI: u32, const UNIT: usize> PoolArena<SLI, UNIT> {
         ensures same { SamePoolArena self.old self.new }
         ensures touches { self.new.touches ≤ self.old.touches + 2 * length self.old.heap.blocks }
         ensures touches_rise { self.old.touches ≤ self.new.touches }
+        ensures compared { self.new.compared ≡ self.old.compared }
     {
         self.report().free_words
     }
@@ -268,6 +274,7 @@ impl<const SLI: u32, const UNIT: usize> PoolArena<SLI, UNIT> {
         ensures same { SamePoolArena self.old self.new }
         ensures touches { self.new.touches ≤ self.old.touches + 4 }
         ensures touches_rise { self.old.touches ≤ self.new.touches }
+        ensures compared { self.new.compared ≡ self.old.compared }
         ensures wild { FollowsNoPlace self.old.heap at self.old.touches self.new.touches }
     {
         self.arena.block_at(at)

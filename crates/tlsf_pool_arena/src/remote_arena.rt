@@ -119,6 +119,7 @@ impl<const SLI: u32, const UNIT: usize> RemoteArena<SLI, UNIT> {
         ensures plan { SamePlan self.old.arena self.new.arena }
         ensures looks { self.new.looks ≡ self.old.looks }
         ensures touches { self.new.arena.touches ≤ self.old.arena.touches + 64 }
+        ensures compared { self.new.arena.compared ≡ self.old.arena.compared }
         ensures steps { self.new.steps ≤ self.old.steps + 1 }
     {
         let block = self.arena.allocate(len)?;
@@ -154,6 +155,7 @@ impl<const SLI: u32, const UNIT: usize> RemoteArena<SLI, UNIT> {
         ensures worn { self.old.arena.heap.tick ≡ last_tick → (result ≡ false) × (self.new.looks ≡ self.old.looks) }
         ensures idle { NoneLost self.new }
         ensures touches { self.new.arena.touches ≤ self.old.arena.touches + 60 }
+        ensures compared { self.new.arena.compared ≡ self.old.arena.compared }
         ensures steps { self.new.steps ≤ self.old.steps + 1 }
     {
         if self.arena.tick() == u64::MAX {
@@ -188,6 +190,7 @@ impl<const SLI: u32, const UNIT: usize> RemoteArena<SLI, UNIT> {
 
         // At most 60 touches for each slot, and one step on the list of idle slots.
         ensures touches { self.new.arena.touches ≤ self.old.arena.touches + 60 * self.old.arena.most }
+        ensures compared { self.new.arena.compared ≡ self.old.arena.compared }
         ensures steps { self.new.steps ≤ self.old.steps + self.old.arena.most }
     {
         let before = self.arena.held();

@@ -2,7 +2,7 @@
 use Rattle.std.specs.Prelude.{ℕ, List, map, ◌≡◌, ◌≢◌, ◌+◌, ◌<◌, ◌≤◌, [], ◌++◌, length, drop, get_or, Option, Some, None, slice_get, All}
 use Rattle.tlsf_crew.specs.declared.worker.worker.Worker.{Worker}
 use Rattle.tlsf_crew.specs.declared.worker.lanes.Lanes.{Lanes}
-use Rattle.tlsf_crew.specs.worker.Workers.{heap_of, IsHeapOf}
+use Rattle.tlsf_crew.specs.worker.Workers.{heap_of, shown_of, IsHeapOf}
 use Rattle.tlsf_crew.specs.model.World.{World, no_heap}
 use Rattle.tlsf_class.specs.Classes.{IsLevel}
 use Rattle.tlsf_post.specs.declared.post.Post.{Post}
@@ -10,6 +10,7 @@ use Rattle.tlsf_post.specs.declared.post_end.PostEnd.{PostEnd}
 use Rattle.tlsf_post.specs.declared.take_end.TakeEnd.{TakeEnd}
 use Rattle.tlsf_post.specs.Lanes.{posts_sent, free_slots, capacity_of, waited, taken, ready, IsLane}
 use Rattle.tlsf_heap.specs.Blocks.{HeapState}
+use Rattle.tlsf_heap.specs.Shown.{Shown}
 use Rattle.tlsf_crew.specs.lanes.LaneWorkers.{id_and_capacity, end_to, end_from}
 
 abbrev pub end_to_in : {sli : ℕ} → Option (Worker sli Lanes) → ℕ → Option PostEnd
@@ -30,6 +31,10 @@ take_at ws i j = end_from_in (slice_get ws j) i
 -- the heap of worker i
 abbrev pub heap_of_worker : {sli : ℕ} → List (Worker sli Lanes) → ℕ → HeapState
 heap_of_worker ws i = get_or (map heap_of ws) i no_heap
+
+-- all that the heap of worker i shows, with its touches; None where there is no such worker
+abbrev pub shown_in : {sli : ℕ} → List (Worker sli Lanes) → ℕ → Option Shown
+shown_in ws i = slice_get (map shown_of ws) i
 
 -- the number of worker i
 abbrev pub id_in : {sli : ℕ} → List (Worker sli Lanes) → ℕ → ℕ

@@ -6,11 +6,15 @@ use Rattle.std.specs.declared.alloc.Global.{Global}
 use Rattle.tlsf_words.specs.Memory.{Extent}
 use Rattle.tlsf_heap.specs.Blocks.{HeapState}
 use Rattle.tlsf_heap.specs.Lawful.{IsLawful}
-use Rattle.tlsf_heap.specs.Shown.{Seen, seen}
+use Rattle.tlsf_heap.specs.Shown.{Seen, Shown, seen}
 use Rattle.tlsf_crew.specs.declared.worker.worker.Worker.{Worker}
 
 abbrev pub heap_of : {sli : ℕ} {P : Type 0} → Worker sli P → HeapState
 heap_of a = a.heap.heap
+
+-- all that its heap shows: its blocks, its memory, how often that was touched, and which words
+abbrev pub shown_of : {sli : ℕ} {P : Type 0} → Worker sli P → Shown
+shown_of a = a.heap
 
 -- how many times a worker's calls touched its heap's memory
 abbrev pub touches_of : {sli : ℕ} {P : Type 0} → Worker sli P → ℕ

@@ -1,9 +1,10 @@
 //! Events, one after another.
-ghost use Rattle.std.specs.Prelude.{◌≡◌, ◌≢◌, ℕ, ◌+◌, ◌*◌, ◌<◌, ◌≤◌, length, List, Option, Some, vec_len, vec_capacity, IfOk, OnOk, OnErr};
+ghost use Rattle.std.specs.Prelude.{◌≡◌, ◌≢◌, ℕ, ◌+◌, ◌*◌, ◌<◌, ◌≤◌, All, length, map, List, Option, Some, vec_len, vec_capacity, IfOk, OnOk, OnErr};
 ghost use Rattle.tlsf_heap.specs.declared.name.Name.{Name};
 ghost use Rattle.tlsf_crew.specs.model.Sums.{sum_below};
 ghost use Rattle.tlsf_crew.specs.scripts.EntryRoom.{entry_room};
-ghost use Rattle.tlsf_crew.specs.lanes.Yard.{IsYard, waits_in, world_of};
+ghost use Rattle.tlsf_crew.specs.lanes.Yard.{IsYard, shown_in, waits_in, world_of};
+ghost use Rattle.tlsf_crew.specs.worker.Workers.{shown_of};
 ghost use Rattle.tlsf_crew.specs.model.World.{after, replies, replies_behind};
 ghost use Rattle.tlsf_crew.specs.model.Targets.{target_name};
 ghost use Rattle.tlsf_crew.specs.fair_runs.FairRuns.{IsFairRun, NoneStale, WaitLive};
@@ -33,6 +34,7 @@ fn settle_named<const SLI: u32>(workers: &mut [Worker<SLI>], at: usize, name: Op
     ensures yard { IsYard workers.new }
     ensures count { length workers.new ≡ length workers.old }
     ensures world { world_of workers.new ≡ world_of workers.old }
+    ensures heaps { map shown_of workers.new ≡ map shown_of workers.old }
 {
     let Some(name) = name else {
         return;
@@ -58,6 +60,7 @@ fn settle_for<const SLI: u32>(
     ensures yard { IsYard workers.new }
     ensures count { length workers.new ≡ length workers.old }
     ensures world { world_of workers.new ≡ world_of workers.old }
+    ensures heaps { map shown_of workers.new ≡ map shown_of workers.old }
     ensures limits { AreLimits workers.new event.now result }
 {
     let at = event.worker as usize;
@@ -87,6 +90,7 @@ pub(crate) fn reply_in_yard<const SLI: u32>(
     requires room { vec_len journal.old.entries + sum_below 8 (λ i. length (waits_in workers.old i event.now.worker)) ≤ vec_capacity journal.old.entries }
     requires meant { (made : List (Option Name)) × (target_name made event.now.call ≡ name) }
     ensures replied { (made : List (Option Name)) → target_name made event.now.call ≡ name → IsReplied (replay_of made journal.old.entries.items workers.old) event.now journal.new.entries.items workers.new result }
+    ensures others { (x : ℕ) → x ≢ event.now.worker → shown_in workers.new x ≡ shown_in workers.old x }
     ensures capacity { vec_capacity journal.new.entries ≡ vec_capacity journal.old.entries }
 {
     journal.limits = settle_for(workers, event, name);
@@ -109,6 +113,7 @@ fn run_event<const SLI: u32>(
     requires room { length (after (replay_of made.old.items journal.old.entries.items workers.old) event.now).entries ≤ vec_capacity journal.old.entries }
     ensures yard { IsYard workers.new }
     ensures capacity { (vec_capacity made.new ≡ vec_capacity made.old) × (vec_capacity journal.new.entries ≡ vec_capacity journal.old.entries) }
+    ensures others { (x : ℕ) → x ≢ event.now.worker → shown_in workers.new x ≡ shown_in workers.old x }
     ensures made { vec_len made.new ≡ vec_len made.old + 1 }
     ensures after { replay_of made.new.items journal.new.entries.items workers.new ≡ after (replay_of made.old.items journal.old.entries.items workers.old) event.now }
 {
@@ -133,6 +138,7 @@ fn run_event<const SLI: u32>(
 ///
 /// - `room`: the room for all entries is made first. There is one for each event, for each release among them and for each post
 ///   that waits at the start. Where it answers `NoMemory`, no event has run.
+/// - `others`: no word of a heap is read or written whose worker makes no event.
 pub fn replay_events<const SLI: u32>(
     alloc: Global,
     workers: &mut [Worker<SLI>],
@@ -144,6 +150,7 @@ pub fn replay_events<const SLI: u32>(
     ensures world { OnOk result (world_of workers.new ≡ (replies (world_of workers.old) events.now).world) }
     ensures no_memory { OnErr result (world_of workers.new ≡ world_of workers.old) }
     ensures no_stale { IsFairRun (world_of workers.old) events.now → IfOk result (λ entries. NoneStale entries.items × WaitLive (world_of workers.new)) }
+    ensures others { (x : ℕ) → All (λ event. event.worker ≢ x) events.now → shown_in workers.new x ≡ shown_in workers.old x }
 
     // This much memory is asked for, and no more.
     ensures room { IfOk result (λ entries. vec_capacity entries ≡ entry_room (world_of workers.old) events.now) }
@@ -156,6 +163,7 @@ pub fn replay_events<const SLI: u32>(
 /// adds the names that they made. So a long list of events can be run part by part, with few entries held.
 ///
 /// Lanes are settled as [`replay_events`] settles them. After `NoMemory` no event has run, and `made` has the names that it had.
+/// A heap whose worker makes no event isn't touched (`others`).
 ///
 /// ```
 /// let mut made = Vec::new(alloc);
@@ -175,6 +183,7 @@ pub fn replay_behind<const SLI: u32>(
     ensures made { OnOk result (made.new.items ≡ (replies_behind (world_of workers.old) made.old.items events.now).made) }
     ensures world { OnOk result (world_of workers.new ≡ (replies_behind (world_of workers.old) made.old.items events.now).world) }
     ensures no_memory { OnErr result ((world_of workers.new ≡ world_of workers.old) × (made.new.items ≡ made.old.items)) }
+    ensures others { (x : ℕ) → All (λ event. event.worker ≢ x) events.now → shown_in workers.new x ≡ shown_in workers.old x }
     ensures room { IfOk result (λ entries. vec_capacity entries ≡ entry_room (world_of workers.old) events.now) }
 {
     settle(workers);

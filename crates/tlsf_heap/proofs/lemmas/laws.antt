@@ -8,3 +8,5 @@ pub mod WordsInUse
 pub mod MovedWords
 pub mod AlignedWords
 pub mod PayloadWords
+pub mod AlignedFits
+pub mod CheckAnswers

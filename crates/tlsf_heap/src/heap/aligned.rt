@@ -65,6 +65,7 @@ impl<const SLI: u32> Heap<SLI> {
         ensures leaves { LeavesLive self.old.heap.blocks self.old.touched self.new.touched }
         ensures groups { InGroups 13 self.old.touched self.new.touched }
         ensures wild { FollowsNoPlace self.old.heap at self.old.touches self.new.touches }
+        ensures unread { ¬ (Blocks.IsPlace self.old.heap.blocks at) → self.new.touched ≡ self.old.touched }
     {
         let name = match self.words_from(at, want(len)) {
             Ok(name) => name,
@@ -161,6 +162,7 @@ impl<const SLI: u32> Heap<SLI> {
         ensures leaves { LeavesLive self.old.heap.blocks self.old.touched self.new.touched }
         ensures groups { InGroups 12 self.old.touched self.new.touched }
         ensures wild { FollowsNoPlace self.old.heap at self.old.touches self.new.touches }
+        ensures unread { ¬ (Blocks.IsPlace self.old.heap.blocks at) → self.new.touched ≡ self.old.touched }
     {
         let Some(own) = self.region.free_at(at) else {
             return Err(Refusal::Stale);

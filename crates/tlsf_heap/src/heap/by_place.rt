@@ -32,6 +32,7 @@ impl<const SLI: u32> Heap<SLI> {
         ensures leaves { LeavesLive self.old.heap.blocks self.old.touched self.new.touched }
         ensures groups { InGroups 2 self.old.touched self.new.touched }
         ensures wild { FollowsNoPlace self.old.heap at self.old.touches self.new.touches }
+        ensures unread { ¬ (Blocks.IsPlace self.old.heap.blocks at) → self.new.touched ≡ self.old.touched }
     {
         let Some(_own) = self.region.live_at(at) else {
             return None;
@@ -70,9 +71,12 @@ impl<const SLI: u32> Heap<SLI> {
         ensures groups { InGroups release_groups self.old.touched self.new.touched }
         ensures refused { OnErr result (LeavesLive self.old.heap.blocks self.old.touched self.new.touched) }
         ensures wild { FollowsNoPlace self.old.heap at self.old.touches self.new.touches }
+        ensures unread { ¬ (Blocks.IsPlace self.old.heap.blocks at) → self.new.touched ≡ self.old.touched }
     {
         let own = self.check_place(at)?;
-        self.give_back(at, own, &mut own.size())
+        self.check_tick()?;
+        self.give_back(at, own);
+        Ok(())
     }
 
     /// Makes the payload of the live block that begins at a place `len` bytes long, where the block stands. It is a `resize` of the
@@ -92,6 +96,7 @@ impl<const SLI: u32> Heap<SLI> {
         ensures groups { InGroups (17 + len / 64) self.old.touched self.new.touched }
         ensures refused { OnErr result (LeavesLive self.old.heap.blocks self.old.touched self.new.touched) }
         ensures wild { FollowsNoPlace self.old.heap at self.old.touches self.new.touches }
+        ensures unread { ¬ (Blocks.IsPlace self.old.heap.blocks at) → self.new.touched ≡ self.old.touched }
     {
         match self.name_at(at) {
             None => Err(Refusal::Stale),

@@ -1,4 +1,4 @@
-ghost use Rattle.std.specs.Prelude.{◌+◌, ◌*◌, ◌/◌, ◌≤◌, MatchOption};
+ghost use Rattle.std.specs.Prelude.{◌≡◌, ◌+◌, ◌*◌, ◌/◌, ◌≤◌, MatchOption};
 ghost use Rattle.tlsf_heap.specs.Blocks.{IsPlace};
 ghost use Rattle.tlsf_heap.specs.Checks.{IsCheck, FindsSound, block_touches};
 ghost use Rattle.tlsf_heap.specs.Footprint.{LeavesLive};
@@ -10,9 +10,11 @@ use crate::checked::Checked;
 
 impl<const SLI: u32> Heap<SLI> {
     /// Looks at `most` blocks at most, one after the other. The first of them begins at `from`; `None` where none begins there. A
-    /// heap that only these calls have changed is never called damaged. Where other code has written past the end of a payload, the
-    /// answer is that of [`crate::check_words`] on words that may hold anything. It follows no place that it has not looked at.
-    /// Takes no memory.
+    /// heap that only these calls have changed is never called damaged. It follows no place that it has not looked at. Takes no
+    /// memory.
+    ///
+    /// Where other code has written past the end of a payload, it answers as [`crate::check_words`] does, which is proved to tell
+    /// damage. No clause here says so, since none speaks of a damaged heap.
     ///
     /// A caller who checks in slices calls it again with the `next` of the answer, which is 0 behind the last block.
     ///
@@ -25,7 +27,7 @@ impl<const SLI: u32> Heap<SLI> {
     pub fn check_blocks(&mut self, from: u32, most: u32) -> Option<Checked>
         ensures answer { MatchOption result (¬ (IsPlace self.old.heap.blocks from)) (FindsSound self.old.heap.blocks from most) }
 
-        // The law on words that hold anything, of these.
+        // The answer of `check_words` on the words that are stored: they have no other (`checks_have_one_answer`).
         ensures looks { IsCheck self.old.stored from most result }
         ensures same { IsAsBefore self.old self.new }
         ensures keeps { Keeps SLI self.old self.new }
@@ -37,6 +39,7 @@ impl<const SLI: u32> Heap<SLI> {
 
         // Not even a start bit is read unless the place lies in the region, and no word unless a block begins there.
         ensures wild { FollowsNoPlace self.old.heap from self.old.touches self.new.touches }
+        ensures unread { ¬ (IsPlace self.old.heap.blocks from) → self.new.touched ≡ self.old.touched }
     {
         self.region.check(from, most)
     }

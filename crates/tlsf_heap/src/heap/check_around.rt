@@ -1,4 +1,4 @@
-ghost use Rattle.std.specs.Prelude.{◌+◌, ◌≤◌, MatchOption};
+ghost use Rattle.std.specs.Prelude.{◌≡◌, ◌+◌, ◌≤◌, MatchOption};
 ghost use Rattle.tlsf_heap.specs.Around.{IsAroundCheck, around_touches};
 ghost use Rattle.tlsf_heap.specs.Blocks.{IsPlace};
 ghost use Rattle.tlsf_heap.specs.Checks.{FindsSound};
@@ -34,6 +34,7 @@ impl<const SLI: u32> Heap<SLI> {
 
         // Not even a start bit is read unless the place lies in the region, and no word unless a block begins there.
         ensures wild { FollowsNoPlace self.old.heap at self.old.touches self.new.touches }
+        ensures unread { ¬ (IsPlace self.old.heap.blocks at) → self.new.touched ≡ self.old.touched }
     {
         self.region.check_around(at)
     }

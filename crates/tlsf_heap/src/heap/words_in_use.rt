@@ -1,5 +1,6 @@
 ghost use Rattle.std.specs.Prelude.{◌≡◌, ◌+◌, ◌≤◌, Err, OnOk, OnErr, MatchResult};
 ghost use Rattle.tlsf_class.specs.Classes.{most_words};
+ghost use Rattle.tlsf_heap.specs.Blocks.{IsPlace};
 ghost use Rattle.tlsf_heap.specs.ByPlace.{released_by_place};
 ghost use Rattle.tlsf_heap.specs.Effects.{Releases};
 ghost use Rattle.tlsf_heap.specs.Footprint.{LeavesLive, LeavesPayloads};
@@ -94,7 +95,10 @@ impl<const SLI: u32> Heap<SLI> {
         ensures groups { InGroups release_groups self.old.touched self.new.touched }
     {
         let own = self.check(name)?;
-        self.give_back(name.at, own, in_use)
+        self.check_tick()?;
+        *in_use -= own.size();
+        self.give_back(name.at, own);
+        Ok(())
     }
 
     /// A `release_at`, refused as that is, that takes the words which come back off a count of those in use, as `release_counted` does. Where
@@ -129,8 +133,12 @@ impl<const SLI: u32> Heap<SLI> {
         ensures groups { InGroups release_groups self.old.touched self.new.touched }
         ensures refused { OnErr result (LeavesLive self.old.heap.blocks self.old.touched self.new.touched) }
         ensures wild { FollowsNoPlace self.old.heap at self.old.touches self.new.touches }
+        ensures unread { ¬ (IsPlace self.old.heap.blocks at) → self.new.touched ≡ self.old.touched }
     {
         let own = self.check_place(at)?;
-        self.give_back(at, own, in_use)
+        self.check_tick()?;
+        *in_use -= own.size();
+        self.give_back(at, own);
+        Ok(())
     }
 }

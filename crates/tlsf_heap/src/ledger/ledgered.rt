@@ -68,6 +68,31 @@ impl<const SLI: u32, L: Ledger<SLI>> Ledgered<SLI, L> {
         &self.ledger
     }
 
+    /// The number of the heap, which the names of its blocks have.
+    ///
+    /// ```text
+    /// counted.id()                            // 7, where it was opened with that number
+    /// ```
+    pub fn id(&self) -> u32
+        ensures id { result ≡ self.now.heap.id }
+        ensures ledgered { IsLedgered (L.holds SLI) self.now }
+    {
+        self.heap.id()
+    }
+
+    /// The address of the region's first word, as [`Heap::base`] answers it. Takes no memory.
+    ///
+    /// ```text
+    /// let base = counted.base();              // the payload of a block at place 0 begins three words after it
+    /// ```
+    pub fn base(&mut self) -> *mut u64
+        ensures address { result ≡ self.old.extents.words.address }
+        ensures same { self.new ≡ self.old }
+        ensures keeps { KeepsLedger (L.holds SLI) self.old self.new }
+    {
+        self.heap.base()
+    }
+
     /// Gives a block that holds `len` bytes of payload, all zero, by good fit (ECRTS 2004, sections 3 and 4), and notes it.
     ///
     /// Refused by the ledger, if that admits no such request; then as `Heap::allocate_words` refuses. It is `NoFit` where no free

@@ -26,6 +26,7 @@ impl<const SLI: u32> Region<SLI> {
         ensures reads { OnlyReads self.old self.new around_touches }
         ensures outside { self.old.words ≤ at → self.new.touches ≡ self.old.touches }
         ensures nowhere { ¬ (Begins self.old.stored at) → self.new.touches ≤ self.old.touches + 1 }
+        ensures unread { ¬ (Begins self.old.stored at) → self.new.touched ≡ self.old.touched }
         ensures touched { LeavesLive self.old.blocks self.old.touched self.new.touched }
     {
         around::check_around(&mut self.words, at)

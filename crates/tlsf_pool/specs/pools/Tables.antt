@@ -1,6 +1,7 @@
 -- A heap for a table of kinds: for which kind a block counts, and how many are held of each. All blocks have the same words.
 use Rattle.std.specs.Prelude.{◌≡◌, ◌≢◌, ℕ, ◌+◌, ◌-◌, ◌<◌, ◌≤◌, ◌↔◌, List, [], ◌∷◌, Option, Some, None, Result, Ok, Err, IfOk, IsOk, IsErrOf, IsSomeAnd, length, map, filter, position, slice_index, slice_index_or, set, sum, nat_le, nat_lt, if◌then◌else◌}
 use Rattle.std.specs.List.{AllByRecursion}
+use Rattle.std.specs.Option.{option_map}
 use Rattle.tlsf_class.specs.Classes.{IsLevel}
 use Rattle.tlsf_heap.specs.Blocks.{Block, HeapState, bytes_of}
 use Rattle.tlsf_heap.specs.Calls.{Outcome, allocated_words, last_tick}
@@ -28,6 +29,10 @@ lengths_in blocks = map (λ block. length (bytes_of block)) (live_among blocks)
 -- the row of a table for which a length counts: the first that is long enough for it; None where none is
 abbrev pub row_of : List Kind → ℕ → Option ℕ
 row_of kinds len = position (λ kind. nat_le len kind.len) kinds
+
+-- the bytes of that row
+abbrev pub row_len : List Kind → ℕ → Option ℕ
+row_len kinds len = option_map (λ row. len_at kinds row) (row_of kinds len)
 
 -- a request of each row's own length counts for it
 abbrev pub AreAllReached : List Kind → Type 0

@@ -32,7 +32,9 @@ pub(crate) fn open_parts<const SLI: u32>(
     ensures tables { IfOk result (λ parts. AllByRecursion (IsTabled SLI) parts.items) }
     ensures no_memory { IfErr result (λ fault. fault ≡ OpenFault.NoMemory) }
 {
-    let mut parts = Vec::new(alloc);
+    let Ok(mut parts) = Vec::with_capacity(alloc, split.heaps) else {
+        return Err(OpenFault::NoMemory);
+    };
     let mut rest = kinds;
     for at in 0..split.heaps {
         let len = split.lens[split.heaps - 1 - at].min(rest.len());

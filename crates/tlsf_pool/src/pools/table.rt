@@ -46,6 +46,14 @@ impl<const SLI: u32> Table<SLI> {
     {
         row_of(&self.kinds, len).is_some()
     }
+
+    // The bytes of the row for which a length counts; None where none is long enough.
+    pub(crate) fn row_len(&self, len: u32) -> Option<u32>
+        ensures { result ≡ tables.row_len self.now.kinds len }
+    {
+        let row = row_of(&self.kinds, len)?;
+        Some(self.kinds[row].len)
+    }
 }
 
 impl<const SLI: u32> Ledger<SLI> for Table<SLI> {

@@ -1,5 +1,5 @@
 -- A worker whose ends, or whose heap, are another's: what its yard has in each slot.
-use Rattle.tlsf_crew.proofs.Common.{◌≡◌, ℕ, ap, suc, zero, [], ◌∷◌, ◌≢◌, ◌<◌, List, Option, Some, None, length, set, sym, ◌∙◌, map, refl, inl, inr, Worker, Lanes, id_and_capacity, end_to, end_from, lane_to, lane_from, lane_extents, lane_memory, SameButHeap, SameButPorts, Stays, heap_of, slot_of, slice_get, get_or_from_slice_get, slice_get_within, cases_eq, length-set, map-set_same, PostEnd, TakeEnd, end_to_in, end_from_in, heap_of_worker, HasYardLane, OnlyLaneSettled, LaneChange, SameLane, InYard}
+use Rattle.tlsf_crew.proofs.Common.{◌≡◌, ℕ, ap, suc, zero, [], ◌∷◌, ◌≢◌, ◌<◌, List, Option, Some, None, length, set, sym, ◌∙◌, map, option_map, slice_get-map, refl, inl, inr, Worker, Lanes, id_and_capacity, end_to, end_from, lane_to, lane_from, lane_extents, lane_memory, SameButHeap, SameButPorts, Stays, heap_of, shown_of, shown_in, slot_of, slice_get, get_or_from_slice_get, slice_get_within, cases_eq, length-set, map-set_same, PostEnd, TakeEnd, end_to_in, end_from_in, heap_of_worker, HasYardLane, OnlyLaneSettled, LaneChange, SameLane, InYard}
 use Rattle.tlsf_crew.proofs.lemmas.worker.Slots.{get_set_same, get_set_other, got, got_first, got_second, from_slot, some_same}
 
 pub same_parts : {sli : ℕ} (a v : Worker sli Lanes) → SameButHeap a v → (id_and_capacity v ≡ id_and_capacity a) × (end_to v ≡ end_to a) × (end_from v ≡ end_from a)
@@ -88,6 +88,20 @@ pub step_memory : {sli : ℕ} (ws vs : List (Worker sli Lanes)) (i j : ℕ) → 
 step_memory ws vs i j ne s =
     let b_still : slice_get (set ws i s.v) j ≡ Some s.b = get_set_other ws i j s.v (λ e. ne (sym e)) ∙ s.b_is in
     rw s.after (map_same lane_memory (set ws i s.v) j s.b s.w b_still (same_memory s.b s.w s.settled.taker_stays) ∙ map_same lane_memory ws i s.a s.v s.a_is (same_memory s.a s.v s.settled.poster_stays))
+
+-- and touches no heap
+pub step_heaps : {sli : ℕ} (ws vs : List (Worker sli Lanes)) (i j : ℕ) → i ≢ j → OnlyLaneSettled ws i j vs → map shown_of vs ≡ map shown_of ws
+step_heaps ws vs i j ne s =
+    let b_still : slice_get (set ws i s.v) j ≡ Some s.b = get_set_other ws i j s.v (λ e. ne (sym e)) ∙ s.b_is in
+    rw s.after (map_same shown_of (set ws i s.v) j s.b s.w b_still s.settled.same_taker.0 ∙ map_same shown_of ws i s.a s.v s.a_is s.settled.same_poster.0)
+
+-- where no heap of a list was touched, none of its workers' was
+pub shown_same : {sli : ℕ} (ws vs : List (Worker sli Lanes)) (x : ℕ) → map shown_of vs ≡ map shown_of ws → shown_in vs x ≡ shown_in ws x
+shown_same ws vs x same = ap (λ l. slice_get l x) same
+
+-- and one worker that changes leaves the others' heaps
+pub shown_other : {sli : ℕ} (ws : List (Worker sli Lanes)) (i x : ℕ) (v : Worker sli Lanes) → x ≢ i → shown_in (set ws i v) x ≡ shown_in ws x
+shown_other ws i x v ne = slice_get-map shown_of (set ws i v) x ∙ ap (option_map shown_of) (get_set_other ws i x v ne) ∙ sym (slice_get-map shown_of ws x)
 
 pub heap_at : {sli : ℕ} (ws : List (Worker sli Lanes)) (i : ℕ) (a : Worker sli Lanes) → slice_get ws i ≡ Some a → heap_of_worker ws i ≡ heap_of a
 heap_at [] i a e = cc

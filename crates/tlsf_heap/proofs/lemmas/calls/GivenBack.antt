@@ -1,10 +1,10 @@
 -- The result of a release that gives back the block that a check found.
-use Rattle.tlsf_heap.proofs.Common.{◌≡◌, ℕ, ◌+◌, ◌≤◌, List, Result, Ok, Err, OnErr, sym, ap, ◌∙◌, subst, arith, HeapState, Outcome, released, released_by_place, call_by, IsNamed, IsNameCheck, RefusesName, IsOthersWord, LeavesLive, LeavesPayloads, FollowsNoForgery, Releases, Shown, seen, Name, Refusal, Tag}
+use Rattle.tlsf_heap.proofs.Common.{◌≡◌, ℕ, ◌+◌, ◌≤◌, List, Ok, Err, sym, ap, ◌∙◌, subst, arith, HeapState, Outcome, released, released_by_place, call_by, IsNamed, IsNameCheck, RefusesName, IsOthersWord, LeavesLive, LeavesPayloads, FollowsNoForgery, Releases, Shown, seen, Name, Refusal, Tag, Worn, last_tick}
 use Rattle.tlsf_heap.specs.ByPlace.{IsPlaceCheck}
 use Rattle.tlsf_heap.specs.Kept.{IsAsBefore, Keeps}
 use Rattle.tlsf_heap.proofs.lemmas.calls.ByPlace.{live_is_found}
 use Rattle.tlsf_heap.proofs.lemmas.calls.Named.{named_stands, named_live, live_is, not_forged}
-use Rattle.tlsf_heap.proofs.lemmas.calls.Release.{released_refused}
+use Rattle.tlsf_heap.proofs.lemmas.calls.Release.{released_refused, released_worn}
 use Rattle.tlsf_heap.proofs.lemmas.words.Footprint.{any_word}
 
 -- a named block is live at its place
@@ -14,10 +14,6 @@ live_named h name own is = (is.0.1.0, record { stands = named_stands _ _ _ _ is.
 -- the payloads of other blocks, over a call that leaves the heap and then one about a block
 pub others_then : (h k : HeapState) (at : ℕ) (first between last : List ℕ) → k ≡ h → LeavesLive h.blocks first between → LeavesPayloads k.blocks at between last → LeavesPayloads h.blocks at first last
 others_then h k at first between last same once twice w o = twice w (subst (λ (s : HeapState). IsOthersWord s.blocks at w) (sym same) o) ∙ once w (any_word h.blocks at w o)
-
-quiet_then : (first between last : List ℕ) (answer : Result (Unit {0}) Refusal) (live : List ℕ → List ℕ → Type 0) → live first between → OnErr answer (last ≡ between) → OnErr answer (live first last)
-quiet_then first between last (Ok done) live once same = tt
-quiet_then first between last (Err why) live once same = subst (live first) (sym same) once
 
 -- the check of a name was done
 module _ (sli : ℕ) (old mid : Shown) (name : Name) (same : IsAsBefore old mid) (keeps : Keeps sli old mid) (few : mid.touches ≤ old.touches + 3) (leaves : LeavesLive old.heap.blocks old.touched mid.touched) where
@@ -33,18 +29,32 @@ module _ (sli : ℕ) (old mid : Shown) (name : Name) (same : IsAsBefore old mid)
     forged = forged;
   }
 
-  -- it found the block, which is given back
-  pub releases_found : (new : Shown) (answer : Result (Unit {0}) Refusal) → IsNamed old.heap name → answer ≡ (released_by_place mid.heap name.at).answer → new.heap ≡ (released_by_place mid.heap name.at).heap
-      → mid.touches ≤ new.touches → new.touches ≤ mid.touches + 27 → LeavesPayloads mid.heap.blocks name.at mid.touched new.touched → OnErr answer (new.touched ≡ mid.touched) → Releases 30 (seen old) (seen new) name answer
-  releases_found new answer named is left rise more others quiet =
+  -- it found the block, at the last tick
+  pub releases_worn : IsNamed old.heap name → mid.heap.tick ≡ last_tick → Releases 30 (seen old) (seen mid) name (Err Worn)
+  releases_worn named worn =
+      let late = released_worn old.heap name named.0 named.1.0 named.1.1 (sym (ap (λ (h : HeapState). h.tick) same.heap) ∙ worn) in
+      record {
+        answer_is = rw late;
+        heap = rw late same.heap;
+        touches = omega arith;
+        rise = keeps.touches_rise;
+        leaves = λ k o. leaves k (any_word old.heap.blocks name.at k o);
+        refused = leaves;
+        forged = not_forged (seen old) name keeps.was_lawful named (seen mid);
+      }
+
+  -- it found the block, which was given back
+  pub releases_found : (new : Shown) → IsNamed old.heap name → (released_by_place mid.heap name.at).answer ≡ Ok tt → new.heap ≡ (released_by_place mid.heap name.at).heap
+      → mid.touches ≤ new.touches → new.touches ≤ mid.touches + 27 → LeavesPayloads mid.heap.blocks name.at mid.touched new.touched → Releases 30 (seen old) (seen new) name (Ok tt)
+  releases_found new named done left rise more others =
       let by : released_by_place mid.heap name.at ≡ released old.heap name =
       ap (λ (h : HeapState). released_by_place h name.at) same.heap ∙ ap (call_by old.heap (released old.heap)) (live_is_found old.heap name keeps.was_lawful (live_is old.heap name named)) in
       record {
-        answer_is = is ∙ ap (λ (o : Outcome (Unit {0})). o.answer) by;
+        answer_is = sym done ∙ ap (λ (o : Outcome (Unit {0})). o.answer) by;
         heap = left ∙ ap (λ (o : Outcome (Unit {0})). o.heap) by;
         touches = omega arith;
         rise = omega (arith, keeps.touches_rise);
         leaves = others_then old.heap mid.heap name.at old.touched mid.touched new.touched same.heap leaves others;
-        refused = quiet_then old.touched mid.touched new.touched answer (LeavesLive old.heap.blocks) leaves quiet;
+        refused = tt;
         forged = not_forged (seen old) name keeps.was_lawful named (seen new);
       }

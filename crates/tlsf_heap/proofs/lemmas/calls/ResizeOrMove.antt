@@ -20,12 +20,15 @@ released_live k name live fresh =
     ap (λ (b : Bool). (cond b (released_at k (named name k.blocks)) (refused k Foreign)).answer) (eq-eqb name.heap k.id live.0)
     ∙ released_there k (named name k.blocks) live.1 (ne_eqb k.tick last_tick fresh)
 
--- also after a write
+-- a write takes no tick
+pub written_tick : (k : HeapState) (new : Name) (bytes : List ℕ) → (written k new 0 bytes).heap.tick ≡ k.tick
+written_tick k new bytes = by_written (λ o. o.heap.tick ≡ k.tick) k new 0 bytes (λ why. refl) (λ s site has. refl)
+
+-- so the name is released after it too
 pub release_done : (sli : ℕ) (k : HeapState) (name new : Name) (bytes : List ℕ) → IsLive k name → k.tick ≢ last_tick → (released (written k new 0 bytes).heap name).answer ≡ Ok tt
 release_done sli k name new bytes live fresh =
-    let stays : (written k new 0 bytes).heap.tick ≡ k.tick = by_written (λ o. o.heap.tick ≡ k.tick) k new 0 bytes (λ why. refl) (λ s site has. refl) in
     let still : IsLive (written k new 0 bytes).heap name = kept_others sli k name (Put new 0 bytes) tt live in
-    released_live (written k new 0 bytes).heap name still (λ worn. fresh (sym stays ∙ worn))
+    released_live (written k new 0 bytes).heap name still (λ worn. fresh (sym (written_tick k new bytes) ∙ worn))
 
 module _ (sli : ℕ) (h : HeapState) (name : Name) (len : ℕ) where
   -- ---- a move

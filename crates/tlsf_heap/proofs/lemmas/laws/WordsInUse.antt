@@ -1,5 +1,7 @@
 -- The words in use add up over the calls.
-use Rattle.tlsf_heap.proofs.Common.{◌≡◌, Bool, cond, eqb, find, ℕ, suc, false, take, drop, ◌+◌, ◌≤◌, List, [], ◌∷◌, ◌++◌, ◌-◌, length, replicate, true, Option, Some, Ok, refl, sym, ap, ◌∙◌, subst, inl, inr, arith, append_assoc, ◌==◌, AllByRecursion, filter-append, eqb-true, false≢true, cases_lt, IsLevel, Block, Live, Free, HeapState, size_of, words_in, is_free, bytes_of, want, Outcome, carved, ticked, with_blocks, past_free, before_free, has_serial, allocated_words, overwritten, with_bytes, released, resized_words, refitted, room_of, Site, block_at, IsLawful, HasRoom, IsLive, IsTaken, IsNamed, live_among, words_in_use, words_held, live_words, words_at, released_by_place, IsLiveAt, Name, Fill, Fit, Give, GiveFrom, IsOfOtherBlocks, IsRoomy, IsWrite, Look, Put, Step, Take, after, named, stepped}
+use Rattle.tlsf_heap.proofs.Common.{◌≡◌, Bool, cond, eqb, find, ℕ, suc, false, take, drop, ◌+◌, ◌≤◌, List, [], ◌∷◌, ◌++◌, ◌-◌, length, replicate, true, Option, Some, Ok, refl, sym, ap, ◌∙◌, subst, inl, inr, arith, append_assoc, ◌==◌, AllByRecursion, filter-append, eqb-true, false≢true, cases_lt, IsLevel, Block, Live, Free, HeapState, size_of, words_in, is_free, bytes_of, want, Outcome, carved, ticked, with_blocks, past_free, before_free, has_serial, allocated_words, overwritten, with_bytes, released, resized_words, refitted, room_of, Site, block_at, IsLawful, HasRoom, IsLive, IsTaken, IsNamed, live_among, words_in_use, words_held, live_words, words_at, released_by_place, IsLiveAt, Name, Fill, Fit, Give, GiveFrom, IsOfOtherBlocks, IsRoomy, IsWrite, Look, Put, Step, Take, after, named, stepped, Tag}
+use Rattle.tlsf_heap.specs.ByPlace.{IsPlaceCheck}
+use Rattle.tlsf_heap.specs.WordsInUse.{CameOff}
 use Rattle.tlsf_heap.specs.Placed.{placed, placed_from}
 use Rattle.tlsf_heap.specs.declared.placed_block.PlacedBlock.{PlacedBlock}
 use Rattle.tlsf_heap.proofs.lemmas.laws.Live.{lasts_named, kept_others}
@@ -118,6 +120,15 @@ in_use_released h name lawful = by_released (λ o. o.answer ≡ Ok tt → words_
 pub in_use_placed : (h : HeapState) {at i : ℕ} → IsLawful h → IsLiveAt h.blocks at i → (released_by_place h at).answer ≡ Ok tt → words_in_use h ≡ words_in_use (released_by_place h at).heap + words_at h at
 in_use_placed h {at = at} {i = i} lawful l =
     subst (λ (o : Outcome (Unit {0})). o.answer ≡ Ok tt → words_in_use h ≡ words_in_use o.heap + words_at h at) (sym (call_found h (released h) lawful.rooms l)) (in_use_released h (name_here h at i) lawful)
+
+-- so its words came off a count
+pub came_off : (h k new : HeapState) {at : ℕ} (own : Tag) (before after : ℕ) → k ≡ h → IsLawful k → IsPlaceCheck k at (Ok own) → (released_by_place k at).answer ≡ Ok tt → new ≡ (released_by_place k at).heap → before ≡ after + own.size
+    → CameOff h new at before after
+came_off h k new {at = at} own before after same lawful l done left off =
+    subst (λ (s : HeapState). CameOff s new at before after) same (record {
+      sum = omega (arith, in_use_placed k lawful l.1 done, ap words_in_use left);
+      count = omega (arith, off, l.2.size, words_live k lawful.rooms l.1);
+    })
 
 -- ---- resize
 

@@ -45,6 +45,17 @@ new_part p i t within = sym (at_set p.parts i t no_part within)
 pub only_part : (p : PoolsState) (i : ℕ) (t : TableState) → i < length p.parts → OnlyPart p (record { id = p.id; parts = set p.parts i t; extent = p.extent }) i
 only_part p i t within = record { id = refl; parts = ap (λ (x : TableState). set p.parts i x) (new_part p i t within) }
 
+-- where the one that was read is put back, all are as they were
+set_itself : (xs : List TableState) (i : ℕ) (d : TableState) → i < length xs → set xs i (get_or xs i d) ≡ xs
+set_itself [] i d within = absurd (omega (arith, within))
+set_itself (x ∷ xs) zero d within = refl
+set_itself (x ∷ xs) (suc i) d within = ap (λ (ts : List TableState). x ∷ ts) (set_itself xs i d (this_row _ _ within))
+
+pub put_back : (p : PoolsState) (i : ℕ) (old new : TableState) → i < length p.parts → old ≡ get_or p.parts i old → new ≡ old → record { id = p.id; parts = set p.parts i new; extent = p.extent } ≡ p
+put_back p i old new within is same =
+    ap (λ (t : TableState). record { id = p.id; parts = set p.parts i t; extent = p.extent }) (same ∙ is_part p i old within is)
+    ∙ ap (λ (ts : List TableState). record { id = p.id; parts = ts; extent = p.extent }) (set_itself p.parts i no_part within)
+
 -- so all are heaps for their tables, as before
 pub kept : (sli : ℕ) (p : PoolsState) (i : ℕ) (t : TableState) → ArePools sli p → IsTabled sli t → t.heap.id ≡ (part_at p i).heap.id → ArePools sli (record { id = p.id; parts = set p.parts i t; extent = p.extent })
 kept sli p i t are is same = record {

@@ -1,5 +1,5 @@
 -- The rows of the whole table, which the parts have one part after the other.
-use Rattle.tlsf_pool.proofs.Common.{◌≡◌, ◌≢◌, ℕ, zero, suc, ◌+◌, ◌-◌, ◌<◌, ◌≤◌, ◌↔◌, ◌&&◌, Bool, true, false, cond, List, [], ◌∷◌, ◌++◌, length, take, get_or, set, nat_le, nat_lt, Option, Some, None, Result, Ok, Err, map, refl, sym, ap, ap₂, ◌∙◌, subst, inl, inr, arith, length-append, AllByRecursion, position_or_len, IfOk, IsSomeAnd, OnOk, is_some, cases_lt, false≢true, le-leb, le-ltb, lt-leb, lt-ltb, nat_tests, get_or_append_left, get_or-append-add, set-append_left, set-append_right, fails_before_first, position_or_len_is, HeapState, allocated_words, place_of, Name, Kind, Rises, len_at, joined, PoolRefusal, AreAllReached, CountsOneMore, HoldsOneMore, IsTabled, TableExtents, TableState, lengths_in, row_of, table_allocated, fixed_size, AreNew, ArePools, HasRow, PoolsState, Stay, held_by, held_in, memory_of, named_in, no_part, part_at, part_in, part_named, part_of, rows_before, rows_in, table_of}
+use Rattle.tlsf_pool.proofs.Common.{◌≡◌, ◌≢◌, ℕ, zero, suc, ◌+◌, ◌-◌, ◌<◌, ◌≤◌, ◌↔◌, ◌&&◌, Bool, true, false, cond, List, [], ◌∷◌, ◌++◌, length, take, get_or, set, nat_le, nat_lt, Option, Some, None, Result, Ok, Err, map, refl, sym, ap, ap₂, ◌∙◌, subst, inl, inr, arith, length-append, AllByRecursion, position_or_len, IfOk, IsSomeAnd, OnOk, is_some, option_map, cases_lt, false≢true, le-leb, le-ltb, lt-leb, lt-ltb, nat_tests, get_or_append_left, get_or-append-add, set-append_left, set-append_right, fails_before_first, position_or_len_is, HeapState, allocated_words, place_of, Name, Kind, Rises, len_at, joined, PoolRefusal, AreAllReached, CountsOneMore, HoldsOneMore, IsTabled, TableExtents, TableState, lengths_in, row_len, row_of, table_allocated, fixed_size, AreNew, ArePools, HasRow, PoolsState, Stay, held_by, held_in, memory_of, named_in, no_part, part_at, part_in, part_named, part_of, rows_before, rows_in, table_of}
 use Rattle.std.proofs.lemmas.List.Quantifiers.{position-Some}
 use Rattle.tlsf_heap.specs.Memory.{Extents}
 use Rattle.tlsf_heap.proofs.lemmas.calls.Outcomes.{by_allocated_words}
@@ -122,6 +122,32 @@ module _ (len : ℕ) where
       at false past none = λ k less.
           let end : length parts ≤ first_part parts = grind (arith, nat_tests) in
           fails_before_first (λ t. is_some (row_of t.ledger.kinds len)) parts k no_part (omega (arith, less, end))
+
+-- a row of a part is one of the whole table
+row_get : (parts : List TableState) (i row : ℕ) → i < length parts → row < length (get_or parts i no_part).ledger.kinds
+    → len_at (rows_in parts) (rows_before parts i + row) ≡ len_at (get_or parts i no_part).ledger.kinds row
+row_get [] i row within short = absurd (omega (arith, within))
+row_get (t ∷ parts) zero row within short =
+    ap (λ (n : ℕ). len_at (t.ledger.kinds ++ rows_in parts) n) (sym (before_none (t ∷ parts) row))
+    ∙ ap (λ (kind : Kind). kind.len) (get_or_append_left t.ledger.kinds (rows_in parts) (record { most = 0; len = 0 }) row short)
+row_get (t ∷ parts) (suc i) row within short =
+    ap (λ (n : ℕ). len_at (t.ledger.kinds ++ rows_in parts) n) (sym (before_more t parts i row))
+    ∙ (ap (λ (kind : Kind). kind.len) (get_or-append-add t.ledger.kinds (rows_in parts) (rows_before parts i + row) (record { most = 0; len = 0 })) ∙ row_get parts i row (this_row _ _ within) short)
+
+-- so a request counts for a row of the same bytes
+pub whole_row_len : (len : ℕ) (parts : List TableState) (i : ℕ) → part_in parts len ≡ Some i → row_len (get_or parts i no_part).ledger.kinds len ≡ row_len (rows_in parts) len
+whole_row_len len parts i is = at (row_of (get_or parts i no_part).ledger.kinds len) refl
+  where
+    at : (o : Option ℕ) → row_of (get_or parts i no_part).ledger.kinds len ≡ o → row_len (get_or parts i no_part).ledger.kinds len ≡ row_len (rows_in parts) len
+    at None none = absurd ((part_has parts len i is).1 none)
+    at (Some row) some =
+        let kinds = (get_or parts i no_part).ledger.kinds in
+        ap (λ (o : Option ℕ). option_map (λ (r : ℕ). len_at kinds r) o) some
+        ∙ (ap (λ (n : ℕ). Some n) (sym (row_get parts i row (part_has parts len i is).0 (row_is kinds len row some).1))
+        ∙ sym (ap (λ (o : Option ℕ). option_map (λ (r : ℕ). len_at (rows_in parts) r) o) (whole_row len parts i row is some)))
+
+pub no_row_len : (len : ℕ) (parts : List TableState) → part_in parts len ≡ None → row_len (rows_in parts) len ≡ None
+no_row_len len parts none = ap (λ (o : Option ℕ). option_map (λ (r : ℕ). len_at (rows_in parts) r) o) (no_whole_row len parts none)
 
 -- in a table whose rows rise requests count for each row
 pub all_reached : (kinds : List Kind) → Rises kinds → AreAllReached kinds

@@ -17,7 +17,7 @@ use Rattle.tlsf_c.specs.EndOwned.{end_owned}
 use Rattle.tlsf_c.specs.contracts.boxed_end.BoxedEnd.{the_row, the_type}
 
 home : IsSend Home.the_row
-home = recorded_send (Home.the_field).row _ _ (Home.the_type).to_one (send-AnyEnd post take poster owner (λ h s. Vec-send _ _ _ (Box-send h Heap.the_row ghosts s handle.the_send heap.frees) handle.the_send heap.frees))
+home = recorded_send (Home.the_field).row _ _ (Home.the_type).to_one (send-AnyEnd (search sendable) post take poster owner (λ h s. Vec-send _ _ _ (Box-send h Heap.the_row ghosts s handle.the_send heap.frees) handle.the_send heap.frees))
 
 crosses : (alloc : Global) (at : Ptr) (held : Option AnyEnd) → Keyless (end_owned alloc at held)
 crosses alloc at (Some h) = (lies Home.the_row home at h, heap.frees.frees alloc (raw (lone Home.the_row.mir)) at)

@@ -1,12 +1,12 @@
 use Rattle.tlsf_crew.proofs.Common.{◌≡◌, ◌∙◌, length, ℕ, subst, refl, arith, ColumnSettled}
 use Rattle.tlsf_crew.proofs.lemmas.lanes.Across.{settled_world, settled_yard}
-use Rattle.tlsf_crew.proofs.lemmas.lanes.LaneSlots.{step_memory}
+use Rattle.tlsf_crew.proofs.lemmas.lanes.LaneSlots.{step_heaps, step_memory}
 use Rattle.tlsf_crew.proofs.lemmas.lanes.LaneByLane.{column_first, column_step, column_skip}
 use Rattle.tlsf_crew.proofs.lanes.settle.settle_column.Goals as goal
 use Rattle.tlsf_crew.proofs.lanes.settle.settle_column.Goals.{then-i-j, else-i-j}
 
 pub loop-i-init : goal.loop-i-init
-loop-i-init g c = record { settled = column_first _ _; yard = c.requires.yard; world = refl; stays = refl }
+loop-i-init g c = record { settled = column_first _ _; yard = c.requires.yard; world = refl; heaps = refl; stays = refl }
 
 pub settle_lane-requires : goal.settle_lane-requires
 settle_lane-requires g c = (
@@ -29,12 +29,14 @@ loop-i-preserved g c =
         settled = rw w.workers-is (column_step _ _ _ _ _ i.settled w.if-i-j.true w.settle_lane.ensures);
         yard = rw w.workers-is (settled_yard _ _ _ _ w.if-i-j.true w.settle_lane.ensures i.yard);
         world = rw w.workers-is (settled_world _ _ _ _ w.if-i-j.true w.settle_lane.ensures ∙ i.world);
+        heaps = rw w.workers-is (step_heaps _ _ _ _ w.if-i-j.true w.settle_lane.ensures ∙ i.heaps);
         stays = rw w.workers-is (step_memory _ _ _ _ w.if-i-j.true w.settle_lane.ensures ∙ i.stays);
       }
       | else-i-j w ↦ record {
         settled = rw w.workers-is (column_skip _ _ _ _ i.settled w.if-i-j.false);
         yard = rw w.workers-is i.yard;
         world = rw w.workers-is i.world;
+        heaps = rw w.workers-is i.heaps;
         stays = rw w.workers-is i.stays;
       }
     ]

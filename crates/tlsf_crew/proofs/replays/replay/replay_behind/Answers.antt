@@ -1,4 +1,5 @@
 use Rattle.tlsf_crew.proofs.Common.{◌+◌, ◌∙◌, ap, sym, length, arith, get_or, fold, take_all, fold_more, Event, Allocate, world_of, after, resumed, waiting_count}
+use Rattle.tlsf_crew.proofs.lemmas.lanes.LaneSlots.{shown_same}
 use Rattle.tlsf_crew.proofs.lemmas.lanes.Pending.{all_ready}
 use Rattle.tlsf_crew.proofs.lemmas.model.InParts.{replies_behind_is}
 use Rattle.tlsf_crew.proofs.lemmas.replays.Room.{so_far, worker_waits}
@@ -50,6 +51,7 @@ returns g c =
       made = ap (λ r. r.made) e;
       world = ap (λ r. r.world) e;
       no_memory = tt;
+      others = now.others;
       room = omega (arith, ready, same, c.room_for-room.ensures, now.room);
     }
 
@@ -69,6 +71,7 @@ loop-event-preserved g c =
       made = omega (arith, e.made, i.made);
       made_room = omega (arith, e.capacity.0, i.made_room);
       room = omega (arith, e.capacity.1, i.room);
+      others = λ x none. e.others x (λ same. none n d0 (omega arith) (sym same)) ∙ i.others x none;
       replayed = e.after ∙ (ap (λ r. after r event) i.replayed ∙ sym a);
     }
 
@@ -79,5 +82,6 @@ loop-event-init g c = record {
   made = omega (arith, c.reserve.ensures.len);
   made_room = omega (arith, c.reserve.ensures.len, c.in_ok-reserve.ensures.ok);
   room = c.in_ok-with_capacity.ensures.exact;
+  others = λ x none. shown_same c.args.workers.now c.settle.new.workers x c.settle.ensures.heaps;
   replayed = rw (c.reserve.ensures.items, c.in_ok-with_capacity.ensures.items) (ap (λ w. resumed w c.args.made.now.items) c.settle.ensures.world);
 }

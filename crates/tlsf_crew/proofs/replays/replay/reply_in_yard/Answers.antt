@@ -1,5 +1,6 @@
 use Rattle.tlsf_crew.proofs.Common.{length-set, [], ◌≡◌, ◌∙◌, ◌<◌, ap, sym, arith, length, refl, List, Option, Some, get_or, slice_get, slice_get-get_or, Name, target_name, Worker, Lanes, id_of}
 use Rattle.tlsf_crew.proofs.lemmas.replays.Exact.{Run, settles, limit_room, replied}
+use Rattle.tlsf_crew.proofs.lemmas.lanes.LaneSlots.{shown_other, shown_same}
 use Rattle.tlsf_crew.proofs.lemmas.lanes.LanesOfOne.{each_knows, own_number}
 use Rattle.tlsf_crew.proofs.replays.replay.reply_in_yard.Given.{Over}
 use Rattle.tlsf_crew.proofs.replays.replay.reply_in_yard.Goals as goal
@@ -73,3 +74,8 @@ returns-clause-replied g c = λ made known.
     let own : id_of a ≡ c.args.event.now.worker = own_number vs c.args.event.now.worker a e.yard is in
     let s = settles (run_of g c made known) c.args.workers.now c.settle_for.new.workers c.args.event.now.worker own e.count (e.settled made known) (f.settled made known) (λ may i t near q. e.limits.all may i t near q) f.yard f.count f.world in
     replied (run_of g c made known) c.args.workers.now c.settle_for.new.workers c.args.event.now s e.world (sym own) refl
+
+pub returns-clause-others : goal.returns-clause-others
+returns-clause-others g c = λ x ne.
+    shown_same _ _ x c.settle_for.ensures.heaps
+    ∙ (shown_other c.settle_for-journal.new.workers c.args.event.now.worker x c.reply_to-reply.new.worker ne ∙ shown_same c.args.workers.now _ x c.settle_for-journal.ensures.heaps)

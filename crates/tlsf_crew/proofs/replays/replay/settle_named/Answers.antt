@@ -1,6 +1,7 @@
 use Rattle.std.proofs.Common.{◌≡◌}
 use Rattle.tlsf_crew.proofs.lemmas.lanes.Across.{settled_world, settled_yard}
 use Rattle.tlsf_crew.proofs.lemmas.lanes.LaneByLane.{step_settled}
+use Rattle.tlsf_crew.proofs.lemmas.lanes.LaneSlots.{step_heaps}
 use Rattle.tlsf_crew.proofs.replays.replay.settle_named.Goals as goal
 
 pub returns-in_default-clause-settled : goal.returns-in_default-clause-settled
@@ -16,3 +17,6 @@ returns-then-to-workers-clause-yard g c = settled_yard _ _ _ _ c.if-at-to.true c
 
 pub returns-then-to-workers-clause-world : goal.returns-then-to-workers-clause-world
 returns-then-to-workers-clause-world g c = settled_world _ _ _ _ c.if-at-to.true c.settle_lane.ensures
+
+pub returns-then-to-workers-clause-heaps : goal.returns-then-to-workers-clause-heaps
+returns-then-to-workers-clause-heaps g c = step_heaps _ _ _ _ c.if-at-to.true c.settle_lane.ensures

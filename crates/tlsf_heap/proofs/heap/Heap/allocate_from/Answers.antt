@@ -68,3 +68,8 @@ returns-in-Err-clause-groups g c = more_groups (omega arith) c.words_from.ensure
 
 pub returns-clause-groups : goal.returns-clause-groups
 returns-clause-groups g c = groups_then c.words_from.ensures.groups c.set_length.ensures.groups
+
+pub returns-clause-unread : goal.returns-clause-unread
+returns-clause-unread g c none =
+    let room = (c.in-Ok.ensures.cases.ok.0 refl).0 in
+    absurd (none (room.0, room.1.stands))

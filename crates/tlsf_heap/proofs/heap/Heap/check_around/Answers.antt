@@ -1,4 +1,4 @@
-use Rattle.tlsf_heap.proofs.Common.{ap, subst, arith, rules, MatchOption, IsPlace, FindsSound, Shown}
+use Rattle.tlsf_heap.proofs.Common.{ap, ◌∙◌, subst, arith, rules, MatchOption, IsPlace, FindsSound, Shown}
 use Rattle.tlsf_heap.proofs.lemmas.words.Around.{checked_around}
 use Rattle.tlsf_heap.proofs.lemmas.words.Undamaged.{begins_there}
 use Rattle.tlsf_heap.proofs.lemmas.calls.Kept.{keeps_read}
@@ -20,3 +20,6 @@ returns-clause-wild g c = record {
       let unlooked = c.check_around.ensures.nowhere (λ begins. none (subst (λ (s : Shown). IsPlace s.heap.blocks c.args.at) c.self.view_is (begins_there c.self.invariant.shows begins))) in
       omega (arith, unlooked, ap (λ (s : Shown). s.touches) c.self.view_is);
 }
+
+pub returns-clause-unread : goal.returns-clause-unread
+returns-clause-unread g c none = c.check_around.ensures.unread (λ begins. none (subst (λ (s : Shown). IsPlace s.heap.blocks c.args.at) c.self.view_is (begins_there c.self.invariant.shows begins))) ∙ ap (λ (s : Shown). s.touched) c.self.view_is

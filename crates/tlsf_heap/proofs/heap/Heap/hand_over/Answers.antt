@@ -1,8 +1,8 @@
-use Rattle.tlsf_heap.proofs.Common.{◌≡◌, ℕ, List, Result, Ok, Err, take, min, length, ap, ◌∙◌, sym, subst, arith, HeapState, Outcome, IsLawful, IsLive, released, released_by_place, call_by, written, payload_of, Refusal, Name, IsOthersWord, IsLiveWord, Put}
+use Rattle.tlsf_heap.proofs.Common.{◌≡◌, ℕ, List, Ok, take, min, length, ap, ◌∙◌, sym, subst, arith, HeapState, Outcome, IsLawful, IsLive, released, released_by_place, call_by, written, payload_of, Name, IsOthersWord, IsLiveWord, Put}
 use Rattle.tlsf_heap.specs.ByPlace.{IsPlaceCheck}
 use Rattle.tlsf_heap.specs.Moved.{copied}
 use Rattle.tlsf_heap.proofs.lemmas.calls.ByPlace.{live_is_found}
-use Rattle.tlsf_heap.proofs.lemmas.calls.ResizeOrMove.{release_done}
+use Rattle.tlsf_heap.proofs.lemmas.calls.ResizeOrMove.{written_tick}
 use Rattle.tlsf_heap.proofs.lemmas.laws.Live.{kept_others}
 use Rattle.tlsf_heap.proofs.lemmas.words.Footprint.{any_word}
 use Rattle.tlsf_heap.proofs.lemmas.calls.Leaves.{word_step}
@@ -28,7 +28,9 @@ tag_of-tag-requires g c =
 pub give_back-requires : goal.give_back-requires
 give_back-requires g c =
     let e = c.tag_of-tag.ensures in
-    (omega arith, (subst (λ (s : HeapState). IsPlaceCheck s c.args.name.at (Ok c.tag_of-tag.result)) (sym e.same.heap) e.tag, omega (arith, c.size.ensures.value)))
+    let same = e.same.heap ∙ c.copy.ensures.heap in
+    let tick = ap (λ (s : HeapState). s.tick) (c.length-2.ensures.same.heap ∙ c.length.ensures.same.heap) in
+    (omega arith, (subst (λ (s : HeapState). IsPlaceCheck s c.args.name.at (Ok c.tag_of-tag.result)) (sym e.same.heap) e.tag, λ worn. c.requires.tick (sym (ap (λ (s : HeapState). s.tick) same ∙ written_tick c.length-2.new.self.heap c.args.new (take c.min-len.result (payload_of c.length-2.new.self.heap c.args.name)) ∙ tick) ∙ worn)))
 
 -- what the release of the name does
 done : (sli : ℕ) (h once twice copy last : HeapState) (name new : Name) (n a b : ℕ) → IsLive h name → once ≡ h → twice ≡ once → a ≡ length (payload_of h name) → b ≡ length (payload_of once new) → n ≡ min a b
@@ -40,40 +42,11 @@ done sli h once twice copy last name new n a b live first second many room least
     is ∙ ap (λ (s : HeapState). (written s new 0 (take n (payload_of s name))).heap) (second ∙ first) ∙ ap (λ (m : ℕ). (written h new 0 (take m (payload_of h name))).heap) some in
     by_name copy last name same lawful (still sli h copy name new _ live to) ∙ ap (λ (s : HeapState). released s name) to
 
--- the release isn't refused
-pub returns-in_err-give_back-clause-answer : goal.returns-in_err-give_back-clause-answer
-returns-in_err-give_back-clause-answer g c =
-    let h = c.args.self.now.heap in
-    let bytes = take (min (length (payload_of h c.args.name)) (length (payload_of h c.args.new))) (payload_of h c.args.name) in
-    let bad : ◌≡◌ {A = Result (Unit {0}) Refusal} (Err c.in_err-give_back.field-0.0) (Ok tt) =
-    c.in_err-give_back.ensures.answer ∙ ap (λ (o : Outcome (Unit {0})). o.answer) (done g.row.SLI c.args.self.now.heap c.length.new.self.heap c.length-2.new.self.heap c.copy.new.self.heap c.tag_of-tag.new.self.heap c.args.name c.args.new c.min-len.result c.length.result c.length-2.result
-    c.requires.from c.length.ensures.same.heap c.length-2.ensures.same.heap c.length.ensures.value c.length-2.ensures.value c.min-len.ensures c.copy.ensures.heap c.tag_of-tag.ensures.same.heap c.tag_of-tag.ensures.keeps.was_lawful) ∙ release_done g.row.SLI h c.args.name c.args.new bytes c.requires.from c.requires.tick in cc
-
-pub returns-in_err-give_back-clause-heap : goal.returns-in_err-give_back-clause-heap
-returns-in_err-give_back-clause-heap g c = c.in_err-give_back.ensures.heap ∙ ap (λ (o : Outcome (Unit {0})). o.heap) (done g.row.SLI c.args.self.now.heap c.length.new.self.heap c.length-2.new.self.heap c.copy.new.self.heap c.tag_of-tag.new.self.heap c.args.name c.args.new c.min-len.result c.length.result c.length-2.result
-    c.requires.from c.length.ensures.same.heap c.length-2.ensures.same.heap c.length.ensures.value c.length-2.ensures.value c.min-len.ensures c.copy.ensures.heap c.tag_of-tag.ensures.same.heap c.tag_of-tag.ensures.keeps.was_lawful)
-
 pub returns-clause-heap : goal.returns-clause-heap
-returns-clause-heap g c = c.in_ok-give_back.ensures.heap ∙ ap (λ (o : Outcome (Unit {0})). o.heap) (done g.row.SLI c.args.self.now.heap c.length.new.self.heap c.length-2.new.self.heap c.copy.new.self.heap c.tag_of-tag.new.self.heap c.args.name c.args.new c.min-len.result c.length.result c.length-2.result
+returns-clause-heap g c = c.give_back.ensures.heap ∙ ap (λ (o : Outcome (Unit {0})). o.heap) (done g.row.SLI c.args.self.now.heap c.length.new.self.heap c.length-2.new.self.heap c.copy.new.self.heap c.tag_of-tag.new.self.heap c.args.name c.args.new c.min-len.result c.length.result c.length-2.result
     c.requires.from c.length.ensures.same.heap c.length-2.ensures.same.heap c.length.ensures.value c.length-2.ensures.value c.min-len.ensures c.copy.ensures.heap c.tag_of-tag.ensures.same.heap c.tag_of-tag.ensures.keeps.was_lawful)
 
 -- ---- the payloads of other blocks
-
-pub returns-in_err-give_back-clause-leaves : goal.returns-in_err-give_back-clause-leaves
-returns-in_err-give_back-clause-leaves g c k o p =
-    let h = c.args.self.now.heap in
-    let name = c.args.name in
-    let new = c.args.new in
-    let once = c.length.ensures.same.heap in
-    let same = c.length-2.ensures.same.heap ∙ once in
-    let tag = c.tag_of-tag.ensures in
-    let was = subst (λ (s : HeapState). IsOthersWord s.blocks name.at k) (sym same) o in
-    let last = subst (λ (s : HeapState). IsOthersWord s.blocks name.at k) (sym c.copy.ensures.heap) (word_step c.length-2.new.self.heap name.at k was 0 (Put new 0 _) tt) in
-    c.in_err-give_back.ensures.leaves k (subst (λ (s : HeapState). IsOthersWord s.blocks name.at k) (sym tag.same.heap) last)
-    ∙ tag.leaves k (any_word c.copy.new.self.heap.blocks name.at k last)
-    ∙ c.copy.ensures.leaves k was (subst (λ (s : HeapState). IsOthersWord s.blocks new.at k) (sym same) p)
-    ∙ c.length-2.ensures.leaves k (subst (λ (s : HeapState). IsLiveWord s.blocks k) (sym once) (any_word h.blocks name.at k o))
-    ∙ c.length.ensures.leaves k (any_word h.blocks name.at k o)
 
 pub returns-clause-leaves : goal.returns-clause-leaves
 returns-clause-leaves g c k o p =
@@ -85,19 +58,13 @@ returns-clause-leaves g c k o p =
     let tag = c.tag_of-tag.ensures in
     let was = subst (λ (s : HeapState). IsOthersWord s.blocks name.at k) (sym same) o in
     let last = subst (λ (s : HeapState). IsOthersWord s.blocks name.at k) (sym c.copy.ensures.heap) (word_step c.length-2.new.self.heap name.at k was 0 (Put new 0 _) tt) in
-    c.in_ok-give_back.ensures.leaves k (subst (λ (s : HeapState). IsOthersWord s.blocks name.at k) (sym tag.same.heap) last)
+    c.give_back.ensures.leaves k (subst (λ (s : HeapState). IsOthersWord s.blocks name.at k) (sym tag.same.heap) last)
     ∙ tag.leaves k (any_word c.copy.new.self.heap.blocks name.at k last)
     ∙ c.copy.ensures.leaves k was (subst (λ (s : HeapState). IsOthersWord s.blocks new.at k) (sym same) p)
     ∙ c.length-2.ensures.leaves k (subst (λ (s : HeapState). IsLiveWord s.blocks k) (sym once) (any_word h.blocks name.at k o))
     ∙ c.length.ensures.leaves k (any_word h.blocks name.at k o)
 
 -- ---- groups of eight words
-
-pub returns-in_err-give_back-clause-groups : goal.returns-in_err-give_back-clause-groups
-returns-in_err-give_back-clause-groups g c =
-    let held = ap (λ (s : HeapState). length (payload_of s c.args.new)) c.length.ensures.same.heap in
-    more_groups (omega (arith, held, c.min-len.ensures, c.length.ensures.value, c.length-2.ensures.value))
-    (groups_then (groups_then (groups_then (groups_then c.length.ensures.groups c.length-2.ensures.groups) c.copy.ensures.groups) c.tag_of-tag.ensures.groups) c.give_back.ensures.groups)
 
 pub returns-clause-groups : goal.returns-clause-groups
 returns-clause-groups g c =

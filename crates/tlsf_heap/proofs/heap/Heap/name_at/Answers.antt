@@ -1,4 +1,4 @@
-use Rattle.tlsf_heap.proofs.Common.{◌≡◌, ℕ, ◌<◌, Some, sym, ap, ◌∙◌, subst, arith, name_at, IsLive, Shown, state_of, InGroups}
+use Rattle.tlsf_heap.proofs.Common.{◌≡◌, ℕ, ◌<◌, Some, sym, ap, ◌∙◌, subst, arith, IsPlace, name_at, IsLive, Shown, state_of, InGroups}
 use Rattle.tlsf_heap.proofs.lemmas.calls.ByPlace.{name_found, live_here, live_not_wild}
 use Rattle.tlsf_heap.proofs.lemmas.calls.Kept.{keeps_read, reads_both}
 use Rattle.tlsf_heap.proofs.lemmas.calls.Leaves.{seen_live}
@@ -46,3 +46,9 @@ returns-in_default-clause-groups g c = more_groups (omega arith) (subst (λ (s :
 
 pub returns-clause-groups : goal.returns-clause-groups
 returns-clause-groups g c = subst (λ (s : Shown). InGroups 2 s.touched c.mark-serial.new.self.touched) c.self.view_is (groups_then c.live_at.ensures.groups c.mark-serial.ensures.groups)
+
+pub returns-in_default-clause-unread : goal.returns-in_default-clause-unread
+returns-in_default-clause-unread g c none = c.live_at.ensures.unread (λ place. none (subst (λ (s : Shown). IsPlace s.heap.blocks c.args.at) c.self.view_is place)) ∙ ap (λ (s : Shown). s.touched) c.self.view_is
+
+pub returns-clause-unread : goal.returns-clause-unread
+returns-clause-unread g c none = absurd (none (subst (λ (s : Shown). IsPlace s.heap.blocks c.args.at) c.self.view_is (c.in-Some.ensures.answer.0, c.in-Some.ensures.answer.1.stands)))

@@ -38,3 +38,9 @@ returns-in-None-clause-groups g c = more_groups (omega arith) c.name_at.ensures.
 
 pub returns-in-Some-clause-groups : goal.returns-in-Some-clause-groups
 returns-in-Some-clause-groups g c = more_groups (omega arith) (groups_then c.name_at.ensures.groups c.resize_words.ensures.groups)
+
+pub returns-in-Some-clause-unread : goal.returns-in-Some-clause-unread
+returns-in-Some-clause-unread g c none =
+    let live = c.in-Some.ensures.live in
+    let first = (named_of c.args.self.now.heap c.in-Some.name live.0).1 in
+    absurd (none (subst (λ (at : ℕ). IsPlace c.args.self.now.heap.blocks at) live.1 (first.0, named_stands _ _ c.args.self.now.heap.blocks first.0 first.1)))

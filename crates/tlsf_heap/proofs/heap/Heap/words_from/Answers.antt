@@ -1,4 +1,4 @@
-use Rattle.tlsf_heap.proofs.Common.{◌≡◌, ℕ, ◌+◌, refl, sym, ap, ◌∙◌, subst, Ok, Err, arith, class_of, HeapState, size_of, words_in, block_at, site_at, IsTagOf, Shown, state_of, Stale, NoRoom, Worn, InGroups}
+use Rattle.tlsf_heap.proofs.Common.{◌≡◌, ℕ, ◌+◌, refl, sym, ap, ◌∙◌, subst, Ok, Err, arith, class_of, HeapState, size_of, words_in, IsPlace, block_at, site_at, IsTagOf, Shown, state_of, Stale, NoRoom, Worn, InGroups}
 use Rattle.tlsf_heap.proofs.lemmas.calls.Allocate.{lawful_regions}
 use Rattle.tlsf_heap.proofs.lemmas.lists.Carved.{IsFreeHere, contains_here, region_here, taken_each}
 use Rattle.tlsf_heap.proofs.lemmas.calls.AllocateFrom.{GivesFrom, from_nowhere, from_small, from_worn, from_done, free_not_wild}
@@ -224,3 +224,45 @@ returns-then-self-clause-groups g c = more_groups (omega arith) (subst (λ (s : 
 pub returns-clause-groups : goal.returns-clause-groups
 returns-clause-groups g c =
     subst (λ (s : Shown). InGroups 12 s.touched c.give.new.region.touched) c.self.view_is (more_groups (omega arith) (groups_then (groups_then c.free_at.ensures.groups c.remove.ensures.groups) c.give.ensures.groups))
+
+pub returns-in_default-clause-unread : goal.returns-in_default-clause-unread
+returns-in_default-clause-unread g c none = c.free_at.ensures.unread (λ place. none (subst (λ (s : Shown). IsPlace s.heap.blocks c.args.at) c.self.view_is place)) ∙ ap (λ (s : Shown). s.touched) c.self.view_is
+
+pub returns-then-size-words-clause-unread : goal.returns-then-size-words-clause-unread
+returns-then-size-words-clause-unread g c none = absurd (none (subst (λ (s : Shown). IsPlace s.heap.blocks c.args.at) c.self.view_is (c.in-Some.ensures.answer.0, c.in-Some.ensures.answer.1.stands)))
+
+pub returns-then-self-clause-unread : goal.returns-then-self-clause-unread
+returns-then-self-clause-unread g c none = absurd (none (subst (λ (s : Shown). IsPlace s.heap.blocks c.args.at) c.self.view_is (c.in-Some.ensures.answer.0, c.in-Some.ensures.answer.1.stands)))
+
+pub returns-clause-unread : goal.returns-clause-unread
+returns-clause-unread g c none = absurd (none (subst (λ (s : Shown). IsPlace s.heap.blocks c.args.at) c.self.view_is (c.in-Some.ensures.answer.0, c.in-Some.ensures.answer.1.stands)))
+
+-- ---- a refused call only read
+
+pub invariant_of-self-then-size-words : goal.invariant_of-self-then-size-words
+invariant_of-self-then-size-words g c =
+    let was = c.self.invariant in
+    let reads = c.free_at.ensures.reads in
+    record {
+      level = was.level;
+      lawful = rw (reads.words, reads.blocks) was.lawful;
+      shows = rw (reads.stored, reads.blocks) was.shows;
+      small = omega (arith, reads.words, was.small);
+      listed = rw (reads.blocks, reads.lists) was.listed;
+      linked = rw (reads.lists, reads.stored) was.linked;
+      bits = rw (reads.marked, reads.lists) was.bits;
+    }
+
+pub invariant_of-self-then-self : goal.invariant_of-self-then-self
+invariant_of-self-then-self g c =
+    let was = c.self.invariant in
+    let reads = c.free_at.ensures.reads in
+    record {
+      level = was.level;
+      lawful = rw (reads.words, reads.blocks) was.lawful;
+      shows = rw (reads.stored, reads.blocks) was.shows;
+      small = omega (arith, reads.words, was.small);
+      listed = rw (reads.blocks, reads.lists) was.listed;
+      linked = rw (reads.lists, reads.stored) was.linked;
+      bits = rw (reads.marked, reads.lists) was.bits;
+    }

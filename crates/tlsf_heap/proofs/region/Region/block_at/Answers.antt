@@ -27,3 +27,9 @@ returns-else-is_free-clause-answer g c =
 
 pub returns-else-is_free-clause-outside : goal.returns-else-is_free-clause-outside
 returns-else-is_free-clause-outside g c past = absurd (let inside = c.begins.ensures.inside c.if-not-begins.false in omega (arith, inside, past))
+
+pub returns-then-is_free-clause-unread : goal.returns-then-is_free-clause-unread
+returns-then-is_free-clause-unread g c none = absurd (none (c.begins.ensures.yes c.if-not-begins.false))
+
+pub returns-else-is_free-clause-unread : goal.returns-else-is_free-clause-unread
+returns-else-is_free-clause-unread g c none = absurd (none (c.begins.ensures.yes c.if-not-begins.false))

@@ -40,3 +40,9 @@ returns-then-not-is_free-clause-groups g c = subst (λ (l : List ℕ). InGroups 
 
 pub returns-clause-groups : goal.returns-clause-groups
 returns-clause-groups g c = subst (λ (l : List ℕ). InGroups 1 l c.tag-tag.new.self.touched) c.begins.ensures.untouched c.tag-tag.ensures.groups
+
+pub returns-then-not-is_free-clause-unread : goal.returns-then-not-is_free-clause-unread
+returns-then-not-is_free-clause-unread g c none = absurd (none (c.begins.ensures.yes c.if-not-begins.false))
+
+pub returns-clause-unread : goal.returns-clause-unread
+returns-clause-unread g c none = absurd (none (c.begins.ensures.yes c.if-not-begins.false))

@@ -19,6 +19,6 @@ loop-at-preserved g c =
     let e = c.in_ok-part.ensures in
     record {
       so_far = opened_step g.row.SLI c.args.id c.args.first (parts_of c.args.split.now c.args.kinds.now) c.args.split.now.lens c.loop-at.rest.now c.loop-at.parts.items c.args.split.now.heaps c.loop-at.at c.min-len.result
-          c.loop-at-test.true c.loop-at.invariant.so_far least c.in_ok-part.part _ _ c.loop-at.invariant.as_many e.heap e.kinds e.none e.table (behind_all c.min-len.result c.loop-at.rest.now) c.in-Ok.ensures.items;
-      as_many = ap length c.in-Ok.ensures.items ∙ length_more c.loop-at.parts.items c.in_ok-part.part c.loop-at.at c.loop-at.invariant.as_many;
+          c.loop-at-test.true c.loop-at.invariant.so_far least c.in_ok-part.part _ _ c.loop-at.invariant.as_many e.heap e.kinds e.none e.table (behind_all c.min-len.result c.loop-at.rest.now) c.in-Ok-push.ensures.items;
+      as_many = ap length c.in-Ok-push.ensures.items ∙ length_more c.loop-at.parts.items c.in_ok-part.part c.loop-at.at c.loop-at.invariant.as_many;
     }
