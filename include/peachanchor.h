@@ -19,10 +19,10 @@
  * Answers: TLSF_OK, which is 0, or a refusal of `enum tlsf_answer`. A refused call writes nothing through its pointers, except
  *   for the `damaged` of a check. It changes nothing but what tlsf_counts tells; only one that is made of several proved calls
  *   may take ticks besides. The compiler warns where an answer is ignored, except for calls that close, free, release or drain.
- * Time: only tlsf_report, tlsf_offsets_report, tlsf_pools_report, tlsf_check, tlsf_reset, tlsf_drain, tlsf_queue_drain, tlsf_put_all and
- *   tlsf_take_all, opening, tlsf_pools_words and tlsf_pools_bytes, closing a queue, what finds the part of a pointer into pools, eight at
- *   most, and what fills or copies payload run a loop. Only opening takes memory, and only closing gives it back. No call waits, locks or
- *   makes a system call, except as malloc and free do.
+ * Time: only reports, tlsf_check, tlsf_pools_check, tlsf_reset, tlsf_drain, tlsf_queue_drain, tlsf_put_all and tlsf_take_all, opening,
+ *   tlsf_pools_words and tlsf_pools_bytes, closing a queue, what finds the part of a pointer or a row of pools, eight at most, and what
+ *   fills or copies payload run a loop. Only opening takes memory, and only closing gives it back. No call waits, locks or makes a system
+ *   call, except as malloc and free do.
  *
  * WHAT THE CALLER OWES. Nothing checks these rules, and the proofs rest on them.
  *   1. A handle is closed before it is opened: all its bytes are zero, or it was set to TLSF_CLOSED. After that only calls
@@ -676,6 +676,14 @@ TLSF_ANSWER TLSF_BY_VALUE uint32_t tlsf_pools_read(struct tlsf_pools *pools, str
 /* Sums over all blocks of the heap of one part, by its number in the order of the table: a walk from 0 on meets all.
  * Refused: TLSF_IS_CLOSED, TLSF_STALE where there is no such part. */
 TLSF_ANSWER uint32_t tlsf_pools_report(struct tlsf_pools *pools, uint32_t part, struct tlsf_heap_report *report) TLSF_NOEXCEPT;
+
+/* How many blocks are held of a row goes to `held`, and how many may be to `most`: a walk over rows from 0 on meets all. It takes the same
+ * time however many are held. Refused: TLSF_IS_CLOSED, TLSF_STALE where the table has no such row. */
+TLSF_ANSWER uint32_t tlsf_pools_counts(struct tlsf_pools *pools, uint32_t row, uint32_t *held, uint32_t *most) TLSF_NOEXCEPT;
+
+/* As tlsf_check, of the heap of a part. Refused: TLSF_IS_CLOSED, TLSF_STALE, also where there is no such part, TLSF_DAMAGED. */
+TLSF_ANSWER uint32_t tlsf_pools_check(struct tlsf_pools *pools, uint32_t part, uint32_t from, uint32_t most, uint32_t *next,
+                                      uint32_t *damaged) TLSF_NOEXCEPT;
 
 /* Blocks of pools by pointer. Each call is C over several proved ones, at most eight of them to find the part. `p` is any pointer: it is
  * followed only where a live block's payload begins there. What tlsf_pools_malloc gives has all bytes of the row for which it counts.

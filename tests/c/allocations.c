@@ -177,6 +177,7 @@ static void do_calls_of_pools(uint32_t kind, struct tlsf_name *name) {
     static void *p;
     const size_t len = below(3100);
     struct tlsf_heap_report report;
+    uint32_t n = 0, m = 0;
     switch (kind) {
     case 47:
         if (below(2)) sum += tlsf_pools_allocate(&pools, len, name);
@@ -193,7 +194,10 @@ static void do_calls_of_pools(uint32_t kind, struct tlsf_name *name) {
         break;
     case 49: sum += tlsf_pools_write(&pools, *name, below(200), bytes, below(256)); break;
     case 50: sum += tlsf_pools_read(&pools, *name, below(200), bytes, below(256)); break;
-    case 51: sum += tlsf_pools_report(&pools, below(3), &report); break;
+    case 51:
+        sum += tlsf_pools_report(&pools, below(3), &report) + tlsf_pools_counts(&pools, below(3), &n, &m);
+        sum += tlsf_pools_check(&pools, below(3), below(2) ? 0 : below(5000), below(100), &n, &m);
+        break;
     default:
         sum += tlsf_pools_open(&pools, 4, 1, rows, 2) + tlsf_pools_open(&closed_pools, 4, 1, rows, 65) + tlsf_pools_close(&closed_pools);
         sum += tlsf_pools_open_in(&closed_pools, 4, 1, rows, 65, bytes, sizeof bytes) + tlsf_pools_bytes(4, rows, 2);

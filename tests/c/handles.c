@@ -224,7 +224,7 @@ static void arenas_of_other_kinds(void *offsets, void *pools) {
     struct tlsf_offsets_usage usage;
     struct tlsf_heap_report report;
     uint64_t *base = NULL;
-    uint32_t n = 0;
+    uint32_t n = 0, m = 0;
     uint8_t byte = 0;
     void *volatile wild = &byte;
     refuses("offsets: allocate", tlsf_offsets_allocate(pools, 8, &span));
@@ -240,6 +240,8 @@ static void arenas_of_other_kinds(void *offsets, void *pools) {
     refuses("pools: part", tlsf_pools_part(offsets, 0, &base, &n));
     refuses("pools: place", tlsf_pools_place(offsets, 0, 0, &name, &n));
     refuses("pools: row", tlsf_pools_row(offsets, 8, &n));
+    refuses("pools: counts", tlsf_pools_counts(offsets, 0, &n, &m));
+    refuses("pools: check", tlsf_pools_check(offsets, 0, 0, 1, &n, &m));
     refuses("pools: free", tlsf_pools_free(offsets, wild));
     refuses("pools: close", tlsf_pools_close(offsets));
 }

@@ -143,6 +143,8 @@ static void of_arenas(void) {
     USES(on_pools, tlsf_pools_part(&pools, 0, &base, &number));
     USES(on_pools, tlsf_pools_place(&pools, 0, name.at, &names[1], &len));
     USES(on_pools, tlsf_pools_row(&pools, 16, &len));
+    USES(on_pools, tlsf_pools_counts(&pools, 0, &number, &len));
+    USES(on_pools, tlsf_pools_check(&pools, 0, 0, 9, &number, &len));
     USES(on_pools, tlsf_pools_report(&pools, 0, &report));
     USES(on_pools, tlsf_pools_release(&pools, name));
 }

@@ -485,3 +485,11 @@ uint32_t tlsf_pools_place(struct tlsf_pools *pools, uint32_t part, uint32_t at, 
 uint32_t tlsf_pools_row(struct tlsf_pools *pools, size_t len, uint32_t *row_len) {
     return (void)pools, (void)len, (void)row_len, TLSF_IS_CLOSED;
 }
+
+uint32_t tlsf_pools_counts(struct tlsf_pools *pools, uint32_t row, uint32_t *held, uint32_t *most) {
+    return (void)pools, (void)row, (void)held, (void)most, TLSF_IS_CLOSED;
+}
+
+uint32_t tlsf_pools_check(struct tlsf_pools *pools, uint32_t part, uint32_t from, uint32_t most, uint32_t *next, uint32_t *damaged) {
+    return (void)pools, (void)part, (void)from, (void)most, (void)next, (void)damaged, TLSF_IS_CLOSED;
+}

@@ -1,6 +1,7 @@
 /* Pools by pointer, and in memory of the program's: calls by chance beside a plain table of the blocks that are held. A request is served
  * just where its row has a place, and each block has all bytes of its row. A realloc within a row stays where it is, and to another row
- * takes the bytes along. Wild pointers are refused. POOL_POINTERS [CALLS] [LEVEL] [SEED] */
+ * takes the bytes along. Wild pointers are refused. Counts are those of the table, and a check tells damage.
+ * POOL_POINTERS [CALLS] [LEVEL] [SEED] */
 #include "peachanchor.h"
 #include "chance.h"
 
@@ -127,6 +128,33 @@ static void one_wild(struct tlsf_pools *pools) {
     if (wild) wants("realloc of it", tlsf_pools_realloc(pools, wild, 8) == NULL, 1);
 }
 
+/* The counts are those of the table beside. Headers agree, and a check in slices of one block meets as many as a report has. */
+static void looks(struct tlsf_pools *pools) {
+    struct tlsf_heap_report report;
+    uint32_t n = 7, most = 7, part = 0, next = 7, damaged = 7;
+    for (uint32_t row = 0; row < ROWS; row++) {
+        wants("counts", tlsf_pools_counts(pools, row, &n, &most), TLSF_OK);
+        wants("as many as are held", n, in_row[row]);
+        wants("as many as may be", most, rows[row].most);
+    }
+    for (; tlsf_pools_report(pools, part, &report) == TLSF_OK; part++) {
+        uint32_t at = 0, blocks = 0;
+        do {
+            wants("a sound block", tlsf_pools_check(pools, part, at, 1, &next, &damaged), TLSF_OK);
+            at = next, blocks++;
+        } while (at != 0);
+        wants("all blocks", blocks, report.live_blocks + report.free_blocks);
+        wants("all at once", tlsf_pools_check(pools, part, 0, UINT32_MAX, &next, &damaged), TLSF_OK);
+        wants("up to the end", next, 0);
+    }
+    next = n = most = 7;
+    wants("no block begins there", tlsf_pools_check(pools, 0, 1, 9, &next, &damaged), TLSF_STALE);
+    wants("no part", tlsf_pools_check(pools, part, 0, 9, &next, &damaged), TLSF_STALE);
+    wants("no row", tlsf_pools_counts(pools, ROWS, &n, &most), TLSF_STALE);
+    wants("the last number is none", tlsf_pools_counts(pools, UINT32_MAX, &n, &most), TLSF_STALE);
+    wants("nothing came", n == 7 && most == 7 && next == 7 && damaged == 7, 1);
+}
+
 static void one_call(struct tlsf_pools *pools) {
     const uint32_t kind = below(12);
     struct held *it = &held[count ? below(count) : 0];
@@ -142,7 +170,7 @@ static void refusals(struct tlsf_pools *pools) {
     struct tlsf_pools closed = TLSF_POOLS_CLOSED;
     struct tlsf_name name = {7, 7, 7};
     uint64_t *base = NULL;
-    uint32_t n = 7;
+    uint32_t n = 7, m = 7;
     uint8_t *const at = tlsf_pools_malloc(pools, 20);
     wants("a block", at != NULL, 1);
     wants("longer than each row", tlsf_pools_malloc(pools, LONGEST + 1) == NULL, 1);
@@ -169,7 +197,9 @@ static void refusals(struct tlsf_pools *pools) {
     wants("part", tlsf_pools_part(&closed, 0, &base, &n), TLSF_IS_CLOSED);
     wants("place", tlsf_pools_place(&closed, 0, 0, &name, &n), TLSF_IS_CLOSED);
     wants("row", tlsf_pools_row(&closed, 8, &n), TLSF_IS_CLOSED);
-    wants("nothing came", n == 7 && !base && name.heap == 7 && name.at == 7 && name.serial == 7, 1);
+    wants("counts", tlsf_pools_counts(&closed, 0, &n, &m), TLSF_IS_CLOSED);
+    wants("check", tlsf_pools_check(&closed, 0, 0, 1, &n, &m), TLSF_IS_CLOSED);
+    wants("nothing came", n == 7 && m == 7 && !base && name.heap == 7 && name.at == 7 && name.serial == 7, 1);
     wants("free it", tlsf_pools_free(pools, one), TLSF_OK);
 }
 
@@ -207,6 +237,36 @@ static void parts(struct tlsf_pools *pools, uint32_t heaps) {
     wants("to one of all bytes of the row", tlsf_pools_usable_size(pools, longer), 200);
     wants("release", tlsf_pools_release(pools, name), TLSF_STALE);
     wants("free", tlsf_pools_free(pools, longer), TLSF_OK);
+}
+
+/* The length in a header is overwritten: the check tells that block, and those before it are sound. Each other part is. */
+static void damage(uint32_t level) {
+    struct tlsf_pools pools = TLSF_POOLS_CLOSED;
+    struct tlsf_name first = {0, 0, 0}, second = {0, 0, 0};
+    uint64_t *base = NULL;
+    uint32_t n = 0, most = 0, next = 7, damaged = 7;
+    wants("open", tlsf_pools_open_in(&pools, level, NUMBER, rows, ROWS, memory, sizeof memory), TLSF_OK);
+    wants("a block", tlsf_pools_allocate(&pools, 150, &first), TLSF_OK);
+    wants("one after it", tlsf_pools_allocate(&pools, 150, &second), TLSF_OK);
+    const uint32_t part = first.heap - NUMBER;
+    wants("in one part", second.heap - NUMBER, part);
+    wants("its part", tlsf_pools_part(&pools, part, &base, &n), TLSF_OK);
+    wants("it is sound", tlsf_pools_check(&pools, part, second.at, 1, &next, &damaged), TLSF_OK);
+    base[second.at + 2] = UINT64_MAX;
+    next = 7;
+    wants("it is damaged", tlsf_pools_check(&pools, part, second.at, 1, &next, &damaged), TLSF_DAMAGED);
+    wants("its place", damaged, second.at);
+    damaged = 8;
+    wants("from the first on", tlsf_pools_check(&pools, part, 0, UINT32_MAX, &next, &damaged), TLSF_DAMAGED);
+    wants("its place", damaged, second.at);
+    wants("no next came", next, 7);
+    wants("the one before it", tlsf_pools_check(&pools, part, first.at, 1, &next, &damaged), TLSF_OK);
+    wants("goes on there", next, second.at);
+    for (uint32_t other = 0; tlsf_pools_part(&pools, other, &base, &n) == TLSF_OK; other++)
+        if (other != part) wants("another part", tlsf_pools_check(&pools, other, 0, UINT32_MAX, &next, &damaged), TLSF_OK);
+    wants("counts", tlsf_pools_counts(&pools, 3, &n, &most), TLSF_OK);
+    wants("as many are held", n == 2 && most == rows[3].most, 1);
+    wants("close", tlsf_pools_close(&pools), TLSF_OK);
 }
 
 /* --- In memory of the program's ------------------------------------------------------------------------------------------- */
@@ -291,6 +351,7 @@ int main(int argc, char **argv) {
     state = argc > 3 ? strtoull(argv[3], NULL, 10) * 2 + 1 : 1;
     for (int i = 0; i < 10; i++) below(2);
     refusals_of_opening(level);
+    damage(level);
     for (size_t table = 0; table < sizeof tables / sizeof *tables; table++)
         for (size_t skew = 0; skew < 16; skew++) in_memory_of(level, table, skew);
     for (int in = 0; in < 2; in++) {
@@ -301,7 +362,10 @@ int main(int argc, char **argv) {
               TLSF_OK);
         parts(&pools, heaps);
         refusals(&pools);
-        for (turn = 0; turn < calls; turn++) one_call(&pools);
+        for (turn = 0; turn < calls; turn++) {
+            one_call(&pools);
+            if (turn % 97 == 0) looks(&pools);
+        }
         while (count) one_free(&pools, &held[count - 1]);
         reported = 0;
         for (uint32_t part = 0; part < heaps; part++) {

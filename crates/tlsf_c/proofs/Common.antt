@@ -16,7 +16,7 @@ pub use Rattle.tlsf_c.specs.Levels.{LevelHeap, GoesOn}
 pub use Rattle.tlsf_c.specs.Names.{name_of}
 pub use Rattle.tlsf_c.specs.OffsetLevels.{LevelOffsets}
 pub use Rattle.tlsf_c.specs.OffsetsOf.{offsets_shown}
-pub use Rattle.tlsf_c.specs.PoolCalls.{ReleasesInPools, WritesInPools, AllocatesInPools, PartsLeavePayloads, ReadsInPools, ReportsInPools, LooksInPools}
+pub use Rattle.tlsf_c.specs.PoolCalls.{ReleasesInPools, WritesInPools, AllocatesInPools, PartsLeavePayloads, ReadsInPools, ReportsInPools, LooksInPools, ChecksInPools}
 pub use Rattle.tlsf_c.specs.PoolLevels.{LevelPools}
 pub use Rattle.tlsf_c.specs.PoolsOf.{pools_shown}
 pub use Rattle.tlsf_c.specs.Queues.{IsNew, left_of, owner_of_end}

@@ -2,6 +2,7 @@
 use Rattle.std.specs.Prelude.{◌≡◌, ◌≢◌, ℕ, ◌<◌, ◌≤◌, ◌↔◌, List, Option, Some, None, Result, Err, IfOk, IfSome, IsOk, IsSomeAnd, IsErrOf, OnOk, length}
 use Rattle.tlsf_heap.specs.Calls.{last_tick}
 use Rattle.tlsf_heap.specs.Footprint.{LeavesLive, LeavesPayloads}
+use Rattle.tlsf_heap.specs.declared.checked.Checked.{Checked}
 use Rattle.tlsf_heap.specs.declared.name.Name.{Name}
 use Rattle.tlsf_heap.specs.declared.placed_block.PlacedBlock.{PlacedBlock}
 use Rattle.tlsf_heap.specs.declared.refusal.Refusal.{Refusal}
@@ -11,7 +12,7 @@ use Rattle.tlsf_pool.specs.declared.kind.Kind.{Kind}
 use Rattle.tlsf_pool.specs.declared.sizes.split.Split.{Split}
 use Rattle.tlsf_pool.specs.declared.pools.pool_refusal.PoolRefusal.{PoolRefusal}
 use Rattle.tlsf_pool.specs.declared.pools.pool_refusal.PoolRefusal.TheVariants.{TooLong, Full}
-use Rattle.tlsf_pool.specs.pools.Parts.{PoolsState, Allocates, AreNew, ArePools, HasRow, Looks, OnlyPart, Reads, Releases, Reports, Writes, held_by, part_at, part_named, part_of, table_of}
+use Rattle.tlsf_pool.specs.pools.Parts.{PoolsState, Allocates, AreNew, ArePools, Checks, HasRow, Looks, OnlyPart, Reads, Releases, Reports, Writes, held_by, part_at, part_named, part_of, table_of}
 use Rattle.tlsf_pool.specs.pools.Tables.{HasPlace, HoldsOneMore, IsFull, row_of}
 use Rattle.tlsf_pool.specs.sizes.Splits.{IsLeast, parts_of}
 
@@ -74,5 +75,12 @@ pub record ReportsInPools (sli : ℕ) (old new : PoolsState) (part : ℕ) (answe
 pub record LooksInPools (old new : PoolsState) (part at : ℕ) (answer : Option PlacedBlock) : Type 0 where
   pub none : length old.parts ≤ part → (answer ≡ None) × (new ≡ old)
   pub looks : part < length old.parts → Looks (part_at old part) (part_at new part) at answer
+  pub others : part < length old.parts → OnlyPart old new part
+  pub kinds : table_of new ≡ table_of old
+
+-- a check of blocks of a part, where there is one
+pub record ChecksInPools (old new : PoolsState) (part from most : ℕ) (answer : Option Checked) : Type 0 where
+  pub none : length old.parts ≤ part → (answer ≡ None) × (new ≡ old)
+  pub checks : part < length old.parts → Checks (part_at old part) (part_at new part) from most answer
   pub others : part < length old.parts → OnlyPart old new part
   pub kinds : table_of new ≡ table_of old

@@ -1,14 +1,14 @@
 //! Pools whose level is told when they are opened.
 ghost use Rattle.std.specs.Prelude.{◌≡◌, ◌+◌, ◌<◌, ◌≤◌, ◌^◌, ◌↔◌, None, length, IfOk, IfErr, IfSome, IsErrOf, ◌≢◌};
 ghost use Rattle.tlsf_pool.specs.sizes.Rising.{HasNoHeaps};
-ghost use Rattle.tlsf_c.specs.PoolCalls.{AreNewPools, AllocatesInPools, ReleasesInPools, WritesInPools, ReadsInPools, ReportsInPools, LooksInPools};
-ghost use Rattle.tlsf_pool.specs.pools.Parts.{part_at, table_of};
+ghost use Rattle.tlsf_c.specs.PoolCalls.{AreNewPools, AllocatesInPools, ReleasesInPools, WritesInPools, ReadsInPools, ReportsInPools, ChecksInPools, LooksInPools};
+ghost use Rattle.tlsf_pool.specs.pools.Parts.{counts_at, part_at, table_of};
 ghost use Rattle.tlsf_pool.specs.pools.Tables as tables;
 
 use std::alloc::Global;
 use std::marker::Model;
-use tlsf_heap::{Name, OpenFault, PlacedBlock, Refusal, Report};
-use tlsf_pool::{Kind, PoolRefusal, Pools};
+use tlsf_heap::{Checked, Name, OpenFault, PlacedBlock, Refusal, Report};
+use tlsf_pool::{Kind, PoolRefusal, Pools, RowCounts};
 
 /// Pools of one of the two levels.
 #[derive(Drop)]
@@ -143,6 +143,27 @@ impl AnyPools {
         match &self.of_level {
             PoolsOfLevel::Four(pools) => pools.row_len(len),
             PoolsOfLevel::Five(pools) => pools.row_len(len),
+        }
+    }
+
+    /// `Pools::counts`.
+    pub fn counts(&self, row: usize) -> Option<RowCounts>
+        ensures { result ≡ counts_at self.now.pools row }
+    {
+        match &self.of_level {
+            PoolsOfLevel::Four(pools) => pools.counts(row),
+            PoolsOfLevel::Five(pools) => pools.counts(row),
+        }
+    }
+
+    /// `Pools::check_blocks`.
+    pub fn check_blocks(&mut self, part: usize, from: u32, most: u32) -> Option<Checked>
+        ensures level { self.new.level ≡ self.old.level }
+        ensures checks { ChecksInPools self.old.pools self.new.pools part from most result }
+    {
+        match &mut self.of_level {
+            PoolsOfLevel::Four(pools) => pools.check_blocks(part, from, most),
+            PoolsOfLevel::Five(pools) => pools.check_blocks(part, from, most),
         }
     }
 

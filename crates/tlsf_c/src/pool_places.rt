@@ -1,26 +1,28 @@
-//! C's calls of pools by part and place, and the words that pools need. Its calls by pointer are made of the first.
+//! C's calls of pools by part, place and row, and the words that pools need. Its calls by pointer are made of the first.
 ghost use Rattle.std.specs.Prelude.{◌≡◌, ◌<◌, ◌≤◌, ◌↔◌, true, false, Option, Some, None, IfSome, length};
 ghost use Rattle.tlsf_heap.specs.ByPlace.{name_at};
 ghost use Rattle.tlsf_heap.specs.Numbers.{number_of};
+ghost use Rattle.tlsf_heap.specs.declared.checked.Checked.{Checked};
 ghost use Rattle.tlsf_heap.specs.declared.placed_block.PlacedBlock.{PlacedBlock};
 ghost use Rattle.tlsf_heap.specs.declared.refusal.Refusal.TheVariants.{Stale};
 ghost use Rattle.tlsf_pool.specs.declared.sizes.split.Split.{Split};
-ghost use Rattle.tlsf_pool.specs.pools.Parts.{part_at, table_of};
+ghost use Rattle.tlsf_pool.specs.pools.Parts.{counts_at, part_at, table_of};
 ghost use Rattle.tlsf_pool.specs.pools.Tables as tables;
 ghost use Rattle.tlsf_pool.specs.sizes.Rising.{HasNoHeaps};
 ghost use Rattle.tlsf_pool.specs.sizes.Splits.{IsLeast};
+ghost use Rattle.tlsf_c.specs.Checked.{check_number_of, next_told, damaged_told};
 ghost use Rattle.tlsf_c.specs.Lengths.{saturated};
 ghost use Rattle.tlsf_c.specs.Names.{name_of};
 ghost use Rattle.tlsf_c.specs.PlaceCalls.{length_at};
-ghost use Rattle.tlsf_c.specs.PoolCalls.{LooksInPools, PartsLeaveLive};
+ghost use Rattle.tlsf_c.specs.PoolCalls.{ChecksInPools, LooksInPools, PartsLeaveLive};
 ghost use Rattle.tlsf_c.specs.PoolHandles.{pools_in, holds_pools, PoolsStayOpen, kinds_of};
-ghost use Rattle.tlsf_c.specs.Refusals.{bad_size, closed, other_kind, bad_level};
+ghost use Rattle.tlsf_c.specs.Refusals.{bad_size, closed, damage, other_kind, bad_level};
 ghost use Rattle.tlsf_c.specs.Serving.{arena_serves};
 
 use crate::any_arena::AnyArena;
 use crate::any_pools::AnyPools;
 use crate::arena_slot::ArenaSlot;
-use crate::call_fault::CallFault;
+use crate::call_fault::{CallFault, check_status};
 use crate::kind_row::{KindRow, kinds_in};
 use crate::lengths::saturated;
 use crate::names::BlockName;
@@ -172,6 +174,90 @@ pub extern "C" fn tlsf_pools_row(pools: &mut ArenaSlot, len: usize, row_len: &mu
         }
         None => CallFault::BadSize.number(),
     }
+}
+
+/// The counts of a row, by its number in the order of the table. How many blocks are held of it goes to `held`, and how many may be to
+/// `most`. It looks at no block.
+///
+/// Refused as Closed where the handle isn't open. Otherwise as OtherKind where it holds another kind of arena. Otherwise as Stale
+/// where the table has no such row, so that a walk from 0 on meets all.
+///
+/// ```text
+/// tlsf_pools_counts(&pools, 0, &held, &most) == TLSF_OK     // of new pools with rows {2000, 64}, {1, 65536}: 0 and 2,000
+/// ```
+#[unsafe(no_mangle)]
+pub extern "C" fn tlsf_pools_counts(
+    pools: &mut ArenaSlot,
+    row: u32,
+    held: &mut u32,
+    most: &mut u32,
+) -> u32
+    ensures closed { arena_serves pools.old ≡ false → (result ≡ closed) × (pools.new ≡ pools.old) }
+    ensures other { arena_serves pools.old ≡ true → holds_pools pools.old ≡ false → (result ≡ other_kind) × (pools.new ≡ pools.old) }
+    ensures open { arena_serves pools.old ≡ true → PoolsStayOpen pools.old pools.new }
+    ensures counts { result ≡ 0 → counts_at (pools_in pools.old) row ≡ Some (record { held = held.new; most = most.new }) }
+    ensures stale { arena_serves pools.old ≡ true → holds_pools pools.old ≡ true → ¬ (result ≡ 0) → (result ≡ number_of Stale) × (counts_at (pools_in pools.old) row ≡ None) }
+    ensures same { arena_serves pools.old ≡ true → pools_in pools.new ≡ pools_in pools.old }
+    ensures kept { ¬ (result ≡ 0) → (held.new ≡ held.old) × (most.new ≡ most.old) }
+{
+    if !pools.serves() {
+        return CallFault::Closed.refusal();
+    }
+    let AnyArena::Pools { is_in_use, owned } = pools.inner.lend() else {
+        return CallFault::OtherKind.refusal();
+    };
+    *is_in_use = true;
+    let answer = owned.counts(row as usize);
+    *is_in_use = false;
+    match answer {
+        Some(counts) => {
+            *held = counts.held;
+            *most = counts.most;
+            0
+        }
+        None => Refusal::Stale.number(),
+    }
+}
+
+/// Looks at `most` blocks at most of the heap of a part, as `tlsf_check` does of a heap. The first of them begins at the place `from`.
+/// Where all are sound, the place after them goes to `next`, which is 0 after the last block of the region. Pools that only these
+/// calls have changed are always sound. Where other code has written past the end of a payload, a block may be damaged, and its place
+/// goes to `damaged`. The call follows no place that it has not looked at.
+///
+/// Refused as Closed where the handle isn't open. Otherwise as OtherKind where it holds another kind of arena. Otherwise as Stale
+/// where there is no such part, or no block begins at `from`. Otherwise as Damaged where a block is damaged.
+///
+/// ```text
+/// tlsf_pools_check(&pools, 0, 0, 100, &next, &damaged) == TLSF_OK
+/// ```
+#[unsafe(no_mangle)]
+pub extern "C" fn tlsf_pools_check(
+    pools: &mut ArenaSlot,
+    part: u32,
+    from: u32,
+    most: u32,
+    next: &mut u32,
+    damaged: &mut u32,
+) -> u32
+    ensures closed { arena_serves pools.old ≡ false → (result ≡ closed) × (pools.new ≡ pools.old) }
+    ensures other { arena_serves pools.old ≡ true → holds_pools pools.old ≡ false → (result ≡ other_kind) × (pools.new ≡ pools.old) }
+    ensures open { arena_serves pools.old ≡ true → PoolsStayOpen pools.old pools.new }
+    ensures checks { arena_serves pools.old ≡ true → holds_pools pools.old ≡ true → (found : Option Checked) × ChecksInPools (pools_in pools.old) (pools_in pools.new) part from most found
+        × (result ≡ check_number_of found) × (next.new ≡ next_told next.old found) × (damaged.new ≡ damaged_told damaged.old found) }
+    ensures leaves { arena_serves pools.old ≡ true → PartsLeaveLive (pools_in pools.old) (pools_in pools.new) }
+    ensures no_next { ¬ (result ≡ 0) → next.new ≡ next.old }
+    ensures no_damage { ¬ (result ≡ damage) → damaged.new ≡ damaged.old }
+{
+    if !pools.serves() {
+        return CallFault::Closed.refusal();
+    }
+    let AnyArena::Pools { is_in_use, owned } = pools.inner.lend() else {
+        return CallFault::OtherKind.refusal();
+    };
+    *is_in_use = true;
+    let found = owned.check_blocks(part as usize, from, most);
+    *is_in_use = false;
+    check_status(found, next, damaged)
 }
 
 /// The live block that begins at a place of a part's heap: its name goes to `name`, and the bytes of its payload to `len`.

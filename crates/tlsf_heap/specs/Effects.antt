@@ -1,17 +1,20 @@
 -- The effect of one call of a heap, told once: each layer above says it of its own view.
-use Rattle.std.specs.Prelude.{◌≡◌, ℕ, ◌+◌, ◌-◌, ◌*◌, ◌/◌, ◌≤◌, ◌↔◌, List, [], Bool, Option, Result, length, OnErr, IsOk, IsErrOf, IsTrue}
+use Rattle.std.specs.Prelude.{◌≡◌, ℕ, ◌+◌, ◌-◌, ◌*◌, ◌/◌, ◌≤◌, ◌↔◌, List, [], Bool, Option, Result, length, MatchOption, OnErr, IsOk, IsErrOf, IsTrue}
 use Rattle.std.specs.Result.{result_unwrap_or}
-use Rattle.tlsf_heap.specs.Blocks.{want, words_for}
+use Rattle.tlsf_heap.specs.Blocks.{want, words_for, IsPlace}
 use Rattle.tlsf_heap.specs.Calls.{allocated_words, last_tick, read_answer, read_of, released, reset, resized_words, written}
+use Rattle.tlsf_heap.specs.Checks.{FindsSound, IsCheck, block_touches}
 use Rattle.tlsf_heap.specs.Footprint.{LeavesLive, LeavesPayloads}
 use Rattle.tlsf_heap.specs.Given.{payload_words_given, payload_words_left}
 use Rattle.tlsf_heap.specs.GoodFit.{fits}
+use Rattle.tlsf_heap.specs.Image.{Image}
 use Rattle.tlsf_heap.specs.InPlace.{payload_of}
 use Rattle.tlsf_heap.specs.Laws.{IsLive}
 use Rattle.tlsf_heap.specs.Placed.{placed_at}
 use Rattle.tlsf_heap.specs.Reports.{report_of, IsGrant}
 use Rattle.tlsf_heap.specs.Shown.{Seen}
 use Rattle.tlsf_heap.specs.Touched.{FollowsNoForgery, FollowsNoPlace}
+use Rattle.tlsf_heap.specs.declared.checked.Checked.{Checked}
 use Rattle.tlsf_heap.specs.declared.name.Name.{Name}
 use Rattle.tlsf_heap.specs.declared.placed_block.PlacedBlock.{PlacedBlock}
 use Rattle.tlsf_heap.specs.declared.refusal.Refusal.{Refusal}
@@ -107,6 +110,19 @@ pub record Looks (old new : Seen) (at : ℕ) (answer : Option PlacedBlock) : Typ
   pub rise : old.touches ≤ new.touches
   pub leaves : LeavesLive old.heap.blocks old.touched new.touched
   pub wild : FollowsNoPlace old.heap at old.touches new.touches
+
+-- a check of `most` blocks at most, the first of which begins at `from`. A heap that only its own calls have changed is sound. It
+-- answers as `check_words` does on the words that are stored, which have no other answer (`checks_have_one_answer`). It takes one
+-- touch for the first start bit, and at most 13 for each block. No two blocks begin within four words
+pub record ChecksBlocks (stored : Image) (from most : ℕ) (old new : Seen) (answer : Option Checked) : Type 0 where
+  pub sound : MatchOption answer (¬ (IsPlace old.heap.blocks from)) (FindsSound old.heap.blocks from most)
+  pub looks : IsCheck stored from most answer
+  pub heap : new.heap ≡ old.heap
+  pub touches : new.touches ≤ old.touches + 1 + block_touches * most
+  pub few : new.touches ≤ old.touches + 1 + block_touches * (old.heap.words / 4)
+  pub rise : old.touches ≤ new.touches
+  pub leaves : LeavesLive old.heap.blocks old.touched new.touched
+  pub wild : FollowsNoPlace old.heap from old.touches new.touches
 
 -- a report: what the grant comes to is that no request for more is served, and one for so much is, unless nothing is free. It takes two
 -- touches for each block, and no block has fewer than four words

@@ -24,6 +24,7 @@ pub use Rattle.tlsf_heap.specs.ledger.Ledgers.{IsLedgered, SameLedger}
 pub use Rattle.tlsf_pool.specs.declared.kind.Kind.{Kind}
 pub use Rattle.tlsf_pool.specs.declared.pools.pool_refusal.PoolRefusal.{PoolRefusal}
 pub use Rattle.tlsf_pool.specs.declared.pools.pool_refusal.PoolRefusal.TheVariants.{Full, TooLong}
+pub use Rattle.tlsf_pool.specs.declared.pools.row_counts.RowCounts.{RowCounts}
 pub use Rattle.tlsf_pool.specs.declared.sizes.split.Split.{Split}
 pub use Rattle.tlsf_pool.specs.laws.Contents.{is_same, contents, ChangesOneName, Contents, HasWhatIsLive, ReadsBack, ReadsWhatWasWritten, WritesIntoContents, after, after_all, bytes_there, got, part, with_contents}
 pub use Rattle.tlsf_pool.specs.laws.FixedSize.{fixed_size, fixed_words, HasFixedSize, fixed_kinds_words, IsMultiple, answered_fixed, IsWhole, WantsWords, BeginAtMultiples, BlocksAreWhole, FewerThanATable, FewerThanMixedSizes, FixedSizeFindsRoom, FixedSizeIsExact, FixedSizeIsKept, FixedSizeIsTight, FixedSizeServes, FixedSizeSuffices, HundredOfFixedSize, IsFixedSize, NewHasFixedSize, OneLengthSuffices, SureIsSure, run_fixed}
@@ -33,7 +34,7 @@ pub use Rattle.tlsf_pool.specs.laws.MixedSizes.{IsModest, mixed_words, HasRoomFo
 pub use Rattle.tlsf_pool.specs.laws.OneLarge.{longest_of, OneLargeSuffices, ResizesNone, ThousandsAndOne, one_large_words, scattered_words}
 pub use Rattle.tlsf_pool.specs.laws.Room.{sure, live_count, IsSnug, free_words, BlocksAreSnug, RoomIsTight, SumSuffices, wanted_words}
 pub use Rattle.tlsf_pool.specs.pools.Bounds.{IsPool, Bounds, pool_allocated, or_worn, TellsBounds, answered_within}
-pub use Rattle.tlsf_pool.specs.pools.Parts.{PoolsState, Stay, rows_in, table_of, named_in, no_part, part_at, ArePools, part_in, part_named, AreNew, HasRow, held_by, held_in, part_of, Allocates, IsNew, OnlyPart, Releases, memory_of, rows_before}
+pub use Rattle.tlsf_pool.specs.pools.Parts.{PoolsState, Stay, rows_in, table_of, named_in, no_part, part_at, ArePools, part_in, part_named, AreNew, HasRow, held_by, held_in, part_of, Allocates, IsNew, OnlyPart, Releases, memory_of, rows_before, IsRowOf, counts_at}
 pub use Rattle.tlsf_pool.specs.pools.Tables.{TableRows, row_len, row_of, TableState, IsTable, table_allocated, HoldsOneMore, IsTabled, lengths_in, AreAllReached, HasPlace, held_of, most_at, IsFull, TableExtents, CountsOneMore, TellsTable, answered_by_table, answered_in}
 pub use Rattle.tlsf_pool.specs.sizes.Cheapest.{AreSmall, AreBest, HasFirst, IsBest, IsBestAmong, cheaper, with_first}
 pub use Rattle.tlsf_pool.specs.sizes.Rising.{Rises, len_at, IsFirstFall}

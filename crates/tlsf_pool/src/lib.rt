@@ -70,6 +70,7 @@ pub use laws::room::{blocks_are_snug, enough_free_words_serve};
 pub use pools::one::{One, Pool, PoolCalls};
 pub use pools::pool_refusal::PoolRefusal;
 pub use pools::pools::Pools;
+pub use pools::row_counts::RowCounts;
 pub use pools::table::{Table, TablePool, TablePoolCalls};
 pub use sizes::fixed_size::{fixed_kinds_words, fixed_region};
 pub use sizes::greatest::{longest_request, most_blocks};

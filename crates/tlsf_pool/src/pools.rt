@@ -4,5 +4,6 @@ pub(crate) mod one;
 pub(crate) mod opening;
 pub(crate) mod pool_refusal;
 pub(crate) mod pools;
+pub(crate) mod row_counts;
 pub(crate) mod rows;
 pub(crate) mod table;

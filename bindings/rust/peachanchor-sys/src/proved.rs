@@ -62,6 +62,8 @@ extern "C" {
     pub fn tlsf_pools_close(pools: *mut tlsf_pools) -> u32;
     #[must_use] pub fn tlsf_pools_allocate(pools: *mut tlsf_pools, len: usize, name: *mut tlsf_name) -> u32;
     #[must_use] pub fn tlsf_pools_report(pools: *mut tlsf_pools, part: u32, report: *mut tlsf_heap_report) -> u32;
+    #[must_use] pub fn tlsf_pools_counts(pools: *mut tlsf_pools, row: u32, held: *mut u32, most: *mut u32) -> u32;
+    #[must_use] pub fn tlsf_pools_check(pools: *mut tlsf_pools, part: u32, from: u32, most: u32, next: *mut u32, damaged: *mut u32) -> u32;
     pub fn tlsf_pools_free(pools: *mut tlsf_pools, p: *mut c_void) -> u32;
     #[must_use] pub fn tlsf_pools_malloc(pools: *mut tlsf_pools, len: usize) -> *mut c_void;
     #[must_use] pub fn tlsf_pools_realloc(pools: *mut tlsf_pools, p: *mut c_void, len: usize) -> *mut c_void;

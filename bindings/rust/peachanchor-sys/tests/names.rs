@@ -134,6 +134,7 @@ fn pools_serve_a_table() {
     let mut pools = tlsf_pools::CLOSED;
     let rows = [tlsf_kind { most: 1, len: 16 }, tlsf_kind { most: 2, len: 4000 }];
     let (mut name, mut other, mut report) = (tlsf_name::default(), tlsf_name::default(), tlsf_heap_report::default());
+    let (mut held, mut most, mut next, mut damaged) = (7, 7, 7, 7);
     let mut bytes = [9_u8; 3];
     unsafe {
         assert_eq!(tlsf_pools_open(&mut pools, 4, 5, [rows[1], rows[0]].as_ptr(), 2), TLSF_BAD_SIZE);
@@ -145,6 +146,10 @@ fn pools_serve_a_table() {
         assert_eq!((tlsf_pools_read(&mut pools, other, 1, bytes.as_mut_ptr(), 3), bytes), (TLSF_OK, [2, 3, 0]));
         assert_eq!((tlsf_pools_report(&mut pools, 1, &mut report), report.live_blocks), (TLSF_OK, 1));
         assert_eq!(tlsf_pools_report(&mut pools, 2, &mut report), TLSF_STALE);
+        assert_eq!((tlsf_pools_counts(&mut pools, 1, &mut held, &mut most), held, most), (TLSF_OK, 1, 2));
+        assert_eq!(tlsf_pools_counts(&mut pools, 2, &mut held, &mut most), TLSF_STALE);
+        assert_eq!((tlsf_pools_check(&mut pools, 1, 0, 9, &mut next, &mut damaged), next), (TLSF_OK, 0));
+        assert_eq!(tlsf_pools_check(&mut pools, 2, 0, 9, &mut next, &mut damaged), TLSF_STALE);
         assert_eq!((tlsf_pools_release(&mut pools, name), tlsf_pools_release(&mut pools, name)), (TLSF_OK, TLSF_STALE));
         assert_eq!(tlsf_pools_close(&mut pools), TLSF_OK);
     }

@@ -1,11 +1,10 @@
 //! The heap of C's calls by place, whose level is told when it is opened.
-ghost use Rattle.std.specs.Prelude.{◌≡◌, ◌+◌, ◌*◌, ◌/◌, ◌%◌, ◌<◌, ◌≤◌, length, max, min, IfOk, IfSome, MatchOption, OnErr};
+ghost use Rattle.std.specs.Prelude.{◌≡◌, ◌+◌, ◌*◌, ◌/◌, ◌%◌, ◌<◌, ◌≤◌, length, max, min, IfOk, IfSome, OnErr};
 ghost use Rattle.tlsf_heap.specs.Aligned.{words_aligned};
-ghost use Rattle.tlsf_heap.specs.Blocks.{want, IsPlace};
+ghost use Rattle.tlsf_heap.specs.Blocks.{want};
 ghost use Rattle.tlsf_heap.specs.ByPlace.{name_at, released_by_place};
 ghost use Rattle.tlsf_heap.specs.Calls.{allocated, resized};
-ghost use Rattle.tlsf_heap.specs.Checks.{FindsSound, IsCheck, block_touches};
-ghost use Rattle.tlsf_heap.specs.Effects.{Looks};
+ghost use Rattle.tlsf_heap.specs.Effects.{ChecksBlocks, Looks};
 ghost use Rattle.tlsf_heap.specs.Footprint.{LeavesLive, LeavesPayloads};
 ghost use Rattle.tlsf_heap.specs.Given.{payload_words_left};
 ghost use Rattle.tlsf_heap.specs.InPlace.{payload_of};
@@ -91,14 +90,9 @@ impl AnyHeap {
 
     /// `Heap::check_blocks`.
     pub fn check_blocks(&mut self, from: u32, most: u32) -> Option<Checked>
-        ensures answer { MatchOption result (¬ (IsPlace self.old.heap.blocks from)) (FindsSound self.old.heap.blocks from most) }
-        ensures looks { IsCheck self.old.stored from most result }
-        ensures heap { self.new.heap ≡ self.old.heap }
+        ensures checks { ChecksBlocks self.old.stored from most (seen_at self.old) (seen_at self.new) result }
         ensures goes_on { GoesOn self.old self.new }
         ensures counts { self.new.counts ≡ self.old.counts }
-        ensures touches { self.new.touches ≤ self.old.touches + 1 + block_touches * most }
-        ensures leaves { LeavesLive self.old.heap.blocks self.old.touched self.new.touched }
-        ensures wild { FollowsNoPlace self.old.heap from self.old.touches self.new.touches }
     {
         match &mut self.of_level {
             OfLevel::Four(heap) => heap.check_blocks(from, most),

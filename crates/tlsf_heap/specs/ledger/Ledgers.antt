@@ -2,11 +2,14 @@
 use Rattle.std.specs.Prelude.{◌≡◌, ℕ, ◌≤◌, List}
 use Rattle.tlsf_words.specs.Memory.{Extents}
 use Rattle.tlsf_heap.specs.Blocks.{HeapState}
+use Rattle.tlsf_heap.specs.Image.{Image}
 use Rattle.tlsf_heap.specs.Lawful.{IsLawful}
 
--- what a heap with a ledger shows: its heap, the ledger, and the heap's memory, touches and touched words
+-- what a heap with a ledger shows: its heap, the words that are stored in its region, and the ledger. Also the heap's memory, touches
+-- and touched words
 pub record LedgerState (L : Type 0) : Type 0 where
   pub heap : HeapState
+  pub stored : Image
   pub ledger : L
   pub extents : Extents
   pub touches : ℕ

@@ -1,9 +1,8 @@
-ghost use Rattle.std.specs.Prelude.{◌≡◌, ◌+◌, ◌*◌, ◌/◌, ◌≤◌, MatchOption};
+ghost use Rattle.std.specs.Prelude.{◌≡◌};
 ghost use Rattle.tlsf_heap.specs.Blocks.{IsPlace};
-ghost use Rattle.tlsf_heap.specs.Checks.{IsCheck, FindsSound, block_touches};
-ghost use Rattle.tlsf_heap.specs.Footprint.{LeavesLive};
+ghost use Rattle.tlsf_heap.specs.Effects.{ChecksBlocks};
 ghost use Rattle.tlsf_heap.specs.Kept.{IsAsBefore, Keeps};
-ghost use Rattle.tlsf_heap.specs.Touched.{FollowsNoPlace};
+ghost use Rattle.tlsf_heap.specs.Shown.{seen};
 
 use super::Heap;
 use crate::checked::Checked;
@@ -25,20 +24,11 @@ impl<const SLI: u32> Heap<SLI> {
     /// heap.check_blocks(5, 1) == None
     /// ```
     pub fn check_blocks(&mut self, from: u32, most: u32) -> Option<Checked>
-        ensures answer { MatchOption result (¬ (IsPlace self.old.heap.blocks from)) (FindsSound self.old.heap.blocks from most) }
-
-        // The answer of `check_words` on the words that are stored: they have no other (`checks_have_one_answer`).
-        ensures looks { IsCheck self.old.stored from most result }
+        ensures checks { ChecksBlocks self.old.stored from most (seen self.old) (seen self.new) result }
         ensures same { IsAsBefore self.old self.new }
         ensures keeps { Keeps SLI self.old self.new }
 
-        // At most 13 for each block looked at, and one for the first start bit. No two blocks that are looked at begin within four words.
-        ensures touches { self.new.touches ≤ self.old.touches + 1 + block_touches * most }
-        ensures few { self.new.touches ≤ self.old.touches + 1 + block_touches * (self.old.heap.words / 4) }
-        ensures leaves { LeavesLive self.old.heap.blocks self.old.touched self.new.touched }
-
         // Not even a start bit is read unless the place lies in the region, and no word unless a block begins there.
-        ensures wild { FollowsNoPlace self.old.heap from self.old.touches self.new.touches }
         ensures unread { ¬ (IsPlace self.old.heap.blocks from) → self.new.touched ≡ self.old.touched }
     {
         self.region.check(from, most)

@@ -1,7 +1,7 @@
 ghost use Rattle.std.specs.Fn.{FnOnceTakesAt, FnOnceTakesAtMut};
 ghost use Rattle.std.specs.Prelude.{◌≡◌, ℕ, List, ◌+◌, ◌/◌, ◌≤◌, length, IfOk, OnOk, OnErr};
 ghost use Rattle.tlsf_heap.specs.Calls.{allocated_words, released};
-ghost use Rattle.tlsf_heap.specs.Effects.{Releases, seen_by, Allocates, AsksLive, Looks, Reads, Reports, Writes};
+ghost use Rattle.tlsf_heap.specs.Effects.{Releases, seen_by, Allocates, AsksLive, ChecksBlocks, Looks, Reads, Reports, Writes};
 ghost use Rattle.tlsf_heap.specs.Footprint.{LeavesLive};
 ghost use Rattle.tlsf_heap.specs.Given.{payload_words_given};
 ghost use Rattle.tlsf_heap.specs.InPlace.{ArePayload, Alters, Inspects, IsRefusedAsRead, payload_of};
@@ -10,6 +10,7 @@ ghost use Rattle.tlsf_heap.specs.Touched.{FollowsNoForgery, allocate_touches, re
 ghost use Rattle.tlsf_heap.specs.ledger.Ledgers.{IsLedgered, KeepsLedger, SameLedger};
 ghost use Rattle.tlsf_heap.specs.Blocks.{want};
 
+use crate::checked::Checked;
 use crate::heap::Heap;
 use crate::ledger::Ledger;
 use crate::name::Name;
@@ -20,7 +21,8 @@ use std::marker::Model;
 
 /// A heap with a ledger, which notes what is given and what comes back. Its level is that of its heap, 4 or 5.
 ///
-/// Contracts see it as its heap, the ledger, the heap's memory (`extents`), its touches and the words that they touched. The ledger is always one of the heap (`IsLedgered`): what it
+/// Contracts see it as its heap, the words that are stored in its region (`stored`), the ledger, and the heap's memory (`extents`). They
+/// also see its touches and the words that they touched. The ledger is always one of the heap (`IsLedgered`): what it
 /// notes is true of the live blocks. A call that is refused changes neither. Places and sizes are in words of 8 bytes, lengths in
 /// bytes.
 #[derive(Drop)]
@@ -34,9 +36,9 @@ impl<const SLI: u32, L: Ledger<SLI>> Model for Ledgered<SLI, L> {
 
     ghost Value = { LedgerState L };
 
-    ghost view = { λ c. record { heap = c.heap.heap; ledger = c.ledger; extents = c.heap.extents; touches = c.heap.touches; touched = c.heap.touched } };
+    ghost view = { λ c. record { heap = c.heap.heap; stored = c.heap.stored; ledger = c.ledger; extents = c.heap.extents; touches = c.heap.touches; touched = c.heap.touched } };
 
-    ghost invariant = { λ c. IsLedgered (L.holds SLI) (record { heap = c.heap.heap; ledger = c.ledger; extents = c.heap.extents; touches = c.heap.touches; touched = c.heap.touched }) };
+    ghost invariant = { λ c. IsLedgered (L.holds SLI) (record { heap = c.heap.heap; stored = c.heap.stored; ledger = c.ledger; extents = c.heap.extents; touches = c.heap.touches; touched = c.heap.touched }) };
 }
 
 impl<const SLI: u32, L: Ledger<SLI>> Ledgered<SLI, L> {
@@ -46,8 +48,9 @@ impl<const SLI: u32, L: Ledger<SLI>> Ledgered<SLI, L> {
     /// let counted = Ledgered::new(heap, counts);       // of a new heap: no grant and no return
     /// ```
     pub fn new(heap: Heap<SLI>, ledger: L) -> Ledgered<SLI, L>
-        requires { IsLedgered (L.holds SLI) (record { heap = heap.heap; ledger = ledger; extents = heap.extents; touches = heap.touches; touched = heap.touched }) }
+        requires { IsLedgered (L.holds SLI) (record { heap = heap.heap; stored = heap.stored; ledger = ledger; extents = heap.extents; touches = heap.touches; touched = heap.touched }) }
         ensures heap { result.heap ≡ heap.entry.heap }
+        ensures stored { result.stored ≡ heap.entry.stored }
         ensures ledger { result.ledger ≡ ledger }
         ensures extents { result.extents ≡ heap.entry.extents }
         ensures touches { result.touches ≡ heap.entry.touches }
@@ -289,6 +292,22 @@ impl<const SLI: u32, L: Ledger<SLI>> Ledgered<SLI, L> {
         ensures keeps { KeepsLedger (L.holds SLI) self.old self.new }
     {
         self.heap.block_at(at)
+    }
+
+    /// Looks at `most` blocks at most, one after the other, as [`Heap::check_blocks`] does. The first of them begins at `from`; `None`
+    /// where none begins there. A heap that only these calls have changed is never called damaged. Takes no memory.
+    ///
+    /// ```
+    /// let found = heap.check_blocks(0, 1); // of a new heap
+    /// assert_eq!(found, Some(Checked::Sound { next: 0 }));
+    /// ```
+    pub fn check_blocks(&mut self, from: u32, most: u32) -> Option<Checked>
+        ensures checks { ChecksBlocks self.old.stored from most (seen_by self.old) (seen_by self.new) result }
+        ensures same { SameLedger self.old self.new }
+        ensures stored { self.new.stored ≡ self.old.stored }
+        ensures keeps { KeepsLedger (L.holds SLI) self.old self.new }
+    {
+        self.heap.check_blocks(from, most)
     }
 
     /// Whether a live block of the heap has that name. A forged name is not followed. Takes no memory.

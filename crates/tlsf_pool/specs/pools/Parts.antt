@@ -1,6 +1,6 @@
 -- Several heaps, one for each part of a table.
 use denote.RawPtr.{null_ptr}
-use Rattle.std.specs.Prelude.{◌≡◌, ℕ, ◌+◌, ◌-◌, ◌<◌, ◌≤◌, Bool, List, [], ◌∷◌, ◌++◌, Option, Some, None, Result, Ok, IfOk, OnErr, OnOk, is_some, length, map, nat_le, nat_lt, position, replicate, set, slice_index_or, sum, take, ⊤, ◌&&◌, if◌then◌else◌}
+use Rattle.std.specs.Prelude.{◌≡◌, ℕ, ◌+◌, ◌-◌, ◌<◌, ◌≤◌, Bool, List, [], ◌∷◌, ◌++◌, Option, Some, None, Result, Ok, IfOk, OnErr, OnOk, is_some, length, map, nat_le, nat_lt, position, replicate, set, slice_index, slice_index_or, sum, take, ⊤, ◌&&◌, if◌then◌else◌}
 use Rattle.std.specs.List.{AllByRecursion}
 use Rattle.tlsf_heap.specs.Calls.{opened}
 use Rattle.tlsf_heap.specs.Footprint.{LeavesLive}
@@ -8,6 +8,7 @@ use Rattle.tlsf_heap.specs.Given.{payload_words_given}
 use Rattle.tlsf_heap.specs.InPlace.{payload_of}
 use Rattle.tlsf_heap.specs.Memory.{Extent, Extents}
 use Rattle.tlsf_heap.specs.Touched.{allocate_touches, release_touches, write_touches, read_touches}
+use Rattle.tlsf_heap.specs.declared.checked.Checked.{Checked}
 use Rattle.tlsf_heap.specs.declared.name.Name.{Name}
 use Rattle.tlsf_heap.specs.declared.placed_block.PlacedBlock.{PlacedBlock}
 use Rattle.tlsf_heap.specs.declared.refusal.Refusal.{Refusal}
@@ -16,7 +17,8 @@ use Rattle.tlsf_heap.specs.ledger.Ledgers.{SameLedger}
 use Rattle.tlsf_pool.specs.laws.FixedSize.{fixed_kinds_words, fixed_size}
 use Rattle.tlsf_pool.specs.declared.kind.Kind.{Kind}
 use Rattle.tlsf_pool.specs.declared.pools.pool_refusal.PoolRefusal.{PoolRefusal}
-use Rattle.tlsf_pool.specs.pools.Tables.{TableExtents, TableState, CountsOneMore, IsTabled, HasPlace, row_of, table_allocated}
+use Rattle.tlsf_pool.specs.declared.pools.row_counts.RowCounts.{RowCounts}
+use Rattle.tlsf_pool.specs.pools.Tables.{TableExtents, TableState, CountsOneMore, IsTabled, HasPlace, most_at, row_of, table_allocated}
 use Rattle.tlsf_heap.specs.Effects as heap
 use Rattle.tlsf_heap.specs.Effects.{seen_by}
 use Rattle.tlsf_heap.specs.Blocks.{want}
@@ -33,7 +35,7 @@ no_memory = record { address = null_ptr; capacity = 0 }
 
 -- no heap
 abbrev pub no_part : TableState
-no_part = record { heap = record { id = 0; words = 0; tick = 0; blocks = [] }; ledger = record { kinds = []; held = []; extents = record { kinds = no_memory; held = no_memory } }; extents = record { words = no_memory; starts = no_memory }; touches = 0; touched = [] }
+no_part = record { heap = record { id = 0; words = 0; tick = 0; blocks = [] }; stored = record { words = []; starts = [] }; ledger = record { kinds = []; held = []; extents = record { kinds = no_memory; held = no_memory } }; extents = record { words = no_memory; starts = no_memory }; touches = 0; touched = [] }
 
 abbrev pub part_at : PoolsState → ℕ → TableState
 part_at p i = slice_index_or p.parts i no_part
@@ -72,6 +74,16 @@ table_of p = rows_in p.parts
 
 abbrev pub held_by : PoolsState → List ℕ
 held_by p = held_in p.parts
+
+-- the counts of a row of the whole table, None where it has no such row
+abbrev pub counts_at : PoolsState → ℕ → Option RowCounts
+counts_at p row = if nat_lt row (length (table_of p)) then Some (record { held = slice_index (held_by p) row; most = most_at (table_of p) row }) else None
+
+-- row `own` of part i of these parts is this row of all
+pub record IsRowOf (parts : List TableState) (row i own : ℕ) : Type 0 where
+  pub part : i < length parts
+  pub within : own < length (slice_index_or parts i no_part).ledger.kinds
+  pub row_is : rows_before parts i + own ≡ row
 
 -- this row of the whole table is one of a part
 abbrev pub HasRow : PoolsState → ℕ → ℕ → Type 0
@@ -156,4 +168,10 @@ pub record Reports (sli : ℕ) (old new : TableState) (report : Report) : Type 0
 -- a look at what begins at a place of one
 pub record Looks (old new : TableState) (at : ℕ) (answer : Option PlacedBlock) : Type 0 where
   pub looks : heap.Looks (seen_by old) (seen_by new) at answer
+  pub same : SameLedger old new
+
+-- a check of `most` blocks at most from a place of one on
+pub record Checks (old new : TableState) (from most : ℕ) (answer : Option Checked) : Type 0 where
+  pub checks : heap.ChecksBlocks old.stored from most (seen_by old) (seen_by new) answer
+  pub stored : new.stored ≡ old.stored
   pub same : SameLedger old new

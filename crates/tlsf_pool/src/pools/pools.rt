@@ -9,6 +9,8 @@ ghost use Rattle.tlsf_pool.specs.pools.Parts as cut;
 ghost use Rattle.tlsf_pool.specs.pools.Parts.{Allocates, AreNew, ArePools, HasRow, Looks, OnlyPart, Reads, Releases, Reports, Stay, Writes, held_by, part_at, table_of};
 
 mod by_pointer;
+mod check;
+mod counts;
 mod live;
 
 use crate::kind::Kind;

@@ -54,6 +54,21 @@ impl<const SLI: u32> Table<SLI> {
         let row = row_of(&self.kinds, len)?;
         Some(self.kinds[row].len)
     }
+
+    // How many rows it has.
+    pub(crate) fn rows(&self) -> usize
+        ensures { result ≡ length self.now.kinds }
+    {
+        self.kinds.len()
+    }
+
+    // How many blocks of a row may be held.
+    pub(crate) fn most(&self, row: usize) -> u32
+        requires { row < length self.now.kinds }
+        ensures { result ≡ most_at self.now.kinds row }
+    {
+        self.kinds[row].most
+    }
 }
 
 impl<const SLI: u32> Ledger<SLI> for Table<SLI> {

@@ -28,7 +28,7 @@ at_set [] i t d within = absurd (omega (arith, within))
 at_set (x ∷ xs) zero t d within = refl
 at_set (x ∷ xs) (suc i) t d within = at_set xs i t d (this_row _ _ within)
 
-any_else : (xs : List TableState) (i : ℕ) (d e : TableState) → i < length xs → get_or xs i d ≡ get_or xs i e
+pub any_else : (xs : List TableState) (i : ℕ) (d e : TableState) → i < length xs → get_or xs i d ≡ get_or xs i e
 any_else [] i d e within = absurd (omega (arith, within))
 any_else (x ∷ xs) zero d e within = refl
 any_else (x ∷ xs) (suc i) d e within = any_else xs i d e (this_row _ _ within)

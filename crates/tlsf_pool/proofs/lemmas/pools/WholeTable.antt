@@ -1,10 +1,10 @@
 -- The rows of the whole table, which the parts have one part after the other.
-use Rattle.tlsf_pool.proofs.Common.{◌≡◌, ◌≢◌, ℕ, zero, suc, ◌+◌, ◌-◌, ◌<◌, ◌≤◌, ◌↔◌, ◌&&◌, Bool, true, false, cond, List, [], ◌∷◌, ◌++◌, length, take, get_or, set, nat_le, nat_lt, Option, Some, None, Result, Ok, Err, map, refl, sym, ap, ap₂, ◌∙◌, subst, inl, inr, arith, length-append, AllByRecursion, position_or_len, IfOk, IsSomeAnd, OnOk, is_some, option_map, cases_lt, false≢true, le-leb, le-ltb, lt-leb, lt-ltb, nat_tests, get_or_append_left, get_or-append-add, set-append_left, set-append_right, fails_before_first, position_or_len_is, HeapState, allocated_words, place_of, Name, Kind, Rises, len_at, joined, PoolRefusal, AreAllReached, CountsOneMore, HoldsOneMore, IsTabled, TableExtents, TableState, lengths_in, row_len, row_of, table_allocated, fixed_size, AreNew, ArePools, HasRow, PoolsState, Stay, held_by, held_in, memory_of, named_in, no_part, part_at, part_in, part_named, part_of, rows_before, rows_in, table_of}
+use Rattle.tlsf_pool.proofs.Common.{◌≡◌, ◌≢◌, ℕ, zero, suc, ◌+◌, ◌-◌, ◌<◌, ◌≤◌, ◌↔◌, ◌&&◌, Bool, true, false, cond, List, [], ◌∷◌, ◌++◌, length, take, get_or, set, nat_le, nat_lt, Option, Some, None, Result, Ok, Err, map, refl, sym, ap, ap₂, ◌∙◌, subst, inl, inr, arith, length-append, AllByRecursion, position_or_len, IfOk, IsSomeAnd, OnOk, is_some, option_map, cases_lt, false≢true, le-leb, le-ltb, lt-leb, lt-ltb, nat_tests, get_or_append_left, get_or-append-add, set-append_left, set-append_right, fails_before_first, position_or_len_is, HeapState, allocated_words, place_of, Name, Kind, Rises, len_at, joined, PoolRefusal, AreAllReached, CountsOneMore, HoldsOneMore, IsTabled, TableExtents, TableState, lengths_in, row_len, row_of, table_allocated, fixed_size, AreNew, ArePools, HasRow, PoolsState, Stay, held_by, held_in, memory_of, named_in, no_part, part_at, part_in, part_named, part_of, rows_before, rows_in, table_of, IsRowOf, RowCounts, counts_at}
 use Rattle.std.proofs.lemmas.List.Quantifiers.{position-Some}
 use Rattle.tlsf_heap.specs.Memory.{Extents}
 use Rattle.tlsf_heap.proofs.lemmas.calls.Outcomes.{by_allocated_words}
 use Rattle.tlsf_pool.proofs.lemmas.pools.Answering.{of_some, some_of}
-use Rattle.tlsf_pool.proofs.lemmas.pools.RowTotals.{held_length, next_row, place, row_is, this_row}
+use Rattle.tlsf_pool.proofs.lemmas.pools.RowTotals.{held_length, next_row, none, place, row_is, this_row}
 use Rattle.tlsf_pool.proofs.lemmas.pools.Heaps.{is_part, part_has}
 use Rattle.tlsf_pool.proofs.lemmas.sizes.Risings.{shorter_before}
 
@@ -124,15 +124,18 @@ module _ (len : ℕ) where
           fails_before_first (λ t. is_some (row_of t.ledger.kinds len)) parts k no_part (omega (arith, less, end))
 
 -- a row of a part is one of the whole table
+row_kind : (parts : List TableState) (i row : ℕ) → i < length parts → row < length (get_or parts i no_part).ledger.kinds
+    → get_or (rows_in parts) (rows_before parts i + row) none ≡ get_or (get_or parts i no_part).ledger.kinds row none
+row_kind [] i row within short = absurd (omega (arith, within))
+row_kind (t ∷ parts) zero row within short =
+    ap (λ (n : ℕ). get_or (t.ledger.kinds ++ rows_in parts) n none) (sym (before_none (t ∷ parts) row)) ∙ get_or_append_left t.ledger.kinds (rows_in parts) none row short
+row_kind (t ∷ parts) (suc i) row within short =
+    ap (λ (n : ℕ). get_or (t.ledger.kinds ++ rows_in parts) n none) (sym (before_more t parts i row))
+    ∙ (get_or-append-add t.ledger.kinds (rows_in parts) (rows_before parts i + row) none ∙ row_kind parts i row (this_row _ _ within) short)
+
 row_get : (parts : List TableState) (i row : ℕ) → i < length parts → row < length (get_or parts i no_part).ledger.kinds
     → len_at (rows_in parts) (rows_before parts i + row) ≡ len_at (get_or parts i no_part).ledger.kinds row
-row_get [] i row within short = absurd (omega (arith, within))
-row_get (t ∷ parts) zero row within short =
-    ap (λ (n : ℕ). len_at (t.ledger.kinds ++ rows_in parts) n) (sym (before_none (t ∷ parts) row))
-    ∙ ap (λ (kind : Kind). kind.len) (get_or_append_left t.ledger.kinds (rows_in parts) (record { most = 0; len = 0 }) row short)
-row_get (t ∷ parts) (suc i) row within short =
-    ap (λ (n : ℕ). len_at (t.ledger.kinds ++ rows_in parts) n) (sym (before_more t parts i row))
-    ∙ (ap (λ (kind : Kind). kind.len) (get_or-append-add t.ledger.kinds (rows_in parts) (rows_before parts i + row) (record { most = 0; len = 0 })) ∙ row_get parts i row (this_row _ _ within) short)
+row_get parts i row within short = ap (λ (kind : Kind). kind.len) (row_kind parts i row within short)
 
 -- so a request counts for a row of the same bytes
 pub whole_row_len : (len : ℕ) (parts : List TableState) (i : ℕ) → part_in parts len ≡ Some i → row_len (get_or parts i no_part).ledger.kinds len ≡ row_len (rows_in parts) len
@@ -191,6 +194,48 @@ held_get (t ∷ parts) (suc i) row counts within short =
     let row_is : length t.ledger.kinds + (rows_before parts i + row) ≡ rows_before (t ∷ parts) (suc i) + row = before_more t parts i row in
     let same : rows_before (t ∷ parts) (suc i) + row ≡ length t.ledger.held + (rows_before parts i + row) = omega (arith, row_is, counts.0) in
     ap (λ (n : ℕ). get_or (t.ledger.held ++ held_in parts) n 0) same ∙ (get_or-append-add t.ledger.held (held_in parts) (rows_before parts i + row) 0 ∙ held_get parts i row counts.1 (this_row _ _ within) short)
+
+-- ---- a row of the whole table by its number
+
+-- the rows before the part after one
+before_next : (parts : List TableState) (i : ℕ) → i < length parts → rows_before parts (suc i) ≡ rows_before parts i + length (get_or parts i no_part).ledger.kinds
+before_next [] i within = absurd (omega (arith, within))
+before_next (t ∷ parts) zero within = omega (arith, length-append t.ledger.kinds (rows_in (take zero parts)))
+before_next (t ∷ parts) (suc i) within = omega (arith, before_more t parts (suc i) 0, before_more t parts i 0, before_next parts i (this_row _ _ within))
+
+pub rows_passed : (parts : List TableState) (i : ℕ) → i < length parts → rows_before parts (i + 1) ≡ rows_before parts i + length (get_or parts i no_part).ledger.kinds
+rows_passed parts i within =
+    let same : suc i ≡ i + 1 = omega arith in
+    subst (λ (n : ℕ). rows_before parts n ≡ rows_before parts i + length (get_or parts i no_part).ledger.kinds) same (before_next parts i within)
+
+-- and those before the end
+pub before_end : (parts : List TableState) → rows_before parts (length parts) ≡ length (rows_in parts)
+before_end [] = refl
+before_end (t ∷ parts) = omega (arith, before_more t parts (length parts) 0, before_end parts, length-append t.ledger.kinds (rows_in parts))
+
+row_within : (parts : List TableState) (i row : ℕ) → i < length parts → row < length (get_or parts i no_part).ledger.kinds → rows_before parts i + row < length (rows_in parts)
+row_within [] i row within short = absurd (omega (arith, within))
+row_within (t ∷ parts) zero row within short = omega (arith, before_none (t ∷ parts) row, length-append t.ledger.kinds (rows_in parts), short)
+row_within (t ∷ parts) (suc i) row within short = omega (arith, before_more t parts i row, length-append t.ledger.kinds (rows_in parts), row_within parts i row (this_row _ _ within) short)
+
+abbrev pub counts : ℕ → ℕ → RowCounts
+counts held most = record { held = held; most = most }
+
+-- the counts of a row are those that its part has of it
+pub counts_there : (sli : ℕ) (p : PoolsState) (row i own : ℕ) → ArePools sli p → IsRowOf p.parts row i own
+    → Some (record { held = get_or (part_at p i).ledger.held own 0; most = (get_or (part_at p i).ledger.kinds own none).most }) ≡ counts_at p row
+counts_there sli p row i own are is =
+    let held : get_or (held_by p) row 0 ≡ get_or (part_at p i).ledger.held own 0 = subst (λ (n : ℕ). get_or (held_by p) n 0 ≡ get_or (part_at p i).ledger.held own 0) is.row_is
+    (held_get p.parts i own (are_counts sli p.parts are.tables) is.part is.within) in
+    let most : (get_or (table_of p) row none).most ≡ (get_or (part_at p i).ledger.kinds own none).most =
+    ap (λ (kind : Kind). kind.most) (subst (λ (n : ℕ). get_or (table_of p) n none ≡ get_or (part_at p i).ledger.kinds own none) is.row_is (row_kind p.parts i own is.part is.within)) in
+    let less : row < length (table_of p) = subst (λ (n : ℕ). n < length (rows_in p.parts)) is.row_is (row_within p.parts i own is.part is.within) in
+    ap₂ (λ (h m : ℕ). Some (counts h m)) (sym held) (sym most)
+    ∙ sym (ap (λ (c : Bool). cond {A = Option RowCounts} c (Some (counts (get_or (held_by p) row 0) (get_or (table_of p) row none).most)) None) (lt-ltb row (length (table_of p)) less))
+
+-- and no row has none
+pub no_counts : (p : PoolsState) (row : ℕ) → length (table_of p) ≤ row → None ≡ counts_at p row
+no_counts p row past = sym (ap (λ (c : Bool). cond {A = Option RowCounts} c (Some (counts (get_or (held_by p) row 0) (get_or (table_of p) row none).most)) None) (le-ltb row (length (table_of p)) past))
 
 -- ---- the table stays
 

@@ -1,0 +1,30 @@
+ghost use Rattle.std.specs.Prelude.{◌≡◌, ◌<◌, ◌≤◌, None, length};
+ghost use Rattle.tlsf_pool.specs.pools.Parts.{ArePools, Checks, OnlyPart, Stay, part_at, table_of};
+
+use super::Pools;
+use tlsf_heap::Checked;
+
+impl<const SLI: u32> Pools<SLI> {
+    /// Looks at `most` blocks at most in the heap of a part, one after the other, as
+    /// [`Ledgered::check_blocks`](tlsf_heap::Ledgered::check_blocks) does. The first of them begins at `from`. None where none begins
+    /// there or there is no such part. Pools that only these calls have changed are never called damaged. Takes no memory.
+    ///
+    /// ```text
+    /// pools.check_blocks(1, 0, 100)           // of new pools as above: Some(Checked::Sound { next: 0 })
+    /// pools.check_blocks(2, 0, 100) == None
+    /// ```
+    pub fn check_blocks(&mut self, part: usize, from: u32, most: u32) -> Option<Checked>
+        ensures none { length self.old.parts ≤ part → (result ≡ None) × (self.new ≡ self.old) }
+        ensures checks { part < length self.old.parts → Checks (part_at self.old part) (part_at self.new part) from most result }
+        ensures others { part < length self.old.parts → OnlyPart self.old self.new part }
+        ensures kinds { table_of self.new ≡ table_of self.old }
+        ensures stays { Stay self.old self.new }
+        ensures were_pools { ArePools SLI self.old }
+        ensures pools { ArePools SLI self.new }
+    {
+        if part >= self.parts.len() {
+            return None;
+        }
+        self.parts[part].check_blocks(from, most)
+    }
+}
