@@ -1,4 +1,5 @@
-// The calls of peachanchor.h as members of tlsf::heap, and that what looks takes a heap, a block, an arena or pools that may not be changed.
+// The calls of peachanchor.h as members of tlsf::heap, and counts and check of tlsf::pools. What looks takes a heap, a block, an arena or
+// pools that may not be changed.
 #include "tlsf.hpp"
 
 #include <cstdint>
