@@ -610,6 +610,11 @@ public:
     }
 };
 
+// How many blocks of a row of pools are held, and how many may be.
+struct row_counts {
+    std::uint32_t held, most;
+};
+
 // Heaps for a table of kinds, which never lack room: the calls tlsf_pools_*. It can be moved, and not copied, and is closed at the end
 // of its life.
 class pools {
@@ -638,6 +643,17 @@ public:
         tlsf_heap_report sums{};
         if (!state_ || tlsf_pools_report(state_.raw(), part, &sums) != TLSF_OK) return std::nullopt;
         return sums;
+    }
+    // Of one row of the table, or none where there is no such row.
+    std::optional<row_counts> counts(std::uint32_t row) const noexcept {
+        row_counts counted{};
+        if (!state_ || tlsf_pools_counts(state_.raw(), row, &counted.held, &counted.most) != TLSF_OK) return std::nullopt;
+        return counted;
+    }
+    // As heap::check, of the heap of one part: TLSF_STALE also where there is no such part.
+    [[nodiscard]] std::uint32_t check(std::uint32_t part, std::uint32_t from, std::uint32_t most, std::uint32_t &next,
+                                      std::uint32_t &damaged) const noexcept {
+        return state_ ? tlsf_pools_check(state_.raw(), part, from, most, &next, &damaged) : detail::closed;
     }
 };
 

@@ -1,4 +1,5 @@
-// The calls of peachanchor.h as members of tlsf::heap, and that what looks takes a heap, a block, an arena or pools that may not be changed.
+// The calls of peachanchor.h as members of tlsf::heap, and counts and check of tlsf::pools. What looks takes a heap, a block, an arena or
+// pools that may not be changed.
 #include "tlsf.hpp"
 
 #include <cstdint>
@@ -79,9 +80,37 @@ void looks(const tlsf::heap &heap, const tlsf::block &block, const tlsf::offsets
     wants("its payload", *static_cast<const std::uint8_t *>(block.data()), 0);
     wants("spans", arena.report().spans, 1);
     wants("a part of pools", pools.report(0)->live_blocks, 1);
+    wants("a row of pools", pools.counts(0)->held, 1);
+    wants("as many as may be", pools.counts(0)->most, 2);
+    wants("no second row", pools.counts(1).has_value(), 0);
     wants("a byte there", pools.read(name, 3, &out, 1), TLSF_OK);
     wants("it", out, 7);
     wants("far past the end", pools.read(name, far, &out, 1), TLSF_RANGE);
+}
+
+// The same of pools, whose second part is sound all the while.
+void checked_pools(tlsf::level level) {
+    const tlsf_kind rows[] = {{2, 16}, {1, 4000}};
+    tlsf::pools pools(level, 7, rows, 2);
+    const tlsf::pools &looked_at = pools;
+    std::uint32_t next = 9, damaged = 9, number = 0;
+    std::uint64_t *base = nullptr;
+    tlsf_name first{}, second{};
+    wants("a block of pools", pools.allocate(16, first), TLSF_OK);
+    wants("one after it", pools.allocate(16, second), TLSF_OK);
+    wants("where they lie", tlsf_pools_part(pools.get(), 0, &base, &number), TLSF_OK);
+    wants("check of one of pools", looked_at.check(0, first.at, 1, next, damaged), TLSF_OK);
+    wants("on to the other", next, second.at);
+    wants("check of all of a part", looked_at.check(0, 0, 9, next, damaged), TLSF_OK);
+    wants("the last of them", next, 0);
+    base[second.at + 2] = UINT64_MAX;
+    wants("check of a damaged part", looked_at.check(0, 0, 9, next, damaged), TLSF_DAMAGED);
+    wants("where it is", damaged, second.at);
+    wants("check of the other part", looked_at.check(1, 0, 9, next, damaged), TLSF_OK);
+    wants("check where none begins", looked_at.check(1, 1, 9, next, damaged), TLSF_STALE);
+    wants("check of no part", looked_at.check(2, 0, 9, next, damaged), TLSF_STALE);
+    wants("counts beside it", looked_at.counts(0)->held, 2);
+    wants("of the row of the other part", looked_at.counts(1)->held, 0);
 }
 
 void looked_at(tlsf::heap &heap) {
@@ -101,6 +130,7 @@ void looked_at(tlsf::heap &heap) {
 void closed() {
     tlsf::heap heap;
     const tlsf::heap &looked_at = heap;
+    const tlsf::pools pools;
     std::uint8_t byte = 9;
     std::uint32_t next = 9, damaged = 9;
     const tlsf_name name{};
@@ -113,6 +143,8 @@ void closed() {
     wants("report", looked_at.report().free_words, 0);
     wants("check", looked_at.check(0, 1, next, damaged), TLSF_IS_CLOSED);
     wants("payload", looked_at.payload(name) == nullptr, 1);
+    wants("counts of pools", pools.counts(0).has_value(), 0);
+    wants("check of pools", pools.check(0, 0, 1, next, damaged), TLSF_IS_CLOSED);
     wants("nothing is written", byte == 9 && next == 9 && damaged == 9, 1);
 }
 
@@ -125,6 +157,7 @@ int main() {
         by_name(heap);
         checked(heap);
         looked_at(heap);
+        checked_pools(level);
         wants("all is back", heap.report().live_blocks, 0);
     }
     closed();

@@ -75,7 +75,7 @@ pub use level::Level;
 pub use name::Name;
 pub use offsets::{Offsets, Span, Usage};
 #[cfg(feature = "malloc")]
-pub use pools::{Kind, Pools};
+pub use pools::{Kind, Pools, RowCounts};
 pub use post_end::PostEnd;
 pub use queue::{Poster, Queue};
 pub use region::Region;

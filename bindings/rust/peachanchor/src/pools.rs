@@ -3,7 +3,7 @@ use crate::{Error, Level, Name, Report};
 use peachanchor_sys::{self as sys, tlsf_kind, tlsf_pools};
 
 mod kind;
-pub use kind::Kind;
+pub use kind::{Kind, RowCounts};
 
 /// Rows of a table, at most.
 const ROWS: usize = 64;
@@ -132,6 +132,55 @@ impl Pools {
         Error::check(unsafe { sys::tlsf_pools_report(self.handle.get(), part, &mut report) })?;
         Ok(report.into())
     }
+
+    /// How many blocks are held of a row, by its number in the table from 0 on, and how many may be. It takes the same time
+    /// however many are held.
+    ///
+    /// # Errors
+    ///
+    /// [`Error::Stale`] where the table has no such row.
+    ///
+    /// ```
+    /// use peachanchor::{Error, Kind, Level, Pools, RowCounts};
+    /// let mut pools = Pools::open(Level::Four, 1, &[Kind { most: 2, len: 64 }])?;
+    /// pools.allocate(10)?;
+    /// assert_eq!(pools.counts(0)?, RowCounts { held: 1, most: 2 });
+    /// assert_eq!(pools.counts(1), Err(Error::Stale));
+    /// # Ok::<(), peachanchor::Error>(())
+    /// ```
+    pub fn counts(&self, row: u32) -> Result<RowCounts, Error> {
+        let mut counts = RowCounts { held: 0, most: 0 };
+        // SAFETY: rules 1 and 3: both numbers lie on this stack.
+        let answer = unsafe { sys::tlsf_pools_counts(self.handle.get(), row, &mut counts.held, &mut counts.most) };
+        Error::check(answer)?;
+        Ok(counts)
+    }
+
+    /// Looks whether all headers of one part agree, as [`Heap::check`](crate::Heap::check) does of a heap. The part has the number
+    /// that it has for [`report`](Self::report). The time grows with its blocks.
+    ///
+    /// # Errors
+    ///
+    /// [`Error::Stale`] where there is no such part; [`Error::Damaged`]: only [`drop`] is then to be called.
+    ///
+    /// ```
+    /// use peachanchor::{Error, Kind, Level, Pools};
+    /// let pools = Pools::open(Level::Four, 1, &[Kind { most: 2, len: 64 }])?;
+    /// assert_eq!((pools.check(0), pools.check(1)), (Ok(()), Err(Error::Stale)));
+    /// # Ok::<(), peachanchor::Error>(())
+    /// ```
+    pub fn check(&self, part: u32) -> Result<(), Error> {
+        let (mut from, mut next, mut damaged) = (0, 0, 0);
+        loop {
+            // SAFETY: rules 1 and 3: both numbers lie on this stack.
+            let answer = unsafe { sys::tlsf_pools_check(self.handle.get(), part, from, 1024, &mut next, &mut damaged) };
+            Error::check(answer)?;
+            if next == 0 {
+                return Ok(());
+            }
+            from = next;
+        }
+    }
 }
 
 impl Drop for Pools {
@@ -140,5 +189,28 @@ impl Drop for Pools {
         if unsafe { sys::tlsf_pools_close(self.handle.get()) } != sys::TLSF_OK {
             self.handle.keep();
         }
+    }
+}
+
+#[cfg(test)]
+mod tests {
+    use super::{sys, Error, Kind, Level, Pools};
+
+    // More blocks than one call of a check looks at. No pointer of a safe call reaches a payload here, so the handle tells where it is.
+    #[test]
+    fn an_overrun_is_told_in_its_part() {
+        const MANY: u32 = 3000;
+        let table = [Kind { most: MANY, len: 16 }, Kind { most: 1, len: 100_000 }];
+        let mut pools = Pools::open(Level::Four, 1, &table).unwrap();
+        let last = (0..MANY).map(|_| pools.allocate(16).unwrap()).last().unwrap();
+        pools.allocate(100_000).unwrap();
+        assert_eq!([0, 1, 2].map(|part| pools.check(part)), [Ok(()), Ok(()), Err(Error::Stale)]);
+        let (mut base, mut number) = (core::ptr::null_mut(), 0);
+        // SAFETY: none: it is what `check` has to tell.
+        unsafe {
+            assert_eq!(sys::tlsf_pools_part(pools.handle.get(), 0, &mut base, &mut number), sys::TLSF_OK);
+            base.add(last.0.at as usize + 2).write(u64::MAX);
+        }
+        assert_eq!([0, 1].map(|part| pools.check(part)), [Err(Error::Damaged), Ok(())]);
     }
 }

@@ -58,7 +58,7 @@ fn arenas_out_of_range_are_refused() {
 
 #[cfg(feature = "malloc")]
 mod pools {
-    use peachanchor::{Error, Heap, Kind, Level, Pools};
+    use peachanchor::{Error, Heap, Kind, Level, Pools, RowCounts};
     use std::thread;
 
     const TABLE: [Kind; 2] = [Kind { most: 3, len: 64 }, Kind { most: 1, len: 3000 }];
@@ -81,6 +81,21 @@ mod pools {
             pools.release(name).unwrap();
         }
         assert_eq!(live(&pools), 0);
+    }
+
+    #[test]
+    fn rows_are_counted() {
+        let mut pools = Pools::open(Level::Five, 1, &TABLE).unwrap();
+        let names: Vec<_> = [1, 64].map(|len| pools.allocate(len).unwrap()).into();
+        assert_eq!(pools.counts(0), Ok(RowCounts { held: 2, most: 3 }));
+        assert_eq!(pools.counts(1), Ok(RowCounts { held: 0, most: 1 }));
+        let long = pools.allocate(65).unwrap();
+        pools.release(names[0]).unwrap();
+        assert_eq!(pools.counts(0), Ok(RowCounts { held: 1, most: 3 }));
+        assert_eq!(pools.counts(1), Ok(RowCounts { held: 1, most: 1 }));
+        pools.release(long).unwrap();
+        assert_eq!(pools.counts(1).map(|it| it.held), Ok(0));
+        assert_eq!([2, 64, u32::MAX].map(|row| pools.counts(row).err()), [Some(Error::Stale); 3]);
     }
 
     #[test]
