@@ -12,6 +12,12 @@ is_arena_used None = false
 is_arena_used (Some (Offsets in_use o)) = in_use
 is_arena_used (Some (Pools in_use p)) = in_use
 
+-- the same arena, that a call is using
+abbrev pub left_used_arena : Option AnyArena → Option AnyArena
+left_used_arena None = None
+left_used_arena (Some (Offsets in_use o)) = Some (Offsets true o)
+left_used_arena (Some (Pools in_use p)) = Some (Pools true p)
+
 abbrev pub is_offsets : Option AnyArena → Bool
 is_offsets None = false
 is_offsets (Some (Offsets in_use o)) = true

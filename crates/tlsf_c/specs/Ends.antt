@@ -8,6 +8,7 @@ use Rattle.tlsf_post.specs.declared.take_end.TakeEnd.{TakeEnd}
 use Rattle.tlsf_post.specs.declared.poster_end.PosterEnd.{PosterEnd}
 use Rattle.tlsf_c.specs.declared.any_end.AnyEnd.{AnyEnd, AnyEnd-F as KindsOf, out-AnyEnd as as_kind}
 use Rattle.tlsf_c.specs.declared.any_end.AnyEnd.TheOpen as end
+use Rattle.tlsf_c.specs.declared.any_end.AnyEnd.TheVariants as any
 use Rattle.tlsf_c.specs.declared.any_end.AnyEnd.TheVariants.{Poster}
 use Rattle.tlsf_c.specs.declared.queue_end.QueueEnd.{QueueEnd}
 
@@ -51,6 +52,17 @@ used_kind (end.Poster in_use p) = in_use
 abbrev pub is_used : Option AnyEnd → Bool
 is_used None = false
 is_used (Some e) = used_kind (as_kind e)
+
+-- the same end, that a call is using
+abbrev pub used_as : Kinds → AnyEnd
+used_as (end.Post in_use p) = any.Post true p
+used_as (end.Take in_use t) = any.Take true t
+used_as (end.Queue in_use q) = any.Queue true q
+used_as (end.Poster in_use p) = any.Poster true p
+
+abbrev pub left_used : Option AnyEnd → Option AnyEnd
+left_used None = None
+left_used (Some e) = Some (used_as (as_kind e))
 
 -- the end of a lane that puts names in, if it is one
 abbrev pub post_of_end : Option AnyEnd → Option PostEnd

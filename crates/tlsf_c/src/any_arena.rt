@@ -1,6 +1,6 @@
 //! The content of an arena's handle.
 ghost use Rattle.std.specs.Prelude.{◌≡◌, Some};
-ghost use Rattle.tlsf_c.specs.Arenas.{is_arena_used, is_offsets, is_pools};
+ghost use Rattle.tlsf_c.specs.Arenas.{is_arena_used, left_used_arena, is_offsets, is_pools};
 
 use crate::any_offsets::AnyOffsets;
 use crate::any_pools::AnyPools;
@@ -20,6 +20,16 @@ impl AnyArena {
     {
         match self {
             AnyArena::Offsets { is_in_use, .. } | AnyArena::Pools { is_in_use, .. } => *is_in_use,
+        }
+    }
+
+    /// Notes that a call is using it.
+    pub fn set_in_use(&mut self)
+        ensures { Some self.new ≡ left_used_arena (Some self.old) }
+    {
+        match self {
+            AnyArena::Offsets { is_in_use, .. } => *is_in_use = true,
+            AnyArena::Pools { is_in_use, .. } => *is_in_use = true,
         }
     }
 

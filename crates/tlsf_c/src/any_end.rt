@@ -1,6 +1,6 @@
 //! The content of an end's handle.
 ghost use Rattle.std.specs.Prelude.{◌≡◌, is_some, Some};
-ghost use Rattle.tlsf_c.specs.Ends.{is_used, post_of_end, take_of_end, queue_of_end, poster_of_end};
+ghost use Rattle.tlsf_c.specs.Ends.{is_used, left_used, post_of_end, take_of_end, queue_of_end, poster_of_end};
 
 use crate::queue_end::QueueEnd;
 use tlsf_post::{PostEnd, PosterEnd, TakeEnd};
@@ -27,6 +27,18 @@ impl AnyEnd {
             | AnyEnd::Take { is_in_use, .. }
             | AnyEnd::Queue { is_in_use, .. }
             | AnyEnd::Poster { is_in_use, .. } => *is_in_use,
+        }
+    }
+
+    /// Notes that a call is using it.
+    pub fn set_in_use(&mut self)
+        ensures { Some self.new ≡ left_used (Some self.old) }
+    {
+        match self {
+            AnyEnd::Post { is_in_use, .. } => *is_in_use = true,
+            AnyEnd::Take { is_in_use, .. } => *is_in_use = true,
+            AnyEnd::Queue { is_in_use, .. } => *is_in_use = true,
+            AnyEnd::Poster { is_in_use, .. } => *is_in_use = true,
         }
     }
 

@@ -16,7 +16,7 @@ pub struct ArenaSlot {
 }
 
 impl ArenaSlot {
-    ghost use Rattle.tlsf_c.specs.Arenas.{is_arena_used};
+    ghost use Rattle.tlsf_c.specs.Arenas.{is_arena_used, left_used_arena};
     ghost use Rattle.tlsf_c.specs.Serving.{arena_serves};
 
     /// Whether it is open, and no call is using it.
@@ -31,15 +31,17 @@ impl ArenaSlot {
     }
 
     /// Takes out what is there, and leaves the place closed. A place that is closed or in use stays as it is: a signal handler interrupts
-    /// the call that uses it.
+    /// the call that uses it. The arena that is taken out says that a call is using it. So a copy of the place is refused as long as
+    /// that memory has no other use.
     pub fn take_out(&mut self, alloc: Global) -> Option<Box<AnyArena, Global>>
         ensures closed { arena_serves self.new ≡ false }
         ensures none { result ≡ None → (arena_serves self.old ≡ false) × (self.new ≡ self.old) }
-        ensures some { (b : _) → result ≡ Some b → (arena_serves self.old ≡ true) × (self.new.is_open ≡ false) × (self.old.inner.value ≡ Some b.value) }
+        ensures some { (b : _) → result ≡ Some b → (arena_serves self.old ≡ true) × (self.new.is_open ≡ false) × (Some b.value ≡ left_used_arena self.old.inner.value) }
     {
         if !self.serves() {
             return None;
         }
+        self.inner.lend().set_in_use();
         let nowhere: *mut u8 = ptr::null_mut();
         let ArenaSlot { inner, .. } = mem::replace(
             self,

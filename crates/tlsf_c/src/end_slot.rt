@@ -16,7 +16,7 @@ pub struct EndSlot {
 }
 
 impl EndSlot {
-    ghost use Rattle.tlsf_c.specs.Ends.{is_used};
+    ghost use Rattle.tlsf_c.specs.Ends.{is_used, left_used};
     ghost use Rattle.tlsf_c.specs.Handles.{end_serves};
 
     /// Whether it is open, and no call is using it.
@@ -31,15 +31,17 @@ impl EndSlot {
     }
 
     /// Takes out what is there, and leaves the place closed. A place that is closed or in use stays as it is: a signal handler interrupts
-    /// the call that uses it.
+    /// the call that uses it. The end that is taken out says that a call is using it. So a copy of the place is refused as long as
+    /// that memory has no other use.
     pub fn take_out(&mut self, alloc: Global) -> Option<Box<AnyEnd, Global>>
         ensures closed { end_serves self.new ≡ false }
         ensures none { result ≡ None → (end_serves self.old ≡ false) × (self.new ≡ self.old) }
-        ensures some { (b : _) → result ≡ Some b → (end_serves self.old ≡ true) × (self.new.is_open ≡ false) × (self.old.inner.value ≡ Some b.value) }
+        ensures some { (b : _) → result ≡ Some b → (end_serves self.old ≡ true) × (self.new.is_open ≡ false) × (Some b.value ≡ left_used self.old.inner.value) }
     {
         if !self.serves() {
             return None;
         }
+        self.inner.lend().set_in_use();
         let nowhere: *mut u8 = ptr::null_mut();
         let EndSlot { inner, .. } = mem::replace(
             self,
