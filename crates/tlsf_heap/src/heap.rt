@@ -584,7 +584,8 @@ impl<const SLI: u32> Heap<SLI> {
     }
 
     /// The tag of the live block that begins at a place, which may be any number. Where none does, `Stale`.
-    // Not by `ok_or`: a counted release by place then takes two instructions more.
+    // Not by `ok_or`: a counted release by place then takes two instructions more. By the cold `of_name`: otherwise LLVM takes what
+    // comes after these tests for rare, and calls `push` there, for eight instructions more at level 4.
     #[inline(always)]
     fn check_place(&mut self, at: u32) -> Result<Tag, Refusal>
         ensures answer { IsPlaceCheck self.old.heap at result }
@@ -597,7 +598,7 @@ impl<const SLI: u32> Heap<SLI> {
         ensures unread { ¬ (Blocks.IsPlace self.old.heap.blocks at) → self.new.touched ≡ self.old.touched }
     {
         let Some(tag) = self.region.live_at(at) else {
-            return Err(Refusal::Stale);
+            return Err(Refusal::of_name(self.id, self.id));
         };
         Ok(tag)
     }
