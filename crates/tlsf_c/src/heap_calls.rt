@@ -164,7 +164,7 @@ pub extern "C" fn tlsf_allocate(heap: &mut HeapSlot, len: usize, name: &mut Bloc
     ensures allocates { serves heap.old ≡ true → Allocates (allocate_touches + 1) (level_in heap.old) (want (saturated len)) (saturated len) (seen_in heap.old) (seen_in heap.new) (allocated (level_in heap.old) (heap_in heap.old) (saturated len)).answer }
 {
     if !heap.serves() {
-        return CallFault::Closed.number();
+        return CallFault::Closed.refusal();
     }
     let len = saturated(len);
     let held = heap.inner.lend();
@@ -207,7 +207,7 @@ pub(crate) fn release_named(heap: &mut HeapSlot, number: u32, serial: u64, at: u
     ensures { ReleasesIn heap.old heap.new (named number at serial) result }
 {
     if !heap.serves() {
-        return CallFault::Closed.number();
+        return CallFault::Closed.refusal();
     }
     let name = Name {
         heap: number,

@@ -127,7 +127,7 @@ pub extern "C" fn tlsf_release_place(heap: &mut HeapSlot, at: u32) -> u32
     ensures leaves_all { serves heap.old ≡ true → ¬ (result ≡ 0) → LeavesLive (heap_in heap.old).blocks (touched_in heap.old) (touched_in heap.new) }
 {
     if !heap.serves() {
-        return CallFault::Closed.number();
+        return CallFault::Closed.refusal();
     }
     let held = heap.inner.lend();
     held.is_in_use = true;
@@ -170,7 +170,7 @@ pub extern "C" fn tlsf_resize_place(
     ensures leaves_all { serves heap.old ≡ true → ¬ (result ≡ 0) → LeavesLive (heap_in heap.old).blocks (touched_in heap.old) (touched_in heap.new) }
 {
     if !heap.serves() {
-        return CallFault::Closed.number();
+        return CallFault::Closed.refusal();
     }
     let len = saturated(len);
     let held = heap.inner.lend();
