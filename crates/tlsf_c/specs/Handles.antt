@@ -62,14 +62,22 @@ touched_in h = h.inner.value.heap.touched
 abbrev pub counts_in : HeapSlot → HeapCounts
 counts_in h = h.inner.value.heap.counts
 
--- an open handle serves again, and its number, its region's address and a note of an odd block stay. Its heap keeps its level and its
--- memory, and touches never fall
-pub record StaysOpen (old new : HeapSlot) : Type 0 where
+-- an open handle serves again, and its number and its region's address stay. Its heap keeps its level and its memory, and touches
+-- never fall. Of a note of an odd block `noted` says what becomes of it
+pub record StaysOpenBut (noted : Bool → Bool → Type 0) (old new : HeapSlot) : Type 0 where
   pub serves : serves new ≡ true
   pub heap : GoesOn old.inner.value.heap new.inner.value.heap
   pub base : new.base ≡ old.base
   pub number : new.number ≡ old.number
-  pub mixed : old.is_mixed ≡ true → new.is_mixed ≡ true
+  pub mixed : noted old.is_mixed new.is_mixed
+
+-- so, and the note is as before
+abbrev pub StaysOpen : HeapSlot → HeapSlot → Type 0
+StaysOpen old new = StaysOpenBut (λ was is. is ≡ was) old new
+
+-- so, and an odd block may be noted
+abbrev pub MayNote : HeapSlot → HeapSlot → Type 0
+MayNote old new = StaysOpenBut (λ was is. was ≡ true → is ≡ true) old new
 
 -- a release of this name is answered so: a handle that serves none stays as it is, and the heap of another one releases
 pub record ReleasesIn (old new : HeapSlot) (name : Name) (answer : ℕ) : Type 0 where

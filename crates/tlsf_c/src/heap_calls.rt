@@ -16,7 +16,7 @@ ghost use Rattle.tlsf_heap.specs.WordsInUse.{words_in_use};
 ghost use Rattle.tlsf_c.specs.Counting.{no_counts, counted, counted_request, counted_move};
 ghost use Rattle.tlsf_c.specs.Lengths.{saturated};
 ghost use Rattle.tlsf_c.specs.Names.{name_of, named, report_in};
-ghost use Rattle.tlsf_c.specs.Handles.{address_in, counts_in, heap_in, seen_in, level_in, touches_in, touched_in, ReleasesIn, StaysOpen, serves};
+ghost use Rattle.tlsf_c.specs.Handles.{address_in, counts_in, heap_in, seen_in, level_in, touches_in, touched_in, MayNote, ReleasesIn, StaysOpen, serves};
 ghost use Rattle.tlsf_c.specs.Refusals.{status_of, bad_size, no_memory, closed, in_use, bad_level};
 
 use crate::any_heap::AnyHeap;
@@ -153,7 +153,7 @@ pub extern "C" fn tlsf_close(alloc: Global, heap: &mut HeapSlot) -> u32
 #[unsafe(no_mangle)]
 pub extern "C" fn tlsf_allocate(heap: &mut HeapSlot, len: usize, name: &mut BlockName) -> u32
     ensures closed { serves heap.old ≡ false → (result ≡ closed) × (heap.new ≡ heap.old) }
-    ensures open { serves heap.old ≡ true → StaysOpen heap.old heap.new }
+    ensures open { serves heap.old ≡ true → MayNote heap.old heap.new }
     ensures status { serves heap.old ≡ true → result ≡ status_of (allocated (level_in heap.old) (heap_in heap.old) (saturated len)).answer }
     ensures name { serves heap.old ≡ true → result ≡ 0 → (allocated (level_in heap.old) (heap_in heap.old) (saturated len)).answer ≡ Ok (name_of name.new) }
     ensures no_name { ¬ (result ≡ 0) → name.new ≡ name.old }
@@ -265,7 +265,7 @@ pub extern "C" fn tlsf_reset(heap: &mut HeapSlot) -> u32
 #[unsafe(no_mangle)]
 pub extern "C" fn tlsf_resize(heap: &mut HeapSlot, name: BlockName, len: usize) -> u32
     ensures closed { serves heap.old ≡ false → (result ≡ closed) × (heap.new ≡ heap.old) }
-    ensures open { serves heap.old ≡ true → StaysOpen heap.old heap.new }
+    ensures open { serves heap.old ≡ true → MayNote heap.old heap.new }
     ensures status { serves heap.old ≡ true → result ≡ status_of (resized (heap_in heap.old) (name_of name) (saturated len)).answer }
     ensures mixed { serves heap.old ≡ true → result ≡ 0 → want (saturated len) % 2 ≡ 1 → heap.new.is_mixed ≡ true }
     ensures not_mixed { ¬ (want (saturated len) % 2 ≡ 1) → heap.new.is_mixed ≡ heap.old.is_mixed }
@@ -303,7 +303,7 @@ pub extern "C" fn tlsf_resize(heap: &mut HeapSlot, name: BlockName, len: usize) 
 #[unsafe(no_mangle)]
 pub extern "C" fn tlsf_reallocate(heap: &mut HeapSlot, name: &mut BlockName, len: usize) -> u32
     ensures closed { serves heap.old ≡ false → (result ≡ closed) × (heap.new ≡ heap.old) }
-    ensures open { serves heap.old ≡ true → StaysOpen heap.old heap.new }
+    ensures open { serves heap.old ≡ true → MayNote heap.old heap.new }
     ensures status { serves heap.old ≡ true → result ≡ status_of (resized_or_moved (level_in heap.old) (heap_in heap.old) (name_of name.old) (saturated len)).answer }
     ensures name { serves heap.old ≡ true → result ≡ 0 → (resized_or_moved (level_in heap.old) (heap_in heap.old) (name_of name.old) (saturated len)).answer ≡ Ok (name_of name.new) }
     ensures no_name { ¬ (result ≡ 0) → name.new ≡ name.old }

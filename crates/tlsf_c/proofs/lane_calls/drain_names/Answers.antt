@@ -24,7 +24,7 @@ loop-left-preserved c =
       };
       base = gone.open.base ∙ i.base;
       number = gone.open.number ∙ i.number;
-      mixed = λ is. gone.open.mixed (i.mixed is);
+      mixed = gone.open.mixed ∙ i.mixed;
       few = omega (arith, i.few, c.left_after-left.ensures.most);
       ended = λ lt. elim (cases_lt c.take_slice-came.result c.min-wanted.result) [
         | inl fewer ↦ omega (arith, i.ready, still, many, ap length (took.left (omega (arith, fewer, c.split_at_mut-places.ensures.front_len))).0)

@@ -8,7 +8,7 @@ invariant-loop-left l = record {
   goes_on : GoesOn l.fn.heap.inner.value.heap l.heap.inner.value.heap;
   base : l.heap.base ≡ l.fn.heap.base;
   number : l.heap.number ≡ l.fn.heap.number;
-  mixed : l.fn.heap.is_mixed ≡ true → l.heap.is_mixed ≡ true;
+  mixed : l.heap.is_mixed ≡ l.fn.heap.is_mixed;
   few : l.count + l.left ≤ l.most;
   ended : l.count + l.left < l.most → length (ready l.fn.end) ≤ l.count;
   no_counts : l.count ≡ 0 → counts_in l.heap ≡ counts_in l.fn.heap;

@@ -7,7 +7,7 @@ invariant-loop-post l = record {
   goes_on : GoesOn l.fn.heap.inner.value.heap l.heap.inner.value.heap;
   base : l.heap.base ≡ l.fn.heap.base;
   number : l.heap.number ≡ l.fn.heap.number;
-  mixed : l.fn.heap.is_mixed ≡ true → l.heap.is_mixed ≡ true;
+  mixed : l.heap.is_mixed ≡ l.fn.heap.is_mixed;
   no_counts : l.post-index ≡ 0 → counts_in l.heap ≡ counts_in l.fn.heap;
   counts : 0 < l.post-index → counts_in l.heap ≡ record (counts_in l.fn.heap) { words = words_in_use (heap_in l.heap) };
   drained : heap_in l.heap ≡ drained (heap_in l.fn.heap) (take l.post-index l.posts);

@@ -9,7 +9,7 @@ invariant-loop-left l = record {
   goes_on : GoesOn l.fn.heap.inner.value.heap l.heap.inner.value.heap;
   base : l.heap.base ≡ l.fn.heap.base;
   number : l.heap.number ≡ l.fn.heap.number;
-  mixed : l.fn.heap.is_mixed ≡ true → l.heap.is_mixed ≡ true;
+  mixed : l.heap.is_mixed ≡ l.fn.heap.is_mixed;
   few : l.count + l.left ≤ l.most;
   kept : KeepsOwner l.fn.end.owner l.end.owner;
   left : left_in_end l.end ≡ left_in_end l.fn.end;
