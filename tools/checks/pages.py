@@ -73,7 +73,7 @@ class Page(prose.Text):
 
 class Repository:
     def __init__(self):
-        files = [it for it in tree.TOP.rglob("*") if not MADE.search(it.relative_to(tree.TOP).as_posix())]
+        files = list(tree.entries(tree.TOP))
         self.files = [it for it in files if it.is_file()]
         self.names = {it.name for it in files}
         self.pages = {it: Page(it) for it in self.files if it.suffix == ".md"}

@@ -9,8 +9,8 @@ MOST_EXAMPLE_LINES = 99
 
 
 def files():
-    found = [it for it in (tree.TOP / "crates").rglob("*") if it.suffix in (".rt", ".antt") and it.is_file()]
-    return [it for it in found if "out" not in it.relative_to(tree.TOP).parts] + sorted(tree.RATTLE_TESTS.rglob("*.source"))
+    found = [it for it in tree.entries(tree.TOP / "crates") if it.suffix in (".rt", ".antt") and it.is_file()]
+    return found + sorted(tree.RATTLE_TESTS.rglob("*.source"))
 
 
 def faults():
