@@ -20,8 +20,8 @@
  *   for the `damaged` of a check. It changes nothing but what tlsf_counts tells; only one that is made of several proved calls
  *   may take ticks besides. The compiler warns where an answer is ignored, except for calls that close, free, release or drain.
  * Time: only reports, tlsf_check, tlsf_pools_check, tlsf_reset, tlsf_drain, tlsf_queue_drain, tlsf_put_all and tlsf_take_all, opening,
- *   tlsf_pools_words and tlsf_pools_bytes, closing a queue, what finds the part of a pointer or a row of pools, eight at most, and what
- *   fills or copies payload run a loop. Only opening takes memory, and only closing gives it back. No call waits, locks or makes a system
+ *   tlsf_pools_words and tlsf_pools_bytes, closing a queue, what finds a part of pools, eight at most, or the row of a length, 64 at
+ *   most, and what fills or copies payload run a loop. Only opening takes memory, and only closing gives it back. No call waits, locks or makes a system
  *   call, except as malloc and free do.
  *
  * WHAT THE CALLER OWES. Nothing checks these rules, and the proofs rest on them.

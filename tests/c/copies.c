@@ -1,5 +1,5 @@
 /* A copy of a handle is refused by each call once the heap, the end or the arena was closed by the other one, as long as the memory of
- * its own fields has no other use. The copy lies as it lay, and nothing in that memory is touched. COPIES LEVEL */
+ * what it led to has no other use. The copy lies as it lay, and nothing in that memory is touched. COPIES LEVEL */
 #include "peachanchor.h"
 
 #include <stdio.h>
@@ -122,6 +122,10 @@ static void pools_are_refused(struct tlsf_pools *copy, struct tlsf_name name) {
     wants("pools_place", tlsf_pools_place(copy, 0, 0, &own, &a), TLSF_IS_CLOSED);
     wants("pools_row", tlsf_pools_row(copy, 8, &a), TLSF_IS_CLOSED);
     wants("pools_malloc", tlsf_pools_malloc(copy, 8) == NULL, 1);
+    wants("pools_name_at", tlsf_pools_name_at(copy, memory, &own), TLSF_IS_CLOSED);
+    void *volatile const p = memory + 64; /* gcc would warn of it in plain sight */
+    wants("pools_realloc", tlsf_pools_realloc(copy, p, 8) == NULL, 1);
+    wants("pools_free", tlsf_pools_free(copy, p), TLSF_IS_CLOSED);
     wants("a second close", tlsf_pools_close(copy), TLSF_IS_CLOSED);
 }
 
@@ -139,8 +143,12 @@ static void of_a_lane(void) {
     wants("the copy of a take end serves", tlsf_take(&take_copy, &name), TLSF_OK);
     wants("take_close", tlsf_take_close(&take), TLSF_OK);
     memcpy(after, memory, sizeof memory);
+    const struct tlsf_post_end post_before = post_copy;
+    const struct tlsf_take_end take_before = take_copy;
     post_is_refused(&post_copy);
     take_is_refused(&take_copy);
+    wants("the copy of a post end as before", memcmp(&post_copy, &post_before, sizeof post_copy) == 0, 1);
+    wants("the copy of a take end as before", memcmp(&take_copy, &take_before, sizeof take_copy) == 0, 1);
     wants("the lane's memory as before", memcmp(memory, after, sizeof memory) == 0, 1);
 }
 
@@ -158,8 +166,12 @@ static void of_a_queue(void) {
     wants("the copy of a queue serves", tlsf_queue_take(&queue_copy, &name), TLSF_OK);
     wants("queue_close", tlsf_queue_close(&queue), TLSF_OK);
     memcpy(after, memory, sizeof memory);
+    const struct tlsf_poster poster_before = poster_copy;
+    const struct tlsf_queue queue_before = queue_copy;
     poster_is_refused(&poster_copy);
     queue_is_refused(&queue_copy);
+    wants("the copy of a poster as before", memcmp(&poster_copy, &poster_before, sizeof poster_copy) == 0, 1);
+    wants("the copy of a queue as before", memcmp(&queue_copy, &queue_before, sizeof queue_copy) == 0, 1);
     wants("the queue's memory as before", memcmp(memory, after, sizeof memory) == 0, 1);
 }
 
@@ -171,7 +183,9 @@ static void of_offsets(uint32_t level) {
     wants("the copy of an arena serves", tlsf_offsets_allocate(&copy, 8, &span), TLSF_OK);
     wants("offsets_close", tlsf_offsets_close(&offsets), TLSF_OK);
     memcpy(after, memory, sizeof memory);
+    const struct tlsf_offsets before = copy;
     offsets_are_refused(&copy, span);
+    wants("the copy of an arena as before", memcmp(&copy, &before, sizeof copy) == 0, 1);
     wants("the arena's memory as before", memcmp(memory, after, sizeof memory) == 0, 1);
 }
 
@@ -184,7 +198,9 @@ static void of_pools(uint32_t level) {
     wants("the copy of pools serves", tlsf_pools_allocate(&copy, 16, &name), TLSF_OK);
     wants("pools_close", tlsf_pools_close(&pools), TLSF_OK);
     memcpy(after, memory, sizeof memory);
+    const struct tlsf_pools before = copy;
     pools_are_refused(&copy, name);
+    wants("the copy of pools as before", memcmp(&copy, &before, sizeof copy) == 0, 1);
     wants("the pools' memory as before", memcmp(memory, after, sizeof memory) == 0, 1);
 }
 

@@ -88,7 +88,7 @@ void looks(const tlsf::heap &heap, const tlsf::block &block, const tlsf::offsets
     wants("far past the end", pools.read(name, far, &out, 1), TLSF_RANGE);
 }
 
-// The same of pools, whose second part is sound all the while.
+// An overrun in pools is told of its own part; the second part is sound all the while.
 void checked_pools(tlsf::level level) {
     const tlsf_kind rows[] = {{2, 16}, {1, 4000}};
     tlsf::pools pools(level, 7, rows, 2);
