@@ -1,5 +1,5 @@
 //! Pools whose level is told when they are opened.
-ghost use Rattle.std.specs.Prelude.{◌≡◌, ◌+◌, ◌<◌, ◌≤◌, ◌^◌, ◌↔◌, None, length, IfOk, IfErr, IfSome, IsErrOf, ◌≢◌};
+ghost use Rattle.std.specs.Prelude.{◌≡◌, ◌+◌, ◌<◌, ◌≤◌, ◌^◌, ◌↔◌, None, length, IfOk, IfSome, IsErrOf};
 ghost use Rattle.tlsf_pool.specs.sizes.Rising.{HasNoHeaps};
 ghost use Rattle.tlsf_c.specs.PoolCalls.{AreNewPools, AllocatesInPools, ReleasesInPools, WritesInPools, ReadsInPools, ReportsInPools, ChecksInPools, LooksInPools};
 ghost use Rattle.tlsf_pool.specs.pools.Parts.{counts_at, part_at, table_of};

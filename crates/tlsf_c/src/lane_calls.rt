@@ -1,6 +1,5 @@
 //! C's calls of a lane: one thread puts names in, another takes them out.
-ghost use Rattle.std.specs.Prelude.{◌≡◌, ℕ, true, false, ◌+◌, ◌*◌, ◌-◌, ◌<◌, ◌≤◌, [], ◌∷◌, ◌++◌, List, Option, length, take, drop};
-ghost use mathlib.Core.List.{IsPrefix};
+ghost use Rattle.std.specs.Prelude.{◌≡◌, true, false, ◌+◌, ◌*◌, ◌-◌, ◌<◌, ◌≤◌, [], ◌∷◌, ◌++◌, List, Option, length, take, drop};
 ghost use Rattle.tlsf_post.specs.declared.post.Post.{Post};
 ghost use Rattle.tlsf_post.specs.declared.post_end.PostEnd.{PostEnd};
 ghost use Rattle.tlsf_post.specs.declared.take_end.TakeEnd.{TakeEnd};

@@ -1,7 +1,7 @@
 //! The owner's end of a queue, with the posters' ends that nobody was given yet.
-ghost use Rattle.std.specs.Prelude.{◌≡◌, ◌⊎◌, ◌+◌, ◌<◌, ◌≤◌, List, [], ◌∷◌, ◌++◌, map, length, true, false, None, All, IfOk, IfSome, IfErr, MatchResult};
+ghost use Rattle.std.specs.Prelude.{◌≡◌, ◌⊎◌, ◌+◌, ◌<◌, ◌≤◌, List, [], ◌∷◌, ◌++◌, map, length, false, None, All, IfOk, IfSome, IfErr, MatchResult};
 ghost use Rattle.tlsf_post.specs.declared.poster_end.PosterEnd.{PosterEnd};
-ghost use Rattle.tlsf_post.specs.Mailboxes.{number_of, put_by, owner_of, out_of, most_of, got_by, known_to, KeepsOwner, KeepsPoster, OwnerSaw, IsAllTaken, IsWhole};
+ghost use Rattle.tlsf_post.specs.Mailboxes.{put_by, owner_of, out_of, most_of, got_by, known_to, KeepsOwner, KeepsPoster, IsAllTaken, IsWhole};
 ghost use Rattle.tlsf_c.specs.Ends.{idle_poster, left_in_end, HasGiven, HasPut, WasFull};
 ghost use Rattle.tlsf_c.specs.declared.call_fault.CallFault.TheVariants.{Full, Empty, Busy};
 

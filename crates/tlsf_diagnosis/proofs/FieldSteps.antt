@@ -92,10 +92,6 @@ before_mark line field n start k is le =
     ∙ (ap spaces_in (take_at (is.front ++ take k field) (drop k field ++ is.more) (start + k) long)
     ∙ (spaces_both is.front (take k field) ∙ omega (arith, few_before field k is.none, is.spaces)))
 
-pub mark_within : (line field : List ℕ) (n start k : ℕ) → IsFieldAt line n start field → k ≤ length field → start + k ≤ length line
-mark_within line field n start k is le =
-    omega (arith, ap length is.line_is ∙ length-append (is.front ++ field) is.more, length-append is.front field, is.start_is, le)
-
 -- ---- a line feed
 
 fed_by : (t : Bool) (line front piece : List ℕ) → Some (fields_of line) ≡ cond t (Some (fields_of front)) None → line ≡ cond t front piece

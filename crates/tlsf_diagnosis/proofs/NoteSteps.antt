@@ -1,6 +1,6 @@
 -- The notes on a fault.
 use Rattle.tlsf_diagnosis.proofs.Common.{◌≡◌, ◌⊎◌, inl, inr, ℕ, List, Some, ap, arith, IsLineFault, fault_of, no_memory_fault, TraceFault}
-use Rattle.tlsf_diagnosis.specs.Notes.{Notes, NotesField}
+use Rattle.tlsf_diagnosis.specs.Notes.{Notes}
 use Rattle.tlsf_diagnosis.proofs.UnreadRuns.{in_no_line, other_number}
 
 -- a fault in a line is no lack of memory
@@ -21,12 +21,4 @@ nothing text fault old new known none same = record {
   line = λ of. absurd (in_no_line fault none of);
   limit = λ long. absurd (let no = other_number fault 6 15 (in_memory text fault known none) long in omega (arith, no));
   else = λ _ _. same;
-}
-
--- one in a line has
-pub in_line : (text : List ℕ) (fault : TraceFault) (old new : List ℕ) → (fault.line ≡ 0 → ⊥) → IsLineFault fault → NotesField text fault old new → Notes text fault old new
-in_line text fault old new some is noted = record {
-  line = λ _. noted;
-  limit = λ long. absurd (some (ap (λ (f : TraceFault). f.line) long));
-  else = λ no _. absurd (no is);
 }

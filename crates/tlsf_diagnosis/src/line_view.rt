@@ -1,5 +1,5 @@
 //! A line as it is shown: what isn't printable is escaped, and a long line is cut on both sides of its mark.
-ghost use Rattle.std.specs.Prelude.{◌≡◌, ◌≤◌, ◌<◌, ◌+◌, ◌-◌, ◌++◌, length, take, drop, replicate, min, string_bytes, IfOk, OnOk, if◌then◌else◌};
+ghost use Rattle.std.specs.Prelude.{◌≡◌, ◌≤◌, ◌<◌, ◌+◌, ◌-◌, ◌++◌, length, take, drop, replicate, min, string_bytes, IfOk, OnOk};
 ghost use Rattle.std.specs.List.{flat_map};
 ghost use Rattle.tlsf_diagnosis.specs.Shown.{ShowsAt, columns_in, dots_for, rows_text, shown_byte};
 

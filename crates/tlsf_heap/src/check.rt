@@ -1,6 +1,5 @@
 //! A check of blocks in words that may hold anything. No place is followed before its start bit was looked at.
-ghost use Rattle.std.specs.Prelude.{◌≡◌, ◌≢◌, ◌+◌, ◌*◌, ◌/◌, ◌^◌, ◌≤◌, ◌<◌, true, false, length, slice_index, MatchOption};
-ghost use Rattle.tlsf_words.specs.Fields.{size_in, back_in, free_in};
+ghost use Rattle.std.specs.Prelude.{◌≡◌, ◌+◌, ◌*◌, ◌/◌, ◌^◌, ◌≤◌, ◌<◌, true, false, length, slice_index, MatchOption};
 ghost use Rattle.tlsf_heap.specs.Blocks.{words_for};
 ghost use Rattle.tlsf_heap.specs.Checks.{Begins, BeginsFree, JoinsBefore, JoinsBehind, NextLeadsBack, PreviousLeadsBack, LeadsBack, IsSound, IsCheck, OnlyLooks, OnlyHeaders, end_at, block_touches};
 ghost use Rattle.tlsf_heap.specs.Regions.{image_of};

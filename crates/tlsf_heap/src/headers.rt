@@ -1,7 +1,7 @@
 //! The words of headers: what is written where a block is given or taken back. Each word is written once. Sizes and places are in
 //! words.
 ghost use Rattle.std.specs.Prelude.{◌≡◌, ◌≢◌, ℕ, ◌∷◌, ◌+◌, ◌-◌, ◌<◌, ◌≤◌, ◌==◌, ◌^◌, false, true, length, slice_set};
-ghost use Rattle.tlsf_heap.specs.Headers.{HasFree, HasLive, IsRest, NamesBefore, OnlyFrom, RisesBy, Wholes, Splits, Merges, Widens, Recuts, without_start};
+ghost use Rattle.tlsf_heap.specs.Headers.{HasFree, IsRest, NamesBefore, OnlyFrom, RisesBy, Wholes, Splits, Merges, Widens, Recuts, without_start};
 ghost use Rattle.tlsf_heap.specs.Regions.{image_of};
 ghost use Rattle.tlsf_words.specs.Lists.{nowhere};
 ghost use Rattle.tlsf_words.specs.Touched.{times};

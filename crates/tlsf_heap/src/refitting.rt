@@ -5,7 +5,7 @@ ghost use Rattle.tlsf_class.specs.Classes.{IsLevel, most_words, class_of};
 ghost use Rattle.tlsf_words.specs.Lists.{without_place};
 ghost use Rattle.tlsf_words.specs.Touched.{InGroups};
 ghost use Rattle.tlsf_heap.specs.Lawful.{IsRegion, HasRoom};
-ghost use Rattle.tlsf_heap.specs.Blocks.{size_of, words_in, is_free, bytes_of, stamps, words_for};
+ghost use Rattle.tlsf_heap.specs.Blocks.{words_in, is_free, bytes_of, stamps, words_for};
 ghost use Rattle.tlsf_heap.specs.Calls;
 ghost use Rattle.tlsf_heap.specs.FreePlaces.{AreFreeLists};
 ghost use Rattle.tlsf_heap.specs.Footprint.{LeavesLive, LeavesPayloads};

@@ -1,5 +1,5 @@
 ghost use Rattle.std.specs.Fn.{FnOnceReturnsAt, FnOnceReturnsAtMut, FnOnceTakesAt, FnOnceTakesAtMut};
-ghost use Rattle.std.specs.Prelude.{◌≡◌, ◌≢◌, ℕ, ◌+◌, ◌*◌, ◌/◌, ◌-◌, ◌<◌, ◌≤◌, ◌^◌, [], ◌∷◌, ◌++◌, false, true, length, take, drop, replicate, Some, slice_get, Contains, IfOk};
+ghost use Rattle.std.specs.Prelude.{◌≡◌, ◌≢◌, ◌↔◌, ℕ, ◌+◌, ◌*◌, ◌/◌, ◌-◌, ◌<◌, ◌≤◌, ◌^◌, [], ◌∷◌, ◌++◌, false, true, length, take, drop, replicate, Some, slice_get, Contains, IfOk};
 ghost use Rattle.std.specs.List.{AllByRecursion};
 ghost use Rattle.tlsf_class.specs.Classes.{IsLevel, most_words, class_of};
 ghost use Rattle.tlsf_class.specs.Members.{next_member};
@@ -488,7 +488,7 @@ impl<const SLI: u32> Region<SLI> {
     /// Whether a free block that is in a list is the first of it.
     pub fn is_first(&mut self, at: u32) -> bool
         requires listed { (class : ℕ) × Contains (list_in self.old.lists class) at }
-        ensures first { result ≡ true → (class : ℕ) → Contains (list_in self.old.lists class) at → list_in self.old.lists class ≡ at ∷ without_place at (list_in self.old.lists class) }
+        ensures first { (class : ℕ) → Contains (list_in self.old.lists class) at → (result ≡ true) ↔ (list_in self.old.lists class ≡ at ∷ without_place at (list_in self.old.lists class)) }
         ensures reads { OnlyReads self.old self.new 1 }
         ensures touched { LeavesLive self.old.blocks self.old.touched self.new.touched }
         ensures groups { InGroups 1 self.old.touched self.new.touched }

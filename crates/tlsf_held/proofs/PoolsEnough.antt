@@ -5,7 +5,7 @@ use Rattle.std.proofs.Common.{length-append}
 use Rattle.std.proofs.lemmas.List.{get_or-append-add, get_or_append_left}
 use Rattle.tlsf_heap.specs.Calls.{Allocate, Release, Write, Resize, Read}
 use Rattle.tlsf_pool.specs.declared.kind.Kind.{Kind}
-use Rattle.tlsf_pool.specs.pools.Parts.{ArePools, PoolsState, held_by, held_in, no_part, part_at, part_in, part_of, rows_before, rows_in, table_of}
+use Rattle.tlsf_pool.specs.pools.Parts.{ArePools, PoolsState, held_by, held_in, no_part, part_at, part_of, rows_before, rows_in, table_of}
 use Rattle.tlsf_pool.specs.pools.Tables.{HasPlace, IsTabled, TableState, held_of, lengths_in, most_at}
 use Rattle.tlsf_pool.specs.pools.Tables as tables
 use Rattle.tlsf_pool.proofs.lemmas.pools.Answering.{of_some}

@@ -1,5 +1,5 @@
 //! The lengths that a worker holds, step by step, as the entries of a run tell them.
-ghost use Rattle.std.specs.Prelude.{◌≡◌, ◌++◌, ◌∷◌, [], IfOk, OnOk};
+ghost use Rattle.std.specs.Prelude.{◌≡◌, ◌++◌, IfOk, OnOk};
 ghost use Rattle.tlsf_held.specs.Lent.{inventory_of};
 ghost use Rattle.tlsf_held.specs.Steps as told;
 

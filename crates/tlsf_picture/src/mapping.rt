@@ -1,9 +1,9 @@
 //! The parts of pictures of the heaps of workers.
-ghost use Rattle.std.specs.Prelude.{◌≡◌, ◌<◌, ◌≤◌, ℕ, List, Option, length, map, IfOk};
+ghost use Rattle.std.specs.Prelude.{◌≡◌, ◌<◌, Option, map, IfOk};
 ghost use Rattle.tlsf_crew.specs.worker.Workers.{heap_of, SameButHeap};
 ghost use Rattle.tlsf_crew.specs.lanes.Yard.{IsYard, world_of};
 ghost use Rattle.tlsf_heap.specs.Placed.{placed_blocks};
-ghost use Rattle.tlsf_picture.specs.Drawn.{AreMaps, IsMap, IsMapBy};
+ghost use Rattle.tlsf_picture.specs.Drawn.{AreMaps, IsMapBy};
 ghost use Rattle.tlsf_picture.specs.Labelled.{known_in, labelled};
 
 use crate::block_labels::BlockLabels;

@@ -1,5 +1,5 @@
 //! A trace on a yard, run line by line: the one that runs traces, whatever is made of them.
-ghost use Rattle.std.specs.Prelude.{◌≡◌, ℕ, length, vec_len, max, IfOk};
+ghost use Rattle.std.specs.Prelude.{◌≡◌, ℕ, vec_len, max, IfOk};
 ghost use Rattle.tlsf_class.specs.Classes.{IsLevel};
 ghost use Rattle.tlsf_crew.specs.lanes.Yard.{IsYard};
 ghost use Rattle.tlsf_lines.specs.Ranges.{IsHeaderInRange};

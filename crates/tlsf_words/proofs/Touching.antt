@@ -80,11 +80,3 @@ within_then total from past a b low high low_too high_too both = record {
   before = λ k below. b.before k (omega (arith, below, low_too)) ∙ a.before k (omega (arith, below, low));
   behind = λ k above. b.behind k (omega (arith, above, high_too)) ∙ a.behind k (omega (arith, above, high));
 }
-
--- as many as these
-pub within_same : (n from past : ℕ) {m f p : ℕ} {old new : Tallied} → Within m f p old new → from ≤ f → p ≤ past → n ≡ m → Within n from past old new
-within_same n from past a low high same = record {
-  touches = omega (arith, a.touches, same);
-  before = λ k below. a.before k (omega (arith, below, low));
-  behind = λ k above. a.behind k (omega (arith, above, high));
-}

@@ -1,4 +1,4 @@
-ghost use Rattle.std.specs.Prelude.{◌≡◌, ◌≢◌, ℕ, ◌+◌, ◌^◌, ◌<◌, ◌≤◌, true, false, [], ◌∷◌, List, length, Contains, slice_get, slice_index, slice_index_or, slice_set};
+ghost use Rattle.std.specs.Prelude.{◌≡◌, ◌≢◌, ◌↔◌, ℕ, ◌+◌, ◌^◌, ◌<◌, ◌≤◌, true, false, [], ◌∷◌, List, length, Contains, slice_get, slice_index, slice_index_or, slice_set};
 ghost use Rattle.tlsf_class.specs.Classes.{IsLevel, most_words, class_of};
 ghost use Rattle.tlsf_class.specs.Members.{next_member, without_member};
 ghost use Rattle.tlsf_words.specs.Fields.{links_word, low_half, high_half};
@@ -238,7 +238,7 @@ impl<const SLI: u32> FreeLists<SLI> {
     pub fn is_first(&self, words: &mut Words, at: u32) -> bool
         requires threaded { AreThreaded SLI self.now.heads self.now.members words.old.words }
         requires listed { (class : ℕ) × Contains (list_of self.now.heads words.old.words class) at }
-        ensures first { result ≡ true → (class : ℕ) → Contains (list_of self.now.heads words.old.words class) at → list_of self.now.heads words.old.words class ≡ at ∷ without_place at (list_of self.now.heads words.old.words class) }
+        ensures first { (class : ℕ) → Contains (list_of self.now.heads words.old.words class) at → (result ≡ true) ↔ (list_of self.now.heads words.old.words class ≡ at ∷ without_place at (list_of self.now.heads words.old.words class)) }
         ensures words { words.new.words ≡ words.old.words }
         ensures starts { words.new.starts ≡ words.old.starts }
         ensures stays { words.new.extents ≡ words.old.extents }

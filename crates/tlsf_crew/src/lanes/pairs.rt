@@ -1,8 +1,7 @@
 // One lane, both ends in hand.
-ghost use Rattle.std.specs.Prelude.{◌≡◌, ◌≢◌, ℕ, ◌+◌, ◌<◌, ◌≤◌, [], ◌∷◌, ◌++◌, length, vec_len, Some, slice_get, slice_set};
-ghost use Rattle.tlsf_crew.specs.lanes.Yard.{HasYardLane, IsYard};
-ghost use Rattle.tlsf_crew.specs.lanes.LaneSteps.{HasLane, PairSettled, InYard, OnlyLaneSettled};
-ghost use Rattle.tlsf_crew.specs.lanes.LaneWorkers.{HasPost, HasTake, PostEndPut, TakeEndTook};
+ghost use Rattle.std.specs.Prelude.{◌≢◌, ◌<◌, length, Some};
+ghost use Rattle.tlsf_crew.specs.lanes.Yard.{HasYardLane};
+ghost use Rattle.tlsf_crew.specs.lanes.LaneSteps.{HasLane, PairSettled, OnlyLaneSettled};
 
 use crate::worker::worker::Worker;
 use tlsf_post::{Post, beside};

@@ -1,4 +1,4 @@
-ghost use Rattle.std.specs.Prelude.{◌≡◌, ◌≢◌, ℕ, ◌<◌, length, map};
+ghost use Rattle.std.specs.Prelude.{◌≡◌, ◌<◌, length, map};
 ghost use Rattle.tlsf_crew.specs.lanes.Yard.{IsYard, world_of};
 ghost use Rattle.tlsf_crew.specs.worker.Workers.{shown_of};
 ghost use Rattle.tlsf_crew.specs.lanes.LaneWorkers.{lane_memory};

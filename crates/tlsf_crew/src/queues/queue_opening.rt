@@ -1,5 +1,5 @@
 //! How a yard over queues is opened.
-ghost use Rattle.std.specs.Prelude.{◌≡◌, ◌≢◌, ◌↔◌, ℕ, ◌<◌, ◌≤◌, Some, length, map, vec_len, vec_capacity, slice_get, slice_set, IfOk, IsErrOf};
+ghost use Rattle.std.specs.Prelude.{◌≡◌, ◌↔◌, ℕ, ◌<◌, ◌≤◌, Some, length, map, vec_len, vec_capacity, slice_set, IfOk, IsErrOf};
 ghost use Rattle.tlsf_class.specs.Classes.{IsLevel};
 ghost use Rattle.tlsf_post.specs.Mailboxes.{number_of, below_but};
 ghost use Rattle.tlsf_crew.specs.worker.Sizes.{AreSizes};

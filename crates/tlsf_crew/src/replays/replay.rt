@@ -1,5 +1,5 @@
 //! Events, one after another.
-ghost use Rattle.std.specs.Prelude.{◌≡◌, ◌≢◌, ℕ, ◌+◌, ◌*◌, ◌<◌, ◌≤◌, All, length, map, List, Option, Some, vec_len, vec_capacity, IfOk, OnOk, OnErr};
+ghost use Rattle.std.specs.Prelude.{◌≡◌, ◌≢◌, ℕ, ◌+◌, ◌<◌, ◌≤◌, All, length, map, List, Option, Some, vec_len, vec_capacity, IfOk, OnOk, OnErr};
 ghost use Rattle.tlsf_heap.specs.declared.name.Name.{Name};
 ghost use Rattle.tlsf_crew.specs.model.Sums.{sum_below};
 ghost use Rattle.tlsf_crew.specs.scripts.EntryRoom.{entry_room};

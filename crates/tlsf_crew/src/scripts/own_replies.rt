@@ -1,11 +1,9 @@
 //! Replies of a worker's own heap to the calls of a script. Both kinds of worker give them.
-ghost use Rattle.std.specs.Prelude.{◌≡◌, ◌≤◌, length};
-ghost use Rattle.tlsf_heap.specs.Calls.{read_of};
+ghost use Rattle.std.specs.Prelude.{◌≡◌};
 ghost use Rattle.tlsf_calls.specs.Bytes.{bytes_of};
 ghost use Rattle.tlsf_crew.specs.worker.Calls.{by_heap};
-ghost use Rattle.tlsf_crew.specs.model.Heaps.{as_chunk, chunk_read};
+ghost use Rattle.tlsf_crew.specs.model.Heaps.{chunk_read};
 ghost use Rattle.tlsf_crew.specs.worker.Workers.{heap_of, SameButHeap};
-ghost use Rattle.tlsf_crew.specs.model.World.{name_of};
 ghost use Rattle.tlsf_crew.specs.model.Targets.{target_name};
 ghost use Rattle.tlsf_crew.specs.model.OwnReplies.{IsHeapReply, own_allocating, own_writing, own_reading, own_resizing};
 

@@ -1,5 +1,5 @@
 //! Room for the entries of a replay, counted before it.
-ghost use Rattle.std.specs.Prelude.{◌≡◌, ℕ, ◌+◌, ◌*◌, ◌≤◌, length};
+ghost use Rattle.std.specs.Prelude.{◌≡◌, ◌+◌, ◌*◌, ◌≤◌, length};
 ghost use Rattle.tlsf_crew.specs.lanes.Ready.{count_of, ready_from, ready_in};
 ghost use Rattle.tlsf_crew.specs.model.Sums.{sum_below};
 ghost use Rattle.tlsf_crew.specs.scripts.EntryRoom.{releases_in};

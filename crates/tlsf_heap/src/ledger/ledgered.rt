@@ -1,6 +1,6 @@
 ghost use Rattle.std.specs.Fn.{FnOnceTakesAt, FnOnceTakesAtMut};
-ghost use Rattle.std.specs.Prelude.{◌≡◌, ℕ, List, ◌+◌, ◌/◌, ◌≤◌, length, IfOk, OnOk, OnErr};
-ghost use Rattle.tlsf_heap.specs.Calls.{allocated_words, released};
+ghost use Rattle.std.specs.Prelude.{◌≡◌, ℕ, List, ◌+◌, ◌≤◌, length, IfOk, OnOk, OnErr};
+ghost use Rattle.tlsf_heap.specs.Calls.{allocated_words};
 ghost use Rattle.tlsf_heap.specs.Effects.{Releases, seen_by, Allocates, AsksLive, ChecksBlocks, Looks, Reads, Reports, Writes};
 ghost use Rattle.tlsf_heap.specs.Footprint.{LeavesLive};
 ghost use Rattle.tlsf_heap.specs.Given.{payload_words_given};

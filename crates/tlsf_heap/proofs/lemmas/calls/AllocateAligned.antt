@@ -14,7 +14,7 @@ use Rattle.tlsf_heap.proofs.lemmas.lists.Refit.{refitted_cut}
 use Rattle.tlsf_heap.proofs.lemmas.calls.Resize.{by_refitted}
 use Rattle.tlsf_heap.proofs.lemmas.blocks.Sites.{choice_none}
 use Rattle.tlsf_heap.proofs.lemmas.blocks.Around.{Around, around, around_next, stands_around, block_around, words_around}
-use Rattle.tlsf_heap.proofs.lemmas.laws.Payloads.{holds, not_free, one_holds, stays, stays_run}
+use Rattle.tlsf_heap.proofs.lemmas.laws.Payloads.{holds, one_holds, stays, stays_run}
 use Rattle.tlsf_heap.proofs.lemmas.laws.Payloads as steady
 
 -- ---- a live block of n words or more

@@ -1,8 +1,5 @@
 -- A block's payload as its words are handed out, and what is left where all its bytes may become others.
-use Rattle.tlsf_heap.proofs.Common.{◌≡◌, ℕ, zero, suc, ◌+◌, ◌*◌, ◌/◌, ◌<◌, ◌≤◌, Bool, true, false, cond, List, ◌∷◌, [], ◌++◌, find, Some, length, get_or, take, drop, refl, sym, ap, ◌∙◌, arith, subst, length-take, length-drop, Result, Ok, Err, IfOk, OnErr, IsSome, Once, Shown, Refusal, drop_all, append-nil, false≢true, bytes_in, payload_byte, tag_word, size_in, last_in, back_in, bytes_at, payload_at, payload_of, ArePayload, Alters, IsRefusedAsRead, IsLive, Image, Shows, IsNamed, Name, Block, HeapState, bytes_of, StandsAt, Outcome, is_named, overwritten, read_answer, with_bytes, written, sites, block_at}
-use Rattle.std.specs.Borrow.{MutBor}
-use Rattle.tlsf_heap.specs.Kept.{IsAsBefore}
-use Rattle.tlsf_heap.proofs.lemmas.calls.Write.{unwritten}
+use Rattle.tlsf_heap.proofs.Common.{◌≡◌, ℕ, zero, suc, ◌+◌, ◌*◌, ◌/◌, ◌<◌, ◌≤◌, Bool, true, false, cond, List, ◌∷◌, [], ◌++◌, find, Some, length, get_or, take, drop, refl, sym, ap, ◌∙◌, arith, subst, length-take, length-drop, IsSome, drop_all, append-nil, false≢true, bytes_in, payload_byte, tag_word, size_in, last_in, back_in, bytes_at, payload_at, payload_of, ArePayload, IsLive, Image, Shows, IsNamed, Name, Block, HeapState, bytes_of, StandsAt, is_named, overwritten, with_bytes, sites, block_at}
 use Rattle.tlsf_heap.proofs.lemmas.calls.Named.{named_is, named_stands}
 use Rattle.tlsf_heap.proofs.lemmas.blocks.Sites.{nowhere, length-sites, get_or-sites}
 use Rattle.tlsf_words.proofs.Bytes.{bytes_in-part}
@@ -151,11 +148,3 @@ altered {m = m} {v = v} {bs = bs} {at = at} {len = len} shows found before behin
       length = same;
       starts = starts;
     }))
-
--- ---- what an alter leaves, done or refused
-
--- it is as some write leaves it
-pub altered_is : {F R : Type 0} (g : Once F (MutBor (List ℕ) × Unit {0}) (R × (MutBor (List ℕ) × Unit {0}))) (f : F) (old new : Shown) (name : Name) (answer : Result R Refusal)
-    → IsRefusedAsRead old.heap name answer → IfOk answer (λ r. Alters g f old.heap name r new.heap) → OnErr answer (IsAsBefore old new) → (bytes : List ℕ) × (new.heap ≡ (written old.heap name 0 bytes).heap)
-altered_is g f old new name (Ok r) answered altered err = (_, altered.writes)
-altered_is g f old new name (Err why) answered altered err = ([], err.heap ∙ sym (ap (λ (o : Outcome (Unit {0})). o.heap) (unwritten old.heap name 0 [] why (sym (ap read_answer answered)))))

@@ -1,5 +1,5 @@
 -- Several heaps stay heaps for the parts of a table, whichever of them a call changes.
-use Rattle.tlsf_pool.proofs.Common.{◌≡◌, ◌≢◌, ℕ, zero, suc, ◌+◌, ◌-◌, ◌<◌, ◌≤◌, ◌↔◌, ◌&&◌, Bool, true, false, cond, List, [], ◌∷◌, length, get_or, set, nat_le, nat_lt, Option, Some, None, Result, Ok, Err, refl, sym, ap, ◌∙◌, subst, inl, inr, arith, AllByRecursion, IfSome, IsOk, IsSomeAnd, OnErr, OnOk, is_some, cases_lt, false≢true, le-ltb, lt-ltb, position_or_len_is, nat_tests, HeapState, payload_words_given, Release, Write, released, written, Name, PoolRefusal, SameLedger, IsTabled, TableState, row_of, table_allocated, fixed_size, ArePools, OnlyPart, PoolsState, named_in, no_part, part_at, part_in}
+use Rattle.tlsf_pool.proofs.Common.{◌≡◌, ◌≢◌, ℕ, zero, suc, ◌+◌, ◌-◌, ◌<◌, ◌≤◌, ◌↔◌, ◌&&◌, Bool, true, false, cond, List, [], ◌∷◌, length, get_or, set, nat_le, nat_lt, Option, Some, None, Result, Ok, Err, refl, sym, ap, ◌∙◌, subst, inl, inr, arith, AllByRecursion, IfSome, IsOk, IsSomeAnd, OnErr, OnOk, is_some, cases_lt, false≢true, le-ltb, lt-ltb, position_or_len_is, nat_tests, HeapState, payload_words_given, Release, Write, released, written, Name, PoolRefusal, SameLedger, IsTabled, TableState, row_of, table_allocated, fixed_size, ArePools, PoolsState, named_in, no_part, part_at, part_in}
 use Rattle.std.proofs.lemmas.List.Quantifiers.{position-Some}
 use Rattle.tlsf_heap.proofs.lemmas.calls.Outcomes.{by_allocated_words, ids}
 use Rattle.tlsf_pool.proofs.lemmas.pools.RowTotals.{this_row}
@@ -40,10 +40,6 @@ is_part p i t within is = is ∙ any_else p.parts i t no_part within
 -- and then the one that was put there
 pub new_part : (p : PoolsState) (i : ℕ) (t : TableState) → i < length p.parts → t ≡ part_at (record { id = p.id; parts = set p.parts i t; extent = p.extent }) i
 new_part p i t within = sym (at_set p.parts i t no_part within)
-
--- the others are as they were
-pub only_part : (p : PoolsState) (i : ℕ) (t : TableState) → i < length p.parts → OnlyPart p (record { id = p.id; parts = set p.parts i t; extent = p.extent }) i
-only_part p i t within = record { id = refl; parts = ap (λ (x : TableState). set p.parts i x) (new_part p i t within) }
 
 -- where the one that was read is put back, all are as they were
 set_itself : (xs : List TableState) (i : ℕ) (d : TableState) → i < length xs → set xs i (get_or xs i d) ≡ xs

@@ -208,11 +208,6 @@ rows_passed parts i within =
     let same : suc i ≡ i + 1 = omega arith in
     subst (λ (n : ℕ). rows_before parts n ≡ rows_before parts i + length (get_or parts i no_part).ledger.kinds) same (before_next parts i within)
 
--- and those before the end
-pub before_end : (parts : List TableState) → rows_before parts (length parts) ≡ length (rows_in parts)
-before_end [] = refl
-before_end (t ∷ parts) = omega (arith, before_more t parts (length parts) 0, before_end parts, length-append t.ledger.kinds (rows_in parts))
-
 row_within : (parts : List TableState) (i row : ℕ) → i < length parts → row < length (get_or parts i no_part).ledger.kinds → rows_before parts i + row < length (rows_in parts)
 row_within [] i row within short = absurd (omega (arith, within))
 row_within (t ∷ parts) zero row within short = omega (arith, before_none (t ∷ parts) row, length-append t.ledger.kinds (rows_in parts), short)

@@ -1,12 +1,5 @@
 -- Tables whose rows rise, and their parts.
-use Rattle.tlsf_pool.proofs.Common.{◌≡◌, ℕ, zero, suc, ◌+◌, ◌-◌, ◌<◌, List, [], ◌∷◌, ◌++◌, length, ap, subst, inl, inr, arith, length-append, AllByRecursion, cases_lt, get_or_append_left, get_or-append-add, Kind, IsFirstFall, Rises, len_at, joined}
-
--- a table with a row that falls doesn't rise
-pub falls_so : (kinds : List Kind) (row : ℕ) → IsFirstFall kinds row → ¬ (Rises kinds)
-falls_so kinds row fall rises =
-    let one : row - 1 + 1 ≡ row = omega (arith, fall.some) in
-    let less = subst (λ (r : ℕ). len_at kinds (row - 1) < len_at kinds r) one (rises (row - 1) (omega (arith, one, fall.within))) in
-    omega (arith, less, fall.falls)
+use Rattle.tlsf_pool.proofs.Common.{◌≡◌, ℕ, zero, suc, ◌+◌, ◌-◌, ◌<◌, List, [], ◌∷◌, ◌++◌, length, ap, subst, inl, inr, arith, length-append, AllByRecursion, cases_lt, get_or_append_left, get_or-append-add, Kind, Rises, len_at, joined}
 
 -- each row before another is shorter
 pub shorter_before : (kinds : List Kind) → Rises kinds → (row k : ℕ) → k < row → row < length kinds → len_at kinds k < len_at kinds row

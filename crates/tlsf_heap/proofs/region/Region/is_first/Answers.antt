@@ -1,5 +1,5 @@
 -- The lists are those of the words, and the links of a place lie in no payload.
-use Rattle.tlsf_heap.proofs.Common.{ℕ, ◌+◌, List, ◌∷◌, sym, ap, ◌∙◌, subst, arith, Contains, without_place, RegionState, times, InGroups}
+use Rattle.tlsf_heap.proofs.Common.{◌≡◌, ◌↔◌, true, ℕ, ◌+◌, List, ◌∷◌, sym, ap, ◌∙◌, subst, arith, Contains, without_place, RegionState, times, InGroups}
 use Rattle.tlsf_words.proofs.Touching.{one_touch, times_other}
 use Rattle.tlsf_heap.proofs.lemmas.words.Says.{holds_read}
 use Rattle.tlsf_heap.proofs.lemmas.words.Links.{holds_state}
@@ -18,10 +18,10 @@ pub invariant_of-self : goal.invariant_of-self
 invariant_of-self g c = holds_read g.row.SLI c.is_first.ensures.words c.is_first.ensures.starts c.self.invariant
 
 pub returns-clause-first : goal.returns-clause-first
-returns-clause-first g c first class there =
+returns-clause-first g c class there =
     let state = holds_state g.row.SLI c.self.invariant c.self.view_is in
-    state.lists class ∙ c.is_first.ensures.first first class (subst (λ (places : List ℕ). Contains places c.args.at) (state.lists class) there)
-    ∙ ap (λ (places : List ℕ). c.args.at ∷ without_place c.args.at places) (sym (state.lists class))
+    let P : List ℕ → Type 0 = λ places. Contains places c.args.at → (c.is_first.result ≡ true) ↔ (places ≡ c.args.at ∷ without_place c.args.at places) in
+    subst P (sym (state.lists class)) (c.is_first.ensures.first class) there
 
 pub returns-clause-touched : goal.returns-clause-touched
 returns-clause-touched g c k live =

@@ -1,4 +1,4 @@
-use Rattle.tlsf_trace.proofs.Common.{◌≡◌, ◌-◌, ◌++◌, List, length, take, drop, max, min, sym, ap, ◌∙◌, arith, take_at, Entry, world_of, Replayed, events_by, events_of, moment_at}
+use Rattle.tlsf_trace.proofs.Common.{◌≡◌, ◌-◌, ◌++◌, List, length, take, drop, min, sym, ap, ◌∙◌, arith, take_at, Entry, world_of, Replayed, events_by, events_of, moment_at}
 use Rattle.tlsf_calls.specs.declared.event.Event.{Event}
 use Rattle.tlsf_trace.proofs.Onward.{ran_to, run_to}
 use Rattle.tlsf_trace.proofs.player.Player.step_to.Goals as goal
