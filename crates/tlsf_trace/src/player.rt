@@ -1,5 +1,5 @@
 //! A trace on a yard, run line by line: the one that runs traces, whatever is made of them.
-ghost use Rattle.std.specs.Prelude.{◌≡◌, ℕ, vec_len, max, IfOk};
+ghost use Rattle.std.specs.Prelude.{◌≡◌, ℕ, vec_len, max, IfOk, OnErr};
 ghost use Rattle.tlsf_class.specs.Classes.{IsLevel};
 ghost use Rattle.tlsf_crew.specs.lanes.Yard.{IsYard};
 ghost use Rattle.tlsf_lines.specs.Ranges.{IsHeaderInRange};
@@ -73,7 +73,7 @@ impl<const SLI: u32> Player<SLI> {
     ///
     /// # Errors
     ///
-    /// Where memory runs out.
+    /// Where memory runs out. The player stands where it stood, and may be asked again.
     pub fn step_to(
         &mut self,
         alloc: Global,
@@ -85,6 +85,7 @@ impl<const SLI: u32> Player<SLI> {
         ensures count { vec_len self.new.workers ≡ vec_len self.old.workers }
         ensures plays { (from : ℕ) (trace : Trace) → IsScript script.now trace → Stands from trace self.old
             → IfOk result (λ entries. PlaysOn from (max from line) trace self.new entries.items) }
+        ensures stays { (from : ℕ) (trace : Trace) → Stands from trace self.old → OnErr result (Stands from trace self.new) }
     {
         let end = script.events_by(line).min(script.events.len());
         let first = self.ran.min(end);

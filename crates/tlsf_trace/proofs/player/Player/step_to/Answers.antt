@@ -26,3 +26,15 @@ returns-clause-plays g c = λ from trace is stands.
       };
       told = ap (λ (r : Replayed sli). r.entries) run ∙ ap (λ (l : List Entry). (moment_at sli from trace).entries ++ l) (sym (rw c.deref_mut.ensures.value at c.in-Ok.ensures.entries));
     }
+
+pub returns-in_default-clause-stays : goal.returns-in_default-clause-stays
+returns-in_default-clause-stays g c = λ from trace stands.
+    let old = c.args.self.now in
+    let vs = c.replay_behind.new.workers in
+    let len : length vs ≡ old.workers.len = omega arith in
+    let back = take_at vs (drop (length vs) old.workers.items) old.workers.len len in
+    record {
+      world = ap world_of back ∙ ((rw c.deref_mut.ensures.value at c.in_default.ensures.no_memory.0) ∙ stands.world);
+      made = c.in_default.ensures.no_memory.1 ∙ stands.made;
+      ran = stands.ran;
+    }
