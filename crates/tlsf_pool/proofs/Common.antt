@@ -38,4 +38,4 @@ pub use Rattle.tlsf_pool.specs.pools.Parts.{PoolsState, Stay, rows_in, table_of,
 pub use Rattle.tlsf_pool.specs.pools.Tables.{TableRows, row_len, row_of, TableState, IsTable, table_allocated, HoldsOneMore, IsTabled, lengths_in, AreAllReached, HasPlace, held_of, most_at, IsFull, TableExtents, CountsOneMore, TellsTable, answered_by_table, answered_in}
 pub use Rattle.tlsf_pool.specs.sizes.Cheapest.{AreSmall, AreBest, HasFirst, IsBest, IsBestAmong, cheaper, with_first}
 pub use Rattle.tlsf_pool.specs.sizes.Rising.{Rises, len_at, IsFirstFall}
-pub use Rattle.tlsf_pool.specs.sizes.Splits.{parts_of, HasWords, joined, IsPart, cut_by, HasAtMost, IsCut, IsLeast, IsLeastAmong, words_together}
+pub use Rattle.tlsf_pool.specs.sizes.Splits.{parts_of, HasWords, joined, IsPart, cut_by, HasAtMost, IsCut, IsLeast, IsLeastAmong, IsNoLater, CutAlike, words_together}

@@ -78,4 +78,6 @@ pub use sizes::one_large::one_large_words;
 pub use sizes::region::mixed_region;
 pub use sizes::rising::falling_row;
 pub use sizes::sizing::{kinds_words, most_bytes};
-pub use sizes::split::{MOST_HEAPS, MOST_SPLIT, Split, cheapest_split, rising_split};
+pub use sizes::split::{
+    MOST_HEAPS, MOST_SPLIT, Split, cheapest_split, kinds_are_split_one_way, rising_split,
+};

@@ -1,5 +1,5 @@
 -- Ways to cut a table of kinds, in its order, into the tables of several heaps, each of blocks of a fixed size.
-use Rattle.std.specs.Prelude.{◌≡◌, ℕ, zero, suc, ◌+◌, ◌<◌, ◌≤◌, List, [], ◌∷◌, ◌++◌, length, take, drop, get_or}
+use Rattle.std.specs.Prelude.{◌≡◌, ℕ, zero, suc, ◌+◌, ◌<◌, ◌≤◌, ◌⊎◌, ⊤, List, [], ◌∷◌, ◌++◌, length, take, drop, get_or}
 use Rattle.std.specs.List.{AllByRecursion}
 use Rattle.tlsf_class.specs.Classes.{most_words}
 use Rattle.tlsf_pool.specs.laws.FixedSize.{fixed_kinds_words}
@@ -38,20 +38,34 @@ cut_by (suc heaps) lens kinds = take (get_or lens heaps 0) kinds ∷ cut_by heap
 abbrev pub parts_of : Split → List Kind → List (List Kind)
 parts_of split kinds = cut_by split.heaps split.lens kinds
 
--- a split is a way of cutting the kinds such as is looked for, with its words, and no such way has fewer
+-- two ways of cutting are the same; or where they first differ, the heap of the first way has fewer kinds
+abbrev pub IsNoLater : List (List Kind) → List (List Kind) → Type 0
+IsNoLater [] [] = ⊤
+IsNoLater (part ∷ parts) (other ∷ others) = (length part < length other) ⊎ ((length part ≡ length other) × IsNoLater parts others)
+IsNoLater _ _ = ⊥
+
+-- a split is a way of cutting the kinds such as is looked for, with its words, and no such way has fewer. Of those with as few it is
+-- the first
 pub record IsLeastAmong (sli : ℕ) (IsSought : List (List Kind) → Type 0) (kinds : List Kind) (split : Split) : Type 0 where
   pub cut : IsCut sli kinds (parts_of split kinds)
   pub sought : IsSought (parts_of split kinds)
   pub words : split.words ≡ words_together sli (parts_of split kinds)
   pub least : (parts : List (List Kind)) → IsCut sli kinds parts → IsSought parts → split.words ≤ words_together sli parts
+  pub first : (parts : List (List Kind)) → IsCut sli kinds parts → IsSought parts → words_together sli parts ≡ split.words → IsNoLater (parts_of split kinds) parts
 
 -- it is one into at most this many heaps
 abbrev pub HasAtMost : ℕ → List (List Kind) → Type 0
 HasAtMost heaps parts = length parts ≤ heaps
 
--- of all ways of cutting the kinds into at most this many heaps, none has fewer words than this one
+-- it is the least of all ways of cutting the kinds into at most this many heaps
 abbrev pub IsLeast : ℕ → ℕ → List Kind → Split → Type 0
 IsLeast sli heaps = IsLeastAmong sli (HasAtMost heaps)
+
+-- two splits cut the kinds into the same heaps
+pub record CutAlike (kinds : List Kind) (split other : Split) : Type 0 where
+  pub parts : parts_of split kinds ≡ parts_of other kinds
+  pub heaps : split.heaps ≡ other.heaps
+  pub words : split.words ≡ other.words
 
 -- there is no way of cutting them so
 abbrev pub HasNoCut : ℕ → ℕ → List Kind → Type 0

@@ -1,9 +1,11 @@
-ghost use Rattle.std.specs.Prelude.{◌≡◌, ◌≤◌, ◌<◌, ◌+◌, ◌^◌, length, drop, IfSome, None};
+ghost use Rattle.std.specs.Prelude.{◌≡◌, ◌≤◌, ◌<◌, ◌+◌, ◌^◌, ℕ, List, length, drop, IfSome, None};
 ghost use Rattle.tlsf_class.specs.Classes.{IsLevel};
 ghost use Rattle.tlsf_pool.specs.sizes.Cheapest as found;
 ghost use Rattle.tlsf_pool.specs.sizes.Cheapest.{AreBest, AreSmall, IsBest};
 ghost use Rattle.tlsf_pool.specs.sizes.Rising.{HasNoHeaps, Rises};
-ghost use Rattle.tlsf_pool.specs.sizes.Splits.{HasNoCut, IsLeast};
+ghost use Rattle.tlsf_pool.specs.sizes.Splits.{CutAlike, HasNoCut, IsLeast};
+ghost use Rattle.tlsf_pool.specs.declared.kind.Kind as shown;
+ghost use Rattle.tlsf_pool.specs.declared.sizes.split.Split as cut;
 
 use crate::kind::Kind;
 use crate::sizes::region::region_words;
@@ -138,7 +140,7 @@ pub fn cheapest_split<const SLI: u32>(kinds: &[Kind], most: usize) -> Option<Spl
     requires few { length kinds.now ≤ 64 }
     requires heaps { most ≤ 8 }
 
-    // It is a way to cut the table, and no way has fewer words.
+    // It is a way to cut the table, and no way has fewer words. Of those with as few it is the first.
     ensures least { IfSome result (IsLeast SLI most kinds.now) }
     ensures none { result ≡ None → HasNoCut SLI most kinds.now }
 {
@@ -167,3 +169,13 @@ pub fn rising_split<const SLI: u32>(kinds: &[Kind], most: usize) -> Option<Split
     }
     cheapest_split::<SLI>(kinds, most)
 }
+
+/// A table has one cheapest split, also where several ways to cut it have equally few words. So the heaps of
+/// [`rising_split`] are those that [`Pools::open`](crate::Pools::open) opens.
+///
+/// ```text
+/// two blocks of up to 1 byte and three of up to 8: one heap or two have 20 words, and each split is the one of two heaps
+/// ```
+pub fn kinds_are_split_one_way()
+    ensures { (sli heaps : ℕ) (kinds : List shown.Kind) (split other : cut.Split) → IsLeast sli heaps kinds split → IsLeast sli heaps kinds other → CutAlike kinds split other }
+{}

@@ -1,5 +1,5 @@
 -- The least way of cutting kinds, from its end.
-use Rattle.tlsf_pool.proofs.Common.{◌≡◌, ◌≢◌, ℕ, zero, suc, ◌+◌, ◌-◌, ◌^◌, ◌<◌, ◌≤◌, ◌⊎◌, inl, inr, Bool, true, false, cond, List, [], ◌∷◌, ◌++◌, length, get_or, set, take, drop, Option, Some, None, refl, ap, ap₂, sym, ◌∙◌, subst, arith, add-one, get_or-set_other, get_or-set_same, take-append-drop, length-take, length-drop, length-set, length-append, drop_of_length-le, drop-drop, get_or-drop, take_all, nat_lt, IfSome, IsLevel, most_words, cases_eq, cases_lt, nat_tests, fixed_kinds_words, Kind, cheaper, with_first, AreBest, AreSmall, HasFirst, IsBest, IsBestAmong, cut_by, joined, parts_of, words_together, HasAtMost, HasWords, IsCut, IsLeastAmong, IsPart, Split}
+use Rattle.tlsf_pool.proofs.Common.{◌≡◌, ◌≢◌, ℕ, zero, suc, ◌+◌, ◌-◌, ◌^◌, ◌<◌, ◌≤◌, ◌⊎◌, inl, inr, Bool, true, false, cond, List, [], ◌∷◌, ◌++◌, length, get_or, set, take, drop, Option, Some, None, refl, ap, ap₂, sym, ◌∙◌, subst, arith, add-one, get_or-set_other, get_or-set_same, take-append-drop, length-take, length-drop, length-set, length-append, drop_of_length-le, drop-drop, get_or-drop, take_all, nat_lt, IfSome, IsLevel, most_words, cases_eq, cases_lt, nat_tests, fixed_kinds_words, Kind, cheaper, with_first, AreBest, AreSmall, HasFirst, IsBest, IsBestAmong, cut_by, joined, parts_of, words_together, HasAtMost, HasWords, IsCut, IsLeast, IsLeastAmong, IsNoLater, IsPart, CutAlike, Split}
 use Rattle.tlsf_class.proofs.TwoLevels.{by_level}
 use Rattle.tlsf_pool.specs.sizes.Cheapest.{IsSmall}
 
@@ -62,6 +62,14 @@ module _ (sli heaps n : ℕ) (kinds : List Kind) (some : 0 < n) (within : n ≤ 
       let first = ap (fixed_kinds_words sli) begin.first in
       omega (arith, is, first, best.least parts (begin.behind, cut.1.1) just.1)
 
+  first_with : (words : ℕ) (rest : Split) → words ≡ fixed_kinds_words sli (take n kinds) → IsLeastAmong sli (HasAtMost heaps) (drop n kinds) rest
+      → (parts : List (List Kind)) → IsCut sli kinds parts → HasJust heaps n parts → words_together sli parts ≡ words + rest.words → IsNoLater (take n kinds ∷ parts_of rest (drop n kinds)) parts
+  first_with words rest is best [] cut just same = just
+  first_with words rest is best (part ∷ parts) cut just same =
+      let begin = begins n kinds part (joined parts) cut.0 just.0 in
+      let first = ap (fixed_kinds_words sli) begin.first in
+      inr (ap (λ (kinds : List Kind). length kinds) (sym begin.first), best.first parts (begin.behind, cut.1.1) just.1 (omega (arith, is, first, same)))
+
   with_first_best : (words : Option ℕ) (rest : Option Split) → AreWordsOf sli (take n kinds) words → IsBest sli heaps (drop n kinds) rest → AreSmall 7 rest
       → IsBestAmong sli (HasJust heaps n) kinds (with_first n words rest)
   with_first_best None rest are best small = no_words (are.none refl)
@@ -76,6 +84,7 @@ module _ (sli heaps n : ℕ) (kinds : List Kind) (some : 0 < n) (within : n ≤ 
         sought = subst (HasJust heaps n) (sym whole) (omega (arith, length-take n kinds), best.sought);
         words = ap₂ (λ (a b : ℕ). a + b) has.1 best.words ∙ sym (ap (words_together sli) whole);
         least = least_with words rest has.1 best;
+        first = λ ways cut just same. subst (λ (own : List (List Kind)). IsNoLater own ways) (sym whole) (first_with words rest has.1 best ways cut just same);
       }
 
 pub are_words : (sli : ℕ) (part : List Kind) (words : Option ℕ) → IfSome words (λ n. HasWords sli part × (n ≡ fixed_kinds_words sli part)) → (words ≡ None → ¬ (HasWords sli part)) → AreWordsOf sli part words
@@ -95,29 +104,39 @@ module _ (sli : ℕ) (P R : List (List Kind) → Type 0) (kinds : List Kind) whe
   pub same_best : (best : Option Split) → ((parts : List (List Kind)) → IsCut sli kinds parts → R parts → P parts) → ((parts : List (List Kind)) → P parts → R parts)
       → IsBestAmong sli P kinds best → IsBestAmong sli R kinds best
   same_best None to from is = λ parts cut sought. is parts cut (to parts cut sought)
-  same_best (Some split) to from is = record { cut = is.cut; sought = from _ is.sought; words = is.words; least = λ parts cut sought. is.least parts cut (to parts cut sought) }
+  same_best (Some split) to from is = record {
+    cut = is.cut;
+    sought = from _ is.sought;
+    words = is.words;
+    least = λ parts cut sought. is.least parts cut (to parts cut sought);
+    first = λ parts cut sought. is.first parts cut (to parts cut sought);
+  }
 
+-- of the first ways each comes before each of the others
 module _ (sli : ℕ) (P Q R : List (List Kind) → Type 0) (kinds : List Kind)
-    (either : (parts : List (List Kind)) → R parts → P parts ⊎ Q parts) (of_one : (parts : List (List Kind)) → P parts → R parts) (of_other : (parts : List (List Kind)) → Q parts → R parts) where
+    (either : (parts : List (List Kind)) → R parts → P parts ⊎ Q parts) (of_one : (parts : List (List Kind)) → P parts → R parts) (of_other : (parts : List (List Kind)) → Q parts → R parts)
+    (before : (parts others : List (List Kind)) → P parts → Q others → IsNoLater parts others) where
   first_best : (split : Split) → IsLeastAmong sli P kinds split → ((parts : List (List Kind)) → IsCut sli kinds parts → Q parts → split.words ≤ words_together sli parts) → IsLeastAmong sli R kinds split
   first_best split is more = record {
     cut = is.cut;
     sought = of_one _ is.sought;
     words = is.words;
     least = λ parts cut sought. elim (either parts sought) [ inl one ↦ is.least parts cut one | inr other ↦ more parts cut other ];
+    first = λ parts cut sought same. elim (either parts sought) [ inl one ↦ is.first parts cut one same | inr other ↦ before (parts_of split kinds) parts is.sought other ];
   }
 
-  other_best : (split : Split) → IsLeastAmong sli Q kinds split → ((parts : List (List Kind)) → IsCut sli kinds parts → P parts → split.words ≤ words_together sli parts) → IsLeastAmong sli R kinds split
+  other_best : (split : Split) → IsLeastAmong sli Q kinds split → ((parts : List (List Kind)) → IsCut sli kinds parts → P parts → split.words < words_together sli parts) → IsLeastAmong sli R kinds split
   other_best split is more = record {
     cut = is.cut;
     sought = of_other _ is.sought;
     words = is.words;
-    least = λ parts cut sought. elim (either parts sought) [ inl one ↦ more parts cut one | inr other ↦ is.least parts cut other ];
+    least = λ parts cut sought. elim (either parts sought) [ inl one ↦ omega (arith, more parts cut one) | inr other ↦ is.least parts cut other ];
+    first = λ parts cut sought same. elim (either parts sought) [ inl one ↦ absurd (omega (arith, more parts cut one, same)) | inr other ↦ is.first parts cut other same ];
   }
 
-  chosen : (a b : Split) (t : Bool) → (t ≡ true → b.words ≤ a.words) → (t ≡ false → a.words ≤ b.words) → IsLeastAmong sli P kinds a → IsLeastAmong sli Q kinds b
+  chosen : (a b : Split) (t : Bool) → (t ≡ true → b.words < a.words) → (t ≡ false → a.words ≤ b.words) → IsLeastAmong sli P kinds a → IsLeastAmong sli Q kinds b
       → IsBestAmong sli R kinds (cond t (Some b) (Some a))
-  chosen a b true less more one other = other_best b other (λ parts cut sought. let upto = less refl in omega (arith, upto, one.least parts cut sought))
+  chosen a b true less more one other = other_best b other (λ parts cut sought. let below = less refl in omega (arith, below, one.least parts cut sought))
   chosen a b false less more one other = first_best a one (λ parts cut sought. let upto = more refl in omega (arith, upto, other.least parts cut sought))
 
   cheaper_best : (a b : Option Split) → IsBestAmong sli P kinds a → IsBestAmong sli Q kinds b → IsBestAmong sli R kinds (cheaper a b)
@@ -140,11 +159,16 @@ just_first : (heaps n : ℕ) (parts : List (List Kind)) → HasJust heaps n part
 just_first heaps n [] just = just
 just_first heaps n (part ∷ parts) just = (omega (arith, just.0), just.1)
 
+fewer_before : (heaps n : ℕ) (parts others : List (List Kind)) → HasFirst heaps n parts → HasJust heaps (n + 1) others → IsNoLater parts others
+fewer_before heaps n [] others first just = absurd first
+fewer_before heaps n (part ∷ parts) [] first just = absurd just
+fewer_before heaps n (part ∷ parts) (other ∷ others) first just = inl (omega (arith, first.0, just.0))
+
 pub longer_first : (sli heaps n : ℕ) (kinds : List Kind) (best rest : Option Split) (words : Option ℕ) → n < length kinds → AreWordsOf sli (take (n + 1) kinds) words
     → IsBestAmong sli (HasFirst heaps n) kinds best → IsBest sli heaps (drop (n + 1) kinds) rest → AreSmall 7 rest
     → IsBestAmong sli (HasFirst heaps (n + 1)) kinds (cheaper best (with_first (n + 1) words rest))
 longer_first sli heaps n kinds best rest words inside are is behind small =
-    cheaper_best sli (HasFirst heaps n) (HasJust heaps (n + 1)) (HasFirst heaps (n + 1)) kinds (either_first heaps n) (fewer_first heaps n) (just_first heaps (n + 1))
+    cheaper_best sli (HasFirst heaps n) (HasJust heaps (n + 1)) (HasFirst heaps (n + 1)) kinds (either_first heaps n) (fewer_first heaps n) (just_first heaps (n + 1)) (fewer_before heaps n)
     best (with_first (n + 1) words rest) is (with_first_best sli heaps (n + 1) kinds (omega arith) (omega arith) words rest are behind small)
 
 of_first : (heaps n : ℕ) (parts : List (List Kind)) → HasFirst heaps n parts → HasAtMost (heaps + 1) parts
@@ -224,6 +248,10 @@ row_done sli heaps at kinds row long end more before k inside = elim (cases_lt k
 none_best : (sli : ℕ) (kinds : List Kind) (best : Option Split) → 0 < length kinds → best ≡ None → IsBest sli 0 kinds best × AreSmall 0 best
 none_best sli kinds best some is = rw is (into_none sli kinds some, tt)
 
+none_later : (ways : List (List Kind)) → HasAtMost 0 ways → IsNoLater [] ways
+none_later [] few = tt
+none_later (part ∷ parts) few = absurd (omega (arith, few))
+
 nothing_best : (sli : ℕ) (split : Split) → split.heaps ≡ 0 → split.words ≡ 0 → length split.lens ≡ 8 → IsLeastAmong sli (HasAtMost 0) [] split × IsSmall 0 split
 nothing_best sli split none wordless room =
     let parts : parts_of split [] ≡ [] = ap (λ (n : ℕ). cut_by n split.lens []) none in (
@@ -232,6 +260,7 @@ nothing_best sli split none wordless room =
         sought = omega (arith, ap length parts);
         words = wordless ∙ sym (ap (words_together sli) parts);
         least = λ ways cut sought. omega (arith, wordless);
+        first = λ ways cut sought same. subst (λ (own : List (List Kind)). IsNoLater own ways) (sym parts) (none_later ways sought);
       },
       record { few = omega (arith, none); words = omega (arith, wordless); room = room },
     )
@@ -260,3 +289,37 @@ both_longer sli heaps n level kinds rests best words few inside there are each i
       longer_first sli heaps n kinds best rest words inside are is behind (small_more heaps 7 rest few upto),
       small_cheaper (heaps + 1) best (with_first (n + 1) words rest) small (small_first heaps (n + 1) words rest few (words_most sli level (take (n + 1) kinds) words are) upto),
     )
+
+-- ---- one way of cutting alone
+
+same_cut : (ways others : List (List Kind)) → joined ways ≡ joined others → IsNoLater ways others → IsNoLater others ways → ways ≡ others
+same_cut [] [] joins upto from = refl
+same_cut [] (other ∷ others) joins upto from = absurd upto
+same_cut (part ∷ parts) [] joins upto from = absurd upto
+same_cut (part ∷ parts) (other ∷ others) joins upto from = elim upto [
+  | inl less ↦ absurd (elim from [ inl more ↦ omega (arith, less, more) | inr as_long ↦ omega (arith, less, as_long.0) ])
+  | inr as_long ↦ elim from [
+    | inl more ↦ absurd (omega (arith, more, as_long.0))
+    | inr back ↦
+        let begin = begins (length other) (other ++ joined others) part (joined parts) joins as_long.0 in
+        ap₂ (λ (p : List Kind) (ps : List (List Kind)). p ∷ ps) (begin.first ∙ taken other (joined others))
+        (same_cut parts others (begin.behind ∙ dropped other (joined others)) as_long.1 back.1)
+  ]
+]
+
+cut_count : (heaps : ℕ) (lens : List ℕ) (kinds : List Kind) → length (cut_by heaps lens kinds) ≡ heaps
+cut_count zero lens kinds = refl
+cut_count (suc heaps) lens kinds = omega (arith, cut_count heaps lens (drop (get_or lens heaps 0) kinds))
+
+pub one_way : (sli heaps : ℕ) (kinds : List Kind) (split other : Split) → IsLeast sli heaps kinds split → IsLeast sli heaps kinds other → CutAlike kinds split other
+one_way sli heaps kinds split other is least =
+    let upto : split.words ≤ other.words = omega (arith, is.least (parts_of other kinds) least.cut least.sought, least.words) in
+    let from : other.words ≤ split.words = omega (arith, least.least (parts_of split kinds) is.cut is.sought, is.words) in
+    let parts = same_cut (parts_of split kinds) (parts_of other kinds) (is.cut.0 ∙ sym least.cut.0)
+    (is.first (parts_of other kinds) least.cut least.sought (omega (arith, upto, from, least.words)))
+    (least.first (parts_of split kinds) is.cut is.sought (omega (arith, upto, from, is.words))) in
+    record {
+      parts = parts;
+      heaps = omega (arith, ap (λ (ps : List (List Kind)). length ps) parts, cut_count split.heaps split.lens kinds, cut_count other.heaps other.lens kinds);
+      words = omega (arith, upto, from);
+    }
