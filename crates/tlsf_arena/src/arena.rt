@@ -1,8 +1,9 @@
-ghost use Rattle.std.specs.Prelude.{◌≡◌, ◌≢◌, ℕ, ◌+◌, ◌-◌, ◌*◌, ◌/◌, ◌^◌, ◌<◌, ◌≤◌, ◌↔◌, [], length, Ok, Err, IfOk, IfErr, IfSome, IsOk, IsSome, IsErrOf, OnErr, MatchResult, Some, option_map};
+ghost use Rattle.std.specs.Prelude.{true, ◌≡◌, ◌≢◌, ℕ, ◌+◌, ◌-◌, ◌*◌, ◌/◌, ◌%◌, ◌^◌, ◌<◌, ◌≤◌, ◌↔◌, false, [], length, Ok, Err, IfOk, IfErr, IfSome, IsOk, IsSome, IsErrOf, OnErr, OnOk, MatchResult, Some, option_map};
 ghost use denote.RawPtr.{block_of, count_of, InBlock};
 ghost use Rattle.linked_list_allocator.specs.Region.{region_of};
 ghost use Rattle.tlsf_class.specs.Classes.{IsLevel};
-ghost use Rattle.tlsf_heap.specs.Calls.{last_tick, opened, released};
+ghost use Rattle.tlsf_heap.specs.Blocks.{HeapState};
+ghost use Rattle.tlsf_heap.specs.Calls.{last_tick, opened, released, resized_words};
 ghost use Rattle.tlsf_heap.specs.GoodFit.{fits};
 ghost use Rattle.tlsf_heap.specs.Lawful.{IsLawful, IsRegion};
 ghost use Rattle.tlsf_heap.specs.Placed.{placed_at};
