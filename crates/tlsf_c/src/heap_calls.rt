@@ -130,7 +130,7 @@ pub extern "C" fn tlsf_words(level: u32, most: u32, len: usize, words: &mut u32)
 /// ```
 #[unsafe(no_mangle)]
 pub extern "C" fn tlsf_close(alloc: Global, heap: &mut HeapSlot) -> u32
-    ensures after { serves heap.new ≡ false }
+    ensures after { result ≡ 0 → heap.new.is_open ≡ false }
     ensures closed { serves heap.old ≡ false → (result ≡ closed) × (heap.new ≡ heap.old) }
     ensures open { serves heap.old ≡ true → result ≡ 0 }
 {
