@@ -1,6 +1,8 @@
 -- The fields of a line as bytes of it.
-use Rattle.tlsf_diagnosis.proofs.Common.{◌≡◌, ℕ, ◌+◌, ◌-◌, ◌<◌, ◌≤◌, Bool, true, false, cond, List, [], ◌∷◌, ◌++◌, Option, Some, None, length, take, drop, min, refl, sym, ap, subst, ◌∙◌, arith, append_assoc, append-nil, length-append, ◌==◌, Bor, fields_left, fields_of, field, fields_in, pieces_of, HasBefore, IsFieldAt, MarksField, ShowsAt, ShowsField, spaces_in, without_feed}
+use Rattle.tlsf_diagnosis.proofs.Common.{◌≡◌, ℕ, ◌+◌, ◌-◌, ◌<◌, ◌≤◌, Bool, true, false, cond, List, [], ◌∷◌, ◌++◌, Option, Some, None, length, take, drop, min, refl, sym, ap, subst, ◌∙◌, arith, append_assoc, append-nil, length-append, ◌==◌, ◌&&◌, Bor, fields_left, fields_of, field, fields_in, pieces_of, HasBefore, IsFieldAt, MarksField, ShowsAt, ShowsField, spaces_in, without_feed}
 use Rattle.std.specs.List.{join_with_byte}
+use Rattle.tlsf_diagnosis.specs.Notes.{tip_row}
+use Rattle.tlsf_diagnosis.specs.Tips.{is_tipped, takes_number, wants_tip}
 use Rattle.std.proofs.lemmas.List.{length-take-le, take-append-drop, take_at}
 use Rattle.std.proofs.lemmas.List.Splits.{join_with_byte-slice_split, length-slice_split}
 use Rattle.std.proofs.lemmas.List.Sums.{sum_by-append, sum_by-cons}
@@ -120,3 +122,20 @@ shows_field text number n at piece line rows is fed_is marks within shows =
       marks = subst (λ (p : List ℕ). MarksField p n at) is marks;
       shows = subst (λ (p : List ℕ). ShowsAt (without_feed p) at rows) is (subst (λ (l : List ℕ). ShowsAt l at rows) fed_is own);
     }
+
+-- ---- the tip on numbers
+
+-- it stands there by the bytes of a field, and by what is wanted there
+pub tipped : (text : List ℕ) (number n : ℕ) (piece line bytes : List ℕ) (wanted : Bool) → piece ≡ field (pieces_of text) (number - 1) → line ≡ without_feed piece
+    → bytes ≡ field (fields_of line) (n - 1) → wanted ≡ takes_number number (fields_of (without_feed piece)) n
+    → (is_tipped bytes && wanted) ≡ wants_tip text number n
+tipped text number n piece line bytes wanted is fed_is at takes =
+    let own : line ≡ without_feed (field (pieces_of text) (number - 1)) = fed_is ∙ ap (λ (p : List ℕ). without_feed p) is in
+    let stands : bytes ≡ field (fields_of (without_feed (field (pieces_of text) (number - 1)))) (n - 1) = at ∙ ap (λ (l : List ℕ). field (fields_of l) (n - 1)) own in
+    ap (λ (b : List ℕ). is_tipped b && wanted) stands
+    ∙ ap (λ (b : Bool). is_tipped (field (fields_of (without_feed (field (pieces_of text) (number - 1)))) (n - 1)) && b)
+    (takes ∙ ap (λ (p : List ℕ). takes_number number (fields_of (without_feed p)) n) is)
+
+-- and it follows the words
+pub tip_follows : (shown row named note : List ℕ) (said tip : Bool) → note ≡ named ++ tip_row said → named ≡ shown ++ row → said ≡ tip → note ≡ shown ++ row ++ tip_row tip
+tip_follows shown row named note said tip ends begins same = ends ∙ (ap (λ (bytes : List ℕ). bytes ++ tip_row said) begins ∙ ap (λ (b : Bool). shown ++ row ++ tip_row b) same)

@@ -2,7 +2,7 @@
 use Rattle.tlsf_diagnosis.proofs.Common.{◌≡◌, ℕ, zero, suc, ◌+◌, ◌≤◌, List, [], ◌∷◌, drop, length, refl, sym, add-one, arith, field, pieces_of}
 
 -- there is none past the last
-beyond : (pieces : List (List ℕ)) (i k : ℕ) → drop i pieces ≡ [] → i ≤ k → field pieces k ≡ []
+pub beyond : (pieces : List (List ℕ)) (i k : ℕ) → drop i pieces ≡ [] → i ≤ k → field pieces k ≡ []
 beyond [] i k none le = refl
 beyond (piece ∷ pieces) zero k none le = cc
 beyond (piece ∷ pieces) (suc i) zero none le = absurd (omega (arith, le))

@@ -1,4 +1,5 @@
--- Kinds of fields, as this crate tells them apart. This serves the contracts of private functions alone, but for the workers.
+-- Kinds of fields, as this crate tells them apart. This serves the contracts of private functions alone, but for the workers, and for
+-- the tip on numbers the kinds after a keyword.
 use Rattle.std.specs.Prelude.{ℕ, ◌-◌, Bool, true, false, if◌then◌else◌, is_some, List, [], ◌∷◌, Option, Some, None}
 use Rattle.tlsf_lines.specs.Fields.{field, is_digits}
 use Rattle.tlsf_lines.specs.Header.{header_in, number_in}

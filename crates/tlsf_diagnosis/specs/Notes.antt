@@ -9,6 +9,7 @@ use Rattle.tlsf_diagnosis.specs.TraceLines.{trace_line}
 use Rattle.tlsf_diagnosis.specs.FieldFaults.{IsFoundIn}
 use Rattle.tlsf_diagnosis.specs.PassedLimits.{NotesLimit}
 use Rattle.tlsf_diagnosis.specs.Shown.{ShowsField, shown_byte}
+use Rattle.tlsf_diagnosis.specs.Tips.{wants_tip}
 
 -- of a good trace one line is put out
 abbrev pub Describes : Outputs
@@ -23,13 +24,13 @@ abbrev pub tip_row : Bool → List ℕ
 tip_row true = codes "  " ++ codes "tip: numbers are plain digits, as 65536 for 64 KiB\n"
 tip_row false = []
 
--- a note shows line number `line` of a text with a mark in field n, and names the field below
+-- a note shows line number `line` of a text with a mark in field n, and names the field below. The tip on numbers follows if and only
+-- if a number with more in it than digits stands there, and a number is wanted
 pub record NamesField (text : List ℕ) (line n : ℕ) (note : List ℕ) : Type 0 where
   pub shown : List ℕ
   pub words : List ℕ
-  pub is_tipped : Bool
   pub shows : ShowsField text line n shown
-  pub note_is : note ≡ shown ++ field_row n words ++ tip_row is_tipped
+  pub note_is : note ≡ shown ++ field_row n words ++ tip_row (wants_tip text line n)
 
 -- a note was added that names the field in which the fault of a text is found
 pub record NotesField (text : List ℕ) (fault : TraceFault) (old new : List ℕ) : Type 0 where

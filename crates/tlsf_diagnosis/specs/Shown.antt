@@ -1,15 +1,20 @@
 -- A line as it is shown, and a mark below it.
-use Rattle.std.specs.Prelude.{◌≡◌, ◌⊎◌, ℕ, ◌+◌, ◌-◌, ◌^◌, ◌<◌, ◌≤◌, ◌==◌, ◌&&◌, false, nat_le, List, [], ◌∷◌, ◌++◌, None, codes, count_by, drop, take, length, replicate, slice_index, if◌then◌else◌}
+use Rattle.std.specs.Prelude.{◌≡◌, ◌⊎◌, ℕ, ◌+◌, ◌-◌, ◌^◌, ◌<◌, ◌≤◌, ◌==◌, ◌&&◌, Bool, false, nat_le, List, [], ◌∷◌, ◌++◌, Option, Some, None, codes, count_by, drop, take, length, replicate, slice_index, if◌then◌else◌}
+use Rattle.std.specs.Borrow.{Bor}
 use Rattle.std.specs.Fmt.{digits, format_spec, padded_integral}
 use Rattle.std.specs.List.{flat_map}
 use Rattle.tlsf_lines.specs.CutFields.{fields_of}
 use Rattle.tlsf_lines.specs.Fields.{field, fields_in}
 use Rattle.tlsf_lines.specs.Pieces.{pieces_of}
 
+-- whether a byte is printable ASCII
+abbrev pub is_printable : ℕ → Bool
+is_printable byte = nat_le 32 byte && nat_le byte 126
+
 -- a byte as it is shown: itself where it is printable, and else a tab, a carriage return, or its two hexadecimal digits
 abbrev pub shown_byte : ℕ → List ℕ
 shown_byte byte =
-    if nat_le 32 byte && nat_le byte 126 then byte ∷ []
+    if is_printable byte then byte ∷ []
     else (if byte == 9 then codes "\\t"
     else (if byte == 13 then codes "\\r"
     else codes "\\x" ++ padded_integral (format_spec 32 0 4 2 (2 ^ 64 - 1)) false [] (digits 16 false byte)))
@@ -47,6 +52,11 @@ without_feed piece = if slice_index piece (length piece - 1) == 10 then take (le
 
 abbrev pub spaces_in : List ℕ → ℕ
 spaces_in bytes = count_by (λ byte. byte == 32) bytes
+
+-- the bytes of a field, and none where it is missing
+abbrev pub bytes_of : Option (Bor (List ℕ)) → List ℕ
+bytes_of None = []
+bytes_of (Some field) = field.now
 
 -- this many spaces stand before the rest of a line
 pub record HasBefore (line rest : List ℕ) (count : ℕ) : Type 0 where

@@ -1,5 +1,9 @@
 //! The wanted content of a field, and the content that stands there.
-ghost use Rattle.std.specs.Prelude.{◌≡◌, ◌≤◌, length, IfSome, false, true};
+ghost use Rattle.std.specs.Prelude.{◌≡◌, ◌≤◌, ◌&&◌, length, slice_get, IfSome, false, true};
+ghost use Rattle.std.specs.List.{list_all};
+ghost use Rattle.tlsf_diagnosis.specs.Shown;
+ghost use Rattle.tlsf_diagnosis.specs.Tips;
+ghost use Rattle.tlsf_lines.specs.CutFields.{fields_of};
 
 use crate::judge::{Judge, is_all_digits, passes};
 use crate::kind::{Kind, kinds_behind};
@@ -27,16 +31,32 @@ pub enum Wanted {
     Nothing(usize),
 }
 
+impl Wanted {
+    // Whether it is a number.
+    fn is_number(self) -> bool
+        ensures { result ≡ Tips.is_number_wanted self }
+    {
+        match self {
+            Wanted::Value(kind) => kind.is_number(),
+            Wanted::Name | Wanted::Version | Wanted::Keyword | Wanted::Nothing(_) => false,
+        }
+    }
+}
+
 // The kind at a place of these, or no field where there are so few.
-fn value_at(kinds: &[Kind], place: usize, fields: usize) -> Wanted {
+fn value_at(kinds: &[Kind], place: usize, fields: usize) -> Wanted
+    ensures { Tips.is_number_wanted result ≡ Tips.is_number_kind (slice_get kinds.now place) }
+{
     match kinds.get(place) {
         Some(kind) => Wanted::Value(*kind),
         None => Wanted::Nothing(fields),
     }
 }
 
-/// The content that field `n` of the header should have.
-pub fn wanted_in_header(piece: &[u8], n: usize) -> Wanted {
+// The content that field `n` of the header should have.
+fn wanted_in_header(piece: &[u8], n: usize) -> Wanted
+    ensures { Tips.is_number_wanted result ≡ Tips.takes_number_in_header n }
+{
     match n {
         0 | 1 => Wanted::Name,
         2 => Wanted::Version,
@@ -48,8 +68,10 @@ pub fn wanted_in_header(piece: &[u8], n: usize) -> Wanted {
     }
 }
 
-/// The content that field `n` of a line after the header should have.
-pub fn wanted_in_line(piece: &[u8], n: usize) -> Wanted {
+// The content that field `n` of a line after the header should have.
+fn wanted_in_line(piece: &[u8], n: usize) -> Wanted
+    ensures { Tips.is_number_wanted result ≡ Tips.takes_number_in_line (fields_of (Shown.without_feed piece.now)) n }
+{
     if n < 2 {
         return Wanted::Keyword;
     }
@@ -59,6 +81,17 @@ pub fn wanted_in_line(piece: &[u8], n: usize) -> Wanted {
             value_at(kinds, n - 2, kinds.len() + 1)
         }
         None => Wanted::Keyword,
+    }
+}
+
+/// The content that field `n` of line number `line` should have, which stands in the text as `piece`.
+pub fn wanted_in(piece: &[u8], line: u32, n: usize) -> Wanted
+    ensures { Tips.is_number_wanted result ≡ Tips.takes_number line (fields_of (Shown.without_feed piece.now)) n }
+{
+    if line < 2 {
+        wanted_in_header(piece, n)
+    } else {
+        wanted_in_line(piece, n)
     }
 }
 
@@ -88,11 +121,25 @@ fn word_meant(field: &[u8]) -> Option<&'static str> {
     }
 }
 
+// Whether a byte is printable ASCII, as each byte of a line is but its line feed.
+fn is_printable(byte: u8) -> bool
+    ensures { result ≡ Shown.is_printable byte }
+{
+    matches!(byte, b' '..=b'~')
+}
+
+// Whether each byte of a field is.
+fn is_all_printable(field: &[u8]) -> bool
+    ensures { result ≡ list_all Shown.is_printable field.now }
+{
+    field.iter().all(|byte| is_printable(*byte))
+}
+
 // Where the first byte is that no line has: one that isn't printable.
 fn unprintable_in(field: &[u8]) -> Option<usize>
     ensures { IfSome result (λ place. place ≤ length field.now) }
 {
-    field.iter().position(|byte| !matches!(*byte, b' '..=b'~'))
+    field.iter().position(|byte| !is_printable(*byte))
 }
 
 // Where the first byte is that isn't as wanted.
@@ -175,11 +222,18 @@ pub fn push_wanted(text: &mut String, wanted: Wanted, workers: u32) -> Result<()
     }
 }
 
+// Whether a field begins as a hexadecimal number.
+fn is_hexadecimal(field: &[u8]) -> bool
+    ensures { result ≡ Tips.is_hexadecimal field.now }
+{
+    matches!(field, [b'0', b'x' | b'X', ..])
+}
+
 // Whether the tip on numbers helps: no other word is said of the field.
-fn is_tipped(field: &[u8]) -> bool {
-    is_marked_number(field)
-        && unprintable_in(field).is_none()
-        && number_note(field, true).is_empty()
+fn is_tipped(field: &[u8]) -> bool
+    ensures { result ≡ Tips.is_tipped field.now }
+{
+    is_marked_number(field) && is_all_printable(field) && !is_hexadecimal(field)
 }
 
 // Adds the field in quotes, cut where it is long.
@@ -197,7 +251,7 @@ fn push_quoted(text: &mut String, field: &[u8]) -> Result<(), AllocError> {
 fn number_note(field: &[u8], has_range: bool) -> &'static str {
     match field {
         [b'-', ..] | [b'+', ..] => ": numbers have no sign",
-        [b'0', b'x' | b'X', ..] => ": numbers are decimal",
+        _ if is_hexadecimal(field) => ": numbers are decimal",
         [b'0', _, ..] if is_all_digits(field) => ": a leading zero",
         _ if has_range && is_all_digits(field) => ": out of that range",
         _ => "",
@@ -323,9 +377,11 @@ pub fn push_found(
 }
 
 /// Whether the tip on numbers helps: the field is a number with more in it than digits.
-pub fn wants_tip(spot: Spot, wanted: Wanted) -> bool {
-    match (spot.field, wanted) {
-        (Some(field), Wanted::Value(kind)) => kind.is_number() && is_tipped(field),
-        _ => false,
+pub fn wants_tip(spot: Spot, wanted: Wanted) -> bool
+    ensures { result ≡ (Tips.is_tipped (Shown.bytes_of spot.entry.field) && Tips.is_number_wanted wanted) }
+{
+    match spot.field {
+        Some(field) => is_tipped(field) && wanted.is_number(),
+        None => false,
     }
 }

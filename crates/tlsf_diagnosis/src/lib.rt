@@ -10,7 +10,8 @@
 //!
 //! Contracts see the fault of a text as `fault_of` of `tlsf_lines`, its field as `IsFoundIn` of `specs/FieldFaults.antt`, and the limit as
 //! `NotesLimit` of `specs/PassedLimits.antt`. They see the rows that show the line, with the mark below, as `ShowsField` of
-//! `specs/Shown.antt`. By `NamesField` of `specs/Notes.antt` the words are printable. Tests show that they are the right ones.
+//! `specs/Shown.antt`. By `NamesField` of `specs/Notes.antt` the words are printable. Tests show that they are the right ones. The tip
+//! on numbers follows them if and only if `wants_tip` of `specs/Tips.antt` says so.
 #![tactic(auto)]
 
 mod count_line;

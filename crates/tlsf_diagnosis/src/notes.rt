@@ -5,8 +5,7 @@ ghost use Rattle.tlsf_diagnosis.specs.Shown.{MarksField, without_feed};
 
 use crate::field_spots::piece_at;
 use crate::findings::{
-    Wanted, lacks_feed_alone, mark_in, push_found, push_wanted, wanted_in_header, wanted_in_line,
-    wants_tip,
+    Wanted, lacks_feed_alone, mark_in, push_found, push_wanted, wanted_in, wants_tip,
 };
 use crate::labels::making_of;
 use crate::line_view::{push_bytes, view};
@@ -114,7 +113,8 @@ fn push_tip(note: &mut String, is_tipped: bool) -> Result<(), AllocError>
 
 /// Explains the fault of a text in a field of its line, in three lines. These are the line as it stands, a mark under the byte, and
 /// words. The words say which field it is, what was expected there and what was found. Where the line feed is missing too it says
-/// so. After a number with more in it than digits, as `8KiB`, a fourth line has the tip on numbers.
+/// so. Where a number is wanted and has more in it than digits, as `8KiB`, a fourth line has the tip on numbers. A hexadecimal number
+/// has no tip, nor has one with a byte that isn't printable.
 ///
 /// A long line is cut on both sides of the mark. A tab is shown as `\t`, a carriage return as `\r`, and another byte that isn't
 /// printable as `\x07`. So nothing reaches a terminal but printable ASCII and line feeds.
@@ -138,11 +138,7 @@ pub fn explain(
 {
     let piece = piece_at(text, fault.line);
     let spot = Spot::of(piece, field);
-    let wanted = if fault.line < 2 {
-        wanted_in_header(piece, field)
-    } else {
-        wanted_in_line(piece, field)
-    };
+    let wanted = wanted_in(piece, fault.line, field);
     let words = words_on(alloc, text, fault, spot, wanted)?;
     let mark = marked(piece, field, wanted, workers_of(text));
     let mut note = view(alloc, spot.line, mark)?;

@@ -1,8 +1,8 @@
 //! Where a field stands in a line.
-ghost use Rattle.std.specs.Prelude.{◌≡◌, ◌-◌, ◌≤◌, length, is_some, MatchOption};
-ghost use Rattle.tlsf_diagnosis.specs.Shown.{HasBefore, IsFieldAt, without_feed};
-ghost use Rattle.tlsf_lines.specs.CutFields.{fields_of};
-ghost use Rattle.tlsf_lines.specs.Fields.{fields_in};
+ghost use Rattle.std.specs.Prelude.{◌≡◌, ◌-◌, ◌≤◌, length, is_some, MatchOption, drop};
+ghost use Rattle.tlsf_diagnosis.specs.Shown.{HasBefore, IsFieldAt, bytes_of, without_feed};
+ghost use Rattle.tlsf_lines.specs.CutFields.{fields_left, fields_of};
+ghost use Rattle.tlsf_lines.specs.Fields.{field, fields_in};
 
 use tlsf_lines::{cut_feed, cut_field};
 
@@ -32,7 +32,8 @@ fn line_in(piece: &[u8]) -> (&[u8], bool)
 
 // The rest of a line after this many fields.
 fn behind_fields(line: &[u8], count: usize) -> Option<&[u8]>
-    ensures { MatchOption result (length (fields_of line.now) ≤ count) (λ rest. HasBefore line.now rest.now count) }
+    ensures place { MatchOption result (length (fields_of line.now) ≤ count) (λ rest. HasBefore line.now rest.now count) }
+    ensures left { fields_left result ≡ drop count (fields_of line.now) }
 {
     let mut rest = line;
     for _i in 0..count {
@@ -52,6 +53,7 @@ impl<'a> Spot<'a> {
         ensures ended { result.is_ended ≡ is_some (fields_in piece.now) }
         ensures place { MatchOption result.field ((result.start ≡ length result.line.now) × (length (fields_of result.line.now) ≤ n - 1))
             (λ field. IsFieldAt result.line.now n result.start field.now) }
+        ensures bytes { bytes_of result.field ≡ field (fields_of result.line.now) (n - 1) }
     {
         let (line, is_ended) = line_in(piece);
         match behind_fields(line, n.saturating_sub(1)) {
@@ -72,7 +74,11 @@ impl<'a> Spot<'a> {
 }
 
 /// The bytes of field number `n` of a line as it stands; none where it is missing.
-pub fn field_in(piece: &[u8], n: usize) -> &[u8] {
-    let nothing: &[u8] = b"";
-    Spot::of(piece, n).field.unwrap_or(nothing)
+pub fn field_in(piece: &[u8], n: usize) -> &[u8]
+    ensures { result.now ≡ field (fields_of (without_feed piece.now)) (n - 1) }
+{
+    match Spot::of(piece, n).field {
+        Some(field) => field,
+        None => b"",
+    }
 }
