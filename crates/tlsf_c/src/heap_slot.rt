@@ -61,6 +61,7 @@ impl HeapSlot {
     /// that memory has no other use.
     pub fn take_out(&mut self, alloc: Global) -> Option<Box<HeldHeap, Global>>
         ensures closed { serves self.new ≡ false }
+        ensures beside { (self.new.base ≡ self.old.base) × (self.new.number ≡ self.old.number) × (self.new.is_mixed ≡ self.old.is_mixed) }
         ensures none { result ≡ None → (serves self.old ≡ false) × (self.new ≡ self.old) }
         ensures some { (b : _) → result ≡ Some b → (serves self.old ≡ true) × (self.new.is_open ≡ false) × (b.value ≡ record (self.old.inner.value) { is_in_use = true }) }
     {
