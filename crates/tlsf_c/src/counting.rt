@@ -1,17 +1,16 @@
 //! Calls of a heap that count the words in use, and the requests refused for want of room.
-ghost use Rattle.std.specs.Prelude.{◌≡◌, ◌+◌, ◌*◌, ◌/◌, ◌%◌, ◌≤◌, length, max, min, IfOk, OnErr};
+ghost use Rattle.std.specs.Prelude.{◌≡◌, ◌+◌, ◌*◌, ◌/◌, ◌%◌, ◌≤◌, length, max, min, IfOk, IsOk, OnErr};
 ghost use Rattle.tlsf_class.specs.Classes.{IsLevel};
 ghost use Rattle.tlsf_heap.specs.Aligned.{words_aligned};
 ghost use Rattle.tlsf_heap.specs.Blocks;
 ghost use Rattle.tlsf_heap.specs.Calls.{allocated, resized};
 ghost use Rattle.tlsf_heap.specs.Effects.{Allocates, Releases, Resets, Resizes};
 ghost use Rattle.tlsf_heap.specs.Footprint.{LeavesLive, LeavesPayloads};
-ghost use Rattle.tlsf_heap.specs.Given.{payload_words_left};
 ghost use Rattle.tlsf_heap.specs.Laws.{IsLive};
 ghost use Rattle.tlsf_heap.specs.Moved.{resized_or_moved, payload_words_moved};
 ghost use Rattle.tlsf_heap.specs.Touched.{FollowsNoForgery, FollowsNoPlace, allocate_touches, release_touches, reset_touches, resize_touches};
 ghost use Rattle.tlsf_heap.specs.ByPlace.{released_by_place};
-ghost use Rattle.tlsf_heap.specs.InPlace.{payload_of};
+ghost use Rattle.tlsf_heap.specs.InPlace.{payload_of, words_grown};
 ghost use Rattle.tlsf_heap.specs.Shown.{seen};
 ghost use Rattle.tlsf_heap.specs.Unset.{lying, unset_from, with_payload};
 ghost use Rattle.tlsf_heap.specs.WordsInUse.{words_in_use, words_at};
@@ -262,8 +261,8 @@ impl HeapCounts {
         ensures are_counts { AreHeapCounts heap.new.heap self.new }
         ensures stays { heap.new.extents ≡ heap.old.extents }
         ensures touches_rise { heap.old.touches ≤ heap.new.touches }
-        ensures touches { heap.new.touches ≤ heap.old.touches + 133 + payload_words_left (resized heap.old.heap name len).answer (resized heap.old.heap name len).heap name
-            + 3 * payload_words_moved SLI heap.old.heap len }
+        ensures in_place { IsOk (resized heap.old.heap name len).answer → heap.new.touches ≤ heap.old.touches + resize_touches + 6 + words_grown heap.old.heap len name }
+        ensures elsewhere { ¬ (IsOk (resized heap.old.heap name len).answer) → heap.new.touches ≤ heap.old.touches + resize_touches + 66 + 3 * payload_words_moved SLI heap.old.heap len }
         ensures leaves { LeavesPayloads heap.old.heap.blocks name.at heap.old.touched heap.new.touched }
         ensures refused { OnErr result (LeavesLive heap.old.heap.blocks heap.old.touched heap.new.touched) }
         ensures forged { FollowsNoForgery (seen heap.old) (seen heap.new) name }
@@ -296,6 +295,7 @@ impl HeapCounts {
         ensures stays { heap.new.extents ≡ heap.old.extents }
         ensures touches_rise { heap.old.touches ≤ heap.new.touches }
         ensures touches { heap.new.touches ≤ heap.old.touches + 104 + 2 * (min (length (payload_of heap.old.heap name)) len / 8) }
+        ensures in_place { IsOk (resized heap.old.heap name len).answer → heap.new.touches ≤ heap.old.touches + 38 }
         ensures leaves { LeavesPayloads heap.old.heap.blocks name.at heap.old.touched heap.new.touched }
         ensures refused { OnErr result (LeavesLive heap.old.heap.blocks heap.old.touched heap.new.touched) }
         ensures forged { FollowsNoForgery (seen heap.old) (seen heap.new) name }

@@ -1,7 +1,7 @@
 //! C's calls of a heap by place, the number of the word at which a block begins. They are for a caller who has its address and
 //! keeps no name.
-ghost use Rattle.std.specs.Prelude.{◌≡◌, true, false, ◌≤◌, ◌+◌, ◌*◌, ◌/◌, ◌%◌, max, Ok, Option, Some, None};
-ghost use Rattle.tlsf_heap.specs.ByPlace.{name_at, released_by_place};
+ghost use Rattle.std.specs.Prelude.{◌≡◌, true, false, ◌≤◌, ◌+◌, ◌*◌, ◌/◌, ◌%◌, max, Ok, Option, Some, None, IsOk};
+ghost use Rattle.tlsf_heap.specs.ByPlace.{name_at, released_by_place, resized_by_place};
 ghost use Rattle.tlsf_heap.specs.Aligned.{words_aligned};
 ghost use Rattle.tlsf_heap.specs.Blocks.{want, IsPlace};
 ghost use Rattle.tlsf_heap.specs.Calls.{allocated};
@@ -166,6 +166,7 @@ pub extern "C" fn tlsf_resize_place(
     ensures wild { serves heap.old ≡ true → FollowsNoPlace (heap_in heap.old) at (touches_in heap.old) (touches_in heap.new) }
     ensures counts { serves heap.old ≡ true → counts_in heap.new ≡ counted_move (counts_in heap.old) at (resized_or_moved_by_place (level_in heap.old) (heap_in heap.old) at (saturated len)).answer (saturated len) (heap_in heap.new) }
     ensures touches { serves heap.old ≡ true → touches_in heap.new ≤ touches_in heap.old + 107 + 2 * (kept_at (heap_in heap.old) at (saturated len) / 8) }
+    ensures in_place { serves heap.old ≡ true → IsOk (resized_by_place (heap_in heap.old) at (saturated len)).answer → touches_in heap.new ≤ touches_in heap.old + 41 }
     ensures leaves { serves heap.old ≡ true → LeavesPayloads (heap_in heap.old).blocks at (touched_in heap.old) (touched_in heap.new) }
     ensures leaves_all { serves heap.old ≡ true → ¬ (result ≡ 0) → LeavesLive (heap_in heap.old).blocks (touched_in heap.old) (touched_in heap.new) }
 {

@@ -2,6 +2,7 @@
 use Rattle.std.specs.Prelude.{◌≡◌, ℕ, List, Option, Some, None, Result, false, MatchOption, MatchResult}
 use Rattle.tlsf_heap.specs.Blocks.{Block, HeapState, is_free, StandsAt}
 use Rattle.tlsf_heap.specs.Calls.{Outcome, refused, released, resized}
+use Rattle.tlsf_heap.specs.InPlace.{words_grown}
 use Rattle.tlsf_heap.specs.GoodFit.{block_at, site_at}
 use Rattle.tlsf_heap.specs.Placed.{placed_at}
 use Rattle.tlsf_heap.specs.Regions.{IsTagOf}
@@ -46,6 +47,11 @@ released_by_place h at = call_by h (released h) (name_at h at)
 -- its resize to `len` bytes
 abbrev pub resized_by_place : HeapState → ℕ → ℕ → Outcome (Unit {0})
 resized_by_place h at len = call_by h (λ name. resized h name len) (name_at h at)
+
+-- the words by which its payload grows there, none where no live block begins there
+abbrev pub grown_of : HeapState → ℕ → Option Name → ℕ
+grown_of h len None = 0
+grown_of h len (Some name) = words_grown h len name
 
 -- block i is live and begins at this place
 pub record IsLiveAt (blocks : List Block) (at i : ℕ) : Type 0 where

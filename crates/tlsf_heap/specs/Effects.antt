@@ -1,14 +1,14 @@
 -- The effect of one call of a heap, told once: each layer above says it of its own view.
-use Rattle.std.specs.Prelude.{◌≡◌, ℕ, ◌+◌, ◌-◌, ◌*◌, ◌/◌, ◌≤◌, ◌↔◌, List, [], Bool, Option, Result, length, MatchOption, OnErr, IsOk, IsErrOf, IsTrue}
+use Rattle.std.specs.Prelude.{◌≡◌, ℕ, ◌+◌, ◌*◌, ◌/◌, ◌≤◌, ◌↔◌, List, [], Bool, Option, Result, length, MatchOption, OnErr, IsOk, IsErrOf, IsTrue}
 use Rattle.std.specs.Result.{result_unwrap_or}
-use Rattle.tlsf_heap.specs.Blocks.{want, words_for, IsPlace}
+use Rattle.tlsf_heap.specs.Blocks.{want, IsPlace}
 use Rattle.tlsf_heap.specs.Calls.{allocated_words, last_tick, read_answer, read_of, released, reset, resized_words, written}
 use Rattle.tlsf_heap.specs.Checks.{FindsSound, IsCheck, block_touches}
 use Rattle.tlsf_heap.specs.Footprint.{LeavesLive, LeavesPayloads}
 use Rattle.tlsf_heap.specs.Given.{payload_words_given, payload_words_left}
 use Rattle.tlsf_heap.specs.GoodFit.{fits}
 use Rattle.tlsf_heap.specs.Image.{Image}
-use Rattle.tlsf_heap.specs.InPlace.{payload_of}
+use Rattle.tlsf_heap.specs.InPlace.{words_grown}
 use Rattle.tlsf_heap.specs.Laws.{IsLive}
 use Rattle.tlsf_heap.specs.Placed.{placed_at}
 use Rattle.tlsf_heap.specs.Reports.{report_of, IsGrant}
@@ -66,7 +66,7 @@ pub record Resizes (most n len : ℕ) (old new : Seen) (name : Name) (answer : R
   pub answer_is : answer ≡ (resized_words old.heap name n len).answer
   pub heap : new.heap ≡ (resized_words old.heap name n len).heap
   pub touches : new.touches ≤ old.touches + most + payload_words_left answer new.heap name
-  pub grown : new.touches ≤ old.touches + most + 1 + (words_for len - words_for (length (payload_of old.heap name)))
+  pub grown : new.touches ≤ old.touches + most + 1 + words_grown old.heap len name
   pub rise : old.touches ≤ new.touches
   pub leaves : LeavesPayloads old.heap.blocks name.at old.touched new.touched
   pub refused : OnErr answer (LeavesLive old.heap.blocks old.touched new.touched)

@@ -1,9 +1,9 @@
 -- Payloads that are read and written where they stand.
-use Rattle.std.specs.Prelude.{◌≡◌, ℕ, ◌+◌, ◌/◌, List, [], Option, Some, None, Result, Ok, Err, length, take, drop, MatchResult}
+use Rattle.std.specs.Prelude.{◌≡◌, ℕ, ◌+◌, ◌-◌, ◌/◌, List, [], Option, Some, None, Result, Ok, Err, length, take, drop, MatchResult}
 use Rattle.std.specs.Borrow.{Bor, MutBor}
 use Rattle.std.specs.Fn.{Once, FnOnceReturnsAt, FnOnceReturnsAtMut}
 use Rattle.tlsf_words.specs.Bytes.{bytes_in}
-use Rattle.tlsf_heap.specs.Blocks.{HeapState, bytes_of}
+use Rattle.tlsf_heap.specs.Blocks.{HeapState, bytes_of, words_for}
 use Rattle.tlsf_heap.specs.Calls.{named, read_of, written}
 use Rattle.tlsf_heap.specs.GoodFit.{Site, block_at}
 use Rattle.tlsf_heap.specs.Image.{Image}
@@ -26,6 +26,10 @@ bytes_at (Some s) = bytes_of s.block
 -- the payload bytes of the live block of this name, none where there is no such block
 abbrev pub payload_of : HeapState → Name → List ℕ
 payload_of h name = bytes_at (named name h.blocks)
+
+-- the words by which that payload grows where it gets `len` bytes
+abbrev pub words_grown : HeapState → ℕ → Name → ℕ
+words_grown h len name = words_for len - words_for (length (payload_of h name))
 
 -- words that hold that payload: its bytes, eight in each, and no word more
 abbrev pub ArePayload : HeapState → Name → List ℕ → Type 0

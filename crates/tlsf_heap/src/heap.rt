@@ -1,5 +1,5 @@
 ghost use Rattle.std.specs.Fn.{FnOnceTakesAt, FnOnceTakesAtMut};
-ghost use Rattle.std.specs.Prelude.{◌≡◌, ◌≢◌, ℕ, List, ◌+◌, ◌*◌, ◌/◌, ◌-◌, ◌<◌, ◌≤◌, ◌^◌, ◌↔◌, true, length, min, take, IfOk, OnOk, OnErr, IsErrOf, MatchResult, Ok, Err};
+ghost use Rattle.std.specs.Prelude.{◌≡◌, ◌≢◌, ℕ, List, ◌+◌, ◌*◌, ◌/◌, ◌-◌, ◌<◌, ◌≤◌, ◌^◌, ◌↔◌, true, length, min, take, IfOk, OnOk, OnErr, IsOk, IsErrOf, MatchResult, Ok, Err};
 ghost use Rattle.tlsf_class.specs.Classes.{IsLevel, most_words};
 ghost use Rattle.tlsf_heap.specs.Blocks;
 ghost use Rattle.tlsf_heap.specs.ByPlace.{released_by_place, IsPlaceCheck};
@@ -7,14 +7,14 @@ ghost use Rattle.tlsf_heap.specs.Effects.{Allocates, Looks, Reads, Releases, Rep
 ghost use Rattle.tlsf_heap.specs.Footprint.{LeavesBoth, LeavesLive, LeavesPayloads};
 ghost use Rattle.tlsf_heap.specs.FreePlaces.{ShowsLists};
 ghost use Rattle.tlsf_heap.specs.Image.{Shows};
-ghost use Rattle.tlsf_heap.specs.InPlace.{payload_of, ArePayload, Alters, Inspects, IsPayloadCheck, IsRefusedAsRead};
+ghost use Rattle.tlsf_heap.specs.InPlace.{payload_of, words_grown, ArePayload, Alters, Inspects, IsPayloadCheck, IsRefusedAsRead};
 ghost use Rattle.tlsf_heap.specs.Lawful.{IsLawful, IsRegion};
 ghost use Rattle.tlsf_heap.specs.Laws.{IsLive};
 ghost use Rattle.tlsf_heap.specs.Moved.{copied, moved, payload_words_moved, resized_or_moved};
 ghost use Rattle.tlsf_heap.specs.GoodFit.{block_at};
 ghost use Rattle.tlsf_heap.specs.Named.{IsFirst, IsNameCheck};
 ghost use Rattle.tlsf_heap.specs.Regions.{image_of};
-ghost use Rattle.tlsf_heap.specs.Given.{payload_words_at, payload_words_left};
+ghost use Rattle.tlsf_heap.specs.Given.{payload_words_at};
 ghost use Rattle.tlsf_heap.specs.Unset.{lying, with_payload};
 ghost use Rattle.tlsf_heap.specs.Touched.{FollowsNoForgery, FollowsNoPlace, allocate_groups, allocate_touches, move_groups, release_groups, release_touches, resize_groups, resize_touches, read_touches, write_touches};
 ghost use Rattle.tlsf_heap.specs.Calls.{opened, released, resized, named, written, read_of, read_answer, has_bytes, last_tick};
@@ -331,10 +331,10 @@ impl<const SLI: u32> Heap<SLI> {
         ensures err { OnErr result (IsAsBefore self.old self.new) }
         ensures keeps { Keeps SLI self.old self.new }
 
-        // Accepted or refused, and whatever the region holds: at most 128 touches. It makes one more for each payload word of a
-        // block resized where it stands, and three more for each of a new block.
-        ensures touches { self.new.touches ≤ self.old.touches + 128 + payload_words_left (resized self.old.heap name len).answer (resized self.old.heap name len).heap name
-            + 3 * payload_words_moved SLI self.old.heap len }
+        // Whatever the region holds. Where the block stays, these are the touches of `resize`. Else a refused `resize` takes 27,
+        // and a move 61 and three for each payload word of the new block.
+        ensures in_place { IsOk (resized self.old.heap name len).answer → self.new.touches ≤ self.old.touches + resize_touches + 1 + words_grown self.old.heap len name }
+        ensures elsewhere { ¬ (IsOk (resized self.old.heap name len).answer) → self.new.touches ≤ self.old.touches + resize_touches + 61 + 3 * payload_words_moved SLI self.old.heap len }
         ensures leaves { LeavesPayloads self.old.heap.blocks name.at self.old.touched self.new.touched }
 
         // All lies in this many groups of eight words, and three more for each 64 bytes, but start bits and the lists.

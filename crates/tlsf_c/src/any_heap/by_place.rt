@@ -1,16 +1,15 @@
 //! The heap of C's calls by place, whose level is told when it is opened.
-ghost use Rattle.std.specs.Prelude.{◌≡◌, ◌+◌, ◌*◌, ◌/◌, ◌%◌, ◌<◌, ◌≤◌, length, max, min, IfOk, IfSome, OnErr};
+ghost use Rattle.std.specs.Prelude.{◌≡◌, ◌+◌, ◌*◌, ◌/◌, ◌%◌, ◌<◌, ◌≤◌, length, max, min, IfOk, IfSome, IsOk, OnErr};
 ghost use Rattle.tlsf_heap.specs.Aligned.{words_aligned};
 ghost use Rattle.tlsf_heap.specs.Blocks.{want};
-ghost use Rattle.tlsf_heap.specs.ByPlace.{name_at, released_by_place};
+ghost use Rattle.tlsf_heap.specs.ByPlace.{name_at, released_by_place, resized_by_place};
 ghost use Rattle.tlsf_heap.specs.Calls.{allocated, resized};
 ghost use Rattle.tlsf_heap.specs.Effects.{ChecksBlocks, Looks};
 ghost use Rattle.tlsf_heap.specs.Footprint.{LeavesLive, LeavesPayloads};
-ghost use Rattle.tlsf_heap.specs.Given.{payload_words_left};
-ghost use Rattle.tlsf_heap.specs.InPlace.{payload_of};
+ghost use Rattle.tlsf_heap.specs.InPlace.{payload_of, words_grown};
 ghost use Rattle.tlsf_heap.specs.Laws.{IsLive};
 ghost use Rattle.tlsf_heap.specs.Moved.{resized_or_moved, payload_words_moved};
-ghost use Rattle.tlsf_heap.specs.Touched.{FollowsNoForgery, FollowsNoPlace};
+ghost use Rattle.tlsf_heap.specs.Touched.{FollowsNoForgery, FollowsNoPlace, resize_touches};
 ghost use Rattle.tlsf_heap.specs.Unset.{lying, unset_from, with_payload};
 ghost use Rattle.tlsf_heap.specs.WordsInUse.{words_in_use};
 ghost use Rattle.tlsf_c.specs.Counting.{counted_request, counted_move};
@@ -143,6 +142,7 @@ impl AnyHeap {
         ensures goes_on { GoesOn self.old self.new }
         ensures counts { self.new.counts ≡ counted_move self.old.counts name.at result len self.new.heap }
         ensures touches { self.new.touches ≤ self.old.touches + 104 + 2 * (min (length (payload_of self.old.heap name)) len / 8) }
+        ensures in_place { IsOk (resized self.old.heap name len).answer → self.new.touches ≤ self.old.touches + 38 }
         ensures leaves { LeavesPayloads self.old.heap.blocks name.at self.old.touched self.new.touched }
         ensures refused { OnErr result (LeavesLive self.old.heap.blocks self.old.touched self.new.touched) }
         ensures forged { FollowsNoForgery (seen_at self.old) (seen_at self.new) name }
@@ -162,6 +162,7 @@ impl AnyHeap {
         ensures goes_on { GoesOn self.old self.new }
         ensures counts { self.new.counts ≡ counted_move self.old.counts at result len self.new.heap }
         ensures touches { self.new.touches ≤ self.old.touches + 107 + 2 * (kept_at self.old.heap at len / 8) }
+        ensures in_place { IsOk (resized_by_place self.old.heap at len).answer → self.new.touches ≤ self.old.touches + 41 }
         ensures leaves { LeavesPayloads self.old.heap.blocks at self.old.touched self.new.touched }
         ensures refused { OnErr result (LeavesLive self.old.heap.blocks self.old.touched self.new.touched) }
         ensures wild { FollowsNoPlace self.old.heap at self.old.touches self.new.touches }
@@ -178,8 +179,8 @@ impl AnyHeap {
         ensures heap { self.new.heap ≡ (resized_or_moved self.old.level self.old.heap name len).heap }
         ensures goes_on { GoesOn self.old self.new }
         ensures counts { self.new.counts ≡ counted_move self.old.counts name.at result len self.new.heap }
-        ensures touches { self.new.touches ≤ self.old.touches + 133 + payload_words_left (resized self.old.heap name len).answer (resized self.old.heap name len).heap name
-            + 3 * payload_words_moved self.old.level self.old.heap len }
+        ensures in_place { IsOk (resized self.old.heap name len).answer → self.new.touches ≤ self.old.touches + resize_touches + 6 + words_grown self.old.heap len name }
+        ensures elsewhere { ¬ (IsOk (resized self.old.heap name len).answer) → self.new.touches ≤ self.old.touches + resize_touches + 66 + 3 * payload_words_moved self.old.level self.old.heap len }
         ensures leaves { LeavesPayloads self.old.heap.blocks name.at self.old.touched self.new.touched }
         ensures refused { OnErr result (LeavesLive self.old.heap.blocks self.old.touched self.new.touched) }
         ensures forged { FollowsNoForgery (seen_at self.old) (seen_at self.new) name }

@@ -1,10 +1,10 @@
 ghost use Rattle.std.specs.Prelude.{◌≡◌, ◌+◌, ◌/◌, ◌<◌, ◌≤◌, IfSome, OnErr};
 ghost use Rattle.tlsf_heap.specs.Blocks;
-ghost use Rattle.tlsf_heap.specs.ByPlace.{name_at, released_by_place, resized_by_place};
+ghost use Rattle.tlsf_heap.specs.ByPlace.{grown_of, name_at, released_by_place, resized_by_place};
 ghost use Rattle.tlsf_heap.specs.Footprint.{LeavesLive, LeavesPayloads};
 ghost use Rattle.tlsf_heap.specs.Laws.{IsLive};
 ghost use Rattle.tlsf_heap.specs.Kept.{IsAsBefore, Keeps};
-ghost use Rattle.tlsf_heap.specs.Touched.{FollowsNoPlace, release_groups};
+ghost use Rattle.tlsf_heap.specs.Touched.{FollowsNoPlace, release_groups, resize_touches};
 ghost use Rattle.tlsf_words.specs.Touched.{InGroups};
 
 use super::{Heap, want};
@@ -91,7 +91,9 @@ impl<const SLI: u32> Heap<SLI> {
         ensures heap { self.new.heap ≡ (resized_by_place self.old.heap at len).heap }
         ensures err { OnErr result (IsAsBefore self.old self.new) }
         ensures keeps { Keeps SLI self.old self.new }
-        ensures touches { self.new.touches ≤ self.old.touches + 63 + Blocks.want len }
+
+        // Three to find the name, and those of a `resize` of it.
+        ensures touches { self.new.touches ≤ self.old.touches + resize_touches + 4 + grown_of self.old.heap len (name_at self.old.heap at) }
         ensures leaves { LeavesPayloads self.old.heap.blocks at self.old.touched self.new.touched }
         ensures groups { InGroups (17 + len / 64) self.old.touched self.new.touched }
         ensures refused { OnErr result (LeavesLive self.old.heap.blocks self.old.touched self.new.touched) }

@@ -123,6 +123,9 @@ impl<const SLI: u32> Heap<SLI> {
 
         // Accepted or refused, and whatever the region holds: at most 99 touches, and two for each word of the bytes that stay.
         ensures touches { self.new.touches ≤ self.old.touches + 99 + 2 * (min (length (payload_of self.old.heap name)) len / 8) }
+
+        // Where there is room at its place it takes as many as `resize_unset`.
+        ensures in_place { IsOk (resized self.old.heap name len).answer → self.new.touches ≤ self.old.touches + 33 }
         ensures leaves { LeavesPayloads self.old.heap.blocks name.at self.old.touched self.new.touched }
         ensures groups { InGroups (41 + 2 * (min (length (payload_of self.old.heap name)) len / 64)) self.old.touched self.new.touched }
         ensures refused { OnErr result (LeavesLive self.old.heap.blocks self.old.touched self.new.touched) }
