@@ -19,8 +19,8 @@ use Rattle.tlsf_heap.proofs.lemmas.laws.Live.{given_words, kept_others}
 use Rattle.tlsf_heap.proofs.lemmas.laws.MovedWords.{moved_live, in_use_moved}
 use Rattle.tlsf_heap.proofs.lemmas.calls.ResizeOrMove.{by_moved, refuses}
 use Rattle.tlsf_heap.proofs.lemmas.calls.Named.{named_stands, named_live, not_forged}
-use Rattle.tlsf_heap.proofs.lemmas.calls.Outcomes.{by_allocated, by_allocated_words, by_released, by_resized, by_written}
-use Rattle.tlsf_heap.proofs.lemmas.calls.Reset.{by_reset, none_in_use}
+use Rattle.tlsf_heap.proofs.lemmas.calls.Outcomes.{by_allocated, by_allocated_words, by_released, by_reset, by_resized, by_written}
+use Rattle.tlsf_heap.proofs.lemmas.calls.Reset.{none_in_use}
 use Rattle.tlsf_heap.proofs.lemmas.calls.Resize.{resized_refused}
 use Rattle.tlsf_heap.proofs.lemmas.laws.WordsInUse.{words_named, words_part, words_within, in_use_allocated, in_use_resized, words_set}
 

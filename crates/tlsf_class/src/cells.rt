@@ -46,7 +46,7 @@ impl Cells {
         word
     }
 
-    /// Writes word `at`, 0 to 21. Each write is here.
+    /// Writes word `at`, 0 to 21. Each write of one word is here.
     pub(crate) fn write(&mut self, at: u32, word: u32)
         requires { at < 22 }
         ensures length { length self.old.words ≡ 22 }

@@ -37,7 +37,7 @@ pub use Rattle.tlsf_heap.specs.Reports.{free_among, live_among, IsGrant, largest
 unfoldable pub use Rattle.tlsf_heap.specs.Reports.{grant_of}
 pub use Rattle.tlsf_heap.specs.Shown.{Shown, seen, Seen}
 pub use Rattle.tlsf_heap.specs.Steady.{HasPayload, Holds, AreEvenFrom, IsEven, IsEvenFrom, IsPayloadWord}
-pub use Rattle.tlsf_heap.specs.Steps.{Step, Give, GiveFrom, Take, Fit, Put, Fill, Look, stepped, after, step_of, IsRoomy, TakesBack, IsOfOtherBlocks, IsOfOthers, IsWrite, IsEvenStep}
+pub use Rattle.tlsf_heap.specs.Steps.{Step, Give, GiveFrom, Take, Fit, Put, Fill, Reset, Look, stepped, after, step_of, IsRoomy, TakesBack, IsOfOtherBlocks, IsOfOthers, IsWrite, IsEvenStep}
 pub use Rattle.tlsf_heap.specs.Stored.{state_of, IsStored}
 pub use Rattle.tlsf_heap.specs.Tallies.{tally_of, IsTallyUpTo, granted, told}
 pub use Rattle.tlsf_heap.specs.Touched.{FollowsNoPlace, FollowsNoForgery, groups_of, allocate_groups, allocate_touches, resize_touches, write_touches}

@@ -22,10 +22,12 @@ FreeBlocksAreApart (Free size stamp ∷ []) = ⊤
 FreeBlocksAreApart (Free size stamp ∷ Live m serial bytes ∷ blocks) = FreeBlocksAreApart blocks
 FreeBlocksAreApart (Free size stamp ∷ Free m s ∷ blocks) = ⊥
 
--- the blocks fill the region, each with its room; free blocks don't touch; serials differ, stamps differ, and all are of past ticks
+-- the region has four words; the blocks fill it, each with its room; free blocks don't touch. Serials differ, stamps differ, and all
+-- are of past ticks
 pub record IsLawful (h : HeapState) : Type 0 where
   pub rooms : AllByRecursion HasRoom h.blocks
   pub whole : words_in h.blocks ≡ h.words
+  pub least : 4 ≤ h.words
   pub apart : FreeBlocksAreApart h.blocks
   pub serials_differ : AreDistinct (serials h.blocks)
   pub stamps_differ : AreDistinct (stamps h.blocks)

@@ -32,17 +32,17 @@ pub fn blocks_never_overlap()
 {}
 
 /// A list of calls leaves what its steps leave, so laws about steps in turn are laws about calls in turn. Calls by words, out of the free
-/// block at a place, and of bytes that fill a payload are steps as they stand.
+/// block at a place, and of bytes that fill a payload are steps as they stand. So is a reset, which is no call of such a list.
 ///
 /// ```text
-/// allocate(100) is `Give 16 100`, release(name) is `Take name`, a read is `Look`
+/// allocate(100) is `Give 16 100`, release(name) is `Take name`, reset() is `Reset`, a read is `Look`
 /// ```
 pub fn calls_are_steps()
     ensures run { (sli : ℕ) (h : HeapState) (calls : List Call) → (run sli h calls).1 ≡ after sli h (map step_of calls) }
     ensures roomy { (calls : List Call) → AllByRecursion IsRoomy (map step_of calls) }
 {}
 
-/// A name is live from the call that gives it to the release that takes it back, and never again.
+/// A name is live from the call that gives it to the release or the reset that takes it back, and never again.
 ///
 /// ```text
 /// let name = heap.allocate(8)?;           // live, and at place 0
@@ -58,10 +58,10 @@ pub fn names_live_until_released()
     ensures given { (sli : ℕ) (h : HeapState) (n len : ℕ) (name : Name) → (allocated_words sli h n len).answer ≡ Ok name → IsLive (allocated_words sli h n len).heap name }
     ensures new { (sli : ℕ) (h : HeapState) (n len : ℕ) (name : Name) → IsLawful h → (allocated_words sli h n len).answer ≡ Ok name → ¬ (IsLive h name) }
 
-    // It stays live through each step but the release that takes it back.
+    // It stays live through each step but the release or the reset that takes it back.
     ensures kept { (sli : ℕ) (h : HeapState) (name : Name) (step : Step) → ¬ (TakesBack h name step) → IsLive h name → IsLive (stepped sli h step) name }
 
-    // Then its serial is gone, stays so whatever comes, and no name of it is live.
+    // Then its serial is gone, stays so whatever steps come, and no name of it is live. Law `resets_end_all_names` says so of a reset.
     ensures taken { (h : HeapState) (name : Name) → IsLawful h → IsTaken h name → IsGone (released h name).heap name.serial }
     ensures gone { (sli : ℕ) (h : HeapState) (serial : ℕ) (steps : List Step) → IsGone h serial → IsGone (after sli h steps) serial }
     ensures dead { (h : HeapState) (name : Name) → IsGone h name.serial → ¬ (IsLive h name) }
@@ -124,8 +124,8 @@ pub fn places_name_blocks()
     ensures apart { (h : HeapState) → IsLawful h → (at k : ℕ) → IsPlace h.blocks at → 0 < k → k < 4 → ¬ (IsPlace h.blocks (at + k)) }
 {}
 
-/// The bytes that a program left in a payload stay until the block is released. They stay through each allocate, and each release,
-/// resize, move or write of another name.
+/// The bytes that a program left in a payload stay until the block is released or the heap is reset. They stay through each
+/// allocate, and each release, resize, move or write of another name.
 ///
 /// ```text
 /// let name = heap.allocate_unset(8)?;
@@ -137,7 +137,7 @@ pub fn payloads_stay()
     // It is what a read answers.
     ensures read { (h : HeapState) (name : Name) (bytes : List ℕ) → IsLawful h → HasPayload h name bytes → read_of h name 0 (length bytes) ≡ Ok bytes }
 
-    // It stays through steps of which none is a release, resize or write of that name.
+    // It stays through steps of which none is a reset, or a release, resize or write of that name.
     ensures run { (sli : ℕ) (h : HeapState) (name : Name) (bytes : List ℕ) (steps : List Step) → AllByRecursion (IsOfOthers name) steps → HasPayload h name bytes → HasPayload (after sli h steps) name bytes }
 
     // A name that an allocate gives is another, and so is that which a resize or move of another answers: the payload stays through it.
@@ -146,9 +146,9 @@ pub fn payloads_stay()
         HasPayload (resized_or_moved sli h other len).heap name bytes × ((new : Name) → (resized_or_moved sli h other len).answer ≡ Ok new → new ≢ name) }
 {}
 
-/// The words of a payload are those of no other live name, and stay its own until the block is released or resized. Clauses
-/// `leaves` and `refused` of the calls speak of other blocks' words. So they say of these, through every list of calls, that none
-/// is read or written but by a call on this name.
+/// The words of a payload are those of no other live name. They stay its own until the block is released or resized, or the heap is
+/// reset. Clauses `leaves` and `refused` of the calls speak of other blocks' words. So these are read and written by calls on this name
+/// alone, through every list of calls without a reset.
 ///
 /// ```text
 /// let name = heap.allocate_unset(8)?;     // word 3 of the region
@@ -159,15 +159,15 @@ pub fn payload_words_stay()
     ensures live { (h : HeapState) (name : Name) (k : ℕ) → IsPayloadWord h name k → IsLiveWord h.blocks k }
     ensures others { (h : HeapState) (name other : Name) (k : ℕ) → IsLawful h → IsPayloadWord h name k → IsLive h other → other ≢ name → IsOthersWord h.blocks other.at k }
 
-    // They stay through steps of which none is a release or resize of that name.
+    // They stay through steps of which none is a reset, or a release or resize of that name.
     ensures run { (sli : ℕ) (h : HeapState) (name : Name) (k : ℕ) (steps : List Step) → AllByRecursion (IsOfOtherBlocks name) steps → IsPayloadWord h name k → IsPayloadWord (after sli h steps) name k }
 {}
 
 /// Where each call wants an even number of words, each block begins at an even place, whatever the calls. So each payload begins
 /// three words later, at an odd word.
 ///
-/// The same holds after a place of which all blocks in front are live, and stay. Let live blocks of 5 words stand in front for
-/// good. Then each block after them begins at an odd place, and its payload at an even word.
+/// The same holds after a place of which all blocks in front are live, and stay: so no reset comes. Let live blocks of 5 words
+/// stand in front for good. Then each block after them begins at an odd place, and its payload at an even word.
 ///
 /// ```text
 /// blocks of 4, 6, 8 .. words begin at places 0, 4, 10 ..: payloads at words 3, 7, 13 ..

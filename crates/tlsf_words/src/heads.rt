@@ -55,7 +55,7 @@ impl<const SLI: u32> Heads<SLI> {
         self.places[class.index()]
     }
 
-    /// Makes the list of a class begin at a place. Each write of a head is here. The clauses say the range of the class's
+    /// Makes the list of a class begin at a place. Each write of one head is here. The clauses say the range of the class's
     /// number besides, which a proof can't read off the private field.
     #[inline]
     pub(crate) fn set_place(&mut self, class: Class<SLI>, at: u32)

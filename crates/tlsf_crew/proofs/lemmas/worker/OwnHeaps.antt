@@ -6,6 +6,7 @@ use Rattle.tlsf_heap.specs.Calls.{Call, answered, Allocate, Write}
 use Rattle.tlsf_heap.specs.InPlace.{Alters}
 use Rattle.tlsf_heap.specs.Kept.{IsAsBefore}
 use Rattle.tlsf_heap.specs.Shown.{Shown}
+use Rattle.tlsf_heap.proofs.lemmas.blocks.Lawful.{opened_lawful as lawful_opened}
 use Rattle.tlsf_heap.proofs.lemmas.calls.Outcomes.{ids, lawful_run}
 use Rattle.tlsf_class.proofs.TwoLevels.{level_4}
 
@@ -26,15 +27,4 @@ alter_keeps g f old new name (Ok r) altered err = call_keeps old.heap new.heap (
 alter_keeps g f old new name (Err why) altered err = same_heap_keeps old.heap new.heap err.heap
 
 pub opened_lawful : (sli : ℕ) (id words : ℕ) → IsRegion sli words → IsHeapOf id (opened id words 0)
-opened_lawful sli id words region = (
-  refl,
-  record {
-    rooms = (region.0, tt);
-    whole = omega arith;
-    apart = tt;
-    serials_differ = tt;
-    stamps_differ = (tt, tt);
-    serials_past = tt;
-    stamps_past = (omega arith, tt);
-  },
-)
+opened_lawful sli id words region = (refl, lawful_opened id words 0 region.0)

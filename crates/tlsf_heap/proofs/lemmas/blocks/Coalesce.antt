@@ -159,6 +159,7 @@ lawful_coalesced h front back m s xs lawful =
     record {
       rooms = merged.rooms;
       whole = merged.whole;
+      least = lawful.least;
       apart = apart_coalesced front back m s _ h.tick xs lawful.apart;
       serials_differ = merged.serials_differ;
       stamps_differ = merged.stamps_differ;

@@ -112,6 +112,7 @@ module _ (h : HeapState) (front back : List Block) (m s n len : ℕ) (wanted : w
   lawful_split fits = rw append_assoc (record {
     rooms = all_append HasRoom front _ rooms_front (live_room n (omega arith), (omega arith, rooms_back));
     whole = words_in-append front _ ∙ omega (arith, total, fits);
+    least = lawful.least;
     apart = apart_split m s n h.tick (m - n) h.tick (replicate len 0) front back lawful.apart;
     serials_differ = subst AreDistinct (sym (serials-append front _)) new_serials;
     stamps_differ = subst AreDistinct (sym (stamps-append front _)) (distinct_insert h.tick (stamps front) (stamps back) old_stamps old_stamps_past);
@@ -123,6 +124,7 @@ module _ (h : HeapState) (front back : List Block) (m s n len : ℕ) (wanted : w
   lawful_whole fits = rw append_assoc (record {
     rooms = all_append HasRoom front _ rooms_front (live_room m fits, rooms_back);
     whole = words_in-append front _ ∙ total;
+    least = lawful.least;
     apart = apart_live m s m h.tick (replicate len 0) front back lawful.apart;
     serials_differ = subst AreDistinct (sym (serials-append front _)) new_serials;
     stamps_differ = subst AreDistinct (sym (stamps-append front _)) old_stamps;
@@ -135,6 +137,7 @@ pub opened_lawful : (id words first : ℕ) → 4 ≤ words → IsLawful (opened 
 opened_lawful id words first h = record {
   rooms = (h, tt);
   whole = omega arith;
+  least = h;
   apart = tt;
   serials_differ = tt;
   stamps_differ = (tt, tt);

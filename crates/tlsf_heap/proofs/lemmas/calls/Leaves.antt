@@ -1,5 +1,5 @@
 -- A word of another block's payload is one behind the calls too.
-use Rattle.tlsf_heap.proofs.Common.{◌≡◌, ◌≢◌, ℕ, suc, ◌<◌, List, ◌∷◌, true, length, inl, inr, refl, sym, ap, ◌∙◌, subst, arith, Ok, AllByRecursion, false≢true, Block, Live, Free, HeapState, size_of, is_free, allocated_words, IsOthersWord, IsLiveWord, LeavesLive, LeavesBoth, Site, place_of, IsLawful, HasRoom, Shown, Inside, Name, Fill, Fit, Give, GiveFrom, Look, Put, Step, Take, stepped, ⊤, ◌+◌, eqb, words_from, moved_on, Outcome, released, resized_words}
+use Rattle.tlsf_heap.proofs.Common.{◌≡◌, ◌≢◌, ℕ, suc, ◌<◌, List, ◌∷◌, true, length, inl, inr, refl, sym, ap, ◌∙◌, subst, arith, Ok, AllByRecursion, false≢true, Block, Live, Free, HeapState, size_of, is_free, allocated_words, IsOthersWord, IsLiveWord, LeavesLive, LeavesBoth, Site, place_of, IsLawful, HasRoom, Shown, Inside, Name, Fill, Fit, Give, GiveFrom, Look, Put, Reset, Step, Take, stepped, ⊤, ◌+◌, eqb, words_from, moved_on, Outcome, released, resized_words}
 use Rattle.tlsf_heap.proofs.lemmas.blocks.Find.{and_left}
 use Rattle.tlsf_heap.proofs.lemmas.laws.Live.{Spares, lasts}
 use Rattle.tlsf_heap.proofs.lemmas.laws.Lasting.{HasFrom}
@@ -13,10 +13,11 @@ room_size : (b : Block) → HasRoom b → 0 < size_of b
 room_size (Live m s xs) room = omega (arith, room.0)
 room_size (Free m s) room = omega (arith, room)
 
--- a step is of no block at a place, unless it writes its payload
+-- a step is of no block at a place, unless it writes its payload, and no reset
 abbrev pub IsElsewhere : ℕ → Step → Type 0
 IsElsewhere at (Take name) = at ≢ name.at
 IsElsewhere at (Fit name n len) = at ≢ name.at
+IsElsewhere at Reset = ⊥
 IsElsewhere at step = ⊤
 
 module _ (h : HeapState) (to k : ℕ) (o : IsOthersWord h.blocks to k) where
@@ -30,6 +31,7 @@ module _ (h : HeapState) (to k : ℕ) (o : IsOthersWord h.blocks to k) where
       spares (Fit name n len) differ = inl (λ own b e holds at. differ (sym at))
       spares (Put name at bytes) differ = inr (λ m s xs ys holds. holds)
       spares (Fill name bytes) differ = inr (λ m s xs ys holds. holds)
+      spares Reset differ = absurd differ
       spares Look differ = tt
 
   pub word_step : (sli : ℕ) (step : Step) → IsElsewhere o.1 step → IsOthersWord (stepped sli h step).blocks to k

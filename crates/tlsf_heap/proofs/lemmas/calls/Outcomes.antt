@@ -1,6 +1,8 @@
 -- The result of a call: a refusal, or an edit at the site of one block.
-use Rattle.tlsf_heap.proofs.Common.{◌≡◌, ℕ, Bool, true, false, cond, nat_lt, eqb, ◌≤◌, arith, List, [], ◌∷◌, ◌++◌, length, filter, find, Option, Some, None, Ok, refl, sym, subst, inl, inr, append_assoc, IsSome, ◌⊎◌, AllByRecursion, eqb-true, false≢true, nat_tests, IsLevel, Block, HeapState, size_of, bytes_of, want, Site, sites, sites_behind, place_of, is_fit, fits, choice, IsLawful, Outcome, refused, is_worn, ticked, with_blocks, carved, allocated, allocated_words, allocated_at, is_named, named, coalesced, released, released_at, overwritten, with_bytes, has_bytes, written, written_at, refitted, room_of, resized, resized_words, resized_at, Call, Allocate, Release, Resize, Write, Read, answered, run, Name, Refusal, NoFit, Worn, Foreign, Stale, Range, NoRoom, Fill, Fit, Give, GiveFrom, IsRoomy, Look, Put, Step, Take, after, ap, given_from, is_free_at, map, step_of, stepped, with_payload, with_payload_at, words_from, ◌∙◌}
+use Rattle.tlsf_heap.proofs.Common.{◌≡◌, ℕ, Bool, true, false, cond, nat_lt, eqb, ◌≤◌, arith, List, [], ◌∷◌, ◌++◌, length, filter, find, Option, Some, None, Ok, refl, sym, subst, inl, inr, append_assoc, IsSome, ◌⊎◌, AllByRecursion, eqb-true, false≢true, nat_tests, IsLevel, Block, HeapState, size_of, bytes_of, want, Site, sites, sites_behind, place_of, is_fit, fits, choice, IsLawful, Outcome, refused, is_worn, ticked, with_blocks, carved, allocated, allocated_words, allocated_at, is_named, named, coalesced, released, released_at, overwritten, with_bytes, has_bytes, written, written_at, refitted, room_of, resized, resized_words, resized_at, Call, Allocate, Release, Resize, Write, Read, answered, run, Name, Refusal, NoFit, Worn, Foreign, Stale, Range, NoRoom, Fill, Fit, Give, GiveFrom, IsRoomy, Look, Put, Reset, Step, Take, after, eq-eqb, last_tick, opened, ◌≢◌, ap, given_from, is_free_at, map, step_of, stepped, with_payload, with_payload_at, words_from, ◌∙◌}
+use Rattle.tlsf_heap.specs.Calls.{reset}
 use Rattle.tlsf_heap.proofs.lemmas.blocks.Find.{and_left}
+use Rattle.tlsf_heap.proofs.lemmas.blocks.Lawful.{opened_lawful}
 use Rattle.tlsf_heap.proofs.lemmas.calls.Allocate.{lawful_carved, lawful_given}
 use Rattle.tlsf_heap.proofs.lemmas.calls.Release.{lawful_at}
 use Rattle.tlsf_heap.proofs.lemmas.calls.Resize.{lawful_refitted}
@@ -148,6 +150,18 @@ by_filled P h name bytes if_none if_there = on (named name h.blocks) refl
     on None e = if_none
     on (Some s) e = let site = named_site name h.blocks s e in if_there s site.0 site.1
 
+-- all blocks are back
+abbrev pub emptied : HeapState → Outcome (Unit {0})
+emptied h = record { answer = Ok tt; heap = opened h.id h.words h.tick }
+
+module _ (P : Outcome (Unit {0}) → Type 0) (h : HeapState) (late : h.tick ≡ last_tick → P (refused h Worn)) (done : h.tick ≢ last_tick → P (emptied h)) where
+  by_worn : (b : Bool) → is_worn h ≡ b → P (cond b (refused h Worn) (emptied h))
+  by_worn true e = late (eqb-true h.tick last_tick e)
+  by_worn false e = done (λ worn. false≢true (sym e ∙ eq-eqb h.tick last_tick worn))
+
+  pub by_reset : P (reset h)
+  by_reset = by_worn (is_worn h) refl
+
 -- ---- a heap keeps its number and its laws
 
 pub ids_step : (sli : ℕ) (h : HeapState) (step : Step) → (stepped sli h step).id ≡ h.id
@@ -157,6 +171,7 @@ ids_step sli h (Take name) = by_released (λ o. o.heap.id ≡ h.id) h name (λ w
 ids_step sli h (Fit name n len) = by_resized_words (λ o. o.heap.id ≡ h.id) h name n len (λ why. refl) (λ s own site is room. refl)
 ids_step sli h (Put name at bytes) = by_written (λ o. o.heap.id ≡ h.id) h name at bytes (λ why. refl) (λ s site has. refl)
 ids_step sli h (Fill name bytes) = by_filled (λ k. k.id ≡ h.id) h name bytes refl (λ s site is. refl)
+ids_step sli h Reset = by_reset (λ o. o.heap.id ≡ h.id) h (λ late. refl) (λ fresh. refl)
 ids_step sli h Look = refl
 
 -- a call is its step
@@ -211,6 +226,7 @@ module _ (sli : ℕ) (level : IsLevel sli) where
       by_written (λ o. IsLawful o.heap) h name at bytes (λ why. lawful) (λ s site has.
       lawful_bytes h s.before s.after s.block _ (length-overwritten (bytes_of s.block) bytes at (range_fits s.block at (length bytes) has)) (lawful_site h s site lawful))
   lawful_step h (Fill name bytes) roomy lawful = absurd roomy
+  lawful_step h Reset roomy lawful = by_reset (λ o. IsLawful o.heap) h (λ late. lawful) (λ fresh. opened_lawful h.id h.words h.tick lawful.least)
   lawful_step h Look roomy lawful = lawful
 
   pub lawful_allocated_words : (h : HeapState) (n len : ℕ) → want len ≤ n → IsLawful h → IsLawful (allocated_words sli h n len).heap

@@ -1,19 +1,8 @@
 -- A reset: a refusal at the last tick, and else a heap as if opened anew.
-use Rattle.tlsf_heap.proofs.Common.{◌≡◌, ◌≢◌, ℕ, ◌<◌, Bool, true, false, cond, Ok, refl, sym, ◌∙◌, arith, eq-eqb, eqb-true, false≢true, IsOk, ◌↔◌, HeapState, Outcome, refused, is_worn, last_tick, opened, IsLawful, IsLive, IsGone, Name, Worn, words_in_use}
+use Rattle.tlsf_heap.proofs.Common.{◌≡◌, ◌≢◌, ℕ, ◌<◌, refl, arith, false≢true, IsOk, ◌↔◌, HeapState, refused, last_tick, IsLawful, IsLive, IsGone, Name, Worn, words_in_use}
 use Rattle.tlsf_heap.specs.Calls.{reset}
+use Rattle.tlsf_heap.proofs.lemmas.calls.Outcomes.{emptied, by_reset}
 use Rattle.tlsf_heap.proofs.lemmas.laws.Live.{lives, serial_of}
-
--- all blocks are back
-abbrev pub emptied : HeapState → Outcome (Unit {0})
-emptied h = record { answer = Ok tt; heap = opened h.id h.words h.tick }
-
-module _ (P : Outcome (Unit {0}) → Type 0) (h : HeapState) (late : h.tick ≡ last_tick → P (refused h Worn)) (done : h.tick ≢ last_tick → P (emptied h)) where
-  by_worn : (b : Bool) → is_worn h ≡ b → P (cond b (refused h Worn) (emptied h))
-  by_worn true e = late (eqb-true h.tick last_tick e)
-  by_worn false e = done (λ worn. false≢true (sym e ∙ eq-eqb h.tick last_tick worn))
-
-  pub by_reset : P (reset h)
-  by_reset = by_worn (is_worn h) refl
 
 pub reset_worn : (h : HeapState) → h.tick ≡ last_tick → reset h ≡ refused h Worn
 reset_worn h worn = by_reset (λ o. o ≡ refused h Worn) h (λ late. refl) (λ fresh. absurd (fresh worn))

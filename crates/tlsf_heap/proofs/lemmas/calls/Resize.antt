@@ -96,6 +96,7 @@ module _ (h : HeapState) (front back : List Block) (m s : ℕ) (xs : List ℕ) (
       record {
         rooms = all_append HasRoom front (Live k s new ∷ rest) (all_left HasRoom front (Live m s xs ∷ back) lawful.rooms) (room, rooms here.1);
         whole = words_in-append front (Live k s new ∷ rest) ∙ omega (arith, words_in-append front (Live m s xs ∷ back), lawful.whole, as_many);
+        least = lawful.least;
         apart = apart_resized m s k xs new front back rest apart lawful.apart;
         serials_differ = subst AreDistinct same_serials lawful.serials_differ;
         stamps_differ = subst AreDistinct (sym (stamps-append front (Live k s new ∷ rest))) differ;

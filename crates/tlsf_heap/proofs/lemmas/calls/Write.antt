@@ -31,6 +31,7 @@ lawful_bytes h front back (Live m s old) new e lawful =
     record {
       rooms = all_append HasRoom front (Live m s new ∷ back) (all_left HasRoom front (Live m s old ∷ back) lawful.rooms) ((here.0.0, rw e here.0.1), here.1);
       whole = words_in-append front _ ∙ sym (words_in-append front (Live m s old ∷ back)) ∙ lawful.whole;
+      least = lawful.least;
       apart = apart_bytes m s old new front back lawful.apart;
       serials_differ = subst AreDistinct same_serials lawful.serials_differ;
       stamps_differ = subst AreDistinct same_stamps lawful.stamps_differ;

@@ -1,5 +1,5 @@
 -- Blocks that begin an even number of words behind a place go on doing so.
-use Rattle.tlsf_heap.proofs.Common.{◌≡◌, ℕ, zero, suc, ◌+◌, ◌*◌, ◌/◌, ◌%◌, nat_le, Result, Ok, Err, ◌<◌, ◌≤◌, List, [], ◌∷◌, ◌++◌, length, take, false, true, refl, sym, ap, ◌∙◌, subst, inl, inr, arith, ◌⊎◌, ⊤, AllByRecursion, add-zero, mod-add-div', mul-add-mod_self_right, mul_assoc, false≢true, eqb-true, cases_lt, Block, Live, Free, HeapState, size_of, bytes_of, words_in, is_free, want, Site, block_at, place_of, Outcome, refused, last_tick, carved, coalesced, first_free, past_free, before_free, has_serial, with_bytes, overwritten, opened, allocated_words, refitted, room_of, Step, Give, GiveFrom, Take, Fit, Put, Fill, Look, stepped, after, gap_of, aligned_by, aligned_words, words_aligned, resized_or_moved, IsEven, IsEvenFrom, AreEvenFrom, IsEvenStep, Name, Refusal, Worn}
+use Rattle.tlsf_heap.proofs.Common.{◌≡◌, ℕ, zero, suc, ◌+◌, ◌*◌, ◌/◌, ◌%◌, nat_le, Result, Ok, Err, ◌<◌, ◌≤◌, List, [], ◌∷◌, ◌++◌, length, take, false, true, refl, sym, ap, ◌∙◌, subst, inl, inr, arith, ◌⊎◌, ⊤, AllByRecursion, add-zero, mod-add-div', mul-add-mod_self_right, mul_assoc, false≢true, eqb-true, cases_lt, Block, Live, Free, HeapState, size_of, bytes_of, words_in, is_free, want, Site, block_at, place_of, Outcome, refused, last_tick, carved, coalesced, first_free, past_free, before_free, has_serial, with_bytes, overwritten, opened, allocated_words, refitted, room_of, Step, Give, GiveFrom, Take, Fit, Put, Fill, Reset, Look, stepped, after, gap_of, aligned_by, aligned_words, words_aligned, resized_or_moved, IsEven, IsEvenFrom, AreEvenFrom, IsEvenStep, Name, Refusal, Worn}
 use Rattle.tlsf_heap.proofs.lemmas.calls.AllocateAligned.{by_gap, gap_fits}
 use Rattle.tlsf_heap.proofs.lemmas.blocks.Coalesce.{by_last}
 use Rattle.tlsf_heap.proofs.lemmas.blocks.Replace.{carved_small, carved_large}
@@ -7,7 +7,7 @@ use Rattle.tlsf_heap.proofs.lemmas.blocks.Find.{and_left, and_right}
 use Rattle.tlsf_heap.proofs.lemmas.blocks.Lawful.{words_in-append}
 use Rattle.tlsf_heap.proofs.lemmas.laws.Live.{words_carved}
 use Rattle.tlsf_heap.proofs.lemmas.calls.ResizeOrMove.{by_moved}
-use Rattle.tlsf_heap.proofs.lemmas.calls.Outcomes.{IsSiteOf, by_test, by_allocated_words, by_words_from, by_released, by_resized_words, by_written, by_filled, by_steps}
+use Rattle.tlsf_heap.proofs.lemmas.calls.Outcomes.{IsSiteOf, by_test, by_allocated_words, by_words_from, by_released, by_resized_words, by_written, by_filled, by_reset, by_steps}
 use Rattle.tlsf_heap.proofs.lemmas.words.Bytes.{size_of-with_bytes, is_free-with_bytes}
 use Rattle.tlsf_heap.proofs.lemmas.calls.Resize.{by_refitted}
 
@@ -138,6 +138,10 @@ module _ (from : ℕ) where
       let own : EvenAt (0 + words_in s.before) (with_bytes s.block bytes) = elim here.0 [ inl e ↦ inl e | inr before ↦ inr (before.0, is_free-with_bytes s.block bytes ∙ before.1) ] in
       those _ (both 0 s.before (with_bytes s.block bytes ∷ s.after) (front 0 s.before (s.block ∷ s.after) all) (own, moved _ _ s.after (ap (λ (k : ℕ). 0 + words_in s.before + k) (sym (size_of-with_bytes s.block bytes))) here.1))
 
+  -- a new heap has one block, at place 0
+  first_even : (id words first : ℕ) → from ≡ 0 → AreEvenFrom from (opened id words first).blocks
+  first_even id words first none = those (opened id words first).blocks (inl (omega (arith, none), omega (arith, none)), tt)
+
   pub even_step : (sli : ℕ) (h : HeapState) (step : Step) → IsEvenStep from step → AreEvenFrom from h.blocks → AreEvenFrom from (stepped sli h step).blocks
   even_step sli h (Give n len) wants even = by_allocated_words sli (λ o. AreEvenFrom from o.heap.blocks) h n len (λ why. even) (λ s site fit. given_even h s n len site (and_left _ _ fit) wants even)
   even_step sli h (GiveFrom at n) wants even = by_words_from (λ o. AreEvenFrom from o.heap.blocks) h at n (λ why. even) (λ s site is room. given_even h s n 0 site (and_left _ _ is) wants even)
@@ -151,6 +155,7 @@ module _ (from : ℕ) where
       (refitted_even (0 + words_in s.before) h.tick n len s.block s.after name.serial (and_left _ _ is) room wants.1 (omega (arith, place, wants.0)) (back 0 s.before (s.block ∷ s.after) all))))
   even_step sli h (Put name at bytes) wants even = by_written (λ o. AreEvenFrom from o.heap.blocks) h name at bytes (λ why. even) (λ s site fits. rebyted_even h s (overwritten (bytes_of s.block) at bytes) site even)
   even_step sli h (Fill name bytes) wants even = by_filled (λ k. AreEvenFrom from k.blocks) h name bytes even (λ s site is. rebyted_even h s bytes site even)
+  even_step sli h Reset wants even = by_reset (λ o. AreEvenFrom from o.heap.blocks) h (λ late. even) (λ fresh. first_even h.id h.words h.tick wants)
   even_step sli h Look wants even = even
 
   pub even_run : (sli : ℕ) (h : HeapState) (steps : List Step) → AllByRecursion (IsEvenStep from) steps → AreEvenFrom from h.blocks → AreEvenFrom from (after sli h steps).blocks
@@ -185,6 +190,5 @@ module _ (from : ℕ) where
           (λ none. even_step sli asked.heap (Fit name n 0) (start, wants) given)
           (λ more. even_run sli asked.heap (Fit name gap 0 ∷ GiveFrom (name.at + gap) n ∷ Take name ∷ []) ((start, even_gap), (wants, (start, tt))) given)
 
--- a new heap has one block, at place 0
 pub even_opened : (id words first : ℕ) → AreEvenFrom 0 (opened id words first).blocks
-even_opened id words first = those 0 (opened id words first).blocks (inl (omega arith, refl), tt)
+even_opened id words first = first_even 0 id words first refl

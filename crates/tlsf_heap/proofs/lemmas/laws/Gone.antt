@@ -1,9 +1,9 @@
 -- A released name is never live again.
-use Rattle.tlsf_heap.proofs.Common.{◌≡◌, ◌≢◌, ℕ, ◌+◌, ◌<◌, ◌≤◌, true, nat_le, List, [], ◌∷◌, ◌++◌, Ok, refl, sym, subst, arith, AllByRecursion, eqb-true, false≢true, Block, Live, Free, HeapState, size_of, serials, IsLawful, AreDistinct, ticked, with_blocks, carved, has_serial, past_free, before_free, coalesced, released, with_bytes, is_sized, refitted, room_of, IsLive, IsTaken, IsGone, Name, Fill, Fit, Give, GiveFrom, Look, Put, Site, Step, Take, after, bytes_of, overwritten, stepped}
+use Rattle.tlsf_heap.proofs.Common.{◌≡◌, ◌≢◌, ℕ, ◌+◌, ◌<◌, ◌≤◌, true, nat_le, List, [], ◌∷◌, ◌++◌, Ok, refl, sym, subst, arith, AllByRecursion, eqb-true, false≢true, Block, Live, Free, HeapState, size_of, serials, IsLawful, AreDistinct, ticked, with_blocks, carved, has_serial, past_free, before_free, coalesced, released, with_bytes, is_sized, refitted, room_of, IsLive, IsTaken, IsGone, Name, Fill, Fit, Give, GiveFrom, Look, Put, Reset, Site, Step, Take, after, bytes_of, overwritten, stepped}
 use Rattle.tlsf_heap.proofs.lemmas.blocks.Find.{and_left}
 use Rattle.tlsf_heap.proofs.lemmas.blocks.Lawful.{all_append, all_left, all_right, all_weaker, serials-append}
 use Rattle.tlsf_heap.proofs.lemmas.blocks.Coalesce.{by_last}
-use Rattle.tlsf_heap.proofs.lemmas.calls.Outcomes.{IsSiteOf, gives_words, by_test, by_allocated_words, by_words_from, by_released, by_resized_words, by_written, by_filled, lawful_site}
+use Rattle.tlsf_heap.proofs.lemmas.calls.Outcomes.{IsSiteOf, gives_words, by_test, by_allocated_words, by_words_from, by_released, by_resized_words, by_written, by_filled, by_reset, lawful_site}
 use Rattle.tlsf_heap.proofs.lemmas.calls.Resize.{by_refitted}
 use Rattle.tlsf_heap.proofs.lemmas.laws.Live.{serial_of, lives}
 
@@ -69,6 +69,7 @@ gone_step sli h serial (Fit name n len) g = by_resized_words (λ o. IsGone o.hea
     let a = all h serial g s site in record { past = omega (arith, g.past); absent = of_both (λ y. y ≢ serial) s.before _ a.0 (all_refitted (λ y. y ≢ serial) h.tick n len s.block s.after room a.1) })
 gone_step sli h serial (Put name at bytes) g = by_written (λ o. IsGone o.heap serial) h name at bytes (λ why. g) (λ s site has. gone_set h serial g s site (overwritten (bytes_of s.block) at bytes))
 gone_step sli h serial (Fill name bytes) g = by_filled (λ k. IsGone k serial) h name bytes g (λ s site is. gone_set h serial g s site bytes)
+gone_step sli h serial Reset g = by_reset (λ o. IsGone o.heap serial) h (λ late. g) (λ fresh. record { past = omega (arith, g.past); absent = tt })
 gone_step sli h serial Look g = g
 
 pub gone_run : (sli : ℕ) (h : HeapState) (serial : ℕ) (steps : List Step) → IsGone h serial → IsGone (after sli h steps) serial

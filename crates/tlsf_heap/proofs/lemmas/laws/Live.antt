@@ -1,11 +1,12 @@
 -- Which names are live.
-use Rattle.tlsf_heap.proofs.Common.{◌≡◌, ◌≢◌, ℕ, ◌+◌, ◌<◌, Bool, true, cond, nat_le, List, [], ◌∷◌, ◌++◌, ◌&&◌, find, Option, Some, None, Ok, Err, refl, sym, ap, ◌∙◌, subst, inl, inr, arith, append_assoc, eq-eqb, IsSome, AllByRecursion, eqb-true, false≢true, cases_lt, Block, Live, Free, HeapState, size_of, bytes_of, words_in, serials, want, Site, sites_behind, place_of, IsLawful, Outcome, refused, is_worn, carved, allocated, allocated_words, has_serial, is_named, named, released, released_at, overwritten, with_bytes, refitted, resized_words, Call, Allocate, Release, Resize, Write, Read, answered, IsLive, IsGiven, IsTaken, TakesBack, Name, Worn, Foreign, Stale, Fill, Fit, Give, GiveFrom, IsOfOtherBlocks, Look, Put, Step, Take, is_free, stepped, ⊤, ◌⊎◌, IsOfOthers}
+use Rattle.tlsf_heap.proofs.Common.{◌≡◌, ◌≢◌, ℕ, ◌+◌, ◌<◌, Bool, true, cond, nat_le, List, [], ◌∷◌, ◌++◌, ◌&&◌, find, Option, Some, None, Ok, Err, refl, sym, ap, ◌∙◌, subst, inl, inr, arith, append_assoc, eq-eqb, IsSome, AllByRecursion, eqb-true, false≢true, cases_lt, Block, Live, Free, HeapState, size_of, bytes_of, words_in, serials, want, Site, sites_behind, place_of, IsLawful, Outcome, refused, is_worn, carved, allocated, allocated_words, has_serial, is_named, named, released, released_at, overwritten, with_bytes, refitted, resized_words, Call, Allocate, Release, Resize, Write, Read, answered, IsLive, IsGiven, IsTaken, TakesBack, Name, Worn, Foreign, Stale, Fill, Fit, Give, GiveFrom, IsOfOtherBlocks, IsOk, Look, Put, Reset, Step, Take, is_free, stepped, ⊤, ◌⊎◌, IsOfOthers}
+use Rattle.tlsf_heap.specs.Calls.{reset}
 use Rattle.tlsf_heap.proofs.lemmas.words.Bytes.{size_of-with_bytes}
 use Rattle.tlsf_heap.proofs.lemmas.blocks.Find.{and_left, and_right}
 use Rattle.tlsf_heap.proofs.lemmas.laws.Lasting.{HasFrom, moved, in_left, in_right, in_either, edited, released_lasts, refitted_lasts}
 use Rattle.tlsf_heap.proofs.lemmas.blocks.Lawful.{words_in-append}
 use Rattle.tlsf_heap.proofs.lemmas.blocks.Replace.{carved_small, carved_large}
-use Rattle.tlsf_heap.proofs.lemmas.calls.Outcomes.{by_test, first_or, or_first, IsSiteOf, gives_words, by_allocated_words, by_words_from, takes, by_released, by_resized_words, by_written_named, by_filled, ids_step}
+use Rattle.tlsf_heap.proofs.lemmas.calls.Outcomes.{by_test, first_or, or_first, IsSiteOf, gives_words, by_allocated_words, by_words_from, takes, by_released, by_resized_words, by_written_named, by_filled, by_reset, ids_step}
 
 -- ---- live blocks by their places
 
@@ -103,6 +104,7 @@ module _ (P : Block → Type 0) (at : ℕ) where
   Spares h (Fit other n len) = (other.heap ≡ h.id → IsApart other) ⊎ ((m s k : ℕ) (xs ys : List ℕ) → P (Live m s xs) → P (Live k s ys))
   Spares h (Put other from bytes) = (other.heap ≡ h.id → IsApart other) ⊎ Stays
   Spares h (Fill other bytes) = IsApart other ⊎ Stays
+  Spares h Reset = ¬ (IsOk (reset h).answer)
   Spares h step = ⊤
 
   module _ (not_free : (m s : ℕ) → P (Free m s) → ⊥) where
@@ -152,6 +154,7 @@ module _ (P : Block → Type 0) (at : ℕ) where
     lasts sli h (Put other from bytes) spares held = by_written_named (λ o. HasFrom P at 0 o.heap.blocks) h other from bytes (λ why. held) (λ s own site is fits.
         set_lasts h other s (overwritten (bytes_of s.block) from bytes) site is (elim spares [ inl apart ↦ inl (apart own) | inr stays ↦ inr stays ]) held)
     lasts sli h (Fill other bytes) spares held = by_filled (λ k. HasFrom P at 0 k.blocks) h other bytes held (λ s site is. set_lasts h other s bytes site is spares held)
+    lasts sli h Reset spares held = by_reset (λ o. ¬ (IsOk o.answer) → HasFrom P at 0 o.heap.blocks) h (λ late worn. held) (λ fresh worn. absurd (worn refl)) spares
     lasts sli h Look spares held = held
 
 -- and of the block of a name through each step about other names, or about others' blocks where it holds with any bytes
@@ -172,6 +175,7 @@ module _ (P : Block → Type 0) (name : Name) (not_free : (m s : ℕ) → P (Fre
       spares (Fit other n len) o = inl (λ own. apart other (own ∙ sym held.0) (elim o [ inl differ ↦ differ | inr stays ↦ stays.1 ]))
       spares (Put other from bytes) o = elim o [ inl differ ↦ inl (λ own. apart other (own ∙ sym held.0) differ) | inr stays ↦ inr stays.0 ]
       spares (Fill other bytes) o = elim o [ inl differ ↦ inl (apart other differ.0 differ.1) | inr stays ↦ inr stays.0 ]
+      spares Reset o = elim o [ inl other ↦ absurd other | inr other ↦ absurd other.1 ]
       spares Look o = tt
 
 -- ---- so a name stays live
@@ -184,21 +188,27 @@ kept_step sli h name step other live =
     spares (Give n len) other = tt
     spares (GiveFrom from n) other = tt
     spares (Take taken) other = λ done own b e has at.
-        let same = same_name taken name (own ∙ sym live.0) at (one_serial taken.serial name.serial b e has) in other (ap Take same, subst (λ (n : Name). IsTaken h n) same done)
+        let same = same_name taken name (own ∙ sym live.0) at (one_serial taken.serial name.serial b e has) in other (same, subst (λ (n : Name). IsTaken h n) same done)
     spares (Fit at_name n len) other = inr (λ m s k xs ys e. e)
     spares (Put at_name from bytes) other = inr (λ m s xs ys e. e)
     spares (Fill at_name bytes) other = inr (λ m s xs ys e. e)
+    spares Reset other = other
     spares Look other = tt
 
 pub kept_others : (sli : ℕ) (h : HeapState) (name : Name) (step : Step) → IsOfOtherBlocks name step → IsLive h name → IsLive (stepped sli h step) name
-kept_others sli h name step other = kept_step sli h name step (λ back. (subst (IsOfOtherBlocks name) back.0 other) refl)
+kept_others sli h name step other = kept_step sli h name step (not_back step other)
+  where
+    not_back : (step : Step) → IsOfOtherBlocks name step → ¬ (TakesBack h name step)
+    not_back (Take taken) other = λ back. other back.0
+    not_back Reset other = absurd other
+    not_back step other = λ back. back
 
 pub kept_resized : (h : HeapState) (name at_name : Name) (n len : ℕ) → IsLive h name → IsLive (resized_words h at_name n len).heap name
-kept_resized h name at_name n len = kept_step 0 h name (Fit at_name n len) (λ taken. let bad : Fit at_name n len ≡ Take name = taken.0 in cc)
+kept_resized h name at_name n len = kept_step 0 h name (Fit at_name n len) (λ back. back)
 
 pub kept : (sli : ℕ) (h : HeapState) (name : Name) (call : Call) → ¬ ((call ≡ Release name) × IsTaken h name) → IsLive h name → IsLive (answered sli h call).1 name
 kept sli h name (Allocate len) other = kept_others sli h name (Give (want len) len) tt
-kept sli h name (Release taken) other = kept_step sli h name (Take taken) (λ back. let same : taken ≡ name = cc in other (ap Release same, back.1))
+kept sli h name (Release taken) other = kept_step sli h name (Take taken) (λ back. other (ap Release back.0, back.1))
 kept sli h name (Resize at_name len) other = kept_resized h name at_name (want len) len
 kept sli h name (Write at_name at bytes) other = kept_others sli h name (Put at_name at bytes) tt
 kept sli h name (Read at_name at n) other = λ live. live

@@ -1,5 +1,5 @@
 -- The words in use add up over the calls.
-use Rattle.tlsf_heap.proofs.Common.{◌≡◌, Bool, cond, eqb, find, ℕ, suc, false, take, drop, ◌+◌, ◌≤◌, List, [], ◌∷◌, ◌++◌, ◌-◌, length, replicate, true, Option, Some, Ok, refl, sym, ap, ◌∙◌, subst, inl, inr, arith, append_assoc, ◌==◌, AllByRecursion, filter-append, eqb-true, false≢true, cases_lt, IsLevel, Block, Live, Free, HeapState, size_of, words_in, is_free, bytes_of, want, Outcome, carved, ticked, with_blocks, past_free, before_free, has_serial, allocated_words, overwritten, with_bytes, released, resized_words, refitted, room_of, Site, block_at, IsLawful, HasRoom, IsLive, IsTaken, IsNamed, live_among, words_in_use, words_held, live_words, words_at, released_by_place, IsLiveAt, Name, Fill, Fit, Give, GiveFrom, IsOfOtherBlocks, IsRoomy, IsWrite, Look, Put, Step, Take, after, named, stepped, Tag}
+use Rattle.tlsf_heap.proofs.Common.{◌≡◌, Bool, cond, eqb, find, ℕ, suc, false, take, drop, ◌+◌, ◌≤◌, List, [], ◌∷◌, ◌++◌, ◌-◌, length, replicate, true, Option, Some, Ok, refl, sym, ap, ◌∙◌, subst, inl, inr, arith, append_assoc, ◌==◌, AllByRecursion, filter-append, eqb-true, false≢true, cases_lt, IsLevel, Block, Live, Free, HeapState, size_of, words_in, is_free, bytes_of, want, Outcome, carved, ticked, with_blocks, past_free, before_free, has_serial, allocated_words, overwritten, with_bytes, released, resized_words, refitted, room_of, Site, block_at, IsLawful, HasRoom, IsLive, IsTaken, IsNamed, live_among, words_in_use, words_held, live_words, words_at, released_by_place, IsLiveAt, Name, Fill, Fit, Give, GiveFrom, IsOfOtherBlocks, IsRoomy, IsWrite, Look, Put, Reset, Step, Take, after, named, stepped, Tag}
 use Rattle.tlsf_heap.specs.ByPlace.{IsPlaceCheck}
 use Rattle.tlsf_heap.specs.WordsInUse.{CameOff}
 use Rattle.tlsf_heap.specs.Placed.{placed, placed_from}
@@ -191,6 +191,7 @@ words_set sli h (Give n len) write = absurd write
 words_set sli h (GiveFrom at n) write = absurd write
 words_set sli h (Take name) write = absurd write
 words_set sli h (Fit name n len) write = absurd write
+words_set sli h Reset write = absurd write
 
 -- ---- the words of a live block stay through each call that is not about it
 
