@@ -33,11 +33,12 @@ class WrongBody:
 
     @property
     def changes(self):
-        """The file, the old text and the new one of each part; one that names no file is of that of the part before."""
+        """The file, the old text and the new one of each part; one that names no file is of that of the part before. Where the old text is
+        empty, the new one is the whole file."""
         found, file = [], None
         for part in self.parts:
             file = part.get("file", file)
-            found.append((file, part["old"], part["new"]))
+            found.append((file, part.get("old", ""), part["new"]))
         return found
 
     @property

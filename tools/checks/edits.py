@@ -1,8 +1,8 @@
 """Each wrong body of a crate's wrong_bodies.toml still applies: each text that it
-changes stands once in its file, and it changes something. They stand in the
-order of their names, and each says what tries it; no file of its own has one.
-Where one turns a law, of a folder laws/ or of tlsf_yard_laws, its line `shown`
-says what shows that the law is false then.
+changes stands once in its file, but for a proof that it brings whole, and it
+changes something. They stand in the order of their names, and each says what
+tries it; no file of its own has one. Where one turns a law, of a folder laws/
+or of tlsf_yard_laws, its line `shown` says what shows that the law is false.
 
 Each known wrong body of the table in docs/WRONG_BODIES.md is refused by what is
 there: by a wrong body that ./test tries, by a test of public calls, by a stored
@@ -37,9 +37,11 @@ def form_faults(wrong):
     for part in wrong.parts:
         for key in sorted(set(part) - (WHOLE if part is wrong.table else PART)):
             yield f"has a key that is read as nothing: {key}"
-        if not {"old", "new"} <= set(part) or not part["old"]:
-            yield "has a change with no 'old', or with no 'new'"
-        if any(not isinstance(it, str) or key != "shown" and "\n" in it for key, it in part.items() if key != "and"):
+        is_whole = part is not wrong.table and "old" not in part and str(part.get("file")).startswith("proofs/")
+        if "new" not in part or not is_whole and not part.get("old"):
+            yield "has a change with no 'new', or with no 'old' that isn't a whole file below proofs/"
+        lines = {"shown", "new"} if is_whole else {"shown"}
+        if any(not isinstance(it, str) or key not in lines and "\n" in it for key, it in part.items() if key != "and"):
             yield "has a text that is no string of one line"
 
 
@@ -53,6 +55,9 @@ def faults_of(crate, wrong):
         if not file or pathlib.PurePath(file).parts[0] not in tree.PARTS:
             yield "has a change with no 'file' below src/, specs/ or proofs/"
             return
+        if not old:
+            texts[file] = new
+            continue
         if not (crate / file).is_file():
             yield f"names {file}, which isn't there"
             return
