@@ -36,7 +36,7 @@
  *      hands a block over orders that as for any pointer: by a lock, a lane, a queue or an atomic.
  *   5. A signal handler makes no call that opens or closes, and it returns. Its other calls are for handles of the thread that
  *      it interrupts: on a handle in use they are refused as TLSF_IS_CLOSED. In the forked child of a process with threads
- *      no call is made.
+ *      no call is made; the parent goes on as before.
  *   6. Memory that a heap, a lane, a queue, an arena of offsets or pools are opened in is their own until it is closed. malloc and free
  *      belong to one allocator, which aligns memory as C's does.
  *
@@ -92,20 +92,18 @@
 #endif
 #endif
 
-/* What gcc and clang are told of a call that gives a block: which arguments say its bytes and its alignment, and what frees it. So they
- * warn of a write past it, of a use after it was freed, of a second free, and of `free` of the C library's, where these are in plain
- * sight. gcc would make no call inline that says what frees. clang 14 ends by a signal at an alignment that is no power of two. */
+/* What gcc and clang are told of a call that gives a block: which arguments say its bytes and its alignment. So they warn of a write past
+ * it in plain sight. They aren't told what frees it. A free may be refused, and a program may ask another heap then, or `free` of the C
+ * library's: gcc would warn of both. clang 14 ends by a signal at an alignment that is no power of two. */
 #if defined(TLSF_GNU) && !defined(TLSF_INLINE) && !defined(TLSF_POINTERS)
 #define TLSF_OF_BYTES(...) __attribute__((alloc_size(__VA_ARGS__)))
 #else
 #define TLSF_OF_BYTES(...)
 #endif
-#if defined(TLSF_GNU) && !defined(__clang__) && __GNUC__ >= 11 && !defined(TLSF_INLINE) && !defined(TLSF_POINTERS)
+#if defined(TLSF_GNU) && !defined(__clang__) && !defined(TLSF_INLINE) && !defined(TLSF_POINTERS)
 #define TLSF_ALIGNED_BY(argument) __attribute__((alloc_align(argument)))
-#define TLSF_FREED_BY(call, argument) __attribute__((malloc(call, argument)))
 #else
 #define TLSF_ALIGNED_BY(argument)
-#define TLSF_FREED_BY(call, argument)
 #endif
 
 /* What a call has that is given or answers a struct by value, of two registers. C on Windows would hand such a struct over in
@@ -393,8 +391,7 @@ TLSF_ANSWER uint32_t tlsf_words(uint32_t level, uint32_t blocks, size_t len, uin
 /* --- Blocks by pointer ---------------------------------------------------------------------------------------------
  *
  * Each is C, and one proved call of a block by place, unless it says more. `p` is any pointer: it is followed only where a
- * live block's payload begins there. So a wild pointer is refused, and so is one into a block, or to another heap's. A program that
- * frees twice on purpose, as a test does, reads the pointer from a `volatile` one, or gcc warns of it. */
+ * live block's payload begins there. So a wild pointer is refused, and so is one into a block, or to another heap's. */
 
 /* Frees what the calls below gave: TLSF_OK, and TLSF_STALE where no live block's payload begins at `p`. A null pointer is
  * TLSF_OK, with no call. Refused besides: TLSF_IS_CLOSED, TLSF_WORN. */
@@ -402,12 +399,11 @@ TLSF_CALL uint32_t tlsf_free(struct tlsf_heap *heap, void *p) TLSF_NOEXCEPT;
 
 /* `len` bytes, aligned to 16, whatever lies there; null where it is refused. Where a block by name has had an odd number of words,
  * what comes may be misaligned: it goes back, and a second call aligns. */
-TLSF_ANSWER TLSF_CALL void *tlsf_malloc(struct tlsf_heap *heap, size_t len) TLSF_NOEXCEPT TLSF_OF_BYTES(2) TLSF_FREED_BY(tlsf_free, 2);
+TLSF_ANSWER TLSF_CALL void *tlsf_malloc(struct tlsf_heap *heap, size_t len) TLSF_NOEXCEPT TLSF_OF_BYTES(2);
 
 /* As tlsf_malloc of `count * each` bytes, all zero. The call is tlsf_allocate, which fills; where that is misaligned, the block
  * goes back, and what tlsf_malloc gives is filled here. */
-TLSF_ANSWER TLSF_CALL void *tlsf_calloc(struct tlsf_heap *heap, size_t count, size_t each) TLSF_NOEXCEPT TLSF_OF_BYTES(2, 3)
-    TLSF_FREED_BY(tlsf_free, 2);
+TLSF_ANSWER TLSF_CALL void *tlsf_calloc(struct tlsf_heap *heap, size_t count, size_t each) TLSF_NOEXCEPT TLSF_OF_BYTES(2, 3);
 
 /* Gives what `p` points to `len` bytes, aligned to 16: what it had stays up to the smaller length. Where it moves, the old block
  * is freed. A null pointer is tlsf_malloc's; with a `len` of 0 it is freed, and the answer is null, also where the free is
@@ -415,12 +411,11 @@ TLSF_ANSWER TLSF_CALL void *tlsf_calloc(struct tlsf_heap *heap, size_t count, si
  * alignment.
  * Where a block by name has had an odd number of words, tlsf_block_at shows first whether this one stays. If not, tlsf_malloc's
  * calls give a block, it is copied here, and tlsf_free's call frees the old one. */
-TLSF_ANSWER TLSF_CALL void *tlsf_realloc(struct tlsf_heap *heap, void *p, size_t len) TLSF_NOEXCEPT TLSF_OF_BYTES(3)
-    TLSF_FREED_BY(tlsf_free, 2);
+TLSF_ANSWER TLSF_CALL void *tlsf_realloc(struct tlsf_heap *heap, void *p, size_t len) TLSF_NOEXCEPT TLSF_OF_BYTES(3);
 
 /* As tlsf_malloc, aligned to `align`: any power of two up to 4,096, else it is refused. */
 TLSF_ANSWER TLSF_CALL void *tlsf_aligned_alloc(struct tlsf_heap *heap, size_t align, size_t len) TLSF_NOEXCEPT TLSF_OF_BYTES(3)
-    TLSF_ALIGNED_BY(2) TLSF_FREED_BY(tlsf_free, 2);
+    TLSF_ALIGNED_BY(2);
 
 /* The bytes from `p` on that the program may use: at least as many as it asked for. It is 0 where no live block's payload begins
  * there. Compilers know of those that were asked for alone: with _FORTIFY_SOURCE, use more by the pointer that tlsf_realloc gives. */
@@ -694,15 +689,13 @@ TLSF_ANSWER uint32_t tlsf_pools_check(struct tlsf_pools *pools, uint32_t part, u
 TLSF_CALL uint32_t tlsf_pools_free(struct tlsf_pools *pools, void *p) TLSF_NOEXCEPT;
 
 /* At least `len` bytes, all zero; null where it is refused, as tlsf_pools_allocate is. */
-TLSF_ANSWER TLSF_CALL void *tlsf_pools_malloc(struct tlsf_pools *pools, size_t len) TLSF_NOEXCEPT TLSF_OF_BYTES(2)
-    TLSF_FREED_BY(tlsf_pools_free, 2);
+TLSF_ANSWER TLSF_CALL void *tlsf_pools_malloc(struct tlsf_pools *pools, size_t len) TLSF_NOEXCEPT TLSF_OF_BYTES(2);
 
 /* Gives what `p` points to at least `len` bytes. Where these count for the row that the block counts for, and it has so many, it stays as
  * it is. Otherwise what it had is copied to a block that tlsf_pools_malloc gives, up to the smaller length, bytes after that are zero, and
  * the old block is freed: until then both count. A null pointer is tlsf_pools_malloc's; with a `len` of 0 it is freed, and the answer is
  * null. Where it is refused the answer is null, and the block is as before. */
-TLSF_ANSWER TLSF_CALL void *tlsf_pools_realloc(struct tlsf_pools *pools, void *p, size_t len) TLSF_NOEXCEPT TLSF_OF_BYTES(3)
-    TLSF_FREED_BY(tlsf_pools_free, 2);
+TLSF_ANSWER TLSF_CALL void *tlsf_pools_realloc(struct tlsf_pools *pools, void *p, size_t len) TLSF_NOEXCEPT TLSF_OF_BYTES(3);
 
 /* The bytes from `p` on that the program may use: 0 where no live block's payload begins there. */
 TLSF_CALL size_t tlsf_pools_usable_size(struct tlsf_pools *pools, const void *p) TLSF_NOEXCEPT;

@@ -8,7 +8,6 @@ int main(void) {
     int *numbers = tlsf_malloc(&heap, 100 * sizeof *numbers);       /* aligned to 16, and not filled */
     if (!numbers) return 1;                                         /* there is no room */
     numbers[0] = 42;
-    void *volatile again = numbers; /* so that gcc doesn't warn of what follows */
     tlsf_free(&heap, numbers);
-    puts(tlsf_text_of(tlsf_free(&heap, again))); /* a double free: it is refused, and changes nothing */
+    puts(tlsf_text_of(tlsf_free(&heap, numbers))); /* a double free: it is refused, and changes nothing */
 }

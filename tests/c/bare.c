@@ -79,8 +79,7 @@ static int uses_heap(void) {
     p[999] = 7;
     p = tlsf_realloc(&heap, p, 5000);
     if (!p || p[999] != 7) return 3;
-    void *volatile again = p; /* gcc would warn of a second free in plain sight */
-    if (tlsf_free(&heap, p) || tlsf_free(&heap, q) || tlsf_free(&heap, again) != TLSF_STALE) return 4;
+    if (tlsf_free(&heap, p) || tlsf_free(&heap, q) || tlsf_free(&heap, p) != TLSF_STALE) return 4;
     return tlsf_close(&heap) == TLSF_OK ? 0 : 5;
 }
 

@@ -46,8 +46,7 @@ static void is_refused(struct tlsf_heap *copy) {
     wants("release_place", tlsf_release_place(copy, 0), TLSF_IS_CLOSED);
     wants("resize_place", tlsf_resize_place(copy, 0, 16, &at), TLSF_IS_CLOSED);
     wants("malloc", tlsf_malloc(copy, 8) == NULL, 1);
-    void *volatile const p = copy->base + 3; /* gcc would warn of it in plain sight */
-    wants("free", tlsf_free(copy, p), TLSF_IS_CLOSED);
+    wants("free", tlsf_free(copy, copy->base + 3), TLSF_IS_CLOSED);
     wants("a second close", tlsf_close(copy), TLSF_IS_CLOSED);
 }
 
@@ -123,9 +122,8 @@ static void pools_are_refused(struct tlsf_pools *copy, struct tlsf_name name) {
     wants("pools_row", tlsf_pools_row(copy, 8, &a), TLSF_IS_CLOSED);
     wants("pools_malloc", tlsf_pools_malloc(copy, 8) == NULL, 1);
     wants("pools_name_at", tlsf_pools_name_at(copy, memory, &own), TLSF_IS_CLOSED);
-    void *volatile const p = memory + 64; /* gcc would warn of it in plain sight */
-    wants("pools_realloc", tlsf_pools_realloc(copy, p, 8) == NULL, 1);
-    wants("pools_free", tlsf_pools_free(copy, p), TLSF_IS_CLOSED);
+    wants("pools_realloc", tlsf_pools_realloc(copy, memory + 64, 8) == NULL, 1);
+    wants("pools_free", tlsf_pools_free(copy, memory + 64), TLSF_IS_CLOSED);
     wants("a second close", tlsf_pools_close(copy), TLSF_IS_CLOSED);
 }
 

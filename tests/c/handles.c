@@ -226,7 +226,7 @@ static void arenas_of_other_kinds(void *offsets, void *pools) {
     uint64_t *base = NULL;
     uint32_t n = 0, m = 0;
     uint8_t byte = 0;
-    void *volatile wild = &byte;
+    void *const wild = &byte;
     refuses("offsets: allocate", tlsf_offsets_allocate(pools, 8, &span));
     refuses("offsets: release", tlsf_offsets_release(pools, span.name));
     refuses("offsets: resize", tlsf_offsets_resize(pools, &span, 8));

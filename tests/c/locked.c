@@ -103,7 +103,7 @@ static void closed_ones(void) {
     struct tlsf_name name = {1, 2, 3};
     struct tlsf_locked_usage usage;
     uint32_t next = 0, damaged = 0;
-    void *volatile const no_block = memory; /* gcc would warn of it in plain sight */
+    void *const no_block = memory;
     locks = 0;
     wants("close", tlsf_locked_close(&locked), TLSF_IS_CLOSED);
     wants("malloc", tlsf_locked_malloc(&locked, 8) == NULL && tlsf_locked_calloc(&locked, 1, 8) == NULL, true);
@@ -280,8 +280,7 @@ static void compare(const struct block *b) {
     wants_locks("two looks", 2);
     if (!b->p) return;
     wants("usable size", tlsf_locked_usable_size(&locked, b->p), tlsf_usable_size(&plain, b->twin));
-    unsigned char *volatile const wild = b->p + 8; /* gcc would warn of it in plain sight */
-    wants("a wild pointer", tlsf_locked_free(&locked, wild), TLSF_STALE);
+    wants("a wild pointer", tlsf_locked_free(&locked, b->p + 8), TLSF_STALE);
     wants("of another heap", tlsf_locked_realloc(&locked, b->twin, 8) == NULL, true);
     wants_locks("three looks", 3);
     if (!b->is_named) return;

@@ -173,7 +173,7 @@ static int is_given(const struct model *m, const unsigned char *p) {
 }
 
 static void refuse_wild(struct model *m, struct model *other, struct block *b) {
-    unsigned char *volatile const p = wild(m, other, b); /* gcc would warn of it in plain sight */
+    unsigned char *const p = wild(m, other, b);
     struct tlsf_name name = {9, 9, 9};
     if (!p || is_given(m, p)) return;
     counts[3]++;

@@ -41,7 +41,7 @@ void by_name(tlsf::heap &heap) {
 
 void by_pointer(tlsf::heap &heap) {
     const tlsf::heap &looked_at = heap;
-    void *volatile const p = heap.malloc(100); // else the compiler warns of what is freed twice
+    void *const p = heap.malloc(100);
     wants("malloc", p != nullptr && reinterpret_cast<std::uintptr_t>(p) % 16 == 0, 1);
     wants("usable_size", looked_at.usable_size(p), 104);
     wants("words in use", looked_at.counts().words, 16);

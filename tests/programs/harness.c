@@ -185,13 +185,13 @@ static void record_change(const void *old, void *p, size_t n) {
 }
 
 static void record_give(void *p) {
-    void *volatile const again = p, *volatile const within = (unsigned char *)p + 8; /* gcc would warn of these in plain sight */
+    void *const within = (unsigned char *)p + 8;
     const size_t size = tlsf_usable_size(&heap, p);
     record(GIVE, label_at[place_of(p)], 0);
     count_asked(0, len_at[place_of(p)]);
     memset(p, 0xdd, size);
     told->wrong +=
-        size == 0 || tlsf_free(&heap, within) != TLSF_STALE || tlsf_free(&heap, again) != TLSF_OK || tlsf_free(&heap, again) != TLSF_STALE;
+        size == 0 || tlsf_free(&heap, within) != TLSF_STALE || tlsf_free(&heap, p) != TLSF_OK || tlsf_free(&heap, p) != TLSF_STALE;
 }
 
 static void *taken(void *p, size_t n, bool is_zero) {
@@ -276,9 +276,8 @@ static uint32_t release_left(void) {
     struct tlsf_block_info block;
     uint32_t left = 0, at = 0;
     while (left <= told->given && tlsf_block_at(&heap, at, &block) == TLSF_OK) {
-        void *volatile const p = heap.base + at + 3; /* gcc knows of no block there */
         if (block.is_live == 0) at += block.size;
-        else if (tlsf_free(&heap, p) != TLSF_OK) break;
+        else if (tlsf_free(&heap, heap.base + at + 3) != TLSF_OK) break;
         else left++, at = 0;
     }
     return left;
