@@ -6,11 +6,12 @@
  * end to standard error what the heap did. A free of what isn't live ends the process.
  *
  * This is no more than a trial: under a lock one call waits for the others. A payload is used by whoever holds the block, in any thread,
- * also during calls on the heap that aren't about this block: so rule 4 of peachanchor.h has it. A forked child goes on with the heap, which
- * rule 5 forbids: that is tested here, and promised nowhere. */
+ * also during calls on the heap that aren't about this block: so rule 4 of peachanchor.h has it. A fork waits until no other thread is in
+ * a call. Its child goes on with the heap, which rule 5 forbids: that is tested here, and promised nowhere. */
 #define _GNU_SOURCE
 #include <dlfcn.h>
 #include <errno.h>
+#include <malloc.h>
 #include <pthread.h>
 #include <stdatomic.h>
 #include <stdint.h>
@@ -18,6 +19,7 @@
 #include <stdlib.h>
 #include <string.h>
 #include <sys/mman.h>
+#include <sys/single_threaded.h>
 #include <peachanchor.h>
 #include <unistd.h>
 
@@ -26,6 +28,8 @@ void *__libc_calloc(size_t, size_t);
 void *__libc_realloc(void *, size_t);
 void *__libc_memalign(size_t, size_t);
 void __libc_free(void *);
+void _IO_list_lock(void); /* of the list of all streams */
+void _IO_list_unlock(void);
 
 enum { MOST_BYTES = 1 << 20, MOST_ALIGN = 4096, PAGE = 4096, MIB = 64, MOST_MIB = 128 };
 
@@ -35,11 +39,42 @@ static _Atomic uintptr_t begin = UINTPTR_MAX, end; /* of the heap's memory, once
 static bool is_tried;
 static atomic_ulong given, larger;
 
-static void enter(void) { pthread_mutex_lock(&lock); }
-static void leave(void) { pthread_mutex_unlock(&lock); }
+/* Whether this thread is in a fork, and has both locks meanwhile: handlers of forks may ask for memory. */
+static __attribute__((tls_model("initial-exec"))) _Thread_local bool is_forking;
 
-/* No other thread is in a call while one forks, so the child's heap is whole and its lock open. */
-__attribute__((constructor)) static void follow_forks(void) { (void)pthread_atfork(enter, leave, leave); }
+static void enter(void) {
+    if (!is_forking) pthread_mutex_lock(&lock);
+}
+
+static void leave(void) {
+    if (!is_forking) pthread_mutex_unlock(&lock);
+}
+
+/* No other thread is in a call while one forks, so the child's heap is whole and its lock open. The list of streams comes first, as fork
+ * itself takes it after this handler: who has it may wait for a stream, whose holder asks for memory. With one thread nobody else is in a
+ * call. Then nothing is locked, since a signal handler may fork that came within a call. */
+static void begin_fork(void) {
+    if (__libc_single_threaded) return;
+    _IO_list_lock();
+    enter();
+    is_forking = true;
+}
+
+static bool end_fork(void) {
+    const bool had = is_forking;
+    is_forking = false;
+    if (had) leave();
+    return had;
+}
+
+static void go_on(void) {
+    if (end_fork()) _IO_list_unlock();
+}
+
+/* In a child fork itself has made the list's lock anew. */
+static void begin_child(void) { (void)end_fork(); }
+
+__attribute__((constructor)) static void follow_forks(void) { (void)pthread_atfork(begin_fork, go_on, begin_child); }
 
 static void open_heap(void) {
     const char *asked = getenv("TLSF_PRELOAD_MIB");
@@ -93,7 +128,6 @@ void *calloc(size_t count, size_t each) {
 }
 
 void free(void *p) {
-    void *const volatile refused = p; /* gcc would take it for a use after free */
     uint32_t answer;
     if (!is_ours(p)) {
         __libc_free(p);
@@ -102,7 +136,7 @@ void free(void *p) {
     enter();
     answer = tlsf_free(&heap, p);
     leave();
-    if (answer != TLSF_OK) end_for(refused);
+    if (answer != TLSF_OK) end_for(p);
 }
 
 void *realloc(void *p, size_t bytes) {
@@ -141,10 +175,8 @@ void *aligned_alloc(size_t align, size_t bytes) { return memalign(align, bytes);
 
 int posix_memalign(void **to, size_t align, size_t bytes) {
     void *p;
-    const int before = errno;
     if (align % sizeof(void *) != 0 || align == 0 || (align & (align - 1)) != 0) return EINVAL;
     p = memalign(align, bytes);
-    errno = before;
     if (!p) return ENOMEM;
     *to = p;
     return 0;
@@ -170,6 +202,30 @@ size_t malloc_usable_size(void *p) {
     }
     *(void **)&of_system = dlsym(RTLD_NEXT, "malloc_usable_size");
     return of_system ? of_system(p) : 0;
+}
+
+/* This heap, and what the C library tells of its own. It walks over all blocks. */
+struct mallinfo2 mallinfo2(void) {
+    struct mallinfo2 (*of_system)(void), told;
+    struct tlsf_heap_report sums;
+    *(void **)&of_system = dlsym(RTLD_NEXT, "mallinfo2");
+    if (of_system) told = of_system();
+    else memset(&told, 0, sizeof told);
+    enter();
+    if (tlsf_report(&heap, &sums) != TLSF_OK) memset(&sums, 0, sizeof sums);
+    leave();
+    told.arena += 8 * ((size_t)sums.live_words + sums.free_words);
+    told.ordblks += sums.free_blocks;
+    told.uordblks += 8 * (size_t)sums.live_words;
+    told.fordblks += 8 * (size_t)sums.free_words;
+    return told;
+}
+
+struct mallinfo mallinfo(void) {
+    const struct mallinfo2 it = mallinfo2();
+    const struct mallinfo told = {(int)it.arena,   (int)it.ordblks, (int)it.smblks,   (int)it.hblks,    (int)it.hblkhd,
+                                  (int)it.usmblks, (int)it.fsmblks, (int)it.uordblks, (int)it.fordblks, (int)it.keepcost};
+    return told;
 }
 
 __attribute__((destructor)) static void report(void) {

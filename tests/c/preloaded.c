@@ -1,7 +1,8 @@
 /* Calls malloc and its kin, with c/preload.c before them: what is given keeps its bytes, is aligned and as long as it says, also where
- * a block moves to the C library; four threads hand blocks to each other while their process forks. Prints the line of what is
- * wrong. `preloaded double` frees a block twice, which has to end it. */
+ * a block moves to the C library; mallinfo2 counts it; four threads hand blocks to each other while their process forks. Prints the
+ * line of what is wrong. `preloaded double` frees a block twice, which has to end it. */
 #define _GNU_SOURCE
+#include <dlfcn.h>
 #include <errno.h>
 #include <malloc.h>
 #include <pthread.h>
@@ -78,11 +79,29 @@ static void alignments(void) {
         HOLDS((p = memalign(align, 24)) && (uintptr_t)p % align == 0);
         free(p);
     }
-    HOLDS(posix_memalign(&p, 24, 8) == EINVAL && posix_memalign(&p, 4, 8) == EINVAL);
+    errno = 0;
+    HOLDS(posix_memalign(&p, 24, 8) == EINVAL && posix_memalign(&p, 4, 8) == EINVAL && errno == 0);
+    HOLDS(posix_memalign(&p, 64, too_many) == ENOMEM && errno == ENOMEM);
     HOLDS((p = valloc(10)) && (uintptr_t)p % 4096 == 0);
     free(p);
     HOLDS((p = pvalloc(4097)) && (uintptr_t)p % 4096 == 0 && malloc_usable_size(p) >= 8192);
     free(p);
+}
+
+/* What mallinfo2 tells of blocks that are longer than the C library keeps for itself; mallinfo tells the same in fewer bits. */
+static void sums(void) {
+    enum { BLOCKS = 50, EACH = 9000 };
+    void *blocks[BLOCKS];
+    struct mallinfo (*volatile shorter)(void);
+    const struct mallinfo2 before = mallinfo2();
+    for (int i = 0; i < BLOCKS; i++) HOLDS((blocks[i] = malloc(EACH)));
+    const struct mallinfo2 most = mallinfo2();
+    HOLDS(most.uordblks >= before.uordblks + BLOCKS * EACH && most.uordblks <= before.uordblks + BLOCKS * (EACH + 100));
+    HOLDS(most.arena == most.uordblks + most.fordblks && most.ordblks > 0);
+    *(void **)&shorter = dlsym(RTLD_DEFAULT, "mallinfo"); /* a compiler warns of its name */
+    HOLDS(shorter && shorter().uordblks == (int)most.uordblks && shorter().fordblks == (int)most.fordblks);
+    for (int i = 0; i < BLOCKS; i++) free(blocks[i]);
+    HOLDS(mallinfo2().uordblks <= most.uordblks - BLOCKS * EACH);
 }
 
 /* Each block has its length in its first two bytes, and their sum in all others. */
@@ -139,6 +158,7 @@ int main(int count, char **words) {
     lengths();
     moves();
     alignments();
+    sums();
     forks();
     puts("right");
     return 0;
