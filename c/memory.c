@@ -152,9 +152,10 @@ static void *lend(size_t bytes) {
     return at;
 }
 
+/* Whatever the alignment of what malloc gives, all lines of the piece lie in it. */
 static void *take(size_t bytes) {
 #ifndef TLSF_NO_MALLOC
-    unsigned char *const from = bytes > MOST_BYTES ? 0 : malloc(LINES - 16 + with_mark(bytes, LINES)), *at;
+    unsigned char *const from = bytes > MOST_BYTES ? 0 : malloc(LINES - 1 + with_mark(bytes, LINES)), *at;
     if (!from) return 0;
     at = from + skipped(from, LINES) + MARK;
     ((uint64_t *)(void *)at)[-1] = (uint64_t)(uintptr_t)from;

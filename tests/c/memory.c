@@ -1,7 +1,7 @@
 /* Heaps, lanes, queues and arenas of offsets in memory of the program's, at each alignment: what they take, that nothing else is
  * written, that no malloc and no free is called, and that it is the program's again. The own fields of a near heap lie in it, and no
  * other piece does. No piece of a lane or a queue shares its lines with another piece. Null and MAP_FAILED are refused, and nothing is
- * taken. With NO_MALLOC there is no malloc, and tlsf_open is refused.
+ * taken. Where malloc aligns to less than 16 bytes, each piece lies in what it gave all the same. With NO_MALLOC there is no malloc, and tlsf_open is refused.
  * Link with -Wl,--wrap=malloc,--wrap=free,--wrap=tlsf_memory_alloc. */
 #include "piece.h"
 #include "peachanchor.h"
@@ -33,16 +33,31 @@ static int is_counted;
 #define NEW_ANSWER TLSF_OK
 #endif
 
+/* While it isn't 0 what malloc gives lies so many bytes behind a multiple of LINES: a malloc that aligns to 8 alone may do that by 8. */
+static size_t off_line;
+static struct { unsigned char *from, *to, *real; } taken[2 * LINES]; /* by it, and not yet freed */
+
 void *__real_malloc(size_t n);
 void __real_free(void *p);
 void *__wrap_malloc(size_t n);
 void __wrap_free(void *p);
 void *__wrap_malloc(size_t n) {
+    size_t k = 0;
     if (is_counted) calls++;
-    return __real_malloc(n);
+    if (off_line == 0) return __real_malloc(n);
+    while (taken[k].real) k++;
+    taken[k].real = __real_malloc(n + 2 * LINES);
+    taken[k].from = taken[k].real + (-(uintptr_t)taken[k].real & (LINES - 1)) + off_line;
+    taken[k].to = taken[k].from + n;
+    return taken[k].from;
 }
 void __wrap_free(void *p) {
     if (is_counted) calls++;
+    for (size_t k = 0; k < 2 * LINES; k++) {
+        if (p == NULL || taken[k].from != p) continue;
+        p = taken[k].real;
+        memset(&taken[k], 0, sizeof *taken);
+    }
     __real_free(p);
 }
 
@@ -67,6 +82,9 @@ PAIR struct piece __wrap_tlsf_memory_alloc(size_t bytes, size_t align) {
         pieces_in_near++;
         return piece;
     }
+    for (size_t k = 0; k < 2 * LINES; k++)
+        if (taken[k].real && at >= taken[k].from - LINES && at < taken[k].to + LINES)
+            wants("a piece in what malloc gave", at - 8 >= taken[k].from && at + bytes <= taken[k].to, 1);
     last_end = at + bytes;
     close_end = (close_end + 15) / 16 * 16 + 8 + bytes;
     if (pieces < PIECES && piece.is_there) {
@@ -276,6 +294,28 @@ static void lanes_of_malloc(void) {
         wants("close", tlsf_post_close(&post[k]) + tlsf_take_close(&take[k]), NEW_ANSWER == TLSF_OK ? 0 : 2 * TLSF_IS_CLOSED);
 }
 
+/* Heaps, near heaps, lanes, queues, arenas and pools by a malloc that aligns as little. */
+static void by_malloc_off_line(size_t off) {
+    static const struct tlsf_kind rows[] = {{3, 24}, {2, 1000}};
+    struct tlsf_post_end post = TLSF_POST_CLOSED;
+    struct tlsf_take_end take = TLSF_TAKE_CLOSED;
+    struct tlsf_queue queue = TLSF_QUEUE_CLOSED;
+    struct tlsf_offsets offsets = TLSF_OFFSETS_CLOSED;
+    struct tlsf_pools pools = TLSF_POOLS_CLOSED;
+    struct tlsf_near_heap third = TLSF_NEAR_CLOSED;
+    off_line = off;
+    for (uint32_t words = 4; words < 4 + LINES; words++) {
+        wants("a heap", tlsf_open(&plain, 4, 1, words) + tlsf_close(&plain), TLSF_OK);
+        wants("a near heap", tlsf_open_near(&third, 5, 1, words) + tlsf_close(tlsf_near(&third)), TLSF_OK);
+        wants("a lane", tlsf_lane_open(&post, &take, words) + tlsf_post_close(&post) + tlsf_take_close(&take), TLSF_OK);
+        wants("a queue", tlsf_queue_open(&queue, words, words) + tlsf_queue_close(&queue), TLSF_OK);
+        wants("an arena", tlsf_offsets_open(&offsets, 4, 1, 64, words) + tlsf_offsets_close(&offsets), TLSF_OK);
+    }
+    wants("pools", tlsf_pools_open(&pools, 4, 1, rows, 2) + tlsf_pools_close(&pools), TLSF_OK);
+    off_line = 0;
+    for (size_t k = 0; k < 2 * LINES; k++) wants("all is freed", taken[k].real != NULL, 0);
+}
+
 /* --- Queues --------------------------------------------------------------------------------------------------------- */
 
 static uint32_t queue_in(uint32_t posters, uint32_t capacity, size_t align, size_t bytes) {
@@ -443,6 +483,8 @@ int main(void) {
     refusals();
     is_counted = 0;
     lanes_of_malloc();
+    if (NEW_ANSWER == TLSF_OK)
+        for (size_t off = 1; off < LINES; off++) by_malloc_off_line(off);
     threads();
     printf("heaps, lanes, queues and arenas in memory of the program's: all as said\n");
     return 0;
