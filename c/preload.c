@@ -1,6 +1,6 @@
 /* For trying a program on the heap as it is: stands before the C library (LD_PRELOAD), and gives the process one heap of level 5 under
- * a lock in place of malloc. Blocks of more than MOST_BYTES, those for which there is no room and those aligned above 4,096 come
- * from the C library. docs/C.md shows how it is built and used.
+ * a lock in place of malloc. Blocks of more than MOST_BYTES, and those for which there is no room, come from the C library. docs/C.md
+ * shows how it is built and used.
  *
  * TLSF_PRELOAD_MIB in the environment says how large the heap is, from 1 to 128; TLSF_PRELOAD_REPORT that each process writes at its
  * end to standard error what the heap did. A free of what isn't live ends the process.
@@ -31,7 +31,7 @@ void __libc_free(void *);
 void _IO_list_lock(void); /* of the list of all streams */
 void _IO_list_unlock(void);
 
-enum { MOST_BYTES = 1 << 20, MOST_ALIGN = 4096, PAGE = 4096, MIB = 64, MOST_MIB = 128 };
+enum { MOST_BYTES = 1 << 20, PAGE = 4096, MIB = 64, MOST_MIB = 128 };
 
 static pthread_mutex_t lock = PTHREAD_MUTEX_INITIALIZER;
 static struct tlsf_heap heap;
@@ -103,7 +103,7 @@ static _Noreturn void end_for(const void *p) {
 /* A block of the heap, or null where another has to give it. */
 static void *give(size_t align, size_t bytes, bool zeroed) {
     void *p = NULL;
-    if (bytes > MOST_BYTES || align > MOST_ALIGN) {
+    if (bytes > MOST_BYTES) {
         larger++;
         return NULL;
     }

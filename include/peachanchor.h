@@ -169,7 +169,7 @@ enum tlsf_answer {
     TLSF_FOREIGN = 3,      /* the name is of a heap with another number */
     TLSF_STALE = 4,        /* no live block has that name, that place or that pointer */
     TLSF_BAD_SIZE = 5,     /* a region has 4 to 2^20 words or units, at level 5 to 2^24; a lane or a queue 1 to 1,024 names, a queue
-                            * as many posters; a unit isn't 0; alignment goes to 4,096 */
+                            * as many posters; a unit isn't 0; an alignment is a power of two */
     TLSF_NO_MEMORY = 6,    /* malloc said no */
     TLSF_RANGE = 7,        /* the bytes go past the end of the payload */
     TLSF_FULL = 8,         /* the lane or the queue is full */
@@ -304,7 +304,7 @@ struct tlsf_heap_report {
 struct tlsf_heap_counts {
     uint32_t words;           /* in live blocks now, with their headers */
     uint32_t most_words;      /* the most there ever were; while a block moves, both its old and its new one count */
-    uint32_t refused;         /* proved calls that were TLSF_NO_FIT, 2^32 - 1 at most; none above 2^27 bytes by pointer */
+    uint32_t refused;         /* proved calls that were TLSF_NO_FIT, 2^32 - 1 at most; by pointer none above 2^27 bytes or aligned above */
     uint32_t longest_refused; /* the longest `len` of these, by pointer rounded up as tlsf_rounded does */
 };
 
@@ -383,10 +383,14 @@ uint32_t tlsf_reset(struct tlsf_heap *heap) TLSF_NOEXCEPT;
 
 /* The words of a heap that never answers TLSF_NO_FIT to a program that allocates, resizes in place and releases in any order. It
  * has at most `blocks` blocks at once, of at most `len` bytes each; the block that is asked for counts too. The words go to
- * `words`. For 0 blocks they are 4, the least heap, whatever `len` is. For blocks by pointer give it tlsf_rounded(len). Where
- * they are aligned above 16, add 32 + `align` bytes. Where blocks by name have had an odd number of words, add 48.
+ * `words`. For 0 blocks they are 4, the least heap, whatever `len` is. For blocks by pointer give it tlsf_rounded(len), if none is
+ * aligned above 16 and no block by name has an odd number of words.
  * Refused: TLSF_BAD_LEVEL; TLSF_BAD_SIZE where no region of that level is so large. */
 TLSF_ANSWER uint32_t tlsf_words(uint32_t level, uint32_t blocks, size_t len, uint32_t *words) TLSF_NOEXCEPT;
+
+/* The same for blocks that any calls ask for, by name and by pointer, aligned to at most `align` bytes: tlsf_words of tlsf_rounded(len)
+ * and 32 + `align` bytes. An `align` below 16 counts as 16. Refused as tlsf_words, also where no region has such an alignment. */
+TLSF_ANSWER TLSF_CALL uint32_t tlsf_words_for(uint32_t level, uint32_t blocks, size_t len, size_t align, uint32_t *words) TLSF_NOEXCEPT;
 
 /* --- Blocks by pointer ---------------------------------------------------------------------------------------------
  *
@@ -413,7 +417,8 @@ TLSF_ANSWER TLSF_CALL void *tlsf_calloc(struct tlsf_heap *heap, size_t count, si
  * calls give a block, it is copied here, and tlsf_free's call frees the old one. */
 TLSF_ANSWER TLSF_CALL void *tlsf_realloc(struct tlsf_heap *heap, void *p, size_t len) TLSF_NOEXCEPT TLSF_OF_BYTES(3);
 
-/* As tlsf_malloc, aligned to `align`: any power of two up to 4,096, else it is refused. */
+/* As tlsf_malloc, aligned to `align`: any power of two, else it is refused. Above 16 a free block is looked for that has 32 + `align`
+ * bytes more than tlsf_malloc takes. They are free again at once, but for 24 at most. */
 TLSF_ANSWER TLSF_CALL void *tlsf_aligned_alloc(struct tlsf_heap *heap, size_t align, size_t len) TLSF_NOEXCEPT TLSF_OF_BYTES(3)
     TLSF_ALIGNED_BY(2);
 
@@ -427,8 +432,7 @@ TLSF_CALL size_t tlsf_usable_size(struct tlsf_heap *heap, const void *p) TLSF_NO
 TLSF_ANSWER TLSF_CALL uint32_t tlsf_name_at(struct tlsf_heap *heap, const void *p, struct tlsf_name *name) TLSF_NOEXCEPT;
 
 /* Allocates a block of at least `len` bytes by name and by pointer: its name goes to `name`, the address of its payload to
- * `payload`. It is aligned to `align`, a power of two up to 4,096, and to 16. It is all zero, or with TLSF_UNFILLED in `flags` what
- * lies there. The call is that of tlsf_aligned_alloc; it is filled here.
+ * `payload`. It is aligned to `align`, any power of two, and to 16. It is all zero, or with TLSF_UNFILLED in `flags` what lies there. The call is that of tlsf_aligned_alloc; it is filled here.
  * Refused: TLSF_BAD_SIZE for any other `align`; TLSF_IS_CLOSED, TLSF_NO_FIT, TLSF_WORN. */
 TLSF_ANSWER TLSF_CALL uint32_t tlsf_allocate_at(struct tlsf_heap *heap, size_t len, size_t align, uint32_t flags, struct tlsf_name *name,
                                                 void **payload) TLSF_NOEXCEPT;
@@ -475,6 +479,12 @@ TLSF_ANSWER TLSF_BY_VALUE uint32_t tlsf_locate(struct tlsf_heap *heap, struct tl
  * `*len`, unless `len` is null. The pointer holds until the block is released or resized, or the heap is closed. */
 TLSF_CALL TLSF_BY_VALUE void *tlsf_payload(struct tlsf_heap *heap, struct tlsf_name name, uint32_t *len) TLSF_NOEXCEPT;
 
+/* From a name to a pointer in another thread, where no call of the heap may be made. tlsf_base is the address of the first word of the
+ * region, or null where the heap isn't open: the owner asks it once, and hands it over. tlsf_at is where the payload of a name
+ * begins, by such a `base`; null where that is null. It reads nothing, and refuses no name: give it that of a block which you hold. */
+TLSF_SHORT_CALL uint64_t *tlsf_base(const struct tlsf_heap *heap) TLSF_NOEXCEPT;
+TLSF_SHORT_CALL TLSF_BY_VALUE void *tlsf_at(uint64_t *base, struct tlsf_name name) TLSF_NOEXCEPT;
+
 /* --- A lane: names go from the thread that has its post end to the one that has its take end --------------------- */
 
 /* Opens a lane for at most `capacity` names, 1 to 1,024, in two closed handles, its ends. The ends may be in two threads, and
@@ -504,8 +514,8 @@ TLSF_ANSWER TLSF_BY_VALUE uint32_t tlsf_put(struct tlsf_post_end *post, struct t
  * take end is shown up to 32 at once, so many together cost both threads less than each alone. Refused: TLSF_IS_CLOSED. */
 TLSF_ANSWER uint32_t tlsf_put_all(struct tlsf_post_end *post, const struct tlsf_name *names, size_t n, size_t *went) TLSF_NOEXCEPT;
 
-/* Takes the first name, which goes to `name`. Who took it holds its block. The payload is at `base + name.at + 3`, where `base` is
- * what tlsf_locate answers for any block of the heap. The owner of the heap asks tlsf_payload. Refused: TLSF_IS_CLOSED, TLSF_EMPTY. */
+/* Takes the first name, which goes to `name`. Who took it holds its block, and finds the payload by tlsf_at; the owner of the heap by
+ * tlsf_payload. Refused: TLSF_IS_CLOSED, TLSF_EMPTY. */
 TLSF_ANSWER uint32_t tlsf_take(struct tlsf_take_end *take, struct tlsf_name *name) TLSF_NOEXCEPT;
 
 /* Takes the first names, in their order: those that are there, `n` at most, and 32 at most. They go to the first places of `names`,
@@ -633,7 +643,7 @@ TLSF_ANSWER uint32_t tlsf_offsets_report(struct tlsf_offsets *offsets, struct tl
 
 /* Opens pools for `n` rows, 64 at most, in a closed handle. The rows rise in `len`, so that requests count for each. Their heaps are of
  * that level, and have the numbers from `number` on, for eight heaps at most: give each heap of a program another one. Memory comes from
- * malloc.
+ * malloc. Of no rows pools open that have no heap: no row is long enough for a request, and there is no part.
  * Refused, in this order: TLSF_IN_USE, TLSF_BAD_LEVEL, TLSF_BAD_SIZE for more rows, where a row is no longer than the one before it,
  * where numbers would go past 2^32, or where no region is large enough, TLSF_NO_MEMORY. */
 TLSF_ANSWER uint32_t tlsf_pools_open(struct tlsf_pools *pools, uint32_t level, uint32_t number, const struct tlsf_kind *rows,

@@ -194,27 +194,10 @@ holder<State> hold_in(void *&memory, std::size_t &bytes, const char *otherwise) 
 }
 
 constexpr std::uint32_t closed = TLSF_IS_CLOSED;
-constexpr std::size_t word = sizeof(std::uint64_t);
 constexpr std::size_t most_bytes = std::numeric_limits<std::uint32_t>::max();
-
-// The bytes that a block of `len` bytes for objects of that alignment has to find room for, by tlsf_words: rounded up, and with
-// what aligning may take, also to 16, since blocks by name may have an odd number of words.
-constexpr std::size_t bytes_to_find(std::size_t len, std::size_t align) noexcept {
-    if (align == 0 || len > most_bytes) return len;
-    if (align > most_bytes) return align;
-    return ((len + word - 1) / word | 1) * word + 4 * word + (align > 16 ? align : 16);
-}
 
 // A byte of a payload, or one past the end of each.
 constexpr std::uint32_t in_32_bits(std::size_t at) noexcept { return static_cast<std::uint32_t>(at < most_bytes ? at : most_bytes); }
-
-// A block for objects of any alignment, or null where there is no room.
-inline void *give(heap_state &heap, std::size_t bytes, std::size_t align) noexcept {
-    if (align <= 4096) return tlsf_aligned_alloc(tlsf_near(&heap.held), align, bytes);
-    if (align > TLSF_LONGEST || bytes > TLSF_LONGEST) return nullptr;
-    const tlsf_placed it = tlsf_align_place(tlsf_near(&heap.held), tlsf_rounded(bytes), align);
-    return it.answer == TLSF_OK ? tlsf_near(&heap.held)->base + it.at + 3 : nullptr;
-}
 
 } // namespace detail
 
@@ -280,10 +263,11 @@ public:
     // in place and releases; of moves and aligned blocks it is tested.
     static heap for_blocks(level l, std::uint32_t number, std::uint32_t blocks, std::size_t len,
                            std::size_t align = alignof(std::max_align_t)) {
-        const std::size_t bytes = detail::bytes_to_find(len, align);
+        const auto of_level = static_cast<std::uint32_t>(l);
         std::uint32_t words = 0;
-        if (tlsf_words(static_cast<std::uint32_t>(l), blocks, bytes, &words) != TLSF_OK)
-            detail::no_such_size("tlsf: no region serves so many blocks of so many bytes");
+        const std::uint32_t answer =
+            align == 0 ? tlsf_words(of_level, blocks, len, &words) : tlsf_words_for(of_level, blocks, len, align, &words);
+        detail::must_be_ok(answer, "tlsf: no region serves so many blocks of so many bytes");
         return heap(l, number, words);
     }
 
@@ -348,9 +332,25 @@ public:
     [[nodiscard]] std::uint32_t read(const tlsf_name &name, std::size_t at, std::uint8_t *out, std::size_t n) const noexcept {
         return state_ ? tlsf_read(handle(), name, detail::in_32_bits(at), out, n) : detail::closed;
     }
+    [[nodiscard]] std::uint32_t allocate_at(std::size_t len, std::size_t align, std::uint32_t flags, tlsf_name &name,
+                                            void *&payload) noexcept {
+        return state_ ? tlsf_allocate_at(handle(), len, align, flags, &name, &payload) : detail::closed;
+    }
+    // For tlsf_at, in another thread; null where it isn't open.
+    std::uint64_t *base() const noexcept { return state_ ? tlsf_base(handle()) : nullptr; }
     [[nodiscard]] void *malloc(std::size_t len) noexcept { return state_ ? tlsf_malloc(handle(), len) : nullptr; }
+    [[nodiscard]] void *calloc(std::size_t count, std::size_t each) noexcept {
+        return state_ ? tlsf_calloc(handle(), count, each) : nullptr;
+    }
+    [[nodiscard]] void *realloc(void *p, std::size_t len) noexcept { return state_ ? tlsf_realloc(handle(), p, len) : nullptr; }
+    [[nodiscard]] void *aligned_alloc(std::size_t align, std::size_t len) noexcept {
+        return state_ ? tlsf_aligned_alloc(handle(), align, len) : nullptr;
+    }
     std::uint32_t free(void *p) noexcept { return state_ ? tlsf_free(handle(), p) : detail::closed; }
     std::size_t usable_size(const void *p) const noexcept { return state_ ? tlsf_usable_size(handle(), p) : 0; }
+    [[nodiscard]] std::uint32_t name_at(const void *p, tlsf_name &name) const noexcept {
+        return state_ ? tlsf_name_at(handle(), p, &name) : detail::closed;
+    }
     // As tlsf_reset. A `block` of before is stale then, so its end releases nothing. What a resource or an allocator gave may not be
     // used, nor given back.
     std::uint32_t reset() noexcept { return state_ ? tlsf_reset(handle()) : detail::closed; }
@@ -676,7 +676,8 @@ public:
 
     [[nodiscard]] T *allocate(std::size_t n) {
         void *p = nullptr;
-        if (heap_ && n <= std::numeric_limits<std::size_t>::max() / sizeof(T)) p = detail::give(*heap_, n * sizeof(T), alignof(T));
+        if (heap_ && n <= std::numeric_limits<std::size_t>::max() / sizeof(T))
+            p = tlsf_aligned_alloc(tlsf_near(&heap_->held), alignof(T), n * sizeof(T));
         if (!p) detail::no_room();
         return static_cast<T *>(p);
     }

@@ -58,6 +58,12 @@ TLSF_SHORT_CALL struct tlsf_heap *tlsf_near(struct tlsf_near_heap *heap) TLSF_NO
     return (struct tlsf_heap *)(void *)at;
 }
 
+TLSF_SHORT_CALL uint64_t *tlsf_base(const struct tlsf_heap *heap) TLSF_NOEXCEPT { return heap->is_open ? heap->base : TLSF_NULL; }
+
+TLSF_SHORT_CALL TLSF_BY_VALUE void *tlsf_at(uint64_t *base, struct tlsf_name name) TLSF_NOEXCEPT {
+    return base == TLSF_NULL ? TLSF_NULL : base + name.at + 3;
+}
+
 /* A block's header on its way to the cache, while the library looks at its own fields: both are cold in a call that comes rarely. */
 TLSF_BODY void tlsf_fetch(uintptr_t header) TLSF_NOEXCEPT {
 #ifdef TLSF_GNU
@@ -89,7 +95,7 @@ TLSF_BODY void tlsf_fetch_named(const struct tlsf_heap *heap, struct tlsf_name n
 #define TLSF_THIN TLSF_BODY __attribute__((always_inline))
 #endif
 
-/* A place for `len` bytes at a multiple of `align` bytes, which is 16 at least. */
+/* A place for `len` bytes at a multiple of `align` bytes, which is 16 to TLSF_LONGEST. */
 TLSF_BODY struct tlsf_placed tlsf_align_place(struct tlsf_heap *heap, size_t len, size_t align) TLSF_NOEXCEPT {
     return tlsf_allocate_aligned(heap, len, (uint32_t)(align / 8), (uint32_t)((uintptr_t)heap->base / 8 % (align / 8)));
 }
@@ -113,11 +119,11 @@ TLSF_RARE uint32_t tlsf_too_long(struct tlsf_heap *heap) TLSF_NOEXCEPT {
     return tlsf_block_at(heap, UINT32_MAX, &none) == TLSF_IS_CLOSED ? TLSF_IS_CLOSED : TLSF_NO_FIT;
 }
 
-/* A place for `len` bytes at that alignment, unfilled; TLSF_BAD_SIZE where it is no power of two up to 4,096. */
+/* A place for `len` bytes at that alignment, unfilled; TLSF_BAD_SIZE where it is no power of two. */
 TLSF_ANSWER TLSF_BODY struct tlsf_placed tlsf_allocate_for(struct tlsf_heap *heap, size_t len, size_t align) TLSF_NOEXCEPT {
     struct tlsf_placed refused = {0, TLSF_BAD_SIZE, 0};
-    if (align == 0 || align > 4096 || (align & (align - 1)) != 0) return refused;
-    if (len > TLSF_LONGEST) {
+    if (align == 0 || (align & (align - 1)) != 0) return refused;
+    if (len > TLSF_LONGEST || align > TLSF_LONGEST) {
         refused.answer = tlsf_too_long(heap);
         return refused;
     }
@@ -139,6 +145,12 @@ TLSF_CALL void *tlsf_aligned_alloc(struct tlsf_heap *heap, size_t align, size_t 
 }
 
 TLSF_CALL void *tlsf_malloc(struct tlsf_heap *heap, size_t len) TLSF_NOEXCEPT { return tlsf_aligned_alloc(heap, 16, len); }
+
+TLSF_CALL uint32_t tlsf_words_for(uint32_t level, uint32_t blocks, size_t len, size_t align, uint32_t *words) TLSF_NOEXCEPT {
+    const size_t most = TLSF_LONGEST; /* for more there is no region, and up to it nothing overflows */
+    const size_t room = 32 + (align < 16 ? 16 : align < most ? align : most);
+    return tlsf_words(level, blocks, tlsf_rounded(len < most ? len : most) + room, words);
+}
 
 TLSF_CALL void *tlsf_calloc(struct tlsf_heap *heap, size_t count, size_t each) TLSF_NOEXCEPT {
     struct tlsf_name name = {0, 0, 0};

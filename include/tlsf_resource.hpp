@@ -15,7 +15,7 @@ class resource : public std::pmr::memory_resource {
     detail::heap_reference heap_;
 
     void *do_allocate(std::size_t bytes, std::size_t align) override {
-        void *p = heap_ ? detail::give(*heap_, bytes, align) : nullptr;
+        void *p = heap_ ? tlsf_aligned_alloc(tlsf_near(&heap_->held), align, bytes) : nullptr;
         if (!p) detail::no_room();
         return p;
     }

@@ -19,7 +19,7 @@ struct image {
 struct loader {
     _Alignas(128) struct tlsf_take_end work;
     struct tlsf_poster home;
-    uint64_t *base; /* of the heap's region: the payload of a name begins three words behind its place */
+    uint64_t *base; /* of the heap: it leads from a name to a payload */
     pthread_t thread;
 };
 
@@ -38,7 +38,7 @@ static void *load(void *given) {
             continue;
         }
         if (name.serial == 0) break; /* no block has that serial: it says that no image comes after */
-        struct image *image = (struct image *)(it->base + name.at + 3);
+        struct image *image = tlsf_at(it->base, name);
         for (uint32_t k = 0; k < image->bytes; k++) image->pixels[k] = pixel_of(image->number, k);
         /* Full never, since the queue has room for all that are under way; busy where another loader is half through its post. */
         while (tlsf_queue_post(&it->home, name) != TLSF_OK) sched_yield();
@@ -85,26 +85,15 @@ static int send(struct owner *it) {
     return 1;
 }
 
-/* The first word of the heap's region, or null. */
-static uint64_t *base_of(struct tlsf_heap *heap) {
-    struct tlsf_name name;
-    uint64_t *base;
-    uint32_t len;
-    if (tlsf_allocate(heap, 0, &name) || tlsf_locate(heap, name, &base, &len) || tlsf_release(heap, name)) return NULL;
-    return base;
-}
-
 int main(void) {
     static struct owner owner;
     static const struct tlsf_name last = {0, 0, 0};
     struct tlsf_heap_counts counts;
-    uint64_t *base;
     if (tlsf_open(&owner.heap, 4, 1, WORDS) || tlsf_queue_open(&owner.queue, LOADERS, UNDER_WAY)) return 1;
-    if (!(base = base_of(&owner.heap))) return 1;
     for (int k = 0; k < LOADERS; k++) {
         struct loader *it = &loaders[k];
         if (tlsf_lane_open(&owner.to[k], &it->work, UNDER_WAY + 1) || tlsf_poster_open(&owner.queue, &it->home)) return 1;
-        it->base = base;
+        it->base = tlsf_base(&owner.heap);
         if (pthread_create(&it->thread, NULL, load, it)) return 1;
     }
     while (owner.came < IMAGES) {

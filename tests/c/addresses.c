@@ -17,13 +17,16 @@ struct addresses {
     uint32_t (*give_named)(struct tlsf_heap *, size_t, size_t, uint32_t, struct tlsf_name *, void **);
     size_t (*rounded)(size_t);
     uint32_t (*place_of)(const struct tlsf_heap *, const void *);
+    uint64_t *(*base)(const struct tlsf_heap *);
+    uint32_t (*words_for)(uint32_t, uint32_t, size_t, size_t, uint32_t *);
+    TLSF_BY_VALUE void *(*at)(uint64_t *, struct tlsf_name);
     const char *(*text_of)(uint32_t);
 };
 
 #define ALL \
     { \
         tlsf_near, tlsf_malloc, tlsf_calloc, tlsf_aligned_alloc, tlsf_realloc, tlsf_free, tlsf_usable_size, tlsf_name_at, \
-            tlsf_allocate_at, tlsf_rounded, tlsf_place_of, tlsf_text_of \
+            tlsf_allocate_at, tlsf_rounded, tlsf_place_of, tlsf_base, tlsf_words_for, tlsf_at, tlsf_text_of \
     }
 
 struct addresses addresses_there(void);
@@ -42,7 +45,9 @@ int main(void) {
     static struct tlsf_near_heap near;
     struct tlsf_name name, again;
     void *payload = NULL;
+    uint32_t words = 0, others = 1;
     char *p, *q;
+    MUST(tlsf_words_for(4, 2, 8, 64, &others) == TLSF_OK && tlsf_base(tlsf_near(&near)) == NULL);
     MUST(memcmp(&here, &there, sizeof here) == 0);
     MUST(tlsf_open_near(&near, 5, 1, 2000) == TLSF_OK);
     struct tlsf_heap *const heap = there.near(&near);
@@ -52,6 +57,8 @@ int main(void) {
     MUST((q = there.give_zeros(heap, 3, 5)) && q[14] == 0 && (q = there.resize(heap, q, 600)) && q[14] == 0);
     MUST((payload = there.give_aligned(heap, 256, 8)) && (uintptr_t)payload % 256 == 0);
     MUST(there.give_named(heap, 8, 64, TLSF_UNFILLED, &again, &payload) == TLSF_OK && tlsf_payload(heap, again, NULL) == payload);
+    MUST(there.base(heap) == tlsf_base(heap) && there.at(there.base(heap), name) == p && tlsf_at(tlsf_base(heap), name) == p);
+    MUST(there.words_for(4, 2, 8, 64, &words) == TLSF_OK && words == others);
     MUST(there.take_back(heap, p) == TLSF_OK && tlsf_payload(heap, name, NULL) == NULL);
     MUST(there.text_of(TLSF_FULL) == tlsf_text_of(TLSF_FULL));
     return tlsf_close(heap) == TLSF_OK ? 0 : 1;

@@ -74,7 +74,7 @@ static void do_calls_by_name(uint32_t kind, struct tlsf_name *name) {
     case 4: sum += tlsf_write(&heap, other, below(300), bytes, below(256)); break;
     case 5: sum += tlsf_read(&heap, other, below(300), bytes, below(256)); break;
     case 6: sum += tlsf_locate(&heap, other, &base, &n); break;
-    case 7: sum += tlsf_payload(&heap, other, &n) != NULL; break;
+    case 7: sum += tlsf_payload(&heap, other, &n) != NULL && tlsf_at(tlsf_base(&heap), *name) != NULL; break;
     case 8: sum += below(2) ? tlsf_put(&post, other) : tlsf_put_all(&post, names, below(4), &went); break;
     case 9: sum += below(2) ? tlsf_take(&take, name) : tlsf_take_all(&take, taken, below(5), &went); break;
     default: sum += tlsf_drain(&heap, &take, below(4), &n); break;
@@ -82,7 +82,7 @@ static void do_calls_by_name(uint32_t kind, struct tlsf_name *name) {
 }
 
 static void do_calls_by_pointer(uint32_t kind, void **p) {
-    const size_t len = below(below(8) ? 200 : 40000), align = (size_t)1 << below(14);
+    const size_t len = below(below(8) ? 200 : 40000), align = (size_t)1 << below(17);
     struct tlsf_name name = {0, 0, 0};
     switch (kind) {
     case 11:
@@ -139,7 +139,9 @@ static void do_other_calls(uint32_t kind, uint32_t level) {
     switch (kind) {
     case 27: sum += tlsf_report(&heap, &report); break;
     case 28: sum += tlsf_counts(&heap, &counts); break;
-    case 29: sum += tlsf_words(level, below(100), below(1000), &n); break;
+    case 29:
+        sum += below(2) ? tlsf_words(level, below(100), below(1000), &n) : tlsf_words_for(level, below(100), below(1000), 64, &n);
+        break;
     case 30: sum += tlsf_bytes(level, below(5000)) + tlsf_lane_bytes(below(1030)); break;
     case 31: sum += tlsf_open(&heap, level, 1, 64) + tlsf_open(&closed, 6, 1, 64) + tlsf_open(&closed, level, 1, 3); break;
     case 32: sum += tlsf_open_in(&heap, level, 1, bytes, 256) + tlsf_open_in(&closed, level, 1, bytes, 8); break;

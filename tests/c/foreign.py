@@ -31,6 +31,7 @@ def main(path):
     usable = call_of(library, "usable_size", SIZE, POINTER, POINTER)
     name_of = call_of(library, "name_at", NUMBER, POINTER, POINTER, POINTER)
     payload = call_of(library, "payload", POINTER, POINTER, Name, POINTER)
+    base, at_base = call_of(library, "base", POINTER, POINTER), call_of(library, "at", POINTER, POINTER, Name)
     text_of = call_of(library, "text_of", ctypes.c_char_p, NUMBER)
     near = call_of(library, "near", POINTER, POINTER)
 
@@ -44,6 +45,7 @@ def main(path):
     moved = resize(heap, at, 5000)
     assert moved != at and ctypes.string_at(moved) == b"kept"
     assert name_of(heap, moved, ctypes.byref(name)) == 0 and name.heap == 7 and payload(heap, name, None) == moved
+    assert at_base(base(heap), name) == moved and at_base(None, name) is None
     assert take_back(heap, moved) == 0 and payload(heap, name, None) is None
     assert text_of(take_back(heap, moved)) == b"no live block has that name or address"
     assert call_of(library, "close", NUMBER, POINTER)(heap) == 0

@@ -1,6 +1,7 @@
 /* malloc's calls by chance on two heaps, against a table: one heap in memory of the program's, one in malloc's. What each block
  * holds is looked at byte by byte, and each answer is judged. Pointers that no live block has are given to each call, and some
- * blocks are made or released by name. POINTERS [CALLS] [SEED] [LEVEL] [names] */
+ * blocks are made or released by name. Each power of two is an alignment, and heaps have the words that were told for both kinds.
+ * pointers.edits has wrong lines. POINTERS [CALLS] [SEED] [LEVEL] [names] */
 #include "chance.h"
 #include "peachanchor.h"
 
@@ -83,7 +84,7 @@ static void give_plain(struct model *m, struct block *b) {
 }
 
 static void give_aligned(struct model *m, struct block *b) {
-    const size_t len = any_len(), align = (size_t)1 << below(13);
+    const size_t len = any_len(), align = (size_t)1 << below(15);
     void *p = tlsf_aligned_alloc(&m->heap, align, len);
     if (!is_served(m, p, len, 32 + (align > 16 ? align : 16))) return;
     take_in(m, b, p, len, align);
@@ -201,7 +202,7 @@ static void refuse_sizes(struct model *m, void *live) {
           1);
     wants("aligned_alloc", tlsf_aligned_alloc(&m->heap, 64, len) == NULL, 1);
     wants("no alignment",
-          !tlsf_aligned_alloc(&m->heap, 0, 8) && !tlsf_aligned_alloc(&m->heap, 24, 8) && !tlsf_aligned_alloc(&m->heap, 8192, 8), 1);
+          !tlsf_aligned_alloc(&m->heap, 0, 8) && !tlsf_aligned_alloc(&m->heap, 24, 8) && !tlsf_aligned_alloc(&m->heap, 8193, 8), 1);
     wants("allocate_at", tlsf_allocate_at(&m->heap, len, 8, 0, &name, &p), TLSF_NO_FIT);
     wants("allocate_at 3", tlsf_allocate_at(&m->heap, 8, 3, 0, &name, &p), TLSF_BAD_SIZE);
     wants("as before", name.heap == 9 && p == NULL, 1);
@@ -301,6 +302,98 @@ static void odd_blocks_are_noted(void) {
     }
 }
 
+/* A block of that alignment by both calls, and none of an alignment beside it. */
+static void aligns(struct tlsf_heap *heap, size_t align, uint32_t answer) {
+    const struct tlsf_name before = {9, 9, 9};
+    struct tlsf_name name = before;
+    void *at = NULL;
+    wants("an alignment beside it", tlsf_aligned_alloc(heap, align + align / 2, 8) == NULL || align == 1, 1);
+    if (align > 1) wants("beside it, by name", tlsf_allocate_at(heap, 8, align | align >> 1, 0, &name, &at), TLSF_BAD_SIZE);
+    unsigned char *const p = tlsf_aligned_alloc(heap, align, 100);
+    wants("a pointer", p != NULL && (uintptr_t)p % align == 0, answer == TLSF_OK);
+    if (p) memset(p, 0xa5, 100);
+    wants("free", tlsf_free(heap, p), TLSF_OK);
+    wants("by name", tlsf_allocate_at(heap, 100, align, 0, &name, &at), answer);
+    wants("the name as before", name.serial == 9 && at == NULL, answer != TLSF_OK);
+    if (answer != TLSF_OK) return;
+    wants("aligned", (uintptr_t)at % align, 0);
+    for (size_t k = 0; k < 100; k++) wants("a zero", ((unsigned char *)at)[k], 0);
+    wants("no more words than before", tlsf_usable_size(heap, at) <= 104 + 24, 1);
+    wants("release", tlsf_release(heap, name), TLSF_OK);
+}
+
+/* Each power of two is an alignment. In a region of 2 MiB there is room for one of 1 MiB, and in none for one above 2^27. */
+static void any_alignment(uint32_t level) {
+    const volatile size_t longest = SIZE_MAX; /* in plain sight gcc would warn of it */
+    struct tlsf_heap heap = TLSF_CLOSED;
+    struct tlsf_name name = {9, 9, 9};
+    void *at = NULL;
+    for (size_t align = 1; align != 0; align *= 2)
+        wants("closed", tlsf_allocate_at(&heap, 8, align, 0, &name, &at) == TLSF_IS_CLOSED && !tlsf_aligned_alloc(&heap, align, 8), 1);
+    wants("open", tlsf_open(&heap, level, 1, 1u << 18), TLSF_OK);
+    for (size_t align = 1; align <= (size_t)1 << 20; align *= 2) aligns(&heap, align, TLSF_OK);
+    for (size_t align = (size_t)1 << 28; align != 0; align *= 2) aligns(&heap, align, TLSF_NO_FIT);
+    wants("of no length", tlsf_allocate_at(&heap, 0, SIZE_MAX / 2 + 1, 0, &name, &at), TLSF_NO_FIT);
+    wants("of each length", tlsf_allocate_at(&heap, longest, SIZE_MAX / 2 + 1, 0, &name, &at), TLSF_NO_FIT);
+    wants("close", tlsf_close(&heap), TLSF_OK);
+}
+
+/* Blocks of `len` bytes, as many as the heap was sized for, by each call in turn. */
+static void serves(uint32_t level, uint32_t blocks, size_t len, size_t align) {
+    struct tlsf_heap heap = TLSF_CLOSED;
+    struct tlsf_name names[8];
+    void *at = NULL;
+    uint32_t words = 0, others = 0;
+    wants("words for", tlsf_words_for(level, blocks, len, align, &words), TLSF_OK);
+    wants("words", tlsf_words(level, blocks, tlsf_rounded(len) + 32 + (align < 16 ? 16 : align), &others), TLSF_OK);
+    wants("as many", words, others);
+    wants("open", tlsf_open(&heap, level, 1, words), TLSF_OK);
+    for (uint32_t round = 0; round < 6; round++) {
+        for (uint32_t k = round == 0 ? 0 : round % 2; k < blocks; k += round == 0 ? 1 : 2)
+            wants("room",
+                  (k + round / 2) % 3 == 0 ? tlsf_allocate(&heap, len, &names[k])
+                                           : tlsf_allocate_at(&heap, len, align, TLSF_UNFILLED, &names[k], &at),
+                  TLSF_OK);
+        for (uint32_t k = (round + 1) % 2; k < blocks; k += 2) wants("release", tlsf_release(&heap, names[k]), TLSF_OK);
+    }
+    wants("close", tlsf_close(&heap), TLSF_OK);
+}
+
+static void words_for_any_call(uint32_t level) {
+    static const size_t too_long[] = {(size_t)1 << 27, ((size_t)1 << 27) + 1, (size_t)1 << 31, SIZE_MAX / 2 + 1, SIZE_MAX - 40, SIZE_MAX};
+    uint32_t words = 7;
+    for (uint32_t blocks = 1; blocks <= 8; blocks += 3)
+        for (size_t len = 0; len <= 500; len = 2 * len + 1)
+            for (size_t align = 1; align <= 16384; align *= 4) serves(level, blocks, len, align);
+    for (size_t k = 0; k < sizeof too_long / sizeof *too_long; k++) {
+        wants("too long", tlsf_words_for(level, 1, too_long[k], 64, &words), TLSF_BAD_SIZE);
+        wants("too much aligned", tlsf_words_for(level, 1, 8, too_long[k], &words), TLSF_BAD_SIZE);
+        wants("both", tlsf_words_for(level, 2, too_long[k], too_long[k], &words), TLSF_BAD_SIZE);
+        wants("as before", words, 7);
+        wants("no blocks", tlsf_words_for(level, 0, too_long[k], too_long[k], &words), TLSF_OK);
+        wants("the least heap", words, 4);
+        words = 7;
+    }
+    wants("level 3", tlsf_words_for(3, 1, 8, 8, &words) + tlsf_words_for(6, 1, SIZE_MAX, SIZE_MAX, &words), 2 * TLSF_BAD_LEVEL);
+}
+
+/* From a name to a pointer with no call of the heap, as in another thread. */
+static void names_to_pointers(uint32_t level) {
+    struct tlsf_heap heap = TLSF_CLOSED;
+    struct tlsf_name name = {1, 77, 3};
+    uint64_t *base = NULL;
+    uint32_t len = 0;
+    wants("no base of a closed heap, and no pointer", tlsf_base(&heap) == NULL && tlsf_at(NULL, name) == NULL, 1);
+    wants("open", tlsf_open(&heap, level, 1, 400), TLSF_OK);
+    for (int k = 0; k < 4; k++) {
+        wants("a block", tlsf_allocate(&heap, 20, &name), TLSF_OK);
+        wants("its base", tlsf_locate(&heap, name, &base, &len) == TLSF_OK && tlsf_base(&heap) == base, 1);
+        wants("its pointer", tlsf_at(base, name) == tlsf_payload(&heap, name, NULL), 1);
+    }
+    wants("close", tlsf_close(&heap), TLSF_OK);
+    wants("no base once it is closed", tlsf_base(&heap) == NULL, 1);
+}
+
 int main(int argc, char **argv) {
     const long calls = argc > 1 ? strtol(argv[1], NULL, 10) : 20000;
     const uint32_t level = argc > 3 ? (uint32_t)strtoul(argv[3], NULL, 10) : 4;
@@ -308,6 +401,9 @@ int main(int argc, char **argv) {
     with_names = argc > 4;
     lacks_one_word();
     odd_blocks_are_noted();
+    any_alignment(level);
+    words_for_any_call(level);
+    names_to_pointers(level);
     open_all(level);
     for (turn = 0; turn < calls; turn++) {
         const uint32_t h = below(HEAPS), kind = below(10);

@@ -70,7 +70,7 @@ static void moves(void) {
 
 static void alignments(void) {
     void *p = &p;
-    for (size_t align = 8; align <= 65536; align *= 2) {
+    for (size_t align = 8; align <= 1 << 20; align *= 2) {
         HOLDS(posix_memalign(&p, align, 100) == 0 && (uintptr_t)p % align == 0);
         memset(p, 1, 100);
         free(p);
@@ -102,6 +102,15 @@ static void sums(void) {
     HOLDS(shorter && shorter().uordblks == (int)most.uordblks && shorter().fordblks == (int)most.fordblks);
     for (int i = 0; i < BLOCKS; i++) free(blocks[i]);
     HOLDS(mallinfo2().uordblks <= most.uordblks - BLOCKS * EACH);
+}
+
+/* The report counts these. */
+static void give_aligned(void) {
+    void *p;
+    for (int k = 0; k < 1000; k++) {
+        HOLDS(posix_memalign(&p, (size_t)8192 << k % 6, 100) == 0 && (uintptr_t)p % 8192 == 0);
+        free(p);
+    }
 }
 
 /* Each block has its length in its first two bytes, and their sum in all others. */
@@ -153,6 +162,10 @@ int main(int count, char **words) {
         char *volatile again = p;
         free(p);
         free(again);
+        return 0;
+    }
+    if (count > 1 && strcmp(words[1], "aligned") == 0) {
+        give_aligned();
         return 0;
     }
     lengths();

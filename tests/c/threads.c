@@ -28,7 +28,7 @@ static uint32_t length_of(long i) { return 8 + (uint32_t)(i % 200); }
 static uint8_t byte_of(long i, uint32_t k) { return (uint8_t)(i * 7 + (long)k); }
 
 static void fill(struct other *it, const struct tlsf_name *name, long i) {
-    uint8_t *payload = (uint8_t *)(it->base + name->at + 3);
+    uint8_t *payload = tlsf_at(it->base, *name);
     uint64_t first = 0;
     memcpy(&first, payload, sizeof first);
     if (first != (uint64_t)i) it->wrong++;
@@ -58,14 +58,6 @@ static void *send_back(void *given) {
     tlsf_take_close(&it->take);
     tlsf_post_close(&it->post);
     return NULL;
-}
-
-static uint64_t *base_of(struct tlsf_heap *heap) {
-    struct tlsf_name name = {0, 0, 0};
-    uint64_t *base = NULL;
-    uint32_t len = 0;
-    if (tlsf_allocate(heap, 0, &name) || tlsf_locate(heap, name, &base, &len) || tlsf_release(heap, name)) return NULL;
-    return base;
 }
 
 /* --- The thread that has the heap ---------------------------------------------------------------------------------------- */
@@ -124,7 +116,7 @@ int main(int argc, char **argv) {
     if (fillers) others = fillers;
     for (long j = 0; j < others; j++) {
         other[j].number = next[j] = j;
-        if (fillers && !(other[j].base = base_of(&heap))) return 2;
+        if (fillers && !(other[j].base = tlsf_base(&heap))) return 2;
         if (tlsf_lane_open(&post[j], &other[j].take, CAPACITY) || tlsf_lane_open(&other[j].post, &take[j], CAPACITY)) return 2;
     }
     for (long j = 0; j < others; j++)

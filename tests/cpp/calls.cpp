@@ -55,6 +55,32 @@ void by_pointer(tlsf::heap &heap) {
     wants("most words", looked_at.counts().most_words, 16);
 }
 
+// Each of the calls by pointer that C has, with what it gives.
+void all_by_pointer(tlsf::heap &heap) {
+    const tlsf::heap &looked_at = heap;
+    tlsf_name name{}, found{};
+    void *at = nullptr;
+    auto *p = static_cast<unsigned char *>(heap.calloc(10, 4));
+    wants("calloc", p && p[0] == 0 && p[39] == 0, 1);
+    p[39] = 7;
+    p = static_cast<unsigned char *>(heap.realloc(p, 400));
+    wants("realloc", p && p[39] == 7, 1);
+    wants("too far", heap.calloc(far, 2) == nullptr && heap.realloc(p, far) == nullptr && heap.aligned_alloc(64, far) == nullptr, 1);
+    void *volatile const wide = heap.aligned_alloc(2048, 100);
+    wants("aligned_alloc", wide && reinterpret_cast<std::uintptr_t>(wide) % 2048 == 0, 1);
+    wants("of no alignment", heap.aligned_alloc(48, 8) == nullptr, 1);
+    wants("name_at", looked_at.name_at(wide, name), TLSF_OK);
+    wants("its payload", looked_at.payload(name) == wide && tlsf_at(looked_at.base(), name) == wide, 1);
+    wants("free", heap.free(p), TLSF_OK);
+    wants("free the other", heap.free(wide), TLSF_OK);
+    wants("name_at of none", looked_at.name_at(wide, found), TLSF_STALE);
+    wants("allocate_at", heap.allocate_at(100, 512, 0, name, at), TLSF_OK);
+    wants("aligned, and all zero", reinterpret_cast<std::uintptr_t>(at) % 512 == 0 && static_cast<unsigned char *>(at)[99] == 0, 1);
+    wants("allocate_at of no alignment", heap.allocate_at(100, 24, TLSF_UNFILLED, found, at), TLSF_BAD_SIZE);
+    wants("no name came", found.serial, 0);
+    wants("realloc to nothing", heap.realloc(at, 0) == nullptr && heap.release(name) == TLSF_STALE, 1);
+}
+
 // The header behind a block is overrun, told, and made whole again.
 void checked(tlsf::heap &heap) {
     const tlsf::heap &looked_at = heap;
@@ -134,11 +160,19 @@ void closed() {
     std::uint8_t byte = 9;
     std::uint32_t next = 9, damaged = 9;
     const tlsf_name name{};
+    tlsf_name taken{};
+    void *at = nullptr;
     wants("write", heap.write(name, 0, &byte, 1), TLSF_IS_CLOSED);
     wants("read", looked_at.read(name, 0, &byte, 1), TLSF_IS_CLOSED);
     wants("malloc", heap.malloc(8) == nullptr, 1);
     wants("free", heap.free(&byte), TLSF_IS_CLOSED);
     wants("usable_size", looked_at.usable_size(&byte), 0);
+    wants("calloc", heap.calloc(1, 8) == nullptr, 1);
+    wants("realloc", heap.realloc(nullptr, 8) == nullptr && heap.realloc(&byte, 8) == nullptr, 1);
+    wants("aligned_alloc", heap.aligned_alloc(16, 8) == nullptr, 1);
+    wants("name_at", looked_at.name_at(&byte, taken), TLSF_IS_CLOSED);
+    wants("allocate_at", heap.allocate_at(8, 16, 0, taken, at), TLSF_IS_CLOSED);
+    wants("base", looked_at.base() == nullptr && at == nullptr && taken.serial == 0, 1);
     wants("counts", looked_at.counts().most_words, 0);
     wants("report", looked_at.report().free_words, 0);
     wants("check", looked_at.check(0, 1, next, damaged), TLSF_IS_CLOSED);
@@ -154,6 +188,7 @@ int main() {
     for (const tlsf::level level : {tlsf::level::four, tlsf::level::five}) {
         tlsf::heap heap(level, 1, 1 << 10);
         by_pointer(heap);
+        all_by_pointer(heap);
         by_name(heap);
         checked(heap);
         looked_at(heap);

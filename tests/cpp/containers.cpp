@@ -53,15 +53,15 @@ static void pmr_containers(tlsf::heap &heap) {
 
 static void alignments(tlsf::heap &heap) {
     tlsf::resource resource(heap);
-    void *given[13][2];
-    for (std::size_t k = 0; k <= 12; k++)
+    void *given[17][2];
+    for (std::size_t k = 0; k <= 16; k++)
         for (std::size_t size : {std::size_t(0), std::size_t(24) + k}) {
             void *p = resource.allocate(size, std::size_t(1) << k);
             std::memset(p, 0xff, size);
             holds("each alignment", is_aligned(p, std::size_t(1) << k));
             given[k][size != 0] = p;
         }
-    for (std::size_t k = 0; k <= 12; k++)
+    for (std::size_t k = 0; k <= 16; k++)
         for (std::size_t size : {std::size_t(0), std::size_t(24) + k}) resource.deallocate(given[k][size != 0], size, std::size_t(1) << k);
 }
 
@@ -255,7 +255,7 @@ static void fills_by_allocator(tlsf::level level, std::uint32_t count) {
 static void sized_heaps(tlsf::level level) {
     for (std::uint32_t count : {1u, 2u, 17u})
         for (std::uint32_t len : {0u, 1u, 8u, 9u, 24u, 100u, 512u, 1000u, 4096u})
-            for (std::size_t align = 1; align <= 1024; align *= 2) fills(level, count, len, align);
+            for (std::size_t align = 1; align <= 8192; align *= 2) fills(level, count, len, align);
     for (std::uint32_t count : {1u, 2u, 17u})
         for (std::uint32_t len : {0u, 1u, 8u, 9u, 24u, 100u, 512u, 1000u}) fills_by_both(level, count, len);
     for (std::uint32_t count : {1u, 17u}) {

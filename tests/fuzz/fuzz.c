@@ -161,15 +161,15 @@ static void do_calloc(struct area *a) {
 
 static void do_aligned(struct area *a) {
     struct block *it = an_empty(a);
-    const size_t align = byte() % 8 != 0 ? (size_t)1 << byte() % 14 : number(), n = length(), had = grant(a);
+    const size_t align = byte() % 8 != 0 ? (size_t)1 << byte() % 18 : number(), n = length(), had = grant(a);
     if (it == NULL) return;
     void *p = tlsf_aligned_alloc(a->heap, align, n);
-    if (align == 0 || align > 4096 || (align & (align - 1)) != 0) {
+    if (align == 0 || (align & (align - 1)) != 0) {
         MUST(p == NULL);
         return;
     }
     if (p != NULL) enter(a, it, p, n, align);
-    if (p != NULL || n > TLSF_LONGEST) return;
+    if (p != NULL || n > TLSF_LONGEST || align > TLSF_LONGEST) return;
     /* above 16 bytes a block is asked for that has room for the alignment and for one of four words in front */
     MUST(a->is_mixed || had < tlsf_rounded(n) + (align > 16 ? 32 + align : 0) || had == 0);
     a->is_uncounted = true; /* that one counts, where it is refused */

@@ -25,6 +25,7 @@ extern "C" {
     pub fn tlsf_close(heap: *mut tlsf_heap) -> u32;
     pub fn tlsf_reset(heap: *mut tlsf_heap) -> u32;
     #[must_use] pub fn tlsf_words(level: u32, blocks: u32, len: usize, words: *mut u32) -> u32;
+    #[must_use] pub fn tlsf_words_for(level: u32, blocks: u32, len: usize, align: usize, words: *mut u32) -> u32;
     pub fn tlsf_free(heap: *mut tlsf_heap, p: *mut c_void) -> u32;
     #[must_use] pub fn tlsf_malloc(heap: *mut tlsf_heap, len: usize) -> *mut c_void;
     #[must_use] pub fn tlsf_calloc(heap: *mut tlsf_heap, count: usize, each: usize) -> *mut c_void;
@@ -35,6 +36,7 @@ extern "C" {
     #[must_use] pub fn tlsf_allocate_at(heap: *mut tlsf_heap, len: usize, align: usize, flags: u32, name: *mut tlsf_name, payload: *mut *mut c_void) -> u32;
     #[must_use] pub fn tlsf_allocate(heap: *mut tlsf_heap, len: usize, name: *mut tlsf_name) -> u32;
     #[must_use] pub fn tlsf_reallocate(heap: *mut tlsf_heap, name: *mut tlsf_name, len: usize) -> u32;
+    pub fn tlsf_base(heap: *const tlsf_heap) -> *mut u64;
     #[must_use] pub fn tlsf_lane_open_in(post: *mut tlsf_post_end, take: *mut tlsf_take_end, capacity: u32, memory: *mut c_void, bytes: usize) -> u32;
     pub fn tlsf_lane_bytes(capacity: u32) -> usize;
     pub fn tlsf_post_close(post: *mut tlsf_post_end) -> u32;
@@ -104,6 +106,7 @@ by_value! {
     #[must_use] pub fn tlsf_read(heap: *mut tlsf_heap, name: tlsf_name, at: u32, out: *mut u8, n: usize) -> u32;
     #[must_use] pub fn tlsf_locate(heap: *mut tlsf_heap, name: tlsf_name, base: *mut *mut u64, len: *mut u32) -> u32;
     pub fn tlsf_payload(heap: *mut tlsf_heap, name: tlsf_name, len: *mut u32) -> *mut c_void;
+    pub fn tlsf_at(base: *mut u64, name: tlsf_name) -> *mut c_void;
     #[must_use] pub fn tlsf_put(post: *mut tlsf_post_end, name: tlsf_name) -> u32;
     #[must_use] pub fn tlsf_queue_post(poster: *mut tlsf_poster, name: tlsf_name) -> u32;
     pub fn tlsf_offsets_release(offsets: *mut tlsf_offsets, name: tlsf_name) -> u32;

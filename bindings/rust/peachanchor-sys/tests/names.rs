@@ -21,7 +21,8 @@ fn names_lie_in_payloads() {
         assert_eq!((tlsf_reallocate(heap, link, 400), tlsf_resize(heap, *link, 48)), (TLSF_OK, TLSF_OK));
         let mut bytes = [9_u8; 6];
         assert_eq!((tlsf_read(heap, *link, 36, bytes.as_mut_ptr(), 6), bytes), (TLSF_OK, [5, 5, 5, 5, 0, 0]));
-        let base = (*heap).base;
+        let base = tlsf_base(heap);
+        assert_eq!((base, tlsf_at(base, *link)), ((*heap).base, tlsf_payload(heap, *link, null_mut())));
         let mut found = null_mut();
         assert_eq!((tlsf_locate(heap, *link, &mut found, &mut len), found, len), (TLSF_OK, base, 48));
         assert_eq!((*link == second, tlsf_release(heap, *link)), (true, TLSF_OK));
@@ -31,6 +32,7 @@ fn names_lie_in_payloads() {
         let mut counts = tlsf_heap_counts::default();
         assert_eq!((tlsf_counts(heap, &mut counts), counts.words), (TLSF_OK, 0));
         assert_eq!(tlsf_close(heap), TLSF_OK);
+        assert!(tlsf_base(heap).is_null() && tlsf_at(tlsf_base(heap), first).is_null());
     }
 }
 

@@ -44,7 +44,9 @@ fn pointers_are_aligned() {
                 assert!(!p.is_null() && p as usize % align.max(16) == 0);
                 assert_eq!(tlsf_free(heap, p), TLSF_OK);
             }
-            for align in [0, 3, 8192] {
+            let p = tlsf_aligned_alloc(heap, 2048, 40);
+            assert_eq!((p as usize % 2048, tlsf_free(heap, p)), (0, TLSF_OK));
+            for align in [0, 3, 8192, 1 << 63] {
                 assert!(tlsf_aligned_alloc(heap, align, 40).is_null());
             }
         });

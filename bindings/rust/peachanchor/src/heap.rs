@@ -1,5 +1,6 @@
 use crate::handle::Handle;
 use crate::{Block, Counts, Error, HeapBox, InPlace, Level, Name, Report};
+use core::alloc::Layout;
 use core::mem::{size_of_val, MaybeUninit};
 use core::ptr::NonNull;
 use peachanchor_sys::{self as sys, tlsf_heap, tlsf_near_heap};
@@ -203,6 +204,31 @@ impl<'m> Heap<'m> {
         Ok(words)
     }
 
+    /// The same for blocks of that layout, whichever calls ask for them: `allocate`, [`boxed`](Self::boxed) and others.
+    ///
+    /// # Errors
+    ///
+    /// [`Error::BadSize`] where no region of that level is so large.
+    ///
+    /// ```
+    /// # #[cfg(feature = "malloc")] {
+    /// use peachanchor::{Heap, Level};
+    /// use std::alloc::Layout;
+    /// #[repr(align(64))]
+    /// struct Line([u8; 64]);
+    /// let heap = Heap::open(Level::Four, 1, Heap::words_for_layout(Level::Four, 2, Layout::new::<Line>())?)?;
+    /// let lines = (heap.boxed(Line([1; 64]))?, heap.boxed(Line([2; 64]))?);
+    /// assert_eq!(lines.1.0[63], 2);
+    /// # }
+    /// # Ok::<(), peachanchor::Error>(())
+    /// ```
+    pub fn words_for_layout(level: Level, blocks: u32, layout: Layout) -> Result<u32, Error> {
+        let mut words = 0;
+        // SAFETY: the number that it writes is on this stack (rule 3).
+        Error::check(unsafe { sys::tlsf_words_for(level as u32, blocks, layout.size(), layout.align(), &mut words) })?;
+        Ok(words)
+    }
+
     /// The handle for calls of this crate.
     pub(crate) fn raw(&self) -> *mut tlsf_heap {
         // SAFETY: the handle has its room.
@@ -242,7 +268,7 @@ impl<'m> Heap<'m> {
     ///
     /// # Errors
     ///
-    /// [`Error::NoFit`], [`Error::Worn`], and [`Error::BadSize`] for an alignment above 4,096. The value is dropped then.
+    /// [`Error::NoFit`], [`Error::Worn`]. The value is dropped then.
     ///
     /// ```
     /// # #[cfg(feature = "malloc")] {

@@ -3,8 +3,8 @@ use core::alloc::Layout;
 use core::ptr::NonNull;
 use peachanchor_sys as sys;
 
-/// A heap as collections call it: by pointer, unfilled, at any alignment up to 4,096. With the feature `allocator_api` it is
-/// an `Allocator` of nightly's core. [`Heap::in_place`] makes one.
+/// A heap as collections call it: by pointer, unfilled, at any alignment. With the feature `allocator_api` it is an
+/// `Allocator` of nightly's core. [`Heap::in_place`] makes one.
 ///
 /// ```
 /// # #[cfg(feature = "malloc")] {
@@ -39,7 +39,7 @@ impl<'h> InPlace<'h> {
     ///
     /// # Errors
     ///
-    /// [`Error::NoFit`] where it is refused, also for an alignment above 4,096.
+    /// [`Error::NoFit`] where it is refused.
     pub fn obtain(&self, layout: Layout) -> Result<NonNull<[u8]>, Error> {
         let size = layout.size();
         let at = if size == 0 {

@@ -58,7 +58,9 @@ fn values_are_aligned_as_their_types_ask() {
     #[derive(Debug)]
     #[repr(align(4096))]
     struct Page([u8; 4096]);
-    #[repr(align(8192))]
+    #[repr(align(32768))]
+    struct Wide(u8);
+    #[repr(align(131072))]
     struct TooMuch;
     #[repr(align(64))]
     struct Line(u8);
@@ -68,7 +70,10 @@ fn values_are_aligned_as_their_types_ask() {
     page.0[4095] = 4;
     assert_eq!((&raw const *page as usize % 4096, &raw const *line as usize % 64), (0, 0));
     assert_eq!((*one, line.0, page.0[0], page.0[4095]), (1, 2, 3, 4));
-    assert!(heap.boxed(TooMuch).is_err_and(|error| error == Error::BadSize));
+    let wide = heap.boxed(Wide(5)).unwrap();
+    assert_eq!((&raw const *wide as usize % 32768, wide.0), (0, 5));
+    assert!(heap.boxed(TooMuch).is_err_and(|error| error == Error::NoFit));
+    drop(wide);
     let nothing = heap.boxed(()).unwrap();
     assert_eq!((*nothing, live(&heap)), ((), 4));
     assert_eq!(heap.check(), Ok(()));

@@ -23,7 +23,7 @@ fn in_use() -> usize {
 #[test]
 fn what_is_dropped_takes_no_memory() {
     let before = in_use();
-    // The test's own runner takes some memory meanwhile. The least piece that could be kept each time has 240 bytes.
+    // The test's own runner takes some memory meanwhile. The least piece that could be kept each time has 255 bytes.
     for _ in 0..400 {
         drop((Heap::open(Level::Four, 1, 4096), lane(64), Offsets::open(Level::Four, 1, 8, 64)));
         drop(Pools::open(Level::Four, 1, &[Kind { most: 2, len: 64 }]));

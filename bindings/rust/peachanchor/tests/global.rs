@@ -41,7 +41,7 @@ fn collections_of_four_threads_hold_what_was_put_in() {
 #[test]
 fn bytes_stay_at_each_alignment() {
     without_backtrace();
-    for align in [1, 16, 64, 4096] {
+    for align in [1, 16, 64, 4096, 1 << 16] {
         let layout = Layout::from_size_align(100, align).unwrap();
         // SAFETY: the block is used within its size, and given back once.
         unsafe {

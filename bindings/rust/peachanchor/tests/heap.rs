@@ -122,6 +122,10 @@ fn sizes_out_of_range_are_refused() {
     assert_eq!(Heap::open(Level::Four, 1, 3).err(), Some(Error::BadSize));
     assert_eq!(Heap::open(Level::Four, 1, (1 << 20) + 1).err(), Some(Error::BadSize));
     assert_eq!(Heap::words_for(Level::Four, u32::MAX, 8), Err(Error::BadSize));
+    assert_eq!(
+        Heap::words_for_layout(Level::Four, 4, Layout::from_size_align(8, 1 << 62).unwrap()),
+        Err(Error::BadSize)
+    );
     assert_eq!(Heap::words_for(Level::Five, 100, 512), Ok(Heap::words_for(Level::Five, 100, 512).unwrap()));
     static SMALL: Region<3> = Region::new();
     assert_eq!(Heap::open_in(Level::Four, 1, SMALL.take().unwrap()).err(), Some(Error::BadSize));
@@ -156,10 +160,10 @@ fn an_overrun_is_told_wherever_it_is() {
 
 #[test]
 fn what_is_obtained_is_aligned() {
-    let heap = heap(8192);
+    let heap = heap(1 << 16);
     // SAFETY: there is one thread and one heap with this number, and nothing is written.
     let memory = unsafe { heap.in_place() };
-    for align in [1, 8, 16, 32, 512, 4096] {
+    for align in [1, 8, 16, 32, 512, 4096, 1 << 16] {
         for size in [0, 1, 24, 3000] {
             let layout = Layout::from_size_align(size, align).unwrap();
             let (first, second) = (memory.obtain(layout).unwrap(), memory.obtain(layout).unwrap());
@@ -174,7 +178,9 @@ fn what_is_obtained_is_aligned() {
             }
         }
     }
-    assert_eq!(memory.obtain(Layout::from_size_align(8, 8192).unwrap()), Err(Error::NoFit));
+    for align in [1 << 20, 1 << 28, 1 << 40, 1 << 62] {
+        assert_eq!(memory.obtain(Layout::from_size_align(8, align).unwrap()), Err(Error::NoFit));
+    }
     assert_eq!(heap.report().unwrap().live_blocks, 0);
 }
 

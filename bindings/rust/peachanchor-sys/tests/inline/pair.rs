@@ -18,9 +18,9 @@ pub struct Pair<'c> {
     seed: u64,
 }
 
-/// A heap at a multiple of 4,096, so that aligned blocks lie alike in both.
+/// A heap at a multiple of its bytes, so that aligned blocks lie alike in both.
 unsafe fn open(level: u32) -> Heap {
-    let memory = alloc_zeroed(Layout::from_size_align(BYTES, 4096).unwrap());
+    let memory = alloc_zeroed(Layout::from_size_align(BYTES, BYTES).unwrap());
     let heap = Box::into_raw(Box::new(tlsf_heap::CLOSED));
     assert_eq!(tlsf_open_in(heap, level, 1, memory.cast(), BYTES), TLSF_OK);
     heap
@@ -51,7 +51,7 @@ impl<'c> Pair<'c> {
                 1 => self.chance(20_000),
                 _ => self.chance(300),
             };
-            let align = [0, 1, 3, 8, 16, 32, 64, 256, 4096, 8192][self.chance(10)];
+            let align = [0, 1, 3, 8, 16, 32, 64, 256, 4096, 16384][self.chance(10)];
             let got = match self.chance(if by_name { 13 } else { 9 }) {
                 kind @ 0..4 => self.get(kind, len, align),
                 kind @ 4..9 if !self.pointers.is_empty() => self.use_pointer(kind, len),
