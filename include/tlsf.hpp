@@ -245,6 +245,10 @@ public:
     }
     // The same with a number of tlsf_next_number.
     heap(level l, std::uint32_t words) : heap(l, next_number(), words) {}
+    // In memory of the caller's, as open_in: a heap of `words` words at least, for which `bytes` says how much is enough.
+    heap(level l, std::uint32_t number, std::uint32_t words, void *memory, std::size_t bytes) {
+        detail::must_be_ok(open_in(l, number, words, memory, bytes), "tlsf: a heap of so many words has no room in that memory");
+    }
     heap(heap &&other) noexcept = default;
     heap &operator=(heap &&other) noexcept {
         if (this != &other) {
@@ -278,8 +282,9 @@ public:
         if (!fresh) return TLSF_NO_MEMORY;
         return keep(detail::heap_reference(fresh), tlsf_open_near(&fresh->held, static_cast<std::uint32_t>(l), number, words));
     }
-    // As tlsf_open_near_in: its blocks lie in memory of the caller's, and so does all else, so no operator new is called. The memory is
-    // the caller's again once the heap is closed and nothing refers to it: no block, resource, allocator or home.
+    // As tlsf_open_near_in: its blocks lie in memory of the caller's, and so does all else, so no operator new is called. So it has fewer
+    // words than tlsf_open_near_in would give it there: `bytes` of some words is enough for these. The memory is the caller's again once
+    // the heap is closed and nothing refers to it: no block, resource, allocator or home.
     [[nodiscard]] std::uint32_t open_in(level l, std::uint32_t number, void *memory, std::size_t bytes) noexcept {
         const auto of_level = static_cast<std::uint32_t>(l);
         if (is_open()) return TLSF_IN_USE;
@@ -290,6 +295,13 @@ public:
         // Too little memory is refused as none of it is.
         tlsf_heap none = TLSF_CLOSED;
         return tlsf_open_in(&none, of_level, number, memory, detail::is_memory(memory, bytes) ? 0 : bytes);
+    }
+    // The same where it has to have `words` words at least: TLSF_BAD_SIZE where fewer find room.
+    [[nodiscard]] std::uint32_t open_in(level l, std::uint32_t number, std::uint32_t words, void *memory, std::size_t bytes) noexcept {
+        const std::uint32_t answer = open_in(l, number, memory, bytes);
+        if (answer != TLSF_OK || report().free_words >= words) return answer;
+        close();
+        return TLSF_BAD_SIZE;
     }
     // The bytes in which open_in finds room for so many words, at any alignment; 0 where no heap of that level has so many.
     static std::size_t bytes(level l, std::uint32_t words) noexcept {

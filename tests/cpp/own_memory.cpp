@@ -94,6 +94,26 @@ void heap_in(tlsf::level level, std::size_t skipped) {
     wants("the memory again", next.open_in(level, 2, memory.begin(), bytes) == TLSF_OK && next.make(8));
 }
 
+// A heap that is told how many words it has to have. Its handle lies in the memory too, so bytes in which C finds room are too few.
+void sized_heap_in(tlsf::level level, std::size_t skipped) {
+    constexpr std::size_t len = 4000;
+    std::uint32_t words = 0;
+    wants("its words", tlsf_words(static_cast<std::uint32_t>(level), 1, len, &words) == TLSF_OK);
+    const std::size_t bytes = tlsf::heap::bytes(level, words), too_few = tlsf_near_bytes(static_cast<std::uint32_t>(level), words);
+    walled memory(skipped, bytes);
+    tlsf::heap heap;
+    wants("a heap of fewer words", heap.open_in(level, 1, memory.begin(), too_few) == TLSF_OK && !heap.make(len));
+    wants("in use", heap.open_in(level, 1, words, memory.begin(), too_few) == TLSF_IN_USE && heap.is_open());
+    heap.close();
+    wants("too little memory", heap.open_in(level, 1, words, memory.begin(), too_few) == TLSF_BAD_SIZE && !heap.is_open());
+    wants("none", heap.open_in(level, 1, words, nullptr, bytes) == TLSF_BAD_MEMORY && !heap.is_open());
+    wants("enough", heap.open_in(level, 1, words, memory.begin(), bytes) == TLSF_OK && heap.make(len));
+    heap.close();
+    tlsf::heap made(level, 2, words, memory.begin(), bytes);
+    wants("what it was sized for", memory.has(made.get()) && made.make(len));
+    made.close();
+}
+
 void lane_in(std::size_t skipped) {
     const std::size_t bytes = tlsf::lane::bytes(3);
     walled memory(skipped, bytes);
@@ -162,6 +182,8 @@ void throws(const char *what, Make make) {
 
 void thrown() {
     walled memory(1, 1 << 15);
+    throws("a heap in too little", [&] { tlsf::heap(tlsf::level::four, 1, 200, memory.begin(), tlsf_near_bytes(4, 200)); });
+    throws("a heap nowhere", [&] { tlsf::heap(tlsf::level::four, 1, 200, nullptr, 1 << 15); });
     throws("a lane in too little", [&] { tlsf::lane(3, memory.begin(), tlsf::lane::bytes(3) - 128); });
     throws("a lane of no names", [&] { tlsf::lane(0, memory.begin(), 1 << 15); });
     throws("a lane nowhere", [&] { tlsf::lane(3, nullptr, 1 << 15); });
@@ -180,6 +202,7 @@ int main() {
     for (std::size_t skipped : {std::size_t(0), std::size_t(1), std::size_t(8), std::size_t(64)}) {
         for (tlsf::level level : {tlsf::level::four, tlsf::level::five}) {
             heap_in(level, skipped);
+            sized_heap_in(level, skipped);
             offsets_in(level, skipped);
             refused(level);
         }
