@@ -26,8 +26,30 @@ static void refusals_of_opening(void) {
     wants("open twice", tlsf_pools_open(&pools, 9, UINT32_MAX, rows, 70), TLSF_IN_USE);
     wants("close", tlsf_pools_close(&pools), TLSF_OK);
     wants("close twice", tlsf_pools_close(&pools), TLSF_IS_CLOSED);
-    wants("no rows", tlsf_pools_open(&pools, 4, 1, rows, 0), TLSF_OK);
-    wants("close", tlsf_pools_close(&pools), TLSF_OK);
+}
+
+/* Pools of no rows open, and have no heap: each request is longer than each row. */
+static void no_rows(uint32_t level) {
+    static unsigned char memory[8192];
+    struct tlsf_pools pools = TLSF_POOLS_CLOSED;
+    struct tlsf_name name = {7, 7, 7};
+    uint64_t words = 7, *base = NULL;
+    uint32_t heaps = 7, number = 7, some = 7, most = 7;
+    wants("words of no rows", tlsf_pools_words(level, rows, 0, &words, &heaps) + words + heaps, TLSF_OK);
+    wants("their bytes", tlsf_pools_bytes(level, rows, 0) > 0 && tlsf_pools_bytes(level, rows, 0) <= sizeof memory, 1);
+    for (int is_in = 0; is_in < 2; is_in++) {
+        wants("no rows",
+              is_in ? tlsf_pools_open_in(&pools, level, 1, rows, 0, memory, tlsf_pools_bytes(level, rows, 0))
+                    : tlsf_pools_open(&pools, level, 1, rows, 0),
+              TLSF_OK);
+        wants("no request", tlsf_pools_allocate(&pools, 0, &name), TLSF_BAD_SIZE);
+        wants("by pointer", tlsf_pools_malloc(&pools, 0) == NULL, 1);
+        wants("no part", tlsf_pools_part(&pools, 0, &base, &number), TLSF_STALE);
+        wants("no row", tlsf_pools_counts(&pools, 0, &some, &most), TLSF_STALE);
+        wants("no block", tlsf_pools_usable_size(&pools, memory), 0);
+        wants("no name", tlsf_pools_release(&pools, name), TLSF_FOREIGN);
+        wants("close", tlsf_pools_close(&pools), TLSF_OK);
+    }
 }
 
 static void refusals_of_calls(void) {
@@ -155,6 +177,7 @@ int main(int argc, char **argv) {
     state = argc > 3 ? strtoull(argv[3], NULL, 10) * 2 + 1 : 1;
     for (int i = 0; i < 10; i++) below(2);
     refusals_of_opening();
+    no_rows(level);
     refusals_of_calls();
     wants("open", tlsf_pools_open(&pools, level, NUMBER, rows, ROWS), TLSF_OK);
     const uint32_t parts = check_reports(&pools);
