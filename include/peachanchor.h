@@ -38,7 +38,7 @@
  *      it interrupts: on a handle in use they are refused as TLSF_IS_CLOSED. In the forked child of a process with threads
  *      no call is made; the parent goes on as before.
  *   6. Memory that a heap, a lane, a queue, an arena of offsets or pools are opened in is their own until it is closed. malloc and free
- *      belong to one allocator, which aligns memory as C's does.
+ *      belong to one allocator, however it aligns.
  *
  * A pointer has no serial, as a name has. So a second free of it, or a use after it was freed, is not seen once its place was
  * given again. Names see both. TLSF_CHECKED before this header looks at the headers that each call is about to follow
