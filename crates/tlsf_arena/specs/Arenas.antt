@@ -10,13 +10,15 @@ use Rattle.tlsf_heap.specs.Calls.{Outcome, named, allocated_words, resized_words
 use Rattle.tlsf_heap.specs.declared.name.Name.{Name}
 use Rattle.tlsf_arena.specs.Units.{IsUnit, units_for, lacking, held_units, free_map, spread}
 
--- the heap that decides, the memory that is cut, the book of the blocks that are out, and the heap's own memory. Also its touches,
--- and how often an address was compared with that of a unit
+-- the heap that decides, the memory that is cut, the book of the blocks that are out, and the heap's own memory. Also whether the
+-- memory that is cut was taken from an allocator, which gets it back. Also the heap's touches, and how often an address was compared
+-- with that of a unit
 pub record ArenaState : Type 0 where
   pub heap : HeapState
   pub region : Region
   pub book : GName
   pub extents : Extents
+  pub leased : Bool
   pub touches : ℕ
   pub compared : ℕ
 
@@ -32,9 +34,10 @@ refitted u h name n = resized_words h name (units_for u n) (lacking (units_for u
 abbrev pub Holds : HeapState → Name → ℕ → Type 0
 Holds h name k = (s : Site) × (name.heap ≡ h.id) × (named name h.blocks ≡ Some s) × (held_units (size_of s.block) (length (bytes_of s.block)) ≡ k)
 
--- the same memory, and the same book. No memory is taken or given back: that of the heap stays where it is, and as large
+-- the same memory, which was taken or handed in as before, and the same book. No memory is taken or given back: that of the heap
+-- stays where it is, and as large
 abbrev pub SameHome : ArenaState → ArenaState → Type 0
-SameHome old new = (new.region ≡ old.region) × (new.book ≡ old.book) × (new.extents ≡ old.extents)
+SameHome old new = (new.region ≡ old.region) × (new.book ≡ old.book) × (new.extents ≡ old.extents) × (new.leased ≡ old.leased)
 
 -- the same heap besides. Only the counts of steps may differ
 abbrev pub SameArena : ArenaState → ArenaState → Type 0

@@ -37,8 +37,9 @@ use tlsf_heap::{Content, Heap, Name, OpenFault, PlacedBlock, Refusal, Report};
 /// holds payload and no headers.
 ///
 /// Contracts see it as its heap, the region of its memory and the book in which its blocks stand. They also see the heap's own
-/// memory (`extents`), its touches, and how often an address was compared with that of a unit. The bytes of the units that no live
-/// block holds are the arena's; those of a block are its holder's alone.
+/// memory (`extents`), its touches, and how often an address was compared with that of a unit. They see whether its memory was
+/// taken from `alloc`, which gets it back (`leased`). The bytes of the units that no live block holds are the arena's; those of a
+/// block are its holder's alone.
 pub struct Arena<const SLI: u32, const UNIT: usize> {
     heap: Box<Heap<SLI>, Global>,
     space: Space,
@@ -53,13 +54,13 @@ pub struct Arena<const SLI: u32, const UNIT: usize> {
 }
 
 impl<const SLI: u32, const UNIT: usize> Model for Arena<SLI, UNIT> {
-    ghost use Rattle.std.specs.Prelude.{◌≡◌, ◌*◌, IfSome};
+    ghost use Rattle.std.specs.Prelude.{◌≡◌, ◌*◌, IfSome, is_some};
     ghost use Rattle.tlsf_arena.specs.Arenas.{ArenaState, IsMapped};
     ghost use Rattle.tlsf_arena.specs.Loans.{IsBook};
 
     ghost Value = { ArenaState };
 
-    ghost view = { λ a. record { heap = a.heap.value.heap; region = a.space.region; book = a.book.name; extents = a.heap.value.extents; touches = a.heap.value.touches; compared = a.compared.count } };
+    ghost view = { λ a. record { heap = a.heap.value.heap; region = a.space.region; book = a.book.name; extents = a.heap.value.extents; leased = is_some a.lease; touches = a.heap.value.touches; compared = a.compared.count } };
 
     ghost invariant = { λ a. IsMapped SLI UNIT a.units a.heap.value.heap a.space.free × ((a.space.base ≡ a.base) × IfSome a.lease (λ l. (l.alloc ≡ a.alloc) × ((l.ptr ≡ a.base) × (l.size ≡ UNIT * a.units)))) × (a.id ≡ a.heap.value.heap.id) × IsBook a.book.out a.heap.value.heap };
 }
@@ -80,6 +81,7 @@ impl<const SLI: u32, const UNIT: usize> Arena<SLI, UNIT> {
         requires unit { IsUnit UNIT }
         ensures heap { IfOk result (λ a. a.heap ≡ opened id units 0) }
         ensures region { IfOk result (λ a. a.region.end ≡ a.region.start + UNIT * units) }
+        ensures leased { IfOk result (λ a. a.leased ≡ true) }
         ensures bad_size { IsErrOf result OpenFault.BadSize ↔ ¬ (IsRegion SLI units) }
         ensures not_worn { ¬ (IsErrOf result OpenFault.Worn) }
         ensures touches { IfOk result (λ a. a.touches ≤ 10) }
@@ -125,6 +127,7 @@ impl<const SLI: u32, const UNIT: usize> Arena<SLI, UNIT> {
         requires place { count_of memory.ptr + memory.size < 2 ^ 63 }
         ensures heap { IfOk result (λ a. a.heap ≡ opened id units 0) }
         ensures region { IfOk result (λ a. a.region ≡ region_of memory.ptr memory.size) }
+        ensures leased { IfOk result (λ a. a.leased ≡ false) }
         ensures bad_size { MatchResult result (λ _. IsRegion SLI units) (λ e. (e.0 ≡ OpenFault.BadSize) ↔ ¬ (IsRegion SLI units)) }
         ensures not_worn { IfErr result (λ e. e.0 ≢ OpenFault.Worn) }
         ensures err { IfErr result (λ e. e.1 ≡ memory) }

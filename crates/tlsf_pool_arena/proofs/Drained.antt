@@ -96,6 +96,7 @@ pub record Drained {u : ℕ} (first now : RemoteState u) (n : ℕ) : Type 0 wher
   pub touches : now.arena.touches ≤ first.arena.touches + 60 * n
   pub compared : now.arena.compared ≡ first.arena.compared
   pub steps : now.steps ≤ first.steps + n
+  pub stays : now.extent ≡ first.extent
   pub seen : List Bool
   pub looks : now.looks ≡ first.looks ++ looks_from 0 seen
   pub away : now.away ≡ still_away first.away seen
@@ -109,11 +110,12 @@ pub none_drained : {u : ℕ} (first : RemoteState u) → Drained first first 0
 none_drained first = record {
   own = refl;
   held = omega arith;
-  plan = record { region = refl; book = refl; most = refl; longest = refl; stays = refl };
+  plan = record { region = refl; book = refl; most = refl; longest = refl; stays = refl; leased = refl };
   long = refl;
   touches = omega arith;
   compared = refl;
   steps = omega arith;
+  stays = refl;
   seen = [];
   looks = sym (append-nil first.looks);
   away = sym (none_taken first.away);
@@ -127,9 +129,9 @@ none_drained first = record {
 pub all_drained : {u : ℕ} (first now : RemoteState u) (n : ℕ) → Drained first now n → n ≡ length first.away → (seen : List Bool) × TakesHome first now seen
 all_drained first now n d long = (d.seen, record { looks = d.looks; away = d.away; heap = d.heap; idle = d.idle; whole = λ fresh. d.whole fresh ∙ long; in_time = d.in_time })
 
-module _ {u : ℕ} (first old new : RemoteState u) (at : ℕ) (was : Drained first old at) (own : new.slots ≡ old.slots) (plan : SamePlan old.arena new.arena) (touches : new.arena.touches ≤ old.arena.touches + 60) (compared : new.arena.compared ≡ old.arena.compared) (steps : new.steps ≤ old.steps + 1) where
+module _ {u : ℕ} (first old new : RemoteState u) (at : ℕ) (was : Drained first old at) (own : new.slots ≡ old.slots) (plan : SamePlan old.arena new.arena) (touches : new.arena.touches ≤ old.arena.touches + 60) (compared : new.arena.compared ≡ old.arena.compared) (steps : new.steps ≤ old.steps + 1) (stays : new.extent ≡ old.extent) where
   plans : SamePlan first.arena new.arena
-  plans = record { region = plan.region ∙ was.plan.region; book = plan.book ∙ was.plan.book; most = plan.most ∙ was.plan.most; longest = plan.longest ∙ was.plan.longest; stays = plan.stays ∙ was.plan.stays }
+  plans = record { region = plan.region ∙ was.plan.region; book = plan.book ∙ was.plan.book; most = plan.most ∙ was.plan.most; longest = plan.longest ∙ was.plan.longest; stays = plan.stays ∙ was.plan.stays; leased = plan.leased ∙ was.plan.leased }
 
   from_first : length was.seen ≡ at → at ≡ 0 + length was.seen
   from_first long = omega (arith, long)
@@ -164,6 +166,7 @@ module _ {u : ℕ} (first old new : RemoteState u) (at : ℕ) (was : Drained fir
         touches = omega (arith, was.touches, touches);
         compared = compared ∙ was.compared;
         steps = omega (arith, was.steps, steps);
+        stays = stays ∙ was.stays;
         seen = was.seen ++ true ∷ [];
         looks = seen_on true long (looks fresh);
         away = h.2 ∙ (λ i. set (was.away i) (sym long i) None) ∙ sym (away_on first.away was.seen);
@@ -183,6 +186,7 @@ module _ {u : ℕ} (first old new : RemoteState u) (at : ℕ) (was : Drained fir
           touches = omega (arith, was.touches, touches);
           compared = compared ∙ was.compared;
           steps = omega (arith, was.steps, steps);
+          stays = stays ∙ was.stays;
           seen = was.seen;
           looks = (worn last).1 ∙ was.looks;
           away = h.0 ∙ was.away;
@@ -201,6 +205,7 @@ module _ {u : ℕ} (first old new : RemoteState u) (at : ℕ) (was : Drained fir
           touches = omega (arith, was.touches, touches);
           compared = compared ∙ was.compared;
           steps = omega (arith, was.steps, steps);
+          stays = stays ∙ was.stays;
           seen = was.seen ++ false ∷ [];
           looks = seen_on false long (looks fresh);
           away = h.0 ∙ was.away ∙ sym (away_off first.away was.seen);

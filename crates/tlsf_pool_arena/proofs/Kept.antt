@@ -78,9 +78,9 @@ module _ (sli u : ℕ) (p : PoolArenaState) (is : IsPoolArena sli u p) where
     asked_again name = ap (refitted_to u p.heap name) bytes_are ∙ ap (λ (k : ℕ). resized_words p.heap name k (lacking k)) units_are
 
     -- after an allocate that gave a name
-    pub given : (name : Name) (left : HeapState) (region : Region) (book : GName) (extents : Extents) (touches compared : ℕ) → p.held < p.most → (requested sli u p.heap bytes).answer ≡ Ok name → left ≡ (requested sli u p.heap bytes).heap
-        → IsPoolArena sli u (record { heap = left; region = region; book = book; most = p.most; longest = p.longest; held = p.held + 1; extents = extents; touches = touches; compared = compared })
-    given name left region book extents touches compared few answer heap =
+    pub given : (name : Name) (left : HeapState) (region : Region) (book : GName) (extents : Extents) (leased : Bool) (touches compared : ℕ) → p.held < p.most → (requested sli u p.heap bytes).answer ≡ Ok name → left ≡ (requested sli u p.heap bytes).heap
+        → IsPoolArena sli u (record { heap = left; region = region; book = book; most = p.most; longest = p.longest; held = p.held + 1; extents = extents; leased = leased; touches = touches; compared = compared })
+    given name left region book extents leased touches compared few answer heap =
         let o : Outcome Name = allocated_words sli p.heap s (lacking s) in
         let there : left ≡ o.heap = heap ∙ ap (λ (o : Outcome Name). o.heap) asked in
         let named : o.answer ≡ Ok name = sym (ap (λ (o : Outcome Name). o.answer) asked) ∙ answer in
@@ -111,9 +111,9 @@ module _ (sli u : ℕ) (p : PoolArenaState) (is : IsPoolArena sli u p) where
         (subst (IsLive p.heap) same (holds.1, subst (λ (o : Option Site). IsSome o) (sym holds.2) refl))
 
     -- after a resize, done or refused
-    pub refit : (name : Name) (left : HeapState) (region : Region) (book : GName) (extents : Extents) (touches compared : ℕ) → left ≡ (refitted_to u p.heap name bytes).heap
-        → IsPoolArena sli u (record { heap = left; region = region; book = book; most = p.most; longest = p.longest; held = p.held; extents = extents; touches = touches; compared = compared })
-    refit name left region book extents touches compared heap =
+    pub refit : (name : Name) (left : HeapState) (region : Region) (book : GName) (extents : Extents) (leased : Bool) (touches compared : ℕ) → left ≡ (refitted_to u p.heap name bytes).heap
+        → IsPoolArena sli u (record { heap = left; region = region; book = book; most = p.most; longest = p.longest; held = p.held; extents = extents; leased = leased; touches = touches; compared = compared })
+    refit name left region book extents leased touches compared heap =
         let o : Outcome (Unit {0}) = resized_words p.heap name s (lacking s) in
         let there : left ≡ o.heap = heap ∙ ap (λ (o : Outcome (Unit {0})). o.heap) (asked_again name) in
         let words : o.heap.words ≡ p.heap.words = by_resized_words (λ o. o.heap.words ≡ p.heap.words) p.heap name s (lacking s) (λ why. refl) (λ t own site it room. refl) in
@@ -160,9 +160,9 @@ module _ (sli u : ℕ) (p : PoolArenaState) (is : IsPoolArena sli u p) where
     resize_worn (Err e) name units holds told = (resize_is name units (Err e.0) holds told).1 e.0 refl
 
   -- after a release that was done
-  pub taken : (name : Name) (left : HeapState) (region : Region) (book : GName) (extents : Extents) (touches compared : ℕ) → (released p.heap name).answer ≡ Ok tt → left ≡ (released p.heap name).heap
-      → IsPoolArena sli u (record { heap = left; region = region; book = book; most = p.most; longest = p.longest; held = p.held - 1; extents = extents; touches = touches; compared = compared })
-  taken name left region book extents touches compared answer heap =
+  pub taken : (name : Name) (left : HeapState) (region : Region) (book : GName) (extents : Extents) (leased : Bool) (touches compared : ℕ) → (released p.heap name).answer ≡ Ok tt → left ≡ (released p.heap name).heap
+      → IsPoolArena sli u (record { heap = left; region = region; book = book; most = p.most; longest = p.longest; held = p.held - 1; extents = extents; leased = leased; touches = touches; compared = compared })
+  taken name left region book extents leased touches compared answer heap =
       let counts = held_is sli p.heap (Release name) ∙ ap (λ (r : Result (Unit {0}) Refusal). held_after (live_count p.heap) (Release name) (Released r)) answer in
       record {
         level = is.level;

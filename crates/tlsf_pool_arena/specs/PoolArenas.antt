@@ -1,5 +1,5 @@
 -- An arena with bounds on the blocks which a program holds, on their number and on the bytes of each. All have the same units.
-use Rattle.std.specs.Prelude.{◌≡◌, ℕ, ◌*◌, ◌≤◌, ◌&&◌, max, Option, Some, None, if◌then◌else◌, nat_le, nat_lt}
+use Rattle.std.specs.Prelude.{◌≡◌, ℕ, ◌*◌, ◌≤◌, Bool, ◌&&◌, max, Option, Some, None, if◌then◌else◌, nat_le, nat_lt}
 use base.Fml.{GName}
 use Rattle.linked_list_allocator.specs.Region.{Region}
 use Rattle.tlsf_class.specs.Classes.{IsLevel, most_words}
@@ -15,8 +15,8 @@ use Rattle.tlsf_arena.specs.Arenas.{refitted, requested}
 use Rattle.tlsf_arena.specs.Units.{IsUnit, units_for}
 
 -- the view of the arena: its heap, the region of its memory, the book of its blocks, and how many are held. Also how many may be
--- held at once and the bytes of the longest request, and the heap's own memory and touches. Also how often an address was compared
--- with that of a unit
+-- held at once and the bytes of the longest request, and the heap's own memory and touches. Also whether its memory was taken from an
+-- allocator, which gets it back, and how often an address was compared with that of a unit
 pub record PoolArenaState : Type 0 where
   pub heap : HeapState
   pub region : Region
@@ -25,6 +25,7 @@ pub record PoolArenaState : Type 0 where
   pub longest : ℕ
   pub held : ℕ
   pub extents : Extents
+  pub leased : Bool
   pub touches : ℕ
   pub compared : ℕ
 
@@ -65,14 +66,15 @@ pub record IsPoolArena (sli u : ℕ) (p : PoolArenaState) : Type 0 where
   pub few : p.held ≤ p.most
   pub fixed : HasFixedSize (fixed_size sli u p.longest) p.heap
 
--- the same bounds over the same memory, and the same book: how many blocks may be held, and how long a request may be. No memory is taken
--- or given back: that of the heap stays where it is, and as large
+-- the same bounds: how many blocks may be held, and how long a request may be. The same memory, which was taken as before, and the
+-- same book. No memory is taken or given back: that of the heap stays where it is, and as large
 pub record SamePlan (old new : PoolArenaState) : Type 0 where
   pub region : new.region ≡ old.region
   pub book : new.book ≡ old.book
   pub most : new.most ≡ old.most
   pub longest : new.longest ≡ old.longest
   pub stays : new.extents ≡ old.extents
+  pub leased : new.leased ≡ old.leased
 
 -- the same heap besides, and the same number of blocks held. Only the touches may differ
 pub record SamePoolArena (old new : PoolArenaState) : Type 0 where

@@ -4,23 +4,26 @@ use base.Fml.{GName}
 use Rattle.linked_list_allocator.specs.Region.{Region}
 use Rattle.atomic_table.specs.Seated.{TableId}
 use Rattle.tlsf_heap.specs.Blocks.{HeapState}
+use Rattle.tlsf_heap.specs.Memory.{Extent}
 use Rattle.tlsf_heap.specs.Calls.{last_tick, released}
 use Rattle.tlsf_pool_arena.specs.PoolArenas.{PoolArenaState}
 use Rattle.tlsf_pool_arena.specs.declared.parcel.Parcel.{Parcel}
 
--- numbers of slots, and how often one was read or written
+-- numbers of slots, the memory of their list, and how often one was read or written
 pub record CountedSlots : Type 0 where
   pub slots : List ℕ
+  pub extent : Extent
   pub steps : ℕ
 
 -- the view of the arena: the pool's arena, the block that is away by each slot, and the looks that it had at slots. Each look
 -- tells whether the block was home then. Also the slots by which none is away; the next block goes out by the last of these. Also
--- how often an entry of that list was read or written, and which slots they are
+-- the memory of that list, how often an entry of it was read or written, and which slots they are
 pub record RemoteState (u : ℕ) : Type 0 where
   pub arena : PoolArenaState
   pub away : List (Option (Parcel u))
   pub looks : List (ℕ × Bool)
   pub idle : List ℕ
+  pub extent : Extent
   pub steps : ℕ
   pub slots : TableId
 

@@ -1,4 +1,4 @@
-ghost use Rattle.std.specs.Prelude.{◌≡◌, ◌≢◌, ◌↔◌, ℕ, ◌+◌, ◌*◌, ◌<◌, ◌≤◌, [], length, None, Some, IfOk, IfErr, OnOk, OnErr, IsOk, IsErrOf, MatchResult, Ok, Err};
+ghost use Rattle.std.specs.Prelude.{true, ◌≡◌, ◌≢◌, ◌↔◌, ℕ, ◌+◌, ◌*◌, ◌<◌, ◌≤◌, [], length, None, Some, IfOk, IfErr, OnOk, OnErr, IsOk, IsErrOf, MatchResult, Ok, Err};
 ghost use Rattle.std.specs.Option.{option_map_or};
 ghost use Rattle.tlsf_class.specs.Classes.{IsLevel, most_words};
 ghost use Rattle.tlsf_heap.specs.Calls.{last_tick, opened, released};
@@ -24,8 +24,8 @@ use tlsf_pool::PoolRefusal;
 /// is that of its heap, 4 or 5, and a unit has 16, 32 or 64 bytes. Each block has the units of the longest request, whatever its own length.
 ///
 /// Contracts see it as its heap, the region of its memory, and the book in which its blocks stand. They see the two bounds, how
-/// many blocks are held, and the heap's own memory (`extents`) and touches. They see how often an address was compared with that of
-/// a unit. Lengths are in bytes.
+/// many blocks are held, and the heap's own memory (`extents`) and touches. They see whether its memory was taken from `alloc`, which
+/// gets it back (`leased`). They see how often an address was compared with that of a unit. Lengths are in bytes.
 #[derive(Drop)]
 pub struct PoolArena<const SLI: u32, const UNIT: usize> {
     arena: Arena<SLI, UNIT>,
@@ -42,9 +42,9 @@ impl<const SLI: u32, const UNIT: usize> Model for PoolArena<SLI, UNIT> {
 
     ghost Value = { PoolArenaState };
 
-    ghost view = { λ p. record { heap = p.arena.heap; region = p.arena.region; book = p.arena.book; most = p.most; longest = p.longest; held = p.held; extents = p.arena.extents; touches = p.arena.touches; compared = p.arena.compared } };
+    ghost view = { λ p. record { heap = p.arena.heap; region = p.arena.region; book = p.arena.book; most = p.most; longest = p.longest; held = p.held; extents = p.arena.extents; leased = p.arena.leased; touches = p.arena.touches; compared = p.arena.compared } };
 
-    ghost invariant = { λ p. IsPoolArena SLI UNIT (record { heap = p.arena.heap; region = p.arena.region; book = p.arena.book; most = p.most; longest = p.longest; held = p.held; extents = p.arena.extents; touches = p.arena.touches; compared = p.arena.compared }) × (p.bytes ≡ fixed_bytes SLI UNIT p.longest) };
+    ghost invariant = { λ p. IsPoolArena SLI UNIT (record { heap = p.arena.heap; region = p.arena.region; book = p.arena.book; most = p.most; longest = p.longest; held = p.held; extents = p.arena.extents; leased = p.arena.leased; touches = p.arena.touches; compared = p.arena.compared }) × (p.bytes ≡ fixed_bytes SLI UNIT p.longest) };
 }
 
 // The bytes of each block: those of the units from which every free block serves the longest request.
@@ -78,6 +78,7 @@ impl<const SLI: u32, const UNIT: usize> PoolArena<SLI, UNIT> {
         requires level { IsLevel SLI }
         requires unit { IsUnit UNIT }
         ensures heap { IfOk result (λ p. (units : ℕ) → units_of_pool SLI UNIT most longest ≡ Some units → (p.heap ≡ opened id units 0) × (p.region.end ≡ p.region.start + UNIT * units)) }
+        ensures leased { IfOk result (λ p. p.leased ≡ true) }
         ensures most { IfOk result (λ p. p.most ≡ most) }
         ensures longest { IfOk result (λ p. p.longest ≡ longest) }
         ensures none { IfOk result (λ p. p.held ≡ 0) }

@@ -23,8 +23,8 @@ use tlsf_pool::PoolRefusal;
 /// A pool's arena that lends its blocks by slots: it never refuses for want of room, and any thread may give a block back.
 ///
 /// Contracts see it as its arena, the block that is away by each slot, and the looks that it had at slots. Each look tells
-/// whether the block was home then. They also see the slots by which none is away, and how often an entry of that list was read or
-/// written.
+/// whether the block was home then. They also see the slots by which none is away, and the memory of that list (`extent`). They see
+/// how often an entry of it was read or written.
 #[derive(Drop)]
 pub struct RemoteArena<const SLI: u32, const UNIT: usize> {
     arena: PoolArena<SLI, UNIT>,
@@ -41,7 +41,7 @@ impl<const SLI: u32, const UNIT: usize> Model for RemoteArena<SLI, UNIT> {
 
     ghost Value = { RemoteState UNIT };
 
-    ghost view = { λ r. record { arena = r.arena; away = away_by r.owner; looks = looks_of r.owner; idle = take (r.count - r.arena.held) r.idle.slots; steps = r.idle.steps; slots = owner_id r.owner } };
+    ghost view = { λ r. record { arena = r.arena; away = away_by r.owner; looks = looks_of r.owner; idle = take (r.count - r.arena.held) r.idle.slots; extent = r.idle.extent; steps = r.idle.steps; slots = owner_id r.owner } };
 
     ghost invariant = { λ r. AreAway UNIT r.arena.region r.arena.book (away_by r.owner) × (r.count ≡ length (away_by r.owner)) × (r.count ≡ r.arena.most) × AreIdle UNIT r.count (r.count - r.arena.held) r.idle.slots (away_by r.owner) × (r.arena.held ≤ r.count) };
 }
@@ -117,6 +117,7 @@ impl<const SLI: u32, const UNIT: usize> RemoteArena<SLI, UNIT> {
         ensures held { IfOk result (λ _. self.new.arena.held ≡ self.old.arena.held + 1) }
         ensures idle { NoneLost self.new }
         ensures plan { SamePlan self.old.arena self.new.arena }
+        ensures stays { self.new.extent ≡ self.old.extent }
         ensures looks { self.new.looks ≡ self.old.looks }
         ensures touches { self.new.arena.touches ≤ self.old.arena.touches + 64 }
         ensures compared { self.new.arena.compared ≡ self.old.arena.compared }
@@ -149,6 +150,7 @@ impl<const SLI: u32, const UNIT: usize> RemoteArena<SLI, UNIT> {
         ensures home { result ≡ true → (b : parcel.Parcel UNIT) × (slice_get self.old.away at ≡ Some (Some b)) × (self.new.away ≡ slice_set self.old.away at None) × (self.new.arena.heap ≡ (released self.old.arena.heap b.block.name).heap) × (self.new.arena.held + 1 ≡ self.old.arena.held) × (self.new.idle ≡ self.old.idle ++ at ∷ []) }
         ensures none { result ≡ false → (self.new.away ≡ self.old.away) × (self.new.arena.heap ≡ self.old.arena.heap) × (self.new.arena.held ≡ self.old.arena.held) × (self.new.idle ≡ self.old.idle) }
         ensures plan { SamePlan self.old.arena self.new.arena }
+        ensures stays { self.new.extent ≡ self.old.extent }
 
         // Until the last tick it looks at the slot once, and takes the block exactly where it was home at that look.
         ensures looks { ¬ (self.old.arena.heap.tick ≡ last_tick) → self.new.looks ≡ self.old.looks ++ (at, result) ∷ [] }
@@ -187,6 +189,7 @@ impl<const SLI: u32, const UNIT: usize> RemoteArena<SLI, UNIT> {
         ensures taken { (seen : List Bool) × TakesHome self.old self.new seen }
         ensures idle { NoneLost self.new }
         ensures plan { SamePlan self.old.arena self.new.arena }
+        ensures stays { self.new.extent ≡ self.old.extent }
 
         // At most 60 touches for each slot, and one step on the list of idle slots.
         ensures touches { self.new.arena.touches ≤ self.old.arena.touches + 60 * self.old.arena.most }

@@ -6,6 +6,7 @@ use std::marker::Model;
 use tlsf_class::Touches;
 
 /// Numbers of slots, and how often one was read or written. Each step on them goes through one read and one write, which count.
+/// Neither takes memory (`stays`).
 #[derive(Drop)]
 pub(crate) struct SlotList {
     slots: Vec<u32, Global>,
@@ -17,7 +18,7 @@ impl Model for SlotList {
 
     ghost Value = { CountedSlots };
 
-    ghost view = { λ l. record { slots = l.slots.items; steps = l.steps.count } };
+    ghost view = { λ l. record { slots = l.slots.items; extent = record { address = l.slots.ptr; capacity = l.slots.cap }; steps = l.steps.count } };
 }
 
 impl SlotList {
@@ -38,6 +39,7 @@ impl SlotList {
         requires { at < length self.old.slots }
         ensures slot { slice_get self.old.slots at ≡ Some result }
         ensures slots { self.new.slots ≡ self.old.slots }
+        ensures stays { self.new.extent ≡ self.old.extent }
         ensures steps { self.new.steps ≡ self.old.steps + 1 }
     {
         let slot = self.slots[at];
@@ -49,6 +51,7 @@ impl SlotList {
     pub(crate) fn write(&mut self, at: usize, slot: u32)
         requires { at < length self.old.slots }
         ensures slots { self.new.slots ≡ slice_set self.old.slots at slot }
+        ensures stays { self.new.extent ≡ self.old.extent }
         ensures steps { self.new.steps ≡ self.old.steps + 1 }
     {
         self.slots[at] = slot;

@@ -4,7 +4,7 @@ use Rattle.tlsf_pool_arena.proofs.pool_arena.PoolArena.allocate.Goals as goal
 
 pub invariant_of-self : goal.invariant_of-self
 invariant_of-self g c = (
-  given g.row.SLI g.row.UNIT _ c.self.invariant.0 c.self.inside.bytes c.self.invariant.1 c.in-Ok.block.name _ c.allocate.new.self.region c.allocate.new.self.book _ _ _ c.if-self.false c.in-Ok.ensures.answer c.in-Ok.ensures.heap,
+  given g.row.SLI g.row.UNIT _ c.self.invariant.0 c.self.inside.bytes c.self.invariant.1 c.in-Ok.block.name _ c.allocate.new.self.region c.allocate.new.self.book _ _ _ _ c.if-self.false c.in-Ok.ensures.answer c.in-Ok.ensures.heap,
   c.self.invariant.1,
 )
 

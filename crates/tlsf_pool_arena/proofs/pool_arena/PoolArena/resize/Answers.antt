@@ -10,7 +10,7 @@ if_ok P Q (Err e) more is = is
 
 pub invariant_of-self : goal.invariant_of-self
 invariant_of-self g c = (
-  refit g.row.SLI g.row.UNIT _ c.self.invariant.0 c.self.inside.bytes c.self.invariant.1 c.args.block.name _ c.resize.new.self.region c.resize.new.self.book _ _ _ c.resize.ensures.heap,
+  refit g.row.SLI g.row.UNIT _ c.self.invariant.0 c.self.inside.bytes c.self.invariant.1 c.args.block.name _ c.resize.new.self.region c.resize.new.self.book _ _ _ _ c.resize.ensures.heap,
   c.self.invariant.1,
 )
 
