@@ -119,7 +119,8 @@ pub extern "C" fn tlsf_words(level: u32, most: u32, len: usize, words: &mut u32)
     }
 }
 
-/// Closes a heap, and gives its memory back. No name of its blocks is of use from then on.
+/// Closes a heap, and gives its memory back. No name of its blocks is of use from then on. The handle keeps its address, its number
+/// and its note of odd blocks (`beside`).
 ///
 /// Refused as Closed where the handle isn't open.
 ///
@@ -130,6 +131,7 @@ pub extern "C" fn tlsf_words(level: u32, most: u32, len: usize, words: &mut u32)
 #[unsafe(no_mangle)]
 pub extern "C" fn tlsf_close(alloc: Global, heap: &mut HeapSlot) -> u32
     ensures after { result ≡ 0 → heap.new.is_open ≡ false }
+    ensures beside { (heap.new.base ≡ heap.old.base) × (heap.new.number ≡ heap.old.number) × (heap.new.is_mixed ≡ heap.old.is_mixed) }
     ensures closed { serves heap.old ≡ false → (result ≡ closed) × (heap.new ≡ heap.old) }
     ensures open { serves heap.old ≡ true → result ≡ 0 }
 {
