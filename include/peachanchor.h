@@ -42,8 +42,8 @@
  *
  * A pointer has no serial, as a name has. So a second free of it, or a use after it was freed, is not seen once its place was
  * given again. Names see both. TLSF_CHECKED before this header looks at the headers that each call is about to follow
- * (tlsf_checked.h). TLSF_ASAN or TLSF_VALGRIND marks what isn't live (tlsf_marks.h), and TLSF_TRACE writes the program's calls as a
- * trace (tlsf_trace.h).
+ * (tlsf_checked.h). TLSF_ASAN or TLSF_VALGRIND marks what isn't live, and TLSF_TSAN tells of what lanes and queues hand over
+ * (tlsf_marks.h). TLSF_TRACE writes the program's calls as a trace (tlsf_trace.h).
  */
 #ifndef PEACHANCHOR_H
 #define PEACHANCHOR_H
@@ -74,7 +74,10 @@
  * is the same in all files. With TLSF_INLINE before this header they are inline: each saves some 10 instructions in a program built
  * for speed. What marks, writes a trace or is checked has them inline, since it is of one file. TLSF_SHORT_CALL is inline wherever it is
  * called, and the library's where its address is taken. c/pointers.c defines TLSF_POINTERS, and so has the library's. */
-#if !defined(TLSF_INLINE) && (defined(TLSF_ASAN) || defined(TLSF_VALGRIND) || defined(TLSF_TRACE) || defined(TLSF_CHECKED))
+#if defined(TLSF_ASAN) || defined(TLSF_VALGRIND) || defined(TLSF_TSAN)
+#define TLSF_MARKED
+#endif
+#if !defined(TLSF_INLINE) && (defined(TLSF_MARKED) || defined(TLSF_TRACE) || defined(TLSF_CHECKED))
 #define TLSF_INLINE
 #endif
 #if defined(TLSF_INLINE)
@@ -134,7 +137,7 @@
 /* What stands before each inline call. In C++ it has external linkage, so that a module may export it, and what is inline may call it;
  * and hidden, so that no plug-in exports it. Where a macro of the program's changes bodies from file to file, they are static: else
  * one file would get another's. */
-#if defined(__cplusplus) && !defined(TLSF_TRACE) && !defined(TLSF_CHECKED) && !defined(TLSF_ASAN) && !defined(TLSF_VALGRIND)
+#if defined(__cplusplus) && !defined(TLSF_TRACE) && !defined(TLSF_CHECKED) && !defined(TLSF_MARKED)
 #if defined(TLSF_GNU) && !defined(_WIN32)
 #define TLSF_BODY __attribute__((visibility("hidden"))) inline
 #else

@@ -26,9 +26,10 @@
 #ifdef TLSF_CHECKED
 #include "tlsf_checked.h"
 #endif
-#if defined(TLSF_ASAN) || defined(TLSF_VALGRIND)
+#ifdef TLSF_MARKED
 #include "tlsf_marks.h"
-#else
+#endif
+#ifndef TLSF_ASKED
 #define TLSF_ASKED(payload, len, rounded) ((void)(len))
 #define TLSF_USED(payload, len) ((void)0)
 #endif
@@ -360,7 +361,7 @@ TLSF_BODY uint32_t tlsf_drain_rest(struct tlsf_heap *heap, struct tlsf_take_end 
     return came;
 }
 
-#if defined(TLSF_TRACE) || defined(TLSF_CHECKED) || defined(TLSF_ASAN) || defined(TLSF_VALGRIND)
+#if defined(TLSF_TRACE) || defined(TLSF_CHECKED) || defined(TLSF_MARKED)
 #define TLSF_LIE_NEAR(names, n) false
 #else
 #define TLSF_LIE_NEAR(names, n) tlsf_lie_near(names, n)

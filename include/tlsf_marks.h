@@ -1,26 +1,43 @@
-/* Marks what isn't live, so that an overrun or a use after free is told where it happens. peachanchor.h includes this where TLSF_ASAN or
- * TLSF_VALGRIND is defined before it, in each file of the program that calls the heap:
+/* Marks what isn't live, so that an overrun or a use after free is told where it happens, and tells in which order lanes and queues hand
+ * names over. peachanchor.h includes this where one of these is defined before it, in each file of the program that calls the heap:
  *
  *   TLSF_ASAN      for -fsanitize=address: what isn't payload is poisoned.
- *   TLSF_VALGRIND  for valgrind's memcheck: what isn't payload may not be touched, and new payload isn't initialised unless
- *                  the call fills it.
+ *   TLSF_VALGRIND  for valgrind: to memcheck what isn't payload may not be touched, and new payload isn't initialised unless
+ *                  the call fills it; to helgrind lanes and queues are told.
+ *   TLSF_TSAN      for -fsanitize=thread: lanes and queues are told.
  *
- * It holds for memory of tlsf_open_in too. Lanes aren't marked. Of what malloc's calls give, the bytes that were asked for are
+ * What a thread did before it put a name in comes before all that another does once it has taken that name, or drained it. So payload
+ * that was handed over is no race, and what touches it on the wrong side is one. Nothing is told of other names, as of those that wait.
+ *
+ * Marks hold for memory of tlsf_open_in too. Lanes aren't marked. Of what malloc's calls give, the bytes that were asked for are
  * payload. Once tlsf_usable_size or tlsf_name_at was asked, all bytes of the block are, and of tlsf_allocate_at from the start.
  * Calls answer as they do without marks, and take longer: a move is made of an allocate, a copy and a release, and closing looks
  * at all blocks. */
 #ifndef TLSF_MARKS_H
 #define TLSF_MARKS_H
 
-#if defined(TLSF_ASAN) && defined(TLSF_VALGRIND)
-#error "either TLSF_ASAN or TLSF_VALGRIND"
+#if defined(TLSF_ASAN) + defined(TLSF_VALGRIND) + defined(TLSF_TSAN) > 1
+#error "one of TLSF_ASAN, TLSF_VALGRIND and TLSF_TSAN"
+#endif
+#ifndef TLSF_VALGRIND
+#define TLSF_BEGIN_CALL ((void)0)
+#define TLSF_END_CALL ((void)0)
 #endif
 #ifdef TLSF_ASAN
 #include <sanitizer/asan_interface.h>
-#define TLSF_BEGIN_CALL ((void)0)
-#define TLSF_END_CALL ((void)0)
+#elif defined(TLSF_TSAN)
+#include <sanitizer/tsan_interface.h>
 #else
 #include <valgrind/memcheck.h>
+#ifdef __has_include
+#if __has_include(<valgrind/helgrind.h>)
+#include <valgrind/helgrind.h>
+#endif
+#endif
+#ifndef ANNOTATE_HAPPENS_BEFORE
+#define ANNOTATE_HAPPENS_BEFORE(of) ((void)(of))
+#define ANNOTATE_HAPPENS_AFTER(of) ((void)(of))
+#endif
 /* The heap's own reads and writes of its headers aren't reported. */
 #define TLSF_BEGIN_CALL VALGRIND_DISABLE_ERROR_REPORTING
 #define TLSF_END_CALL VALGRIND_ENABLE_ERROR_REPORTING
@@ -30,6 +47,7 @@
 extern "C" {
 #endif
 
+#ifndef TLSF_TSAN
 /* --- Marks ---------------------------------------------------------------------------------------------------------- */
 
 /* `n` bytes from byte `from` of a payload on may not be touched. */
@@ -332,10 +350,109 @@ TLSF_ANSWER static inline uint32_t tlsf_marked_reallocate(struct tlsf_heap *heap
     *name = moved;
     return TLSF_OK;
 }
+#endif
+
+#ifndef TLSF_ASAN
+/* --- Lanes and queues: what was done before a put comes before what is done after the take ---------------------------------- */
+
+/* A byte for each place, which stands for its handing over. Places that share one are ordered more than they need be. */
+enum { TLSF_ORDERS = 1 << 16 };
+#ifdef __cplusplus
+inline char tlsf_orders[TLSF_ORDERS];
+#else
+__attribute__((weak)) char tlsf_orders[TLSF_ORDERS];
+#endif
+
+static inline char *tlsf_order_of(struct tlsf_name name) TLSF_NOEXCEPT {
+    return &tlsf_orders[(name.at + name.heap * UINT32_C(0x85ebca6b)) * UINT32_C(0x9e3779b1) >> 16];
+}
+
+/* The second is told of names that came. The first is told before, and so of names that aren't put too. */
+static inline void tlsf_mark_put(const struct tlsf_name *names, size_t n) TLSF_NOEXCEPT {
+    for (size_t k = 0; k < n; k++) {
+#ifdef TLSF_TSAN
+        __tsan_release(tlsf_order_of(names[k]));
+#else
+        ANNOTATE_HAPPENS_BEFORE(tlsf_order_of(names[k]));
+#endif
+    }
+}
+
+static inline uint32_t tlsf_mark_taken(uint32_t answer, const struct tlsf_name *names, const size_t *n) TLSF_NOEXCEPT {
+    for (size_t k = 0; answer == TLSF_OK && k < *n; k++) {
+#ifdef TLSF_TSAN
+        __tsan_acquire(tlsf_order_of(names[k]));
+#else
+        ANNOTATE_HAPPENS_AFTER(tlsf_order_of(names[k]));
+#endif
+    }
+    return answer;
+}
+
+TLSF_ANSWER static inline uint32_t tlsf_marked_put(struct tlsf_post_end *post, struct tlsf_name name) TLSF_NOEXCEPT {
+    tlsf_mark_put(&name, 1);
+    TLSF_BEGIN_CALL;
+    const uint32_t answer = tlsf_put(post, name);
+    TLSF_END_CALL;
+    return answer;
+}
+
+TLSF_ANSWER static inline uint32_t tlsf_marked_put_all(struct tlsf_post_end *post, const struct tlsf_name *names, size_t n,
+                                                       size_t *went) TLSF_NOEXCEPT {
+    tlsf_mark_put(names, n);
+    TLSF_BEGIN_CALL;
+    const uint32_t answer = tlsf_put_all(post, names, n, went);
+    TLSF_END_CALL;
+    return answer;
+}
+
+TLSF_ANSWER static inline uint32_t tlsf_marked_queue_post(struct tlsf_poster *poster, struct tlsf_name name) TLSF_NOEXCEPT {
+    tlsf_mark_put(&name, 1);
+    TLSF_BEGIN_CALL;
+    const uint32_t answer = tlsf_queue_post(poster, name);
+    TLSF_END_CALL;
+    return answer;
+}
+
+TLSF_ANSWER static inline uint32_t tlsf_marked_take(struct tlsf_take_end *take, struct tlsf_name *name) TLSF_NOEXCEPT {
+    const size_t one = 1;
+    TLSF_BEGIN_CALL;
+    const uint32_t answer = tlsf_take(take, name);
+    TLSF_END_CALL;
+    return tlsf_mark_taken(answer, name, &one);
+}
+
+TLSF_ANSWER static inline uint32_t tlsf_marked_take_all(struct tlsf_take_end *take, struct tlsf_name *names, size_t n,
+                                                        size_t *came) TLSF_NOEXCEPT {
+    TLSF_BEGIN_CALL;
+    const uint32_t answer = tlsf_take_all(take, names, n, came);
+    TLSF_END_CALL;
+    return tlsf_mark_taken(answer, names, came);
+}
+
+TLSF_ANSWER static inline uint32_t tlsf_marked_queue_take(struct tlsf_queue *queue, struct tlsf_name *name) TLSF_NOEXCEPT {
+    const size_t one = 1;
+    TLSF_BEGIN_CALL;
+    const uint32_t answer = tlsf_queue_take(queue, name);
+    TLSF_END_CALL;
+    return tlsf_mark_taken(answer, name, &one);
+}
+#endif
 
 #ifdef __cplusplus
 }
 #endif
+
+#ifndef TLSF_ASAN
+#define tlsf_put tlsf_marked_put
+#define tlsf_put_all tlsf_marked_put_all
+#define tlsf_queue_post tlsf_marked_queue_post
+#define tlsf_take tlsf_marked_take
+#define tlsf_take_all tlsf_marked_take_all
+#define tlsf_queue_take tlsf_marked_queue_take
+#endif
+
+#ifndef TLSF_TSAN
 
 /* What tlsf_trace.h or tlsf_checked.h may have named before. */
 #undef tlsf_open
@@ -376,4 +493,5 @@ TLSF_ANSWER static inline uint32_t tlsf_marked_reallocate(struct tlsf_heap *heap
 #define tlsf_check tlsf_marked_check
 #define tlsf_check_around tlsf_marked_check_around
 #define tlsf_check_request tlsf_marked_check_request
+#endif
 #endif

@@ -77,14 +77,10 @@ with_thread_checks() {
     does homes ''
     does loaders ''
     with=
-    for kind in payload call release handle; do
-        holds "TSan reports a race of kind $kind" reports_race "$work/race" "$kind"
+    for kind in payload call release handle put post; do
+        holds "TSan tells of a race of kind $kind" tells_of_race "$work/race" "$kind"
     done
-}
-
-reports_race() {
-    "$@" > "$work/race.out" 2>&1
-    grep -q 'WARNING: ThreadSanitizer: data race' "$work/race.out"
+    does race right
 }
 
 long_outer_programs() {

@@ -19,7 +19,7 @@ static uint32_t seen_release(struct tlsf_heap *heap, struct tlsf_name name) {
 #define tlsf_release seen_release
 #include "tlsf_inline.h"
 
-#if defined(TLSF_TRACE) || defined(TLSF_ASAN) || defined(TLSF_VALGRIND)
+#if defined(TLSF_TRACE) || defined(TLSF_MARKED)
 static const bool leaves_rest = false;
 #else
 static const bool leaves_rest = true;
