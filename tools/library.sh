@@ -4,8 +4,9 @@ soname=libpeachanchor.so.3
 # The version at which that number rose last: who was written for an older one is refused by find_package.
 compatible=0.16.0
 
-# What Debian's packages are made by.
+# What Debian's packages are made by, and a release.
 deb_tools="dpkg-deb gzip strip python3"
+release_tools="rt git cc aarch64-linux-gnu-gcc aarch64-linux-gnu-strip $deb_tools"
 
 # put_library TOP ARCHIVE PREFIX: puts that archive and what lies beside it, the headers, and what pkg-config, CMake and gdb read
 # there. No file has the prefix in it, so the folder can be moved.

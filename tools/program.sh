@@ -317,13 +317,24 @@ crate_lines() {
 
 has() { command -v "$1" > /dev/null; }
 
-# What is said where a tool isn't there that a build needs.
+# What a build takes of the system.
+build_tools="rt python3 flock setsid"
+
+# lacking WHO TOOL..: prints in one line which of these tools WHO lacks, each once; nothing, with status 1, where all are there.
 lacking() {
-    case $1 in
-    rt) from="; $top/README.md says where rt comes from, and 'Without the toolchain' there which release needs none" ;;
-    *) from='' ;;
+    who=$1 absent='' are=is from=''
+    shift
+    for tool; do
+        case ", $absent," in *", $tool,"*) continue ;; esac
+        ! has "$tool" || continue
+        [ -z "$absent" ] || are=are
+        absent="$absent${absent:+, }$tool"
+    done
+    case $absent in
+    '') return 1 ;;
+    rt*) from="; $top/README.md, 'Where rt comes from' and 'Quick start', says what needs no rt" ;;
     esac
-    echo "$1, which a build needs, is not on the path$from"
+    echo "$absent, which $who needs, $are not on the path$from"
 }
 
 # The megabytes of memory that are free, under the limit of the control group too.

@@ -55,9 +55,10 @@ def stop(text):
 
 
 def need(*tools):
-    for tool in tools:
-        if not shutil.which(tool):
-            stop(f"{tool} is wanted, and isn't on the path")
+    """Ends a script that lacks tools, which are named in the words of tools/program.sh."""
+    if not all(map(shutil.which, tools)):
+        words = ["sh", "-c", 'top=$0 && . "$0/tools/program.sh" && lacking "$@"', TOP, "it", *tools]
+        stop(subprocess.run(words, stdout=subprocess.PIPE, text=True, check=False).stdout.strip())
 
 
 @functools.cache

@@ -5,6 +5,7 @@
   as NAME, stand for any name);
 - no line of a page has more than 120 characters, but for rows of tables and
   lines of crates.txt;
+- each table begins with a header and a line of dashes: no blank line cuts one;
 - a sentence has at most 25 words, and at most two numbers, beside which a table
   is easier to read. Code, tables, headings and quotations aren't counted, and
   no number that only names a thing, as in `level 4` or `Python 3.11`;
@@ -43,6 +44,7 @@ QUOTED_BOUND = re.compile(r"`([^`\s]+)` (?:\| |takes at most )?(\d+)\b(?: \| (\d
 RULE = "by whoever holds the block, in any thread, also during calls on the heap that aren't about this block"
 STATE_RULE = ("include/peachanchor.h", "c/preload.c", "docs/C.md", "docs/THREADS.md", "bindings/rust/peachanchor/src/lib.rs")
 OTHER_RULE = re.compile(r"in no call on (?:the|that) heap|no call on (?:the|that) heap (?:runs|is made)|while one of them is in a call")
+DASHES = re.compile(r"\|[-:| ]*-[-:| ]*\|")
 LINE_START = re.compile(r"\s*\n\s*(?:\*|//!?)?\s*")
 # A trace beside its replies: the columns of its lines, and of the reply lines.
 TRACE_BLOCK = re.compile(r"```text\n(tlsf 1 2 64 4 .*?)\n```", re.S)
@@ -122,6 +124,13 @@ class Repository:
                 if fault := self.code_fault(page, code[1]):
                     yield f"{page.name}:{number}: {fault}"
 
+    def table_faults(self, page):
+        lines = dict(page.prose())
+        for number, line in lines.items():
+            is_first = line.lstrip().startswith("|") and not lines.get(number - 1, "").lstrip().startswith("|")
+            if is_first and not DASHES.fullmatch(lines.get(number + 1, "").strip()):
+                yield f"{page.name}:{number}: a row of a table with no header above it, as below an empty line"
+
     def bound_faults(self):
         """Bounds of machine code that are quoted otherwise than they are stored; and stored ones that MEASURED lacks."""
         lines = [line.split() for line in tree.read(tree.TOP / "tools" / "longest_path.bounds").split("\n")]
@@ -178,6 +187,7 @@ class Repository:
     def faults(self):
         for _, page in sorted(self.pages.items()):
             yield from self.page_faults(page)
+            yield from self.table_faults(page)
             yield from page.faults(prose.MOST_NUMBERS)
         yield from self.bound_faults()
         yield from self.trace_faults()

@@ -8,7 +8,7 @@
  * The calls are proved on ELF for x86-64 and aarch64. The others are lowered from the same module, and tested or only assembled:
  * docs/C.md says what was tried. */
 #if !defined(__SIZEOF_POINTER__) || __SIZEOF_POINTER__ != 8 || __BYTE_ORDER__ != __ORDER_LITTLE_ENDIAN__
-#error "peachanchor needs a processor with pointers of 64 bits and the lowest byte first: see docs/C.md, Other processors and systems"
+#error "peachanchor needs a processor with pointers of 64 bits and the lowest byte first: see docs/C.md, 'Other processors and systems'"
 #elif defined(__x86_64__) && defined(__ELF__)
 #define TLSF_PORT x86_64
 #elif defined(__aarch64__) && defined(__ELF__)
@@ -20,7 +20,7 @@
 #elif defined(__aarch64__) && defined(__APPLE__)
 #define TLSF_PORT arm64-macos
 #else
-#error "peachanchor has no assembly for this processor and system: see docs/C.md, Other processors and systems"
+#error "peachanchor has no assembly for this processor and system: see docs/C.md, 'Other processors and systems'"
 #endif
 
 /* The name that Microsoft's compilers have for the probe of a large frame. */
