@@ -54,11 +54,15 @@ def stop(text):
     sys.exit(2)
 
 
+def lacks(*tools):
+    """What is said of those tools that aren't there, in the words of tools/program.sh: nothing where all are."""
+    words = ["sh", "-c", 'top=$0 && . "$0/tools/program.sh" && lacking "$@"', TOP, "it", *tools]
+    return "" if all(map(shutil.which, tools)) else subprocess.run(words, stdout=subprocess.PIPE, text=True, check=False).stdout.strip()
+
+
 def need(*tools):
-    """Ends a script that lacks tools, which are named in the words of tools/program.sh."""
-    if not all(map(shutil.which, tools)):
-        words = ["sh", "-c", 'top=$0 && . "$0/tools/program.sh" && lacking "$@"', TOP, "it", *tools]
-        stop(subprocess.run(words, stdout=subprocess.PIPE, text=True, check=False).stdout.strip())
+    if said := lacks(*tools):
+        stop(said)
 
 
 @functools.cache
