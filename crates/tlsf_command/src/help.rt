@@ -68,7 +68,36 @@ posts. This is a trace, and this is what it comes to:
   heap 0 live 0 0 0 free 1 64 largest 64 grant 488 fragmentation 0 waste 0 age 1
   heap 1 live 0 0 0 free 1 64 largest 64 grant 488 fragmentation 0 waste 0 age 1
 
-With --held it is one line for each worker instead, as
+A report line has of its heap
+
+  live B W Y       live blocks, their words with headers, the bytes asked for
+  free B W         free blocks, their words
+  largest M        words of the largest free block
+  grant G          the most bytes for which an 'a' line would find room
+  fragmentation Q  thousandths of the free words that lie outside the largest
+  waste Z          bytes of the live words, with headers, that nobody asked for
+  age T            ticks since which the oldest free block is free
+
+A call or a post may be refused, as '0 a 2 refused 1'. The last number says why:
+
+   1 NoFit    no free block is in the search class of the words, or above it
+   2 Worn     the tick of the heap is at its last value
+   3 Foreign  the block is of another heap
+   4 Stale    no such live block: a use after free, or a double free
+   7 Range    the bytes would go past the end of the payload
+   8 Full     the lane to the owner holds C posts
+  10 NoRoom   the block and the free one right behind it are too short for len
+  18 Unmade   the 'a' line of the label was refused
+
+The exit status is 0 where the lines are written, 1 where a fault of the
+trace, of a read or of a write ends the run, and 3 where memory runs out. A
+fault is a line on standard error, as 'tlsf: line 2: bad number (13)'. Where the
+trace is refused, 'tlsf check < TRACE' says more; a terminal gets a tip on it.
+
+Options ask for other lines. --held, --least, and --kinds or --heaps exclude
+each other.
+
+With --held it is one line for each worker, as
 
   held 0 blocks 3 bytes 512 words 342 region 64 wanted 139
 
@@ -113,14 +142,7 @@ refuse one. So much is enough if the calls come as they stand in the trace; for
 any order the law asks for 342 words. It is found by some twenty replays: with
 the words of the trace or those found for the worker before, then twice as many
 until none is refused, and then always the middle. Fewer words may be enough
-besides, as a larger heap may refuse what a smaller one serves.
-
---held, --least, and --kinds or --heaps exclude each other.
-
-The exit status is 0 where the lines are written, 1 where a fault of the
-trace, of a read or of a write ends the run, and 3 where memory runs out. A
-fault is a line on standard error, as 'tlsf: line 2: bad number (13)'. Where the
-trace is refused, 'tlsf check < TRACE' says more; a terminal gets a tip on it.";
+besides, as a larger heap may refuse what a smaller one serves.";
 
 /// The text of `tlsf race --help` after its options.
 pub const RACE_HELP: &str = "\
