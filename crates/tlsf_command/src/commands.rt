@@ -15,7 +15,7 @@ use crate::command_line::{Choice, choose};
 use crate::fault_report::FaultReport;
 use crate::size_run::run_size;
 use crate::trace_run::TraceRun;
-use crate::usage::{TABLES_TIP, give_tables, without_passing_tip};
+use crate::usage::{TABLES_TIP, file_for_command, give_tables, without_passing_tip};
 use clap::error::ErrorKind;
 use std::alloc::Global;
 use std::convert::AsStr;
@@ -216,14 +216,26 @@ fn show_usage<E: Write>(
     }
 }
 
-// Says why `clap` refuses the words. A tip says how numbers are written, where that is one with a suffix or separators. Another
-// says how the lines of several workers are given to `size`, where these are given at once.
+// The tip on a file in the place of a command. None is made where no file stands there, or memory runs out.
+fn file_tip<S: AsStr>(alloc: Global, kind: ErrorKind, words: &[S]) -> Option<String> {
+    match (kind, file_for_command(words)) {
+        (ErrorKind::InvalidSubcommand, Some(file)) => TraceRun::Replay.tip(alloc, 0, file).ok(),
+        _ => None,
+    }
+}
+
+// Says why `clap` refuses the words. Where a file stands in the place of a command, that is the tip that `replay` has for it. A tip
+// says how numbers are written, where that is one with a suffix or separators. Another says how the lines of several workers are
+// given to `size`, where these are given at once.
 fn refuse<S: AsStr, E: Write>(
     alloc: Global,
     error: &clap::Error,
     words: &[S],
     errors: &mut E,
 ) -> Result<(), WriteError> {
+    if let Some(tip) = file_tip(alloc, error.kind(), words) {
+        return write_out(errors, tip.as_bytes());
+    }
     show_usage(alloc, error, errors)?;
     match error.kind() {
         ErrorKind::ValueValidation if have_marked_number(words) => {

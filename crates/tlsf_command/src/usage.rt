@@ -43,3 +43,21 @@ pub fn give_tables<S: AsStr>(words: &[S]) -> bool {
     }
     is_size && levels > 1
 }
+
+// Whether a word looks like the name of a file: it has a `.` or a `/`, or is the `-` of standard input.
+fn looks_like_file(word: &str) -> bool {
+    word == "-" || word.split_once('.').is_some() || word.split_once('/').is_some()
+}
+
+/// The word in the place of a command, where it looks like the name of a file. No command has a `.` or a `/`.
+///
+/// ```
+/// let file = file_for_command(&["tlsf", "first.trace"]);                             // Some("first.trace")
+/// let none = file_for_command(&["tlsf", "repaly"]);                                  // None
+/// ```
+pub fn file_for_command<'a, S: AsStr>(words: &'a [S]) -> Option<&'a str> {
+    match words.get(1) {
+        Some(word) if looks_like_file(word.as_str()) => Some(word.as_str()),
+        _ => None,
+    }
+}
