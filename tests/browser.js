@@ -29,7 +29,8 @@ const sinceLine = (number, block) => {
 };
 // The colour of a live block's first word, and what stands under the pointer there.
 const judgeBlock = (canvas, heap, block, number) => {
-    const { row, pitch, high } = grid(heap.words), wide = span / row, scale = devicePixelRatio || 1;
+    if (block.place >= heap.shown) return;
+    const { row, pitch, high } = grid(heap.shown), wide = span / row, scale = devicePixelRatio || 1;
     const x = edge + block.place % row * wide + wide / 2, y = Math.floor(block.place / row) * pitch + high - 4;
     const box = canvas.getBoundingClientRect();
     canvas.dispatchEvent(new PointerEvent('pointermove', { clientX: box.left + x, clientY: box.top + y }));
@@ -49,7 +50,7 @@ const standing = (at, number) => {
 };
 // The moments that are named: the first with most live words, and the first that stands worst. A key or a button goes to each, and each is marked.
 // If they are one moment, they have one button. The page opens at the first moment with most live words in all heaps together.
-const judgeNamed = lives => {
+const judgeNamed = (lives, tops) => {
     const ranks = begins.map((begin, at) => curves[at].map((row, number) => standing(at, number)));
     const first = (rows, number) => { const column = rows.map(row => row[number]); return column.indexOf(most(column)); };
     const buttons = [...document.querySelectorAll('button')], scale = devicePixelRatio || 1, ink = plot.getContext('2d');
@@ -72,7 +73,7 @@ const judgeNamed = lives => {
         });
         show(worst === last ? 0 : last);
         const mark = ink.getImageData(across(worst) * scale, (number * pitch + 2) * scale, 1, 1).data;
-        const high = number * pitch + Math.max(4, tall - tall * lives[peak][number] / curves[0][number].words);
+        const high = number * pitch + Math.max(4, tall - tall * lives[peak][number] / tops[number]);
         const dots = ink.getImageData((Math.min(full - 4, Math.max(edge + 4, across(peak))) - 2) * scale, (high - 2) * scale, 4 * scale, 4 * scale).data;
         const dot = [...dots.keys()].filter(at => at % 4 === 0).map(at => dots.slice(at, at + 4));
         want(near(mark, rgb('largest')) || near(mark, rgb('ink')), 'mark at the worst moment: ' + mark);
@@ -88,23 +89,39 @@ const judgePlot = () => {
     const lives = begins.map((begin, at) => heapsIn(at).map(heap => heap.blocks.reduce((sum, block) => sum + block.live * block.size, 0)));
     want(lives.every((row, at) => row.every((live, number) => live === curves[at][number].live)), 'live words of a curve');
     want(sums.every((row, at) => row.every((size, number) => size === curves[at][number].largest)), 'largest free block of a curve');
-    judgeNamed(lives);
-    judgeScale();
+    const tops = drawnOf(lives);
+    judgeNamed(lives, tops);
+    judgeScale(lives, tops);
     const box = plot.getBoundingClientRect(), half = Math.floor(last / 2);
     plot.dispatchEvent(new PointerEvent('pointerdown', { clientX: box.left + across(half), clientY: box.top + 4, buttons: 1 }));
     want(moment === half && tip.textContent.startsWith('heap 0') && tip.textContent.includes(lives[half][0] + ' of ') && tip.textContent.includes(8 * lives[half][0] + ' bytes'), 'click on the plot: ' + tip.textContent);
     const scale = devicePixelRatio || 1, pixel = plot.getContext('2d').getImageData(across(half) * scale, (deep + 2) * scale - 4, 1, 1).data;
     want(near(pixel, rgb('ink')), 'line of the moment: ' + pixel);
 };
-// At the curve of each heap stand its words, at the height that is the most of them.
-const judgeScale = () => {
-    const written = [], kind = CanvasRenderingContext2D.prototype, write = kind.fillText;
+// The words that are drawn of each heap: all, or ten times its peak where that is less. Each live block is within them.
+const drawnOf = lives => {
+    const ends = begins.map((begin, at) => heapsIn(at).map(heap => most(heap.blocks.map(block => block.live * (block.place + block.size)))));
+    const of = (rows, number) => most(rows.map(row => row[number]));
+    return curves[0].map(({ words }, number) => Math.min(words, Math.max(10 * of(lives, number), of(ends, number)) || words));
+};
+// At the curve of each heap stand the words that are drawn, at the height that is the most of them. Where these are not all, it says so there and in
+// the header, and the picture has as many rows as they fill. The curve is as high as its peak is of them.
+const judgeScale = (lives, tops) => {
+    const written = [], levels = [], kind = CanvasRenderingContext2D.prototype, { fillText: write, lineTo: line } = kind;
     kind.fillText = function (text, x, y) { written.push({ text: String(text), x, y }); write.call(this, text, x, y); };
+    kind.lineTo = function (x, y) { levels.push(y); line.call(this, x, y); };
     drawPlot();
-    kind.fillText = write;
+    Object.assign(kind, { fillText: write, lineTo: line });
     curves[0].forEach((row, number) => {
-        const top = number * pitch, told = written.find(({ text, x, y }) => text === String(row.words) && x < edge && y > top && y <= top + 10);
-        want(told, 'no scale of heap ' + number);
+        const y = number * pitch, { words } = row, top = tops[number], note = 'words 0 to ' + top + ' of ' + words;
+        const has = (wanted, x, down) => written.some(it => it.text === wanted && it.x > x && it.x < x + edge && it.y > y && it.y <= y + down);
+        want(has(String(top), 0, 10), 'no scale of heap ' + number);
+        want(has(note, full - edge, 12) === top < words, 'note on the scale of heap ' + number);
+        want(parts[number].firstChild.textContent.includes(note) === top < words, 'header ' + parts[number].firstChild.textContent);
+        const highest = y + tall - tall * most(lives.map(row => row[number])) / top;
+        want(levels.some(level => Math.abs(level - highest) < .01), 'curve of heap ' + number);
+        const { rows, pitch: down } = grid(top), high = parts[number].lastChild.getBoundingClientRect().height;
+        want(Math.abs(high - rows * down) < 1, 'a picture ' + high + ' high of ' + rows + ' rows');
     });
 };
 // The plot and the pictures take the window's width.

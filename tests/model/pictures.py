@@ -387,12 +387,14 @@ def curve_text(name, curve):
     return f"<path class='{name}' d='M0 0{steps}V0'/>\n"
 
 
-def words_text(y, words, names, curve):
-    scale = f"<text class='scale' x='72' y='{y + 24}'>{words}</text><text class='scale' x='72' y='{y + 38}'>words</text>"
-    scale += f"<text class='scale' x='72' y='{y + 180}'>0</text><text class='bytes' x='1046' y='{y + 24}'>{8 * words}</text>"
+def words_text(y, words, top, names, curve):
+    """A chart of words from 0 to a top, which it names where that is not the words of the heap."""
+    scale = f"<text class='scale' x='72' y='{y + 24}'>{top}</text><text class='scale' x='72' y='{y + 38}'>words</text>"
+    scale += f"<text class='scale' x='72' y='{y + 180}'>0</text><text class='bytes' x='1046' y='{y + 24}'>{8 * top}</text>"
     scale += f"<text class='bytes' x='1046' y='{y + 38}'>bytes</text>"
-    capacity = f"<path class='capacity' d='M0 {words}H{len(curve)}'/>\n"
-    return scale + frame_text((y, 180, len(curve), 9 * words), 8, capacity + "".join(curve_text(it, curve) for it in names))
+    capacity = f"<path class='capacity' d='M0 {words}H{len(curve)}'/>\n" * (top == words)
+    note = f"<text class='scale' x='1032' y='{y + 24}'>words 0 to {top} of {words}</text>\n" * (top < words)
+    return scale + frame_text((y, 180, len(curve), 9 * top), 8, capacity + "".join(curve_text(it, curve) for it in names)) + note
 
 
 def look_text(points, length):
@@ -430,7 +432,8 @@ def chart_text(y, number, words, points, length):
     of = "byte" if length == 1 else "bytes"
     text = f"<g transform='translate(0 {y})'><text class='name' x='80' y='22'>heap {number}: {words} words ({8 * words} bytes), "
     text += f"longest request {length} {of}, {count_of(span, 'line')} a point</text>\n" + look_text(points, length)
-    text += words_text(80, words, ("live", "asked"), curve) + words_text(292, words, ("free", "largest"), curve)
+    top = min(words, 10 * points[peak_at(points)].live or words)
+    text += words_text(80, words, top, ("live", "asked"), curve) + words_text(292, words, words, ("free", "largest"), curve)
     text += "<text class='scale' x='72' y='504'>1000</text><text class='scale' x='72' y='556'>0</text>"
     text += frame_text((492, 64, len(curve), 1000), 1, curve_text("fragmentation", curve))
     marks = "".join(f"M{at} 0h1v1h-1z" for at, it in enumerate(curve) if it.refused)

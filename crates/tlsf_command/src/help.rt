@@ -219,7 +219,8 @@ the most live words; of several, the one with the most fragmentation.
 With --html it is a page for a browser that shows the heaps after each line, or
 at 200 such moments and at the lines that 'tlsf plot' names: the slider, keys
 and buttons choose one. It takes none of --text, --at and --worst, and of --at
-and --worst at most one is given.
+and --worst at most one is given. If less than a tenth of a heap is ever live,
+the page shows its words up to ten times the peak, and says so.
 
   tlsf map --html < two_workers.trace > heaps.html
 
@@ -241,6 +242,9 @@ shows the worst of each number: the most live words, the fewest free ones, the
 smallest of the largest free blocks, the most fragmentation.
 
   tlsf plot < two_workers.trace > heaps.svg
+
+If less than a tenth of a heap is ever live, its chart of live words ends at ten
+times the peak, and says so, as 'words 0 to 3040 of 262144'.
 
 Above each heap stands the line to look at by 'tlsf map --at K'. Of the lines
 after which the longest request of its worker would find no room, it is the

@@ -55,12 +55,13 @@ fn write_frame(
     )
 }
 
-// Adds a frame with some lines of a heap of this many words. An eighth of a word is one high, so that all words are eight ninths of
-// the height.
+// Adds a frame with some lines of a heap of this many words, on a scale of `shown` words. An eighth of a word is one high, so that
+// these are eight ninths of the height.
 fn write_words_frame(
     text: &mut String,
     y: u32,
     words: u32,
+    shown: u32,
     lines: &[Series],
     curve: &[Point],
 ) -> Result<(), AllocError>
@@ -69,15 +70,22 @@ fn write_words_frame(
     let upper = y + 24;
     let middle = y + 38;
     let lower = y + 180;
-    let bytes = 8 * u64::from(words);
+    let bytes = 8 * u64::from(shown);
     write!(
         text,
-        "<text class='scale' x='72' y='{upper}'>{words}</text><text class='scale' x='72' y='{middle}'>words</text><text class='scale' x='72' y='{lower}'>0</text><text class='bytes' x='1046' y='{upper}'>{bytes}</text><text class='bytes' x='1046' y='{middle}'>bytes</text>"
+        "<text class='scale' x='72' y='{upper}'>{shown}</text><text class='scale' x='72' y='{middle}'>words</text><text class='scale' x='72' y='{lower}'>0</text><text class='bytes' x='1046' y='{upper}'>{bytes}</text><text class='bytes' x='1046' y='{middle}'>bytes</text>"
     )?;
     let count = curve.len();
-    write_frame(text, y, 180, count, 9 * u64::from(words), 8)?;
-    write!(text, "<path class='capacity' d='M0 {words}H{count}'/>\n")?;
-    write_lines(text, lines, curve)
+    write_frame(text, y, 180, count, 9 * u64::from(shown), 8)?;
+    if shown == words {
+        write!(text, "<path class='capacity' d='M0 {words}H{count}'/>\n")?;
+        return write_lines(text, lines, curve);
+    }
+    write_lines(text, lines, curve)?;
+    write!(
+        text,
+        "<text class='scale' x='1032' y='{upper}'>words 0 to {shown} of {words}</text>\n"
+    )
 }
 
 // Adds a frame with a mark for each point in which a call was refused.
@@ -92,10 +100,36 @@ fn write_strip(text: &mut String, curve: &[Point]) -> Result<(), AllocError> {
     text.push_str("'/>\n</g></svg>\n")
 }
 
+// The scale of the live words of a heap: all its words, or ten times its peak where that is less.
+fn scale_for(words: u32, peak: u32) -> u32 {
+    if peak == 0 {
+        words
+    } else {
+        words.min(peak.saturating_mul(10))
+    }
+}
+
 // Adds the frames of a heap: words live and asked for, words free and of the greatest free block, fragmentation, and refused calls.
-fn write_frames(text: &mut String, words: u32, curve: &[Point]) -> Result<(), AllocError> {
-    write_words_frame(text, 80, words, &[Series::Live, Series::Asked], curve)?;
-    write_words_frame(text, 292, words, &[Series::Free, Series::Largest], curve)?;
+fn write_frames(text: &mut String, chart: &Chart) -> Result<(), AllocError> {
+    let words = chart.words;
+    let shown = scale_for(words, chart.peak.live);
+    let curve = &chart.curve;
+    write_words_frame(
+        text,
+        80,
+        words,
+        shown,
+        &[Series::Live, Series::Asked],
+        curve,
+    )?;
+    write_words_frame(
+        text,
+        292,
+        words,
+        words,
+        &[Series::Free, Series::Largest],
+        curve,
+    )?;
     text.push_str(
         "<text class='scale' x='72' y='504'>1000</text><text class='scale' x='72' y='556'>0</text>",
     )?;
@@ -148,7 +182,7 @@ fn parts_of(alloc: Global, y: usize, chart: &Chart) -> Result<Parts, AllocError>
     let mut peak = String::new(alloc);
     let live = 8 * u64::from(chart.peak.live);
     write!(peak, " ({live} bytes) live</text>\n")?;
-    write_frames(&mut peak, chart.words, &chart.curve)?;
+    write_frames(&mut peak, chart)?;
     write_axis(&mut peak, chart.lines)?;
     write_marks(&mut peak, chart)?;
     peak.push_str("</g>\n")?;
