@@ -7,11 +7,11 @@ import re
 import tree
 from checks.pages import Page
 
-TOLD = r"'([A-Z](?:[^'\n]|'(?=[a-z]))*)'"
-PAGE = r"([\w/]*\w\.md)\b"
+TOLD = r"'[A-Z](?:[^'\n]|'(?=[a-z]))*'"
+SOME_TOLD = rf"(?P<told>{TOLD}(?:(?: and|,) {TOLD})*)"
+PAGE = r"(?P<page>[\w/]*\w\.md)\b"
 # No sentence ends between a page and its heading.
-AFTER = re.compile(PAGE + rf"((?:(?!\.md\b|\.\s)[^;\n'])*?{TOLD}(?:(?: and|,) {TOLD})*)")
-BEFORE = re.compile(rf"({TOLD}(?:(?: and|,) {TOLD})*) (?:in|of|under) {PAGE}")
+FORMS = (re.compile(rf"{PAGE}(?:(?!\.md\b|\.\s)[^;\n'])*?{SOME_TOLD}"), re.compile(rf"{SOME_TOLD} (?:in|of|under) {PAGE}"))
 # The lines of a comment are read as one.
 NEXT_LINE = re.compile(r"(?<=[^.\n])\n[ \t]*(?:#|\*|//[/!]?|--)?[ \t]*(?=[^\s#*/-])")
 UNREAD = (".svg", ".toml", ".tsv", ".trace")
@@ -51,10 +51,10 @@ def named_in(text):
     """The headings that a text names in quotes, each with its page and the number of its line."""
     # A line that goes on stays as long as it was, so places are those of the text.
     joined = NEXT_LINE.sub(lambda it: " " + "\0" * (len(it[0]) - 1), text)
-    for form, page, told in ((AFTER, 1, 2), (BEFORE, -1, 1)):
+    for form in FORMS:
         for found in form.finditer(joined):
-            for one in re.findall(TOLD, found[told]):
-                yield found[form.groups if page < 0 else page], one.replace("\0", ""), text.count("\n", 0, found.start()) + 1
+            for one in re.findall(TOLD, found["told"]):
+                yield found["page"], one[1:-1].replace("\0", ""), text.count("\n", 0, found.start()) + 1
 
 
 def faults():
