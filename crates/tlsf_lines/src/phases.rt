@@ -43,7 +43,11 @@ fn own_lines(alloc: Global, worker: u32, phase: &[Line]) -> Result<Vec<Line>, Al
 {
     // With eight workers that call alike this list does not grow.
     let mut own = Vec::with_capacity(alloc, phase.len() / 8)?;
-    own.extend(phase.iter().copied().filter(|line| line.is_of(worker)))?;
+    for line in phase {
+        if line.is_of(worker) {
+            own.push(*line)?;
+        }
+    }
     Ok(own)
 }
 
@@ -114,7 +118,11 @@ fn own_calls(alloc: Global, names: &mut Names, lines: &[Line]) -> Result<Vec<Cal
 pub fn labels_of(alloc: Global, lines: &[Line]) -> Result<Vec<Option<u32>>, AllocError>
     ensures { IfOk result (λ labels. labels.items ≡ map label_in lines.now) }
 {
-    lines.iter().map(|line| line.label()).collect(alloc)
+    let mut labels = Vec::with_capacity(alloc, lines.len())?;
+    for line in lines {
+        labels.push(line.label())?;
+    }
+    Ok(labels)
 }
 
 /// The calls of each worker in a phase.
