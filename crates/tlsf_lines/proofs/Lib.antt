@@ -9,7 +9,6 @@ pub mod LineSteps  -- a step of the loop over lines
 pub mod TableSteps  -- a table by label, when a thing is kept in it
 pub mod LabelSteps  -- what is remembered of labels, behind a line and a phase
 pub mod EmptyText  -- a text without bytes has no header
-pub mod HexSteps  -- pairs of hexadecimal digits, all read before they are judged
 -- Texts and pieces.
 pub mod FirstPiece  -- a text begins with its first piece
 pub mod PiecesJoin  -- the pieces of a text, joined, are the text
