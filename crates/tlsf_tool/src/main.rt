@@ -21,11 +21,22 @@
 //! fails changes nothing.
 #![tactic(auto)]
 
+use std::alloc::{AllocError, Global};
+use std::env::Args;
 use std::io::IsTerminal;
 use std::process::ExitCode;
 use std::{env, io};
 use tlsf_command::{FaultReport, run};
 use tlsf_trace::{Notice, TraceFault};
+
+// The words of the command line. Where `collect` lacks memory it asks again, for less: here a growth that is refused is told.
+fn words_of(alloc: Global, args: Args) -> Result<Vec<String>, AllocError> {
+    let mut words = Vec::with_capacity(alloc, args.len())?;
+    for word in args {
+        words.push(word)?;
+    }
+    Ok(words)
+}
 
 // Reports that the words of the command line can't be had: memory ran out, or one is no text.
 fn refuse(rt: &impl Eprint, error: &io::Error) -> u8 {
@@ -51,7 +62,7 @@ fn doing(words: &[String]) -> &'static str {
 }
 
 fn main(rt: HostRuntime) -> ExitCode {
-    let args = env::args(&rt).and_then(|args| Ok(args.collect::<Vec<String>>(rt.alloc())?));
+    let args = env::args(&rt).and_then(|args| Ok(words_of(rt.alloc(), args)?));
     let status = match args {
         Ok(words) => {
             let mut reader = rt.reader();
