@@ -95,7 +95,7 @@ TLSF_ANSWER TLSF_BODY uint32_t tlsf_cache_open(struct tlsf_cache *cache, struct 
 /* Releases all that is kept, 264 blocks at most. After it the heap's live blocks are those that the program holds, and no two free
  * blocks touch. Where blocks lie, serials, ticks and the order of free lists differ from those of a heap without a magazine.
  * Refused: TLSF_IS_CLOSED. Where the heap refuses a release its first refusal is the answer, and the magazine is empty all the
- * same: TLSF_STALE tells that rule 3 or 4 was broken, and TLSF_IS_CLOSED that rule 2 was. */
+ * same: TLSF_STALE tells that rule 3 or 4 was broken, and TLSF_IS_CLOSED that rule 2 was. TLSF_DAMAGED is that of TLSF_CHECKED. */
 TLSF_BODY uint32_t tlsf_cache_flush(struct tlsf_cache *cache) TLSF_NOEXCEPT;
 
 /* The same, and closes the magazine, whatever the answer. The heap stays open. */
@@ -261,7 +261,9 @@ TLSF_BODY void *tlsf_cache_realloc(struct tlsf_cache *cache, void *p, size_t len
     uint32_t at = 0, had = 0;
     if (p == TLSF_NULL) return tlsf_cache_malloc(cache, len);
     if (len == 0) (void)tlsf_cache_free(cache, p);
-    if (len == 0 || len > TLSF_LONGEST || tlsf_cache_look(cache, p, &at, &had) != TLSF_OK) return TLSF_NULL;
+    if (len == 0 || len > TLSF_LONGEST) return TLSF_NULL;
+    const uint32_t answer = tlsf_cache_look(cache, p, &at, &had);
+    if (TLSF_TOLD(cache->heap, "tlsf_cache_realloc", answer, at) != TLSF_OK) return TLSF_NULL;
     if (had == tlsf_rounded(len)) {
         TLSF_ASKED(p, len, had);
         return p;
@@ -275,7 +277,7 @@ TLSF_BODY uint32_t tlsf_cache_free(struct tlsf_cache *cache, void *p) TLSF_NOEXC
     if (p == TLSF_NULL) return TLSF_OK;
     tlsf_fetch((uintptr_t)p - 24);
     const uint32_t answer = tlsf_cache_look(cache, p, &at, &len);
-    if (answer != TLSF_OK) return answer;
+    if (answer != TLSF_OK) return TLSF_TOLD(cache->heap, "tlsf_cache_free", answer, at);
     const uint32_t size = tlsf_cache_size(len);
     /* A block by name may begin at an odd place. Its payload lies at 8 bytes more than a multiple of 16, which malloc's never does. */
     if (size >= TLSF_CACHE_SIZES || at % 2 != 0 || cache->count[size] == TLSF_CACHE_EACH) return tlsf_release_place(cache->heap, at);

@@ -11,9 +11,11 @@
  * block and both its neighbours by tlsf_check_around, and an allocate at the block that it would take by tlsf_check_request. A call
  * that may move a block looks at both. No block takes more room.
  *
- * The program's own function is told of each TLSF_DAMAGED, TLSF_STALE and TLSF_FOREIGN of a call that gives, takes back or resizes.
- * So it is told of a double free too, where the answer is dropped, as C++ containers do. Offsets and pools aren't looked at. What the
- * look doesn't see stands at tlsf_check. It needs gcc or clang. */
+ * A call that tells the length of a block, reads or writes looks around the block too: by name, by pointer and by place.
+ *
+ * The program's own function is told of each TLSF_DAMAGED, and of each TLSF_STALE and TLSF_FOREIGN of a call that gives, takes back or
+ * resizes. So it is told of a double free too, where the answer is dropped, as C++ containers do. Offsets and pools aren't looked at, and
+ * neither are tlsf_report, tlsf_block_at and a dump. What the look doesn't see stands at tlsf_check. It needs gcc or clang. */
 #ifndef TLSF_CHECKED_H
 #define TLSF_CHECKED_H
 
@@ -21,8 +23,8 @@
 extern "C" {
 #endif
 
-/* The program's function: the heap, the call of peachanchor.h that was refused, its answer, and a place. That is the place of the damaged
- * block, or else the one that was given. Of tlsf_free the call is tlsf_release_place, and of each call by pointer the one that it makes.
+/* The program's function: the heap, the call that was refused, its answer, and a place. That is the place of the damaged block, or else
+ * the one that was given. Of tlsf_free the call is tlsf_release_place, and of each call by pointer the one of peachanchor.h that it makes.
  * The function makes no call on the heap, but it may end the process. */
 typedef void tlsf_refusal_function(struct tlsf_heap *heap, const char *call, uint32_t answer, uint32_t at, void *context);
 
@@ -171,11 +173,47 @@ TLSF_ANSWER static inline uint32_t tlsf_checked_resize_place(struct tlsf_heap *h
     return tlsf_told(heap, "tlsf_resize_place", tlsf_resize_place(heap, at, len, new_at), at);
 }
 
+/* --- Calls that tell of a block, or read or write its payload: they are about to use its length ------------------------------ */
+
+TLSF_ANSWER static inline uint32_t tlsf_checked_place(struct tlsf_heap *heap, uint32_t at, struct tlsf_name *name,
+                                                      uint32_t *len) TLSF_NOEXCEPT {
+    if (tlsf_is_damaged_around(heap, "tlsf_place", at)) return TLSF_DAMAGED;
+    return tlsf_place(heap, at, name, len);
+}
+
+TLSF_ANSWER static inline uint32_t tlsf_checked_locate(struct tlsf_heap *heap, struct tlsf_name name, uint64_t **base,
+                                                       uint32_t *len) TLSF_NOEXCEPT {
+    if (tlsf_is_damaged_at(heap, "tlsf_locate", name)) return TLSF_DAMAGED;
+    return tlsf_locate(heap, name, base, len);
+}
+
+TLSF_ANSWER static inline uint32_t tlsf_checked_read(struct tlsf_heap *heap, struct tlsf_name name, uint32_t at, uint8_t *out,
+                                                     size_t n) TLSF_NOEXCEPT {
+    if (tlsf_is_damaged_at(heap, "tlsf_read", name)) return TLSF_DAMAGED;
+    return tlsf_read(heap, name, at, out, n);
+}
+
+TLSF_ANSWER static inline uint32_t tlsf_checked_write(struct tlsf_heap *heap, struct tlsf_name name, uint32_t at, const uint8_t *bytes,
+                                                      size_t n) TLSF_NOEXCEPT {
+    if (tlsf_is_damaged_at(heap, "tlsf_write", name)) return TLSF_DAMAGED;
+    return tlsf_write(heap, name, at, bytes, n);
+}
+
+/* --- For tlsf_inline.h and tlsf_cache.h --------------------------------------------------------------------------------- */
+
+/* Gives a block back that the same call has looked at, or was given in a place that it has looked at. Another look might refuse it
+ * for what is no part of the call, and the block would be lost. */
+static inline uint32_t tlsf_release_seen(struct tlsf_heap *heap, uint32_t at) TLSF_NOEXCEPT { return tlsf_release_place(heap, at); }
+
+#define TLSF_IS_DAMAGED(heap, call, at) tlsf_is_damaged_around(heap, call, at)
+#define TLSF_TOLD(heap, call, answer, at) tlsf_told(heap, call, answer, at)
+#define TLSF_RELEASE_SEEN(heap, at) tlsf_release_seen(heap, at)
+
 #ifdef __cplusplus
 }
 #endif
 
-/* What tlsf_trace.h may have named before. */
+/* What tlsf_trace.h or tlsf_marks.h may have named before. */
 #undef tlsf_close
 #undef tlsf_allocate
 #undef tlsf_allocate_place
@@ -185,6 +223,10 @@ TLSF_ANSWER static inline uint32_t tlsf_checked_resize_place(struct tlsf_heap *h
 #undef tlsf_resize
 #undef tlsf_resize_place
 #undef tlsf_reallocate
+#undef tlsf_place
+#undef tlsf_locate
+#undef tlsf_read
+#undef tlsf_write
 #define tlsf_close tlsf_checked_close
 #define tlsf_allocate tlsf_checked_allocate
 #define tlsf_allocate_place tlsf_checked_allocate_place
@@ -194,4 +236,8 @@ TLSF_ANSWER static inline uint32_t tlsf_checked_resize_place(struct tlsf_heap *h
 #define tlsf_resize tlsf_checked_resize
 #define tlsf_resize_place tlsf_checked_resize_place
 #define tlsf_reallocate tlsf_checked_reallocate
+#define tlsf_place tlsf_checked_place
+#define tlsf_locate tlsf_checked_locate
+#define tlsf_read tlsf_checked_read
+#define tlsf_write tlsf_checked_write
 #endif

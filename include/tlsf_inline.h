@@ -18,13 +18,10 @@
 #define TLSF_COPY memcpy
 #endif
 
-/* What these three name otherwise is called from here on: first what writes a trace, then what looks first, then what marks. Who asked for a payload may use
- * so many bytes of it, and what is copied out of it is used. */
+/* What these three name otherwise is called from here on: first what writes a trace, then what marks, then what looks first, so that no mark follows
+ * a header before it was looked at. Who asked for a payload may use so many bytes of it, and what is copied out of it is used. */
 #ifdef TLSF_TRACE
 #include "tlsf_trace.h"
-#endif
-#ifdef TLSF_CHECKED
-#include "tlsf_checked.h"
 #endif
 #ifdef TLSF_MARKED
 #include "tlsf_marks.h"
@@ -32,6 +29,13 @@
 #ifndef TLSF_ASKED
 #define TLSF_ASKED(payload, len, rounded) ((void)(len))
 #define TLSF_USED(payload, len) ((void)0)
+#endif
+#ifdef TLSF_CHECKED
+#include "tlsf_checked.h"
+#else
+#define TLSF_IS_DAMAGED(heap, call, at) false
+#define TLSF_TOLD(heap, call, answer, at) (answer)
+#define TLSF_RELEASE_SEEN(heap, at) tlsf_release_place(heap, at)
 #endif
 
 #ifdef __cplusplus
@@ -103,7 +107,7 @@ TLSF_BODY struct tlsf_placed tlsf_align_place(struct tlsf_heap *heap, size_t len
 
 /* Gives a misaligned block back for one that is aligned to 16. */
 TLSF_RARE struct tlsf_placed tlsf_align_again(struct tlsf_heap *heap, size_t len, uint32_t at) TLSF_NOEXCEPT {
-    tlsf_release_place(heap, at);
+    TLSF_RELEASE_SEEN(heap, at);
     return tlsf_align_place(heap, len, 16);
 }
 
@@ -159,7 +163,7 @@ TLSF_CALL void *tlsf_calloc(struct tlsf_heap *heap, size_t count, size_t each) T
     const size_t len = count * each;
     if (tlsf_allocate(heap, tlsf_rounded(len), &name) != TLSF_OK) return TLSF_NULL;
     if ((uintptr_t)(heap->base + name.at + 3) % 16 == 0) return tlsf_asked_at(heap, TLSF_OK, name.at, len);
-    tlsf_release_place(heap, name.at);
+    TLSF_RELEASE_SEEN(heap, name.at);
     void *const p = tlsf_malloc(heap, len);
     return p == TLSF_NULL ? p : TLSF_SET(p, 0, len);
 }
@@ -204,14 +208,15 @@ TLSF_RARE void *tlsf_realloc_mixed(struct tlsf_heap *heap, void *p, size_t len) 
     struct tlsf_block_info it = {0, 0, 0, 0, 0};
     const uint32_t at = tlsf_place_of(heap, p);
     size_t rounded = tlsf_rounded(len);
-    if (tlsf_block_at(heap, at, &it) != TLSF_OK || it.is_live == 0) return TLSF_NULL;
+    if (TLSF_IS_DAMAGED(heap, "tlsf_resize_place", at)) return TLSF_NULL;
+    if (tlsf_block_at(heap, at, &it) != TLSF_OK || it.is_live == 0) return tlsf_resized_at(heap, at, rounded, len); /* refused */
     if (8 * (it.size - 3) >= len && 8 * (it.size - 3) < rounded) rounded = 8 * (it.size - 3);
     if (tlsf_has_room(heap, &it, 3 + rounded / 8)) return tlsf_resized_at(heap, at, rounded, len);
     void *const moved = tlsf_malloc(heap, len);
     if (moved == TLSF_NULL) return TLSF_NULL;
     TLSF_USED(p, it.len);
     TLSF_COPY(moved, p, it.len < len ? it.len : len);
-    tlsf_free(heap, p);
+    TLSF_RELEASE_SEEN(heap, at);
     return moved;
 }
 

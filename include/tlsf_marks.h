@@ -310,8 +310,7 @@ TLSF_ANSWER static inline uint32_t tlsf_marked_resize_place(struct tlsf_heap *he
     uint32_t had = 0;
     const bool stays = tlsf_mark_stays(heap, at, len, &had);
     uint32_t answer = tlsf_marked_place(heap, at, &name, &had);
-    if (answer != TLSF_OK) return answer;
-    if (!stays) {
+    if (answer == TLSF_OK && !stays) {
         const struct tlsf_placed to = tlsf_marked_allocate_place(heap, len);
         if (to.answer != TLSF_OK) return to.answer;
         tlsf_mark_copy(heap, at, to.at, had, len);
@@ -320,7 +319,7 @@ TLSF_ANSWER static inline uint32_t tlsf_marked_resize_place(struct tlsf_heap *he
         return TLSF_OK;
     }
     TLSF_BEGIN_CALL;
-    answer = tlsf_resize_place(heap, at, len, new_at);
+    answer = tlsf_resize_place(heap, at, len, new_at); /* also where it is refused: a trace has it */
     TLSF_END_CALL;
     if (answer == TLSF_OK && len > had) tlsf_mark_live(tlsf_mark_at(heap, at), len);
     if (answer == TLSF_OK && len < had) tlsf_mark_dead(tlsf_mark_at(heap, at), len, had - len);
@@ -341,8 +340,7 @@ TLSF_ANSWER static inline uint32_t tlsf_marked_reallocate(struct tlsf_heap *heap
     struct tlsf_name moved = {0, 0, 0};
     uint64_t *base = TLSF_NULL;
     uint32_t had = 0, answer = tlsf_marked_locate(heap, *name, &base, &had);
-    if (answer != TLSF_OK) return answer;
-    if (tlsf_mark_stays(heap, name->at, len, &had)) return tlsf_marked_resize(heap, *name, len);
+    if (answer != TLSF_OK || tlsf_mark_stays(heap, name->at, len, &had)) return tlsf_marked_resize(heap, *name, len);
     answer = tlsf_marked_allocate(heap, len, &moved);
     if (answer != TLSF_OK) return answer;
     tlsf_mark_copy(heap, name->at, moved.at, had, len);
@@ -454,7 +452,7 @@ TLSF_ANSWER static inline uint32_t tlsf_marked_queue_take(struct tlsf_queue *que
 
 #ifndef TLSF_TSAN
 
-/* What tlsf_trace.h or tlsf_checked.h may have named before. */
+/* What tlsf_trace.h may have named before. */
 #undef tlsf_open
 #undef tlsf_open_in
 #undef tlsf_open_near

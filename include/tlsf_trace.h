@@ -253,7 +253,8 @@ static inline uint32_t tlsf_traced_release(struct tlsf_heap *heap, struct tlsf_n
 /* A trace has no line for it. Each line of a live block takes a tick of a replay's. */
 static inline uint32_t tlsf_traced_reset(struct tlsf_heap *heap) TLSF_NOEXCEPT {
     struct tlsf_block_info it = {0, 0, 0, 0, 0};
-    for (uint32_t at = 0; tlsf_trace_is_of(heap) && tlsf_block_at(heap, at, &it) == TLSF_OK; at += it.size)
+    /* Of a damaged size it ends. */
+    for (uint32_t at = 0; tlsf_trace_is_of(heap) && tlsf_block_at(heap, at, &it) == TLSF_OK && at + it.size > at; at += it.size)
         if (it.is_live != 0) tlsf_trace_changed(heap, TLSF_OK, at, &it.mark, TLSF_NULL);
     return tlsf_reset(heap);
 }
