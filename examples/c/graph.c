@@ -33,7 +33,7 @@ struct side {
     _Alignas(128) struct tlsf_near_heap heap;
     struct tlsf_post_end to, home;
     struct tlsf_take_end from, back;
-    uint64_t *base; /* of the other's region: the payload of a name begins three words behind its place */
+    uint64_t *base; /* of the other's heap: it leads from a name to a payload */
     uint32_t wrong;
     pthread_t thread;
 };
@@ -43,8 +43,6 @@ static struct side control, audio;
 static void sure(struct side *it, uint32_t answer) {
     if (answer != TLSF_OK) it->wrong++;
 }
-
-static void *payload_of(const struct side *it, struct tlsf_name name) { return it->base + name.at + 3; }
 
 /* --- The real-time thread ---------------------------------------------------------------------------------------------- */
 
@@ -58,7 +56,7 @@ static void stop_playing(const struct node *node) {
 
 /* Whether it isn't the end. */
 static bool obey(struct tlsf_name name) {
-    const struct command it = *(const struct command *)payload_of(&audio, name);
+    const struct command it = *(const struct command *)tlsf_at(audio.base, name);
     sure(&audio, tlsf_put(&audio.home, name)); /* the lane home has room for all blocks */
     if (it.order == ADD) playing[count++] = it.node;
     if (it.order == REMOVE) {
@@ -157,7 +155,7 @@ static bool read_meters(void) {
     struct tlsf_name name;
     bool came = false;
     for (; tlsf_take(&control.from, &name) == TLSF_OK; came = true) {
-        const struct meter it = *(const struct meter *)payload_of(&control, name);
+        const struct meter it = *(const struct meter *)tlsf_at(control.base, name);
         if (it.block <= last_block) control.wrong++;
         if (it.peak > highest) highest = it.peak;
         last_block = it.block;
@@ -183,14 +181,10 @@ static void *direct(void *given) {
 
 /* Opens a heap for `blocks` blocks of up to `len` bytes, and the lanes for these: to the other side, and home. Its base, or null. */
 static uint64_t *open_side(struct side *it, struct side *other, uint32_t number, uint32_t blocks, uint32_t capacity, size_t len) {
-    struct tlsf_heap *const heap = tlsf_near(&it->heap);
-    struct tlsf_name name;
-    uint64_t *base;
-    uint32_t words, bytes;
-    if (tlsf_words(4, blocks, tlsf_rounded(len) + 32 + 64, &words) || tlsf_open_near(&it->heap, 4, number, words)) return NULL;
+    uint32_t words;
+    if (tlsf_words_for(4, blocks, len, 64, &words) || tlsf_open_near(&it->heap, 4, number, words)) return NULL;
     if (tlsf_lane_open(&it->to, &other->from, capacity) || tlsf_lane_open(&other->home, &it->back, blocks)) return NULL;
-    if (tlsf_allocate(heap, 0, &name) || tlsf_locate(heap, name, &base, &bytes) || tlsf_release(heap, name)) return NULL;
-    return base;
+    return tlsf_base(tlsf_near(&it->heap));
 }
 
 /* Drains what went home, and closes the heap. The words that are left in use. */

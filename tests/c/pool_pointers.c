@@ -63,7 +63,7 @@ static void one_malloc(struct tlsf_pools *pools) {
 }
 
 static void one_free(struct tlsf_pools *pools, struct held *it) {
-    uint8_t *volatile at = it->at;
+    uint8_t *const at = it->at;
     reads_all(it);
     wants("free", tlsf_pools_free(pools, at), TLSF_OK);
     wants("free twice", tlsf_pools_free(pools, at), TLSF_STALE);
@@ -102,8 +102,7 @@ static void one_name(struct tlsf_pools *pools, struct held *it) {
     wants("past the row", tlsf_pools_read(pools, name, n, out, 1), TLSF_RANGE);
     if (below(4)) return;
     wants("release by name", tlsf_pools_release(pools, name), TLSF_OK);
-    uint8_t *volatile at = it->at;
-    wants("then it isn't freed", tlsf_pools_free(pools, at), TLSF_STALE);
+    wants("then it isn't freed", tlsf_pools_free(pools, it->at), TLSF_STALE);
     in_row[it->row]--;
     *it = held[--count];
 }
@@ -184,9 +183,8 @@ static void refusals(struct tlsf_pools *pools) {
     wants("null", tlsf_pools_free(pools, NULL), TLSF_OK);
     wants("null has no size", tlsf_pools_usable_size(pools, NULL), 0);
     wants("realloc to nothing", tlsf_pools_realloc(pools, at, 0) == NULL, 1);
-    uint8_t *volatile freed = at;
-    wants("frees it", tlsf_pools_free(pools, freed), TLSF_STALE);
-    uint8_t *volatile one = tlsf_pools_realloc(pools, NULL, 0);
+    wants("frees it", tlsf_pools_free(pools, at), TLSF_STALE);
+    uint8_t *const one = tlsf_pools_realloc(pools, NULL, 0);
     wants("realloc of null", one != NULL, 1);
     wants("is malloc, of the first row", tlsf_pools_usable_size(pools, one), rows[0].len);
     wants("where closed: malloc", tlsf_pools_malloc(&closed, 8) == NULL, 1);
