@@ -20,6 +20,11 @@ moved-requires g c =
     c.resize_or_move-answer.result done.answer c.resize_or_move-answer.new.self.heap done.heap (rw c.in-Ok.ensures.same.heap at (heap_as_before _ _ _ c.resize_or_move-answer.ensures.err)) in
     (omega arith, (m.live, (m.sum, (m.refused, (m.small, (c.requires.are_counts.most, m.room))))))
 
+pub returns-clause-elsewhere : goal.returns-clause-elsewhere
+returns-clause-elsewhere g c = λ moves.
+    let done = rw c.in-Ok.ensures.same.heap at c.resize_or_move-answer.ensures in
+    let most = done.elsewhere moves in omega (arith, most, c.in-Ok.ensures.touches, c.moved.ensures.touches)
+
 pub returns-clause-forged : goal.returns-clause-forged
 returns-clause-forged g c = live_not_forged (seen c.args.heap.now) c.args.name c.in-Ok.ensures.keeps.was_lawful c.in-Ok.ensures.live _
 
