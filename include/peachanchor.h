@@ -21,8 +21,8 @@
  *   may take ticks besides. The compiler warns where an answer is ignored, except for calls that close, free, release or drain.
  * Time: only reports, tlsf_check, tlsf_pools_check, tlsf_reset, tlsf_drain, tlsf_queue_drain, tlsf_put_all and tlsf_take_all, opening,
  *   tlsf_pools_words and tlsf_pools_bytes, closing a queue, what finds a part of pools, eight at most, or the row of a length, 64 at
- *   most, and what fills or copies payload run a loop. Only opening takes memory, and only closing gives it back. No call waits, locks or makes a system
- *   call, except as malloc and free do.
+ *   most, and what fills or copies payload run a loop. Only opening takes memory, and only closing gives it back. No call waits, locks
+ *   or makes a system call, except as malloc and free do.
  *
  * WHAT THE CALLER OWES. Nothing checks these rules, and the proofs rest on them.
  *   1. A handle is closed before it is opened: all its bytes are zero, or it was set to TLSF_CLOSED. After that only calls
@@ -435,7 +435,8 @@ TLSF_CALL size_t tlsf_usable_size(struct tlsf_heap *heap, const void *p) TLSF_NO
 TLSF_ANSWER TLSF_CALL uint32_t tlsf_name_at(struct tlsf_heap *heap, const void *p, struct tlsf_name *name) TLSF_NOEXCEPT;
 
 /* Allocates a block of at least `len` bytes by name and by pointer: its name goes to `name`, the address of its payload to
- * `payload`. It is aligned to `align`, any power of two, and to 16. It is all zero, or with TLSF_UNFILLED in `flags` what lies there. The call is that of tlsf_aligned_alloc; it is filled here.
+ * `payload`. It is aligned to `align`, any power of two, and to 16. It is all zero, or with TLSF_UNFILLED in `flags` what lies there.
+ * The call is that of tlsf_aligned_alloc; it is filled here.
  * Refused: TLSF_BAD_SIZE for any other `align`; TLSF_IS_CLOSED, TLSF_NO_FIT, TLSF_WORN. */
 TLSF_ANSWER TLSF_CALL uint32_t tlsf_allocate_at(struct tlsf_heap *heap, size_t len, size_t align, uint32_t flags, struct tlsf_name *name,
                                                 void **payload) TLSF_NOEXCEPT;

@@ -18,8 +18,9 @@
 #define TLSF_COPY memcpy
 #endif
 
-/* What these three name otherwise is called from here on: first what writes a trace, then what marks, then what looks first, so that no mark follows
- * a header before it was looked at. Who asked for a payload may use so many bytes of it, and what is copied out of it is used. */
+/* What these three name otherwise is called from here on: first what writes a trace, then what marks, then what looks first, so that no
+ * mark follows a header before it was looked at. Who asked for a payload may use so many bytes of it, and what is copied out of it is
+ * used. */
 #ifdef TLSF_TRACE
 #include "tlsf_trace.h"
 #endif

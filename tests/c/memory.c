@@ -1,8 +1,8 @@
 /* Heaps, lanes, queues and arenas of offsets in memory of the program's, at each alignment: what they take, that nothing else is
  * written, that no malloc and no free is called, and that it is the program's again. The own fields of a near heap lie in it, and no
  * other piece does. No piece of a lane or a queue shares its lines with another piece. Null and MAP_FAILED are refused, and nothing is
- * taken. Where malloc aligns to less than 16 bytes, each piece lies in what it gave all the same. With NO_MALLOC there is no malloc, and tlsf_open is refused.
- * Link with -Wl,--wrap=malloc,--wrap=free,--wrap=tlsf_memory_alloc. */
+ * taken. Where malloc aligns to less than 16 bytes, each piece lies in what it gave all the same. With NO_MALLOC there is no malloc, and
+ * tlsf_open is refused. Link with -Wl,--wrap=malloc,--wrap=free,--wrap=tlsf_memory_alloc. */
 #include "piece.h"
 #include "peachanchor.h"
 
