@@ -1,16 +1,20 @@
 #!/usr/bin/env python3
-"""usage: tools/package/man.py VERSION DATE FOLDER
+"""usage: tools/package/man.py FOLDER
 
 Writes the man pages of the program into FOLDER, one for it and one for each of
 its commands. They are made of the helps that are stored in tests/cases/help.toml,
 which ./test holds to the program, so there is no other text to keep in step.
+Meson says in the environment where a FOLDER lies that isn't absolute.
 """
+import os
 import pathlib
 import re
+import subprocess
 import sys
 
 sys.dont_write_bytecode = True
-sys.path.insert(0, str(pathlib.Path(__file__).resolve().parent.parent))
+HERE = pathlib.Path(__file__).resolve().parent
+sys.path.insert(0, str(HERE.parent))
 import case_files
 import script
 
@@ -37,10 +41,10 @@ def text_of(block):
     return [".PP", *map(roff, block)]
 
 
-def page(name, help_text, version, date, others):
+def page(name, help_text, version, others):
     first, *blocks = [it.split("\n") for it in help_text.strip("\n").split("\n\n")]
     told = first[0][0].lower() + first[0][1:]
-    lines = [f'.TH {roff(name.upper())} 1 "{date}" "peachanchor {version}" "User Commands"', ".SH NAME", f"{roff(name)} \\- {roff(told)}"]
+    lines = [f'.TH {roff(name.upper())} 1 "" "peachanchor {version}" "User Commands"', ".SH NAME", f"{roff(name)} \\- {roff(told)}"]
     lists, texts = [], []
     for block in blocks:
         if block[0].startswith("Usage: "):
@@ -53,19 +57,22 @@ def page(name, help_text, version, date, others):
     return "\n".join([*lines, ".SH DESCRIPTION", *texts, *lists, ".SH SEE ALSO", also, ""])
 
 
-def main(version, date, folder):
+def main(folder):
+    version = subprocess.run([HERE / "names", "--version"], stdout=subprocess.PIPE, text=True, check=True).stdout.strip()
+    folder = pathlib.Path(os.environ.get("MESON_INSTALL_DESTDIR_PREFIX", ""), folder)
+    folder.mkdir(parents=True, exist_ok=True)
     helps = {it.name: it.stdout for it in case_files.helps()}
     commands = re.findall(r"^  ([a-z]+)  ", helps["help"].partition("Commands:\n")[2].partition("\n\n")[0], re.M)
     names = {"help": "tlsf"} | {f"help_{it}": f"tlsf-{it}" for it in commands if it != "help"}
     if lacks := names.keys() ^ helps.keys():
         raise ValueError(f"tests/cases/help.toml has no help of its own, or one too many: {', '.join(sorted(lacks))}")
     for stem, name in names.items():
-        (pathlib.Path(folder) / f"{name}.1").write_text(page(name, helps[stem], version, date, names.values()), encoding="utf-8")
+        (folder / f"{name}.1").write_text(page(name, helps[stem], version, names.values()), encoding="utf-8")
 
 
 if __name__ == "__main__":
     try:
-        main(*script.words(__doc__, lambda it: len(it) == 3))
-    except (OSError, ValueError) as why:
+        main(*script.words(__doc__, lambda it: len(it) == 1))
+    except (OSError, ValueError, subprocess.CalledProcessError) as why:
         print(f"man.py: {why}", file=sys.stderr)
         sys.exit(1)

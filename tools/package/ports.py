@@ -16,7 +16,6 @@ The exit status is 0 where all is written, 1 where something can't be, which a
 line on standard error says, and 2 where the words are others.
 """
 import dataclasses
-import hashlib
 import pathlib
 import re
 import subprocess
@@ -42,13 +41,13 @@ QUOTED = re.compile(r'"([^"\n]*::[^"\n]*)"')
 SAID = re.compile(r'^\t\.def\t@feat\.00;\n(?:.*\n)*?@feat\.00 = .*\n|^\t\.section\t\.debug\$S,"dr"\n(?:(?!\t\.section).*\n)*', re.M)
 # How the library's files of C are compiled, by no header but those of put_headers.
 OF_C = ["-std=c11", "-O2", "-fPIC", "-ffreestanding", "-nostdinc", "-fno-stack-protector", "-fasynchronous-unwind-tables"]
-# What lies in front of the name of each file for what flags.
-KINDS = {
-    "pointers": [],
-    "memory": [],
-    "memory_nomalloc": ["-DTLSF_NO_MALLOC"],
-    "memory_bare": ["-DTLSF_NO_MALLOC", "-DTLSF_NO_TLS"],
-}
+# What asks for each file of C, by tlsf.S, and the flags by which it is compiled.
+OF_KINDS = (
+    ("#ifndef TLSF_ONLY_MEMORY", "pointers.c", []),
+    ("#endif\n#ifdef TLSF_ONLY_CALLS\n#elif defined(TLSF_NO_TLS)", "memory.c", ["-DTLSF_NO_MALLOC", "-DTLSF_NO_TLS"]),
+    ("#elif defined(TLSF_NO_MALLOC)", "memory.c", ["-DTLSF_NO_MALLOC"]),
+    ("#else", "memory.c", []),
+)
 # The headers that peachanchor.h asks of a compiler, which the toolchain's lacks.
 HEADERS = {
     "stdbool.h": "#define bool _Bool\n#define true 1\n#define false 0\n",
@@ -227,22 +226,6 @@ def held_module(clang, name, port, text):
     return module
 
 
-def sum_of(clang, modules, folder_of_c):
-    """The checksum of all that `write` reads."""
-    told = hashlib.sha256()
-    for file in (
-        clang,
-        *modules.values(),
-        *sorted(folder_of_c.iterdir()),
-        *sorted((TOP / "include").iterdir()),
-        pathlib.Path(__file__),
-        pathlib.Path(calls.__file__),
-    ):
-        with file.open("rb") as data:
-            told.update(hashlib.file_digest(data, "sha256").digest())
-    return told.hexdigest()[:40]
-
-
 def write(clang, modules, folder_of_c, folder):
     """Writes the calls of all ports into a folder, and for these and for what is proved c/memory.c and c/pointers.c. `modules` has the files
     of the two modules by their processors."""
@@ -251,9 +234,8 @@ def write(clang, modules, folder_of_c, folder):
         module = held_module(clang, name, port, modules[port.module].read_text(encoding="utf-8"))
         (folder / f"calls-{name}.s").write_text(calls_text(clang, port, module), encoding="utf-8")
     for name, port in (PROVED | PORTS).items():
-        for kind, flags in KINDS.items():
-            text = text_of_c(clang, folder_of_c / f"{kind.partition('_')[0]}.c", port.target, [*port.flags, *flags])
-            (folder / f"{kind}-{name}.s").write_text(text, encoding="utf-8")
+        parts = [f"{asked}\n{text_of_c(clang, folder_of_c / file, port.target, [*port.flags, *flags])}" for asked, file, flags in OF_KINDS]
+        (folder / f"c-{name}.s").write_text("".join([*parts, "#endif\n"]), encoding="utf-8")
 
 
 def main(words):

@@ -1,5 +1,5 @@
 /* All of the library, as assembly for the processor and the system that this is compiled for: the calls, with c/pointers.c and
- * c/memory.c as the toolchain's clang compiles them. Any gcc or clang takes it: `cc program.c -Iinclude src/tlsf.S`.
+ * c/memory.c as the toolchain's clang compiles them. Any gcc or clang takes it: `cc program.c -Iinclude dist/tlsf.S`.
  *
  * With TLSF_NO_MALLOC it takes no memory from malloc, so all is opened in memory of the program's. With TLSF_NO_TLS it has no
  * thread-local storage besides, as on bare metal: one thread at a time opens. TLSF_ONLY_CALLS leaves c/memory.c out, and
@@ -33,14 +33,6 @@
 #define TLSF_FILE(kind, port) TLSF_TEXT(kind-port.s)
 #ifndef TLSF_ONLY_MEMORY
 #include TLSF_FILE(calls, TLSF_PORT)
-#include TLSF_FILE(pointers, TLSF_PORT)
 #endif
-#if defined(TLSF_ONLY_CALLS)
-#elif defined(TLSF_NO_TLS)
-#include TLSF_FILE(memory_bare, TLSF_PORT)
-#elif defined(TLSF_NO_MALLOC)
-#include TLSF_FILE(memory_nomalloc, TLSF_PORT)
-#else
-#include TLSF_FILE(memory, TLSF_PORT)
-#endif
+#include TLSF_FILE(c, TLSF_PORT)
 #endif

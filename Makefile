@@ -1,0 +1,152 @@
+# Peachanchor, built of dist/ by a C compiler.
+#
+#     make             the program build/tlsf, and the library in build/lib
+#     make check       tries both, in 1 to 3 minutes: 'N right, 0 wrong'
+#     make install     puts them below PREFIX, which is /usr/local
+#     make uninstall   takes them away from there
+#     make deb         packages for Debian, in build/
+#     make release     a tar of this commit, in build/
+#     make clean       removes build/
+#
+# With rt, Rattle's toolchain:
+#
+#     make prove       proves all, and tests it: ./test
+#     make try         build/try/tlsf of the sources as they stand, not proved
+#
+# The compilers are CC and CXX, and AR makes the archives, with CPPFLAGS, CFLAGS
+# and LDFLAGS. For another processor give those for it, and RUN, which runs a
+# program that they build:
+#
+#     make check CC=aarch64-linux-gnu-gcc CXX=aarch64-linux-gnu-g++ \
+#         AR=aarch64-linux-gnu-ar RUN='qemu-aarch64 -L /usr/aarch64-linux-gnu'
+#
+# The program is for x86-64 Linux; for others the library alone is built.
+#
+# STATES is the largest region, in words, of the test of all states. BRIEF=1 has
+# make check try less, in a fifth of the time. SHARED= leaves the shared library
+# out, as for Windows and macOS, and with CPPFLAGS=-DTLSF_NO_TLS for bare metal.
+#
+# The folders of an install are libdir, includedir, bindir, datadir, docdir and
+# mandir. DESTDIR is set before each. What is installed can be moved: the files
+# for pkg-config and CMake know the way from one folder to the other.
+
+CC ?= cc
+CXX ?= c++
+AR ?= ar
+INSTALL ?= install
+RUN ?=
+STATES ?=
+BRIEF ?=
+
+BUILD = build
+PREFIX ?= /usr/local
+libdir = $(PREFIX)/lib
+includedir = $(PREFIX)/include
+bindir = $(PREFIX)/bin
+datadir = $(PREFIX)/share
+docdir = $(datadir)/doc/peachanchor
+mandir = $(datadir)/man
+
+SONAME = libpeachanchor.so.3
+SHARED = $(BUILD)/lib/$(SONAME)
+ARCHIVES = $(BUILD)/lib/libpeachanchor.a $(BUILD)/lib/libpeachanchor_nomalloc.a
+DOCS = README.md CHANGELOG.md LICENSE-MIT LICENSE-APACHE dist/LICENCES dist/NOTICES dist/MANIFEST
+
+all: $(ARCHIVES) $(SHARED) $(BUILD)/lib/names $(BUILD)/program
+
+# What a command left that failed isn't taken, and neither is what another compiler or other flags made.
+.DELETE_ON_ERROR:
+$(BUILD)/flags: ALWAYS
+	@mkdir -p $(BUILD)/lib; echo '$(CC) $(CPPFLAGS) $(CFLAGS) $(LDFLAGS)' > $@.new; \
+	if cmp -s $@.new $@; then rm $@.new; else mv $@.new $@; fi
+ALWAYS:
+
+$(BUILD)/calls.o: dist/tlsf.S dist/calls-*.s dist/c-*.s $(BUILD)/flags
+	$(CC) $(CPPFLAGS) $(CFLAGS) -DTLSF_ONLY_CALLS -c dist/tlsf.S -o $@
+
+$(BUILD)/memory.o: dist/tlsf.S dist/c-*.s $(BUILD)/flags
+	$(CC) $(CPPFLAGS) $(CFLAGS) -DTLSF_ONLY_MEMORY -c dist/tlsf.S -o $@
+
+$(BUILD)/memory_nomalloc.o: dist/tlsf.S dist/c-*.s $(BUILD)/flags
+	$(CC) $(CPPFLAGS) $(CFLAGS) -DTLSF_ONLY_MEMORY -DTLSF_NO_MALLOC -c dist/tlsf.S -o $@
+
+$(BUILD)/lib/libpeachanchor.a: $(BUILD)/calls.o $(BUILD)/memory.o
+	rm -f $@ && $(AR) rcs $@ $(BUILD)/calls.o $(BUILD)/memory.o
+
+$(BUILD)/lib/libpeachanchor_nomalloc.a: $(BUILD)/calls.o $(BUILD)/memory_nomalloc.o
+	rm -f $@ && $(AR) rcs $@ $(BUILD)/calls.o $(BUILD)/memory_nomalloc.o
+
+$(BUILD)/lib/$(SONAME): $(BUILD)/calls.o $(BUILD)/memory.o c/exports.map
+	@case $$($(CC) $(CFLAGS) -dumpmachine) in *mingw* | *windows* | *darwin* | *apple*) \
+		echo "the shared library is for ELF alone: give make SHARED= besides" >&2; exit 1 ;; esac
+	$(CC) $(CFLAGS) $(LDFLAGS) -shared -Wl,-soname,$(SONAME),--version-script,c/exports.map,-Bsymbolic,-z,relro,-z,now,--build-id \
+		-o $@ $(BUILD)/calls.o $(BUILD)/memory.o
+	ln -sf $(SONAME) $(BUILD)/lib/libpeachanchor.so
+
+# What pkg-config and CMake read of this folder.
+$(BUILD)/lib/names: tools/package/names tools/package/*.pc tools/package/*.cmake include/peachanchor.h
+	tools/package/names $(BUILD)/lib ../../include $(SONAME) && touch $@
+
+# Other C libraries than glibc aren't known to give it its words, so there the library alone is built.
+$(BUILD)/program: dist/program-x86_64.s c/os.c $(BUILD)/flags
+	@rm -f $(BUILD)/tlsf
+	@printf '#include <stdlib.h>\n#if defined(__x86_64__) && defined(__LP64__) && defined(__GLIBC__)\nserved\n#endif\n' | \
+		$(CC) $(CPPFLAGS) $(CFLAGS) -E - | grep -qx served || exit 0; set -x; \
+	$(CC) $(CPPFLAGS) $(CFLAGS) $(LDFLAGS) -O1 dist/program-x86_64.s c/os.c -pthread -o $(BUILD)/tlsf
+	@touch $@
+
+# What is tried is an install of it.
+check: all
+	@command -v sha256sum > /dev/null || { echo "sha256sum isn't there, so sums aren't compared" >&2; exit 0; }; \
+	sed -n '/^[0-9a-f]\{64\}  /p' dist/MANIFEST | (cd dist && sha256sum -c > ../$(BUILD)/sums) || { grep -v ': OK$$' $(BUILD)/sums; exit 1; }
+	@$(MAKE) -s install DESTDIR= PREFIX="$$PWD/$(BUILD)/installed"
+	CC='$(CC)' CXX='$(CXX)' RUN='$(RUN)' STATES='$(STATES)' BRIEF='$(BRIEF)' tests/library_test --check $(BUILD)/installed
+	@[ ! -f $(BUILD)/tlsf ] || RUN='$(RUN)' tests/program_test --cases $(BUILD)/tlsf
+
+# Man pages are made of the stored helps.
+install: all
+	$(INSTALL) -d '$(DESTDIR)$(includedir)' '$(DESTDIR)$(libdir)' '$(DESTDIR)$(datadir)/gdb' '$(DESTDIR)$(docdir)'
+	$(INSTALL) -m 644 include/* '$(DESTDIR)$(includedir)'
+	$(INSTALL) -m 644 $(ARCHIVES) '$(DESTDIR)$(libdir)'
+	for kind in "" _nomalloc; do ln -sf libpeachanchor$$kind.a '$(DESTDIR)$(libdir)'/libtlsf$$kind.a || exit 1; done
+	[ -z '$(SHARED)' ] || { $(INSTALL) -m 755 $(SHARED) '$(DESTDIR)$(libdir)' && \
+		ln -sf $(SONAME) '$(DESTDIR)$(libdir)/libpeachanchor.so'; }
+	@from='/$(libdir)/' to='/$(includedir)' up=; \
+	while case $$to/ in "$$from"*) false ;; esac; do from=$${from%/*/}/ up=../$$up; done; \
+	tools/package/names '$(DESTDIR)$(libdir)' "$$up$${to#"$$from"}" $(SONAME); \
+	[ -n '$(SHARED)' ] || rm '$(DESTDIR)$(libdir)/pkgconfig/peachanchor-shared.pc'
+	$(INSTALL) -m 644 tools/package/tlsf-gdb.py '$(DESTDIR)$(datadir)/gdb'
+	$(INSTALL) -m 644 $(DOCS) '$(DESTDIR)$(docdir)'
+	@[ ! -f $(BUILD)/tlsf ] || { $(INSTALL) -d '$(DESTDIR)$(bindir)' '$(DESTDIR)$(mandir)/man1' && \
+		$(INSTALL) -m 755 $(BUILD)/tlsf '$(DESTDIR)$(bindir)/tlsf' && { tools/package/man.py '$(DESTDIR)$(mandir)/man1' || \
+		echo "no man pages are put there: these need python3 from 3.11 on" >&2; }; }
+
+# The files that an install puts there, and folders of its own that then are empty.
+uninstall:
+	@rm -rf $(BUILD)/root && $(MAKE) install DESTDIR=$(BUILD)/root/ > $(BUILD)/log
+	@to='$(DESTDIR)'; case '$(PREFIX)' in /*) to=$$to/ ;; esac; \
+	(cd $(BUILD)/root && find . ! -type d) | while read -r it; do echo "rm $$to$${it#./}"; rm -f "$$to$${it#./}"; done; \
+	(cd $(BUILD)/root && find . -depth -type d '(' -name peachanchor -o -name tlsf ')') | while read -r it; do rmdir "$$to$${it#./}" || :; done
+
+deb: all
+	tools/deb $(BUILD)
+
+# The repository is the release.
+release: ALWAYS
+	@mkdir -p $(BUILD); name=peachanchor-$$(tools/package/names --version) && \
+	git archive --prefix=$$name/ -o $(BUILD)/$$name.tar.gz HEAD && sha256sum $(BUILD)/$$name.tar.gz
+
+prove:
+	./test
+
+try:
+	@mkdir -p $(BUILD)/try
+	tools/unproved program $(BUILD)/try/tlsf
+
+clean:
+	rm -rf $(BUILD)
+
+help:
+	@sed -n '1,/^$$/s/^# \{0,1\}//p' Makefile
+
+.PHONY: all check install uninstall deb release prove try clean help ALWAYS
