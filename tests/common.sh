@@ -14,7 +14,7 @@ stop() {
 }
 cc=${cc:-cc}
 command -v "${cc%% *}" > /dev/null || stop "${cc%% *} is wanted, and isn't on the path"
-. "$top/tools/library.sh"
+soname=$(sed -n 's/^SONAME = //p' "$top/Makefile") version=$("$top/tools/package/names" --version)
 work=$(mktemp -d) || exit 2
 trap 'rm -rf "$work"' EXIT
 trap 'exit 130' INT
