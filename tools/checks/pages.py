@@ -49,8 +49,8 @@ LINE_START = re.compile(r"\s*\n\s*(?:\*|//!?)?\s*")
 # A trace beside its replies: the columns of its lines, and of the reply lines.
 TRACE_BLOCK = re.compile(r"```text\n(tlsf 1 2 64 4 .*?)\n```", re.S)
 LINES, REPLIES = slice(0, 22), slice(22, 54)
-# What `rt` and the launcher make, which no checkout has before they ran.
-MADE = re.compile(r"(^|/)(out|\.git)(/|$)")
+# What `rt` and make write, which no checkout has before they ran.
+MADE = re.compile(r"(^|/)(out|build|\.git)(/|$)")
 
 
 def slug(heading):
