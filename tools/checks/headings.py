@@ -1,6 +1,6 @@
 """A heading that a script, a program's text, a comment or a page names in quotes
-beside its page is one of that page: as in README.md, 'Quick start', or under
-'Use it' in docs/C.md. CHANGELOG.md isn't read, since it speaks of older pages."""
+beside its page is one of that page: as in README.md, 'From C', or under 'Use
+it' in docs/C.md. CHANGELOG.md isn't read, since it speaks of older pages."""
 import functools
 import re
 
