@@ -1,6 +1,6 @@
-/* What the program tlsf calls of the toolchain's own C functions, over the C library of Linux. The toolchain has these for x86-64
- * alone, in libos_c.a and liblibc_c.a. So with this the program's object file links on each processor that it is for, also as one
- * static file: `cc -static tlsf.o c/os.c`. All else that it calls is the C library's own.
+/* What the program tlsf calls of the toolchain's own C functions, over the C library of Linux. The toolchain has these in libos_c.a and
+ * liblibc_c.a. With this a C compiler links the program without them: `cc dist/program-x86_64.s c/os.c -pthread`. All else that it calls
+ * is the C library's own.
  *
  * The proofs rest on their contracts:
  * - alloc is asked for less than 2^63 bytes, aligned to 1, 2, 4, 8 or 16. Where it answers 1, so many bytes lie at `at`, so
