@@ -3,8 +3,8 @@
 
 Writes the notices of the toolchain's libraries on which C's library or the
 program stands to standard output, as the toolchain states them: each licence
-that lies in the folder of a ported crate there, word by word. tools/package has
-what this wrote as NOTICES, and tests/package_test compares the two. Needs rt.
+that lies in the folder of a ported crate there, word by word. dist/NOTICES is
+what this wrote, and tests/package_test compares the two. Needs rt.
 """
 import pathlib
 import re
