@@ -1,7 +1,8 @@
 //! Says where the library lies. That is the first of these:
 //!
-//! 1. `lib` of the folder in `PEACHANCHOR_PREFIX`, which `./library` or `make install` made;
-//! 2. an archive that the C compiler makes here of `asm`, which this crate has in a release;
+//! 1. `lib` of the folder in `PEACHANCHOR_PREFIX`, which `make install` made;
+//! 2. an archive that the C compiler makes here of the assembly: `asm` of a published crate, or `dist` of the repository, also
+//!    where cargo took that by git;
 //! 3. where pkg-config knows `peachanchor`, or `tlsf`, its name until version 0.5.
 
 use std::path::Path;
@@ -18,13 +19,13 @@ fn main() {
     };
     let folder = if let Some(prefix) = told("PEACHANCHOR_PREFIX") {
         format!("{prefix}/lib")
-    } else if Path::new("asm/tlsf.S").exists() {
-        assemble(archive, takes_malloc)
+    } else if let Some(sources) = sources() {
+        assemble(sources, archive, takes_malloc)
     } else {
         println!("cargo:rerun-if-env-changed=PKG_CONFIG_PATH");
         packages.into_iter().find_map(folder_of).unwrap_or_else(|| {
             stop(&format!(
-                "set PEACHANCHOR_PREFIX to the folder with lib/lib{archive}.a that ./library made, or take this crate from a release"
+                "set PEACHANCHOR_PREFIX to the folder with lib/lib{archive}.a that `make install` made, or take this crate from its repository"
             ))
         })
     };
@@ -81,9 +82,14 @@ fn macros() -> Option<String> {
     (said("CARGO_CFG_TARGET_POINTER_WIDTH") == "64").then(|| own.to_owned())
 }
 
-/// Makes the archive of asm/ for this target. Its folder.
-fn assemble(archive: &str, takes_malloc: bool) -> String {
-    println!("cargo:rerun-if-changed=asm");
+/// The folder of the assembly, where there is one.
+fn sources() -> Option<&'static str> {
+    ["asm", "../../../dist"].into_iter().find(|it| Path::new(it).join("tlsf.S").exists())
+}
+
+/// Makes the archive for this target, of the assembly in a folder. Its own folder.
+fn assemble(sources: &str, archive: &str, takes_malloc: bool) -> String {
+    println!("cargo:rerun-if-changed={sources}");
     let (target, out) = (said("TARGET"), said("OUT_DIR"));
     let own = macros().unwrap_or_else(|| {
         stop(&format!("there is no assembly for {target}; PEACHANCHOR_PREFIX may say where lib/lib{archive}.a is"))
@@ -93,7 +99,7 @@ fn assemble(archive: &str, takes_malloc: bool) -> String {
     let words: Vec<_> = told.split_whitespace().chain(flags.split_whitespace()).collect();
     let wrong = format!("{told} is for another target: set CC_{} to a C compiler", target.replace('-', "_"));
     let source = format!(
-        "#if !({own})\n#error \"{wrong} for {target}\"\n#else\n#include \"{}/asm/tlsf.S\"\n#endif\n",
+        "#if !({own})\n#error \"{wrong} for {target}\"\n#else\n#include \"{}/{sources}/tlsf.S\"\n#endif\n",
         said("CARGO_MANIFEST_DIR").replace('\\', "/")
     );
     let (file, object, to) = (format!("{out}/whole.S"), format!("{out}/tlsf.o"), format!("{out}/lib{archive}.a"));

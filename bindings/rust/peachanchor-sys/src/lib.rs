@@ -4,8 +4,8 @@
 //! call over `proved::tlsf_release`, which `by_name.rs` has in Rust. The calls by pointer are the archive's own.
 //!
 //! `libpeachanchor.a` is taken from `$PEACHANCHOR_PREFIX/lib`. Without that variable the C compiler makes it of the assembly in
-//! this crate, which a release has, or pkg-config says where it is. Without the feature `malloc` it is
-//! `libpeachanchor_nomalloc.a`.
+//! the repository, or in this crate where it was published. Where neither is there, pkg-config says where it is. Without the
+//! feature `malloc` it is `libpeachanchor_nomalloc.a`.
 //!
 //! Each function here is unsafe, as C is. Its caller keeps the rules of `peachanchor.h`. A body passes pointers on to calls
 //! that have the same rules.
