@@ -71,6 +71,15 @@ notices() {
     ! "$@"
 }
 
+# as_it_stands FOLDER: makes it a repository of one commit, which has the files that git knows here, as they stand. Hooks and other
+# habits of this user's git have no part in it.
+as_it_stands() (
+    cd "$top" && git init -q --bare "$1" && export GIT_COMMITTER_NAME=test GIT_COMMITTER_EMAIL=test GIT_AUTHOR_NAME=test GIT_AUTHOR_EMAIL=test &&
+        git -c safe.directory='*' ls-files -z | git --git-dir="$1" --work-tree=. -c core.autocrlf=false -c core.fsync=none \
+            update-index -z --add --remove --stdin &&
+        cd "$1" && git update-ref HEAD "$(git write-tree | xargs git commit-tree -m "as it stands")"
+)
+
 # has WHAT TOOL..: whether these are there; else a line says what isn't tried.
 has() {
     tried=$1
