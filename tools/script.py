@@ -55,9 +55,10 @@ def stop(text):
 
 
 def lacks(*tools):
-    """What is said of those tools that aren't there, in the words of tools/program.sh: nothing where all are."""
-    words = ["sh", "-c", 'top=$0 && . "$0/tools/program.sh" && lacking "$@"', TOP, "it", *tools]
-    return "" if all(map(shutil.which, tools)) else subprocess.run(words, stdout=subprocess.PIPE, text=True, check=False).stdout.strip()
+    """What is said of those tools that aren't there: nothing where all are."""
+    absent = [it for it in dict.fromkeys(tools) if not shutil.which(it)]
+    leads = "; README.md, 'Where rt comes from', says more" if "rt" in absent else ""
+    return f"{', '.join(absent)}, which it needs, {'are' if absent[1:] else 'is'} not on the path{leads}" if absent else ""
 
 
 def need(*tools):
@@ -67,12 +68,20 @@ def need(*tools):
 
 @functools.cache
 def program(named=None):
-    """The path of the program: that which is named, or else the proved one of this tree, built first where need be."""
+    """The path of the program: that which is named, or else that of what is proved, which ./tlsf builds where need be."""
     named = named or os.environ.get("TLSF")
     if named:
         return str(pathlib.Path(named).resolve()) if os.access(named, os.X_OK) else stop(f"{named} isn't there, or can't be run")
-    done = subprocess.run([TOP / "tlsf", "--program"], stdout=subprocess.PIPE, text=True, check=False)
-    return done.stdout.strip() if done.returncode == 0 else stop("the program isn't built, and none is named")
+    done = subprocess.run([TOP / "tlsf", "--version"], stdout=subprocess.DEVNULL, check=False)
+    return str(TOP / "build" / "tlsf") if done.returncode == 0 else stop("the program isn't built, and none is named")
+
+
+def library(folder, named=None):
+    """The folder that has C's library: that which is named, or else one into which make puts it, with what it builds beside it."""
+    words = ["make", "-s", "-C", TOP, "install", f"BUILD={folder}/build", f"PREFIX={folder}"]
+    if not named and subprocess.run(words, stdout=sys.stderr, check=False).returncode:
+        stop("the library isn't built, and none is named")
+    return str(named or folder)
 
 
 def tlsf(*given, text="", status=0):

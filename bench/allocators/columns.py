@@ -6,7 +6,7 @@ import sys
 import typing
 
 from allocators import mattconte
-from script import TOP, TUNABLES, stop
+from script import TOP, TUNABLES, library, stop
 
 FLAGS = ["-std=gnu11", "-O2", "-Wall", "-Wextra", "-Wl,-z,now", "-pthread"]
 FIFO = 5
@@ -59,9 +59,7 @@ class Built:
 
     def __init__(self, work, options, programs):
         self.work, self.is_fifo = pathlib.Path(work), options.fifo
-        self.prefix = pathlib.Path(options.library or work)
-        if not options.library and subprocess.run([TOP / "library", work], stdout=sys.stderr, check=False).returncode:
-            stop("the library isn't built")
+        self.prefix = pathlib.Path(library(work, options.library))
         self.peers = pathlib.Path(options.peers or work).resolve()
         wanted = options.columns
         if not options.peers and set(wanted) - {*OURS, *GUARDED, "magazine", "malloc"}:
