@@ -2,7 +2,7 @@
 # Words are split on purpose.
 # shellcheck disable=SC2086
 
-# Proves and builds the library in a copy of this repository, and keeps the LLVM module that it is compiled from.
+# Proves the library in a copy of this repository, and keeps the LLVM module that it is compiled from.
 build_keeping_module() {
     tree=$1
     kit=$(rt doc) && kit=${kit%/START-HERE.md} || return 1
@@ -59,7 +59,7 @@ with_sanitizers() {
 linked_with() { # linked_with TO KIND OBJECT FILE [FLAG..]
     to=$1 kind=$2 object=$3
     shift 3
-    tools/prove memory "$top" "$work/memory.o" &&
+    compile_c memory "$work/memory.o" &&
         gcc -O1 -g "-fsanitize=$kind" -I"$prefix/include" "$@" "$object" "$work/memory.o" -pthread -o "$to"
 }
 
@@ -103,14 +103,12 @@ turned_round() {
     tail -n 1 "$work/out" >&2
 }
 
-take_long() { # take_long TREE
+take_long() {
     many_calls
     with_sanitizers
     with_thread_checks
     long_outer_programs
     beside_archive --long
     turned_round
-    has "the library for aarch64" qemu-aarch64 "$arm-gcc" "$arm-g++" || return
-    holds "a proof of the library for aarch64" tools/prove archive "$1" "$work/libtlsf_arm.a" "$arm_target"
-    ! put_for_aarch64 "$work/libtlsf_arm.a" || long_for_aarch64
+    ! put_for_aarch64 || long_for_aarch64
 }
