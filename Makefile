@@ -98,12 +98,13 @@ $(BUILD)/program: dist/program-x86_64.s c/os.c $(BUILD)/flags
 # What is tried is an install of it.
 check: all
 	@command -v sha256sum > /dev/null || { echo "sha256sum isn't there, so sums aren't compared" >&2; exit 0; }; \
-	sed -n '/^[0-9a-f]\{64\}  /p' dist/MANIFEST | (cd dist && sha256sum -c > ../$(BUILD)/sums) || { grep -v ': OK$$' $(BUILD)/sums; exit 1; }
-	@$(MAKE) -s install DESTDIR= PREFIX="$$PWD/$(BUILD)/installed"
-	@CC='$(CC)' CXX='$(CXX)' RUN='$(RUN)' STATES='$(STATES)' BRIEF='$(BRIEF)' tests/library_test --check $(BUILD)/installed; status=$$?; \
-	if [ ! -f $(BUILD)/tlsf ]; then echo "the program is for x86-64 Linux with glibc, so here the library alone is tried" >&2; \
-	elif ! python3 -c 'import tomllib' 2> /dev/null; then echo "python3 from 3.11 on isn't there, so the program isn't tried" >&2; \
-	else RUN='$(RUN)' tests/program_test --cases $(BUILD)/tlsf || status=1; fi; exit $$status
+	sed -n '/^[0-9a-f]\{64\}  /p' dist/MANIFEST | (cd dist && sha256sum -c) > $(BUILD)/sums || { grep -v ': OK$$' $(BUILD)/sums; exit 1; }
+	@$(MAKE) -s install DESTDIR= PREFIX="$$(cd $(BUILD) && pwd)/installed"
+	@why=; if [ ! -f $(BUILD)/tlsf ]; then why="the program is for x86-64 Linux with glibc"; \
+	elif ! python3 -c 'import tomllib' 2> /dev/null; then why="to try the program takes python3 from 3.11 on"; fi; \
+	[ -z "$$why" ] || echo "$$why, so the library alone is tried" >&2; \
+	CC='$(CC)' CXX='$(CXX)' RUN='$(RUN)' STATES='$(STATES)' BRIEF='$(BRIEF)' tests/library_test --check $(BUILD)/installed; status=$$?; \
+	[ -n "$$why" ] || RUN='$(RUN)' tests/program_test --cases $(BUILD)/tlsf || status=1; exit $$status
 
 # Man pages are made of the stored helps.
 install: all
