@@ -90,8 +90,8 @@ $(BUILD)/lib/names: tools/package/names tools/package/*.pc tools/package/*.cmake
 # Other C libraries than glibc aren't known to give it its words, so there the library alone is built.
 $(BUILD)/program: dist/program-x86_64.s c/os.c $(BUILD)/flags
 	@rm -f $(BUILD)/tlsf
-	@printf '#include <stdlib.h>\n#if defined(__x86_64__) && defined(__LP64__) && defined(__GLIBC__)\nserved\n#endif\n' | \
-		$(CC) $(CPPFLAGS) $(CFLAGS) -E - | grep -qx served || exit 0; set -x; \
+	printf '#include <stdlib.h>\n#if defined(__x86_64__) && defined(__LP64__) && defined(__GLIBC__)\nserved\n#endif\n' | \
+		$(CC) $(CPPFLAGS) $(CFLAGS) -E - | grep -qx served || exit 0; \
 	$(CC) $(CPPFLAGS) $(CFLAGS) $(LDFLAGS) -O1 dist/program-x86_64.s c/os.c -pthread -o $(BUILD)/tlsf
 	@touch $@
 
