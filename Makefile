@@ -136,6 +136,7 @@ deb: all
 
 # The repository is the release.
 release: ALWAYS
+	@git diff --quiet HEAD || echo "changes that aren't committed are left out" >&2
 	@mkdir -p $(BUILD); name=peachanchor-$$(tools/package/names --version) && \
 	git archive --prefix=$$name/ -o $(BUILD)/$$name.tar.gz HEAD && sha256sum $(BUILD)/$$name.tar.gz
 
