@@ -50,7 +50,7 @@ mandir = $(datadir)/man
 SONAME = libpeachanchor.so.3
 SHARED = $(BUILD)/lib/$(SONAME)
 ARCHIVES = $(BUILD)/lib/libpeachanchor.a $(BUILD)/lib/libpeachanchor_nomalloc.a
-DOCS = README.md CHANGELOG.md LICENSE-MIT LICENSE-APACHE dist/LICENCES dist/NOTICES dist/MANIFEST
+DOCS = README.md CHANGELOG.md LICENSE-MIT LICENSE-APACHE dist/NOTICES dist/MANIFEST
 
 all: $(ARCHIVES) $(SHARED) $(BUILD)/lib/names $(BUILD)/program
 
@@ -61,13 +61,13 @@ $(BUILD)/flags: ALWAYS
 	if cmp -s $@.$$$$ $@; then rm $@.$$$$; else mv $@.$$$$ $@; fi
 ALWAYS:
 
-$(BUILD)/calls.o: dist/tlsf.S dist/calls-*.s dist/c-*.s $(BUILD)/flags
+$(BUILD)/calls.o: dist/tlsf.S dist/library-*.s $(BUILD)/flags
 	$(CC) $(CPPFLAGS) $(CFLAGS) -DTLSF_ONLY_CALLS -c dist/tlsf.S -o $@
 
-$(BUILD)/memory.o: dist/tlsf.S dist/c-*.s $(BUILD)/flags
+$(BUILD)/memory.o: dist/tlsf.S dist/library-*.s $(BUILD)/flags
 	$(CC) $(CPPFLAGS) $(CFLAGS) -DTLSF_ONLY_MEMORY -c dist/tlsf.S -o $@
 
-$(BUILD)/memory_nomalloc.o: dist/tlsf.S dist/c-*.s $(BUILD)/flags
+$(BUILD)/memory_nomalloc.o: dist/tlsf.S dist/library-*.s $(BUILD)/flags
 	$(CC) $(CPPFLAGS) $(CFLAGS) -DTLSF_ONLY_MEMORY -DTLSF_NO_MALLOC -c dist/tlsf.S -o $@
 
 $(BUILD)/lib/libpeachanchor.a: $(BUILD)/calls.o $(BUILD)/memory.o

@@ -30,9 +30,6 @@
 
 #ifdef TLSF_PORT
 #define TLSF_TEXT(name) #name
-#define TLSF_FILE(kind, port) TLSF_TEXT(kind-port.s)
-#ifndef TLSF_ONLY_MEMORY
-#include TLSF_FILE(calls, TLSF_PORT)
-#endif
-#include TLSF_FILE(c, TLSF_PORT)
+#define TLSF_FILE(port) TLSF_TEXT(library-port.s)
+#include TLSF_FILE(TLSF_PORT)
 #endif

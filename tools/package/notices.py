@@ -15,12 +15,24 @@ sys.path.insert(0, str(pathlib.Path(__file__).resolve().parent.parent))
 import tree
 
 LINE = "-" * 80
-HEAD = """Peachanchor may be used, at your option, by LICENSE-MIT or by LICENSE-APACHE.
+HEAD = """What is written in the repository of Peachanchor is under the MIT licence or under
+the Apache License 2.0, at your option: LICENSE-MIT, LICENSE-APACHE. That is all
+that a person wrote here: headers, C, C++, Rust, tests, scripts, pages, and the
+sources with their contracts and proofs.
 
-The libraries libpeachanchor.a, libpeachanchor_nomalloc.a and libpeachanchor.so, and the program
-tlsf, are built by the toolchain Rattle over libraries that it brings. Some of
-these are ported from Rust crates, or follow them. Here are their notices, as they
-lie in the toolchain. The text of the Apache License 2.0 is LICENSE-APACHE.
+What a compiler made is another matter: dist/*.s, and what you build of these. The
+toolchain Rattle made them over libraries that it brings, and code of those is in
+them.
+
+- Ports of Rust crates: rtrb, crossbeam_queue and others. Their licences stand
+  below, word by word. All are MIT, some also Apache License 2.0.
+- Libraries of the toolchain's own. It states no licence of them, nor of itself.
+  They are named near the end. Of these core follows other work, under the
+  Unlicense and the Unicode License v3 too.
+
+So nothing here says under which terms the toolchain's own may be passed on. Whoever
+publishes a build of dist/ settles that with the makers of the toolchain first.
+Whoever got one asks the one who published it.
 """
 OWN = """
 Of its other libraries the toolchain states no licence. Those on which the ones

@@ -1,9 +1,10 @@
 # find_package(peachanchor CONFIG), then target_link_libraries(... peachanchor::peachanchor); peachanchor::nomalloc in a program with
-# no malloc; peachanchor::shared for the shared library
+# no malloc; peachanchor::shared for the shared library. find_package(tlsf CONFIG) finds the same, and tlsf::tlsf and
+# tlsf::tlsf_nomalloc, the names until version 0.5.
 get_filename_component(peachanchor_lib "${CMAKE_CURRENT_LIST_DIR}/../.." ABSOLUTE)
 if(NOT EXISTS "${peachanchor_lib}/libpeachanchor.a")
-  set(peachanchor_FOUND FALSE)
-  set(peachanchor_NOT_FOUND_MESSAGE "${peachanchor_lib}/libpeachanchor.a isn't built: type make there first")
+  set(${CMAKE_FIND_PACKAGE_NAME}_FOUND FALSE)
+  set(${CMAKE_FIND_PACKAGE_NAME}_NOT_FOUND_MESSAGE "${peachanchor_lib}/libpeachanchor.a isn't built: type make there first")
 elseif(NOT TARGET peachanchor::peachanchor)
   get_filename_component(peachanchor_include "${peachanchor_lib}/@INCLUDE@" ABSOLUTE)
   add_library(peachanchor::peachanchor STATIC IMPORTED)
@@ -25,6 +26,10 @@ elseif(NOT TARGET peachanchor::peachanchor)
   set_target_properties(${peachanchor_all} PROPERTIES
     IMPORTED_LINK_INTERFACE_LANGUAGES C
     INTERFACE_INCLUDE_DIRECTORIES "${peachanchor_include}")
+  add_library(tlsf::tlsf INTERFACE IMPORTED)
+  set_target_properties(tlsf::tlsf PROPERTIES INTERFACE_LINK_LIBRARIES peachanchor::peachanchor)
+  add_library(tlsf::tlsf_nomalloc INTERFACE IMPORTED)
+  set_target_properties(tlsf::tlsf_nomalloc PROPERTIES INTERFACE_LINK_LIBRARIES peachanchor::nomalloc)
   unset(peachanchor_all)
   unset(peachanchor_include)
 endif()

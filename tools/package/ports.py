@@ -1,19 +1,12 @@
-#!/usr/bin/env python3
-"""usage: tools/package/ports.py CLANG X86_64.ll AARCH64.ll FOLDER
+"""Lowers the library for processors and systems that no verdict of the checker
+names, riscv64, Windows and macOS, and compiles what is C of it: c/pointers.c, and
+c/memory.c with malloc, without, and for no system. tools/dist calls this.
 
-Writes into FOLDER the library as assembly for processors and systems that no
-verdict of the checker names, riscv64, Windows and macOS; and for these and for
-x86-64 and aarch64 c/pointers.c, and c/memory.c with malloc, without, and for no
-system. The two files are the LLVM modules that the proved library is made of,
-and CLANG is the toolchain's.
-
-Only what a target has for itself is changed in a module: its layout, what names
-a processor, how C extends a result of 32 bits, and on Windows the convention of
-calls that are given or answer a pair. Then each call's result and arguments
-have to be those that CLANG gives it by peachanchor.h or c/memory.c for that target.
-
-The exit status is 0 where all is written, 1 where something can't be, which a
-line on standard error says, and 2 where the words are others.
+Only what a target has for itself is changed in an LLVM module of the proved
+library: its layout, what names a processor, how C extends a result of 32 bits,
+and on Windows the convention of calls that are given or answer a pair. Then each
+call's result and arguments have to be those that the toolchain's clang gives it
+by peachanchor.h or c/memory.c for that target.
 """
 import dataclasses
 import pathlib
@@ -26,7 +19,6 @@ TOP = pathlib.Path(__file__).resolve().parent.parent.parent
 sys.dont_write_bytecode = True
 sys.path.insert(0, str(TOP / "tools"))
 import calls
-import script
 
 # Lines of LLVM's that GNU's assembler or an older one doesn't know, or that say nothing.
 DROPPED = re.compile(
@@ -41,10 +33,11 @@ QUOTED = re.compile(r'"([^"\n]*::[^"\n]*)"')
 SAID = re.compile(r'^\t\.def\t@feat\.00;\n(?:.*\n)*?@feat\.00 = .*\n|^\t\.section\t\.debug\$S,"dr"\n(?:(?!\t\.section).*\n)*', re.M)
 # How the library's files of C are compiled, by no header but those of put_headers.
 OF_C = ["-std=c11", "-O2", "-fPIC", "-ffreestanding", "-nostdinc", "-fno-stack-protector", "-fasynchronous-unwind-tables"]
-# What asks for each file of C, by tlsf.S, and the flags by which it is compiled.
-OF_KINDS = (
-    ("#ifndef TLSF_ONLY_MEMORY", "pointers.c", []),
-    ("#endif\n#ifdef TLSF_ONLY_CALLS\n#elif defined(TLSF_NO_TLS)", "memory.c", ["-DTLSF_NO_MALLOC", "-DTLSF_NO_TLS"]),
+# What stands before the calls, which dist/tlsf.S leads to; and before each file of C, with the flags by which that is compiled.
+BEFORE_CALLS = "#ifndef TLSF_ONLY_MEMORY\n/* The calls in Rattle. */\n"
+BEFORE_C = (
+    ("/* The calls in C: c/pointers.c. */", "pointers.c", []),
+    ("#endif\n/* c/memory.c */\n#ifdef TLSF_ONLY_CALLS\n#elif defined(TLSF_NO_TLS)", "memory.c", ["-DTLSF_NO_MALLOC", "-DTLSF_NO_TLS"]),
     ("#elif defined(TLSF_NO_MALLOC)", "memory.c", ["-DTLSF_NO_MALLOC"]),
     ("#else", "memory.c", []),
 )
@@ -226,27 +219,14 @@ def held_module(clang, name, port, text):
     return module
 
 
-def write(clang, modules, folder_of_c, folder):
-    """Writes the calls of all ports into a folder, and for these and for what is proved c/memory.c and c/pointers.c. `modules` has the files
-    of the two modules by their processors."""
-    folder.mkdir(parents=True, exist_ok=True)
-    for name, port in PORTS.items():
-        module = held_module(clang, name, port, modules[port.module].read_text(encoding="utf-8"))
-        (folder / f"calls-{name}.s").write_text(calls_text(clang, port, module), encoding="utf-8")
+def write(clang, proved, folder):
+    """Writes the library for each target into a folder. `proved` has by its processor the folder where the toolchain left the assembly and
+    the module of the proved library."""
     for name, port in (PROVED | PORTS).items():
-        parts = [f"{asked}\n{text_of_c(clang, folder_of_c / file, port.target, [*port.flags, *flags])}" for asked, file, flags in OF_KINDS]
-        (folder / f"c-{name}.s").write_text("".join([*parts, "#endif\n"]), encoding="utf-8")
-
-
-def main(words):
-    clang, first, second, folder = map(pathlib.Path, words)
-    try:
-        write(clang, {"x86_64": first, "aarch64": second}, TOP / "c", folder)
-    except (Failed, OSError) as why:
-        print(f"ports: {why}", file=sys.stderr)
-        return 1
-    return 0
-
-
-if __name__ == "__main__":
-    sys.exit(main(script.words(__doc__, lambda it: len(it) == 4)))
+        if name in PROVED:
+            calls_of_it = portable((proved[name] / "module.s").read_text(encoding="utf-8"))
+        else:
+            module = held_module(clang, name, port, (proved[port.module] / "module.ll").read_text(encoding="utf-8"))
+            calls_of_it = calls_text(clang, port, module)
+        of_c = [f"{it}\n{text_of_c(clang, TOP / 'c' / file, port.target, [*port.flags, *flags])}" for it, file, flags in BEFORE_C]
+        (folder / f"library-{name}.s").write_text("".join([BEFORE_CALLS, calls_of_it, *of_c, "#endif\n"]), encoding="utf-8")
