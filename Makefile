@@ -134,11 +134,11 @@ uninstall:
 deb: all
 	tools/deb $(BUILD)
 
-# The repository is the release.
+# The repository is the release. Its bytes don't follow a user's umask.
 release: ALWAYS
 	@git diff --quiet HEAD || echo "changes that aren't committed are left out" >&2
 	@mkdir -p $(BUILD); name=peachanchor-$$(tools/package/names --version) && \
-	git archive --prefix=$$name/ -o $(BUILD)/$$name.tar.gz HEAD && sha256sum $(BUILD)/$$name.tar.gz
+	git -c tar.umask=0022 archive --prefix=$$name/ -o $(BUILD)/$$name.tar.gz HEAD && sha256sum $(BUILD)/$$name.tar.gz
 
 prove:
 	./test
