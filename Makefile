@@ -81,7 +81,7 @@ $(BUILD)/lib/$(SONAME): $(BUILD)/calls.o $(BUILD)/memory.o c/exports.map
 		echo "the shared library is for ELF alone: give make SHARED= besides" >&2; exit 1 ;; esac
 	$(CC) $(CFLAGS) $(LDFLAGS) -shared -Wl,-soname,$(SONAME),--version-script,c/exports.map,-Bsymbolic,-z,relro,-z,now,--build-id \
 		-o $@ $(BUILD)/calls.o $(BUILD)/memory.o
-	ln -sf $(SONAME) $(BUILD)/lib/libpeachanchor.so
+	ln -f $@ $(BUILD)/lib/libpeachanchor.so
 
 # What pkg-config and CMake read of this folder.
 $(BUILD)/lib/names: tools/package/names tools/package/*.pc tools/package/*.cmake include/peachanchor.h
@@ -99,11 +99,12 @@ $(BUILD)/program: dist/program-x86_64.s c/os.c $(BUILD)/flags
 check: all
 	@command -v sha256sum > /dev/null || { echo "sha256sum isn't there, so sums aren't compared" >&2; exit 0; }; \
 	sed -n '/^[0-9a-f]\{64\}  /p' dist/MANIFEST | (cd dist && sha256sum -c) > $(BUILD)/sums || { grep -v ': OK$$' $(BUILD)/sums; exit 1; }
-	@$(MAKE) -s install DESTDIR= PREFIX="$$(cd $(BUILD) && pwd)/installed"
-	@why=; if [ ! -f $(BUILD)/tlsf ]; then why="the program is for x86-64 Linux with glibc"; \
+	@to=$$(mktemp -d) || exit 1; trap 'rm -rf "$$to"' EXIT; trap 'exit 130' INT; trap 'exit 143' HUP TERM; \
+	$(MAKE) -s install DESTDIR= PREFIX="$$to" || exit 1; \
+	why=; if [ ! -f $(BUILD)/tlsf ]; then why="the program is for x86-64 Linux with glibc"; \
 	elif ! python3 -c 'import tomllib' 2> /dev/null; then why="to try the program takes python3 from 3.11 on"; fi; \
 	[ -z "$$why" ] || echo "$$why, so the library alone is tried" >&2; \
-	CC='$(CC)' CXX='$(CXX)' RUN='$(RUN)' STATES='$(STATES)' BRIEF='$(BRIEF)' tests/library_test --check $(BUILD)/installed; status=$$?; \
+	CC='$(CC)' CXX='$(CXX)' RUN='$(RUN)' STATES='$(STATES)' BRIEF='$(BRIEF)' tests/library_test --check "$$to"; status=$$?; \
 	[ -n "$$why" ] || RUN='$(RUN)' tests/program_test --cases $(BUILD)/tlsf || status=1; exit $$status
 
 # Man pages are made of the stored helps.
@@ -126,10 +127,11 @@ install: all
 
 # The files that an install puts there, and folders of its own that then are empty.
 uninstall:
-	@rm -rf $(BUILD)/root && $(MAKE) install DESTDIR=$(BUILD)/root/ > $(BUILD)/log
+	@rm -rf $(BUILD)/root; $(MAKE) install DESTDIR=$(BUILD)/root/ > $(BUILD)/log
 	@to='$(DESTDIR)'; case '$(PREFIX)' in /*) to=$$to/ ;; esac; \
 	(cd $(BUILD)/root && find . ! -type d) | while read -r it; do echo "rm $$to$${it#./}"; rm -f "$$to$${it#./}"; done; \
-	(cd $(BUILD)/root && find . -depth -type d '(' -name peachanchor -o -name tlsf ')') | while read -r it; do rmdir "$$to$${it#./}" || :; done
+	(cd $(BUILD)/root && find . -depth -type d '(' -name peachanchor -o -name tlsf ')') | while read -r it; do rmdir "$$to$${it#./}" || :; done; \
+	rm -r $(BUILD)/root
 
 deb: all
 	tools/deb $(BUILD)

@@ -6,7 +6,7 @@
 build_keeping_module() {
     tree=$1
     kit=$(rt doc) && kit=${kit%/START-HERE.md} || return 1
-    tools/prove archive "$tree" "$work/libtlsf_c.a" > "$work/lib.log" 2>&1 && [ -s "$work/libtlsf_c.a.toolchain/module.ll" ] && return
+    tools/prove archive "$tree" "$work/libtlsf_c.a" > "$work/lib.log" 2>&1 && [ -s "$work/libtlsf_c.a.ll" ] && return
     tail -n 5 "$work/lib.log" >&2
     return 1
 }
@@ -16,7 +16,7 @@ sanitized() {
     kind=$1 object=$2
     shift 2
     sed -E "s/^(attributes #[0-9]+ = \{)/\1 sanitize_$kind/; /^define /{/#[0-9]+ \{\$/! s/ \{\$/ sanitize_$kind {/}" \
-        "$work/libtlsf_c.a.toolchain/module.ll" > "$work/checked.ll" &&
+        "$work/libtlsf_c.a.ll" > "$work/checked.ll" &&
         "$kit/toolchain/bin/clang" --target=x86_64-unknown-linux-gnu -O1 -g -fPIC "-fsanitize=$kind" "$@" \
             -x ir -c "$work/checked.ll" -o "$object" || return 1
     # gcc's runtime of TSan has the C library's names for these.

@@ -220,13 +220,13 @@ def held_module(clang, name, port, text):
 
 
 def write(clang, proved, folder):
-    """Writes the library for each target into a folder. `proved` has by its processor the folder where the toolchain left the assembly and
-    the module of the proved library."""
+    """Writes the library for each target into a folder. `proved` has by its processor the proved archive, beside which tools/prove left the
+    assembly and the module."""
     for name, port in (PROVED | PORTS).items():
         if name in PROVED:
-            calls_of_it = portable((proved[name] / "module.s").read_text(encoding="utf-8"))
+            calls_of_it = portable(pathlib.Path(f"{proved[name]}.s").read_text(encoding="utf-8"))
         else:
-            module = held_module(clang, name, port, (proved[port.module] / "module.ll").read_text(encoding="utf-8"))
+            module = held_module(clang, name, port, pathlib.Path(f"{proved[port.module]}.ll").read_text(encoding="utf-8"))
             calls_of_it = calls_text(clang, port, module)
         of_c = [f"{it}\n{text_of_c(clang, TOP / 'c' / file, port.target, [*port.flags, *flags])}" for it, file, flags in BEFORE_C]
         (folder / f"library-{name}.s").write_text("".join([BEFORE_CALLS, calls_of_it, *of_c, "#endif\n"]), encoding="utf-8")
