@@ -57,8 +57,9 @@ all: $(ARCHIVES) $(SHARED) $(BUILD)/lib/names $(BUILD)/program
 # What a command left that failed isn't taken, and neither is what another compiler or other flags made.
 .DELETE_ON_ERROR:
 $(BUILD)/flags: ALWAYS
-	@mkdir -p $(BUILD)/lib; echo '$(CC) $(CPPFLAGS) $(CFLAGS) $(LDFLAGS)' > $@.$$$$; \
-	if cmp -s $@.$$$$ $@; then rm $@.$$$$; else mv $@.$$$$ $@; fi
+	@set -- $(CC); command -v "$$1" > /dev/null || { echo "$$1, which builds all, isn't on the path: install a C compiler, or set CC" >&2; exit 1; }
+	@mkdir -p $(BUILD)/lib; told='$(CC) $(CPPFLAGS) $(CFLAGS) $(LDFLAGS)'; \
+	echo "$$told" | cmp -s - $@ || { echo "$$told" > $@.$$$$ && mv $@.$$$$ $@; }
 ALWAYS:
 
 $(BUILD)/calls.o: dist/tlsf.S dist/library-*.s $(BUILD)/flags
@@ -87,13 +88,13 @@ $(BUILD)/lib/$(SONAME): $(BUILD)/calls.o $(BUILD)/memory.o c/exports.map
 $(BUILD)/lib/names: tools/package/names tools/package/*.pc tools/package/*.cmake include/peachanchor.h
 	tools/package/names $(BUILD)/lib ../../include $(SONAME) && touch $@
 
-# Other C libraries than glibc aren't known to give it its words, so there the library alone is built.
+# Other C libraries than glibc aren't known to give it its words, so there the library alone is built. ./tlsf may build it meanwhile for
+# this machine: what tells that it is built for CC is that this file has something in it.
 $(BUILD)/program: dist/program-x86_64.s c/os.c $(BUILD)/flags
-	@rm -f $(BUILD)/tlsf
-	printf '#include <stdlib.h>\n#if defined(__x86_64__) && defined(__LP64__) && defined(__GLIBC__)\nserved\n#endif\n' | \
-		$(CC) $(CPPFLAGS) $(CFLAGS) -E - | grep -qx served || exit 0; \
+	@printf '#include <stdlib.h>\n#if defined(__x86_64__) && defined(__LP64__) && defined(__GLIBC__)\nserved\n#endif\n' | \
+		$(CC) $(CPPFLAGS) $(CFLAGS) -E - 2> $(BUILD)/log | grep -x served > $@ || { \
+		echo "the program tlsf isn't built, which is for x86-64 Linux with glibc" >&2; exit 0; }; \
 	$(CC) $(CPPFLAGS) $(CFLAGS) $(LDFLAGS) -O1 dist/program-x86_64.s c/os.c -pthread -o $(BUILD)/tlsf
-	@touch $@
 
 # What is tried is an install of it.
 check: all
@@ -101,7 +102,7 @@ check: all
 	sed -n '/^[0-9a-f]\{64\}  /p' dist/MANIFEST | (cd dist && sha256sum -c) > $(BUILD)/sums || { grep -v ': OK$$' $(BUILD)/sums; exit 1; }
 	@to=$$(mktemp -d) || exit 1; trap 'rm -rf "$$to"' EXIT; trap 'exit 130' INT; trap 'exit 143' HUP TERM; \
 	$(MAKE) -s install DESTDIR= PREFIX="$$to" || exit 1; \
-	why=; if [ ! -f $(BUILD)/tlsf ]; then why="the program is for x86-64 Linux with glibc"; \
+	why=; if [ ! -s $(BUILD)/program ]; then why="the program is for x86-64 Linux with glibc"; \
 	elif ! python3 -c 'import tomllib' 2> /dev/null; then why="to try the program takes python3 from 3.11 on"; fi; \
 	[ -z "$$why" ] || echo "$$why, so the library alone is tried" >&2; \
 	CC='$(CC)' CXX='$(CXX)' RUN='$(RUN)' STATES='$(STATES)' BRIEF='$(BRIEF)' tests/library_test --check "$$to"; status=$$?; \
@@ -109,6 +110,7 @@ check: all
 
 # Man pages are made of the stored helps.
 install: all
+	@case '$(PREFIX)' in /*) ;; *) echo "PREFIX is '$(PREFIX)', and has to begin with /" >&2; exit 1 ;; esac
 	$(INSTALL) -d '$(DESTDIR)$(includedir)' '$(DESTDIR)$(libdir)' '$(DESTDIR)$(datadir)/gdb' '$(DESTDIR)$(docdir)'
 	$(INSTALL) -m 644 include/* '$(DESTDIR)$(includedir)'
 	$(INSTALL) -m 644 $(ARCHIVES) '$(DESTDIR)$(libdir)'
@@ -121,26 +123,31 @@ install: all
 	[ -n '$(SHARED)' ] || rm '$(DESTDIR)$(libdir)/pkgconfig/peachanchor-shared.pc'
 	$(INSTALL) -m 644 tools/package/tlsf-gdb.py '$(DESTDIR)$(datadir)/gdb'
 	$(INSTALL) -m 644 $(DOCS) '$(DESTDIR)$(docdir)'
-	@[ ! -f $(BUILD)/tlsf ] || { $(INSTALL) -d '$(DESTDIR)$(bindir)' '$(DESTDIR)$(mandir)/man1' && \
+	@[ ! -s $(BUILD)/program ] || { $(INSTALL) -d '$(DESTDIR)$(bindir)' '$(DESTDIR)$(mandir)/man1' && \
 		$(INSTALL) -m 755 $(BUILD)/tlsf '$(DESTDIR)$(bindir)/tlsf' && { tools/package/man.py '$(DESTDIR)$(mandir)/man1' || \
 		echo "no man pages are put there: these need python3 from 3.11 on" >&2; }; }
 
 # The files that an install puts there, and folders of its own that then are empty.
 uninstall:
-	@rm -rf $(BUILD)/root; $(MAKE) install DESTDIR=$(BUILD)/root/ > $(BUILD)/log
-	@to='$(DESTDIR)'; case '$(PREFIX)' in /*) to=$$to/ ;; esac; \
-	(cd $(BUILD)/root && find . ! -type d) | while read -r it; do echo "rm $$to$${it#./}"; rm -f "$$to$${it#./}"; done; \
-	(cd $(BUILD)/root && find . -depth -type d '(' -name peachanchor -o -name tlsf ')') | while read -r it; do rmdir "$$to$${it#./}" || :; done; \
-	rm -r $(BUILD)/root
+	@rm -rf $(BUILD)/root; $(MAKE) -s install DESTDIR='$(BUILD)/root' > $(BUILD)/log
+	@(cd $(BUILD)/root && find . ! -type d && find . -depth -type d '(' -name peachanchor -o -name tlsf ')') > $(BUILD)/there; \
+	status=0; while read -r it; do \
+		it='$(DESTDIR)'$${it#.}; if [ -d "$$it" ]; then rmdir "$$it" || :; \
+		elif [ -e "$$it" ] || [ -h "$$it" ]; then rm -f "$$it" && echo "rm $$it" || status=1; fi; \
+	done < $(BUILD)/there; rm -r $(BUILD)/root $(BUILD)/there; exit $$status
 
 deb: all
 	tools/deb $(BUILD)
 
 # The repository is the release. Its bytes don't follow a user's umask.
 release: ALWAYS
+	@[ "$$(git rev-parse --show-cdup 2> /dev/null)" = "" ] && git rev-parse -q --verify HEAD > /dev/null || \
+		{ echo "a release is made of a commit, and this is no clone of the repository" >&2; exit 1; }
 	@git diff --quiet HEAD || echo "changes that aren't committed are left out" >&2
 	@mkdir -p $(BUILD); name=peachanchor-$$(tools/package/names --version) && \
 	git -c tar.umask=0022 archive --prefix=$$name/ -o $(BUILD)/$$name.tar.gz HEAD && sha256sum $(BUILD)/$$name.tar.gz
+
+test: check
 
 prove:
 	./test
@@ -155,4 +162,4 @@ clean:
 help:
 	@sed -n '1,/^$$/s/^# \{0,1\}//p' Makefile
 
-.PHONY: all check install uninstall deb release prove try clean help ALWAYS
+.PHONY: all check test install uninstall deb release prove try clean help ALWAYS

@@ -241,7 +241,7 @@ class heap {
 public:
     heap() noexcept = default;
     heap(level l, std::uint32_t number, std::uint32_t words) {
-        detail::must_be_ok(open(l, number, words), "tlsf: no region has so many words");
+        detail::must_be_ok(open(l, number, words), "tlsf: no region of that level has so many words");
     }
     // The same with a number of tlsf_next_number.
     heap(level l, std::uint32_t words) : heap(l, next_number(), words) {}
@@ -271,7 +271,7 @@ public:
         std::uint32_t words = 0;
         const std::uint32_t answer =
             align == 0 ? tlsf_words(of_level, blocks, len, &words) : tlsf_words_for(of_level, blocks, len, align, &words);
-        detail::must_be_ok(answer, "tlsf: no region serves so many blocks of so many bytes");
+        detail::must_be_ok(answer, "tlsf: no region of that level serves so many blocks of so many bytes");
         return heap(l, number, words);
     }
 

@@ -13,7 +13,7 @@ namespace tlsf {
 // Objects of one type in a heap, each held by a std::unique_ptr that may die in any thread: it sends the object's name home,
 // and `collect`, in the thread of the heap, destroys the object and frees its block. A pointer that dies tries until its post goes
 // in, so it may spin while another thread is half through one. The object itself is another thread's to use as the payload of any
-// block is (rule 4 of peachanchor.h). A home dies in the heap's thread, before its heap and after all its pointers.
+// block is (rule 4 of peachanchor.h). A home dies in the heap's thread, before its heap and once `out` is 0.
 template <typename T>
 class home {
     // A poster's end that one thread at a time has, while `taken`.
@@ -60,7 +60,12 @@ public:
     }
     home(const home &) = delete;
     home &operator=(const home &) = delete;
-    ~home() { collect(); }
+    // Once `out` is 0 the home may die, though a deleter may still be about to return: its desk is the last thing that it touches.
+    ~home() {
+        collect();
+        for (std::uint32_t i = 0; i < threads_; i++)
+            while (desks_[i].taken.load()) {}
+    }
 
     // In the heap's thread. An empty pointer where the heap has no room, or as many objects are out as may be. What the
     // constructor of T throws comes through.

@@ -8,6 +8,7 @@
 #include <atomic>
 #include <cstdio>
 #include <cstdlib>
+#include <memory>
 #include <memory_resource>
 #include <mutex>
 #include <string>
@@ -246,9 +247,29 @@ void heap_behind_a_lock() {
     wants("and by a mutex", heap.report().live_blocks, 0);
 }
 
+// A home dies as soon as nothing is out, while the thread that let go last may still be on its way out of the deleter.
+void ends_while_a_deleter_returns() {
+    using numbers = tlsf::home<int>;
+    auto heap = tlsf::heap::for_blocks(tlsf::level::four, tlsf::next_number(), 1, 64);
+    std::atomic<numbers::pointer *> handed{nullptr};
+    std::atomic<bool> ends{false};
+    std::thread other([&handed, &ends] {
+        while (!ends.load()) delete handed.exchange(nullptr);
+    });
+    for (int i = 0; i < 2000; i++) {
+        auto home = std::make_unique<numbers>(heap, 1, 1);
+        handed.store(new numbers::pointer(home->make(i)));
+        while (home->out()) home->collect();
+    }
+    ends.store(true);
+    other.join();
+    wants("all came home", heap.report().live_blocks, 0);
+}
+
 } // namespace
 
 int main() {
+    ends_while_a_deleter_returns();
     pointers_die_in_any_thread();
     no_more_than_may_be();
     ends_of_a_queue();

@@ -18,7 +18,7 @@ fn main() {
         ("peachanchor_nomalloc", ["peachanchor-nomalloc", "tlsf-nomalloc"])
     };
     let folder = if let Some(prefix) = told("PEACHANCHOR_PREFIX") {
-        format!("{prefix}/lib")
+        held(&prefix, archive)
     } else if let Some(sources) = sources() {
         assemble(sources, archive, takes_malloc)
     } else {
@@ -29,7 +29,10 @@ fn main() {
             ))
         })
     };
-    println!("cargo:rerun-if-changed={folder}/lib{archive}.a");
+    // What was made now is newer than cargo's note of this run, and would be made again each time.
+    if folder != said("OUT_DIR") {
+        println!("cargo:rerun-if-changed={folder}/lib{archive}.a");
+    }
     println!("cargo:rustc-link-search=native={folder}");
     println!("cargo:rustc-link-lib=static={archive}");
     println!("cargo:rustc-env=PEACHANCHOR_ARCHIVE={folder}/lib{archive}.a");
@@ -39,6 +42,17 @@ fn main() {
 fn stop(why: &str) -> ! {
     eprintln!("peachanchor-sys: {why}");
     exit(1)
+}
+
+/// The folder of the archive below a prefix.
+fn held(prefix: &str, archive: &str) -> String {
+    let file = format!("{prefix}/lib/lib{archive}.a");
+    if !Path::new(prefix).is_absolute() || !Path::new(&file).exists() {
+        stop(&format!(
+            "PEACHANCHOR_PREFIX is {prefix}, and has to be the full path of a folder that `make install` made, with lib/lib{archive}.a"
+        ))
+    }
+    format!("{prefix}/lib")
 }
 
 /// A variable of the environment, where it isn't empty.
@@ -72,14 +86,15 @@ fn macros() -> Option<String> {
     let own = match (processor.as_str(), system.as_str()) {
         ("x86_64", "windows") if said("CARGO_CFG_TARGET_ENV") == "gnu" => "defined(__x86_64__) && defined(_WIN32)",
         ("aarch64", "macos") => "defined(__aarch64__) && defined(__APPLE__)",
-        // Without an operating system nobody sets up what the archive keeps for each thread.
-        (_, "windows" | "macos" | "none") => return None,
+        // Without an operating system nobody sets up what the archive keeps for each thread. Others have no files of this form.
+        (_, "windows" | "macos" | "none" | "uefi" | "ios" | "tvos" | "watchos" | "visionos" | "cygwin") => return None,
         ("x86_64", _) => "defined(__x86_64__) && defined(__ELF__)",
         ("aarch64", _) => "defined(__aarch64__) && defined(__ELF__)",
         ("riscv64", _) => "defined(__riscv) && defined(__ELF__)",
         _ => return None,
     };
-    (said("CARGO_CFG_TARGET_POINTER_WIDTH") == "64").then(|| own.to_owned())
+    let fits = said("CARGO_CFG_TARGET_POINTER_WIDTH") == "64" && said("CARGO_CFG_TARGET_ENDIAN") != "big";
+    fits.then(|| own.to_owned())
 }
 
 /// The folder of the assembly, where there is one.
@@ -105,10 +120,10 @@ fn assemble(sources: &str, archive: &str, takes_malloc: bool) -> String {
     let (file, object, to) = (format!("{out}/whole.S"), format!("{out}/tlsf.o"), format!("{out}/lib{archive}.a"));
     fs::write(&file, source).unwrap_or_else(|why| stop(&format!("{file}: {why}")));
     let defined = if takes_malloc { &[][..] } else { &["-DTLSF_NO_MALLOC"] };
-    run(words[0], Command::new(words[0]).args(&words[1..]).args(defined).args(["-c", &file, "-o", &object]));
+    run("the C compiler", "CC", words[0], Command::new(words[0]).args(&words[1..]).args(defined).args(["-c", &file, "-o", &object]));
     let ar = told_for_target("AR").unwrap_or_else(|| archiver(&words));
     let _ = fs::remove_file(&to);
-    run(&ar, Command::new(&ar).args(["rcs", &to, &object]));
+    run("the archiver", "AR", &ar, Command::new(&ar).args(["rcs", &to, &object]));
     out
 }
 
@@ -123,12 +138,14 @@ fn archiver(compiler: &[&str]) -> String {
     }
 }
 
-fn run(name: &str, command: &mut Command) {
+/// Runs a tool, which a variable of the environment names for this target.
+fn run(tool: &str, variable: &str, name: &str, command: &mut Command) {
     match command.status() {
         Ok(status) if status.success() => (),
-        Ok(_) => stop(&format!("{command:?} failed")),
+        Ok(_) => stop(&format!("{tool} fails: {command:?}")),
         Err(why) => {
-            stop(&format!("{name} can't be run ({why}): set CC to a C compiler, and AR to what makes archives"))
+            let own = format!("{variable}_{}", said("TARGET").replace('-', "_"));
+            stop(&format!("{tool}, `{name}`, can't be run: {why}; set {own} or {variable} to one"))
         }
     }
 }
