@@ -120,7 +120,12 @@ fn assemble(sources: &str, archive: &str, takes_malloc: bool) -> String {
     let (file, object, to) = (format!("{out}/whole.S"), format!("{out}/tlsf.o"), format!("{out}/lib{archive}.a"));
     fs::write(&file, source).unwrap_or_else(|why| stop(&format!("{file}: {why}")));
     let defined = if takes_malloc { &[][..] } else { &["-DTLSF_NO_MALLOC"] };
-    run("the C compiler", "CC", words[0], Command::new(words[0]).args(&words[1..]).args(defined).args(["-c", &file, "-o", &object]));
+    run(
+        "the C compiler",
+        "CC",
+        words[0],
+        Command::new(words[0]).args(&words[1..]).args(defined).args(["-c", &file, "-o", &object]),
+    );
     let ar = told_for_target("AR").unwrap_or_else(|| archiver(&words));
     let _ = fs::remove_file(&to);
     run("the archiver", "AR", &ar, Command::new(&ar).args(["rcs", &to, &object]));
