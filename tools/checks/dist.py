@@ -1,6 +1,6 @@
 """dist/ was made of these sources: MANIFEST has this version, the checksums of
 what dist/ was proved and built from (tools/sources), and that of each file of
-assembly that lies there."""
+assembly that lies there. One crate for Rust wants the other of this version."""
 import hashlib
 import re
 import subprocess
@@ -25,6 +25,8 @@ def faults():
     version = subprocess.run([tree.TOP / "tools/package/names", "--version"], stdout=subprocess.PIPE, text=True, check=True).stdout.strip()
     if not text.startswith(f"peachanchor {version}\n"):
         yield f"dist/MANIFEST isn't of version {version}{MENDED}"
+    if f'version = "={version}"' not in tree.read(tree.TOP / "bindings/rust/Cargo.toml"):
+        yield f"bindings/rust/Cargo.toml doesn't want peachanchor-sys of version {version}"
     for kind in ("library", "program", "c"):
         if subprocess.run([tree.TOP / "tools/sources", "--is-made", kind], check=False).returncode:
             what = {"library": "C's library", "program": "the program", "c": "what is C of the library"}[kind]
