@@ -81,8 +81,3 @@ pub use queue::{Poster, Queue};
 pub use region::Region;
 pub use report::Report;
 pub use take_end::TakeEnd;
-
-/// The program of README.md, as a test.
-#[cfg(all(doctest, feature = "malloc"))]
-#[doc = include_str!("../../README.md")]
-struct Readme;
