@@ -1,7 +1,8 @@
 # Peachanchor, built of dist/ by a C compiler.
 #
 #     make             the program build/tlsf, and the library in build/lib
-#     make check       tries both, in 1 to 3 minutes: 'N right, 0 wrong'
+#     make check       tries both, in 3 to 4 minutes: 'N right, 0 wrong'; with BRIEF=1
+#                      tries less, in half a minute
 #     make install     puts them below PREFIX, which is /usr/local
 #     make uninstall   takes them away from there
 #     make deb         packages for Debian, in build/
@@ -22,9 +23,8 @@
 #
 # The program is for x86-64 Linux; for others the library alone is built.
 #
-# STATES is the largest region, in words, of the test of all states. BRIEF=1 has
-# make check try less, in a fifth of the time. SHARED= leaves the shared library
-# out, as for Windows and macOS, and with CPPFLAGS=-DTLSF_NO_TLS for bare metal.
+# STATES is the largest region, in words, of the test of all states. SHARED= leaves
+# the shared library out, as for Windows and macOS, and with CPPFLAGS=-DTLSF_NO_TLS for bare metal.
 #
 # The folders of an install are libdir, includedir, bindir, datadir, docdir and
 # mandir. DESTDIR is set before each. What is installed can be moved: the files
