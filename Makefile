@@ -24,7 +24,8 @@
 # The program is for x86-64 Linux; for others the library alone is built.
 #
 # STATES is the largest region, in words, of the test of all states. SHARED= leaves
-# the shared library out, as for Windows and macOS, and with CPPFLAGS=-DTLSF_NO_TLS for bare metal.
+# the shared library out, as for Windows and macOS, and with
+# CPPFLAGS=-DTLSF_NO_TLS for bare metal.
 #
 # The folders of an install are libdir, includedir, bindir, datadir, docdir and
 # mandir. DESTDIR is set before each. What is installed can be moved: the files
