@@ -120,7 +120,7 @@ install: all
 		ln -sf $(SONAME) '$(DESTDIR)$(libdir)/libpeachanchor.so'; }
 	@from='/$(libdir)/' to='/$(includedir)' up=; \
 	while case $$to/ in "$$from"*) false ;; esac; do from=$${from%/*/}/ up=../$$up; done; \
-	tools/package/names '$(DESTDIR)$(libdir)' "$$up$${to#"$$from"}" $(SONAME); \
+	tools/package/names '$(DESTDIR)$(libdir)' "$$up$${to#"$$from"}" $(SONAME) || exit 1; \
 	[ -n '$(SHARED)' ] || rm '$(DESTDIR)$(libdir)/pkgconfig/peachanchor-shared.pc'
 	$(INSTALL) -m 644 tools/package/tlsf-gdb.py '$(DESTDIR)$(datadir)/gdb'
 	$(INSTALL) -m 644 $(DOCS) '$(DESTDIR)$(docdir)'
