@@ -55,6 +55,9 @@ DOCS = README.md CHANGELOG.md LICENSE-MIT LICENSE-APACHE dist/NOTICES dist/MANIF
 
 all: $(ARCHIVES) $(SHARED) $(BUILD)/lib/names $(BUILD)/program
 
+# One goal after the other, as `make -j clean all` wants. What is built takes a second by one processor.
+.NOTPARALLEL:
+
 # What a command left that failed isn't taken, and neither is what another compiler or other flags made.
 .DELETE_ON_ERROR:
 $(BUILD)/flags: ALWAYS
@@ -78,10 +81,11 @@ $(BUILD)/lib/libpeachanchor.a: $(BUILD)/calls.o $(BUILD)/memory.o
 $(BUILD)/lib/libpeachanchor_nomalloc.a: $(BUILD)/calls.o $(BUILD)/memory_nomalloc.o
 	rm -f $@ && $(AR) rcs $@ $(BUILD)/calls.o $(BUILD)/memory_nomalloc.o
 
+# -static, which no shared library is linked by, is for the program.
 $(BUILD)/lib/$(SONAME): $(BUILD)/calls.o $(BUILD)/memory.o c/exports.map
 	@case $$($(CC) $(CFLAGS) -dumpmachine) in *mingw* | *windows* | *darwin* | *apple*) \
 		echo "the shared library is for ELF alone: give make SHARED= besides" >&2; exit 1 ;; esac
-	$(CC) $(CFLAGS) $(LDFLAGS) -shared -Wl,-soname,$(SONAME),--version-script,c/exports.map,-Bsymbolic,-z,relro,-z,now,--build-id \
+	$(CC) $(CFLAGS:-static=) $(LDFLAGS:-static=) -shared -Wl,-soname,$(SONAME),--version-script,c/exports.map,-Bsymbolic,-z,relro,-z,now,--build-id \
 		-o $@ $(BUILD)/calls.o $(BUILD)/memory.o
 	ln -f $@ $(BUILD)/lib/libpeachanchor.so
 
