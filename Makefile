@@ -115,8 +115,10 @@ check: all
 
 # Man pages are made of the stored helps.
 install: all
+	@case "$$DESTDIR$$PREFIX" in *[\"\']*) echo "DESTDIR and PREFIX have to be without quotes" >&2; exit 1 ;; esac
 	@case '$(PREFIX)' in /*) ;; *) echo "PREFIX is '$(PREFIX)', and has to begin with /" >&2; exit 1 ;; esac
-	$(INSTALL) -d '$(DESTDIR)$(includedir)' '$(DESTDIR)$(libdir)' '$(DESTDIR)$(datadir)/gdb' '$(DESTDIR)$(docdir)'
+	@$(INSTALL) -d '$(DESTDIR)$(includedir)' '$(DESTDIR)$(libdir)' '$(DESTDIR)$(datadir)/gdb' '$(DESTDIR)$(docdir)' || \
+		{ echo "$(DESTDIR)$(PREFIX) can't be written: 'make install PREFIX=/FOLDER' takes a folder of yours, and sudo any" >&2; exit 1; }
 	$(INSTALL) -m 644 include/* '$(DESTDIR)$(includedir)'
 	$(INSTALL) -m 644 $(ARCHIVES) '$(DESTDIR)$(libdir)'
 	for kind in "" _nomalloc; do ln -sf libpeachanchor$$kind.a '$(DESTDIR)$(libdir)'/libtlsf$$kind.a || exit 1; done
