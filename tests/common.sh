@@ -4,7 +4,7 @@
 name_of_test=${0##*/}
 case ${1-} in
 -h | --help)
-    sed -n '2,/^[^#]/s/^# \{0,1\}//p' "$0"
+    sed -n '1d;/^#/!q;s/^# \{0,1\}//p' "$0"
     exit 0
     ;;
 esac
