@@ -1,7 +1,7 @@
 /* A heap whose calls look first (tlsf_checked.h). Each call that would follow a damaged header is refused, changes nothing, and tells
  * the program's function, once. So 400 writes past a payload end in no crash and no loop, whatever is called next: on the heap, through a
  * magazine and behind a lock, where blocks have even numbers of words and where some have odd ones. It is the same where a trace is
- * written besides (TRACED), and with marks (TLSF_ASAN, TLSF_VALGRIND). CHECKED [TURNS] [SEED] */
+ * written besides (TRACED), and with marks (TLSF_ASAN, TLSF_VALGRIND, TLSF_TSAN). CHECKED [TURNS] [SEED] */
 #define _DEFAULT_SOURCE
 #ifdef TRACED
 #include <stdio.h>
