@@ -79,6 +79,14 @@ static struct tlsf_pools pools = TLSF_POOLS_CLOSED;
 static const struct tlsf_kind rows[] = {{8, 64}, {2, 4096}};
 static struct tlsf_name pooled[4];
 
+/* The words of pools of eight rows, which may be cut into eight heaps: it searches for the cheapest way once. */
+static int cut_a_table(void) {
+    static const struct tlsf_kind table[] = {{9, 8}, {8, 24}, {7, 100}, {6, 500}, {5, 1000}, {4, 4000}, {3, 9000}, {2, 20000}};
+    uint64_t words = 0;
+    uint32_t heaps = 0;
+    return tlsf_pools_words(4, table, sizeof table / sizeof *table, &words, &heaps) || words == 0;
+}
+
 /* Parts that are there and one that isn't, and places where a block begins or none. */
 static uint32_t call_pools(void) {
     struct tlsf_name name;
@@ -142,7 +150,7 @@ static int make_calls(long calls) {
         }
     }
     call_others(calls);
-    return 0;
+    return cut_a_table();
 }
 
 #ifdef __x86_64__
@@ -172,6 +180,7 @@ static struct {
     {"tlsf_offsets_resize", (uintptr_t)tlsf_offsets_resize, 0, 0},
     {"tlsf_pools_part", (uintptr_t)tlsf_pools_part, 0, 0},
     {"tlsf_pools_place", (uintptr_t)tlsf_pools_place, 0, 0},
+    {"cut_of_eight_rows", (uintptr_t)tlsf_pools_words, 0, 0}, /* has no bound of its own: tests/library_test */
 };
 enum { COUNT = sizeof counted / sizeof *counted };
 
