@@ -1,6 +1,7 @@
 """The columns of bench/peers. Another peer is one more line of COLUMNS, and a file of bench/c/heaps where it has no malloc to be loaded."""
 import os
 import pathlib
+import re
 import subprocess
 import sys
 import typing
@@ -9,6 +10,7 @@ from allocators import mattconte
 from script import TOP, TUNABLES, library, stop
 
 FLAGS = ["-std=gnu11", "-O2", "-Wall", "-Wextra", "-Wl,-z,now", "-pthread"]
+VERSION = re.compile(r"^#define TLSF_VERSION_(?:MAJOR|MINOR|PATCH) (\d+)$", re.M)
 FIFO = 5
 LONGEST = 300  # seconds; a program that keeps its processors may hang for longer than anybody waits
 
@@ -49,6 +51,16 @@ PROGRAMS = {"peers": 0, "frees": 1, "cold": 0, "tail": 0, "replay": 0, "threads"
 RENAMED = [f"-Dtlsf_{it}=authors_{it}" for it in ("malloc", "calloc", "realloc", "free")]
 
 
+def tell(text):
+    """Says what a script does, beside what it prints."""
+    print(f"{pathlib.Path(sys.argv[0]).name}: {text}", file=sys.stderr)
+
+
+def revision():
+    done = subprocess.run(["git", "-C", TOP, "rev-parse", "--short=7", "HEAD"], capture_output=True, text=True, check=False)
+    return done.stdout.strip() or "unknown"
+
+
 def compile_c(*words):
     if subprocess.run(["cc", *words], check=False).returncode:
         stop("a C file isn't compiled")
@@ -60,6 +72,8 @@ class Built:
     def __init__(self, work, options, programs):
         self.work, self.is_fifo = pathlib.Path(work), options.fifo
         self.prefix = pathlib.Path(library(work, options.library))
+        header = (self.prefix / "include/peachanchor.h").read_text(encoding="utf-8")
+        self.revision, self.version = revision(), ".".join(VERSION.findall(header))
         self.peers = pathlib.Path(options.peers or work).resolve()
         wanted = options.columns
         if not options.peers and set(wanted) - {*OURS, *GUARDED, "magazine", "malloc"}:
@@ -80,11 +94,11 @@ class Built:
             try:
                 (self.work / "mattconte_tlsf.c").write_text(mattconte.source(self.peers / "kamailio"), encoding="utf-8")
             except (OSError, ValueError) as why:
-                print(f"peers: {why}", file=sys.stderr)
+                tell(f"{COLUMNS['mattconte'].title} isn't there, and left out: {why}")
                 wanted = [it for it in wanted if it != "mattconte"]
         lacking = [it for it in wanted if not all(file.is_file() for file in self.files(COLUMNS[it]))]
         for name in lacking:
-            print(f"peers: {COLUMNS[name].title} isn't there, and left out", file=sys.stderr)
+            tell(f"{COLUMNS[name].title} isn't there, and left out")
         return [it for it in COLUMNS if it in wanted and it not in lacking]
 
     def files(self, column):

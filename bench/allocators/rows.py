@@ -4,9 +4,8 @@ import concurrent.futures
 import os
 import re
 import statistics
-import sys
 
-from allocators.columns import COLUMNS, NEAR, OURS
+from allocators.columns import COLUMNS, NEAR, OURS, tell
 from script import TOP
 
 PLAIN = [it for it in COLUMNS if it not in NEAR]
@@ -38,10 +37,15 @@ POSTS = {
 # The calls of bench/c/cold.c, and the marks that its traces have.
 COLD_CALLS = ["allocate", "release", "malloc", "free"]
 OWN, ENDED, TOLD, LENGTHS = 0x20000000, 0x20000040, 0x20000041, 0x20000080
-# How a row calls lanes where the owner's handle has no cache line of its own.
-BESIDE = "lanes, the handle beside what posters read"
-# And where the archive's own call drains them.
-CALLED = "lanes, drained by the archive's call"
+# The ways of frees.c besides a lock, as rows call them. In the second the archive's own call drains the lanes, in the third the owner's handle
+# has no cache line of its own.
+WAYS = {
+    "lanes": "over lanes",
+    "called": "over lanes, drained by the archive's call",
+    "beside": "over lanes, the handle beside what posters read",
+    "queue": "over a queue",
+    "ring": "over a ring in C",
+}
 # What frees.c prints of each pattern.
 BUSY = {
     "works": ("frees while the owner works, {}", "pairs of the owner meanwhile, {}"),
@@ -76,6 +80,9 @@ def hows(column):
 
 class Rows:
     """Runs the programs, and keeps what they told. A row is known by its text."""
+
+    thread_counts = (2, 4)
+    over = {"frees": ("lanes", "called", "beside", "queue"), "busy": ("lanes", "called", "beside", "ring")}
 
     def __init__(self, built, words, rounds):
         self.built, self.words, self.rounds = built, words, rounds
@@ -161,7 +168,7 @@ class Rows:
     def time_all(self):
         most = max(self.rounds, TAIL_ROUNDS * ("tail" in self.words))
         for number in range(1, most + 1):
-            print(f"peers: round {number} of {most}", file=sys.stderr)
+            tell(f"round {number} of {most}")
             if number <= TAIL_ROUNDS:
                 self.time_tail(number == TAIL_ROUNDS)
             if number <= self.rounds:
@@ -202,11 +209,11 @@ class Rows:
                 told = self.run(column, "replay", "COLUMN", how, "5", *TRACES, is_pinned=True).split()
                 self.keep(f"time of a call, recorded{', by name' if how == 'name' else ''}", column, told[4])
                 if float(told[3]):
-                    print(f"peers: {told[3]} recorded calls are refused in {COLUMNS[column].title}", file=sys.stderr)
+                    tell(f"{told[3]} recorded calls are refused in {COLUMNS[column].title}")
 
     def time_threads(self):
         for program in PROGRAMS_OF_THREADS:
-            for count in (2, 4):
+            for count in self.thread_counts:
                 for column in self.columns("threads"):
                     told = self.run(column, "threads", "COLUMN", program, str(count), is_pinned=True)
                     self.keep(f"{program}, {count} threads", column, told)
@@ -228,16 +235,15 @@ class Rows:
                 for column in self.columns("frees"):
                     told = self.run(column, "frees", "lock", "COLUMN", "waits", str(posters), *order, is_pinned=True)
                     self.keep(f"frees under a lock, {threads}", column, told.split()[0])
-                for way, text in (("lanes", "lanes"), ("called", CALLED), ("beside", BESIDE), ("queue", "a queue")):
+                for way in self.over["frees"]:
                     if "level4" in self.columns("frees"):
                         told = self.run("level4", "frees", way, "level4", "waits", str(posters), *order, is_pinned=True)
-                        self.keep(f"frees over {text}, {threads}", "level4", told.split()[0])
+                        self.keep(f"frees {WAYS[way]}, {threads}", "level4", told.split()[0])
 
     def time_busy(self, pattern, column):
         """Frees beside the owner's work. Only this heap has lanes and rings, and a lane alone is full."""
         memory = COLUMNS[column].memory
-        ways = {"lanes": "over lanes", "called": f"over {CALLED}", "beside": f"over {BESIDE}", "ring": "over a ring in C"}
-        ways = ways if column == "level4" else {}
+        ways = {it: WAYS[it] for it in self.over["busy"] if column == "level4"}
         if pattern != "full":
             ways["lock"] = "under a lock" if memory != "system" else "by free"
         for way, text in ways.items():
