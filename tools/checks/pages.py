@@ -14,6 +14,11 @@
   compared with something, and behind is for places, after for time;
 - the newest version of CHANGELOG.md is the one that `tlsf --version` names, and
   so is the one that the macros TLSF_VERSION_ of include/peachanchor.h make;
+- figures of README.md's 'Why' are those of docs/MEASURED.md's 'In one table',
+  word for word where they are rows, and both name the version that bench/front
+  measured: the one that the revision beside that command has, as far as git
+  knows it. Where an older one is named no fault is told, but the line of this
+  check says it, unless only the last number is older;
 - a function in backticks with a number after it, as `tlsf_put` 56, has the
   bound of tools/longest_path.bounds, and in the next column that on aarch64;
 - who uses a payload in place is said in the words of rule 4 of peachanchor.h
@@ -21,7 +26,10 @@
 - a trace that a page shows beside its replies is examples/two_workers.trace,
   with the reply lines of the case two_workers."""
 import functools
+import itertools
 import re
+import shutil
+import subprocess
 
 import prose
 import tree
@@ -33,8 +41,13 @@ MOST_LINE = 120
 
 LINK = re.compile(r"(?<!!)\[[^\]]*\]\(([^)\s]+)\)|!\[[^\]]*\]\(([^)\s]+)\)")
 NEWEST = re.compile(r"^## (\d+\.\d+\.\d+)$", re.M)
+VERSION_FILE = "crates/tlsf_command/src/lib.rt"
 VERSION = re.compile(r'const VERSION: &str = "(.*)"')
 MACRO = re.compile(r"^#define TLSF_VERSION_(?:MAJOR|MINOR|PATCH) (\d+)$", re.M)
+# What README.md and docs/MEASURED.md say of their figures, and where the first has some besides those of its table.
+MEASURED_AT = re.compile(r"`bench/front`\s+of\s+version\s+(\d+\.\d+\.\d+)")
+REVISION = re.compile(r"^\|.*\| `bench/front[^|]*\| (\w+) \|", re.M)
+FIGURE = re.compile(r"(?<![\w.])(?<!TLSF )\d+\.\d+(?: to \d+\.\d+)?(?![\w]|\.\d)")
 PATH = re.compile(r"\.?[\w.*-]+(?:/[\w.*+-]+)*/?")
 ENDINGS = (".rt", ".antt", ".md", ".sh", ".py", ".toml", ".txt", ".tsv", ".svg", ".source", ".c", ".h", ".cpp", ".hpp")
 ANY_NAME = re.compile(r"[A-Z][A-Z_]+")
@@ -51,6 +64,23 @@ TRACE_BLOCK = re.compile(r"```text\n(tlsf 1 2 64 4 .*?)\n```", re.S)
 LINES, REPLIES = slice(0, 22), slice(22, 54)
 # What `rt` and make write, which no checkout has before they ran.
 MADE = re.compile(r"(^|/)(out|build|\.git)(/|$)")
+
+
+def program_version():
+    return VERSION.search(tree.read(tree.TOP / VERSION_FILE))[1]
+
+
+def version_at(revision):
+    """The program's version in a revision; none where git, or that revision of it, isn't there, as in a clone of one commit."""
+    if not shutil.which("git"):
+        return None
+    words = ["git", "-C", tree.TOP, "show", f"{revision}:{VERSION_FILE}"]
+    found = VERSION.search(subprocess.run(words, capture_output=True, text=True, check=False).stdout)
+    return found and found[1]
+
+
+def numbers_of(version):
+    return [int(it) for it in version.split(".")]
 
 
 def slug(heading):
@@ -71,6 +101,12 @@ class Page(prose.Text):
                 anchor = slug(line.lstrip("#"))
                 found[anchor] = found.get(anchor, 0) + 1
         return {f"{it}-{n}" if n else it for it, count in found.items() for n in range(count)}
+
+    def section(self, title):
+        """The lines below a heading, up to the next one."""
+        lines = iter(self.lines)
+        found = any(line.startswith("#") and line.lstrip("# ") == title for line in lines)
+        return list(itertools.takewhile(lambda line: not line.startswith("#"), lines)) if found else []
 
 
 class Repository:
@@ -177,12 +213,41 @@ class Repository:
 
     def version_faults(self):
         newest = NEWEST.search(self.pages[tree.TOP / "CHANGELOG.md"].text)
-        named = VERSION.search(tree.read(tree.TOP / "crates" / "tlsf_command" / "src" / "lib.rt"))
-        if not newest or not named or newest[1] != named[1]:
-            yield f"CHANGELOG.md: its newest version is {newest and newest[1]}, and the program's {named and named[1]}"
+        named = program_version()
+        if not newest or newest[1] != named:
+            yield f"CHANGELOG.md: its newest version is {newest and newest[1]}, and the program's {named}"
         macros = ".".join(MACRO.findall(tree.read(tree.TOP / "include" / "peachanchor.h")))
-        if named and macros != named[1]:
-            yield f"include/peachanchor.h: its macros make version {macros}, and the program's is {named[1]}"
+        if macros != named:
+            yield f"include/peachanchor.h: its macros make version {macros}, and the program's is {named}"
+
+    def front(self):
+        """README.md and docs/MEASURED.md, and for each the version of which it says its figures are, or nothing."""
+        pages = [self.pages[tree.TOP / name] for name in ("README.md", "docs/MEASURED.md")]
+        return pages, [found and found[1] for found in (MEASURED_AT.search(it.text) for it in pages)]
+
+    def figure_faults(self):
+        (readme, measured), (named, of_table) = self.front()
+        at = REVISION.search(measured.text)
+        if not named or named != of_table or not at:
+            yield f"README.md: its figures are of version {named}, those of docs/MEASURED.md of {of_table}, revision {at and at[1]}"
+        elif numbers_of(named) > numbers_of(program_version()):
+            yield f"README.md: its figures are of version {named}, and the program's is {program_version()}"
+        elif (version := version_at(at[1])) not in (named, None):
+            yield f"README.md: its figures are of version {named}, and revision {at[1]}, which bench/front measured, has {version}"
+        rows = [it for it in measured.section("In one table") if it.startswith("|")]
+        cells = {cell.strip().split(" (")[0] for row in rows for cell in row.split("|")[2:]}
+        for line in readme.section("Why"):
+            if line.startswith("|") and re.search(r"\| \d", line) and line not in rows:
+                yield f"README.md: its row '{line.split('|')[1].strip()}' is none of docs/MEASURED.md, 'In one table'"
+            for figure in [] if line.startswith("|") else FIGURE.findall(line):
+                if figure not in cells:
+                    yield f"README.md: its figure {figure} is in no cell of docs/MEASURED.md, 'In one table'"
+
+    def said_of_figures(self):
+        """What is said where the figures are of an older version. That is no fault: they are of the one that is named."""
+        named = self.front()[1][0]
+        is_older = named and numbers_of(named)[:2] < numbers_of(program_version())[:2]
+        return f"; README.md's figures are of {named}: bench/front measures those of {program_version()}" if is_older else ""
 
     def faults(self):
         for _, page in sorted(self.pages.items()):
@@ -193,6 +258,7 @@ class Repository:
         yield from self.trace_faults()
         yield from self.rule_faults()
         yield from self.version_faults()
+        yield from self.figure_faults()
 
 
 @functools.cache
@@ -205,4 +271,4 @@ def faults():
 
 
 def looked_at():
-    return f"{len(repository().pages)} pages"
+    return f"{len(repository().pages)} pages{repository().said_of_figures()}"
