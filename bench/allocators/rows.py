@@ -115,10 +115,12 @@ class Rows:
     def count(self):
         """All columns side by side; what they told is kept in the order of the table."""
         counted = ("calls", "holes", "resets", "full")
-        ways = [(self.run, column, "peers", way, "COLUMN") for way in counted for column in self.columns(way)]
+        ways = [(column, "peers", way, "COLUMN") for way in counted for column in self.columns(way)]
         with concurrent.futures.ThreadPoolExecutor(len(os.sched_getaffinity(0))) as pool:
-            for (_, column, *_), text in zip(ways, pool.map(lambda way: way[0](*way[1:]), ways)):
-                self.keep_lines(column, text)
+            # malloc beside holes takes minutes, so holes begin.
+            told = {it: pool.submit(self.run, *it) for it in sorted(ways, key=lambda it: "holes" not in it)}
+            for it in ways:
+                self.keep_lines(it[0], told[it].result())
             list(pool.map(self.count_lines, self.columns("cold")))
             self.count_recorded(pool)
 
