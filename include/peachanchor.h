@@ -33,7 +33,7 @@
  *      which the call is about.
  *   4. A payload is read and written in place only within its bytes, while its heap is open and its block live and not
  *      resized since: by whoever holds the block, in any thread, also during calls on the heap that aren't about this block. Who
- *      hands a block over orders that as for any pointer: by a lock, a lane, a queue or an atomic.
+ *      hands a block over orders that as for any pointer: by a lock, a lane, a queue, or an atomic of release and acquire.
  *   5. A signal handler makes no call that opens or closes, and it returns. Its other calls are for handles of the thread that
  *      it interrupts: on a handle in use they are refused as TLSF_IS_CLOSED. In the forked child of a process with threads
  *      no call is made; the parent goes on as before.
@@ -694,8 +694,9 @@ TLSF_ANSWER uint32_t tlsf_pools_counts(struct tlsf_pools *pools, uint32_t row, u
 TLSF_ANSWER uint32_t tlsf_pools_check(struct tlsf_pools *pools, uint32_t part, uint32_t from, uint32_t most, uint32_t *next,
                                       uint32_t *damaged) TLSF_NOEXCEPT;
 
-/* Blocks of pools by pointer. Each call is C over several proved ones, at most eight of them to find the part. `p` is any pointer: it is
- * followed only where a live block's payload begins there. What tlsf_pools_malloc gives has all bytes of the row for which it counts.
+/* Blocks of pools by pointer. Each call is C over several proved ones: nine at most find the part of `p`, and two that of a new block.
+ * `p` is any pointer: it is followed only where a live block's payload begins there. What tlsf_pools_malloc gives has all bytes of the
+ * row for which it counts.
  * Each block is aligned to 16 where each row's `len` is a tlsf_rounded one, as those of a recording by pointer are, and to 8 otherwise.
  *
  * tlsf_pools_free frees a block: TLSF_OK, and TLSF_STALE where no live block's payload begins at `p`. A null pointer is TLSF_OK, with no

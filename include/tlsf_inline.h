@@ -288,24 +288,29 @@ TLSF_CALL uint32_t tlsf_pools_free(struct tlsf_pools *pools, void *p) TLSF_NOEXC
     return answer != TLSF_OK ? answer : tlsf_pools_release(pools, name);
 }
 
-TLSF_CALL void *tlsf_pools_malloc(struct tlsf_pools *pools, size_t len) TLSF_NOEXCEPT {
+/* A block of all bytes of a row. Numbers rise by one from part to part, so that of the first tells which part has the block. */
+TLSF_BODY void *tlsf_pools_give(struct tlsf_pools *pools, uint32_t bytes) TLSF_NOEXCEPT {
     struct tlsf_name name = {0, 0, 0};
-    uint32_t bytes = 0, number = 0;
+    uint32_t number = 0;
     uint64_t *base = TLSF_NULL;
-    if (tlsf_pools_row(pools, len, &bytes) != TLSF_OK || tlsf_pools_allocate(pools, bytes, &name) != TLSF_OK) return TLSF_NULL;
-    for (uint32_t part = 0; tlsf_pools_part(pools, part, &base, &number) == TLSF_OK; part++)
-        if (number == name.heap) return base + name.at + 3;
-    return TLSF_NULL;
+    if (tlsf_pools_allocate(pools, bytes, &name) != TLSF_OK || tlsf_pools_part(pools, 0, &base, &number) != TLSF_OK) return TLSF_NULL;
+    if (name.heap != number && tlsf_pools_part(pools, name.heap - number, &base, &number) != TLSF_OK) return TLSF_NULL;
+    return base + name.at + 3;
+}
+
+TLSF_CALL void *tlsf_pools_malloc(struct tlsf_pools *pools, size_t len) TLSF_NOEXCEPT {
+    uint32_t bytes = 0;
+    return tlsf_pools_row(pools, len, &bytes) == TLSF_OK ? tlsf_pools_give(pools, bytes) : TLSF_NULL;
 }
 
 TLSF_CALL void *tlsf_pools_realloc(struct tlsf_pools *pools, void *p, size_t len) TLSF_NOEXCEPT {
     struct tlsf_name name = {0, 0, 0};
-    uint32_t had = 0, row = 0, bytes = 0;
+    uint32_t had = 0, bytes = 0;
     if (p == TLSF_NULL) return tlsf_pools_malloc(pools, len);
     if (len == 0) tlsf_pools_free(pools, p);
     if (len == 0 || tlsf_pools_block(pools, p, &name, &had) != TLSF_OK || tlsf_pools_row(pools, len, &bytes) != TLSF_OK) return TLSF_NULL;
-    if (len <= had && tlsf_pools_row(pools, had, &row) == TLSF_OK && row == bytes) return p;
-    void *const moved = tlsf_pools_malloc(pools, len);
+    if (len <= had && had <= bytes) return p; /* rows rise, so what it had counts for the row of `len` */
+    void *const moved = tlsf_pools_give(pools, bytes);
     if (moved == TLSF_NULL) return TLSF_NULL;
     TLSF_COPY(moved, p, had < len ? had : len);
     tlsf_pools_release(pools, name);
