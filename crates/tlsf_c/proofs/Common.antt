@@ -9,7 +9,7 @@ pub use Rattle.std_alloc.proofs.BoxSteps.Steps.{box_in, box_out}
 pub use Rattle.std_alloc.proofs.ResultValues.{and_tt}
 pub use Rattle.std_alloc.proofs.SendSync.{lies, quiet}
 pub use Rattle.std_heap.specs.contracts.GlobalAllocator.TheImpl.{dict, ghosts}
-pub use Rattle.tlsf_c.specs.Counting.{AreHeapCounts, counted, no_counts}
+pub use Rattle.tlsf_c.specs.Counting.{counted, no_counts}
 pub use Rattle.tlsf_c.specs.Drains.{drained, LeavesUnnamed}
 pub use Rattle.tlsf_c.specs.Handles.{serves, heap_in, touched_in, counts_in, posts_named, touches_in, post_of}
 pub use Rattle.tlsf_c.specs.Levels.{LevelHeap, GoesOn}

@@ -6,9 +6,8 @@ pub mod ArenaBox
 pub mod Unwrapping
 mod Draining
 mod Putting
-pub mod CountSums
+mod Counted
 mod Carried
 mod Giving
-mod LeftWords
 mod LeftUnnamed
 mod LeftParts

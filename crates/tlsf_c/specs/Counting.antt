@@ -6,6 +6,7 @@ use Rattle.tlsf_heap.specs.declared.name.Name.{Name}
 use Rattle.tlsf_heap.specs.declared.refusal.Refusal.{Refusal}
 use Rattle.tlsf_heap.specs.declared.refusal.Refusal.TheVariants.{NoFit, Worn, Foreign, Stale, Range, NoRoom}
 use Rattle.tlsf_c.specs.declared.heap_counts.HeapCounts.{HeapCounts}
+use Rattle.tlsf_c.specs.declared.refused.Refused.{Refused}
 
 -- nothing was counted
 abbrev pub no_counts : HeapCounts
@@ -40,7 +41,24 @@ counted_move c at (Ok new) len h =
     if new.at == at then counted c h else counted (record c { most_words = max c.most_words (c.words + words_at h new.at) }) h
 counted_move c at (Err why) len h = counted_if c len why
 
--- they are those of this heap
-pub record AreHeapCounts (h : HeapState) (c : HeapCounts) : Type 0 where
-  pub words : c.words ≡ words_in_use h
-  pub most : c.words ≤ c.most_words
+-- ---- how they are kept
+
+abbrev pub none_refused : Refused
+none_refused = record { requests = 0; longest = 0 }
+
+-- the refused requests and one of `len` bytes, where that was refused for want of room
+abbrev pub noted_if : Refused → ℕ → Refusal → Refused
+noted_if r len NoFit = record { requests = min (r.requests + 1) (2 ^ 32 - 1); longest = max r.longest len }
+noted_if r len Worn = r
+noted_if r len Foreign = r
+noted_if r len Stale = r
+noted_if r len Range = r
+noted_if r len NoRoom = r
+
+abbrev pub noted : {A : Type 0} → Refused → Result A Refusal → ℕ → Refused
+noted r (Ok given) len = r
+noted r (Err why) len = noted_if r len why
+
+-- the counts of a heap of which this many words were ever in use, and that refused these requests
+abbrev pub counts_of : HeapState → ℕ → Refused → HeapCounts
+counts_of h most r = record { words = words_in_use h; most_words = most; refused = r.requests; longest_refused = r.longest }

@@ -15,6 +15,7 @@ mod around;
 mod by_place;
 
 use crate::heap_counts::HeapCounts;
+use crate::refused::Refused;
 use std::alloc::Global;
 use std::marker::Model;
 use tlsf_heap::{Heap, Name, OpenFault, Refusal, Report};
@@ -31,7 +32,7 @@ pub enum OfLevel {
 #[derive(Drop)]
 pub struct AnyHeap {
     // First, so that they lie in the first cache line, beside the heap's number, its tick and where its words are.
-    counts: HeapCounts,
+    refused: Refused,
     of_level: OfLevel,
 }
 
@@ -42,11 +43,7 @@ impl Model for AnyHeap {
 
     ghost use Rattle.tlsf_c.specs.LevelOf.{shown};
 
-    ghost view = { λ a. shown a.of_level a.counts };
-
-    ghost use Rattle.tlsf_c.specs.Counting.{AreHeapCounts};
-
-    ghost invariant = { λ a. AreHeapCounts (shown a.of_level a.counts).heap a.counts };
+    ghost view = { λ a. shown a.of_level a.refused };
 }
 
 impl AnyHeap {
@@ -64,13 +61,13 @@ impl AnyHeap {
         if level == 4 {
             let heap = Heap::<4>::open(alloc, id, words, 0)?;
             Ok(AnyHeap {
-                counts: HeapCounts::new(),
+                refused: Refused::none(),
                 of_level: OfLevel::Four(heap),
             })
         } else {
             let heap = Heap::<5>::open(alloc, id, words, 0)?;
             Ok(AnyHeap {
-                counts: HeapCounts::new(),
+                refused: Refused::none(),
                 of_level: OfLevel::Five(heap),
             })
         }
@@ -78,13 +75,13 @@ impl AnyHeap {
 
     /// `Heap::allocate`.
     pub fn allocate(&mut self, len: u32) -> Result<Name, Refusal>
-        ensures allocates { Allocates (allocate_touches + 1) self.old.level (want len) len (seen_at self.old) (seen_at self.new) result }
+        ensures allocates { Allocates allocate_touches self.old.level (want len) len (seen_at self.old) (seen_at self.new) result }
         ensures goes_on { GoesOn self.old self.new }
         ensures counts { self.new.counts ≡ counted_request self.old.counts result len self.new.heap }
     {
         match &mut self.of_level {
-            OfLevel::Four(heap) => self.counts.allocate(heap, len),
-            OfLevel::Five(heap) => self.counts.allocate(heap, len),
+            OfLevel::Four(heap) => self.refused.allocate(heap, len),
+            OfLevel::Five(heap) => self.refused.allocate(heap, len),
         }
     }
 
@@ -95,8 +92,8 @@ impl AnyHeap {
         ensures counts { self.new.counts ≡ record self.old.counts { words = words_in_use self.new.heap } }
     {
         match &mut self.of_level {
-            OfLevel::Four(heap) => self.counts.release(heap, name),
-            OfLevel::Five(heap) => self.counts.release(heap, name),
+            OfLevel::Four(heap) => heap.release(name),
+            OfLevel::Five(heap) => heap.release(name),
         }
     }
 
@@ -107,20 +104,20 @@ impl AnyHeap {
         ensures counts { self.new.counts ≡ record self.old.counts { words = words_in_use self.new.heap } }
     {
         match &mut self.of_level {
-            OfLevel::Four(heap) => self.counts.reset(heap),
-            OfLevel::Five(heap) => self.counts.reset(heap),
+            OfLevel::Four(heap) => heap.reset(),
+            OfLevel::Five(heap) => heap.reset(),
         }
     }
 
     /// `Heap::resize`.
     pub fn resize(&mut self, name: Name, len: u32) -> Result<(), Refusal>
-        ensures resizes { Resizes (resize_touches + 4) (want len) len (seen_at self.old) (seen_at self.new) name result }
+        ensures resizes { Resizes resize_touches (want len) len (seen_at self.old) (seen_at self.new) name result }
         ensures goes_on { GoesOn self.old self.new }
         ensures counts { self.new.counts ≡ counted self.old.counts self.new.heap }
     {
         match &mut self.of_level {
-            OfLevel::Four(heap) => self.counts.resize(heap, name, len),
-            OfLevel::Five(heap) => self.counts.resize(heap, name, len),
+            OfLevel::Four(heap) => heap.resize(name, len),
+            OfLevel::Five(heap) => heap.resize(name, len),
         }
     }
 
@@ -185,6 +182,15 @@ impl AnyHeap {
         ensures words { result.words ≡ words_in_use self.now.heap }
         ensures most { result.words ≤ result.most_words }
     {
-        self.counts
+        let (words, most_words) = match &self.of_level {
+            OfLevel::Four(heap) => (heap.words_in_use(), heap.most_in_use()),
+            OfLevel::Five(heap) => (heap.words_in_use(), heap.most_in_use()),
+        };
+        HeapCounts {
+            words,
+            most_words,
+            refused: self.refused.requests,
+            longest_refused: self.refused.longest,
+        }
     }
 }

@@ -162,7 +162,7 @@ pub extern "C" fn tlsf_allocate(heap: &mut HeapSlot, len: usize, name: &mut Bloc
     ensures not_mixed { ¬ (want (saturated len) % 2 ≡ 1) → heap.new.is_mixed ≡ heap.old.is_mixed }
     ensures no_note { ¬ (result ≡ 0) → heap.new.is_mixed ≡ heap.old.is_mixed }
     ensures counts { serves heap.old ≡ true → counts_in heap.new ≡ counted_request (counts_in heap.old) (allocated (level_in heap.old) (heap_in heap.old) (saturated len)).answer (saturated len) (heap_in heap.new) }
-    ensures allocates { serves heap.old ≡ true → Allocates (allocate_touches + 1) (level_in heap.old) (want (saturated len)) (saturated len) (seen_in heap.old) (seen_in heap.new) (allocated (level_in heap.old) (heap_in heap.old) (saturated len)).answer }
+    ensures allocates { serves heap.old ≡ true → Allocates allocate_touches (level_in heap.old) (want (saturated len)) (saturated len) (seen_in heap.old) (seen_in heap.new) (allocated (level_in heap.old) (heap_in heap.old) (saturated len)).answer }
 {
     if !heap.serves() {
         // Not by the cold `refusal`, as a release: the longest way would have one instruction more.
@@ -272,7 +272,7 @@ pub extern "C" fn tlsf_resize(heap: &mut HeapSlot, name: BlockName, len: usize) 
     ensures not_mixed { ¬ (want (saturated len) % 2 ≡ 1) → heap.new.is_mixed ≡ heap.old.is_mixed }
     ensures no_note { ¬ (result ≡ 0) → heap.new.is_mixed ≡ heap.old.is_mixed }
     ensures counts { serves heap.old ≡ true → counts_in heap.new ≡ counted (counts_in heap.old) (heap_in heap.new) }
-    ensures resizes { serves heap.old ≡ true → Resizes (resize_touches + 4) (want (saturated len)) (saturated len) (seen_in heap.old) (seen_in heap.new) (name_of name) (resized (heap_in heap.old) (name_of name) (saturated len)).answer }
+    ensures resizes { serves heap.old ≡ true → Resizes resize_touches (want (saturated len)) (saturated len) (seen_in heap.old) (seen_in heap.new) (name_of name) (resized (heap_in heap.old) (name_of name) (saturated len)).answer }
 {
     if !heap.serves() {
         return CallFault::Closed.number();
@@ -314,8 +314,8 @@ pub extern "C" fn tlsf_reallocate(heap: &mut HeapSlot, name: &mut BlockName, len
     ensures no_note { ¬ (result ≡ 0) → heap.new.is_mixed ≡ heap.old.is_mixed }
     ensures forged { serves heap.old ≡ true → FollowsNoForgery (seen_in heap.old) (seen_in heap.new) (name_of name.old) }
     ensures counts { serves heap.old ≡ true → counts_in heap.new ≡ counted_move (counts_in heap.old) (name_of name.old).at (resized_or_moved (level_in heap.old) (heap_in heap.old) (name_of name.old) (saturated len)).answer (saturated len) (heap_in heap.new) }
-    ensures in_place { serves heap.old ≡ true → IsOk (resized (heap_in heap.old) (name_of name.old) (saturated len)).answer → touches_in heap.new ≤ touches_in heap.old + resize_touches + 6 + words_grown (heap_in heap.old) (saturated len) (name_of name.old) }
-    ensures elsewhere { serves heap.old ≡ true → ¬ (IsOk (resized (heap_in heap.old) (name_of name.old) (saturated len)).answer) → touches_in heap.new ≤ touches_in heap.old + resize_touches + 66 + 3 * payload_words_moved (level_in heap.old) (heap_in heap.old) (saturated len) }
+    ensures in_place { serves heap.old ≡ true → IsOk (resized (heap_in heap.old) (name_of name.old) (saturated len)).answer → touches_in heap.new ≤ touches_in heap.old + resize_touches + 1 + words_grown (heap_in heap.old) (saturated len) (name_of name.old) }
+    ensures elsewhere { serves heap.old ≡ true → ¬ (IsOk (resized (heap_in heap.old) (name_of name.old) (saturated len)).answer) → touches_in heap.new ≤ touches_in heap.old + resize_touches + 61 + 3 * payload_words_moved (level_in heap.old) (heap_in heap.old) (saturated len) }
     ensures leaves { serves heap.old ≡ true → LeavesPayloads (heap_in heap.old).blocks name.old.at (touched_in heap.old) (touched_in heap.new) }
     ensures leaves_all { serves heap.old ≡ true → ¬ (result ≡ 0) → LeavesLive (heap_in heap.old).blocks (touched_in heap.old) (touched_in heap.new) }
 {

@@ -15,7 +15,6 @@ mod boxed_end;
 mod boxed_heap;
 mod call_fault;
 mod check_calls;
-mod counting;
 mod end_slot;
 mod heap_calls;
 mod heap_counts;
@@ -33,6 +32,7 @@ mod pool_calls;
 mod pool_places;
 mod queue_calls;
 mod queue_end;
+mod refused;
 mod spans;
 
 use crate::arena_slot::ArenaSlot;

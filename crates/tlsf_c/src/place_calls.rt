@@ -1,7 +1,7 @@
 //! C's calls of a heap by place, the number of the word at which a block begins. They are for a caller who has its address and
 //! keeps no name.
 ghost use Rattle.std.specs.Prelude.{◌≡◌, true, false, ◌≤◌, ◌+◌, ◌*◌, ◌/◌, ◌%◌, max, Ok, Option, Some, None, IsOk};
-ghost use Rattle.tlsf_heap.specs.ByPlace.{name_at, released_by_place, resized_by_place};
+ghost use Rattle.tlsf_heap.specs.ByPlace.{kept_at, name_at, released_by_place, resized_by_place, resized_or_moved_by_place};
 ghost use Rattle.tlsf_heap.specs.Aligned.{words_aligned};
 ghost use Rattle.tlsf_heap.specs.Blocks.{want, IsPlace};
 ghost use Rattle.tlsf_heap.specs.Calls.{allocated};
@@ -22,7 +22,7 @@ ghost use Rattle.tlsf_heap.specs.WordsInUse.{words_in_use};
 ghost use Rattle.tlsf_c.specs.Counting.{counted_request, counted_move};
 ghost use Rattle.tlsf_c.specs.Lengths.{saturated};
 ghost use Rattle.tlsf_c.specs.Names.{name_of, info_of, not_placed, placed_name};
-ghost use Rattle.tlsf_c.specs.PlaceCalls.{length_at, kept_at, resized_or_moved_by_place};
+ghost use Rattle.tlsf_c.specs.PlaceCalls.{length_at};
 ghost use Rattle.tlsf_heap.specs.Touched.{FollowsNoPlace};
 ghost use Rattle.tlsf_c.specs.Refusals.{status_of, closed, damage};
 
@@ -49,7 +49,7 @@ pub extern "C" fn tlsf_allocate_place(heap: &mut HeapSlot, len: usize) -> Placed
         × (heap_in heap.new ≡ unset_from (allocated (level_in heap.old) (heap_in heap.old) (saturated len)).heap name (stored_in heap.new) 0 (saturated len)) }
     ensures refused { serves heap.old ≡ true → ¬ (result.answer ≡ 0) → heap_in heap.new ≡ heap_in heap.old }
     ensures counts { serves heap.old ≡ true → counts_in heap.new ≡ counted_request (counts_in heap.old) (allocated (level_in heap.old) (heap_in heap.old) (saturated len)).answer (saturated len) (heap_in heap.new) }
-    ensures touches { serves heap.old ≡ true → touches_in heap.new ≤ touches_in heap.old + 33 }
+    ensures touches { serves heap.old ≡ true → touches_in heap.new ≤ touches_in heap.old + 31 }
     ensures leaves { serves heap.old ≡ true → LeavesLive (heap_in heap.old).blocks (touched_in heap.old) (touched_in heap.new) }
 {
     if !heap.serves() {
@@ -90,7 +90,7 @@ pub extern "C" fn tlsf_allocate_aligned(
     ensures aligned { serves heap.old ≡ true → result.answer ≡ 0 → (result.at + 3 + skew) % max step 1 ≡ 0 }
     ensures refused { serves heap.old ≡ true → ¬ (result.answer ≡ 0) → heap_in heap.new ≡ heap_in heap.old }
     ensures counts { serves heap.old ≡ true → counts_in heap.new ≡ counted_request (counts_in heap.old) (words_aligned (level_in heap.old) (heap_in heap.old) (want (saturated len)) (max step 1) skew).answer (saturated len) (heap_in heap.new) }
-    ensures touches { serves heap.old ≡ true → touches_in heap.new ≤ touches_in heap.old + 118 }
+    ensures touches { serves heap.old ≡ true → touches_in heap.new ≤ touches_in heap.old + 113 }
     ensures leaves { serves heap.old ≡ true → LeavesLive (heap_in heap.old).blocks (touched_in heap.old) (touched_in heap.new) }
 {
     if !heap.serves() {
@@ -165,8 +165,8 @@ pub extern "C" fn tlsf_resize_place(
     ensures kept { ¬ (result ≡ 0) → new_at.new ≡ new_at.old }
     ensures wild { serves heap.old ≡ true → FollowsNoPlace (heap_in heap.old) at (touches_in heap.old) (touches_in heap.new) }
     ensures counts { serves heap.old ≡ true → counts_in heap.new ≡ counted_move (counts_in heap.old) at (resized_or_moved_by_place (level_in heap.old) (heap_in heap.old) at (saturated len)).answer (saturated len) (heap_in heap.new) }
-    ensures touches { serves heap.old ≡ true → touches_in heap.new ≤ touches_in heap.old + 107 + 2 * (kept_at (heap_in heap.old) at (saturated len) / 8) }
-    ensures in_place { serves heap.old ≡ true → IsOk (resized_by_place (heap_in heap.old) at (saturated len)).answer → touches_in heap.new ≤ touches_in heap.old + 41 }
+    ensures touches { serves heap.old ≡ true → touches_in heap.new ≤ touches_in heap.old + 96 + 2 * (kept_at (heap_in heap.old) at (saturated len) / 8) }
+    ensures in_place { serves heap.old ≡ true → IsOk (resized_by_place (heap_in heap.old) at (saturated len)).answer → touches_in heap.new ≤ touches_in heap.old + 30 }
     ensures leaves { serves heap.old ≡ true → LeavesPayloads (heap_in heap.old).blocks at (touched_in heap.old) (touched_in heap.new) }
     ensures leaves_all { serves heap.old ≡ true → ¬ (result ≡ 0) → LeavesLive (heap_in heap.old).blocks (touched_in heap.old) (touched_in heap.new) }
 {
@@ -177,7 +177,7 @@ pub extern "C" fn tlsf_resize_place(
     let held = heap.inner.lend();
     held.is_in_use = true;
     let owned = &mut held.heap;
-    let answer = owned.resize_place(at, len);
+    let answer = owned.resize_or_move_unset_at(at, len);
     held.is_in_use = false;
     match answer {
         Ok(name) => {

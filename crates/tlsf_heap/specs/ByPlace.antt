@@ -1,8 +1,9 @@
 -- Calls on the live block that begins at a place, whatever its serial.
-use Rattle.std.specs.Prelude.{◌≡◌, ℕ, List, Option, Some, None, Result, false, MatchOption, MatchResult}
+use Rattle.std.specs.Prelude.{◌≡◌, ℕ, List, Option, Some, None, Result, false, length, min, MatchOption, MatchResult}
 use Rattle.tlsf_heap.specs.Blocks.{Block, HeapState, is_free, StandsAt}
 use Rattle.tlsf_heap.specs.Calls.{Outcome, refused, released, resized}
-use Rattle.tlsf_heap.specs.InPlace.{words_grown}
+use Rattle.tlsf_heap.specs.InPlace.{payload_of}
+use Rattle.tlsf_heap.specs.Moved.{resized_or_moved}
 use Rattle.tlsf_heap.specs.GoodFit.{block_at, site_at}
 use Rattle.tlsf_heap.specs.Placed.{placed_at}
 use Rattle.tlsf_heap.specs.Regions.{IsTagOf}
@@ -48,10 +49,17 @@ released_by_place h at = call_by h (released h) (name_at h at)
 abbrev pub resized_by_place : HeapState → ℕ → ℕ → Outcome (Unit {0})
 resized_by_place h at len = call_by h (λ name. resized h name len) (name_at h at)
 
--- the words by which its payload grows there, none where no live block begins there
-abbrev pub grown_of : HeapState → ℕ → Option Name → ℕ
-grown_of h len None = 0
-grown_of h len (Some name) = words_grown h len name
+-- that block gets `len` bytes where it stands, and where there is no room it is moved
+abbrev pub resized_or_moved_by_place : ℕ → HeapState → ℕ → ℕ → Outcome Name
+resized_or_moved_by_place sli h at len = call_by h (λ name. resized_or_moved sli h name len) (name_at h at)
+
+-- how many bytes of its payload a resize to `len` keeps
+abbrev pub kept_of : HeapState → ℕ → Option Name → ℕ
+kept_of h len None = 0
+kept_of h len (Some name) = min (length (payload_of h name)) len
+
+abbrev pub kept_at : HeapState → ℕ → ℕ → ℕ
+kept_at h at len = kept_of h len (name_at h at)
 
 -- block i is live and begins at this place
 pub record IsLiveAt (blocks : List Block) (at i : ℕ) : Type 0 where

@@ -5,12 +5,14 @@ use Rattle.tlsf_heap.specs.Blocks.{HeapState}
 use Rattle.tlsf_heap.specs.Image.{Image}
 
 -- the sequential heap, the words that are stored in its region, the classes whose bits are set, and the memory that it has. Also
--- its touches: reads and writes of a stored word, a start bit, a head of a list or a word of the bitmaps
+-- the most words that were ever in use, and its touches. These are reads and writes of a stored word, a start bit, a head of a list
+-- or a word of the bitmaps
 pub record Shown : Type 0 where
   pub heap : HeapState
   pub stored : Image
   pub marked : List ℕ
   pub extents : Extents
+  pub most_in_use : ℕ
   pub touches : ℕ
   pub touched : List ℕ
 

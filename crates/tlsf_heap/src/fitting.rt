@@ -13,11 +13,20 @@ ghost use Rattle.tlsf_heap.specs.Calls.{carved, coalesced, last_free, last_tick}
 ghost use Rattle.tlsf_heap.specs.CarvedUnset.{CarvedUnset};
 ghost use Rattle.tlsf_heap.specs.FreePlaces.{AreFreeLists};
 ghost use Rattle.tlsf_heap.specs.Touched.{groups_of};
+ghost use Rattle.tlsf_heap.specs.WordsInUse.{words_used};
 ghost use Rattle.tlsf_words.specs.Touched.{InGroups};
 
 use crate::region::Region;
 use tlsf_class::{Class, class_of, most_words, search_of};
 use tlsf_words::Tag;
+
+/// A block that was given.
+#[derive(Clone, Copy)]
+pub struct Given {
+    pub at: u32,
+    /// Its words, the three of its header with them.
+    pub words: u32,
+}
 
 /// The class whose list has the block that serves a request of `words` words as its head.
 pub fn choose<const SLI: u32>(region: &mut Region<SLI>, words: u32) -> Option<Class<SLI>>
@@ -37,8 +46,9 @@ pub fn choose<const SLI: u32>(region: &mut Region<SLI>, words: u32) -> Option<Cl
 }
 
 /// Takes the head of the list of a class, a free block. Makes it a live one of `words` words with `len` bytes of payload. The rest
-/// stays a free block, unless it would have fewer than four words: then the whole block is given. Answers its place. The last
-/// `spare` of the `words` aren't of its payload. Neither they nor the words that the block has above `words` are made zero.
+/// stays a free block, unless it would have fewer than four words: then the whole block is given. Answers its place, and how many
+/// words it has. The last `spare` of the `words` aren't of its payload. Neither they nor the words that the block has above `words`
+/// are made zero.
 // Always inline. In a call of its own, as where several calls of a heap end in it, each of them takes fourteen to thirty
 // instructions more.
 // The serial comes by value, and is read once: for all that LLVM knows, the list's links are written where the tick lies.
@@ -50,7 +60,7 @@ pub fn carve<const SLI: u32>(
     serial: u64,
     len: u32,
     spare: u32,
-) -> u32
+) -> Given
     requires level { IsLevel SLI }
     requires payload { want len + spare ≤ words }
     requires fits { (at : ℕ) × (i : ℕ) × IsHead SLI region.old.blocks (list_in region.old.lists) class at i × (is_free (block_at region.old.blocks i) ≡ true) × (words ≤ size_of (block_at region.old.blocks i)) }
@@ -58,17 +68,18 @@ pub fn carve<const SLI: u32>(
     requires small { words_in region.old.blocks ≤ most_words SLI }
     requires listed { AreFreeLists SLI region.old.blocks (list_in region.old.lists) }
     requires stamped { AllByRecursion (λ s. s < serial) (stamps region.old.blocks) }
-    ensures place { slice_get (list_in region.old.lists class.entry) 0 ≡ Some result }
-    ensures blocks { EachAt region.old.blocks result (λ s. region.new.blocks ≡ s.before ++ carved (size_of s.block) words serial len ++ s.after) }
+    ensures place { slice_get (list_in region.old.lists class.entry) 0 ≡ Some result.at }
+    ensures blocks { EachAt region.old.blocks result.at (λ s. region.new.blocks ≡ s.before ++ carved (size_of s.block) words serial len ++ s.after) }
+    ensures used { words_used region.new.blocks ≡ words_used region.old.blocks + result.words }
     ensures listed { AreFreeLists SLI region.new.blocks (list_in region.new.lists) }
     ensures touched { LeavesLive region.old.blocks region.old.touched region.new.touched }
-    ensures edits { (i : ℕ) → StandsAt region.old.blocks result i → Edits region.old region.new (23 + (payload_words (block_at region.new.blocks i) - spare)) }
+    ensures edits { (i : ℕ) → StandsAt region.old.blocks result.at i → Edits region.old region.new (23 + (payload_words (block_at region.new.blocks i) - spare)) }
     ensures groups { InGroups (11 + groups_of (words - 4 - spare)) region.old.touched region.new.touched }
 {
-    let at = region.pop_first(class);
-    let own = region.tag(at);
-    give(region, at, own, words, serial, len, spare);
-    at
+    let given = carve_unset(region, class, words, serial, len);
+    // The zeros last, so that few registers are wanted at once: three are saved.
+    region.zero(given.at, words - 4 - spare);
+    given
 }
 
 /// Takes the head of the list of a class, as `carve`, and fills nothing. The payload of the block has the bytes that lie there, whose
@@ -81,7 +92,7 @@ pub fn carve_unset<const SLI: u32>(
     words: u32,
     serial: u64,
     len: u32,
-) -> u32
+) -> Given
     requires level { IsLevel SLI }
     requires payload { want len ≤ words }
     requires fits { (at : ℕ) × (i : ℕ) × IsHead SLI region.old.blocks (list_in region.old.lists) class at i × (is_free (block_at region.old.blocks i) ≡ true) × (words ≤ size_of (block_at region.old.blocks i)) }
@@ -89,62 +100,31 @@ pub fn carve_unset<const SLI: u32>(
     requires small { words_in region.old.blocks ≤ most_words SLI }
     requires listed { AreFreeLists SLI region.old.blocks (list_in region.old.lists) }
     requires stamped { AllByRecursion (λ s. s < serial) (stamps region.old.blocks) }
-    ensures place { slice_get (list_in region.old.lists class.entry) 0 ≡ Some result }
-    ensures carved { EachAt region.old.blocks result (λ s. CarvedUnset SLI region.old region.new s result words serial len 24) }
+    ensures place { slice_get (list_in region.old.lists class.entry) 0 ≡ Some result.at }
+    ensures carved { EachAt region.old.blocks result.at (λ s. CarvedUnset SLI region.old region.new s result.at words serial len 24) }
+    ensures used { words_used region.new.blocks ≡ words_used region.old.blocks + result.words }
     ensures touched { LeavesLive region.old.blocks region.old.touched region.new.touched }
     ensures groups { InGroups 11 region.old.touched region.new.touched }
 {
     let at = region.pop_first(class);
     let own = region.tag(at);
-    give_unset(region, at, own, words, serial, len);
-    at
+    let words = give_unset(region, at, own, words, serial, len);
+    Given { at, words }
 }
 
-/// Makes the free block at a place a live one of `words` words with `len` bytes of payload. The free block has this tag and is in
-/// no list. The rest stays a free block, unless it would have fewer than four words: then the whole block is given. The last
-/// `spare` of the `words` aren't of its payload. Neither they nor the words that the block has above `words` are made zero.
-// Always inline: `carve` is then as it was with this in its body, and an allocate takes no instruction more.
+/// Makes the free block at a place a live one of `words` words with `len` bytes of payload, and fills nothing. The payload has the
+/// bytes that lie there, whose first word is made zero. The free block has this tag and is in no list. The rest stays a free block,
+/// unless it would have fewer than four words: then the whole block is given. Answers how many words it has.
+// Always inline, as `carve` is.
 #[inline(always)]
-pub fn give<const SLI: u32>(
+pub fn give_unset<const SLI: u32>(
     region: &mut Region<SLI>,
     at: u32,
     own: Tag,
     words: u32,
     serial: u64,
     len: u32,
-    spare: u32,
-)
-    requires level { IsLevel SLI }
-    requires payload { want len + spare ≤ words }
-    requires free { HasAt region.old.blocks at (λ s. (is_free s.block ≡ true) × (words ≤ size_of s.block)) }
-    requires own { EachAt region.old.blocks at (λ s. IsTagOf region.old.words s own) }
-    requires sized { AreRegions SLI region.old.blocks }
-    requires small { words_in region.old.blocks ≤ most_words SLI }
-    requires listed { EachAt region.old.blocks at (λ s. AreFreeLists SLI (withheld_alone s) (list_in region.old.lists)) }
-    requires stamped { AllByRecursion (λ s. s < serial) (stamps region.old.blocks) }
-    ensures blocks { EachAt region.old.blocks at (λ s. region.new.blocks ≡ s.before ++ carved (size_of s.block) words serial len ++ s.after) }
-    ensures listed { AreFreeLists SLI region.new.blocks (list_in region.new.lists) }
-    ensures touched { LeavesLive region.old.blocks region.old.touched region.new.touched }
-    ensures edits { (i : ℕ) → StandsAt region.old.blocks at i → Edits region.old region.new (15 + (payload_words (block_at region.new.blocks i) - spare)) }
-    ensures groups { InGroups (7 + groups_of (words - 4 - spare)) region.old.touched region.new.touched }
-{
-    // The zeros last, so that few registers are wanted at once: three are saved.
-    give_unset(region, at, own, words, serial, len);
-    region.zero(at, words - 4 - spare);
-}
-
-/// Makes the free block at a place a live one, as `give`, and fills nothing. The payload of the block has the bytes that lie there,
-/// whose first word is made zero.
-// Always inline, as `give` is.
-#[inline(always)]
-fn give_unset<const SLI: u32>(
-    region: &mut Region<SLI>,
-    at: u32,
-    own: Tag,
-    words: u32,
-    serial: u64,
-    len: u32,
-)
+) -> u32
     requires level { IsLevel SLI }
     requires payload { want len ≤ words }
     requires free { HasAt region.old.blocks at (λ s. (is_free s.block ≡ true) × (words ≤ size_of s.block)) }
@@ -154,17 +134,18 @@ fn give_unset<const SLI: u32>(
     requires listed { EachAt region.old.blocks at (λ s. AreFreeLists SLI (withheld_alone s) (list_in region.old.lists)) }
     requires stamped { AllByRecursion (λ s. s < serial) (stamps region.old.blocks) }
     ensures carved { EachAt region.old.blocks at (λ s. CarvedUnset SLI region.old region.new s at words serial len 16) }
+    ensures used { words_used region.new.blocks ≡ words_used region.old.blocks + result }
     ensures touched { LeavesLive region.old.blocks region.old.touched region.new.touched }
     ensures groups { InGroups 7 region.old.touched region.new.touched }
 {
     let (rest, left) = rest_of(own, words, at);
     // Both headers before the rest is listed, so that few registers are wanted at once.
     if left < 4 {
-        region.grant(at, own, serial, len);
-    } else {
-        region.split(at, own, rest, words, serial, len);
-        region.push(class_of(left), at + words);
+        return region.grant(at, own, serial, len);
     }
+    region.split(at, own, rest, words, serial, len);
+    region.push(class_of(left), at + words);
+    words
 }
 
 /// The tag of the rest after the first `words` words of the block of this tag at a place, and how many words it has.

@@ -14,11 +14,12 @@ ghost use Rattle.tlsf_heap.specs.Moved.{copied, moved, payload_words_moved, resi
 ghost use Rattle.tlsf_heap.specs.GoodFit.{block_at};
 ghost use Rattle.tlsf_heap.specs.Named.{IsFirst, IsNameCheck};
 ghost use Rattle.tlsf_heap.specs.Regions.{image_of};
-ghost use Rattle.tlsf_heap.specs.Given.{payload_words_at};
+ghost use Rattle.tlsf_heap.specs.Given.{payload_words_at, payload_words_left};
 ghost use Rattle.tlsf_heap.specs.Unset.{lying, with_payload};
 ghost use Rattle.tlsf_heap.specs.Touched.{FollowsNoForgery, FollowsNoPlace, allocate_groups, allocate_touches, move_groups, release_groups, release_touches, resize_groups, resize_touches, read_touches, write_touches};
-ghost use Rattle.tlsf_heap.specs.Calls.{opened, released, resized, named, written, read_of, read_answer, has_bytes, last_tick};
+ghost use Rattle.tlsf_heap.specs.Calls.{opened, released, resized, resized_words, named, written, read_of, read_answer, has_bytes, last_tick};
 ghost use Rattle.tlsf_heap.specs.Kept.{IsAsBefore, Keeps};
+ghost use Rattle.tlsf_heap.specs.WordsInUse.{peak_moved, Peaks};
 ghost use Rattle.tlsf_words.specs.Touched.{InGroups};
 ghost use Rattle.tlsf_heap.specs.Shown.{seen};
 
@@ -29,18 +30,19 @@ mod check_around;
 mod check_request;
 mod live;
 mod reset;
+mod tells;
 mod unset;
-mod words_in_use;
 
 use crate::fitting::{carve, choose, coalesce};
 use crate::name::Name;
 use crate::open_fault::OpenFault;
 use crate::placed_block::PlacedBlock;
-use crate::refitting::{look_behind, refit};
+use crate::refitting::{grow, look_behind, shrink};
 use crate::refusal::Refusal;
 use crate::region::Region;
 use crate::report::Report;
 use crate::tally::Tally;
+use crate::usage::Usage;
 use std::alloc::Global;
 use std::marker::Model;
 use tlsf_class::{class_of, most_words};
@@ -54,8 +56,8 @@ use tlsf_words::{Tag, Words};
 /// Contracts see it as its number, its words, its tick and its blocks in the order of their places. The tick begins one above the
 /// first, rises by one with each accepted allocate, release or resize, and stamps what they change. Beside them they see the words
 /// and start bits that are stored in its region, and the classes whose bits are set (`marked`). They see where its memory lies and
-/// how large it is (`extents`), and its touches. These tell how often a stored word, a start bit, the head of a list or a word of
-/// the bitmaps was read or written.
+/// how large it is (`extents`), the most words that were ever in use (`most_in_use`), and its touches. These tell how often a stored
+/// word, a start bit, the head of a list or a word of the bitmaps was read or written.
 ///
 /// Places and sizes are in words of 8 bytes, lengths in bytes.
 #[derive(Drop)]
@@ -64,6 +66,7 @@ pub struct Heap<const SLI: u32> {
     // words and the map of starts lie, and the bitmaps. The heads of the lists are long, and last.
     id: u32,
     tick: u64,
+    usage: Usage,
     region: Region<SLI>,
 }
 
@@ -74,7 +77,7 @@ impl<const SLI: u32> Model for Heap<SLI> {
 
     ghost use Rattle.tlsf_heap.specs.Stored.{IsStored, state_of};
 
-    ghost view = { λ h. record { heap = state_of SLI h; stored = h.region.stored; marked = h.region.marked; extents = h.region.extents; touches = h.region.touches; touched = h.region.touched } };
+    ghost view = { λ h. record { heap = state_of SLI h; stored = h.region.stored; marked = h.region.marked; extents = h.region.extents; most_in_use = h.usage.most; touches = h.region.touches; touched = h.region.touched } };
 
     ghost invariant = { IsStored SLI };
 }
@@ -114,6 +117,8 @@ impl<const SLI: u32> Heap<SLI> {
         ensures bad_size { IsErrOf result OpenFault.BadSize ↔ ¬ (IsRegion SLI words) }
         ensures worn { IsRegion SLI words → (IsErrOf result OpenFault.Worn ↔ (first ≡ last_tick)) }
 
+        ensures most { IfOk result (λ heap. heap.most_in_use ≡ 0) }
+
         // Three for the header of the free block and its start bit, and seven at most to list it. The first zeros aren't counted.
         ensures touches { IfOk result (λ heap. heap.touches ≤ 10) }
     {
@@ -130,6 +135,7 @@ impl<const SLI: u32> Heap<SLI> {
         Ok(Heap {
             id,
             tick: first + 1,
+            usage: Usage::none(),
             region,
         })
     }
@@ -152,6 +158,7 @@ impl<const SLI: u32> Heap<SLI> {
         // A refusal changes nothing.
         ensures err { OnErr result (IsAsBefore self.old self.new) }
         ensures keeps { Keeps SLI self.old self.new }
+        ensures peak { Peaks self.old self.new }
 
         // All lies in this many groups of eight words, and one more for each 64 bytes, but start bits and the lists.
         ensures groups { InGroups (allocate_groups + len / 64) self.old.touched self.new.touched }
@@ -187,6 +194,7 @@ impl<const SLI: u32> Heap<SLI> {
         // A refusal changes nothing.
         ensures err { OnErr result (IsAsBefore self.old self.new) }
         ensures keeps { Keeps SLI self.old self.new }
+        ensures peak { Peaks self.old self.new }
 
         // The block given has the words wanted.
         ensures room { IfOk result (λ name. words ≤ 3 + payload_words_at (named name self.new.heap.blocks)) }
@@ -199,13 +207,14 @@ impl<const SLI: u32> Heap<SLI> {
         if self.tick == u64::MAX {
             return Err(Refusal::Worn);
         }
-        let at = carve(&mut self.region, class, words, self.tick, len, spare);
+        let given = carve(&mut self.region, class, words, self.tick, len, spare);
+        self.usage.give(given.words);
         // Read again: a register that outlives the zeroing costs more.
         let serial = self.tick;
         self.tick += 1;
         Ok(Name {
             heap: self.id,
-            at,
+            at: given.at,
             serial,
         })
     }
@@ -228,6 +237,7 @@ impl<const SLI: u32> Heap<SLI> {
         // A refusal changes nothing.
         ensures err { OnErr result (IsAsBefore self.old self.new) }
         ensures keeps { Keeps SLI self.old self.new }
+        ensures most { self.new.most_in_use ≡ self.old.most_in_use }
 
         // All lies in this many groups of eight words, but start bits and the lists.
         ensures groups { InGroups release_groups self.old.touched self.new.touched }
@@ -261,6 +271,7 @@ impl<const SLI: u32> Heap<SLI> {
         // A refusal changes nothing.
         ensures err { OnErr result (IsAsBefore self.old self.new) }
         ensures keeps { Keeps SLI self.old self.new }
+        ensures peak { Peaks self.old self.new }
 
         // All lies in this many groups of eight words, and one more for each 64 bytes that are new, but start bits and the lists.
         ensures groups { InGroups (resize_groups + (len - length (payload_of self.old.heap name)) / 64) self.old.touched self.new.touched }
@@ -289,23 +300,14 @@ impl<const SLI: u32> Heap<SLI> {
         // A refusal changes nothing.
         ensures err { OnErr result (IsAsBefore self.old self.new) }
         ensures keeps { Keeps SLI self.old self.new }
+        ensures peak { Peaks self.old self.new }
 
         // All lies in this many groups of eight words, and one more for each 64 bytes that are new, but start bits and the lists.
         ensures groups { InGroups (resize_groups + (len - length (payload_of self.old.heap name)) / 64) self.old.touched self.new.touched }
         ensures refused_groups { OnErr result (InGroups 3 self.old.touched self.new.touched) }
     {
         let own = self.check(name)?;
-        let next = look_behind(&mut self.region, name.at, own);
-        let room = own.size() + next.size();
-        if room < words {
-            return Err(Refusal::NoRoom);
-        }
-        if self.tick == u64::MAX {
-            return Err(Refusal::Worn);
-        }
-        refit(&mut self.region, name.at, own, next, words, len, self.tick);
-        self.tick += 1;
-        Ok(())
+        self.refit(name, own, words, len)
     }
 
     /// Makes the payload of the block of that name `len` bytes long where the block stands, as `resize`. Where there is no room it
@@ -330,6 +332,7 @@ impl<const SLI: u32> Heap<SLI> {
         // A refusal changes nothing.
         ensures err { OnErr result (IsAsBefore self.old self.new) }
         ensures keeps { Keeps SLI self.old self.new }
+        ensures peak { self.new.most_in_use ≡ peak_moved self.old name.at result self.new.heap }
 
         // Whatever the region holds. Where the block stays, these are the touches of `resize`. Else a refused `resize` takes 27,
         // and a move 61 and three for each payload word of the new block.
@@ -342,11 +345,8 @@ impl<const SLI: u32> Heap<SLI> {
         ensures refused { OnErr result (LeavesLive self.old.heap.blocks self.old.touched self.new.touched) }
         ensures forged { FollowsNoForgery (seen self.old) (seen self.new) name }
     {
-        match self.resize(name, len) {
-            Ok(()) => Ok(name),
-            Err(Refusal::NoRoom) => self.relocate(name, len),
-            Err(why) => Err(why),
-        }
+        let own = self.check(name)?;
+        self.refit_or_move(name, own, len)
     }
 
     /// Writes bytes into the payload of the block of that name, from byte `at` of it on.
@@ -367,6 +367,7 @@ impl<const SLI: u32> Heap<SLI> {
         // A refusal changes nothing.
         ensures err { OnErr result (IsAsBefore self.old self.new) }
         ensures keeps { Keeps SLI self.old self.new }
+        ensures most { self.new.most_in_use ≡ self.old.most_in_use }
     {
         self.check_range(name, at, bytes.len())?;
         self.region.write(name.at, at, bytes);
@@ -417,6 +418,7 @@ impl<const SLI: u32> Heap<SLI> {
         // A refusal changes nothing.
         ensures err { OnErr result (IsAsBefore self.old self.new) }
         ensures keeps { Keeps SLI self.old self.new }
+        ensures most { self.new.most_in_use ≡ self.old.most_in_use }
         ensures touches { self.new.touches ≤ self.old.touches + 4 }
         ensures leaves { LeavesLive self.old.heap.blocks self.old.touched self.new.touched }
         ensures forged { FollowsNoForgery (seen self.old) (seen self.new) name }
@@ -448,20 +450,6 @@ impl<const SLI: u32> Heap<SLI> {
     {
         let len = self.check_payload(name)?;
         Ok(self.region.inspect(name.at, len, f))
-    }
-
-    /// The address of the region's first word, until the heap ends: the payload of the block at a place begins at byte `8 * (at + 3)` from there.
-    /// Takes no memory.
-    ///
-    /// ```text
-    /// let base = heap.base();                         // that which `heap.payload(name)` answers with a length
-    /// ```
-    pub fn base(&mut self) -> *mut u64
-        ensures address { result ≡ self.old.extents.words.address }
-        ensures heap { self.new ≡ self.old }
-        ensures keeps { Keeps SLI self.old self.new }
-    {
-        self.region.base()
     }
 
     /// The address of the region's first word, and how many bytes of payload the block of that name has. Its payload begins
@@ -518,30 +506,6 @@ impl<const SLI: u32> Heap<SLI> {
         ensures most { self.old.heap.words ≤ most_words SLI }
     {
         self.region.block_at(at)
-    }
-
-    /// The number of the heap, which the names of its blocks have.
-    ///
-    /// ```text
-    /// Heap::<4>::open(alloc, 7, 64, 0)?.id()           // 7
-    /// ```
-    pub fn id(&self) -> u32
-        ensures { result ≡ self.now.heap.id }
-    {
-        self.id
-    }
-
-    /// The tick of the heap: that which the next accepted allocate, release or resize stamps, 1 to 2^64 - 1. A block that is free since tick
-    /// s has been free for `tick - s` ticks.
-    ///
-    /// ```text
-    /// let mut heap = Heap::<4>::open(alloc, 0, 64, 0)?;
-    /// heap.tick()                                      // 1, and 2 after an accepted allocate
-    /// ```
-    pub fn tick(&self) -> u64
-        ensures { result ≡ self.now.heap.tick }
-    {
-        self.tick
     }
 
     /// Ends the heap, and gives the words of its region and the map of the places where its blocks begin, as they stand. It is for
@@ -615,8 +579,7 @@ impl<const SLI: u32> Heap<SLI> {
     }
 
     /// Takes back the live block at a place, of this tag. A tick is left.
-    // Who counts takes the words off before this, once the tick is checked. So nothing of the count lives in a register over the
-    // merge.
+    // The words come off the count first. So nothing of it lives in a register over the merge.
     #[inline(always)]
     fn give_back(&mut self, at: u32, own: Tag)
         requires live { IsPlaceCheck self.old.heap at (Ok own) }
@@ -624,11 +587,55 @@ impl<const SLI: u32> Heap<SLI> {
         ensures answer { (released_by_place self.old.heap at).answer ≡ Ok tt }
         ensures heap { self.new.heap ≡ (released_by_place self.old.heap at).heap }
         ensures keeps { Keeps SLI self.old self.new }
+        ensures most { self.new.most_in_use ≡ self.old.most_in_use }
         ensures touches { self.new.touches ≤ self.old.touches + 27 }
         ensures leaves { LeavesPayloads self.old.heap.blocks at self.old.touched self.new.touched }
         ensures groups { InGroups 13 self.old.touched self.new.touched }
     {
+        self.usage.take_back(own.size());
         coalesce(&mut self.region, &mut self.tick, at, own);
+    }
+
+    /// A `resize_words` of the live block of that name, of this tag, which was found.
+    // The block behind is read only if this one grows, or if something is cut off.
+    #[inline(always)]
+    fn refit(&mut self, name: Name, own: Tag, words: u32, len: u32) -> Result<(), Refusal>
+        requires payload { Blocks.want len ≤ words }
+        requires found { IsNameCheck self.old.heap name (Ok own) }
+        ensures answer { result ≡ (resized_words self.old.heap name words len).answer }
+        ensures heap { self.new.heap ≡ (resized_words self.old.heap name words len).heap }
+        ensures err { OnErr result (IsAsBefore self.old self.new) }
+        ensures keeps { Keeps SLI self.old self.new }
+        ensures peak { Peaks self.old self.new }
+        ensures touches { self.new.touches ≤ self.old.touches + 24 + payload_words_left result self.new.heap name }
+        ensures grown { self.new.touches ≤ self.old.touches + 25 + words_grown self.old.heap len name }
+        ensures leaves { LeavesPayloads self.old.heap.blocks name.at self.old.touched self.new.touched }
+        ensures groups { InGroups (13 + (len - length (payload_of self.old.heap name)) / 64) self.old.touched self.new.touched }
+        ensures refused_groups { OnErr result (InGroups 1 self.old.touched self.new.touched) }
+        ensures refused { OnErr result (LeavesLive self.old.heap.blocks self.old.touched self.new.touched) }
+    {
+        let held = own.size();
+        if words <= held {
+            if self.tick == u64::MAX {
+                return Err(Refusal::Worn);
+            }
+            let left = shrink(&mut self.region, name.at, own, words, len, self.tick);
+            self.usage.take_back(held - left);
+            self.tick += 1;
+            return Ok(());
+        }
+        let next = look_behind(&mut self.region, name.at, own);
+        let room = held + next.size();
+        if room < words {
+            return Err(Refusal::NoRoom);
+        }
+        if self.tick == u64::MAX {
+            return Err(Refusal::Worn);
+        }
+        let left = grow(&mut self.region, name.at, own, next, words, len, self.tick);
+        self.usage.give(left - held);
+        self.tick += 1;
+        Ok(())
     }
 
     /// The payload length in bytes of the live block of that name. Where none has it, `Foreign` or else `Stale`.
@@ -667,6 +674,28 @@ impl<const SLI: u32> Heap<SLI> {
         Ok(())
     }
 
+    /// A `resize_or_move` of the live block of that name, of this tag, which was found.
+    #[inline(always)]
+    fn refit_or_move(&mut self, name: Name, own: Tag, len: u32) -> Result<Name, Refusal>
+        requires { IsNameCheck self.old.heap name (Ok own) }
+        ensures answer { result ≡ (resized_or_moved SLI self.old.heap name len).answer }
+        ensures heap { self.new.heap ≡ (resized_or_moved SLI self.old.heap name len).heap }
+        ensures err { OnErr result (IsAsBefore self.old self.new) }
+        ensures keeps { Keeps SLI self.old self.new }
+        ensures peak { self.new.most_in_use ≡ peak_moved self.old name.at result self.new.heap }
+        ensures in_place { IsOk (resized self.old.heap name len).answer → self.new.touches ≤ self.old.touches + 25 + words_grown self.old.heap len name }
+        ensures elsewhere { ¬ (IsOk (resized self.old.heap name len).answer) → self.new.touches ≤ self.old.touches + 85 + 3 * payload_words_moved SLI self.old.heap len }
+        ensures leaves { LeavesPayloads self.old.heap.blocks name.at self.old.touched self.new.touched }
+        ensures groups { InGroups (35 + 3 * (len / 64)) self.old.touched self.new.touched }
+        ensures refused { OnErr result (LeavesLive self.old.heap.blocks self.old.touched self.new.touched) }
+    {
+        match self.refit(name, own, want(len), len) {
+            Ok(()) => Ok(name),
+            Err(Refusal::NoRoom) => self.relocate(name, len),
+            Err(why) => Err(why),
+        }
+    }
+
     /// Moves the live block of that name to one of `len` bytes. Two ticks pass, so it is `Worn` where fewer are left.
     fn relocate(&mut self, name: Name, len: u32) -> Result<Name, Refusal>
         requires { IsLive self.old.heap name }
@@ -674,6 +703,7 @@ impl<const SLI: u32> Heap<SLI> {
         ensures heap { self.new.heap ≡ (moved SLI self.old.heap name len).heap }
         ensures err { OnErr result (IsAsBefore self.old self.new) }
         ensures keeps { Keeps SLI self.old self.new }
+        ensures peak { self.new.most_in_use ≡ peak_moved self.old name.at result self.new.heap }
         ensures touches { self.new.touches ≤ self.old.touches + 61 + 3 * payload_words_moved SLI self.old.heap len }
         ensures leaves { LeavesPayloads self.old.heap.blocks name.at self.old.touched self.new.touched }
         ensures groups { InGroups (34 + 3 * (len / 64)) self.old.touched self.new.touched }
@@ -696,6 +726,7 @@ impl<const SLI: u32> Heap<SLI> {
         ensures answer { result ≡ Ok new }
         ensures heap { self.new.heap ≡ (released (copied self.old.heap name new).heap name).heap }
         ensures keeps { Keeps SLI self.old self.new }
+        ensures most { self.new.most_in_use ≡ self.old.most_in_use }
         ensures touches { self.new.touches ≤ self.old.touches + 35 + 2 * (min (length (payload_of self.old.heap name)) (length (payload_of self.old.heap new)) / 8) }
         ensures leaves { LeavesBoth self.old.heap.blocks name.at new.at self.old.touched self.new.touched }
         ensures groups { InGroups (21 + 2 * (min (length (payload_of self.old.heap name)) (length (payload_of self.old.heap new)) / 64)) self.old.touched self.new.touched }
@@ -741,6 +772,7 @@ impl<const SLI: u32> Heap<SLI> {
         requires room { len ≤ length (payload_of self.old.heap to) }
         ensures heap { self.new.heap ≡ (written self.old.heap to 0 (take len (payload_of self.old.heap from))).heap }
         ensures keeps { Keeps SLI self.old self.new }
+        ensures most { self.new.most_in_use ≡ self.old.most_in_use }
         ensures touches { self.new.touches ≤ self.old.touches + 2 * (len / 8) + 3 }
         ensures leaves { LeavesBoth self.old.heap.blocks from.at to.at self.old.touched self.new.touched }
         ensures groups { InGroups (4 + 2 * (len / 64)) self.old.touched self.new.touched }
@@ -758,6 +790,7 @@ impl<const SLI: u32> Heap<SLI> {
         ensures lies { lying self.new.stored name.at len ≡ lying self.old.stored name.at len }
         ensures level { IsLevel SLI }
         ensures keeps { Keeps SLI self.old self.new }
+        ensures most { self.new.most_in_use ≡ self.old.most_in_use }
         ensures touches { self.new.touches ≤ self.old.touches + 1 }
         ensures leaves { LeavesLive self.old.heap.blocks self.old.touched self.new.touched }
         ensures groups { InGroups 1 self.old.touched self.new.touched }

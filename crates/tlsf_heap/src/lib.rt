@@ -30,8 +30,8 @@
 //! nothing, so that no request takes longer for more bytes, and a move as long as the copy of those that stay. [`Heap::allocate_aligned`] begins
 //! such a payload at a multiple of some words.
 //!
-//! A caller who keeps no names, as one who is handed an address, says by [`Heap::name_at`], [`Heap::release_at`] and [`Heap::resize_at`] at which
-//! word a block begins. A place at which none begins is refused, whatever lies there. [`Heap::check_blocks`] looks for blocks that other code
+//! A caller who keeps no names, as one who is handed an address, says by [`Heap::name_at`], [`Heap::release_at`] and
+//! [`Heap::resize_or_move_unset_at`] at which word a block begins. A place at which none begins is refused, whatever lies there. [`Heap::check_blocks`] looks for blocks that other code
 //! has written over.
 #![tactic(auto)]
 
@@ -52,6 +52,7 @@ mod refusal;
 mod region;
 mod report;
 mod tally;
+mod usage;
 
 pub use around::{check_around, check_taken};
 pub use check::check_words;

@@ -10,6 +10,7 @@ ghost use Rattle.tlsf_heap.specs.Calls;
 ghost use Rattle.tlsf_heap.specs.FreePlaces.{AreFreeLists};
 ghost use Rattle.tlsf_heap.specs.Footprint.{LeavesLive, LeavesPayloads};
 ghost use Rattle.tlsf_heap.specs.Regions.{AreRegions, EachAt, HasAt, IsTagOf, IsTagBehind, list_in, OnlyReads, Edits};
+ghost use Rattle.tlsf_heap.specs.WordsInUse.{words_used};
 
 use crate::fitting::next_tag;
 use crate::region::Region;
@@ -58,7 +59,8 @@ fn forget<const SLI: u32>(region: &mut Region<SLI>, at: u32, size: u32)
 }
 
 /// Makes the live block at a place and the free block after it one live block of `words` words and a free rest. The tags are those
-/// of these blocks. Where the rest would have fewer than four words, it makes a live block of them all. The payload stays.
+/// of these blocks. Where the rest would have fewer than four words, it makes a live block of them all. The payload stays. Answers
+/// the words of the live block.
 fn recut<const SLI: u32>(
     region: &mut Region<SLI>,
     at: u32,
@@ -66,7 +68,7 @@ fn recut<const SLI: u32>(
     next: Tag,
     words: u32,
     tick: u64,
-)
+) -> u32
     requires level { IsLevel SLI }
     requires least { 4 ≤ words }
     requires live { HasAt region.old.blocks at (λ s. (is_free s.block ≡ false) × (words_for (length (bytes_of s.block)) ≤ words)) }
@@ -78,6 +80,9 @@ fn recut<const SLI: u32>(
     requires listed { AreFreeLists SLI region.old.blocks (list_in region.old.lists) }
     requires stamped { AllByRecursion (λ s. s < tick) (stamps region.old.blocks) }
     ensures blocks { EachAt region.old.blocks at (λ s. region.new.blocks ≡ s.before ++ Calls.recut tick words s.block s.after) }
+    ensures least { words ≤ result }
+    ensures cut { words + 4 ≤ own.size + next.size → result ≡ words }
+    ensures used { words_used region.new.blocks + own.size ≡ words_used region.old.blocks + result }
     ensures listed { AreFreeLists SLI region.new.blocks (list_in region.new.lists) }
     ensures edits { Edits region.old region.new 20 }
     ensures touched { LeavesPayloads region.old.blocks at region.old.touched region.new.touched }
@@ -87,14 +92,16 @@ fn recut<const SLI: u32>(
     let rest = region.recut(at, own, next, words, tick);
     if rest > 0 {
         region.push(class_of(rest), at + words);
+        return words;
     }
+    own.size() + next.size()
 }
 
-/// Gives the live block at a place, of this tag, `len` bytes of payload, for which `words` words are wanted. The free block of tag
-/// `next` follows it. A block that has those and fewer than four more keeps its size.
-// Always inline: in a call of its own it saves all registers, where a block that keeps its size needs few.
-#[inline(always)]
-pub fn refit<const SLI: u32>(
+/// Gives the live block at a place, of this tag, `len` bytes of payload, for which more words are wanted than it has. The free block of
+/// tag `next` follows it. Answers the words that the block has then, which are more.
+// Never inline, as it comes last: a resize that keeps a block's words then saves few registers.
+#[inline(never)]
+pub fn grow<const SLI: u32>(
     region: &mut Region<SLI>,
     at: u32,
     own: Tag,
@@ -102,13 +109,14 @@ pub fn refit<const SLI: u32>(
     words: u32,
     len: u32,
     tick: u64,
-)
+) -> u32
     requires level { IsLevel SLI }
     requires least { 4 ≤ words }
     requires payload { words_for len ≤ words }
     requires live { HasAt region.old.blocks at (λ s. is_free s.block ≡ false) }
     requires own { EachAt region.old.blocks at (λ s. IsTagOf region.old.words s own) }
     requires next { EachAt region.old.blocks at (λ s. IsTagBehind region.old.words s next) }
+    requires more { own.size < words }
     requires room { words ≤ own.size + next.size }
     requires rooms { AllByRecursion HasRoom region.old.blocks }
     requires sized { AreRegions SLI region.old.blocks }
@@ -116,20 +124,82 @@ pub fn refit<const SLI: u32>(
     requires listed { AreFreeLists SLI region.old.blocks (list_in region.old.lists) }
     requires stamped { AllByRecursion (λ s. s < tick) (stamps region.old.blocks) }
     ensures blocks { EachAt region.old.blocks at (λ s. region.new.blocks ≡ s.before ++ Calls.refitted tick words len s.block s.after) }
+    ensures used { words_used region.new.blocks + own.size ≡ words_used region.old.blocks + result }
+    ensures more { own.size < result }
     ensures listed { AreFreeLists SLI region.new.blocks (list_in region.new.lists) }
     ensures edits { Edits region.old region.new (20 + words_for len) }
     ensures touched { LeavesPayloads region.old.blocks at region.old.touched region.new.touched }
     ensures grown { EachAt region.old.blocks at (λ s. region.new.touches ≤ region.old.touches + 24 + (words_for len - words_for (length (bytes_of s.block)))) }
     ensures groups { EachAt region.old.blocks at (λ s. InGroups (12 + (len - length (bytes_of s.block)) / 64) region.old.touched region.new.touched) }
 {
-    let held = own.size();
-    if words > held {
-        recut(region, at, own, next, words, tick);
-        region.set_payload(at, len);
-        return;
-    }
+    let left = recut(region, at, own, next, words, tick);
     region.set_payload(at, len);
-    if held >= words + 4 {
-        recut(region, at, own, next, words, tick);
+    left
+}
+
+/// Gives the live block at a place, of this tag, `len` bytes of payload, for which no more words are wanted than it has. A block that
+/// has those and fewer than four more keeps its size, and what follows it isn't read. Answers the words that the block has then,
+/// which are no more.
+#[inline(always)]
+pub fn shrink<const SLI: u32>(
+    region: &mut Region<SLI>,
+    at: u32,
+    own: Tag,
+    words: u32,
+    len: u32,
+    tick: u64,
+) -> u32
+    requires level { IsLevel SLI }
+    requires least { 4 ≤ words }
+    requires payload { words_for len ≤ words }
+    requires live { HasAt region.old.blocks at (λ s. is_free s.block ≡ false) }
+    requires own { EachAt region.old.blocks at (λ s. IsTagOf region.old.words s own) }
+    requires less { words ≤ own.size }
+    requires whole { words_in region.old.blocks ≡ region.old.words }
+    requires sized { AreRegions SLI region.old.blocks }
+    requires small { words_in region.old.blocks ≤ most_words SLI }
+    requires listed { AreFreeLists SLI region.old.blocks (list_in region.old.lists) }
+    requires stamped { AllByRecursion (λ s. s < tick) (stamps region.old.blocks) }
+    ensures blocks { EachAt region.old.blocks at (λ s. region.new.blocks ≡ s.before ++ Calls.refitted tick words len s.block s.after) }
+    ensures used { words_used region.new.blocks + own.size ≡ words_used region.old.blocks + result }
+    ensures less { result ≤ own.size }
+    ensures listed { AreFreeLists SLI region.new.blocks (list_in region.new.lists) }
+    ensures edits { Edits region.old region.new (21 + words_for len) }
+    ensures touched { LeavesPayloads region.old.blocks at region.old.touched region.new.touched }
+    ensures grown { EachAt region.old.blocks at (λ s. region.new.touches ≤ region.old.touches + 25 + (words_for len - words_for (length (bytes_of s.block)))) }
+    ensures groups { EachAt region.old.blocks at (λ s. InGroups (13 + (len - length (bytes_of s.block)) / 64) region.old.touched region.new.touched) }
+{
+    region.set_payload(at, len);
+    let held = own.size();
+    if held < words + 4 {
+        return held;
     }
+    split_off(region, at, own, words, tick);
+    words
+}
+
+/// Cuts the live block at a place, of this tag, at `words` words, where it has four more at least. Those behind are one free block
+/// with the free block that follows.
+// Never inline, as `grow` is.
+#[inline(never)]
+fn split_off<const SLI: u32>(region: &mut Region<SLI>, at: u32, own: Tag, words: u32, tick: u64)
+    requires level { IsLevel SLI }
+    requires least { 4 ≤ words }
+    requires live { HasAt region.old.blocks at (λ s. (is_free s.block ≡ false) × (words_for (length (bytes_of s.block)) ≤ words)) }
+    requires own { EachAt region.old.blocks at (λ s. IsTagOf region.old.words s own) }
+    requires less { words + 4 ≤ own.size }
+    requires whole { words_in region.old.blocks ≡ region.old.words }
+    requires sized { AreRegions SLI region.old.blocks }
+    requires small { words_in region.old.blocks ≤ most_words SLI }
+    requires listed { AreFreeLists SLI region.old.blocks (list_in region.old.lists) }
+    requires stamped { AllByRecursion (λ s. s < tick) (stamps region.old.blocks) }
+    ensures blocks { EachAt region.old.blocks at (λ s. region.new.blocks ≡ s.before ++ Calls.recut tick words s.block s.after) }
+    ensures used { words_used region.new.blocks + own.size ≡ words_used region.old.blocks + words }
+    ensures listed { AreFreeLists SLI region.new.blocks (list_in region.new.lists) }
+    ensures edits { Edits region.old region.new 21 }
+    ensures touched { LeavesPayloads region.old.blocks at region.old.touched region.new.touched }
+    ensures groups { InGroups 10 region.old.touched region.new.touched }
+{
+    let next = look_behind(region, at, own);
+    recut(region, at, own, next, words, tick);
 }

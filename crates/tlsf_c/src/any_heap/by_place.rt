@@ -2,7 +2,7 @@
 ghost use Rattle.std.specs.Prelude.{◌≡◌, ◌+◌, ◌*◌, ◌/◌, ◌%◌, ◌<◌, ◌≤◌, length, max, min, IfOk, IfSome, IsOk, OnErr};
 ghost use Rattle.tlsf_heap.specs.Aligned.{words_aligned};
 ghost use Rattle.tlsf_heap.specs.Blocks.{want};
-ghost use Rattle.tlsf_heap.specs.ByPlace.{name_at, released_by_place, resized_by_place};
+ghost use Rattle.tlsf_heap.specs.ByPlace.{kept_at, name_at, released_by_place, resized_by_place, resized_or_moved_by_place};
 ghost use Rattle.tlsf_heap.specs.Calls.{allocated, resized};
 ghost use Rattle.tlsf_heap.specs.Effects.{ChecksBlocks, Looks};
 ghost use Rattle.tlsf_heap.specs.Footprint.{LeavesLive, LeavesPayloads};
@@ -14,7 +14,6 @@ ghost use Rattle.tlsf_heap.specs.Unset.{lying, unset_from, with_payload};
 ghost use Rattle.tlsf_heap.specs.WordsInUse.{words_in_use};
 ghost use Rattle.tlsf_c.specs.Counting.{counted_request, counted_move};
 ghost use Rattle.tlsf_c.specs.Levels.{GoesOn, seen_at};
-ghost use Rattle.tlsf_c.specs.PlaceCalls.{kept_at, resized_or_moved_by_place};
 
 use super::{AnyHeap, OfLevel};
 use tlsf_heap::{Checked, Name, PlacedBlock, Refusal};
@@ -48,12 +47,12 @@ impl AnyHeap {
         ensures err { OnErr result (self.new.heap ≡ self.old.heap) }
         ensures goes_on { GoesOn self.old self.new }
         ensures counts { self.new.counts ≡ counted_request self.old.counts result len self.new.heap }
-        ensures touches { self.new.touches ≤ self.old.touches + 33 }
+        ensures touches { self.new.touches ≤ self.old.touches + 31 }
         ensures leaves { LeavesLive self.old.heap.blocks self.old.touched self.new.touched }
     {
         match &mut self.of_level {
-            OfLevel::Four(heap) => self.counts.allocate_unset(heap, len),
-            OfLevel::Five(heap) => self.counts.allocate_unset(heap, len),
+            OfLevel::Four(heap) => self.refused.allocate_unset(heap, len),
+            OfLevel::Five(heap) => self.refused.allocate_unset(heap, len),
         }
     }
 
@@ -66,12 +65,12 @@ impl AnyHeap {
         ensures err { OnErr result (self.new.heap ≡ self.old.heap) }
         ensures goes_on { GoesOn self.old self.new }
         ensures counts { self.new.counts ≡ counted_request self.old.counts result len self.new.heap }
-        ensures touches { self.new.touches ≤ self.old.touches + 118 }
+        ensures touches { self.new.touches ≤ self.old.touches + 113 }
         ensures leaves { LeavesLive self.old.heap.blocks self.old.touched self.new.touched }
     {
         match &mut self.of_level {
-            OfLevel::Four(heap) => self.counts.allocate_aligned(heap, len, step, skew),
-            OfLevel::Five(heap) => self.counts.allocate_aligned(heap, len, step, skew),
+            OfLevel::Four(heap) => self.refused.allocate_aligned(heap, len, step, skew),
+            OfLevel::Five(heap) => self.refused.allocate_aligned(heap, len, step, skew),
         }
     }
 
@@ -128,48 +127,28 @@ impl AnyHeap {
         ensures wild { FollowsNoPlace self.old.heap at self.old.touches self.new.touches }
     {
         match &mut self.of_level {
-            OfLevel::Four(heap) => self.counts.release_at(heap, at),
-            OfLevel::Five(heap) => self.counts.release_at(heap, at),
+            OfLevel::Four(heap) => heap.release_at(at),
+            OfLevel::Five(heap) => heap.release_at(at),
         }
     }
 
-    /// `Heap::resize_or_move_unset`.
-    pub fn resize_or_move_unset(&mut self, name: Name, len: u32) -> Result<Name, Refusal>
-        ensures answer { result ≡ (resized_or_moved self.old.level self.old.heap name len).answer }
-        ensures heap { IfOk result (λ new. self.new.heap
-            ≡ unset_from (resized_or_moved self.old.level self.old.heap name len).heap new self.new.stored (min (length (payload_of self.old.heap name)) len) len) }
-        ensures err { OnErr result (self.new.heap ≡ self.old.heap) }
-        ensures goes_on { GoesOn self.old self.new }
-        ensures counts { self.new.counts ≡ counted_move self.old.counts name.at result len self.new.heap }
-        ensures touches { self.new.touches ≤ self.old.touches + 104 + 2 * (min (length (payload_of self.old.heap name)) len / 8) }
-        ensures in_place { IsOk (resized self.old.heap name len).answer → self.new.touches ≤ self.old.touches + 38 }
-        ensures leaves { LeavesPayloads self.old.heap.blocks name.at self.old.touched self.new.touched }
-        ensures refused { OnErr result (LeavesLive self.old.heap.blocks self.old.touched self.new.touched) }
-        ensures forged { FollowsNoForgery (seen_at self.old) (seen_at self.new) name }
-    {
-        match &mut self.of_level {
-            OfLevel::Four(heap) => self.counts.resize_or_move_unset(heap, name, len),
-            OfLevel::Five(heap) => self.counts.resize_or_move_unset(heap, name, len),
-        }
-    }
-
-    /// `resize_or_move_unset` of the live block that begins at a place; refused as `Stale` where there is none.
-    pub fn resize_place(&mut self, at: u32, len: u32) -> Result<Name, Refusal>
+    /// `Heap::resize_or_move_unset_at`.
+    pub fn resize_or_move_unset_at(&mut self, at: u32, len: u32) -> Result<Name, Refusal>
         ensures answer { result ≡ (resized_or_moved_by_place self.old.level self.old.heap at len).answer }
         ensures heap { IfOk result (λ new. self.new.heap
             ≡ unset_from (resized_or_moved_by_place self.old.level self.old.heap at len).heap new self.new.stored (kept_at self.old.heap at len) len) }
         ensures err { OnErr result (self.new.heap ≡ self.old.heap) }
         ensures goes_on { GoesOn self.old self.new }
         ensures counts { self.new.counts ≡ counted_move self.old.counts at result len self.new.heap }
-        ensures touches { self.new.touches ≤ self.old.touches + 107 + 2 * (kept_at self.old.heap at len / 8) }
-        ensures in_place { IsOk (resized_by_place self.old.heap at len).answer → self.new.touches ≤ self.old.touches + 41 }
+        ensures touches { self.new.touches ≤ self.old.touches + 96 + 2 * (kept_at self.old.heap at len / 8) }
+        ensures in_place { IsOk (resized_by_place self.old.heap at len).answer → self.new.touches ≤ self.old.touches + 30 }
         ensures leaves { LeavesPayloads self.old.heap.blocks at self.old.touched self.new.touched }
         ensures refused { OnErr result (LeavesLive self.old.heap.blocks self.old.touched self.new.touched) }
         ensures wild { FollowsNoPlace self.old.heap at self.old.touches self.new.touches }
     {
-        match self.name_at(at) {
-            None => Err(Refusal::Stale),
-            Some(name) => self.resize_or_move_unset(name, len),
+        match &mut self.of_level {
+            OfLevel::Four(heap) => self.refused.resize_or_move_unset_at(heap, at, len),
+            OfLevel::Five(heap) => self.refused.resize_or_move_unset_at(heap, at, len),
         }
     }
 
@@ -179,15 +158,15 @@ impl AnyHeap {
         ensures heap { self.new.heap ≡ (resized_or_moved self.old.level self.old.heap name len).heap }
         ensures goes_on { GoesOn self.old self.new }
         ensures counts { self.new.counts ≡ counted_move self.old.counts name.at result len self.new.heap }
-        ensures in_place { IsOk (resized self.old.heap name len).answer → self.new.touches ≤ self.old.touches + resize_touches + 6 + words_grown self.old.heap len name }
-        ensures elsewhere { ¬ (IsOk (resized self.old.heap name len).answer) → self.new.touches ≤ self.old.touches + resize_touches + 66 + 3 * payload_words_moved self.old.level self.old.heap len }
+        ensures in_place { IsOk (resized self.old.heap name len).answer → self.new.touches ≤ self.old.touches + resize_touches + 1 + words_grown self.old.heap len name }
+        ensures elsewhere { ¬ (IsOk (resized self.old.heap name len).answer) → self.new.touches ≤ self.old.touches + resize_touches + 61 + 3 * payload_words_moved self.old.level self.old.heap len }
         ensures leaves { LeavesPayloads self.old.heap.blocks name.at self.old.touched self.new.touched }
         ensures refused { OnErr result (LeavesLive self.old.heap.blocks self.old.touched self.new.touched) }
         ensures forged { FollowsNoForgery (seen_at self.old) (seen_at self.new) name }
     {
         match &mut self.of_level {
-            OfLevel::Four(heap) => self.counts.resize_or_move(heap, name, len),
-            OfLevel::Five(heap) => self.counts.resize_or_move(heap, name, len),
+            OfLevel::Four(heap) => self.refused.resize_or_move(heap, name, len),
+            OfLevel::Five(heap) => self.refused.resize_or_move(heap, name, len),
         }
     }
 }

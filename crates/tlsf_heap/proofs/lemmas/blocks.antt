@@ -10,4 +10,5 @@ pub mod Coalesce
 pub mod Around
 pub mod Neighbours
 pub mod ByPlace
+pub mod Used
 pub mod Grant

@@ -10,10 +10,11 @@ ghost use Rattle.tlsf_heap.specs.Unset.{GivesUnset};
 ghost use Rattle.tlsf_heap.specs.declared.name.Name.{Name};
 ghost use Rattle.tlsf_heap.specs.Kept.{IsAsBefore, Keeps};
 ghost use Rattle.tlsf_heap.specs.Touched.{FollowsNoPlace};
+ghost use Rattle.tlsf_heap.specs.WordsInUse.{words_in_use, Peaks};
 ghost use Rattle.tlsf_words.specs.Touched.{InGroups};
 
 use super::{Heap, want};
-use crate::fitting::give;
+use crate::fitting::give_unset;
 use crate::name::Name;
 use crate::refusal::Refusal;
 use tlsf_class::most_words;
@@ -59,9 +60,10 @@ impl<const SLI: u32> Heap<SLI> {
         ensures cases { AnswersFrom self.old.heap at (Blocks.want len) result }
         ensures err { OnErr result (IsAsBefore self.old self.new) }
         ensures keeps { Keeps SLI self.old self.new }
+        ensures peak { Peaks self.old self.new }
 
         // Accepted or refused, whatever the region holds, and however many bytes.
-        ensures touches { self.new.touches ≤ self.old.touches + 28 }
+        ensures touches { self.new.touches ≤ self.old.touches + 25 }
         ensures leaves { LeavesLive self.old.heap.blocks self.old.touched self.new.touched }
         ensures groups { InGroups 13 self.old.touched self.new.touched }
         ensures wild { FollowsNoPlace self.old.heap at self.old.touches self.new.touches }
@@ -99,9 +101,10 @@ impl<const SLI: u32> Heap<SLI> {
         ensures cases { AnswersAligned SLI self.old.heap (Blocks.want len) (max step 1) result }
         ensures err { OnErr result (IsAsBefore self.old self.new) }
         ensures keeps { Keeps SLI self.old self.new }
+        ensures peak { Peaks self.old self.new }
 
         // Accepted or refused, whatever the region holds, and however many bytes.
-        ensures touches { self.new.touches ≤ self.old.touches + 116 }
+        ensures touches { self.new.touches ≤ self.old.touches + 113 }
         ensures leaves { LeavesLive self.old.heap.blocks self.old.touched self.new.touched }
         ensures groups { InGroups 56 self.old.touched self.new.touched }
     {
@@ -113,14 +116,28 @@ impl<const SLI: u32> Heap<SLI> {
             return Err(Refusal::NoFit);
         }
         let words = want(len);
+        let most = self.usage.most;
         let first = match self.allocate_words(words + 4 + step, 0) {
             Ok(first) => first,
             Err(why) => return Err(why),
         };
         let gap = gap(first.at, step, skew);
         let name = self.move_on(first, gap, words)?;
+        // The words that were asked for and came back were in use for nobody.
+        self.set_most_in_use(most);
         self.set_length(name, len);
         Ok(name)
+    }
+
+    /// Says that up to now no more than `most` words were ever in use.
+    fn set_most_in_use(&mut self, most: u32)
+        ensures heap { self.new.heap ≡ self.old.heap }
+        ensures most { self.new.most_in_use ≡ max most (words_in_use self.new.heap) }
+        ensures keeps { Keeps SLI self.old self.new }
+        ensures touches { self.new.touches ≡ self.old.touches }
+        ensures touched { self.new.touched ≡ self.old.touched }
+    {
+        self.usage.most = most.max(self.usage.words);
     }
 
     /// Takes the block of that name, which has `words` words after the first `gap`. Makes it one of `words` words without payload
@@ -136,7 +153,7 @@ impl<const SLI: u32> Heap<SLI> {
         ensures heap { self.new.heap ≡ (moved_on self.old.heap name gap words).heap }
         ensures ok { IsOk result }
         ensures keeps { Keeps SLI self.old self.new }
-        ensures touches { self.new.touches ≤ self.old.touches + 85 }
+        ensures touches { self.new.touches ≤ self.old.touches + 82 }
         ensures leaves { LeavesPayloads self.old.heap.blocks name.at self.old.touched self.new.touched }
         ensures groups { InGroups 42 self.old.touched self.new.touched }
     {
@@ -158,7 +175,8 @@ impl<const SLI: u32> Heap<SLI> {
         ensures cases { AnswersFrom self.old.heap at words result }
         ensures err { OnErr result (IsAsBefore self.old self.new) }
         ensures keeps { Keeps SLI self.old self.new }
-        ensures touches { self.new.touches ≤ self.old.touches + 27 }
+        ensures peak { Peaks self.old self.new }
+        ensures touches { self.new.touches ≤ self.old.touches + 24 }
         ensures leaves { LeavesLive self.old.heap.blocks self.old.touched self.new.touched }
         ensures groups { InGroups 12 self.old.touched self.new.touched }
         ensures wild { FollowsNoPlace self.old.heap at self.old.touches self.new.touches }
@@ -176,7 +194,8 @@ impl<const SLI: u32> Heap<SLI> {
         }
         self.region.remove(size, at);
         let serial = self.tick;
-        give(&mut self.region, at, own, words, serial, 0, words - 4);
+        let given = give_unset(&mut self.region, at, own, words, serial, 0);
+        self.usage.give(given);
         self.tick = serial + 1;
         Ok(Name {
             heap: self.id,

@@ -1,15 +1,17 @@
-ghost use Rattle.std.specs.Prelude.{◌≡◌, ◌+◌, ◌/◌, ◌<◌, ◌≤◌, IfSome, OnErr};
+ghost use Rattle.std.specs.Prelude.{◌≡◌, ◌+◌, ◌<◌, ◌≤◌, IfSome, MatchOption, None, Ok, OnErr, Some};
 ghost use Rattle.tlsf_heap.specs.Blocks;
-ghost use Rattle.tlsf_heap.specs.ByPlace.{grown_of, name_at, released_by_place, resized_by_place};
+ghost use Rattle.tlsf_heap.specs.ByPlace.{name_at, released_by_place};
 ghost use Rattle.tlsf_heap.specs.Footprint.{LeavesLive, LeavesPayloads};
 ghost use Rattle.tlsf_heap.specs.Laws.{IsLive};
+ghost use Rattle.tlsf_heap.specs.Named.{IsNameCheck};
 ghost use Rattle.tlsf_heap.specs.Kept.{IsAsBefore, Keeps};
-ghost use Rattle.tlsf_heap.specs.Touched.{FollowsNoPlace, release_groups, resize_touches};
+ghost use Rattle.tlsf_heap.specs.Touched.{FollowsNoPlace, release_groups};
 ghost use Rattle.tlsf_words.specs.Touched.{InGroups};
 
-use super::{Heap, want};
+use super::Heap;
 use crate::name::Name;
 use crate::refusal::Refusal;
+use tlsf_words::Tag;
 
 // Calls by place: of a caller who keeps no names, as one who is handed an address.
 impl<const SLI: u32> Heap<SLI> {
@@ -34,15 +36,10 @@ impl<const SLI: u32> Heap<SLI> {
         ensures wild { FollowsNoPlace self.old.heap at self.old.touches self.new.touches }
         ensures unread { ¬ (Blocks.IsPlace self.old.heap.blocks at) → self.new.touched ≡ self.old.touched }
     {
-        let Some(_own) = self.region.live_at(at) else {
-            return None;
-        };
-        let serial = self.region.mark(at);
-        Some(Name {
-            heap: self.id,
-            at,
-            serial,
-        })
+        match self.find_at(at) {
+            None => None,
+            Some(block) => Some(block.0),
+        }
     }
 
     /// Takes back the live block that begins at a place, which may be any number. It is a `release` of the name that `name_at`
@@ -62,6 +59,7 @@ impl<const SLI: u32> Heap<SLI> {
         // A refusal changes nothing.
         ensures err { OnErr result (IsAsBefore self.old self.new) }
         ensures keeps { Keeps SLI self.old self.new }
+        ensures most { self.new.most_in_use ≡ self.old.most_in_use }
 
         // Accepted or refused, and whatever the region holds: one fewer than `release`, since no serial is read.
         ensures touches { self.new.touches ≤ self.old.touches + 29 }
@@ -79,30 +77,27 @@ impl<const SLI: u32> Heap<SLI> {
         Ok(())
     }
 
-    /// Makes the payload of the live block that begins at a place `len` bytes long, where the block stands. It is a `resize` of the
-    /// name that `name_at` answers, refused as `Stale` where there is none. Takes no memory.
-    ///
-    /// ```text
-    /// let name = heap.allocate(8)?;
-    /// heap.resize_at(name.at, 100) == Ok(())
-    /// ```
-    pub fn resize_at(&mut self, at: u32, len: u32) -> Result<(), Refusal>
-        ensures answer { result ≡ (resized_by_place self.old.heap at len).answer }
-        ensures heap { self.new.heap ≡ (resized_by_place self.old.heap at len).heap }
-        ensures err { OnErr result (IsAsBefore self.old self.new) }
+    /// The name and the tag of the live block that begins at a place, which may be any number; `None` where none does.
+    #[inline(always)]
+    pub(super) fn find_at(&mut self, at: u32) -> Option<(Name, Tag)>
+        ensures found { MatchOption result (name_at self.old.heap at ≡ None) (λ f. (name_at self.old.heap at ≡ Some f.0) × IsNameCheck self.old.heap f.0 (Ok f.1) × (f.0.at ≡ at) × (at < self.old.heap.words)) }
+        ensures same { IsAsBefore self.old self.new }
         ensures keeps { Keeps SLI self.old self.new }
-
-        // Three to find the name, and those of a `resize` of it.
-        ensures touches { self.new.touches ≤ self.old.touches + resize_touches + 4 + grown_of self.old.heap len (name_at self.old.heap at) }
-        ensures leaves { LeavesPayloads self.old.heap.blocks at self.old.touched self.new.touched }
-        ensures groups { InGroups (17 + len / 64) self.old.touched self.new.touched }
-        ensures refused { OnErr result (LeavesLive self.old.heap.blocks self.old.touched self.new.touched) }
+        ensures touches { self.new.touches ≤ self.old.touches + 3 }
+        ensures leaves { LeavesLive self.old.heap.blocks self.old.touched self.new.touched }
+        ensures groups { InGroups 2 self.old.touched self.new.touched }
         ensures wild { FollowsNoPlace self.old.heap at self.old.touches self.new.touches }
         ensures unread { ¬ (Blocks.IsPlace self.old.heap.blocks at) → self.new.touched ≡ self.old.touched }
     {
-        match self.name_at(at) {
-            None => Err(Refusal::Stale),
-            Some(name) => self.resize_words(name, want(len), len),
-        }
+        let Some(own) = self.region.live_at(at) else {
+            return None;
+        };
+        let serial = self.region.mark(at);
+        let name = Name {
+            heap: self.id,
+            at,
+            serial,
+        };
+        Some((name, own))
     }
 }

@@ -1,4 +1,4 @@
-ghost use Rattle.std.specs.Prelude.{OnErr};
+ghost use Rattle.std.specs.Prelude.{◌≡◌, OnErr};
 ghost use Rattle.tlsf_heap.specs.Effects.{Resets};
 ghost use Rattle.tlsf_heap.specs.Kept.{IsAsBefore, Keeps};
 ghost use Rattle.tlsf_heap.specs.Shown.{seen};
@@ -29,6 +29,7 @@ impl<const SLI: u32> Heap<SLI> {
         // A refusal changes nothing.
         ensures err { OnErr result (IsAsBefore self.old self.new) }
         ensures keeps { Keeps SLI self.old self.new }
+        ensures most { self.new.most_in_use ≡ self.old.most_in_use }
 
         // All lies in one group of eight words, but start bits and the lists.
         ensures groups { InGroups 1 self.old.touched self.new.touched }
@@ -37,6 +38,7 @@ impl<const SLI: u32> Heap<SLI> {
             return Err(Refusal::Worn);
         }
         self.region.reset(self.tick);
+        self.usage.words = 0;
         self.tick += 1;
         Ok(())
     }

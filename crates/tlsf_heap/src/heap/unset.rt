@@ -1,14 +1,17 @@
-ghost use Rattle.std.specs.Prelude.{◌≡◌, ◌+◌, ◌*◌, ◌/◌, ◌≤◌, ◌↔◌, [], length, min, IfOk, OnOk, OnErr, IsOk, IsErrOf};
+ghost use Rattle.std.specs.Prelude.{◌≡◌, ◌+◌, ◌*◌, ◌/◌, ◌≤◌, ◌↔◌, [], length, min, IfOk, OnOk, OnErr, IsOk, IsErrOf, Ok};
 ghost use Rattle.tlsf_heap.specs.Blocks;
+ghost use Rattle.tlsf_heap.specs.ByPlace.{kept_at, resized_by_place, resized_or_moved_by_place};
 ghost use Rattle.tlsf_heap.specs.Calls.{allocated, last_tick, resized};
 ghost use Rattle.tlsf_heap.specs.GoodFit.{fits};
 ghost use Rattle.tlsf_heap.specs.InPlace.{payload_of};
 ghost use Rattle.tlsf_heap.specs.Footprint.{LeavesLive, LeavesPayloads};
 ghost use Rattle.tlsf_heap.specs.Laws.{IsLive};
 ghost use Rattle.tlsf_heap.specs.Moved.{moved, resized_or_moved};
-ghost use Rattle.tlsf_heap.specs.Touched.{FollowsNoForgery};
+ghost use Rattle.tlsf_heap.specs.Named.{IsNameCheck};
+ghost use Rattle.tlsf_heap.specs.Touched.{FollowsNoForgery, FollowsNoPlace};
 ghost use Rattle.tlsf_heap.specs.Unset.{unset_from};
 ghost use Rattle.tlsf_heap.specs.Kept.{IsAsBefore, Keeps};
+ghost use Rattle.tlsf_heap.specs.WordsInUse.{peak_moved, Peaks};
 ghost use Rattle.tlsf_words.specs.Touched.{InGroups};
 ghost use Rattle.tlsf_heap.specs.Shown.{seen};
 
@@ -16,6 +19,7 @@ use super::{Heap, want};
 use crate::fitting::{carve_unset, choose};
 use crate::name::Name;
 use crate::refusal::Refusal;
+use tlsf_words::Tag;
 
 // Calls that fill nothing: for a caller who fills the payload himself before he reads it.
 impl<const SLI: u32> Heap<SLI> {
@@ -41,6 +45,7 @@ impl<const SLI: u32> Heap<SLI> {
         ensures no_fit { IsErrOf result Refusal.NoFit ↔ (fits SLI (Blocks.want len) self.old.heap.blocks ≡ []) }
         ensures ok { IsOk result ↔ (¬ (fits SLI (Blocks.want len) self.old.heap.blocks ≡ []) × ¬ (self.old.heap.tick ≡ last_tick)) }
         ensures keeps { Keeps SLI self.old self.new }
+        ensures peak { Peaks self.old self.new }
 
         // Accepted or refused, whatever the region holds, and however many bytes.
         ensures touches { self.new.touches ≤ self.old.touches + 31 }
@@ -54,12 +59,13 @@ impl<const SLI: u32> Heap<SLI> {
         if self.tick == u64::MAX {
             return Err(Refusal::Worn);
         }
-        let at = carve_unset(&mut self.region, class, words, self.tick, len);
+        let given = carve_unset(&mut self.region, class, words, self.tick, len);
+        self.usage.give(given.words);
         let serial = self.tick;
         self.tick += 1;
         Ok(Name {
             heap: self.id,
-            at,
+            at: given.at,
             serial,
         })
     }
@@ -82,19 +88,18 @@ impl<const SLI: u32> Heap<SLI> {
         ensures heap { OnOk result (self.new.heap ≡ unset_from (resized self.old.heap name len).heap name self.new.stored (min (length (payload_of self.old.heap name)) len) len) }
         ensures err { OnErr result (IsAsBefore self.old self.new) }
         ensures keeps { Keeps SLI self.old self.new }
+        ensures peak { Peaks self.old self.new }
 
         // Accepted or refused, whatever the region holds, and however many bytes.
-        ensures touches { self.new.touches ≤ self.old.touches + 33 }
+        ensures touches { self.new.touches ≤ self.old.touches + 30 }
         ensures leaves { LeavesPayloads self.old.heap.blocks name.at self.old.touched self.new.touched }
-        ensures groups { InGroups 19 self.old.touched self.new.touched }
-        ensures refused_groups { OnErr result (InGroups 6 self.old.touched self.new.touched) }
+        ensures groups { InGroups 17 self.old.touched self.new.touched }
+        ensures refused_groups { OnErr result (InGroups 4 self.old.touched self.new.touched) }
         ensures refused { OnErr result (LeavesLive self.old.heap.blocks self.old.touched self.new.touched) }
         ensures forged { FollowsNoForgery (seen self.old) (seen self.new) name }
     {
-        let kept = self.check_payload(name)?.min(len);
-        self.resize_words(name, want(len), kept)?;
-        self.set_length(name, len);
-        Ok(())
+        let own = self.check(name)?;
+        self.refit_unset(name, own, len)
     }
 
     /// Makes the payload of the block of that name `len` bytes long, where the block stands or else in another block, as
@@ -120,18 +125,87 @@ impl<const SLI: u32> Heap<SLI> {
         ensures heap { IfOk result (λ new. self.new.heap ≡ unset_from (resized_or_moved SLI self.old.heap name len).heap new self.new.stored (min (length (payload_of self.old.heap name)) len) len) }
         ensures err { OnErr result (IsAsBefore self.old self.new) }
         ensures keeps { Keeps SLI self.old self.new }
+        ensures peak { self.new.most_in_use ≡ peak_moved self.old name.at result self.new.heap }
 
-        // Accepted or refused, and whatever the region holds: at most 99 touches, and two for each word of the bytes that stay.
-        ensures touches { self.new.touches ≤ self.old.touches + 99 + 2 * (min (length (payload_of self.old.heap name)) len / 8) }
+        // Accepted or refused, and whatever the region holds: at most 96 touches, and two for each word of the bytes that stay.
+        ensures touches { self.new.touches ≤ self.old.touches + 96 + 2 * (min (length (payload_of self.old.heap name)) len / 8) }
 
         // Where there is room at its place it takes as many as `resize_unset`.
-        ensures in_place { IsOk (resized self.old.heap name len).answer → self.new.touches ≤ self.old.touches + 33 }
+        ensures in_place { IsOk (resized self.old.heap name len).answer → self.new.touches ≤ self.old.touches + 30 }
         ensures leaves { LeavesPayloads self.old.heap.blocks name.at self.old.touched self.new.touched }
-        ensures groups { InGroups (41 + 2 * (min (length (payload_of self.old.heap name)) len / 64)) self.old.touched self.new.touched }
+        ensures groups { InGroups (39 + 2 * (min (length (payload_of self.old.heap name)) len / 64)) self.old.touched self.new.touched }
         ensures refused { OnErr result (LeavesLive self.old.heap.blocks self.old.touched self.new.touched) }
         ensures forged { FollowsNoForgery (seen self.old) (seen self.new) name }
     {
-        match self.resize_unset(name, len) {
+        let own = self.check(name)?;
+        self.refit_or_move_unset(name, own, len)
+    }
+
+    /// A `resize_or_move_unset` of the live block that begins at a place, which may be any number. Refused as `Stale` where there is none.
+    /// A number from outside is not followed. Takes no memory.
+    ///
+    /// ```text
+    /// let name = heap.allocate_unset(8)?;              // of a new heap of 64 words, at place 0
+    /// heap.resize_or_move_unset_at(0, 100) == Ok(name)
+    /// heap.resize_or_move_unset_at(1, 100) == Err(Refusal::Stale)
+    /// ```
+    pub fn resize_or_move_unset_at(&mut self, at: u32, len: u32) -> Result<Name, Refusal>
+        ensures answer { result ≡ (resized_or_moved_by_place SLI self.old.heap at len).answer }
+        ensures heap { IfOk result (λ new. self.new.heap ≡ unset_from (resized_or_moved_by_place SLI self.old.heap at len).heap new self.new.stored (kept_at self.old.heap at len) len) }
+        ensures err { OnErr result (IsAsBefore self.old self.new) }
+        ensures keeps { Keeps SLI self.old self.new }
+        ensures peak { self.new.most_in_use ≡ peak_moved self.old at result self.new.heap }
+        ensures touches { self.new.touches ≤ self.old.touches + 96 + 2 * (kept_at self.old.heap at len / 8) }
+        ensures in_place { IsOk (resized_by_place self.old.heap at len).answer → self.new.touches ≤ self.old.touches + 30 }
+        ensures leaves { LeavesPayloads self.old.heap.blocks at self.old.touched self.new.touched }
+        ensures groups { InGroups (39 + 2 * (kept_at self.old.heap at len / 64)) self.old.touched self.new.touched }
+        ensures refused { OnErr result (LeavesLive self.old.heap.blocks self.old.touched self.new.touched) }
+        ensures wild { FollowsNoPlace self.old.heap at self.old.touches self.new.touches }
+        ensures unread { ¬ (Blocks.IsPlace self.old.heap.blocks at) → self.new.touched ≡ self.old.touched }
+    {
+        match self.find_at(at) {
+            None => Err(Refusal::Stale),
+            Some(block) => self.refit_or_move_unset(block.0, block.1, len),
+        }
+    }
+
+    /// A `resize_unset` of the live block of that name, of this tag, which was found.
+    #[inline(always)]
+    fn refit_unset(&mut self, name: Name, own: Tag, len: u32) -> Result<(), Refusal>
+        requires { IsNameCheck self.old.heap name (Ok own) }
+        ensures answer { result ≡ (resized self.old.heap name len).answer }
+        ensures heap { OnOk result (self.new.heap ≡ unset_from (resized self.old.heap name len).heap name self.new.stored (min (length (payload_of self.old.heap name)) len) len) }
+        ensures err { OnErr result (IsAsBefore self.old self.new) }
+        ensures keeps { Keeps SLI self.old self.new }
+        ensures peak { Peaks self.old self.new }
+        ensures touches { self.new.touches ≤ self.old.touches + 27 }
+        ensures leaves { LeavesPayloads self.old.heap.blocks name.at self.old.touched self.new.touched }
+        ensures groups { InGroups 15 self.old.touched self.new.touched }
+        ensures refused_groups { OnErr result (InGroups 2 self.old.touched self.new.touched) }
+        ensures refused { OnErr result (LeavesLive self.old.heap.blocks self.old.touched self.new.touched) }
+    {
+        let kept = self.length(name).min(len);
+        self.refit(name, own, want(len), kept)?;
+        self.set_length(name, len);
+        Ok(())
+    }
+
+    /// A `resize_or_move_unset` of the live block of that name, of this tag, which was found.
+    #[inline(always)]
+    fn refit_or_move_unset(&mut self, name: Name, own: Tag, len: u32) -> Result<Name, Refusal>
+        requires { IsNameCheck self.old.heap name (Ok own) }
+        ensures answer { result ≡ (resized_or_moved SLI self.old.heap name len).answer }
+        ensures heap { IfOk result (λ new. self.new.heap ≡ unset_from (resized_or_moved SLI self.old.heap name len).heap new self.new.stored (min (length (payload_of self.old.heap name)) len) len) }
+        ensures err { OnErr result (IsAsBefore self.old self.new) }
+        ensures keeps { Keeps SLI self.old self.new }
+        ensures peak { self.new.most_in_use ≡ peak_moved self.old name.at result self.new.heap }
+        ensures touches { self.new.touches ≤ self.old.touches + 93 + 2 * (min (length (payload_of self.old.heap name)) len / 8) }
+        ensures in_place { IsOk (resized self.old.heap name len).answer → self.new.touches ≤ self.old.touches + 27 }
+        ensures leaves { LeavesPayloads self.old.heap.blocks name.at self.old.touched self.new.touched }
+        ensures groups { InGroups (37 + 2 * (min (length (payload_of self.old.heap name)) len / 64)) self.old.touched self.new.touched }
+        ensures refused { OnErr result (LeavesLive self.old.heap.blocks self.old.touched self.new.touched) }
+    {
+        match self.refit_unset(name, own, len) {
             Ok(()) => Ok(name),
             Err(Refusal::NoRoom) => self.relocate_unset(name, len),
             Err(why) => Err(why),
@@ -145,6 +219,7 @@ impl<const SLI: u32> Heap<SLI> {
         ensures heap { IfOk result (λ new. self.new.heap ≡ unset_from (moved SLI self.old.heap name len).heap new self.new.stored (min (length (payload_of self.old.heap name)) len) len) }
         ensures err { OnErr result (IsAsBefore self.old self.new) }
         ensures keeps { Keeps SLI self.old self.new }
+        ensures peak { self.new.most_in_use ≡ peak_moved self.old name.at result self.new.heap }
         ensures touches { self.new.touches ≤ self.old.touches + 66 + 2 * (min (length (payload_of self.old.heap name)) len / 8) }
         ensures leaves { LeavesPayloads self.old.heap.blocks name.at self.old.touched self.new.touched }
         ensures groups { InGroups (35 + 2 * (min (length (payload_of self.old.heap name)) len / 64)) self.old.touched self.new.touched }

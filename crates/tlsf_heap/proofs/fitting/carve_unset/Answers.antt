@@ -3,8 +3,8 @@ use Rattle.tlsf_heap.proofs.lemmas.lists.Carved.{IsFreeHere, head_stands, taken_
 use Rattle.tlsf_words.proofs.Touching.{more_groups, groups_then}
 use Rattle.tlsf_heap.proofs.fitting.carve_unset.Goals as goal
 
-pub give_unset-requires : goal.give_unset-requires
-give_unset-requires g c =
+pub give_unset-words-requires : goal.give_unset-words-requires
+give_unset-words-requires g c =
     let f : IsFreeHere g.row.SLI c.args.region.now.blocks c.pop_first-at.result c.requires.fits.1 = record { stands = head_stands g.row.SLI c.requires.fits.2 c.pop_first-at.ensures.place; free = c.requires.fits.3; regions = c.requires.sized } in
     let left = taken_each g.row.SLI f c.requires.fits.2.classed c.requires.listed c.pop_first-at.ensures.change in
     let reads = c.tag-own.ensures.reads in
@@ -32,7 +32,7 @@ pub returns-clause-carved : goal.returns-clause-carved
 returns-clause-carved g c i stands =
     let reads = c.tag-own.ensures.reads in
     let out = c.pop_first-at.ensures.change in
-    let unset = (rw (reads.blocks ∙ out.blocks) at c.give_unset.ensures.carved) i stands in
+    let unset = (rw (reads.blocks ∙ out.blocks) at c.give_unset-words.ensures.carved) i stands in
     record {
       blocks = unset.blocks;
       first = unset.first;
@@ -48,12 +48,15 @@ returns-clause-carved g c i stands =
       };
     }
 
+pub returns-clause-used : goal.returns-clause-used
+returns-clause-used g c = rw (c.tag-own.ensures.reads.blocks ∙ c.pop_first-at.ensures.change.blocks) at c.give_unset-words.ensures.used
+
 pub returns-clause-touched : goal.returns-clause-touched
 returns-clause-touched g c k live =
     let reads = c.tag-own.ensures.reads in
     let out = c.pop_first-at.ensures.change in
-    (rw (reads.blocks ∙ out.blocks) at c.give_unset.ensures.touched) k live ∙ (rw out.blocks at c.tag-own.ensures.touched) k live ∙ out.touched k live
+    (rw (reads.blocks ∙ out.blocks) at c.give_unset-words.ensures.touched) k live ∙ (rw out.blocks at c.tag-own.ensures.touched) k live ∙ out.touched k live
 
 -- 3 for the list, 1 for the tag, and those that give the block
 pub returns-clause-groups : goal.returns-clause-groups
-returns-clause-groups g c = more_groups (omega arith) (groups_then (groups_then c.pop_first-at.ensures.change.groups c.tag-own.ensures.groups) c.give_unset.ensures.groups)
+returns-clause-groups g c = more_groups (omega arith) (groups_then (groups_then c.pop_first-at.ensures.change.groups c.tag-own.ensures.groups) c.give_unset-words.ensures.groups)

@@ -1,10 +1,12 @@
-use Rattle.tlsf_heap.proofs.Common.{ℕ, ◌+◌, ◌<◌, ◌≤◌, ap, ◌∙◌, subst, arith, class_of, payload_byte, lying, site_at}
+use Rattle.tlsf_heap.proofs.Common.{ℕ, ◌+◌, ◌<◌, ◌≤◌, ap, ◌∙◌, subst, arith, class_of, payload_byte, lying, block_at, site_at}
 use Rattle.tlsf_class.proofs.TwoLevels.{most_words_any}
 use Rattle.tlsf_heap.proofs.lemmas.lists.Carved.{is_out, out_unlisted, end_within, by_grant, by_split, split_rest_free, split_rest_unlisted}
 use Rattle.tlsf_heap.proofs.lemmas.words.Bytes.{length-bytes_in}
 use Rattle.tlsf_heap.proofs.lemmas.words.Footprint.{kept_others, free_elsewhere, any_word}
 use Rattle.tlsf_heap.proofs.lemmas.blocks.Around.{one_index, around, region_around}
+use Rattle.tlsf_heap.proofs.lemmas.blocks.Used.{used_site, free_used}
 use Rattle.tlsf_heap.specs.CarvedUnset.{CarvedUnset}
+use Rattle.tlsf_heap.specs.WordsInUse.{words_used}
 use Rattle.tlsf_words.proofs.Touching.{more_groups, groups_then}
 use Rattle.tlsf_heap.proofs.fitting.give_unset.Goals as goal
 
@@ -67,8 +69,22 @@ returns-then-left-lt4-clause-carved g c i stands =
     subst (λ (j : ℕ). CarvedUnset g.row.SLI c.args.region.now c.grant.new.self (site_at bs j) c.args.at c.args.words c.args.serial c.args.len 16) (one_index g.row.SLI bs c.args.at free.0 i c.requires.sized free.1 stands)
     (by_grant g.row.SLI t c.args.words c.args.len c.grant.ensures.first small c.grant.ensures.change)
 
-pub returns-else-left-lt4-clause-carved : goal.returns-else-left-lt4-clause-carved
-returns-else-left-lt4-clause-carved g c i stands =
+-- the block that was free had no word in use
+pub returns-then-left-lt4-clause-used : goal.returns-then-left-lt4-clause-used
+returns-then-left-lt4-clause-used g c =
+    let bs = c.args.region.now.blocks in
+    let free = c.requires.free in
+    let own = (c.requires.own free.0 free.1).size in
+    omega (arith, used_site bs c.grant.new.self.blocks free.1 _ (c.grant.ensures.change free.0 free.1).blocks, free_used (block_at bs free.0) free.2.0, c.grant.ensures.size, own)
+
+pub returns-clause-used : goal.returns-clause-used
+returns-clause-used g c =
+    let bs = c.args.region.now.blocks in
+    let free = c.requires.free in
+    omega (arith, used_site bs c.split.new.self.blocks free.1 _ (c.split.ensures.change free.0 free.1).blocks, free_used (block_at bs free.0) free.2.0, ap words_used c.push.ensures.blocks)
+
+pub returns-clause-carved : goal.returns-clause-carved
+returns-clause-carved g c i stands =
     let bs = c.args.region.now.blocks in
     let free = c.requires.free in
     let t = is_out g.row.SLI {old = c.args.region.now} free c.requires.own c.requires.sized c.requires.listed c.requires.stamped in
@@ -81,8 +97,8 @@ returns-else-left-lt4-clause-carved g c i stands =
 -- ---- the payloads of live blocks
 
 -- where the block has its header, the word is still one of a live block
-pub returns-else-left-lt4-clause-touched : goal.returns-else-left-lt4-clause-touched
-returns-else-left-lt4-clause-touched g c k live =
+pub returns-clause-touched : goal.returns-clause-touched
+returns-clause-touched g c k live =
     let bs = c.args.region.now.blocks in
     let free = c.requires.free in
     let at = c.args.at in
@@ -98,5 +114,5 @@ returns-else-left-lt4-clause-touched g c k live =
 pub returns-then-left-lt4-clause-groups : goal.returns-then-left-lt4-clause-groups
 returns-then-left-lt4-clause-groups g c = more_groups (omega arith) c.grant.ensures.groups
 
-pub returns-else-left-lt4-clause-groups : goal.returns-else-left-lt4-clause-groups
-returns-else-left-lt4-clause-groups g c = groups_then c.split.ensures.groups c.push.ensures.groups
+pub returns-clause-groups : goal.returns-clause-groups
+returns-clause-groups g c = groups_then c.split.ensures.groups c.push.ensures.groups

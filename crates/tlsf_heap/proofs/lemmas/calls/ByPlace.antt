@@ -1,5 +1,5 @@
 -- The name of the live block that begins at a place.
-use Rattle.tlsf_heap.proofs.Common.{◌≡◌, ℕ, ◌+◌, ◌<◌, true, List, take, Some, None, refl, sym, ap, ◌∙◌, subst, arith, eq-eqb, inl, inr, is_some, AllByRecursion, cases_lt, eqb-true, Block, HeapState, is_free, words_in, StandsAt, IsPlace, serial_of, serial_in, serial_at, name_with, name_at, call_by, released_by_place, IsLiveAt, Outcome, has_serial, released, block_at, mark_of, IsLawful, HasRoom, IsLive, IsFirst, IsNamed, FollowsNoPlace, Name, Worn, Ok, RegionState, coalesced, site_at, last_tick, refused}
+use Rattle.tlsf_heap.proofs.Common.{◌≡◌, ℕ, ◌+◌, ◌<◌, true, List, take, Some, None, refl, sym, ap, ◌∙◌, subst, arith, eq-eqb, inl, inr, is_some, AllByRecursion, cases_lt, eqb-true, Block, HeapState, is_free, words_in, StandsAt, IsPlace, serial_of, serial_in, serial_at, name_with, name_at, call_by, released_by_place, IsLiveAt, Outcome, has_serial, released, block_at, mark_of, IsLawful, HasRoom, IsLive, IsFirst, IsNamed, IsNameCheck, IsTagOf, Tag, FollowsNoPlace, Name, Worn, Ok, RegionState, coalesced, site_at, last_tick, refused}
 use Rattle.tlsf_heap.proofs.lemmas.blocks.ByPlace.{placed_found, placed_none, content-free, content-live}
 use Rattle.tlsf_heap.proofs.lemmas.words.Says.{has_serial-live, named_here}
 use Rattle.tlsf_heap.proofs.lemmas.blocks.Find.{and_left}
@@ -38,6 +38,10 @@ module _ (h : HeapState) {at i : ℕ} (rooms : AllByRecursion HasRoom h.blocks) 
 
   pub name_found : name_at h at ≡ Some (name_here h at i)
   name_found = ap (name_with h.id at) (serial_live rooms l)
+
+-- which the check of that name finds, with the tag that is read there
+pub checked_here : (h : HeapState) {at i : ℕ} {own : Tag} → AllByRecursion HasRoom h.blocks → (l : IsLiveAt h.blocks at i) → IsTagOf h.words (site_at h.blocks i) own → IsNameCheck h (name_here h at i) (Ok own)
+checked_here h rooms l is = (is_named_here h rooms l, is)
 
 -- a call by place is one by that name
 pub call_found : {A : Type 0} (h : HeapState) {at i : ℕ} (call : Name → Outcome A) → AllByRecursion HasRoom h.blocks → IsLiveAt h.blocks at i

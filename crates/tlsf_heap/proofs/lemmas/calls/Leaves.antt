@@ -1,5 +1,5 @@
 -- A word of another block's payload is one behind the calls too.
-use Rattle.tlsf_heap.proofs.Common.{◌≡◌, ◌≢◌, ℕ, suc, ◌<◌, List, ◌∷◌, true, length, inl, inr, refl, sym, ap, ◌∙◌, subst, arith, Ok, AllByRecursion, false≢true, Block, Live, Free, HeapState, size_of, is_free, allocated_words, IsOthersWord, IsLiveWord, LeavesLive, LeavesBoth, Site, place_of, IsLawful, HasRoom, Shown, Inside, Name, Fill, Fit, Give, GiveFrom, Look, Put, Reset, Step, Take, stepped, ⊤, ◌+◌, eqb, words_from, moved_on, Outcome, released, resized_words}
+use Rattle.tlsf_heap.proofs.Common.{◌≡◌, ◌≢◌, ℕ, suc, ◌<◌, List, ◌∷◌, true, length, inl, inr, refl, sym, ap, ◌∙◌, subst, arith, Result, Ok, Err, OnErr, InGroups, AllByRecursion, false≢true, Block, Live, Free, HeapState, size_of, is_free, allocated_words, IsOthersWord, IsLiveWord, LeavesLive, LeavesBoth, Site, place_of, IsLawful, HasRoom, Shown, Inside, Name, Fill, Fit, Give, GiveFrom, Look, Put, Reset, Step, Take, stepped, ⊤, ◌+◌, eqb, words_from, moved_on, Outcome, released, resized_words}
 use Rattle.tlsf_heap.proofs.lemmas.blocks.Find.{and_left}
 use Rattle.tlsf_heap.proofs.lemmas.laws.Live.{Spares, lasts}
 use Rattle.tlsf_heap.proofs.lemmas.laws.Lasting.{HasFrom}
@@ -7,6 +7,7 @@ use Rattle.tlsf_heap.proofs.lemmas.calls.Outcomes.{IsSiteOf, by_test, by_allocat
 use Rattle.tlsf_heap.proofs.lemmas.calls.Kept.{shown_of}
 use Rattle.tlsf_heap.proofs.lemmas.blocks.Around.{Around, stands_around, block_around}
 use Rattle.tlsf_heap.proofs.lemmas.blocks.Lawful.{all_right}
+use Rattle.tlsf_words.proofs.Touching.{groups_then}
 use Rattle.tlsf_heap.proofs.lemmas.words.Footprint.{HoldsWord, holder, held_word, held_at, any_word, elsewhere}
 
 room_size : (b : Block) → HasRoom b → 0 < size_of b
@@ -49,6 +50,15 @@ module _ (h : HeapState) (to k : ℕ) (o : IsOthersWord h.blocks to k) where
       (by_allocated_words sli (λ r. r.answer ≡ Ok new → o.1 ≢ new.at) h n len (λ why e. absurd cc) (λ s site fit e same. let place : place_of s ≡ new.at = cc in free_site s site lawful (and_left _ _ fit) (same ∙ sym place)) e)
 
 -- of any block
+-- two calls in turn, and the second may be refused
+pub refused_both : {A E : Type 0} (answer : Result A E) (bs : List Block) (first between last : List ℕ) → LeavesLive bs first between → OnErr answer (LeavesLive bs between last) → OnErr answer (LeavesLive bs first last)
+refused_both (Ok done) bs first between last once twice = tt
+refused_both (Err why) bs first between last once twice = λ k live. twice k live ∙ once k live
+
+pub groups_refused : {A E : Type 0} (answer : Result A E) (m n : ℕ) (first between last : List ℕ) → InGroups m first between → OnErr answer (InGroups n between last) → OnErr answer (InGroups (m + n) first last)
+groups_refused (Ok done) m n first between last once twice = tt
+groups_refused (Err why) m n first between last once twice = groups_then once twice
+
 pub live_step : (h : HeapState) (k : ℕ) (live : IsLiveWord h.blocks k) (sli : ℕ) (step : Step) → IsElsewhere live.1 step → IsLiveWord (stepped sli h step).blocks k
 live_step h k live sli step differ =
     let at = suc live.1 in

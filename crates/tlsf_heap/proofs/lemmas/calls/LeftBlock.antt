@@ -9,16 +9,20 @@ use Rattle.tlsf_heap.proofs.lemmas.calls.Named.{named_is, named_stands, named_li
 use Rattle.tlsf_heap.proofs.lemmas.calls.Resize.{Resizes, by_refitted, resized_short, resized_worn, resizes_refused, resizes_block}
 use Rattle.tlsf_heap.proofs.lemmas.blocks.Around.{Around, around, words_around, block_around, stands_around}
 
--- a live block of this name has this tag, and the free block behind it has that one
-pub record Found (h : HeapState) (name : Name) (own next : Tag) : Type 0 where
+-- a live block of this name has this tag
+pub record Found (h : HeapState) (name : Name) (own : Tag) : Type 0 where
   pub named : IsNamed h name
   pub is_own : IsTagOf h.words (site_at h.blocks named.1.0) own
-  pub is_next : IsTagBehind h.words (site_at h.blocks named.1.0) next
 
-pub found : {h k : HeapState} {name : Name} {own next : Tag} → h ≡ k → IsNameCheck k name (Ok own) → EachAt h.blocks name.at (λ s. IsTagBehind h.words s next) → Found h name own next
-found {name = name} {own = own} same checked behind =
+pub found : {h k : HeapState} {name : Name} {own : Tag} → h ≡ k → IsNameCheck k name (Ok own) → Found h name own
+found {name = name} {own = own} same checked =
     let here = subst (λ (s : HeapState). IsNameCheck s name (Ok own)) (sym same) checked in
-    record { named = here.0; is_own = here.1; is_next = behind here.0.1.0 (named_stands _ _ _ _ here.0.1.1) }
+    record { named = here.0; is_own = here.1 }
+
+-- its room with the free block behind it, which has that tag
+pub room_with : {h : HeapState} {name : Name} {own next : Tag} (f : Found h name own) → EachAt h.blocks name.at (λ s. IsTagBehind h.words s next)
+    → own.size + next.size ≡ room_of (block_at h.blocks f.named.1.0) (drop (suc f.named.1.0) h.blocks)
+room_with f behind = omega (arith, f.is_own.size, (behind f.named.1.0 (named_stands _ _ _ _ f.named.1.1)).size)
 
 refitted_size : (tick n len : ℕ) (b : Block) (back : List Block) → is_free b ≡ false → n ≤ room_of b back → (now : Block) × (rest : List Block) × (refitted tick n len b back ≡ now ∷ rest) × (n ≤ size_of now)
 refitted_size tick n len (Free m s) back live room = absurd (false≢true (sym live))
@@ -26,11 +30,14 @@ refitted_size tick n len (Live m s xs) back live room =
     by_refitted (λ (l : List Block). (now : Block) × (rest : List Block) × (l ≡ now ∷ rest) × (n ≤ size_of now)) tick n len m s xs back room
     (λ enough. (_, _, refl, enough)) (_, _, refl, room) (λ large. (_, _, refl, omega arith))
 
-module _ (sli : ℕ) {h k : HeapState} {name : Name} {own next : Tag} (f : Found h name own next) (same : h ≡ k) (lawful : IsLawful h) (n len : ℕ) (wanted : want len ≤ n) where
-  pub room_small : own.size + next.size ≤ h.words
+module _ (sli : ℕ) {h k : HeapState} {name : Name} {own : Tag} (f : Found h name own) (same : h ≡ k) (lawful : IsLawful h) (n len : ℕ) (wanted : want len ≤ n) where
+  abbrev room : ℕ
+  room = room_of (block_at h.blocks f.named.1.0) (drop (suc f.named.1.0) h.blocks)
+
+  pub room_small : room ≤ h.words
   room_small =
       let a = around h.blocks name.at f.named.1.0 (named_stands _ _ _ _ f.named.1.1) in
-      omega (arith, f.is_own.size, f.is_next.size, words_around a, first_free-words (drop (suc f.named.1.0) h.blocks), lawful.whole)
+      omega (arith, words_around a, first_free-words (drop (suc f.named.1.0) h.blocks), lawful.whole)
 
   -- refused: the region was read alone
   module _ (region : RegionState) (words : region.words ≡ h.words) (blocks : region.blocks ≡ h.blocks) where
@@ -39,18 +46,15 @@ module _ (sli : ℕ) {h k : HeapState} {name : Name} {own next : Tag} (f : Found
         subst (λ (s : HeapState). Resizes s name n len (Err why) (with_region h h.tick region)) same
         (resizes_refused h (with_region h h.tick region) name n len why lawful (region_is h h.tick region h.blocks words blocks) e)
 
-    pub resizes_short : own.size + next.size < n → Resizes k name n len (Err NoRoom) (with_region h h.tick region)
-    resizes_short short = refuses NoRoom (resized_short h name n len f.named.0 f.named.1.0 f.named.1.1 (omega (arith, short, f.is_own.size, f.is_next.size)))
+    pub resizes_short : room < n → Resizes k name n len (Err NoRoom) (with_region h h.tick region)
+    resizes_short short = refuses NoRoom (resized_short h name n len f.named.0 f.named.1.0 f.named.1.1 short)
 
-    pub resizes_worn : n ≤ own.size + next.size → h.tick ≡ last_tick → Resizes k name n len (Err Worn) (with_region h h.tick region)
-    resizes_worn room worn = refuses Worn (resized_worn h name n len f.named.0 f.named.1.0 f.named.1.1 (omega (arith, room, f.is_own.size, f.is_next.size)) worn)
+    pub resizes_worn : n ≤ room → h.tick ≡ last_tick → Resizes k name n len (Err Worn) (with_region h h.tick region)
+    resizes_worn enough worn = refuses Worn (resized_worn h name n len f.named.0 f.named.1.0 f.named.1.1 enough worn)
 
   -- done
-  module _ (room : n ≤ own.size + next.size) (fresh : h.tick ≡ last_tick → ⊥) (region : RegionState) (words : region.words ≡ h.words)
+  module _ (enough : n ≤ room) (fresh : h.tick ≡ last_tick → ⊥) (region : RegionState) (words : region.words ≡ h.words)
       (blocks : region.blocks ≡ take f.named.1.0 h.blocks ++ refitted h.tick n len (block_at h.blocks f.named.1.0) (drop (suc f.named.1.0) h.blocks)) where
-    enough : n ≤ room_of (block_at h.blocks f.named.1.0) (drop (suc f.named.1.0) h.blocks)
-    enough = omega (arith, room, f.is_own.size, f.is_next.size)
-
     own_resizes : Resizes h name n len (Ok tt) (with_region h (h.tick + 1) region)
     own_resizes = resizes_block h name n len region f.named wanted lawful enough words blocks fresh
 

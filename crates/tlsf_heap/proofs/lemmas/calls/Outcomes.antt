@@ -1,5 +1,5 @@
 -- The result of a call: a refusal, or an edit at the site of one block.
-use Rattle.tlsf_heap.proofs.Common.{◌≡◌, ℕ, Bool, true, false, cond, nat_lt, eqb, ◌≤◌, arith, List, [], ◌∷◌, ◌++◌, length, filter, find, Option, Some, None, Ok, refl, sym, subst, inl, inr, append_assoc, IsSome, ◌⊎◌, AllByRecursion, eqb-true, false≢true, nat_tests, IsLevel, Block, HeapState, size_of, bytes_of, want, Site, sites, sites_behind, place_of, is_fit, fits, choice, IsLawful, Outcome, refused, is_worn, ticked, with_blocks, carved, allocated, allocated_words, allocated_at, is_named, named, coalesced, released, released_at, overwritten, with_bytes, has_bytes, written, written_at, refitted, room_of, resized, resized_words, resized_at, Call, Allocate, Release, Resize, Write, Read, answered, run, Name, Refusal, NoFit, Worn, Foreign, Stale, Range, NoRoom, Fill, Fit, Give, GiveFrom, IsRoomy, Look, Put, Reset, Step, Take, after, eq-eqb, last_tick, opened, ◌≢◌, ap, given_from, is_free_at, map, step_of, stepped, with_payload, with_payload_at, words_from, ◌∙◌}
+use Rattle.tlsf_heap.proofs.Common.{◌≡◌, ℕ, Bool, true, false, cond, nat_lt, eqb, ◌≤◌, arith, List, [], ◌∷◌, ◌++◌, length, filter, find, Option, Some, None, Ok, refl, sym, subst, inl, inr, append_assoc, IsSome, ◌⊎◌, AllByRecursion, eqb-true, false≢true, nat_tests, IsLevel, Block, HeapState, size_of, bytes_of, want, Site, sites, sites_behind, place_of, is_fit, fits, choice, IsLawful, Outcome, refused, is_worn, ticked, with_blocks, carved, allocated, allocated_words, allocated_at, is_named, named, coalesced, released, released_at, overwritten, with_bytes, has_bytes, written, written_at, refitted, room_of, resized_words, resized_at, Call, Allocate, Release, Resize, Write, Read, answered, run, Name, Refusal, NoFit, Worn, Foreign, Stale, Range, NoRoom, Fill, Fit, Give, GiveFrom, IsRoomy, Look, Put, Reset, Step, Take, after, eq-eqb, last_tick, opened, ◌≢◌, ap, given_from, is_free_at, map, step_of, stepped, with_payload, with_payload_at, words_from, ◌∙◌}
 use Rattle.tlsf_heap.specs.Calls.{reset}
 use Rattle.tlsf_heap.proofs.lemmas.blocks.Find.{and_left}
 use Rattle.tlsf_heap.proofs.lemmas.blocks.Lawful.{opened_lawful}
@@ -118,10 +118,6 @@ pub by_resized_words : (P : Outcome (Unit {0}) → Type 0) (h : HeapState) (name
     → ((s : Site) → name.heap ≡ h.id → IsSiteOf h.blocks s → is_named name.at name.serial s ≡ true → n ≤ room_of s.block s.after → P (resizes h n len s)) → P (resized_words h name n len)
 by_resized_words P h name n len if_refused if_done =
     by_resized_found P h name n len if_refused (λ s own e room. let site = named_site name h.blocks s e in if_done s own site.0 site.1 room)
-
-pub by_resized : (P : Outcome (Unit {0}) → Type 0) (h : HeapState) (name : Name) (len : ℕ) → ((why : Refusal) → P (refused h why))
-    → ((s : Site) → name.heap ≡ h.id → IsSiteOf h.blocks s → is_named name.at name.serial s ≡ true → want len ≤ room_of s.block s.after → P (resizes h (want len) len s)) → P (resized h name len)
-by_resized P h name len = by_resized_words P h name (want len) len
 
 abbrev pub writes : HeapState → ℕ → List ℕ → Site → Outcome (Unit {0})
 writes h at bytes s = record { answer = Ok tt; heap = with_blocks h (s.before ++ with_bytes s.block (overwritten (bytes_of s.block) at bytes) ∷ s.after) }

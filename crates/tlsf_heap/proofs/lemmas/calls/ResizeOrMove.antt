@@ -1,5 +1,5 @@
 -- The result of a resize that may move the block, call by call.
-use Rattle.tlsf_heap.proofs.Common.{◌≡◌, ◌≢◌, ℕ, ◌+◌, ◌*◌, ◌<◌, ◌≤◌, Bool, true, false, cond, eqb, nat_le, List, ◌∷◌, suc, take, drop, length, Option, Some, None, Result, Ok, Err, refl, sym, ap, ◌∙◌, subst, arith, eq-eqb, IsSome, AllByRecursion, false≢true, eqb-true, ne_eqb, nat_tests, HeapState, payload_words, want, Outcome, refused, last_tick, is_worn, allocated, named, released, released_at, resized, resized_at, written, payload_words_at, Site, block_at, payload_of, IsLawful, HasRoom, IsLive, copied, moved_to, moved, moved_for, resized_else, resized_or_moved, Name, Refusal, NoFit, Worn, Foreign, Stale, Range, NoRoom, Give, Put, cases_lt, inl, inr}
+use Rattle.tlsf_heap.proofs.Common.{◌≡◌, ◌≢◌, ℕ, ◌+◌, ◌*◌, ◌<◌, ◌≤◌, Bool, true, false, cond, eqb, nat_le, List, ◌∷◌, suc, take, drop, length, Option, Some, None, Result, Ok, Err, refl, sym, ap, ◌∙◌, subst, arith, eq-eqb, IsSome, AllByRecursion, false≢true, eqb-true, ne_eqb, nat_tests, HeapState, payload_words, want, Outcome, refused, last_tick, is_worn, allocated, named, released, released_at, resized, resized_at, written, payload_words_at, Site, block_at, payload_of, IsLawful, HasRoom, IsLive, copied, moved_to, moved, moved_for, resized_else, resized_or_moved, Name, RefusesName, Refusal, NoFit, Worn, Foreign, Stale, Range, NoRoom, Give, Put, cases_lt, inl, inr}
 use Rattle.tlsf_heap.proofs.lemmas.calls.Alter.{named_of, payload_is}
 use Rattle.tlsf_heap.proofs.lemmas.calls.Allocate.{split_at}
 use Rattle.tlsf_heap.proofs.lemmas.blocks.Lawful.{all_right}
@@ -7,6 +7,7 @@ use Rattle.tlsf_heap.proofs.lemmas.laws.Live.{given, kept_others}
 use Rattle.tlsf_heap.proofs.lemmas.calls.Named.{named_is}
 use Rattle.tlsf_heap.proofs.lemmas.words.Bytes.{held_within}
 use Rattle.tlsf_heap.proofs.lemmas.calls.Outcomes.{by_allocated, by_written, takes}
+use Rattle.tlsf_heap.proofs.lemmas.calls.Resize.{resized_refused}
 
 -- ---- the release behind a copy is accepted
 
@@ -79,6 +80,10 @@ module _ (sli : ℕ) (h : HeapState) (name : Name) (len : ℕ) where
 
   pub refuses : (why : Refusal) → why ≢ NoRoom → Err why ≡ (resized h name len).answer → resized_or_moved sli h name len ≡ refused h why
   refuses why other e = ap (λ (r : Result (Unit {0}) Refusal). resized_else h name r (resized h name len).heap (moved sli h name len)) (sym e) ∙ moved_for_none why other
+
+-- nor is a block resized or moved whose name is refused
+pub name_refused : (sli : ℕ) (h : HeapState) (name : Name) (len : ℕ) (why : Refusal) → RefusesName h name why → resized_or_moved sli h name len ≡ refused h why
+name_refused sli h name len why r = refuses sli h name len why (λ same. subst (RefusesName h name) same r) (sym (ap (λ (o : Outcome (Unit {0})). o.answer) (resized_refused h name (want len) len why r)))
 
 -- where there was no room the name is live
 pub no_room_live : (h : HeapState) (name : Name) (len : ℕ) → Err NoRoom ≡ (resized h name len).answer → IsLive h name

@@ -1,43 +1,24 @@
 -- The words in use add up over the calls.
-use Rattle.tlsf_heap.proofs.Common.{◌≡◌, Bool, cond, eqb, find, ℕ, suc, false, take, drop, ◌+◌, ◌≤◌, List, [], ◌∷◌, ◌++◌, ◌-◌, length, replicate, true, Option, Some, Ok, refl, sym, ap, ◌∙◌, subst, inl, inr, arith, append_assoc, ◌==◌, AllByRecursion, filter-append, eqb-true, false≢true, cases_lt, IsLevel, Block, Live, Free, HeapState, size_of, words_in, is_free, bytes_of, want, Outcome, carved, ticked, with_blocks, past_free, before_free, has_serial, allocated_words, overwritten, with_bytes, released, resized_words, refitted, room_of, Site, block_at, IsLawful, HasRoom, IsLive, IsTaken, IsNamed, live_among, words_in_use, words_held, live_words, words_at, released_by_place, IsLiveAt, Name, Fill, Fit, Give, GiveFrom, IsOfOtherBlocks, IsRoomy, IsWrite, Look, Put, Reset, Step, Take, after, named, stepped, Tag}
-use Rattle.tlsf_heap.specs.ByPlace.{IsPlaceCheck}
-use Rattle.tlsf_heap.specs.WordsInUse.{CameOff}
+use Rattle.tlsf_heap.proofs.Common.{◌≡◌, Bool, cond, eqb, find, ℕ, suc, false, take, drop, ◌+◌, ◌≤◌, List, [], ◌∷◌, ◌++◌, ◌-◌, length, replicate, true, Option, Some, Ok, refl, sym, ap, ◌∙◌, inl, inr, arith, append_assoc, ◌==◌, AllByRecursion, eqb-true, false≢true, cases_lt, IsLevel, Block, Live, Free, HeapState, size_of, words_in, is_free, bytes_of, want, carved, ticked, with_blocks, past_free, before_free, has_serial, allocated_words, overwritten, with_bytes, released, resized_words, refitted, room_of, Site, block_at, IsLawful, HasRoom, IsLive, IsTaken, IsNamed, words_in_use, words_held, live_words, words_at, IsLiveAt, Name, Fill, Fit, Give, GiveFrom, IsOfOtherBlocks, IsRoomy, IsWrite, Look, Put, Reset, Step, Take, after, named, stepped}
+use Rattle.tlsf_heap.specs.WordsInUse.{words_used}
 use Rattle.tlsf_heap.specs.Placed.{placed, placed_from}
 use Rattle.tlsf_heap.specs.declared.placed_block.PlacedBlock.{PlacedBlock}
 use Rattle.tlsf_heap.proofs.lemmas.laws.Live.{lasts_named, kept_others}
 use Rattle.tlsf_heap.proofs.lemmas.blocks.Sums.{words_apart}
+use Rattle.tlsf_heap.proofs.lemmas.blocks.Used.{around_used, past_used, before_used, free_used, live_used, used_bytes}
 use Rattle.tlsf_heap.proofs.lemmas.calls.Alter.{named_of}
-use Rattle.tlsf_heap.proofs.lemmas.calls.ByPlace.{name_here, call_found}
-use Rattle.tlsf_heap.proofs.lemmas.blocks.Coalesce.{by_last}
 use Rattle.tlsf_heap.proofs.lemmas.blocks.Replace.{carved_small, carved_large}
 use Rattle.tlsf_heap.proofs.lemmas.blocks.Find.{and_left, and_right}
 use Rattle.tlsf_heap.proofs.lemmas.laws.Lasting.{HasFrom, of_index, to_index}
-use Rattle.tlsf_heap.proofs.lemmas.blocks.Lawful.{words_in-append}
 use Rattle.tlsf_heap.proofs.lemmas.calls.Named.{named_stands, named_live}
 use Rattle.tlsf_heap.proofs.lemmas.calls.Outcomes.{IsSiteOf, gives_words, by_allocated_words, takes, by_released, by_resized_words, by_written, by_filled, lawful_step, lawful_allocated_words, lawful_resized_words}
 use Rattle.tlsf_heap.proofs.lemmas.blocks.ByPlace.{placed_found, content-live}
 use Rattle.tlsf_heap.proofs.lemmas.calls.Resize.{by_refitted}
 use Rattle.tlsf_heap.proofs.lemmas.blocks.Around.{Around, around, stands_around, block_around}
 
--- the words in use of some blocks
-abbrev in_use : List Block → ℕ
-in_use bs = words_in (live_among bs)
-
-in_use-append : (xs ys : List Block) → in_use (xs ++ ys) ≡ in_use xs + in_use ys
-in_use-append xs ys = ap words_in (filter-append _ xs ys) ∙ words_in-append (live_among xs) (live_among ys)
-
--- a free block isn't in use, at either end of a list
-past_in_use : (bs : List Block) → in_use (past_free bs) ≡ in_use bs
-past_in_use [] = refl
-past_in_use (Live m s xs ∷ bs) = refl
-past_in_use (Free m s ∷ bs) = refl
-
-before_in_use : (bs : List Block) → in_use (before_free bs) ≡ in_use bs
-before_in_use bs = by_last (λ all k left. in_use left ≡ in_use all) bs refl (λ all m s xs. refl) (λ all m s. omega (arith, in_use-append all (Free m s ∷ [])))
-
 -- those of a heap, by the blocks around one
-around_in_use : (h : HeapState) (front back : List Block) (b : Block) → h.blocks ≡ front ++ b ∷ back → words_in_use h ≡ in_use front + in_use (b ∷ []) + in_use back
-around_in_use h front back b is = ap in_use is ∙ omega (arith, in_use-append front (b ∷ back), in_use-append (b ∷ []) back)
+around_in_use : (h : HeapState) (front back : List Block) (b : Block) → h.blocks ≡ front ++ b ∷ back → words_in_use h ≡ words_used front + words_used (b ∷ []) + words_used back
+around_in_use h = around_used h.blocks
 
 -- ---- the words at a place
 
@@ -59,27 +40,19 @@ words_here h front back size serial bytes rooms is =
 pub words_part : (h : HeapState) {at i : ℕ} → IsLiveAt h.blocks at i → size_of (block_at h.blocks i) ≤ words_in_use h
 words_part h {at = at} {i = i} l =
     let b = block_at h.blocks i in
-    omega (arith, live_in_use b l.live, around_in_use h (take i h.blocks) (drop (suc i) h.blocks) b (around h.blocks at i l.stands).is)
-  where
-    live_in_use : (b : Block) → is_free b ≡ false → in_use (b ∷ []) ≡ size_of b
-    live_in_use (Live m s xs) e = omega arith
-    live_in_use (Free m s) e = absurd (false≢true (sym e))
+    omega (arith, live_used b l.live, around_in_use h (take i h.blocks) (drop (suc i) h.blocks) b (around h.blocks at i l.stands).is)
 
 pub words_within : (h : HeapState) → IsLawful h → words_in_use h ≤ h.words
 words_within h lawful = omega (arith, words_apart h.blocks, lawful.whole)
 
 -- a live block comes in place of a block, and what stands behind has as many words in use as what stood there
 replaced : (h k : HeapState) (front back rest : List Block) (b : Block) (size serial : ℕ) (bytes : List ℕ) → AllByRecursion HasRoom k.blocks
-    → h.blocks ≡ front ++ b ∷ back → k.blocks ≡ front ++ Live size serial bytes ∷ rest → in_use rest ≡ in_use back
-    → words_in_use k + in_use (b ∷ []) ≡ words_in_use h + words_at k (words_in front)
+    → h.blocks ≡ front ++ b ∷ back → k.blocks ≡ front ++ Live size serial bytes ∷ rest → words_used rest ≡ words_used back
+    → words_in_use k + words_used (b ∷ []) ≡ words_in_use h + words_at k (words_in front)
 replaced h k front back rest b size serial bytes rooms was is same =
     omega (arith, around_in_use h front back b was, around_in_use k front rest (Live size serial bytes) is, words_here k front rest size serial bytes rooms is, same)
 
 -- ---- allocate
-
-free_unused : (b : Block) → is_free b ≡ true → in_use (b ∷ []) ≡ 0
-free_unused (Live m s xs) free = absurd (false≢true free)
-free_unused (Free m s) free = refl
 
 -- a free block gives n words
 pub in_use_given : (h : HeapState) (n len : ℕ) (s : Site) → IsSiteOf h.blocks s → is_free s.block ≡ true → IsLawful (gives_words h n len s).heap
@@ -87,11 +60,11 @@ pub in_use_given : (h : HeapState) (n len : ℕ) (s : Site) → IsSiteOf h.block
 in_use_given h n len s site free left =
     let k = (gives_words h n len s).heap in
     let whole = append_assoc s.before (carved (size_of s.block) n h.tick len) s.after in
-    let sum : words_in_use k + in_use (s.block ∷ []) ≡ words_in_use h + words_at k (words_in s.before) = elim (cases_lt (size_of s.block) (n + 4)) [
+    let sum : words_in_use k + words_used (s.block ∷ []) ≡ words_in_use h + words_at k (words_in s.before) = elim (cases_lt (size_of s.block) (n + 4)) [
       | inl small ↦ replaced h k s.before s.after s.after s.block (size_of s.block) h.tick (replicate len 0) left.rooms (sym site) (whole ∙ ap (λ (l : List Block). s.before ++ (l ++ s.after)) (carved_small (size_of s.block) n h.tick len small)) refl
       | inr large ↦ replaced h k s.before s.after (Free (size_of s.block - n) h.tick ∷ s.after) s.block n h.tick (replicate len 0) left.rooms (sym site) (whole ∙ ap (λ (l : List Block). s.before ++ (l ++ s.after)) (carved_large (size_of s.block) n h.tick len large)) refl
     ] in
-    omega (arith, sum, free_unused s.block free)
+    omega (arith, sum, free_used s.block free)
 
 pub in_use_allocated : (sli : ℕ) → IsLevel sli → (h : HeapState) (n len : ℕ) (name : Name) → want len ≤ n → IsLawful h → (allocated_words sli h n len).answer ≡ Ok name
     → words_in_use (allocated_words sli h n len).heap ≡ words_in_use h + words_at (allocated_words sli h n len).heap name.at
@@ -114,21 +87,7 @@ in_use_released h name lawful = by_released (λ o. o.answer ≡ Ok tt → words_
     freed front back (Free m s) was place is = absurd (false≢true is)
     freed front back (Live m s xs) was place is =
         let k = (takes h (record { before = front; block = Live m s xs; after = back })).heap in
-        omega (arith, around_in_use h front back (Live m s xs) was, around_in_use k (before_free front) (past_free back) _ refl, before_in_use front, past_in_use back, words_here h front back m s xs lawful.rooms was, ap (words_at h) place)
-
--- by place it is one of the name of the block there
-pub in_use_placed : (h : HeapState) {at i : ℕ} → IsLawful h → IsLiveAt h.blocks at i → (released_by_place h at).answer ≡ Ok tt → words_in_use h ≡ words_in_use (released_by_place h at).heap + words_at h at
-in_use_placed h {at = at} {i = i} lawful l =
-    subst (λ (o : Outcome (Unit {0})). o.answer ≡ Ok tt → words_in_use h ≡ words_in_use o.heap + words_at h at) (sym (call_found h (released h) lawful.rooms l)) (in_use_released h (name_here h at i) lawful)
-
--- so its words came off a count
-pub came_off : (h k new : HeapState) {at : ℕ} (own : Tag) (before after : ℕ) → k ≡ h → IsLawful k → IsPlaceCheck k at (Ok own) → (released_by_place k at).answer ≡ Ok tt → new ≡ (released_by_place k at).heap → before ≡ after + own.size
-    → CameOff h new at before after
-came_off h k new {at = at} own before after same lawful l done left off =
-    subst (λ (s : HeapState). CameOff s new at before after) same (record {
-      sum = omega (arith, in_use_placed k lawful l.1 done, ap words_in_use left);
-      count = omega (arith, off, l.2.size, words_live k lawful.rooms l.1);
-    })
+        omega (arith, around_in_use h front back (Live m s xs) was, around_in_use k (before_free front) (past_free back) _ refl, before_used front, past_used back, words_here h front back m s xs lawful.rooms was, ap (words_at h) place)
 
 -- ---- resize
 
@@ -149,20 +108,16 @@ in_use_resized h name n len wanted lawful =
         λ l sum. omega (arith, sum, held, ap (words_at (ticked h l)) place) in
         by_refitted (λ l. AllByRecursion HasRoom (front ++ l) → words_in_use (ticked h (front ++ l)) + words_at h name.at ≡ words_in_use h + words_at (ticked h (front ++ l)) name.at) h.tick n len m s xs back room
         (λ enough rooms. here _ (omega (arith, replaced h (ticked h _) front back back (Live m s xs) _ _ _ rooms was refl refl)))
-        (λ rooms. here _ (omega (arith, replaced h (ticked h _) front back (past_free back) (Live m s xs) _ _ _ rooms was refl (past_in_use back))))
-        (λ large rooms. here _ (omega (arith, replaced h (ticked h _) front back _ (Live m s xs) _ _ _ rooms was refl (past_in_use back))))
+        (λ rooms. here _ (omega (arith, replaced h (ticked h _) front back (past_free back) (Live m s xs) _ _ _ rooms was refl (past_used back))))
+        (λ large rooms. here _ (omega (arith, replaced h (ticked h _) front back _ (Live m s xs) _ _ _ rooms was refl (past_used back))))
 
 -- ---- write
-
-same_use : (b : Block) (new : List ℕ) → in_use (with_bytes b new ∷ []) ≡ in_use (b ∷ [])
-same_use (Live m s xs) new = refl
-same_use (Free m s) new = refl
 
 -- a block gets other bytes
 pub in_use_set : (h : HeapState) (s : Site) (bytes : List ℕ) → IsSiteOf h.blocks s → words_in_use (with_blocks h (s.before ++ with_bytes s.block bytes ∷ s.after)) ≡ words_in_use h
 in_use_set h s bytes site =
     let k = with_blocks h (s.before ++ with_bytes s.block bytes ∷ s.after) in
-    omega (arith, around_in_use h s.before s.after s.block (sym site), around_in_use k s.before s.after (with_bytes s.block bytes) refl, same_use s.block bytes)
+    omega (arith, around_in_use h s.before s.after s.block (sym site), around_in_use k s.before s.after (with_bytes s.block bytes) refl, used_bytes s.block bytes)
 
 -- a write changes no block's words
 module _ (place : ℕ) where

@@ -1,9 +1,12 @@
-use Rattle.tlsf_heap.proofs.Common.{◌≡◌, ◌+◌, ◌-◌, suc, drop, refl, ap, ◌∙◌, arith, class_of, size_of, first_free, block_at, list_in}
+use Rattle.tlsf_heap.proofs.Common.{◌≡◌, ◌+◌, ◌-◌, suc, take, drop, refl, ap, ◌∙◌, arith, class_of, size_of, first_free, block_at, list_in}
 use Rattle.tlsf_class.proofs.TwoLevels.{most_words_any}
 use Rattle.tlsf_heap.proofs.lemmas.blocks.Replace.{rest_some, rest_none}
+use Rattle.tlsf_heap.proofs.lemmas.blocks.Used.{recut_used_small, recut_used_large}
 use Rattle.tlsf_heap.proofs.lemmas.lists.Recut.{own_unlisted, wide_listed, cut_free, cut_unlisted, cut_listed}
 use Rattle.tlsf_heap.proofs.lemmas.lists.Withheld.{is_between, forgets, end_within, next_region, contains_next}
 use Rattle.tlsf_heap.proofs.lemmas.words.Footprint.{recut_lasts, any_word}
+use Rattle.tlsf_heap.proofs.lemmas.blocks.Around.{around}
+use Rattle.tlsf_heap.specs.WordsInUse.{words_used}
 use Rattle.tlsf_words.proofs.Touching.{more_groups, groups_then}
 use Rattle.tlsf_heap.proofs.refitting.recut.Goals as goal
 
@@ -105,6 +108,29 @@ push-requires g c =
       ),
     )
 
+-- the block as it was, and what it becomes
+pub returns-then-rest-gt0-clause-used : goal.returns-then-rest-gt0-clause-used
+returns-then-rest-gt0-clause-used g c =
+    let live = c.requires.live in
+    let bs = c.args.region.now.blocks in
+    let is = c.requires.own live.0 live.1 in
+    let next = c.requires.next live.0 live.1 in
+    let some = rest_some (c.args.own.size + c.args.next.size) c.args.words (omega (arith, c.if-rest-gt0.true, c.recut-rest.ensures.rest)) in
+    let change = (rw c.forget.ensures.blocks at c.recut-rest.ensures.change) live.0 live.1 in
+    let sum = recut_used_large (take live.0 bs) (drop (suc live.0) bs) (block_at bs live.0) c.args.words c.args.tick live.2.0 (omega (arith, some.0, is.size, next.size)) in
+    omega (arith, sum, is.size, ap words_used (c.push.ensures.blocks ∙ change.blocks), ap words_used (around bs c.args.at live.0 live.1).is)
+
+pub returns-clause-used : goal.returns-clause-used
+returns-clause-used g c =
+    let live = c.requires.live in
+    let bs = c.args.region.now.blocks in
+    let is = c.requires.own live.0 live.1 in
+    let next = c.requires.next live.0 live.1 in
+    let none = rest_none (c.args.own.size + c.args.next.size) c.args.words (omega (arith, c.if-rest-gt0.false, c.recut-rest.ensures.rest)) in
+    let change = (rw c.forget.ensures.blocks at c.recut-rest.ensures.change) live.0 live.1 in
+    let sum = recut_used_small (take live.0 bs) (drop (suc live.0) bs) (block_at bs live.0) c.args.words c.args.tick live.2.0 (omega (arith, none, is.size, next.size)) in
+    omega (arith, sum, is.size, next.size, c.size-3.ensures.value, c.size-4.ensures.value, ap words_used change.blocks, ap words_used (around bs c.args.at live.0 live.1).is)
+
 pub returns-then-rest-gt0-clause-listed : goal.returns-then-rest-gt0-clause-listed
 returns-then-rest-gt0-clause-listed g c =
     let live = c.requires.live in
@@ -120,8 +146,8 @@ returns-then-rest-gt0-clause-listed g c =
     cut_listed g.row.SLI f out c.args.words c.recut-rest.new.self.blocks change.blocks (list_in c.recut-rest.new.self.lists) change.lists c.requires.least (omega (arith, some.0, is.size, next.size))
     c.push.new.self.blocks c.push.ensures.blocks c.class_of.result (list_in c.push.new.self.lists) (c.class_of.ensures ∙ ap (class_of g.row.SLI) rest) c.push.ensures.list c.push.ensures.others
 
-pub returns-else-rest-gt0-clause-listed : goal.returns-else-rest-gt0-clause-listed
-returns-else-rest-gt0-clause-listed g c =
+pub returns-clause-listed : goal.returns-clause-listed
+returns-clause-listed g c =
     let live = c.requires.live in
     let is = c.requires.own live.0 live.1 in
     let next = c.requires.next live.0 live.1 in
@@ -144,8 +170,8 @@ returns-then-rest-gt0-clause-touched g c k o =
     let last = recut_lasts bs new c.args.at live.0 k c.args.words c.args.tick live.1 live.2.0 (omega (arith, c.requires.room, is.size, next.size)) change.blocks o in
     c.push.ensures.touched k (any_word new c.args.at k last) ∙ (rw e.blocks at c.recut-rest.ensures.touched) k o ∙ e.touched k (any_word bs c.args.at k o)
 
-pub returns-else-rest-gt0-clause-touched : goal.returns-else-rest-gt0-clause-touched
-returns-else-rest-gt0-clause-touched g c k o =
+pub returns-clause-touched : goal.returns-clause-touched
+returns-clause-touched g c k o =
     (rw c.forget.ensures.blocks at c.recut-rest.ensures.touched) k o ∙ c.forget.ensures.touched k (any_word c.args.region.now.blocks c.args.at k o)
 
 -- ---- groups of eight words
@@ -153,5 +179,5 @@ returns-else-rest-gt0-clause-touched g c k o =
 pub returns-then-rest-gt0-clause-groups : goal.returns-then-rest-gt0-clause-groups
 returns-then-rest-gt0-clause-groups g c = groups_then (groups_then c.forget.ensures.groups c.recut-rest.ensures.groups) c.push.ensures.groups
 
-pub returns-else-rest-gt0-clause-groups : goal.returns-else-rest-gt0-clause-groups
-returns-else-rest-gt0-clause-groups g c = more_groups (omega arith) (groups_then c.forget.ensures.groups c.recut-rest.ensures.groups)
+pub returns-clause-groups : goal.returns-clause-groups
+returns-clause-groups g c = more_groups (omega arith) (groups_then c.forget.ensures.groups c.recut-rest.ensures.groups)

@@ -1,17 +1,19 @@
-use Rattle.tlsf_c.proofs.Common.{sym, subst, HeapState, AreHeapCounts}
+use Rattle.tlsf_c.proofs.Common.{◌≡◌, ℕ, Result, sym, ap, ◌∙◌, LevelHeap, Refusal}
+use Rattle.tlsf_c.specs.declared.any_heap.OfLevel.{OfLevel}
 use Rattle.tlsf_c.specs.LevelOf.{shown}
 use Rattle.tlsf_c.specs.declared.any_heap.AnyHeap.TheInside.{Inside}
-use Rattle.tlsf_c.specs.declared.any_heap.OfLevel.{OfLevel}
-use Rattle.tlsf_c.proofs.CountSums.{counts_written}
+use Rattle.tlsf_c.proofs.Carried.{carried}
+use Rattle.tlsf_c.proofs.Counted.{wrote}
 use Rattle.tlsf_c.proofs.any_heap.AnyHeap.write.Goals as goal
 use Rattle.tlsf_c.proofs.any_heap.AnyHeap.write.Goals.{in-Four, in-Five}
 
-pub invariant_of-self : goal.invariant_of-self
-invariant_of-self c =
-    let counts = c.self.inside.counts in
-    elim c.match-self.branch [
-      | in-Four w ↦ subst (λ (s : Inside). AreHeapCounts (shown s.of_level s.counts).heap s.counts) (sym w.self-inside-is) (subst (λ (h : HeapState). AreHeapCounts h counts) (sym w.write.ensures.writes.heap)
-          (counts_written _ c.args.name c.args.at _ counts (subst (λ (o : OfLevel). AreHeapCounts (shown o counts).heap counts) w.in-Four.is c.self.invariant)))
-      | in-Five w ↦ subst (λ (s : Inside). AreHeapCounts (shown s.of_level s.counts).heap s.counts) (sym w.self-inside-is) (subst (λ (h : HeapState). AreHeapCounts h counts) (sym w.write-in-Five.ensures.writes.heap)
-          (counts_written _ c.args.name c.args.at _ counts (subst (λ (o : OfLevel). AreHeapCounts (shown o counts).heap counts) w.in-Five.is c.self.invariant)))
-    ]
+abbrev Counts : Result (Unit {0}) Refusal → LevelHeap → LevelHeap → Type 0
+Counts r left h = left.counts ≡ h.counts
+
+pub returns-clause-counts : goal.returns-clause-counts
+returns-clause-counts c = elim c.match-self.branch [
+  | in-Four w ↦ carried Counts _ _ _ _ _ _ w.result-is (ap (λ (i : Inside). shown i.of_level i.refused) w.self-inside-is)
+      (sym (ap (λ (o : OfLevel). shown o c.self.inside.refused) w.in-Four.is) ∙ c.self.view_is) (wrote w.write.ensures.writes _ _ c.self.inside.refused w.write.ensures.most)
+  | in-Five w ↦ carried Counts _ _ _ _ _ _ w.result-is (ap (λ (i : Inside). shown i.of_level i.refused) w.self-inside-is)
+      (sym (ap (λ (o : OfLevel). shown o c.self.inside.refused) w.in-Five.is) ∙ c.self.view_is) (wrote w.write-in-Five.ensures.writes _ _ c.self.inside.refused w.write-in-Five.ensures.most)
+]

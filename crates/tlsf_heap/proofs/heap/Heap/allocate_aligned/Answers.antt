@@ -1,8 +1,9 @@
-use Rattle.tlsf_heap.proofs.Common.{◌≡◌, ◌+◌, ◌≤◌, ◌<◌, max, [], refl, arith, sym, ap, ◌∙◌, subst, suc, false≢true, aligned_words, HeapState, want, Outcome, last_tick, fits, IsLawful, Shown, lying, with_payload, Name, IsOthersWord, IsLiveWord}
+use Rattle.tlsf_heap.proofs.Common.{◌≡◌, ℕ, List, times, Fill, words_in_use, ◌+◌, ◌≤◌, ◌<◌, max, [], refl, arith, sym, ap, ◌∙◌, subst, suc, false≢true, aligned_words, HeapState, want, Outcome, last_tick, fits, IsLawful, Shown, lying, with_payload, Name, IsOthersWord, IsLiveWord}
 use Rattle.tlsf_class.proofs.TwoLevels.{most_words_any}
 use Rattle.tlsf_heap.proofs.lemmas.calls.AllocateAligned.{IsAligned, has_live, has_room, none_fits, aligned_past, first_moves, first_moved, gives_name, gives_payload, gives_others}
 use Rattle.tlsf_heap.proofs.lemmas.blocks.Sites.{fits_nothing}
 use Rattle.tlsf_heap.proofs.lemmas.calls.Kept.{keeps_same}
+use Rattle.tlsf_heap.proofs.lemmas.laws.WordsInUse.{words_set}
 use Rattle.tlsf_heap.proofs.lemmas.calls.Leaves.{moved_word, given_word}
 use Rattle.tlsf_words.proofs.Touching.{no_groups, more_groups, groups_then}
 use Rattle.tlsf_heap.proofs.heap.Heap.allocate_aligned.Given.{Over}
@@ -79,7 +80,7 @@ set_length-requires g c =
     m c.in_ok-name.name c.move_on.ensures.heap c.in_ok-name.ensures.answer in
     let has = done.gives.has in
     let room = has_room m c.in_ok-name.name c.want-words.result c.move_on.ensures.keeps.lawful has in
-    (omega arith, (has_live m c.in_ok-name.name c.want-words.result has, omega (arith, room, c.want-words.ensures)))
+    (omega arith, rw c.set_most_in_use.ensures.heap (has_live m c.in_ok-name.name c.want-words.result has, omega (arith, room, c.want-words.ensures)))
 
 done : (g : Over) (c : goal.After-set_length g) → IsAligned g.row.SLI c.args.self.now.heap c.move_on.new.self.heap c.want-words.result c.max-step.result c.args.skew c.in_ok-name.name
 done g c =
@@ -103,13 +104,18 @@ returns-clause-gives g c =
     let name = c.in_ok-name.name in
     let bytes = lying c.set_length.new.self.stored name.at c.args.len in
     let lawful = c.allocate_words.ensures.keeps.was_lawful in
-    let is = c.set_length.ensures.heap in
+    let is = c.set_length.ensures.heap ∙ ap (λ (s : HeapState). with_payload s name bytes) c.set_most_in_use.ensures.heap in
     record {
       heap = is ∙ ap (λ (s : HeapState). with_payload s name bytes) (rw (c.want-words.ensures, c.max-step.ensures) at (done g c).is_heap);
       given = gives_name h c.move_on.new.self.heap name c.want-words.result (done g c).gives lawful bytes c.set_length.new.self.heap is;
       payload = gives_payload h c.move_on.new.self.heap name c.want-words.result (done g c).gives lawful bytes c.set_length.new.self.heap is;
       others = gives_others h c.move_on.new.self.heap name c.want-words.result (done g c).gives lawful bytes c.set_length.new.self.heap is;
     }
+
+pub returns-clause-peak : goal.returns-clause-peak
+returns-clause-peak g c =
+    let bytes = lying c.set_length.new.self.stored c.in_ok-name.name.at c.args.len in
+    omega (arith, ap (λ (s : Shown). s.most_in_use) c.self.view_is, ap words_in_use c.set_length.ensures.heap, (words_set g.row.SLI c.set_most_in_use.new.self.heap (Fill c.in_ok-name.name bytes) tt).0, c.set_most_in_use.ensures.most, c.set_length.ensures.most)
 
 -- ---- the payloads of other blocks
 
@@ -132,8 +138,8 @@ returns-clause-leaves g c k live =
     let e = c.allocate_words.ensures in
     let given = given_word h (suc live.1) k (live.0, live.1, live.2, live.3, λ e. omega (arith, e)) g.row.SLI _ 0 e.keeps.was_lawful first (sym e.allocates.answer_is ∙ c.in-Ok.is) in
     let left = subst (λ (s : HeapState). IsOthersWord s.blocks first.at k) (sym e.allocates.heap) given in
-    let after = subst (λ (s : HeapState). IsLiveWord s.blocks k) (sym c.move_on.ensures.heap) (moved_word c.allocate_words.new.self.heap first c.gap-gap.result c.want-words.result k left) in
-    c.set_length.ensures.leaves k after ∙ c.move_on.ensures.leaves k left ∙ e.allocates.leaves k live
+    let after = subst (λ (s : HeapState). IsLiveWord s.blocks k) (sym (c.set_most_in_use.ensures.heap ∙ c.move_on.ensures.heap)) (moved_word c.allocate_words.new.self.heap first c.gap-gap.result c.want-words.result k left) in
+    c.set_length.ensures.leaves k after ∙ ap (λ (l : List ℕ). times l k) c.set_most_in_use.ensures.touched ∙ c.move_on.ensures.leaves k left ∙ e.allocates.leaves k live
 
 -- ---- groups of eight words
 
@@ -150,4 +156,4 @@ pub returns-in_err-name-clause-groups : goal.returns-in_err-name-clause-groups
 returns-in_err-name-clause-groups g c = more_groups (omega arith) (groups_then c.allocate_words.ensures.groups c.move_on.ensures.groups)
 
 pub returns-clause-groups : goal.returns-clause-groups
-returns-clause-groups g c = more_groups (omega arith) (groups_then (groups_then c.allocate_words.ensures.groups c.move_on.ensures.groups) c.set_length.ensures.groups)
+returns-clause-groups g c = more_groups (omega arith) (groups_then (groups_then c.allocate_words.ensures.groups c.move_on.ensures.groups) (rw c.set_most_in_use.ensures.touched at c.set_length.ensures.groups))

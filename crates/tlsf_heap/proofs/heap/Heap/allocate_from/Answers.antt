@@ -1,6 +1,7 @@
-use Rattle.tlsf_heap.proofs.Common.{refl, arith, ap, sym, subst, ◌∙◌, HeapState, lying, with_payload, IsLiveWord, GiveFrom}
+use Rattle.tlsf_heap.proofs.Common.{refl, arith, ap, sym, subst, ◌∙◌, HeapState, lying, with_payload, IsLiveWord, GiveFrom, Fill, words_in_use}
 use Rattle.tlsf_heap.proofs.lemmas.calls.AllocateAligned.{Gives, has_live, has_room, from_has, from_gives, gives_name, gives_payload, gives_others}
 use Rattle.tlsf_heap.proofs.lemmas.calls.AllocateFrom.{free_not_wild}
+use Rattle.tlsf_heap.proofs.lemmas.laws.WordsInUse.{words_set}
 use Rattle.tlsf_heap.proofs.lemmas.calls.Leaves.{live_step}
 use Rattle.tlsf_words.proofs.Touching.{more_groups, groups_then}
 use Rattle.tlsf_heap.proofs.heap.Heap.allocate_from.Given.{Over}
@@ -43,6 +44,11 @@ returns-in-Err-clause-cases g c = rw c.want.ensures at c.in-Err.ensures.cases
 
 pub returns-clause-cases : goal.returns-clause-cases
 returns-clause-cases g c = rw c.want.ensures at c.in-Ok.ensures.cases
+
+pub returns-clause-peak : goal.returns-clause-peak
+returns-clause-peak g c =
+    let bytes = lying c.set_length.new.self.stored c.in-Ok.name.at c.args.len in
+    omega (arith, ap words_in_use c.set_length.ensures.heap, (words_set g.row.SLI c.words_from.new.self.heap (Fill c.in-Ok.name bytes) tt).0, c.words_from.ensures.peak, c.set_length.ensures.most)
 
 -- ---- the place is one of the region
 

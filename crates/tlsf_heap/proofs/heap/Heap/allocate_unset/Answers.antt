@@ -5,7 +5,8 @@ use Rattle.tlsf_heap.proofs.lemmas.calls.Allocate.{Allocates, allocates_none, al
 use Rattle.tlsf_heap.proofs.lemmas.calls.AllocateUnset.{given_zeros, given_lying, lying_lawful, zeroed}
 use Rattle.tlsf_heap.proofs.lemmas.blocks.Lawful.{with_region}
 use Rattle.tlsf_heap.proofs.lemmas.blocks.Find.{and_left}
-use Rattle.tlsf_heap.proofs.lemmas.calls.Kept.{keeps_stored, keeps_read}
+use Rattle.tlsf_heap.proofs.lemmas.calls.Kept.{keeps_stored, keeps_read, stored_read, more_use}
+use Rattle.tlsf_heap.proofs.lemmas.blocks.Used.{used_small}
 use Rattle.tlsf_heap.proofs.lemmas.calls.Leaves.{seen_live}
 use Rattle.tlsf_words.proofs.Touching.{no_groups, more_groups, groups_then}
 use Rattle.tlsf_heap.proofs.heap.Heap.allocate_unset.Given.{Over}
@@ -73,23 +74,12 @@ pub returns-then-self-clause-leaves : goal.returns-then-self-clause-leaves
 returns-then-self-clause-leaves g c = seen_live g.row.SLI c.self.inside c.self.view_is _ c.choose.ensures.touched
 
 pub invariant_of-self-then-self : goal.invariant_of-self-then-self
-invariant_of-self-then-self g c =
-    let was = c.self.invariant in
-    let reads = c.choose.ensures.reads in
-    record {
-      lawful = (worn g c).lawful;
-      shows = rw (reads.stored, reads.blocks) was.shows;
-      linked = rw (reads.stored, reads.lists) was.linked;
-      bits = rw (reads.marked, reads.lists) was.bits;
-      level = was.level;
-      small = omega (arith, reads.words, was.small);
-      listed = rw (reads.blocks, reads.lists) was.listed;
-    }
+invariant_of-self-then-self g c = stored_read g.row.SLI c.self.inside c.self.view_is c.self.invariant _ c.choose.ensures.reads
 
 -- ---- a block is given
 
-pub carve_unset-at-requires : goal.carve_unset-at-requires
-carve_unset-at-requires g c =
+pub carve_unset-given-requires : goal.carve_unset-given-requires
+carve_unset-given-requires g c =
     let best = c.in-Some.ensures.best in (
       omega arith,
       (
@@ -117,50 +107,61 @@ carve_unset-at-requires g c =
     )
 
 -- the block that is given is the one that was chosen
-stands : (g : Over) (c : goal.After-self-1 g) → StandsAt c.self.inside.region.blocks c.carve_unset-at.result c.in-Some.ensures.best.1
-stands g c = head_stands g.row.SLI c.in-Some.ensures.best.2 ((rw c.choose.ensures.reads.lists at c.carve_unset-at.ensures.place))
+stands : (g : Over) (c : goal.After-self-1 g) → StandsAt c.self.inside.region.blocks c.carve_unset-given.result.at c.in-Some.ensures.best.1
+stands g c = head_stands g.row.SLI c.in-Some.ensures.best.2 ((rw c.choose.ensures.reads.lists at c.carve_unset-given.ensures.place))
 
 unset : (g : Over) (c : goal.After-self-1 g)
-    → CarvedUnset g.row.SLI c.choose.new.region c.carve_unset-at.new.region (site_at c.self.inside.region.blocks c.in-Some.ensures.best.1) c.carve_unset-at.result (want c.args.len) c.self.inside.tick c.args.len 24
+    → CarvedUnset g.row.SLI c.choose.new.region c.carve_unset-given.new.region (site_at c.self.inside.region.blocks c.in-Some.ensures.best.1) c.carve_unset-given.result.at (want c.args.len) c.self.inside.tick c.args.len 24
 unset g c =
     let i = c.in-Some.ensures.best.1 in
-    let new = c.carve_unset-at.new.region in
-    subst (λ (n : ℕ). CarvedUnset g.row.SLI c.choose.new.region new (site_at c.self.inside.region.blocks i) c.carve_unset-at.result n c.self.inside.tick c.args.len 24) c.want-words.ensures
-    (subst (λ (l : List Block). CarvedUnset g.row.SLI c.choose.new.region new (site_at l i) c.carve_unset-at.result c.want-words.result c.self.inside.tick c.args.len 24) c.choose.ensures.reads.blocks
-    (c.carve_unset-at.ensures.carved i (rw c.choose.ensures.reads.blocks (stands g c))))
+    let new = c.carve_unset-given.new.region in
+    subst (λ (n : ℕ). CarvedUnset g.row.SLI c.choose.new.region new (site_at c.self.inside.region.blocks i) c.carve_unset-given.result.at n c.self.inside.tick c.args.len 24) c.want-words.ensures
+    (subst (λ (l : List Block). CarvedUnset g.row.SLI c.choose.new.region new (site_at l i) c.carve_unset-given.result.at c.want-words.result c.self.inside.tick c.args.len 24) c.choose.ensures.reads.blocks
+    (c.carve_unset-given.ensures.carved i (rw c.choose.ensures.reads.blocks (stands g c))))
 
 -- as an allocate, but for the bytes
-zeros : (g : Over) (c : goal.After-self-1 g) → Allocates g.row.SLI c.args.self.now.heap (want c.args.len) c.args.len (Ok (record { heap = c.self.inside.id; at = c.carve_unset-at.result; serial = c.self.inside.tick }))
+zeros : (g : Over) (c : goal.After-self-1 g) → Allocates g.row.SLI c.args.self.now.heap (want c.args.len) c.args.len (Ok (record { heap = c.self.inside.id; at = c.carve_unset-given.result.at; serial = c.self.inside.tick }))
     (with_region (state_of g.row.SLI c.self.inside) (c.self.inside.tick + 1) (zeroed g.row.SLI c.self.invariant.level (state_of g.row.SLI c.self.inside) c.args.self.now.heap c.args.len c.self.invariant.lawful (ap (λ (s : Shown). s.heap) c.self.view_is)
-    c.carve_unset-at.new.region ((unset g c).edits.words ∙ c.choose.ensures.reads.words) c.in-Some.ensures.best.1 (fit_at g.row.SLI _ c.args.len c.self.inside.region.blocks c.in-Some.ensures.best.1 c.want-words.ensures c.in-Some.ensures.best.3)))
+    c.carve_unset-given.new.region ((unset g c).edits.words ∙ c.choose.ensures.reads.words) c.in-Some.ensures.best.1 (fit_at g.row.SLI _ c.args.len c.self.inside.region.blocks c.in-Some.ensures.best.1 c.want-words.ensures c.in-Some.ensures.best.3)))
 zeros g c =
     let best = c.in-Some.ensures.best in
     given_zeros g.row.SLI c.self.invariant.level (state_of g.row.SLI c.self.inside) c.args.self.now.heap c.args.len c.self.invariant.lawful (ap (λ (s : Shown). s.heap) c.self.view_is)
-    c.carve_unset-at.new.region ((unset g c).edits.words ∙ c.choose.ensures.reads.words) best.1 (fit_at g.row.SLI _ c.args.len c.self.inside.region.blocks best.1 c.want-words.ensures best.3) c.carve_unset-at.result (stands g c).place (unset g c).blocks c.if-self.false
+    c.carve_unset-given.new.region ((unset g c).edits.words ∙ c.choose.ensures.reads.words) best.1 (fit_at g.row.SLI _ c.args.len c.self.inside.region.blocks best.1 c.want-words.ensures best.3) c.carve_unset-given.result.at (stands g c).place (unset g c).blocks c.if-self.false
 
 given : (g : Over) (c : goal.After-self-1 g)
-    → let new = with_region (state_of g.row.SLI c.self.inside) (c.self.inside.tick + 1) c.carve_unset-at.new.region in
-    (new ≡ unset_from (allocated g.row.SLI c.args.self.now.heap c.args.len).heap (record { heap = c.self.inside.id; at = c.carve_unset-at.result; serial = c.self.inside.tick }) c.carve_unset-at.new.region.stored 0 c.args.len) × IsLawful new
+    → let new = with_region (state_of g.row.SLI c.self.inside) (c.self.inside.tick + 1) c.carve_unset-given.new.region in
+    (new ≡ unset_from (allocated g.row.SLI c.args.self.now.heap c.args.len).heap (record { heap = c.self.inside.id; at = c.carve_unset-given.result.at; serial = c.self.inside.tick }) c.carve_unset-given.new.region.stored 0 c.args.len) × IsLawful new
 given g c =
     let best = c.in-Some.ensures.best in
     let h = state_of g.row.SLI c.self.inside in
     let same = ap (λ (s : Shown). s.heap) c.self.view_is in
     let words = (unset g c).edits.words ∙ c.choose.ensures.reads.words in
     let fit = fit_at g.row.SLI _ c.args.len c.self.inside.region.blocks best.1 c.want-words.ensures best.3 in (
-      given_lying g.row.SLI c.self.invariant.level h c.args.self.now.heap c.args.len c.self.invariant.lawful same c.carve_unset-at.new.region words best.1 fit c.carve_unset-at.result (stands g c).place (unset g c).blocks c.if-self.false,
-      lying_lawful g.row.SLI c.self.invariant.level h c.args.self.now.heap c.args.len c.self.invariant.lawful same c.carve_unset-at.new.region words best.1 fit c.carve_unset-at.result (stands g c).place (unset g c).blocks c.if-self.false,
+      given_lying g.row.SLI c.self.invariant.level h c.args.self.now.heap c.args.len c.self.invariant.lawful same c.carve_unset-given.new.region words best.1 fit c.carve_unset-given.result.at (stands g c).place (unset g c).blocks c.if-self.false,
+      lying_lawful g.row.SLI c.self.invariant.level h c.args.self.now.heap c.args.len c.self.invariant.lawful same c.carve_unset-given.new.region words best.1 fit c.carve_unset-given.result.at (stands g c).place (unset g c).blocks c.if-self.false,
     )
 
+-- no more words are in use than the region has
+pub give-requires : goal.give-requires
+give-requires g c =
+    let best = c.in-Some.ensures.best in
+    let stands = head_stands g.row.SLI best.2 (rw c.choose.ensures.reads.lists at c.carve_unset-given.ensures.place) in
+    let edits = (c.carve_unset-given.ensures.carved best.1 (rw c.choose.ensures.reads.blocks stands)).edits in
+    omega (arith, used_small edits.shows, (rw c.choose.ensures.reads.blocks at c.carve_unset-given.ensures.used), c.self.invariant.in_use)
+
 pub invariant_of-self-2 : goal.invariant_of-self-2
-invariant_of-self-2 g c = record {
-  lawful = (given g c).1;
-  shows = (unset g c).edits.shows;
-  linked = (unset g c).edits.linked;
-  bits = (unset g c).edits.bits;
-  level = c.self.invariant.level;
-  small = omega (arith, (unset g c).edits.words, c.choose.ensures.reads.words, c.self.invariant.small);
-  listed = (unset g c).listed;
-}
+invariant_of-self-2 g c =
+    let used = more_use g.row.SLI c.self.inside c.self.view_is c.self.invariant c.carve_unset-given.new.region.blocks c.carve_unset-given.result.words c.give.new.self (rw c.choose.ensures.reads.blocks at c.carve_unset-given.ensures.used) c.give.ensures in record {
+      lawful = (given g c).1;
+      shows = (unset g c).edits.shows;
+      linked = (unset g c).edits.linked;
+      bits = (unset g c).edits.bits;
+      level = c.self.invariant.level;
+      small = omega (arith, (unset g c).edits.words, c.choose.ensures.reads.words, c.self.invariant.small);
+      listed = (unset g c).listed;
+      in_use = used.words;
+      most_in_use = used.most;
+    }
 
 pub returns-clause-answer : goal.returns-clause-answer
 returns-clause-answer g c = (zeros g c).is_answer
@@ -178,7 +179,7 @@ pub returns-clause-touches : goal.returns-clause-touches
 returns-clause-touches g c = omega (arith, (unset g c).edits.touches, c.choose.ensures.reads.touches, ap (λ (s : Shown). s.touches) c.self.view_is)
 
 pub returns-clause-leaves : goal.returns-clause-leaves
-returns-clause-leaves g c = seen_live g.row.SLI c.self.inside c.self.view_is _ (λ k live. (rw c.choose.ensures.reads.blocks at c.carve_unset-at.ensures.touched) k live ∙ c.choose.ensures.touched k live)
+returns-clause-leaves g c = seen_live g.row.SLI c.self.inside c.self.view_is _ (λ k live. (rw c.choose.ensures.reads.blocks at c.carve_unset-given.ensures.touched) k live ∙ c.choose.ensures.touched k live)
 
 -- ---- what is kept
 
@@ -201,4 +202,4 @@ returns-then-self-clause-groups g c = more_groups (omega arith) (no_groups (c.ch
 
 pub returns-clause-groups : goal.returns-clause-groups
 returns-clause-groups g c =
-    subst (λ (s : Shown). InGroups 14 s.touched c.carve_unset-at.new.region.touched) c.self.view_is (more_groups (omega arith) (groups_then (no_groups c.choose.ensures.untouched) c.carve_unset-at.ensures.groups))
+    subst (λ (s : Shown). InGroups 14 s.touched c.carve_unset-given.new.region.touched) c.self.view_is (more_groups (omega arith) (groups_then (no_groups c.choose.ensures.untouched) c.carve_unset-given.ensures.groups))

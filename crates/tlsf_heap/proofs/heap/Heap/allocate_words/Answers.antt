@@ -6,7 +6,8 @@ use Rattle.tlsf_heap.proofs.lemmas.blocks.Find.{and_left}
 use Rattle.tlsf_heap.proofs.lemmas.calls.GivenBlock.{carved_stands, named_payload}
 use Rattle.tlsf_heap.proofs.lemmas.laws.Live as living
 use Rattle.tlsf_heap.proofs.lemmas.calls.Unset.{given_block}
-use Rattle.tlsf_heap.proofs.lemmas.calls.Kept.{keeps_stored, keeps_read}
+use Rattle.tlsf_heap.proofs.lemmas.calls.Kept.{keeps_stored, keeps_read, stored_read, more_use}
+use Rattle.tlsf_heap.proofs.lemmas.blocks.Used.{used_small}
 use Rattle.tlsf_heap.proofs.lemmas.calls.Leaves.{seen_live}
 use Rattle.tlsf_words.proofs.Touching.{no_groups, more_groups, groups_then}
 use Rattle.tlsf_heap.proofs.heap.Heap.allocate_words.Given.{Over}
@@ -73,23 +74,12 @@ returns-then-self-clause-allocates g c =
     }
 
 pub invariant_of-self-then-self : goal.invariant_of-self-then-self
-invariant_of-self-then-self g c =
-    let was = c.self.invariant in
-    let reads = c.choose.ensures.reads in
-    record {
-      lawful = (worn g c).lawful;
-      shows = rw (reads.stored, reads.blocks) was.shows;
-      linked = rw (reads.stored, reads.lists) was.linked;
-      bits = rw (reads.marked, reads.lists) was.bits;
-      level = was.level;
-      small = omega (arith, reads.words, was.small);
-      listed = rw (reads.blocks, reads.lists) was.listed;
-    }
+invariant_of-self-then-self g c = stored_read g.row.SLI c.self.inside c.self.view_is c.self.invariant _ c.choose.ensures.reads
 
 -- ---- a block is given
 
-pub carve-at-requires : goal.carve-at-requires
-carve-at-requires g c =
+pub carve-given-requires : goal.carve-given-requires
+carve-given-requires g c =
     let best = c.in-Some.ensures.best in (
       omega arith,
       (
@@ -117,49 +107,60 @@ carve-at-requires g c =
     )
 
 -- the block that is carved is the one that was chosen
-stands : (g : Over) (c : goal.After-self-1 g) → StandsAt c.self.inside.region.blocks c.carve-at.result c.in-Some.ensures.best.1
-stands g c = head_stands g.row.SLI c.in-Some.ensures.best.2 ((rw c.choose.ensures.reads.lists at c.carve-at.ensures.place))
+stands : (g : Over) (c : goal.After-self-1 g) → StandsAt c.self.inside.region.blocks c.carve-given.result.at c.in-Some.ensures.best.1
+stands g c = head_stands g.row.SLI c.in-Some.ensures.best.2 ((rw c.choose.ensures.reads.lists at c.carve-given.ensures.place))
 
-carved : (g : Over) (c : goal.After-self-1 g) → Edits c.choose.new.region c.carve-at.new.region (23 + (payload_words (block_at c.carve-at.new.region.blocks c.in-Some.ensures.best.1) - (c.args.words - c.want.result)))
-carved g c = c.carve-at.ensures.edits c.in-Some.ensures.best.1 (rw c.choose.ensures.reads.blocks (stands g c))
+carved : (g : Over) (c : goal.After-self-1 g) → Edits c.choose.new.region c.carve-given.new.region (23 + (payload_words (block_at c.carve-given.new.region.blocks c.in-Some.ensures.best.1) - (c.args.words - c.want.result)))
+carved g c = c.carve-given.ensures.edits c.in-Some.ensures.best.1 (rw c.choose.ensures.reads.blocks (stands g c))
 
-given : (g : Over) (c : goal.After-self-1 g) → Allocates g.row.SLI c.args.self.now.heap c.args.words c.args.len (Ok (record { heap = c.self.inside.id; at = c.carve-at.result; serial = c.self.inside.tick }))
-    (with_region (state_of g.row.SLI c.self.inside) (c.self.inside.tick + 1) c.carve-at.new.region)
+given : (g : Over) (c : goal.After-self-1 g) → Allocates g.row.SLI c.args.self.now.heap c.args.words c.args.len (Ok (record { heap = c.self.inside.id; at = c.carve-given.result.at; serial = c.self.inside.tick }))
+    (with_region (state_of g.row.SLI c.self.inside) (c.self.inside.tick + 1) c.carve-given.new.region)
 given g c =
     let best = c.in-Some.ensures.best in
     (allocates_some g.row.SLI c.self.invariant.level (state_of g.row.SLI c.self.inside) c.args.self.now.heap c.args.words c.args.len c.requires c.self.invariant.lawful (ap (λ (s : Shown). s.heap) c.self.view_is)
-    c.carve-at.new.region ((carved g c).words ∙ c.choose.ensures.reads.words) best.1 best.3 c.carve-at.result (stands g c).place ((rw c.choose.ensures.reads.blocks at c.carve-at.ensures.blocks) best.1 (stands g c)) c.if-self.false)
+    c.carve-given.new.region ((carved g c).words ∙ c.choose.ensures.reads.words) best.1 best.3 c.carve-given.result.at (stands g c).place ((rw c.choose.ensures.reads.blocks at c.carve-given.ensures.blocks) best.1 (stands g c)) c.if-self.false)
+
+-- no more words are in use than the region has
+pub give-requires : goal.give-requires
+give-requires g c =
+    let best = c.in-Some.ensures.best in
+    let stands = head_stands g.row.SLI best.2 (rw c.choose.ensures.reads.lists at c.carve-given.ensures.place) in
+    let edits = c.carve-given.ensures.edits best.1 (rw c.choose.ensures.reads.blocks stands) in
+    omega (arith, used_small edits.shows, (rw c.choose.ensures.reads.blocks at c.carve-given.ensures.used), c.self.invariant.in_use)
 
 pub invariant_of-self-2 : goal.invariant_of-self-2
-invariant_of-self-2 g c = record {
-  lawful = (given g c).lawful;
-  shows = (carved g c).shows;
-  linked = (carved g c).linked;
-  bits = (carved g c).bits;
-  level = c.self.invariant.level;
-  small = omega (arith, (carved g c).words, c.choose.ensures.reads.words, c.self.invariant.small);
-  listed = c.carve-at.ensures.listed;
-}
+invariant_of-self-2 g c =
+    let used = more_use g.row.SLI c.self.inside c.self.view_is c.self.invariant c.carve-given.new.region.blocks c.carve-given.result.words c.give.new.self (rw c.choose.ensures.reads.blocks at c.carve-given.ensures.used) c.give.ensures in record {
+      lawful = (given g c).lawful;
+      shows = (carved g c).shows;
+      linked = (carved g c).linked;
+      bits = (carved g c).bits;
+      level = c.self.invariant.level;
+      small = omega (arith, (carved g c).words, c.choose.ensures.reads.words, c.self.invariant.small);
+      listed = c.carve-given.ensures.listed;
+      in_use = used.words;
+      most_in_use = used.most;
+    }
 
 -- the block has at most three words above those wanted, and none of those that are spare were made zero
-few : (g : Over) (c : goal.After-self-1 g) → c.carve-at.new.region.touches ≤ c.self.inside.region.touches + 26 + want c.args.len
+few : (g : Over) (c : goal.After-self-1 g) → c.carve-given.new.region.touches ≤ c.self.inside.region.touches + 26 + want c.args.len
 few g c =
     let i = c.in-Some.ensures.best.1 in
     let old = c.self.inside.region.blocks in
-    let now = carved_stands old c.carve-at.new.region.blocks c.carve-at.result i (size_of (block_at old i)) c.args.words c.self.inside.tick c.args.len (stands g c) ((rw c.choose.ensures.reads.blocks at c.carve-at.ensures.blocks) i (stands g c)) in
+    let now = carved_stands old c.carve-given.new.region.blocks c.carve-given.result.at i (size_of (block_at old i)) c.args.words c.self.inside.tick c.args.len (stands g c) ((rw c.choose.ensures.reads.blocks at c.carve-given.ensures.blocks) i (stands g c)) in
     omega (arith, (carved g c).touches, c.choose.ensures.reads.touches, now.1, c.requires, c.want.ensures)
 
 -- the name that is given names the block at its place, whose payload was made zero
-touched : (g : Over) (c : goal.After-self-1 g) → c.carve-at.new.region.touches ≤ c.self.inside.region.touches + 26 + payload_words_given {E = Refusal} (Ok (record { heap = c.self.inside.id; at = c.carve-at.result; serial = c.self.inside.tick }))
-    (with_region (state_of g.row.SLI c.self.inside) (c.self.inside.tick + 1) c.carve-at.new.region)
+touched : (g : Over) (c : goal.After-self-1 g) → c.carve-given.new.region.touches ≤ c.self.inside.region.touches + 26 + payload_words_given {E = Refusal} (Ok (record { heap = c.self.inside.id; at = c.carve-given.result.at; serial = c.self.inside.tick }))
+    (with_region (state_of g.row.SLI c.self.inside) (c.self.inside.tick + 1) c.carve-given.new.region)
 touched g c =
     let best = c.in-Some.ensures.best in
     let old = c.self.inside.region.blocks in
-    let heap : HeapState = with_region (state_of g.row.SLI c.self.inside) (c.self.inside.tick + 1) c.carve-at.new.region in
-    let name : Name = record { heap = c.self.inside.id; at = c.carve-at.result; serial = c.self.inside.tick } in
+    let heap : HeapState = with_region (state_of g.row.SLI c.self.inside) (c.self.inside.tick + 1) c.carve-given.new.region in
+    let name : Name = record { heap = c.self.inside.id; at = c.carve-given.result.at; serial = c.self.inside.tick } in
     let live : IsLive heap name = subst (λ (h : HeapState). IsLive h name) (sym (given g c).is_heap) (living.given_words g.row.SLI c.args.self.now.heap c.args.words c.args.len name (sym (given g c).is_answer)) in
     let now = carved_stands old heap.blocks name.at best.1 (size_of (block_at old best.1)) c.args.words c.self.inside.tick c.args.len (stands g c)
-    ((rw c.choose.ensures.reads.blocks at c.carve-at.ensures.blocks) best.1 (stands g c)) in
+    ((rw c.choose.ensures.reads.blocks at c.carve-given.ensures.blocks) best.1 (stands g c)) in
     let regions = lawful_regions g.row.SLI heap (given g c).lawful (omega (arith, (carved g c).words, c.choose.ensures.reads.words, c.self.invariant.small)) in
     omega (arith, (carved g c).touches, named_payload g.row.SLI heap name best.1 regions now.0 live, c.choose.ensures.reads.touches)
 
@@ -174,14 +175,14 @@ returns-clause-allocates g c =
       touches = omega (arith, touched g c, seen);
       few = omega (arith, few g c, seen);
       rise = search rules;
-      leaves = seen_live g.row.SLI c.self.inside c.self.view_is _ (λ k live. (rw c.choose.ensures.reads.blocks at c.carve-at.ensures.touched) k live ∙ c.choose.ensures.touched k live);
+      leaves = seen_live g.row.SLI c.self.inside c.self.view_is _ (λ k live. (rw c.choose.ensures.reads.blocks at c.carve-given.ensures.touched) k live ∙ c.choose.ensures.touched k live);
     }
 
 pub returns-clause-room : goal.returns-clause-room
 returns-clause-room g c =
     let n = c.args.words in
     let h = c.args.self.now.heap in
-    let name : Name = record { heap = c.self.inside.id; at = c.carve-at.result; serial = c.self.inside.tick } in
+    let name : Name = record { heap = c.self.inside.id; at = c.carve-given.result.at; serial = c.self.inside.tick } in
     let lawful = subst IsLawful (ap (λ (s : Shown). s.heap) c.self.view_is) c.self.invariant.lawful in
     let found = given_block (λ b. n ≤ 3 + payload_words b) g.row.SLI h n c.args.len name lawful (sym (given g c).is_answer) (omega arith) (λ b fit. let many = fits_size g.row.SLI c.self.invariant.level n b fit in omega (arith, many)) in
     omega (arith, ap (λ (s : HeapState). payload_words_at (named name s.blocks)) (given g c).is_heap, ap payload_words_at found.1, found.2)
@@ -208,5 +209,5 @@ returns-then-self-clause-groups g c = more_groups (omega arith) (no_groups (c.ch
 -- none of the words that are spare are made zero
 pub returns-clause-groups : goal.returns-clause-groups
 returns-clause-groups g c =
-    subst (λ (s : Shown). InGroups (allocate_groups + c.args.len / 64) s.touched c.carve-at.new.region.touched) c.self.view_is
-    (more_groups (omega (arith, c.requires, c.want.ensures)) (groups_then (no_groups c.choose.ensures.untouched) c.carve-at.ensures.groups))
+    subst (λ (s : Shown). InGroups (allocate_groups + c.args.len / 64) s.touched c.carve-given.new.region.touched) c.self.view_is
+    (more_groups (omega (arith, c.requires, c.want.ensures)) (groups_then (no_groups c.choose.ensures.untouched) c.carve-given.ensures.groups))

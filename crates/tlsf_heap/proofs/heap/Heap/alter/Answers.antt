@@ -2,6 +2,7 @@ use Rattle.tlsf_heap.proofs.Common.{◌≡◌, ℕ, List, length, sym, ap, ◌�
 use Rattle.tlsf_heap.proofs.lemmas.calls.Alter.{are_payload, bytes_there, payload_is, stood_in}
 use Rattle.tlsf_heap.proofs.lemmas.lists.FreeLists.{same_lists}
 use Rattle.tlsf_heap.proofs.lemmas.blocks.Lawful.{with_region}
+use Rattle.tlsf_heap.proofs.lemmas.blocks.Used.{used_rebytes}
 use Rattle.tlsf_heap.proofs.lemmas.calls.Named.{live_is, not_forged}
 use Rattle.tlsf_heap.proofs.lemmas.words.Bytes.{length-bytes_in}
 use Rattle.tlsf_heap.proofs.lemmas.calls.Write.{Writes, writes, read_none, read_refused, range_is}
@@ -66,6 +67,8 @@ invariant_of-self g c =
       level = c.self.invariant.level;
       small = omega (arith, change.edits.words, c.self.invariant.small);
       listed = rw places (same_lists (free_places g.row.SLI 0 c.self.inside.region.blocks) (list_in c.self.inside.region.lists) (list_in c.alter.new.self.lists) change.lists c.self.invariant.listed);
+      in_use = omega (arith, used_rebytes c.self.inside.region.blocks c.alter.new.self.blocks (stood g c).1 _ change.blocks, c.self.invariant.in_use);
+      most_in_use = c.self.invariant.most_in_use;
     }
 
 pub returns-clause-answer : goal.returns-clause-answer

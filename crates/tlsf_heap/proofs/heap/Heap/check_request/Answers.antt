@@ -2,7 +2,7 @@ use Rattle.tlsf_heap.proofs.Common.{ℕ, List, sym, ap, ◌∙◌, subst, arith,
 use Rattle.tlsf_heap.specs.Around.{TellsTaken, FindsChoice}
 use Rattle.tlsf_heap.proofs.lemmas.blocks.Find.{and_left}
 use Rattle.tlsf_heap.proofs.lemmas.calls.Allocate.{lawful_regions, fits_size}
-use Rattle.tlsf_heap.proofs.lemmas.calls.Kept.{keeps_read, reads_both}
+use Rattle.tlsf_heap.proofs.lemmas.calls.Kept.{keeps_read, reads_both, stored_read}
 use Rattle.tlsf_heap.proofs.lemmas.calls.Leaves.{seen_live}
 use Rattle.tlsf_heap.proofs.lemmas.lists.Carved.{head_stands}
 use Rattle.tlsf_heap.proofs.lemmas.words.Around.{chosen_sound}
@@ -32,18 +32,7 @@ returns-in_err-class-clause-keeps g c = keeps_read g.row.SLI c.self.inside c.sel
 -- ---- the block that serves the request
 
 pub invariant_of-self-2 : goal.invariant_of-self-2
-invariant_of-self-2 g c =
-    let was = c.self.invariant in
-    let reads = reads_both (reads_both c.choose.ensures.reads c.head.ensures.reads) c.check_taken.ensures.reads in
-    record {
-      lawful = (keeps_read g.row.SLI c.self.inside c.self.view_is c.self.invariant _ reads).lawful;
-      shows = rw (reads.stored, reads.blocks) was.shows;
-      linked = rw (reads.stored, reads.lists) was.linked;
-      bits = rw (reads.marked, reads.lists) was.bits;
-      level = was.level;
-      small = omega (arith, reads.words, was.small);
-      listed = rw (reads.blocks, reads.lists) was.listed;
-    }
+invariant_of-self-2 g c = stored_read g.row.SLI c.self.inside c.self.view_is c.self.invariant _ (reads_both (reads_both c.choose.ensures.reads c.head.ensures.reads) c.check_taken.ensures.reads)
 
 pub returns-clause-answer : goal.returns-clause-answer
 returns-clause-answer g c =

@@ -4,7 +4,10 @@ use Rattle.tlsf_heap.proofs.lemmas.calls.Allocate.{lawful_regions}
 use Rattle.tlsf_heap.proofs.lemmas.calls.ByPlace.{released_here}
 use Rattle.tlsf_heap.proofs.lemmas.blocks.Lawful.{with_region}
 use Rattle.tlsf_heap.proofs.lemmas.words.Says.{at_index}
-use Rattle.tlsf_heap.proofs.lemmas.calls.Kept.{keeps_stored}
+use Rattle.tlsf_heap.specs.WordsInUse.{words_used}
+use Rattle.tlsf_heap.proofs.lemmas.blocks.Used.{coalesced_used}
+use Rattle.tlsf_heap.proofs.lemmas.laws.WordsInUse.{words_part}
+use Rattle.tlsf_heap.proofs.lemmas.calls.Kept.{keeps_stored, less_use}
 use Rattle.tlsf_heap.proofs.heap.Heap.give_back.Given.{Over}
 use Rattle.tlsf_heap.proofs.heap.Heap.give_back.Goals as goal
 
@@ -15,6 +18,12 @@ coalesce-requires g c =
     let own = λ (i : ℕ). IsTagOf c.self.inside.region.words (site_at c.self.inside.region.blocks i) c.args.own in
     let regions = lawful_regions g.row.SLI (state_of g.row.SLI c.self.inside) is.lawful is.small in
     (omega arith, (is.level, ((l.0, l.1.stands, l.1.live), (λ i stands. at_index is.shows own (l.0, l.1.stands, l.2) stands, (is.lawful.whole, (regions, (omega (arith, is.lawful.whole, is.small), (is.listed, (is.lawful.stamps_past, (subst (λ (s : Shown). s.heap.tick ≢ last_tick) (sym c.self.view_is) c.requires.tick))))))))))
+
+-- the block's words are in use
+pub take_back-requires : goal.take_back-requires
+take_back-requires g c =
+    let l = subst (λ (s : Shown). IsPlaceCheck s.heap c.args.at (Ok c.args.own)) (sym c.self.view_is) c.requires.live in
+    omega (arith, words_part (state_of g.row.SLI c.self.inside) l.1, c.size.ensures.value, l.2.size, c.self.invariant.in_use)
 
 freed : (g : Over) (c : goal.After-coalesce g) → (released_by_place c.args.self.now.heap c.args.at ≡ record { answer = Ok tt; heap = with_region (state_of g.row.SLI c.self.inside) c.coalesce.new.tick c.coalesce.new.region }) × IsLawful (with_region (state_of g.row.SLI c.self.inside) c.coalesce.new.tick c.coalesce.new.region)
 freed g c =
@@ -30,15 +39,21 @@ pub returns-clause-heap : goal.returns-clause-heap
 returns-clause-heap g c = rw (freed g c).0
 
 pub invariant_of-self : goal.invariant_of-self
-invariant_of-self g c = record {
-  lawful = (freed g c).1;
-  shows = c.coalesce.ensures.edits.shows;
-  linked = c.coalesce.ensures.edits.linked;
-  bits = c.coalesce.ensures.edits.bits;
-  level = c.self.invariant.level;
-  small = omega (arith, c.coalesce.ensures.edits.words, c.self.invariant.small);
-  listed = c.coalesce.ensures.listed;
-}
+invariant_of-self g c =
+    let e = c.coalesce.ensures in
+    let l = subst (λ (s : Shown). IsPlaceCheck s.heap c.args.at (Ok c.args.own)) (sym c.self.view_is) c.requires.live in
+    let sum = coalesced_used c.self.inside.region.blocks c.self.inside.tick l.1.stands l.1.live in
+    let used = less_use g.row.SLI c.self.inside c.self.view_is c.self.invariant c.coalesce.new.region.blocks c.size.result c.take_back.new.self (omega (arith, sum, ap words_used (e.blocks l.0 l.1.stands), c.size.ensures.value, l.2.size)) c.take_back.ensures in record {
+      lawful = (freed g c).1;
+      shows = c.coalesce.ensures.edits.shows;
+      linked = c.coalesce.ensures.edits.linked;
+      bits = c.coalesce.ensures.edits.bits;
+      level = c.self.invariant.level;
+      small = omega (arith, c.coalesce.ensures.edits.words, c.self.invariant.small);
+      listed = c.coalesce.ensures.listed;
+      in_use = used.words;
+      most_in_use = used.most;
+    }
 
 pub returns-clause-keeps : goal.returns-clause-keeps
 returns-clause-keeps g c = keeps_stored g.row.SLI c.self.inside c.self.view_is c.self.invariant _ (invariant_of-self g c) c.coalesce.ensures.edits.rise c.coalesce.ensures.edits.stays

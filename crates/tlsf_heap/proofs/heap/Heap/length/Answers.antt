@@ -1,5 +1,5 @@
 use Rattle.tlsf_heap.proofs.Common.{length, sym, ap, ◌∙◌, subst, arith, Shown, state_of, InGroups}
-use Rattle.tlsf_heap.proofs.lemmas.calls.Kept.{keeps_read}
+use Rattle.tlsf_heap.proofs.lemmas.calls.Kept.{keeps_read, stored_read}
 use Rattle.tlsf_heap.proofs.lemmas.calls.Alter.{named_of, payload_is}
 use Rattle.tlsf_heap.proofs.lemmas.calls.Named.{named_same, named_stands, named_live}
 use Rattle.tlsf_heap.proofs.lemmas.calls.Write.{length_is}
@@ -17,6 +17,9 @@ returns-clause-value g c =
     let is_named = named_of k c.args.name c.requires in
     length_is (state_of g.row.SLI c.self.inside) k c.args.name 0 0 c.length.result (ap (λ (s : Shown). s.heap) c.self.view_is) is_named c.length.ensures.value
     ∙ sym (ap length (payload_is k c.args.name is_named))
+
+pub invariant_of-self : goal.invariant_of-self
+invariant_of-self g c = stored_read g.row.SLI c.self.inside c.self.view_is c.self.invariant _ c.length.ensures.reads
 
 pub returns-clause-keeps : goal.returns-clause-keeps
 returns-clause-keeps g c = keeps_read g.row.SLI c.self.inside c.self.view_is c.self.invariant _ c.length.ensures.reads

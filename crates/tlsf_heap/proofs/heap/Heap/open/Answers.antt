@@ -1,6 +1,8 @@
-use Rattle.tlsf_heap.proofs.Common.{length, refl, ap, arith, list_in}
+use Rattle.tlsf_heap.proofs.Common.{length, refl, sym, ap, ◌∙◌, arith, list_in}
 use Rattle.tlsf_heap.proofs.lemmas.blocks.Lawful.{opened_lawful}
 use Rattle.tlsf_heap.proofs.lemmas.lists.FreeLists.{stored_lists, listed_first}
+use Rattle.tlsf_heap.specs.WordsInUse.{words_used}
+use Rattle.tlsf_heap.specs.declared.usage.Usage.{Usage}
 use Rattle.tlsf_heap.proofs.heap.Heap.open.Goals as goal
 
 pub push-requires : goal.push-requires
@@ -26,6 +28,8 @@ invariant_of-result g c =
       level = c.requires;
       small = omega (arith, c.push.ensures.edits.words, made.words);
       listed = rw (c.push.ensures.blocks, made.blocks) (listed_first g.row.SLI c.args.words c.args.first c.class_of.result (list_in c.in-Ok.region.lists) (list_in c.push.new.self.lists) made.lists c.class_of.ensures c.push.ensures.list c.push.ensures.others);
+      in_use = ap (λ (u : Usage). u.words) c.none.ensures ∙ sym (ap words_used (c.push.ensures.blocks ∙ made.blocks));
+      most_in_use = omega (arith, ap (λ (u : Usage). u.words) c.none.ensures);
     }
 
 -- ---- the lists

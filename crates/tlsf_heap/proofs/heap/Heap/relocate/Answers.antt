@@ -1,5 +1,7 @@
-use Rattle.tlsf_heap.proofs.Common.{◌≡◌, ◌+◌, ◌<◌, Result, length, refl, sym, ap, ◌∙◌, subst, arith, HeapState, want, allocated, last_tick, named, payload_words_at, payload_words_given, IsLive, Shown, Name, Refusal, IsOthersWord, payload_of, Give}
+use Rattle.tlsf_heap.proofs.Common.{◌≡◌, ◌+◌, ◌<◌, Result, length, refl, sym, ap, ◌∙◌, subst, arith, HeapState, want, allocated, last_tick, named, payload_words_at, payload_words_given, IsLive, Shown, Name, Refusal, IsOthersWord, payload_of, Give, released, copied, words_in_use, words_at}
 use Rattle.tlsf_heap.proofs.lemmas.calls.ResizeOrMove.{new_lives, old_lives, payload_fits, ticks}
+use Rattle.tlsf_heap.specs.WordsInUse.{peak_moved}
+use Rattle.tlsf_heap.proofs.lemmas.laws.MovedWords.{peak_of_move}
 use Rattle.tlsf_heap.proofs.lemmas.calls.Kept.{keeps_same}
 use Rattle.tlsf_heap.proofs.lemmas.words.Footprint.{any_word}
 use Rattle.tlsf_heap.proofs.lemmas.calls.Leaves.{given_word, word_step}
@@ -38,6 +40,16 @@ returns-clause-touches g c =
     let lives = subst (λ (s : HeapState). IsLive s new) (sym given) (new_lives g.row.SLI h c.args.name c.args.len new c.in_ok-new.ensures.allocates.answer_is c.requires) in
     let fits = payload_fits c.allocate.new.self.heap new c.in_ok-new.ensures.keeps.lawful lives in
     omega (arith, words, fits, c.in_ok-new.ensures.allocates.touches, c.hand_over.ensures.touches)
+
+-- while it moves, both blocks are in use
+pub returns-clause-peak : goal.returns-clause-peak
+returns-clause-peak g c =
+    let given = c.in_ok-new.ensures in
+    let fresh : c.args.self.now.heap.tick + 1 < last_tick = omega (arith, c.if-self.false, ap (λ (s : Shown). s.heap.tick) c.self.view_is) in
+    let left = c.hand_over.ensures.heap ∙ ap (λ (s : HeapState). (released (copied s c.args.name c.in_ok-new.new).heap c.args.name).heap) given.allocates.heap in
+    subst (λ (r : Result Name Refusal). c.hand_over.new.self.most_in_use ≡ peak_moved c.args.self.now c.args.name.at r c.hand_over.new.self.heap) (sym c.hand_over.ensures.answer)
+    (peak_of_move g.row.SLI c.self.invariant.level c.args.self.now c.args.name c.in_ok-new.new c.args.len given.keeps.was_lawful c.requires given.allocates.answer_is fresh c.hand_over.new.self.heap (words_in_use c.allocate.new.self.heap) c.allocate.new.self.most_in_use c.hand_over.new.self.most_in_use
+    (ap words_in_use given.allocates.heap) given.peak c.hand_over.ensures.most (ap (λ (s : HeapState). words_at s c.in_ok-new.new.at) left))
 
 -- ---- what is kept
 

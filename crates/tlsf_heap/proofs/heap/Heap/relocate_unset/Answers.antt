@@ -1,6 +1,9 @@
-use Rattle.tlsf_heap.proofs.Common.{◌≡◌, ℕ, ◌+◌, ◌<◌, Result, length, min, refl, sym, ap, ◌∙◌, subst, arith, IfOk, HeapState, want, allocated, Outcome, last_tick, payload_of, moved, Shown, unset_from, Name, Refusal, IsOthersWord, Give, Put}
+use Rattle.tlsf_heap.proofs.Common.{◌≡◌, ℕ, ◌+◌, ◌<◌, Result, length, min, refl, sym, ap, ◌∙◌, subst, arith, IfOk, HeapState, want, allocated, Outcome, last_tick, payload_of, moved, Shown, unset_from, Name, Refusal, IsOthersWord, Give, Put, drop, lying, released, copied, words_in_use, words_at}
 use Rattle.tlsf_heap.proofs.lemmas.calls.ResizeOrMove.{moved_done}
 use Rattle.tlsf_heap.proofs.lemmas.calls.Unset.{first_lives, first_holds, moved_unset}
+use Rattle.tlsf_heap.specs.WordsInUse.{peak_moved}
+use Rattle.tlsf_heap.proofs.lemmas.laws.MovedWords.{peak_of_move}
+use Rattle.tlsf_heap.proofs.lemmas.laws.WordsInUse.{words_set}
 use Rattle.tlsf_heap.proofs.lemmas.calls.Kept.{keeps_same}
 use Rattle.tlsf_heap.proofs.lemmas.words.Footprint.{any_word}
 use Rattle.tlsf_heap.proofs.lemmas.calls.Leaves.{given_word, word_step}
@@ -33,6 +36,27 @@ returns-clause-heap g c =
     given.heap given.keeps.lawful c.hand_over.ensures.heap c.hand_over.ensures.keeps.shows in
     subst (λ (r : Result Name Refusal). IfOk r (λ new. c.hand_over.new.self.heap ≡ unset_from (moved g.row.SLI h name c.args.len).heap new m (min (length (payload_of h name)) c.args.len) c.args.len)) (sym c.hand_over.ensures.answer)
     (done ∙ ap (λ (s : HeapState). unset_from s new m (min (length (payload_of h name)) c.args.len) c.args.len) (sym move))
+
+-- while it moves, both blocks are in use
+pub returns-clause-peak : goal.returns-clause-peak
+returns-clause-peak g c =
+    let h = c.args.self.now.heap in
+    let name = c.args.name in
+    let new = c.in_ok-new.new in
+    let given = c.in_ok-new.ensures in
+    let m = c.hand_over.new.self.stored in
+    let fresh : h.tick + 1 < last_tick = omega (arith, c.if-self.false, ap (λ (s : Shown). s.heap.tick) c.self.view_is) in
+    let full = (allocated g.row.SLI h c.args.len).heap in
+    let left = (released (copied full name new).heap name).heap in
+    let bytes = drop 0 (lying c.allocate_unset.new.self.stored new.at c.args.len) in
+    let done = moved_unset g.row.SLI h name new c.args.len c.self.invariant.level given.keeps.was_lawful c.requires (sym given.answer) c.allocate_unset.new.self.stored m c.allocate_unset.new.self.heap c.hand_over.new.self.heap
+    given.heap given.keeps.lawful c.hand_over.ensures.heap c.hand_over.ensures.keeps.shows in
+    let tail = drop (min (length (payload_of h name)) c.args.len) (lying m new.at c.args.len) in
+    let filled = words_set g.row.SLI full (Put new 0 bytes) tt in
+    let again = words_set g.row.SLI left (Put new (min (length (payload_of h name)) c.args.len) tail) tt in
+    subst (λ (r : Result Name Refusal). c.hand_over.new.self.most_in_use ≡ peak_moved c.args.self.now name.at r c.hand_over.new.self.heap) (sym c.hand_over.ensures.answer)
+    (peak_of_move g.row.SLI c.self.invariant.level c.args.self.now name new c.args.len given.keeps.was_lawful c.requires given.answer fresh c.hand_over.new.self.heap (words_in_use c.allocate_unset.new.self.heap) c.allocate_unset.new.self.most_in_use c.hand_over.new.self.most_in_use
+    (ap words_in_use given.heap ∙ filled.0) given.peak c.hand_over.ensures.most (ap (λ (s : HeapState). words_at s new.at) done ∙ again.1 new.at))
 
 -- ---- 31 for the request, 35 and two a word for the copy and the release
 

@@ -1,6 +1,6 @@
 use Rattle.tlsf_heap.proofs.Common.{◌≡◌, ◌*◌, ◌≤◌, length, ap, sym, ◌∙◌, subst, arith, rules, HeapState, Shown, report_of, IsGrant, state_of}
 use Rattle.tlsf_heap.specs.declared.report.Report.{Report}
-use Rattle.tlsf_heap.proofs.lemmas.calls.Kept.{keeps_read}
+use Rattle.tlsf_heap.proofs.lemmas.calls.Kept.{keeps_read, stored_read}
 use Rattle.tlsf_heap.proofs.lemmas.blocks.Sums.{four_each}
 use Rattle.tlsf_heap.proofs.lemmas.calls.Reports.{AreSums, sums_are, told_is, greatest_length}
 use Rattle.tlsf_heap.proofs.lemmas.calls.Leaves.{seen_live}
@@ -29,18 +29,7 @@ pub report-requires-clause-past : goal.report-requires-clause-past
 report-requires-clause-past g c = (sums g c).past
 
 pub invariant_of-self : goal.invariant_of-self
-invariant_of-self g c =
-    let was = c.self.invariant in
-    let reads = c.of.ensures.reads in
-    record {
-      level = was.level;
-      lawful = rw (reads.words, reads.blocks) was.lawful;
-      shows = rw (reads.stored, reads.blocks) was.shows;
-      small = rw reads.words was.small;
-      listed = rw (reads.blocks, reads.lists) was.listed;
-      linked = rw (reads.stored, reads.lists) was.linked;
-      bits = rw (reads.marked, reads.lists) was.bits;
-    }
+invariant_of-self g c = stored_read g.row.SLI c.self.inside c.self.view_is c.self.invariant _ c.of.ensures.reads
 
 -- ---- the report
 

@@ -6,6 +6,7 @@ use Rattle.tlsf_heap.proofs.lemmas.calls.Leaves.{seen_live}
 use Rattle.tlsf_heap.proofs.lemmas.calls.Reset.{reset_worn, reset_done}
 use Rattle.tlsf_heap.proofs.lemmas.lists.FreeLists.{listed_first}
 use Rattle.tlsf_heap.proofs.lemmas.words.Groups.{first_words}
+use Rattle.tlsf_heap.specs.WordsInUse.{words_used}
 use Rattle.tlsf_heap.proofs.heap.Heap.reset.Goals as goal
 
 -- ---- the tick is at its last value
@@ -44,6 +45,8 @@ invariant_of-self g c =
       level = c.self.invariant.level;
       small = omega (arith, e.edits.words, c.self.invariant.small);
       listed = rw e.blocks (listed_first g.row.SLI words c.self.inside.tick (class_of g.row.SLI words) (λ class. []) (list_in c.reset.new.self.lists) (λ class. refl) refl e.list e.others);
+      in_use = sym (ap words_used e.blocks);
+      most_in_use = omega arith;
     }
 
 pub returns-clause-resets : goal.returns-clause-resets

@@ -1,29 +1,43 @@
-use Rattle.tlsf_heap.proofs.lemmas.calls.Alter.{named_of}
-use Rattle.tlsf_heap.proofs.lemmas.calls.ResizeOrMove.{no_room_live}
+use Rattle.tlsf_heap.proofs.Common.{ap, ◌∙◌, sym, subst, Ok, arith, err_from_is_err_and, HeapState, Outcome, Name, IsNameCheck, seen}
 use Rattle.tlsf_heap.proofs.lemmas.calls.Named.{not_forged}
-use Rattle.tlsf_heap.proofs.Common.{sym, ◌∙◌, subst, arith, HeapState, seen, IsOthersWord}
+use Rattle.tlsf_heap.proofs.lemmas.calls.ResizeOrMove.{name_refused}
+use Rattle.tlsf_heap.proofs.lemmas.calls.Leaves.{refused_both}
+use Rattle.tlsf_heap.proofs.lemmas.words.Footprint.{any_word}
+use Rattle.tlsf_heap.proofs.lemmas.laws.MovedWords.{peak_same}
 use Rattle.tlsf_words.proofs.Touching.{more_groups, groups_then}
 use Rattle.tlsf_heap.proofs.heap.Heap.resize_or_move_unset.Goals as goal
 
-pub returns-in-Err-NoRoom-clause-forged : goal.returns-in-Err-NoRoom-clause-forged
-returns-in-Err-NoRoom-clause-forged g c =
-    let h = c.args.self.now.heap in
-    let refused = rw c.in-Err-NoRoom.field-0-is at c.in-Err-NoRoom.ensures.answer in
-    not_forged (seen c.args.self.now) c.args.name c.in-Err-NoRoom.ensures.keeps.was_lawful (named_of h c.args.name (no_room_live h c.args.name c.args.len refused)) _
+-- ---- the name is refused
 
--- ---- the payloads of other blocks
+pub returns-in_err-own-clause-answer : goal.returns-in_err-own-clause-answer
+returns-in_err-own-clause-answer g c =
+    let p = err_from_is_err_and c.from_residual.result c.from_residual.ensures.1 in
+    rw (p.1, p.2) (sym (ap (λ (o : Outcome Name). o.answer) (name_refused g.row.SLI c.args.self.now.heap c.args.name c.args.len _ c.in_err-own.ensures.answer)))
 
-pub returns-in-Err-NoRoom-clause-leaves : goal.returns-in-Err-NoRoom-clause-leaves
-returns-in-Err-NoRoom-clause-leaves g c k o =
-    c.relocate_unset.ensures.leaves k (subst (λ (s : HeapState). IsOthersWord s.blocks c.args.name.at k) (sym c.in-Err-NoRoom.ensures.err.heap) o) ∙ c.resize_unset.ensures.leaves k o
+pub returns-in_err-own-clause-groups : goal.returns-in_err-own-clause-groups
+returns-in_err-own-clause-groups g c = more_groups (omega arith) c.in_err-own.ensures.groups
 
--- ---- groups of eight words
+pub returns-in_err-own-clause-leaves : goal.returns-in_err-own-clause-leaves
+returns-in_err-own-clause-leaves g c k o = c.in_err-own.ensures.leaves k (any_word c.args.self.now.heap.blocks c.args.name.at k o)
 
-pub returns-in-Ok-clause-groups : goal.returns-in-Ok-clause-groups
-returns-in-Ok-clause-groups g c = more_groups (omega arith) c.resize_unset.ensures.groups
+-- ---- the block was found
 
-pub returns-in-Err-NoRoom-clause-groups : goal.returns-in-Err-NoRoom-clause-groups
-returns-in-Err-NoRoom-clause-groups g c = more_groups (omega arith) (groups_then c.in-Err-NoRoom.ensures.refused_groups (rw c.in-Err-NoRoom.ensures.err.heap at c.relocate_unset.ensures.groups))
+pub refit_or_move_unset-requires : goal.refit_or_move_unset-requires
+refit_or_move_unset-requires g c =
+    let e = c.in_ok-own.ensures in
+    (omega arith, subst (λ (s : HeapState). IsNameCheck s c.args.name (Ok c.in_ok-own.own)) (sym e.same.heap) e.answer)
 
-pub returns-in-Err-clause-groups : goal.returns-in-Err-clause-groups
-returns-in-Err-clause-groups g c = more_groups (omega arith) c.resize_unset.ensures.groups
+pub returns-clause-forged : goal.returns-clause-forged
+returns-clause-forged g c = not_forged (seen c.args.self.now) c.args.name c.in_ok-own.ensures.keeps.was_lawful c.in_ok-own.ensures.answer.0 _
+
+pub returns-clause-leaves : goal.returns-clause-leaves
+returns-clause-leaves g c k o = (rw c.in_ok-own.ensures.same.heap at c.refit_or_move_unset.ensures.leaves) k o ∙ c.in_ok-own.ensures.leaves k (any_word c.args.self.now.heap.blocks c.args.name.at k o)
+
+pub returns-clause-refused : goal.returns-clause-refused
+returns-clause-refused g c = refused_both c.refit_or_move_unset.result _ _ _ _ c.in_ok-own.ensures.leaves (rw c.in_ok-own.ensures.same.heap at c.refit_or_move_unset.ensures.refused)
+
+pub returns-clause-groups : goal.returns-clause-groups
+returns-clause-groups g c = more_groups (omega arith) (groups_then c.in_ok-own.ensures.groups (rw c.in_ok-own.ensures.same.heap at c.refit_or_move_unset.ensures.groups))
+
+pub returns-clause-peak : goal.returns-clause-peak
+returns-clause-peak g c = c.refit_or_move_unset.ensures.peak ∙ peak_same c.check.new.self c.args.self.now c.in_ok-own.ensures.same.heap c.in_ok-own.ensures.same.most_in_use c.args.name.at c.refit_or_move_unset.result c.refit_or_move_unset.new.self.heap

@@ -1,5 +1,6 @@
 use Rattle.tlsf_heap.proofs.Common.{◌≡◌, ◌≤◌, false, length, ap, ◌∙◌, subst, arith, payload_byte, HeapState, size_of, is_free, words_for, free_places, block_at, IsLawful, IsNamed, list_in, Shown, state_of, lying, with_payload, InGroups}
 use Rattle.tlsf_heap.proofs.lemmas.blocks.Lawful.{with_region}
+use Rattle.tlsf_heap.proofs.lemmas.blocks.Used.{used_rebytes}
 use Rattle.tlsf_heap.proofs.lemmas.words.NewLength.{Relengths, relengths, same_lying, length_room}
 use Rattle.tlsf_heap.proofs.lemmas.lists.FreeLists.{same_lists}
 use Rattle.tlsf_heap.proofs.lemmas.calls.Named.{named_stands}
@@ -47,6 +48,8 @@ invariant_of-self g c =
       level = c.self.invariant.level;
       small = omega (arith, change.edits.words, c.self.invariant.small);
       listed = rw places (same_lists (free_places g.row.SLI 0 c.self.inside.region.blocks) (list_in c.self.inside.region.lists) (list_in c.set_length.new.self.lists) change.lists c.self.invariant.listed);
+      in_use = omega (arith, used_rebytes c.self.inside.region.blocks c.set_length.new.self.blocks (named_stands _ _ _ _ t.0.1.1) _ change.blocks, c.self.invariant.in_use);
+      most_in_use = c.self.invariant.most_in_use;
     }
 
 pub returns-clause-heap : goal.returns-clause-heap

@@ -1,11 +1,11 @@
-use Rattle.tlsf_heap.proofs.Common.{◌≡◌, ℕ, ◌+◌, refl, sym, ap, ◌∙◌, subst, Ok, Err, arith, class_of, HeapState, size_of, words_in, IsPlace, block_at, site_at, IsTagOf, Shown, state_of, Stale, NoRoom, Worn, InGroups}
+use Rattle.tlsf_heap.proofs.Common.{◌≡◌, ℕ, ◌+◌, refl, sym, ap, ◌∙◌, subst, Ok, Err, arith, class_of, HeapState, size_of, words_in, IsPlace, block_at, site_at, IsTagOf, Shown, state_of, Stale, NoRoom, Worn, InGroups, bytes_in}
 use Rattle.tlsf_heap.proofs.lemmas.calls.Allocate.{lawful_regions}
 use Rattle.tlsf_heap.proofs.lemmas.lists.Carved.{IsFreeHere, contains_here, region_here, taken_each}
 use Rattle.tlsf_heap.proofs.lemmas.calls.AllocateFrom.{GivesFrom, from_nowhere, from_small, from_worn, from_done, free_not_wild}
-use Rattle.tlsf_heap.proofs.lemmas.calls.GivenBlock.{carved_stands}
 use Rattle.tlsf_heap.proofs.lemmas.blocks.Lawful.{with_region}
 use Rattle.tlsf_heap.proofs.lemmas.words.Says.{at_index}
-use Rattle.tlsf_heap.proofs.lemmas.calls.Kept.{keeps_stored, keeps_read}
+use Rattle.tlsf_heap.proofs.lemmas.calls.Kept.{keeps_stored, keeps_read, more_use, stored_read}
+use Rattle.tlsf_heap.proofs.lemmas.blocks.Used.{used_small}
 use Rattle.tlsf_heap.proofs.lemmas.calls.Leaves.{seen_live}
 use Rattle.tlsf_words.proofs.Touching.{more_groups, groups_then}
 use Rattle.tlsf_heap.proofs.heap.Heap.words_from.Given.{Over}
@@ -94,8 +94,8 @@ remove-requires g c =
     let region = region_here g.row.SLI f in
     (omega arith, (c.self.invariant.level, (omega (arith, size, region.0), (omega (arith, size, region.1), rw (reads.lists, size) (contains_here g.row.SLI f c.self.invariant.listed)))))
 
-pub give-requires : goal.give-requires
-give-requires g c =
+pub give_unset-given-requires : goal.give_unset-given-requires
+give_unset-given-requires g c =
     let reads = c.free_at.ensures.reads in
     let l = c.in-Some.ensures.answer in
     let sized = lawful_regions g.row.SLI (state_of g.row.SLI c.self.inside) c.self.invariant.lawful c.self.invariant.small in
@@ -127,23 +127,33 @@ give-requires g c =
     )
 
 given : (g : Over) (c : goal.After-self-1 g)
-    → GivesFrom c.args.self.now.heap c.args.at c.args.words (Ok (record { heap = c.self.inside.id; at = c.args.at; serial = c.self.inside.tick })) (with_region (state_of g.row.SLI c.self.inside) (c.self.inside.tick + 1) c.give.new.region)
+    → GivesFrom c.args.self.now.heap c.args.at c.args.words (Ok (record { heap = c.self.inside.id; at = c.args.at; serial = c.self.inside.tick })) (with_region (state_of g.row.SLI c.self.inside) (c.self.inside.tick + 1) c.give_unset-given.new.region)
+unfolding bytes_in
 given g c =
     let reads = c.free_at.ensures.reads in
     let l = c.in-Some.ensures.answer in
     let h : HeapState = state_of g.row.SLI c.self.inside in
     let was = c.remove.ensures.blocks ∙ reads.blocks in
-    let blocks = (rw was at c.give.ensures.blocks) l.0 l.1.stands in
-    let edits = c.give.ensures.edits l.0 (rw was l.1.stands) in
-    subst (λ (s : HeapState). GivesFrom s c.args.at c.args.words (Ok (record { heap = c.self.inside.id; at = c.args.at; serial = c.self.inside.tick })) (with_region h (c.self.inside.tick + 1) c.give.new.region)) (ap (λ (s : Shown). s.heap) c.self.view_is)
+    let blocks = ((rw was at c.give_unset-given.ensures.carved) l.0 l.1.stands).blocks in
+    let edits = ((rw was at c.give_unset-given.ensures.carved) l.0 l.1.stands).edits in
+    subst (λ (s : HeapState). GivesFrom s c.args.at c.args.words (Ok (record { heap = c.self.inside.id; at = c.args.at; serial = c.self.inside.tick })) (with_region h (c.self.inside.tick + 1) c.give_unset-given.new.region)) (ap (λ (s : Shown). s.heap) c.self.view_is)
     (from_done h h c.args.at c.args.words c.self.invariant.lawful refl l.0 l.1 (omega (arith, l.2.size, c.size-size.ensures.value, c.if-size-words.false)) (omega (arith, c.requires)) c.if-self.false
-    c.give.new.region (edits.words ∙ c.remove.ensures.edits.words ∙ reads.words) blocks)
+    c.give_unset-given.new.region (edits.words ∙ c.remove.ensures.edits.words ∙ reads.words) blocks)
+
+-- no more words are in use than the region has
+pub give-requires : goal.give-requires
+give-requires g c =
+    let l = c.in-Some.ensures.answer in
+    let was = c.remove.ensures.blocks ∙ c.free_at.ensures.reads.blocks in
+    let edits = ((rw was at c.give_unset-given.ensures.carved) l.0 l.1.stands).edits in
+    omega (arith, used_small edits.shows, (rw was at c.give_unset-given.ensures.used), c.self.invariant.in_use)
 
 pub invariant_of-self-2 : goal.invariant_of-self-2
 invariant_of-self-2 g c =
     let reads = c.free_at.ensures.reads in
     let l = c.in-Some.ensures.answer in
-    let edits = c.give.ensures.edits l.0 (rw (c.remove.ensures.blocks ∙ reads.blocks) l.1.stands) in
+    let edits = ((rw (c.remove.ensures.blocks ∙ reads.blocks) at c.give_unset-given.ensures.carved) l.0 l.1.stands).edits in
+    let used = more_use g.row.SLI c.self.inside c.self.view_is c.self.invariant c.give_unset-given.new.region.blocks c.give_unset-given.result c.give.new.self (rw (c.remove.ensures.blocks ∙ reads.blocks) at c.give_unset-given.ensures.used) c.give.ensures in
     record {
       lawful = (given g c).lawful;
       shows = edits.shows;
@@ -151,7 +161,9 @@ invariant_of-self-2 g c =
       bits = edits.bits;
       level = c.self.invariant.level;
       small = omega (arith, edits.words, c.remove.ensures.edits.words, reads.words, c.self.invariant.small);
-      listed = c.give.ensures.listed;
+      listed = ((rw (c.remove.ensures.blocks ∙ reads.blocks) at c.give_unset-given.ensures.carved) l.0 l.1.stands).listed;
+      in_use = used.words;
+      most_in_use = used.most;
     }
 
 pub returns-clause-answer : goal.returns-clause-answer
@@ -166,22 +178,16 @@ returns-clause-cases g c = (given g c).cases
 pub returns-clause-keeps : goal.returns-clause-keeps
 returns-clause-keeps g c =
     let l = c.in-Some.ensures.answer in
-    let edits = c.give.ensures.edits l.0 (rw (c.remove.ensures.blocks ∙ c.free_at.ensures.reads.blocks) l.1.stands) in
+    let edits = ((rw (c.remove.ensures.blocks ∙ c.free_at.ensures.reads.blocks) at c.give_unset-given.ensures.carved) l.0 l.1.stands).edits in
     keeps_stored g.row.SLI c.self.inside c.self.view_is c.self.invariant _ (invariant_of-self-2 g c) (omega (arith, edits.rise, c.remove.ensures.edits.rise, c.free_at.ensures.reads.rise)) (edits.stays ∙ c.remove.ensures.edits.stays ∙ c.free_at.ensures.reads.stays)
 
--- 2 to find the block, 6 to take it out, and 9 for the headers. Then come 7 to list the rest, and three words at most that are made
--- zero
-
+-- 2 to find the block, 6 to take it out, 9 for the headers, and 7 to list the rest
 pub returns-clause-touches : goal.returns-clause-touches
 returns-clause-touches g c =
     let reads = c.free_at.ensures.reads in
     let l = c.in-Some.ensures.answer in
-    let old = c.self.inside.region.blocks in
-    let was = c.remove.ensures.blocks ∙ reads.blocks in
-    let blocks = (rw was at c.give.ensures.blocks) l.0 l.1.stands in
-    let edits = c.give.ensures.edits l.0 (rw was l.1.stands) in
-    let now = carved_stands old c.give.new.region.blocks c.args.at l.0 (size_of (block_at old l.0)) c.args.words c.self.inside.tick 0 l.1.stands blocks in
-    omega (arith, edits.touches, c.remove.ensures.edits.touches, reads.touches, now.1, c.requires, ap (λ (s : Shown). s.touches) c.self.view_is)
+    let edits = ((rw (c.remove.ensures.blocks ∙ reads.blocks) at c.give_unset-given.ensures.carved) l.0 l.1.stands).edits in
+    omega (arith, edits.touches, c.remove.ensures.edits.touches, reads.touches, ap (λ (s : Shown). s.touches) c.self.view_is)
 
 -- ---- the place is one of the region
 
@@ -208,7 +214,7 @@ returns-then-self-clause-leaves g c = seen_live g.row.SLI c.self.inside c.self.v
 pub returns-clause-leaves : goal.returns-clause-leaves
 returns-clause-leaves g c = seen_live g.row.SLI c.self.inside c.self.view_is _ (λ k live.
     let blocks = c.free_at.ensures.reads.blocks in
-    (rw (c.remove.ensures.blocks ∙ blocks) at c.give.ensures.touched) k live ∙ (rw blocks at c.remove.ensures.touched) k live ∙ c.free_at.ensures.touched k live)
+    (rw (c.remove.ensures.blocks ∙ blocks) at c.give_unset-given.ensures.touched) k live ∙ (rw blocks at c.remove.ensures.touched) k live ∙ c.free_at.ensures.touched k live)
 
 -- ---- groups of eight words
 
@@ -223,7 +229,7 @@ returns-then-self-clause-groups g c = more_groups (omega arith) (subst (λ (s : 
 
 pub returns-clause-groups : goal.returns-clause-groups
 returns-clause-groups g c =
-    subst (λ (s : Shown). InGroups 12 s.touched c.give.new.region.touched) c.self.view_is (more_groups (omega arith) (groups_then (groups_then c.free_at.ensures.groups c.remove.ensures.groups) c.give.ensures.groups))
+    subst (λ (s : Shown). InGroups 12 s.touched c.give_unset-given.new.region.touched) c.self.view_is (more_groups (omega arith) (groups_then (groups_then c.free_at.ensures.groups c.remove.ensures.groups) c.give_unset-given.ensures.groups))
 
 pub returns-in_default-clause-unread : goal.returns-in_default-clause-unread
 returns-in_default-clause-unread g c none = c.free_at.ensures.unread (λ place. none (subst (λ (s : Shown). IsPlace s.heap.blocks c.args.at) c.self.view_is place)) ∙ ap (λ (s : Shown). s.touched) c.self.view_is
@@ -240,29 +246,7 @@ returns-clause-unread g c none = absurd (none (subst (λ (s : Shown). IsPlace s.
 -- ---- a refused call only read
 
 pub invariant_of-self-then-size-words : goal.invariant_of-self-then-size-words
-invariant_of-self-then-size-words g c =
-    let was = c.self.invariant in
-    let reads = c.free_at.ensures.reads in
-    record {
-      level = was.level;
-      lawful = rw (reads.words, reads.blocks) was.lawful;
-      shows = rw (reads.stored, reads.blocks) was.shows;
-      small = omega (arith, reads.words, was.small);
-      listed = rw (reads.blocks, reads.lists) was.listed;
-      linked = rw (reads.lists, reads.stored) was.linked;
-      bits = rw (reads.marked, reads.lists) was.bits;
-    }
+invariant_of-self-then-size-words g c = stored_read g.row.SLI c.self.inside c.self.view_is c.self.invariant _ c.free_at.ensures.reads
 
 pub invariant_of-self-then-self : goal.invariant_of-self-then-self
-invariant_of-self-then-self g c =
-    let was = c.self.invariant in
-    let reads = c.free_at.ensures.reads in
-    record {
-      level = was.level;
-      lawful = rw (reads.words, reads.blocks) was.lawful;
-      shows = rw (reads.stored, reads.blocks) was.shows;
-      small = omega (arith, reads.words, was.small);
-      listed = rw (reads.blocks, reads.lists) was.listed;
-      linked = rw (reads.lists, reads.stored) was.linked;
-      bits = rw (reads.marked, reads.lists) was.bits;
-    }
+invariant_of-self-then-self g c = stored_read g.row.SLI c.self.inside c.self.view_is c.self.invariant _ c.free_at.ensures.reads

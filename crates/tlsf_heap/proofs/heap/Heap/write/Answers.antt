@@ -1,6 +1,7 @@
 use Rattle.tlsf_heap.proofs.Common.{◌≡◌, ℕ, length, sym, ap, ◌∙◌, arith, subst, rules, err_from_is_err_and, HeapState, StandsAt, Shown, seen, Outcome, free_places, list_in, state_of, times, IsOthersWord}
 use Rattle.tlsf_heap.proofs.lemmas.lists.FreeLists.{same_lists}
 use Rattle.tlsf_heap.proofs.lemmas.blocks.Lawful.{with_region}
+use Rattle.tlsf_heap.proofs.lemmas.blocks.Used.{used_rebytes}
 use Rattle.tlsf_heap.proofs.lemmas.calls.Named.{not_forged}
 use Rattle.tlsf_heap.proofs.lemmas.calls.Write.{range_named, range_stands, unwritten, Writes, writes}
 use Rattle.tlsf_heap.proofs.lemmas.blocks.Stands.{behind_one}
@@ -56,6 +57,8 @@ invariant_of-self g c =
       level = c.self.invariant.level;
       small = omega (arith, change.edits.words, c.self.invariant.small);
       listed = rw places (same_lists (free_places g.row.SLI 0 c.self.inside.region.blocks) (list_in c.self.inside.region.lists) (list_in c.write.new.self.lists) change.lists c.self.invariant.listed);
+      in_use = omega (arith, used_rebytes c.self.inside.region.blocks c.write.new.self.blocks (stood g c).1 _ change.blocks, c.self.invariant.in_use);
+      most_in_use = c.self.invariant.most_in_use;
     }
 
 pub returns-clause-writes : goal.returns-clause-writes

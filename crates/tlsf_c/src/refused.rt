@@ -1,0 +1,168 @@
+//! The requests that a heap refused for want of room.
+ghost use Rattle.std.specs.Prelude.{◌≡◌, ◌+◌, ◌*◌, ◌/◌, ◌%◌, ◌≤◌, max, IfOk, IsOk, OnErr};
+ghost use Rattle.tlsf_heap.specs.Aligned.{words_aligned};
+ghost use Rattle.tlsf_heap.specs.Blocks;
+ghost use Rattle.tlsf_heap.specs.ByPlace.{kept_at, resized_by_place, resized_or_moved_by_place};
+ghost use Rattle.tlsf_heap.specs.Calls.{allocated, resized};
+ghost use Rattle.tlsf_heap.specs.Effects.{Allocates};
+ghost use Rattle.tlsf_heap.specs.Footprint.{LeavesLive, LeavesPayloads};
+ghost use Rattle.tlsf_heap.specs.InPlace.{words_grown};
+ghost use Rattle.tlsf_heap.specs.Moved.{resized_or_moved, payload_words_moved};
+ghost use Rattle.tlsf_heap.specs.Touched.{FollowsNoForgery, FollowsNoPlace, allocate_touches, resize_touches};
+ghost use Rattle.tlsf_heap.specs.Shown.{seen};
+ghost use Rattle.tlsf_heap.specs.Unset.{lying, unset_from, with_payload};
+ghost use Rattle.tlsf_c.specs.Counting.{none_refused, noted, noted_if, counts_of, counted_request, counted_move};
+
+use tlsf_heap::{Heap, Name, Refusal, want};
+
+/// How many requests were refused as NoFit since the heap was opened, and the longest of them.
+#[derive(Clone, Copy)]
+pub struct Refused {
+    /// From 2^32 - 1 on, no more are counted.
+    pub requests: u32,
+    /// In bytes, or 0.
+    pub longest: u32,
+}
+
+impl Refused {
+    /// Those of a new heap.
+    pub fn none() -> Refused
+        ensures { result ≡ none_refused }
+    {
+        Refused {
+            requests: 0,
+            longest: 0,
+        }
+    }
+
+    /// Notes a request of `len` bytes by what it was answered.
+    #[inline(always)]
+    fn note(&mut self, answer: &Result<Name, Refusal>, len: u32)
+        ensures { self.new ≡ noted self.old answer.now len }
+    {
+        if let Err(why) = answer {
+            self.add(*why, len);
+        }
+    }
+
+    /// A request of `len` bytes was refused: it is counted where that was for want of room.
+    fn add(&mut self, why: Refusal, len: u32)
+        ensures { self.new ≡ noted_if self.old len why }
+    {
+        if let Refusal::NoFit = why {
+            self.requests = self.requests.saturating_add(1);
+            self.longest = self.longest.max(len);
+        }
+    }
+
+    /// `Heap::allocate`.
+    #[inline(always)]
+    pub fn allocate<const SLI: u32>(
+        &mut self,
+        heap: &mut Heap<SLI>,
+        len: u32,
+    ) -> Result<Name, Refusal>
+        ensures allocates { Allocates allocate_touches SLI (Blocks.want len) len (seen heap.old) (seen heap.new) result }
+        ensures counts { counts_of heap.new.heap heap.new.most_in_use self.new ≡ counted_request (counts_of heap.old.heap heap.old.most_in_use self.old) result len heap.new.heap }
+        ensures stays { heap.new.extents ≡ heap.old.extents }
+    {
+        let answer = heap.allocate_words(want(len), len);
+        self.note(&answer, len);
+        answer
+    }
+
+    /// `Heap::allocate_unset`.
+    #[inline(always)]
+    pub fn allocate_unset<const SLI: u32>(
+        &mut self,
+        heap: &mut Heap<SLI>,
+        len: u32,
+    ) -> Result<Name, Refusal>
+        ensures answer { result ≡ (allocated SLI heap.old.heap len).answer }
+        ensures heap { IfOk result (λ name. heap.new.heap ≡ unset_from (allocated SLI heap.old.heap len).heap name heap.new.stored 0 len) }
+        ensures err { OnErr result (heap.new.heap ≡ heap.old.heap) }
+        ensures counts { counts_of heap.new.heap heap.new.most_in_use self.new ≡ counted_request (counts_of heap.old.heap heap.old.most_in_use self.old) result len heap.new.heap }
+        ensures stays { heap.new.extents ≡ heap.old.extents }
+        ensures touches_rise { heap.old.touches ≤ heap.new.touches }
+        ensures touches { heap.new.touches ≤ heap.old.touches + 31 }
+        ensures leaves { LeavesLive heap.old.heap.blocks heap.old.touched heap.new.touched }
+    {
+        let answer = heap.allocate_unset(len);
+        self.note(&answer, len);
+        answer
+    }
+
+    /// `Heap::allocate_aligned`.
+    #[inline(always)]
+    pub fn allocate_aligned<const SLI: u32>(
+        &mut self,
+        heap: &mut Heap<SLI>,
+        len: u32,
+        step: u32,
+        skew: u32,
+    ) -> Result<Name, Refusal>
+        ensures answer { result ≡ (words_aligned SLI heap.old.heap (Blocks.want len) (max step 1) skew).answer }
+        ensures heap { IfOk result (λ name. heap.new.heap
+            ≡ with_payload (words_aligned SLI heap.old.heap (Blocks.want len) (max step 1) skew).heap name (lying heap.new.stored name.at len)) }
+        ensures aligned { IfOk result (λ name. (name.at + 3 + skew) % max step 1 ≡ 0) }
+        ensures err { OnErr result (heap.new.heap ≡ heap.old.heap) }
+        ensures counts { counts_of heap.new.heap heap.new.most_in_use self.new ≡ counted_request (counts_of heap.old.heap heap.old.most_in_use self.old) result len heap.new.heap }
+        ensures stays { heap.new.extents ≡ heap.old.extents }
+        ensures touches_rise { heap.old.touches ≤ heap.new.touches }
+        ensures touches { heap.new.touches ≤ heap.old.touches + 113 }
+        ensures leaves { LeavesLive heap.old.heap.blocks heap.old.touched heap.new.touched }
+    {
+        let answer = heap.allocate_aligned(len, step, skew);
+        self.note(&answer, len);
+        answer
+    }
+
+    /// `Heap::resize_or_move`.
+    #[inline(always)]
+    pub fn resize_or_move<const SLI: u32>(
+        &mut self,
+        heap: &mut Heap<SLI>,
+        name: Name,
+        len: u32,
+    ) -> Result<Name, Refusal>
+        ensures answer { result ≡ (resized_or_moved SLI heap.old.heap name len).answer }
+        ensures heap { heap.new.heap ≡ (resized_or_moved SLI heap.old.heap name len).heap }
+        ensures counts { counts_of heap.new.heap heap.new.most_in_use self.new ≡ counted_move (counts_of heap.old.heap heap.old.most_in_use self.old) name.at result len heap.new.heap }
+        ensures stays { heap.new.extents ≡ heap.old.extents }
+        ensures touches_rise { heap.old.touches ≤ heap.new.touches }
+        ensures in_place { IsOk (resized heap.old.heap name len).answer → heap.new.touches ≤ heap.old.touches + resize_touches + 1 + words_grown heap.old.heap len name }
+        ensures elsewhere { ¬ (IsOk (resized heap.old.heap name len).answer) → heap.new.touches ≤ heap.old.touches + resize_touches + 61 + 3 * payload_words_moved SLI heap.old.heap len }
+        ensures leaves { LeavesPayloads heap.old.heap.blocks name.at heap.old.touched heap.new.touched }
+        ensures refused { OnErr result (LeavesLive heap.old.heap.blocks heap.old.touched heap.new.touched) }
+        ensures forged { FollowsNoForgery (seen heap.old) (seen heap.new) name }
+    {
+        let answer = heap.resize_or_move(name, len);
+        self.note(&answer, len);
+        answer
+    }
+
+    /// `Heap::resize_or_move_unset_at`.
+    #[inline(always)]
+    pub fn resize_or_move_unset_at<const SLI: u32>(
+        &mut self,
+        heap: &mut Heap<SLI>,
+        at: u32,
+        len: u32,
+    ) -> Result<Name, Refusal>
+        ensures answer { result ≡ (resized_or_moved_by_place SLI heap.old.heap at len).answer }
+        ensures heap { IfOk result (λ new. heap.new.heap ≡ unset_from (resized_or_moved_by_place SLI heap.old.heap at len).heap new heap.new.stored (kept_at heap.old.heap at len) len) }
+        ensures err { OnErr result (heap.new.heap ≡ heap.old.heap) }
+        ensures counts { counts_of heap.new.heap heap.new.most_in_use self.new ≡ counted_move (counts_of heap.old.heap heap.old.most_in_use self.old) at result len heap.new.heap }
+        ensures stays { heap.new.extents ≡ heap.old.extents }
+        ensures touches_rise { heap.old.touches ≤ heap.new.touches }
+        ensures touches { heap.new.touches ≤ heap.old.touches + 96 + 2 * (kept_at heap.old.heap at len / 8) }
+        ensures in_place { IsOk (resized_by_place heap.old.heap at len).answer → heap.new.touches ≤ heap.old.touches + 30 }
+        ensures leaves { LeavesPayloads heap.old.heap.blocks at heap.old.touched heap.new.touched }
+        ensures refused { OnErr result (LeavesLive heap.old.heap.blocks heap.old.touched heap.new.touched) }
+        ensures wild { FollowsNoPlace heap.old.heap at heap.old.touches heap.new.touches }
+    {
+        let answer = heap.resize_or_move_unset_at(at, len);
+        self.note(&answer, len);
+        answer
+    }
+}

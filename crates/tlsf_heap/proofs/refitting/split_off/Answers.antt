@@ -1,0 +1,56 @@
+use Rattle.tlsf_heap.proofs.Common.{◌∙◌, arith}
+use Rattle.tlsf_heap.proofs.lemmas.words.Footprint.{any_word}
+use Rattle.tlsf_words.proofs.Touching.{groups_then}
+use Rattle.tlsf_heap.proofs.refitting.split_off.Goals as goal
+
+pub look_behind-next-requires : goal.look_behind-next-requires
+look_behind-next-requires g c =
+    let live = c.requires.live in
+    (omega arith, ((live.0, live.1, c.requires.own live.0 live.1), (c.requires.whole, (c.requires.sized, c.requires.small))))
+
+pub recut-requires : goal.recut-requires
+recut-requires g c =
+    let reads = c.look_behind-next.ensures.reads in (
+      omega arith,
+      (
+        c.requires.level,
+        (
+          c.requires.least,
+          (
+            rw reads.blocks c.requires.live,
+            (
+              rw (reads.blocks, reads.words) c.requires.own,
+              (
+                rw (reads.blocks, reads.words) c.look_behind-next.ensures.tag,
+                (
+                  omega (arith, c.requires.less),
+                  (
+                    rw reads.blocks c.requires.sized,
+                    (rw reads.blocks c.requires.small, (rw (reads.blocks, reads.lists) c.requires.listed, rw reads.blocks c.requires.stamped)),
+                  ),
+                ),
+              ),
+            ),
+          ),
+        ),
+      ),
+    )
+
+pub returns-clause-blocks : goal.returns-clause-blocks
+returns-clause-blocks g c = rw c.look_behind-next.ensures.reads.blocks at c.recut.ensures.blocks
+
+pub returns-clause-used : goal.returns-clause-used
+returns-clause-used g c = omega (arith, rw c.look_behind-next.ensures.reads.blocks at c.recut.ensures.used, c.recut.ensures.cut (omega (arith, c.requires.less)))
+
+pub returns-clause-edits : goal.returns-clause-edits
+returns-clause-edits g c =
+    let reads = c.look_behind-next.ensures.reads in
+    let cut = c.recut.ensures.edits in
+    record { words = cut.words ∙ reads.words; shows = cut.shows; linked = cut.linked; bits = cut.bits; stays = cut.stays ∙ reads.stays; touches = omega (arith, cut.touches, reads.touches); rise = omega (arith, cut.rise, reads.rise) }
+
+pub returns-clause-touched : goal.returns-clause-touched
+returns-clause-touched g c k o =
+    (rw c.look_behind-next.ensures.reads.blocks at c.recut.ensures.touched) k o ∙ c.look_behind-next.ensures.touched k (any_word c.args.region.now.blocks c.args.at k o)
+
+pub returns-clause-groups : goal.returns-clause-groups
+returns-clause-groups g c = groups_then c.look_behind-next.ensures.groups c.recut.ensures.groups
