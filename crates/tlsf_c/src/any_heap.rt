@@ -31,7 +31,7 @@ pub enum OfLevel {
 /// heap, its touches and its counts.
 #[derive(Drop)]
 pub struct AnyHeap {
-    // First, so that they lie in the first cache line, beside the heap's number, its tick and where its words are.
+    // A request that is served doesn't touch it.
     refused: Refused,
     of_level: OfLevel,
 }

@@ -141,8 +141,11 @@ impl<const SLI: u32> Heap<SLI> {
         self.refit_or_move_unset(name, own, len)
     }
 
-    /// A `resize_or_move_unset` of the live block that begins at a place, which may be any number. Refused as `Stale` where there is none.
-    /// A number from outside is not followed. Takes no memory.
+    /// A `resize_or_move_unset` of the live block that begins at a place, which may be any number. A number from outside is not
+    /// followed.
+    ///
+    /// Refused as `Stale` if no live block begins there, and otherwise as `resize_or_move_unset` refuses: `Worn` or `NoFit`. A refusal
+    /// changes nothing. Takes no memory.
     ///
     /// ```text
     /// let name = heap.allocate_unset(8)?;              // of a new heap of 64 words, at place 0
