@@ -102,7 +102,7 @@ void free(void *at);
 enum {
     MARK = 8,         /* bytes in front of a piece */
     HEAP = 2760,      /* bytes of a heap's own fields: beside its words and the bits that say where blocks begin */
-    ARENA = 2752,     /* and of an arena's */
+    ARENA = 2760,     /* and of an arena's */
     LINE = 64,        /* the handle of a near heap lies at a multiple of a cache line, */
     HANDLE = 32,      /* has so many bytes, */
     NEAR = 2816,      /* and begins so many, for it and for the heap's own fields */
@@ -119,7 +119,7 @@ enum {
     MOST_NAMES = 1024,    /* of a lane or a queue, which has no more posters */
     MOST_BYTES = 1 << 28, /* no heap takes as many */
     NUMBERS = 8,          /* that pools take, and so are given at once */
-    POOL = 2784,          /* bytes of a heap of pools, with its table, and */
+    POOL = 2792,          /* bytes of a heap of pools, with its table, and */
     PIECES = 80,          /* of what its four pieces have at most beside what lies in them: marks, and the ends of bits */
     ROW = 12,             /* and of each row */
     WORN = 2,             /* four numbers of enum tlsf_answer (tools/check answers) */
