@@ -99,8 +99,8 @@ fn recut<const SLI: u32>(
 
 /// Gives the live block at a place, of this tag, `len` bytes of payload, for which more words are wanted than it has. The free block of
 /// tag `next` follows it. Answers the words that the block has then, which are more.
-// Never inline, as it comes last: a resize that keeps a block's words then saves few registers.
-#[inline(never)]
+// Always inline: in a call of its own it would hold the filling of bytes that a call which fills nothing never adds.
+#[inline(always)]
 pub fn grow<const SLI: u32>(
     region: &mut Region<SLI>,
     at: u32,
@@ -180,8 +180,8 @@ pub fn shrink<const SLI: u32>(
 
 /// Cuts the live block at a place, of this tag, at `words` words, where it has four more at least. Those behind are one free block
 /// with the free block that follows.
-// Never inline, as `grow` is.
-#[inline(never)]
+// Always inline, as `grow` is.
+#[inline(always)]
 fn split_off<const SLI: u32>(region: &mut Region<SLI>, at: u32, own: Tag, words: u32, tick: u64)
     requires level { IsLevel SLI }
     requires least { 4 ≤ words }
