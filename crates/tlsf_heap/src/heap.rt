@@ -219,8 +219,7 @@ impl<const SLI: u32> Heap<SLI> {
         })
     }
 
-    /// Takes back the block of that name, and merges it with its free neighbours (ECRTS 2004, section 4). The free block
-    /// that it becomes is stamped with the tick.
+    /// Takes back the block of that name, merges it with its free neighbours (ECRTS 2004, section 4), and stamps it with the tick.
     ///
     /// Refused as `Foreign` where the name is of another heap. Otherwise as `Stale` where no live block has that place and serial.
     /// Otherwise as `Worn` where the tick is at its last value. Takes no memory.
@@ -230,7 +229,6 @@ impl<const SLI: u32> Heap<SLI> {
     /// heap.release(name) == Ok(())
     /// heap.release(name) == Err(Refusal::Stale)
     /// ```
-    // Always inline: behind a call, each release from C takes some twenty instructions more.
     #[inline(always)]
     pub fn release(&mut self, name: Name) -> Result<(), Refusal>
         // Accepted or refused, and whatever the region holds.
