@@ -1,7 +1,7 @@
 /* A magazine before a heap, call by call and then by chance. Each call by chance is made on a heap with no magazine too. Each byte of
  * each block is looked at. The two heaps hold the same, less what is kept, before a flush and after it. With names some blocks are
  * made by name, so that some lie at 8 bytes more than a multiple of 16. How often the magazine calls the heap is counted.
- * cache.edits has wrong magazines. CACHE [CALLS] [SEED] [LEVEL] [names] */
+ * wrong.edits has wrong magazines. CACHE [CALLS] [SEED] [LEVEL] [names] */
 #include "chance.h"
 #include "peachanchor.h"
 

@@ -1,5 +1,5 @@
 /* Drains that are inline, beside the archive's: heaps that are alike stay alike, word by word, and each release is seen. Names that
- * are taken many at once, and which names come after a closing. drains.edits has wrong lines. DRAINS [TURNS] [SEED] */
+ * are taken many at once, and which names come after a closing. wrong.edits has wrong lines. DRAINS [TURNS] [SEED] */
 #define TLSF_INLINE_H /* it comes once releases are seen */
 #include "peachanchor.h"
 #undef TLSF_INLINE_H

@@ -1,6 +1,6 @@
 /* A heap behind a lock: refusals, call by call; then by chance, beside a heap with no lock that is asked for the same; then threads
  * that take, resize and give back each other's blocks; and priority inheritance, where this process may have real-time threads. Its
- * handle is closed to all who haven't the lock, so a call outside of it is refused, and noticed. locked.edits has wrong ones.
+ * handle is closed to all who haven't the lock, so a call outside of it is refused, and noticed. wrong.edits has wrong ones.
  * LOCKED [CALLS] [SEED] [LEVEL] */
 #define _GNU_SOURCE
 #include "chance.h"

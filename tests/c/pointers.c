@@ -1,7 +1,7 @@
 /* malloc's calls by chance on two heaps, against a table: one heap in memory of the program's, one in malloc's. What each block
  * holds is looked at byte by byte, and each answer is judged. Pointers that no live block has are given to each call, and some
  * blocks are made or released by name. Each power of two is an alignment, and heaps have the words that were told for both kinds.
- * pointers.edits has wrong lines. POINTERS [CALLS] [SEED] [LEVEL] [names] */
+ * wrong.edits has wrong lines. POINTERS [CALLS] [SEED] [LEVEL] [names] */
 #include "chance.h"
 #include "peachanchor.h"
 

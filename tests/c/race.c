@@ -2,8 +2,8 @@
  * RACE payload: two threads write one payload in place. RACE call: one writes in place while the other calls tlsf_write.
  * RACE release: one fills a block in place while the other releases it, and allocates it again. RACE handle: two threads call one
  * heap. RACE put, RACE post: one writes in place after its name went into a lane, or a queue. RACE early: the other writes into a block
- * whose name waits behind the one that it took. RACE right has no race: names are handed over by each call. It is wrong by each line of
- * race.edits. */
+ * whose name waits behind the one that it took. RACE right has no race: names are handed over by each call. It is wrong by each of its
+ * lines in wrong.edits. */
 #include "peachanchor.h"
 
 #include <pthread.h>
