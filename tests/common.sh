@@ -1,7 +1,8 @@
 # Sourced first by tests of C's library, with their words and $top, the repository: their help, a folder $work that is
 # removed, and the count of what holds.
 
-name_of_test=${0##*/}
+# That of a folder, as of tests/ports, is its script `run`.
+name_of_test=${0%/run} && name_of_test=${name_of_test##*/}
 case ${1-} in
 -h | --help)
     sed -n '1d;/^#/!q;s/^# \{0,1\}//p' "$0"
@@ -9,7 +10,7 @@ case ${1-} in
     ;;
 esac
 stop() {
-    echo "$name_of_test: $*; tests/$name_of_test --help says more" >&2
+    echo "$name_of_test: $*; tests/${0##*tests/} --help says more" >&2
     exit 2
 }
 cc=${cc:-cc}
