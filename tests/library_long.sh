@@ -94,12 +94,11 @@ long_outer_programs() {
 # A million calls on aarch64.
 long_for_aarch64() {
     c_work b
-    turned_round
+    turned_round aarch64
 }
 
-# Branches of the library that are turned round.
-turned_round() {
-    holds "branches that are turned round$with" tests/c/turned "$archive" 100
+turned_round() { # turned_round PROCESSOR: branches of the library, in dist/
+    holds "branches that are turned round$with" tests/c/turned dist "$1" 100
     tail -n 1 "$work/out" >&2
 }
 
@@ -109,6 +108,6 @@ take_long() {
     with_thread_checks
     long_outer_programs
     beside_archive --long
-    turned_round
+    turned_round x86_64
     ! put_for_aarch64 || long_for_aarch64
 }
