@@ -1,4 +1,5 @@
 """Kinds merged for a few pools, by trying each way: docs/COMMANDS.md, read a second time."""
+import bisect
 import collections
 import functools
 import itertools
@@ -48,6 +49,23 @@ def row_between(steps, above, upto):
             longest = max(longest, length)
         most = max(most, held if not more else 0)
     return most, longest
+
+
+def kinds_held(steps, table):
+    """The rows of the kinds of a table, each with what is longer than the one before, and of all that is longer than these."""
+    lengths, now, rows = [length for _, length in table], collections.Counter(), [(0, 0)] * (len(table) + 1)
+    for more, length in steps:
+        at = bisect.bisect_left(lengths, length)
+        now[at] += more
+        if more > 0:
+            rows[at] = max(rows[at][0], now[at]), max(rows[at][1], length)
+    return rows
+
+
+def table_in(line):
+    """The kinds of a line of `tlsf replay --kinds`, as pairs of blocks and bytes."""
+    words = line.split()[2:]
+    return [*zip(map(int, words[1::4]), map(int, words[3::4]))]
 
 
 def pool_words(row, level):
