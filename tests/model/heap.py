@@ -169,14 +169,16 @@ class Heap:
         largest = max(block.size for block in self.lists[self.filled.bit_length() - 1].values())
         return largest, 8 * (low(class_of(largest, self.level), self.level) - 3), 1000 - 1000 * largest // self.free_words
 
-    def report(self, number):
-        """The report line of the heap."""
+    def numbers(self):
+        """What a report tells: live blocks, their words and bytes, free blocks and words, the largest, its grant, fragmentation, waste, age."""
         live = [block for block in self.blocks.values() if not block.is_free]
         free = [block for block in self.blocks.values() if block.is_free]
         words, size = self.words - self.free_words, sum(block.length for block in live)
         largest, grant, apart = self.room()
         age = self.tick + 1 - min((block.tick for block in free), default=self.tick + 1)
-        return (
-            f"heap {number} live {len(live)} {words} {size} free {len(free)} {self.free_words} largest {largest} "
-            f"grant {grant} fragmentation {apart} waste {8 * words - size} age {age}"
-        )
+        return len(live), words, size, len(free), self.free_words, largest, grant, apart, 8 * words - size, age
+
+    def report(self, number):
+        """The report line of the heap."""
+        line = "heap {} live {} {} {} free {} {} largest {} grant {} fragmentation {} waste {} age {}"
+        return line.format(number, *self.numbers())

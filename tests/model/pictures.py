@@ -31,13 +31,9 @@ def count_of(number, one, many=None):
 
 
 def report_of(heap):
-    live = [it for it in heap.blocks.values() if not it.is_free]
-    free = [it for it in heap.blocks.values() if it.is_free]
-    words, size = heap.words - heap.free_words, sum(it.length for it in live)
-    largest, grant, apart = heap.room()
-    age = heap.tick + 1 - min((it.tick for it in free), default=heap.tick + 1)
-    held = f"live {count_of(len(live), 'block')}, {count_of(words, 'word')}, {count_of(size, 'byte')}; waste {count_of(8 * words - size, 'byte')}"
-    left = f"free {count_of(len(free), 'block')}, {count_of(heap.free_words, 'word')}; largest {count_of(largest, 'word')}, grant {count_of(grant, 'byte')}"
+    live, words, size, free, free_words, largest, grant, apart, waste, age = heap.numbers()
+    held = f"live {count_of(live, 'block')}, {count_of(words, 'word')}, {count_of(size, 'byte')}; waste {count_of(waste, 'byte')}"
+    left = f"free {count_of(free, 'block')}, {count_of(free_words, 'word')}; largest {count_of(largest, 'word')}, grant {count_of(grant, 'byte')}"
     return [held, left, f"fragmentation {apart}/1000; age {count_of(age, 'tick')}"]
 
 
