@@ -2,9 +2,9 @@
 import dataclasses
 import functools
 import hashlib
-import tomllib
 
 import tree
+from case_files import tables_in
 
 # What tries a wrong body: ./test, ./attack besides, and a test of what is drawn, of which no prover refuses any.
 TRIED_BY = TEST, ATTACK, DRAWN = "./test", "./attack", "tools/wrong_pictures"
@@ -51,13 +51,7 @@ class WrongBody:
 def tables_of(crate):
     """The tables of the wrong bodies of a crate's folder, by their names in the order of the file."""
     file = crate / "wrong_bodies.toml"
-    try:
-        tables = tomllib.loads(tree.read(file)) if file.is_file() else {}
-    except tomllib.TOMLDecodeError as unread:
-        raise ValueError(f"{file}: {unread}") from None
-    if stray := [it for it, table in tables.items() if not isinstance(table, dict)]:
-        raise ValueError(f"{file}: {stray[0]} is no table as [NAME]")
-    return tables
+    return tables_in(file) if file.is_file() else {}
 
 
 def wrong_bodies(crate, tried_by=BY_PROVER):

@@ -44,9 +44,9 @@ class Case:
         return self.table.get("stdout", "")
 
 
-def tables_of(file):
+def tables_in(file):
     """The tables of a file, by their names in its order."""
-    place = file.relative_to(TOP).as_posix()
+    place = str(file).removeprefix(f"{TOP}/")
     try:
         tables = tomllib.loads(file.read_text(encoding="utf-8"))
     except tomllib.TOMLDecodeError as unread:
@@ -57,7 +57,7 @@ def tables_of(file):
 
 
 def cases_of(file):
-    return [Case(name, file, table) for name, table in tables_of(file).items()]
+    return [Case(name, file, table) for name, table in tables_in(file).items()]
 
 
 @functools.cache
@@ -85,7 +85,7 @@ def lines_of(key, text):
 
 def store(case, stdout):
     """Has a case say that it has to write this, in its last key."""
-    text, tables = case.file.read_text(encoding="utf-8"), tables_of(case.file)
+    text, tables = case.file.read_text(encoding="utf-8"), tables_in(case.file)
     following = [*tables, ""][[*tables].index(case.name) + 1]
     head, begin, rest = f"\n{text}".partition(f"\n[{case.name}]\n")
     table, end, tail = rest.partition(f"\n[{following}]\n")

@@ -170,18 +170,16 @@ class Repository:
     def bound_faults(self):
         """Bounds of machine code that are quoted otherwise than they are stored; and stored ones that MEASURED lacks."""
         lines = [line.split() for line in tree.read(tree.TOP / "tools" / "longest_path.bounds").split("\n")]
-        lines = [words for words in lines if words and words[0] != "#"]
-        of_arm = {words[1]: words[2] for words in lines if words[0] == "aarch64"}
-        bounds = {words[1]: words[2] for words in lines if words[0] != "aarch64"}
+        bounds = {it[1] + " on aarch64" * (it[0] == "aarch64"): it[2] for it in lines if it and it[0] != "#"}
         quoted = set()
         for page in self.pages.values():
             for found in QUOTED_BOUND.finditer(page.text):
-                for stored, kind, told in ((bounds, "", found[2]), (of_arm, " on aarch64", found[3])):
-                    if told and found[1] in stored:
-                        quoted.add((page.name, found[1] + kind))
-                        if told != stored[found[1]]:
-                            yield f"{page.name}: says {told} for {found[1]}{kind}, and {stored[found[1]]} is stored"
-        for name in [*bounds, *(f"{it} on aarch64" for it in of_arm)]:
+                for name, told in ((found[1], found[2]), (f"{found[1]} on aarch64", found[3])):
+                    if told and name in bounds:
+                        quoted.add((page.name, name))
+                        if told != bounds[name]:
+                            yield f"{page.name}: says {told} for {name}, and {bounds[name]} is stored"
+        for name in bounds:
             if ("docs/MEASURED.md", name) not in quoted:
                 yield f"docs/MEASURED.md: lacks the bound of {name}"
 

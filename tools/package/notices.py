@@ -44,21 +44,10 @@ with the text that rtrb has, or Apache License 2.0), the Rust crate memchr 2.8.3
 """
 
 
-def below(kit, named):
-    """These libraries of the toolchain, and all that they stand on."""
-    found, left = set(), list(named)
-    while left:
-        name = left.pop()
-        form = kit / "rlibs" / f"{name}.rlib" / "format"
-        if name not in found and form.exists():
-            found.add(name)
-            left += re.findall(r"^dep (\w+)$", tree.read(form), re.M)
-    return found
-
-
-def libraries(kit, goal):
+def libraries(goal):
+    """The libraries of the toolchain on which a crate stands."""
     lines = tree.lines_of_crates()
-    return below(kit, {it for crate in tree.needed(lines, goal) for it in tree.named_in(lines[crate]) if it not in lines})
+    return {*tree.uses_of_kit(it for crate in tree.needed(lines, goal) for it in tree.named_in(lines[crate]) if it not in lines)}
 
 
 def told(folder, where):
@@ -71,7 +60,7 @@ def told(folder, where):
 
 def main():
     kit = tree.kit()
-    of_c, of_program = libraries(kit, "tlsf_c"), libraries(kit, "tlsf_tool")
+    of_c, of_program = libraries("tlsf_c"), libraries("tlsf_tool")
     texts, own = {}, []
     for name in sorted(of_c | of_program):
         folder = kit / "rattle" / name
