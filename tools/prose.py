@@ -15,39 +15,10 @@ SHORT = re.compile(r"(?:^|[\s(])(?:[A-Z]|e\.g|i\.e|etc|vs|cf|pp|no)\.$")
 ENDS = re.compile(r"(?<=[.?!])[)\"”]*\s+(?=[\"“(]*[A-Z0-9`])")
 NUMBER = re.compile(r"[(\"~-]*\d[\d,.^/]*%?(?:\*\*)?[)\",;:.?!]*")
 # The number after one of these is a part of a name.
-NAMES = {
-    "level",
-    "levels",
-    "line",
-    "lines",
-    "heap",
-    "heaps",
-    "worker",
-    "workers",
-    "block",
-    "status",
-    "python",
-    "version",
-    "ecrts",
-    "tlsf",
-    "field",
-    "fault",
-    "tick",
-    "place",
-    "serial",
-    "step",
-    "section",
-    "rule",
-    "rules",
-    "case",
-    "point",
-    "points",
-    "phase",
-    "label",
-    "moment",
-    "bit",
-    "bits",
-}
+NAMES = re.compile(
+    r"(?:level|line|heap|worker|rule|point|bit)s?|block|field|fault|tick|place|serial|step|section|case|phase|label|moment|status"
+    r"|version|python|ecrts|tlsf"
+)
 NO_QUESTION = re.compile(r"(What|That)\b.*[^?]$", re.S)
 UNCLEAR = re.compile(
     r"\b(so many|theirs|behind that|(?<=, )of which|as it were|else as|is had|are had|(?:is|are) as (?:there|here)|are (?:these|those)(?=[.,;]?$))\b"
@@ -122,7 +93,7 @@ class Text:
 
 def numbers_in(words):
     """How many numbers there are among the words of a sentence, but those that name something."""
-    return sum(1 for before, it in zip(["", *words], words) if NUMBER.fullmatch(it) and before.strip('("').lower() not in NAMES)
+    return sum(1 for before, it in zip(["", *words], words) if NUMBER.fullmatch(it) and not NAMES.fullmatch(before.strip('("').lower()))
 
 
 def phrases_in(sentence):
