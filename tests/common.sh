@@ -72,6 +72,17 @@ notices() {
     ! "$@"
 }
 
+# fails WHY: says it, as a command that `holds` tries.
+fails() {
+    echo "$*"
+    return 1
+}
+
+# untried WHY: says on standard error what isn't tried, and fails.
+untried() {
+    fails "$name_of_test: $*" >&2
+}
+
 # as_it_stands FOLDER: makes it a repository of one commit, which has the files that git knows here, as they stand. Hooks and other
 # habits of this user's git have no part in it.
 as_it_stands() (
@@ -86,11 +97,18 @@ has() {
     tried=$1
     shift
     for tool; do
-        command -v "$tool" > /dev/null || {
-            echo "$name_of_test: $tool isn't there, so $tried isn't tried" >&2
-            return 1
-        }
+        command -v "$tool" > /dev/null || untried "$tool isn't there, so $tried isn't tried" || return
     done
+}
+
+# has_cargo TOOL..: whether the crates can be built here, which needs these besides; else a line says that they aren't tried.
+has_cargo() {
+    has "bindings/rust" cargo "$@" || return
+    cargo --version > "$work/out" 2>&1 || untried "cargo has no toolchain here, so bindings/rust isn't tried"
+}
+
+says_stale() { # says_stale COMMAND..: what examples/c/first.c prints
+    [ "$("$@")" = "no live block has that name or address" ]
 }
 
 # block LANGUAGE PAGE [WORD]: the page's first block of code in it, or the first with that word.
@@ -107,10 +125,8 @@ rust_for() {
     [ "$5" != all ] || calls="$calls && cargo run --example two_threads && cargo test --tests"
     shift 5
     has "Rust for $system" cargo rustc "$tools-gcc" "${run%% *}" || return
-    [ -d "$(rustc --print sysroot 2> /dev/null)/lib/rustlib/$target/lib" ] || {
-        echo "$name_of_test: rustc has no library for $system, so Rust for it isn't tried" >&2
-        return
-    }
+    [ -d "$(rustc --print sysroot 2> /dev/null)/lib/rustlib/$target/lib" ] ||
+        untried "rustc has no library for $system, so Rust for it isn't tried" || return
     small=$(echo "$target" | tr - _) large=$(echo "$target" | tr a-z- A-Z_)
     lines=$(block sh bindings/rust/README.md --target | sed "s/aarch64-linux-gnu/$tools/; s/aarch64-unknown-linux-gnu/$target/
 s/aarch64_unknown_linux_gnu/$small/; s/AARCH64_UNKNOWN_LINUX_GNU/$large/")
