@@ -69,7 +69,7 @@ impl AnyOffsets {
     /// `OffsetArena::allocate`.
     pub fn allocate(&mut self, len: u64) -> Result<Span, Refusal>
         ensures answer { MatchResult result (λ span. (allocated_words self.old.level self.old.offsets.heap (span_units self.old.offsets.unit len) 0).answer ≡ Ok span.name) (λ why. (allocated_words self.old.level self.old.offsets.heap (span_units self.old.offsets.unit len) 0).answer ≡ Err why) }
-        ensures allocates { Allocates (allocate_touches + 4) self.old.level (span_units self.old.offsets.unit len) 0 (seen_of self.old.offsets) (seen_of self.new.offsets) (allocated_words self.old.level self.old.offsets.heap (span_units self.old.offsets.unit len) 0).answer }
+        ensures allocates { Allocates (allocate_touches + 1) self.old.level (span_units self.old.offsets.unit len) 0 (seen_of self.old.offsets) (seen_of self.new.offsets) (allocated_words self.old.level self.old.offsets.heap (span_units self.old.offsets.unit len) 0).answer }
         ensures err { OnErr result (self.new.offsets.heap ≡ self.old.offsets.heap) }
         ensures held { IfOk result (λ span. IsHeld self.new.offsets span) }
         ensures enough { IfOk result (λ span. len ≤ span.size) }
@@ -100,7 +100,7 @@ impl AnyOffsets {
     /// `OffsetArena::resize`.
     pub fn resize(&mut self, name: Name, len: u64) -> Result<Span, Refusal>
         ensures answer { MatchResult result (λ span. ((resized_words self.old.offsets.heap name (span_units self.old.offsets.unit len) 0).answer ≡ Ok tt) × (span.name ≡ name)) (λ why. (resized_words self.old.offsets.heap name (span_units self.old.offsets.unit len) 0).answer ≡ Err why) }
-        ensures resizes { Resizes (resize_touches + 4) (span_units self.old.offsets.unit len) 0 (seen_of self.old.offsets) (seen_of self.new.offsets) name (resized_words self.old.offsets.heap name (span_units self.old.offsets.unit len) 0).answer }
+        ensures resizes { Resizes (resize_touches + 1) (span_units self.old.offsets.unit len) 0 (seen_of self.old.offsets) (seen_of self.new.offsets) name (resized_words self.old.offsets.heap name (span_units self.old.offsets.unit len) 0).answer }
         ensures err { OnErr result (self.new.offsets.heap ≡ self.old.offsets.heap) }
         ensures held { IfOk result (λ span. IsHeld self.new.offsets span) }
         ensures enough { IfOk result (λ span. len ≤ span.size) }

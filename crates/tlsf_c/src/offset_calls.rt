@@ -113,7 +113,7 @@ pub extern "C" fn tlsf_offsets_allocate(
     ensures other { arena_serves offsets.old ≡ true → holds_offsets offsets.old ≡ false → (result ≡ other_kind) × (offsets.new ≡ offsets.old) }
     ensures open { arena_serves offsets.old ≡ true → OffsetsStayOpen offsets.old offsets.new }
     ensures status { arena_serves offsets.old ≡ true → holds_offsets offsets.old ≡ true → result ≡ status_of (allocated_words (offsets_level offsets.old) (offsets_in offsets.old).heap (span_units (offsets_in offsets.old).unit bytes) 0).answer }
-    ensures allocates { arena_serves offsets.old ≡ true → holds_offsets offsets.old ≡ true → Allocates (allocate_touches + 4) (offsets_level offsets.old) (span_units (offsets_in offsets.old).unit bytes) 0 (seen_of (offsets_in offsets.old)) (seen_of (offsets_in offsets.new)) (allocated_words (offsets_level offsets.old) (offsets_in offsets.old).heap (span_units (offsets_in offsets.old).unit bytes) 0).answer }
+    ensures allocates { arena_serves offsets.old ≡ true → holds_offsets offsets.old ≡ true → Allocates (allocate_touches + 1) (offsets_level offsets.old) (span_units (offsets_in offsets.old).unit bytes) 0 (seen_of (offsets_in offsets.old)) (seen_of (offsets_in offsets.new)) (allocated_words (offsets_level offsets.old) (offsets_in offsets.old).heap (span_units (offsets_in offsets.old).unit bytes) 0).answer }
     ensures refused { ¬ (result ≡ 0) → arena_serves offsets.old ≡ true → (offsets_in offsets.new).heap ≡ (offsets_in offsets.old).heap }
     ensures no_span { ¬ (result ≡ 0) → span.new ≡ span.old }
     ensures held { result ≡ 0 → IsHeld (offsets_in offsets.new) (span_of span.new) }
@@ -191,7 +191,7 @@ pub extern "C" fn tlsf_offsets_resize(
     ensures other { arena_serves offsets.old ≡ true → holds_offsets offsets.old ≡ false → (result ≡ other_kind) × (offsets.new ≡ offsets.old) }
     ensures open { arena_serves offsets.old ≡ true → OffsetsStayOpen offsets.old offsets.new }
     ensures status { arena_serves offsets.old ≡ true → holds_offsets offsets.old ≡ true → result ≡ status_of (resized_words (offsets_in offsets.old).heap (name_of span.old.name) (span_units (offsets_in offsets.old).unit bytes) 0).answer }
-    ensures resizes { arena_serves offsets.old ≡ true → holds_offsets offsets.old ≡ true → Resizes (resize_touches + 4) (span_units (offsets_in offsets.old).unit bytes) 0 (seen_of (offsets_in offsets.old)) (seen_of (offsets_in offsets.new)) (name_of span.old.name) (resized_words (offsets_in offsets.old).heap (name_of span.old.name) (span_units (offsets_in offsets.old).unit bytes) 0).answer }
+    ensures resizes { arena_serves offsets.old ≡ true → holds_offsets offsets.old ≡ true → Resizes (resize_touches + 1) (span_units (offsets_in offsets.old).unit bytes) 0 (seen_of (offsets_in offsets.old)) (seen_of (offsets_in offsets.new)) (name_of span.old.name) (resized_words (offsets_in offsets.old).heap (name_of span.old.name) (span_units (offsets_in offsets.old).unit bytes) 0).answer }
     ensures no_span { ¬ (result ≡ 0) → span.new ≡ span.old }
     ensures held { result ≡ 0 → IsHeld (offsets_in offsets.new) (span_of span.new) × (span.new.name ≡ span.old.name) }
     ensures enough { result ≡ 0 → bytes ≤ span.new.size }

@@ -1,5 +1,5 @@
 ghost use Rattle.std.specs.Fn.{FnOnceTakesAt, FnOnceTakesAtMut};
-ghost use Rattle.std.specs.Prelude.{◌≡◌, ◌≢◌, ℕ, List, ◌+◌, ◌*◌, ◌/◌, ◌-◌, ◌<◌, ◌≤◌, ◌^◌, ◌↔◌, true, length, min, take, IfOk, OnOk, OnErr, IsOk, IsErrOf, MatchResult, Ok, Err};
+ghost use Rattle.std.specs.Prelude.{◌≡◌, ◌≢◌, ℕ, List, ◌+◌, ◌*◌, ◌/◌, ◌-◌, ◌<◌, ◌≤◌, ◌^◌, ◌↔◌, false, true, length, min, take, IfOk, OnOk, OnErr, IsOk, IsErrOf, MatchResult, Ok, Err};
 ghost use Rattle.tlsf_class.specs.Classes.{IsLevel, most_words};
 ghost use Rattle.tlsf_heap.specs.Blocks;
 ghost use Rattle.tlsf_heap.specs.ByPlace.{released_by_place, IsPlaceCheck};
@@ -29,6 +29,7 @@ mod check;
 mod check_around;
 mod check_request;
 mod live;
+mod refit;
 mod reset;
 mod tells;
 mod unset;
@@ -37,7 +38,6 @@ use crate::fitting::{carve, choose, coalesce};
 use crate::name::Name;
 use crate::open_fault::OpenFault;
 use crate::placed_block::PlacedBlock;
-use crate::refitting::{grow, look_behind, shrink};
 use crate::refusal::Refusal;
 use crate::region::Region;
 use crate::report::Report;
@@ -307,7 +307,7 @@ impl<const SLI: u32> Heap<SLI> {
         ensures refused_groups { OnErr result (InGroups 3 self.old.touched self.new.touched) }
     {
         let own = self.check(name)?;
-        self.refit(name, own, words, len)
+        self.refit(name, own, words, len, true)
     }
 
     /// Makes the payload of the block of that name `len` bytes long where the block stands, as `resize`. Where there is no room it
@@ -596,48 +596,6 @@ impl<const SLI: u32> Heap<SLI> {
         coalesce(&mut self.region, &mut self.tick, at, own);
     }
 
-    /// A `resize_words` of the live block of that name, of this tag, which was found.
-    // The block behind is read only if this one grows, or if something is cut off.
-    #[inline(always)]
-    fn refit(&mut self, name: Name, own: Tag, words: u32, len: u32) -> Result<(), Refusal>
-        requires payload { Blocks.want len ≤ words }
-        requires found { IsNameCheck self.old.heap name (Ok own) }
-        ensures answer { result ≡ (resized_words self.old.heap name words len).answer }
-        ensures heap { self.new.heap ≡ (resized_words self.old.heap name words len).heap }
-        ensures err { OnErr result (IsAsBefore self.old self.new) }
-        ensures keeps { Keeps SLI self.old self.new }
-        ensures peak { Peaks self.old self.new }
-        ensures touches { self.new.touches ≤ self.old.touches + 24 + payload_words_left result self.new.heap name }
-        ensures grown { self.new.touches ≤ self.old.touches + 25 + words_grown self.old.heap len name }
-        ensures leaves { LeavesPayloads self.old.heap.blocks name.at self.old.touched self.new.touched }
-        ensures groups { InGroups (13 + (len - length (payload_of self.old.heap name)) / 64) self.old.touched self.new.touched }
-        ensures refused_groups { OnErr result (InGroups 1 self.old.touched self.new.touched) }
-        ensures refused { OnErr result (LeavesLive self.old.heap.blocks self.old.touched self.new.touched) }
-    {
-        let held = own.size();
-        if words <= held {
-            if self.tick == u64::MAX {
-                return Err(Refusal::Worn);
-            }
-            let left = shrink(&mut self.region, name.at, own, words, len, self.tick);
-            self.usage.take_back(held - left);
-            self.tick += 1;
-            return Ok(());
-        }
-        let next = look_behind(&mut self.region, name.at, own);
-        let room = held + next.size();
-        if room < words {
-            return Err(Refusal::NoRoom);
-        }
-        if self.tick == u64::MAX {
-            return Err(Refusal::Worn);
-        }
-        let left = grow(&mut self.region, name.at, own, next, words, len, self.tick);
-        self.usage.give(left - held);
-        self.tick += 1;
-        Ok(())
-    }
-
     /// The payload length in bytes of the live block of that name. Where none has it, `Foreign` or else `Stale`.
     fn check_payload(&mut self, name: Name) -> Result<u32, Refusal>
         ensures answer { IsPayloadCheck self.old.heap name result }
@@ -689,7 +647,7 @@ impl<const SLI: u32> Heap<SLI> {
         ensures groups { InGroups (35 + 3 * (len / 64)) self.old.touched self.new.touched }
         ensures refused { OnErr result (LeavesLive self.old.heap.blocks self.old.touched self.new.touched) }
     {
-        match self.refit(name, own, want(len), len) {
+        match self.refit(name, own, want(len), len, true) {
             Ok(()) => Ok(name),
             Err(Refusal::NoRoom) => self.relocate(name, len),
             Err(why) => Err(why),

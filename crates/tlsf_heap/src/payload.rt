@@ -1,5 +1,5 @@
 //! The payload of a live block at another length. Places are in words, lengths in bytes.
-ghost use Rattle.std.specs.Prelude.{◌≡◌, ℕ, ◌+◌, ◌-◌, ◌*◌, ◌/◌, ◌<◌, ◌≤◌, ◌^◌, length, slice_index};
+ghost use Rattle.std.specs.Prelude.{◌≡◌, ℕ, ◌+◌, ◌-◌, ◌*◌, ◌/◌, ◌<◌, ◌≤◌, ◌^◌, false, length, slice_index};
 ghost use Rattle.tlsf_words.specs.Bytes.{byte_in, bytes_in, payload_byte};
 ghost use Rattle.tlsf_words.specs.Fields.{low_half, length_word};
 ghost use Rattle.tlsf_words.specs.Touched.{times, InGroups};
@@ -10,12 +10,16 @@ ghost use Rattle.tlsf_heap.specs.Headers.{OnlyFrom, RisesBy};
 use tlsf_words::Words;
 
 /// Writes the payload length of the live block at a place. The bytes up to the smaller length stay, and new ones are zero. Bytes of a
-/// word past the length have no meaning, so a payload that grows within a word has them made zero too.
+/// word past the length have no meaning, so a payload that grows within a word has them made zero too. Where the caller knows that it
+/// doesn't grow, `grows` is false.
+// A constant of the caller's, so a resize that fills nothing has no code that fills.
+#[inline(always)]
 #[tactic(auto, using(tlsf_words::proofs::Touching::times_other))]
-pub fn set_payload(words: &mut Words, at: u32, len: u32)
+pub fn set_payload(words: &mut Words, at: u32, len: u32, grows: bool)
     requires old { at + words_for (low_half (slice_index words.old.words (at + 2))) ≤ length words.old.words }
     requires new { at + words_for len ≤ length words.old.words }
     requires small { length words.old.words ≤ 2 ^ 24 }
+    requires grows { grows ≡ false → len ≤ low_half (slice_index words.old.words (at + 2)) }
     ensures length { slice_index words.new.words (at + 2) ≡ length_word len }
     ensures bytes { bytes_in words.new.words (8 * (at + 3)) len ≡ fitted (bytes_in words.old.words (8 * (at + 3)) (low_half (slice_index words.old.words (at + 2)))) len }
     ensures only { OnlyFrom words.old.words words.new.words (at + 2) (at + words_for len) }
@@ -31,6 +35,9 @@ pub fn set_payload(words: &mut Words, at: u32, len: u32)
 {
     let old = words.length(at);
     words.set_length(at, len);
+    if !grows {
+        return;
+    }
     if len > old {
         zero_bytes(words, at, old, len);
     }

@@ -327,16 +327,17 @@ impl<const SLI: u32> Region<SLI> {
     }
 
     /// Makes the payload of the live block at a place `len` bytes long, for which the block has room. The bytes up to the smaller
-    /// length stay, and new ones are zero.
-    pub fn set_payload(&mut self, at: u32, len: u32)
-        requires { HasAt self.old.blocks at (λ s. (is_free s.block ≡ false) × (words_for len ≤ size_of s.block)) }
+    /// length stay, and new ones are zero. Where the caller knows that it doesn't grow, `grows` is false.
+    #[inline(always)]
+    pub fn set_payload(&mut self, at: u32, len: u32, grows: bool)
+        requires { HasAt self.old.blocks at (λ s. (is_free s.block ≡ false) × (words_for len ≤ size_of s.block) × (grows ≡ false → len ≤ length (bytes_of s.block))) }
         ensures change { EachAt self.old.blocks at (λ s. Rewrites self.old self.new
             (s.before ++ (Calls.with_bytes s.block (Calls.fitted (bytes_of s.block) len) ∷ []) ++ s.after) (words_for len)) }
         ensures grown { EachAt self.old.blocks at (λ s. self.new.touches ≤ self.old.touches + 4 + (words_for len - words_for (length (bytes_of s.block)))) }
         ensures touched { LeavesPayloads self.old.blocks at self.old.touched self.new.touched }
         ensures groups { EachAt self.old.blocks at (λ s. InGroups (3 + (len - length (bytes_of s.block)) / 64) self.old.touched self.new.touched) }
     {
-        set_payload(&mut self.words, at, len);
+        set_payload(&mut self.words, at, len, grows);
     }
 
     /// Says that the payload of the live block at a place, which has room for it, is `len` bytes long: those that lie there. No byte of it is

@@ -38,6 +38,9 @@ use Rattle.tlsf_offsets.specs.Offsets.{Offsets, IsOffsets, IsHeld, SpansAreApart
 use Rattle.tlsf_offsets.specs.declared.span.Span.{Span}
 use Rattle.tlsf_heap.specs.Effects.{Allocates, Resizes}
 use Rattle.tlsf_heap.specs.Named.{IsNamed}
+use Rattle.tlsf_heap.specs.WordsInUse.{words_at}
+use Rattle.tlsf_heap.proofs.lemmas.calls.Named.{named_stands}
+use Rattle.tlsf_heap.proofs.lemmas.laws.WordsInUse.{words_named}
 use Rattle.tlsf_heap.proofs.lemmas.calls.Looked.{allocates_same, resizes_same}
 
 -- ---- held
@@ -156,19 +159,17 @@ pub live : (o : Offsets) (span : Span) → IsHeld o span → IsLive o.heap span.
 live o span h = shown o.heap span.name h.own (of_index (λ b. has_serial span.name.serial b ≡ true) span.name.at 0 o.heap.blocks h.index h.stands.within (omega (arith, h.stands.place)) h.live)
 
 -- the block that stands at the place of a live name is its block
-pub held_at : (sli : ℕ) (o : Offsets) (name : Name) (span : Span) (block : Option PlacedBlock) → IsOffsets sli o → IsLive o.heap name → block ≡ placed_at o.heap.blocks name.at
-    → span.name ≡ name → span.offset ≡ o.unit * name.at → ((b : PlacedBlock) → block ≡ Some b → span.size ≡ o.unit * b.size) → IsHeld o span
-held_at sli o name span block is alive found e offset size =
-    let there = to_index (λ b. has_serial name.serial b ≡ true) name.at 0 o.heap.blocks (lives o.heap name alive) in
-    let stands : StandsAt o.heap.blocks name.at there.0 = record { within = there.1; place = omega (arith, there.2) } in
-    let b = placed name.at (block_at o.heap.blocks there.0) in
+pub held_at : (sli : ℕ) (o : Offsets) (name : Name) (span : Span) → IsOffsets sli o → IsLive o.heap name → span.name ≡ name → span.offset ≡ o.unit * name.at → span.size ≡ o.unit * words_at o.heap name.at → IsHeld o span
+held_at sli o name span is alive e offset size =
+    let there = named_of o.heap name alive in
+    let i = there.1.0 in
     record {
-      own = ap (λ (n : Name). n.heap) e ∙ alive.0;
-      index = there.0;
-      stands = subst (λ (n : Name). StandsAt o.heap.blocks n.at there.0) (sym e) stands;
-      live = subst (λ (n : Name). has_serial n.serial (block_at o.heap.blocks there.0) ≡ true) (sym e) there.3;
+      own = ap (λ (n : Name). n.heap) e ∙ there.0;
+      index = i;
+      stands = subst (λ (n : Name). StandsAt o.heap.blocks n.at i) (sym e) (named_stands _ _ _ _ there.1.1);
+      live = subst (λ (n : Name). has_serial n.serial (block_at o.heap.blocks i) ≡ true) (sym e) (and_left (has_serial name.serial (block_at o.heap.blocks i)) _ there.1.1.here);
       offset = offset ∙ ap (λ (n : Name). o.unit * n.at) (sym e);
-      size = size b (found ∙ placed_found is.lawful.rooms stands);
+      size = size ∙ ap (λ (w : ℕ). o.unit * w) (words_named o.heap name is.lawful there);
     }
 
 -- ---- what a call leaves of the arena

@@ -85,8 +85,8 @@ impl<const SLI: u32> OffsetArena<SLI> {
     pub fn allocate(&mut self, len: u64) -> Result<Span, Refusal>
         ensures answer { MatchResult result (λ span. (allocated_words SLI self.old.heap (span_units self.old.unit len) 0).answer ≡ Ok span.name) (λ why. (allocated_words SLI self.old.heap (span_units self.old.unit len) 0).answer ≡ Err why) }
 
-        // However large it is: a look at the block that was given takes four touches.
-        ensures allocates { Allocates (allocate_touches + 4) SLI (span_units self.old.unit len) 0 (seen_of self.old) (seen_of self.new) (allocated_words SLI self.old.heap (span_units self.old.unit len) 0).answer }
+        // However large it is: a look at the block that was given takes a touch.
+        ensures allocates { Allocates (allocate_touches + 1) SLI (span_units self.old.unit len) 0 (seen_of self.old) (seen_of self.new) (allocated_words SLI self.old.heap (span_units self.old.unit len) 0).answer }
 
         // A refusal changes nothing.
         ensures err { OnErr result (self.new.heap ≡ self.old.heap) }
@@ -144,7 +144,7 @@ impl<const SLI: u32> OffsetArena<SLI> {
     /// ```
     pub fn resize(&mut self, name: Name, len: u64) -> Result<Span, Refusal>
         ensures answer { MatchResult result (λ span. ((resized_words self.old.heap name (span_units self.old.unit len) 0).answer ≡ Ok tt) × (span.name ≡ name)) (λ why. (resized_words self.old.heap name (span_units self.old.unit len) 0).answer ≡ Err why) }
-        ensures resizes { Resizes (resize_touches + 4) (span_units self.old.unit len) 0 (seen_of self.old) (seen_of self.new) name (resized_words self.old.heap name (span_units self.old.unit len) 0).answer }
+        ensures resizes { Resizes (resize_touches + 1) (span_units self.old.unit len) 0 (seen_of self.old) (seen_of self.new) name (resized_words self.old.heap name (span_units self.old.unit len) 0).answer }
 
         // A refusal changes nothing. Spans of other names are held as before.
         ensures err { OnErr result (self.new.heap ≡ self.old.heap) }
@@ -200,18 +200,15 @@ impl<const SLI: u32> OffsetArena<SLI> {
         ensures name { result.name ≡ name }
         ensures same { (self.new.heap ≡ self.old.heap) × (self.new.unit ≡ self.old.unit) }
         ensures stays { self.new.extents ≡ self.old.extents }
-        ensures touches { self.new.touches ≤ self.old.touches + 4 }
+        ensures touches { self.new.touches ≤ self.old.touches + 1 }
         ensures touches_rise { self.old.touches ≤ self.new.touches }
         ensures leaves { LeavesLive self.old.heap.blocks self.old.touched self.new.touched }
     {
-        let size = match self.heap.block_at(name.at) {
-            Some(block) => block.size,
-            None => 0,
-        };
+        let units = self.heap.words_of(name);
         Span {
             name,
             offset: self.bytes(name.at),
-            size: self.bytes(size),
+            size: self.bytes(units),
         }
     }
 }

@@ -188,7 +188,7 @@ impl<const SLI: u32> Heap<SLI> {
         ensures refused { OnErr result (LeavesLive self.old.heap.blocks self.old.touched self.new.touched) }
     {
         let kept = self.length(name).min(len);
-        self.refit(name, own, want(len), kept)?;
+        self.refit(name, own, want(len), kept, false)?;
         self.set_length(name, len);
         Ok(())
     }

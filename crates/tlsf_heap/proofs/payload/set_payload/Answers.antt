@@ -23,10 +23,19 @@ returns-else-len-old-clause-bytes c =
     (λ k l g f. same c.args.words.now.words _ _ c.args.at c.args.len c.length-old.ensures.words c.set_length.ensures.words k l)
     (λ k l g. absurd (omega (arith, l, g, value, c.if-len-old.false)))
 
+pub returns-then-not-grows-clause-bytes : goal.returns-then-not-grows-clause-bytes
+returns-then-not-grows-clause-bytes c =
+    bytes_fitted c.args.words.now.words c.set_length.new.self.words (8 * (c.args.at + 3)) _ c.args.len
+    (λ k l g f. same c.args.words.now.words _ _ c.args.at c.args.len c.length-old.ensures.words c.set_length.ensures.words k l)
+    (λ k l g. let shorter = c.requires.grows c.if-not-grows.true in absurd (omega (arith, l, g, shorter)))
+
 -- the word of the length, read and written
 header : (p : ℕ) (old : List ℕ) {read new : List ℕ} → read ≡ p ∷ old → new ≡ p ∷ read → InGroups 1 old new
 header p old {read = read} is_read is_new =
     one_word p (λ k apart. ap (λ (l : List ℕ). times l k) is_new ∙ times_other p k read apart ∙ ap (λ (l : List ℕ). times l k) is_read ∙ times_other p k old apart)
+
+pub returns-then-not-grows-clause-groups : goal.returns-then-not-grows-clause-groups
+returns-then-not-grows-clause-groups c = more_groups (omega arith) (header (c.args.at + 2) c.args.words.now.touched c.length-old.ensures.touched c.set_length.ensures.touched)
 
 pub returns-else-len-old-clause-groups : goal.returns-else-len-old-clause-groups
 returns-else-len-old-clause-groups c = more_groups (omega arith) (header (c.args.at + 2) c.args.words.now.touched c.length-old.ensures.touched c.set_length.ensures.touched)

@@ -1,4 +1,4 @@
-use Rattle.tlsf_heap.proofs.Common.{◌≡◌, ℕ, ◌+◌, ◌-◌, ◌/◌, ◌≤◌, List, length, sym, ap, ◌∙◌, subst, arith, HeapState, words_in, words_for, payload_words_at, named, site_at, IsTagOf, Shown, state_of, payload_of, InGroups, IsOthersWord, refl}
+use Rattle.tlsf_heap.proofs.Common.{◌≡◌, ℕ, Bool, false, bytes_of, block_at, Name, IsNamed, ◌+◌, ◌-◌, ◌/◌, ◌≤◌, List, length, sym, ap, ◌∙◌, subst, arith, HeapState, words_in, words_for, payload_words_at, named, site_at, IsTagOf, Shown, state_of, payload_of, InGroups, IsOthersWord, refl}
 use Rattle.tlsf_class.proofs.TwoLevels.{most_words_any}
 use Rattle.tlsf_heap.proofs.lemmas.calls.Alter.{payload_is}
 use Rattle.tlsf_heap.proofs.lemmas.calls.Allocate.{lawful_regions}
@@ -31,6 +31,12 @@ returns-then-self-clause-keeps g c = keeps_same g.row.SLI c.self.inside c.self.v
 
 -- ---- they are enough
 
+-- the block that has the name has the payload that the name has
+shorter : {h k : HeapState} {name : Name} {grows : Bool} {len : ℕ} → h ≡ k → (is_named : IsNamed h name) → (grows ≡ false → len ≤ length (payload_of k name)) → grows ≡ false → len ≤ length (bytes_of (block_at h.blocks is_named.1.0))
+shorter {h = h} {name = name} same is_named least kept =
+    let less = least kept in
+    omega (arith, less, ap (λ (l : List ℕ). length l) (ap (λ (s : HeapState). payload_of s name) (sym same) ∙ payload_is h name is_named))
+
 pub shrink-left-requires : goal.shrink-left-requires
 shrink-left-requires g c =
     let h = state_of g.row.SLI c.self.inside in
@@ -47,16 +53,20 @@ shrink-left-requires g c =
             (
               (f.named.1.0, stands, named_live _ _ _ _ f.named.1.1),
               (
-                λ i there. at_index c.self.invariant.shows (λ (i : ℕ). IsTagOf c.self.inside.region.words (site_at c.self.inside.region.blocks i) c.args.own) (f.named.1.0, stands, f.is_own) there,
+                λ i there. at_index c.self.invariant.shows (λ (i : ℕ). c.args.grows ≡ false → c.args.len ≤ length (bytes_of (block_at c.self.inside.region.blocks i)))
+                    (f.named.1.0, stands, shorter same f.named c.requires.grows) there,
                 (
-                  omega (arith, c.if-words-held.true, c.size-held.ensures.value),
+                  λ i there. at_index c.self.invariant.shows (λ (i : ℕ). IsTagOf c.self.inside.region.words (site_at c.self.inside.region.blocks i) c.args.own) (f.named.1.0, stands, f.is_own) there,
                   (
-                    c.self.invariant.lawful.whole,
+                    omega (arith, c.if-words-held.true, c.size-held.ensures.value),
                     (
-                      lawful_regions g.row.SLI h c.self.invariant.lawful c.self.invariant.small,
+                      c.self.invariant.lawful.whole,
                       (
-                        omega (arith, c.self.invariant.lawful.whole, c.self.invariant.small),
-                        (c.self.invariant.listed, c.self.invariant.lawful.stamps_past),
+                        lawful_regions g.row.SLI h c.self.invariant.lawful c.self.invariant.small,
+                        (
+                          omega (arith, c.self.invariant.lawful.whole, c.self.invariant.small),
+                          (c.self.invariant.listed, c.self.invariant.lawful.stamps_past),
+                        ),
                       ),
                     ),
                   ),
@@ -228,20 +238,24 @@ grow-left-requires g c =
             (
               rw reads.blocks (f.named.1.0, stands, named_live _ _ _ _ f.named.1.1),
               (
-                rw (reads.blocks, reads.words) (λ i there. at_index c.self.invariant.shows (λ (i : ℕ). IsTagOf c.self.inside.region.words (site_at c.self.inside.region.blocks i) c.args.own) (f.named.1.0, stands, f.is_own) there),
+                rw reads.blocks (λ i there. at_index c.self.invariant.shows (λ (i : ℕ). c.args.grows ≡ false → c.args.len ≤ length (bytes_of (block_at c.self.inside.region.blocks i)))
+                    (f.named.1.0, stands, shorter (ap (λ (s : Shown). s.heap) c.self.view_is) f.named c.requires.grows) there),
                 (
-                  rw (reads.blocks, reads.words) c.look_behind-next.ensures.tag,
+                  rw (reads.blocks, reads.words) (λ i there. at_index c.self.invariant.shows (λ (i : ℕ). IsTagOf c.self.inside.region.words (site_at c.self.inside.region.blocks i) c.args.own) (f.named.1.0, stands, f.is_own) there),
                   (
-                    omega (arith, c.if-words-held.false, c.size-held.ensures.value),
+                    rw (reads.blocks, reads.words) c.look_behind-next.ensures.tag,
                     (
-                      omega (arith, c.if-room-words.false, c.size-held.ensures.value, c.size.ensures.value),
+                      omega (arith, c.if-words-held.false, c.size-held.ensures.value),
                       (
-                        rw reads.blocks c.self.invariant.lawful.rooms,
+                        omega (arith, c.if-room-words.false, c.size-held.ensures.value, c.size.ensures.value),
                         (
-                          rw reads.blocks (lawful_regions g.row.SLI h c.self.invariant.lawful c.self.invariant.small),
+                          rw reads.blocks c.self.invariant.lawful.rooms,
                           (
-                            omega (arith, ap words_in reads.blocks, c.self.invariant.lawful.whole, c.self.invariant.small),
-                            (rw (reads.blocks, reads.lists) c.self.invariant.listed, rw reads.blocks c.self.invariant.lawful.stamps_past),
+                            rw reads.blocks (lawful_regions g.row.SLI h c.self.invariant.lawful c.self.invariant.small),
+                            (
+                              omega (arith, ap words_in reads.blocks, c.self.invariant.lawful.whole, c.self.invariant.small),
+                              (rw (reads.blocks, reads.lists) c.self.invariant.listed, rw reads.blocks c.self.invariant.lawful.stamps_past),
+                            ),
                           ),
                         ),
                       ),

@@ -12,7 +12,9 @@ pub length-requires : goal.length-requires
 length-requires g c = (omega arith, live_is c.args.self.now.heap c.args.name c.requires.0)
 
 pub refit-requires : goal.refit-requires
-refit-requires g c = (omega arith, (omega (arith, c.want.ensures, c.min-kept.ensures), rw c.length.ensures.same.heap c.requires))
+refit-requires g c =
+    let value = c.length.ensures.value in
+    (omega arith, (omega (arith, c.want.ensures, c.min-kept.ensures), (rw c.length.ensures.same.heap c.requires, rw c.length.ensures.same.heap (λ kept. omega (arith, value, c.min-kept.ensures)))))
 
 -- the resize is one of the same heap, to the words that are wanted
 asked : (h k : HeapState) (name : Name) (n len kept : ℕ) → k ≡ h → n ≡ want len → resized_words k name n kept ≡ resized_words h name (want len) kept

@@ -1,4 +1,4 @@
-use Rattle.tlsf_heap.proofs.Common.{◌∙◌, sym, subst, Ok, arith, rules, err_from_is_err_and, HeapState, IsNameCheck, seen}
+use Rattle.tlsf_heap.proofs.Common.{false≢true, ◌∙◌, sym, subst, Ok, arith, rules, err_from_is_err_and, HeapState, IsNameCheck, seen}
 use Rattle.tlsf_heap.proofs.lemmas.calls.Named.{not_forged}
 use Rattle.tlsf_heap.proofs.lemmas.calls.Resize.{resized_refused, resizes_refused}
 use Rattle.tlsf_heap.proofs.lemmas.calls.Leaves.{refused_both, groups_refused}
@@ -35,7 +35,7 @@ returns-in_err-own-clause-refused_groups g c = rw (err_from_is_err_and c.from_re
 pub refit-requires : goal.refit-requires
 refit-requires g c =
     let e = c.in_ok-own.ensures in
-    (omega arith, (c.requires, subst (λ (s : HeapState). IsNameCheck s c.args.name (Ok c.in_ok-own.own)) (sym e.same.heap) e.answer))
+    (omega arith, (c.requires, (subst (λ (s : HeapState). IsNameCheck s c.args.name (Ok c.in_ok-own.own)) (sym e.same.heap) e.answer, λ kept. absurd (false≢true (sym kept)))))
 
 pub returns-clause-resizes : goal.returns-clause-resizes
 returns-clause-resizes g c =

@@ -20,13 +20,14 @@ set_payload-requires g c =
       old = omega (arith, length_read shows stands (c.requires.0, stands, c.requires.2.0), held, says.ends);
       new = omega (arith, c.requires.2.1, says.ends);
       small = shows.small;
+      grows = λ kept. let h = c.requires.2.2 kept in omega (arith, length_read shows stands (c.requires.0, stands, c.requires.2.0), h);
     }
 
 refills : (g : Over) (c : goal.After-set_payload g) → Refills (image_of c.self.inside.words) (image_of c.set_payload.new.words) c.args.at c.args.len
 refills g c = let new = c.set_payload.ensures in record { length = new.length; bytes = new.bytes; only = new.only; starts = new.starts }
 
 relists : (g : Over) (c : goal.After-set_payload g) → Relists g.row.SLI (image_of c.set_payload.new.words) c.self.inside.lists c.args.self.now.lists
-relists g c = relisted_refill g.row.SLI (holds_state g.row.SLI c.self.invariant c.self.view_is) c.requires (refills g c)
+relists g c = relisted_refill g.row.SLI (holds_state g.row.SLI c.self.invariant c.self.view_is) (c.requires.0, c.requires.1, (c.requires.2.0, c.requires.2.1)) (refills g c)
 
 pub invariant_of-self : goal.invariant_of-self
 invariant_of-self g c = (relists g c).holds
@@ -34,7 +35,7 @@ invariant_of-self g c = (relists g c).holds
 pub returns-clause-change : goal.returns-clause-change
 returns-clause-change g c i stands =
     let new = c.set_payload.ensures in
-    let left = refilled (shows_state g.row.SLI c.self.invariant c.self.view_is) c.requires (refills g c) in
+    let left = refilled (shows_state g.row.SLI c.self.invariant c.self.view_is) (c.requires.0, c.requires.1, (c.requires.2.0, c.requires.2.1)) (refills g c) in
     let touches = ap (λ (r : RegionState). r.touches) c.self.view_is in
     let words = ap (λ (r : RegionState). r.words) c.self.view_is in
     record {

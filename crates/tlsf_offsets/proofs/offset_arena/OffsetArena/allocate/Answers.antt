@@ -19,8 +19,8 @@ returns-in-Err-clause-allocates g c =
     let is : IsOffsets g.row.SLI c.args.self.now = search rules in
     let a : Asks g.row.SLI c.args.self.now (record { heap = c.allocate_words.new.self.heap; unit = c.self.inside.unit; extents = c.allocate_words.new.self.extents; touches = c.allocate_words.new.self.touches; touched = c.allocate_words.new.self.touched }) c.args.len (Err c.in-Err.why) =
     asks g.row.SLI _ c.args.self.now _ c.args.len c.units_of.result _ is c.self.view_is c.units_of.ensures c.in-Err.ensures.allocates refl c.allocate_words.ensures.keeps.lawful in
-    subst (λ r. Allocates (allocate_touches + 4) g.row.SLI (span_units c.args.self.now.unit c.args.len) 0 (seen_of c.args.self.now) (seen c.allocate_words.new.self) r) a.allocates.answer_is
-    (allocates_looked allocate_touches 4 g.row.SLI (span_units c.args.self.now.unit c.args.len) 0 (seen_of c.args.self.now) (seen c.allocate_words.new.self) (seen c.allocate_words.new.self) _ is.lawful a.allocates (unlooked (seen c.allocate_words.new.self)))
+    subst (λ r. Allocates (allocate_touches + 1) g.row.SLI (span_units c.args.self.now.unit c.args.len) 0 (seen_of c.args.self.now) (seen c.allocate_words.new.self) r) a.allocates.answer_is
+    (allocates_looked allocate_touches 1 g.row.SLI (span_units c.args.self.now.unit c.args.len) 0 (seen_of c.args.self.now) (seen c.allocate_words.new.self) (seen c.allocate_words.new.self) _ is.lawful a.allocates (unlooked (seen c.allocate_words.new.self)))
 
 pub span_of-requires : goal.span_of-requires
 span_of-requires g c =
@@ -42,8 +42,8 @@ returns-in-Ok-clause-allocates g c =
     let a : Asks g.row.SLI c.args.self.now (record { heap = c.allocate_words.new.self.heap; unit = c.self.inside.unit; extents = c.allocate_words.new.self.extents; touches = c.allocate_words.new.self.touches; touched = c.allocate_words.new.self.touched }) c.args.len (Ok c.in-Ok.name) =
     asks g.row.SLI _ c.args.self.now _ c.args.len c.units_of.result _ is c.self.view_is c.units_of.ensures c.in-Ok.ensures.allocates refl c.allocate_words.ensures.keeps.lawful in
     let e = c.span_of.ensures in
-    subst (λ r. Allocates (allocate_touches + 4) g.row.SLI (span_units c.args.self.now.unit c.args.len) 0 (seen_of c.args.self.now) (seen_of c.span_of.new.self) r) a.allocates.answer_is
-    (allocates_looked allocate_touches 4 g.row.SLI (span_units c.args.self.now.unit c.args.len) 0 (seen_of c.args.self.now) (seen c.allocate_words.new.self) (seen_of c.span_of.new.self) _ is.lawful a.allocates (record { heap = e.same.0; touches = e.touches; rise = e.touches_rise; leaves = e.leaves }))
+    subst (λ r. Allocates (allocate_touches + 1) g.row.SLI (span_units c.args.self.now.unit c.args.len) 0 (seen_of c.args.self.now) (seen_of c.span_of.new.self) r) a.allocates.answer_is
+    (allocates_looked allocate_touches 1 g.row.SLI (span_units c.args.self.now.unit c.args.len) 0 (seen_of c.args.self.now) (seen c.allocate_words.new.self) (seen_of c.span_of.new.self) _ is.lawful a.allocates (record { heap = e.same.0; touches = e.touches; rise = e.touches_rise; leaves = e.leaves }))
 
 pub returns-in-Ok-clause-enough : goal.returns-in-Ok-clause-enough
 returns-in-Ok-clause-enough g c =

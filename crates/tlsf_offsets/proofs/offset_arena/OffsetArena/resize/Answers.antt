@@ -56,8 +56,8 @@ returns-in-Ok-clause-resizes g c =
     let e = c.span_of.ensures in
     let n = span_units c.args.self.now.unit c.args.len in
     let named = resized_named c.args.self.now.heap c.args.name n (sym a.resizes.answer_is) in
-    subst (λ r. Resizes (resize_touches + 4) n 0 (seen_of c.args.self.now) (seen_of c.span_of.new.self) c.args.name r) a.resizes.answer_is
-    (resizes_looked resize_touches 4 n 0 (seen_of c.args.self.now) (seen c.resize_words.new.self) (seen_of c.span_of.new.self) c.args.name is.lawful named a.resizes (record { heap = e.same.0; touches = e.touches; rise = e.touches_rise; leaves = e.leaves }))
+    subst (λ r. Resizes (resize_touches + 1) n 0 (seen_of c.args.self.now) (seen_of c.span_of.new.self) c.args.name r) a.resizes.answer_is
+    (resizes_looked resize_touches 1 n 0 (seen_of c.args.self.now) (seen c.resize_words.new.self) (seen_of c.span_of.new.self) c.args.name is.lawful named a.resizes (record { heap = e.same.0; touches = e.touches; rise = e.touches_rise; leaves = e.leaves }))
 
 pub returns-in-Ok-clause-enough : goal.returns-in-Ok-clause-enough
 returns-in-Ok-clause-enough g c =
