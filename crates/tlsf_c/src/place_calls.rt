@@ -6,7 +6,7 @@ ghost use Rattle.tlsf_heap.specs.Aligned.{words_aligned};
 ghost use Rattle.tlsf_heap.specs.Blocks.{want, IsPlace};
 ghost use Rattle.tlsf_heap.specs.Calls.{allocated};
 ghost use Rattle.tlsf_heap.specs.Checks.{FindsSound, IsCheck, block_touches};
-ghost use Rattle.tlsf_heap.specs.Effects.{Looks};
+ghost use Rattle.tlsf_heap.specs.Effects.{AllocatesUnset, Looks, ReleasesAt};
 ghost use Rattle.tlsf_heap.specs.Footprint.{LeavesLive, LeavesPayloads};
 ghost use Rattle.tlsf_heap.specs.Numbers.{number_of};
 ghost use Rattle.tlsf_heap.specs.Placed.{placed_at};
@@ -23,7 +23,7 @@ ghost use Rattle.tlsf_c.specs.Counting.{counted_request, counted_move};
 ghost use Rattle.tlsf_c.specs.Lengths.{saturated};
 ghost use Rattle.tlsf_c.specs.Names.{name_of, info_of, not_placed, placed_name};
 ghost use Rattle.tlsf_c.specs.PlaceCalls.{length_at};
-ghost use Rattle.tlsf_heap.specs.Touched.{FollowsNoPlace};
+ghost use Rattle.tlsf_heap.specs.Touched.{FollowsNoPlace, allocate_unset_touches, release_at_touches};
 ghost use Rattle.tlsf_c.specs.Refusals.{status_of, closed, damage};
 
 use crate::call_fault::{CallFault, check_status, status};
@@ -45,12 +45,8 @@ pub extern "C" fn tlsf_allocate_place(heap: &mut HeapSlot, len: usize) -> Placed
     ensures closed { serves heap.old ≡ false → (result ≡ not_placed closed) × (heap.new ≡ heap.old) }
     ensures open { serves heap.old ≡ true → StaysOpen heap.old heap.new }
     ensures placed { serves heap.old ≡ true → result ≡ placed_name (allocated (level_in heap.old) (heap_in heap.old) (saturated len)).answer }
-    ensures place { serves heap.old ≡ true → result.answer ≡ 0 → (name : Name) × ((allocated (level_in heap.old) (heap_in heap.old) (saturated len)).answer ≡ Ok name)
-        × (heap_in heap.new ≡ unset_from (allocated (level_in heap.old) (heap_in heap.old) (saturated len)).heap name (stored_in heap.new) 0 (saturated len)) }
-    ensures refused { serves heap.old ≡ true → ¬ (result.answer ≡ 0) → heap_in heap.new ≡ heap_in heap.old }
     ensures counts { serves heap.old ≡ true → counts_in heap.new ≡ counted_request (counts_in heap.old) (allocated (level_in heap.old) (heap_in heap.old) (saturated len)).answer (saturated len) (heap_in heap.new) }
-    ensures touches { serves heap.old ≡ true → touches_in heap.new ≤ touches_in heap.old + 31 }
-    ensures leaves { serves heap.old ≡ true → LeavesLive (heap_in heap.old).blocks (touched_in heap.old) (touched_in heap.new) }
+    ensures allocates { serves heap.old ≡ true → AllocatesUnset allocate_unset_touches (level_in heap.old) (saturated len) (seen_in heap.old) (seen_in heap.new) (stored_in heap.new) (allocated (level_in heap.old) (heap_in heap.old) (saturated len)).answer }
 {
     if !heap.serves() {
         return PlacedName::refusal(CallFault::Closed.number());
@@ -119,12 +115,8 @@ pub extern "C" fn tlsf_release_place(heap: &mut HeapSlot, at: u32) -> u32
     ensures closed { serves heap.old ≡ false → (result ≡ closed) × (heap.new ≡ heap.old) }
     ensures open { serves heap.old ≡ true → StaysOpen heap.old heap.new }
     ensures status { serves heap.old ≡ true → result ≡ status_of (released_by_place (heap_in heap.old) at).answer }
-    ensures heap { serves heap.old ≡ true → heap_in heap.new ≡ (released_by_place (heap_in heap.old) at).heap }
-    ensures wild { serves heap.old ≡ true → FollowsNoPlace (heap_in heap.old) at (touches_in heap.old) (touches_in heap.new) }
     ensures counts { serves heap.old ≡ true → counts_in heap.new ≡ record (counts_in heap.old) { words = words_in_use (heap_in heap.new) } }
-    ensures touches { serves heap.old ≡ true → touches_in heap.new ≤ touches_in heap.old + 29 }
-    ensures leaves { serves heap.old ≡ true → LeavesPayloads (heap_in heap.old).blocks at (touched_in heap.old) (touched_in heap.new) }
-    ensures leaves_all { serves heap.old ≡ true → ¬ (result ≡ 0) → LeavesLive (heap_in heap.old).blocks (touched_in heap.old) (touched_in heap.new) }
+    ensures releases { serves heap.old ≡ true → ReleasesAt release_at_touches (seen_in heap.old) (seen_in heap.new) at (released_by_place (heap_in heap.old) at).answer }
 {
     if !heap.serves() {
         return CallFault::Closed.refusal();

@@ -3,12 +3,12 @@ ghost use Rattle.std.specs.Prelude.{◌≡◌, ◌+◌, ◌*◌, ◌/◌, ◌%�
 ghost use Rattle.tlsf_heap.specs.Aligned.{words_aligned};
 ghost use Rattle.tlsf_heap.specs.Blocks;
 ghost use Rattle.tlsf_heap.specs.ByPlace.{kept_at, resized_by_place, resized_or_moved_by_place};
-ghost use Rattle.tlsf_heap.specs.Calls.{allocated, resized};
-ghost use Rattle.tlsf_heap.specs.Effects.{Allocates};
+ghost use Rattle.tlsf_heap.specs.Calls.{resized};
+ghost use Rattle.tlsf_heap.specs.Effects.{Allocates, AllocatesUnset};
 ghost use Rattle.tlsf_heap.specs.Footprint.{LeavesLive, LeavesPayloads};
 ghost use Rattle.tlsf_heap.specs.InPlace.{words_grown};
 ghost use Rattle.tlsf_heap.specs.Moved.{resized_or_moved, payload_words_moved};
-ghost use Rattle.tlsf_heap.specs.Touched.{FollowsNoForgery, FollowsNoPlace, allocate_touches, resize_touches};
+ghost use Rattle.tlsf_heap.specs.Touched.{FollowsNoForgery, FollowsNoPlace, allocate_touches, allocate_unset_touches, resize_touches};
 ghost use Rattle.tlsf_heap.specs.Shown.{seen};
 ghost use Rattle.tlsf_heap.specs.Unset.{lying, unset_from, with_payload};
 ghost use Rattle.tlsf_c.specs.Counting.{none_refused, noted, noted_if, counts_of, counted_request, counted_move};
@@ -78,14 +78,9 @@ impl Refused {
         heap: &mut Heap<SLI>,
         len: u32,
     ) -> Result<Name, Refusal>
-        ensures answer { result ≡ (allocated SLI heap.old.heap len).answer }
-        ensures heap { IfOk result (λ name. heap.new.heap ≡ unset_from (allocated SLI heap.old.heap len).heap name heap.new.stored 0 len) }
-        ensures err { OnErr result (heap.new.heap ≡ heap.old.heap) }
+        ensures allocates { AllocatesUnset allocate_unset_touches SLI len (seen heap.old) (seen heap.new) heap.new.stored result }
         ensures counts { counts_of heap.new.heap heap.new.most_in_use self.new ≡ counted_request (counts_of heap.old.heap heap.old.most_in_use self.old) result len heap.new.heap }
         ensures stays { heap.new.extents ≡ heap.old.extents }
-        ensures touches_rise { heap.old.touches ≤ heap.new.touches }
-        ensures touches { heap.new.touches ≤ heap.old.touches + 31 }
-        ensures leaves { LeavesLive heap.old.heap.blocks heap.old.touched heap.new.touched }
     {
         let answer = heap.allocate_unset(len);
         self.note(&answer, len);

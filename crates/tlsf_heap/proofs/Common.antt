@@ -18,7 +18,7 @@ pub use Rattle.tlsf_heap.specs.ByPlace.{IsLiveAt, name_at, released_by_place, ca
 pub use Rattle.tlsf_heap.specs.Calls.{Outcome, first_free, with_bytes, released, carved, has_serial, named, past_free, allocated_words, resized_words, overwritten, written, last_tick, refitted, refused, with_blocks, before_free, coalesced, last_free, ticked, allocated, room_of, Release, Write, fitted, is_worn, is_named, recut, Allocate, resized, Call, Read, Resize, answered, resized_at, run, allocated_at, released_at, cut, has_bytes, is_sized, opened, read_answer, read_of, written_at, read_at}
 pub use Rattle.tlsf_heap.specs.Checks.{Begins, OnlyHeaders, AreSound, OnlyLooks, FindsSound, IsSound, end_at, BeginsFree, GoSound, IsCheck, JoinsBefore, JoinsBehind, LeadsBack, NextLeadsBack, PreviousLeadsBack, Tells, block_touches, place_or_first}
 pub use Rattle.tlsf_heap.specs.Chosen.{NoneFits, IsChoice, IsHead, IsBestClass}
-pub use Rattle.tlsf_heap.specs.Effects.{seen_by, Allocates, Releases, Resizes, Writes}
+pub use Rattle.tlsf_heap.specs.Effects.{seen_by, Allocates, Releases, ReleasesAt, Resizes, Writes}
 pub use Rattle.tlsf_heap.specs.Footprint.{IsOthersWord, IsLiveWord, LeavesLive, IsWordOf, LeavesBoth, LeavesPayloads}
 pub use Rattle.tlsf_heap.specs.FreePlaces.{free_places, FreePlace, AreFreeLists, IsFreeList, of_class, AreFalling, ShowsLists, AreMarked}
 pub use Rattle.tlsf_heap.specs.Given.{payload_words_at, payload_words_given, payload_words_left}

@@ -1,8 +1,9 @@
 -- The effect of one call of a heap, told once: each layer above says it of its own view.
-use Rattle.std.specs.Prelude.{◌≡◌, ℕ, ◌+◌, ◌*◌, ◌/◌, ◌≤◌, ◌↔◌, List, [], Bool, Option, Result, length, MatchOption, OnErr, IsOk, IsErrOf, IsTrue}
+use Rattle.std.specs.Prelude.{◌≡◌, ℕ, ◌+◌, ◌*◌, ◌/◌, ◌≤◌, ◌↔◌, List, [], Bool, Option, Result, length, IfOk, MatchOption, OnErr, IsOk, IsErrOf, IsTrue}
 use Rattle.std.specs.Result.{result_unwrap_or}
 use Rattle.tlsf_heap.specs.Blocks.{want, IsPlace}
-use Rattle.tlsf_heap.specs.Calls.{allocated_words, last_tick, read_answer, read_of, released, reset, resized_words, written}
+use Rattle.tlsf_heap.specs.ByPlace.{released_by_place}
+use Rattle.tlsf_heap.specs.Calls.{allocated, allocated_words, last_tick, read_answer, read_of, released, reset, resized_words, written}
 use Rattle.tlsf_heap.specs.Checks.{FindsSound, IsCheck, block_touches}
 use Rattle.tlsf_heap.specs.Footprint.{LeavesLive, LeavesPayloads}
 use Rattle.tlsf_heap.specs.Given.{payload_words_given, payload_words_left}
@@ -14,6 +15,7 @@ use Rattle.tlsf_heap.specs.Placed.{placed_at}
 use Rattle.tlsf_heap.specs.Reports.{report_of, IsGrant}
 use Rattle.tlsf_heap.specs.Shown.{Seen}
 use Rattle.tlsf_heap.specs.Touched.{FollowsNoForgery, FollowsNoPlace}
+use Rattle.tlsf_heap.specs.Unset.{unset_from}
 use Rattle.tlsf_heap.specs.declared.checked.Checked.{Checked}
 use Rattle.tlsf_heap.specs.declared.name.Name.{Name}
 use Rattle.tlsf_heap.specs.declared.placed_block.PlacedBlock.{PlacedBlock}
@@ -40,6 +42,18 @@ pub record Allocates (most sli n len : ℕ) (old new : Seen) (answer : Result Na
   pub rise : old.touches ≤ new.touches
   pub leaves : LeavesLive old.heap.blocks old.touched new.touched
 
+-- a request for `len` bytes that fills nothing, of at most this many touches, however many bytes. It answers as an allocate. Accepted,
+-- it leaves what an allocate leaves and a write of the bytes that lie there; where it is refused, it leaves the heap
+pub record AllocatesUnset (most sli len : ℕ) (old new : Seen) (stored : Image) (answer : Result Name Refusal) : Type 0 where
+  pub answer_is : answer ≡ (allocated sli old.heap len).answer
+  pub heap : IfOk answer (λ name. new.heap ≡ unset_from (allocated sli old.heap len).heap name stored 0 len)
+  pub unchanged : OnErr answer (new.heap ≡ old.heap)
+  pub no_fit : IsErrOf answer NoFit ↔ (fits sli (want len) old.heap.blocks ≡ [])
+  pub ok : IsOk answer ↔ (¬ (fits sli (want len) old.heap.blocks ≡ []) × ¬ (old.heap.tick ≡ last_tick))
+  pub touches : new.touches ≤ old.touches + most
+  pub rise : old.touches ≤ new.touches
+  pub leaves : LeavesLive old.heap.blocks old.touched new.touched
+
 -- a release of a name, of at most this many touches: it answers and leaves what the sequential heap does. It touches no other live
 -- block's payload, where it is refused none, and follows no forged name
 pub record Releases (most : ℕ) (old new : Seen) (name : Name) (answer : Result (Unit {0}) Refusal) : Type 0 where
@@ -50,6 +64,18 @@ pub record Releases (most : ℕ) (old new : Seen) (name : Name) (answer : Result
   pub leaves : LeavesPayloads old.heap.blocks name.at old.touched new.touched
   pub refused : OnErr answer (LeavesLive old.heap.blocks old.touched new.touched)
   pub forged : FollowsNoForgery old new name
+
+-- a release of the live block that begins at a place, of at most this many touches. It follows no place from outside, and reads no
+-- word where no block begins
+pub record ReleasesAt (most : ℕ) (old new : Seen) (at : ℕ) (answer : Result (Unit {0}) Refusal) : Type 0 where
+  pub answer_is : answer ≡ (released_by_place old.heap at).answer
+  pub heap : new.heap ≡ (released_by_place old.heap at).heap
+  pub touches : new.touches ≤ old.touches + most
+  pub rise : old.touches ≤ new.touches
+  pub leaves : LeavesPayloads old.heap.blocks at old.touched new.touched
+  pub refused : OnErr answer (LeavesLive old.heap.blocks old.touched new.touched)
+  pub wild : FollowsNoPlace old.heap at old.touches new.touches
+  pub unread : ¬ (IsPlace old.heap.blocks at) → new.touched ≡ old.touched
 
 -- a reset, of at most this many touches and one for each 64 words of the region. It answers and leaves what the sequential heap does.
 -- It takes all live blocks back, and touches the payload of none

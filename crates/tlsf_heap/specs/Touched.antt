@@ -30,6 +30,15 @@ allocate_touches = 26
 abbrev pub release_touches : ℕ
 release_touches = 30
 
+-- the most touches of a release by place: as a release, but that no serial is read
+abbrev pub release_at_touches : ℕ
+release_at_touches = 29
+
+-- the most touches of an allocate that fills nothing, however many bytes. It makes fewer: they are those of an allocate but for its
+-- zeros, with a payload word and the length
+abbrev pub allocate_unset_touches : ℕ
+allocate_unset_touches = 31
+
 -- the most touches of a resize. They are 3 to check the name, 1 for the tag after it, and 6 to take that block out of its list.
 -- Then come 7 for the headers, 7 to list the rest, and 3 for the payload. Each payload word of the block left takes one more
 abbrev pub resize_touches : ℕ

@@ -2,14 +2,14 @@
 ghost use Rattle.std.specs.Prelude.{◌≡◌, ◌+◌, ◌*◌, ◌/◌, ◌%◌, ◌<◌, ◌≤◌, length, max, min, IfOk, IfSome, IsOk, OnErr};
 ghost use Rattle.tlsf_heap.specs.Aligned.{words_aligned};
 ghost use Rattle.tlsf_heap.specs.Blocks.{want};
-ghost use Rattle.tlsf_heap.specs.ByPlace.{kept_at, name_at, released_by_place, resized_by_place, resized_or_moved_by_place};
-ghost use Rattle.tlsf_heap.specs.Calls.{allocated, resized};
-ghost use Rattle.tlsf_heap.specs.Effects.{ChecksBlocks, Looks};
+ghost use Rattle.tlsf_heap.specs.ByPlace.{kept_at, name_at, resized_by_place, resized_or_moved_by_place};
+ghost use Rattle.tlsf_heap.specs.Calls.{resized};
+ghost use Rattle.tlsf_heap.specs.Effects.{AllocatesUnset, ChecksBlocks, Looks, ReleasesAt};
 ghost use Rattle.tlsf_heap.specs.Footprint.{LeavesLive, LeavesPayloads};
 ghost use Rattle.tlsf_heap.specs.InPlace.{payload_of, words_grown};
 ghost use Rattle.tlsf_heap.specs.Laws.{IsLive};
 ghost use Rattle.tlsf_heap.specs.Moved.{resized_or_moved, payload_words_moved};
-ghost use Rattle.tlsf_heap.specs.Touched.{FollowsNoForgery, FollowsNoPlace, resize_touches};
+ghost use Rattle.tlsf_heap.specs.Touched.{FollowsNoForgery, FollowsNoPlace, allocate_unset_touches, release_at_touches, resize_touches};
 ghost use Rattle.tlsf_heap.specs.Unset.{lying, unset_from, with_payload};
 ghost use Rattle.tlsf_heap.specs.WordsInUse.{words_in_use};
 ghost use Rattle.tlsf_c.specs.Counting.{counted_request, counted_move};
@@ -42,13 +42,9 @@ impl AnyHeap {
 
     /// `Heap::allocate_unset`.
     pub fn allocate_unset(&mut self, len: u32) -> Result<Name, Refusal>
-        ensures answer { result ≡ (allocated self.old.level self.old.heap len).answer }
-        ensures heap { IfOk result (λ name. self.new.heap ≡ unset_from (allocated self.old.level self.old.heap len).heap name self.new.stored 0 len) }
-        ensures err { OnErr result (self.new.heap ≡ self.old.heap) }
+        ensures allocates { AllocatesUnset allocate_unset_touches self.old.level len (seen_at self.old) (seen_at self.new) self.new.stored result }
         ensures goes_on { GoesOn self.old self.new }
         ensures counts { self.new.counts ≡ counted_request self.old.counts result len self.new.heap }
-        ensures touches { self.new.touches ≤ self.old.touches + 31 }
-        ensures leaves { LeavesLive self.old.heap.blocks self.old.touched self.new.touched }
     {
         match &mut self.of_level {
             OfLevel::Four(heap) => self.refused.allocate_unset(heap, len),
@@ -117,14 +113,9 @@ impl AnyHeap {
 
     /// `Heap::release_at`.
     pub fn release_at(&mut self, at: u32) -> Result<(), Refusal>
-        ensures answer { result ≡ (released_by_place self.old.heap at).answer }
-        ensures heap { self.new.heap ≡ (released_by_place self.old.heap at).heap }
+        ensures releases { ReleasesAt release_at_touches (seen_at self.old) (seen_at self.new) at result }
         ensures goes_on { GoesOn self.old self.new }
         ensures counts { self.new.counts ≡ record self.old.counts { words = words_in_use self.new.heap } }
-        ensures touches { self.new.touches ≤ self.old.touches + 29 }
-        ensures leaves { LeavesPayloads self.old.heap.blocks at self.old.touched self.new.touched }
-        ensures refused { OnErr result (LeavesLive self.old.heap.blocks self.old.touched self.new.touched) }
-        ensures wild { FollowsNoPlace self.old.heap at self.old.touches self.new.touches }
     {
         match &mut self.of_level {
             OfLevel::Four(heap) => heap.release_at(at),

@@ -1,11 +1,13 @@
 ghost use Rattle.std.specs.Prelude.{◌≡◌, ◌+◌, ◌<◌, ◌≤◌, IfSome, MatchOption, None, Ok, OnErr, Some};
 ghost use Rattle.tlsf_heap.specs.Blocks;
-ghost use Rattle.tlsf_heap.specs.ByPlace.{name_at, released_by_place};
-ghost use Rattle.tlsf_heap.specs.Footprint.{LeavesLive, LeavesPayloads};
+ghost use Rattle.tlsf_heap.specs.ByPlace.{name_at};
+ghost use Rattle.tlsf_heap.specs.Effects.{ReleasesAt};
+ghost use Rattle.tlsf_heap.specs.Footprint.{LeavesLive};
 ghost use Rattle.tlsf_heap.specs.Laws.{IsLive};
 ghost use Rattle.tlsf_heap.specs.Named.{IsNameCheck};
 ghost use Rattle.tlsf_heap.specs.Kept.{IsAsBefore, Keeps};
-ghost use Rattle.tlsf_heap.specs.Touched.{FollowsNoPlace, release_groups};
+ghost use Rattle.tlsf_heap.specs.Shown.{seen};
+ghost use Rattle.tlsf_heap.specs.Touched.{FollowsNoPlace, release_at_touches, release_groups};
 ghost use Rattle.tlsf_words.specs.Touched.{InGroups};
 
 use super::Heap;
@@ -53,23 +55,16 @@ impl<const SLI: u32> Heap<SLI> {
     /// heap.release_at(name.at) == Err(Refusal::Stale)
     /// ```
     pub fn release_at(&mut self, at: u32) -> Result<(), Refusal>
-        ensures answer { result ≡ (released_by_place self.old.heap at).answer }
-        ensures heap { self.new.heap ≡ (released_by_place self.old.heap at).heap }
+        // Accepted or refused, and whatever the region holds: one fewer than `release`, since no serial is read.
+        ensures releases { ReleasesAt release_at_touches (seen self.old) (seen self.new) at result }
 
         // A refusal changes nothing.
         ensures err { OnErr result (IsAsBefore self.old self.new) }
         ensures keeps { Keeps SLI self.old self.new }
         ensures most { self.new.most_in_use ≡ self.old.most_in_use }
 
-        // Accepted or refused, and whatever the region holds: one fewer than `release`, since no serial is read.
-        ensures touches { self.new.touches ≤ self.old.touches + 29 }
-        ensures leaves { LeavesPayloads self.old.heap.blocks at self.old.touched self.new.touched }
-
         // All lies in this many groups of eight words, but start bits and the lists.
         ensures groups { InGroups release_groups self.old.touched self.new.touched }
-        ensures refused { OnErr result (LeavesLive self.old.heap.blocks self.old.touched self.new.touched) }
-        ensures wild { FollowsNoPlace self.old.heap at self.old.touches self.new.touches }
-        ensures unread { ¬ (Blocks.IsPlace self.old.heap.blocks at) → self.new.touched ≡ self.old.touched }
     {
         let own = self.check_place(at)?;
         self.check_tick()?;

@@ -1,14 +1,14 @@
-ghost use Rattle.std.specs.Prelude.{◌≡◌, ◌+◌, ◌*◌, ◌/◌, ◌≤◌, ◌↔◌, [], length, min, IfOk, OnOk, OnErr, IsOk, IsErrOf, Ok};
+ghost use Rattle.std.specs.Prelude.{◌≡◌, ◌+◌, ◌*◌, ◌/◌, ◌≤◌, length, min, IfOk, OnOk, OnErr, IsOk, Ok};
 ghost use Rattle.tlsf_heap.specs.Blocks;
 ghost use Rattle.tlsf_heap.specs.ByPlace.{kept_at, resized_by_place, resized_or_moved_by_place};
-ghost use Rattle.tlsf_heap.specs.Calls.{allocated, last_tick, resized};
-ghost use Rattle.tlsf_heap.specs.GoodFit.{fits};
+ghost use Rattle.tlsf_heap.specs.Calls.{resized};
+ghost use Rattle.tlsf_heap.specs.Effects.{AllocatesUnset};
 ghost use Rattle.tlsf_heap.specs.InPlace.{payload_of};
 ghost use Rattle.tlsf_heap.specs.Footprint.{LeavesLive, LeavesPayloads};
 ghost use Rattle.tlsf_heap.specs.Laws.{IsLive};
 ghost use Rattle.tlsf_heap.specs.Moved.{moved, resized_or_moved};
 ghost use Rattle.tlsf_heap.specs.Named.{IsNameCheck};
-ghost use Rattle.tlsf_heap.specs.Touched.{FollowsNoForgery, FollowsNoPlace};
+ghost use Rattle.tlsf_heap.specs.Touched.{FollowsNoForgery, FollowsNoPlace, allocate_unset_touches};
 ghost use Rattle.tlsf_heap.specs.Unset.{unset_from};
 ghost use Rattle.tlsf_heap.specs.Kept.{IsAsBefore, Keeps};
 ghost use Rattle.tlsf_heap.specs.WordsInUse.{peak_moved, Peaks};
@@ -35,21 +35,13 @@ impl<const SLI: u32> Heap<SLI> {
     // Always inline, as `allocate_words` is: in a call of its own it saves its registers twice.
     #[inline(always)]
     pub fn allocate_unset(&mut self, len: u32) -> Result<Name, Refusal>
-        ensures answer { result ≡ (allocated SLI self.old.heap len).answer }
+        // Accepted or refused, and whatever the region holds.
+        ensures allocates { AllocatesUnset allocate_unset_touches SLI len (seen self.old) (seen self.new) self.new.stored result }
 
-        // Accepted, the heap is as an allocate and a write of the bytes that lie there make it; a refusal changes nothing.
-        ensures heap { IfOk result (λ name. self.new.heap ≡ unset_from (allocated SLI self.old.heap len).heap name self.new.stored 0 len) }
+        // A refusal changes nothing.
         ensures err { OnErr result (IsAsBefore self.old self.new) }
-
-        // When it is NoFit, and when it is a name.
-        ensures no_fit { IsErrOf result Refusal.NoFit ↔ (fits SLI (Blocks.want len) self.old.heap.blocks ≡ []) }
-        ensures ok { IsOk result ↔ (¬ (fits SLI (Blocks.want len) self.old.heap.blocks ≡ []) × ¬ (self.old.heap.tick ≡ last_tick)) }
         ensures keeps { Keeps SLI self.old self.new }
         ensures peak { Peaks self.old self.new }
-
-        // Accepted or refused, whatever the region holds, and however many bytes.
-        ensures touches { self.new.touches ≤ self.old.touches + 31 }
-        ensures leaves { LeavesLive self.old.heap.blocks self.old.touched self.new.touched }
         ensures groups { InGroups 14 self.old.touched self.new.touched }
     {
         let words = want(len);

@@ -1,8 +1,8 @@
 -- The result of a release that gives back the block that a check found.
-use Rattle.tlsf_heap.proofs.Common.{◌≡◌, ℕ, ◌+◌, ◌≤◌, List, Ok, Err, sym, ap, ◌∙◌, subst, arith, HeapState, Outcome, released, released_by_place, call_by, IsNamed, IsNameCheck, RefusesName, IsOthersWord, LeavesLive, LeavesPayloads, FollowsNoForgery, Releases, Shown, seen, Name, Refusal, Tag, Worn, last_tick}
+use Rattle.tlsf_heap.proofs.Common.{◌≡◌, ℕ, ◌+◌, ◌≤◌, List, Ok, Err, sym, ap, ◌∙◌, subst, arith, refl, HeapState, IsPlace, Outcome, refused, released, released_by_place, serial_at, None, call_by, IsLiveAt, IsNamed, IsNameCheck, RefusesName, IsOthersWord, LeavesLive, LeavesPayloads, FollowsNoForgery, FollowsNoPlace, Releases, ReleasesAt, Shown, seen, Name, Refusal, Tag, Stale, Worn, last_tick}
 use Rattle.tlsf_heap.specs.ByPlace.{IsPlaceCheck}
 use Rattle.tlsf_heap.specs.Kept.{IsAsBefore, Keeps}
-use Rattle.tlsf_heap.proofs.lemmas.calls.ByPlace.{live_is_found}
+use Rattle.tlsf_heap.proofs.lemmas.calls.ByPlace.{call_none, live_is_found, live_not_wild, worn_here}
 use Rattle.tlsf_heap.proofs.lemmas.calls.Named.{named_stands, named_live, live_is, not_forged}
 use Rattle.tlsf_heap.proofs.lemmas.calls.Release.{released_refused, released_worn}
 use Rattle.tlsf_heap.proofs.lemmas.words.Footprint.{any_word}
@@ -57,4 +57,53 @@ module _ (sli : ℕ) (old mid : Shown) (name : Name) (same : IsAsBefore old mid)
         leaves = others_then old.heap mid.heap name.at old.touched mid.touched new.touched same.heap leaves others;
         refused = tt;
         forged = not_forged (seen old) name keeps.was_lawful named (seen new);
+      }
+
+-- the check of a place was done
+module _ (sli : ℕ) (old mid : Shown) (at : ℕ) (same : IsAsBefore old mid) (keeps : Keeps sli old mid) (few : mid.touches ≤ old.touches + 2) (leaves : LeavesLive old.heap.blocks old.touched mid.touched) where
+  -- no live block begins there
+  pub releases_nowhere : (why : Refusal) → (why ≡ Stale) × (serial_at old.heap.blocks at ≡ None) → FollowsNoPlace old.heap at old.touches mid.touches → (¬ (IsPlace old.heap.blocks at) → mid.touched ≡ old.touched)
+      → ReleasesAt 29 (seen old) (seen mid) at (Err why)
+  releases_nowhere why none wild unread =
+      let stale : released_by_place old.heap at ≡ refused old.heap Stale = call_none old.heap at (released old.heap) none.1 in
+      record {
+        answer_is = rw (none.0, stale);
+        heap = rw stale same.heap;
+        touches = omega arith;
+        rise = keeps.touches_rise;
+        leaves = λ k o. leaves k (any_word old.heap.blocks at k o);
+        refused = leaves;
+        wild = wild;
+        unread = unread;
+      }
+
+  -- one does, at the last tick
+  pub releases_late : (i : ℕ) → IsLiveAt old.heap.blocks at i → mid.heap.tick ≡ last_tick → ReleasesAt 29 (seen old) (seen mid) at (Err Worn)
+  releases_late i live last =
+      let late = worn_here old.heap at i keeps.was_lawful live (sym (ap (λ (h : HeapState). h.tick) same.heap) ∙ last) in
+      record {
+        answer_is = rw late;
+        heap = rw late same.heap;
+        touches = omega arith;
+        rise = keeps.touches_rise;
+        leaves = λ k o. leaves k (any_word old.heap.blocks at k o);
+        refused = leaves;
+        wild = live_not_wild refl keeps.was_lawful live _ _;
+        unread = λ none. absurd (none (i, live.stands));
+      }
+
+  -- one does, and it was given back
+  pub releases_there : (new : Shown) (i : ℕ) → IsLiveAt old.heap.blocks at i → (released_by_place mid.heap at).answer ≡ Ok tt → new.heap ≡ (released_by_place mid.heap at).heap
+      → mid.touches ≤ new.touches → new.touches ≤ mid.touches + 27 → LeavesPayloads mid.heap.blocks at mid.touched new.touched → ReleasesAt 29 (seen old) (seen new) at (Ok tt)
+  releases_there new i live done left rise more others =
+      let by : released_by_place mid.heap at ≡ released_by_place old.heap at = ap (λ (h : HeapState). released_by_place h at) same.heap in
+      record {
+        answer_is = sym done ∙ ap (λ (o : Outcome (Unit {0})). o.answer) by;
+        heap = left ∙ ap (λ (o : Outcome (Unit {0})). o.heap) by;
+        touches = omega arith;
+        rise = omega (arith, keeps.touches_rise);
+        leaves = others_then old.heap mid.heap at old.touched mid.touched new.touched same.heap leaves others;
+        refused = tt;
+        wild = live_not_wild refl keeps.was_lawful live _ _;
+        unread = λ none. absurd (none (i, live.stands));
       }

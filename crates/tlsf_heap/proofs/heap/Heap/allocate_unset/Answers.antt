@@ -1,4 +1,4 @@
-use Rattle.tlsf_heap.proofs.Common.{◌≡◌, ℕ, List, ◌+◌, ap, ◌∙◌, subst, Ok, Err, arith, Block, words_in, want, allocated, StandsAt, Shown, NoneFits, IsChoice, site_at, IsLawful, state_of, NoFit, Worn, InGroups, unset_from}
+use Rattle.tlsf_heap.proofs.Common.{◌≡◌, ℕ, List, ◌+◌, ap, ◌∙◌, subst, Ok, Err, arith, rules, Block, words_in, want, allocated, StandsAt, Shown, NoneFits, IsChoice, site_at, IsLawful, state_of, NoFit, Worn, InGroups, unset_from}
 use Rattle.tlsf_heap.specs.CarvedUnset.{CarvedUnset}
 use Rattle.tlsf_heap.proofs.lemmas.lists.Carved.{head_stands}
 use Rattle.tlsf_heap.proofs.lemmas.calls.Allocate.{Allocates, allocates_none, allocates_worn, lawful_regions, fits_size}
@@ -41,17 +41,19 @@ nothing g c =
     allocates_none g.row.SLI c.self.invariant.level (state_of g.row.SLI c.self.inside) c.args.self.now.heap (want c.args.len) c.args.len (omega arith) c.self.invariant.lawful (ap (λ (s : Shown). s.heap) c.self.view_is)
     c.choose.new.region c.choose.ensures.reads.words c.choose.ensures.reads.blocks (subst (λ (k : ℕ). NoneFits g.row.SLI k c.self.inside.region.blocks) c.want-words.ensures c.in_default.ensures.best)
 
-pub returns-in_default-clause-answer : goal.returns-in_default-clause-answer
-returns-in_default-clause-answer g c = (nothing g c).is_answer
-
-pub returns-in_default-clause-no_fit : goal.returns-in_default-clause-no_fit
-returns-in_default-clause-no_fit g c = (nothing g c).no_fit
-
-pub returns-in_default-clause-ok : goal.returns-in_default-clause-ok
-returns-in_default-clause-ok g c = (nothing g c).ok
-
-pub returns-in_default-clause-leaves : goal.returns-in_default-clause-leaves
-returns-in_default-clause-leaves g c = seen_live g.row.SLI c.self.inside c.self.view_is _ c.choose.ensures.touched
+pub returns-in_default-clause-allocates : goal.returns-in_default-clause-allocates
+returns-in_default-clause-allocates g c =
+    let none = nothing g c in
+    record {
+      answer_is = none.is_answer;
+      heap = search rules;
+      unchanged = search rules;
+      no_fit = none.no_fit;
+      ok = none.ok;
+      touches = search rules;
+      rise = search rules;
+      leaves = seen_live g.row.SLI c.self.inside c.self.view_is _ c.choose.ensures.touched;
+    }
 
 -- ---- the tick is at its last value
 
@@ -61,17 +63,19 @@ worn g c =
     allocates_worn g.row.SLI c.self.invariant.level (state_of g.row.SLI c.self.inside) c.args.self.now.heap (want c.args.len) c.args.len (omega arith) c.self.invariant.lawful (ap (λ (s : Shown). s.heap) c.self.view_is)
     c.choose.new.region c.choose.ensures.reads.words best.1 (fit_at g.row.SLI _ c.args.len c.self.inside.region.blocks best.1 c.want-words.ensures best.3) c.choose.ensures.reads.blocks c.if-self.true
 
-pub returns-then-self-clause-answer : goal.returns-then-self-clause-answer
-returns-then-self-clause-answer g c = (worn g c).is_answer
-
-pub returns-then-self-clause-no_fit : goal.returns-then-self-clause-no_fit
-returns-then-self-clause-no_fit g c = (worn g c).no_fit
-
-pub returns-then-self-clause-ok : goal.returns-then-self-clause-ok
-returns-then-self-clause-ok g c = (worn g c).ok
-
-pub returns-then-self-clause-leaves : goal.returns-then-self-clause-leaves
-returns-then-self-clause-leaves g c = seen_live g.row.SLI c.self.inside c.self.view_is _ c.choose.ensures.touched
+pub returns-then-self-clause-allocates : goal.returns-then-self-clause-allocates
+returns-then-self-clause-allocates g c =
+    let late = worn g c in
+    record {
+      answer_is = late.is_answer;
+      heap = search rules;
+      unchanged = search rules;
+      no_fit = late.no_fit;
+      ok = late.ok;
+      touches = search rules;
+      rise = search rules;
+      leaves = seen_live g.row.SLI c.self.inside c.self.view_is _ c.choose.ensures.touched;
+    }
 
 pub invariant_of-self-then-self : goal.invariant_of-self-then-self
 invariant_of-self-then-self g c = stored_read g.row.SLI c.self.inside c.self.view_is c.self.invariant _ c.choose.ensures.reads
@@ -163,23 +167,21 @@ invariant_of-self-2 g c =
       most_in_use = used.most;
     }
 
-pub returns-clause-answer : goal.returns-clause-answer
-returns-clause-answer g c = (zeros g c).is_answer
-
-pub returns-clause-heap : goal.returns-clause-heap
-returns-clause-heap g c = (given g c).0
-
-pub returns-clause-no_fit : goal.returns-clause-no_fit
-returns-clause-no_fit g c = (zeros g c).no_fit
-
-pub returns-clause-ok : goal.returns-clause-ok
-returns-clause-ok g c = (zeros g c).ok
-
-pub returns-clause-touches : goal.returns-clause-touches
-returns-clause-touches g c = omega (arith, (unset g c).edits.touches, c.choose.ensures.reads.touches, ap (λ (s : Shown). s.touches) c.self.view_is)
-
-pub returns-clause-leaves : goal.returns-clause-leaves
-returns-clause-leaves g c = seen_live g.row.SLI c.self.inside c.self.view_is _ (λ k live. (rw c.choose.ensures.reads.blocks at c.carve_unset-given.ensures.touched) k live ∙ c.choose.ensures.touched k live)
+pub returns-clause-allocates : goal.returns-clause-allocates
+returns-clause-allocates g c =
+    let edits = (unset g c).edits in
+    let reads = c.choose.ensures.reads in
+    let seen = ap (λ (s : Shown). s.touches) c.self.view_is in
+    record {
+      answer_is = (zeros g c).is_answer;
+      heap = (given g c).0;
+      unchanged = tt;
+      no_fit = (zeros g c).no_fit;
+      ok = (zeros g c).ok;
+      touches = omega (arith, edits.touches, reads.touches, seen);
+      rise = omega (arith, edits.rise, reads.rise, seen);
+      leaves = seen_live g.row.SLI c.self.inside c.self.view_is _ (λ k live. (rw reads.blocks at c.carve_unset-given.ensures.touched) k live ∙ c.choose.ensures.touched k live);
+    }
 
 -- ---- what is kept
 
