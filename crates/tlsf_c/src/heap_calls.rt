@@ -1,15 +1,15 @@
 //! C's calls of a heap.
-ghost use Rattle.std.specs.Prelude.{◌≡◌, true, false, ◌<◌, ◌≤◌, ◌+◌, ◌*◌, ◌%◌, length, Ok, Err, Some, None, IsOk};
+ghost use Rattle.std.specs.Prelude.{◌≡◌, true, false, ◌<◌, ◌≤◌, ◌+◌, ◌*◌, ◌%◌, length, Ok, Err, Some, None};
 ghost use Rattle.tlsf_heap.specs.Blocks.{want};
 ghost use Rattle.tlsf_heap.specs.Lawful.{IsRegion};
 ghost use Rattle.tlsf_pool.specs.laws.MixedSizes.{mixed_region};
 ghost use Rattle.tlsf_heap.specs.Calls.{opened, allocated, released, reset, resized, written, read_of, read_answer};
-ghost use Rattle.tlsf_heap.specs.Effects.{Allocates, Reads, Releases, Reports, Resets, Resizes, Writes};
-ghost use Rattle.tlsf_heap.specs.Footprint.{LeavesLive, LeavesPayloads};
-ghost use Rattle.tlsf_heap.specs.InPlace.{words_grown, IsPayloadCheck};
-ghost use Rattle.tlsf_heap.specs.Moved.{resized_or_moved, payload_words_moved};
+ghost use Rattle.tlsf_heap.specs.Effects.{Allocates, Moves, Reads, Releases, Reports, Resets, Resizes, Writes};
+ghost use Rattle.tlsf_heap.specs.Footprint.{LeavesLive};
+ghost use Rattle.tlsf_heap.specs.InPlace.{IsPayloadCheck};
+ghost use Rattle.tlsf_heap.specs.Moved.{resized_or_moved};
 ghost use Rattle.tlsf_heap.specs.Numbers.{number_of};
-ghost use Rattle.tlsf_heap.specs.Touched.{FollowsNoForgery, allocate_touches, read_touches, release_touches, reset_touches, resize_touches, write_touches};
+ghost use Rattle.tlsf_heap.specs.Touched.{FollowsNoForgery, allocate_touches, move_touches, read_touches, release_touches, reset_touches, resize_touches, write_touches};
 ghost use Rattle.tlsf_heap.specs.declared.refusal.Refusal.{Refusal};
 ghost use Rattle.tlsf_heap.specs.WordsInUse.{words_in_use};
 ghost use Rattle.tlsf_c.specs.Counting.{no_counts, counted, counted_request, counted_move};
@@ -308,16 +308,11 @@ pub extern "C" fn tlsf_reallocate(heap: &mut HeapSlot, name: &mut BlockName, len
     ensures status { serves heap.old ≡ true → result ≡ status_of (resized_or_moved (level_in heap.old) (heap_in heap.old) (name_of name.old) (saturated len)).answer }
     ensures name { serves heap.old ≡ true → result ≡ 0 → (resized_or_moved (level_in heap.old) (heap_in heap.old) (name_of name.old) (saturated len)).answer ≡ Ok (name_of name.new) }
     ensures no_name { ¬ (result ≡ 0) → name.new ≡ name.old }
-    ensures heap { serves heap.old ≡ true → heap_in heap.new ≡ (resized_or_moved (level_in heap.old) (heap_in heap.old) (name_of name.old) (saturated len)).heap }
     ensures mixed { serves heap.old ≡ true → result ≡ 0 → want (saturated len) % 2 ≡ 1 → heap.new.is_mixed ≡ true }
     ensures not_mixed { ¬ (want (saturated len) % 2 ≡ 1) → heap.new.is_mixed ≡ heap.old.is_mixed }
     ensures no_note { ¬ (result ≡ 0) → heap.new.is_mixed ≡ heap.old.is_mixed }
-    ensures forged { serves heap.old ≡ true → FollowsNoForgery (seen_in heap.old) (seen_in heap.new) (name_of name.old) }
     ensures counts { serves heap.old ≡ true → counts_in heap.new ≡ counted_move (counts_in heap.old) (name_of name.old).at (resized_or_moved (level_in heap.old) (heap_in heap.old) (name_of name.old) (saturated len)).answer (saturated len) (heap_in heap.new) }
-    ensures in_place { serves heap.old ≡ true → IsOk (resized (heap_in heap.old) (name_of name.old) (saturated len)).answer → touches_in heap.new ≤ touches_in heap.old + resize_touches + 1 + words_grown (heap_in heap.old) (saturated len) (name_of name.old) }
-    ensures elsewhere { serves heap.old ≡ true → ¬ (IsOk (resized (heap_in heap.old) (name_of name.old) (saturated len)).answer) → touches_in heap.new ≤ touches_in heap.old + resize_touches + 61 + 3 * payload_words_moved (level_in heap.old) (heap_in heap.old) (saturated len) }
-    ensures leaves { serves heap.old ≡ true → LeavesPayloads (heap_in heap.old).blocks name.old.at (touched_in heap.old) (touched_in heap.new) }
-    ensures leaves_all { serves heap.old ≡ true → ¬ (result ≡ 0) → LeavesLive (heap_in heap.old).blocks (touched_in heap.old) (touched_in heap.new) }
+    ensures moves { serves heap.old ≡ true → Moves resize_touches move_touches (level_in heap.old) (saturated len) (seen_in heap.old) (seen_in heap.new) (name_of name.old) (resized_or_moved (level_in heap.old) (heap_in heap.old) (name_of name.old) (saturated len)).answer }
 {
     if !heap.serves() {
         return CallFault::Closed.number();

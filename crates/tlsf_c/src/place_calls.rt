@@ -1,16 +1,16 @@
 //! C's calls of a heap by place, the number of the word at which a block begins. They are for a caller who has its address and
 //! keeps no name.
-ghost use Rattle.std.specs.Prelude.{◌≡◌, true, false, ◌≤◌, ◌+◌, ◌*◌, ◌/◌, ◌%◌, max, Ok, Option, Some, None, IsOk};
-ghost use Rattle.tlsf_heap.specs.ByPlace.{kept_at, name_at, released_by_place, resized_by_place, resized_or_moved_by_place};
+ghost use Rattle.std.specs.Prelude.{◌≡◌, true, false, ◌≤◌, ◌+◌, ◌*◌, ◌/◌, ◌%◌, max, Ok, Option, Some, None};
+ghost use Rattle.tlsf_heap.specs.ByPlace.{name_at, released_by_place, resized_or_moved_by_place};
 ghost use Rattle.tlsf_heap.specs.Aligned.{words_aligned};
 ghost use Rattle.tlsf_heap.specs.Blocks.{want, IsPlace};
 ghost use Rattle.tlsf_heap.specs.Calls.{allocated};
 ghost use Rattle.tlsf_heap.specs.Checks.{FindsSound, IsCheck, block_touches};
-ghost use Rattle.tlsf_heap.specs.Effects.{AllocatesUnset, Looks, ReleasesAt};
-ghost use Rattle.tlsf_heap.specs.Footprint.{LeavesLive, LeavesPayloads};
+ghost use Rattle.tlsf_heap.specs.Effects.{AllocatesUnset, Looks, MovesUnsetAt, ReleasesAt};
+ghost use Rattle.tlsf_heap.specs.Footprint.{LeavesLive};
 ghost use Rattle.tlsf_heap.specs.Numbers.{number_of};
 ghost use Rattle.tlsf_heap.specs.Placed.{placed_at};
-ghost use Rattle.tlsf_heap.specs.Unset.{lying, unset_from, with_payload};
+ghost use Rattle.tlsf_heap.specs.Unset.{lying, with_payload};
 ghost use Rattle.tlsf_heap.specs.declared.name.Name.{Name};
 ghost use Rattle.tlsf_heap.specs.declared.checked.Checked.{Checked};
 ghost use Rattle.tlsf_heap.specs.declared.checked.Checked.TheVariants.{Sound};
@@ -23,7 +23,7 @@ ghost use Rattle.tlsf_c.specs.Counting.{counted_request, counted_move};
 ghost use Rattle.tlsf_c.specs.Lengths.{saturated};
 ghost use Rattle.tlsf_c.specs.Names.{name_of, info_of, not_placed, placed_name};
 ghost use Rattle.tlsf_c.specs.PlaceCalls.{length_at};
-ghost use Rattle.tlsf_heap.specs.Touched.{FollowsNoPlace, allocate_unset_touches, release_at_touches};
+ghost use Rattle.tlsf_heap.specs.Touched.{FollowsNoPlace, allocate_unset_touches, move_unset_touches, release_at_touches, resize_unset_touches};
 ghost use Rattle.tlsf_c.specs.Refusals.{status_of, closed, damage};
 
 use crate::call_fault::{CallFault, check_status, status};
@@ -151,16 +151,10 @@ pub extern "C" fn tlsf_resize_place(
     ensures open { serves heap.old ≡ true → StaysOpen heap.old heap.new }
     ensures status { serves heap.old ≡ true → result ≡ status_of (resized_or_moved_by_place (level_in heap.old) (heap_in heap.old) at (saturated len)).answer }
     ensures place { serves heap.old ≡ true → result ≡ 0 → (name : Name)
-        × ((resized_or_moved_by_place (level_in heap.old) (heap_in heap.old) at (saturated len)).answer ≡ Ok name) × (name.at ≡ new_at.new)
-        × (heap_in heap.new ≡ unset_from (resized_or_moved_by_place (level_in heap.old) (heap_in heap.old) at (saturated len)).heap name (stored_in heap.new) (kept_at (heap_in heap.old) at (saturated len)) (saturated len)) }
-    ensures refused { serves heap.old ≡ true → ¬ (result ≡ 0) → heap_in heap.new ≡ heap_in heap.old }
+        × ((resized_or_moved_by_place (level_in heap.old) (heap_in heap.old) at (saturated len)).answer ≡ Ok name) × (name.at ≡ new_at.new) }
     ensures kept { ¬ (result ≡ 0) → new_at.new ≡ new_at.old }
-    ensures wild { serves heap.old ≡ true → FollowsNoPlace (heap_in heap.old) at (touches_in heap.old) (touches_in heap.new) }
     ensures counts { serves heap.old ≡ true → counts_in heap.new ≡ counted_move (counts_in heap.old) at (resized_or_moved_by_place (level_in heap.old) (heap_in heap.old) at (saturated len)).answer (saturated len) (heap_in heap.new) }
-    ensures touches { serves heap.old ≡ true → touches_in heap.new ≤ touches_in heap.old + 96 + 2 * (kept_at (heap_in heap.old) at (saturated len) / 8) }
-    ensures in_place { serves heap.old ≡ true → IsOk (resized_by_place (heap_in heap.old) at (saturated len)).answer → touches_in heap.new ≤ touches_in heap.old + 30 }
-    ensures leaves { serves heap.old ≡ true → LeavesPayloads (heap_in heap.old).blocks at (touched_in heap.old) (touched_in heap.new) }
-    ensures leaves_all { serves heap.old ≡ true → ¬ (result ≡ 0) → LeavesLive (heap_in heap.old).blocks (touched_in heap.old) (touched_in heap.new) }
+    ensures moves { serves heap.old ≡ true → MovesUnsetAt resize_unset_touches move_unset_touches (level_in heap.old) (saturated len) (seen_in heap.old) (seen_in heap.new) (stored_in heap.new) at (resized_or_moved_by_place (level_in heap.old) (heap_in heap.old) at (saturated len)).answer }
 {
     if !heap.serves() {
         return CallFault::Closed.refusal();

@@ -2,15 +2,11 @@
 ghost use Rattle.std.specs.Prelude.{◌≡◌, ◌+◌, ◌*◌, ◌/◌, ◌%◌, ◌≤◌, max, IfOk, IsOk, OnErr};
 ghost use Rattle.tlsf_heap.specs.Aligned.{words_aligned};
 ghost use Rattle.tlsf_heap.specs.Blocks;
-ghost use Rattle.tlsf_heap.specs.ByPlace.{kept_at, resized_by_place, resized_or_moved_by_place};
-ghost use Rattle.tlsf_heap.specs.Calls.{resized};
-ghost use Rattle.tlsf_heap.specs.Effects.{Allocates, AllocatesUnset};
-ghost use Rattle.tlsf_heap.specs.Footprint.{LeavesLive, LeavesPayloads};
-ghost use Rattle.tlsf_heap.specs.InPlace.{words_grown};
-ghost use Rattle.tlsf_heap.specs.Moved.{resized_or_moved, payload_words_moved};
-ghost use Rattle.tlsf_heap.specs.Touched.{FollowsNoForgery, FollowsNoPlace, allocate_touches, allocate_unset_touches, resize_touches};
+ghost use Rattle.tlsf_heap.specs.Effects.{Allocates, AllocatesUnset, Moves, MovesUnsetAt};
+ghost use Rattle.tlsf_heap.specs.Footprint.{LeavesLive};
+ghost use Rattle.tlsf_heap.specs.Touched.{allocate_touches, allocate_unset_touches, move_touches, move_unset_touches, resize_touches, resize_unset_touches};
 ghost use Rattle.tlsf_heap.specs.Shown.{seen};
-ghost use Rattle.tlsf_heap.specs.Unset.{lying, unset_from, with_payload};
+ghost use Rattle.tlsf_heap.specs.Unset.{lying, with_payload};
 ghost use Rattle.tlsf_c.specs.Counting.{none_refused, noted, noted_if, counts_of, counted_request, counted_move};
 
 use tlsf_heap::{Heap, Name, Refusal, want};
@@ -120,16 +116,9 @@ impl Refused {
         name: Name,
         len: u32,
     ) -> Result<Name, Refusal>
-        ensures answer { result ≡ (resized_or_moved SLI heap.old.heap name len).answer }
-        ensures heap { heap.new.heap ≡ (resized_or_moved SLI heap.old.heap name len).heap }
+        ensures moves { Moves resize_touches move_touches SLI len (seen heap.old) (seen heap.new) name result }
         ensures counts { counts_of heap.new.heap heap.new.most_in_use self.new ≡ counted_move (counts_of heap.old.heap heap.old.most_in_use self.old) name.at result len heap.new.heap }
         ensures stays { heap.new.extents ≡ heap.old.extents }
-        ensures touches_rise { heap.old.touches ≤ heap.new.touches }
-        ensures in_place { IsOk (resized heap.old.heap name len).answer → heap.new.touches ≤ heap.old.touches + resize_touches + 1 + words_grown heap.old.heap len name }
-        ensures elsewhere { ¬ (IsOk (resized heap.old.heap name len).answer) → heap.new.touches ≤ heap.old.touches + resize_touches + 61 + 3 * payload_words_moved SLI heap.old.heap len }
-        ensures leaves { LeavesPayloads heap.old.heap.blocks name.at heap.old.touched heap.new.touched }
-        ensures refused { OnErr result (LeavesLive heap.old.heap.blocks heap.old.touched heap.new.touched) }
-        ensures forged { FollowsNoForgery (seen heap.old) (seen heap.new) name }
     {
         let answer = heap.resize_or_move(name, len);
         self.note(&answer, len);
@@ -144,17 +133,9 @@ impl Refused {
         at: u32,
         len: u32,
     ) -> Result<Name, Refusal>
-        ensures answer { result ≡ (resized_or_moved_by_place SLI heap.old.heap at len).answer }
-        ensures heap { IfOk result (λ new. heap.new.heap ≡ unset_from (resized_or_moved_by_place SLI heap.old.heap at len).heap new heap.new.stored (kept_at heap.old.heap at len) len) }
-        ensures err { OnErr result (heap.new.heap ≡ heap.old.heap) }
+        ensures moves { MovesUnsetAt resize_unset_touches move_unset_touches SLI len (seen heap.old) (seen heap.new) heap.new.stored at result }
         ensures counts { counts_of heap.new.heap heap.new.most_in_use self.new ≡ counted_move (counts_of heap.old.heap heap.old.most_in_use self.old) at result len heap.new.heap }
         ensures stays { heap.new.extents ≡ heap.old.extents }
-        ensures touches_rise { heap.old.touches ≤ heap.new.touches }
-        ensures touches { heap.new.touches ≤ heap.old.touches + 96 + 2 * (kept_at heap.old.heap at len / 8) }
-        ensures in_place { IsOk (resized_by_place heap.old.heap at len).answer → heap.new.touches ≤ heap.old.touches + 30 }
-        ensures leaves { LeavesPayloads heap.old.heap.blocks at heap.old.touched heap.new.touched }
-        ensures refused { OnErr result (LeavesLive heap.old.heap.blocks heap.old.touched heap.new.touched) }
-        ensures wild { FollowsNoPlace heap.old.heap at heap.old.touches heap.new.touches }
     {
         let answer = heap.resize_or_move_unset_at(at, len);
         self.note(&answer, len);

@@ -1,16 +1,17 @@
 -- The effect of one call of a heap, told once: each layer above says it of its own view.
-use Rattle.std.specs.Prelude.{◌≡◌, ℕ, ◌+◌, ◌*◌, ◌/◌, ◌≤◌, ◌↔◌, List, [], Bool, Option, Result, length, IfOk, MatchOption, OnErr, IsOk, IsErrOf, IsTrue}
+use Rattle.std.specs.Prelude.{◌≡◌, ℕ, ◌+◌, ◌*◌, ◌/◌, ◌≤◌, ◌↔◌, List, [], Bool, Option, Result, length, min, IfOk, MatchOption, OnOk, OnErr, IsOk, IsErrOf, IsTrue}
 use Rattle.std.specs.Result.{result_unwrap_or}
 use Rattle.tlsf_heap.specs.Blocks.{want, IsPlace}
-use Rattle.tlsf_heap.specs.ByPlace.{released_by_place}
-use Rattle.tlsf_heap.specs.Calls.{allocated, allocated_words, last_tick, read_answer, read_of, released, reset, resized_words, written}
+use Rattle.tlsf_heap.specs.ByPlace.{kept_at, released_by_place, resized_by_place, resized_or_moved_by_place}
+use Rattle.tlsf_heap.specs.Calls.{allocated, allocated_words, last_tick, read_answer, read_of, released, reset, resized, resized_words, written}
 use Rattle.tlsf_heap.specs.Checks.{FindsSound, IsCheck, block_touches}
 use Rattle.tlsf_heap.specs.Footprint.{LeavesLive, LeavesPayloads}
 use Rattle.tlsf_heap.specs.Given.{payload_words_given, payload_words_left}
 use Rattle.tlsf_heap.specs.GoodFit.{fits}
 use Rattle.tlsf_heap.specs.Image.{Image}
-use Rattle.tlsf_heap.specs.InPlace.{words_grown}
+use Rattle.tlsf_heap.specs.InPlace.{payload_of, words_grown}
 use Rattle.tlsf_heap.specs.Laws.{IsLive}
+use Rattle.tlsf_heap.specs.Moved.{payload_words_moved, resized_or_moved}
 use Rattle.tlsf_heap.specs.Placed.{placed_at}
 use Rattle.tlsf_heap.specs.Reports.{report_of, IsGrant}
 use Rattle.tlsf_heap.specs.Shown.{Seen}
@@ -97,6 +98,58 @@ pub record Resizes (most n len : ℕ) (old new : Seen) (name : Name) (answer : R
   pub leaves : LeavesPayloads old.heap.blocks name.at old.touched new.touched
   pub refused : OnErr answer (LeavesLive old.heap.blocks old.touched new.touched)
   pub forged : FollowsNoForgery old new name
+
+-- a resize to `len` bytes that fills nothing, of at most this many touches, however many bytes. It answers as a resize. Accepted, it
+-- leaves what a resize leaves and a write of the bytes that lie behind the old ones. Refused, it leaves the heap
+pub record ResizesUnset (most len : ℕ) (old new : Seen) (stored : Image) (name : Name) (answer : Result (Unit {0}) Refusal) : Type 0 where
+  pub answer_is : answer ≡ (resized old.heap name len).answer
+  pub heap : OnOk answer (new.heap ≡ unset_from (resized old.heap name len).heap name stored (min (length (payload_of old.heap name)) len) len)
+  pub unchanged : OnErr answer (new.heap ≡ old.heap)
+  pub touches : new.touches ≤ old.touches + most
+  pub rise : old.touches ≤ new.touches
+  pub leaves : LeavesPayloads old.heap.blocks name.at old.touched new.touched
+  pub refused : OnErr answer (LeavesLive old.heap.blocks old.touched new.touched)
+  pub forged : FollowsNoForgery old new name
+
+-- a resize to `len` bytes that may move the block. Where the block stays, it takes `stay` touches at most and one, and one for each
+-- word by which the payload grows. Otherwise it takes `most`, and three for each payload word of the block that it would move to
+pub record Moves (stay most sli len : ℕ) (old new : Seen) (name : Name) (answer : Result Name Refusal) : Type 0 where
+  pub answer_is : answer ≡ (resized_or_moved sli old.heap name len).answer
+  pub heap : new.heap ≡ (resized_or_moved sli old.heap name len).heap
+  pub in_place : IsOk (resized old.heap name len).answer → new.touches ≤ old.touches + stay + 1 + words_grown old.heap len name
+  pub elsewhere : ¬ (IsOk (resized old.heap name len).answer) → new.touches ≤ old.touches + most + 3 * payload_words_moved sli old.heap len
+  pub rise : old.touches ≤ new.touches
+  pub leaves : LeavesPayloads old.heap.blocks name.at old.touched new.touched
+  pub refused : OnErr answer (LeavesLive old.heap.blocks old.touched new.touched)
+  pub forged : FollowsNoForgery old new name
+
+-- one that fills nothing. It answers as a resize that may move the block. Accepted, it leaves what that leaves and a write of the
+-- bytes that lie behind the old ones. Refused, it leaves the heap. It takes `most` touches at most, and two for each
+-- eight bytes that stay. Where there is room at the block's place, it takes `stay` at most
+pub record MovesUnset (stay most sli len : ℕ) (old new : Seen) (stored : Image) (name : Name) (answer : Result Name Refusal) : Type 0 where
+  pub answer_is : answer ≡ (resized_or_moved sli old.heap name len).answer
+  pub heap : IfOk answer (λ given. new.heap ≡ unset_from (resized_or_moved sli old.heap name len).heap given stored (min (length (payload_of old.heap name)) len) len)
+  pub unchanged : OnErr answer (new.heap ≡ old.heap)
+  pub touches : new.touches ≤ old.touches + most + 2 * (min (length (payload_of old.heap name)) len / 8)
+  pub in_place : IsOk (resized old.heap name len).answer → new.touches ≤ old.touches + stay
+  pub rise : old.touches ≤ new.touches
+  pub leaves : LeavesPayloads old.heap.blocks name.at old.touched new.touched
+  pub refused : OnErr answer (LeavesLive old.heap.blocks old.touched new.touched)
+  pub forged : FollowsNoForgery old new name
+
+-- one that fills nothing, of the live block that begins at a place. It follows no place from outside, and reads no word where no
+-- block begins
+pub record MovesUnsetAt (stay most sli len : ℕ) (old new : Seen) (stored : Image) (at : ℕ) (answer : Result Name Refusal) : Type 0 where
+  pub answer_is : answer ≡ (resized_or_moved_by_place sli old.heap at len).answer
+  pub heap : IfOk answer (λ given. new.heap ≡ unset_from (resized_or_moved_by_place sli old.heap at len).heap given stored (kept_at old.heap at len) len)
+  pub unchanged : OnErr answer (new.heap ≡ old.heap)
+  pub touches : new.touches ≤ old.touches + most + 2 * (kept_at old.heap at len / 8)
+  pub in_place : IsOk (resized_by_place old.heap at len).answer → new.touches ≤ old.touches + stay
+  pub rise : old.touches ≤ new.touches
+  pub leaves : LeavesPayloads old.heap.blocks at old.touched new.touched
+  pub refused : OnErr answer (LeavesLive old.heap.blocks old.touched new.touched)
+  pub wild : FollowsNoPlace old.heap at old.touches new.touches
+  pub unread : ¬ (IsPlace old.heap.blocks at) → new.touched ≡ old.touched
 
 -- a write of bytes into the payload of a name's block, from byte `at` of it on
 pub record Writes (most : ℕ) (old new : Seen) (name : Name) (at : ℕ) (bytes : List ℕ) (answer : Result (Unit {0}) Refusal) : Type 0 where

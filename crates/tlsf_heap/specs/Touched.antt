@@ -44,6 +44,20 @@ allocate_unset_touches = 31
 abbrev pub resize_touches : ℕ
 resize_touches = 27
 
+-- the most touches of a resize that fills nothing, however many bytes
+abbrev pub resize_unset_touches : ℕ
+resize_unset_touches = 30
+
+-- the most touches of a resize or move whose block doesn't stay. They are 27 for the resize that is refused, 26 for the allocate,
+-- and 35 for the copy and the release. Each payload word of the new block takes three more
+abbrev pub move_touches : ℕ
+move_touches = 88
+
+-- the most touches of a resize or move that fills nothing. They are 30 for the resize that is refused, 31 for the allocate, and 35
+-- for the copy and the release. Each eight bytes that stay take two more
+abbrev pub move_unset_touches : ℕ
+move_unset_touches = 96
+
 -- the most touches of a reset. They are 641 for the heads of the lists, 22 for the bitmaps, 3 for the header, and 7 to list the block.
 -- Each 64 start bits take one more
 abbrev pub reset_touches : ℕ

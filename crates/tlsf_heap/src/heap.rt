@@ -3,7 +3,7 @@ ghost use Rattle.std.specs.Prelude.{◌≡◌, ◌≢◌, ℕ, List, ◌+◌, �
 ghost use Rattle.tlsf_class.specs.Classes.{IsLevel, most_words};
 ghost use Rattle.tlsf_heap.specs.Blocks;
 ghost use Rattle.tlsf_heap.specs.ByPlace.{released_by_place, IsPlaceCheck};
-ghost use Rattle.tlsf_heap.specs.Effects.{Allocates, Looks, Reads, Releases, Reports, Resizes, Writes};
+ghost use Rattle.tlsf_heap.specs.Effects.{Allocates, Looks, Moves, Reads, Releases, Reports, Resizes, Writes};
 ghost use Rattle.tlsf_heap.specs.Footprint.{LeavesBoth, LeavesLive, LeavesPayloads};
 ghost use Rattle.tlsf_heap.specs.FreePlaces.{ShowsLists};
 ghost use Rattle.tlsf_heap.specs.Image.{Shows};
@@ -16,7 +16,7 @@ ghost use Rattle.tlsf_heap.specs.Named.{IsFirst, IsNameCheck};
 ghost use Rattle.tlsf_heap.specs.Regions.{image_of};
 ghost use Rattle.tlsf_heap.specs.Given.{payload_words_at, payload_words_left};
 ghost use Rattle.tlsf_heap.specs.Unset.{lying, with_payload};
-ghost use Rattle.tlsf_heap.specs.Touched.{FollowsNoForgery, FollowsNoPlace, allocate_groups, allocate_touches, move_groups, release_groups, release_touches, resize_groups, resize_touches, read_touches, write_touches};
+ghost use Rattle.tlsf_heap.specs.Touched.{FollowsNoForgery, FollowsNoPlace, allocate_groups, allocate_touches, move_groups, move_touches, release_groups, release_touches, resize_groups, resize_touches, read_touches, write_touches};
 ghost use Rattle.tlsf_heap.specs.Calls.{opened, released, resized, resized_words, named, written, read_of, read_answer, has_bytes, last_tick};
 ghost use Rattle.tlsf_heap.specs.Kept.{IsAsBefore, Keeps};
 ghost use Rattle.tlsf_heap.specs.WordsInUse.{peak_moved, Peaks};
@@ -326,24 +326,16 @@ impl<const SLI: u32> Heap<SLI> {
     /// heap.release(name) == Err(Refusal::Stale)
     /// ```
     pub fn resize_or_move(&mut self, name: Name, len: u32) -> Result<Name, Refusal>
-        ensures answer { result ≡ (resized_or_moved SLI self.old.heap name len).answer }
-        ensures heap { self.new.heap ≡ (resized_or_moved SLI self.old.heap name len).heap }
+        // Accepted or refused, and whatever the region holds. Where the block stays, these are the touches of `resize`.
+        ensures moves { Moves resize_touches move_touches SLI len (seen self.old) (seen self.new) name result }
 
         // A refusal changes nothing.
         ensures err { OnErr result (IsAsBefore self.old self.new) }
         ensures keeps { Keeps SLI self.old self.new }
         ensures peak { self.new.most_in_use ≡ peak_moved self.old name.at result self.new.heap }
 
-        // Whatever the region holds. Where the block stays, these are the touches of `resize`. Else a refused `resize` takes 27,
-        // and a move 61 and three for each payload word of the new block.
-        ensures in_place { IsOk (resized self.old.heap name len).answer → self.new.touches ≤ self.old.touches + resize_touches + 1 + words_grown self.old.heap len name }
-        ensures elsewhere { ¬ (IsOk (resized self.old.heap name len).answer) → self.new.touches ≤ self.old.touches + resize_touches + 61 + 3 * payload_words_moved SLI self.old.heap len }
-        ensures leaves { LeavesPayloads self.old.heap.blocks name.at self.old.touched self.new.touched }
-
         // All lies in this many groups of eight words, and three more for each 64 bytes, but start bits and the lists.
         ensures groups { InGroups (move_groups + 3 * (len / 64)) self.old.touched self.new.touched }
-        ensures refused { OnErr result (LeavesLive self.old.heap.blocks self.old.touched self.new.touched) }
-        ensures forged { FollowsNoForgery (seen self.old) (seen self.new) name }
     {
         let own = self.check(name)?;
         self.refit_or_move(name, own, len)

@@ -2,15 +2,12 @@
 ghost use Rattle.std.specs.Prelude.{◌≡◌, ◌+◌, ◌*◌, ◌/◌, ◌%◌, ◌<◌, ◌≤◌, length, max, min, IfOk, IfSome, IsOk, OnErr};
 ghost use Rattle.tlsf_heap.specs.Aligned.{words_aligned};
 ghost use Rattle.tlsf_heap.specs.Blocks.{want};
-ghost use Rattle.tlsf_heap.specs.ByPlace.{kept_at, name_at, resized_by_place, resized_or_moved_by_place};
-ghost use Rattle.tlsf_heap.specs.Calls.{resized};
-ghost use Rattle.tlsf_heap.specs.Effects.{AllocatesUnset, ChecksBlocks, Looks, ReleasesAt};
-ghost use Rattle.tlsf_heap.specs.Footprint.{LeavesLive, LeavesPayloads};
-ghost use Rattle.tlsf_heap.specs.InPlace.{payload_of, words_grown};
+ghost use Rattle.tlsf_heap.specs.ByPlace.{name_at};
+ghost use Rattle.tlsf_heap.specs.Effects.{AllocatesUnset, ChecksBlocks, Looks, Moves, MovesUnsetAt, ReleasesAt};
+ghost use Rattle.tlsf_heap.specs.Footprint.{LeavesLive};
 ghost use Rattle.tlsf_heap.specs.Laws.{IsLive};
-ghost use Rattle.tlsf_heap.specs.Moved.{resized_or_moved, payload_words_moved};
-ghost use Rattle.tlsf_heap.specs.Touched.{FollowsNoForgery, FollowsNoPlace, allocate_unset_touches, release_at_touches, resize_touches};
-ghost use Rattle.tlsf_heap.specs.Unset.{lying, unset_from, with_payload};
+ghost use Rattle.tlsf_heap.specs.Touched.{FollowsNoPlace, allocate_unset_touches, move_touches, move_unset_touches, release_at_touches, resize_touches, resize_unset_touches};
+ghost use Rattle.tlsf_heap.specs.Unset.{lying, with_payload};
 ghost use Rattle.tlsf_heap.specs.WordsInUse.{words_in_use};
 ghost use Rattle.tlsf_c.specs.Counting.{counted_request, counted_move};
 ghost use Rattle.tlsf_c.specs.Levels.{GoesOn, seen_at};
@@ -125,17 +122,9 @@ impl AnyHeap {
 
     /// `Heap::resize_or_move_unset_at`.
     pub fn resize_or_move_unset_at(&mut self, at: u32, len: u32) -> Result<Name, Refusal>
-        ensures answer { result ≡ (resized_or_moved_by_place self.old.level self.old.heap at len).answer }
-        ensures heap { IfOk result (λ new. self.new.heap
-            ≡ unset_from (resized_or_moved_by_place self.old.level self.old.heap at len).heap new self.new.stored (kept_at self.old.heap at len) len) }
-        ensures err { OnErr result (self.new.heap ≡ self.old.heap) }
+        ensures moves { MovesUnsetAt resize_unset_touches move_unset_touches self.old.level len (seen_at self.old) (seen_at self.new) self.new.stored at result }
         ensures goes_on { GoesOn self.old self.new }
         ensures counts { self.new.counts ≡ counted_move self.old.counts at result len self.new.heap }
-        ensures touches { self.new.touches ≤ self.old.touches + 96 + 2 * (kept_at self.old.heap at len / 8) }
-        ensures in_place { IsOk (resized_by_place self.old.heap at len).answer → self.new.touches ≤ self.old.touches + 30 }
-        ensures leaves { LeavesPayloads self.old.heap.blocks at self.old.touched self.new.touched }
-        ensures refused { OnErr result (LeavesLive self.old.heap.blocks self.old.touched self.new.touched) }
-        ensures wild { FollowsNoPlace self.old.heap at self.old.touches self.new.touches }
     {
         match &mut self.of_level {
             OfLevel::Four(heap) => self.refused.resize_or_move_unset_at(heap, at, len),
@@ -145,15 +134,9 @@ impl AnyHeap {
 
     /// `Heap::resize_or_move`.
     pub fn resize_or_move(&mut self, name: Name, len: u32) -> Result<Name, Refusal>
-        ensures answer { result ≡ (resized_or_moved self.old.level self.old.heap name len).answer }
-        ensures heap { self.new.heap ≡ (resized_or_moved self.old.level self.old.heap name len).heap }
+        ensures moves { Moves resize_touches move_touches self.old.level len (seen_at self.old) (seen_at self.new) name result }
         ensures goes_on { GoesOn self.old self.new }
         ensures counts { self.new.counts ≡ counted_move self.old.counts name.at result len self.new.heap }
-        ensures in_place { IsOk (resized self.old.heap name len).answer → self.new.touches ≤ self.old.touches + resize_touches + 1 + words_grown self.old.heap len name }
-        ensures elsewhere { ¬ (IsOk (resized self.old.heap name len).answer) → self.new.touches ≤ self.old.touches + resize_touches + 61 + 3 * payload_words_moved self.old.level self.old.heap len }
-        ensures leaves { LeavesPayloads self.old.heap.blocks name.at self.old.touched self.new.touched }
-        ensures refused { OnErr result (LeavesLive self.old.heap.blocks self.old.touched self.new.touched) }
-        ensures forged { FollowsNoForgery (seen_at self.old) (seen_at self.new) name }
     {
         match &mut self.of_level {
             OfLevel::Four(heap) => self.refused.resize_or_move(heap, name, len),

@@ -1,14 +1,13 @@
 ghost use Rattle.std.specs.Prelude.{◌≡◌, ◌+◌, ◌*◌, ◌/◌, ◌≤◌, length, min, IfOk, OnOk, OnErr, IsOk, Ok};
-ghost use Rattle.tlsf_heap.specs.Blocks;
-ghost use Rattle.tlsf_heap.specs.ByPlace.{kept_at, resized_by_place, resized_or_moved_by_place};
+ghost use Rattle.tlsf_heap.specs.ByPlace.{kept_at};
 ghost use Rattle.tlsf_heap.specs.Calls.{resized};
-ghost use Rattle.tlsf_heap.specs.Effects.{AllocatesUnset};
+ghost use Rattle.tlsf_heap.specs.Effects.{AllocatesUnset, MovesUnset, MovesUnsetAt, ResizesUnset};
 ghost use Rattle.tlsf_heap.specs.InPlace.{payload_of};
 ghost use Rattle.tlsf_heap.specs.Footprint.{LeavesLive, LeavesPayloads};
 ghost use Rattle.tlsf_heap.specs.Laws.{IsLive};
 ghost use Rattle.tlsf_heap.specs.Moved.{moved, resized_or_moved};
 ghost use Rattle.tlsf_heap.specs.Named.{IsNameCheck};
-ghost use Rattle.tlsf_heap.specs.Touched.{FollowsNoForgery, FollowsNoPlace, allocate_unset_touches};
+ghost use Rattle.tlsf_heap.specs.Touched.{allocate_unset_touches, move_unset_touches, resize_unset_touches};
 ghost use Rattle.tlsf_heap.specs.Unset.{unset_from};
 ghost use Rattle.tlsf_heap.specs.Kept.{IsAsBefore, Keeps};
 ghost use Rattle.tlsf_heap.specs.WordsInUse.{peak_moved, Peaks};
@@ -74,21 +73,15 @@ impl<const SLI: u32> Heap<SLI> {
     /// heap.resize_unset(name, 100) == Ok(())           // the eight bytes stay, and nobody wrote the others
     /// ```
     pub fn resize_unset(&mut self, name: Name, len: u32) -> Result<(), Refusal>
-        ensures answer { result ≡ (resized self.old.heap name len).answer }
+        // Accepted or refused, and whatever the region holds.
+        ensures resizes { ResizesUnset resize_unset_touches len (seen self.old) (seen self.new) self.new.stored name result }
 
-        // Accepted, the heap is as a resize and a write of the bytes that lie behind the old ones make it; a refusal changes nothing.
-        ensures heap { OnOk result (self.new.heap ≡ unset_from (resized self.old.heap name len).heap name self.new.stored (min (length (payload_of self.old.heap name)) len) len) }
+        // A refusal changes nothing.
         ensures err { OnErr result (IsAsBefore self.old self.new) }
         ensures keeps { Keeps SLI self.old self.new }
         ensures peak { Peaks self.old self.new }
-
-        // Accepted or refused, whatever the region holds, and however many bytes.
-        ensures touches { self.new.touches ≤ self.old.touches + 30 }
-        ensures leaves { LeavesPayloads self.old.heap.blocks name.at self.old.touched self.new.touched }
         ensures groups { InGroups 17 self.old.touched self.new.touched }
         ensures refused_groups { OnErr result (InGroups 4 self.old.touched self.new.touched) }
-        ensures refused { OnErr result (LeavesLive self.old.heap.blocks self.old.touched self.new.touched) }
-        ensures forged { FollowsNoForgery (seen self.old) (seen self.new) name }
     {
         let own = self.check(name)?;
         self.refit_unset(name, own, len)
@@ -110,24 +103,15 @@ impl<const SLI: u32> Heap<SLI> {
     /// let moved = heap.resize_or_move_unset(name, 100)?;           // at place 8, with the eight bytes
     /// ```
     pub fn resize_or_move_unset(&mut self, name: Name, len: u32) -> Result<Name, Refusal>
-        ensures answer { result ≡ (resized_or_moved SLI self.old.heap name len).answer }
+        // Accepted or refused, and whatever the region holds. Where there is room at its place, it takes as many touches as
+        // `resize_unset`.
+        ensures moves { MovesUnset resize_unset_touches move_unset_touches SLI len (seen self.old) (seen self.new) self.new.stored name result }
 
-        // Accepted, the heap is as a resize or move makes it and a write of the bytes that lie after the old ones. A refusal
-        // changes nothing.
-        ensures heap { IfOk result (λ new. self.new.heap ≡ unset_from (resized_or_moved SLI self.old.heap name len).heap new self.new.stored (min (length (payload_of self.old.heap name)) len) len) }
+        // A refusal changes nothing.
         ensures err { OnErr result (IsAsBefore self.old self.new) }
         ensures keeps { Keeps SLI self.old self.new }
         ensures peak { self.new.most_in_use ≡ peak_moved self.old name.at result self.new.heap }
-
-        // Accepted or refused, and whatever the region holds: at most 96 touches, and two for each word of the bytes that stay.
-        ensures touches { self.new.touches ≤ self.old.touches + 96 + 2 * (min (length (payload_of self.old.heap name)) len / 8) }
-
-        // Where there is room at its place it takes as many as `resize_unset`.
-        ensures in_place { IsOk (resized self.old.heap name len).answer → self.new.touches ≤ self.old.touches + 30 }
-        ensures leaves { LeavesPayloads self.old.heap.blocks name.at self.old.touched self.new.touched }
         ensures groups { InGroups (39 + 2 * (min (length (payload_of self.old.heap name)) len / 64)) self.old.touched self.new.touched }
-        ensures refused { OnErr result (LeavesLive self.old.heap.blocks self.old.touched self.new.touched) }
-        ensures forged { FollowsNoForgery (seen self.old) (seen self.new) name }
     {
         let own = self.check(name)?;
         self.refit_or_move_unset(name, own, len)
@@ -145,18 +129,11 @@ impl<const SLI: u32> Heap<SLI> {
     /// heap.resize_or_move_unset_at(1, 100) == Err(Refusal::Stale)
     /// ```
     pub fn resize_or_move_unset_at(&mut self, at: u32, len: u32) -> Result<Name, Refusal>
-        ensures answer { result ≡ (resized_or_moved_by_place SLI self.old.heap at len).answer }
-        ensures heap { IfOk result (λ new. self.new.heap ≡ unset_from (resized_or_moved_by_place SLI self.old.heap at len).heap new self.new.stored (kept_at self.old.heap at len) len) }
+        ensures moves { MovesUnsetAt resize_unset_touches move_unset_touches SLI len (seen self.old) (seen self.new) self.new.stored at result }
         ensures err { OnErr result (IsAsBefore self.old self.new) }
         ensures keeps { Keeps SLI self.old self.new }
         ensures peak { self.new.most_in_use ≡ peak_moved self.old at result self.new.heap }
-        ensures touches { self.new.touches ≤ self.old.touches + 96 + 2 * (kept_at self.old.heap at len / 8) }
-        ensures in_place { IsOk (resized_by_place self.old.heap at len).answer → self.new.touches ≤ self.old.touches + 30 }
-        ensures leaves { LeavesPayloads self.old.heap.blocks at self.old.touched self.new.touched }
         ensures groups { InGroups (39 + 2 * (kept_at self.old.heap at len / 64)) self.old.touched self.new.touched }
-        ensures refused { OnErr result (LeavesLive self.old.heap.blocks self.old.touched self.new.touched) }
-        ensures wild { FollowsNoPlace self.old.heap at self.old.touches self.new.touches }
-        ensures unread { ¬ (Blocks.IsPlace self.old.heap.blocks at) → self.new.touched ≡ self.old.touched }
     {
         match self.find_at(at) {
             None => Err(Refusal::Stale),
