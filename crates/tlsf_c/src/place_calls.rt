@@ -1,16 +1,15 @@
 //! C's calls of a heap by place, the number of the word at which a block begins. They are for a caller who has its address and
 //! keeps no name.
-ghost use Rattle.std.specs.Prelude.{◌≡◌, true, false, ◌≤◌, ◌+◌, ◌*◌, ◌/◌, ◌%◌, max, Ok, Option, Some, None};
+ghost use Rattle.std.specs.Prelude.{◌≡◌, true, false, ◌≤◌, ◌+◌, ◌*◌, max, Ok, Option, Some, None};
 ghost use Rattle.tlsf_heap.specs.ByPlace.{name_at, released_by_place, resized_or_moved_by_place};
 ghost use Rattle.tlsf_heap.specs.Aligned.{words_aligned};
 ghost use Rattle.tlsf_heap.specs.Blocks.{want, IsPlace};
 ghost use Rattle.tlsf_heap.specs.Calls.{allocated};
 ghost use Rattle.tlsf_heap.specs.Checks.{FindsSound, IsCheck, block_touches};
-ghost use Rattle.tlsf_heap.specs.Effects.{AllocatesUnset, Looks, MovesUnsetAt, ReleasesAt};
+ghost use Rattle.tlsf_heap.specs.Effects.{AllocatesAligned, AllocatesUnset, Looks, MovesUnsetAt, ReleasesAt};
 ghost use Rattle.tlsf_heap.specs.Footprint.{LeavesLive};
 ghost use Rattle.tlsf_heap.specs.Numbers.{number_of};
 ghost use Rattle.tlsf_heap.specs.Placed.{placed_at};
-ghost use Rattle.tlsf_heap.specs.Unset.{lying, with_payload};
 ghost use Rattle.tlsf_heap.specs.declared.name.Name.{Name};
 ghost use Rattle.tlsf_heap.specs.declared.checked.Checked.{Checked};
 ghost use Rattle.tlsf_heap.specs.declared.checked.Checked.TheVariants.{Sound};
@@ -23,7 +22,7 @@ ghost use Rattle.tlsf_c.specs.Counting.{counted_request, counted_move};
 ghost use Rattle.tlsf_c.specs.Lengths.{saturated};
 ghost use Rattle.tlsf_c.specs.Names.{name_of, info_of, not_placed, placed_name};
 ghost use Rattle.tlsf_c.specs.PlaceCalls.{length_at};
-ghost use Rattle.tlsf_heap.specs.Touched.{FollowsNoPlace, allocate_unset_touches, move_unset_touches, release_at_touches, resize_unset_touches};
+ghost use Rattle.tlsf_heap.specs.Touched.{FollowsNoPlace, allocate_aligned_touches, allocate_unset_touches, move_unset_touches, release_at_touches, resize_unset_touches};
 ghost use Rattle.tlsf_c.specs.Refusals.{status_of, closed, damage};
 
 use crate::call_fault::{CallFault, check_status, status};
@@ -80,14 +79,8 @@ pub extern "C" fn tlsf_allocate_aligned(
     ensures closed { serves heap.old ≡ false → (result ≡ not_placed closed) × (heap.new ≡ heap.old) }
     ensures open { serves heap.old ≡ true → StaysOpen heap.old heap.new }
     ensures placed { serves heap.old ≡ true → result ≡ placed_name (words_aligned (level_in heap.old) (heap_in heap.old) (want (saturated len)) (max step 1) skew).answer }
-    ensures place { serves heap.old ≡ true → result.answer ≡ 0 → (name : Name)
-        × ((words_aligned (level_in heap.old) (heap_in heap.old) (want (saturated len)) (max step 1) skew).answer ≡ Ok name)
-        × (heap_in heap.new ≡ with_payload (words_aligned (level_in heap.old) (heap_in heap.old) (want (saturated len)) (max step 1) skew).heap name (lying (stored_in heap.new) name.at (saturated len))) }
-    ensures aligned { serves heap.old ≡ true → result.answer ≡ 0 → (result.at + 3 + skew) % max step 1 ≡ 0 }
-    ensures refused { serves heap.old ≡ true → ¬ (result.answer ≡ 0) → heap_in heap.new ≡ heap_in heap.old }
     ensures counts { serves heap.old ≡ true → counts_in heap.new ≡ counted_request (counts_in heap.old) (words_aligned (level_in heap.old) (heap_in heap.old) (want (saturated len)) (max step 1) skew).answer (saturated len) (heap_in heap.new) }
-    ensures touches { serves heap.old ≡ true → touches_in heap.new ≤ touches_in heap.old + 113 }
-    ensures leaves { serves heap.old ≡ true → LeavesLive (heap_in heap.old).blocks (touched_in heap.old) (touched_in heap.new) }
+    ensures allocates { serves heap.old ≡ true → AllocatesAligned allocate_aligned_touches (level_in heap.old) (saturated len) (max step 1) skew (seen_in heap.old) (seen_in heap.new) (stored_in heap.new) (words_aligned (level_in heap.old) (heap_in heap.old) (want (saturated len)) (max step 1) skew).answer }
 {
     if !heap.serves() {
         return PlacedName::refusal(CallFault::Closed.number());

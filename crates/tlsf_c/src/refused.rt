@@ -1,12 +1,9 @@
 //! The requests that a heap refused for want of room.
-ghost use Rattle.std.specs.Prelude.{◌≡◌, ◌+◌, ◌*◌, ◌/◌, ◌%◌, ◌≤◌, max, IfOk, IsOk, OnErr};
-ghost use Rattle.tlsf_heap.specs.Aligned.{words_aligned};
+ghost use Rattle.std.specs.Prelude.{◌≡◌, max};
 ghost use Rattle.tlsf_heap.specs.Blocks;
-ghost use Rattle.tlsf_heap.specs.Effects.{Allocates, AllocatesUnset, Moves, MovesUnsetAt};
-ghost use Rattle.tlsf_heap.specs.Footprint.{LeavesLive};
-ghost use Rattle.tlsf_heap.specs.Touched.{allocate_touches, allocate_unset_touches, move_touches, move_unset_touches, resize_touches, resize_unset_touches};
+ghost use Rattle.tlsf_heap.specs.Effects.{Allocates, AllocatesAligned, AllocatesUnset, Moves, MovesUnsetAt};
+ghost use Rattle.tlsf_heap.specs.Touched.{allocate_aligned_touches, allocate_touches, allocate_unset_touches, move_touches, move_unset_touches, resize_touches, resize_unset_touches};
 ghost use Rattle.tlsf_heap.specs.Shown.{seen};
-ghost use Rattle.tlsf_heap.specs.Unset.{lying, with_payload};
 ghost use Rattle.tlsf_c.specs.Counting.{none_refused, noted, noted_if, counts_of, counted_request, counted_move};
 
 use tlsf_heap::{Heap, Name, Refusal, want};
@@ -92,16 +89,9 @@ impl Refused {
         step: u32,
         skew: u32,
     ) -> Result<Name, Refusal>
-        ensures answer { result ≡ (words_aligned SLI heap.old.heap (Blocks.want len) (max step 1) skew).answer }
-        ensures heap { IfOk result (λ name. heap.new.heap
-            ≡ with_payload (words_aligned SLI heap.old.heap (Blocks.want len) (max step 1) skew).heap name (lying heap.new.stored name.at len)) }
-        ensures aligned { IfOk result (λ name. (name.at + 3 + skew) % max step 1 ≡ 0) }
-        ensures err { OnErr result (heap.new.heap ≡ heap.old.heap) }
+        ensures allocates { AllocatesAligned allocate_aligned_touches SLI len (max step 1) skew (seen heap.old) (seen heap.new) heap.new.stored result }
         ensures counts { counts_of heap.new.heap heap.new.most_in_use self.new ≡ counted_request (counts_of heap.old.heap heap.old.most_in_use self.old) result len heap.new.heap }
         ensures stays { heap.new.extents ≡ heap.old.extents }
-        ensures touches_rise { heap.old.touches ≤ heap.new.touches }
-        ensures touches { heap.new.touches ≤ heap.old.touches + 113 }
-        ensures leaves { LeavesLive heap.old.heap.blocks heap.old.touched heap.new.touched }
     {
         let answer = heap.allocate_aligned(len, step, skew);
         self.note(&answer, len);

@@ -1,8 +1,9 @@
 -- The effect of one call of a heap, told once: each layer above says it of its own view.
-use Rattle.std.specs.Prelude.{◌≡◌, ℕ, ◌+◌, ◌*◌, ◌/◌, ◌≤◌, ◌↔◌, List, [], Bool, Option, Result, length, min, IfOk, MatchOption, OnOk, OnErr, IsOk, IsErrOf, IsTrue}
+use Rattle.std.specs.Prelude.{◌≡◌, ℕ, ◌+◌, ◌*◌, ◌/◌, ◌%◌, ◌<◌, ◌≤◌, ◌↔◌, List, [], Bool, Option, Result, length, min, IfOk, IfSome, MatchOption, OnOk, OnErr, IsOk, IsErrOf, IsTrue}
 use Rattle.std.specs.Result.{result_unwrap_or}
+use Rattle.tlsf_heap.specs.Aligned.{words_aligned, words_from, AnswersAligned, AnswersFrom}
 use Rattle.tlsf_heap.specs.Blocks.{want, IsPlace}
-use Rattle.tlsf_heap.specs.ByPlace.{kept_at, released_by_place, resized_by_place, resized_or_moved_by_place}
+use Rattle.tlsf_heap.specs.ByPlace.{kept_at, name_at, released_by_place, resized_by_place, resized_or_moved_by_place}
 use Rattle.tlsf_heap.specs.Calls.{allocated, allocated_words, last_tick, read_answer, read_of, released, reset, resized, resized_words, written}
 use Rattle.tlsf_heap.specs.Checks.{FindsSound, IsCheck, block_touches}
 use Rattle.tlsf_heap.specs.Footprint.{LeavesLive, LeavesPayloads}
@@ -16,7 +17,7 @@ use Rattle.tlsf_heap.specs.Placed.{placed_at}
 use Rattle.tlsf_heap.specs.Reports.{report_of, IsGrant}
 use Rattle.tlsf_heap.specs.Shown.{Seen}
 use Rattle.tlsf_heap.specs.Touched.{FollowsNoForgery, FollowsNoPlace}
-use Rattle.tlsf_heap.specs.Unset.{unset_from}
+use Rattle.tlsf_heap.specs.Unset.{unset_from, GivesUnset}
 use Rattle.tlsf_heap.specs.declared.checked.Checked.{Checked}
 use Rattle.tlsf_heap.specs.declared.name.Name.{Name}
 use Rattle.tlsf_heap.specs.declared.placed_block.PlacedBlock.{PlacedBlock}
@@ -51,6 +52,33 @@ pub record AllocatesUnset (most sli len : ℕ) (old new : Seen) (stored : Image)
   pub unchanged : OnErr answer (new.heap ≡ old.heap)
   pub no_fit : IsErrOf answer NoFit ↔ (fits sli (want len) old.heap.blocks ≡ [])
   pub ok : IsOk answer ↔ (¬ (fits sli (want len) old.heap.blocks ≡ []) × ¬ (old.heap.tick ≡ last_tick))
+  pub touches : new.touches ≤ old.touches + most
+  pub rise : old.touches ≤ new.touches
+  pub leaves : LeavesLive old.heap.blocks old.touched new.touched
+
+-- a request for `len` bytes out of the free block that begins at a place. It fills nothing, and takes at most this many touches,
+-- however many bytes. Accepted, it gives a name of that place; where it is refused, it leaves the heap. It follows no place from
+-- outside, and reads no word where no block begins
+pub record AllocatesFrom (most len : ℕ) (old new : Seen) (stored : Image) (at : ℕ) (answer : Result Name Refusal) : Type 0 where
+  pub answer_is : answer ≡ (words_from old.heap at (want len)).answer
+  pub gives : IfOk answer (GivesUnset old.heap new.heap stored (words_from old.heap at (want len)).heap len)
+  pub place : IfOk answer (λ name. name.at ≡ at)
+  pub cases : AnswersFrom old.heap at (want len) answer
+  pub unchanged : OnErr answer (new.heap ≡ old.heap)
+  pub touches : new.touches ≤ old.touches + most
+  pub rise : old.touches ≤ new.touches
+  pub leaves : LeavesLive old.heap.blocks old.touched new.touched
+  pub wild : FollowsNoPlace old.heap at old.touches new.touches
+  pub unread : ¬ (IsPlace old.heap.blocks at) → new.touched ≡ old.touched
+
+-- a request for `len` bytes whose payload begins `skew` words before a multiple of `step` words. It fills nothing, and takes at most
+-- this many touches, however many bytes. Where it is refused, it leaves the heap
+pub record AllocatesAligned (most sli len step skew : ℕ) (old new : Seen) (stored : Image) (answer : Result Name Refusal) : Type 0 where
+  pub answer_is : answer ≡ (words_aligned sli old.heap (want len) step skew).answer
+  pub gives : IfOk answer (GivesUnset old.heap new.heap stored (words_aligned sli old.heap (want len) step skew).heap len)
+  pub aligned : IfOk answer (λ name. (name.at + 3 + skew) % step ≡ 0)
+  pub cases : AnswersAligned sli old.heap (want len) step answer
+  pub unchanged : OnErr answer (new.heap ≡ old.heap)
   pub touches : new.touches ≤ old.touches + most
   pub rise : old.touches ≤ new.touches
   pub leaves : LeavesLive old.heap.blocks old.touched new.touched
@@ -180,6 +208,18 @@ pub record AsksLive (old new : Seen) (name : Name) (answer : Bool) : Type 0 wher
   pub rise : old.touches ≤ new.touches
   pub leaves : LeavesLive old.heap.blocks old.touched new.touched
   pub forged : FollowsNoForgery old new name
+
+-- a question which name the live block has that begins at a place. It follows no place from outside, and reads no word where no block
+-- begins
+pub record NamesAt (old new : Seen) (at : ℕ) (answer : Option Name) : Type 0 where
+  pub answer_is : answer ≡ name_at old.heap at
+  pub live : IfSome answer (λ name. IsLive old.heap name × (name.at ≡ at) × (at < old.heap.words))
+  pub heap : new.heap ≡ old.heap
+  pub touches : new.touches ≤ old.touches + 3
+  pub rise : old.touches ≤ new.touches
+  pub leaves : LeavesLive old.heap.blocks old.touched new.touched
+  pub wild : FollowsNoPlace old.heap at old.touches new.touches
+  pub unread : ¬ (IsPlace old.heap.blocks at) → new.touched ≡ old.touched
 
 -- a look at the block that begins at a place
 pub record Looks (old new : Seen) (at : ℕ) (answer : Option PlacedBlock) : Type 0 where

@@ -39,6 +39,15 @@ release_at_touches = 29
 abbrev pub allocate_unset_touches : ℕ
 allocate_unset_touches = 31
 
+-- the most touches of an allocate out of the free block that begins at a place, however many bytes
+abbrev pub allocate_from_touches : ℕ
+allocate_from_touches = 25
+
+-- the most touches of an aligned allocate, however many bytes. They are 26 for the allocate, 82 to move the block on, and 1 for the
+-- length. Four are to spare
+abbrev pub allocate_aligned_touches : ℕ
+allocate_aligned_touches = 113
+
 -- the most touches of a resize. They are 3 to check the name, 1 for the tag after it, and 6 to take that block out of its list.
 -- Then come 7 for the headers, 7 to list the rest, and 3 for the payload. Each payload word of the block left takes one more
 abbrev pub resize_touches : ℕ

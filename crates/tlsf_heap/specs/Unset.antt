@@ -6,7 +6,6 @@ use Rattle.tlsf_heap.specs.Calls.{named, with_blocks, with_bytes, written}
 use Rattle.tlsf_heap.specs.GoodFit.{Site}
 use Rattle.tlsf_heap.specs.Image.{Image}
 use Rattle.tlsf_heap.specs.Laws.{IsLive}
-use Rattle.tlsf_heap.specs.Shown.{Shown}
 use Rattle.tlsf_heap.specs.Steady.{HasPayload}
 use Rattle.tlsf_heap.specs.declared.name.Name.{Name}
 
@@ -29,8 +28,8 @@ with_payload h name bytes = with_payload_at h bytes (named name h.blocks)
 
 -- a call that is to leave a heap of these blocks gave a name. It is live and was not before, its payload has the bytes that lie
 -- there, and every other payload stays
-pub record GivesUnset (old new : Shown) (given_heap : HeapState) (len : ℕ) (name : Name) : Type 0 where
-  pub heap : new.heap ≡ with_payload given_heap name (lying new.stored name.at len)
-  pub given : IsLive new.heap name × ¬ (IsLive old.heap name)
-  pub payload : HasPayload new.heap name (lying new.stored name.at len)
-  pub others : (other : Name) (bytes : List ℕ) → HasPayload old.heap other bytes → HasPayload new.heap other bytes
+pub record GivesUnset (old new : HeapState) (stored : Image) (given_heap : HeapState) (len : ℕ) (name : Name) : Type 0 where
+  pub heap : new ≡ with_payload given_heap name (lying stored name.at len)
+  pub given : IsLive new name × ¬ (IsLive old name)
+  pub payload : HasPayload new name (lying stored name.at len)
+  pub others : (other : Name) (bytes : List ℕ) → HasPayload old other bytes → HasPayload new other bytes

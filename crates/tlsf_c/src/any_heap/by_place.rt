@@ -1,13 +1,7 @@
 //! The heap of C's calls by place, whose level is told when it is opened.
-ghost use Rattle.std.specs.Prelude.{◌≡◌, ◌+◌, ◌*◌, ◌/◌, ◌%◌, ◌<◌, ◌≤◌, length, max, min, IfOk, IfSome, IsOk, OnErr};
-ghost use Rattle.tlsf_heap.specs.Aligned.{words_aligned};
-ghost use Rattle.tlsf_heap.specs.Blocks.{want};
-ghost use Rattle.tlsf_heap.specs.ByPlace.{name_at};
-ghost use Rattle.tlsf_heap.specs.Effects.{AllocatesUnset, ChecksBlocks, Looks, Moves, MovesUnsetAt, ReleasesAt};
-ghost use Rattle.tlsf_heap.specs.Footprint.{LeavesLive};
-ghost use Rattle.tlsf_heap.specs.Laws.{IsLive};
-ghost use Rattle.tlsf_heap.specs.Touched.{FollowsNoPlace, allocate_unset_touches, move_touches, move_unset_touches, release_at_touches, resize_touches, resize_unset_touches};
-ghost use Rattle.tlsf_heap.specs.Unset.{lying, with_payload};
+ghost use Rattle.std.specs.Prelude.{◌≡◌, max};
+ghost use Rattle.tlsf_heap.specs.Effects.{AllocatesAligned, AllocatesUnset, ChecksBlocks, Looks, Moves, MovesUnsetAt, NamesAt, ReleasesAt};
+ghost use Rattle.tlsf_heap.specs.Touched.{allocate_aligned_touches, allocate_unset_touches, move_touches, move_unset_touches, release_at_touches, resize_touches, resize_unset_touches};
 ghost use Rattle.tlsf_heap.specs.WordsInUse.{words_in_use};
 ghost use Rattle.tlsf_c.specs.Counting.{counted_request, counted_move};
 ghost use Rattle.tlsf_c.specs.Levels.{GoesOn, seen_at};
@@ -51,15 +45,9 @@ impl AnyHeap {
 
     /// `Heap::allocate_aligned`.
     pub fn allocate_aligned(&mut self, len: u32, step: u32, skew: u32) -> Result<Name, Refusal>
-        ensures answer { result ≡ (words_aligned self.old.level self.old.heap (want len) (max step 1) skew).answer }
-        ensures heap { IfOk result (λ name. self.new.heap
-            ≡ with_payload (words_aligned self.old.level self.old.heap (want len) (max step 1) skew).heap name (lying self.new.stored name.at len)) }
-        ensures aligned { IfOk result (λ name. (name.at + 3 + skew) % max step 1 ≡ 0) }
-        ensures err { OnErr result (self.new.heap ≡ self.old.heap) }
+        ensures allocates { AllocatesAligned allocate_aligned_touches self.old.level len (max step 1) skew (seen_at self.old) (seen_at self.new) self.new.stored result }
         ensures goes_on { GoesOn self.old self.new }
         ensures counts { self.new.counts ≡ counted_request self.old.counts result len self.new.heap }
-        ensures touches { self.new.touches ≤ self.old.touches + 113 }
-        ensures leaves { LeavesLive self.old.heap.blocks self.old.touched self.new.touched }
     {
         match &mut self.of_level {
             OfLevel::Four(heap) => self.refused.allocate_aligned(heap, len, step, skew),
@@ -93,14 +81,9 @@ impl AnyHeap {
 
     /// `Heap::name_at`.
     pub fn name_at(&mut self, at: u32) -> Option<Name>
-        ensures name { result ≡ name_at self.old.heap at }
-        ensures live { IfSome result (λ name. IsLive self.old.heap name × (name.at ≡ at) × (at < self.old.heap.words)) }
-        ensures heap { self.new.heap ≡ self.old.heap }
+        ensures names { NamesAt (seen_at self.old) (seen_at self.new) at result }
         ensures goes_on { GoesOn self.old self.new }
         ensures counts { self.new.counts ≡ self.old.counts }
-        ensures touches { self.new.touches ≤ self.old.touches + 3 }
-        ensures leaves { LeavesLive self.old.heap.blocks self.old.touched self.new.touched }
-        ensures wild { FollowsNoPlace self.old.heap at self.old.touches self.new.touches }
     {
         match &mut self.of_level {
             OfLevel::Four(heap) => heap.name_at(at),

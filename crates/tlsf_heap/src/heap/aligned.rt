@@ -1,15 +1,15 @@
-ghost use Rattle.std.specs.Prelude.{◌≡◌, ◌+◌, ◌%◌, ◌^◌, ◌<◌, ◌≤◌, max, IfOk, OnErr, IsOk};
+ghost use Rattle.std.specs.Prelude.{◌≡◌, ◌+◌, ◌%◌, ◌^◌, ◌<◌, ◌≤◌, max, OnErr, IsOk};
 ghost use Rattle.tlsf_class.specs.Classes.{most_words};
-ghost use Rattle.tlsf_heap.specs.Aligned.{words_from, gap_of, moved_on, words_aligned, AnswersFrom, AnswersAligned};
+ghost use Rattle.tlsf_heap.specs.Aligned.{words_from, gap_of, moved_on, AnswersFrom};
 ghost use Rattle.tlsf_heap.specs.Blocks;
 ghost use Rattle.tlsf_heap.specs.Calls.{last_tick, named};
+ghost use Rattle.tlsf_heap.specs.Effects.{AllocatesAligned, AllocatesFrom};
 ghost use Rattle.tlsf_heap.specs.Given.{payload_words_at};
 ghost use Rattle.tlsf_heap.specs.Footprint.{LeavesLive, LeavesPayloads};
 ghost use Rattle.tlsf_heap.specs.Laws.{IsLive};
-ghost use Rattle.tlsf_heap.specs.Unset.{GivesUnset};
-ghost use Rattle.tlsf_heap.specs.declared.name.Name.{Name};
+ghost use Rattle.tlsf_heap.specs.Shown.{seen};
 ghost use Rattle.tlsf_heap.specs.Kept.{IsAsBefore, Keeps};
-ghost use Rattle.tlsf_heap.specs.Touched.{FollowsNoPlace};
+ghost use Rattle.tlsf_heap.specs.Touched.{FollowsNoPlace, allocate_aligned_touches, allocate_from_touches};
 ghost use Rattle.tlsf_heap.specs.WordsInUse.{words_in_use, Peaks};
 ghost use Rattle.tlsf_words.specs.Touched.{InGroups};
 
@@ -49,25 +49,14 @@ impl<const SLI: u32> Heap<SLI> {
     /// heap.allocate_from(4, 100) == Err(Refusal::Stale)
     /// ```
     pub fn allocate_from(&mut self, at: u32, len: u32) -> Result<Name, Refusal>
-        ensures answer { result ≡ (words_from self.old.heap at (Blocks.want len)).answer }
+        // Accepted or refused, and whatever the region holds.
+        ensures allocates { AllocatesFrom allocate_from_touches len (seen self.old) (seen self.new) self.new.stored at result }
 
-        // Accepted, the heap is as one of those words is given, with the bytes that lie there as its payload. The name is of that
-        // place, live, and was not before. Its payload has this length, and every other payload stays.
-        ensures gives { IfOk result (GivesUnset self.old self.new (words_from self.old.heap at (Blocks.want len)).heap len) }
-        ensures place { IfOk result (λ name. name.at ≡ at) }
-
-        // When it is Stale, when it is NoRoom, and when it is a name. A refusal changes nothing.
-        ensures cases { AnswersFrom self.old.heap at (Blocks.want len) result }
+        // A refusal changes nothing.
         ensures err { OnErr result (IsAsBefore self.old self.new) }
         ensures keeps { Keeps SLI self.old self.new }
         ensures peak { Peaks self.old self.new }
-
-        // Accepted or refused, whatever the region holds, and however many bytes.
-        ensures touches { self.new.touches ≤ self.old.touches + 25 }
-        ensures leaves { LeavesLive self.old.heap.blocks self.old.touched self.new.touched }
         ensures groups { InGroups 13 self.old.touched self.new.touched }
-        ensures wild { FollowsNoPlace self.old.heap at self.old.touches self.new.touches }
-        ensures unread { ¬ (Blocks.IsPlace self.old.heap.blocks at) → self.new.touched ≡ self.old.touched }
     {
         let name = match self.words_from(at, want(len)) {
             Ok(name) => name,
@@ -90,22 +79,13 @@ impl<const SLI: u32> Heap<SLI> {
     /// (name.at + 3) % 8 == 0
     /// ```
     pub fn allocate_aligned(&mut self, len: u32, step: u32, skew: u32) -> Result<Name, Refusal>
-        ensures answer { result ≡ (words_aligned SLI self.old.heap (Blocks.want len) (max step 1) skew).answer }
+        // Accepted or refused, and whatever the region holds.
+        ensures allocates { AllocatesAligned allocate_aligned_touches SLI len (max step 1) skew (seen self.old) (seen self.new) self.new.stored result }
 
-        // Accepted, the heap is as one of those words is given, with the bytes that lie there as its payload. It begins at such a
-        // word, and the name is live and was not before. Its payload has this length, and every other payload stays.
-        ensures gives { IfOk result (GivesUnset self.old self.new (words_aligned SLI self.old.heap (Blocks.want len) (max step 1) skew).heap len) }
-        ensures aligned { IfOk result (λ name. (name.at + 3 + skew) % max step 1 ≡ 0) }
-
-        // When it is Worn, when it is NoFit, and when it is a name. A refusal changes nothing.
-        ensures cases { AnswersAligned SLI self.old.heap (Blocks.want len) (max step 1) result }
+        // A refusal changes nothing.
         ensures err { OnErr result (IsAsBefore self.old self.new) }
         ensures keeps { Keeps SLI self.old self.new }
         ensures peak { Peaks self.old self.new }
-
-        // Accepted or refused, whatever the region holds, and however many bytes.
-        ensures touches { self.new.touches ≤ self.old.touches + 113 }
-        ensures leaves { LeavesLive self.old.heap.blocks self.old.touched self.new.touched }
         ensures groups { InGroups 56 self.old.touched self.new.touched }
     {
         if self.tick >= u64::MAX - 3 {

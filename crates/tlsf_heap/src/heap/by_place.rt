@@ -1,9 +1,8 @@
-ghost use Rattle.std.specs.Prelude.{◌≡◌, ◌+◌, ◌<◌, ◌≤◌, IfSome, MatchOption, None, Ok, OnErr, Some};
+ghost use Rattle.std.specs.Prelude.{◌≡◌, ◌+◌, ◌<◌, ◌≤◌, MatchOption, None, Ok, OnErr, Some};
 ghost use Rattle.tlsf_heap.specs.Blocks;
 ghost use Rattle.tlsf_heap.specs.ByPlace.{name_at};
-ghost use Rattle.tlsf_heap.specs.Effects.{ReleasesAt};
+ghost use Rattle.tlsf_heap.specs.Effects.{NamesAt, ReleasesAt};
 ghost use Rattle.tlsf_heap.specs.Footprint.{LeavesLive};
-ghost use Rattle.tlsf_heap.specs.Laws.{IsLive};
 ghost use Rattle.tlsf_heap.specs.Named.{IsNameCheck};
 ghost use Rattle.tlsf_heap.specs.Kept.{IsAsBefore, Keeps};
 ghost use Rattle.tlsf_heap.specs.Shown.{seen};
@@ -26,17 +25,10 @@ impl<const SLI: u32> Heap<SLI> {
     /// heap.name_at(1) == None
     /// ```
     pub fn name_at(&mut self, at: u32) -> Option<Name>
-        ensures name { result ≡ name_at self.old.heap at }
-
-        // This comes to: the name is live, and its block begins there.
-        ensures live { IfSome result (λ name. IsLive self.old.heap name × (name.at ≡ at) × (at < self.old.heap.words)) }
+        ensures names { NamesAt (seen self.old) (seen self.new) at result }
         ensures same { IsAsBefore self.old self.new }
         ensures keeps { Keeps SLI self.old self.new }
-        ensures touches { self.new.touches ≤ self.old.touches + 3 }
-        ensures leaves { LeavesLive self.old.heap.blocks self.old.touched self.new.touched }
         ensures groups { InGroups 2 self.old.touched self.new.touched }
-        ensures wild { FollowsNoPlace self.old.heap at self.old.touches self.new.touches }
-        ensures unread { ¬ (Blocks.IsPlace self.old.heap.blocks at) → self.new.touched ≡ self.old.touched }
     {
         match self.find_at(at) {
             None => None,

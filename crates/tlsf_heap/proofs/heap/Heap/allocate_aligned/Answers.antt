@@ -1,4 +1,6 @@
-use Rattle.tlsf_heap.proofs.Common.{◌≡◌, ℕ, List, times, Fill, words_in_use, ◌+◌, ◌≤◌, ◌<◌, max, [], refl, arith, sym, ap, ◌∙◌, subst, suc, false≢true, aligned_words, HeapState, want, Outcome, last_tick, fits, IsLawful, Shown, lying, with_payload, Name, IsOthersWord, IsLiveWord}
+use Rattle.tlsf_heap.proofs.Common.{◌≡◌, ℕ, List, times, Fill, words_in_use, ◌+◌, ◌≤◌, ◌<◌, max, [], refl, arith, sym, ap, ◌∙◌, subst, suc, false≢true, aligned_words, HeapState, want, Outcome, last_tick, fits, IsLawful, Shown, lying, with_payload, Name, IsOthersWord, IsLiveWord, LeavesLive, rules, Err, NoFit}
+use Rattle.tlsf_heap.specs.Aligned.{words_aligned}
+use Rattle.tlsf_heap.specs.Unset.{GivesUnset}
 use Rattle.tlsf_class.proofs.TwoLevels.{most_words_any}
 use Rattle.tlsf_heap.proofs.lemmas.calls.AllocateAligned.{IsAligned, has_live, has_room, none_fits, aligned_past, first_moves, first_moved, gives_name, gives_payload, gives_others}
 use Rattle.tlsf_heap.proofs.lemmas.blocks.Sites.{fits_nothing}
@@ -9,6 +11,19 @@ use Rattle.tlsf_words.proofs.Touching.{no_groups, more_groups, groups_then}
 use Rattle.tlsf_heap.proofs.heap.Heap.allocate_aligned.Given.{Over}
 use Rattle.tlsf_heap.proofs.heap.Heap.allocate_aligned.Goals as goal
 
+pub returns-then-self-clause-allocates : goal.returns-then-self-clause-allocates
+returns-then-self-clause-allocates g c =
+    record {
+      answer_is = search rules;
+      gives = search rules;
+      aligned = search rules;
+      cases = search rules;
+      unchanged = search rules;
+      touches = search rules;
+      rise = search rules;
+      leaves = search rules;
+    }
+
 pub returns-then-self-clause-keeps : goal.returns-then-self-clause-keeps
 returns-then-self-clause-keeps g c = keeps_same g.row.SLI c.self.inside c.self.view_is c.self.invariant
 
@@ -18,8 +33,8 @@ returns-then-self-clause-keeps g c = keeps_same g.row.SLI c.self.inside c.self.v
 past : (g : Over) (c : goal.Then-step-most_words g) → c.args.self.now.heap.words < aligned_words (want c.args.len) c.max-step.result
 past g c = omega (arith, ap (λ (s : Shown). s.heap.words) c.self.view_is, c.self.invariant.small, c.most_words.ensures, c.if-step-most_words.true)
 
-pub returns-then-step-most_words-clause-answer : goal.returns-then-step-most_words-clause-answer
-returns-then-step-most_words-clause-answer g c =
+refuses : (g : Over) (c : goal.Then-step-most_words g) → Err NoFit ≡ (words_aligned g.row.SLI c.args.self.now.heap (want c.args.len) (max c.args.step 1) c.args.skew).answer
+refuses g c =
     let h = c.args.self.now.heap in
     let view = ap (λ (s : Shown). s.heap) c.self.view_is in
     let lawful = subst IsLawful view c.self.invariant.lawful in
@@ -32,18 +47,40 @@ none g c =
     let lawful = subst IsLawful (ap (λ (s : Shown). s.heap) c.self.view_is) c.self.invariant.lawful in
     rw c.max-step.ensures at (fits_nothing g.row.SLI (aligned_words (want c.args.len) c.max-step.result) h.blocks (none_fits g.row.SLI c.self.invariant.level h (aligned_words (want c.args.len) c.max-step.result) lawful (past g c)))
 
-pub returns-then-step-most_words-clause-cases : goal.returns-then-step-most_words-clause-cases
-returns-then-step-most_words-clause-cases g c =
+pub returns-then-step-most_words-clause-allocates : goal.returns-then-step-most_words-clause-allocates
+returns-then-step-most_words-clause-allocates g c =
     let left = c.if-self.false in
     let tick = ap (λ (s : Shown). s.heap.tick) c.self.view_is in
     record {
-      worn = (λ bad. cc, λ past. absurd (omega (arith, past, left, tick)));
-      no_fit = λ left. (λ _. none g c, λ _. refl);
-      ok = (λ e. absurd (false≢true e), λ p. absurd (p.1 (none g c)));
+      answer_is = refuses g c;
+      gives = search rules;
+      aligned = search rules;
+      cases = record {
+        worn = (λ bad. cc, λ past. absurd (omega (arith, past, left, tick)));
+        no_fit = λ left. (λ _. none g c, λ _. refl);
+        ok = (λ e. absurd (false≢true e), λ p. absurd (p.1 (none g c)));
+      };
+      unchanged = search rules;
+      touches = search rules;
+      rise = search rules;
+      leaves = search rules;
     }
 
 pub returns-then-step-most_words-clause-keeps : goal.returns-then-step-most_words-clause-keeps
 returns-then-step-most_words-clause-keeps g c = keeps_same g.row.SLI c.self.inside c.self.view_is c.self.invariant
+
+pub returns-in-Err-clause-allocates : goal.returns-in-Err-clause-allocates
+returns-in-Err-clause-allocates g c =
+    record {
+      answer_is = search rules;
+      gives = search rules;
+      aligned = search rules;
+      cases = search rules;
+      unchanged = search rules;
+      touches = search rules;
+      rise = search rules;
+      leaves = λ k live. c.allocate_words.ensures.allocates.leaves k live;
+    }
 
 -- ---- the block is moved on
 
@@ -92,14 +129,10 @@ done g c =
     first_moved g.row.SLI c.self.invariant.level h c.want-words.result c.max-step.result c.args.skew lawful left (omega (arith, c.max-step.ensures)) (omega (arith, c.want-words.ensures)) a c.in-Ok.first c.gap-gap.result c.allocate_words.ensures.allocates.heap c.in-Ok.ensures.allocates.answer_is c.allocate_words.ensures.keeps.lawful c.gap-gap.ensures
     c.move_on.new.self.heap c.in_ok-name.name c.move_on.ensures.heap c.in_ok-name.ensures.answer
 
-pub returns-clause-answer : goal.returns-clause-answer
-returns-clause-answer g c = rw (c.want-words.ensures, c.max-step.ensures) at (done g c).is_answer
-
-pub returns-clause-aligned : goal.returns-clause-aligned
-returns-clause-aligned g c = rw c.max-step.ensures at (done g c).place
-
-pub returns-clause-gives : goal.returns-clause-gives
-returns-clause-gives g c =
+-- the name is live, with the bytes that lie there
+given : (g : Over) (c : goal.After-set_length g)
+    → GivesUnset c.args.self.now.heap c.set_length.new.self.heap c.set_length.new.self.stored (words_aligned g.row.SLI c.args.self.now.heap (want c.args.len) (max c.args.step 1) c.args.skew).heap c.args.len c.in_ok-name.name
+given g c =
     let h = c.args.self.now.heap in
     let name = c.in_ok-name.name in
     let bytes = lying c.set_length.new.self.stored name.at c.args.len in
@@ -112,27 +145,9 @@ returns-clause-gives g c =
       others = gives_others h c.move_on.new.self.heap name c.want-words.result (done g c).gives lawful bytes c.set_length.new.self.heap is;
     }
 
-pub returns-clause-peak : goal.returns-clause-peak
-returns-clause-peak g c =
-    let bytes = lying c.set_length.new.self.stored c.in_ok-name.name.at c.args.len in
-    omega (arith, ap (λ (s : Shown). s.most_in_use) c.self.view_is, ap words_in_use c.set_length.ensures.heap, (words_set g.row.SLI c.set_most_in_use.new.self.heap (Fill c.in_ok-name.name bytes) tt).0, c.set_most_in_use.ensures.most, c.set_length.ensures.most)
-
--- ---- the payloads of other blocks
-
-pub returns-in-Err-clause-leaves : goal.returns-in-Err-clause-leaves
-returns-in-Err-clause-leaves g c k live = c.allocate_words.ensures.allocates.leaves k live
-
-pub returns-in_err-name-clause-leaves : goal.returns-in_err-name-clause-leaves
-returns-in_err-name-clause-leaves g c k live =
-    let h = c.args.self.now.heap in
-    let first = c.in-Ok.first in
-    let e = c.allocate_words.ensures in
-    let given = given_word h (suc live.1) k (live.0, live.1, live.2, live.3, λ e. omega (arith, e)) g.row.SLI _ 0 e.keeps.was_lawful first (sym e.allocates.answer_is ∙ c.in-Ok.is) in
-    let left = subst (λ (s : HeapState). IsOthersWord s.blocks first.at k) (sym e.allocates.heap) given in
-    c.move_on.ensures.leaves k left ∙ e.allocates.leaves k live
-
-pub returns-clause-leaves : goal.returns-clause-leaves
-returns-clause-leaves g c k live =
+-- no payload word of another block was touched
+left_alone : (g : Over) (c : goal.After-set_length g) → LeavesLive c.args.self.now.heap.blocks c.args.self.now.touched c.set_length.new.self.touched
+left_alone g c k live =
     let h = c.args.self.now.heap in
     let first = c.in-Ok.first in
     let e = c.allocate_words.ensures in
@@ -140,6 +155,39 @@ returns-clause-leaves g c k live =
     let left = subst (λ (s : HeapState). IsOthersWord s.blocks first.at k) (sym e.allocates.heap) given in
     let after = subst (λ (s : HeapState). IsLiveWord s.blocks k) (sym (c.set_most_in_use.ensures.heap ∙ c.move_on.ensures.heap)) (moved_word c.allocate_words.new.self.heap first c.gap-gap.result c.want-words.result k left) in
     c.set_length.ensures.leaves k after ∙ ap (λ (l : List ℕ). times l k) c.set_most_in_use.ensures.touched ∙ c.move_on.ensures.leaves k left ∙ e.allocates.leaves k live
+
+pub returns-clause-allocates : goal.returns-clause-allocates
+returns-clause-allocates g c =
+    record {
+      answer_is = rw (c.want-words.ensures, c.max-step.ensures) at (done g c).is_answer;
+      gives = given g c;
+      aligned = rw c.max-step.ensures at (done g c).place;
+      cases = search rules;
+      unchanged = search rules;
+      touches = search rules;
+      rise = search rules;
+      leaves = left_alone g c;
+    }
+
+pub returns-clause-peak : goal.returns-clause-peak
+returns-clause-peak g c =
+    let bytes = lying c.set_length.new.self.stored c.in_ok-name.name.at c.args.len in
+    omega (arith, ap (λ (s : Shown). s.most_in_use) c.self.view_is, ap words_in_use c.set_length.ensures.heap, (words_set g.row.SLI c.set_most_in_use.new.self.heap (Fill c.in_ok-name.name bytes) tt).0, c.set_most_in_use.ensures.most, c.set_length.ensures.most)
+
+-- ---- the move is never refused
+
+pub returns-in_err-name-clause-allocates : goal.returns-in_err-name-clause-allocates
+returns-in_err-name-clause-allocates g c =
+    record {
+      answer_is = search rules;
+      gives = search rules;
+      aligned = search rules;
+      cases = search rules;
+      unchanged = search rules;
+      touches = search rules;
+      rise = search rules;
+      leaves = search rules;
+    }
 
 -- ---- groups of eight words
 

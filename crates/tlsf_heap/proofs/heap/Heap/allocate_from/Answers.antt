@@ -1,5 +1,7 @@
-use Rattle.tlsf_heap.proofs.Common.{refl, arith, ap, sym, subst, ◌∙◌, HeapState, lying, with_payload, IsLiveWord, GiveFrom, Fill, words_in_use}
+use Rattle.tlsf_heap.proofs.Common.{refl, arith, rules, want, ap, sym, subst, ◌∙◌, HeapState, lying, with_payload, IsLiveWord, GiveFrom, Fill, words_in_use}
 use Rattle.tlsf_heap.proofs.lemmas.calls.AllocateAligned.{Gives, has_live, has_room, from_has, from_gives, gives_name, gives_payload, gives_others}
+use Rattle.tlsf_heap.specs.Aligned.{words_from}
+use Rattle.tlsf_heap.specs.Unset.{GivesUnset}
 use Rattle.tlsf_heap.proofs.lemmas.calls.AllocateFrom.{free_not_wild}
 use Rattle.tlsf_heap.proofs.lemmas.laws.WordsInUse.{words_set}
 use Rattle.tlsf_heap.proofs.lemmas.calls.Leaves.{live_step}
@@ -22,11 +24,24 @@ gives g c =
     let h = c.args.self.now.heap in
     subst (λ (s : HeapState). Gives h s c.in-Ok.name c.want.result) (sym c.words_from.ensures.heap) (from_gives h c.args.at c.want.result c.in-Ok.name c.in-Ok.ensures.answer)
 
-pub returns-clause-place : goal.returns-clause-place
-returns-clause-place g c = (from_has c.args.self.now.heap c.args.at c.want.result c.in-Ok.name (sym c.in-Ok.ensures.answer)).1
+pub returns-in-Err-clause-allocates : goal.returns-in-Err-clause-allocates
+returns-in-Err-clause-allocates g c =
+    record {
+      answer_is = search rules;
+      gives = search rules;
+      place = search rules;
+      cases = rw c.want.ensures at c.in-Err.ensures.cases;
+      unchanged = search rules;
+      touches = search rules;
+      rise = search rules;
+      leaves = λ k live. c.words_from.ensures.leaves k live;
+      wild = search rules;
+      unread = search rules;
+    }
 
-pub returns-clause-gives : goal.returns-clause-gives
-returns-clause-gives g c =
+-- the name is live, with the bytes that lie there
+given : (g : Over) (c : goal.After-set_length g) → GivesUnset c.args.self.now.heap c.set_length.new.self.heap c.set_length.new.self.stored (words_from c.args.self.now.heap c.args.at (want c.args.len)).heap c.args.len c.in-Ok.name
+given g c =
     let h = c.args.self.now.heap in
     let name = c.in-Ok.name in
     let bytes = lying c.set_length.new.self.stored name.at c.args.len in
@@ -39,33 +54,29 @@ returns-clause-gives g c =
       others = gives_others h c.words_from.new.self.heap name c.want.result (gives g c) lawful bytes c.set_length.new.self.heap is;
     }
 
-pub returns-in-Err-clause-cases : goal.returns-in-Err-clause-cases
-returns-in-Err-clause-cases g c = rw c.want.ensures at c.in-Err.ensures.cases
-
-pub returns-clause-cases : goal.returns-clause-cases
-returns-clause-cases g c = rw c.want.ensures at c.in-Ok.ensures.cases
+-- its place is one of the region
+pub returns-clause-allocates : goal.returns-clause-allocates
+returns-clause-allocates g c =
+    let h = c.args.self.now.heap in
+    let e = c.words_from.ensures in
+    let room = (c.in-Ok.ensures.cases.ok.0 refl).0 in
+    record {
+      answer_is = search rules;
+      gives = given g c;
+      place = (from_has h c.args.at c.want.result c.in-Ok.name (sym c.in-Ok.ensures.answer)).1;
+      cases = rw c.want.ensures at c.in-Ok.ensures.cases;
+      unchanged = tt;
+      touches = search rules;
+      rise = search rules;
+      leaves = λ k live. c.set_length.ensures.leaves k (subst (λ (s : HeapState). IsLiveWord s.blocks k) (sym e.heap) (live_step h k live 0 (GiveFrom c.args.at c.want.result) tt)) ∙ e.leaves k live;
+      wild = free_not_wild refl e.keeps.was_lawful (room.0, room.1) _ _;
+      unread = λ none. absurd (none (room.0, room.1.stands));
+    }
 
 pub returns-clause-peak : goal.returns-clause-peak
 returns-clause-peak g c =
     let bytes = lying c.set_length.new.self.stored c.in-Ok.name.at c.args.len in
     omega (arith, ap words_in_use c.set_length.ensures.heap, (words_set g.row.SLI c.words_from.new.self.heap (Fill c.in-Ok.name bytes) tt).0, c.words_from.ensures.peak, c.set_length.ensures.most)
-
--- ---- the place is one of the region
-
-pub returns-clause-wild : goal.returns-clause-wild
-returns-clause-wild g c =
-    let room = (c.in-Ok.ensures.cases.ok.0 refl).0 in
-    free_not_wild refl c.words_from.ensures.keeps.was_lawful (room.0, room.1) _ _
-
--- ---- the payloads of other blocks
-
-pub returns-in-Err-clause-leaves : goal.returns-in-Err-clause-leaves
-returns-in-Err-clause-leaves g c k live = c.words_from.ensures.leaves k live
-
-pub returns-clause-leaves : goal.returns-clause-leaves
-returns-clause-leaves g c k live =
-    c.set_length.ensures.leaves k (subst (λ (s : HeapState). IsLiveWord s.blocks k) (sym c.words_from.ensures.heap) (live_step c.args.self.now.heap k live 0 (GiveFrom c.args.at c.want.result) tt))
-    ∙ c.words_from.ensures.leaves k live
 
 -- ---- groups of eight words
 
@@ -74,8 +85,3 @@ returns-in-Err-clause-groups g c = more_groups (omega arith) c.words_from.ensure
 
 pub returns-clause-groups : goal.returns-clause-groups
 returns-clause-groups g c = groups_then c.words_from.ensures.groups c.set_length.ensures.groups
-
-pub returns-clause-unread : goal.returns-clause-unread
-returns-clause-unread g c none =
-    let room = (c.in-Ok.ensures.cases.ok.0 refl).0 in
-    absurd (none (room.0, room.1.stands))
