@@ -1,12 +1,10 @@
 //! A heap whose level is told when it is opened.
-ghost use Rattle.std.specs.Prelude.{◌≡◌, ◌+◌, ◌≤◌, ◌↔◌, length, IfOk, IfErr, IsErrOf, MatchResult, Ok, Err};
+ghost use Rattle.std.specs.Prelude.{◌≡◌, ◌+◌, ◌≤◌, ◌↔◌, length, IfOk, IfErr, IsErrOf};
 ghost use Rattle.tlsf_heap.specs.Blocks.{want};
 ghost use Rattle.tlsf_heap.specs.Lawful.{IsRegion};
 ghost use Rattle.tlsf_heap.specs.Calls.{opened};
-ghost use Rattle.tlsf_heap.specs.InPlace.{IsPayloadCheck};
-ghost use Rattle.tlsf_heap.specs.Effects.{Allocates, Reads, Releases, Reports, Resets, Resizes, Writes};
-ghost use Rattle.tlsf_heap.specs.Footprint.{LeavesLive};
-ghost use Rattle.tlsf_heap.specs.Touched.{FollowsNoForgery, allocate_touches, read_touches, release_touches, reset_touches, resize_touches, write_touches};
+ghost use Rattle.tlsf_heap.specs.Effects.{Allocates, Locates, Reads, Releases, Reports, Resets, Resizes, Writes};
+ghost use Rattle.tlsf_heap.specs.Touched.{allocate_touches, read_touches, release_touches, reset_touches, resize_touches, write_touches};
 ghost use Rattle.tlsf_heap.specs.WordsInUse.{words_in_use};
 ghost use Rattle.tlsf_c.specs.Counting.{no_counts, counted, counted_request};
 ghost use Rattle.tlsf_c.specs.Levels.{GoesOn, seen_at};
@@ -147,14 +145,9 @@ impl AnyHeap {
 
     /// `Heap::payload`.
     pub fn payload(&mut self, name: Name) -> Result<(*mut u64, u32), Refusal>
-        ensures address { IfOk result (λ p. p.0 ≡ self.old.extents.words.address) }
-        ensures payload { MatchResult result (λ p. IsPayloadCheck self.old.heap name (Ok p.1)) (λ why. IsPayloadCheck self.old.heap name (Err why)) }
-        ensures heap { self.new.heap ≡ self.old.heap }
+        ensures locates { Locates self.old.extents.words.address (seen_at self.old) (seen_at self.new) name result }
         ensures goes_on { GoesOn self.old self.new }
         ensures counts { self.new.counts ≡ self.old.counts }
-        ensures touches { self.new.touches ≤ self.old.touches + 4 }
-        ensures leaves { LeavesLive self.old.heap.blocks self.old.touched self.new.touched }
-        ensures forged { FollowsNoForgery (seen_at self.old) (seen_at self.new) name }
     {
         match &mut self.of_level {
             OfLevel::Four(heap) => heap.payload(name),

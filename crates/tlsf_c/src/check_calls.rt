@@ -1,15 +1,13 @@
 //! C's looks at the headers that another call is about to follow.
-ghost use Rattle.std.specs.Prelude.{◌≡◌, true, false, ◌≤◌, ◌+◌, Option, MatchOption};
-ghost use Rattle.tlsf_heap.specs.Around.{FindsChoice, IsAroundCheck, around_touches, request_touches};
+ghost use Rattle.std.specs.Prelude.{◌≡◌, true, false, Option};
 ghost use Rattle.tlsf_heap.specs.Blocks.{want, IsPlace};
 ghost use Rattle.tlsf_heap.specs.Chosen.{NoneFits};
-ghost use Rattle.tlsf_heap.specs.Footprint.{LeavesLive};
+ghost use Rattle.tlsf_heap.specs.Effects.{ChecksAround, ChecksRequest};
 ghost use Rattle.tlsf_heap.specs.Numbers.{number_of};
-ghost use Rattle.tlsf_heap.specs.Touched.{FollowsNoPlace};
 ghost use Rattle.tlsf_heap.specs.declared.checked.Checked.{Checked};
 ghost use Rattle.tlsf_heap.specs.declared.refusal.Refusal.TheVariants.{NoFit, Stale};
 ghost use Rattle.tlsf_c.specs.Checked.{check_number_of, request_number_of, damaged_told};
-ghost use Rattle.tlsf_c.specs.Handles.{counts_in, heap_in, level_in, stored_in, touches_in, touched_in, StaysOpen, serves};
+ghost use Rattle.tlsf_c.specs.Handles.{counts_in, heap_in, seen_in, level_in, stored_in, StaysOpen, serves};
 ghost use Rattle.tlsf_c.specs.Lengths.{saturated};
 ghost use Rattle.tlsf_c.specs.Refusals.{closed, damage};
 
@@ -34,13 +32,9 @@ pub extern "C" fn tlsf_check_around(heap: &mut HeapSlot, at: u32, damaged: &mut 
     ensures open { serves heap.old ≡ true → StaysOpen heap.old heap.new }
     ensures sound { serves heap.old ≡ true → IsPlace (heap_in heap.old).blocks at → result ≡ 0 }
     ensures stale { serves heap.old ≡ true → ¬ (IsPlace (heap_in heap.old).blocks at) → result ≡ number_of Stale }
-    ensures looks { serves heap.old ≡ true → (found : Option Checked) × IsAroundCheck (stored_in heap.old) at found × (result ≡ check_number_of found) × (damaged.new ≡ damaged_told damaged.old found) }
     ensures no_damage { ¬ (result ≡ damage) → damaged.new ≡ damaged.old }
-    ensures heap { serves heap.old ≡ true → heap_in heap.new ≡ heap_in heap.old }
-    ensures wild { serves heap.old ≡ true → FollowsNoPlace (heap_in heap.old) at (touches_in heap.old) (touches_in heap.new) }
     ensures counts { serves heap.old ≡ true → counts_in heap.new ≡ counts_in heap.old }
-    ensures touches { serves heap.old ≡ true → touches_in heap.new ≤ touches_in heap.old + around_touches }
-    ensures leaves { serves heap.old ≡ true → LeavesLive (heap_in heap.old).blocks (touched_in heap.old) (touched_in heap.new) }
+    ensures checks { serves heap.old ≡ true → (found : Option Checked) × ChecksAround (stored_in heap.old) at (seen_in heap.old) (seen_in heap.new) found × (result ≡ check_number_of found) × (damaged.new ≡ damaged_told damaged.old found) }
 {
     if !heap.serves() {
         return CallFault::Closed.number();
@@ -67,15 +61,10 @@ pub extern "C" fn tlsf_check_around(heap: &mut HeapSlot, at: u32, damaged: &mut 
 pub extern "C" fn tlsf_check_request(heap: &mut HeapSlot, len: usize, damaged: &mut u32) -> u32
     ensures closed { serves heap.old ≡ false → (result ≡ closed) × (heap.new ≡ heap.old) }
     ensures open { serves heap.old ≡ true → StaysOpen heap.old heap.new }
-    ensures looks { serves heap.old ≡ true → (found : Option Checked)
-        × MatchOption found (NoneFits (level_in heap.old) (want (saturated len)) (heap_in heap.old).blocks) (FindsChoice (level_in heap.old) (want (saturated len)) (stored_in heap.old) (heap_in heap.old).blocks)
-        × (result ≡ request_number_of found) × (damaged.new ≡ damaged_told damaged.old found) }
     ensures sound { serves heap.old ≡ true → ¬ (NoneFits (level_in heap.old) (want (saturated len)) (heap_in heap.old).blocks) → result ≡ 0 }
     ensures no_damage { ¬ (result ≡ damage) → damaged.new ≡ damaged.old }
-    ensures heap { serves heap.old ≡ true → heap_in heap.new ≡ heap_in heap.old }
     ensures counts { serves heap.old ≡ true → counts_in heap.new ≡ counts_in heap.old }
-    ensures touches { serves heap.old ≡ true → touches_in heap.new ≤ touches_in heap.old + request_touches }
-    ensures leaves { serves heap.old ≡ true → LeavesLive (heap_in heap.old).blocks (touched_in heap.old) (touched_in heap.new) }
+    ensures checks { serves heap.old ≡ true → (found : Option Checked) × ChecksRequest (level_in heap.old) (stored_in heap.old) (saturated len) (seen_in heap.old) (seen_in heap.new) found × (result ≡ request_number_of found) × (damaged.new ≡ damaged_told damaged.old found) }
 {
     if !heap.serves() {
         return CallFault::Closed.number();

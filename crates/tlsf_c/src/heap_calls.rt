@@ -1,21 +1,20 @@
 //! C's calls of a heap.
-ghost use Rattle.std.specs.Prelude.{◌≡◌, true, false, ◌<◌, ◌≤◌, ◌+◌, ◌*◌, ◌%◌, length, Ok, Err, Some, None};
+ghost use Rattle.std.specs.Prelude.{◌≡◌, ℕ, true, false, ◌<◌, ◌≤◌, ◌%◌, length, Result, Ok, Some, None};
+ghost use denote.RawPtr.{Ptr};
 ghost use Rattle.tlsf_heap.specs.Blocks.{want};
 ghost use Rattle.tlsf_heap.specs.Lawful.{IsRegion};
 ghost use Rattle.tlsf_pool.specs.laws.MixedSizes.{mixed_region};
 ghost use Rattle.tlsf_heap.specs.Calls.{opened, allocated, released, reset, resized, written, read_of, read_answer};
-ghost use Rattle.tlsf_heap.specs.Effects.{Allocates, Moves, Reads, Releases, Reports, Resets, Resizes, Writes};
-ghost use Rattle.tlsf_heap.specs.Footprint.{LeavesLive};
+ghost use Rattle.tlsf_heap.specs.Effects.{Allocates, Locates, Moves, Reads, Releases, Reports, Resets, Resizes, Writes};
 ghost use Rattle.tlsf_heap.specs.InPlace.{IsPayloadCheck};
 ghost use Rattle.tlsf_heap.specs.Moved.{resized_or_moved};
-ghost use Rattle.tlsf_heap.specs.Numbers.{number_of};
-ghost use Rattle.tlsf_heap.specs.Touched.{FollowsNoForgery, allocate_touches, move_touches, read_touches, release_touches, reset_touches, resize_touches, write_touches};
+ghost use Rattle.tlsf_heap.specs.Touched.{allocate_touches, move_touches, read_touches, release_touches, reset_touches, resize_touches, write_touches};
 ghost use Rattle.tlsf_heap.specs.declared.refusal.Refusal.{Refusal};
 ghost use Rattle.tlsf_heap.specs.WordsInUse.{words_in_use};
 ghost use Rattle.tlsf_c.specs.Counting.{no_counts, counted, counted_request, counted_move};
 ghost use Rattle.tlsf_c.specs.Lengths.{saturated};
 ghost use Rattle.tlsf_c.specs.Names.{name_of, named, report_in};
-ghost use Rattle.tlsf_c.specs.Handles.{address_in, counts_in, heap_in, seen_in, level_in, touches_in, touched_in, MayNote, ReleasesIn, StaysOpen, serves};
+ghost use Rattle.tlsf_c.specs.Handles.{address_in, counts_in, heap_in, seen_in, level_in, touches_in, MayNote, ReleasesIn, StaysOpen, serves};
 ghost use Rattle.tlsf_c.specs.Refusals.{status_of, bad_size, no_memory, closed, in_use, bad_level};
 
 use crate::any_heap::AnyHeap;
@@ -409,14 +408,9 @@ pub extern "C" fn tlsf_locate(
     ensures open { serves heap.old ≡ true → StaysOpen heap.old heap.new }
     ensures base { serves heap.old ≡ true → result ≡ 0 → base.new ≡ address_in heap.old }
     ensures len { serves heap.old ≡ true → result ≡ 0 → IsPayloadCheck (heap_in heap.old) (name_of name) (Ok len.new) }
-    ensures refused { serves heap.old ≡ true → ¬ (result ≡ 0) → (why : Refusal)
-        × IsPayloadCheck (heap_in heap.old) (name_of name) (Err why) × (result ≡ number_of why) }
-    ensures heap { serves heap.old ≡ true → heap_in heap.new ≡ heap_in heap.old }
     ensures kept { ¬ (result ≡ 0) → (base.new ≡ base.old) × (len.new ≡ len.old) }
-    ensures forged { serves heap.old ≡ true → FollowsNoForgery (seen_in heap.old) (seen_in heap.new) (name_of name) }
     ensures counts { serves heap.old ≡ true → counts_in heap.new ≡ counts_in heap.old }
-    ensures touches { serves heap.old ≡ true → touches_in heap.new ≤ touches_in heap.old + 4 }
-    ensures leaves { serves heap.old ≡ true → LeavesLive (heap_in heap.old).blocks (touched_in heap.old) (touched_in heap.new) }
+    ensures locates { serves heap.old ≡ true → (answer : Result (Ptr × ℕ) Refusal) × Locates (address_in heap.old) (seen_in heap.old) (seen_in heap.new) (name_of name) answer × (result ≡ status_of answer) }
 {
     if !heap.serves() {
         return CallFault::Closed.number();

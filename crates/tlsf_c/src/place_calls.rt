@@ -1,13 +1,12 @@
 //! C's calls of a heap by place, the number of the word at which a block begins. They are for a caller who has its address and
 //! keeps no name.
-ghost use Rattle.std.specs.Prelude.{◌≡◌, true, false, ◌≤◌, ◌+◌, ◌*◌, max, Ok, Option, Some, None};
+ghost use Rattle.std.specs.Prelude.{◌≡◌, true, false, max, Ok, Option, Some, None};
 ghost use Rattle.tlsf_heap.specs.ByPlace.{name_at, released_by_place, resized_or_moved_by_place};
 ghost use Rattle.tlsf_heap.specs.Aligned.{words_aligned};
 ghost use Rattle.tlsf_heap.specs.Blocks.{want, IsPlace};
 ghost use Rattle.tlsf_heap.specs.Calls.{allocated};
-ghost use Rattle.tlsf_heap.specs.Checks.{FindsSound, IsCheck, block_touches};
-ghost use Rattle.tlsf_heap.specs.Effects.{AllocatesAligned, AllocatesUnset, Looks, MovesUnsetAt, ReleasesAt};
-ghost use Rattle.tlsf_heap.specs.Footprint.{LeavesLive};
+ghost use Rattle.tlsf_heap.specs.Checks.{FindsSound};
+ghost use Rattle.tlsf_heap.specs.Effects.{AllocatesAligned, AllocatesUnset, ChecksBlocks, Looks, MovesUnsetAt, ReleasesAt};
 ghost use Rattle.tlsf_heap.specs.Numbers.{number_of};
 ghost use Rattle.tlsf_heap.specs.Placed.{placed_at};
 ghost use Rattle.tlsf_heap.specs.declared.name.Name.{Name};
@@ -16,13 +15,13 @@ ghost use Rattle.tlsf_heap.specs.declared.checked.Checked.TheVariants.{Sound};
 ghost use Rattle.tlsf_heap.specs.declared.placed_block.PlacedBlock.{PlacedBlock};
 ghost use Rattle.tlsf_heap.specs.declared.refusal.Refusal.TheVariants.{Stale};
 ghost use Rattle.tlsf_c.specs.Checked.{check_number_of, next_told, damaged_told};
-ghost use Rattle.tlsf_c.specs.Handles.{counts_in, heap_in, seen_in, level_in, stored_in, touches_in, touched_in, StaysOpen, serves};
+ghost use Rattle.tlsf_c.specs.Handles.{counts_in, heap_in, seen_in, level_in, stored_in, StaysOpen, serves};
 ghost use Rattle.tlsf_heap.specs.WordsInUse.{words_in_use};
 ghost use Rattle.tlsf_c.specs.Counting.{counted_request, counted_move};
 ghost use Rattle.tlsf_c.specs.Lengths.{saturated};
 ghost use Rattle.tlsf_c.specs.Names.{name_of, info_of, not_placed, placed_name};
 ghost use Rattle.tlsf_c.specs.PlaceCalls.{length_at};
-ghost use Rattle.tlsf_heap.specs.Touched.{FollowsNoPlace, allocate_aligned_touches, allocate_unset_touches, move_unset_touches, release_at_touches, resize_unset_touches};
+ghost use Rattle.tlsf_heap.specs.Touched.{allocate_aligned_touches, allocate_unset_touches, move_unset_touches, release_at_touches, resize_unset_touches};
 ghost use Rattle.tlsf_c.specs.Refusals.{status_of, closed, damage};
 
 use crate::call_fault::{CallFault, check_status, status};
@@ -277,15 +276,11 @@ pub extern "C" fn tlsf_check(
     ensures open { serves heap.old ≡ true → StaysOpen heap.old heap.new }
     ensures sound { serves heap.old ≡ true → IsPlace (heap_in heap.old).blocks from → (result ≡ 0) × FindsSound (heap_in heap.old).blocks from most (Sound next.new) }
     ensures stale { serves heap.old ≡ true → ¬ (IsPlace (heap_in heap.old).blocks from) → result ≡ number_of Stale }
-    ensures looks { serves heap.old ≡ true → (found : Option Checked) × IsCheck (stored_in heap.old) from most found × (result ≡ check_number_of found)
-        × (next.new ≡ next_told next.old found) × (damaged.new ≡ damaged_told damaged.old found) }
     ensures no_next { ¬ (result ≡ 0) → next.new ≡ next.old }
     ensures no_damage { ¬ (result ≡ damage) → damaged.new ≡ damaged.old }
-    ensures heap { serves heap.old ≡ true → heap_in heap.new ≡ heap_in heap.old }
-    ensures wild { serves heap.old ≡ true → FollowsNoPlace (heap_in heap.old) from (touches_in heap.old) (touches_in heap.new) }
     ensures counts { serves heap.old ≡ true → counts_in heap.new ≡ counts_in heap.old }
-    ensures touches { serves heap.old ≡ true → touches_in heap.new ≤ touches_in heap.old + 1 + block_touches * most }
-    ensures leaves { serves heap.old ≡ true → LeavesLive (heap_in heap.old).blocks (touched_in heap.old) (touched_in heap.new) }
+    ensures checks { serves heap.old ≡ true → (found : Option Checked) × ChecksBlocks (stored_in heap.old) from most (seen_in heap.old) (seen_in heap.new) found × (result ≡ check_number_of found)
+        × (next.new ≡ next_told next.old found) × (damaged.new ≡ damaged_told damaged.old found) }
 {
     if !heap.serves() {
         return CallFault::Closed.number();

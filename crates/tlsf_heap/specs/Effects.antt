@@ -1,16 +1,19 @@
 -- The effect of one call of a heap, told once: each layer above says it of its own view.
-use Rattle.std.specs.Prelude.{◌≡◌, ℕ, ◌+◌, ◌*◌, ◌/◌, ◌%◌, ◌<◌, ◌≤◌, ◌↔◌, List, [], Bool, Option, Result, length, min, IfOk, IfSome, MatchOption, OnOk, OnErr, IsOk, IsErrOf, IsTrue}
+use Rattle.std.specs.Prelude.{◌≡◌, ℕ, ◌+◌, ◌*◌, ◌/◌, ◌%◌, ◌<◌, ◌≤◌, ◌↔◌, List, [], Bool, Option, Result, length, min, IfOk, IfSome, MatchOption, MatchResult, Ok, Err, OnOk, OnErr, IsOk, IsErrOf, IsTrue}
 use Rattle.std.specs.Result.{result_unwrap_or}
+use denote.RawPtr.{Ptr}
 use Rattle.tlsf_heap.specs.Aligned.{words_aligned, words_from, AnswersAligned, AnswersFrom}
+use Rattle.tlsf_heap.specs.Around.{FindsChoice, IsAroundCheck, around_touches, request_touches}
 use Rattle.tlsf_heap.specs.Blocks.{want, IsPlace}
 use Rattle.tlsf_heap.specs.ByPlace.{kept_at, name_at, released_by_place, resized_by_place, resized_or_moved_by_place}
 use Rattle.tlsf_heap.specs.Calls.{allocated, allocated_words, last_tick, read_answer, read_of, released, reset, resized, resized_words, written}
 use Rattle.tlsf_heap.specs.Checks.{FindsSound, IsCheck, block_touches}
+use Rattle.tlsf_heap.specs.Chosen.{NoneFits}
 use Rattle.tlsf_heap.specs.Footprint.{LeavesLive, LeavesPayloads}
 use Rattle.tlsf_heap.specs.Given.{payload_words_given, payload_words_left}
 use Rattle.tlsf_heap.specs.GoodFit.{fits}
 use Rattle.tlsf_heap.specs.Image.{Image}
-use Rattle.tlsf_heap.specs.InPlace.{payload_of, words_grown}
+use Rattle.tlsf_heap.specs.InPlace.{payload_of, words_grown, IsPayloadCheck}
 use Rattle.tlsf_heap.specs.Laws.{IsLive}
 use Rattle.tlsf_heap.specs.Moved.{payload_words_moved, resized_or_moved}
 use Rattle.tlsf_heap.specs.Placed.{placed_at}
@@ -229,6 +232,35 @@ pub record Looks (old new : Seen) (at : ℕ) (answer : Option PlacedBlock) : Typ
   pub rise : old.touches ≤ new.touches
   pub leaves : LeavesLive old.heap.blocks old.touched new.touched
   pub wild : FollowsNoPlace old.heap at old.touches new.touches
+
+-- a question where the payload of a name's block lies, of a heap whose region's first word has this address
+pub record Locates (base : Ptr) (old new : Seen) (name : Name) (answer : Result (Ptr × ℕ) Refusal) : Type 0 where
+  pub address : IfOk answer (λ p. p.0 ≡ base)
+  pub payload : MatchResult answer (λ p. IsPayloadCheck old.heap name (Ok p.1)) (λ why. IsPayloadCheck old.heap name (Err why))
+  pub heap : new.heap ≡ old.heap
+  pub touches : new.touches ≤ old.touches + 4
+  pub rise : old.touches ≤ new.touches
+  pub leaves : LeavesLive old.heap.blocks old.touched new.touched
+  pub forged : FollowsNoForgery old new name
+
+-- a check of the block that begins at a place, and of both its neighbours. A heap that only its own calls have changed is sound. It
+-- answers as `check_around` does on the words that are stored
+pub record ChecksAround (stored : Image) (at : ℕ) (old new : Seen) (answer : Option Checked) : Type 0 where
+  pub sound : MatchOption answer (¬ (IsPlace old.heap.blocks at)) (FindsSound old.heap.blocks at 1)
+  pub looks : IsAroundCheck stored at answer
+  pub heap : new.heap ≡ old.heap
+  pub touches : new.touches ≤ old.touches + around_touches
+  pub rise : old.touches ≤ new.touches
+  pub leaves : LeavesLive old.heap.blocks old.touched new.touched
+  pub wild : FollowsNoPlace old.heap at old.touches new.touches
+
+-- a check of the free block that a request for `len` bytes would take, and of both its neighbours
+pub record ChecksRequest (sli : ℕ) (stored : Image) (len : ℕ) (old new : Seen) (answer : Option Checked) : Type 0 where
+  pub sound : MatchOption answer (NoneFits sli (want len) old.heap.blocks) (FindsChoice sli (want len) stored old.heap.blocks)
+  pub heap : new.heap ≡ old.heap
+  pub touches : new.touches ≤ old.touches + request_touches
+  pub rise : old.touches ≤ new.touches
+  pub leaves : LeavesLive old.heap.blocks old.touched new.touched
 
 -- a check of `most` blocks at most, the first of which begins at `from`. A heap that only its own calls have changed is sound. It
 -- answers as `check_words` does on the words that are stored, which have no other answer (`checks_have_one_answer`). It takes one

@@ -3,7 +3,7 @@ ghost use Rattle.std.specs.Prelude.{◌≡◌, ◌≢◌, ℕ, List, ◌+◌, �
 ghost use Rattle.tlsf_class.specs.Classes.{IsLevel, most_words};
 ghost use Rattle.tlsf_heap.specs.Blocks;
 ghost use Rattle.tlsf_heap.specs.ByPlace.{released_by_place, IsPlaceCheck};
-ghost use Rattle.tlsf_heap.specs.Effects.{Allocates, Looks, Moves, Reads, Releases, Reports, Resizes, Writes};
+ghost use Rattle.tlsf_heap.specs.Effects.{Allocates, Locates, Looks, Moves, Reads, Releases, Reports, Resizes, Writes};
 ghost use Rattle.tlsf_heap.specs.Footprint.{LeavesBoth, LeavesLive, LeavesPayloads};
 ghost use Rattle.tlsf_heap.specs.FreePlaces.{ShowsLists};
 ghost use Rattle.tlsf_heap.specs.Image.{Shows};
@@ -454,13 +454,9 @@ impl<const SLI: u32> Heap<SLI> {
     /// let (base, len) = heap.payload(name)?;          // 16 bytes, from `base + 8 * (name.at + 3)` on
     /// ```
     pub fn payload(&mut self, name: Name) -> Result<(*mut u64, u32), Refusal>
-        ensures address { IfOk result (λ p. p.0 ≡ self.old.extents.words.address) }
-        ensures payload { MatchResult result (λ p. IsPayloadCheck self.old.heap name (Ok p.1)) (λ why. IsPayloadCheck self.old.heap name (Err why)) }
+        ensures locates { Locates self.old.extents.words.address (seen self.old) (seen self.new) name result }
         ensures same { IsAsBefore self.old self.new }
         ensures keeps { Keeps SLI self.old self.new }
-        ensures touches { self.new.touches ≤ self.old.touches + 4 }
-        ensures leaves { LeavesLive self.old.heap.blocks self.old.touched self.new.touched }
-        ensures forged { FollowsNoForgery (seen self.old) (seen self.new) name }
     {
         let len = self.check_payload(name)?;
         let base = self.region.base();

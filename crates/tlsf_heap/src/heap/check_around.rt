@@ -1,10 +1,8 @@
-ghost use Rattle.std.specs.Prelude.{◌≡◌, ◌+◌, ◌≤◌, MatchOption};
-ghost use Rattle.tlsf_heap.specs.Around.{IsAroundCheck, around_touches};
+ghost use Rattle.std.specs.Prelude.{◌≡◌};
 ghost use Rattle.tlsf_heap.specs.Blocks.{IsPlace};
-ghost use Rattle.tlsf_heap.specs.Checks.{FindsSound};
-ghost use Rattle.tlsf_heap.specs.Footprint.{LeavesLive};
+ghost use Rattle.tlsf_heap.specs.Effects.{ChecksAround};
 ghost use Rattle.tlsf_heap.specs.Kept.{IsAsBefore, Keeps};
-ghost use Rattle.tlsf_heap.specs.Touched.{FollowsNoPlace};
+ghost use Rattle.tlsf_heap.specs.Shown.{seen};
 
 use super::Heap;
 use crate::checked::Checked;
@@ -23,17 +21,11 @@ impl<const SLI: u32> Heap<SLI> {
     /// heap.check_around(5) == None
     /// ```
     pub fn check_around(&mut self, at: u32) -> Option<Checked>
-        ensures answer { MatchOption result (¬ (IsPlace self.old.heap.blocks at)) (FindsSound self.old.heap.blocks at 1) }
-
-        // The law on words that hold anything, of these.
-        ensures looks { IsAroundCheck self.old.stored at result }
+        ensures checks { ChecksAround self.old.stored at (seen self.old) (seen self.new) result }
         ensures same { IsAsBefore self.old self.new }
         ensures keeps { Keeps SLI self.old self.new }
-        ensures touches { self.new.touches ≤ self.old.touches + around_touches }
-        ensures leaves { LeavesLive self.old.heap.blocks self.old.touched self.new.touched }
 
         // Not even a start bit is read unless the place lies in the region, and no word unless a block begins there.
-        ensures wild { FollowsNoPlace self.old.heap at self.old.touches self.new.touches }
         ensures unread { ¬ (IsPlace self.old.heap.blocks at) → self.new.touched ≡ self.old.touched }
     {
         self.region.check_around(at)

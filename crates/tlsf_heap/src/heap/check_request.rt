@@ -1,9 +1,6 @@
-ghost use Rattle.std.specs.Prelude.{◌+◌, ◌≤◌, MatchOption};
-ghost use Rattle.tlsf_heap.specs.Around.{FindsChoice, request_touches};
-ghost use Rattle.tlsf_heap.specs.Blocks;
-ghost use Rattle.tlsf_heap.specs.Chosen.{NoneFits};
-ghost use Rattle.tlsf_heap.specs.Footprint.{LeavesLive};
+ghost use Rattle.tlsf_heap.specs.Effects.{ChecksRequest};
 ghost use Rattle.tlsf_heap.specs.Kept.{IsAsBefore, Keeps};
+ghost use Rattle.tlsf_heap.specs.Shown.{seen};
 
 use super::{Heap, want};
 use crate::checked::Checked;
@@ -23,11 +20,9 @@ impl<const SLI: u32> Heap<SLI> {
     /// ```
     pub fn check_request(&mut self, len: u32) -> Option<Checked>
         // The law on words that hold anything is one of these, by the place of the block that serves the request.
-        ensures answer { MatchOption result (NoneFits SLI (Blocks.want len) self.old.heap.blocks) (FindsChoice SLI (Blocks.want len) self.old.stored self.old.heap.blocks) }
+        ensures checks { ChecksRequest SLI self.old.stored len (seen self.old) (seen self.new) result }
         ensures same { IsAsBefore self.old self.new }
         ensures keeps { Keeps SLI self.old self.new }
-        ensures touches { self.new.touches ≤ self.old.touches + request_touches }
-        ensures leaves { LeavesLive self.old.heap.blocks self.old.touched self.new.touched }
     {
         let words = want(len);
         let class = choose(&mut self.region, words)?;

@@ -7,4 +7,4 @@ pub returns-in-Ok-clause-len : goal.returns-in-Ok-clause-len
 returns-in-Ok-clause-len c serves done =
     subst (λ (s : HeapSlot). IsPayloadCheck (heap_in s) (name_of c.args.name) (Ok c.in-Ok.n)) c.serves.ensures.same
     (subst (λ (k : HeldHeap). IsPayloadCheck k.heap.heap (name_of c.args.name) (Ok c.in-Ok.n)) c.lend-held.ensures.heap
-    (subst (λ (n : Name). IsPayloadCheck c.lend-held.result.now.heap.heap n (Ok c.in-Ok.n)) c.name.ensures c.in-Ok.ensures.payload))
+    (subst (λ (n : Name). IsPayloadCheck c.lend-held.result.now.heap.heap n (Ok c.in-Ok.n)) c.name.ensures c.in-Ok.ensures.locates.payload))

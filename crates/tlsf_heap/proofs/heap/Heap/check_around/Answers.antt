@@ -4,22 +4,28 @@ use Rattle.tlsf_heap.proofs.lemmas.words.Undamaged.{begins_there}
 use Rattle.tlsf_heap.proofs.lemmas.calls.Kept.{keeps_read}
 use Rattle.tlsf_heap.proofs.heap.Heap.check_around.Goals as goal
 
-pub returns-clause-answer : goal.returns-clause-answer
-returns-clause-answer g c =
+pub returns-clause-checks : goal.returns-clause-checks
+returns-clause-checks g c =
     let is = c.self.invariant in
-    subst (λ (s : Shown). MatchOption c.check_around.result (¬ (IsPlace s.heap.blocks c.args.at)) (FindsSound s.heap.blocks c.args.at 1)) c.self.view_is
-    (checked_around is.shows g.row.SLI is.listed is.linked is.lawful.apart c.args.at c.check_around.result c.check_around.ensures.answer)
+    let answer = subst (λ (s : Shown). MatchOption c.check_around.result (¬ (IsPlace s.heap.blocks c.args.at)) (FindsSound s.heap.blocks c.args.at 1)) c.self.view_is
+    (checked_around is.shows g.row.SLI is.listed is.linked is.lawful.apart c.args.at c.check_around.result c.check_around.ensures.answer) in
+    record {
+      sound = answer;
+      looks = search rules;
+      heap = search rules;
+      touches = search rules;
+      rise = search rules;
+      leaves = search rules;
+      wild = record {
+        outside = search rules;
+        nowhere = λ none.
+            let unlooked = c.check_around.ensures.nowhere (λ begins. none (subst (λ (s : Shown). IsPlace s.heap.blocks c.args.at) c.self.view_is (begins_there c.self.invariant.shows begins))) in
+            omega (arith, unlooked, ap (λ (s : Shown). s.touches) c.self.view_is);
+      };
+    }
 
 pub returns-clause-keeps : goal.returns-clause-keeps
 returns-clause-keeps g c = keeps_read g.row.SLI c.self.inside c.self.view_is c.self.invariant _ c.check_around.ensures.reads
-
-pub returns-clause-wild : goal.returns-clause-wild
-returns-clause-wild g c = record {
-  outside = search rules;
-  nowhere = λ none.
-      let unlooked = c.check_around.ensures.nowhere (λ begins. none (subst (λ (s : Shown). IsPlace s.heap.blocks c.args.at) c.self.view_is (begins_there c.self.invariant.shows begins))) in
-      omega (arith, unlooked, ap (λ (s : Shown). s.touches) c.self.view_is);
-}
 
 pub returns-clause-unread : goal.returns-clause-unread
 returns-clause-unread g c none = c.check_around.ensures.unread (λ begins. none (subst (λ (s : Shown). IsPlace s.heap.blocks c.args.at) c.self.view_is (begins_there c.self.invariant.shows begins))) ∙ ap (λ (s : Shown). s.touched) c.self.view_is

@@ -1,4 +1,4 @@
-use Rattle.tlsf_heap.proofs.Common.{ℕ, List, sym, ap, ◌∙◌, subst, arith, Image, Shown, times, state_of, want}
+use Rattle.tlsf_heap.proofs.Common.{ℕ, List, sym, ap, ◌∙◌, subst, arith, rules, Image, Shown, times, state_of, want}
 use Rattle.tlsf_heap.specs.Around.{TellsTaken, FindsChoice}
 use Rattle.tlsf_heap.proofs.lemmas.blocks.Find.{and_left}
 use Rattle.tlsf_heap.proofs.lemmas.calls.Allocate.{lawful_regions, fits_size}
@@ -6,6 +6,7 @@ use Rattle.tlsf_heap.proofs.lemmas.calls.Kept.{keeps_read, reads_both, stored_re
 use Rattle.tlsf_heap.proofs.lemmas.calls.Leaves.{seen_live}
 use Rattle.tlsf_heap.proofs.lemmas.lists.Carved.{head_stands}
 use Rattle.tlsf_heap.proofs.lemmas.words.Around.{chosen_sound}
+use Rattle.tlsf_heap.proofs.heap.Heap.check_request.Given.{Over}
 use Rattle.tlsf_heap.proofs.heap.Heap.check_request.Goals as goal
 
 pub choose-requires : goal.choose-requires
@@ -34,8 +35,8 @@ returns-in_err-class-clause-keeps g c = keeps_read g.row.SLI c.self.inside c.sel
 pub invariant_of-self-2 : goal.invariant_of-self-2
 invariant_of-self-2 g c = stored_read g.row.SLI c.self.inside c.self.view_is c.self.invariant _ (reads_both (reads_both c.choose.ensures.reads c.head.ensures.reads) c.check_taken.ensures.reads)
 
-pub returns-clause-answer : goal.returns-clause-answer
-returns-clause-answer g c =
+found : (g : Over) (c : goal.After-check_taken g) → FindsChoice g.row.SLI (want c.args.len) c.args.self.now.stored c.args.self.now.heap.blocks c.check_taken.result
+found g c =
     let is = c.self.invariant in
     let best = c.in_ok-class.ensures.best in
     let n = c.want-words.result in
@@ -49,7 +50,13 @@ returns-clause-answer g c =
 pub returns-clause-keeps : goal.returns-clause-keeps
 returns-clause-keeps g c = keeps_read g.row.SLI c.self.inside c.self.view_is c.self.invariant _ (reads_both (reads_both c.choose.ensures.reads c.head.ensures.reads) c.check_taken.ensures.reads)
 
-pub returns-clause-leaves : goal.returns-clause-leaves
-returns-clause-leaves g c =
-    seen_live g.row.SLI c.self.inside c.self.view_is _ (λ k live. (rw (c.head.ensures.reads.blocks ∙ c.choose.ensures.reads.blocks) at c.check_taken.ensures.touched) k live
-    ∙ ap (λ (l : List ℕ). times l k) (c.head.ensures.untouched ∙ c.choose.ensures.untouched))
+pub returns-clause-checks : goal.returns-clause-checks
+returns-clause-checks g c =
+    record {
+      sound = found g c;
+      heap = search rules;
+      touches = search rules;
+      rise = search rules;
+      leaves = seen_live g.row.SLI c.self.inside c.self.view_is _ (λ k live. (rw (c.head.ensures.reads.blocks ∙ c.choose.ensures.reads.blocks) at c.check_taken.ensures.touched) k live
+          ∙ ap (λ (l : List ℕ). times l k) (c.head.ensures.untouched ∙ c.choose.ensures.untouched));
+    }
