@@ -1,5 +1,5 @@
 //! Good fit, splitting and coalescing over a region and the lists of its free blocks. Sizes and places are in words.
-ghost use Rattle.std.specs.Prelude.{◌≡◌, ◌≢◌, ℕ, ◌+◌, ◌-◌, ◌<◌, ◌≤◌, ◌++◌, true, false, Some, slice_get, List, Contains};
+ghost use Rattle.std.specs.Prelude.{◌≡◌, ◌≢◌, ℕ, ◌+◌, ◌-◌, ◌<◌, ◌≤◌, ◌++◌, true, false, Some, slice_get, List, Contains, max};
 ghost use Rattle.std.specs.List.{AllByRecursion};
 ghost use Rattle.tlsf_heap.specs.Blocks.{size_of, words_in, payload_words, is_free, stamps, want, StandsAt};
 ghost use Rattle.tlsf_class.specs.Classes.{IsLevel, most_words, class_of};
@@ -17,6 +17,7 @@ ghost use Rattle.tlsf_heap.specs.WordsInUse.{words_used};
 ghost use Rattle.tlsf_words.specs.Touched.{InGroups};
 
 use crate::region::Region;
+use crate::usage::Usage;
 use tlsf_class::{Class, class_of, most_words, search_of};
 use tlsf_words::Tag;
 
@@ -48,13 +49,14 @@ pub fn choose<const SLI: u32>(region: &mut Region<SLI>, words: u32) -> Option<Cl
 /// Takes the head of the list of a class, a free block. Makes it a live one of `words` words with `len` bytes of payload. The rest
 /// stays a free block, unless it would have fewer than four words: then the whole block is given. Answers its place, and how many
 /// words it has. The last `spare` of the `words` aren't of its payload. Neither they nor the words that the block has above `words`
-/// are made zero.
+/// are made zero. The words are in use from then on.
 // Always inline. In a call of its own, as where several calls of a heap end in it, each of them takes fourteen to thirty
 // instructions more.
 // The serial comes by value, and is read once: for all that LLVM knows, the list's links are written where the tick lies.
 #[inline(always)]
 pub fn carve<const SLI: u32>(
     region: &mut Region<SLI>,
+    usage: &mut Usage,
     class: Class<SLI>,
     words: u32,
     serial: u64,
@@ -68,16 +70,19 @@ pub fn carve<const SLI: u32>(
     requires small { words_in region.old.blocks ≤ most_words SLI }
     requires listed { AreFreeLists SLI region.old.blocks (list_in region.old.lists) }
     requires stamped { AllByRecursion (λ s. s < serial) (stamps region.old.blocks) }
+    requires in_use { usage.old.words ≡ words_used region.old.blocks }
     ensures place { slice_get (list_in region.old.lists class.entry) 0 ≡ Some result.at }
     ensures blocks { EachAt region.old.blocks result.at (λ s. region.new.blocks ≡ s.before ++ carved (size_of s.block) words serial len ++ s.after) }
     ensures used { words_used region.new.blocks ≡ words_used region.old.blocks + result.words }
+    ensures usage { usage.new ≡ record { words = usage.old.words + result.words; most = max usage.old.most (usage.old.words + result.words) } }
     ensures listed { AreFreeLists SLI region.new.blocks (list_in region.new.lists) }
     ensures touched { LeavesLive region.old.blocks region.old.touched region.new.touched }
     ensures edits { (i : ℕ) → StandsAt region.old.blocks result.at i → Edits region.old region.new (23 + (payload_words (block_at region.new.blocks i) - spare)) }
     ensures groups { InGroups (11 + groups_of (words - 4 - spare)) region.old.touched region.new.touched }
 {
     let given = carve_unset(region, class, words, serial, len);
-    // The zeros last, so that few registers are wanted at once: three are saved.
+    // The words are counted first, and the zeros come last, so that few registers are wanted at once.
+    usage.give(given.words);
     region.zero(given.at, words - 4 - spare);
     given
 }

@@ -207,8 +207,15 @@ impl<const SLI: u32> Heap<SLI> {
         if self.tick == u64::MAX {
             return Err(Refusal::Worn);
         }
-        let given = carve(&mut self.region, class, words, self.tick, len, spare);
-        self.usage.give(given.words);
+        let given = carve(
+            &mut self.region,
+            &mut self.usage,
+            class,
+            words,
+            self.tick,
+            len,
+            spare,
+        );
         // Read again: a register that outlives the zeroing costs more.
         let serial = self.tick;
         self.tick += 1;

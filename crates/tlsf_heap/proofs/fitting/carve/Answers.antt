@@ -3,10 +3,17 @@ use Rattle.tlsf_heap.proofs.lemmas.words.ClearPayload.{zeroed_block}
 use Rattle.tlsf_heap.proofs.lemmas.words.Footprint.{kept_others, free_elsewhere, cut_words}
 use Rattle.tlsf_heap.proofs.lemmas.lists.Carved.{IsGiven, head_stands, given_unset, zeroed_around, zeroed_carved, zeroed_listed}
 use Rattle.tlsf_heap.proofs.lemmas.blocks.Around.{block_around, stands_around, one_index, around, region_around}
-use Rattle.tlsf_heap.proofs.lemmas.blocks.Used.{used_rebytes}
+use Rattle.tlsf_heap.proofs.lemmas.blocks.Used.{used_rebytes, used_small}
 use Rattle.tlsf_words.proofs.Touching.{groups_then}
 use Rattle.tlsf_heap.proofs.fitting.carve.Given.{Over}
 use Rattle.tlsf_heap.proofs.fitting.carve.Goals as goal
+
+-- no more words are in use than a region may have
+pub give-requires : goal.give-requires
+give-requires g c =
+    let fits = c.requires.fits in
+    let edits = (c.carve_unset-given.ensures.carved fits.1 (head_stands g.row.SLI fits.2 c.carve_unset-given.ensures.place)).edits in
+    omega (arith, used_small edits.shows, c.carve_unset-given.ensures.used, c.requires.in_use)
 
 pub zero-requires : goal.zero-requires
 zero-requires g c =

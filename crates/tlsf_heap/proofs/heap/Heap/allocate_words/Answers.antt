@@ -7,7 +7,6 @@ use Rattle.tlsf_heap.proofs.lemmas.calls.GivenBlock.{carved_stands, named_payloa
 use Rattle.tlsf_heap.proofs.lemmas.laws.Live as living
 use Rattle.tlsf_heap.proofs.lemmas.calls.Unset.{given_block}
 use Rattle.tlsf_heap.proofs.lemmas.calls.Kept.{keeps_stored, keeps_read, stored_read, more_use}
-use Rattle.tlsf_heap.proofs.lemmas.blocks.Used.{used_small}
 use Rattle.tlsf_heap.proofs.lemmas.calls.Leaves.{seen_live}
 use Rattle.tlsf_words.proofs.Touching.{no_groups, more_groups, groups_then}
 use Rattle.tlsf_heap.proofs.heap.Heap.allocate_words.Given.{Over}
@@ -96,7 +95,7 @@ carve-given-requires g c =
                   omega (arith, ap words_in c.choose.ensures.reads.blocks, c.self.invariant.lawful.whole, c.self.invariant.small),
                   (
                     rw (c.choose.ensures.reads.blocks, c.choose.ensures.reads.lists) c.self.invariant.listed,
-                    rw c.choose.ensures.reads.blocks c.self.invariant.lawful.stamps_past,
+                    (rw c.choose.ensures.reads.blocks c.self.invariant.lawful.stamps_past, rw c.choose.ensures.reads.blocks c.self.invariant.in_use),
                   ),
                 ),
               ),
@@ -120,17 +119,9 @@ given g c =
     (allocates_some g.row.SLI c.self.invariant.level (state_of g.row.SLI c.self.inside) c.args.self.now.heap c.args.words c.args.len c.requires c.self.invariant.lawful (ap (λ (s : Shown). s.heap) c.self.view_is)
     c.carve-given.new.region ((carved g c).words ∙ c.choose.ensures.reads.words) best.1 best.3 c.carve-given.result.at (stands g c).place ((rw c.choose.ensures.reads.blocks at c.carve-given.ensures.blocks) best.1 (stands g c)) c.if-self.false)
 
--- no more words are in use than the region has
-pub give-requires : goal.give-requires
-give-requires g c =
-    let best = c.in-Some.ensures.best in
-    let stands = head_stands g.row.SLI best.2 (rw c.choose.ensures.reads.lists at c.carve-given.ensures.place) in
-    let edits = c.carve-given.ensures.edits best.1 (rw c.choose.ensures.reads.blocks stands) in
-    omega (arith, used_small edits.shows, (rw c.choose.ensures.reads.blocks at c.carve-given.ensures.used), c.self.invariant.in_use)
-
 pub invariant_of-self-2 : goal.invariant_of-self-2
 invariant_of-self-2 g c =
-    let used = more_use g.row.SLI c.self.inside c.self.view_is c.self.invariant c.carve-given.new.region.blocks c.carve-given.result.words c.give.new.self (rw c.choose.ensures.reads.blocks at c.carve-given.ensures.used) c.give.ensures in record {
+    let used = more_use g.row.SLI c.self.inside c.self.view_is c.self.invariant c.carve-given.new.region.blocks c.carve-given.result.words c.carve-given.new.usage (rw c.choose.ensures.reads.blocks at c.carve-given.ensures.used) c.carve-given.ensures.usage in record {
       lawful = (given g c).lawful;
       shows = (carved g c).shows;
       linked = (carved g c).linked;
