@@ -28,8 +28,7 @@ impl<const SLI: u32> Heap<SLI> {
         self.check(name).is_ok()
     }
 
-    /// The words of a live block, its three of the header with them: those that a call just gave, which may be up to three more than were
-    /// wanted. Takes no memory.
+    /// The words of a live block, its three of the header with them. They may be up to three more than were wanted. Takes no memory.
     ///
     /// ```text
     /// let name = heap.allocate(100)?;
