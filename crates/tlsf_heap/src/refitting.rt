@@ -61,8 +61,6 @@ fn forget<const SLI: u32>(region: &mut Region<SLI>, at: u32, size: u32)
 /// Makes the live block at a place and the free block after it one live block of `words` words and a free rest. The tags are those
 /// of these blocks. Where the rest would have fewer than four words, it makes a live block of them all. The payload stays. Answers
 /// the words of the live block.
-// Always inline, into the two functions that cut: one of them knows that a block follows, and the other that a rest is left.
-#[inline(always)]
 fn recut<const SLI: u32>(
     region: &mut Region<SLI>,
     at: u32,
@@ -97,40 +95,6 @@ fn recut<const SLI: u32>(
         return words;
     }
     own.size() + next.size()
-}
-
-/// `recut` of a block that a free one follows, which it takes in.
-// Never inline, as `split_off` is.
-#[inline(never)]
-fn take_in<const SLI: u32>(
-    region: &mut Region<SLI>,
-    at: u32,
-    own: Tag,
-    next: Tag,
-    words: u32,
-    tick: u64,
-) -> u32
-    requires level { IsLevel SLI }
-    requires least { 4 ≤ words }
-    requires live { HasAt region.old.blocks at (λ s. (is_free s.block ≡ false) × (words_for (length (bytes_of s.block)) ≤ words)) }
-    requires own { EachAt region.old.blocks at (λ s. IsTagOf region.old.words s own) }
-    requires next { EachAt region.old.blocks at (λ s. IsTagBehind region.old.words s next) }
-    requires some { 0 < next.size }
-    requires room { words ≤ own.size + next.size }
-    requires sized { AreRegions SLI region.old.blocks }
-    requires small { words_in region.old.blocks ≤ most_words SLI }
-    requires listed { AreFreeLists SLI region.old.blocks (list_in region.old.lists) }
-    requires stamped { AllByRecursion (λ s. s < tick) (stamps region.old.blocks) }
-    ensures blocks { EachAt region.old.blocks at (λ s. region.new.blocks ≡ s.before ++ Calls.recut tick words s.block s.after) }
-    ensures least { words ≤ result }
-    ensures cut { words + 4 ≤ own.size + next.size → result ≡ words }
-    ensures used { words_used region.new.blocks + own.size ≡ words_used region.old.blocks + result }
-    ensures listed { AreFreeLists SLI region.new.blocks (list_in region.new.lists) }
-    ensures edits { Edits region.old region.new 20 }
-    ensures touched { LeavesPayloads region.old.blocks at region.old.touched region.new.touched }
-    ensures groups { InGroups 9 region.old.touched region.new.touched }
-{
-    recut(region, at, own, next, words, tick)
 }
 
 /// Gives the live block at a place, of this tag, `len` bytes of payload, for which more words are wanted than it has. The free block of
@@ -170,7 +134,7 @@ pub fn grow<const SLI: u32>(
     ensures grown { EachAt region.old.blocks at (λ s. region.new.touches ≤ region.old.touches + 24 + (words_for len - words_for (length (bytes_of s.block)))) }
     ensures groups { EachAt region.old.blocks at (λ s. InGroups (12 + (len - length (bytes_of s.block)) / 64) region.old.touched region.new.touched) }
 {
-    let left = take_in(region, at, own, next, words, tick);
+    let left = recut(region, at, own, next, words, tick);
     region.set_payload(at, len, grows);
     left
 }
@@ -220,8 +184,8 @@ pub fn shrink<const SLI: u32>(
 
 /// Cuts the live block at a place, of this tag, at `words` words, where it has four more at least. Those behind are one free block
 /// with the free block that follows.
-// Never inline: a resize that keeps the size then saves no registers.
-#[inline(never)]
+// Always inline, as `grow` is.
+#[inline(always)]
 fn split_off<const SLI: u32>(region: &mut Region<SLI>, at: u32, own: Tag, words: u32, tick: u64)
     requires level { IsLevel SLI }
     requires least { 4 ≤ words }

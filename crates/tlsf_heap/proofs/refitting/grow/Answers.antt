@@ -15,8 +15,8 @@ room_here {i = i} is_own is_next room stands = omega (arith, (is_own i stands).s
 live_here : (sli : ℕ) {bs : List Block} {at i : ℕ} → AreRegions sli bs → (live : (j : ℕ) × StandsAt bs at j × (is_free (block_at bs j) ≡ false)) → StandsAt bs at i → is_free (block_at bs i) ≡ false
 live_here sli {bs = bs} {at = at} {i = i} sized live stands = subst (λ (k : ℕ). is_free (block_at bs k) ≡ false) (one_index sli bs at live.0 i sized live.1 stands) live.2
 
-pub take_in-left-requires : goal.take_in-left-requires
-take_in-left-requires g c =
+pub recut-left-requires : goal.recut-left-requires
+recut-left-requires g c =
     let live = c.requires.live in (
       omega arith,
       (
@@ -30,17 +30,14 @@ take_in-left-requires g c =
               (
                 c.requires.next,
                 (
-                  omega (arith, c.requires.more, c.requires.room),
+                  c.requires.room,
                   (
-                    c.requires.room,
+                    c.requires.sized,
                     (
-                      c.requires.sized,
+                      c.requires.small,
                       (
-                        c.requires.small,
-                        (
-                          c.requires.listed,
-                          c.requires.stamped,
-                        ),
+                        c.requires.listed,
+                        c.requires.stamped,
                       ),
                     ),
                   ),
@@ -56,7 +53,7 @@ pub set_payload-requires : goal.set_payload-requires
 set_payload-requires g c =
     let live = c.requires.live in
     let room = room_here c.requires.own c.requires.next c.requires.room live.1 in
-    let is = c.take_in-left.ensures.blocks live.0 live.1 in
+    let is = c.recut-left.ensures.blocks live.0 live.1 in
     let here = recut_stands live.1 live.2 c.args.tick room is in
     let takes = recut_takes live.1 live.2 c.args.tick room is (words_for c.args.len) c.requires.payload in
     let bytes = ap (λ (l : List ℕ). length l) (recut_bytes live.1 live.2 c.args.tick room is) in
@@ -66,7 +63,7 @@ pub returns-clause-blocks : goal.returns-clause-blocks
 returns-clause-blocks g c i stands =
     let live = live_here g.row.SLI c.requires.sized c.requires.live stands in
     let room = room_here c.requires.own c.requires.next c.requires.room stands in
-    let is = c.take_in-left.ensures.blocks i stands in
+    let is = c.recut-left.ensures.blocks i stands in
     let set = c.set_payload.ensures.change i (recut_stands stands live c.args.tick room is) in
     recut_rebytes stands live c.args.tick room is c.args.len c.set_payload.new.self.blocks set.blocks
     ∙ ap (λ (l : List Block). take i c.args.region.now.blocks ++ l) (sym (refitted_grown c.args.tick c.args.words c.args.len (block_at c.args.region.now.blocks i) (drop (suc i) c.args.region.now.blocks) (omega (arith, (c.requires.own i stands).size, c.requires.more))))
@@ -75,47 +72,47 @@ pub returns-clause-listed : goal.returns-clause-listed
 returns-clause-listed g c =
     let live = c.requires.live in
     let room = room_here c.requires.own c.requires.next c.requires.room live.1 in
-    let stands = recut_stands live.1 live.2 c.args.tick room (c.take_in-left.ensures.blocks live.0 live.1) in
+    let stands = recut_stands live.1 live.2 c.args.tick room (c.recut-left.ensures.blocks live.0 live.1) in
     let set = c.set_payload.ensures.change live.0 stands in
-    rebytes_listed g.row.SLI stands (fitted (bytes_of (block_at c.take_in-left.new.region.blocks live.0)) c.args.len) set.blocks (list_in c.take_in-left.new.region.lists) (list_in c.set_payload.new.self.lists) set.lists c.take_in-left.ensures.listed
+    rebytes_listed g.row.SLI stands (fitted (bytes_of (block_at c.recut-left.new.region.blocks live.0)) c.args.len) set.blocks (list_in c.recut-left.new.region.lists) (list_in c.set_payload.new.self.lists) set.lists c.recut-left.ensures.listed
 
 pub returns-clause-edits : goal.returns-clause-edits
 returns-clause-edits g c =
     let live = c.requires.live in
     let room = room_here c.requires.own c.requires.next c.requires.room live.1 in
-    let set = (c.set_payload.ensures.change live.0 (recut_stands live.1 live.2 c.args.tick room (c.take_in-left.ensures.blocks live.0 live.1))).edits in
-    let cut = c.take_in-left.ensures.edits in
+    let set = (c.set_payload.ensures.change live.0 (recut_stands live.1 live.2 c.args.tick room (c.recut-left.ensures.blocks live.0 live.1))).edits in
+    let cut = c.recut-left.ensures.edits in
     record { words = set.words ∙ cut.words; shows = set.shows; linked = set.linked; bits = set.bits; stays = set.stays ∙ cut.stays; touches = omega (arith, set.touches, cut.touches); rise = omega (arith, set.rise, cut.rise) }
 
 pub returns-clause-grown : goal.returns-clause-grown
 returns-clause-grown g c i stands =
     let live = live_here g.row.SLI c.requires.sized c.requires.live stands in
     let room = room_here c.requires.own c.requires.next c.requires.room stands in
-    let is = c.take_in-left.ensures.blocks i stands in
+    let is = c.recut-left.ensures.blocks i stands in
     let set = c.set_payload.ensures.grown i (recut_stands stands live c.args.tick room is) in
-    omega (arith, set, ap (λ (l : List ℕ). words_for (length l)) (recut_bytes stands live c.args.tick room is), c.take_in-left.ensures.edits.touches)
+    omega (arith, set, ap (λ (l : List ℕ). words_for (length l)) (recut_bytes stands live c.args.tick room is), c.recut-left.ensures.edits.touches)
 
 pub returns-clause-touched : goal.returns-clause-touched
 returns-clause-touched g c k o =
     let live = c.requires.live in
     let bs = c.args.region.now.blocks in
     let room = room_here c.requires.own c.requires.next c.requires.room live.1 in
-    let last = recut_lasts bs c.take_in-left.new.region.blocks c.args.at live.0 k c.args.words c.args.tick live.1 live.2 room (c.take_in-left.ensures.blocks live.0 live.1) o in
-    c.set_payload.ensures.touched k last ∙ c.take_in-left.ensures.touched k o
+    let last = recut_lasts bs c.recut-left.new.region.blocks c.args.at live.0 k c.args.words c.args.tick live.1 live.2 room (c.recut-left.ensures.blocks live.0 live.1) o in
+    c.set_payload.ensures.touched k last ∙ c.recut-left.ensures.touched k o
 
 pub returns-clause-groups : goal.returns-clause-groups
 returns-clause-groups g c i stands =
     let live = live_here g.row.SLI c.requires.sized c.requires.live stands in
     let room = room_here c.requires.own c.requires.next c.requires.room stands in
-    let is = c.take_in-left.ensures.blocks i stands in
+    let is = c.recut-left.ensures.blocks i stands in
     let set = c.set_payload.ensures.groups i (recut_stands stands live c.args.tick room is) in
-    more_groups (omega (arith, ap (λ (l : List ℕ). length l) (recut_bytes stands live c.args.tick room is))) (groups_then c.take_in-left.ensures.groups set)
+    more_groups (omega (arith, ap (λ (l : List ℕ). length l) (recut_bytes stands live c.args.tick room is))) (groups_then c.recut-left.ensures.groups set)
 
 -- other bytes change no word in use
 pub returns-clause-used : goal.returns-clause-used
 returns-clause-used g c =
     let live = c.requires.live in
     let room = room_here c.requires.own c.requires.next c.requires.room live.1 in
-    let is = c.take_in-left.ensures.blocks live.0 live.1 in
+    let is = c.recut-left.ensures.blocks live.0 live.1 in
     let stands = recut_stands live.1 live.2 c.args.tick room is in
-    omega (arith, used_rebytes c.take_in-left.new.region.blocks c.set_payload.new.self.blocks stands _ (c.set_payload.ensures.change live.0 stands).blocks, c.take_in-left.ensures.used)
+    omega (arith, used_rebytes c.recut-left.new.region.blocks c.set_payload.new.self.blocks stands _ (c.set_payload.ensures.change live.0 stands).blocks, c.recut-left.ensures.used)
