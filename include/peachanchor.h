@@ -404,8 +404,8 @@ TLSF_ANSWER TLSF_CALL uint32_t tlsf_words_for(uint32_t level, uint32_t blocks, s
  * TLSF_OK, with no call. Refused besides: TLSF_IS_CLOSED, TLSF_WORN. */
 TLSF_CALL uint32_t tlsf_free(struct tlsf_heap *heap, void *p) TLSF_NOEXCEPT;
 
-/* `len` bytes, aligned to 16, whatever lies there; null where it is refused. Where a block by name has had an odd number of words,
- * what comes may be misaligned: it goes back, and a second call aligns. */
+/* `len` bytes, aligned to 16, whatever lies there; null where it is refused. The call is tlsf_allocate_payload. Where a block by name has
+ * had an odd number of words, what comes may be misaligned: it goes back, and a second call aligns. */
 TLSF_ANSWER TLSF_CALL void *tlsf_malloc(struct tlsf_heap *heap, size_t len) TLSF_NOEXCEPT TLSF_OF_BYTES(2);
 
 /* As tlsf_malloc of `count * each` bytes, all zero. The call is tlsf_allocate, which fills; where that is misaligned, the block
@@ -775,6 +775,10 @@ TLSF_SHORT_CALL uint32_t tlsf_place_of(const struct tlsf_heap *heap, const void 
 /* Allocates a block of `len` bytes, whatever lies there: none is filled. Its name is the heap's `number`, `at` and `serial`.
  * Refused: TLSF_IS_CLOSED, TLSF_NO_FIT, TLSF_WORN. */
 TLSF_ANSWER TLSF_BY_VALUE struct tlsf_placed tlsf_allocate_place(struct tlsf_heap *heap, size_t len) TLSF_NOEXCEPT;
+
+/* The call of tlsf_malloc: a block of tlsf_rounded bytes. Answers how many bytes behind `base` its payload begins, or 0 where it is refused.
+ * So it is for a `len` above 2^27. */
+TLSF_ANSWER size_t tlsf_allocate_payload(struct tlsf_heap *heap, size_t len) TLSF_NOEXCEPT;
 
 /* As tlsf_allocate_place, at a place where `at + 3 + skew` is a multiple of `step`. Both are words; a `step` of 0 counts as 1.
  * Refused: TLSF_IS_CLOSED, TLSF_WORN where fewer than four ticks are left, TLSF_NO_FIT. */

@@ -119,6 +119,16 @@ TLSF_BODY struct tlsf_placed tlsf_even_place(struct tlsf_heap *heap, size_t len)
     return tlsf_align_again(heap, tlsf_rounded(len), it.at);
 }
 
+#if defined(TLSF_TRACE) || defined(TLSF_MARKED) || defined(TLSF_CHECKED)
+/* Where calls are written, marked or looked at first, the call of malloc's is one of them. */
+TLSF_ANSWER TLSF_BODY size_t tlsf_made_payload(struct tlsf_heap *heap, size_t len) TLSF_NOEXCEPT {
+    struct tlsf_placed it = {0, TLSF_NO_FIT, 0};
+    if (len <= TLSF_LONGEST) it = tlsf_allocate_place(heap, tlsf_rounded(len));
+    return it.answer != TLSF_OK ? 0 : 8 * ((size_t)it.at + 3);
+}
+#define tlsf_allocate_payload tlsf_made_payload
+#endif
+
 /* What a request is answered that no heap has room for: where no block begins is told by an open handle that no call is using. */
 TLSF_RARE uint32_t tlsf_too_long(struct tlsf_heap *heap) TLSF_NOEXCEPT {
     struct tlsf_block_info none = {0, 0, 0, 0, 0};
@@ -145,12 +155,28 @@ TLSF_BODY void *tlsf_asked_at(struct tlsf_heap *heap, uint32_t answer, uint32_t 
 
 /* The bodies, where they are inline, and once in the library. */
 #if defined(TLSF_INLINE) || defined(TLSF_POINTERS)
+/* Gives a misaligned block of malloc's back for one that is aligned to 16. The block has the length, so that malloc keeps none. */
+TLSF_RARE void *tlsf_malloc_again(struct tlsf_heap *heap, const void *p) TLSF_NOEXCEPT {
+    struct tlsf_block_info own = {0, 0, 0, 0, 0};
+    if (tlsf_block_at(heap, tlsf_place_of(heap, p), &own) != TLSF_OK) return TLSF_NULL;
+    const struct tlsf_placed it = tlsf_align_again(heap, own.len, own.at);
+    return it.answer == TLSF_OK ? heap->base + it.at + 3 : TLSF_NULL;
+}
+
+/* No payload begins at a region's first byte, so 0 says that there is none. */
+TLSF_CALL void *tlsf_malloc(struct tlsf_heap *heap, size_t len) TLSF_NOEXCEPT {
+    const size_t byte = tlsf_allocate_payload(heap, len);
+    if (byte == 0) return TLSF_NULL;
+    void *p = (unsigned char *)heap->base + byte;
+    if ((uintptr_t)p % 16 != 0) p = tlsf_malloc_again(heap, p);
+    if (p != TLSF_NULL) TLSF_ASKED(p, len, tlsf_rounded(len));
+    return p;
+}
+
 TLSF_CALL void *tlsf_aligned_alloc(struct tlsf_heap *heap, size_t align, size_t len) TLSF_NOEXCEPT {
     const struct tlsf_placed it = tlsf_allocate_for(heap, len, align);
     return tlsf_asked_at(heap, it.answer, it.at, len);
 }
-
-TLSF_CALL void *tlsf_malloc(struct tlsf_heap *heap, size_t len) TLSF_NOEXCEPT { return tlsf_aligned_alloc(heap, 16, len); }
 
 TLSF_CALL uint32_t tlsf_words_for(uint32_t level, uint32_t blocks, size_t len, size_t align, uint32_t *words) TLSF_NOEXCEPT {
     const size_t most = TLSF_LONGEST; /* for more there is no region, and up to it nothing overflows */

@@ -41,6 +41,7 @@ static void is_refused(struct tlsf_heap *copy) {
     wants("block_at", tlsf_block_at(copy, 0, &block), TLSF_IS_CLOSED);
     wants("check", tlsf_check(copy, 0, 1, &at, &other), TLSF_IS_CLOSED);
     wants("place", tlsf_place(copy, 0, &own, &at), TLSF_IS_CLOSED);
+    wants("allocate_payload", (uint32_t)tlsf_allocate_payload(copy, 8), 0);
     wants("allocate_place", tlsf_allocate_place(copy, 8).answer, TLSF_IS_CLOSED);
     wants("allocate_aligned", tlsf_allocate_aligned(copy, 8, 2, 0).answer, TLSF_IS_CLOSED);
     wants("release_place", tlsf_release_place(copy, 0), TLSF_IS_CLOSED);

@@ -107,6 +107,7 @@ static void of_a_heap(void) {
     USES(on_heap, tlsf_resize_place(&heap, at.at, 200, &next));
     USES(on_heap, tlsf_release_place(&heap, next));
     USES(on_heap, tlsf_allocate_aligned(&heap, 100, 4, 0).answer);
+    USES(on_heap, tlsf_allocate_payload(&heap, 100) == 0);
     USES(on_heap, tlsf_reset(&heap));
 }
 

@@ -28,9 +28,21 @@ struct model {
     struct block blocks[MOST_BLOCKS + 1];
 };
 
-enum kind { ALLOCATE, RELEASE, RESIZE, REALLOCATE, ALLOCATE_PLACE, RELEASE_PLACE, RESIZE_PLACE, ALLOCATE_ALIGNED, RESET, KINDS };
-static const char *const kinds[KINDS] = {"allocate",      "release",      "resize",           "reallocate", "allocate_place",
-                                         "release_place", "resize_place", "allocate_aligned", "reset"};
+enum kind {
+    ALLOCATE,
+    RELEASE,
+    RESIZE,
+    REALLOCATE,
+    ALLOCATE_PLACE,
+    RELEASE_PLACE,
+    RESIZE_PLACE,
+    ALLOCATE_ALIGNED,
+    ALLOCATE_PAYLOAD,
+    RESET,
+    KINDS
+};
+static const char *const kinds[KINDS] = {"allocate",      "release",      "resize",           "reallocate",       "allocate_place",
+                                         "release_place", "resize_place", "allocate_aligned", "allocate_payload", "reset"};
 
 /* A call on block number `block`, so that it, or a new one, has `want` words; aligned to `step` words. */
 struct call {
@@ -262,7 +274,8 @@ static struct answer resized(struct model *m, struct call call, bool may_move, b
 }
 
 static struct answer allocated(struct model *m, struct call call, bool fills) {
-    const uint32_t len = len_of(call), chosen = call.step == 0 ? choice(m, call.want) : NOWHERE;
+    const uint32_t len = call.kind == ALLOCATE_PAYLOAD ? 8 * (call.want - (uint32_t)HEADER) : len_of(call);
+    const uint32_t chosen = call.step == 0 ? choice(m, call.want) : NOWHERE;
     uint32_t at = chosen == NOWHERE ? NOWHERE : place_of(m, chosen);
     if (call.step != 0) at = align(m, call.want, call.step, len);
     else if (chosen != NOWHERE) give(m, chosen, call.want, len);
@@ -276,6 +289,7 @@ static struct answer answered(struct model *m, struct call call) {
     case ALLOCATE: return allocated(m, call, true);
     case ALLOCATE_PLACE:
     case ALLOCATE_ALIGNED: return allocated(m, call, false);
+    case ALLOCATE_PAYLOAD: return allocated(m, call, false);
     case RESIZE: return resized(m, call, false, true);
     case REALLOCATE: return resized(m, call, true, true);
     case RESIZE_PLACE: return resized(m, call, true, false);
@@ -295,6 +309,17 @@ static struct answer placed(struct tlsf_placed it) {
     if (it.answer == TLSF_OK) return (struct answer){TLSF_OK, it.at, it.serial};
     wants("what a refusal answers besides", it.at | it.serial, 0);
     return (struct answer){it.answer, NOWHERE, 0};
+}
+
+/* It answers at which byte the payload begins, and no serial. */
+static struct answer begun_at(size_t byte) {
+    const uint32_t at = (uint32_t)(byte / 8) - HEADER;
+    struct tlsf_name name = {0, 0, 0};
+    uint32_t len = 0;
+    if (byte == 0) return (struct answer){TLSF_NO_FIT, NOWHERE, 0};
+    wants("whole words", byte % 8, 0);
+    wants("the payload's block", tlsf_place(&heap, at, &name, &len), TLSF_OK);
+    return (struct answer){TLSF_OK, at, name.serial};
 }
 
 /* No word is in use then, and the most that ever were stay. No name of before is live. */
@@ -335,6 +360,7 @@ static struct answer told(const struct model *m, struct call call) {
         it.at = it.status == TLSF_OK ? name.at : NOWHERE;
         break;
     case ALLOCATE_PLACE: return placed(tlsf_allocate_place(&heap, len));
+    case ALLOCATE_PAYLOAD: return begun_at(tlsf_allocate_payload(&heap, len));
     case RELEASE_PLACE: it.status = tlsf_release_place(&heap, name.at); break;
     case RESIZE_PLACE: it.status = tlsf_resize_place(&heap, name.at, len, &it.at); break;
     default: return placed(tlsf_allocate_aligned(&heap, len, call.step, 0));
@@ -653,6 +679,7 @@ static void try_state(uint32_t number) {
     for (uint32_t i = 0; i < want_count; i++) {
         try_call(&m, number, (struct call){ALLOCATE, 0, wants_tried[i], 0});
         try_call(&m, number, (struct call){ALLOCATE_PLACE, 0, wants_tried[i], 0});
+        if (wants_tried[i] % 2 == 0) try_call(&m, number, (struct call){ALLOCATE_PAYLOAD, 0, wants_tried[i], 0});
         for (uint8_t step = 1; step <= 8; step *= 2) try_call(&m, number, (struct call){ALLOCATE_ALIGNED, 0, wants_tried[i], step});
     }
     try_call(&m, number, (struct call){RESET, 0, LEAST, 0});

@@ -21,6 +21,7 @@ pub mod Names
 pub mod Drains
 pub mod Takes
 pub mod PlaceCalls
+pub mod Pointers
 pub mod Counting
 pub mod Checked
 pub mod Lending

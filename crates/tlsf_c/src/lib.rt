@@ -28,6 +28,7 @@ mod names;
 mod offset_calls;
 mod parts;
 mod place_calls;
+mod pointer_calls;
 mod pool_calls;
 mod pool_places;
 mod queue_calls;

@@ -32,6 +32,8 @@ impl AnyHeap {
     }
 
     /// `Heap::allocate_unset`.
+    // Always inline: two of C's calls end in it, and a call of its own would take each twenty instructions more.
+    #[inline(always)]
     pub fn allocate_unset(&mut self, len: u32) -> Result<Name, Refusal>
         ensures allocates { AllocatesUnset allocate_unset_touches self.old.level len (seen_at self.old) (seen_at self.new) self.new.stored result }
         ensures goes_on { GoesOn self.old self.new }
