@@ -2,6 +2,7 @@ ghost use Rattle.std.specs.Prelude.{◌≡◌, ◌≢◌, ◌↔◌, ℕ, ◌+�
 ghost use Rattle.tlsf_class.specs.Classes.{IsLevel, most_words, class_of};
 ghost use Rattle.tlsf_class.specs.Members.{next_member, without_member};
 ghost use Rattle.tlsf_words.specs.Fields.{links_word, low_half, high_half};
+ghost use Rattle.tlsf_words.specs.Frame.{Reads, Writes};
 ghost use Rattle.tlsf_words.specs.Lists.{nowhere, list_of, without_place, AreThreaded, IsUnlisted, OnlyLinksChange};
 ghost use Rattle.tlsf_words.specs.Ties.{AreTied};
 ghost use Rattle.tlsf_words.specs.Touched.{InGroups, OnlyLinks, OnlyTied};
@@ -239,11 +240,7 @@ impl<const SLI: u32> FreeLists<SLI> {
         requires threaded { AreThreaded SLI self.now.heads self.now.members words.old.words }
         requires listed { (class : ℕ) × Contains (list_of self.now.heads words.old.words class) at }
         ensures first { (class : ℕ) → Contains (list_of self.now.heads words.old.words class) at → (result ≡ true) ↔ (list_of self.now.heads words.old.words class ≡ at ∷ without_place at (list_of self.now.heads words.old.words class)) }
-        ensures words { words.new.words ≡ words.old.words }
-        ensures starts { words.new.starts ≡ words.old.starts }
-        ensures stays { words.new.extents ≡ words.old.extents }
-        ensures touches { words.new.touches ≡ words.old.touches + 1 }
-        ensures touched { words.new.touched ≡ (at + 2) ∷ words.old.touched }
+        ensures reads { Reads (at + 2) words.old words.new }
     {
         !is_place(words.links(at).previous)
     }
@@ -335,11 +332,7 @@ fn tie(words: &mut Words, links: Links)
 /// Writes the next place of the place `at`.
 fn set_next(words: &mut Words, at: u32, next: u32)
     requires { at + 2 < length words.old.words }
-    ensures words { words.new.words ≡ slice_set words.old.words (at + 2) (links_word next (high_half (slice_index words.old.words (at + 2)))) }
-    ensures starts { words.new.starts ≡ words.old.starts }
-    ensures stays { words.new.extents ≡ words.old.extents }
-    ensures touches { words.new.touches ≡ words.old.touches + 2 }
-    ensures touched { words.new.touched ≡ (at + 2) ∷ (at + 2) ∷ words.old.touched }
+    ensures writes { Writes ((at + 2) ∷ (at + 2) ∷ []) (slice_set words.old.words (at + 2) (links_word next (high_half (slice_index words.old.words (at + 2))))) words.old words.new }
 {
     let links = words.links(at);
     words.set_links(at, Links { next, ..links });
@@ -348,11 +341,7 @@ fn set_next(words: &mut Words, at: u32, next: u32)
 /// Writes the previous place of the place `at`.
 fn set_previous(words: &mut Words, at: u32, previous: u32)
     requires { at + 2 < length words.old.words }
-    ensures words { words.new.words ≡ slice_set words.old.words (at + 2) (links_word (low_half (slice_index words.old.words (at + 2))) previous) }
-    ensures starts { words.new.starts ≡ words.old.starts }
-    ensures stays { words.new.extents ≡ words.old.extents }
-    ensures touches { words.new.touches ≡ words.old.touches + 2 }
-    ensures touched { words.new.touched ≡ (at + 2) ∷ (at + 2) ∷ words.old.touched }
+    ensures writes { Writes ((at + 2) ∷ (at + 2) ∷ []) (slice_set words.old.words (at + 2) (links_word (low_half (slice_index words.old.words (at + 2))) previous)) words.old words.new }
 {
     let links = words.links(at);
     words.set_links(at, Links { previous, ..links });

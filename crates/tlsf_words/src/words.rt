@@ -1,6 +1,7 @@
 ghost use Rattle.std.specs.Fn.{FnOnceReturnsAt, FnOnceReturnsAtMut, FnOnceTakesAt, FnOnceTakesAtMut};
 ghost use Rattle.std.specs.Prelude.{◌≡◌, ℕ, ◌+◌, ◌/◌, ◌<◌, ◌≤◌, ◌^◌, [], ◌∷◌, ◌++◌, false, length, take, drop, replicate, slice_index, slice_index_or, slice_set, IfOk};
 ghost use Rattle.tlsf_words.specs.Fields.{tag_word, size_in, last_in, free_in, back_in, length_word, links_word, low_half, high_half};
+ghost use Rattle.tlsf_words.specs.Frame.{Reads, Writes, TouchesStarts};
 ghost use Rattle.tlsf_words.specs.Touched.{times};
 
 mod bytes;
@@ -85,11 +86,7 @@ impl Words {
     pub fn word(&mut self, at: u32) -> u64
         requires { at < length self.old.words }
         ensures value { result ≡ slice_index self.old.words at }
-        ensures words { self.new.words ≡ self.old.words }
-        ensures starts { self.new.starts ≡ self.old.starts }
-        ensures stays { self.new.extents ≡ self.old.extents }
-        ensures touches { self.new.touches ≡ self.old.touches + 1 }
-        ensures touched { self.new.touched ≡ at ∷ self.old.touched }
+        ensures reads { Reads at self.old self.new }
     {
         self.read(at as usize)
     }
@@ -106,12 +103,7 @@ impl Words {
         ensures free { result.free ≡ free_in (slice_index self.old.words at) }
         ensures last { result.last ≡ last_in (slice_index self.old.words at) }
         ensures back { result.back ≡ back_in (slice_index self.old.words at) }
-        ensures small { length self.old.words ≤ 2 ^ 24 }
-        ensures words { self.new.words ≡ self.old.words }
-        ensures starts { self.new.starts ≡ self.old.starts }
-        ensures stays { self.new.extents ≡ self.old.extents }
-        ensures touches { self.new.touches ≡ self.old.touches + 1 }
-        ensures touched { self.new.touched ≡ at ∷ self.old.touched }
+        ensures reads { Reads at self.old self.new }
     {
         Tag::of_word(self.read(at as usize))
     }
@@ -125,11 +117,7 @@ impl Words {
     #[inline]
     pub fn set_tag(&mut self, at: u32, tag: Tag)
         requires { at < length self.old.words }
-        ensures words { self.new.words ≡ slice_set self.old.words at (tag_word tag.size tag.last tag.free tag.back) }
-        ensures starts { self.new.starts ≡ self.old.starts }
-        ensures stays { self.new.extents ≡ self.old.extents }
-        ensures touches { self.new.touches ≡ self.old.touches + 1 }
-        ensures touched { self.new.touched ≡ at ∷ self.old.touched }
+        ensures writes { Writes (at ∷ []) (slice_set self.old.words at (tag_word tag.size tag.last tag.free tag.back)) self.old self.new }
     {
         self.write(at as usize, tag.to_word());
     }
@@ -143,11 +131,7 @@ impl Words {
     pub fn mark(&mut self, at: u32) -> u64
         requires { at + 1 < length self.old.words }
         ensures value { result ≡ slice_index self.old.words (at + 1) }
-        ensures words { self.new.words ≡ self.old.words }
-        ensures starts { self.new.starts ≡ self.old.starts }
-        ensures stays { self.new.extents ≡ self.old.extents }
-        ensures touches { self.new.touches ≡ self.old.touches + 1 }
-        ensures touched { self.new.touched ≡ (at + 1) ∷ self.old.touched }
+        ensures reads { Reads (at + 1) self.old self.new }
     {
         self.read(at as usize + 1)
     }
@@ -160,11 +144,7 @@ impl Words {
     #[inline]
     pub fn set_mark(&mut self, at: u32, mark: u64)
         requires { at + 1 < length self.old.words }
-        ensures words { self.new.words ≡ slice_set self.old.words (at + 1) mark }
-        ensures starts { self.new.starts ≡ self.old.starts }
-        ensures stays { self.new.extents ≡ self.old.extents }
-        ensures touches { self.new.touches ≡ self.old.touches + 1 }
-        ensures touched { self.new.touched ≡ (at + 1) ∷ self.old.touched }
+        ensures writes { Writes ((at + 1) ∷ []) (slice_set self.old.words (at + 1) mark) self.old self.new }
     {
         self.write(at as usize + 1, mark);
     }
@@ -177,11 +157,7 @@ impl Words {
     #[inline]
     pub fn set_tag_and_mark(&mut self, at: u32, tag: Tag, mark: u64)
         requires { at + 1 < length self.old.words }
-        ensures words { self.new.words ≡ slice_set (slice_set self.old.words at (tag_word tag.size tag.last tag.free tag.back)) (at + 1) mark }
-        ensures starts { self.new.starts ≡ self.old.starts }
-        ensures stays { self.new.extents ≡ self.old.extents }
-        ensures touches { self.new.touches ≡ self.old.touches + 2 }
-        ensures touched { self.new.touched ≡ (at + 1) ∷ at ∷ self.old.touched }
+        ensures writes { Writes ((at + 1) ∷ at ∷ []) (slice_set (slice_set self.old.words at (tag_word tag.size tag.last tag.free tag.back)) (at + 1) mark) self.old self.new }
     {
         self.words.write_two(at as usize, tag.to_word(), mark);
     }
@@ -196,11 +172,7 @@ impl Words {
     #[tactic(auto, unfolding(crate::specs::Fields::length_word))]
     pub fn set_header(&mut self, at: u32, tag: Tag, mark: u64, bytes: u32)
         requires { at + 3 < length self.old.words }
-        ensures words { self.new.words ≡ slice_set (slice_set (slice_set (slice_set self.old.words at (tag_word tag.size tag.last tag.free tag.back)) (at + 1) mark) (at + 2) (length_word bytes)) (at + 3) 0 }
-        ensures starts { self.new.starts ≡ self.old.starts }
-        ensures stays { self.new.extents ≡ self.old.extents }
-        ensures touches { self.new.touches ≡ self.old.touches + 4 }
-        ensures touched { self.new.touched ≡ (at + 3) ∷ (at + 2) ∷ (at + 1) ∷ at ∷ self.old.touched }
+        ensures writes { Writes ((at + 3) ∷ (at + 2) ∷ (at + 1) ∷ at ∷ []) (slice_set (slice_set (slice_set (slice_set self.old.words at (tag_word tag.size tag.last tag.free tag.back)) (at + 1) mark) (at + 2) (length_word bytes)) (at + 3) 0) self.old self.new }
     {
         self.words
             .write_four(at as usize, tag.to_word(), mark, u64::from(bytes));
@@ -218,11 +190,7 @@ impl Words {
     pub fn set_headers(&mut self, at: u32, tag: Tag, mark: u64, bytes: u32, place: u32, rest: Tag)
         requires at { at + 3 < length self.old.words }
         requires place { place + 1 < length self.old.words }
-        ensures words { self.new.words ≡ slice_set (slice_set (slice_set (slice_set (slice_set (slice_set self.old.words at (tag_word tag.size tag.last tag.free tag.back)) (at + 1) mark) (at + 2) (length_word bytes)) (at + 3) 0) place (tag_word rest.size rest.last rest.free rest.back)) (place + 1) mark }
-        ensures starts { self.new.starts ≡ self.old.starts }
-        ensures stays { self.new.extents ≡ self.old.extents }
-        ensures touches { self.new.touches ≡ self.old.touches + 6 }
-        ensures touched { self.new.touched ≡ (place + 1) ∷ place ∷ (at + 3) ∷ (at + 2) ∷ (at + 1) ∷ at ∷ self.old.touched }
+        ensures writes { Writes ((place + 1) ∷ place ∷ (at + 3) ∷ (at + 2) ∷ (at + 1) ∷ at ∷ []) (slice_set (slice_set (slice_set (slice_set (slice_set (slice_set self.old.words at (tag_word tag.size tag.last tag.free tag.back)) (at + 1) mark) (at + 2) (length_word bytes)) (at + 3) 0) place (tag_word rest.size rest.last rest.free rest.back)) (place + 1) mark) self.old self.new }
     {
         self.words.write_both(
             at as usize,
@@ -243,11 +211,7 @@ impl Words {
     pub fn length(&mut self, at: u32) -> u32
         requires { at + 2 < length self.old.words }
         ensures value { result ≡ low_half (slice_index self.old.words (at + 2)) }
-        ensures words { self.new.words ≡ self.old.words }
-        ensures starts { self.new.starts ≡ self.old.starts }
-        ensures stays { self.new.extents ≡ self.old.extents }
-        ensures touches { self.new.touches ≡ self.old.touches + 1 }
-        ensures touched { self.new.touched ≡ (at + 2) ∷ self.old.touched }
+        ensures reads { Reads (at + 2) self.old self.new }
     {
         low_half(self.read(at as usize + 2))
     }
@@ -261,11 +225,7 @@ impl Words {
     #[tactic(auto, unfolding(crate::specs::Fields::length_word))]
     pub fn set_length(&mut self, at: u32, bytes: u32)
         requires { at + 2 < length self.old.words }
-        ensures words { self.new.words ≡ slice_set self.old.words (at + 2) (length_word bytes) }
-        ensures starts { self.new.starts ≡ self.old.starts }
-        ensures stays { self.new.extents ≡ self.old.extents }
-        ensures touches { self.new.touches ≡ self.old.touches + 1 }
-        ensures touched { self.new.touched ≡ (at + 2) ∷ self.old.touched }
+        ensures writes { Writes ((at + 2) ∷ []) (slice_set self.old.words (at + 2) (length_word bytes)) self.old self.new }
     {
         self.write(at as usize + 2, u64::from(bytes));
     }
@@ -280,12 +240,7 @@ impl Words {
         requires { at + 2 < length self.old.words }
         ensures next { result.next ≡ low_half (slice_index self.old.words (at + 2)) }
         ensures previous { result.previous ≡ high_half (slice_index self.old.words (at + 2)) }
-        ensures small { length self.old.words ≤ 2 ^ 24 }
-        ensures words { self.new.words ≡ self.old.words }
-        ensures starts { self.new.starts ≡ self.old.starts }
-        ensures stays { self.new.extents ≡ self.old.extents }
-        ensures touches { self.new.touches ≡ self.old.touches + 1 }
-        ensures touched { self.new.touched ≡ (at + 2) ∷ self.old.touched }
+        ensures reads { Reads (at + 2) self.old self.new }
     {
         Links::of_word(self.read(at as usize + 2))
     }
@@ -298,12 +253,7 @@ impl Words {
     #[inline]
     pub fn set_links(&mut self, at: u32, links: Links)
         requires { at + 2 < length self.old.words }
-        ensures small { length self.old.words ≤ 2 ^ 24 }
-        ensures words { self.new.words ≡ slice_set self.old.words (at + 2) (links_word links.next links.previous) }
-        ensures starts { self.new.starts ≡ self.old.starts }
-        ensures stays { self.new.extents ≡ self.old.extents }
-        ensures touches { self.new.touches ≡ self.old.touches + 1 }
-        ensures touched { self.new.touched ≡ (at + 2) ∷ self.old.touched }
+        ensures writes { Writes ((at + 2) ∷ []) (slice_set self.old.words (at + 2) (links_word links.next links.previous)) self.old self.new }
     {
         self.write(at as usize + 2, links.to_word());
     }
@@ -314,12 +264,7 @@ impl Words {
     pub(crate) fn link(&mut self, at: u32, links: Links)
         requires at { at + 2 < length self.old.words }
         requires next { links.next + 2 < length self.old.words }
-        ensures small { length self.old.words ≤ 2 ^ 24 }
-        ensures words { self.new.words ≡ slice_set (slice_set self.old.words (at + 2) (links_word links.next links.previous)) (links.next + 2) (links_word (low_half (slice_index (slice_set self.old.words (at + 2) (links_word links.next links.previous)) (links.next + 2))) at) }
-        ensures starts { self.new.starts ≡ self.old.starts }
-        ensures stays { self.new.extents ≡ self.old.extents }
-        ensures touches { self.new.touches ≡ self.old.touches + 3 }
-        ensures touched { self.new.touched ≡ (links.next + 2) ∷ (links.next + 2) ∷ (at + 2) ∷ self.old.touched }
+        ensures writes { Writes ((links.next + 2) ∷ (links.next + 2) ∷ (at + 2) ∷ []) (slice_set (slice_set self.old.words (at + 2) (links_word links.next links.previous)) (links.next + 2) (links_word (low_half (slice_index (slice_set self.old.words (at + 2) (links_word links.next links.previous)) (links.next + 2))) at)) self.old self.new }
     {
         self.words.write_and_upper(
             at as usize + 2,
@@ -338,11 +283,7 @@ impl Words {
     pub fn starts(&mut self, at: u32) -> bool
         requires { at < length self.old.words }
         ensures value { result ≡ slice_index_or self.old.starts at false }
-        ensures words { self.new.words ≡ self.old.words }
-        ensures starts { self.new.starts ≡ self.old.starts }
-        ensures stays { self.new.extents ≡ self.old.extents }
-        ensures touches { self.new.touches ≡ self.old.touches + 1 }
-        ensures touched { self.new.touched ≡ self.old.touched }
+        ensures reads { TouchesStarts 1 self.old.starts self.old self.new }
     {
         self.starts.has(at)
     }
@@ -355,11 +296,7 @@ impl Words {
     #[inline]
     pub fn set_start(&mut self, at: u32, starts: bool)
         requires { at < length self.old.words }
-        ensures words { self.new.words ≡ self.old.words }
-        ensures starts { self.new.starts ≡ slice_set self.old.starts at starts }
-        ensures stays { self.new.extents ≡ self.old.extents }
-        ensures touches { self.new.touches ≡ self.old.touches + 1 }
-        ensures touched { self.new.touched ≡ self.old.touched }
+        ensures writes { TouchesStarts 1 (slice_set self.old.starts at starts) self.old self.new }
     {
         self.starts.set(at, starts);
     }
@@ -371,11 +308,7 @@ impl Words {
     /// let is_block = words.starts(0);     // false
     /// ```
     pub fn clear_starts(&mut self)
-        ensures words { self.new.words ≡ self.old.words }
-        ensures starts { self.new.starts ≡ replicate (length self.old.words) false }
-        ensures stays { self.new.extents ≡ self.old.extents }
-        ensures touches { self.new.touches ≡ self.old.touches + (length self.old.words + 63) / 64 }
-        ensures touched { self.new.touched ≡ self.old.touched }
+        ensures writes { TouchesStarts ((length self.old.words + 63) / 64) (replicate (length self.old.words) false) self.old self.new }
     {
         self.starts.clear();
     }
@@ -453,12 +386,7 @@ impl Words {
     fn read(&mut self, at: usize) -> u64
         requires { at < length self.old.words }
         ensures value { result ≡ slice_index self.old.words at }
-        ensures small { length self.old.words ≤ 2 ^ 24 }
-        ensures words { self.new.words ≡ self.old.words }
-        ensures starts { self.new.starts ≡ self.old.starts }
-        ensures stays { self.new.extents ≡ self.old.extents }
-        ensures touches { self.new.touches ≡ self.old.touches + 1 }
-        ensures touched { self.new.touched ≡ at ∷ self.old.touched }
+        ensures reads { Reads at self.old self.new }
     {
         self.words.read(at)
     }
@@ -467,12 +395,7 @@ impl Words {
     #[inline]
     fn write(&mut self, at: usize, word: u64)
         requires { at < length self.old.words }
-        ensures small { length self.old.words ≤ 2 ^ 24 }
-        ensures words { self.new.words ≡ slice_set self.old.words at word }
-        ensures starts { self.new.starts ≡ self.old.starts }
-        ensures stays { self.new.extents ≡ self.old.extents }
-        ensures touches { self.new.touches ≡ self.old.touches + 1 }
-        ensures touched { self.new.touched ≡ at ∷ self.old.touched }
+        ensures writes { Writes (at ∷ []) (slice_set self.old.words at word) self.old self.new }
     {
         self.words.write(at, word);
     }

@@ -20,9 +20,9 @@ begin_at-requires g c = (
     omega arith,
     λ some.
         let head : c.place-head.result ≡ head_of c.args.class c.args.self.now = c.place-head.ensures.value ∙ ap (head_of c.args.class) c.self.view_is in
-        subst (λ (w : List ℕ). c.links-next.result.next + 2 < length w) (sym c.links-next.ensures.words)
-        (next_within g.row.SLI c.args.self.now.heads c.args.self.now.members c.args.words.now.words c.args.class c.place-head.result c.requires.threaded c.links-next.ensures.small (head_member g.row.SLI c.args.self.now.heads c.args.self.now.members c.args.words.now.words c.args.class c.place-head.result c.requires.threaded c.requires.some head)
-        c.links-next.result.next nowhere c.links-next.ensures.next (head_previous g.row.SLI c.args.self.now.heads c.args.self.now.members c.args.words.now.words c.args.class c.place-head.result c.requires.threaded c.requires.some head c.links-next.ensures.small) some),
+        subst (λ (w : List ℕ). c.links-next.result.next + 2 < length w) (sym c.links-next.ensures.reads.words)
+        (next_within g.row.SLI c.args.self.now.heads c.args.self.now.members c.args.words.now.words c.args.class c.place-head.result c.requires.threaded c.links-next.ensures.reads.small (head_member g.row.SLI c.args.self.now.heads c.args.self.now.members c.args.words.now.words c.args.class c.place-head.result c.requires.threaded c.requires.some head)
+        c.links-next.result.next nowhere c.links-next.ensures.next (head_previous g.row.SLI c.args.self.now.heads c.args.self.now.members c.args.words.now.words c.args.class c.place-head.result c.requires.threaded c.requires.some head c.links-next.ensures.reads.small) some),
   ),
 )
 
@@ -36,15 +36,15 @@ is_member g c = head_member g.row.SLI c.args.self.now.heads c.args.self.now.memb
 
 -- and none stands before it
 none_before : (g : Over) (c : goal.After-begin_at g) → nowhere ≡ high_half (get_or c.args.words.now.words (c.place-head.result + 2) 0)
-none_before g c = head_previous g.row.SLI c.args.self.now.heads c.args.self.now.members c.args.words.now.words c.args.class c.place-head.result c.requires.threaded c.requires.some (is_head g c) c.links-next.ensures.small
+none_before g c = head_previous g.row.SLI c.args.self.now.heads c.args.self.now.members c.args.words.now.words c.args.class c.place-head.result c.requires.threaded c.requires.some (is_head g c) c.links-next.ensures.reads.small
 
 -- what is written
 writes : (g : Over) (c : goal.After-begin_at g) → RemoveWrites g.row.SLI c.args.self.now.heads c.args.self.now.members c.args.words.now.words c.args.class c.place-head.result c.links-next.result.next nowhere c.begin_at.new.self.heads c.begin_at.new.self.members c.begin_at.new.words.words
 writes g c = record {
   next_is = c.links-next.ensures.next;
   previous_is = none_before g c;
-  long = c.begin_at.ensures.length ∙ ap length c.links-next.ensures.words;
-  tied = subst (λ (w : List ℕ). AreTied w c.begin_at.new.words.words c.links-next.result.next nowhere) c.links-next.ensures.words c.begin_at.ensures.tied;
+  long = c.begin_at.ensures.length ∙ ap length c.links-next.ensures.reads.words;
+  tied = subst (λ (w : List ℕ). AreTied w c.begin_at.new.words.words c.links-next.result.next nowhere) c.links-next.ensures.reads.words c.begin_at.ensures.tied;
   first = λ _. c.begin_at.ensures.head;
   later = λ some. absurd (some refl);
   heads_kept = λ k n. c.begin_at.ensures.heads k n ∙ ap (λ (ps : List ℕ). get_or ps k nowhere) c.place-head.ensures.places ∙ ap (head_of k) c.self.view_is;
@@ -53,10 +53,10 @@ writes g c = record {
 }
 
 pub returns-clause-threaded : goal.returns-clause-threaded
-returns-clause-threaded g c = remove-threaded g.row.SLI c.args.self.now.heads c.args.self.now.members c.args.words.now.words c.args.class c.place-head.result c.requires.threaded c.links-next.ensures.small (is_member g c) c.links-next.result.next nowhere c.begin_at.new.self.heads c.begin_at.new.self.members c.begin_at.new.words.words (writes g c)
+returns-clause-threaded g c = remove-threaded g.row.SLI c.args.self.now.heads c.args.self.now.members c.args.words.now.words c.args.class c.place-head.result c.requires.threaded c.links-next.ensures.reads.small (is_member g c) c.links-next.result.next nowhere c.begin_at.new.self.heads c.begin_at.new.self.members c.begin_at.new.words.words (writes g c)
 
 pub returns-clause-list : goal.returns-clause-list
-returns-clause-list g c = remove-list g.row.SLI c.args.self.now.heads c.args.self.now.members c.args.words.now.words c.args.class c.place-head.result c.requires.threaded c.links-next.ensures.small (is_member g c) c.links-next.result.next nowhere c.begin_at.new.self.heads c.begin_at.new.self.members c.begin_at.new.words.words (writes g c)
+returns-clause-list g c = remove-list g.row.SLI c.args.self.now.heads c.args.self.now.members c.args.words.now.words c.args.class c.place-head.result c.requires.threaded c.links-next.ensures.reads.small (is_member g c) c.links-next.result.next nowhere c.begin_at.new.self.heads c.begin_at.new.self.members c.begin_at.new.words.words (writes g c)
 
 pub returns-clause-first : goal.returns-clause-first
 returns-clause-first g c =
@@ -64,19 +64,19 @@ returns-clause-first g c =
     ∙ ap (λ (ps : List ℕ). c.place-head.result ∷ ps) (sym (returns-clause-list g c))
 
 pub returns-clause-others : goal.returns-clause-others
-returns-clause-others g c = remove-others g.row.SLI c.args.self.now.heads c.args.self.now.members c.args.words.now.words c.args.class c.place-head.result c.requires.threaded c.links-next.ensures.small (is_member g c) c.links-next.result.next nowhere c.begin_at.new.self.heads c.begin_at.new.self.members c.begin_at.new.words.words (writes g c)
+returns-clause-others g c = remove-others g.row.SLI c.args.self.now.heads c.args.self.now.members c.args.words.now.words c.args.class c.place-head.result c.requires.threaded c.links-next.ensures.reads.small (is_member g c) c.links-next.result.next nowhere c.begin_at.new.self.heads c.begin_at.new.self.members c.begin_at.new.words.words (writes g c)
 
 pub returns-clause-words : goal.returns-clause-words
-returns-clause-words g c = remove-words g.row.SLI c.args.self.now.heads c.args.self.now.members c.args.words.now.words c.args.class c.place-head.result c.requires.threaded c.links-next.ensures.small (is_member g c) c.links-next.result.next nowhere c.begin_at.new.self.heads c.begin_at.new.self.members c.begin_at.new.words.words (writes g c)
+returns-clause-words g c = remove-words g.row.SLI c.args.self.now.heads c.args.self.now.members c.args.words.now.words c.args.class c.place-head.result c.requires.threaded c.links-next.ensures.reads.small (is_member g c) c.links-next.result.next nowhere c.begin_at.new.self.heads c.begin_at.new.self.members c.begin_at.new.words.words (writes g c)
 
 pub returns-clause-touched : goal.returns-clause-touched
 returns-clause-touched g c = λ k own others.
     c.begin_at.ensures.touched k
     (λ some. absurd (some refl))
-    (λ some. others c.args.class c.links-next.result.next (next_listed g.row.SLI c.args.self.now.heads c.args.self.now.members c.args.words.now.words c.args.class c.place-head.result c.requires.threaded c.links-next.ensures.small (is_member g c)
+    (λ some. others c.args.class c.links-next.result.next (next_listed g.row.SLI c.args.self.now.heads c.args.self.now.members c.args.words.now.words c.args.class c.place-head.result c.requires.threaded c.links-next.ensures.reads.small (is_member g c)
     c.links-next.result.next nowhere c.links-next.ensures.next (none_before g c) some))
-    ∙ ap (λ (l : List ℕ). times l k) c.links-next.ensures.touched ∙ times_other (c.place-head.result + 2) k c.args.words.now.touched own
+    ∙ ap (λ (l : List ℕ). times l k) c.links-next.ensures.reads.touched ∙ times_other (c.place-head.result + 2) k c.args.words.now.touched own
 
 pub returns-clause-groups : goal.returns-clause-groups
-returns-clause-groups g c = groups_then (one_touch (c.place-head.result + 2) c.links-next.ensures.touched)
+returns-clause-groups g c = groups_then (one_touch (c.place-head.result + 2) c.links-next.ensures.reads.touched)
     (one_word (c.links-next.result.next + 2) (λ k next. c.begin_at.ensures.touched k (λ some. absurd (some refl)) (λ some. next)))

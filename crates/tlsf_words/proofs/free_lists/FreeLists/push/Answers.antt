@@ -29,13 +29,13 @@ writes_to_empty g c =
     let head : c.place-next.result ≡ head_of c.args.class c.args.self.now = c.place-next.ensures.value ∙ ap (head_of c.args.class) c.self.view_is in
     record {
       level = c.set_place.ensures.level;
-      small = c.set_links.ensures.small;
+      small = c.set_links.ensures.writes.small;
       inside = c.requires.inside;
       unlisted = c.requires.unlisted;
       in_use = class_in_use g.row.SLI c.set_place.ensures.level c.args.class c.set_place.ensures.least c.set_place.ensures.most;
-      long = ap length c.set_links.ensures.words ∙ length-set c.args.words.now.words (c.args.at + 2) (links_word nowhere nowhere);
+      long = ap length c.set_links.ensures.writes.words ∙ length-set c.args.words.now.words (c.args.at + 2) (links_word nowhere nowhere);
       at_head = subst (IsAtHead c.args.words.now.words c.set_links.new.self.words c.args.at) (sym (c.is_place.ensures.no c.if-not-is_place.true) ∙ head)
-          (IsAtHead-alone c.args.words.now.words c.set_links.new.self.words c.args.at nowhere c.requires.inside c.set_links.ensures.words refl);
+          (IsAtHead-alone c.args.words.now.words c.set_links.new.self.words c.args.at nowhere c.requires.inside c.set_links.ensures.writes.words refl);
       head = c.set_place.ensures.value;
       heads_kept = λ k n. c.set_place.ensures.others k n ∙ ap (λ (ps : List ℕ). get_or ps k nowhere) c.place-next.ensures.places ∙ ap (head_of k) c.self.view_is;
       was_empty = λ _. c.set.ensures.members ∙ ap (λ (f : ListHeads). with_member g.row.SLI f.members c.args.class) c.self.view_is;
@@ -49,15 +49,15 @@ writes_to_more g c =
     let within = next_within g.row.SLI c.args.self.now.heads c.args.self.now.members c.args.words.now.words c.args.class c.place-next.result c.requires.threaded head (c.is_place.ensures.yes c.if-not-is_place.false) in
     record {
       level = c.set_place.ensures.level;
-      small = c.link.ensures.small;
+      small = c.link.ensures.writes.small;
       inside = c.requires.inside;
       unlisted = c.requires.unlisted;
       in_use = class_in_use g.row.SLI c.set_place.ensures.level c.args.class c.set_place.ensures.least c.set_place.ensures.most;
-      long = ap length c.link.ensures.words ∙ length-set (set c.args.words.now.words (c.args.at + 2) (links_word c.place-next.result nowhere)) (c.place-next.result + 2) _ ∙ length-set c.args.words.now.words (c.args.at + 2) (links_word c.place-next.result nowhere);
+      long = ap length c.link.ensures.writes.words ∙ length-set (set c.args.words.now.words (c.args.at + 2) (links_word c.place-next.result nowhere)) (c.place-next.result + 2) _ ∙ length-set c.args.words.now.words (c.args.at + 2) (links_word c.place-next.result nowhere);
       at_head = subst (IsAtHead c.args.words.now.words c.link.new.self.words c.args.at) head
           (IsAtHead-more c.args.words.now.words (set c.args.words.now.words (c.args.at + 2) (links_word c.place-next.result nowhere)) c.link.new.self.words c.args.at c.place-next.result c.requires.inside within
           (next_apart c.args.self.now.heads c.args.words.now.words c.args.class c.args.at c.place-next.result c.requires.unlisted head (c.is_place.ensures.yes c.if-not-is_place.false))
-          (c.is_place.ensures.yes c.if-not-is_place.false) refl c.link.ensures.words);
+          (c.is_place.ensures.yes c.if-not-is_place.false) refl c.link.ensures.writes.words);
       head = c.set_place.ensures.value;
       heads_kept = λ k n. c.set_place.ensures.others k n ∙ ap (λ (ps : List ℕ). get_or ps k nowhere) c.place-next.ensures.places ∙ ap (head_of k) c.self.view_is;
       was_empty = λ none. absurd ((c.is_place.ensures.yes c.if-not-is_place.false) (head ∙ none));
@@ -90,7 +90,7 @@ returns-else-not-is_place-clause-words g c = push-words g.row.SLI c.args.self.no
 
 pub returns-then-not-is_place-clause-touched : goal.returns-then-not-is_place-clause-touched
 returns-then-not-is_place-clause-touched g c = λ k own others.
-    ap (λ (l : List ℕ). times l k) c.set_links.ensures.touched ∙ times_other (c.args.at + 2) k c.args.words.now.touched own
+    ap (λ (l : List ℕ). times l k) c.set_links.ensures.writes.touched ∙ times_other (c.args.at + 2) k c.args.words.now.touched own
 
 pub returns-else-not-is_place-clause-touched : goal.returns-else-not-is_place-clause-touched
 returns-else-not-is_place-clause-touched g c = λ k own others.
@@ -100,19 +100,19 @@ returns-else-not-is_place-clause-touched g c = λ k own others.
     let apart = others c.args.class c.place-next.result listed in
     let next = c.place-next.result + 2 in
     let place = c.args.at + 2 in
-    ap (λ (l : List ℕ). times l k) c.link.ensures.touched
+    ap (λ (l : List ℕ). times l k) c.link.ensures.writes.touched
     ∙ times_other next k (next ∷ place ∷ c.args.words.now.touched) apart
     ∙ times_other next k (place ∷ c.args.words.now.touched) apart
     ∙ times_other place k c.args.words.now.touched own
 
 pub returns-then-not-is_place-clause-groups : goal.returns-then-not-is_place-clause-groups
-returns-then-not-is_place-clause-groups g c = more_groups (omega arith) (one_touch (c.args.at + 2) c.set_links.ensures.touched)
+returns-then-not-is_place-clause-groups g c = more_groups (omega arith) (one_touch (c.args.at + 2) c.set_links.ensures.writes.touched)
 
 pub returns-else-not-is_place-clause-groups : goal.returns-else-not-is_place-clause-groups
 returns-else-not-is_place-clause-groups g c = two_words (c.args.at + 2) (c.place-next.result + 2) (λ k own apart.
     let next = c.place-next.result + 2 in
     let place = c.args.at + 2 in
-    ap (λ (l : List ℕ). times l k) c.link.ensures.touched
+    ap (λ (l : List ℕ). times l k) c.link.ensures.writes.touched
     ∙ times_other next k (next ∷ place ∷ c.args.words.now.touched) apart
     ∙ times_other next k (place ∷ c.args.words.now.touched) apart
     ∙ times_other place k c.args.words.now.touched own)

@@ -13,15 +13,15 @@ pub is_place-requires : goal.is_place-requires
 is_place-requires g c = λ some.
     omega (
       arith,
-      c.links-links.ensures.small,
-      previous_within g.row.SLI c.args.self.now.heads c.args.self.now.members c.args.words.now.words (class_of g.row.SLI c.args.size) c.args.at c.requires.threaded c.links-links.ensures.small c.requires.listed
+      c.links-links.ensures.reads.small,
+      previous_within g.row.SLI c.args.self.now.heads c.args.self.now.members c.args.words.now.words (class_of g.row.SLI c.args.size) c.args.at c.requires.threaded c.links-links.ensures.reads.small c.requires.listed
           c.links-links.result.next c.links-links.result.previous c.links-links.ensures.next c.links-links.ensures.previous some,
     )
 
 pub tie-requires-clause-next : goal.tie-requires-clause-next
 tie-requires-clause-next g c = λ some.
-    subst (λ (w : List ℕ). c.links-links.result.next + 2 < length w) (sym c.links-links.ensures.words)
-    (next_within g.row.SLI c.args.self.now.heads c.args.self.now.members c.args.words.now.words (class_of g.row.SLI c.args.size) c.args.at c.requires.threaded c.links-links.ensures.small c.requires.listed
+    subst (λ (w : List ℕ). c.links-links.result.next + 2 < length w) (sym c.links-links.ensures.reads.words)
+    (next_within g.row.SLI c.args.self.now.heads c.args.self.now.members c.args.words.now.words (class_of g.row.SLI c.args.size) c.args.at c.requires.threaded c.links-links.ensures.reads.small c.requires.listed
     c.links-links.result.next c.links-links.result.previous c.links-links.ensures.next c.links-links.ensures.previous some)
 
 pub tie-requires-clause-some : goal.tie-requires-clause-some
@@ -29,12 +29,12 @@ tie-requires-clause-some g c = c.is_place.ensures.yes c.if-is_place.true
 
 pub tie-requires-clause-previous : goal.tie-requires-clause-previous
 tie-requires-clause-previous g c =
-    subst (λ (w : List ℕ). c.links-links.result.previous + 2 < length w) (sym c.links-links.ensures.words)
-    (previous_within g.row.SLI c.args.self.now.heads c.args.self.now.members c.args.words.now.words (class_of g.row.SLI c.args.size) c.args.at c.requires.threaded c.links-links.ensures.small c.requires.listed
+    subst (λ (w : List ℕ). c.links-links.result.previous + 2 < length w) (sym c.links-links.ensures.reads.words)
+    (previous_within g.row.SLI c.args.self.now.heads c.args.self.now.members c.args.words.now.words (class_of g.row.SLI c.args.size) c.args.at c.requires.threaded c.links-links.ensures.reads.small c.requires.listed
     c.links-links.result.next c.links-links.result.previous c.links-links.ensures.next c.links-links.ensures.previous (c.is_place.ensures.yes c.if-is_place.true))
 
 pub tie-requires-clause-apart : goal.tie-requires-clause-apart
-tie-requires-clause-apart g c = neighbours_apart g.row.SLI c.args.self.now.heads c.args.self.now.members c.args.words.now.words (class_of g.row.SLI c.args.size) c.args.at c.requires.threaded c.links-links.ensures.small c.requires.listed
+tie-requires-clause-apart g c = neighbours_apart g.row.SLI c.args.self.now.heads c.args.self.now.members c.args.words.now.words (class_of g.row.SLI c.args.size) c.args.at c.requires.threaded c.links-links.ensures.reads.small c.requires.listed
     c.links-links.result.next c.links-links.result.previous c.links-links.ensures.next c.links-links.ensures.previous
 
 pub begin_at-requires : goal.begin_at-requires
@@ -43,8 +43,8 @@ begin_at-requires g c = (
   (
     omega arith,
     λ some.
-        subst (λ (w : List ℕ). c.links-links.result.next + 2 < length w) (sym c.links-links.ensures.words)
-        (next_within g.row.SLI c.args.self.now.heads c.args.self.now.members c.args.words.now.words (class_of g.row.SLI c.args.size) c.args.at c.requires.threaded c.links-links.ensures.small c.requires.listed
+        subst (λ (w : List ℕ). c.links-links.result.next + 2 < length w) (sym c.links-links.ensures.reads.words)
+        (next_within g.row.SLI c.args.self.now.heads c.args.self.now.members c.args.words.now.words (class_of g.row.SLI c.args.size) c.args.at c.requires.threaded c.links-links.ensures.reads.small c.requires.listed
         c.links-links.result.next c.links-links.result.previous c.links-links.ensures.next c.links-links.ensures.previous some),
   ),
 )
@@ -56,8 +56,8 @@ writes_behind g c =
     record {
       next_is = c.links-links.ensures.next;
       previous_is = c.links-links.ensures.previous;
-      long = c.tie.ensures.length ∙ ap length c.links-links.ensures.words;
-      tied = subst (λ (w : List ℕ). AreTied w c.tie.new.words.words c.links-links.result.next c.links-links.result.previous) c.links-links.ensures.words c.tie.ensures.tied;
+      long = c.tie.ensures.length ∙ ap length c.links-links.ensures.reads.words;
+      tied = subst (λ (w : List ℕ). AreTied w c.tie.new.words.words c.links-links.result.next c.links-links.result.previous) c.links-links.ensures.reads.words c.tie.ensures.tied;
       first = λ none. absurd (some none);
       later = λ _. refl;
       heads_kept = λ _ _. refl;
@@ -70,8 +70,8 @@ writes_first : (g : Over) (c : After-begin_at g) → RemoveWrites g.row.SLI c.ar
 writes_first g c = subst (λ (class : ℕ). RemoveWrites g.row.SLI c.args.self.now.heads c.args.self.now.members c.args.words.now.words class c.args.at c.links-links.result.next nowhere c.begin_at.new.self.heads c.begin_at.new.self.members c.begin_at.new.words.words) c.class_of.ensures (record {
   next_is = c.links-links.ensures.next;
   previous_is = sym (c.is_place.ensures.no c.if-is_place.false) ∙ c.links-links.ensures.previous;
-  long = c.begin_at.ensures.length ∙ ap length c.links-links.ensures.words;
-  tied = subst (λ (w : List ℕ). AreTied w c.begin_at.new.words.words c.links-links.result.next nowhere) c.links-links.ensures.words c.begin_at.ensures.tied;
+  long = c.begin_at.ensures.length ∙ ap length c.links-links.ensures.reads.words;
+  tied = subst (λ (w : List ℕ). AreTied w c.begin_at.new.words.words c.links-links.result.next nowhere) c.links-links.ensures.reads.words c.begin_at.ensures.tied;
   first = λ _. c.begin_at.ensures.head;
   later = λ some. absurd (some refl);
   heads_kept = λ k n. c.begin_at.ensures.heads k n;
@@ -80,58 +80,58 @@ writes_first g c = subst (λ (class : ℕ). RemoveWrites g.row.SLI c.args.self.n
 })
 
 pub returns-then-is_place-clause-threaded : goal.returns-then-is_place-clause-threaded
-returns-then-is_place-clause-threaded g c = remove-threaded g.row.SLI c.args.self.now.heads c.args.self.now.members c.args.words.now.words (class_of g.row.SLI c.args.size) c.args.at c.requires.threaded c.links-links.ensures.small c.requires.listed
+returns-then-is_place-clause-threaded g c = remove-threaded g.row.SLI c.args.self.now.heads c.args.self.now.members c.args.words.now.words (class_of g.row.SLI c.args.size) c.args.at c.requires.threaded c.links-links.ensures.reads.small c.requires.listed
     c.links-links.result.next c.links-links.result.previous c.args.self.now.heads c.args.self.now.members c.tie.new.words.words (writes_behind g c)
 
 pub returns-then-is_place-clause-list : goal.returns-then-is_place-clause-list
-returns-then-is_place-clause-list g c = remove-list g.row.SLI c.args.self.now.heads c.args.self.now.members c.args.words.now.words (class_of g.row.SLI c.args.size) c.args.at c.requires.threaded c.links-links.ensures.small c.requires.listed
+returns-then-is_place-clause-list g c = remove-list g.row.SLI c.args.self.now.heads c.args.self.now.members c.args.words.now.words (class_of g.row.SLI c.args.size) c.args.at c.requires.threaded c.links-links.ensures.reads.small c.requires.listed
     c.links-links.result.next c.links-links.result.previous c.args.self.now.heads c.args.self.now.members c.tie.new.words.words (writes_behind g c)
 
 pub returns-then-is_place-clause-others : goal.returns-then-is_place-clause-others
-returns-then-is_place-clause-others g c = remove-others g.row.SLI c.args.self.now.heads c.args.self.now.members c.args.words.now.words (class_of g.row.SLI c.args.size) c.args.at c.requires.threaded c.links-links.ensures.small c.requires.listed
+returns-then-is_place-clause-others g c = remove-others g.row.SLI c.args.self.now.heads c.args.self.now.members c.args.words.now.words (class_of g.row.SLI c.args.size) c.args.at c.requires.threaded c.links-links.ensures.reads.small c.requires.listed
     c.links-links.result.next c.links-links.result.previous c.args.self.now.heads c.args.self.now.members c.tie.new.words.words (writes_behind g c)
 
 pub returns-then-is_place-clause-words : goal.returns-then-is_place-clause-words
-returns-then-is_place-clause-words g c = remove-words g.row.SLI c.args.self.now.heads c.args.self.now.members c.args.words.now.words (class_of g.row.SLI c.args.size) c.args.at c.requires.threaded c.links-links.ensures.small c.requires.listed
+returns-then-is_place-clause-words g c = remove-words g.row.SLI c.args.self.now.heads c.args.self.now.members c.args.words.now.words (class_of g.row.SLI c.args.size) c.args.at c.requires.threaded c.links-links.ensures.reads.small c.requires.listed
     c.links-links.result.next c.links-links.result.previous c.args.self.now.heads c.args.self.now.members c.tie.new.words.words (writes_behind g c)
 
 pub returns-else-is_place-clause-threaded : goal.returns-else-is_place-clause-threaded
-returns-else-is_place-clause-threaded g c = remove-threaded g.row.SLI c.args.self.now.heads c.args.self.now.members c.args.words.now.words (class_of g.row.SLI c.args.size) c.args.at c.requires.threaded c.links-links.ensures.small c.requires.listed
+returns-else-is_place-clause-threaded g c = remove-threaded g.row.SLI c.args.self.now.heads c.args.self.now.members c.args.words.now.words (class_of g.row.SLI c.args.size) c.args.at c.requires.threaded c.links-links.ensures.reads.small c.requires.listed
     c.links-links.result.next nowhere c.begin_at.new.self.heads c.begin_at.new.self.members c.begin_at.new.words.words (writes_first g c)
 
 pub returns-else-is_place-clause-list : goal.returns-else-is_place-clause-list
-returns-else-is_place-clause-list g c = remove-list g.row.SLI c.args.self.now.heads c.args.self.now.members c.args.words.now.words (class_of g.row.SLI c.args.size) c.args.at c.requires.threaded c.links-links.ensures.small c.requires.listed
+returns-else-is_place-clause-list g c = remove-list g.row.SLI c.args.self.now.heads c.args.self.now.members c.args.words.now.words (class_of g.row.SLI c.args.size) c.args.at c.requires.threaded c.links-links.ensures.reads.small c.requires.listed
     c.links-links.result.next nowhere c.begin_at.new.self.heads c.begin_at.new.self.members c.begin_at.new.words.words (writes_first g c)
 
 pub returns-else-is_place-clause-others : goal.returns-else-is_place-clause-others
-returns-else-is_place-clause-others g c = remove-others g.row.SLI c.args.self.now.heads c.args.self.now.members c.args.words.now.words (class_of g.row.SLI c.args.size) c.args.at c.requires.threaded c.links-links.ensures.small c.requires.listed
+returns-else-is_place-clause-others g c = remove-others g.row.SLI c.args.self.now.heads c.args.self.now.members c.args.words.now.words (class_of g.row.SLI c.args.size) c.args.at c.requires.threaded c.links-links.ensures.reads.small c.requires.listed
     c.links-links.result.next nowhere c.begin_at.new.self.heads c.begin_at.new.self.members c.begin_at.new.words.words (writes_first g c)
 
 pub returns-else-is_place-clause-words : goal.returns-else-is_place-clause-words
-returns-else-is_place-clause-words g c = remove-words g.row.SLI c.args.self.now.heads c.args.self.now.members c.args.words.now.words (class_of g.row.SLI c.args.size) c.args.at c.requires.threaded c.links-links.ensures.small c.requires.listed
+returns-else-is_place-clause-words g c = remove-words g.row.SLI c.args.self.now.heads c.args.self.now.members c.args.words.now.words (class_of g.row.SLI c.args.size) c.args.at c.requires.threaded c.links-links.ensures.reads.small c.requires.listed
     c.links-links.result.next nowhere c.begin_at.new.self.heads c.begin_at.new.self.members c.begin_at.new.words.words (writes_first g c)
 
 pub returns-then-is_place-clause-touched : goal.returns-then-is_place-clause-touched
 returns-then-is_place-clause-touched g c = λ k own others.
     c.tie.ensures.touched k
-    (λ some. others (class_of g.row.SLI c.args.size) c.links-links.result.previous (previous_listed g.row.SLI c.args.self.now.heads c.args.self.now.members c.args.words.now.words (class_of g.row.SLI c.args.size) c.args.at c.requires.threaded c.links-links.ensures.small c.requires.listed
+    (λ some. others (class_of g.row.SLI c.args.size) c.links-links.result.previous (previous_listed g.row.SLI c.args.self.now.heads c.args.self.now.members c.args.words.now.words (class_of g.row.SLI c.args.size) c.args.at c.requires.threaded c.links-links.ensures.reads.small c.requires.listed
     c.links-links.result.next c.links-links.result.previous c.links-links.ensures.next c.links-links.ensures.previous some))
-    (λ some. others (class_of g.row.SLI c.args.size) c.links-links.result.next (next_listed g.row.SLI c.args.self.now.heads c.args.self.now.members c.args.words.now.words (class_of g.row.SLI c.args.size) c.args.at c.requires.threaded c.links-links.ensures.small c.requires.listed
+    (λ some. others (class_of g.row.SLI c.args.size) c.links-links.result.next (next_listed g.row.SLI c.args.self.now.heads c.args.self.now.members c.args.words.now.words (class_of g.row.SLI c.args.size) c.args.at c.requires.threaded c.links-links.ensures.reads.small c.requires.listed
     c.links-links.result.next c.links-links.result.previous c.links-links.ensures.next c.links-links.ensures.previous some))
-    ∙ ap (λ (l : List ℕ). times l k) c.links-links.ensures.touched ∙ times_other (c.args.at + 2) k c.args.words.now.touched own
+    ∙ ap (λ (l : List ℕ). times l k) c.links-links.ensures.reads.touched ∙ times_other (c.args.at + 2) k c.args.words.now.touched own
 
 pub returns-else-is_place-clause-touched : goal.returns-else-is_place-clause-touched
 returns-else-is_place-clause-touched g c = λ k own others.
     c.begin_at.ensures.touched k
     (λ some. absurd (some refl))
-    (λ some. others (class_of g.row.SLI c.args.size) c.links-links.result.next (next_listed g.row.SLI c.args.self.now.heads c.args.self.now.members c.args.words.now.words (class_of g.row.SLI c.args.size) c.args.at c.requires.threaded c.links-links.ensures.small c.requires.listed
+    (λ some. others (class_of g.row.SLI c.args.size) c.links-links.result.next (next_listed g.row.SLI c.args.self.now.heads c.args.self.now.members c.args.words.now.words (class_of g.row.SLI c.args.size) c.args.at c.requires.threaded c.links-links.ensures.reads.small c.requires.listed
     c.links-links.result.next c.links-links.result.previous c.links-links.ensures.next c.links-links.ensures.previous some))
-    ∙ ap (λ (l : List ℕ). times l k) c.links-links.ensures.touched ∙ times_other (c.args.at + 2) k c.args.words.now.touched own
+    ∙ ap (λ (l : List ℕ). times l k) c.links-links.ensures.reads.touched ∙ times_other (c.args.at + 2) k c.args.words.now.touched own
 
 pub returns-then-is_place-clause-groups : goal.returns-then-is_place-clause-groups
-returns-then-is_place-clause-groups g c = groups_then (one_touch (c.args.at + 2) c.links-links.ensures.touched)
+returns-then-is_place-clause-groups g c = groups_then (one_touch (c.args.at + 2) c.links-links.ensures.reads.touched)
     (two_words (c.links-links.result.next + 2) (c.links-links.result.previous + 2) (λ k next previous. c.tie.ensures.touched k (λ some. previous) (λ some. next)))
 
 pub returns-else-is_place-clause-groups : goal.returns-else-is_place-clause-groups
-returns-else-is_place-clause-groups g c = more_groups (omega arith) (groups_then (one_touch (c.args.at + 2) c.links-links.ensures.touched)
+returns-else-is_place-clause-groups g c = more_groups (omega arith) (groups_then (one_touch (c.args.at + 2) c.links-links.ensures.reads.touched)
     (one_word (c.links-links.result.next + 2) (λ k next. c.begin_at.ensures.touched k (λ some. absurd (some refl)) (λ some. next))))

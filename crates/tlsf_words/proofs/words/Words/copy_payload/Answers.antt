@@ -20,7 +20,7 @@ returns-clause-bytes c =
       | inl low ↦
           let there : 8 * target + 0 + k ≡ 8 * target + k = omega arith in
           let here : 8 * source + 0 + k ≡ 8 * source + k = omega arith in
-          rw (there, here) (c.write_piece.ensures.before (8 * target + k) (omega arith) ∙ c.copy_words-2.ensures.copied k low ∙ ap (λ words. byte_in words (8 * source + k)) c.read.ensures.words)
+          rw (there, here) (c.write_piece.ensures.before (8 * target + k) (omega arith) ∙ c.copy_words-2.ensures.copied k low ∙ ap (λ words. byte_in words (8 * source + k)) c.read.ensures.reads.words)
       | inr past ↦
           let j = k - 8 * whole in
           let there : 8 * target + 0 + k ≡ 8 * (target + whole) + 0 + j = omega arith in

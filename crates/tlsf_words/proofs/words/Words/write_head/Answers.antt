@@ -21,7 +21,7 @@ has_piece c = record {
 
 -- the words after it
 written : (c : goal.After-write) → c.write.new.self.words ≡ set c.args.self.now.words c.args.place c.join_bytes.result
-written c = c.write.ensures.words ∙ ap (λ words. set words c.args.place c.join_bytes.result) c.read-word.ensures.words
+written c = c.write.ensures.writes.words ∙ ap (λ words. set words c.args.place c.join_bytes.result) c.read-word.ensures.reads.words
 
 pub returns-clause-bytes : goal.returns-clause-bytes
 returns-clause-bytes c k some h =

@@ -20,7 +20,7 @@ has_piece c = record {
 }
 
 written : (c : goal.After-write) → c.write.new.self.words ≡ set c.args.self.now.words c.args.place c.join_bytes.result
-written c = c.write.ensures.words ∙ ap (λ words. set words c.args.place c.join_bytes.result) c.read.ensures.words
+written c = c.write.ensures.writes.words ∙ ap (λ words. set words c.args.place c.join_bytes.result) c.read.ensures.reads.words
 
 -- byte k of the piece is byte k of the last ones
 byte_of_piece : (c : goal.After-write) (k : ℕ) → k < c.args.n → get_or (piece c) k 0 ≡ get_or c.args.bytes.now (length c.args.bytes.now - c.args.n + k) 0
