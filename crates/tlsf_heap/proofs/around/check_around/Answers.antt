@@ -10,7 +10,7 @@ returns-then-is_none-clause-touched c =
     let first = seen_start c.args.words.now c.begins.new.words c.begins.ensures.looks c.begins.ensures.touched in
     let second = seen_more c.args.words.now c.begins.new.words c.examine.new.words first c.examine.ensures.looks c.examine.ensures.touched in
     let tag = c.tag.ensures in
-    let third = seen_tag c.args.words.now c.examine.new.words c.tag.new.self second begins tag.words tag.starts tag.touched in
+    let third = seen_tag c.args.words.now c.examine.new.words c.tag.new.self second begins tag.reads.words tag.reads.starts tag.reads.touched in
     (seen_more c.args.words.now c.tag.new.self c.examine-then-at-gt0.new.words third c.examine-then-at-gt0.ensures.looks c.examine-then-at-gt0.ensures.touched).headers
 
 pub returns-then-end-len-clause-touched : goal.returns-then-end-len-clause-touched
@@ -21,7 +21,7 @@ returns-then-end-len-clause-touched c =
     let fourth : Seen c.args.words.now c.if-at-gt0.words = elim c.if-at-gt0.branch [
       | then-at-gt0+else-is_none w ↦
           let tag = w.tag.ensures in
-          let third = seen_tag c.args.words.now c.examine.new.words w.tag.new.self second begins tag.words tag.starts tag.touched in
+          let third = seen_tag c.args.words.now c.examine.new.words w.tag.new.self second begins tag.reads.words tag.reads.starts tag.reads.touched in
           subst (λ (m : Memory). Seen c.args.words.now m) (sym w.words-is)
           (seen_more c.args.words.now w.tag.new.self w.examine-then-at-gt0.new.words third w.examine-then-at-gt0.ensures.looks w.examine-then-at-gt0.ensures.touched)
       | else-at-gt0 w ↦ subst (λ (m : Memory). Seen c.args.words.now m) (sym w.words-is) second
@@ -36,7 +36,7 @@ returns-then-is_none-2-clause-touched c =
     let fourth : Seen c.args.words.now c.if-at-gt0.words = elim c.if-at-gt0.branch [
       | then-at-gt0+else-is_none w ↦
           let tag = w.tag.ensures in
-          let third = seen_tag c.args.words.now c.examine.new.words w.tag.new.self second begins tag.words tag.starts tag.touched in
+          let third = seen_tag c.args.words.now c.examine.new.words w.tag.new.self second begins tag.reads.words tag.reads.starts tag.reads.touched in
           subst (λ (m : Memory). Seen c.args.words.now m) (sym w.words-is)
           (seen_more c.args.words.now w.tag.new.self w.examine-then-at-gt0.new.words third w.examine-then-at-gt0.ensures.looks w.examine-then-at-gt0.ensures.touched)
       | else-at-gt0 w ↦ subst (λ (m : Memory). Seen c.args.words.now m) (sym w.words-is) second
@@ -51,7 +51,7 @@ returns-clause-touched c =
     let fourth : Seen c.args.words.now c.if-at-gt0.words = elim c.if-at-gt0.branch [
       | then-at-gt0+else-is_none w ↦
           let tag = w.tag.ensures in
-          let third = seen_tag c.args.words.now c.examine.new.words w.tag.new.self second begins tag.words tag.starts tag.touched in
+          let third = seen_tag c.args.words.now c.examine.new.words w.tag.new.self second begins tag.reads.words tag.reads.starts tag.reads.touched in
           subst (λ (m : Memory). Seen c.args.words.now m) (sym w.words-is)
           (seen_more c.args.words.now w.tag.new.self w.examine-then-at-gt0.new.words third w.examine-then-at-gt0.ensures.looks w.examine-then-at-gt0.ensures.touched)
       | else-at-gt0 w ↦ subst (λ (m : Memory). Seen c.args.words.now m) (sym w.words-is) second

@@ -15,20 +15,20 @@ pub returns-then-size-lt4-clause-touched : goal.returns-then-size-lt4-clause-tou
 returns-then-size-lt4-clause-touched c =
     let begins = c.begins.ensures.yes c.if-not-begins.false in
     let tag = c.tag-tag.ensures in
-    (tagged c.args.words.now c.begins.new.words c.tag-tag.new.self c.args.at begins c.begins.ensures.looks c.begins.ensures.touched tag.words tag.starts tag.touched).headers
+    (tagged c.args.words.now c.begins.new.words c.tag-tag.new.self c.args.at begins c.begins.ensures.looks c.begins.ensures.touched tag.reads.words tag.reads.starts tag.reads.touched).headers
 
 pub returns-then-not-joins_before-clause-touched : goal.returns-then-not-joins_before-clause-touched
 returns-then-not-joins_before-clause-touched c =
     let begins = c.begins.ensures.yes c.if-not-begins.false in
     let tag = c.tag-tag.ensures in
-    let first = tagged c.args.words.now c.begins.new.words c.tag-tag.new.self c.args.at begins c.begins.ensures.looks c.begins.ensures.touched tag.words tag.starts tag.touched in
+    let first = tagged c.args.words.now c.begins.new.words c.tag-tag.new.self c.args.at begins c.begins.ensures.looks c.begins.ensures.touched tag.reads.words tag.reads.starts tag.reads.touched in
     (seen_more c.args.words.now c.tag-tag.new.self c.joins_before.new.words first c.joins_before.ensures.looks c.joins_before.ensures.touched).headers
 
 pub returns-then-not-joins_behind-clause-touched : goal.returns-then-not-joins_behind-clause-touched
 returns-then-not-joins_behind-clause-touched c =
     let begins = c.begins.ensures.yes c.if-not-begins.false in
     let tag = c.tag-tag.ensures in
-    let first = tagged c.args.words.now c.begins.new.words c.tag-tag.new.self c.args.at begins c.begins.ensures.looks c.begins.ensures.touched tag.words tag.starts tag.touched in
+    let first = tagged c.args.words.now c.begins.new.words c.tag-tag.new.self c.args.at begins c.begins.ensures.looks c.begins.ensures.touched tag.reads.words tag.reads.starts tag.reads.touched in
     let second = seen_more c.args.words.now c.tag-tag.new.self c.joins_before.new.words first c.joins_before.ensures.looks c.joins_before.ensures.touched in
     (seen_more c.args.words.now c.joins_before.new.words c.joins_behind.new.words second c.joins_behind.ensures.looks c.joins_behind.ensures.touched).headers
 
@@ -36,7 +36,7 @@ pub returns-then-is_sound-clause-touched : goal.returns-then-is_sound-clause-tou
 returns-then-is_sound-clause-touched c =
     let begins = c.begins.ensures.yes c.if-not-begins.false in
     let tag = c.tag-tag.ensures in
-    let first = tagged c.args.words.now c.begins.new.words c.tag-tag.new.self c.args.at begins c.begins.ensures.looks c.begins.ensures.touched tag.words tag.starts tag.touched in
+    let first = tagged c.args.words.now c.begins.new.words c.tag-tag.new.self c.args.at begins c.begins.ensures.looks c.begins.ensures.touched tag.reads.words tag.reads.starts tag.reads.touched in
     let second = seen_more c.args.words.now c.tag-tag.new.self c.joins_before.new.words first c.joins_before.ensures.looks c.joins_before.ensures.touched in
     let third : Seen c.args.words.now c.else-end-len-2.words = elim c.else-end-len-2.branch [
       | else-end-len-2-via-then-end-len-2+else-not-joins_behind w ↦ subst (λ (m : Memory). Seen c.args.words.now m) (sym w.words-is)
@@ -55,7 +55,7 @@ pub returns-else-is_sound-clause-touched : goal.returns-else-is_sound-clause-tou
 returns-else-is_sound-clause-touched c =
     let begins = c.begins.ensures.yes c.if-not-begins.false in
     let tag = c.tag-tag.ensures in
-    let first = tagged c.args.words.now c.begins.new.words c.tag-tag.new.self c.args.at begins c.begins.ensures.looks c.begins.ensures.touched tag.words tag.starts tag.touched in
+    let first = tagged c.args.words.now c.begins.new.words c.tag-tag.new.self c.args.at begins c.begins.ensures.looks c.begins.ensures.touched tag.reads.words tag.reads.starts tag.reads.touched in
     let second = seen_more c.args.words.now c.tag-tag.new.self c.joins_before.new.words first c.joins_before.ensures.looks c.joins_before.ensures.touched in
     let third : Seen c.args.words.now c.else-end-len-2.words = elim c.else-end-len-2.branch [
       | else-end-len-2-via-then-end-len-2+else-not-joins_behind w ↦ subst (λ (m : Memory). Seen c.args.words.now m) (sym w.words-is)

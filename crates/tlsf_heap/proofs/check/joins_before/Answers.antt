@@ -4,4 +4,4 @@ use Rattle.tlsf_heap.proofs.check.joins_before.Goals as goal
 
 pub returns-then-begins-clause-touched : goal.returns-then-begins-clause-touched
 returns-then-begins-clause-touched c =
-    header_begun (image_of c.args.words.now) c.args.back 0 c.args.back (c.begins.ensures.yes c.if-begins.true) (omega arith) (omega arith) c.begins.ensures.touched c.tag.ensures.touched
+    header_begun (image_of c.args.words.now) c.args.back 0 c.args.back (c.begins.ensures.yes c.if-begins.true) (omega arith) (omega arith) c.begins.ensures.touched c.tag.ensures.reads.touched

@@ -15,7 +15,7 @@ is_first-requires g c =
     )
 
 pub invariant_of-self : goal.invariant_of-self
-invariant_of-self g c = holds_read g.row.SLI c.is_first.ensures.words c.is_first.ensures.starts c.self.invariant
+invariant_of-self g c = holds_read g.row.SLI c.is_first.ensures.reads.words c.is_first.ensures.reads.starts c.self.invariant
 
 pub returns-clause-first : goal.returns-clause-first
 returns-clause-first g c class there =
@@ -28,9 +28,9 @@ returns-clause-touched g c k live =
     let state = holds_state g.row.SLI c.self.invariant c.self.view_is in
     let class = c.requires.listed.0 in
     let listed = subst (λ (places : List ℕ). Contains places c.args.at) (state.lists class) c.requires.listed.1 in
-    ap (λ (l : List ℕ). times l k) c.is_first.ensures.touched
+    ap (λ (l : List ℕ). times l k) c.is_first.ensures.reads.touched
     ∙ times_other (c.args.at + 2) k c.self.inside.words.touched (header_apart state.shows (state.free class c.args.at listed).1 2 (omega arith) k live)
     ∙ ap (λ (r : RegionState). times r.touched k) c.self.view_is
 
 pub returns-clause-groups : goal.returns-clause-groups
-returns-clause-groups g c = subst (λ (r : RegionState). InGroups 1 r.touched c.is_first.new.words.touched) c.self.view_is (one_touch (c.args.at + 2) c.is_first.ensures.touched)
+returns-clause-groups g c = subst (λ (r : RegionState). InGroups 1 r.touched c.is_first.new.words.touched) c.self.view_is (one_touch (c.args.at + 2) c.is_first.ensures.reads.touched)

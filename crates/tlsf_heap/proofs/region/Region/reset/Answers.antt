@@ -22,7 +22,7 @@ push-requires g c = (
     omega arith,
     (
       c.clear.ensures.threaded c.first_header.new.words.words,
-      (omega (arith, c.first_header.ensures.only.length, ap (length {A = ℕ}) c.clear_starts.ensures.words, c.len-words.ensures.words, c.len-words.ensures.least), λ class listed. absurd (omega (arith, listed.1, ap (length {A = ℕ}) (c.clear.ensures.empty c.first_header.new.words.words class)))),
+      (omega (arith, c.first_header.ensures.only.length, ap (length {A = ℕ}) c.clear_starts.ensures.writes.words, c.len-words.ensures.words, c.len-words.ensures.least), λ class listed. absurd (omega (arith, listed.1, ap (length {A = ℕ}) (c.clear.ensures.empty c.first_header.new.words.words class)))),
     ),
   ),
 )
@@ -52,7 +52,7 @@ only_place g c class at there = elim (cases_eq class c.class_of.result) [
 
 long : (g : Over) (c : goal.After-push g) → length c.push.new.words.words ≡ c.args.self.now.words
 long g c =
-    c.push.ensures.length ∙ c.first_header.ensures.only.length ∙ ap (length {A = ℕ}) c.clear_starts.ensures.words ∙ ap (λ (r : RegionState). r.words) c.self.view_is
+    c.push.ensures.length ∙ c.first_header.ensures.only.length ∙ ap (length {A = ℕ}) c.clear_starts.ensures.writes.words ∙ ap (λ (r : RegionState). r.words) c.self.view_is
 
 -- the links of the block lie behind its tag and its stamp
 same_word : (g : Over) (c : goal.After-push g) (k : ℕ) → k < 2 → get_or c.push.new.words.words k 0 ≡ get_or c.first_header.new.words.words k 0
@@ -62,11 +62,11 @@ made : (g : Over) (c : goal.After-push g) → Shows (image_of c.push.new.words) 
 made g c =
     let header = c.first_header.ensures in
     let words : length c.self.inside.words.words ≡ c.args.self.now.words = ap (λ (r : RegionState). r.words) c.self.view_is in
-    let size = ap (length {A = ℕ}) c.clear_starts.ensures.words ∙ words in
+    let size = ap (length {A = ℕ}) c.clear_starts.ensures.writes.words ∙ words in
     one_free (image_of c.push.new.words) c.args.self.now.words c.args.stamp (omega (arith, c.len-words.ensures.words, c.len-words.ensures.least, words)) (words_any g.row.SLI c.args.self.now.words c.requires.most) (long g c)
     (same_word g c 0 (omega arith) ∙ header.header.tag ∙ ap (λ (n : ℕ). tag_word n true true nowhere) size)
     (same_word g c 1 (omega arith) ∙ header.header.mark)
-    (c.push.ensures.starts ∙ header.starts ∙ ap (λ (l : List Bool). set l 0 true) (c.clear_starts.ensures.starts ∙ ap (λ (n : ℕ). replicate n false) words))
+    (c.push.ensures.starts ∙ header.starts ∙ ap (λ (l : List Bool). set l 0 true) (c.clear_starts.ensures.writes.starts ∙ ap (λ (n : ℕ). replicate n false) words))
 
 holds : (g : Over) (c : goal.After-push g) → HoldsLists g.row.SLI (image_of c.push.new.words) c.push.new.self
 holds g c =
@@ -108,9 +108,9 @@ returns-clause-edits g c =
       shows = (holds g c).shows;
       linked = linked_lists g.row.SLI _ _ (holds g c);
       bits = marked_lists g.row.SLI _ _ (holds g c);
-      stays = c.push.ensures.stays ∙ c.first_header.ensures.stays ∙ c.clear_starts.ensures.stays ∙ ap (λ (r : RegionState). r.extents) c.self.view_is;
-      touches = omega (arith, c.push.ensures.touches, c.clear.ensures.touches, c.first_header.ensures.touches, c.clear_starts.ensures.touches, touches, words);
-      rise = omega (arith, c.push.ensures.rise, c.push.ensures.words_rise, c.clear.ensures.touches, c.first_header.ensures.touches, c.clear_starts.ensures.touches, touches);
+      stays = c.push.ensures.stays ∙ c.first_header.ensures.stays ∙ c.clear_starts.ensures.writes.stays ∙ ap (λ (r : RegionState). r.extents) c.self.view_is;
+      touches = omega (arith, c.push.ensures.touches, c.clear.ensures.touches, c.first_header.ensures.touches, c.clear_starts.ensures.writes.touches, touches, words);
+      rise = omega (arith, c.push.ensures.rise, c.push.ensures.words_rise, c.clear.ensures.touches, c.first_header.ensures.touches, c.clear_starts.ensures.writes.touches, touches);
     }
 
 pub returns-clause-touched : goal.returns-clause-touched
@@ -119,5 +119,5 @@ returns-clause-touched g c k past =
     c.push.ensures.touched k (λ e. omega (arith, e, past)) (λ class other there. absurd (omega (arith, there.1, ap (length {A = ℕ}) (empty class))))
     ∙ ap (λ (l : List ℕ). times l k) c.first_header.ensures.touched
     ∙ times_other 1 k _ (λ e. omega (arith, e, past)) ∙ times_other 0 k _ (λ e. omega (arith, e, past))
-    ∙ ap (λ (l : List ℕ). times l k) c.clear_starts.ensures.touched
+    ∙ ap (λ (l : List ℕ). times l k) c.clear_starts.ensures.writes.touched
     ∙ ap (λ (r : RegionState). times r.touched k) c.self.view_is

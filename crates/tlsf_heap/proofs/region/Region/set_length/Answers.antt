@@ -19,15 +19,15 @@ sets g c =
     let place = c.args.at + 2 in
     let word = length_word c.args.len in
     let inside : place < length old = omega (arith, says.least, says.ends) in
-    let other : (k : ℕ) → k ≢ place → get_or c.set_length.new.self.words k 0 ≡ get_or old k 0 = λ k ne. ap (λ (ws : List ℕ). get_or ws k 0) new.words ∙ get_or-set_other old place k word 0 ne in
+    let other : (k : ℕ) → k ≢ place → get_or c.set_length.new.self.words k 0 ≡ get_or old k 0 = λ k ne. ap (λ (ws : List ℕ). get_or ws k 0) new.writes.words ∙ get_or-set_other old place k word 0 ne in
     record {
-      length = ap (λ (ws : List ℕ). get_or ws place 0) new.words ∙ get_or-set_same old place word 0 inside;
+      length = ap (λ (ws : List ℕ). get_or ws place 0) new.writes.words ∙ get_or-set_same old place word 0 inside;
       only = record {
         before = λ k h. other k (λ e. omega (arith, h, e));
         behind = λ k h. other k (λ e. omega (arith, h, e));
-        length = ap length new.words ∙ length-set old place word;
+        length = ap length new.writes.words ∙ length-set old place word;
       };
-      starts = new.starts;
+      starts = new.writes.starts;
     }
 
 relists : (g : Over) (c : goal.After-set_length g) → Relists g.row.SLI (image_of c.set_length.new.self) c.self.inside.lists c.args.self.now.lists
@@ -46,7 +46,7 @@ returns-clause-change g c i stands =
     record {
       blocks = left.blocks i stands ∙ behind_one i _ c.args.self.now.blocks;
       lists = (relists g c).same;
-      edits = record { words = only.length ∙ words; shows = (relists g c).holds.shows; linked = linked_lists g.row.SLI _ _ (relists g c).holds; bits = marked_lists g.row.SLI _ _ (relists g c).holds; stays = c.set_length.ensures.stays ∙ ap (λ (r : RegionState). r.extents) c.self.view_is; touches = omega (arith, new.touches, touches); rise = omega (arith, new.touches, touches) };
+      edits = record { words = only.length ∙ words; shows = (relists g c).holds.shows; linked = linked_lists g.row.SLI _ _ (relists g c).holds; bits = marked_lists g.row.SLI _ _ (relists g c).holds; stays = c.set_length.ensures.writes.stays ∙ ap (λ (r : RegionState). r.extents) c.self.view_is; touches = omega (arith, new.writes.touches, touches); rise = omega (arith, new.writes.touches, touches) };
     }
 
 pub returns-clause-only : goal.returns-clause-only
@@ -54,8 +54,8 @@ returns-clause-only g c = subst (λ (r : RegionState). OnlyFrom r.stored.words c
 
 pub returns-clause-touched : goal.returns-clause-touched
 returns-clause-touched g c k live =
-    reads_header (shows_state g.row.SLI c.self.invariant c.self.view_is) c.requires.1 2 (c.args.at + 2) (omega arith) refl c.self.inside.words.touched c.set_length.new.self.touched c.set_length.ensures.touched k live
+    reads_header (shows_state g.row.SLI c.self.invariant c.self.view_is) c.requires.1 2 (c.args.at + 2) (omega arith) refl c.self.inside.words.touched c.set_length.new.self.touched c.set_length.ensures.writes.touched k live
     ∙ ap (λ (r : RegionState). times r.touched k) c.self.view_is
 
 pub returns-clause-groups : goal.returns-clause-groups
-returns-clause-groups g c = subst (λ (r : RegionState). InGroups 1 r.touched c.set_length.new.self.touched) c.self.view_is (one_touch (c.args.at + 2) c.set_length.ensures.touched)
+returns-clause-groups g c = subst (λ (r : RegionState). InGroups 1 r.touched c.set_length.new.self.touched) c.self.view_is (one_touch (c.args.at + 2) c.set_length.ensures.writes.touched)

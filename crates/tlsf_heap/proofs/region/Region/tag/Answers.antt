@@ -8,7 +8,7 @@ pub tag-requires : goal.tag-requires
 tag-requires g c = omega (arith, in_region (shows_state g.row.SLI c.self.invariant c.self.view_is) c.requires)
 
 pub invariant_of-self : goal.invariant_of-self
-invariant_of-self g c = holds_read g.row.SLI c.tag.ensures.words c.tag.ensures.starts c.self.invariant
+invariant_of-self g c = holds_read g.row.SLI c.tag.ensures.reads.words c.tag.ensures.reads.starts c.self.invariant
 
 pub returns-clause-value : goal.returns-clause-value
 returns-clause-value g c i stands =
@@ -23,12 +23,12 @@ returns-clause-value g c i stands =
 
 pub returns-clause-touched : goal.returns-clause-touched
 returns-clause-touched g c k live =
-    reads_header (shows_state g.row.SLI c.self.invariant c.self.view_is) c.requires.1 0 c.args.at (omega arith) (omega arith) c.self.inside.words.touched c.tag.new.self.touched c.tag.ensures.touched k live
+    reads_header (shows_state g.row.SLI c.self.invariant c.self.view_is) c.requires.1 0 c.args.at (omega arith) (omega arith) c.self.inside.words.touched c.tag.new.self.touched c.tag.ensures.reads.touched k live
     ∙ ap (λ (r : RegionState). times r.touched k) c.self.view_is
 
 pub returns-clause-groups : goal.returns-clause-groups
-returns-clause-groups g c = subst (λ (r : RegionState). InGroups 1 r.touched c.tag.new.self.touched) c.self.view_is (one_touch c.args.at c.tag.ensures.touched)
+returns-clause-groups g c = subst (λ (r : RegionState). InGroups 1 r.touched c.tag.new.self.touched) c.self.view_is (one_touch c.args.at c.tag.ensures.reads.touched)
 
 pub returns-clause-only : goal.returns-clause-only
 returns-clause-only g c k tag serial =
-    ap (λ (l : List ℕ). times l k) c.tag.ensures.touched ∙ times_other c.args.at k c.self.inside.words.touched tag ∙ ap (λ (r : RegionState). times r.touched k) c.self.view_is
+    ap (λ (l : List ℕ). times l k) c.tag.ensures.reads.touched ∙ times_other c.args.at k c.self.inside.words.touched tag ∙ ap (λ (r : RegionState). times r.touched k) c.self.view_is
