@@ -1,5 +1,6 @@
 ghost use Rattle.std.specs.Prelude.{◌≡◌, ℕ, ◌+◌, ◌-◌, ◌*◌, ◌/◌, ◌<◌, ◌≤◌, ◌≢◌, ◌^◌, ◌⊎◌, ◌∷◌, length, slice_index};
 ghost use Rattle.tlsf_words.specs.Bytes.{RangesAreApart, byte_in, bytes_in, payload_byte};
+ghost use Rattle.tlsf_words.specs.Frame.{Reads, Changes, WritesBytes, ReadsBytes};
 ghost use Rattle.tlsf_words.specs.Touched.{times};
 
 use super::Words;
@@ -19,17 +20,7 @@ impl Words {
     pub fn copy_in(&mut self, at: u32, offset: u32, bytes: &[u8])
         requires { payload_byte at offset + length bytes.now ≤ 8 * length self.old.words }
         ensures bytes { bytes_in self.new.words (payload_byte at offset) (length bytes.now) ≡ bytes.now }
-        ensures before { (k : ℕ) → k < payload_byte at offset → byte_in self.new.words k ≡ byte_in self.old.words k }
-        ensures behind { (k : ℕ) → payload_byte at offset + length bytes.now ≤ k → byte_in self.new.words k ≡ byte_in self.old.words k }
-        ensures words_before { (k : ℕ) → 8 * k + 8 ≤ payload_byte at offset → slice_index self.new.words k ≡ slice_index self.old.words k }
-        ensures words_behind { (k : ℕ) → payload_byte at offset + length bytes.now ≤ 8 * k → slice_index self.new.words k ≡ slice_index self.old.words k }
-        ensures length { length self.new.words ≡ length self.old.words }
-        ensures starts { self.new.starts ≡ self.old.starts }
-        ensures stays { self.new.extents ≡ self.old.extents }
-        ensures touches { self.new.touches ≤ self.old.touches + 2 * (length bytes.now / 8 + 2) }
-        ensures touched_before { (k : ℕ) → 8 * k + 8 ≤ payload_byte at offset → times self.new.touched k ≡ times self.old.touched k }
-        ensures touched_behind { (k : ℕ) → payload_byte at offset + length bytes.now ≤ 8 * k → times self.new.touched k ≡ times self.old.touched k }
-        ensures rise { self.old.touches ≤ self.new.touches }
+        ensures writes { WritesBytes (2 * (length bytes.now / 8 + 2)) (payload_byte at offset) (payload_byte at offset + length bytes.now) self.old self.new }
     {
         let start = 8 * (at as usize + 3) + offset as usize;
         if start % 8 == 0 && bytes.len() % 8 == 0 {
@@ -52,13 +43,8 @@ impl Words {
     pub fn zero_rest(&mut self, at: u32, offset: u32)
         requires { payload_byte at offset < 8 * length self.old.words }
         ensures zero { (k : ℕ) → payload_byte at offset ≤ k → k < 8 * (payload_byte at offset / 8 + 1) → byte_in self.new.words k ≡ 0 }
-        ensures before { (k : ℕ) → k < payload_byte at offset → byte_in self.new.words k ≡ byte_in self.old.words k }
-        ensures words { (k : ℕ) → k ≢ payload_byte at offset / 8 → slice_index self.new.words k ≡ slice_index self.old.words k }
-        ensures length { length self.new.words ≡ length self.old.words }
-        ensures starts { self.new.starts ≡ self.old.starts }
-        ensures stays { self.new.extents ≡ self.old.extents }
+        ensures writes { WritesBytes 2 (payload_byte at offset) (8 * (payload_byte at offset / 8 + 1)) self.old self.new }
         ensures touches { self.new.touches ≡ self.old.touches + 2 }
-        ensures touched { (k : ℕ) → k ≢ payload_byte at offset / 8 → times self.new.touched k ≡ times self.old.touched k }
     {
         let start = 8 * (at as usize + 3) + offset as usize;
         let first = start % 8;
@@ -75,13 +61,7 @@ impl Words {
     pub fn copy_out(&mut self, at: u32, offset: u32, out: &mut [u8])
         requires { payload_byte at offset + length out.old ≤ 8 * length self.old.words }
         ensures bytes { out.new ≡ bytes_in self.old.words (payload_byte at offset) (length out.old) }
-        ensures words { self.new.words ≡ self.old.words }
-        ensures starts { self.new.starts ≡ self.old.starts }
-        ensures stays { self.new.extents ≡ self.old.extents }
-        ensures touches { self.new.touches ≤ self.old.touches + (length out.old / 8 + 2) }
-        ensures touched_before { (k : ℕ) → 8 * k + 8 ≤ payload_byte at offset → times self.new.touched k ≡ times self.old.touched k }
-        ensures touched_behind { (k : ℕ) → payload_byte at offset + length out.old ≤ 8 * k → times self.new.touched k ≡ times self.old.touched k }
-        ensures rise { self.old.touches ≤ self.new.touches }
+        ensures reads { ReadsBytes (length out.old / 8 + 2) (payload_byte at offset) (payload_byte at offset + length out.old) self.old self.new }
     {
         let start = 8 * (at as usize + 3) + offset as usize;
         if start % 8 == 0 && out.len() % 8 == 0 {
@@ -107,13 +87,7 @@ impl Words {
         requires to { payload_byte to len ≤ 8 * length self.old.words }
         requires apart { RangesAreApart from to (len / 8) }
         ensures bytes { bytes_in self.new.words (payload_byte to 0) len ≡ bytes_in self.old.words (payload_byte from 0) len }
-        ensures before { (k : ℕ) → k < payload_byte to 0 → byte_in self.new.words k ≡ byte_in self.old.words k }
-        ensures behind { (k : ℕ) → payload_byte to len ≤ k → byte_in self.new.words k ≡ byte_in self.old.words k }
-        ensures words_before { (k : ℕ) → k < to + 3 → slice_index self.new.words k ≡ slice_index self.old.words k }
-        ensures words_behind { (k : ℕ) → payload_byte to len ≤ 8 * k → slice_index self.new.words k ≡ slice_index self.old.words k }
-        ensures length { length self.new.words ≡ length self.old.words }
-        ensures starts { self.new.starts ≡ self.old.starts }
-        ensures stays { self.new.extents ≡ self.old.extents }
+        ensures changes { Changes (payload_byte to 0) (payload_byte to len) self.old self.new }
         ensures touches { self.new.touches ≤ self.old.touches + 2 * (len / 8) + 3 }
         ensures touched { (k : ℕ) → (k < from + 3) ⊎ (payload_byte from len ≤ 8 * k) → (k < to + 3) ⊎ (payload_byte to len ≤ 8 * k) → times self.new.touched k ≡ times self.old.touched k }
         ensures rise { self.old.touches ≤ self.new.touches }
@@ -140,13 +114,7 @@ impl Words {
         requires apart { RangesAreApart from to n }
         requires small { (from < 2 ^ 40) × (to < 2 ^ 40) × (n < 2 ^ 40) }
         ensures copied { (k : ℕ) → k < 8 * n → byte_in self.new.words (8 * to + k) ≡ byte_in self.old.words (8 * from + k) }
-        ensures before { (k : ℕ) → k < 8 * to → byte_in self.new.words k ≡ byte_in self.old.words k }
-        ensures behind { (k : ℕ) → 8 * (to + n) ≤ k → byte_in self.new.words k ≡ byte_in self.old.words k }
-        ensures words_before { (k : ℕ) → k < to → slice_index self.new.words k ≡ slice_index self.old.words k }
-        ensures words_behind { (k : ℕ) → to + n ≤ k → slice_index self.new.words k ≡ slice_index self.old.words k }
-        ensures length { length self.new.words ≡ length self.old.words }
-        ensures starts { self.new.starts ≡ self.old.starts }
-        ensures stays { self.new.extents ≡ self.old.extents }
+        ensures changes { Changes (8 * to) (8 * (to + n)) self.old self.new }
         ensures touches { self.new.touches ≡ self.old.touches + 2 * n }
         ensures touched { (k : ℕ) → (k < from) ⊎ (from + n ≤ k) → (k < to) ⊎ (to + n ≤ k) → times self.new.touched k ≡ times self.old.touched k }
     {
@@ -179,11 +147,7 @@ impl Words {
         requires inside { place < length self.old.words }
         requires within { first + length out.old ≤ 8 }
         ensures bytes { (k : ℕ) → k < length out.old → slice_index out.new k ≡ byte_in self.old.words (8 * place + first + k) }
-        ensures words { self.new.words ≡ self.old.words }
-        ensures starts { self.new.starts ≡ self.old.starts }
-        ensures stays { self.new.extents ≡ self.old.extents }
-        ensures touches { self.new.touches ≡ self.old.touches + 1 }
-        ensures touched { self.new.touched ≡ place ∷ self.old.touched }
+        ensures reads { Reads place self.old self.new }
     {
         let word = self.read(place).to_le_bytes();
         out.copy_from_slice(&word[first..first + out.len()]);
@@ -196,17 +160,7 @@ impl Words {
         requires inside { 0 < length bytes.now → place < length self.old.words }
         requires within { first + length bytes.now ≤ 8 }
         ensures bytes { (k : ℕ) → k < length bytes.now → byte_in self.new.words (8 * place + first + k) ≡ slice_index bytes.now k }
-        ensures before { (k : ℕ) → k < 8 * place + first → byte_in self.new.words k ≡ byte_in self.old.words k }
-        ensures behind { (k : ℕ) → 8 * place + first + length bytes.now ≤ k → byte_in self.new.words k ≡ byte_in self.old.words k }
-        ensures words_before { (k : ℕ) → k < place → slice_index self.new.words k ≡ slice_index self.old.words k }
-        ensures words_behind { (k : ℕ) → 8 * place + first + length bytes.now ≤ 8 * k → slice_index self.new.words k ≡ slice_index self.old.words k }
-        ensures length { length self.new.words ≡ length self.old.words }
-        ensures starts { self.new.starts ≡ self.old.starts }
-        ensures stays { self.new.extents ≡ self.old.extents }
-        ensures touches { self.new.touches ≤ self.old.touches + 2 }
-        ensures touched_before { (k : ℕ) → k < place → times self.new.touched k ≡ times self.old.touched k }
-        ensures touched_behind { (k : ℕ) → 8 * place + first + length bytes.now ≤ 8 * k → times self.new.touched k ≡ times self.old.touched k }
-        ensures rise { self.old.touches ≤ self.new.touches }
+        ensures writes { WritesBytes 2 (8 * place + first) (8 * place + first + length bytes.now) self.old self.new }
     {
         if !bytes.is_empty() {
             self.write_piece(place, first, bytes);
@@ -220,13 +174,7 @@ impl Words {
         requires inside { 0 < length out.old → place < length self.old.words }
         requires within { first + length out.old ≤ 8 }
         ensures bytes { (k : ℕ) → k < length out.old → slice_index out.new k ≡ byte_in self.old.words (8 * place + first + k) }
-        ensures words { self.new.words ≡ self.old.words }
-        ensures starts { self.new.starts ≡ self.old.starts }
-        ensures stays { self.new.extents ≡ self.old.extents }
-        ensures touches { self.new.touches ≤ self.old.touches + 1 }
-        ensures touched_before { (k : ℕ) → k < place → times self.new.touched k ≡ times self.old.touched k }
-        ensures touched_behind { (k : ℕ) → 8 * place + first + length out.old ≤ 8 * k → times self.new.touched k ≡ times self.old.touched k }
-        ensures rise { self.old.touches ≤ self.new.touches }
+        ensures reads { ReadsBytes 1 (8 * place + first) (8 * place + first + length out.old) self.old self.new }
     {
         if !out.is_empty() {
             self.read_piece(place, first, out);
@@ -239,17 +187,7 @@ impl Words {
         requires few { length bytes.now < 8 }
         requires inside { start + length bytes.now ≤ 8 * length self.old.words }
         ensures bytes { bytes_in self.new.words start (length bytes.now) ≡ bytes.now }
-        ensures before { (k : ℕ) → k < start → byte_in self.new.words k ≡ byte_in self.old.words k }
-        ensures behind { (k : ℕ) → start + length bytes.now ≤ k → byte_in self.new.words k ≡ byte_in self.old.words k }
-        ensures words_before { (k : ℕ) → 8 * k + 8 ≤ start → slice_index self.new.words k ≡ slice_index self.old.words k }
-        ensures words_behind { (k : ℕ) → start + length bytes.now ≤ 8 * k → slice_index self.new.words k ≡ slice_index self.old.words k }
-        ensures length { length self.new.words ≡ length self.old.words }
-        ensures starts { self.new.starts ≡ self.old.starts }
-        ensures stays { self.new.extents ≡ self.old.extents }
-        ensures touches { self.new.touches ≤ self.old.touches + 4 }
-        ensures touched_before { (k : ℕ) → 8 * k + 8 ≤ start → times self.new.touched k ≡ times self.old.touched k }
-        ensures touched_behind { (k : ℕ) → start + length bytes.now ≤ 8 * k → times self.new.touched k ≡ times self.old.touched k }
-        ensures rise { self.old.touches ≤ self.new.touches }
+        ensures writes { WritesBytes 4 start (start + length bytes.now) self.old self.new }
     {
         let first = bytes.len().min(8 - start % 8);
         self.write_edge(start / 8, start % 8, &bytes[..first]);
@@ -262,13 +200,7 @@ impl Words {
         requires few { length out.old < 8 }
         requires inside { start + length out.old ≤ 8 * length self.old.words }
         ensures bytes { out.new ≡ bytes_in self.old.words start (length out.old) }
-        ensures words { self.new.words ≡ self.old.words }
-        ensures starts { self.new.starts ≡ self.old.starts }
-        ensures stays { self.new.extents ≡ self.old.extents }
-        ensures touches { self.new.touches ≤ self.old.touches + 2 }
-        ensures touched_before { (k : ℕ) → 8 * k + 8 ≤ start → times self.new.touched k ≡ times self.old.touched k }
-        ensures touched_behind { (k : ℕ) → start + length out.old ≤ 8 * k → times self.new.touched k ≡ times self.old.touched k }
-        ensures rise { self.old.touches ≤ self.new.touches }
+        ensures reads { ReadsBytes 2 start (start + length out.old) self.old self.new }
     {
         let first = out.len().min(8 - start % 8);
         self.read_edge(start / 8, start % 8, &mut out[..first]);
@@ -282,17 +214,7 @@ impl Words {
         requires enough { 8 ≤ length bytes.now }
         requires inside { start + length bytes.now ≤ 8 * length self.old.words }
         ensures bytes { bytes_in self.new.words start (length bytes.now) ≡ bytes.now }
-        ensures before { (k : ℕ) → k < start → byte_in self.new.words k ≡ byte_in self.old.words k }
-        ensures behind { (k : ℕ) → start + length bytes.now ≤ k → byte_in self.new.words k ≡ byte_in self.old.words k }
-        ensures words_before { (k : ℕ) → 8 * k + 8 ≤ start → slice_index self.new.words k ≡ slice_index self.old.words k }
-        ensures words_behind { (k : ℕ) → start + length bytes.now ≤ 8 * k → slice_index self.new.words k ≡ slice_index self.old.words k }
-        ensures length { length self.new.words ≡ length self.old.words }
-        ensures starts { self.new.starts ≡ self.old.starts }
-        ensures stays { self.new.extents ≡ self.old.extents }
-        ensures touches { self.new.touches ≤ self.old.touches + 2 * (length bytes.now / 8 + 2) }
-        ensures touched_before { (k : ℕ) → 8 * k + 8 ≤ start → times self.new.touched k ≡ times self.old.touched k }
-        ensures touched_behind { (k : ℕ) → start + length bytes.now ≤ 8 * k → times self.new.touched k ≡ times self.old.touched k }
-        ensures rise { self.old.touches ≤ self.new.touches }
+        ensures writes { WritesBytes (2 * (length bytes.now / 8 + 2)) start (start + length bytes.now) self.old self.new }
     {
         let run = Run::of(start, bytes.len());
         self.write_head(start / 8, start % 8, bytes);
@@ -308,13 +230,7 @@ impl Words {
         requires enough { 8 ≤ length out.old }
         requires inside { start + length out.old ≤ 8 * length self.old.words }
         ensures bytes { out.new ≡ bytes_in self.old.words start (length out.old) }
-        ensures words { self.new.words ≡ self.old.words }
-        ensures starts { self.new.starts ≡ self.old.starts }
-        ensures stays { self.new.extents ≡ self.old.extents }
-        ensures touches { self.new.touches ≤ self.old.touches + (length out.old / 8 + 2) }
-        ensures touched_before { (k : ℕ) → 8 * k + 8 ≤ start → times self.new.touched k ≡ times self.old.touched k }
-        ensures touched_behind { (k : ℕ) → start + length out.old ≤ 8 * k → times self.new.touched k ≡ times self.old.touched k }
-        ensures rise { self.old.touches ≤ self.new.touches }
+        ensures reads { ReadsBytes (length out.old / 8 + 2) start (start + length out.old) self.old self.new }
     {
         let run = Run::of(start, out.len());
         self.read_head(start / 8, start % 8, out);
@@ -331,15 +247,7 @@ impl Words {
         requires within { first < 8 }
         requires enough { 8 ≤ length bytes.now }
         ensures bytes { (k : ℕ) → 0 < first → first + k < 8 → byte_in self.new.words (8 * place + first + k) ≡ slice_index bytes.now k }
-        ensures before { (k : ℕ) → k < 8 * place + first → byte_in self.new.words k ≡ byte_in self.old.words k }
-        ensures behind { (k : ℕ) → 8 * place + 8 ≤ k → byte_in self.new.words k ≡ byte_in self.old.words k }
-        ensures words { (k : ℕ) → k ≢ place → slice_index self.new.words k ≡ slice_index self.old.words k }
-        ensures length { length self.new.words ≡ length self.old.words }
-        ensures starts { self.new.starts ≡ self.old.starts }
-        ensures stays { self.new.extents ≡ self.old.extents }
-        ensures touches { self.new.touches ≤ self.old.touches + 2 }
-        ensures touched { (k : ℕ) → k ≢ place → times self.new.touched k ≡ times self.old.touched k }
-        ensures rise { self.old.touches ≤ self.new.touches }
+        ensures writes { WritesBytes 2 (8 * place + first) (8 * place + 8) self.old self.new }
     {
         if first == 0 {
             return;
@@ -356,17 +264,7 @@ impl Words {
         requires within { n < 8 }
         requires enough { 8 ≤ length bytes.now }
         ensures bytes { (k : ℕ) → k < n → byte_in self.new.words (8 * place + k) ≡ slice_index bytes.now (length bytes.now - n + k) }
-        ensures before { (k : ℕ) → k < 8 * place → byte_in self.new.words k ≡ byte_in self.old.words k }
-        ensures behind { (k : ℕ) → 8 * place + n ≤ k → byte_in self.new.words k ≡ byte_in self.old.words k }
-        ensures words_before { (k : ℕ) → k < place → slice_index self.new.words k ≡ slice_index self.old.words k }
-        ensures words_behind { (k : ℕ) → 8 * place + n ≤ 8 * k → slice_index self.new.words k ≡ slice_index self.old.words k }
-        ensures length { length self.new.words ≡ length self.old.words }
-        ensures starts { self.new.starts ≡ self.old.starts }
-        ensures stays { self.new.extents ≡ self.old.extents }
-        ensures touches { self.new.touches ≤ self.old.touches + 2 }
-        ensures touched_before { (k : ℕ) → k < place → times self.new.touched k ≡ times self.old.touched k }
-        ensures touched_behind { (k : ℕ) → 8 * place + n ≤ 8 * k → times self.new.touched k ≡ times self.old.touched k }
-        ensures rise { self.old.touches ≤ self.new.touches }
+        ensures writes { WritesBytes 2 (8 * place) (8 * place + n) self.old self.new }
     {
         if n == 0 {
             return;
@@ -385,12 +283,7 @@ impl Words {
         requires within { first < 8 }
         requires enough { 8 ≤ length out.old }
         ensures bytes { (k : ℕ) → 0 < first → first + k < 8 → slice_index out.new k ≡ byte_in self.old.words (8 * place + first + k) }
-        ensures words { self.new.words ≡ self.old.words }
-        ensures starts { self.new.starts ≡ self.old.starts }
-        ensures stays { self.new.extents ≡ self.old.extents }
-        ensures touches { self.new.touches ≤ self.old.touches + 1 }
-        ensures touched { (k : ℕ) → k ≢ place → times self.new.touched k ≡ times self.old.touched k }
-        ensures rise { self.old.touches ≤ self.new.touches }
+        ensures reads { ReadsBytes 1 (8 * place + first) (8 * place + 8) self.old self.new }
     {
         if first == 0 {
             return;
@@ -408,13 +301,7 @@ impl Words {
         requires enough { 8 ≤ length out.old }
         ensures bytes { (k : ℕ) → k < n → slice_index out.new (length out.old - n + k) ≡ byte_in self.old.words (8 * place + k) }
         ensures before { (k : ℕ) → k < length out.old - n → slice_index out.new k ≡ slice_index out.old k }
-        ensures words { self.new.words ≡ self.old.words }
-        ensures starts { self.new.starts ≡ self.old.starts }
-        ensures stays { self.new.extents ≡ self.old.extents }
-        ensures touches { self.new.touches ≤ self.old.touches + 1 }
-        ensures touched_before { (k : ℕ) → k < place → times self.new.touched k ≡ times self.old.touched k }
-        ensures touched_behind { (k : ℕ) → 8 * place + n ≤ 8 * k → times self.new.touched k ≡ times self.old.touched k }
-        ensures rise { self.old.touches ≤ self.new.touches }
+        ensures reads { ReadsBytes 1 (8 * place) (8 * place + n) self.old self.new }
     {
         if n == 0 {
             return;
@@ -431,16 +318,8 @@ impl Words {
         requires inside { place + n ≤ length self.old.words }
         requires whole { length bytes.now ≡ 8 * n }
         ensures bytes { (k : ℕ) → k < 8 * n → byte_in self.new.words (8 * place + k) ≡ slice_index bytes.now k }
-        ensures before { (k : ℕ) → k < 8 * place → byte_in self.new.words k ≡ byte_in self.old.words k }
-        ensures behind { (k : ℕ) → 8 * (place + n) ≤ k → byte_in self.new.words k ≡ byte_in self.old.words k }
-        ensures words_before { (k : ℕ) → k < place → slice_index self.new.words k ≡ slice_index self.old.words k }
-        ensures words_behind { (k : ℕ) → place + n ≤ k → slice_index self.new.words k ≡ slice_index self.old.words k }
-        ensures length { length self.new.words ≡ length self.old.words }
-        ensures starts { self.new.starts ≡ self.old.starts }
-        ensures stays { self.new.extents ≡ self.old.extents }
+        ensures writes { WritesBytes n (8 * place) (8 * (place + n)) self.old self.new }
         ensures touches { self.new.touches ≡ self.old.touches + n }
-        ensures touched_before { (k : ℕ) → k < place → times self.new.touched k ≡ times self.old.touched k }
-        ensures touched_behind { (k : ℕ) → place + n ≤ k → times self.new.touched k ≡ times self.old.touched k }
     {
         self.words.write_bytes(place, n, bytes);
     }
@@ -451,12 +330,8 @@ impl Words {
         requires inside { place + n ≤ length self.old.words }
         requires whole { length out.old ≡ 8 * n }
         ensures bytes { (k : ℕ) → k < 8 * n → slice_index out.new k ≡ byte_in self.old.words (8 * place + k) }
-        ensures words { self.new.words ≡ self.old.words }
-        ensures starts { self.new.starts ≡ self.old.starts }
-        ensures stays { self.new.extents ≡ self.old.extents }
+        ensures reads { ReadsBytes n (8 * place) (8 * (place + n)) self.old self.new }
         ensures touches { self.new.touches ≡ self.old.touches + n }
-        ensures touched_before { (k : ℕ) → k < place → times self.new.touched k ≡ times self.old.touched k }
-        ensures touched_behind { (k : ℕ) → place + n ≤ k → times self.new.touched k ≡ times self.old.touched k }
     {
         self.words.read_bytes(place, n, out);
     }

@@ -1,5 +1,5 @@
 use Rattle.std.proofs.Common.{take_all}
-use Rattle.tlsf_words.proofs.Common.{◌≡◌, ◌+◌, ◌++◌, ℕ, false, List, arith, ap, ◌∙◌, length, replicate, take, drop, drop_all, append-nil, length-replicate, length-take-le, CountedStarts}
+use Rattle.tlsf_words.proofs.Common.{◌≡◌, ◌++◌, ℕ, false, List, arith, ap, ◌∙◌, length, replicate, take, drop, drop_all, append-nil, length-replicate, length-take-le, CountedStarts}
 use Rattle.tlsf_words.specs.Starts.{starts_in}
 use Rattle.tlsf_words.proofs.StartBits.{length-starts_in, starts_in-replicate}
 use Rattle.tlsf_words.proofs.start_map.StartMap.clear.Goals as goal

@@ -17,4 +17,4 @@ returns-clause-bytes c =
     (λ k h.
     let at : 8 * (start / 8 + 1) + 0 + k ≡ start + first + k = omega (arith, c.min-first.ensures, long_tail) in
     c.read_edge-2.ensures.bytes k (omega arith) ∙ ap (byte_in c.read_edge.new.self.words) at
-    ∙ ap (λ ws. byte_in ws (start + first + k)) c.read_edge.ensures.words)
+    ∙ ap (λ ws. byte_in ws (start + first + k)) c.read_edge.ensures.reads.words)

@@ -31,7 +31,7 @@ returns-clause-bytes c =
             get_or-with_piece_in one head whole k (omega (arith, long_one, is.head)) from (omega (arith, long_whole))
             ∙ c.read_whole.ensures.bytes (k - head) (omega (arith, is.tail))
             ∙ ap (byte_in c.read_tail.new.self.words) at
-            ∙ ap (λ ws. byte_in ws (start + k)) (c.read_tail.ensures.words ∙ c.read_head.ensures.words)
+            ∙ ap (λ ws. byte_in ws (start + k)) (c.read_tail.ensures.reads.words ∙ c.read_head.ensures.reads.words)
         | inr behind ↦
             let entry : length c.read_head.new.out - (length c.read_head.new.out - tail) + (k - tail) ≡ k = omega (arith, long_head) in
             let at : 8 * (c.of-run.result.first + c.of-run.result.whole) + (k - tail) ≡ start + k = omega (arith, is.head, is.first, is.whole, is.tail) in
@@ -39,6 +39,6 @@ returns-clause-bytes c =
             ∙ ap (λ i. get_or one i 0) (sym entry)
             ∙ c.read_tail.ensures.bytes (k - tail) (omega (arith, long_head))
             ∙ ap (byte_in c.read_head.new.self.words) at
-            ∙ ap (λ ws. byte_in ws (start + k)) c.read_head.ensures.words
+            ∙ ap (λ ws. byte_in ws (start + k)) c.read_head.ensures.reads.words
       ]
     ])

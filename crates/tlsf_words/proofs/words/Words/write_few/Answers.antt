@@ -10,7 +10,7 @@ returns-clause-bytes c =
     sym (bytes_in_is _ start (length bytes) bytes refl (λ k h. sym (elim (cases_lt k first) [
       | inl low ↦
           let at : start + k ≡ 8 * (start / 8) + start % 8 + k = omega arith in
-          c.write_edge-2.ensures.before (start + k) (omega (arith, c.min-first.ensures))
+          c.write_edge-2.ensures.writes.changes.before (start + k) (omega (arith, c.min-first.ensures))
           ∙ ap (byte_in c.write_edge.new.self.words) at
           ∙ c.write_edge.ensures.bytes k (omega (arith, length-take-le first bytes (omega (arith, c.min-first.ensures))))
           ∙ get_or-take first bytes k 0 low

@@ -1,5 +1,6 @@
 use Rattle.tlsf_words.proofs.Common.{◌≡◌, ℕ, ◌+◌, ◌-◌, ◌*◌, List, ◌++◌, take, w64, get_or, set, length, ap, ◌∙◌, arith, length-take-le, to_le_bytes, get_or-take, byte_in}
-use Rattle.tlsf_words.proofs.Bytes.{with_piece_at_end, HasPiece, byte_in-piece, byte_in-before_piece, byte_in-behind_piece}
+use Rattle.tlsf_words.proofs.Bytes.{with_piece_at_end, HasPiece, byte_in-piece}
+use Rattle.tlsf_words.proofs.Changing.{piece_written}
 use Rattle.tlsf_words.proofs.words.Words.write_head.Goals as goal
 
 abbrev piece : (c : goal.After-write) → List ℕ
@@ -31,8 +32,5 @@ returns-clause-bytes c k some h =
     ∙ ap (λ bytes. get_or bytes k 0) c.first_word.ensures
     ∙ get_or-take 8 c.args.bytes.now k 0 (omega arith)
 
-pub returns-clause-before : goal.returns-clause-before
-returns-clause-before c = λ k h. ap (λ words. byte_in words k) (written c) ∙ byte_in-before_piece _ _ _ _ _ k (has_piece c) h
-
-pub returns-clause-behind : goal.returns-clause-behind
-returns-clause-behind c = λ k h. ap (λ words. byte_in words k) (written c) ∙ byte_in-behind_piece _ _ _ _ _ k (has_piece c) (omega (arith, long c, c.requires.within))
+pub returns-clause-writes : goal.returns-clause-writes
+returns-clause-writes c = piece_written (8 * c.args.place + c.args.first) (8 * c.args.place + 8) c.args.place c.args.first (piece c) _ (has_piece c) c.read-word.ensures.reads c.write.ensures.writes (omega (arith, long c, c.requires.within)) (omega arith) (omega (arith, long c))

@@ -12,8 +12,8 @@ returns-clause-bytes c =
     sym (bytes_in_is _ start (length bytes) bytes refl (λ k h. sym (elim (cases_lt k head) [
       | inl low ↦
           let at : start + k ≡ 8 * (start / 8) + start % 8 + k = omega arith in
-          c.write_whole.ensures.before (start + k) (omega (arith, is.head, is.first))
-          ∙ c.write_tail.ensures.before (start + k) (omega (arith, is.head, is.first))
+          c.write_whole.ensures.writes.changes.before (start + k) (omega (arith, is.head, is.first))
+          ∙ c.write_tail.ensures.writes.changes.before (start + k) (omega (arith, is.head, is.first))
           ∙ ap (byte_in c.write_head.new.self.words) at
           ∙ c.write_head.ensures.bytes k (omega (arith, is.head)) (omega (arith, is.head))
       | inr from ↦ elim (cases_lt k tail) [
@@ -27,7 +27,7 @@ returns-clause-bytes c =
         | inr behind ↦
             let at : start + k ≡ 8 * (c.of-run.result.first + c.of-run.result.whole) + (k - tail) = omega (arith, is.head, is.first, is.whole, is.tail) in
             let entry : length bytes - (length bytes - tail) + (k - tail) ≡ k = omega arith in
-            c.write_whole.ensures.behind (start + k) (omega (arith, at))
+            c.write_whole.ensures.writes.changes.behind (start + k) (omega (arith, at))
             ∙ ap (byte_in c.write_tail.new.self.words) at
             ∙ c.write_tail.ensures.bytes (k - tail) (omega arith)
             ∙ ap (λ i. get_or bytes i 0) entry

@@ -1,5 +1,6 @@
 use Rattle.tlsf_words.proofs.Common.{◌≡◌, ℕ, ◌+◌, ◌-◌, ◌*◌, ◌<◌, List, ◌++◌, take, drop, w64, get_or, set, length, ap, sym, ◌∙◌, arith, length-take-le, to_le_bytes, get_or-take, get_or-drop, get_or-between, byte_in}
-use Rattle.tlsf_words.proofs.Bytes.{HasPiece, byte_in-piece, byte_in-before_piece, byte_in-behind_piece}
+use Rattle.tlsf_words.proofs.Bytes.{HasPiece, byte_in-piece}
+use Rattle.tlsf_words.proofs.Changing.{piece_written}
 use Rattle.tlsf_words.proofs.words.Words.write_tail.Goals as goal
 
 abbrev piece : (c : goal.After-write) → List ℕ
@@ -44,8 +45,5 @@ returns-clause-bytes c k h =
     ∙ byte_in-piece _ _ _ _ _ k (has_piece c) (omega (arith, long c))
     ∙ byte_of_piece c k h
 
-pub returns-clause-before : goal.returns-clause-before
-returns-clause-before c = λ k h. ap (λ words. byte_in words k) (written c) ∙ byte_in-before_piece _ _ _ _ _ k (has_piece c) (omega arith)
-
-pub returns-clause-behind : goal.returns-clause-behind
-returns-clause-behind c = λ k h. ap (λ words. byte_in words k) (written c) ∙ byte_in-behind_piece _ _ _ _ _ k (has_piece c) (omega (arith, long c))
+pub returns-clause-writes : goal.returns-clause-writes
+returns-clause-writes c = piece_written (8 * c.args.place) (8 * c.args.place + c.args.n) c.args.place 0 (piece c) _ (has_piece c) c.read.ensures.reads c.write.ensures.writes (omega (arith, long c)) (omega arith) (omega (arith, long c))

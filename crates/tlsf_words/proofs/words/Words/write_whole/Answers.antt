@@ -1,13 +1,12 @@
-use Rattle.tlsf_words.proofs.Common.{◌≡◌, ℕ, ◌/◌, List, get_or, ap, ◌∙◌, arith, Memory}
-use Rattle.tlsf_words.proofs.Bytes.{byte_in-same}
+use Rattle.std.proofs.Common.{rules, ◌+◌}
+use Rattle.tlsf_words.proofs.Changing.{whole_changes}
 use Rattle.tlsf_words.proofs.words.Words.write_whole.Goals as goal
 
-pub returns-clause-before : goal.returns-clause-before
-returns-clause-before c k low =
-    let was : c.self.inside.words.words ≡ c.args.self.now.words = ap (λ (m : Memory). m.words) c.self.view_is in
-    byte_in-same _ _ k (c.write_bytes.ensures.before (k / 8) (omega arith) ∙ ap (λ (l : List ℕ). get_or l (k / 8) 0) was)
-
-pub returns-clause-behind : goal.returns-clause-behind
-returns-clause-behind c k past =
-    let was : c.self.inside.words.words ≡ c.args.self.now.words = ap (λ (m : Memory). m.words) c.self.view_is in
-    byte_in-same _ _ k (c.write_bytes.ensures.behind (k / 8) (omega arith) ∙ ap (λ (l : List ℕ). get_or l (k / 8) 0) was)
+pub returns-clause-writes : goal.returns-clause-writes
+returns-clause-writes c = record {
+  changes = whole_changes c.args.place (c.args.place + c.args.n) (search rules) (search rules) (search rules) (search rules) (search rules);
+  touches = search rules;
+  touched_before = search rules;
+  touched_behind = search rules;
+  rise = search rules;
+}
