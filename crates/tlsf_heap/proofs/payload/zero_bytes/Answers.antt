@@ -16,11 +16,11 @@ first c =
           let z = w.zero_rest.ensures in
           subst (λ (m : Memory). Clears old m.words (c.args.at + 3) from word end) (sym w.words-is) (record {
             zero = λ k l g. z.zero k l (omega (arith, is, g));
-            before = z.before;
+            before = z.writes.changes.before;
             only = record {
-              before = λ k h. z.words k (λ e. omega (arith, e));
-              behind = λ k h. z.words k (λ e. omega (arith, e, c.requires.some));
-              length = z.length;
+              before = λ k h. z.writes.changes.words_before k (omega (arith, h));
+              behind = λ k h. z.writes.changes.words_behind k (omega (arith, h, c.requires.some));
+              length = z.writes.changes.length;
             };
           })
       | else-from-gt0 w ↦

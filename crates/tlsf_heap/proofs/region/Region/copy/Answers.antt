@@ -52,13 +52,13 @@ left g c =
     let was : c.self.inside.words.words ≡ c.args.self.now.stored.words = ap (λ (r : RegionState). r.stored.words) c.self.view_is in
     rewritten {v = image_of c.copy_payload.new.self} 0 (shows_state g.row.SLI c.self.invariant c.self.view_is) (target g c)
     (ap (bytes_in c.copy_payload.new.self.words (payload_byte c.args.to 0)) (many g c) ∙ new.bytes ∙ ap (λ (ws : List ℕ). bytes_in ws (payload_byte c.args.from 0) c.args.len) was)
-    new.before (λ k h. new.behind k (omega (arith, many g c))) (λ k h. new.words_before k (omega arith)) (λ k h. new.words_behind k (omega (arith, many g c))) new.length new.starts
+    new.changes.before (λ k h. new.changes.behind k (omega (arith, many g c))) (λ k h. new.changes.words_before k (omega arith)) (λ k h. new.changes.words_behind k (omega (arith, many g c))) new.changes.length new.changes.starts
 
 relists : (g : Over) (c : goal.After-copy_payload g) → Relists g.row.SLI (image_of c.copy_payload.new.self) c.self.inside.lists c.args.self.now.lists
 relists g c =
     let new = c.copy_payload.ensures in
     relisted_bytes g.row.SLI (holds_state g.row.SLI c.self.invariant c.self.view_is) 0 (length (source g c)) (λ i. overwritten (bytes_of (block_at c.args.self.now.blocks i)) 0 (source g c)) (target g c)
-    (λ k h. new.words_before k (omega arith)) (λ k h. new.words_behind k (omega (arith, many g c))) new.length (left g c)
+    (λ k h. new.changes.words_before k (omega arith)) (λ k h. new.changes.words_behind k (omega (arith, many g c))) new.changes.length (left g c)
 
 pub invariant_of-self : goal.invariant_of-self
 invariant_of-self g c = (relists g c).holds
@@ -71,7 +71,7 @@ returns-clause-change g c i stands =
     record {
       blocks = (left g c).blocks i stands ∙ behind_one i _ c.args.self.now.blocks;
       lists = (relists g c).same;
-      edits = record { words = new.length ∙ words; shows = (relists g c).holds.shows; linked = linked_lists g.row.SLI _ _ (relists g c).holds; bits = marked_lists g.row.SLI _ _ (relists g c).holds; stays = c.copy_payload.ensures.stays ∙ ap (λ (r : RegionState). r.extents) c.self.view_is; touches = omega (arith, new.touches, touches); rise = omega (arith, new.rise, touches) };
+      edits = record { words = new.changes.length ∙ words; shows = (relists g c).holds.shows; linked = linked_lists g.row.SLI _ _ (relists g c).holds; bits = marked_lists g.row.SLI _ _ (relists g c).holds; stays = c.copy_payload.ensures.changes.stays ∙ ap (λ (r : RegionState). r.extents) c.self.view_is; touches = omega (arith, new.touches, touches); rise = omega (arith, new.rise, touches) };
     }
 
 pub returns-clause-touched : goal.returns-clause-touched
