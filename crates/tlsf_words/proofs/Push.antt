@@ -1,8 +1,9 @@
 -- A place is put at the head of a list.
-use Rattle.tlsf_words.proofs.Common.{◌≡◌, ◌≢◌, ℕ, ◌+◌, ◌-◌, ◌^◌, ◌<◌, ◌≤◌, List, [], ◌∷◌, length, get_or, set, sym, ap, ◌∙◌, subst, inl, inr, arith, get_or-set_same, get_or-set_other, Contains, cases_eq, length-set, length-range_with_len, get_or-range_with_len, IsLevel, last_class, classes, with_member, low_half, links_word, nowhere, list_of, first_of, LinkedFrom, AreDistinct, listed_classes, IsUnlisted, OnlyLinksChange, AreThreaded}
+use Rattle.tlsf_words.proofs.Common.{◌≡◌, ◌≢◌, ℕ, ◌+◌, ◌-◌, ◌^◌, ◌<◌, ◌≤◌, List, [], ◌∷◌, length, get_or, set, sym, ap, ◌∙◌, subst, inl, inr, arith, get_or-set_same, get_or-set_other, Contains, cases_eq, length-set, length-range_with_len, get_or-range_with_len, IsLevel, last_class, classes, with_member, low_half, links_word, nowhere, list_of, first_of, LinkedFrom, AreDistinct, listed_classes, IsUnlisted, OnlyLinksChange, ListHeads, AreThreaded}
 use Rattle.tlsf_words.proofs.FieldLaws.{low_half-links_word}
 use Rattle.tlsf_words.proofs.ListedClasses.{some-cons, some-first, listed-with, listed-same}
 use Rattle.tlsf_words.proofs.PlaceLists.{member_here, member_behind, member_cases, first_member, all_member, all_from_members}
+use Rattle.tlsf_words.specs.Relinks.{Relists}
 use Rattle.tlsf_words.proofs.Threads.{head-list_of, head_listed, listed_within, first_small, linked-kept, with_list, NewList, NewList-list, NewList-others, NewList-threaded}
 
 -- the links of a place at the head, which comes before `next`
@@ -122,20 +123,30 @@ module _ (sli : ℕ) (heads members w : List ℕ) (class at : ℕ) (new_heads ne
   }
 
   -- so the lists are threaded
-  pub push-threaded : AreThreaded sli new_heads new_members v
+  push-threaded : AreThreaded sli new_heads new_members v
   push-threaded = NewList-threaded sli heads members w class (at ∷ old) new_heads new_members v t new_list
 
   -- that list has the place at its head
-  pub push-list : list_of new_heads v class ≡ at ∷ old
+  push-list : list_of new_heads v class ≡ at ∷ old
   push-list = NewList-list sli heads members w class (at ∷ old) new_heads new_members v t new_list
 
   -- the other lists stay
-  pub push-others : (c : ℕ) → c ≢ class → list_of new_heads v c ≡ list_of heads w c
+  push-others : (c : ℕ) → c ≢ class → list_of new_heads v c ≡ list_of heads w c
   push-others = NewList-others sli heads members w class (at ∷ old) new_heads new_members v t new_list
 
   listed : (q : ℕ) → Contains (at ∷ old) q → Contains (list_of new_heads v class) q
   listed q m = subst (λ (ps : List ℕ). Contains ps q) (sym push-list) m
 
   -- and no word changes but links
-  pub push-words : OnlyLinksChange (list_of new_heads v) w v
+  push-words : OnlyLinksChange (list_of new_heads v) w v
   push-words k apart = is_head.others k (apart class at (listed at (member_here at old))) (λ some. apart class (first_of old) (listed (first_of old) (member_behind at old (first_of old) (first_member old some))))
+
+-- a push, as its contract says it
+pub pushed : {sli : ℕ} {old new : ListHeads} {w v : List ℕ} {class at : ℕ} → AreThreaded sli old.heads old.members w
+    → PushWrites sli old.heads old.members w class at new.heads new.members v → Relists sli class (at ∷ list_of old.heads w class) old w new v
+pushed {sli = sli} {old = old} {new = new} {w = w} {v = v} {class = class} {at = at} t p = record {
+  threaded = push-threaded sli old.heads old.members w class at new.heads new.members v t p;
+  list = push-list sli old.heads old.members w class at new.heads new.members v t p;
+  others = push-others sli old.heads old.members w class at new.heads new.members v t p;
+  words = push-words sli old.heads old.members w class at new.heads new.members v t p;
+}

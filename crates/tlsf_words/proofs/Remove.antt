@@ -1,8 +1,9 @@
 -- A place is taken out of its list by its own links.
-use Rattle.tlsf_words.proofs.Common.{◌≡◌, ◌≢◌, ℕ, ◌+◌, ◌^◌, ◌<◌, ◌≤◌, true, List, [], ◌∷◌, ◌++◌, length, get_or, refl, sym, ap, ◌∙◌, subst, inl, inr, arith, AllByRecursion, Contains, cases_eq, Contains-append_left, Contains-append_right, without_member, low_half, high_half, links_word, nowhere, list_of, first_of, LinkedFrom, AreDistinct, without_place, listed_classes, OnlyLinksChange, AreThreaded, AreTied}
+use Rattle.tlsf_words.proofs.Common.{◌≡◌, ◌≢◌, ℕ, ◌+◌, ◌^◌, ◌<◌, ◌≤◌, true, List, [], ◌∷◌, ◌++◌, length, get_or, refl, sym, ap, ◌∙◌, subst, inl, inr, arith, AllByRecursion, Contains, cases_eq, Contains-append_left, Contains-append_right, without_member, low_half, high_half, links_word, nowhere, list_of, first_of, LinkedFrom, AreDistinct, without_place, listed_classes, OnlyLinksChange, ListHeads, AreThreaded, AreTied}
 use Rattle.tlsf_words.proofs.FieldLaws.{low_half-links_word, high_half-links_word}
 use Rattle.tlsf_words.proofs.ListedClasses.{are_some, some-member, none-first, listed-same, listed-without}
 use Rattle.tlsf_words.proofs.PlaceLists.{last_of, Split, split_member, member_here, first_member, last_member, all_member, all_weaker, all_right, all_last, distinct_without, without_split, without_within}
+use Rattle.tlsf_words.specs.Relinks.{Relists}
 use Rattle.tlsf_words.proofs.Threads.{head-list_of, first_small, listed_within, with_list, NewList, NewList-list, NewList-others, NewList-threaded}
 
 module _ (w v : List ℕ) (small : length w ≤ 2 ^ 24) (long : length v ≡ length w) (at next previous : ℕ) (tied : AreTied w v next previous) where
@@ -213,25 +214,35 @@ module _ (sli : ℕ) (heads members w : List ℕ) (class at : ℕ) (t : AreThrea
         not_empty ps e member = let none : length ps ≡ 0 = ap length e in absurd (omega (arith, member.1, none))
 
     -- so the lists are threaded
-    pub remove-threaded : AreThreaded sli new_heads new_members v
+    remove-threaded : AreThreaded sli new_heads new_members v
     remove-threaded = NewList-threaded sli heads members w class (prefix ++ rest) new_heads new_members v t new_list
 
     -- that list is without the place
-    pub remove-list : list_of new_heads v class ≡ without_place at old
+    remove-list : list_of new_heads v class ≡ without_place at old
     remove-list = NewList-list sli heads members w class (prefix ++ rest) new_heads new_members v t new_list ∙ sym left_is
 
     -- the other lists stay
-    pub remove-others : (c : ℕ) → c ≢ class → list_of new_heads v c ≡ list_of heads w c
+    remove-others : (c : ℕ) → c ≢ class → list_of new_heads v c ≡ list_of heads w c
     remove-others = NewList-others sli heads members w class (prefix ++ rest) new_heads new_members v t new_list
 
     listed : (q : ℕ) → Contains (prefix ++ rest) q → Contains (list_of new_heads v class) q
     listed q left = subst (λ (ps : List ℕ). Contains ps q) (sym (remove-list ∙ left_is)) left
 
     -- and no word changes but links
-    pub remove-words : OnlyLinksChange (list_of new_heads v) w v
+    remove-words : OnlyLinksChange (list_of new_heads v) w v
     remove-words k apart = r.tied.others k
         (λ some. apart class previous (listed previous (previous_left next previous r.next_is r.previous_is some)))
         (λ some. apart class next (listed next (next_left next previous r.next_is r.previous_is some)))
+
+-- a removal, as its contract says it
+pub removed : {sli : ℕ} {old new : ListHeads} {w v : List ℕ} {class at next previous : ℕ} → AreThreaded sli old.heads old.members w → length w ≤ 2 ^ 24 → Contains (list_of old.heads w class) at
+    → RemoveWrites sli old.heads old.members w class at next previous new.heads new.members v → Relists sli class (without_place at (list_of old.heads w class)) old w new v
+removed {sli = sli} {old = old} {new = new} {w = w} {v = v} {class = class} {at = at} {next = next} {previous = previous} t small m r = record {
+  threaded = remove-threaded sli old.heads old.members w class at t small m next previous new.heads new.members v r;
+  list = remove-list sli old.heads old.members w class at t small m next previous new.heads new.members v r;
+  others = remove-others sli old.heads old.members w class at t small m next previous new.heads new.members v r;
+  words = remove-words sli old.heads old.members w class at t small m next previous new.heads new.members v r;
+}
 
 -- where places that differ begin, the others are left without it
 first_then_left : (places : List ℕ) (at : ℕ) → AreDistinct places → (places ≡ [] → ⊥) → at ≡ first_of places → places ≡ at ∷ without_place at places

@@ -3,9 +3,10 @@ ghost use Rattle.tlsf_class.specs.Classes.{IsLevel, most_words, class_of};
 ghost use Rattle.tlsf_class.specs.Members.{next_member, without_member};
 ghost use Rattle.tlsf_words.specs.Fields.{links_word, low_half, high_half};
 ghost use Rattle.tlsf_words.specs.Frame.{Reads, Writes};
-ghost use Rattle.tlsf_words.specs.Lists.{nowhere, list_of, without_place, AreThreaded, IsUnlisted, OnlyLinksChange};
+ghost use Rattle.tlsf_words.specs.Lists.{nowhere, list_of, without_place, AreThreaded, IsUnlisted};
 ghost use Rattle.tlsf_words.specs.Ties.{AreTied};
-ghost use Rattle.tlsf_words.specs.Touched.{InGroups, OnlyLinks, OnlyTied};
+ghost use Rattle.tlsf_words.specs.Relinks.{Relists, Relinks, TouchesLinks};
+ghost use Rattle.tlsf_words.specs.Touched.{OnlyTied};
 
 use crate::heads::{Heads, NO_PLACE};
 use crate::links::Links;
@@ -86,18 +87,9 @@ impl<const SLI: u32> FreeLists<SLI> {
         requires threaded { AreThreaded SLI self.old.heads self.old.members words.old.words }
         requires inside { at + 2 < length words.old.words }
         requires unlisted { IsUnlisted (list_of self.old.heads words.old.words) at }
-        ensures threaded { AreThreaded SLI self.new.heads self.new.members words.new.words }
-        ensures list { list_of self.new.heads words.new.words class.entry ≡ at ∷ list_of self.old.heads words.old.words class.entry }
-        ensures others { (other : ℕ) → other ≢ class.entry → list_of self.new.heads words.new.words other ≡ list_of self.old.heads words.old.words other }
-        ensures words { OnlyLinksChange (list_of self.new.heads words.new.words) words.old.words words.new.words }
-        ensures length { length words.new.words ≡ length words.old.words }
-        ensures starts { words.new.starts ≡ words.old.starts }
-        ensures stays { words.new.extents ≡ words.old.extents }
-        ensures touches { self.new.touches + words.new.touches ≤ self.old.touches + words.old.touches + 7 }
-        ensures touched { OnlyLinks (list_of self.old.heads words.old.words) at words.old.touched words.new.touched }
-        ensures groups { InGroups 2 words.old.touched words.new.touched }
-        ensures rise { self.old.touches ≤ self.new.touches }
-        ensures words_rise { words.old.touches ≤ words.new.touches }
+        ensures lists { Relists SLI class.entry (at ∷ list_of self.old.heads words.old.words class.entry) self.old words.old.words self.new words.new.words }
+        ensures links { Relinks 7 self.old words.old self.new words.new }
+        ensures footprint { TouchesLinks 2 (list_of self.old.heads words.old.words) at words.old.touched words.new.touched }
     {
         // Read, so that the proof has the range of a place.
         let _count = words.len();
@@ -132,18 +124,9 @@ impl<const SLI: u32> FreeLists<SLI> {
     pub fn remove(&mut self, words: &mut Words, class: Class<SLI>, at: u32)
         requires threaded { AreThreaded SLI self.old.heads self.old.members words.old.words }
         requires listed { Contains (list_of self.old.heads words.old.words class) at }
-        ensures threaded { AreThreaded SLI self.new.heads self.new.members words.new.words }
-        ensures list { list_of self.new.heads words.new.words class.entry ≡ without_place at (list_of self.old.heads words.old.words class.entry) }
-        ensures others { (other : ℕ) → other ≢ class.entry → list_of self.new.heads words.new.words other ≡ list_of self.old.heads words.old.words other }
-        ensures words { OnlyLinksChange (list_of self.new.heads words.new.words) words.old.words words.new.words }
-        ensures length { length words.new.words ≡ length words.old.words }
-        ensures starts { words.new.starts ≡ words.old.starts }
-        ensures stays { words.new.extents ≡ words.old.extents }
-        ensures touches { self.new.touches + words.new.touches ≤ self.old.touches + words.old.touches + 6 }
-        ensures touched { OnlyLinks (list_of self.old.heads words.old.words) at words.old.touched words.new.touched }
-        ensures groups { InGroups 3 words.old.touched words.new.touched }
-        ensures rise { self.old.touches ≤ self.new.touches }
-        ensures words_rise { words.old.touches ≤ words.new.touches }
+        ensures lists { Relists SLI class.entry (without_place at (list_of self.old.heads words.old.words class.entry)) self.old words.old.words self.new words.new.words }
+        ensures links { Relinks 6 self.old words.old self.new words.new }
+        ensures footprint { TouchesLinks 3 (list_of self.old.heads words.old.words) at words.old.touched words.new.touched }
     {
         // Read, so that the proof has the range of the class.
         let _number = class.number();
@@ -163,18 +146,9 @@ impl<const SLI: u32> FreeLists<SLI> {
         requires most { size ≤ most_words SLI }
         requires threaded { AreThreaded SLI self.old.heads self.old.members words.old.words }
         requires listed { Contains (list_of self.old.heads words.old.words (class_of SLI size)) at }
-        ensures threaded { AreThreaded SLI self.new.heads self.new.members words.new.words }
-        ensures list { list_of self.new.heads words.new.words (class_of SLI size) ≡ without_place at (list_of self.old.heads words.old.words (class_of SLI size)) }
-        ensures others { (other : ℕ) → other ≢ class_of SLI size → list_of self.new.heads words.new.words other ≡ list_of self.old.heads words.old.words other }
-        ensures words { OnlyLinksChange (list_of self.new.heads words.new.words) words.old.words words.new.words }
-        ensures length { length words.new.words ≡ length words.old.words }
-        ensures starts { words.new.starts ≡ words.old.starts }
-        ensures stays { words.new.extents ≡ words.old.extents }
-        ensures touches { self.new.touches + words.new.touches ≤ self.old.touches + words.old.touches + 6 }
-        ensures touched { OnlyLinks (list_of self.old.heads words.old.words) at words.old.touched words.new.touched }
-        ensures groups { InGroups 3 words.old.touched words.new.touched }
-        ensures rise { self.old.touches ≤ self.new.touches }
-        ensures words_rise { words.old.touches ≤ words.new.touches }
+        ensures lists { Relists SLI (class_of SLI size) (without_place at (list_of self.old.heads words.old.words (class_of SLI size))) self.old words.old.words self.new words.new.words }
+        ensures links { Relinks 6 self.old words.old self.new words.new }
+        ensures footprint { TouchesLinks 3 (list_of self.old.heads words.old.words) at words.old.touched words.new.touched }
     {
         let links = words.links(at);
         if is_place(links.previous) {
@@ -195,19 +169,10 @@ impl<const SLI: u32> FreeLists<SLI> {
     pub fn pop_first(&mut self, words: &mut Words, class: Class<SLI>) -> u32
         requires threaded { AreThreaded SLI self.old.heads self.old.members words.old.words }
         requires some { ¬ (list_of self.old.heads words.old.words class ≡ []) }
-        ensures threaded { AreThreaded SLI self.new.heads self.new.members words.new.words }
+        ensures lists { Relists SLI class.entry (without_place result (list_of self.old.heads words.old.words class.entry)) self.old words.old.words self.new words.new.words }
         ensures first { list_of self.old.heads words.old.words class.entry ≡ result ∷ list_of self.new.heads words.new.words class.entry }
-        ensures list { list_of self.new.heads words.new.words class.entry ≡ without_place result (list_of self.old.heads words.old.words class.entry) }
-        ensures others { (other : ℕ) → other ≢ class.entry → list_of self.new.heads words.new.words other ≡ list_of self.old.heads words.old.words other }
-        ensures words { OnlyLinksChange (list_of self.new.heads words.new.words) words.old.words words.new.words }
-        ensures length { length words.new.words ≡ length words.old.words }
-        ensures starts { words.new.starts ≡ words.old.starts }
-        ensures stays { words.new.extents ≡ words.old.extents }
-        ensures touches { self.new.touches + words.new.touches ≤ self.old.touches + words.old.touches + 7 }
-        ensures touched { OnlyLinks (list_of self.old.heads words.old.words) result words.old.touched words.new.touched }
-        ensures groups { InGroups 2 words.old.touched words.new.touched }
-        ensures rise { self.old.touches ≤ self.new.touches }
-        ensures words_rise { words.old.touches ≤ words.new.touches }
+        ensures links { Relinks 7 self.old words.old self.new words.new }
+        ensures footprint { TouchesLinks 2 (list_of self.old.heads words.old.words) result words.old.touched words.new.touched }
     {
         let head = self.heads.place(class);
         let next = words.links(head).next;
@@ -271,13 +236,8 @@ impl<const SLI: u32> FreeLists<SLI> {
         ensures emptied { next ≡ nowhere → self.new.members ≡ without_member self.old.members class.entry }
         ensures members { next ≢ nowhere → self.new.members ≡ self.old.members }
         ensures tied { AreTied words.old.words words.new.words next nowhere }
-        ensures length { length words.new.words ≡ length words.old.words }
-        ensures starts { words.new.starts ≡ words.old.starts }
-        ensures stays { words.new.extents ≡ words.old.extents }
-        ensures touches { self.new.touches + words.new.touches ≤ self.old.touches + words.old.touches + 5 }
+        ensures links { Relinks 5 self.old words.old self.new words.new }
         ensures touched { OnlyTied next nowhere words.old.touched words.new.touched }
-        ensures rise { self.old.touches ≤ self.new.touches }
-        ensures words_rise { words.old.touches ≤ words.new.touches }
     {
         if next == NO_PLACE {
             self.heads.set_place(class, NO_PLACE);

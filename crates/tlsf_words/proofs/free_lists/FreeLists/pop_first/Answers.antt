@@ -1,7 +1,7 @@
 use Rattle.tlsf_words.proofs.Common.{◌≡◌, ◌<◌, ◌+◌, ◌∷◌, ℕ, List, length, get_or, refl, ap, ◌∙◌, sym, subst, arith, Contains, without_member, ListHeads, nowhere, list_of, high_half, AreTied, times}
 use Rattle.tlsf_words.proofs.Touching.{times_other, one_touch, one_word, groups_then}
 use Rattle.tlsf_words.proofs.Threads.{listed_within}
-use Rattle.tlsf_words.proofs.Remove.{RemoveWrites, next_within, next_listed, head_member, head_previous, head_then_left, remove-threaded, remove-list, remove-others, remove-words}
+use Rattle.tlsf_words.proofs.Remove.{RemoveWrites, next_within, next_listed, head_member, head_previous, head_then_left, removed}
 use Rattle.tlsf_words.proofs.free_lists.FreeLists.pop_first.Given.{Over}
 use Rattle.tlsf_words.proofs.free_lists.FreeLists.pop_first.Goals as goal
 
@@ -43,7 +43,7 @@ writes : (g : Over) (c : goal.After-begin_at g) → RemoveWrites g.row.SLI c.arg
 writes g c = record {
   next_is = c.links-next.ensures.next;
   previous_is = none_before g c;
-  long = c.begin_at.ensures.length ∙ ap length c.links-next.ensures.reads.words;
+  long = c.begin_at.ensures.links.length ∙ ap length c.links-next.ensures.reads.words;
   tied = subst (λ (w : List ℕ). AreTied w c.begin_at.new.words.words c.links-next.result.next nowhere) c.links-next.ensures.reads.words c.begin_at.ensures.tied;
   first = λ _. c.begin_at.ensures.head;
   later = λ some. absurd (some refl);
@@ -52,31 +52,22 @@ writes g c = record {
   left = λ some. c.begin_at.ensures.members (λ e. some refl e) ∙ ap (λ (f : ListHeads). f.members) c.self.view_is;
 }
 
-pub returns-clause-threaded : goal.returns-clause-threaded
-returns-clause-threaded g c = remove-threaded g.row.SLI c.args.self.now.heads c.args.self.now.members c.args.words.now.words c.args.class c.place-head.result c.requires.threaded c.links-next.ensures.reads.small (is_member g c) c.links-next.result.next nowhere c.begin_at.new.self.heads c.begin_at.new.self.members c.begin_at.new.words.words (writes g c)
-
-pub returns-clause-list : goal.returns-clause-list
-returns-clause-list g c = remove-list g.row.SLI c.args.self.now.heads c.args.self.now.members c.args.words.now.words c.args.class c.place-head.result c.requires.threaded c.links-next.ensures.reads.small (is_member g c) c.links-next.result.next nowhere c.begin_at.new.self.heads c.begin_at.new.self.members c.begin_at.new.words.words (writes g c)
+pub returns-clause-lists : goal.returns-clause-lists
+returns-clause-lists g c = removed c.requires.threaded c.links-next.ensures.reads.small (is_member g c) (writes g c)
 
 pub returns-clause-first : goal.returns-clause-first
 returns-clause-first g c =
     head_then_left g.row.SLI c.args.self.now.heads c.args.self.now.members c.args.words.now.words c.args.class c.place-head.result c.requires.threaded c.requires.some (is_head g c)
-    ∙ ap (λ (ps : List ℕ). c.place-head.result ∷ ps) (sym (returns-clause-list g c))
+    ∙ ap (λ (ps : List ℕ). c.place-head.result ∷ ps) (sym (returns-clause-lists g c).list)
 
-pub returns-clause-others : goal.returns-clause-others
-returns-clause-others g c = remove-others g.row.SLI c.args.self.now.heads c.args.self.now.members c.args.words.now.words c.args.class c.place-head.result c.requires.threaded c.links-next.ensures.reads.small (is_member g c) c.links-next.result.next nowhere c.begin_at.new.self.heads c.begin_at.new.self.members c.begin_at.new.words.words (writes g c)
-
-pub returns-clause-words : goal.returns-clause-words
-returns-clause-words g c = remove-words g.row.SLI c.args.self.now.heads c.args.self.now.members c.args.words.now.words c.args.class c.place-head.result c.requires.threaded c.links-next.ensures.reads.small (is_member g c) c.links-next.result.next nowhere c.begin_at.new.self.heads c.begin_at.new.self.members c.begin_at.new.words.words (writes g c)
-
-pub returns-clause-touched : goal.returns-clause-touched
-returns-clause-touched g c = λ k own others.
-    c.begin_at.ensures.touched k
-    (λ some. absurd (some refl))
-    (λ some. others c.args.class c.links-next.result.next (next_listed g.row.SLI c.args.self.now.heads c.args.self.now.members c.args.words.now.words c.args.class c.place-head.result c.requires.threaded c.links-next.ensures.reads.small (is_member g c)
-    c.links-next.result.next nowhere c.links-next.ensures.next (none_before g c) some))
-    ∙ ap (λ (l : List ℕ). times l k) c.links-next.ensures.reads.touched ∙ times_other (c.place-head.result + 2) k c.args.words.now.touched own
-
-pub returns-clause-groups : goal.returns-clause-groups
-returns-clause-groups g c = groups_then (one_touch (c.place-head.result + 2) c.links-next.ensures.reads.touched)
-    (one_word (c.links-next.result.next + 2) (λ k next. c.begin_at.ensures.touched k (λ some. absurd (some refl)) (λ some. next)))
+pub returns-clause-footprint : goal.returns-clause-footprint
+returns-clause-footprint g c = record {
+  touched = λ k own others.
+      c.begin_at.ensures.touched k
+      (λ some. absurd (some refl))
+      (λ some. others c.args.class c.links-next.result.next (next_listed g.row.SLI c.args.self.now.heads c.args.self.now.members c.args.words.now.words c.args.class c.place-head.result c.requires.threaded c.links-next.ensures.reads.small (is_member g c)
+      c.links-next.result.next nowhere c.links-next.ensures.next (none_before g c) some))
+      ∙ ap (λ (l : List ℕ). times l k) c.links-next.ensures.reads.touched ∙ times_other (c.place-head.result + 2) k c.args.words.now.touched own;
+  groups = groups_then (one_touch (c.place-head.result + 2) c.links-next.ensures.reads.touched)
+      (one_word (c.links-next.result.next + 2) (λ k next. c.begin_at.ensures.touched k (λ some. absurd (some refl)) (λ some. next)));
+}

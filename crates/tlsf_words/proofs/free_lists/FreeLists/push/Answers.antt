@@ -1,7 +1,7 @@
-use Rattle.tlsf_words.proofs.Common.{◌≡◌, ◌+◌, ◌∷◌, ℕ, List, length, get_or, set, refl, sym, ap, ◌∙◌, subst, arith, length-set, with_member, links_word, ListHeads, nowhere, list_of, times, Contains}
+use Rattle.tlsf_words.proofs.Common.{◌≡◌, ◌≢◌, ◌+◌, ◌∷◌, ℕ, List, length, get_or, set, refl, sym, ap, ◌∙◌, subst, arith, length-set, with_member, links_word, ListHeads, nowhere, list_of, times, Contains}
 use Rattle.tlsf_words.proofs.Threads.{head_listed}
 use Rattle.tlsf_words.proofs.Touching.{times_other, one_touch, two_words, more_groups}
-use Rattle.tlsf_words.proofs.Push.{IsAtHead, IsAtHead-alone, IsAtHead-more, class_in_use, next_within, next_apart, PushWrites, push-threaded, push-list, push-others, push-words}
+use Rattle.tlsf_words.proofs.Push.{IsAtHead, IsAtHead-alone, IsAtHead-more, class_in_use, next_within, next_apart, PushWrites, pushed}
 use Rattle.tlsf_words.proofs.free_lists.FreeLists.push.Given.{Over}
 use Rattle.tlsf_words.proofs.free_lists.FreeLists.push.Goals as goal
 use Rattle.tlsf_words.proofs.free_lists.FreeLists.push.Goals.{After-set, After-link}
@@ -64,40 +64,22 @@ writes_to_more g c =
       was_some = λ _. ap (λ (f : ListHeads). f.members) c.self.view_is;
     }
 
-pub returns-then-not-is_place-clause-threaded : goal.returns-then-not-is_place-clause-threaded
-returns-then-not-is_place-clause-threaded g c = push-threaded g.row.SLI c.args.self.now.heads c.args.self.now.members c.args.words.now.words c.args.class c.args.at c.set_place.new.self.places c.set.new.self.members c.set_links.new.self.words c.requires.threaded (writes_to_empty g c)
+pub returns-then-not-is_place-clause-lists : goal.returns-then-not-is_place-clause-lists
+returns-then-not-is_place-clause-lists g c = pushed c.requires.threaded (writes_to_empty g c)
 
-pub returns-then-not-is_place-clause-list : goal.returns-then-not-is_place-clause-list
-returns-then-not-is_place-clause-list g c = push-list g.row.SLI c.args.self.now.heads c.args.self.now.members c.args.words.now.words c.args.class c.args.at c.set_place.new.self.places c.set.new.self.members c.set_links.new.self.words c.requires.threaded (writes_to_empty g c)
+pub returns-else-not-is_place-clause-lists : goal.returns-else-not-is_place-clause-lists
+returns-else-not-is_place-clause-lists g c = pushed c.requires.threaded (writes_to_more g c)
 
-pub returns-then-not-is_place-clause-others : goal.returns-then-not-is_place-clause-others
-returns-then-not-is_place-clause-others g c = push-others g.row.SLI c.args.self.now.heads c.args.self.now.members c.args.words.now.words c.args.class c.args.at c.set_place.new.self.places c.set.new.self.members c.set_links.new.self.words c.requires.threaded (writes_to_empty g c)
+pub returns-then-not-is_place-clause-footprint : goal.returns-then-not-is_place-clause-footprint
+returns-then-not-is_place-clause-footprint g c = record {
+  touched = λ k own others.
+      ap (λ (l : List ℕ). times l k) c.set_links.ensures.writes.touched ∙ times_other (c.args.at + 2) k c.args.words.now.touched own;
+  groups = more_groups (omega arith) (one_touch (c.args.at + 2) c.set_links.ensures.writes.touched);
+}
 
-pub returns-then-not-is_place-clause-words : goal.returns-then-not-is_place-clause-words
-returns-then-not-is_place-clause-words g c = push-words g.row.SLI c.args.self.now.heads c.args.self.now.members c.args.words.now.words c.args.class c.args.at c.set_place.new.self.places c.set.new.self.members c.set_links.new.self.words c.requires.threaded (writes_to_empty g c)
-
-pub returns-else-not-is_place-clause-threaded : goal.returns-else-not-is_place-clause-threaded
-returns-else-not-is_place-clause-threaded g c = push-threaded g.row.SLI c.args.self.now.heads c.args.self.now.members c.args.words.now.words c.args.class c.args.at c.set_place.new.self.places c.self.inside.bitmaps.members c.link.new.self.words c.requires.threaded (writes_to_more g c)
-
-pub returns-else-not-is_place-clause-list : goal.returns-else-not-is_place-clause-list
-returns-else-not-is_place-clause-list g c = push-list g.row.SLI c.args.self.now.heads c.args.self.now.members c.args.words.now.words c.args.class c.args.at c.set_place.new.self.places c.self.inside.bitmaps.members c.link.new.self.words c.requires.threaded (writes_to_more g c)
-
-pub returns-else-not-is_place-clause-others : goal.returns-else-not-is_place-clause-others
-returns-else-not-is_place-clause-others g c = push-others g.row.SLI c.args.self.now.heads c.args.self.now.members c.args.words.now.words c.args.class c.args.at c.set_place.new.self.places c.self.inside.bitmaps.members c.link.new.self.words c.requires.threaded (writes_to_more g c)
-
-pub returns-else-not-is_place-clause-words : goal.returns-else-not-is_place-clause-words
-returns-else-not-is_place-clause-words g c = push-words g.row.SLI c.args.self.now.heads c.args.self.now.members c.args.words.now.words c.args.class c.args.at c.set_place.new.self.places c.self.inside.bitmaps.members c.link.new.self.words c.requires.threaded (writes_to_more g c)
-
-pub returns-then-not-is_place-clause-touched : goal.returns-then-not-is_place-clause-touched
-returns-then-not-is_place-clause-touched g c = λ k own others.
-    ap (λ (l : List ℕ). times l k) c.set_links.ensures.writes.touched ∙ times_other (c.args.at + 2) k c.args.words.now.touched own
-
-pub returns-else-not-is_place-clause-touched : goal.returns-else-not-is_place-clause-touched
-returns-else-not-is_place-clause-touched g c = λ k own others.
-    let head : c.place-next.result ≡ head_of c.args.class c.args.self.now = c.place-next.ensures.value ∙ ap (head_of c.args.class) c.self.view_is in
-    let listed : Contains (list_of c.args.self.now.heads c.args.words.now.words c.args.class) c.place-next.result =
-    subst (Contains (list_of c.args.self.now.heads c.args.words.now.words c.args.class)) (sym head) (head_listed c.args.self.now.heads c.args.words.now.words c.args.class (λ none. (c.is_place.ensures.yes c.if-not-is_place.false) (head ∙ none))) in
-    let apart = others c.args.class c.place-next.result listed in
+-- no word is touched there but the links of the two
+untouched : (g : Over) (c : After-link g) (k : ℕ) → k ≢ c.args.at + 2 → k ≢ c.place-next.result + 2 → times c.link.new.self.touched k ≡ times c.args.words.now.touched k
+untouched g c k own apart =
     let next = c.place-next.result + 2 in
     let place = c.args.at + 2 in
     ap (λ (l : List ℕ). times l k) c.link.ensures.writes.touched
@@ -105,14 +87,12 @@ returns-else-not-is_place-clause-touched g c = λ k own others.
     ∙ times_other next k (place ∷ c.args.words.now.touched) apart
     ∙ times_other place k c.args.words.now.touched own
 
-pub returns-then-not-is_place-clause-groups : goal.returns-then-not-is_place-clause-groups
-returns-then-not-is_place-clause-groups g c = more_groups (omega arith) (one_touch (c.args.at + 2) c.set_links.ensures.writes.touched)
-
-pub returns-else-not-is_place-clause-groups : goal.returns-else-not-is_place-clause-groups
-returns-else-not-is_place-clause-groups g c = two_words (c.args.at + 2) (c.place-next.result + 2) (λ k own apart.
-    let next = c.place-next.result + 2 in
-    let place = c.args.at + 2 in
-    ap (λ (l : List ℕ). times l k) c.link.ensures.writes.touched
-    ∙ times_other next k (next ∷ place ∷ c.args.words.now.touched) apart
-    ∙ times_other next k (place ∷ c.args.words.now.touched) apart
-    ∙ times_other place k c.args.words.now.touched own)
+pub returns-else-not-is_place-clause-footprint : goal.returns-else-not-is_place-clause-footprint
+returns-else-not-is_place-clause-footprint g c =
+    let head : c.place-next.result ≡ head_of c.args.class c.args.self.now = c.place-next.ensures.value ∙ ap (head_of c.args.class) c.self.view_is in
+    let listed : Contains (list_of c.args.self.now.heads c.args.words.now.words c.args.class) c.place-next.result =
+    subst (Contains (list_of c.args.self.now.heads c.args.words.now.words c.args.class)) (sym head) (head_listed c.args.self.now.heads c.args.words.now.words c.args.class (λ none. (c.is_place.ensures.yes c.if-not-is_place.false) (head ∙ none))) in
+    record {
+      touched = λ k own others. untouched g c k own (others c.args.class c.place-next.result listed);
+      groups = two_words (c.args.at + 2) (c.place-next.result + 2) (untouched g c);
+    }

@@ -20,14 +20,8 @@ unlink-requires g c =
       ),
     )
 
-pub returns-clause-list : goal.returns-clause-list
-returns-clause-list g c =
+pub returns-clause-lists : goal.returns-clause-lists
+returns-clause-lists g c =
     let n = c.number-number.ensures in
     let same : class_of g.row.SLI c.low.result ≡ c.args.class = ap (class_of g.row.SLI) c.low.ensures ∙ class_of-low g.row.SLI n.level c.args.class n.least n.most in
-    rw same at c.unlink.ensures.list
-
-pub returns-clause-others : goal.returns-clause-others
-returns-clause-others g c =
-    let n = c.number-number.ensures in
-    let same : class_of g.row.SLI c.low.result ≡ c.args.class = ap (class_of g.row.SLI) c.low.ensures ∙ class_of-low g.row.SLI n.level c.args.class n.least n.most in
-    rw same at c.unlink.ensures.others
+    rw same at c.unlink.ensures.lists
