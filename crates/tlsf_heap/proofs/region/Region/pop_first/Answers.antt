@@ -22,7 +22,7 @@ relinks : (g : Over) (c : goal.After-pop_first g) → Relinks g.row.SLI (image_o
 relinks g c =
     let new = c.pop_first.ensures in
     let state = holds_state g.row.SLI c.self.invariant c.self.view_is in
-    relinked g.row.SLI state new.threaded (free_removed g.row.SLI state (image_of c.pop_first.new.words) c.pop_first.new.self c.args.class c.pop_first.result new.others new.list) new.words new.length new.starts
+    relinked g.row.SLI state new.lists.threaded (free_removed g.row.SLI state (image_of c.pop_first.new.words) c.pop_first.new.self c.args.class c.pop_first.result new.lists.others new.lists.list) new.lists.words new.links.length new.links.starts
 
 pub invariant_of-self : goal.invariant_of-self
 invariant_of-self g c = (relinks g c).holds
@@ -36,14 +36,14 @@ returns-clause-change g c =
     let words = ap (λ (r : RegionState). r.words) c.self.view_is in
     record {
       blocks = (relinks g c).same;
-      list = list_in-lists_of c.pop_first.new.self.heads c.pop_first.new.words.words c.args.class ∙ c.pop_first.ensures.list
+      list = list_in-lists_of c.pop_first.new.self.heads c.pop_first.new.words.words c.args.class ∙ c.pop_first.ensures.lists.list
           ∙ ap (without_place c.pop_first.result) (sym ((holds_state g.row.SLI c.self.invariant c.self.view_is).lists c.args.class));
-      others = λ other differs. list_in-lists_of c.pop_first.new.self.heads c.pop_first.new.words.words other ∙ c.pop_first.ensures.others other differs ∙ sym ((holds_state g.row.SLI c.self.invariant c.self.view_is).lists other);
+      others = λ other differs. list_in-lists_of c.pop_first.new.self.heads c.pop_first.new.words.words other ∙ c.pop_first.ensures.lists.others other differs ∙ sym ((holds_state g.row.SLI c.self.invariant c.self.view_is).lists other);
       touched = λ k live.
           let state = holds_state g.row.SLI c.self.invariant c.self.view_is in
-          c.pop_first.ensures.touched k (header_apart state.shows (state.free c.args.class c.pop_first.result (subst (λ (places : List ℕ). Contains places c.pop_first.result) (sym c.pop_first.ensures.first) (zero, omega arith, refl))).1 2 (omega arith) k live)
+          c.pop_first.ensures.footprint.touched k (header_apart state.shows (state.free c.args.class c.pop_first.result (subst (λ (places : List ℕ). Contains places c.pop_first.result) (sym c.pop_first.ensures.first) (zero, omega arith, refl))).1 2 (omega arith) k live)
           (λ class other there. header_apart state.shows (state.free class other there).1 2 (omega arith) k live)
           ∙ ap (λ (r : RegionState). times r.touched k) c.self.view_is;
-      groups = subst (λ (r : RegionState). InGroups 3 r.touched c.pop_first.new.words.touched) c.self.view_is (more_groups (omega arith) c.pop_first.ensures.groups);
-      edits = record { words = c.pop_first.ensures.length ∙ words; shows = (relinks g c).holds.shows; linked = linked_lists g.row.SLI _ _ (relinks g c).holds; bits = marked_lists g.row.SLI _ _ (relinks g c).holds; stays = c.pop_first.ensures.stays ∙ ap (λ (r : RegionState). r.extents) c.self.view_is; touches = omega (arith, c.pop_first.ensures.touches, touches); rise = omega (arith, c.pop_first.ensures.rise, c.pop_first.ensures.words_rise, touches) };
+      groups = subst (λ (r : RegionState). InGroups 3 r.touched c.pop_first.new.words.touched) c.self.view_is (more_groups (omega arith) c.pop_first.ensures.footprint.groups);
+      edits = record { words = c.pop_first.ensures.links.length ∙ words; shows = (relinks g c).holds.shows; linked = linked_lists g.row.SLI _ _ (relinks g c).holds; bits = marked_lists g.row.SLI _ _ (relinks g c).holds; stays = c.pop_first.ensures.links.stays ∙ ap (λ (r : RegionState). r.extents) c.self.view_is; touches = omega (arith, c.pop_first.ensures.links.touches, touches); rise = omega (arith, c.pop_first.ensures.links.rise, c.pop_first.ensures.links.words_rise, touches) };
     }
