@@ -1,4 +1,4 @@
--- What a write leaves of the bytes and words that it isn't of.
+-- The bytes and words that a write isn't of: they stay.
 use Rattle.tlsf_words.proofs.Common.{◌≡◌, ◌≢◌, ℕ, [], ◌∷◌, ◌+◌, ◌*◌, ◌/◌, ◌<◌, ◌≤◌, List, get_or, set, length, ap, ◌∙◌, arith, get_or-set_other, length-set, Memory, byte_in, times}
 use Rattle.tlsf_words.proofs.Bytes.{byte_in-same, HasPiece, byte_in-before_piece, byte_in-behind_piece}
 use Rattle.tlsf_words.proofs.Touching.{times_other}

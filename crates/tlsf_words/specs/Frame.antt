@@ -1,4 +1,4 @@
--- What a call leaves of a region's words, and which of them it touches. A record's fields are the facts that callers cite.
+-- A region's words after a call, and which of them it touched. A record's fields are the facts that callers cite.
 use Rattle.std.specs.Prelude.{◌≡◌, ℕ, ◌+◌, ◌*◌, ◌<◌, ◌≤◌, ◌^◌, List, ◌∷◌, ◌++◌, Bool, length, slice_index}
 use Rattle.tlsf_words.specs.Bytes.{byte_in}
 use Rattle.tlsf_words.specs.Memory.{Memory}

@@ -1,4 +1,4 @@
--- What a call of free lists leaves of the lists and of the words that thread them.
+-- The lists and the words that thread them, after a call of free lists.
 use Rattle.std.specs.Prelude.{◌≡◌, ◌≢◌, ℕ, ◌+◌, ◌≤◌, List, length}
 use Rattle.tlsf_words.specs.Lists.{ListHeads, list_of, AreThreaded, OnlyLinksChange}
 use Rattle.tlsf_words.specs.Memory.{Memory}
@@ -12,7 +12,7 @@ pub record Relists (sli class : ℕ) (places : List ℕ) (old : ListHeads) (was 
   pub others : (other : ℕ) → other ≢ class → list_of new.heads now other ≡ list_of old.heads was other
   pub words : OnlyLinksChange (list_of new.heads now) was now
 
--- lists and words make at most this many touches together. Start bits and memory stay, and the words are as many
+-- lists and words make at most this many touches together. Start bits, memory and the number of words stay
 pub record Relinks (most : ℕ) (old : ListHeads) (was : Memory) (new : ListHeads) (now : Memory) : Type 0 where
   pub length : length now.words ≡ length was.words
   pub starts : now.starts ≡ was.starts
@@ -21,7 +21,7 @@ pub record Relinks (most : ℕ) (old : ListHeads) (was : Memory) (new : ListHead
   pub rise : old.touches ≤ new.touches
   pub words_rise : was.touches ≤ now.touches
 
--- no word is touched but the links of a place and of those in the lists, and they lie in at most this many groups of eight
+-- no word is touched but the links of a place and of those in the lists. The words touched lie in at most this many groups of eight
 pub record TouchesLinks (most : ℕ) (lists : ℕ → List ℕ) (at : ℕ) (old new : List ℕ) : Type 0 where
   pub touched : OnlyLinks lists at old new
   pub groups : InGroups most old new
