@@ -16,7 +16,7 @@ unfoldable pub use Rattle.tlsf_class.specs.Classes.{classes, class_of}
 unfoldable pub use Rattle.tlsf_class.specs.Members.{with_member, without_member}
 pub use Rattle.tlsf_words.specs.Bytes.{Fills}
 unfoldable pub use Rattle.tlsf_words.specs.Bytes.{byte_in, bytes_in}
-pub use Rattle.tlsf_words.specs.Counted.{Within, CountedStarts, Tallied}
+pub use Rattle.tlsf_words.specs.Counted.{Notes, Within, CountedStarts, Tallied}
 unfoldable pub use Rattle.tlsf_words.specs.Fields.{size_in, back_in, last_in, low_half, free_in, high_half, links_word, tag_word, length_word}
 pub use Rattle.tlsf_words.specs.Lists.{nowhere, first_of, AreDistinct, AreThreaded, LinkedFrom, listed_classes, ListHeads, OnlyLinksChange, without_place, IsUnlisted}
 unfoldable pub use Rattle.tlsf_words.specs.Lists.{list_of, places_from}

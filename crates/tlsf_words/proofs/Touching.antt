@@ -1,5 +1,5 @@
 -- A touch of one place is none of another.
-use Rattle.tlsf_words.proofs.Common.{◌≡◌, ◌≢◌, ℕ, suc, ◌+◌, ◌/◌, ◌<◌, ◌≤◌, List, [], ◌∷◌, ◌++◌, cond, refl, sym, ap, ◌∙◌, subst, arith, Contains, length-append, Contains-append_left, Contains-append_right, ne_eqb, Tallied, Within, times, InGroups}
+use Rattle.tlsf_words.proofs.Common.{◌≡◌, ◌≢◌, ℕ, suc, ◌+◌, ◌/◌, ◌<◌, ◌≤◌, List, [], ◌∷◌, ◌++◌, cond, refl, sym, ap, ◌∙◌, subst, arith, Contains, length-append, Contains-append_left, Contains-append_right, ne_eqb, Tallied, Notes, Within, times, InGroups}
 
 pub times_other : (at k : ℕ) (l : List ℕ) → k ≢ at → times (at ∷ l) k ≡ times l k
 unfolding times
@@ -65,11 +65,11 @@ pub within_none : (n from past : ℕ) (t : Tallied) → n ≡ 0 → Within n fro
 within_none n from past t none = record { touches = omega (arith, none); before = λ k low. refl; behind = λ k high. refl }
 
 -- one, of a word of the run
-pub within_one : (n from past at : ℕ) (old new : Tallied) → n ≡ 1 → from ≤ at → at < past → new.touches ≡ old.touches + 1 → new.touched ≡ at ∷ old.touched → Within n from past old new
-within_one n from past at old new one low high counts is = record {
-  touches = omega (arith, one, counts);
-  before = λ k below. ap (λ (l : List ℕ). times l k) is ∙ times_other at k old.touched (λ e. omega (arith, e, low, below));
-  behind = λ k above. ap (λ (l : List ℕ). times l k) is ∙ times_other at k old.touched (λ e. omega (arith, e, high, above));
+pub within_one : (n from past at : ℕ) (old new : Tallied) → n ≡ 1 → from ≤ at → at < past → Notes (at ∷ []) old new → Within n from past old new
+within_one n from past at old new one low high notes = record {
+  touches = omega (arith, one, notes.touches);
+  before = λ k below. ap (λ (l : List ℕ). times l k) notes.touched ∙ times_other at k old.touched (λ e. omega (arith, e, low, below));
+  behind = λ k above. ap (λ (l : List ℕ). times l k) notes.touched ∙ times_other at k old.touched (λ e. omega (arith, e, high, above));
 }
 
 -- those of two, which lie in a wider run

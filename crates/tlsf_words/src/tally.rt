@@ -1,5 +1,5 @@
 ghost use Rattle.std.specs.Prelude.{◌≡◌, ℕ, ◌+◌, ◌<◌, ◌≤◌, ◌^◌, [], ◌∷◌};
-ghost use Rattle.tlsf_words.specs.Touched.{times};
+ghost use Rattle.tlsf_words.specs.Counted.{Within, Notes};
 
 use crate::places::Places;
 use std::marker::Model;
@@ -36,8 +36,7 @@ impl Tally {
     /// Notes one read or write of the word at a place.
     #[inline]
     pub(crate) fn note(&mut self, at: usize)
-        ensures touches { self.new.touches ≡ self.old.touches + 1 }
-        ensures touched { self.new.touched ≡ at ∷ self.old.touched }
+        ensures tally { Notes (at ∷ []) self.old self.new }
     {
         self.touches.add_one();
         self.places.add(at);
@@ -47,9 +46,7 @@ impl Tally {
     #[inline]
     pub(crate) fn note_all(&mut self, from: usize, n: usize)
         requires { from + n < 2 ^ 64 }
-        ensures touches { self.new.touches ≡ self.old.touches + n }
-        ensures before { (k : ℕ) → k < from → times self.new.touched k ≡ times self.old.touched k }
-        ensures behind { (k : ℕ) → from + n ≤ k → times self.new.touched k ≡ times self.old.touched k }
+        ensures tally { Within n from (from + n) self.old self.new }
     {
         self.touches.add(n);
         self.places.add_all(from, n);

@@ -10,7 +10,7 @@ returns-clause-bytes c k h =
     elim (cases_lt k (8 * n)) [
       | inl low ↦
           byte_in-append_left c.pack_each.new.words c.pack_few.new.words k (omega (arith, fours))
-          ∙ c.pack_each.ensures.bytes k (omega (arith, length-take-le (8 * n) c.args.bytes.now (omega (arith, c.requires))))
+          ∙ c.pack_each.ensures.bytes k (omega (arith, length-take-le (8 * n) c.args.bytes.now (omega arith)))
           ∙ get_or-take (8 * n) c.args.bytes.now k 0 low
       | inr from ↦
           let at : 8 * n + (k - 8 * n) ≡ k = omega arith in

@@ -7,4 +7,4 @@ pub returns-clause-bytes : goal.returns-clause-bytes
 returns-clause-bytes c = rw c.write_at.ensures.words (packs_one c.args.words.now c.args.bytes.now c.first_word.result c.args.i c.requires.inside c.first_word.ensures)
 
 pub returns-clause-tally : goal.returns-clause-tally
-returns-clause-tally c = within_one _ _ _ (c.args.from + c.args.i) _ _ refl (omega arith) (omega (arith, c.requires.inside)) c.write_at.ensures.touches c.write_at.ensures.touched
+returns-clause-tally c = within_one _ _ _ (c.args.from + c.args.i) _ _ refl (omega arith) (omega (arith, c.requires.inside)) c.write_at.ensures.tally

@@ -12,23 +12,20 @@ all_zero len k n new old zeros whole all long =
     ap (λ (rest : List ℕ). take len (new ++ rest)) (drop_all (length new) old (omega (arith, many, long)))
     ∙ ap (take len) (append-nil new) ∙ take_all len new (omega (arith, many, all)) ∙ is
 
-pub returns-clause-starts : goal.returns-clause-starts
-returns-clause-starts c =
-    let bits = c.self.inside.bits in
-    let ok = bits.ok.0 in
-    let slice = length-take-le bits.len bits.items (omega (arith, ok)) in
-    let long = length-starts_in c.self.inside.len bits.items in
-    let view = ap (λ (m : CountedStarts). length m.starts) c.self.view_is in
-    ap (starts_in c.self.inside.len) (all_zero bits.len _ (length bits.items) c.zero_bits.new.bits bits.items c.zero_bits.ensures.bits (omega (arith, ok, slice)) (omega (arith, ok)) (omega arith))
-    ∙ starts_in-replicate c.self.inside.len (length bits.items) (omega (arith, c.self.invariant))
-    ∙ ap (λ (n : ℕ). replicate n false) (omega (arith, long, view))
-
-pub returns-clause-touches : goal.returns-clause-touches
-returns-clause-touches c =
+pub returns : goal.returns
+returns c =
     let bits = c.self.inside.bits in
     let ok = bits.ok.0 in
     let slice = length-take-le bits.len bits.items (omega (arith, ok)) in
     let long = length-starts_in c.self.inside.len bits.items in
     let view = ap (λ (m : CountedStarts). length m.starts) c.self.view_is in
     let count = ap (λ (m : CountedStarts). m.touches) c.self.view_is in
-    omega (arith, ok, slice, long, view, count, c.self.invariant, c.zero_bits.ensures.touches)
+    record {
+      leaves = record {
+        starts = ap (starts_in c.self.inside.len) (all_zero bits.len _ (length bits.items) c.zero_bits.new.bits bits.items c.zero_bits.ensures.bits (omega (arith, ok, slice)) (omega (arith, ok)) (omega arith))
+            ∙ starts_in-replicate c.self.inside.len (length bits.items) (omega (arith, c.self.invariant))
+            ∙ ap (λ (n : ℕ). replicate n false) (omega (arith, long, view));
+        stays = ap (λ (m : CountedStarts). m.extent) c.self.view_is;
+        touches = omega (arith, ok, slice, long, view, count, c.self.invariant, c.zero_bits.ensures.touches);
+      };
+    }
