@@ -1,12 +1,10 @@
 -- The meaning of sums and differences of tags as words.
+use Rattle.tlsf_words.specs.Tags.{HasFields, tag_in}
 use Rattle.tlsf_words.proofs.Common.{◌≡◌, ℕ, ◌+◌, ◌-◌, ◌*◌, ◌/◌, ◌%◌, ◌^◌, ◌<◌, ◌≤◌, inl, inr, Bool, true, false, eqb, ap, ◌∙◌, sym, arith, eq-eqb, false≢true, cases_eq, eqb-true, ne_eqb, low_half, high_half, size_in, last_in, free_in, back_in}
 
 -- what a word says as a tag
-pub record Says (word n : ℕ) (is_free is_last : Bool) (at : ℕ) : Type 0 where
-  pub size : size_in word ≡ n
-  pub free : free_in word ≡ is_free
-  pub last : last_in word ≡ is_last
-  pub back : back_in word ≡ at
+abbrev pub Says : ℕ → ℕ → Bool → Bool → ℕ → Type 0
+Says word n is_free is_last at = HasFields n is_free is_last at (tag_in word)
 
 -- a bit that isn't set, or is, or is as another
 clear_bit : (n : ℕ) → n < 2 → eqb n 1 ≡ false → n ≡ 0

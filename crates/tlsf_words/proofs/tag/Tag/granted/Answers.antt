@@ -8,14 +8,5 @@ overflow_sub-result c = free_least c.self.inside.word (ap (λ t. t.free) c.self.
 says : (c : goal.After-struct_known-1) → Says (c.self.inside.word - 1) (size_in c.self.inside.word) false (last_in c.self.inside.word) (back_in c.self.inside.word)
 says c = says_granted c.self.inside.word (ap (λ t. t.free) c.self.view_is ∙ c.requires)
 
-pub returns-clause-size : goal.returns-clause-size
-returns-clause-size c = (says c).size ∙ ap (λ t. t.size) c.self.view_is
-
-pub returns-clause-free : goal.returns-clause-free
-returns-clause-free c = (says c).free
-
-pub returns-clause-last : goal.returns-clause-last
-returns-clause-last c = (says c).last ∙ ap (λ t. t.last) c.self.view_is
-
-pub returns-clause-back : goal.returns-clause-back
-returns-clause-back c = (says c).back ∙ ap (λ t. t.back) c.self.view_is
+pub returns : goal.returns
+returns c = rw (← c.self.view_is) (says c)

@@ -6,14 +6,10 @@ word : (c : goal.After-join_halves) → c.join_halves.result ≡ tag_word c.args
 unfolding tag_word
 word c = rw (c.from.ensures, c.from-2.ensures) at c.join_halves.ensures
 
-pub returns-clause-size : goal.returns-clause-size
-returns-clause-size c = ap size_in (word c) ∙ size_in-tag_word c.args.size c.args.last c.args.free c.args.back c.requires
-
-pub returns-clause-free : goal.returns-clause-free
-returns-clause-free c = ap free_in (word c) ∙ free_in-tag_word c.args.size c.args.last c.args.free c.args.back
-
-pub returns-clause-last : goal.returns-clause-last
-returns-clause-last c = ap last_in (word c) ∙ last_in-tag_word c.args.size c.args.last c.args.free c.args.back c.requires
-
-pub returns-clause-back : goal.returns-clause-back
-returns-clause-back c = ap back_in (word c) ∙ back_in-tag_word c.args.size c.args.last c.args.free c.args.back c.requires
+pub returns : goal.returns
+returns c = record {
+  size = ap size_in (word c) ∙ size_in-tag_word c.args.size c.args.last c.args.free c.args.back c.requires;
+  free = ap free_in (word c) ∙ free_in-tag_word c.args.size c.args.last c.args.free c.args.back;
+  last = ap last_in (word c) ∙ last_in-tag_word c.args.size c.args.last c.args.free c.args.back c.requires;
+  back = ap back_in (word c) ∙ back_in-tag_word c.args.size c.args.last c.args.free c.args.back c.requires;
+}

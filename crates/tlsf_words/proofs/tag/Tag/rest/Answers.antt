@@ -1,4 +1,4 @@
-use Rattle.tlsf_words.proofs.Common.{◌-◌, ap, ◌∙◌, arith, size_in, free_in, last_in}
+use Rattle.tlsf_words.proofs.Common.{◌-◌, ap, arith, size_in, free_in, last_in}
 use Rattle.tlsf_words.proofs.TagSums.{Says, says_rest, rest_fits}
 use Rattle.tlsf_words.proofs.tag.Tag.rest.Goals as goal
 
@@ -11,14 +11,5 @@ overflow_sub-low_half c = omega (arith, rest_fits c.self.inside.word c.args.size
 says : (c : goal.After-join_halves) → Says c.join_halves.result (size_in c.self.inside.word - c.args.size) (free_in c.self.inside.word) (last_in c.self.inside.word) c.args.at
 says c = rw (c.join_halves.ensures, c.low_half.ensures) (says_rest c.self.inside.word c.args.size c.args.at (omega (arith, c.requires, ap (λ t. t.size) c.self.view_is)))
 
-pub returns-clause-size : goal.returns-clause-size
-returns-clause-size c = (says c).size ∙ omega (arith, ap (λ t. t.size) c.self.view_is)
-
-pub returns-clause-free : goal.returns-clause-free
-returns-clause-free c = (says c).free ∙ ap (λ t. t.free) c.self.view_is
-
-pub returns-clause-last : goal.returns-clause-last
-returns-clause-last c = (says c).last ∙ ap (λ t. t.last) c.self.view_is
-
-pub returns-clause-back : goal.returns-clause-back
-returns-clause-back c = (says c).back
+pub returns : goal.returns
+returns c = rw (← c.self.view_is) (says c)

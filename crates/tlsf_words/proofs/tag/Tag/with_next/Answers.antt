@@ -16,14 +16,5 @@ says c = rw (c.from.ensures, c.low_half.ensures)
     (says_next c.self.inside.word c.next.inside.word (ap (λ t. t.free) c.self.view_is ∙ c.requires.live) (ap (λ t. t.last) c.self.view_is ∙ c.requires.inner) (ap (λ t. t.free) c.next.view_is ∙ c.requires.free)
     (omega (arith, c.requires.fits, ap (λ t. t.size) c.self.view_is, ap (λ t. t.size) c.next.view_is)))
 
-pub returns-clause-size : goal.returns-clause-size
-returns-clause-size c = (says c).size ∙ omega (arith, ap (λ t. t.size) c.self.view_is, ap (λ t. t.size) c.next.view_is)
-
-pub returns-clause-free : goal.returns-clause-free
-returns-clause-free c = (says c).free
-
-pub returns-clause-last : goal.returns-clause-last
-returns-clause-last c = (says c).last ∙ ap (λ t. t.last) c.next.view_is
-
-pub returns-clause-back : goal.returns-clause-back
-returns-clause-back c = (says c).back ∙ ap (λ t. t.back) c.self.view_is
+pub returns : goal.returns
+returns c = rw (← c.self.view_is, ← c.next.view_is) (says c)

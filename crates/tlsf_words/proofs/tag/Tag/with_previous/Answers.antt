@@ -19,14 +19,5 @@ says c = rw (c.from.ensures, c.low_half.ensures)
     (says_previous c.self.inside.word c.previous.inside.word (ap (λ t. t.free) c.self.view_is ∙ c.requires.free) (ap (λ t. t.free) c.previous.view_is ∙ c.requires.before) (ap (λ t. t.last) c.previous.view_is ∙ c.requires.inner)
     (omega (arith, c.requires.fits, ap (λ t. t.size) c.self.view_is, ap (λ t. t.size) c.previous.view_is)))
 
-pub returns-clause-size : goal.returns-clause-size
-returns-clause-size c = (says c).size ∙ omega (arith, ap (λ t. t.size) c.self.view_is, ap (λ t. t.size) c.previous.view_is)
-
-pub returns-clause-free : goal.returns-clause-free
-returns-clause-free c = (says c).free
-
-pub returns-clause-last : goal.returns-clause-last
-returns-clause-last c = (says c).last ∙ ap (λ t. t.last) c.self.view_is
-
-pub returns-clause-back : goal.returns-clause-back
-returns-clause-back c = (says c).back ∙ ap (λ t. t.back) c.previous.view_is
+pub returns : goal.returns
+returns c = rw (← c.self.view_is, ← c.previous.view_is) (says c)

@@ -12,14 +12,5 @@ says c = rw (c.from.ensures, c.low_half.ensures)
     (says_without c.self.inside.word c.rest.inside.word (omega (arith, c.requires.size, ap (λ t. t.size) c.self.view_is, ap (λ t. t.size) c.rest.view_is))
     (ap (λ t. t.free) c.rest.view_is ∙ c.requires.free ∙ sym (ap (λ t. t.free) c.self.view_is)) (ap (λ t. t.last) c.rest.view_is ∙ c.requires.last ∙ sym (ap (λ t. t.last) c.self.view_is)))
 
-pub returns-clause-size : goal.returns-clause-size
-returns-clause-size c = (says c).size ∙ omega (arith, ap (λ t. t.size) c.self.view_is, ap (λ t. t.size) c.rest.view_is)
-
-pub returns-clause-free : goal.returns-clause-free
-returns-clause-free c = (says c).free
-
-pub returns-clause-last : goal.returns-clause-last
-returns-clause-last c = (says c).last
-
-pub returns-clause-back : goal.returns-clause-back
-returns-clause-back c = (says c).back ∙ ap (λ t. t.back) c.self.view_is
+pub returns : goal.returns
+returns c = rw (← c.self.view_is, ← c.rest.view_is) (says c)
