@@ -18,7 +18,8 @@ use std::marker::Model;
 /// The 64-bit words of a region, 4 to 2^24, and a map that says at which of them a block starts. A place is the number of a word,
 /// from 0 on. Nothing but `open` allocates. A call that reads or writes one field or one start bit makes one touch.
 ///
-/// A clause `small` says that there are at most 2^24 words, which a caller's proof can't read off the private fields.
+/// `small` of the records that clauses cite says that there are at most 2^24 words. A caller's proof can't read that off the private
+/// fields.
 ///
 /// ```
 /// let mut words = Words::open(alloc, 64)?;
